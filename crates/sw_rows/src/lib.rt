@@ -5,17 +5,32 @@
 #![tactic(auto)]
 
 mod bound;
+mod cell;
 mod kind;
+mod loading;
 mod name;
 mod query;
+mod records;
 mod refusal;
 mod reply;
 mod row;
+mod scan;
+mod schema;
+mod source;
+mod table;
+mod updates;
 
 pub use bound::{Bound, greater, is_within, lesser};
+pub use cell::{read_cell, read_cell_bytes};
 pub use kind::Kind;
+pub use loading::{MOST_BYTES, load, read_all};
 pub use name::Name;
 pub use query::{Call, Cond, Conds, Names, Query, Want};
 pub use refusal::{Refusal, Why};
 pub use reply::{Cells, Reply, ReplyRow, ReplyRows};
 pub use row::{Row, Update};
+pub use scan::answer;
+pub use schema::{Schema, is_name};
+pub use source::{Counted, Sink, Source};
+pub use table::MOST_ROWS;
+pub use updates::{has_key, update, update_all};

@@ -1,0 +1,2 @@
+//! The language of scripts: a line's call, and the lines of a reply.
+#![tactic(auto)]

@@ -1,0 +1,64 @@
+//! A table from a source.
+
+ghost use Rattle.std.specs.Prelude.{◌≡◌, IfSome, IfErr, OnOk};
+ghost use Rattle.sw_rows.specs.Gives.{Gives, Raised, TellsSource};
+ghost use Rattle.sw_rows.specs.Tables.{bytes_within, shown_table, table_of};
+
+use crate::refusal::Refusal;
+use crate::row::Row;
+use crate::schema::Schema;
+use crate::source::Source;
+use crate::table::read_table;
+use std::alloc::Global;
+
+/// How many bytes a table or a script has at most.
+pub const MOST_BYTES: usize = 268_435_456;
+
+/// Reads a source to its end.
+///
+/// Refused `TooMany` of `limit` where it gives more bytes than that, `Input` where it failed in this call, and `NoMemory`.
+/// What it gave before a refusal is lost.
+pub fn read_all<R: Source>(
+    alloc: Global,
+    source: &mut R,
+    limit: usize,
+) -> Result<Vec<u8>, Refusal>
+    ensures spelled { IfSome (R.left source.old) (λ bytes. Gives (Raised (R.failed source.old) (R.failed source.new)) (λ v. v.items) result (bytes_within limit bytes)) }
+    ensures steady { OnOk result (R.failed source.new ≡ R.failed source.old) }
+    ensures told { IfErr result (TellsSource (Raised (R.failed source.old) (R.failed source.new))) }
+{
+    let mut bytes: Vec<u8> = Vec::new(alloc);
+    let mut block = [0u8; 65536];
+    while bytes.len() <= limit {
+        match source.read_some(&mut block) {
+            Ok(0) => return Ok(bytes),
+            Ok(n) => {
+                if bytes.extend_from_slice(&block[..n]).is_err() {
+                    return Err(Refusal::NoMemory);
+                }
+            }
+            Err(_) => return Err(Refusal::Input),
+        }
+    }
+    Err(Refusal::TooMany {
+        limit: limit as u64,
+    })
+}
+
+/// Reads a table from a source, to the source's end: the attributes of its header, and its rows with the keys 1, 2, 3 and
+/// so on.
+///
+/// The first fault refuses it: `TooMany` of 268,435,456 bytes, before anything is split; `BadTable` of record 0, field 0
+/// where there is no header; `TooMany` of 8 attributes; `BadTable` at the first field of the header that is none; then record
+/// by record `TooMany` of 1,048,576 rows, `BadTable` at the first field that is missing or too many, `BadTable` at the first
+/// cell that is none of its kind. `Input` comes only where the source failed in this call.
+pub fn load<R: Source>(alloc: Global, source: &mut R) -> Result<(Schema, Vec<Row>), Refusal>
+    ensures spelled { IfSome (R.left source.old) (λ bytes. Gives (Raised (R.failed source.old) (R.failed source.new)) shown_table result (table_of bytes)) }
+    ensures steady { OnOk result (R.failed source.new ≡ R.failed source.old) }
+    ensures told { IfErr result (TellsSource (Raised (R.failed source.old) (R.failed source.new))) }
+{
+    match read_all(alloc, source, MOST_BYTES) {
+        Ok(bytes) => read_table(alloc, &bytes),
+        Err(e) => Err(e),
+    }
+}

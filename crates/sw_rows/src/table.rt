@@ -1,0 +1,97 @@
+//! Tables of comma-separated values.
+
+ghost use Rattle.std.specs.Prelude.{[], ◌≡◌, ◌<◌, ◌≤◌, length, Ok, Some, IfOk, slice_get};
+ghost use Rattle.csv.specs.Records.{fields_of};
+ghost use Rattle.sw_rows.specs.Cells.{cell_value};
+ghost use Rattle.sw_rows.specs.Gives.{Gives};
+ghost use Rattle.sw_rows.specs.Header.{kinds_of};
+ghost use Rattle.sw_rows.specs.Records.{IsPlain, records_left};
+ghost use Rattle.sw_rows.specs.Tables.{cells_of, padded, rows_after, shown_table, table_in, then_padded};
+
+use crate::cell::read_cell_bytes;
+use crate::records;
+use crate::refusal::Refusal;
+use crate::row::Row;
+use crate::schema::{Fields, Schema, read_header};
+use csv::{ByteRecord, Reader};
+use std::alloc::Global;
+
+/// Reads the cells of record `rec`.
+fn read_cells(schema: &Schema, rec: u64, row: &ByteRecord) -> Result<[i64; 8], Refusal>
+    requires { rec < 2097152 }
+    ensures { Gives ⊥ (λ cells. cells) result (then_padded (cells_of rec (kinds_of schema.now) (fields_of row.now))) }
+{
+    let count = schema.len();
+    let found = row.len();
+    if found != count {
+        let field = found.min(count) as u64 + 1;
+        return Err(Refusal::BadTable { rec, field });
+    }
+    let mut cells = [0i64; 8];
+    for attr in 0..count {
+        match read_cell_bytes(schema.kind(attr), row.field(attr)) {
+            Some(cell) => cells[attr] = cell,
+            None => {
+                let field = attr as u64 + 1;
+                return Err(Refusal::BadTable { rec, field });
+            }
+        }
+    }
+    Ok(cells)
+}
+
+/// How many rows are ever inserted at most, those of the table included.
+pub const MOST_ROWS: u64 = 1_048_576;
+
+/// Reads the rows that are left.
+fn read_rows(
+    alloc: Global,
+    schema: &Schema,
+    rdr: &mut Reader<&[u8]>,
+    row: &mut ByteRecord,
+) -> Result<Vec<Row>, Refusal>
+    requires { IsPlain rdr.old }
+    ensures { Gives ⊥ (λ rows. rows.items) result (rows_after (kinds_of schema.now) [] (records_left rdr.old)) }
+{
+    let mut rows: Vec<Row> = Vec::new(alloc);
+    for n in 0..MOST_ROWS {
+        match records::next(rdr, row) {
+            Ok(true) => {}
+            Ok(false) => return Ok(rows),
+            Err(_) => return Err(Refusal::NoMemory),
+        }
+        match read_cells(schema, n + 1, row) {
+            Ok(cells) => {
+                if rows.push(Row { key: n + 1, cells }).is_err() {
+                    return Err(Refusal::NoMemory);
+                }
+            }
+            Err(e) => return Err(e),
+        }
+    }
+    match records::next(rdr, row) {
+        Ok(true) => Err(Refusal::TooMany { limit: MOST_ROWS }),
+        Ok(false) => Ok(rows),
+        Err(_) => Err(Refusal::NoMemory),
+    }
+}
+
+/// Reads the table that bytes spell.
+pub(crate) fn read_table(alloc: Global, bytes: &[u8]) -> Result<(Schema, Vec<Row>), Refusal>
+    ensures { Gives ⊥ shown_table result (table_in bytes.now) }
+{
+    let mut rdr = records::open(alloc, bytes);
+    let mut row = ByteRecord::new(alloc);
+    match records::next(&mut rdr, &mut row) {
+        Ok(true) => {}
+        Ok(false) => return Err(Refusal::BadTable { rec: 0, field: 0 }),
+        Err(_) => return Err(Refusal::NoMemory),
+    }
+    match read_header(alloc, &row) {
+        Ok(schema) => match read_rows(alloc, &schema, &mut rdr, &mut row) {
+            Ok(rows) => Ok((schema, rows)),
+            Err(e) => Err(e),
+        },
+        Err(e) => Err(e),
+    }
+}
