@@ -6,6 +6,7 @@
 
 mod bound;
 mod cell;
+pub mod examples;
 mod kind;
 mod loading;
 mod name;
@@ -17,6 +18,7 @@ mod row;
 mod scan;
 mod schema;
 mod source;
+pub mod spelling;
 mod table;
 mod updates;
 
