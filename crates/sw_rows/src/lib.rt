@@ -36,3 +36,6 @@ pub use schema::{Schema, is_name};
 pub use source::{Counted, Sink, Source};
 pub use table::MOST_ROWS;
 pub use updates::{has_key, update, update_all};
+
+#[cfg(test)]
+mod tests;
