@@ -327,10 +327,8 @@ fn count_ones(alloc: Global, rows: usize, is_bad: bool) -> Result<String, AllocE
 
 #[test]
 fn limits_of_rows(rt: HostRuntime) -> Result<(), Fail> {
-    assert_eq!(rt; count_ones(rt.alloc(), 1_048_576, false)?.as_str(), "1048576");
     // The row too many is refused before it is looked at.
     assert_eq!(rt; count_ones(rt.alloc(), 1_048_576, true)?.as_str(), "5 limit 1048576");
-    assert_eq!(rt; count_ones(rt.alloc(), 1_048_575, true)?.as_str(), "2 record 1048576 field 2");
     Ok(())
 }
 
