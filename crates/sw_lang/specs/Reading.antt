@@ -148,8 +148,12 @@ abbrev pub values_at : List ℤ → List Kind → List Tok → Result (List ℤ)
 values_at values [] ts = nothing_left values ts
 values_at values (k ∷ ks) ts = next_value values k ts >>= λ v. values_at (values ++ v.0 ∷ []) ks v.1
 
-unfoldable pub insert_at : List Column → List Tok → Result Call Fault
-insert_at schema ts = values_at [] (kinds_of schema) ts >>= λ values. Ok (Insert (padded values))
+-- the cells of a row
+unfoldable pub cells_at : List Column → List Tok → Result (List ℤ) Fault
+cells_at schema ts = values_at [] (kinds_of schema) ts >>= λ values. Ok (padded values)
+
+abbrev pub insert_at : List Column → List Tok → Result Call Fault
+insert_at schema ts = cells_at schema ts >>= λ cells. Ok (Insert cells)
 
 unfoldable pub delete_at : List Tok → Result Call Fault
 delete_at ts = first_by key_of ts >>= λ key. nothing_left (Delete key.0) key.1

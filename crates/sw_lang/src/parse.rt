@@ -1,10 +1,8 @@
 //! The call of a line.
 
-ghost use Rattle.std.specs.Prelude.{◌≡◌, ◌<◌, ◌≤◌, [], ℤ, List, length, IfOk};
+ghost use Rattle.std.specs.Prelude.{◌≡◌, ◌<◌, ◌≤◌, [], ℤ, List, length, IfOk, ◌==◌};
 ghost use Rattle.sw_rows.specs.Cells.{HasPlaces};
-ghost use Rattle.sw_rows.specs.Header.{kinds_of};
-ghost use Rattle.sw_rows.specs.Tables.{padded};
-ghost use Rattle.sw_lang.specs.Reading.{aggregate_at, asked, call_at, call_of, delete_at, first_by, insert_at, is_comment, line_at, name_of, names_at, next_value, nothing_left, past_comma, refused, select_at, term_at, terms_at, then_padded, values_at, where_at, Answers, Gives};
+ghost use Rattle.sw_lang.specs.Reading.{aggregate_at, asked, call_at, call_of, cells_at, delete_at, first_by, insert_at, is_comment, line_at, name_of, names_at, next_value, nothing_left, past_comma, refused, select_at, term_at, terms_at, where_at, Answers, Gives};
 ghost use Rattle.sw_lang.specs.Tokens.{tok, tokens};
 
 use crate::fault::{Fault, ParseError, bad};
@@ -135,7 +133,7 @@ fn max_at(alloc: Global, schema: &Schema, text: &[u8]) -> Result<Call, ParseErro
 // The bytes past the comma that stands before a value, or all of them before the first.
 #[tactic(auto, unfolding(crate::specs::Reading::past_comma))]
 fn past_comma(is_first: bool, text: &[u8]) -> Result<&[u8], ParseError>
-    ensures gives { (values : List ℤ) → (length values == 0) ≡ is_first
+    ensures gives { (values : List ℤ) → is_first ≡ (length values == 0)
         → Gives (λ rest. tokens rest.now) result (past_comma values (tokens text.now)) }
 {
     if is_first {
@@ -153,7 +151,7 @@ fn past_comma(is_first: bool, text: &[u8]) -> Result<&[u8], ParseError>
 #[tactic(auto, unfolding(crate::specs::Reading::next_value))]
 fn next_value(is_first: bool, kind: Kind, text: &[u8]) -> Result<(i64, &[u8]), ParseError>
     requires { HasPlaces kind }
-    ensures { (values : List ℤ) → (length values == 0) ≡ is_first
+    ensures { (values : List ℤ) → is_first ≡ (length values == 0)
         → Gives (λ p. (p.0, tokens p.1.now)) result (next_value values kind (tokens text.now)) }
 {
     let rest = past_comma(is_first, text)?;
@@ -170,8 +168,8 @@ fn nothing_left(text: &[u8]) -> Result<(), ParseError>
     }
 }
 
-fn values_at(schema: &Schema, text: &[u8]) -> Result<[i64; 8], ParseError>
-    ensures { Gives (λ cells. cells) result (then_padded (values_at [] (kinds_of schema.now) (tokens text.now))) }
+fn cells_at(schema: &Schema, text: &[u8]) -> Result<[i64; 8], ParseError>
+    ensures { Gives (λ cells. cells) result (cells_at schema.now (tokens text.now)) }
 {
     let mut cells = [0; 8];
     let mut rest = text;
@@ -184,11 +182,10 @@ fn values_at(schema: &Schema, text: &[u8]) -> Result<[i64; 8], ParseError>
     Ok(cells)
 }
 
-#[tactic(auto, unfolding(crate::specs::Reading::insert_at))]
 fn insert_at(schema: &Schema, text: &[u8]) -> Result<Call, ParseError>
     ensures { Gives (λ c. c) result (insert_at schema.now (tokens text.now)) }
 {
-    let cells = values_at(schema, text)?;
+    let cells = cells_at(schema, text)?;
     Ok(Call::Insert(cells))
 }
 

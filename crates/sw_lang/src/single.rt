@@ -1,6 +1,6 @@
 //! Readings of one token.
 
-ghost use Rattle.std.specs.Prelude.{◌≡◌, ◌<◌, ◌^◌, ◌×◌, length, IfOk, Result, Ok, Some, None, option_map, if◌then◌else◌};
+ghost use Rattle.std.specs.Prelude.{◌≡◌, ◌<◌, length, IfOk, MatchOption, true, false};
 ghost use Rattle.sw_rows.specs.Cells.{digits_after, digits_number, fitting, HasPlaces};
 ghost use Rattle.sw_rows.specs.Header.{is_name};
 ghost use Rattle.sw_lang.specs.Replies.{kind_at};
@@ -23,7 +23,7 @@ pub(crate) fn kind_at(schema: &Schema, attr: usize) -> Kind
 
 // The word as text, where it may be a name.
 fn as_name(word: &[u8]) -> Option<&str>
-    ensures { option_map (λ name. name.now) result ≡ (if is_name word.now then Some word.now else None) }
+    ensures { MatchOption result (is_name word.now ≡ false) (λ name. (name.now ≡ word.now) × (is_name word.now ≡ true)) }
 {
     if !is_name(word) {
         return None;
@@ -76,6 +76,7 @@ fn value_of(kind: Kind, token: Token) -> Result<i64, ParseError>
 }
 
 // The number that digits write after those of `start`.
+#[tactic(auto, using(sw_rows::proofs::CellLemmas::too_large, sw_rows::proofs::CellLemmas::one_more))]
 fn read_digits(start: u64, digits: &[u8]) -> Option<u64>
     ensures { result ≡ fitting (digits_after start digits.now) }
 {
