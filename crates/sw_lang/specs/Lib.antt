@@ -1,3 +1,5 @@
+pub mod Examples
+pub mod Grammar
 pub mod Reading
 pub mod Replies
 pub mod Terms

@@ -2,11 +2,13 @@
 #![tactic(auto)]
 
 mod fault;
+mod line_law;
 mod parse;
 mod single;
 mod term;
 mod token;
 
+pub use line_law::{examples_of_lines, lines_are_read_as_related, terms_make_conditions};
 pub use parse::{MOST_LINE, parse_line};
 pub use term::Term;
 pub use token::Op;
