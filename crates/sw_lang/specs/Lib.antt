@@ -1,1 +1,6 @@
+pub mod Examples
+pub mod Grammar
+pub mod Reading
 pub mod Replies
+pub mod Terms
+pub mod Tokens
