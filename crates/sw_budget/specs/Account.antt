@@ -3,6 +3,7 @@ use Rattle.std.specs.Prelude.{◌≡◌, ◌≢◌, ℕ, ◌+◌, ◌<◌, ◌�
 use Rattle.atomic_table.specs.Seated.{TableId}
 use Rattle.atomic_table.specs.declared.shared.Seat.{Seat}
 use Rattle.sw_budget.specs.declared.seat.View.{View}
+use Rattle.sw_budget.specs.Steps as step
 use Rattle.sw_rows.specs.declared.refusal.Refusal.{Refusal}
 use Rattle.sw_rows.specs.declared.refusal.Refusal.TheVariants.{Short, Contended}
 
@@ -17,8 +18,15 @@ pub record Account : Type 0 where
   pub loads : ℕ
   pub tries : ℕ
 
+-- the account of a seat of this budget that has this view
+abbrev pub account_of : TableId → View → Account
+account_of budget v = record { budget = budget; capacity = v.capacity; held = v.held; seen = v.seen; found = v.found; loads = v.loads; tries = v.tries }
+
+abbrev pub view_of : Account → View
+view_of a = record { capacity = a.capacity; held = a.held; seen = a.seen; found = a.found; loads = a.loads; tries = a.tries }
+
 abbrev pub account : Seat (Unit {0}) View → Account
-account s = record { budget = s.table_id; capacity = s.me.0.capacity; held = s.me.0.held; seen = s.me.0.seen; found = s.me.0.found; loads = s.me.0.loads; tries = s.me.0.tries }
+account s = account_of s.table_id s.me.0
 
 -- the seat is at the word of this table, of this capacity, and holds so many cells
 pub record IsSeated (seat : Seat (Unit {0}) View) (capacity : ℕ) (table : TableId) (key : ℕ) (cells : ℕ) : Type 0 where
@@ -28,21 +36,21 @@ pub record IsSeated (seat : Seat (Unit {0}) View) (capacity : ℕ) (table : Tabl
   pub known : seat.me.0.capacity ≡ capacity
   pub holds : seat.me.0.held ≡ cells
 
--- the account of a new seat
+-- a new seat of this budget
 abbrev pub empty : TableId → ℕ → Account
-empty budget capacity = record { budget = budget; capacity = capacity; held = 0; seen = 0; found = 0; loads = 0; tries = 0 }
+empty budget capacity = account_of budget (step.fresh capacity)
 
--- after a load of this word: seen and found are the word, and there is one load more
+-- after a load of this word
 abbrev pub looked : Account → ℕ → Account
-looked a word = record { budget = a.budget; capacity = a.capacity; held = a.held; seen = word; found = word; loads = a.loads + 1; tries = a.tries }
+looked a word = account_of a.budget (step.looked (view_of a) word)
 
--- after a compare-exchange that found this word, and made the seat hold so many cells
+-- after a compare-exchange that found this word, and left the seat with so many cells
 abbrev pub tried : Account → ℕ → ℕ → Account
-tried a held word = record { budget = a.budget; capacity = a.capacity; held = held; seen = a.seen; found = word; loads = a.loads; tries = a.tries + 1 }
+tried a held word = account_of a.budget (step.tried (view_of a) held word)
 
 -- after a fetch-sub of all that is held
 abbrev pub returned : Account → Account
-returned a = record { budget = a.budget; capacity = a.capacity; held = 0; seen = a.seen; found = a.found; loads = a.loads; tries = a.tries }
+returned a = account_of a.budget (step.returned (view_of a))
 
 -- after one load, which saw `seen`, and one compare-exchange, which found `found`: the seat holds `held`
 abbrev pub asked : Account → ℕ → ℕ → ℕ → Account
