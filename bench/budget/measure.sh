@@ -4,10 +4,10 @@
 #     bench/budget/measure.sh [ROUNDS]
 #
 # Builds both programs in a folder of its own under TMPDIR, outside the repository, runs them in turn ROUNDS times
-# (by default 11), and prints the medians of nanoseconds a call, for one thread and for four, and their ratio.
+# (by default 21), and prints the medians of nanoseconds a call, for one thread and for four, and their ratio.
 # It needs rt and rustc. Nothing of the repository is written.
 set -euo pipefail
-rounds=${1:-11}
+rounds=${1:-21}
 here=$(cd "$(dirname "$0")" && pwd)
 top=$(cd "$here/../.." && pwd)
 work=$(mktemp -d "${TMPDIR:-/tmp}/bench-budget.XXXXXX")
