@@ -1,0 +1,6 @@
+//! The spine: the history of all sessions' calls, the rows ever inserted, and the updates that heads take from.
+#![tactic(auto)]
+
+mod history;
+
+pub use history::{Entry, Lines, Record, State};
