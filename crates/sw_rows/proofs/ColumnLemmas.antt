@@ -1,10 +1,11 @@
 -- An indexed map of names as a list of columns.
-use Rattle.std.proofs.Common.{◌≡◌, ◌∙◌, ap, sym, refl, ℕ, ◌+◌, ◌<◌, Bool, true, false, not, cond, suc, ◌||◌, List, [], ◌∷◌, ◌++◌, map, length, Option, Some, None, is_some, position, bytes_eq, String, string_bytes, nat_lt, arith, zero, ◌&&◌, ◌≢◌, true≢false, slice_index, slice_get, option_map, unwrap_or, drop, get_or, All, subst, length-append, IsUtf8}
+use Rattle.std.proofs.Common.{◌≡◌, ◌∙◌, ap, sym, refl, ℕ, ◌+◌, ◌<◌, Bool, true, false, not, cond, suc, ◌||◌, List, [], ◌∷◌, ◌++◌, map, length, Option, Some, None, is_some, position, bytes_eq, String, string_bytes, nat_lt, arith, zero, ◌&&◌, ◌≢◌, true≢false, slice_index, slice_get, option_map, unwrap_or, drop, get_or, All, subst, length-append, IsUtf8, Decides}
 use Rattle.std.proofs.lemmas.List.{at_drop_more}
 use Rattle.std.proofs.lemmas.List.Elements.{All-append}
 use Rattle.std.proofs.lemmas.Option.{get_or_from_slice_get, slice_get-map, slice_get_within}
 use Rattle.std.proofs.lemmas.Bool.Decides.{nat_tests}
 use Rattle.std.proofs.lemmas.Str.{IsUtf8-from_ascii}
+use Rattle.std.proofs.lemmas.Slice.Eq.{bytes_eq-Decides}
 use Rattle.std.proofs.lemmas.List.{map-append}
 use Rattle.std.specs.List.{list_all, list_any, position_or_len}
 use Rattle.std.specs.Map.{keys_of, lookup}
@@ -12,7 +13,7 @@ use Rattle.std.specs.Global.{Global}
 use Rattle.std.specs.String.{string_eq}
 use Rattle.indexmap.specs.IndexMap.{IndexMap, insert_entry}
 use Rattle.indexmap.proofs.CallerLemmas.{insert_entry-new}
-use Rattle.sw_rows.specs.Header.{Column, IsSchema, column_of, header_after, is_known, is_name_byte, kinds_of, or_fault, with_column, with_field}
+use Rattle.sw_rows.specs.Header.{Column, AreColumns, column_of, header_after, is_known, is_name_byte, is_name, kinds_of, names_differ, names_of, or_fault, with_column, with_field}
 use Rattle.sw_rows.specs.Cells.{HasPlaces}
 use Rattle.sw_rows.specs.declared.kind.Kind.TheVariants as Kinds
 use Rattle.sw_rows.specs.declared.kind.Kind.{Kind}
@@ -80,11 +81,52 @@ none_from (Some k) h = absurd (true≢false h)
 pub inserted_last : {S : Type 0} (m : IndexMap (String Global) Kind S) (key : String Global) (k : Kind) → is_some (lookup (λ x. bytes_eq (string_bytes key) (string_bytes x)) m.entries) ≡ false → map shown (insert_entry string_eq m.entries key k) ≡ map shown m.entries ++ (string_bytes key, k) ∷ []
 inserted_last m key k h = ap (map shown) (insert_entry-new string_eq m key k (none_from (lookup (λ x. bytes_eq (string_bytes key) (string_bytes x)) m.entries) h)) ∙ columns_more m.entries key k
 
--- a schema with one more column
-pub schema_more : (cols : List Column) (c : Column) → IsSchema cols → length cols < 8 → HasPlaces c.1 → IsSchema (cols ++ c ∷ [])
-schema_more cols c s few places = record {
+both-true : (a b : Bool) → a ≡ true → b ≡ true → (a && b) ≡ true
+both-true a b h k = rw (h, k) refl
+
+other-step : (v : Bool) (cs : List Column) (c d : Column) → not (v || is_known cs c.0) ≡ true → (not (is_known cs c.0) ≡ true → not (is_known (cs ++ d ∷ []) c.0) ≡ true) → not (v || is_known (cs ++ d ∷ []) c.0) ≡ true
+other-step true cs c d k more = absurd (true≢false (sym k))
+other-step false cs c d k more = more k
+
+-- a name that the columns and one more do not have
+other-name : (cs : List Column) (c d : Column) → not (is_known cs c.0) ≡ true → bytes_eq c.0 d.0 ≡ false → not (is_known (cs ++ d ∷ []) c.0) ≡ true
+other-name [] c d h e = rw e refl
+other-name (b ∷ cs) c d h e = other-step (bytes_eq c.0 b.0) cs c d h (λ k. other-name cs c d k e)
+
+bytes_eq-sym : (xs ys : List ℕ) → bytes_eq xs ys ≡ bytes_eq ys xs
+bytes_eq-sym xs ys = by_tests (bytes_eq xs ys) (bytes_eq ys xs) (bytes_eq-Decides xs ys) (bytes_eq-Decides ys xs)
+  where
+    by_tests : (a b : Bool) → Decides a (xs ≡ ys) → Decides b (ys ≡ xs) → a ≡ b
+    by_tests true true da db = refl
+    by_tests true false da db = sym (db.1 (sym (da.0 refl)))
+    by_tests false true da db = da.1 (sym (db.0 refl))
+    by_tests false false da db = refl
+
+neither : (a b : Bool) → (a || b) ≡ false → (a ≡ false) × (b ≡ false)
+neither true b h = absurd (true≢false h)
+neither false b h = (refl, h)
+
+-- names that differ, and a new one
+differ-more : (cs : List Column) (d : Column) → names_differ cs ≡ true → is_known cs d.0 ≡ false → names_differ (cs ++ d ∷ []) ≡ true
+differ-more [] d h k = refl
+differ-more (c ∷ cs) d h k =
+    let parts = both (not (is_known cs c.0)) (names_differ cs) h in
+    let new = neither (bytes_eq d.0 c.0) (is_known cs d.0) k in
+    both-true (not (is_known (cs ++ d ∷ []) c.0)) (names_differ (cs ++ d ∷ [])) (other-name cs c d parts.0 (bytes_eq-sym c.0 d.0 ∙ new.0)) (differ-more cs d parts.1 new.1)
+
+names-more : (cs : List Column) (d : Column) → list_all (λ c. is_name c.0) cs ≡ true → is_name d.0 ≡ true → list_all (λ c. is_name c.0) (cs ++ d ∷ []) ≡ true
+names-more [] d h k = both-true (is_name d.0) true k refl
+names-more (c ∷ cs) d h k =
+    let parts = both (is_name c.0) (list_all (λ e. is_name e.0) cs) h in
+    both-true (is_name c.0) (list_all (λ e. is_name e.0) (cs ++ d ∷ [])) parts.0 (names-more cs d parts.1 k)
+
+-- the columns with one more
+pub columns_sound : (cols : List Column) (c : Column) → AreColumns cols → length cols < 8 → HasPlaces c.1 → is_name c.0 ≡ true → is_known cols c.0 ≡ false → AreColumns (cols ++ c ∷ [])
+columns_sound cols c s few places name new = record {
   few = omega (arith, length-append cols (c ∷ []));
   places = All-append (λ d. HasPlaces d.1) cols (c ∷ []) s.places (one c places);
+  names = names-more cols c s.names name;
+  distinct = differ-more cols c s.distinct new;
 }
   where
     one : (d : Column) → HasPlaces d.1 → All (λ e. HasPlaces e.1) (d ∷ [])
@@ -95,7 +137,11 @@ schema_more cols c s few places = record {
 pub kind_at : (es : Entries) (i : ℕ) (name : String Global) (k : Kind) → Some (name, k) ≡ slice_get es i → slice_get (kinds_of (map shown es)) i ≡ Some k
 kind_at es i name k h = slice_get-map (λ (c : Column). c.1) (map shown es) i ∙ ap (option_map (λ (c : Column). c.1)) (slice_get-map shown es i ∙ ap (option_map shown) (sym h))
 
-pub places_at : (cols : List Column) (i : ℕ) (k : Kind) → IsSchema cols → slice_get (kinds_of cols) i ≡ Some k → HasPlaces k
+-- the name at an index
+pub name_at : (es : Entries) (i : ℕ) (name : String Global) (k : Kind) → Some (name, k) ≡ slice_get es i → slice_get (names_of (map shown es)) i ≡ Some (string_bytes name)
+name_at es i name k h = slice_get-map (λ (c : Column). c.0) (map shown es) i ∙ ap (option_map (λ (c : Column). c.0)) (slice_get-map shown es i ∙ ap (option_map shown) (sym h))
+
+pub places_at : (cols : List Column) (i : ℕ) (k : Kind) → AreColumns cols → slice_get (kinds_of cols) i ≡ Some k → HasPlaces k
 places_at cols i k s h = subst HasPlaces (by_column (slice_get cols i) refl) (at_column (slice_get cols i) refl)
   where
     by_column : (o : Option Column) → slice_get cols i ≡ o → unwrap_or (option_map (λ (c : Column). c.1) o) Kinds.Int ≡ k

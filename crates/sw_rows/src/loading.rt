@@ -18,11 +18,7 @@ pub const MOST_BYTES: usize = 268_435_456;
 ///
 /// Refused `TooMany` of `limit` where it gives more bytes than that, `Input` where it failed in this call, and `NoMemory`.
 /// What it gave before a refusal is lost.
-pub fn read_all<R: Source>(
-    alloc: Global,
-    source: &mut R,
-    limit: usize,
-) -> Result<Vec<u8>, Refusal>
+pub fn read_all<R: Source>(alloc: Global, source: &mut R, limit: usize) -> Result<Vec<u8>, Refusal>
     ensures spelled { IfSome (R.left source.old) (λ bytes. Gives (Raised (R.failed source.old) (R.failed source.new)) (λ v. v.items) result (bytes_within limit bytes)) }
     ensures steady { OnOk result (R.failed source.new ≡ R.failed source.old) }
     ensures told { IfErr result (TellsSource (Raised (R.failed source.old) (R.failed source.new))) }
