@@ -1,5 +1,5 @@
 -- The plain table of one thread, with a limit of rows. Its state is the list of its updates.
-use Rattle.std.specs.Prelude.{◌+◌, ◌++◌, ◌==◌, ◌&&◌, if◌then◌else◌, ℕ, ℤ, Bool, true, false, List, [], ◌∷◌, count_by, map}
+use Rattle.std.specs.Prelude.{◌≡◌, ◌≤◌, ◌+◌, ◌-◌, ◌++◌, ◌==◌, ◌&&◌, if◌then◌else◌, ℕ, ℤ, Bool, true, false, List, [], ◌∷◌, count_by, length, map, nat_lt, slice_index_or}
 use Rattle.sw_rows.specs.Scan.{answer}
 use Rattle.sw_rows.specs.Updates.{has_key, rows_of}
 use Rattle.sw_rows.specs.declared.row.Row.{Row}
@@ -50,3 +50,29 @@ replies_to limit us (c ∷ cs) = reply_to limit us c ∷ replies_to limit (updat
 abbrev pub is_numbered : ℕ → List Row → Bool
 is_numbered n [] = true
 is_numbered n (r ∷ rs) = (r.key == n) && is_numbered (n + 1) rs
+
+-- ---- the store of the table
+
+-- the opening rows, the limit, and the updates since
+pub record Stored : Type 0 where
+  pub rows : List Row
+  pub limit : ℕ
+  pub later : List Update
+
+abbrev pub all_updates : Stored → List Update
+all_updates s = opened s.rows ++ s.later
+
+-- the store after a call
+abbrev pub stored_then : Stored → Call → Stored
+stored_then s c = record s { later = s.later ++ update_by s.limit (all_updates s) c }
+
+-- whether the slot of a key is live; the slots are those of the keys 1, 2, 3 and so on
+abbrev pub is_live : List Bool → ℕ → Bool
+is_live live key = nat_lt 0 key && slice_index_or live (key - 1) false
+
+-- there is a slot for each key ever given, and it is live where the table has the key
+pub record HasSlots (limit : ℕ) (us : List Update) (live : List Bool) : Type 0 where
+  pub most : limit ≤ 1048576
+  pub within : length live ≤ limit
+  pub given : inserts us ≡ length live
+  pub lives : (key : ℕ) → has_key key (rows_of us) ≡ is_live live key
