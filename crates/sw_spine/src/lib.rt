@@ -2,5 +2,6 @@
 #![tactic(auto)]
 
 mod history;
+mod store;
 
 pub use history::{Entry, Lines, Record, State};
