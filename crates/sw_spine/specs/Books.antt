@@ -1,6 +1,6 @@
 -- What a spine keeps beside its history: what each head has taken, how many sessions there are, and how many updates
 -- are published. And what each visit makes of it.
-use Rattle.std.specs.Prelude.{◌≡◌, ◌≢◌, ◌<◌, ◌≤◌, ◌+◌, ◌++◌, ◌==◌, ℕ, Bool, true, false, List, [], ◌∷◌, length, take, drop, replicate, slice_index, slice_set, Option, Some, None, Result, Ok, Err}
+use Rattle.std.specs.Prelude.{◌≡◌, ◌≢◌, ◌<◌, ◌≤◌, ◌+◌, ◌++◌, ◌==◌, ℕ, Bool, true, false, List, [], ◌∷◌, length, take, drop, replicate, slice_index, slice_index_or, slice_set, nat_le, nat_lt, ◌&&◌, Option, Some, None, Result, Ok, Err}
 use Rattle.sw_rows.specs.Header.{Column}
 use Rattle.sw_rows.specs.declared.row.Row.{Row}
 use Rattle.sw_rows.specs.declared.row.Update.{Update}
@@ -10,8 +10,8 @@ use Rattle.sw_rows.specs.declared.query.Call.TheVariants as call
 use Rattle.sw_rows.specs.declared.refusal.Refusal.{Refusal}
 use Rattle.sw_rows.specs.declared.refusal.Refusal.TheVariants as refusal
 use Rattle.sw_rows.specs.declared.reply.Reply.{Reply}
-use Rattle.sw_spine.specs.Table.{reply_to, updates_then}
-use Rattle.sw_spine.specs.History.{History, entry, is_select, mine, settled, updates_of, waiting}
+use Rattle.sw_spine.specs.Table.{Stored, opened, reply_to, updates_then}
+use Rattle.sw_spine.specs.History.{History, IsLegal, IsSound, all_given, entry, is_absent, is_orderly, is_select, mine, open_place, settled, updates_of, waiting}
 use Rattle.sw_spine.specs.declared.history.Entry.{Entry}
 use Rattle.sw_spine.specs.declared.history.State.{State}
 use Rattle.sw_spine.specs.declared.history.State.TheVariants as state
@@ -104,3 +104,35 @@ abbrev pub RefusesRows : ℕ → List Row → Refusal → Type 0
 RefusesRows limit rows refusal.NoMemory = length rows ≤ limit
 RefusesRows limit rows (refusal.TooMany n) = (n ≡ limit) × (limit < length rows)
 RefusesRows limit rows other = ⊥
+
+-- ---- what a spine holds
+
+abbrev pub books_of : List Column → Stored → List Entry → List ℕ → List (Option ℕ) → ℕ → Books
+books_of columns s entries taken places published = record { columns = columns; rows = s.rows; limit = s.limit; entries = entries; taken = taken; sessions = length places; published = published }
+
+-- sessions have the numbers 1, 2, 3 and so on
+abbrev pub is_opened : ℕ → Books → Bool
+is_opened session b = nat_lt 0 session && nat_le session b.sessions
+
+-- for each session, in order, the place of its open entry
+abbrev pub AreOpenPlaces : List (Option ℕ) → List Entry → Type 0
+AreOpenPlaces places es = (i : ℕ) → i < length places → slice_index_or places i None ≡ open_place (i + 1) es
+
+-- a number of updates, the opening rows counted
+pub record IsCount (b : Books) (n : ℕ) : Type 0 where
+  pub low : length b.rows ≤ n
+  pub high : n ≤ length (updates b)
+
+-- the history is sound and legal with its updates; after a session's open entry there is none of that session, and its
+-- place is kept; entries are of opened sessions, with replies and no lines
+pub record IsSpine (b : Books) (later : List Update) (places : List (Option ℕ)) : Type 0 where
+  pub sound : IsSound (history_of b)
+  pub legal : IsLegal (history_of b)
+  pub updates_are : updates b ≡ opened b.rows ++ later
+  pub orderly : is_orderly b.entries ≡ true
+  pub given : all_given b.entries ≡ true
+  pub places_are : AreOpenPlaces places b.entries
+  pub known : (session : ℕ) → is_opened session b ≡ false → is_absent session b.entries ≡ true
+  pub few : b.sessions ≤ 1024
+  pub taken : (head : ℕ) → head < 8 → IsCount b (slice_index b.taken head)
+  pub published : IsCount b b.published

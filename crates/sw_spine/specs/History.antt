@@ -109,14 +109,15 @@ waiting_after s limit us (e ∷ es) = if waits s e then Some (e.call, us) else w
 abbrev pub waiting : ℕ → History → Option (Call × List Update)
 waiting s h = waiting_after s h.limit (opened h.rows) h.entries
 
+-- the next place, if there is one
+abbrev pub one_on : Option ℕ → Option ℕ
+one_on None = None
+one_on (Some i) = Some (i + 1)
+
 -- the place of a session's first open entry
 abbrev pub open_place : ℕ → List Entry → Option ℕ
 open_place s [] = None
 open_place s (e ∷ es) = if waits s e then Some 0 else one_on (open_place s es)
-  where
-    one_on : Option ℕ → Option ℕ
-    one_on None = None
-    one_on (Some i) = Some (i + 1)
 
 -- the same entries, a session's first open one being in another state
 abbrev pub settled : ℕ → State → List Entry → List Entry
@@ -132,3 +133,14 @@ is_absent s (e ∷ es) = not (e.session == s) && is_absent s es
 abbrev pub is_orderly : List Entry → Bool
 is_orderly [] = true
 is_orderly (e ∷ es) = (not (is_open e.state) || is_absent e.session es) && is_orderly es
+
+-- no reply is kept as lines
+abbrev pub is_given : State → Bool
+is_given (state.Answered r) = true
+is_given (state.Lines ls) = false
+is_given state.Open = true
+is_given state.Void = true
+
+abbrev pub all_given : List Entry → Bool
+all_given [] = true
+all_given (e ∷ es) = is_given e.state && all_given es
