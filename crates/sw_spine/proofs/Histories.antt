@@ -174,7 +174,7 @@ pub orderly_settled : (s : ℕ) (st : State) (es : List Entry) → is_open st �
 orderly_settled s st [] o h = refl
 orderly_settled s st (x ∷ es) o h = grind (arith, nat_tests, h, o, absent_settled s st x.session es, orderly_settled s st es o)
 
-place_absent : (s : ℕ) (es : List Entry) → is_absent s es ≡ true → open_place s es ≡ None
+pub place_absent : (s : ℕ) (es : List Entry) → is_absent s es ≡ true → open_place s es ≡ None
 place_absent s [] h = refl
 place_absent s (x ∷ es) h =
     let rest : is_absent s es ≡ true = grind (arith, nat_tests, h) in
@@ -218,3 +218,9 @@ set_is_settled s st (x ∷ es) i d is = at (waits s x) (open_place s es) i is (�
     at false (Some j) i h more =
         let e : j + 1 ≡ i = cc in
         subst (λ (k : ℕ). set (x ∷ es) k (entry (get_or (x ∷ es) k d).session (get_or (x ∷ es) k d).call st) ≡ x ∷ settled s st es) (sym (add-one j) ∙ e) (ap (λ l. x ∷ l) (more j refl))
+
+pub settled_none : (s : ℕ) (st : State) (es : List Entry) → open_place s es ≡ None → settled s st es ≡ es
+settled_none s st [] is = refl
+settled_none s st (x ∷ es) is =
+    let n = place_none (waits s x) (open_place s es) is in
+    ap (λ b. cond b (entry x.session x.call st ∷ es) (x ∷ settled s st es)) n.0 ∙ ap (λ l. x ∷ l) (settled_none s st es n.1)

@@ -1,3 +1,4 @@
 mod Examples
 pub mod Histories
+pub mod Spines
 pub mod StoreLemmas

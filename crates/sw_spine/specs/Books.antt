@@ -83,7 +83,11 @@ pub record KeepsOthers (session : ℕ) (old new : Books) : Type 0 where
 
 -- what each head has taken
 abbrev pub KeepsTaken : Books → Books → Type 0
-KeepsTaken old new = (head : ℕ) → took head new ≡ took head old
+KeepsTaken old new = (head : ℕ) → head < 8 → took head new ≡ took head old
+
+-- what each other head has taken
+abbrev pub KeepsOtherHeads : ℕ → Books → Books → Type 0
+KeepsOtherHeads head old new = (other : ℕ) → other < 8 → other ≢ head → took other new ≡ took other old
 
 -- ---- refusals
 
@@ -107,8 +111,8 @@ RefusesRows limit rows other = ⊥
 
 -- ---- what a spine holds
 
-abbrev pub books_of : List Column → Stored → List Entry → List ℕ → List (Option ℕ) → ℕ → Books
-books_of columns s entries taken places published = record { columns = columns; rows = s.rows; limit = s.limit; entries = entries; taken = taken; sessions = length places; published = published }
+abbrev pub books_of : List Column → Stored → List Entry → List ℕ → ℕ → ℕ → Books
+books_of columns s entries taken sessions published = record { columns = columns; rows = s.rows; limit = s.limit; entries = entries; taken = taken; sessions = sessions; published = published }
 
 -- sessions have the numbers 1, 2, 3 and so on
 abbrev pub is_opened : ℕ → Books → Bool
@@ -133,6 +137,8 @@ pub record IsSpine (b : Books) (later : List Update) (places : List (Option ℕ)
   pub given : all_given b.entries ≡ true
   pub places_are : AreOpenPlaces places b.entries
   pub known : (session : ℕ) → is_opened session b ≡ false → is_absent session b.entries ≡ true
+  pub slots : length places ≡ b.sessions
   pub few : b.sessions ≤ 1024
+  pub heads : length b.taken ≡ 8
   pub taken : (head : ℕ) → head < 8 → IsCount b (slice_index b.taken head)
   pub published : IsCount b b.published

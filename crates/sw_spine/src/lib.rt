@@ -2,6 +2,8 @@
 #![tactic(auto)]
 
 mod history;
+mod spine;
 mod store;
 
 pub use history::{Entry, Lines, Record, State};
+pub use spine::{MOST_ENTRIES, MOST_SESSIONS, Spine};

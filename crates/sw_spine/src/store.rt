@@ -3,11 +3,11 @@
 ghost use Rattle.std.specs.Prelude.{◌≡◌, ◌≤◌, ◌++◌, true, [], drop, length, IfOk, MatchResult};
 ghost use Rattle.sw_rows.specs.Updates.{has_key, rows_of};
 ghost use Rattle.sw_rows.specs.declared.query.Call.TheVariants.{Insert, Delete};
-ghost use Rattle.sw_spine.specs.Table.{Stored, all_updates, is_live, is_numbered, opened, reply_to, stored_then};
+ghost use Rattle.sw_spine.specs.Table.{Stored, all_updates, inserted, is_live, is_numbered, opened, removed, reply_to, stored_then};
 
 use std::alloc::{AllocError, Global};
 use std::marker::Model;
-use sw_rows::{Reply, Row, Update};
+use sw_rows::{Row, Update};
 
 /// The plain table, with a slot for each key ever given, which is true while the table has the key.
 #[derive(Drop)]
@@ -89,33 +89,33 @@ impl Store {
         is_live(self.live.as_slice(), key)
     }
 
-    /// Inserts a row, unless the limit is reached, and says what the table replies; after an error nothing has changed.
-    pub fn insert(&mut self, cells: [i64; 8]) -> Result<Reply, AllocError>
-        ensures { MatchResult result (λ r. (r ≡ reply_to self.old.limit (all_updates self.old) (Insert cells)) × (self.new ≡ stored_then self.old (Insert cells))) (λ _. self.new ≡ self.old) }
+    /// Inserts a row under the next key, unless the limit is reached; after an error nothing has changed.
+    pub fn insert(&mut self, cells: [i64; 8]) -> Result<Option<u64>, AllocError>
+        ensures { MatchResult result (λ given. (inserted given ≡ reply_to self.old.limit (all_updates self.old) (Insert cells)) × (self.new ≡ stored_then self.old (Insert cells))) (λ _. self.new ≡ self.old) }
     {
         let given = self.live.len() as u64;
         if given == self.limit {
-            return Ok(Reply::Full);
+            return Ok(None);
         }
         self.live.reserve(1)?;
         self.later.reserve(1)?;
         let key = given + 1;
         self.live.push_reserved(true);
         self.later.push_reserved(Update::Insert(Row { key, cells }));
-        Ok(Reply::Inserted(key))
+        Ok(Some(key))
     }
 
-    /// Deletes the row of a key, if there is one, and says what the table replies; after an error nothing has changed.
-    pub fn delete(&mut self, key: u64) -> Result<Reply, AllocError>
-        ensures { MatchResult result (λ r. (r ≡ reply_to self.old.limit (all_updates self.old) (Delete key)) × (self.new ≡ stored_then self.old (Delete key))) (λ _. self.new ≡ self.old) }
+    /// Deletes the row of a key, if there is one; after an error nothing has changed.
+    pub fn delete(&mut self, key: u64) -> Result<bool, AllocError>
+        ensures { MatchResult result (λ found. (removed found ≡ reply_to self.old.limit (all_updates self.old) (Delete key)) × (self.new ≡ stored_then self.old (Delete key))) (λ _. self.new ≡ self.old) }
     {
         if !is_live(self.live.as_slice(), key) {
-            return Ok(Reply::NoSuchKey);
+            return Ok(false);
         }
         self.later.reserve(1)?;
         self.live[(key - 1) as usize] = false;
         self.later.push_reserved(Update::Remove(key));
-        Ok(Reply::Removed)
+        Ok(true)
     }
 
     /// The opening rows.
