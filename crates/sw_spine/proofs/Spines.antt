@@ -1,6 +1,6 @@
 -- What each visit keeps of a spine.
 use Rattle.std.proofs.Common.{◌≡◌, ◌≢◌, ◌<◌, ◌≤◌, ◌+◌, ◌-◌, ◌++◌, ◌==◌, ◌&&◌, ◌||◌, ℕ, zero, suc, Bool, true, false, not, List, [], ◌∷◌, length, set, get_or, take, drop, Option, Some, None, refl, sym, ap, ◌∙◌, arith, cond, subst, add-one, append_assoc, length-append, length-set, nat_le, nat_lt, rules, ⊎_elim}
-use Rattle.std.specs.Prelude.{IfSome, is_none}
+use Rattle.std.specs.Prelude.{IfSome, IsSome, IsSomeAnd, is_none, unwrap_or}
 use Rattle.std.proofs.lemmas.Bool.Decides.{nat_tests}
 use Rattle.std.proofs.lemmas.Grind.{common_steps}
 use Rattle.std.proofs.lemmas.List.{get_or-set_same, get_or-set_other, get_or_past, get_or_append_left, get_or_push, take-append-le}
@@ -163,10 +163,23 @@ settled_mine session r b (Some (c, at)) orderly is = mine_settled session b.limi
 pub voided_mine : (session : ℕ) (b : Books) → mine session (with_settled session state.Void b).entries ≡ mine session b.entries
 voided_mine session b = mine_voided session session b.entries
 
+open_select : (columns : List Column) (limit : ℕ) (us : List Update) (c : Call) (st : State) → is_open st ≡ true → Agrees columns limit us c st → is_select c ≡ true
+open_select columns limit us c (state.Answered r) o h = absurd cc
+open_select columns limit us c (state.Lines ls) o h = absurd cc
+open_select columns limit us c state.Open o h = h
+open_select columns limit us c state.Void o h = absurd cc
+
 -- the entry that waits is a select
 waiting_select : (s limit : ℕ) (columns : List Column) (us : List Update) (es : List Entry) (c : Call) (at : List Update) → AllAgree columns limit us es → waiting_after s limit us es ≡ Some (c, at) → is_select c ≡ true
 waiting_select s limit columns us [] c at all is = absurd cc
-waiting_select s limit columns us (x ∷ es) c at all is = ?
+waiting_select s limit columns us (x ∷ es) c at all is = by (waits s x) (waiting_after s limit (updates_then limit us x.call) es) refl is (waiting_select s limit columns (updates_then limit us x.call) es c at all.1)
+  where
+    by : (b : Bool) (w : Option (Call × List Update)) → waits s x ≡ b → cond b (Some (x.call, us)) w ≡ Some (c, at) → (w ≡ Some (c, at) → is_select c ≡ true) → is_select c ≡ true
+    by true w here is more =
+        let opens : is_open x.state ≡ true = grind (arith, nat_tests, here) in
+        let e : (x.call, us) ≡ (c, at) = ap (λ o. unwrap_or o (c, at)) is in
+        ap is_select (sym (ap (λ p. p.0) e)) ∙ open_select columns limit us x.call x.state opens all.0
+    by false w here is more = more is
 
 pub kept_settled : (columns : List Column) (s : Stored) (es : List Entry) (taken : List ℕ) (sessions published : ℕ) (places : List (Option ℕ)) (session : ℕ) (st : State) (c : Call) (at : List Update) → IsSpine (books_of columns s es taken sessions published) s.later places → is_opened session (books_of columns s es taken sessions published) ≡ true → waits_for session (books_of columns s es taken sessions published) ≡ Some (c, at) → Agrees columns s.limit at c st → is_open st ≡ false → is_given st ≡ true → IsSpine (books_of columns s (settled session st es) taken sessions published) s.later (set places (session - 1) None)
 kept_settled columns s es taken sessions published places session st c at k is waits agrees closed given =
@@ -237,3 +250,13 @@ kept_answered columns s es taken sessions published places session c k is none b
       taken = λ h less. count_more b b' (slice_index taken h) refl more (k.taken h less);
       published = count_more b b' published refl more k.published;
     }
+
+-- ---- the same, as a finish and a void give their conditions
+
+pub kept_finished : (columns : List Column) (s : Stored) (es : List Entry) (taken : List ℕ) (sessions published : ℕ) (places : List (Option ℕ)) (session : ℕ) (r : Reply) (w : Option (Call × List Update)) → IsSpine (books_of columns s es taken sessions published) s.later places → is_opened session (books_of columns s es taken sessions published) ≡ true → waits_for session (books_of columns s es taken sessions published) ≡ w → IsSomeAnd w (λ o. r ≡ reply_to s.limit o.1 o.0) → IsSpine (books_of columns s (settled session (state.Answered r) es) taken sessions published) s.later (set places (session - 1) None)
+kept_finished columns s es taken sessions published places session r None k is waits agrees = absurd agrees
+kept_finished columns s es taken sessions published places session r (Some (c, at)) k is waits agrees = kept_settled columns s es taken sessions published places session (state.Answered r) c at k is waits agrees refl refl
+
+pub kept_voided : (columns : List Column) (s : Stored) (es : List Entry) (taken : List ℕ) (sessions published : ℕ) (places : List (Option ℕ)) (session : ℕ) (w : Option (Call × List Update)) → IsSpine (books_of columns s es taken sessions published) s.later places → is_opened session (books_of columns s es taken sessions published) ≡ true → waits_for session (books_of columns s es taken sessions published) ≡ w → IsSome w → IsSpine (books_of columns s (settled session state.Void es) taken sessions published) s.later (set places (session - 1) None)
+kept_voided columns s es taken sessions published places session None k is waits some = absurd cc
+kept_voided columns s es taken sessions published places session (Some (c, at)) k is waits some = kept_settled columns s es taken sessions published places session state.Void c at k is waits (waiting_select session s.limit columns (opened s.rows) es c at k.legal waits) refl refl
