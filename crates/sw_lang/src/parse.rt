@@ -204,12 +204,7 @@ fn delete_at(text: &[u8]) -> Result<Call, ParseError>
 
 // The call that begins with this token.
 #[tactic(auto, unfolding(crate::specs::Reading::call_of))]
-fn call_of(
-    alloc: Global,
-    schema: &Schema,
-    first: Token,
-    text: &[u8],
-) -> Result<Call, ParseError>
+fn call_of(alloc: Global, schema: &Schema, first: Token, text: &[u8]) -> Result<Call, ParseError>
     ensures { Gives (λ c. c) result (call_of schema.now (tok first.entry) (tokens text.now)) }
 {
     if is_word(first, b"select") {
