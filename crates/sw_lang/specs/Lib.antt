@@ -3,5 +3,6 @@ pub mod Fits
 pub mod Grammar
 pub mod Reading
 pub mod Replies
+pub mod Sinks
 pub mod Terms
 pub mod Tokens
