@@ -1,4 +1,5 @@
 pub mod Examples
+pub mod Fits
 pub mod Grammar
 pub mod Reading
 pub mod Replies
