@@ -1,2 +1,3 @@
+pub mod PrintedExamples
 pub mod Replies
 pub mod Sinks

@@ -2,9 +2,13 @@
 #![tactic(auto)]
 
 mod printed_cells;
+pub mod printed_examples;
 mod printed_rows;
 mod replies;
 mod sinks;
 
 pub use replies::write_reply;
 pub use sinks::{write_all, write_number};
+
+#[cfg(test)]
+mod reply_tests;
