@@ -5,7 +5,7 @@ ghost use Rattle.sw_cli.specs.Faults.{fault_line, labelled, refusal_text, status
 ghost use Rattle.sw_lang.specs.Sinks.{Writes};
 
 use sw_lang::{write_all, write_number};
-use sw_rows::{Name, Refusal, Sink, Why};
+use sw_rows::{Refusal, Sink, Why};
 
 /// The status that a program ends with: 2 where the fault lies in the table, the script or another text that it was
 /// given, or in reading them, else 3.
@@ -32,7 +32,13 @@ fn write_labelled<W: Sink>(label: &[u8], number: u64, out: &mut W) -> Result<(),
 }
 
 // Two numbers, each after its label.
-fn write_pair<W: Sink>(label: &[u8], number: u64, next_label: &[u8], next: u64, out: &mut W) -> Result<(), Refusal>
+fn write_pair<W: Sink>(
+    label: &[u8],
+    number: u64,
+    next_label: &[u8],
+    next: u64,
+    out: &mut W,
+) -> Result<(), Refusal>
     ensures { Writes (W.taken out.old) (W.taken out.new) (W.failed out.old) (W.failed out.new) result
         (labelled label.now number ++ labelled next_label.now next) }
 {
@@ -62,20 +68,20 @@ fn write_why<W: Sink>(why: Why, out: &mut W) -> Result<(), Refusal>
     write_why_name(why, out)
 }
 
-fn write_bad_line<W: Sink>(line: u32, why: Why, out: &mut W) -> Result<(), Refusal>
+fn write_bad_line<W: Sink>(line: u64, why: Why, out: &mut W) -> Result<(), Refusal>
     ensures { Writes (W.taken out.old) (W.taken out.new) (W.failed out.old) (W.failed out.new) result
         (labelled (codes "3 line ") line ++ (codes " why " ++ why_name why)) }
 {
-    write_labelled(b"3 line ", u64::from(line), out)?;
+    write_labelled(b"3 line ", line, out)?;
     write_why(why, out)
 }
 
-fn write_unknown<W: Sink>(name: &Name, out: &mut W) -> Result<(), Refusal>
+fn write_unknown<W: Sink>(name: &[u8], out: &mut W) -> Result<(), Refusal>
     ensures { Writes (W.taken out.old) (W.taken out.new) (W.failed out.old) (W.failed out.new) result
         (codes "4 name " ++ name.now) }
 {
     write_all(out, b"4 name ")?;
-    write_all(out, name.as_str().as_bytes())
+    write_all(out, name)
 }
 
 fn write_short<W: Sink>(used: u64, want: u64, capacity: u64, out: &mut W) -> Result<(), Refusal>
@@ -94,13 +100,27 @@ fn write_text<W: Sink>(refusal: &Refusal, out: &mut W) -> Result<(), Refusal>
     match refusal {
         Refusal::NoMemory => write_all(out, b"1"),
         Refusal::BadTable { rec, field } => write_pair(b"2 record ", *rec, b" field ", *field, out),
-        Refusal::BadLine { line, why } => write_bad_line(*line, *why, out),
-        Refusal::UnknownAttribute { name } => write_unknown(name, out),
+        Refusal::BadLine { line, why } => write_bad_line(u64::from(*line), *why, out),
+        Refusal::UnknownAttribute { name } => write_unknown(name.as_str().as_bytes(), out),
         Refusal::TooMany { limit } => write_labelled(b"5 limit ", *limit, out),
-        Refusal::NoBlank { boxes, needed } => write_pair(b"6 boxes ", *boxes, b" needed ", *needed, out),
-        Refusal::Short { used, want, capacity } => write_short(*used, *want, *capacity, out),
-        Refusal::Contended { seen, found } => write_pair(b"8 seen ", *seen, b" found ", *found, out),
-        Refusal::SharesOut { made, given } => write_pair(b"9 made ", *made, b" given ", *given, out),
+        Refusal::NoBlank { boxes, needed } => write_pair(
+            b"6 boxes ",
+            *boxes,
+            b" needed ",
+            *needed,
+            out,
+        ),
+        Refusal::Short {
+            used,
+            want,
+            capacity,
+        } => write_short(*used, *want, *capacity, out),
+        Refusal::Contended { seen, found } => write_pair(
+            b"8 seen ", *seen, b" found ", *found, out,
+        ),
+        Refusal::SharesOut { made, given } => write_pair(
+            b"9 made ", *made, b" given ", *given, out,
+        ),
         Refusal::HistoryFull { entries } => write_labelled(b"10 entries ", *entries, out),
         Refusal::NotLegal { index } => write_labelled(b"11 index ", *index, out),
         Refusal::Input => write_all(out, b"12"),
