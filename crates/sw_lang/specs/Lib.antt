@@ -1,3 +1,4 @@
+pub mod PrintedCalls
 pub mod PrintedExamples
 pub mod Replies
 pub mod Sinks

@@ -1,12 +1,13 @@
-//! Worked examples: the text that the definitions give for cells and replies that are written out.
+//! Worked examples: the text that the definitions give for cells, calls and replies that are written out.
 //!
 //! Each function here does nothing. Its contract is the example, and the check computes it.
 
 ghost use Rattle.std.specs.Prelude.{◌≡◌, ◌∷◌, ◌++◌, [], codes, negsuc, pos};
-ghost use Rattle.sw_lang.specs.PrintedExamples.{abc, asking, priced, row};
+ghost use Rattle.sw_lang.specs.PrintedCalls.{call_text};
+ghost use Rattle.sw_lang.specs.PrintedExamples.{abc, asking, asking_where, cond, priced, row};
 ghost use Rattle.sw_lang.specs.Replies.{cell_text, extreme_text, fixed_text, reply_bytes, sum_text};
 
-use sw_rows::{Call, Kind, Reply, Want};
+use sw_rows::{Bound, Call, Kind, Reply, Want};
 
 /// Numbers of two decimals have just two.
 pub fn two_decimals()
@@ -47,4 +48,20 @@ pub fn single_lines()
     ensures full { reply_bytes abc (Call.Insert []) Reply.Full ≡ codes "full\n" }
     ensures removed { reply_bytes abc (Call.Delete 2) Reply.Removed ≡ codes "removed\n" }
     ensures no_such_key { reply_bytes abc (Call.Delete 0) Reply.NoSuchKey ≡ codes "no such key\n" }
+{}
+
+/// A condition is printed by its bounds, the lower one first.
+pub fn conditions_as_comparisons()
+    ensures equal { call_text abc (asking_where Want.Count (cond 0 (Some (Bound.Before (pos 5))) (Some (Bound.After (pos 5))) ∷ [])) ≡ codes "count where a >= 5 and a <= 5" }
+    ensures open_ends { call_text abc (asking_where Want.Count (cond 0 (Some (Bound.After (pos 5))) (Some (Bound.Before (pos 9))) ∷ [])) ≡ codes "count where a > 5 and a < 9" }
+    ensures two { call_text abc (asking_where (Want.Rows (0 ∷ 2 ∷ [])) (cond 1 None (Some (Bound.Before (pos 6))) ∷ cond 0 (Some (Bound.Before (negsuc 9))) None ∷ [])) ≡ codes "select a, c where b < 6 and a >= -10" }
+    ensures without_bounds { call_text abc (asking_where (Want.Max 2) (cond 0 None None ∷ [])) ≡ codes "max c" }
+    ensures kinds { call_text priced (asking_where (Want.Sum 0) (cond 1 (Some (Bound.Before (pos 1))) (Some (Bound.After (pos 1))) ∷ cond 0 None (Some (Bound.Before (pos 20))) ∷ [])) ≡ codes "sum price where ok >= true and ok <= true and price < 0.20" }
+{}
+
+/// Inserts have a cell for each attribute, deletes a key.
+pub fn updates_as_words()
+    ensures insert { call_text abc (Call.Insert (pos 1 ∷ pos 9 ∷ pos 0 ∷ pos 0 ∷ pos 0 ∷ pos 0 ∷ pos 0 ∷ pos 0 ∷ [])) ≡ codes "insert 1, 9, 0" }
+    ensures kinds { call_text priced (Call.Insert (pos 750 ∷ pos 1 ∷ pos 0 ∷ pos 0 ∷ pos 0 ∷ pos 0 ∷ pos 0 ∷ pos 0 ∷ [])) ≡ codes "insert 7.50, true" }
+    ensures delete { call_text abc (Call.Delete 18446744073709551615) ≡ codes "delete 18446744073709551615" }
 {}

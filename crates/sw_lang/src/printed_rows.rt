@@ -71,7 +71,7 @@ fn write_some_cells<W: Sink>(
 }
 
 // The cells of a row.
-fn write_cells<W: Sink>(
+pub(crate) fn write_cells<W: Sink>(
     schema: &Schema,
     attrs: &[usize],
     cells: &[i64],

@@ -1,10 +1,12 @@
+use crate::printed_calls::write_call;
 use crate::replies::write_reply;
 use crate::sinks::{write_all, write_number};
 use std::alloc::{AllocError, Global};
 use std::io;
 use std::test::Fail;
 use sw_rows::{
-    Call, Cells, Conds, Names, Query, Refusal, Reply, ReplyRow, ReplyRows, Schema, Sink, Want,
+    Bound, Call, Cells, Cond, Conds, Names, Query, Refusal, Reply, ReplyRow, ReplyRows, Schema,
+    Sink, Want,
 };
 
 /// A sink in memory. It takes at most so many bytes at a time, and fails at one write, counted from 1.
@@ -245,5 +247,32 @@ fn texts_and_numbers(rt: HostRuntime) -> Result<(), Fail> {
     write_number(128u64, &mut out)?;
     write_number(-5i64, &mut out)?;
     assert_eq!(rt; out.bytes.as_slice(), b"used 128-5".as_slice());
+    Ok(())
+}
+
+fn is_call_written(alloc: Global, call: &Call, text: &str) -> Result<bool, Refusal> {
+    let schema = Schema::of(alloc, ABC)?;
+    let mut out = new_memory(alloc, 3, 0);
+    write_call(&schema, call, &mut out)?;
+    Ok(out.bytes.as_slice() == text.as_bytes())
+}
+
+#[test]
+fn calls(rt: HostRuntime) -> Result<(), Fail> {
+    let alloc = rt.alloc();
+    let mut conds = Conds::new(alloc);
+    conds.push(Cond {
+        attr: 0,
+        lower: Some(Bound::Before(5)),
+        upper: Some(Bound::After(5)),
+    })?;
+    let want = Want::Count;
+    let call = Call::Select(Query { conds, want });
+    assert!(rt; is_call_written(alloc, &call, "count where a >= 5 and a <= 5")?);
+    let names = showing(alloc, &[1, 2])?;
+    assert!(rt; is_call_written(alloc, &names, "select b, c")?);
+    let insert = Call::Insert([1, 9, 0, 0, 0, 0, 0, 0]);
+    assert!(rt; is_call_written(alloc, &insert, "insert 1, 9, 0")?);
+    assert!(rt; is_call_written(alloc, &Call::Delete(2), "delete 2")?);
     Ok(())
 }
