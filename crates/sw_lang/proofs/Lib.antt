@@ -1,3 +1,4 @@
+pub mod CallTexts
 pub mod Fit
 pub mod Lines
 pub mod Merge
