@@ -1,6 +1,6 @@
 //! A table from a source.
 
-ghost use Rattle.std.specs.Prelude.{◌≡◌, ◌⊎◌, IfSome, IfErr, OnOk, OnErr};
+ghost use Rattle.std.specs.Prelude.{◌≡◌, ◌≤◌, ◌⊎◌, ℕ, List, length, IfOk, IfSome, IfErr, OnOk, OnErr};
 ghost use Rattle.std.specs.Io.KnownBytes.{IsAtEnd};
 ghost use Rattle.sw_rows.specs.Gives.{Gives, Raised, TellsSource};
 ghost use Rattle.sw_rows.specs.Tables.{bytes_within, shown_table, table_of};
@@ -21,6 +21,7 @@ pub const MOST_BYTES: usize = 268_435_456;
 /// What it gave before a refusal is lost.
 pub fn read_all<R: Source>(alloc: Global, source: &mut R, limit: usize) -> Result<Vec<u8>, Refusal>
     ensures spelled { IfSome (R.left source.old) (λ bytes. Gives (Raised (R.failed source.old) (R.failed source.new)) (λ v. v.items) result (bytes_within limit bytes)) }
+    ensures short { IfOk result (λ bytes. length bytes.items ≤ limit) }
     ensures steady { OnOk result (R.failed source.new ≡ R.failed source.old) }
     ensures told { IfErr result (TellsSource (Raised (R.failed source.old) (R.failed source.new))) }
     ensures ended { OnOk result (IsAtEnd (R.left source.new)) }
@@ -60,7 +61,10 @@ pub fn load<R: Source>(alloc: Global, source: &mut R) -> Result<(Schema, Vec<Row
     ensures ended { OnOk result (IsAtEnd (R.left source.new)) }
 {
     match read_all(alloc, source, MOST_BYTES) {
-        Ok(bytes) => read_table(alloc, &bytes),
+        Ok(bytes) => match read_table(alloc, &bytes) {
+            Ok(table) => Ok(table),
+            Err(e) => Err(e),
+        },
         Err(e) => Err(e),
     }
 }
