@@ -8,7 +8,7 @@ use Rattle.sw_rows.specs.Bounds.{bound_below, same_bound}
 use Rattle.sw_kernel.specs.declared.mark.Mark.{Mark}
 use Rattle.sw_kernel.specs.Partition.{left_part, right_part, partition, goes_left}
 use Rattle.sw_kernel.specs.Arrangement.{Arrangement, last, piece, joined, crack}
-use Rattle.sw_kernel.specs.Ripple.{marks_from, end_before, marks_below, start_at, IsNew}
+use Rattle.sw_kernel.specs.Flat.{marks_from, end_before, marks_below, start_at, IsNew}
 use Rattle.sw_kernel.proofs.Parts.{left-length, right-length, partition-parts}
 
 -- zs with the places from s up to e partitioned

@@ -6,3 +6,9 @@ pub mod Seen
 pub mod Ripples
 pub mod Removals
 pub mod Cracks
+pub mod Orders
+pub mod Rising
+pub mod Moves
+pub mod Members
+pub mod Sound
+pub mod Once

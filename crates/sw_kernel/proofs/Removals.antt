@@ -6,7 +6,8 @@ use Rattle.std.proofs.lemmas.Slice.Zip.{length-zip}
 use Rattle.sw_rows.specs.declared.bound.Bound.{Bound}
 use Rattle.sw_kernel.specs.declared.mark.Mark.{Mark}
 use Rattle.sw_kernel.specs.Arrangement.{Arrangement, last, piece, joined, first_to_end, last_to_front, take_out, each_piece, ripple_remove}
-use Rattle.sw_kernel.specs.Ripple.{marks_from, IsFlat, holder_of, earlier, earlier_from, closed_up, origin}
+use Rattle.sw_kernel.specs.Ripple.{holder_of, earlier, earlier_from, closed_up, origin}
+use Rattle.sw_kernel.specs.Flat.{marks_from, IsFlat}
 use Rattle.sw_kernel.proofs.Parts.{reverse_end, reverse-cons}
 
 -- the hole before these items takes the last of them

@@ -9,7 +9,8 @@ use Rattle.sw_kernel.specs.declared.mark.Mark.{Mark}
 use Rattle.std.proofs.lemmas.Slice.Zip.{length-zip}
 use Rattle.sw_kernel.specs.Partition.{goes_left, head_of}
 use Rattle.sw_kernel.specs.Arrangement.{Arrangement, last, piece, joined, first_to_end, each_piece, ripple_insert}
-use Rattle.sw_kernel.specs.Ripple.{marks_from, IsFlat, piece_of, later, later_from, end_before, carried}
+use Rattle.sw_kernel.specs.Ripple.{piece_of, later, later_from, carried}
+use Rattle.sw_kernel.specs.Flat.{marks_from, IsFlat, end_before}
 
 -- one mark whose piece is empty, and one whose piece is not
 carried-empty : {A : Type 0} (b : Bound) (i : ℕ) (ms : List Mark) (n : ℕ) (x : A) (zs : List A) → end_before ms n ≤ i → carried (record { bound = b; at = i } ∷ ms) n x zs ≡ carried ms n x zs

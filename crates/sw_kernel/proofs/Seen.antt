@@ -4,7 +4,8 @@ use Rattle.std.proofs.lemmas.List.{map-append, length-map}
 use Rattle.sw_rows.specs.declared.bound.Bound.{Bound}
 use Rattle.sw_rows.specs.Bounds.{same_bound, bound_below}
 use Rattle.sw_kernel.specs.Partition.{left_part, right_part, goes_left}
-use Rattle.sw_kernel.specs.Arrangement.{Arrangement, last, piece, joined, crack, crack_at, first_to_end, last_to_front, take_out, each_piece, ripple_insert, ripple_remove, Step, loaded, inserted, removed, ranged, load, step, replay, replay_from, shown, shown_step}
+use Rattle.sw_kernel.specs.Arrangement.{Arrangement, last, piece, joined, crack, first_to_end, last_to_front, take_out, each_piece, ripple_insert, ripple_remove}
+use Rattle.sw_kernel.specs.Replay.{crack_at, Step, loaded, inserted, removed, ranged, load, step, replay, replay_from, shown, shown_step}
 use Rattle.sw_kernel.proofs.Parts.{left-map, right-map, map-reverse}
 
 pub shown-crack : {A B : Type 0} (f : A → B) (value : B → ℤ) (b : Bound) (a : Arrangement A) → shown f (crack (λ x. value (f x)) b a) ≡ crack value b (shown f a)

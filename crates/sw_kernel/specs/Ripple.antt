@@ -1,18 +1,8 @@
--- The flat form of an arrangement: its items in one list, and marks where a bound's right side begins.
-use Rattle.std.specs.Prelude.{◌≡◌, ℤ, pos, ℕ, Bool, false, cond, List, [], ◌∷◌, ◌++◌, map, length, nat_lt, ◌+◌, ◌-◌, suc, zero, take, drop, slice_index_or, slice_set}
-use Rattle.sw_rows.specs.declared.bound.Bound.{Bound}
-use Rattle.sw_rows.specs.Bounds.{is_left, bound_below, same_bound}
+-- The ripples as the loops over marks make them.
+use Rattle.std.specs.Prelude.{ℤ, pos, ℕ, cond, List, [], ◌∷◌, ◌++◌, map, nat_lt, ◌+◌, ◌-◌, suc, take, drop, slice_index_or, slice_set}
+use Rattle.sw_rows.specs.Bounds.{is_left}
 use Rattle.sw_kernel.specs.declared.mark.Mark.{Mark}
-use Rattle.sw_kernel.specs.Arrangement.{Arrangement, last, piece, joined}
-
--- the marks of an arrangement whose first item stands at n
-abbrev pub marks_from : {A : Type 0} → ℕ → Arrangement A → List Mark
-marks_from n (last xs) = []
-marks_from n (piece xs b rest) = record { bound = b; at = n + length xs } ∷ marks_from (n + length xs) rest
-
--- these items and marks are this arrangement
-abbrev pub IsFlat : {A : Type 0} → Arrangement A → List A → List Mark → Type 0
-IsFlat a items marks = (joined a ≡ items) × (marks_from 0 a ≡ marks)
+use Rattle.sw_kernel.specs.Flat.{end_before}
 
 -- how many marks stand before the first that the value lies left of
 abbrev pub piece_of : List Mark → ℤ → ℕ
@@ -25,11 +15,6 @@ later m = record m { at = m.at + 1 }
 -- the marks from the p-th on stand one place later
 abbrev pub later_from : ℕ → List Mark → List Mark
 later_from p ms = take p ms ++ map later (drop p ms)
-
--- where the piece before these marks ends, of n items
-abbrev pub end_before : List Mark → ℕ → ℕ
-end_before [] n = n
-end_before (m ∷ ms) n = m.at
 
 -- an item is carried from piece to piece: it takes the first place of each that is not empty, and that one's item is carried on
 abbrev pub carried : {A : Type 0} → List Mark → ℕ → A → List A → List A
@@ -56,20 +41,3 @@ closed_up d (m ∷ ms) n hole zs = closed_up d ms n (m.at - 1) (slice_set zs hol
 
 abbrev pub origin : ℤ × ℤ
 origin = (pos 0, pos 0)
-
--- ---- a crack on the flat form
--- how many marks stand before the bound
-abbrev pub marks_below : List Mark → Bound → ℕ
-marks_below [] b = 0
-marks_below (m ∷ ms) b = cond (bound_below b m.bound) 0 (suc (marks_below ms b))
-
--- where the k-th piece begins, if the first begins at i
-abbrev pub start_at : ℕ → List Mark → ℕ → ℕ
-start_at i ms zero = i
-start_at i [] (suc k) = i
-start_at i (m ∷ ms) (suc k) = start_at m.at ms k
-
--- no mark has the bound
-abbrev pub IsNew : Bound → List Mark → Type 0
-IsNew b [] = Unit {0}
-IsNew b (m ∷ ms) = (same_bound b m.bound ≡ false) × IsNew b ms

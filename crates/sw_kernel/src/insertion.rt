@@ -4,7 +4,8 @@ ghost use Rattle.std.specs.Prelude.{◌≡◌, ◌+◌, ◌<◌, ◌≤◌, leng
 ghost use Rattle.sw_kernel.specs.declared.mark.Mark.{Mark};
 ghost use Rattle.sw_kernel.specs.Partition.{head_of};
 ghost use Rattle.sw_kernel.specs.Arrangement.{Arrangement, ripple_insert};
-ghost use Rattle.sw_kernel.specs.Ripple.{piece_of, end_before, carried, later_from, IsFlat};
+ghost use Rattle.sw_kernel.specs.Ripple.{piece_of, carried, later_from};
+ghost use Rattle.sw_kernel.specs.Flat.{end_before, IsFlat};
 
 use crate::mark::Mark;
 

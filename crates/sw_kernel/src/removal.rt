@@ -3,7 +3,8 @@
 ghost use Rattle.std.specs.Prelude.{◌≡◌, ◌+◌, ◌<◌, ◌≤◌, ℕ, length, zip, slice_index_or, slice_set, drop, All, vec_len, vec_capacity, ℤ};
 ghost use Rattle.sw_kernel.specs.declared.mark.Mark.{Mark};
 ghost use Rattle.sw_kernel.specs.Arrangement.{Arrangement, ripple_remove};
-ghost use Rattle.sw_kernel.specs.Ripple.{IsFlat, holder_of, closed_up, earlier_from, origin};
+ghost use Rattle.sw_kernel.specs.Ripple.{holder_of, closed_up, earlier_from, origin};
+ghost use Rattle.sw_kernel.specs.Flat.{IsFlat};
 
 use crate::mark::Mark;
 

@@ -5,7 +5,8 @@ use mir.Syntax.{w64}
 use mir.Val.{SFits, to_z, of_z}
 use Rattle.sw_rows.specs.declared.bound.Bound.TheVariants.{Before}
 use Rattle.sw_kernel.specs.declared.mark.Mark.{Mark}
-use Rattle.sw_kernel.specs.Ripple.{carried, end_before}
+use Rattle.sw_kernel.specs.Ripple.{carried}
+use Rattle.sw_kernel.specs.Flat.{end_before}
 use Rattle.sw_kernel.proofs.Ripples.{end-le, carry-step}
 use Rattle.sw_kernel.proofs.insertion.carry_on.Goals as goal
 

@@ -2,7 +2,8 @@ use Rattle.std.proofs.Common.{rules, ◌≡◌, ◌≤◌, ◌++◌, ◌∷◌, 
 use Rattle.std.proofs.lemmas.Int.{to_z-of_z}
 use mir.Syntax.{w64}
 use mir.Val.{SFits, to_z, of_z}
-use Rattle.sw_kernel.specs.Ripple.{IsFlat, carried, piece_of}
+use Rattle.sw_kernel.specs.Ripple.{carried, piece_of}
+use Rattle.sw_kernel.specs.Flat.{IsFlat}
 use Rattle.sw_kernel.proofs.Ripples.{ripple-flat, written}
 use Rattle.sw_kernel.proofs.insertion.ripple_in.Goals as goal
 

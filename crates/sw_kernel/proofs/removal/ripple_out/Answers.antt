@@ -1,5 +1,6 @@
 use Rattle.std.proofs.Common.{rules, ◌≡◌, ◌≤◌, ◌<◌, ◌-◌, ◌++◌, ◌∷◌, [], ℕ, ℤ, List, length, take, drop, arith, sym, ◌∙◌, ap, ap₂, zip}
-use Rattle.sw_kernel.specs.Ripple.{IsFlat, closed_up, holder_of, origin}
+use Rattle.sw_kernel.specs.Ripple.{closed_up, holder_of, origin}
+use Rattle.sw_kernel.specs.Flat.{IsFlat}
 use Rattle.sw_kernel.proofs.Ripples.{written}
 use Rattle.sw_kernel.proofs.Removals.{removal-flat, reaches}
 use Rattle.sw_kernel.proofs.removal.ripple_out.Goals as goal
