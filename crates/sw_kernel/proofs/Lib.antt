@@ -12,3 +12,4 @@ pub mod Moves
 pub mod Members
 pub mod Sound
 pub mod Once
+pub mod Marks

@@ -1,5 +1,5 @@
 -- The flat form of an arrangement: its items in one list, and marks where a bound's right side begins.
-use Rattle.std.specs.Prelude.{◌≡◌, ℕ, false, cond, List, [], ◌∷◌, length, ◌+◌, suc, zero}
+use Rattle.std.specs.Prelude.{◌≡◌, ◌≤◌, ℕ, false, cond, List, [], ◌∷◌, length, ◌+◌, suc, zero}
 use Rattle.sw_rows.specs.declared.bound.Bound.{Bound}
 use Rattle.sw_rows.specs.Bounds.{bound_below, same_bound}
 use Rattle.sw_kernel.specs.declared.mark.Mark.{Mark}
@@ -13,6 +13,15 @@ marks_from n (piece xs b rest) = record { bound = b; at = n + length xs } ∷ ma
 -- these items and marks are this arrangement
 abbrev pub IsFlat : {A : Type 0} → Arrangement A → List A → List Mark → Type 0
 IsFlat a items marks = (joined a ≡ items) × (marks_from 0 a ≡ marks)
+
+-- whatever arrangement the items and marks are before, they are what f makes of it afterwards
+abbrev pub Become : {A : Type 0} → (Arrangement A → Arrangement A) → List A → List Mark → List A → List Mark → Type 0
+Become {A} f items marks items' marks' = (a : Arrangement A) → IsFlat a items marks → IsFlat (f a) items' marks'
+
+-- the places of the marks never fall, from i on, and never pass n
+abbrev pub InOrder : ℕ → ℕ → List Mark → Type 0
+InOrder i n [] = i ≤ n
+InOrder i n (m ∷ ms) = (i ≤ m.at) × InOrder m.at n ms
 
 -- where the piece before these marks ends, of n items
 abbrev pub end_before : List Mark → ℕ → ℕ

@@ -1,11 +1,11 @@
 //! The ripple of an insertion.
 
-ghost use Rattle.std.specs.Prelude.{◌≡◌, ◌+◌, ◌<◌, ◌≤◌, length, zip, slice_index_or, slice_set, nat_lt, cond, drop, All, ◌++◌, ◌∷◌, [], ◌^◌, vec_len, vec_capacity, ℤ};
+ghost use Rattle.std.specs.Prelude.{◌≡◌, ◌+◌, ◌<◌, ◌≤◌, length, zip, slice_index_or, slice_set, nat_lt, cond, drop, All, ◌++◌, ◌∷◌, [], ◌^◌, vec_len, vec_capacity};
 ghost use Rattle.sw_kernel.specs.declared.mark.Mark.{Mark};
 ghost use Rattle.sw_kernel.specs.Partition.{head_of};
-ghost use Rattle.sw_kernel.specs.Arrangement.{Arrangement, ripple_insert};
+ghost use Rattle.sw_kernel.specs.Arrangement.{ripple_insert};
 ghost use Rattle.sw_kernel.specs.Ripple.{piece_of, carried, later_from};
-ghost use Rattle.sw_kernel.specs.Flat.{end_before, IsFlat};
+ghost use Rattle.sw_kernel.specs.Flat.{Become, InOrder, end_before};
 
 use crate::mark::Mark;
 
@@ -103,8 +103,8 @@ fn append(values: &mut Vec<i64>, value: i64)
 pub fn ripple_in(head: &mut Vec<i64>, tail: &mut Vec<i64>, marks: &mut [Mark], h: i64, t: i64)
     requires lengths { vec_len head.old ≡ vec_len tail.old }
     requires room { (vec_len head.old < vec_capacity head.old) × (vec_len tail.old < vec_capacity tail.old) }
-    requires range { All (λ (m : Mark). m.at ≤ vec_len head.old) marks.old }
-    ensures rippled { (a : Arrangement (ℤ × ℤ)) → IsFlat a (zip head.old.items tail.old.items) marks.old → IsFlat (ripple_insert head_of (h, t) a) (zip head.new.items tail.new.items) marks.new }
+    requires order { InOrder 0 (vec_len head.old) marks.old }
+    ensures rippled { Become (ripple_insert head_of (h, t)) (zip head.old.items tail.old.items) marks.old (zip head.new.items tail.new.items) marks.new }
     ensures lengths { (vec_len head.new ≡ vec_len head.old + 1) × (vec_len tail.new ≡ vec_len tail.old + 1) }
     ensures capacity { (vec_capacity head.new ≡ vec_capacity head.old) × (vec_capacity tail.new ≡ vec_capacity tail.old) }
 {

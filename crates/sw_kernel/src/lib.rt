@@ -11,6 +11,8 @@ mod listing;
 mod mark;
 mod partition;
 mod removal;
+#[cfg(test)]
+mod tests;
 
 pub use insertion::ripple_in;
 pub use laws::{bounds_marked, bounds_rise, items_counted, marks_sound, replays_seen, rows_held_once, steps_seen};

@@ -1,10 +1,10 @@
 //! The ripple of a removal.
 
-ghost use Rattle.std.specs.Prelude.{◌≡◌, ◌+◌, ◌<◌, ◌≤◌, ℕ, length, zip, slice_index_or, slice_set, drop, All, vec_len, vec_capacity, ℤ};
+ghost use Rattle.std.specs.Prelude.{◌≡◌, ◌+◌, ◌<◌, ◌≤◌, ℕ, length, zip, slice_index_or, slice_set, drop, All, vec_len, vec_capacity};
 ghost use Rattle.sw_kernel.specs.declared.mark.Mark.{Mark};
-ghost use Rattle.sw_kernel.specs.Arrangement.{Arrangement, ripple_remove};
+ghost use Rattle.sw_kernel.specs.Arrangement.{ripple_remove};
 ghost use Rattle.sw_kernel.specs.Ripple.{holder_of, closed_up, earlier_from, origin};
-ghost use Rattle.sw_kernel.specs.Flat.{IsFlat};
+ghost use Rattle.sw_kernel.specs.Flat.{Become, InOrder};
 
 use crate::mark::Mark;
 
@@ -67,9 +67,8 @@ fn pull(marks: &mut [Mark], from: usize)
 pub fn ripple_out(head: &mut Vec<i64>, tail: &mut Vec<i64>, marks: &mut [Mark], place: usize)
     requires lengths { vec_len head.old ≡ vec_len tail.old }
     requires place { place < vec_len head.old }
-    requires range { All (λ (m : Mark). m.at ≤ vec_len head.old) marks.old }
-    requires order { (j k : ℕ) (d : Mark) → j ≤ k → k < length marks.old → (slice_index_or marks.old j d).at ≤ (slice_index_or marks.old k d).at }
-    ensures rippled { (a : Arrangement (ℤ × ℤ)) → IsFlat a (zip head.old.items tail.old.items) marks.old → IsFlat (ripple_remove place a) (zip head.new.items tail.new.items) marks.new }
+    requires order { InOrder 0 (vec_len head.old) marks.old }
+    ensures rippled { Become (ripple_remove place) (zip head.old.items tail.old.items) marks.old (zip head.new.items tail.new.items) marks.new }
     ensures lengths { (vec_len head.new + 1 ≡ vec_len head.old) × (vec_len tail.new + 1 ≡ vec_len tail.old) }
     ensures capacity { (vec_capacity head.new ≡ vec_capacity head.old) × (vec_capacity tail.new ≡ vec_capacity tail.old) }
 {

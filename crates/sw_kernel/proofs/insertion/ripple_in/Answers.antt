@@ -5,7 +5,14 @@ use mir.Val.{SFits, to_z, of_z}
 use Rattle.sw_kernel.specs.Ripple.{carried, piece_of}
 use Rattle.sw_kernel.specs.Flat.{IsFlat}
 use Rattle.sw_kernel.proofs.Ripples.{ripple-flat, written}
+use Rattle.sw_kernel.proofs.Marks.{order-all, order-below}
 use Rattle.sw_kernel.proofs.insertion.ripple_in.Goals as goal
+
+pub carry_on-x-requires-clause-range : goal.carry_on-x-requires-clause-range
+carry_on-x-requires-clause-range c = order-all c.args.head.now.len _ c.args.marks.now c.requires.order (omega arith)
+
+pub bump-requires-clause-range : goal.bump-requires-clause-range
+bump-requires-clause-range c = order-below c.args.head.now.len _ c.args.marks.now c.requires.order (omega arith)
 
 pub returns-clause-rippled : goal.returns-clause-rippled
 returns-clause-rippled c =

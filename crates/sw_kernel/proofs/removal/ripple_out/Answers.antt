@@ -3,13 +3,17 @@ use Rattle.sw_kernel.specs.Ripple.{closed_up, holder_of, origin}
 use Rattle.sw_kernel.specs.Flat.{IsFlat}
 use Rattle.sw_kernel.proofs.Ripples.{written}
 use Rattle.sw_kernel.proofs.Removals.{removal-flat, reaches}
+use Rattle.sw_kernel.proofs.Marks.{order-mono, order-all}
 use Rattle.sw_kernel.proofs.removal.ripple_out.Goals as goal
 
+pub close_up-requires-clause-range : goal.close_up-requires-clause-range
+close_up-requires-clause-range c = order-all c.args.head.now.len _ c.args.marks.now c.requires.order (omega arith)
+
 pub close_up-requires-clause-reach : goal.close_up-requires-clause-reach
-close_up-requires-clause-reach c = reaches c.args.marks.now c.args.place c.holder_of-from.result c.holder_of-from.ensures.piece c.requires.order
+close_up-requires-clause-reach c = reaches c.args.marks.now c.args.place c.holder_of-from.result c.holder_of-from.ensures.piece (λ j k d le lt. order-mono 0 c.args.head.now.len c.args.marks.now j k d c.requires.order le lt)
 
 pub pull-requires-clause-reach : goal.pull-requires-clause-reach
-pull-requires-clause-reach c = reaches c.args.marks.now c.args.place c.holder_of-from.result c.holder_of-from.ensures.piece c.requires.order
+pull-requires-clause-reach c = reaches c.args.marks.now c.args.place c.holder_of-from.result c.holder_of-from.ensures.piece (λ j k d le lt. order-mono 0 c.args.head.now.len c.args.marks.now j k d c.requires.order le lt)
 
 pub returns-clause-rippled : goal.returns-clause-rippled
 returns-clause-rippled c =
