@@ -1,10 +1,10 @@
 //! A rising list of bounds.
 
-ghost use Rattle.std.specs.Prelude.{◌≡◌, ◌<◌, ◌≤◌, ◌+◌, ◌||◌, length, vec_capacity, vec_len};
+ghost use Rattle.std.specs.Prelude.{◌≡◌, ◌<◌, ◌≤◌, ◌+◌, ◌||◌, drop, insert, vec_capacity, vec_len};
 ghost use Rattle.sw_rows.specs.Bounds.{same_bound};
 ghost use Rattle.sw_rows.specs.declared.bound.Bound.{Bound};
 ghost use Rattle.sw_kernel.specs.Tapes.{IsRising, is_bound};
-ghost use Rattle.sw_tape.specs.Entries.{is_among};
+ghost use Rattle.sw_tape.specs.Bounds.{IsPlaceOf, is_among, is_first};
 
 use sw_rows::Bound;
 
@@ -22,7 +22,7 @@ fn is_same(one: Bound, other: Bound) -> bool
 /// How many of the bounds stand below this one, by binary search.
 fn count_below(bounds: &[Bound], bound: Bound) -> usize
     requires { IsRising bounds.now }
-    ensures { Splits bound result bounds.now }
+    ensures { IsPlaceOf bound result bounds.now }
 {
     bounds.partition_point(|known| known.is_below(bound))
 }

@@ -2,6 +2,7 @@
 
 ghost use Rattle.std.specs.Prelude.{◌≡◌, ◌<◌, ◌≤◌, ◌+◌, ◌^◌};
 ghost use Rattle.sw_kernel.specs.Tapes.{MayFollow, count_after};
+ghost use Rattle.sw_tape.specs.Entries.{step_of};
 
 use sw_rows::{Bound, Row};
 
@@ -20,7 +21,6 @@ pub enum Entry {
 
 /// The number of pairs after an entry that is no load, from the number before it.
 pub(crate) fn pairs_after(pairs: usize, entry: &Entry) -> usize
-    ghost use Rattle.sw_tape.specs.Entries.{step_of};
     requires follows { MayFollow pairs (step_of entry.now) }
     requires few { pairs + 1 < 2 ^ 64 }
     ensures pairs { result ≡ count_after pairs (step_of entry.now) }

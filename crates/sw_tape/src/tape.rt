@@ -1,12 +1,13 @@
 //! The tape.
 
-ghost use Rattle.std.specs.Prelude.{◌≡◌, ◌<◌, ◌≤◌, ◌+◌, ◌^◌, ◌++◌, ◌∷◌, [], List, length, map, vec_len, MatchOption, MatchResult, OnErr, OnOk, IfErr, slice_get, Some};
+ghost use Rattle.std.specs.Prelude.{◌≡◌, ◌<◌, ◌≤◌, ◌+◌, ◌++◌, ◌∷◌, ◌||◌, [], List, length, map, vec_len, vec_capacity, MatchOption, MatchResult, OnErr, OnOk, IfErr, slice_get, Some};
 ghost use Rattle.sw_rows.specs.declared.bound.Bound.{Bound};
 ghost use Rattle.sw_rows.specs.declared.row.Row.{Row};
 ghost use Rattle.sw_rows.specs.declared.refusal.Refusal.TheVariants.{NoMemory, TooMany};
 ghost use Rattle.sw_kernel.specs.Replay.{Step, loaded};
-ghost use Rattle.sw_kernel.specs.Tapes.{IsRising, IsTape, MayFollow, count_from, is_marked, peak_from};
-ghost use Rattle.sw_tape.specs.Entries.{is_among, step_of};
+ghost use Rattle.sw_kernel.specs.Tapes.{IsRising, MayFollow, count_from, is_marked, peak_from, ranges_at};
+ghost use Rattle.sw_tape.specs.Bounds.{is_among};
+ghost use Rattle.sw_tape.specs.Entries.{IsKept, step_of};
 
 use crate::bounds::{add_some, is_among};
 use crate::entry::{Entry, pairs_after};
@@ -41,6 +42,19 @@ fn load_of(alloc: Global, rows: &[Row]) -> Result<Entry, Refusal>
     match Vec::from_slice(alloc, rows) {
         Ok(copy) => Ok(Entry::Load(copy)),
         Err(_) => Err(Refusal::NoMemory),
+    }
+}
+
+/// Adds the bounds of an entry to those that stand in ranges.
+fn add_bounds(bounds: &mut Vec<Bound>, entry: &Entry)
+    requires room { vec_len bounds.old + 2 ≤ vec_capacity bounds.old }
+    requires rising { IsRising bounds.old.items }
+    ensures rising { IsRising bounds.new.items }
+    ensures among { (b : Bound) → is_among b bounds.new.items ≡ ranges_at b (step_of entry.now) || is_among b bounds.old.items }
+{
+    if let Entry::Range(lower, upper) = entry {
+        add_some(bounds, *lower);
+        add_some(bounds, *upper);
     }
 }
 
@@ -87,10 +101,7 @@ impl Tape {
             return Err(Refusal::NoMemory);
         }
         let pairs = pairs_after(self.pairs, &entry);
-        if let Entry::Range(lower, upper) = &entry {
-            add_some(&mut self.bounds, *lower);
-            add_some(&mut self.bounds, *upper);
-        }
+        add_bounds(&mut self.bounds, &entry);
         self.entries.push_reserved(entry);
         self.pairs = pairs;
         self.peak = self.peak.max(pairs);
