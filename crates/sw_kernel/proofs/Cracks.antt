@@ -33,13 +33,13 @@ crack-items {A} value b (piece xs c rest) ps i n new ei en =
     let ms = marks_from j rest in
     let fresh = new.0 in
     elim (cases_Bool (bound_below b c)) [
-      inl here ↦ rw (fresh, here) (middle p ps xs (joined rest) i j ei refl)
-    | inr past ↦
-        let more : (ps ++ xs) ++ joined rest ≡ ps ++ (xs ++ joined rest) = append_assoc ps xs (joined rest) in
-        rw (fresh, past)
-        (ap (parted_at p (start_at j ms (marks_below ms b)) (end_before (drop (marks_below ms b) ms) n)) (sym more) ∙
-        crack-items value b rest (ps ++ xs) j n new.1 (length-append ps xs ∙ omega arith) (ap length more ∙ en) ∙
-        append_assoc ps xs (joined (crack value b rest)))
+      | inl here ↦ rw (fresh, here) (middle p ps xs (joined rest) i j ei refl)
+      | inr past ↦
+          let more : (ps ++ xs) ++ joined rest ≡ ps ++ (xs ++ joined rest) = append_assoc ps xs (joined rest) in
+          rw (fresh, past)
+          (ap (parted_at p (start_at j ms (marks_below ms b)) (end_before (drop (marks_below ms b) ms) n)) (sym more) ∙
+          crack-items value b rest (ps ++ xs) j n new.1 (length-append ps xs ∙ omega arith) (ap length more ∙ en) ∙
+          append_assoc ps xs (joined (crack value b rest)))
     ]
 
 pub crack-marks : {A : Type 0} (value : A → ℤ) (b : Bound) (a : Arrangement A) (ps : List A) (i n : ℕ) → IsNew b (marks_from i a) → length ps ≡ i → length (ps ++ joined a) ≡ n →
@@ -55,15 +55,15 @@ crack-marks {A} value b (piece xs c rest) ps i n new ei en =
     let ms = marks_from j rest in
     let fresh = new.0 in
     elim (cases_Bool (bound_below b c)) [
-      inl here ↦
-        let own : take (j - i) (drop i (ps ++ (xs ++ joined rest))) ≡ xs = ap (take (j - i)) (drop_at ps (xs ++ joined rest) i ei) ∙ take_at xs (joined rest) (j - i) (omega arith) in
-        let first : i + length (left_part p xs) ≡ i + count_by p (take (j - i) (drop i (ps ++ (xs ++ joined rest)))) = ap (λ (k : ℕ). i + k) (left-length p xs ∙ sym (ap (count_by p) own)) in
-        let second : i + length (left_part p xs) + length (right_part p xs) ≡ j = omega (arith, left-length p xs, right-length p xs, count_by-le-length p xs) in
-        rw (fresh, here) (ap₂ (λ (u v : ℕ). record { bound = b; at = u } ∷ record { bound = c; at = v } ∷ marks_from v rest) first second)
-    | inr past ↦
-        let more : (ps ++ xs) ++ joined rest ≡ ps ++ (xs ++ joined rest) = append_assoc ps xs (joined rest) in
-        let k = marks_below ms b in let s = start_at j ms k in let e = end_before (drop k ms) n in
-        let G : List A → List Mark = λ zs. take k ms ++ record { bound = b; at = s + count_by p (take (e - s) (drop s zs)) } ∷ drop k ms in
-        rw (fresh, past)
-        (ap (λ l. record { bound = c; at = j } ∷ l) (crack-marks value b rest (ps ++ xs) j n new.1 (length-append ps xs ∙ omega arith) (ap length more ∙ en) ∙ ap G more))
+      | inl here ↦
+          let own : take (j - i) (drop i (ps ++ (xs ++ joined rest))) ≡ xs = ap (take (j - i)) (drop_at ps (xs ++ joined rest) i ei) ∙ take_at xs (joined rest) (j - i) (omega arith) in
+          let first : i + length (left_part p xs) ≡ i + count_by p (take (j - i) (drop i (ps ++ (xs ++ joined rest)))) = ap (λ (k : ℕ). i + k) (left-length p xs ∙ sym (ap (count_by p) own)) in
+          let second : i + length (left_part p xs) + length (right_part p xs) ≡ j = omega (arith, left-length p xs, right-length p xs, count_by-le-length p xs) in
+          rw (fresh, here) (ap₂ (λ (u v : ℕ). record { bound = b; at = u } ∷ record { bound = c; at = v } ∷ marks_from v rest) first second)
+      | inr past ↦
+          let more : (ps ++ xs) ++ joined rest ≡ ps ++ (xs ++ joined rest) = append_assoc ps xs (joined rest) in
+          let k = marks_below ms b in let s = start_at j ms k in let e = end_before (drop k ms) n in
+          let G : List A → List Mark = λ zs. take k ms ++ record { bound = b; at = s + count_by p (take (e - s) (drop s zs)) } ∷ drop k ms in
+          rw (fresh, past)
+          (ap (λ l. record { bound = c; at = j } ∷ l) (crack-marks value b rest (ps ++ xs) j n new.1 (length-append ps xs ∙ omega arith) (ap length more ∙ en) ∙ ap G more))
     ]

@@ -80,19 +80,19 @@ parted-by : {A : Type 0} (p : A → Bool) (n : ℕ) (xs : List A) → length xs 
 parted-by p n [] le = parted-none p
 parted-by p zero (x ∷ m) le = absurd (omega arith)
 parted-by p (suc n) (x ∷ []) le = elim (cases_Bool (p x)) [
-      inl yields ↦ parted-yes p x [] yields (parted-none p)
-    | inr stays ↦ parted-no p x [] stays (parted-none p)
-    ]
+  | inl yields ↦ parted-yes p x [] yields (parted-none p)
+  | inr stays ↦ parted-no p x [] stays (parted-none p)
+]
 parted-by {A} p (suc n) (x ∷ z ∷ m) le = elim (cases_Bool (p x)) [
-      inl yields ↦ parted-yes p x (z ∷ m) yields (parted-by p n (z ∷ m) (omega arith))
-    | inr stays ↦
-        let r = ends z m in
-        let long : length (z ∷ m) ≡ length r.0 + 1 = ap length r.2 ∙ length-append r.0 (r.1 ∷ []) in
-        elim (cases_Bool (p r.1)) [
-          inl yields ↦ subst (λ (l : List A). Parted p (x ∷ l)) (sym r.2) (parted-both p x r.1 r.0 stays yields (parted-by p n r.0 (omega arith)))
+  | inl yields ↦ parted-yes p x (z ∷ m) yields (parted-by p n (z ∷ m) (omega arith))
+  | inr stays ↦
+      let r = ends z m in
+      let long : length (z ∷ m) ≡ length r.0 + 1 = ap length r.2 ∙ length-append r.0 (r.1 ∷ []) in
+      elim (cases_Bool (p r.1)) [
+        | inl yields ↦ subst (λ (l : List A). Parted p (x ∷ l)) (sym r.2) (parted-both p x r.1 r.0 stays yields (parted-by p n r.0 (omega arith)))
         | inr stays' ↦ subst (λ (l : List A). Parted p (x ∷ l)) (sym r.2) (parted-no p r.1 (x ∷ r.0) stays' (parted-by p n (x ∷ r.0) (omega arith)))
-        ]
-    ]
+      ]
+]
 
 pub parted : {A : Type 0} (p : A → Bool) (xs : List A) → Parted p xs
 parted p xs = parted-by p (length xs) xs (omega arith)
@@ -101,15 +101,15 @@ parted p xs = parted-by p (length xs) xs (omega arith)
 pub crack-moves : {A : Type 0} (value : A → ℤ) (b : Bound) (a : Arrangement A) → IsPermutation (joined a) (joined (crack value b a))
 crack-moves value b (last xs) = (parted (goes_left value b) xs).moved
 crack-moves {A} value b (piece xs c rest) = elim (cases_Bool (same_bound b c)) [
-      inl here ↦ rw here (IsPermutation-refl (xs ++ joined rest))
-    | inr other ↦ elim (cases_Bool (bound_below b c)) [
-        inl first ↦
-          let l : List A = left_part (goes_left value b) xs in
-          let r : List A = right_part (goes_left value b) xs in
-          rw (other, first) (to-equal (append_assoc l r (joined rest)) (IsPermutation-append_left (joined rest) xs (l ++ r) (parted (goes_left value b) xs).moved))
-      | inr past ↦ rw (other, past) (IsPermutation-append_right xs (joined rest) (joined (crack value b rest)) (crack-moves value b rest))
-      ]
-    ]
+  | inl here ↦ rw here (IsPermutation-refl (xs ++ joined rest))
+  | inr other ↦ elim (cases_Bool (bound_below b c)) [
+    | inl first ↦
+        let l : List A = left_part (goes_left value b) xs in
+        let r : List A = right_part (goes_left value b) xs in
+        rw (other, first) (to-equal (append_assoc l r (joined rest)) (IsPermutation-append_left (joined rest) xs (l ++ r) (parted (goes_left value b) xs).moved))
+    | inr past ↦ rw (other, past) (IsPermutation-append_right xs (joined rest) (joined (crack value b rest)) (crack-moves value b rest))
+  ]
+]
 
 pub crack_at-moves : {A : Type 0} (value : A → ℤ) (b : Option Bound) (a : Arrangement A) → IsPermutation (joined a) (joined (crack_at value b a))
 crack_at-moves value None a = IsPermutation-refl (joined a)
@@ -129,12 +129,12 @@ each-moves f h (piece xs b rest) = then (IsPermutation-append_left (joined rest)
 pub insert-moves : {A : Type 0} (value : A → ℤ) (x : A) (a : Arrangement A) → IsPermutation (joined a ++ x ∷ []) (joined (ripple_insert value x a))
 insert-moves value x (last xs) = IsPermutation-refl (xs ++ x ∷ [])
 insert-moves value x (piece xs b rest) = elim (cases_Bool (goes_left value b x)) [
-      inl here ↦
-        let one : IsPermutation ((xs ++ joined rest) ++ x ∷ []) (xs ++ x ∷ joined rest) = from-equal (append_assoc xs (joined rest) (x ∷ [])) (IsPermutation-append_right xs (joined rest ++ x ∷ []) (x ∷ joined rest) (IsPermutation-to_front (joined rest) x)) in
-        let two : IsPermutation (xs ++ x ∷ joined rest) ((xs ++ x ∷ []) ++ joined rest) = to-equal (sym (append_assoc xs (x ∷ []) (joined rest))) (IsPermutation-refl (xs ++ x ∷ joined rest)) in
-        rw here (then one (then two (IsPermutation-append_right (xs ++ x ∷ []) (joined rest) (joined (each_piece first_to_end rest)) (each-moves first_to_end first-moves rest))))
-    | inr past ↦ rw past (from-equal (append_assoc xs (joined rest) (x ∷ [])) (IsPermutation-append_right xs (joined rest ++ x ∷ []) (joined (ripple_insert value x rest)) (insert-moves value x rest)))
-    ]
+  | inl here ↦
+      let one : IsPermutation ((xs ++ joined rest) ++ x ∷ []) (xs ++ x ∷ joined rest) = from-equal (append_assoc xs (joined rest) (x ∷ [])) (IsPermutation-append_right xs (joined rest ++ x ∷ []) (x ∷ joined rest) (IsPermutation-to_front (joined rest) x)) in
+      let two : IsPermutation (xs ++ x ∷ joined rest) ((xs ++ x ∷ []) ++ joined rest) = to-equal (sym (append_assoc xs (x ∷ []) (joined rest))) (IsPermutation-refl (xs ++ x ∷ joined rest)) in
+      rw here (then one (then two (IsPermutation-append_right (xs ++ x ∷ []) (joined rest) (joined (each_piece first_to_end rest)) (each-moves first_to_end first-moves rest))))
+  | inr past ↦ rw past (from-equal (append_assoc xs (joined rest) (x ∷ [])) (IsPermutation-append_right xs (joined rest ++ x ∷ []) (joined (ripple_insert value x rest)) (insert-moves value x rest)))
+]
 
 remove-front : {A : Type 0} (xs ys : List A) (n : ℕ) → n < length xs → remove (xs ++ ys) n ≡ remove xs n ++ ys
 remove-front [] ys n lt = absurd (omega (arith, lt))
@@ -157,12 +157,12 @@ take_out-moves (x ∷ xs) (suc n) = IsPermutation-cons x (remove xs n) (take_out
 pub remove-moves : {A : Type 0} (n : ℕ) (a : Arrangement A) → IsPermutation (remove (joined a) n) (joined (ripple_remove n a))
 remove-moves n (last xs) = take_out-moves xs n
 remove-moves n (piece xs b rest) = elim (cases_Bool (nat_lt n (length xs))) [
-      inl here ↦
-        rw here (from-equal (remove-front xs (joined rest) n (ltb-true n (length xs) here))
-        (then (IsPermutation-append_left (joined rest) (remove xs n) (take_out xs n) (take_out-moves xs n)) (IsPermutation-append_right (take_out xs n) (joined rest) (joined (each_piece last_to_front rest)) (each-moves last_to_front last-moves rest))))
-    | inr past ↦
-        rw past (from-equal (remove-back xs (joined rest) n (ltb-false n (length xs) past)) (IsPermutation-append_right xs (remove (joined rest) (n - length xs)) (joined (ripple_remove (n - length xs) rest)) (remove-moves (n - length xs) rest)))
-    ]
+  | inl here ↦
+      rw here (from-equal (remove-front xs (joined rest) n (ltb-true n (length xs) here))
+      (then (IsPermutation-append_left (joined rest) (remove xs n) (take_out xs n) (take_out-moves xs n)) (IsPermutation-append_right (take_out xs n) (joined rest) (joined (each_piece last_to_front rest)) (each-moves last_to_front last-moves rest))))
+  | inr past ↦
+      rw past (from-equal (remove-back xs (joined rest) n (ltb-false n (length xs) past)) (IsPermutation-append_right xs (remove (joined rest) (n - length xs)) (joined (ripple_remove (n - length xs) rest)) (remove-moves (n - length xs) rest)))
+]
 
 pub load-joined : {A : Type 0} (ys : List A) (a : Arrangement A) → joined (load ys a) ≡ joined a ++ ys
 load-joined ys (last xs) = refl

@@ -20,17 +20,17 @@ pub record Held {A : Type 0} (key : A → ℕ) (items rows : List A) : Type 0 wh
 
 pub once-from_held : {A : Type 0} (key : A → ℕ) (items rows : List A) → Held key items rows → HoldsOnce key items rows
 once-from_held key items rows h = record {
-    no_more = λ x c. contains-from_mem rows x (h.no_more x (mem-from_contains items x c));
-    no_less = λ x c. contains-from_mem items x (h.no_less x (mem-from_contains rows x c));
-    once = h.once;
-  }
+  no_more = λ x c. contains-from_mem rows x (h.no_more x (mem-from_contains items x c));
+  no_less = λ x c. contains-from_mem items x (h.no_less x (mem-from_contains rows x c));
+  once = h.once;
+}
 
 pub held-from_once : {A : Type 0} (key : A → ℕ) (items rows : List A) → HoldsOnce key items rows → Held key items rows
 held-from_once key items rows h = record {
-    no_more = λ x m. mem-from_contains rows x (h.no_more x (contains-from_mem items x m));
-    no_less = λ x m. mem-from_contains items x (h.no_less x (contains-from_mem rows x m));
-    once = h.once;
-  }
+  no_more = λ x m. mem-from_contains rows x (h.no_more x (contains-from_mem items x m));
+  no_less = λ x m. mem-from_contains items x (h.no_less x (contains-from_mem rows x m));
+  once = h.once;
+}
 
 eq-flips : (m n : ℕ) → nat_eq m n ≡ nat_eq n m
 eq-flips m n = grind (arith, nat_tests)
@@ -38,10 +38,10 @@ eq-flips m n = grind (arith, nat_tests)
 -- ---- the same items in another order
 pub held-moved : {A : Type 0} (key : A → ℕ) (items moved rows : List A) → IsPermutation items moved → Held key items rows → Held key moved rows
 held-moved key items moved rows p h = record {
-    no_more = λ x m. h.no_more x (mem-permutation moved items (IsPermutation-sym items moved p) x m);
-    no_less = λ x m. mem-permutation items moved p x (h.no_less x m);
-    once = IsDistinct-IsPermutation nat_eq eq-flips (map key items) (map key moved) (IsPermutation-map key items moved p) h.once;
-  }
+  no_more = λ x m. h.no_more x (mem-permutation moved items (IsPermutation-sym items moved p) x m);
+  no_less = λ x m. mem-permutation items moved p x (h.no_less x m);
+  once = IsDistinct-IsPermutation nat_eq eq-flips (map key items) (map key moved) (IsPermutation-map key items moved p) h.once;
+}
 
 -- ---- one item goes
 head-differs : {A : Type 0} (key : A → ℕ) (n : ℕ) (xs : List A) (y : A) → AllByRecursion (λ m. nat_eq n m ≡ false) (map key xs) → Mem y xs → nat_eq n (key y) ≡ false
@@ -126,10 +126,10 @@ distinct-last key (x ∷ xs) r d h = (all-last key (λ n. nat_eq (key x) n ≡ f
 
 pub held-inserted : {A : Type 0} (key : A → ℕ) (items rows : List A) (r : A) → ((x : A) → Mem x rows → nat_eq (key x) (key r) ≡ false) → Held key items rows → Held key (items ++ r ∷ []) (rows ++ r ∷ [])
 held-inserted key items rows r new h = record {
-    no_more = λ y m. mem-carry items rows r h.no_more y (mem-either items r y m);
-    no_less = λ y m. mem-carry rows items r h.no_less y (mem-either rows r y m);
-    once = distinct-last key items r h.once (λ x m. new x (h.no_more x m));
-  }
+  no_more = λ y m. mem-carry items rows r h.no_more y (mem-either items r y m);
+  no_less = λ y m. mem-carry rows items r h.no_less y (mem-either rows r y m);
+  once = distinct-last key items r h.once (λ x m. new x (h.no_more x m));
+}
 
 -- ---- a step
 -- no row has a key that is yet to come

@@ -95,30 +95,30 @@ closed-remove {A} d (last xs) ps i k at n ei ea lt en =
     take_at (ps ++ take_out xs k) (step.0 ∷ []) (n - 1) (length-append ps (take_out xs k) ∙ omega (arith, take_out-length xs k lt))
 closed-remove {A} d (piece xs b rest) ps i k at n ei ea lt en =
     elim (cases_Bool (nat_lt k (length xs))) [
-      inl here ↦
-        let below : k < length xs = ltb-true k (length xs) here in
-        let there : nat_lt at (i + length xs) ≡ true = lt-ltb at (i + length xs) (omega arith) in
-        let j = i + length xs - 1 in
-        let ej : i + length xs ≡ j + 1 = omega arith in
-        let step = opened d xs ps (joined rest) k i at j ei ea below ej in
-        let qs = ps ++ take_out xs k in
-        let long : length qs ≡ j = length-append ps (take_out xs k) ∙ omega (arith, take_out-length xs k below) in
-        let whole : length (qs ++ step.0 ∷ joined rest) ≡ n = omega (arith, length-append qs (step.0 ∷ joined rest), length-append ps (xs ++ joined rest), length-append xs (joined rest)) in
-        rw (here, there)
-        (ap (λ l. take (n - 1) (closed_up d (marks_from (i + length xs) rest) n j l)) step.1 ∙
-        closed-rest d rest qs step.0 j (i + length xs) n long (sym ej) whole ∙
-        append_assoc ps (take_out xs k) (joined (each_piece last_to_front rest)))
-    | inr past ↦
-        let above : length xs ≤ k = ltb-false k (length xs) past in
-        let there : nat_lt at (i + length xs) ≡ false = le-ltb at (i + length xs) (omega arith) in
-        let more : (ps ++ xs) ++ joined rest ≡ ps ++ (xs ++ joined rest) = append_assoc ps xs (joined rest) in
-        let long : length (ps ++ xs) ≡ i + length xs = length-append ps xs ∙ omega arith in
-        let whole : length ((ps ++ xs) ++ joined rest) ≡ n = ap length more ∙ en in
-        let ms = marks_from (i + length xs) rest in
-        rw (past, there)
-        (ap (λ l. take (n - 1) (closed_up d (drop (holder_of ms at) ms) n at l)) (sym more) ∙
-        closed-remove d rest (ps ++ xs) (i + length xs) (k - length xs) at n long (omega arith) (omega (arith, length-append xs (joined rest))) whole ∙
-        append_assoc ps xs (joined (ripple_remove (k - length xs) rest)))
+      | inl here ↦
+          let below : k < length xs = ltb-true k (length xs) here in
+          let there : nat_lt at (i + length xs) ≡ true = lt-ltb at (i + length xs) (omega arith) in
+          let j = i + length xs - 1 in
+          let ej : i + length xs ≡ j + 1 = omega arith in
+          let step = opened d xs ps (joined rest) k i at j ei ea below ej in
+          let qs = ps ++ take_out xs k in
+          let long : length qs ≡ j = length-append ps (take_out xs k) ∙ omega (arith, take_out-length xs k below) in
+          let whole : length (qs ++ step.0 ∷ joined rest) ≡ n = omega (arith, length-append qs (step.0 ∷ joined rest), length-append ps (xs ++ joined rest), length-append xs (joined rest)) in
+          rw (here, there)
+          (ap (λ l. take (n - 1) (closed_up d (marks_from (i + length xs) rest) n j l)) step.1 ∙
+          closed-rest d rest qs step.0 j (i + length xs) n long (sym ej) whole ∙
+          append_assoc ps (take_out xs k) (joined (each_piece last_to_front rest)))
+      | inr past ↦
+          let above : length xs ≤ k = ltb-false k (length xs) past in
+          let there : nat_lt at (i + length xs) ≡ false = le-ltb at (i + length xs) (omega arith) in
+          let more : (ps ++ xs) ++ joined rest ≡ ps ++ (xs ++ joined rest) = append_assoc ps xs (joined rest) in
+          let long : length (ps ++ xs) ≡ i + length xs = length-append ps xs ∙ omega arith in
+          let whole : length ((ps ++ xs) ++ joined rest) ≡ n = ap length more ∙ en in
+          let ms = marks_from (i + length xs) rest in
+          rw (past, there)
+          (ap (λ l. take (n - 1) (closed_up d (drop (holder_of ms at) ms) n at l)) (sym more) ∙
+          closed-remove d rest (ps ++ xs) (i + length xs) (k - length xs) at n long (omega arith) (omega (arith, length-append xs (joined rest))) whole ∙
+          append_assoc ps xs (joined (ripple_remove (k - length xs) rest)))
     ]
 
 -- the marks
@@ -132,15 +132,15 @@ pub marks-remove : {A : Type 0} (a : Arrangement A) (i k at : ℕ) → at ≡ i 
 marks-remove (last xs) i k at ea lt = refl
 marks-remove (piece xs b rest) i k at ea lt =
     elim (cases_Bool (nat_lt k (length xs))) [
-      inl here ↦
-        let below : k < length xs = ltb-true k (length xs) here in
-        let there : nat_lt at (i + length xs) ≡ true = lt-ltb at (i + length xs) (omega arith) in
-        let z : i + length (take_out xs k) ≡ i + length xs - 1 = omega (arith, take_out-length xs k below) in
-        rw (here, there) (rw z (ap (λ l. record { bound = b; at = i + length xs - 1 } ∷ l) (marks-back rest (i + length xs - 1) (i + length xs) (omega arith))))
-    | inr past ↦
-        let above : length xs ≤ k = ltb-false k (length xs) past in
-        let there : nat_lt at (i + length xs) ≡ false = le-ltb at (i + length xs) (omega arith) in
-        rw (past, there) (ap (λ l. record { bound = b; at = i + length xs } ∷ l) (marks-remove rest (i + length xs) (k - length xs) at (omega arith) (omega (arith, length-append xs (joined rest)))))
+      | inl here ↦
+          let below : k < length xs = ltb-true k (length xs) here in
+          let there : nat_lt at (i + length xs) ≡ true = lt-ltb at (i + length xs) (omega arith) in
+          let z : i + length (take_out xs k) ≡ i + length xs - 1 = omega (arith, take_out-length xs k below) in
+          rw (here, there) (rw z (ap (λ l. record { bound = b; at = i + length xs - 1 } ∷ l) (marks-back rest (i + length xs - 1) (i + length xs) (omega arith))))
+      | inr past ↦
+          let above : length xs ≤ k = ltb-false k (length xs) past in
+          let there : nat_lt at (i + length xs) ≡ false = le-ltb at (i + length xs) (omega arith) in
+          rw (past, there) (ap (λ l. record { bound = b; at = i + length xs } ∷ l) (marks-remove rest (i + length xs) (k - length xs) at (omega arith) (omega (arith, length-append xs (joined rest)))))
     ]
 
 -- ---- the loops
@@ -158,8 +158,8 @@ pub holder-above : (ms : List Mark) (place : ℕ) (d : Mark) → holder_of ms pl
 holder-above [] place d lt = absurd (omega arith)
 holder-above (m ∷ ms) place d lt =
     elim (cases_Bool (nat_lt place m.at)) [
-      inl here ↦ rw here (ltb-true place m.at here)
-    | inr past ↦ rw past (holder-above ms place d (let h : cond (nat_lt place m.at) 0 (suc (holder_of ms place)) < suc (length ms) = lt in let g : suc (holder_of ms place) < suc (length ms) = rw past at h in omega arith))
+      | inl here ↦ rw here (ltb-true place m.at here)
+      | inr past ↦ rw past (holder-above ms place d (let h : cond (nat_lt place m.at) 0 (suc (holder_of ms place)) < suc (length ms) = lt in let g : suc (holder_of ms place) < suc (length ms) = rw past at h in omega arith))
     ]
 
 zip-take : {A B : Type 0} (n : ℕ) (xs : List A) (ys : List B) → zip (take n xs) (take n ys) ≡ take n (zip xs ys)

@@ -52,10 +52,10 @@ carried-insert {A} value x (piece xs b rest) ps i n ei en =
     let long : length (ps ++ xs) ≡ j = length-append ps xs ∙ omega arith in
     let whole : length ((ps ++ xs) ++ joined rest) ≡ n = ap length more ∙ en in
     elim (is_left b (value x)) as (λ t. carried (drop (cond t 0 (suc (piece_of (marks_from j rest) (value x)))) ms) n x (ps ++ (xs ++ joined rest))
-      ≡ ps ++ joined (cond t (piece (xs ++ x ∷ []) b (each_piece first_to_end rest)) (piece xs b (ripple_insert value x rest)))) [
-      true ↦ ap (carried ms n x) (sym more) ∙ carried-is b rest (ps ++ xs) j n x long whole ∙ append_assoc ps xs (x ∷ joined (each_piece first_to_end rest)) ∙
-        ap (λ l. ps ++ l) (sym (append_assoc xs (x ∷ []) (joined (each_piece first_to_end rest))))
-    | false ↦ ap (carried (drop (piece_of (marks_from j rest) (value x)) (marks_from j rest)) n x) (sym more) ∙ carried-insert value x rest (ps ++ xs) j n long whole ∙ append_assoc ps xs (joined (ripple_insert value x rest))
+    ≡ ps ++ joined (cond t (piece (xs ++ x ∷ []) b (each_piece first_to_end rest)) (piece xs b (ripple_insert value x rest)))) [
+      | true ↦ ap (carried ms n x) (sym more) ∙ carried-is b rest (ps ++ xs) j n x long whole ∙ append_assoc ps xs (x ∷ joined (each_piece first_to_end rest)) ∙
+          ap (λ l. ps ++ l) (sym (append_assoc xs (x ∷ []) (joined (each_piece first_to_end rest))))
+      | false ↦ ap (carried (drop (piece_of (marks_from j rest) (value x)) (marks_from j rest)) n x) (sym more) ∙ carried-insert value x rest (ps ++ xs) j n long whole ∙ append_assoc ps xs (joined (ripple_insert value x rest))
     ]
 
 -- the marks
@@ -74,9 +74,9 @@ marks-insert value x (piece xs b rest) i =
     let j = i + length xs in
     let z : i + length (xs ++ x ∷ []) ≡ j + 1 = omega (arith, length-append xs (x ∷ [])) in
     elim (is_left b (value x)) as (λ t. marks_from i (cond t (piece (xs ++ x ∷ []) b (each_piece first_to_end rest)) (piece xs b (ripple_insert value x rest)))
-      ≡ later_from (cond t 0 (suc (piece_of (marks_from j rest) (value x)))) (record { bound = b; at = j } ∷ marks_from j rest)) [
-      true ↦ rw z (ap (λ l. record { bound = b; at = j + 1 } ∷ l) (marks-each rest j))
-    | false ↦ ap (λ l. record { bound = b; at = j } ∷ l) (marks-insert value x rest j)
+    ≡ later_from (cond t 0 (suc (piece_of (marks_from j rest) (value x)))) (record { bound = b; at = j } ∷ marks_from j rest)) [
+      | true ↦ rw z (ap (λ l. record { bound = b; at = j + 1 } ∷ l) (marks-each rest j))
+      | false ↦ ap (λ l. record { bound = b; at = j } ∷ l) (marks-insert value x rest j)
     ]
 
 -- ---- the loops

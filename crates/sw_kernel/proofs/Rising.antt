@@ -12,12 +12,12 @@ use Rattle.sw_kernel.proofs.Orders.{below-trans, above, same-same, same-flips}
 all-more : {A : Type 0} (value : A → ℤ) (c b : Bound) (a : Arrangement A) → bound_below c b ≡ true → IsBelowAll c (bounds a) → IsBelowAll c (bounds (crack value b a))
 all-more value c b (last xs) h al = (h, tt)
 all-more value c b (piece xs x rest) h al = elim (cases_Bool (same_bound b x)) [
-      inl here ↦ rw here al
-    | inr other ↦ elim (cases_Bool (bound_below b x)) [
-        inl first ↦ rw (other, first) (h, al)
-      | inr past ↦ rw (other, past) (al.0, all-more value c b rest h al.1)
-      ]
-    ]
+  | inl here ↦ rw here al
+  | inr other ↦ elim (cases_Bool (bound_below b x)) [
+    | inl first ↦ rw (other, first) (h, al)
+    | inr past ↦ rw (other, past) (al.0, all-more value c b rest h al.1)
+  ]
+]
 
 all-past : (b c : Bound) (bs : List Bound) → bound_below b c ≡ true → IsBelowAll c bs → IsBelowAll b bs
 all-past b c [] h al = tt
@@ -26,12 +26,12 @@ all-past b c (x ∷ bs) h al = (below-trans b c x h al.0, all-past b c bs h al.1
 pub crack-rises : {A : Type 0} (value : A → ℤ) (b : Bound) (a : Arrangement A) → IsRising (bounds a) → IsRising (bounds (crack value b a))
 crack-rises value b (last xs) r = (tt, tt)
 crack-rises value b (piece xs c rest) r = elim (cases_Bool (same_bound b c)) [
-      inl here ↦ rw here r
-    | inr other ↦ elim (cases_Bool (bound_below b c)) [
-        inl first ↦ rw (other, first) ((first, all-past b c (bounds rest) first r.0), r)
-      | inr past ↦ rw (other, past) (all-more value c b rest (above b c past other) r.0, crack-rises value b rest r.1)
-      ]
-    ]
+  | inl here ↦ rw here r
+  | inr other ↦ elim (cases_Bool (bound_below b c)) [
+    | inl first ↦ rw (other, first) ((first, all-past b c (bounds rest) first r.0), r)
+    | inr past ↦ rw (other, past) (all-more value c b rest (above b c past other) r.0, crack-rises value b rest r.1)
+  ]
+]
 
 bounds-each : {A : Type 0} (f : List A → List A) (a : Arrangement A) → bounds (each_piece f a) ≡ bounds a
 bounds-each f (last xs) = refl
@@ -40,16 +40,16 @@ bounds-each f (piece xs b rest) = ap (λ l. b ∷ l) (bounds-each f rest)
 pub bounds-insert : {A : Type 0} (value : A → ℤ) (x : A) (a : Arrangement A) → bounds (ripple_insert value x a) ≡ bounds a
 bounds-insert value x (last xs) = refl
 bounds-insert value x (piece xs b rest) = elim (cases_Bool (goes_left value b x)) [
-      inl here ↦ rw here (ap (λ l. b ∷ l) (bounds-each _ rest))
-    | inr past ↦ rw past (ap (λ l. b ∷ l) (bounds-insert value x rest))
-    ]
+  | inl here ↦ rw here (ap (λ l. b ∷ l) (bounds-each _ rest))
+  | inr past ↦ rw past (ap (λ l. b ∷ l) (bounds-insert value x rest))
+]
 
 pub bounds-remove : {A : Type 0} (n : ℕ) (a : Arrangement A) → bounds (ripple_remove n a) ≡ bounds a
 bounds-remove n (last xs) = refl
 bounds-remove n (piece xs b rest) = elim (cases_Bool (nat_lt n (length xs))) [
-      inl here ↦ rw here (ap (λ l. b ∷ l) (bounds-each _ rest))
-    | inr past ↦ rw past (ap (λ l. b ∷ l) (bounds-remove (n - length xs) rest))
-    ]
+  | inl here ↦ rw here (ap (λ l. b ∷ l) (bounds-each _ rest))
+  | inr past ↦ rw past (ap (λ l. b ∷ l) (bounds-remove (n - length xs) rest))
+]
 
 pub bounds-load : {A : Type 0} (ys : List A) (a : Arrangement A) → bounds (load ys a) ≡ bounds a
 bounds-load ys (last xs) = refl
@@ -99,12 +99,12 @@ or-group false false u = refl
 pub has-crack : {A : Type 0} (value : A → ℤ) (b c : Bound) (a : Arrangement A) → has_bound b (crack value c a) ≡ same_bound b c || has_bound b a
 has-crack value b c (last xs) = refl
 has-crack value b c (piece xs d rest) = elim (cases_Bool (same_bound c d)) [
-      inl here ↦ rw here (ap (λ t. t || has_bound b rest) (same-same b c d here) ∙ or-again (same_bound b c) (has_bound b rest) ∙ ap (λ t. same_bound b c || (t || has_bound b rest)) (sym (same-same b c d here)))
-    | inr other ↦ elim (cases_Bool (bound_below c d)) [
-        inl first ↦ rw (other, first) refl
-      | inr past ↦ rw (other, past) (ap (λ t. same_bound b d || t) (has-crack value b c rest) ∙ or-turn (same_bound b d) (same_bound b c) (has_bound b rest))
-      ]
-    ]
+  | inl here ↦ rw here (ap (λ t. t || has_bound b rest) (same-same b c d here) ∙ or-again (same_bound b c) (has_bound b rest) ∙ ap (λ t. same_bound b c || (t || has_bound b rest)) (sym (same-same b c d here)))
+  | inr other ↦ elim (cases_Bool (bound_below c d)) [
+    | inl first ↦ rw (other, first) refl
+    | inr past ↦ rw (other, past) (ap (λ t. same_bound b d || t) (has-crack value b c rest) ∙ or-turn (same_bound b d) (same_bound b c) (has_bound b rest))
+  ]
+]
 
 pub has-crack_at : {A : Type 0} (value : A → ℤ) (b : Bound) (c : Option Bound) (a : Arrangement A) → has_bound b (crack_at value c a) ≡ is_bound b c || has_bound b a
 has-crack_at value b None a = refl
@@ -119,8 +119,9 @@ has-step value b (ranged l u) a =
 
 pub has-replay_from : {A : Type 0} (value : A → ℤ) (b : Bound) (es : List (Step A)) (a : Arrangement A) → has_bound b (replay_from value a es) ≡ has_bound b a || is_marked b es
 has-replay_from value b [] a = or-none (has_bound b a)
-  where or-none : (t : Bool) → t ≡ t || false
-        or-none true = refl
-        or-none false = refl
+  where
+    or-none : (t : Bool) → t ≡ t || false
+    or-none true = refl
+    or-none false = refl
 has-replay_from value b (e ∷ es) a =
     has-replay_from value b es (step value e a) ∙ ap (λ t. t || is_marked b es) (has-step value b e a) ∙ sym (or-group (has_bound b a) (ranges_at b e) (is_marked b es))

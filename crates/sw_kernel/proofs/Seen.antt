@@ -13,16 +13,16 @@ shown-crack f value b (last xs) = ap₂ (λ l r. piece l b (last r)) (left-map f
 shown-crack {A} {B} f value b (piece xs c rest) =
     let v : A → ℤ = λ x. value (f x) in
     let inner : shown f (cond (bound_below b c) (piece (left_part (goes_left v b) xs) b (piece (right_part (goes_left v b) xs) c rest)) (piece xs c (crack v b rest)))
-      ≡ cond (bound_below b c) (piece (left_part (goes_left value b) (map f xs)) b (piece (right_part (goes_left value b) (map f xs)) c (shown f rest))) (piece (map f xs) c (crack value b (shown f rest))) =
+    ≡ cond (bound_below b c) (piece (left_part (goes_left value b) (map f xs)) b (piece (right_part (goes_left value b) (map f xs)) c (shown f rest))) (piece (map f xs) c (crack value b (shown f rest))) =
     elim (bound_below b c) as (λ t. shown f (cond t (piece (left_part (goes_left v b) xs) b (piece (right_part (goes_left v b) xs) c rest)) (piece xs c (crack v b rest)))
-      ≡ cond t (piece (left_part (goes_left value b) (map f xs)) b (piece (right_part (goes_left value b) (map f xs)) c (shown f rest))) (piece (map f xs) c (crack value b (shown f rest)))) [
-      true ↦ ap₂ (λ l r. piece l b (piece r c (shown f rest))) (left-map f (goes_left value b) xs) (right-map f (goes_left value b) xs)
-    | false ↦ ap (λ r. piece (map f xs) c r) (shown-crack f value b rest)
+    ≡ cond t (piece (left_part (goes_left value b) (map f xs)) b (piece (right_part (goes_left value b) (map f xs)) c (shown f rest))) (piece (map f xs) c (crack value b (shown f rest)))) [
+      | true ↦ ap₂ (λ l r. piece l b (piece r c (shown f rest))) (left-map f (goes_left value b) xs) (right-map f (goes_left value b) xs)
+      | false ↦ ap (λ r. piece (map f xs) c r) (shown-crack f value b rest)
     ] in
     elim (same_bound b c) as (λ t. shown f (cond t (piece xs c rest) (cond (bound_below b c) (piece (left_part (goes_left v b) xs) b (piece (right_part (goes_left v b) xs) c rest)) (piece xs c (crack v b rest))))
-      ≡ cond t (piece (map f xs) c (shown f rest)) (cond (bound_below b c) (piece (left_part (goes_left value b) (map f xs)) b (piece (right_part (goes_left value b) (map f xs)) c (shown f rest))) (piece (map f xs) c (crack value b (shown f rest))))) [
-      true ↦ refl
-    | false ↦ inner
+    ≡ cond t (piece (map f xs) c (shown f rest)) (cond (bound_below b c) (piece (left_part (goes_left value b) (map f xs)) b (piece (right_part (goes_left value b) (map f xs)) c (shown f rest))) (piece (map f xs) c (crack value b (shown f rest))))) [
+      | true ↦ refl
+      | false ↦ inner
     ]
 
 pub shown-crack_at : {A B : Type 0} (f : A → B) (value : B → ℤ) (o : Option Bound) (a : Arrangement A) → shown f (crack_at (λ x. value (f x)) o a) ≡ crack_at value o (shown f a)
@@ -49,9 +49,9 @@ shown-insert f value x (last xs) = ap last (map-append f xs (x ∷ []))
 shown-insert {A} f value x (piece xs b rest) =
     let v : A → ℤ = λ y. value (f y) in
     elim (goes_left value b (f x)) as (λ t. shown f (cond t (piece (xs ++ x ∷ []) b (each_piece first_to_end rest)) (piece xs b (ripple_insert v x rest)))
-      ≡ cond t (piece (map f xs ++ f x ∷ []) b (each_piece first_to_end (shown f rest))) (piece (map f xs) b (ripple_insert value (f x) (shown f rest)))) [
-      true ↦ ap₂ (λ l r. piece l b r) (map-append f xs (x ∷ [])) (shown-each f first_to_end first_to_end (map-first_to_end f) rest)
-    | false ↦ ap (λ r. piece (map f xs) b r) (shown-insert f value x rest)
+    ≡ cond t (piece (map f xs ++ f x ∷ []) b (each_piece first_to_end (shown f rest))) (piece (map f xs) b (ripple_insert value (f x) (shown f rest)))) [
+      | true ↦ ap₂ (λ l r. piece l b r) (map-append f xs (x ∷ [])) (shown-each f first_to_end first_to_end (map-first_to_end f) rest)
+      | false ↦ ap (λ r. piece (map f xs) b r) (shown-insert f value x rest)
     ]
 
 map-take_out : {A B : Type 0} (f : A → B) (xs : List A) (n : ℕ) → map f (take_out xs n) ≡ take_out (map f xs) n
@@ -64,11 +64,11 @@ shown-remove f n (last xs) = ap last (map-take_out f xs n)
 shown-remove {A} {B} f n (piece xs b rest) =
     let long : length (map f xs) ≡ length xs = length-map xs f in
     let Is : ℕ → Type 0 = λ m. shown f (cond (nat_lt n (length xs)) (piece (take_out xs n) b (each_piece last_to_front rest)) (piece xs b (ripple_remove (n - length xs) rest)))
-      ≡ cond (nat_lt n m) (piece (take_out (map f xs) n) b (each_piece last_to_front (shown f rest))) (piece (map f xs) b (ripple_remove (n - m) (shown f rest))) in
+    ≡ cond (nat_lt n m) (piece (take_out (map f xs) n) b (each_piece last_to_front (shown f rest))) (piece (map f xs) b (ripple_remove (n - m) (shown f rest))) in
     subst Is (sym long) (elim (nat_lt n (length xs)) as (λ t. shown f (cond t (piece (take_out xs n) b (each_piece last_to_front rest)) (piece xs b (ripple_remove (n - length xs) rest)))
-      ≡ cond t (piece (take_out (map f xs) n) b (each_piece last_to_front (shown f rest))) (piece (map f xs) b (ripple_remove (n - length xs) (shown f rest)))) [
-      true ↦ ap₂ (λ l r. piece l b r) (map-take_out f xs n) (shown-each f last_to_front last_to_front (map-last_to_front f) rest)
-    | false ↦ ap (λ r. piece (map f xs) b r) (shown-remove f (n - length xs) rest)
+    ≡ cond t (piece (take_out (map f xs) n) b (each_piece last_to_front (shown f rest))) (piece (map f xs) b (ripple_remove (n - length xs) (shown f rest)))) [
+      | true ↦ ap₂ (λ l r. piece l b r) (map-take_out f xs n) (shown-each f last_to_front last_to_front (map-last_to_front f) rest)
+      | false ↦ ap (λ r. piece (map f xs) b r) (shown-remove f (n - length xs) rest)
     ])
 
 -- the law for each kind of entry

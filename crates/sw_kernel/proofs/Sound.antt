@@ -39,18 +39,18 @@ right-moved value b xs ys p h = all-moved (λ x. goes_left value b x ≡ false) 
 pub crack-ordered : {A : Type 0} (value : A → ℤ) (b : Bound) (a : Arrangement A) → Ordered value a → Ordered value (crack value b a)
 crack-ordered value b (last xs) o = let h = parted (goes_left value b) xs in (h.passes, h.fails, tt)
 crack-ordered {A} value b (piece xs c rest) o = elim (cases_Bool (same_bound b c)) [
-      inl here ↦ rw here o
-    | inr other ↦ elim (cases_Bool (bound_below b c)) [
-        inl first ↦
-          let h = parted (goes_left value b) xs in
-          let l : List A = left_part (goes_left value b) xs in
-          let r : List A = right_part (goes_left value b) xs in
-          let moved : AllLeft value c (l ++ r) = left-moved value c xs (l ++ r) h.moved o.0 in
-          let beyond : NoneLeft value b (joined rest) = all-weaker (λ (x : A). goes_left value c x ≡ false) (λ (x : A). goes_left value b x ≡ false) (λ x e. right-below b c (value x) first e) (joined rest) o.1 in
-          rw (other, first) (h.passes, all-append (λ (x : A). goes_left value b x ≡ false) r (joined rest) h.fails beyond, (all-back (λ (x : A). goes_left value c x ≡ true) l r moved, o.1, o.2))
-      | inr past ↦ rw (other, past) (o.0, right-moved value c (joined rest) (joined (crack value b rest)) (crack-moves value b rest) o.1, crack-ordered value b rest o.2)
-      ]
-    ]
+  | inl here ↦ rw here o
+  | inr other ↦ elim (cases_Bool (bound_below b c)) [
+    | inl first ↦
+        let h = parted (goes_left value b) xs in
+        let l : List A = left_part (goes_left value b) xs in
+        let r : List A = right_part (goes_left value b) xs in
+        let moved : AllLeft value c (l ++ r) = left-moved value c xs (l ++ r) h.moved o.0 in
+        let beyond : NoneLeft value b (joined rest) = all-weaker (λ (x : A). goes_left value c x ≡ false) (λ (x : A). goes_left value b x ≡ false) (λ x e. right-below b c (value x) first e) (joined rest) o.1 in
+        rw (other, first) (h.passes, all-append (λ (x : A). goes_left value b x ≡ false) r (joined rest) h.fails beyond, (all-back (λ (x : A). goes_left value c x ≡ true) l r moved, o.1, o.2))
+    | inr past ↦ rw (other, past) (o.0, right-moved value c (joined rest) (joined (crack value b rest)) (crack-moves value b rest) o.1, crack-ordered value b rest o.2)
+  ]
+]
 
 pub crack_at-ordered : {A : Type 0} (value : A → ℤ) (b : Option Bound) (a : Arrangement A) → Ordered value a → Ordered value (crack_at value b a)
 crack_at-ordered value None a o = o
@@ -64,13 +64,19 @@ each-ordered value f h (piece xs b rest) o =
 pub insert-ordered : {A : Type 0} (value : A → ℤ) (x : A) (a : Arrangement A) → Ordered value a → Ordered value (ripple_insert value x a)
 insert-ordered value x (last xs) o = tt
 insert-ordered {A} value x (piece xs b rest) o = elim (cases_Bool (goes_left value b x)) [
-      inl here ↦
-        rw here (all-append (λ (y : A). goes_left value b y ≡ true) xs (x ∷ []) o.0 (here, tt), right-moved value b (joined rest) (joined (each_piece first_to_end rest)) (each-moves first_to_end first-moves rest) o.1,
-        each-ordered value first_to_end first-moves rest o.2)
-    | inr past ↦
-        rw past (o.0, right-moved value b (joined rest ++ x ∷ []) (joined (ripple_insert value x rest)) (insert-moves value x rest) (all-append (λ (y : A). goes_left value b y ≡ false) (joined rest) (x ∷ []) o.1 (past, tt)),
-        insert-ordered value x rest o.2)
-    ]
+  | inl here ↦
+      rw here (
+        all-append (λ (y : A). goes_left value b y ≡ true) xs (x ∷ []) o.0 (here, tt),
+        right-moved value b (joined rest) (joined (each_piece first_to_end rest)) (each-moves first_to_end first-moves rest) o.1,
+        each-ordered value first_to_end first-moves rest o.2,
+      )
+  | inr past ↦
+      rw past (
+        o.0,
+        right-moved value b (joined rest ++ x ∷ []) (joined (ripple_insert value x rest)) (insert-moves value x rest) (all-append (λ (y : A). goes_left value b y ≡ false) (joined rest) (x ∷ []) o.1 (past, tt)),
+        insert-ordered value x rest o.2,
+      )
+]
 
 all-remove : {A : Type 0} (P : A → Type 0) (xs : List A) (n : ℕ) → AllByRecursion P xs → AllByRecursion P (remove xs n)
 all-remove P [] zero h = tt
@@ -81,13 +87,16 @@ all-remove P (x ∷ xs) (suc n) h = (h.0, all-remove P xs n h.1)
 pub remove-ordered : {A : Type 0} (value : A → ℤ) (n : ℕ) (a : Arrangement A) → Ordered value a → Ordered value (ripple_remove n a)
 remove-ordered value n (last xs) o = tt
 remove-ordered {A} value n (piece xs b rest) o = elim (cases_Bool (nat_lt n (length xs))) [
-      inl here ↦
-        rw here (left-moved value b (remove xs n) (take_out xs n) (take_out-moves xs n) (all-remove (λ (y : A). goes_left value b y ≡ true) xs n o.0),
-        right-moved value b (joined rest) (joined (each_piece last_to_front rest)) (each-moves last_to_front last-moves rest) o.1, each-ordered value last_to_front last-moves rest o.2)
-    | inr past ↦
-        let k = n - length xs in
-        rw past (o.0, right-moved value b (remove (joined rest) k) (joined (ripple_remove k rest)) (remove-moves k rest) (all-remove (λ (y : A). goes_left value b y ≡ false) (joined rest) k o.1), remove-ordered value k rest o.2)
-    ]
+  | inl here ↦
+      rw here (
+        left-moved value b (remove xs n) (take_out xs n) (take_out-moves xs n) (all-remove (λ (y : A). goes_left value b y ≡ true) xs n o.0),
+        right-moved value b (joined rest) (joined (each_piece last_to_front rest)) (each-moves last_to_front last-moves rest) o.1,
+        each-ordered value last_to_front last-moves rest o.2,
+      )
+  | inr past ↦
+      let k = n - length xs in
+      rw past (o.0, right-moved value b (remove (joined rest) k) (joined (ripple_remove k rest)) (remove-moves k rest) (all-remove (λ (y : A). goes_left value b y ≡ false) (joined rest) k o.1), remove-ordered value k rest o.2)
+]
 
 -- every step but a load keeps the order
 pub step-ordered : {A : Type 0} (value : A → ℤ) (n : ℕ) (e : Step A) (a : Arrangement A) → MayFollow n e → Ordered value a → Ordered value (step value e a)
@@ -133,9 +142,10 @@ marks-sound {A} value ps i (piece xs b rest) long left r o =
     let Q : A → Type 0 = λ x. goes_left value b x ≡ false in
     let before : AllByRecursion P (take j all) = subst (AllByRecursion P) (sym front) (all-append P ps xs left.0 o.0) in
     let behind : AllByRecursion Q (drop j all) = subst (AllByRecursion Q) (sym back) o.1 in
-    let more = marks-sound value (ps ++ xs) j rest at (left-of_more value ps xs b (bounds rest) o.0 r.0 left.1) r.1 o.2 in
-    (record { before = All-from_recursion P (take j all) before; behind = All-from_recursion Q (drop j all) behind },
-    subst (λ (l : List A). AllByRecursion (λ (n : Mark). IsSound value l n) (marks_from j rest)) grouped more)
+    let more = marks-sound value (ps ++ xs) j rest at (left-of_more value ps xs b (bounds rest) o.0 r.0 left.1) r.1 o.2 in (
+      record { before = All-from_recursion P (take j all) before; behind = All-from_recursion Q (drop j all) behind },
+      subst (λ (l : List A). AllByRecursion (λ (n : Mark). IsSound value l n) (marks_from j rest)) grouped more,
+    )
 
 left-none : {A : Type 0} (value : A → ℤ) (bs : List Bound) → LeftOfAll value [] bs
 left-none value [] = tt

@@ -15,7 +15,10 @@ mod removal;
 mod tests;
 
 pub use insertion::ripple_in;
-pub use laws::{bounds_marked, bounds_rise, items_counted, marks_sound, replays_seen, rows_held_once, steps_seen};
+pub use laws::{
+    bounds_marked, bounds_rise, items_counted, marks_sound, replays_seen, rows_held_once,
+    steps_seen,
+};
 pub use mark::Mark;
 pub use partition::split;
 pub use removal::ripple_out;

@@ -107,7 +107,13 @@ pub(crate) fn top_down(
 
 /// Lists the places of the items from `from` up to `mid` that do not lie left of the bound.
 #[inline(always)]
-pub(crate) fn list_up(head: &[i64], from: usize, mid: usize, bound: Bound, places: &mut [u8; 128]) -> usize
+pub(crate) fn list_up(
+    head: &[i64],
+    from: usize,
+    mid: usize,
+    bound: Bound,
+    places: &mut [u8; 128],
+) -> usize
     requires { (from ≤ mid) × (mid < from + 128) × (mid ≤ length head.now) }
     ensures few { result < 128 }
     ensures listed { Listed (goes_up bound head.now from) places.new 0 result (mid - from) }
@@ -121,7 +127,13 @@ pub(crate) fn list_up(head: &[i64], from: usize, mid: usize, bound: Bound, place
 
 /// Lists the places, counted down from `end`, of the items from `mid` up to `end` that lie left of the bound.
 #[inline(always)]
-pub(crate) fn list_down(head: &[i64], end: usize, mid: usize, bound: Bound, places: &mut [u8; 128]) -> usize
+pub(crate) fn list_down(
+    head: &[i64],
+    end: usize,
+    mid: usize,
+    bound: Bound,
+    places: &mut [u8; 128],
+) -> usize
     requires { (mid ≤ end) × (end < mid + 128) × (end ≤ length head.now) }
     ensures few { result < 128 }
     ensures listed { Listed (goes_down bound head.now end) places.new 0 result (end - mid) }

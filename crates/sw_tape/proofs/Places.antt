@@ -1,7 +1,7 @@
 -- The place of a bound among rising ones.
-use Rattle.std.proofs.Common.{◌≡◌, ℕ, suc, zero, ◌+◌, ◌-◌, ◌<◌, ◌≤◌, Bool, true, false, ◌||◌, List, [], ◌∷◌, length, get_or, drop, insert, refl, sym, ap, ap₂, ◌∙◌, arith, subst, inl, inr}
+use Rattle.std.proofs.Common.{◌≡◌, ℕ, suc, zero, ◌<◌, ◌≤◌, Bool, true, false, ◌||◌, List, [], ◌∷◌, length, get_or, drop, insert, refl, sym, ap, ap₂, ◌∙◌, arith, inl, inr}
 use Rattle.std.specs.List.Sorted.{IsPartitionPoint, IsPartitionedBy}
-use Rattle.std.proofs.lemmas.Bool.{cases_Bool, true≢false}
+use Rattle.std.proofs.lemmas.Bool.{cases_Bool}
 use Rattle.sw_rows.specs.declared.bound.Bound.{Bound}
 use Rattle.sw_rows.specs.Bounds.{bound_below, same_bound}
 use Rattle.sw_kernel.specs.Tapes.{IsBelowAll, IsRising}
@@ -47,11 +47,11 @@ pub among-first : (b : Bound) (bs : List Bound) (k : ℕ) → IsRising bs → Is
 among-first b [] zero r p = refl
 among-first b [] (suc k) r p = absurd p
 among-first b (c ∷ cs) zero r p = elim (cases_Bool (same_bound b c)) [
-      inl here ↦ rw here refl
-    | inr other ↦
-        let past : bound_below b c ≡ true = above c b p (same-flips c b ∙ other) in
-        rw other (none-above b c cs past r.0)
-    ]
+  | inl here ↦ rw here refl
+  | inr other ↦
+      let past : bound_below b c ≡ true = above c b p (same-flips c b ∙ other) in
+      rw other (none-above b c cs past r.0)
+]
 among-first b (c ∷ cs) (suc k) r p =
     let e : same_bound b c ≡ false = same-flips b c ∙ below-new c b p.0 in
     rw e (among-first b cs k r.1 p.1)
@@ -90,9 +90,10 @@ rising-insert b (c ∷ cs) (suc k) r p e = (all-insert c b cs k (place-within b 
 -- a bound that is there adds nothing
 pub same-again : (b c : Bound) (bs : List Bound) → is_among c bs ≡ true → same_bound b c || is_among b bs ≡ is_among b bs
 same-again b c bs e = elim (cases_Bool (same_bound b c)) [
-      inl here ↦ rw here (sym (among-same b c bs here ∙ e))
-    | inr other ↦ rw other refl
-    ]
-  where among-same : (b c : Bound) (bs : List Bound) → same_bound b c ≡ true → is_among b bs ≡ is_among c bs
-        among-same b c [] h = refl
-        among-same b c (x ∷ xs) h = ap₂ (λ s t. s || t) (same-flips b x ∙ sym (same-same x b c h) ∙ same-flips x c) (among-same b c xs h)
+  | inl here ↦ rw here (sym (among-same b c bs here ∙ e))
+  | inr other ↦ rw other refl
+]
+  where
+    among-same : (b c : Bound) (bs : List Bound) → same_bound b c ≡ true → is_among b bs ≡ is_among c bs
+    among-same b c [] h = refl
+    among-same b c (x ∷ xs) h = ap₂ (λ s t. s || t) (same-flips b x ∙ sym (same-same x b c h) ∙ same-flips x c) (among-same b c xs h)

@@ -1,5 +1,5 @@
 -- One more step of a tape.
-use Rattle.std.proofs.Common.{◌≡◌, ◌≤◌, ◌<◌, ℕ, ◌+◌, ◌-◌, max, Bool, true, false, ◌||◌, List, [], ◌∷◌, ◌++◌, length, refl, sym, ap, ◌∙◌, subst, arith}
+use Rattle.std.proofs.Common.{◌≡◌, ℕ, ◌+◌, max, Bool, true, false, ◌||◌, List, [], ◌∷◌, ◌++◌, length, refl, ap, ◌∙◌, subst, arith}
 use Rattle.sw_rows.specs.declared.bound.Bound.{Bound}
 use Rattle.sw_kernel.specs.Replay.{Step, loaded, inserted, removed, ranged}
 use Rattle.sw_kernel.specs.Tapes.{MayFollow, AllFollow, IsTape, count_after, count_from, peak_from, ranges_at, is_marked}
@@ -10,13 +10,15 @@ count-push n (x ∷ es) e = count-push (count_after n x) es e
 
 pub peak-push : {A : Type 0} (n : ℕ) (es : List (Step A)) (e : Step A) → peak_from n (es ++ e ∷ []) ≡ max (peak_from n es) (count_after (count_from n es) e)
 peak-push n [] e = max_swap (count_after n e)
-  where max_swap : (a : ℕ) → max a 0 ≡ max 0 a
-        max_swap a = omega arith
+  where
+    max_swap : (a : ℕ) → max a 0 ≡ max 0 a
+    max_swap a = omega arith
 peak-push n (x ∷ es) e =
     let h = peak-push (count_after n x) es e in
     ap (λ m. max (count_after n x) m) h ∙ max_turn (count_after n x) (peak_from (count_after n x) es) (count_after (count_from (count_after n x) es) e)
-  where max_turn : (a b c : ℕ) → max a (max b c) ≡ max (max a b) c
-        max_turn a b c = omega arith
+  where
+    max_turn : (a b c : ℕ) → max a (max b c) ≡ max (max a b) c
+    max_turn a b c = omega arith
 
 follow-push : {A : Type 0} (n : ℕ) (es : List (Step A)) (e : Step A) → AllFollow n es → MayFollow (count_from n es) e → AllFollow n (es ++ e ∷ [])
 follow-push n [] e f m = (m, tt)

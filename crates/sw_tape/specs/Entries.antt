@@ -1,5 +1,5 @@
 -- A tape's entries as steps, and what its fields keep.
-use Rattle.std.specs.Prelude.{◌≡◌, ◌≤◌, ◌<◌, ◌+◌, ◌^◌, ℕ, List, [], ◌∷◌, length}
+use Rattle.std.specs.Prelude.{◌≡◌, ◌≤◌, ◌<◌, ◌+◌, ◌^◌, ℕ, List, length}
 use Rattle.sw_rows.specs.declared.bound.Bound.{Bound}
 use Rattle.sw_rows.specs.declared.row.Row.{Row}
 use Rattle.sw_kernel.specs.Replay.{Step, loaded, inserted, removed, ranged}

@@ -5,7 +5,7 @@ ghost use Rattle.sw_rows.specs.declared.bound.Bound.{Bound};
 ghost use Rattle.sw_rows.specs.declared.row.Row.{Row};
 ghost use Rattle.sw_rows.specs.declared.refusal.Refusal.TheVariants.{NoMemory, TooMany};
 ghost use Rattle.sw_kernel.specs.Replay.{Step, loaded};
-ghost use Rattle.sw_kernel.specs.Tapes.{IsRising, MayFollow, count_from, is_marked, peak_from, ranges_at};
+ghost use Rattle.sw_kernel.specs.Tapes.{IsRising, IsTape, MayFollow, count_from, is_marked, peak_from, ranges_at};
 ghost use Rattle.sw_tape.specs.Bounds.{is_among};
 ghost use Rattle.sw_tape.specs.Entries.{IsKept, step_of};
 
@@ -35,7 +35,7 @@ impl Model for Tape {
     ghost invariant = { λ t. IsKept (map step_of t.entries.items) t.bounds.items t.pairs t.peak };
 }
 
-/// A load of a copy of the rows, and its number.
+/// A load of a copy of the rows.
 fn load_of(alloc: Global, rows: &[Row]) -> Result<Entry, Refusal>
     ensures { MatchResult result (λ e. step_of e ≡ loaded rows.now) (λ e. e ≡ NoMemory) }
 {
@@ -68,7 +68,12 @@ impl Tape {
         if entries.push(load).is_err() {
             return Err(Refusal::NoMemory);
         }
-        Ok(Tape { entries, bounds: Vec::new(alloc), pairs: rows.len(), peak: rows.len() })
+        Ok(Tape {
+            entries,
+            bounds: Vec::new(alloc),
+            pairs: rows.len(),
+            peak: rows.len(),
+        })
     }
 
     /// Makes the tape one load of these rows. It is refused `NoMemory` alone, and then the tape is as it was.
@@ -94,7 +99,7 @@ impl Tape {
         ensures full { length self.old ≡ 4096 → result ≡ Err (TooMany 4096) }
         ensures room { length self.old < 4096 → IfErr result (λ e. e ≡ NoMemory) }
     {
-        if self.entries.len() == MAX_ENTRIES {
+        if self.len() == MAX_ENTRIES {
             return Err(Refusal::TooMany { limit: 4096 });
         }
         if self.entries.reserve(1).is_err() || self.bounds.reserve(2).is_err() {
@@ -108,9 +113,11 @@ impl Tape {
         Ok(())
     }
 
-    /// The number of entries.
+    /// The number of entries, which begin with the one load. A tape is never empty.
     pub fn len(&self) -> usize
-        ensures { result ≡ length self.now }
+        ensures count { result ≡ length self.now }
+        ensures most { result ≤ 4096 }
+        ensures tape { IsTape self.now }
     {
         self.entries.len()
     }

@@ -1,5 +1,4 @@
-use Rattle.std.proofs.Common.{rules, ◌≡◌, ◌≤◌, Bool, true, false, List, length, drop, sym, ap, subst, ◌∙◌, arith}
-use Rattle.sw_rows.specs.declared.bound.Bound.{Bound}
+use Rattle.std.proofs.Common.{rules, ◌≡◌, true, false, drop, sym, ap, subst, ◌∙◌, arith}
 use Rattle.sw_kernel.specs.Tapes.{IsRising}
 use Rattle.sw_tape.specs.Bounds.{IsPlaceOf, is_among, is_first}
 use Rattle.sw_tape.proofs.Places.{place-within, rising-insert, among-insert, among-first, same-again}
