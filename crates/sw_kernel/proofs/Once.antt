@@ -1,16 +1,16 @@
 -- After a tape that brings no key twice each live row is there once, and there are as many items as its steps say.
-use Rattle.std.proofs.Common.{◌≡◌, ◌≢◌, ℕ, zero, suc, ◌+◌, ◌-◌, ◌<◌, ◌≤◌, ℤ, Bool, true, false, not, nat_eq, eqb, List, [], ◌∷◌, ◌++◌, length, map, filter, get_or, remove, Option, None, Some, IsPermutation, Contains, ◌⊎◌, refl, ap, ap₂, sym, ◌∙◌, arith, subst, inl, inr}
+use Rattle.std.proofs.Common.{◌≡◌, ℕ, zero, suc, ◌+◌, ◌<◌, ℤ, Bool, true, false, not, nat_eq, List, [], ◌∷◌, ◌++◌, length, map, filter, get_or, remove, IsPermutation, ◌⊎◌, refl, ap, sym, ◌∙◌, arith, subst, inl, inr}
 use Rattle.std.specs.List.{IsDistinct, AllByRecursion}
 use Rattle.std.proofs.lemmas.Bool.Decides.{nat_tests}
 use Rattle.std.proofs.lemmas.List.{length-append}
 use Rattle.std.proofs.lemmas.List.Edits.{length-remove}
-use Rattle.std.proofs.lemmas.List.Sorted.{IsPermutation-sym, IsPermutation-trans, IsPermutation-map, length_permutation}
+use Rattle.std.proofs.lemmas.List.Sorted.{IsPermutation-sym, IsPermutation-map, length_permutation}
 use Rattle.std.proofs.lemmas.Map.Keys.{IsDistinct-IsPermutation}
-use Rattle.sw_kernel.specs.Arrangement.{Arrangement, last, piece, joined, ripple_insert, ripple_remove}
-use Rattle.sw_kernel.specs.Replay.{Step, loaded, inserted, removed, ranged, load, step, crack_at, replay_from, replay}
+use Rattle.sw_kernel.specs.Arrangement.{Arrangement, last, joined, ripple_insert, ripple_remove}
+use Rattle.sw_kernel.specs.Replay.{Step, loaded, inserted, removed, ranged, step, crack_at, replay_from, replay}
 use Rattle.sw_kernel.specs.Tapes.{count_after, count_from, MayFollow, AllFollow, IsTape, without_place, live_after, live_from, live_rows, brought_by, brought, BringsKeysOnce, HoldsOnce}
-use Rattle.sw_kernel.proofs.Moves.{load-joined, insert-moves, remove-moves, crack_at-moves}
-use Rattle.sw_kernel.proofs.Members.{Mem, mem-at, mem-permutation, mem-from_contains, contains-from_mem, all-mem, mem-left, mem-last, mem-either, mem-filter, mem-filtered}
+use Rattle.sw_kernel.proofs.Moves.{insert-moves, remove-moves, crack_at-moves}
+use Rattle.sw_kernel.proofs.Members.{Mem, mem-at, mem-permutation, mem-from_contains, contains-from_mem, mem-left, mem-last, mem-either, mem-filter, mem-filtered}
 
 -- `HoldsOnce` with members by recursion
 pub record Held {A : Type 0} (key : A → ℕ) (items rows : List A) : Type 0 where

@@ -1,9 +1,8 @@
 -- Closing up from piece to piece is the removal's ripple.
-use Rattle.std.proofs.Common.{◌≡◌, ℕ, suc, zero, ◌+◌, ◌-◌, ◌<◌, ◌≤◌, ℤ, Bool, true, false, cond, List, [], ◌∷◌, ◌++◌, length, map, reverse, take, drop, get_or, set, nat_lt, All, zip, min, refl, sym, ap, ap₂, ◌∙◌, arith, subst, ltb, inl, inr}
+use Rattle.std.proofs.Common.{◌≡◌, ℕ, suc, zero, ◌+◌, ◌-◌, ◌<◌, ◌≤◌, ℤ, true, false, cond, List, [], ◌∷◌, ◌++◌, length, map, reverse, take, drop, get_or, set, nat_lt, zip, refl, sym, ap, ap₂, ◌∙◌, arith, subst, inl, inr}
 use Rattle.std.proofs.lemmas.Bool.{lt-ltb, le-ltb, ltb-true, ltb-false, cases_Bool}
 use Rattle.std.proofs.lemmas.List.{append_assoc, append-nil, length-append, length-reverse, reverse-reverse, get_or_at, set_at, take_at, length-take-le, drop_more, get_or-drop}
 use Rattle.std.proofs.lemmas.Slice.Zip.{length-zip}
-use Rattle.sw_rows.specs.declared.bound.Bound.{Bound}
 use Rattle.sw_kernel.specs.declared.mark.Mark.{Mark}
 use Rattle.sw_kernel.specs.Arrangement.{Arrangement, last, piece, joined, first_to_end, last_to_front, take_out, each_piece, ripple_remove}
 use Rattle.sw_kernel.specs.Ripple.{holder_of, earlier, earlier_from, closed_up, origin}

@@ -1,5 +1,5 @@
 -- Carrying from piece to piece is the ripple.
-use Rattle.std.proofs.Common.{◌≡◌, ℕ, suc, zero, ◌+◌, ◌-◌, ◌<◌, ◌≤◌, ℤ, Bool, true, false, cond, List, [], ◌∷◌, ◌++◌, length, map, take, drop, get_or, set, nat_lt, All, zip, min, refl, sym, ap, ap₂, ◌∙◌, arith, subst}
+use Rattle.std.proofs.Common.{◌≡◌, ℕ, suc, ◌+◌, ◌<◌, ◌≤◌, ℤ, true, false, cond, List, [], ◌∷◌, ◌++◌, length, map, take, drop, get_or, set, nat_lt, All, zip, refl, sym, ap, ap₂, ◌∙◌, arith, subst}
 use Rattle.std.proofs.lemmas.Bool.{lt-ltb, le-ltb}
 use Rattle.std.proofs.lemmas.List.Elements.{All-head}
 use Rattle.std.proofs.lemmas.List.{get_or-drop, drop_more, drop_all, take_all, append_assoc, append-nil, length-append, get_or_at, set_at}
@@ -7,7 +7,7 @@ use Rattle.sw_rows.specs.declared.bound.Bound.{Bound}
 use Rattle.sw_rows.specs.Bounds.{is_left}
 use Rattle.sw_kernel.specs.declared.mark.Mark.{Mark}
 use Rattle.std.proofs.lemmas.Slice.Zip.{length-zip}
-use Rattle.sw_kernel.specs.Partition.{goes_left, head_of}
+use Rattle.sw_kernel.specs.Partition.{head_of}
 use Rattle.sw_kernel.specs.Arrangement.{Arrangement, last, piece, joined, first_to_end, each_piece, ripple_insert}
 use Rattle.sw_kernel.specs.Ripple.{piece_of, later, later_from, carried}
 use Rattle.sw_kernel.specs.Flat.{marks_from, IsFlat, end_before}

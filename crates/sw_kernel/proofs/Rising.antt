@@ -1,5 +1,5 @@
 -- The bounds of a replay: they rise, and they are those of its ranges.
-use Rattle.std.proofs.Common.{◌≡◌, ℕ, ◌-◌, ℤ, Bool, true, false, ◌||◌, cond, nat_lt, List, [], ◌∷◌, length, Option, None, Some, refl, sym, ap, ap₂, ◌∙◌, subst, inl, inr}
+use Rattle.std.proofs.Common.{◌≡◌, ℕ, ◌-◌, ℤ, Bool, true, false, ◌||◌, nat_lt, List, [], ◌∷◌, length, Option, None, Some, refl, sym, ap, ◌∙◌, subst, inl, inr}
 use Rattle.std.proofs.lemmas.Bool.{cases_Bool}
 use Rattle.sw_rows.specs.declared.bound.Bound.{Bound}
 use Rattle.sw_rows.specs.Bounds.{bound_below, same_bound}
@@ -7,7 +7,7 @@ use Rattle.sw_kernel.specs.Partition.{goes_left}
 use Rattle.sw_kernel.specs.Arrangement.{Arrangement, last, piece, crack, each_piece, ripple_insert, ripple_remove, bounds, has_bound}
 use Rattle.sw_kernel.specs.Replay.{Step, loaded, inserted, removed, ranged, crack_at, load, step, replay_from}
 use Rattle.sw_kernel.specs.Tapes.{IsBelowAll, IsRising, is_bound, ranges_at, is_marked}
-use Rattle.sw_kernel.proofs.Orders.{below-trans, above, same-same, same-flips}
+use Rattle.sw_kernel.proofs.Orders.{below-trans, above, same-same}
 
 all-more : {A : Type 0} (value : A → ℤ) (c b : Bound) (a : Arrangement A) → bound_below c b ≡ true → IsBelowAll c (bounds a) → IsBelowAll c (bounds (crack value b a))
 all-more value c b (last xs) h al = (h, tt)

@@ -1,22 +1,22 @@
 -- After a tape each mark parts all items.
-use Rattle.std.proofs.Common.{◌≡◌, ℕ, suc, zero, ◌+◌, ◌-◌, ◌<◌, ◌≤◌, ℤ, Bool, true, false, cond, nat_lt, List, [], ◌∷◌, ◌++◌, length, take, drop, remove, All, Option, None, Some, IsPermutation, refl, sym, ap, ap₂, ◌∙◌, arith, subst, inl, inr}
+use Rattle.std.proofs.Common.{◌≡◌, ℕ, suc, zero, ◌+◌, ◌-◌, ℤ, true, false, nat_lt, List, [], ◌∷◌, ◌++◌, length, take, drop, remove, All, Option, None, Some, IsPermutation, refl, sym, ap, ◌∙◌, arith, subst, inl, inr}
 use Rattle.std.specs.List.{AllByRecursion}
 use Rattle.std.proofs.lemmas.Bool.{cases_Bool}
 use Rattle.std.proofs.lemmas.List.{append_assoc, length-append, take_at, drop_at}
 use Rattle.std.proofs.lemmas.List.Elements.{All-from_recursion}
 use Rattle.std.proofs.lemmas.List.Sorted.{IsPermutation-sym}
 use Rattle.sw_rows.specs.declared.bound.Bound.{Bound}
-use Rattle.sw_rows.specs.Bounds.{is_left, bound_below, same_bound}
+use Rattle.sw_rows.specs.Bounds.{bound_below, same_bound}
 use Rattle.sw_kernel.specs.declared.mark.Mark.{Mark}
 use Rattle.sw_kernel.specs.Partition.{left_part, right_part, goes_left}
 use Rattle.sw_kernel.specs.Arrangement.{Arrangement, last, piece, joined, crack, first_to_end, last_to_front, take_out, each_piece, ripple_insert, ripple_remove, bounds}
-use Rattle.sw_kernel.specs.Replay.{Step, loaded, inserted, removed, ranged, crack_at, load, step, replay_from, replay}
+use Rattle.sw_kernel.specs.Replay.{Step, loaded, inserted, removed, ranged, crack_at, step, replay_from, replay}
 use Rattle.sw_kernel.specs.Flat.{marks_from}
 use Rattle.sw_kernel.specs.Tapes.{MayFollow, AllFollow, IsTape, IsBelowAll, IsRising, IsSound, count_after}
-use Rattle.sw_kernel.proofs.Orders.{above, left-below, right-below}
+use Rattle.sw_kernel.proofs.Orders.{left-below, right-below}
 use Rattle.sw_kernel.proofs.Rising.{replay_from-rises}
 use Rattle.sw_kernel.proofs.Moves.{parted, crack-moves, first-moves, last-moves, each-moves, insert-moves, take_out-moves, remove-moves}
-use Rattle.sw_kernel.proofs.Members.{all-moved, all-weaker, all-append, all-front, all-back}
+use Rattle.sw_kernel.proofs.Members.{all-moved, all-weaker, all-append, all-back}
 
 -- all items are left of the bound; none is
 abbrev pub AllLeft : {A : Type 0} → (A → ℤ) → Bound → List A → Type 0

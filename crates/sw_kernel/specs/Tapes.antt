@@ -5,7 +5,7 @@ use Rattle.sw_rows.specs.declared.bound.Bound.{Bound}
 use Rattle.sw_rows.specs.Bounds.{bound_below, same_bound}
 use Rattle.sw_kernel.specs.declared.mark.Mark.{Mark}
 use Rattle.sw_kernel.specs.Partition.{goes_left}
-use Rattle.sw_kernel.specs.Arrangement.{Arrangement, last, piece, joined}
+use Rattle.sw_kernel.specs.Arrangement.{Arrangement, last, joined}
 use Rattle.sw_kernel.specs.Replay.{Step, loaded, inserted, removed, ranged, step}
 
 -- how many items there are after a step, from how many there were

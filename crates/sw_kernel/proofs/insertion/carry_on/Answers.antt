@@ -1,12 +1,10 @@
-use Rattle.std.proofs.Common.{rules, ◌≡◌, ◌+◌, ◌<◌, ◌≤◌, ◌∙◌, ℕ, ℤ, pos, length, zip, drop, get_or, set, cond, nat_lt, All, arith, refl, sym, ap, ap₂}
+use Rattle.std.proofs.Common.{rules, ◌≡◌, ◌+◌, ◌≤◌, ◌∙◌, ℤ, pos, length, zip, drop, get_or, set, cond, nat_lt, arith, refl, ap, ap₂}
 use Rattle.std.proofs.lemmas.Int.{to_z-of_z}
 use Rattle.std.proofs.lemmas.List.Elements.{All-drop}
 use mir.Syntax.{w64}
 use mir.Val.{SFits, to_z, of_z}
 use Rattle.sw_rows.specs.declared.bound.Bound.TheVariants.{Before}
 use Rattle.sw_kernel.specs.declared.mark.Mark.{Mark}
-use Rattle.sw_kernel.specs.Ripple.{carried}
-use Rattle.sw_kernel.specs.Flat.{end_before}
 use Rattle.sw_kernel.proofs.Ripples.{end-le, carry-step}
 use Rattle.sw_kernel.proofs.insertion.carry_on.Goals as goal
 

@@ -1,9 +1,8 @@
-use Rattle.std.proofs.Common.{rules, ◌≡◌, ◌≤◌, ◌++◌, ◌∷◌, [], ℕ, ℤ, List, length, drop, arith, sym, ◌∙◌, ap, ap₂, zip}
+use Rattle.std.proofs.Common.{rules, ◌≡◌, ◌≤◌, ◌++◌, ◌∷◌, [], ℤ, List, length, drop, arith, ◌∙◌, ap, ap₂, zip}
 use Rattle.std.proofs.lemmas.Int.{to_z-of_z}
 use mir.Syntax.{w64}
 use mir.Val.{SFits, to_z, of_z}
 use Rattle.sw_kernel.specs.Ripple.{carried, piece_of}
-use Rattle.sw_kernel.specs.Flat.{IsFlat}
 use Rattle.sw_kernel.proofs.Ripples.{ripple-flat, written}
 use Rattle.sw_kernel.proofs.Marks.{order-all, order-below}
 use Rattle.sw_kernel.proofs.insertion.ripple_in.Goals as goal

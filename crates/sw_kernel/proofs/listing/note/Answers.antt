@@ -1,4 +1,4 @@
-use Rattle.std.proofs.Common.{◌+◌, ◌<◌, arith}
+use Rattle.std.proofs.Common.{arith}
 use Rattle.sw_kernel.proofs.Blocks.{listed-note}
 use Rattle.sw_kernel.proofs.listing.note.Goals as goal
 

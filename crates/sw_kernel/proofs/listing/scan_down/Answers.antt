@@ -1,4 +1,4 @@
-use Rattle.std.proofs.Common.{rules, ◌≡◌, ℕ, ◌+◌, ◌-◌, ◌*◌, ◌<◌, ◌≤◌, ◌∙◌, Bool, get_or, pos, arith, subst, sym, ap}
+use Rattle.std.proofs.Common.{rules, ◌≡◌, ℕ, ◌+◌, ◌-◌, ◌*◌, ◌∙◌, Bool, get_or, pos, arith, subst, ap}
 use Rattle.sw_rows.specs.Bounds.{is_left}
 use Rattle.sw_kernel.specs.Blocks.{Listed, goes_down}
 use Rattle.sw_kernel.proofs.listing.scan_down.Goals as goal

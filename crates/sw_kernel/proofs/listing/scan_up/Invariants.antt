@@ -1,4 +1,4 @@
-use Rattle.std.proofs.Common.{ℕ, ◌<◌, ◌≤◌, ◌*◌}
+use Rattle.std.proofs.Common.{◌≤◌, ◌*◌}
 use Rattle.sw_kernel.specs.Blocks.{Listed, goes_up}
 use Rattle.sw_kernel.proofs.listing.scan_up.Given as goal
 

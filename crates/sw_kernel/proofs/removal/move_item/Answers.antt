@@ -1,8 +1,8 @@
-use Rattle.std.proofs.Common.{rules, ◌≡◌, ◌<◌, ℤ, List, length, zip, get_or, set, pos, arith, sym, ap, ap₂, ◌∙◌}
+use Rattle.std.proofs.Common.{rules, ℤ, zip, get_or, set, pos, arith, sym, ap, ap₂, ◌∙◌}
 use Rattle.std.proofs.lemmas.Int.{to_z-of_z}
 use Rattle.std.proofs.lemmas.Slice.Zip.{get_or-zip}
 use mir.Syntax.{w64}
-use mir.Val.{SFits, to_z, of_z}
+use mir.Val.{SFits}
 use Rattle.sw_kernel.specs.Ripple.{origin}
 use Rattle.sw_kernel.proofs.Zips.{zip-set}
 use Rattle.sw_kernel.proofs.removal.move_item.Goals as goal

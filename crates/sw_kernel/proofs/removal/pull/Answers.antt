@@ -1,4 +1,4 @@
-use Rattle.std.proofs.Common.{◌≡◌, ◌<◌, ◌≤◌, pos, arith, ap}
+use Rattle.std.proofs.Common.{pos, arith}
 use Rattle.sw_rows.specs.declared.bound.Bound.TheVariants.{Before}
 use Rattle.sw_kernel.specs.declared.mark.Mark.{Mark}
 use Rattle.sw_kernel.proofs.Removals.{same-at}

@@ -1,6 +1,5 @@
-use Rattle.std.proofs.Common.{rules, ◌≡◌, ◌≤◌, ◌<◌, ◌-◌, ◌++◌, ◌∷◌, [], ℕ, ℤ, List, length, take, drop, arith, sym, ◌∙◌, ap, ap₂, zip}
-use Rattle.sw_kernel.specs.Ripple.{closed_up, holder_of, origin}
-use Rattle.sw_kernel.specs.Flat.{IsFlat}
+use Rattle.std.proofs.Common.{rules, ◌≡◌, ◌≤◌, ◌<◌, ◌-◌, ℕ, ℤ, List, length, take, drop, arith, ◌∙◌, ap₂, zip}
+use Rattle.sw_kernel.specs.Ripple.{closed_up, origin}
 use Rattle.sw_kernel.proofs.Ripples.{written}
 use Rattle.sw_kernel.proofs.Removals.{removal-flat, reaches}
 use Rattle.sw_kernel.proofs.Marks.{order-mono, order-all}
