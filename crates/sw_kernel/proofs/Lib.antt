@@ -13,3 +13,4 @@ pub mod Members
 pub mod Sound
 pub mod Once
 pub mod Marks
+pub mod Shown
