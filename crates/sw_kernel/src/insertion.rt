@@ -78,7 +78,7 @@ fn carry_on(
     hand
 }
 
-/// The marks from the p-th on stand one place later.
+/// Moves the marks from the `from`-th on one place later.
 fn bump(marks: &mut [Mark], from: usize)
     requires range { All (λ (m : Mark). m.at < 2 ^ 63) marks.old }
     requires from { from ≤ length marks.old }
@@ -99,7 +99,11 @@ fn append(values: &mut Vec<i64>, value: i64)
     values.push_reserved(value);
 }
 
-/// Puts an item at the end of its piece; in each later piece that is not empty the first item goes to its end.
+/// Puts the pair of `h` and `t` at the end of its piece; in each later piece that is not empty the first pair goes to that
+/// piece's end, and the marks move with the pieces.
+///
+/// Head and tail are of one length and have room for one more, and the marks' places never fall and never pass that
+/// length. It takes no memory and cannot be refused.
 pub fn ripple_in(head: &mut Vec<i64>, tail: &mut Vec<i64>, marks: &mut [Mark], h: i64, t: i64)
     requires lengths { vec_len head.old ≡ vec_len tail.old }
     requires room { (vec_len head.old < vec_capacity head.old) × (vec_len tail.old < vec_capacity tail.old) }

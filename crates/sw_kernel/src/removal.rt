@@ -51,7 +51,7 @@ fn close_up(head: &mut [i64], tail: &mut [i64], marks: &[Mark], from: usize, pla
     move_item(head, tail, hole, n - 1);
 }
 
-/// The marks from the p-th on stand one place earlier.
+/// Moves the marks from the `from`-th on one place earlier.
 fn pull(marks: &mut [Mark], from: usize)
     requires reach { (k : ℕ) (d : Mark) → from ≤ k → k < length marks.old → 0 < (slice_index_or marks.old k d).at }
     requires from { from ≤ length marks.old }
@@ -62,8 +62,11 @@ fn pull(marks: &mut [Mark], from: usize)
     }
 }
 
-/// Takes out the item at a place: the last item of its piece takes the place, and in each later piece that is not empty
-/// the last item comes to the front.
+/// Takes out the pair at a place: the last pair of its piece takes the place, in each later piece that is not empty the last
+/// pair comes to the front, and the marks move with the pieces.
+///
+/// Head and tail are of one length, the place is below it, and the marks' places never fall and never pass it. It takes no
+/// memory and cannot be refused.
 pub fn ripple_out(head: &mut Vec<i64>, tail: &mut Vec<i64>, marks: &mut [Mark], place: usize)
     requires lengths { vec_len head.old ≡ vec_len tail.old }
     requires place { place < vec_len head.old }
