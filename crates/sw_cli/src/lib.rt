@@ -1,0 +1,4 @@
+//! Runs of the program.
+#![tactic(auto)]
+
+mod buffered;
