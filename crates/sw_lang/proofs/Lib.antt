@@ -1,0 +1,4 @@
+pub mod Narrow
+pub mod Singles
+pub mod Steps
+pub mod Words

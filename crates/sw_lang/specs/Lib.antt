@@ -1,1 +1,4 @@
+pub mod Reading
 pub mod Replies
+pub mod Terms
+pub mod Tokens
