@@ -5,9 +5,9 @@ use Rattle.bstr.specs.Text.{lines_of, without_terminator}
 use Rattle.sw_rows.specs.Header.{Column}
 use Rattle.sw_rows.specs.declared.query.Call.{Call}
 use Rattle.sw_rows.specs.declared.refusal.Refusal.{Refusal}
-use Rattle.sw_rows.specs.declared.refusal.Refusal.TheVariants.{BadLine, NoMemory, TooMany}
+use Rattle.sw_rows.specs.declared.refusal.Refusal.TheVariants.{BadLine, TooMany}
 use Rattle.sw_rows.specs.declared.refusal.Why.TheVariants as why
-use Rattle.sw_lang.specs.Reading.{line_at, refused}
+use Rattle.sw_lang.specs.Reading.{Answers, line_at, refused}
 
 infixl 10 ◌>>=◌
 abbrev pub ◌>>=◌ : {A B : Type 0} → Result A Refusal → (A → Result B Refusal) → Result B Refusal
@@ -42,5 +42,4 @@ calls_of columns text = calls_after columns 1 [] (script_lines text)
 -- what was answered, seen by view, is what the text says, unless memory ran out
 abbrev pub Reads : {X Y : Type 0} → (X → Y) → Result X Refusal → Result Y Refusal → Type 0
 Reads view (Ok x) said = said ≡ Ok (view x)
-Reads view (Err NoMemory) said = Unit {0}
-Reads view (Err e) said = said ≡ Err e
+Reads {X} {Y} view (Err e) said = Answers {A = Y} (Err e) said
