@@ -2,4 +2,5 @@
 #![tactic(auto)]
 
 mod buffered;
+mod plain;
 mod script;
