@@ -1,6 +1,2 @@
-//! Runs of the program.
+//! The command line: how refusals are told on standard error.
 #![tactic(auto)]
-
-mod buffered;
-mod plain;
-mod script;

@@ -1,4 +1,2 @@
-pub mod Narrow
-pub mod Singles
-pub mod Steps
-pub mod Words
+pub mod Progress
+pub mod Texts

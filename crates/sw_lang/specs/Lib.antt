@@ -1,4 +1,3 @@
 pub mod Reading
 pub mod Replies
-pub mod Terms
-pub mod Tokens
+pub mod Sinks

@@ -1,15 +1,10 @@
 //! The language of scripts: a line's call, and the lines of a reply.
 #![tactic(auto)]
 
-mod fault;
-mod parse;
-mod single;
-mod term;
-mod token;
+mod printed_cells;
+mod printed_rows;
+mod replies;
+mod sinks;
 
-pub use parse::{MOST_LINE, parse_line};
-pub use term::Term;
-pub use token::Op;
-
-#[cfg(test)]
-mod parse_tests;
+pub use replies::write_reply;
+pub use sinks::{write_all, write_number};
