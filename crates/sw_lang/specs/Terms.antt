@@ -1,5 +1,6 @@
 -- Comparisons of a call, and the conditions that they make.
-use Rattle.std.specs.Prelude.{ℕ, ℤ, List, [], ◌∷◌, ◌==◌, Option, Some, None, if◌then◌else◌}
+use Rattle.std.specs.Prelude.{ℕ, ℤ, List, [], ◌∷◌, ◌++◌, map, ◌==◌, Option, Some, None, if◌then◌else◌}
+use Rattle.std.specs.List.{list_any}
 use Rattle.sw_rows.specs.Bounds.{greater, lesser}
 use Rattle.sw_rows.specs.declared.bound.Bound.{Bound}
 use Rattle.sw_rows.specs.declared.bound.Bound.TheVariants.{Before, After}
@@ -33,3 +34,32 @@ narrowed c t = record { attr = c.attr; lower = greater c.lower (lower_of t.op t.
 abbrev pub add_term : List Cond → Term → List Cond
 add_term [] t = cond_of t ∷ []
 add_term (c ∷ cs) t = if c.attr == t.attr then narrowed c t ∷ cs else c ∷ add_term cs t
+
+-- ---- the conditions of a list of terms, told all at once
+
+-- attributes with one more, which comes last if it is new
+abbrev pub with_attr : List ℕ → ℕ → List ℕ
+with_attr attrs a = if list_any (λ b. b == a) attrs then attrs else attrs ++ a ∷ []
+
+-- attributes, then those of the terms, each where it first appears
+abbrev pub attrs_after : List ℕ → List Term → List ℕ
+attrs_after attrs [] = attrs
+attrs_after attrs (t ∷ ts) = attrs_after (with_attr attrs t.attr) ts
+
+-- the greatest of a lower bound and those that terms put on an attribute
+abbrev pub lower_after : ℕ → Option Bound → List Term → Option Bound
+lower_after a lower [] = lower
+lower_after a lower (t ∷ ts) = lower_after a (if t.attr == a then greater lower (lower_of t.op t.value) else lower) ts
+
+-- the least of an upper bound and those that terms put on an attribute
+abbrev pub upper_after : ℕ → Option Bound → List Term → Option Bound
+upper_after a upper [] = upper
+upper_after a upper (t ∷ ts) = upper_after a (if t.attr == a then lesser upper (upper_of t.op t.value) else upper) ts
+
+-- an attribute's condition: the greatest of its lower bounds and the least of its upper ones
+abbrev pub cond_on : List Term → ℕ → Cond
+cond_on ts a = record { attr = a; lower = lower_after a None ts; upper = upper_after a None ts }
+
+-- the conditions of terms, one for each attribute, in the order in which the attributes first appear
+abbrev pub conditions : List Term → List Cond
+conditions ts = map (cond_on ts) (attrs_after [] ts)

@@ -93,7 +93,7 @@ other-name : (cs : List Column) (c d : Column) → not (is_known cs c.0) ≡ tru
 other-name [] c d h e = rw e refl
 other-name (b ∷ cs) c d h e = other-step (bytes_eq c.0 b.0) cs c d h (λ k. other-name cs c d k e)
 
-bytes_eq-sym : (xs ys : List ℕ) → bytes_eq xs ys ≡ bytes_eq ys xs
+pub bytes_eq-sym : (xs ys : List ℕ) → bytes_eq xs ys ≡ bytes_eq ys xs
 bytes_eq-sym xs ys = by_tests (bytes_eq xs ys) (bytes_eq ys xs) (bytes_eq-Decides xs ys) (bytes_eq-Decides ys xs)
   where
     by_tests : (a b : Bool) → Decides a (xs ≡ ys) → Decides b (ys ≡ xs) → a ≡ b
@@ -107,7 +107,7 @@ neither true b h = absurd (true≢false h)
 neither false b h = (refl, h)
 
 -- names that differ, and a new one
-differ-more : (cs : List Column) (d : Column) → names_differ cs ≡ true → is_known cs d.0 ≡ false → names_differ (cs ++ d ∷ []) ≡ true
+pub differ-more : (cs : List Column) (d : Column) → names_differ cs ≡ true → is_known cs d.0 ≡ false → names_differ (cs ++ d ∷ []) ≡ true
 differ-more [] d h k = refl
 differ-more (c ∷ cs) d h k =
     let parts = both (not (is_known cs c.0)) (names_differ cs) h in
