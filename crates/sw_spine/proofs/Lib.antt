@@ -1,0 +1,4 @@
+mod Examples
+pub mod Histories
+pub mod Spines
+pub mod StoreLemmas

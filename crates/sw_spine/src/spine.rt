@@ -1,0 +1,416 @@
+//! The spine.
+
+ghost use Rattle.std.specs.Prelude.{ℕ, ◌≡◌, ◌<◌, ◌≤◌, ◌-◌, ◌++◌, ◌∷◌, [], true, false, Some, None, drop, length, slice_index_or, slice_set, IfErr, IfOk, IfSome, IsSome, IsSomeAnd, MatchResult, OnErr, OnOk};
+ghost use Rattle.sw_rows.specs.Scan.{AsksBelow};
+ghost use Rattle.sw_rows.specs.declared.query.Call.TheVariants.{Select, Insert, Delete};
+ghost use Rattle.sw_spine.specs.Table.{inserted, is_numbered, removed, reply_to, updates_then};
+ghost use Rattle.sw_spine.specs.History.{IsLegal, all_given, is_absent, is_select, mine, open_place, settled};
+ghost use Rattle.sw_spine.specs.Books.{IsCount, KeepsOtherHeads, KeepsOthers, KeepsTaken, RefusesEntry, RefusesRows, RefusesSession, history_of, is_opened, new_books, reply_now, took, untaken, updates, waits_for, with_answered, with_open, with_published, with_session, with_settled};
+ghost use Rattle.sw_spine.specs.declared.history.State.TheVariants.{Answered, Void};
+
+use crate::history::{Entry, Record, State};
+use crate::store::Store;
+use std::alloc::{AllocError, Global};
+use std::marker::Model;
+use sw_rows::{Call, Query, Refusal, Reply, Row, Schema, Update};
+
+/// The greatest number of entries of a history.
+pub const MOST_ENTRIES: usize = 1048576;
+
+/// The greatest number of sessions.
+pub const MOST_SESSIONS: usize = 1024;
+
+/// The history of all sessions' calls, the rows ever inserted, and the updates that heads take from. It has no lock.
+///
+/// Each call is one visit. Contracts see what it keeps: the attributes, the opening rows, the limit, the entries, how many
+/// updates each of eight heads has taken, how many sessions were opened and how many updates are published, the opening
+/// rows counted among the updates. Of every spine it is known that its history is legal: each answered reply is that of
+/// one thread over a plain list of rows.
+#[derive(Drop)]
+pub struct Spine {
+    schema: Schema,
+    store: Store,
+    entries: Vec<Entry>,
+    /// For each session the place of its open entry.
+    places: Vec<Option<usize>>,
+    taken: [usize; 8],
+    sessions: u64,
+    published: u64,
+}
+
+impl Model for Spine {
+    ghost use Rattle.sw_spine.specs.Books.{Books, IsSpine, books_of};
+
+    ghost Value = { Books };
+
+    ghost view = { λ s. books_of s.schema s.store s.entries.items s.taken s.sessions s.published };
+
+    ghost invariant = { λ s. IsSpine (books_of s.schema s.store s.entries.items s.taken s.sessions s.published) s.store.later s.places.items };
+}
+
+/// The reply to an insert, by the key that was given.
+fn inserted(given: Option<u64>) -> Reply
+    ensures { result ≡ inserted given }
+{
+    match given {
+        Some(key) => Reply::Inserted(key),
+        None => Reply::Full,
+    }
+}
+
+/// The reply to a delete, by whether the key was there.
+fn removed(found: bool) -> Reply
+    ensures { result ≡ removed found }
+{
+    if found {
+        Reply::Removed
+    } else {
+        Reply::NoSuchKey
+    }
+}
+
+/// Changes the state of a session's open entry.
+fn settle(
+    entries: &mut Vec<Entry>,
+    places: &mut Vec<Option<usize>>,
+    session: u64,
+    state: State,
+)
+    requires place { slice_index_or places.old.items (session - 1) None ≡ open_place session entries.old.items }
+    requires some { 0 < session }
+    requires slot { session - 1 < length places.old.items }
+    ensures entries { entries.new.items ≡ settled session state entries.old.items }
+    ensures places { places.new.items ≡ slice_set places.old.items (session - 1) None }
+{
+    let slot = &mut places[(session - 1) as usize];
+    if let Some(place) = slot.take() {
+        entries[place].state = state;
+    }
+}
+
+impl Spine {
+    /// A spine of opening rows with no entries and no sessions.
+    ///
+    /// Refused `TooMany` of the limit where there are more rows, `NoMemory` otherwise. The caller's conditions: the limit is
+    /// 1 to 1,048,576, and the rows have the keys 1, 2, 3 and so on.
+    pub fn new(
+        alloc: Global,
+        schema: Schema,
+        rows: Vec<Row>,
+        limit: u64,
+    ) -> Result<Spine, Refusal>
+        requires some { 0 < limit }
+        requires most { limit ≤ 1048576 }
+        requires numbered { is_numbered 1 rows.items ≡ true }
+        ensures { MatchResult result (λ s. (length rows.items ≤ limit) × (s ≡ new_books schema rows.items limit)) (RefusesRows limit rows.items) }
+    {
+        if rows.len() as u64 > limit {
+            return Err(Refusal::TooMany { limit });
+        }
+        let count = rows.len();
+        let Ok(store) = Store::new(alloc, rows, limit) else {
+            return Err(Refusal::NoMemory);
+        };
+        Ok(Spine {
+            schema,
+            store,
+            entries: Vec::new(alloc),
+            places: Vec::new(alloc),
+            taken: [count; 8],
+            sessions: 0,
+            published: count as u64,
+        })
+    }
+
+    /// Opens the next session and answers its number, from 1.
+    ///
+    /// Refused `TooMany` of limit 1,024 where that many were opened, `NoMemory` otherwise; after a refusal nothing has changed.
+    pub fn open_session(&mut self) -> Result<u64, Refusal>
+        ensures { MatchResult result (λ n. (n ≡ self.new.sessions) × (self.old.sessions < 1024) × (self.new ≡ with_session self.old)) (λ e. (self.new ≡ self.old) × RefusesSession self.old e) }
+    {
+        if self.places.len() == MOST_SESSIONS {
+            return Err(Refusal::TooMany {
+                limit: MOST_SESSIONS as u64,
+            });
+        }
+        if self.places.push(None).is_err() {
+            return Err(Refusal::NoMemory);
+        }
+        self.sessions += 1;
+        Ok(self.sessions)
+    }
+
+    /// The limit of rows ever inserted.
+    pub fn limit(&self) -> u64
+        ensures { result ≡ self.now.limit }
+    {
+        self.store.limit()
+    }
+
+    /// The attributes.
+    pub fn schema(&self) -> &Schema
+        ensures { result.now ≡ self.now.columns }
+    {
+        &self.schema
+    }
+
+    /// The history so far, which is legal, with entries of opened sessions alone and no reply as lines.
+    pub fn entries(&self) -> &[Entry]
+        ensures entries { result.now ≡ self.now.entries }
+        ensures legal { IsLegal (history_of self.now) }
+        ensures given { all_given self.now.entries ≡ true }
+        ensures known { (s : ℕ) → is_opened s self.now ≡ false → is_absent s self.now.entries ≡ true }
+    {
+        self.entries.as_slice()
+    }
+
+    /// A select begins: its place is the end of the history, and the updates that the head has not taken go to the inbox's end
+    /// and count as taken. The opening rows count as taken by every head from the start.
+    ///
+    /// Refused `HistoryFull` where the history has 1,048,576 entries, `NoMemory` otherwise; after a refusal nothing has
+    /// changed. The caller's conditions: the session was opened and has no open entry, the query names attributes of the
+    /// table, and the head's number, which says only who takes the updates, is below 8.
+    pub fn begin(
+        &mut self,
+        session: u64,
+        query: Query,
+        head: usize,
+        inbox: &mut Vec<Update>,
+    ) -> Result<(), Refusal>
+        requires opened { is_opened session self.old ≡ true }
+        requires rest { waits_for session self.old ≡ None }
+        requires asks { AsksBelow (length self.old.columns) query }
+        requires head { head < 8 }
+        ensures begun { OnOk result (self.new ≡ with_open session query head self.old) }
+        ensures inbox { OnOk result (inbox.new.items ≡ inbox.old.items ++ untaken head self.old) }
+        ensures room { OnOk result (length self.old.entries < 1048576) }
+        ensures refused { IfErr result (λ e. (self.new ≡ self.old) × (inbox.new.items ≡ inbox.old.items) × RefusesEntry self.old e) }
+
+        // What follows of the books.
+        ensures waits { OnOk result (waits_for session self.new ≡ Some (Select query, updates self.old)) }
+        ensures mine { mine session self.new.entries ≡ mine session self.old.entries }
+        ensures others { KeepsOthers session self.old self.new }
+        ensures updates { updates self.new ≡ updates self.old }
+        ensures took { OnOk result (took head self.new ≡ updates self.old) }
+        ensures heads { KeepsOtherHeads head self.old self.new }
+    {
+        if self.entries.len() == MOST_ENTRIES {
+            return Err(Refusal::HistoryFull {
+                entries: MOST_ENTRIES as u64,
+            });
+        }
+        match self.add_open(session, query, head, inbox) {
+            Ok(()) => Ok(()),
+            Err(_) => Err(Refusal::NoMemory),
+        }
+    }
+
+    fn add_open(
+        &mut self,
+        session: u64,
+        query: Query,
+        head: usize,
+        inbox: &mut Vec<Update>,
+    ) -> Result<(), AllocError>
+        requires opened { is_opened session self.old ≡ true }
+        requires rest { waits_for session self.old ≡ None }
+        requires asks { AsksBelow (length self.old.columns) query }
+        requires head { head < 8 }
+        requires room { length self.old.entries < 1048576 }
+        ensures ok { OnOk result ((self.new ≡ with_open session query head self.old) × (inbox.new.items ≡ inbox.old.items ++ untaken head self.old)) }
+        ensures err { OnErr result ((self.new ≡ self.old) × (inbox.new.items ≡ inbox.old.items)) }
+    {
+        self.entries.reserve(1)?;
+        let from = self.taken[head];
+        inbox.extend_from_slice(self.store.since(from))?;
+        let place = self.entries.len();
+        self.entries.push_reserved(Entry {
+            session,
+            call: Call::Select(query),
+            state: State::Open,
+        });
+        self.places[(session - 1) as usize] = Some(place);
+        self.taken[head] = self.store.count();
+        Ok(())
+    }
+
+    /// The session's open select is answered. Nothing else changes, and no memory is taken.
+    ///
+    /// The caller's conditions: the session was opened and has an open entry, and the reply is the plain table's at the
+    /// entry's place.
+    pub fn finish(&mut self, session: u64, reply: Reply)
+        requires opened { is_opened session self.old ≡ true }
+        requires reply { IsSomeAnd (waits_for session self.old) (λ w. reply ≡ reply_to self.old.limit w.1 w.0) }
+        ensures finished { self.new ≡ with_settled session (Answered reply) self.old }
+
+        // What follows of the books.
+        ensures rest { waits_for session self.new ≡ None }
+        ensures mine { IfSome (waits_for session self.old) (λ w. mine session self.new.entries ≡ mine session self.old.entries ++ (w.0, reply) ∷ []) }
+        ensures others { KeepsOthers session self.old self.new }
+        ensures updates { updates self.new ≡ updates self.old }
+        ensures taken { KeepsTaken self.old self.new }
+    {
+        settle(
+            &mut self.entries,
+            &mut self.places,
+            session,
+            State::Answered(reply),
+        );
+    }
+
+    /// The session's open select is given up. Nothing else changes, and no memory is taken.
+    ///
+    /// The caller's condition: the session was opened and has an open entry.
+    pub fn void(&mut self, session: u64)
+        requires opened { is_opened session self.old ≡ true }
+        requires waits { IsSome (waits_for session self.old) }
+        ensures voided { self.new ≡ with_settled session Void self.old }
+
+        // What follows of the books.
+        ensures rest { waits_for session self.new ≡ None }
+        ensures mine { mine session self.new.entries ≡ mine session self.old.entries }
+        ensures others { KeepsOthers session self.old self.new }
+        ensures updates { updates self.new ≡ updates self.old }
+        ensures taken { KeepsTaken self.old self.new }
+    {
+        settle(
+            &mut self.entries,
+            &mut self.places,
+            session,
+            State::Void,
+        );
+    }
+
+    /// An insert or a delete is answered at the end of the history, with the plain table's reply there.
+    ///
+    /// Refused `HistoryFull` where the history has 1,048,576 entries, `NoMemory` otherwise; after a refusal nothing has
+    /// changed. The caller's conditions: the call is no select, and the session was opened and has no open entry.
+    pub fn commit(&mut self, session: u64, call: Call) -> Result<Reply, Refusal>
+        requires opened { is_opened session self.old ≡ true }
+        requires rest { waits_for session self.old ≡ None }
+        requires changes { is_select call ≡ false }
+        ensures committed { IfOk result (λ reply. (reply ≡ reply_now call self.old) × (self.new ≡ with_answered session call self.old)) }
+        ensures room { OnOk result (length self.old.entries < 1048576) }
+        ensures refused { IfErr result (λ e. (self.new ≡ self.old) × RefusesEntry self.old e) }
+
+        // What follows of the books.
+        ensures rest { waits_for session self.new ≡ None }
+        ensures mine { IfOk result (λ reply. mine session self.new.entries ≡ mine session self.old.entries ++ (call, reply) ∷ []) }
+        ensures others { KeepsOthers session self.old self.new }
+        ensures updates { OnOk result (updates self.new ≡ updates_then self.old.limit (updates self.old) call) }
+        ensures taken { KeepsTaken self.old self.new }
+    {
+        if self.entries.len() == MOST_ENTRIES {
+            return Err(Refusal::HistoryFull {
+                entries: MOST_ENTRIES as u64,
+            });
+        }
+        match self.change(session, call) {
+            Ok(reply) => Ok(reply),
+            Err(_) => Err(Refusal::NoMemory),
+        }
+    }
+
+    fn change(&mut self, session: u64, call: Call) -> Result<Reply, AllocError>
+        requires opened { is_opened session self.old ≡ true }
+        requires rest { waits_for session self.old ≡ None }
+        requires changes { is_select call ≡ false }
+        requires room { length self.old.entries < 1048576 }
+        ensures { MatchResult result (λ reply. (reply ≡ reply_now call self.old) × (self.new ≡ with_answered session call self.old)) (λ _. self.new ≡ self.old) }
+    {
+        match call {
+            Call::Insert(cells) => self.insert(session, cells),
+            Call::Delete(key) => self.delete(session, key),
+            Call::Select(_) => unreachable!(),
+        }
+    }
+
+    fn insert(&mut self, session: u64, cells: [i64; 8]) -> Result<Reply, AllocError>
+        requires opened { is_opened session self.old ≡ true }
+        requires rest { waits_for session self.old ≡ None }
+        requires room { length self.old.entries < 1048576 }
+        ensures { MatchResult result (λ reply. (reply ≡ reply_now (Insert cells) self.old) × (self.new ≡ with_answered session (Insert cells) self.old)) (λ _. self.new ≡ self.old) }
+    {
+        self.entries.reserve(1)?;
+        let given = self.store.insert(cells)?;
+        self.entries.push_reserved(Entry {
+            session,
+            call: Call::Insert(cells),
+            state: State::Answered(inserted(given)),
+        });
+        Ok(inserted(given))
+    }
+
+    fn delete(&mut self, session: u64, key: u64) -> Result<Reply, AllocError>
+        requires opened { is_opened session self.old ≡ true }
+        requires rest { waits_for session self.old ≡ None }
+        requires room { length self.old.entries < 1048576 }
+        ensures { MatchResult result (λ reply. (reply ≡ reply_now (Delete key) self.old) × (self.new ≡ with_answered session (Delete key) self.old)) (λ _. self.new ≡ self.old) }
+    {
+        self.entries.reserve(1)?;
+        let found = self.store.delete(key)?;
+        self.entries.push_reserved(Entry {
+            session,
+            call: Call::Delete(key),
+            state: State::Answered(removed(found)),
+        });
+        Ok(removed(found))
+    }
+
+    /// How many updates the history has, the opening rows counted.
+    pub fn update_count(&self) -> u64
+        ensures { result ≡ length (updates self.now) }
+    {
+        self.store.count() as u64
+    }
+
+    /// The updates from a place on, the opening rows counted.
+    pub fn updates_from(&self, place: u64) -> &[Update]
+        requires { IsCount self.now place }
+        ensures { result.now ≡ drop place (updates self.now) }
+    {
+        self.store.since(place as usize)
+    }
+
+    /// How many of the updates are published, the opening rows counted; at first those alone are.
+    pub fn published(&self) -> u64
+        ensures value { result ≡ self.now.published }
+        ensures count { IsCount self.now result }
+    {
+        self.published
+    }
+
+    /// Says how many of the updates are published. Nothing else changes, and no memory is taken.
+    ///
+    /// The caller's condition: at least as many as before, and at most as many as there are.
+    pub fn set_published(&mut self, count: u64)
+        requires low { self.old.published ≤ count }
+        requires high { count ≤ length (updates self.old) }
+        ensures { self.new ≡ with_published count self.old }
+    {
+        self.published = count;
+    }
+
+    /// The record of the history, which is legal. It takes no memory.
+    pub fn into_record(self) -> Record
+        ensures record_is { result ≡ history_of self }
+        ensures legal { IsLegal (history_of self) }
+        ensures given { all_given self.entries ≡ true }
+        ensures known { (s : ℕ) → is_opened s self ≡ false → is_absent s self.entries ≡ true }
+    {
+        let Spine {
+            schema,
+            store,
+            entries,
+            ..
+        } = self;
+        let limit = store.limit();
+        let rows = store.into_rows();
+        Record {
+            schema,
+            rows,
+            limit,
+            entries,
+        }
+    }
+}
