@@ -1,11 +1,12 @@
 -- What a call leaves.
 use Rattle.std.proofs.Common.{◌≡◌, ◌∙◌, sym, ap, refl, ℕ, ◌+◌, ◌<◌, ◌≤◌, Bool, true, false, suc, List, [], ◌∷◌, ◌++◌, length, Option, Some, None, IfSome, arith, cond, fold, take, drop}
-use Rattle.std.proofs.lemmas.List.{append-nil, take-append-drop}
+use Rattle.std.proofs.lemmas.List.{append-nil, map-append, take-append-drop}
 use Rattle.std.specs.Prelude.{slice_index}
 use Rattle.sw_rows.specs.Updates.{rows_of, rows_then}
 use Rattle.sw_rows.specs.declared.row.Row.{Row}
 use Rattle.sw_rows.specs.declared.row.Update.{Update}
 use Rattle.sw_rows.specs.declared.reply.Reply.{Reply}
+use Rattle.sw_rows.specs.Header.{Column}
 use Rattle.sw_rows.specs.Scan.{AsksBelow, WantsBelow}
 use Rattle.sw_rows.specs.declared.query.Query.{Query}
 use Rattle.sw_rows.specs.declared.query.Want.{Want}
@@ -17,8 +18,8 @@ use Rattle.sw_spine.specs.Table.{reply_to, updates_then}
 use Rattle.sw_spine.specs.Books.{Books, is_opened, updates, took, untaken, waits_for, with_open, with_settled}
 use Rattle.sw_spine.specs.declared.history.Entry.{Entry}
 use Rattle.sw_spine.specs.declared.history.State.{State}
-use Rattle.sw_cli.specs.Desks.{IsReady, Makes}
-use Rattle.sw_cli.specs.Run.{answered_by, updates_by}
+use Rattle.sw_cli.specs.Desks.{IsReady, Makes, MakesAll, done_from}
+use Rattle.sw_cli.specs.Run.{Done, answered_by, calls_made, done_then, updates_by, written_by}
 
 -- a select changes nothing
 pub select_keeps : (limit : ℕ) (us : List Update) (c : Call) → is_select c ≡ true → updates_then limit us c ≡ us
@@ -111,3 +112,48 @@ takes_on b plain rows inbox more is e h =
     ap (λ (us : List Update). fold rows_then rows us) e
     ∙ fold-append rows_then rows inbox (untaken 0 b)
     ∙ caught_up b (fold rows_then rows inbox) (is ∙ h)
+
+-- ---- calls one after another
+
+fold-end : {A B : Type 0} (f : B → A → B) (b : B) (xs : List A) (y : A) → fold f b (xs ++ y ∷ []) ≡ f (fold f b xs) y
+fold-end f b xs y = fold-append f b xs (y ∷ [])
+
+-- one more call
+pub made_more : (session : ℕ) (made : List (Call × Bool)) (c : Call) (answered : Bool) (old mid new : Books) → MakesAll session made old mid → Makes session c answered mid new → MakesAll session (made ++ (c, answered) ∷ []) old new
+made_more session made c answered old mid new all one =
+    let d = done_from session old made in
+    let more = fold-end (done_then old.columns old.limit) (record { updates = updates old; text = []; answered = mine session old.entries }) made (c, answered) in
+    record {
+      ready = one.ready;
+      columns = one.columns ∙ all.columns;
+      rows = one.rows ∙ all.rows;
+      limit = one.limit ∙ all.limit;
+      updates_are =
+        one.updates_are
+        ∙ ap (λ (us : List Update). updates_by mid.limit us c answered) all.updates_are
+        ∙ ap (λ (n : ℕ). updates_by n d.updates c answered) all.limit
+        ∙ sym (ap (λ (x : Done). x.updates) more);
+      mine_is =
+        one.mine_is
+        ∙ ap (λ (us : List Update). answered_by mid.limit us c answered (mine session mid.entries)) all.updates_are
+        ∙ ap (λ (n : ℕ). answered_by n d.updates c answered (mine session mid.entries)) all.limit
+        ∙ ap (λ (given : List (Call × Reply)). answered_by old.limit d.updates c answered given) all.mine_is
+        ∙ sym (ap (λ (x : Done). x.answered) more);
+    }
+
+-- what one more call writes comes after what was written
+pub text_more : (session : ℕ) (made : List (Call × Bool)) (c : Call) (answered : Bool) (old mid : Books) → MakesAll session made old mid
+    → (done_from session old (made ++ (c, answered) ∷ [])).text ≡ (done_from session old made).text ++ written_by mid.columns mid.limit (updates mid) c answered
+text_more session made c answered old mid all =
+    let d = done_from session old made in
+    ap (λ (x : Done). x.text) (fold-end (done_then old.columns old.limit) (record { updates = updates old; text = []; answered = mine session old.entries }) made (c, answered))
+    ∙ ap (λ (us : List Update). d.text ++ written_by old.columns old.limit us c answered) (sym all.updates_are)
+    ∙ ap (λ (n : ℕ). d.text ++ written_by old.columns n (updates mid) c answered) (sym all.limit)
+    ∙ ap (λ (cs : List Column). d.text ++ written_by cs mid.limit (updates mid) c answered) (sym all.columns)
+
+-- no call yet
+pub none_made : (session : ℕ) (b : Books) → IsReady session b → MakesAll session [] b b
+none_made session b ready = record { ready = ready; columns = refl; rows = refl; limit = refl; updates_are = refl; mine_is = refl }
+
+pub calls_more : (made : List (Call × Bool)) (c : Call) (answered : Bool) → calls_made (made ++ (c, answered) ∷ []) ≡ calls_made made ++ c ∷ []
+calls_more made c answered = map-append (λ (m : Call × Bool). m.0) made ((c, answered) ∷ [])
