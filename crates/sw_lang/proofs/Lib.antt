@@ -1,3 +1,5 @@
+pub mod CallTexts
+pub mod Fit
 pub mod Lines
 pub mod Merge
 pub mod Names

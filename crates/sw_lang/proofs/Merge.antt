@@ -40,7 +40,7 @@ Distinct (a ∷ xs) = (has xs a ≡ false) × Distinct xs
 eqb-same : (n : ℕ) → eqb n n ≡ true
 eqb-same n = (Decides-eqb n n).1 refl
 
-eqb-turned : (v : Bool) (m n : ℕ) → eqb m n ≡ v → eqb n m ≡ v
+pub eqb-turned : (v : Bool) (m n : ℕ) → eqb m n ≡ v → eqb n m ≡ v
 eqb-turned true m n e = let same : m ≡ n = (Decides-eqb m n).0 e in (Decides-eqb n m).1 (sym same)
 eqb-turned false m n e = by_cases (eqb n m) refl
   where
@@ -48,7 +48,7 @@ eqb-turned false m n e = by_cases (eqb n m) refl
     by_cases true f = let same : n ≡ m = (Decides-eqb n m).0 f in absurd (false≢true (sym e ∙ (Decides-eqb m n).1 (sym same)))
     by_cases false f = f
 
-or-false : (p q : Bool) → (p || q) ≡ false → (p ≡ false) × (q ≡ false)
+pub or-false : (p q : Bool) → (p || q) ≡ false → (p ≡ false) × (q ≡ false)
 or-false true q h = absurd cc
 or-false false q h = (refl, h)
 

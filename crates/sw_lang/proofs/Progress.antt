@@ -52,11 +52,16 @@ finish {a} {b} g = record {
 pub fail : {a b c : Option (List ℕ)} {p q r : ℕ} {text : List ℕ} (x y : List ℕ) → Progress a b p q text (x ++ y) → TookBeginning b c x → Raised q r → Writes a c p r (Err refusal.Output) text
 fail {a} {b} {c} {p} {q} {r} x y g t h = record {
   whole = tt;
-  part = (refl,
-    (g.front ++ t.0, t.1 ++ y,
-     g.parts ∙ ap (λ (z : List ℕ). g.front ++ (z ++ y)) t.2 ∙ ap (λ (z : List ℕ). g.front ++ z) (append_assoc t.0 t.1 y) ∙ sym (append_assoc g.front t.0 (t.1 ++ y)),
-     took_more a b c g.front t.0 g.took t.3),
-    subst (λ (n : ℕ). Raised n r) g.counted h);
+  part = (
+    refl,
+    (
+      g.front ++ t.0,
+      t.1 ++ y,
+      g.parts ∙ ap (λ (z : List ℕ). g.front ++ (z ++ y)) t.2 ∙ ap (λ (z : List ℕ). g.front ++ z) (append_assoc t.0 t.1 y) ∙ sym (append_assoc g.front t.0 (t.1 ++ y)),
+      took_more a b c g.front t.0 g.took t.3,
+    ),
+    subst (λ (n : ℕ). Raised n r) g.counted h,
+  );
 }
 
 -- two pieces, one after the other
@@ -69,9 +74,11 @@ both {a} {b} {c} {r = r} x y (Err e) w z =
     let t = z.part.1 in
     record {
       whole = tt;
-      part = (z.part.0,
+      part = (
+        z.part.0,
         (x ++ t.0, t.1, ap (λ (v : List ℕ). x ++ v) t.2 ∙ sym (append_assoc x t.0 t.1), took_more a b c x t.0 w.whole.0 t.3),
-        subst (λ (n : ℕ). Raised n r) w.whole.1 z.part.2);
+        subst (λ (n : ℕ). Raised n r) w.whole.1 z.part.2,
+      );
     }
 
 -- the first of two pieces failed, and the answer is that refusal

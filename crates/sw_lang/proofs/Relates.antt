@@ -56,6 +56,12 @@ terms_read schema conds ts (t ∷ []) ok (a, b, c, e, is) =
 terms_read schema conds ts (t ∷ u ∷ us) ok (a, b, c, rest, e, is, more) =
     rw e (terms_step schema conds (a ∷ b ∷ c ∷ word (codes "and") ∷ rest) ∙ rw (term_read schema a b c t (word (codes "and") ∷ rest) ok is) (terms_read schema (add_term conds t) rest (u ∷ us) ok more))
 
+same_term : (schema : List Column) (a b c : Tok) (t u : Term) → t ≡ u → IsTerm schema a b c t → IsTerm schema a b c u
+same_term schema a b c t u e is = subst (λ (w : Term). IsTerm schema a b c w) e is
+
+three : (ts more last left rest : List Tok) (a b c : Tok) → ts ≡ a ∷ more → more ≡ b ∷ last → last ≡ c ∷ left → left ≡ rest → ts ≡ a ∷ b ∷ c ∷ rest
+three ts more last left rest a b c e1 e2 e3 e4 = rw (e1, e2, e3, e4) refl
+
 term_is : (schema : List Column) (ts : List Tok) (t : Term) (rest : List Tok) → term_at schema ts ≡ Ok (t, rest) → (a b c : Tok) × (ts ≡ a ∷ b ∷ c ∷ rest) × IsTerm schema a b c t
 unfolding term_at
 term_is schema ts t rest e =
@@ -67,9 +73,9 @@ term_is schema ts t rest e =
     let fa = first_is (name_of schema) ts n.0.0 n.0.1 n.1 in
     let fb = first_is op_of n.0.1 o.0.0 o.0.1 o.1 in
     let fc = first_is (value_of (kind_at schema n.0.0)) o.0.1 v.0.0 v.0.1 v.1 in
-    let parts : ts ≡ fa.0 ∷ fb.0 ∷ fc.0 ∷ rest = fa.1 ∙ ap (λ (w : List Tok). fa.0 ∷ w) (fb.1 ∙ ap (λ (w : List Tok). fb.0 ∷ w) (fc.1 ∙ ap (λ (w : List Tok). fc.0 ∷ w) p.1)) in
+    let parts : ts ≡ fa.0 ∷ fb.0 ∷ fc.0 ∷ rest = three ts n.0.1 o.0.1 v.0.1 rest fa.0 fb.0 fc.0 fa.1 fb.1 fc.1 p.1 in
     let is : IsTerm schema fa.0 fb.0 fc.0 made = record { name = name_found schema fa.0 n.0.0 fa.2; op = op_found fb.0 o.0.0 fb.2; value = value_found (kind_at schema n.0.0) fc.0 v.0.0 fc.2 } in
-    (fa.0, fb.0, fc.0, parts, subst (λ (w : Term). IsTerm schema fa.0 fb.0 fc.0 w) p.0 is)
+    (fa.0, fb.0, fc.0, parts, same_term schema fa.0 fb.0 fc.0 made t p.0 is)
 
 joined_is : (v : Bool) (r : Result (List Cond) Fault) (cs : List Cond) → cond v r (Err (Bad why.Word)) ≡ Ok cs → (v ≡ true) × (r ≡ Ok cs)
 joined_is true r cs e = (refl, e)

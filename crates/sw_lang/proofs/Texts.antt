@@ -13,10 +13,10 @@ fraction_text places r ds new few short start written before =
     let k : ℕ = places - length ds in
     let first : r ≡ suc k = omega arith in
     let front : take r (codes ".000000") ≡ codes "." ++ replicate k 48 =
-        ap (λ n. take n (codes ".000000")) first ∙ ap (λ l. 46 ∷ l) (take-replicate k 6 48 (omega arith)) in
+    ap (λ n. take n (codes ".000000")) first ∙ ap (λ l. 46 ∷ l) (take-replicate k 6 48 (omega arith)) in
     let text : List ℕ = codes "." ++ padded_digits places ds in
     let whole : new ≡ text ++ drop (places + 1) (codes ".000000") =
-        sym (take-append-drop r new) ∙ ap (λ l. l ++ drop r new) (before ∙ front) ∙ ap (λ l. (codes "." ++ replicate k 48) ++ l) written ∙ sym (append_assoc (codes "." ++ replicate k 48) ds (drop (places + 1) (codes ".000000"))) in
+    sym (take-append-drop r new) ∙ ap (λ l. l ++ drop r new) (before ∙ front) ∙ ap (λ l. (codes "." ++ replicate k 48) ++ l) written ∙ sym (append_assoc (codes "." ++ replicate k 48) ds (drop (places + 1) (codes ".000000"))) in
     let long : length text ≡ places + 1 = omega (arith, length-append (replicate k 48) ds, length-replicate {A = ℕ} k 48) in
     ap (take (places + 1)) whole ∙ ap (λ n. take n (text ++ drop (places + 1) (codes ".000000"))) (sym long) ∙ take-append_seam text (drop (places + 1) (codes ".000000"))
 

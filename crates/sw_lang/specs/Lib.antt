@@ -1,5 +1,8 @@
 pub mod Examples
+pub mod Fits
 pub mod Grammar
+pub mod PrintedCalls
+pub mod PrintedExamples
 pub mod Reading
 pub mod Replies
 pub mod Sinks

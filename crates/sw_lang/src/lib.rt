@@ -4,7 +4,9 @@
 mod fault;
 mod line_law;
 mod parse;
+mod printed_calls;
 mod printed_cells;
+pub mod printed_examples;
 mod printed_rows;
 mod replies;
 mod single;
@@ -14,6 +16,7 @@ mod token;
 
 pub use line_law::{examples_of_lines, lines_are_read_as_related, terms_make_conditions};
 pub use parse::{MOST_LINE, parse_line};
+pub use printed_calls::write_call;
 pub use replies::write_reply;
 pub use sinks::{write_all, write_number};
 pub use term::Term;
@@ -21,3 +24,5 @@ pub use token::Op;
 
 #[cfg(test)]
 mod parse_tests;
+#[cfg(test)]
+mod reply_tests;

@@ -6,11 +6,21 @@ use std::process::Abort;
 use std::test::Fail;
 use sw_rows::{Bound, Call, Cond, Query, Refusal, Schema, Want, Why};
 
-fn why_of(alloc: Global, schema: &Schema, text: &str) -> Option<(u32, Why)> {
+fn why_of(alloc: Global, schema: &Schema, text: &str) -> Option<Why> {
     match parse_line(alloc, schema, 7, text) {
-        Err(Refusal::BadLine { line, why }) => Some((line, why)),
+        Err(Refusal::BadLine { line: 7, why }) => Some(why),
         _ => None,
     }
+}
+
+// The first line of a table that does not have its fault.
+fn wrong_one<'a>(alloc: Global, schema: &Schema, table: &'a [(&'a str, Why)]) -> Option<&'a str> {
+    for (text, why) in table {
+        if why_of(alloc, schema, *text) != Some(*why) {
+            return Some(*text);
+        }
+    }
+    None
 }
 
 fn is_unknown(alloc: Global, schema: &Schema, text: &str, wanted: &str) -> bool {
@@ -45,15 +55,11 @@ fn key_of(alloc: Global, schema: &Schema, text: &str) -> Option<u64> {
     }
 }
 
-const FAULTS: [(&str, Why); 43] = [
+// Questions without conditions.
+const QUESTIONS: &[(&str, Why)] = &[
     ("select", Why::End),
-    ("select a where", Why::End),
     ("fetch a", Why::Word),
     ("select a b", Why::Word),
-    ("insert 1, 2", Why::End),
-    ("insert 1, 2, 3, 4", Why::Word),
-    ("count where a > 1x", Why::Value),
-    ("delete -1", Why::Value),
     ("---", Why::Word),
     ("count\r", Why::Word),
     ("Count", Why::Word),
@@ -67,9 +73,15 @@ const FAULTS: [(&str, Why); 43] = [
     ("select true", Why::Word),
     ("select 1a", Why::Word),
     ("select a-b", Why::Word),
-    ("select a where and", Why::Word),
     ("sum", Why::End),
     ("sum a, b", Why::Word),
+];
+
+// Conditions.
+const CONDITIONS: &[(&str, Why)] = &[
+    ("select a where", Why::End),
+    ("count where a > 1x", Why::Value),
+    ("select a where and", Why::Word),
     ("count where a", Why::End),
     ("count where a 1", Why::Word),
     ("count where a <", Why::End),
@@ -82,6 +94,13 @@ const FAULTS: [(&str, Why); 43] = [
     ("count where a = 1 or b = 2", Why::Word),
     ("count where a = 1, b = 2", Why::Word),
     ("count where a = 1 and", Why::End),
+];
+
+// Inserts and deletes.
+const UPDATES: &[(&str, Why)] = &[
+    ("insert 1, 2", Why::End),
+    ("insert 1, 2, 3, 4", Why::Word),
+    ("delete -1", Why::Value),
     ("insert", Why::End),
     ("insert 1 2 3", Why::Word),
     ("insert 1, 2,", Why::End),
@@ -89,22 +108,43 @@ const FAULTS: [(&str, Why); 43] = [
     ("insert 1, x, 3", Why::Value),
     ("delete", Why::End),
     ("delete 1 2", Why::Word),
+    ("delete 18446744073709551616", Why::Value),
+    ("delete 000000000000000000001", Why::Value),
+    ("delete +1", Why::Value),
+    ("delete ,", Why::Word),
 ];
 
 #[test]
-fn tells_the_first_fault(rt: HostRuntime) -> Result<(), Fail> {
+fn tells_the_first_fault_of_questions(rt: HostRuntime) -> Result<(), Fail> {
     let alloc = rt.alloc();
     let schema = Schema::of(alloc, &["a", "b", "c"])?;
-    for (text, why) in FAULTS {
-        assert_eq!(rt; why_of(alloc, &schema, text), Some((7, why)), "{text}");
-    }
+    assert_eq!(rt; wrong_one(alloc, &schema, QUESTIONS), None);
+    Ok(())
+}
+
+#[test]
+fn tells_the_first_fault_of_conditions(rt: HostRuntime) -> Result<(), Fail> {
+    let alloc = rt.alloc();
+    let schema = Schema::of(alloc, &["a", "b", "c"])?;
+    assert_eq!(rt; wrong_one(alloc, &schema, CONDITIONS), None);
+    Ok(())
+}
+
+#[test]
+fn tells_the_first_fault_of_updates(rt: HostRuntime) -> Result<(), Fail> {
+    let alloc = rt.alloc();
+    let schema = Schema::of(alloc, &["a", "b", "c"])?;
+    assert_eq!(rt; wrong_one(alloc, &schema, UPDATES), None);
+    Ok(())
+}
+
+#[test]
+fn tells_unknown_names(rt: HostRuntime) -> Result<(), Fail> {
+    let alloc = rt.alloc();
+    let schema = Schema::of(alloc, &["a", "b", "c"])?;
     assert!(rt; is_unknown(alloc, &schema, "count where d > 1", "d"));
     assert!(rt; is_unknown(alloc, &schema, "select d where a > 1x", "d"));
     assert!(rt; is_unknown(alloc, &schema, "sum _x", "_x"));
-    assert_eq!(rt; why_of(alloc, &schema, "delete 18446744073709551616"), Some((7, Why::Value)));
-    assert_eq!(rt; why_of(alloc, &schema, "delete 000000000000000000001"), Some((7, Why::Value)));
-    assert_eq!(rt; why_of(alloc, &schema, "delete +1"), Some((7, Why::Value)));
-    assert_eq!(rt; why_of(alloc, &schema, "delete ,"), Some((7, Why::Word)));
     Ok(())
 }
 
@@ -120,16 +160,26 @@ fn gives_no_call(rt: HostRuntime) -> Result<(), Fail> {
 }
 
 #[test]
-fn holds_the_length(rt: HostRuntime) -> Result<(), Fail> {
+fn takes_the_longest_line(rt: HostRuntime) -> Result<(), Fail> {
     let alloc = rt.alloc();
     let schema = Schema::of(alloc, &["a"])?;
     let longest = " ".repeat(alloc, 4096)?;
-    let longer = " ".repeat(alloc, 4097)?;
     assert!(rt; is_none(alloc, &schema, longest.as_str()));
-    assert_eq!(rt; why_of(alloc, &schema, longer.as_str()), Some((7, Why::Length)));
-    let comment = "#".repeat(alloc, 4097)?;
-    assert_eq!(rt; why_of(alloc, &schema, comment.as_str()), Some((7, Why::Length)));
     Ok(())
+}
+
+#[test]
+fn refuses_a_longer_comment(rt: HostRuntime) -> Result<(), Fail> {
+    let alloc = rt.alloc();
+    let schema = Schema::of(alloc, &["a"])?;
+    let comment = "#".repeat(alloc, 4097)?;
+    assert_eq!(rt; why_of(alloc, &schema, comment.as_str()), Some(Why::Length));
+    Ok(())
+}
+
+fn mixed(alloc: Global) -> Result<Schema, Fail> {
+    let schema = Schema::of(alloc, &["a", "b:fix2", "c:flag"])?;
+    Ok(schema)
 }
 
 fn assert_cond(rt: &impl Abort, query: &Query, place: usize, wanted: Cond) {
@@ -137,43 +187,118 @@ fn assert_cond(rt: &impl Abort, query: &Query, place: usize, wanted: Cond) {
 }
 
 #[test]
-fn reads_queries(rt: HostRuntime) -> Result<(), Fail> {
+fn makes_a_condition(rt: HostRuntime) -> Result<(), Fail> {
     let alloc = rt.alloc();
-    let schema = Schema::of(alloc, &["a", "b:fix2", "c:flag"])?;
+    let schema = mixed(alloc)?;
     let query = query_of(alloc, &schema, "count where a=5")?;
     assert!(rt; matches!(query.want, Want::Count));
     assert_eq!(rt; query.conds.as_slice().len(), 1);
     let lower = Some(Bound::Before(5));
     let upper = Some(Bound::After(5));
-    assert_cond(&rt, &query, 0, Cond { attr: 0, lower, upper });
-    let query = query_of(alloc, &schema, "select b ,a,b\twhere b<+9.5 and a>=1 and b > -0.25 and b <= 9.5 and c = true")?;
-    match &query.want {
-        Want::Rows(names) => assert_eq!(rt; names.as_slice(), [1, 0, 1].as_slice()),
-        _ => return Err(Fail::from("no rows")),
-    }
+    assert_cond(
+        &rt,
+        &query,
+        0,
+        Cond {
+            attr: 0,
+            lower,
+            upper,
+        },
+    );
+    Ok(())
+}
+
+const MERGED: &str = "select b ,a,b\twhere b<+9.5 and a>=1 and b > -0.25 and b <= 9.5 and c = true";
+
+#[test]
+fn merges_terms(rt: HostRuntime) -> Result<(), Fail> {
+    let alloc = rt.alloc();
+    let schema = mixed(alloc)?;
+    let query = query_of(alloc, &schema, MERGED)?;
     assert_eq!(rt; query.conds.as_slice().len(), 3);
     let lower = Some(Bound::After(-25));
     let upper = Some(Bound::Before(950));
-    assert_cond(&rt, &query, 0, Cond { attr: 1, lower, upper });
+    assert_cond(
+        &rt,
+        &query,
+        0,
+        Cond {
+            attr: 1,
+            lower,
+            upper,
+        },
+    );
     let lower = Some(Bound::Before(1));
-    assert_cond(&rt, &query, 1, Cond { attr: 0, lower, upper: None });
-    let lower = Some(Bound::Before(1));
+    assert_cond(
+        &rt,
+        &query,
+        1,
+        Cond {
+            attr: 0,
+            lower,
+            upper: None,
+        },
+    );
     let upper = Some(Bound::After(1));
-    assert_cond(&rt, &query, 2, Cond { attr: 2, lower, upper });
-    assert!(rt; matches!(query_of(alloc, &schema, "sum a")?.want, Want::Sum(0)));
-    assert!(rt; matches!(query_of(alloc, &schema, "min b")?.want, Want::Min(1)));
-    assert!(rt; matches!(query_of(alloc, &schema, "max c")?.want, Want::Max(2)));
+    assert_cond(
+        &rt,
+        &query,
+        2,
+        Cond {
+            attr: 2,
+            lower,
+            upper,
+        },
+    );
     Ok(())
 }
 
 #[test]
-fn reads_updates(rt: HostRuntime) -> Result<(), Fail> {
+fn keeps_the_names(rt: HostRuntime) -> Result<(), Fail> {
     let alloc = rt.alloc();
-    let schema = Schema::of(alloc, &["a", "b:fix2", "c:flag"])?;
+    let schema = mixed(alloc)?;
+    let query = query_of(alloc, &schema, MERGED)?;
+    match &query.want {
+        Want::Rows(names) => assert_eq!(rt; names.as_slice(), [1, 0, 1].as_slice()),
+        _ => return Err(Fail::from("no rows")),
+    }
+    Ok(())
+}
+
+#[test]
+fn reads_aggregates(rt: HostRuntime) -> Result<(), Fail> {
+    let alloc = rt.alloc();
+    let schema = mixed(alloc)?;
+    let sum = query_of(alloc, &schema, "sum a")?;
+    assert!(rt; matches!(sum.want, Want::Sum(0)));
+    let least = query_of(alloc, &schema, "min b")?;
+    assert!(rt; matches!(least.want, Want::Min(1)));
+    let greatest = query_of(alloc, &schema, "max c")?;
+    assert!(rt; matches!(greatest.want, Want::Max(2)));
+    Ok(())
+}
+
+#[test]
+fn reads_inserts(rt: HostRuntime) -> Result<(), Fail> {
+    let alloc = rt.alloc();
+    let schema = mixed(alloc)?;
     let cells = cells_of(alloc, &schema, "insert -12, 3 ,true");
     assert_eq!(rt; cells, Some([-12, 300, 1, 0, 0, 0, 0, 0]));
-    assert_eq!(rt; why_of(alloc, &schema, "insert 1, 9.999, true"), Some((7, Why::Value)));
-    assert_eq!(rt; key_of(alloc, &schema, "delete 18446744073709551615"), Some(u64::MAX));
+    assert_eq!(rt;
+        why_of(alloc, &schema, "insert 1, 9.999, true"),
+        Some(Why::Value)
+    );
+    Ok(())
+}
+
+#[test]
+fn reads_deletes(rt: HostRuntime) -> Result<(), Fail> {
+    let alloc = rt.alloc();
+    let schema = mixed(alloc)?;
+    assert_eq!(rt;
+        key_of(alloc, &schema, "delete 18446744073709551615"),
+        Some(u64::MAX)
+    );
     assert_eq!(rt; key_of(alloc, &schema, "delete 007"), Some(7));
     Ok(())
 }

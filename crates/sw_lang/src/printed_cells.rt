@@ -25,7 +25,8 @@ fn write_fraction<W: Sink>(places: u8, fraction: u64, out: &mut W) -> Result<(),
     requires some { 1 ≤ places }
     requires few { places ≤ 6 }
     requires below { fraction < 10 ^ places }
-    ensures { Writes (W.taken out.old) (W.taken out.new) (W.failed out.old) (W.failed out.new) result (codes "." ++ padded_digits places (decimal fraction)) }
+    ensures { Writes (W.taken out.old) (W.taken out.new) (W.failed out.old) (W.failed out.new) result
+        (codes "." ++ padded_digits places (decimal fraction)) }
 {
     let mut text = *b".000000";
     let end = places as usize + 1;
@@ -37,7 +38,8 @@ fn write_fraction<W: Sink>(places: u8, fraction: u64, out: &mut W) -> Result<(),
 fn write_with_point<W: Sink>(places: u8, units: u128, out: &mut W) -> Result<(), Refusal>
     requires some { 1 ≤ places }
     requires few { places ≤ 6 }
-    ensures { Writes (W.taken out.old) (W.taken out.new) (W.failed out.old) (W.failed out.new) result (with_point places units) }
+    ensures { Writes (W.taken out.old) (W.taken out.new) (W.failed out.old) (W.failed out.new) result
+        (with_point places units) }
 {
     let one = power_of_ten(places);
     let fraction = (units % one) as u64;
@@ -49,7 +51,8 @@ fn write_with_point<W: Sink>(places: u8, units: u128, out: &mut W) -> Result<(),
 fn write_below_zero<W: Sink>(places: u8, units: u128, out: &mut W) -> Result<(), Refusal>
     requires some { 1 ≤ places }
     requires few { places ≤ 6 }
-    ensures { Writes (W.taken out.old) (W.taken out.new) (W.failed out.old) (W.failed out.new) result (codes "-" ++ with_point places units) }
+    ensures { Writes (W.taken out.old) (W.taken out.new) (W.failed out.old) (W.failed out.new) result
+        (codes "-" ++ with_point places units) }
 {
     write_all(out, b"-")?;
     write_with_point(places, units, out)
@@ -59,7 +62,8 @@ fn write_below_zero<W: Sink>(places: u8, units: u128, out: &mut W) -> Result<(),
 fn write_fixed<W: Sink>(places: u8, units: i128, out: &mut W) -> Result<(), Refusal>
     requires some { 1 ≤ places }
     requires few { places ≤ 6 }
-    ensures { Writes (W.taken out.old) (W.taken out.new) (W.failed out.old) (W.failed out.new) result (fixed_text places units) }
+    ensures { Writes (W.taken out.old) (W.taken out.new) (W.failed out.old) (W.failed out.new) result
+        (fixed_text places units) }
 {
     if units < 0 {
         write_below_zero(places, units.unsigned_abs(), out)
@@ -71,7 +75,8 @@ fn write_fixed<W: Sink>(places: u8, units: i128, out: &mut W) -> Result<(), Refu
 // Writes a cell of a kind.
 pub(crate) fn write_cell<W: Sink>(kind: Kind, cell: &i64, out: &mut W) -> Result<(), Refusal>
     requires { HasPlaces kind }
-    ensures { Writes (W.taken out.old) (W.taken out.new) (W.failed out.old) (W.failed out.new) result (cell_text kind cell.now) }
+    ensures { Writes (W.taken out.old) (W.taken out.new) (W.failed out.old) (W.failed out.new) result
+        (cell_text kind cell.now) }
 {
     match kind {
         Kind::Int => write_number(*cell, out),
@@ -84,7 +89,8 @@ pub(crate) fn write_cell<W: Sink>(kind: Kind, cell: &i64, out: &mut W) -> Result
 // Writes a sum over a kind.
 pub(crate) fn write_sum<W: Sink>(kind: Kind, sum: i128, out: &mut W) -> Result<(), Refusal>
     requires { HasPlaces kind }
-    ensures { Writes (W.taken out.old) (W.taken out.new) (W.failed out.old) (W.failed out.new) result (sum_text kind sum) }
+    ensures { Writes (W.taken out.old) (W.taken out.new) (W.failed out.old) (W.failed out.new) result
+        (sum_text kind sum) }
 {
     match kind {
         Kind::Fix(places) => write_fixed(places, sum, out),
@@ -93,9 +99,14 @@ pub(crate) fn write_sum<W: Sink>(kind: Kind, sum: i128, out: &mut W) -> Result<(
 }
 
 // Writes the least or the greatest of a kind, if there is one.
-pub(crate) fn write_extreme<W: Sink>(kind: Kind, extreme: Option<i64>, out: &mut W) -> Result<(), Refusal>
+pub(crate) fn write_extreme<W: Sink>(
+    kind: Kind,
+    extreme: Option<i64>,
+    out: &mut W,
+) -> Result<(), Refusal>
     requires { HasPlaces kind }
-    ensures { Writes (W.taken out.old) (W.taken out.new) (W.failed out.old) (W.failed out.new) result (extreme_text kind extreme) }
+    ensures { Writes (W.taken out.old) (W.taken out.new) (W.failed out.old) (W.failed out.new) result
+        (extreme_text kind extreme) }
 {
     match extreme {
         Some(cell) => write_cell(kind, &cell, out),

@@ -36,8 +36,14 @@ fn kind_called(schema: &Schema, call: &Call) -> Kind
 }
 
 // The rows that a query is answered.
-fn write_rows_wanted<W: Sink>(schema: &Schema, want: &Want, rows: &[ReplyRow], out: &mut W) -> Result<(), Refusal>
-    ensures { Writes (W.taken out.old) (W.taken out.new) (W.failed out.old) (W.failed out.new) result (with_ends (map (row_line (kinds_wanted schema.now want.now)) rows.now ++ rows_line (length rows.now) ∷ [])) }
+fn write_rows_wanted<W: Sink>(
+    schema: &Schema,
+    want: &Want,
+    rows: &[ReplyRow],
+    out: &mut W,
+) -> Result<(), Refusal>
+    ensures { Writes (W.taken out.old) (W.taken out.new) (W.failed out.old) (W.failed out.new) result
+        (with_ends (map (row_line (kinds_wanted schema.now want.now)) rows.now ++ rows_line (length rows.now) ∷ [])) }
 {
     match want {
         Want::Rows(attrs) => write_rows(schema, attrs.as_slice(), rows, out),
@@ -48,8 +54,14 @@ fn write_rows_wanted<W: Sink>(schema: &Schema, want: &Want, rows: &[ReplyRow], o
     }
 }
 
-fn write_rows_called<W: Sink>(schema: &Schema, call: &Call, rows: &[ReplyRow], out: &mut W) -> Result<(), Refusal>
-    ensures { Writes (W.taken out.old) (W.taken out.new) (W.failed out.old) (W.failed out.new) result (with_ends (map (row_line (kinds_called schema.now call.now)) rows.now ++ rows_line (length rows.now) ∷ [])) }
+fn write_rows_called<W: Sink>(
+    schema: &Schema,
+    call: &Call,
+    rows: &[ReplyRow],
+    out: &mut W,
+) -> Result<(), Refusal>
+    ensures { Writes (W.taken out.old) (W.taken out.new) (W.failed out.old) (W.failed out.new) result
+        (with_ends (map (row_line (kinds_called schema.now call.now)) rows.now ++ rows_line (length rows.now) ∷ [])) }
 {
     match call {
         Call::Select(query) => write_rows_wanted(schema, &query.want, rows, out),
@@ -59,7 +71,8 @@ fn write_rows_called<W: Sink>(schema: &Schema, call: &Call, rows: &[ReplyRow], o
 
 // A number as a line.
 fn write_number_line<W: Sink>(number: u64, out: &mut W) -> Result<(), Refusal>
-    ensures { Writes (W.taken out.old) (W.taken out.new) (W.failed out.old) (W.failed out.new) result (decimal number ++ codes "\n") }
+    ensures { Writes (W.taken out.old) (W.taken out.new) (W.failed out.old) (W.failed out.new) result
+        (decimal number ++ codes "\n") }
 {
     write_number(number, out)?;
     write_all(out, b"\n")
@@ -67,7 +80,8 @@ fn write_number_line<W: Sink>(number: u64, out: &mut W) -> Result<(), Refusal>
 
 fn write_sum_line<W: Sink>(kind: Kind, sum: i128, out: &mut W) -> Result<(), Refusal>
     requires { HasPlaces kind }
-    ensures { Writes (W.taken out.old) (W.taken out.new) (W.failed out.old) (W.failed out.new) result (sum_text kind sum ++ codes "\n") }
+    ensures { Writes (W.taken out.old) (W.taken out.new) (W.failed out.old) (W.failed out.new) result
+        (sum_text kind sum ++ codes "\n") }
 {
     write_sum(kind, sum, out)?;
     write_all(out, b"\n")
@@ -75,14 +89,16 @@ fn write_sum_line<W: Sink>(kind: Kind, sum: i128, out: &mut W) -> Result<(), Ref
 
 fn write_extreme_line<W: Sink>(kind: Kind, extreme: Option<i64>, out: &mut W) -> Result<(), Refusal>
     requires { HasPlaces kind }
-    ensures { Writes (W.taken out.old) (W.taken out.new) (W.failed out.old) (W.failed out.new) result (extreme_text kind extreme ++ codes "\n") }
+    ensures { Writes (W.taken out.old) (W.taken out.new) (W.failed out.old) (W.failed out.new) result
+        (extreme_text kind extreme ++ codes "\n") }
 {
     write_extreme(kind, extreme, out)?;
     write_all(out, b"\n")
 }
 
 fn write_key_line<W: Sink>(key: u64, out: &mut W) -> Result<(), Refusal>
-    ensures { Writes (W.taken out.old) (W.taken out.new) (W.failed out.old) (W.failed out.new) result ((codes "key " ++ decimal key) ++ codes "\n") }
+    ensures { Writes (W.taken out.old) (W.taken out.new) (W.failed out.old) (W.failed out.new) result
+        ((codes "key " ++ decimal key) ++ codes "\n") }
 {
     write_all(out, b"key ")?;
     write_number_line(key, out)
@@ -92,8 +108,14 @@ fn write_key_line<W: Sink>(key: u64, out: &mut W) -> Result<(), Refusal>
 ///
 /// Cells are written by the kinds of the attributes that the call names. Refused `Output` where the sink fails; then a
 /// beginning of the lines went out.
-pub fn write_reply<W: Sink>(schema: &Schema, call: &Call, reply: &Reply, out: &mut W) -> Result<(), Refusal>
-    ensures { Writes (W.taken out.old) (W.taken out.new) (W.failed out.old) (W.failed out.new) result (reply_bytes schema.now call.now reply.now) }
+pub fn write_reply<W: Sink>(
+    schema: &Schema,
+    call: &Call,
+    reply: &Reply,
+    out: &mut W,
+) -> Result<(), Refusal>
+    ensures { Writes (W.taken out.old) (W.taken out.new) (W.failed out.old) (W.failed out.new) result
+        (reply_bytes schema.now call.now reply.now) }
 {
     match reply {
         Reply::Rows(rows) => write_rows_called(schema, call, rows.as_slice(), out),

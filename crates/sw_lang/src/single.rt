@@ -106,10 +106,7 @@ fn key_of(token: Token) -> Result<u64, ParseError>
     let Token::Word(word) = token else {
         return Err(bad(Why::Word));
     };
-    match read_key(word) {
-        Some(key) => Ok(key),
-        None => Err(bad(Why::Value)),
-    }
+    read_key(word).ok_or(bad(Why::Value))
 }
 
 /// Whether a token is this word.

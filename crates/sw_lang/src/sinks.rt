@@ -28,7 +28,8 @@ pub fn write_all<W: Sink>(out: &mut W, bytes: &[u8]) -> Result<(), Refusal>
 ///
 /// Refused `Output` where the sink fails; then a beginning of the text went out.
 pub fn write_number<N: Integer, W: Sink>(number: N, out: &mut W) -> Result<(), Refusal>
-    ensures { Writes (W.taken out.old) (W.taken out.new) (W.failed out.old) (W.failed out.new) result (N.text number) }
+    ensures { Writes (W.taken out.old) (W.taken out.new) (W.failed out.old) (W.failed out.new) result
+        (N.text number) }
 {
     let mut buffer = Buffer::new();
     write_all(out, buffer.format(number).as_bytes())

@@ -81,10 +81,11 @@ column_spelled field c h = by_colon (position (λ x. x == 58) field) refl h
     with_kind i None e q r = absurd (none-some c r)
     with_kind i (Some k) e q r =
         let parts = column_parts (take i field) k c r in
-        let found = kind_found (drop (i + 1) field) k q in
-        (subst (λ n. is_name n ≡ true) parts.1 parts.0,
-            subst HasPlaces parts.2 found.1,
-            inr (divided 58 field i e ∙ ap (λ t. t ++ 58 ∷ drop (i + 1) field) parts.1 ∙ ap (λ t. c.0 ++ 58 ∷ t) (found.0 ∙ ap kind_text parts.2)))
+        let found = kind_found (drop (i + 1) field) k q in (
+          subst (λ n. is_name n ≡ true) parts.1 parts.0,
+          subst HasPlaces parts.2 found.1,
+          inr (divided 58 field i e ∙ ap (λ t. t ++ 58 ∷ drop (i + 1) field) parts.1 ∙ ap (λ t. c.0 ++ 58 ∷ t) (found.0 ∙ ap kind_text parts.2)),
+        )
 
     by_colon : (o : Option ℕ) → position (λ x. x == 58) field ≡ o → column_at field o ≡ Some c → WritesColumn field c
     by_colon None e r =

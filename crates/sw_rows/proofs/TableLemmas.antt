@@ -1,12 +1,12 @@
 -- Cells and rows, one by one.
-use Rattle.std.proofs.Common.{◌≡◌, ◌∙◌, ap, sym, refl, ℕ, ℤ, pos, ◌+◌, ◌-◌, ◌<◌, ◌≤◌, Bool, true, false, cond, List, [], ◌∷◌, ◌++◌, length, get_or, take, drop, Option, Some, None, replicate, suc, slice_get, min, nat_eq, arith, Result, Ok, Err}
+use Rattle.std.proofs.Common.{◌≡◌, ◌∙◌, ap, sym, refl, ℕ, ℤ, pos, ◌+◌, ◌-◌, ◌<◌, ◌≤◌, Bool, true, false, cond, List, [], ◌∷◌, ◌++◌, length, get_or, take, drop, Option, Some, None, replicate, suc, slice_get, min, nat_eq, nat_lt, arith, Result, Ok, Err}
 use Rattle.std.proofs.lemmas.List.{drop_more, drop_all, take-append-drop, get_or-drop}
 use Rattle.std.proofs.lemmas.Grind.{common_steps}
 use Rattle.std.proofs.lemmas.Option.{slice_get_within, get_or_from_slice_get}
 use Rattle.std.proofs.lemmas.Bool.Decides.{nat_tests}
 use Rattle.sw_rows.specs.Cells.{cell_value}
 use Rattle.sw_rows.specs.Header.{Fault, bad_table, too_many}
-use Rattle.sw_rows.specs.Tables.{cells_after, cells_of, or_bad, padded, then_padded}
+use Rattle.sw_rows.specs.Tables.{cells_after, cells_of, or_bad, padded, table_in, table_of, then_padded}
 use Rattle.sw_rows.specs.declared.kind.Kind.{Kind}
 
 -- one more cell
@@ -51,3 +51,9 @@ padded_take cells n eight le rest =
     let zeros : drop n cells ≡ replicate (length (drop n cells)) (pos 0) = all_zero (drop n cells) (λ k. get_or-drop n cells k (pos 0) ∙ rest (n + k) (omega arith)) in
     let left : length (drop n cells) ≡ 8 - length (take n cells) = grind (arith, common_steps) in
     ap (λ m. take n cells ++ replicate m (pos 0)) (sym left) ∙ ap (λ ys. take n cells ++ ys) (sym zeros) ∙ take-append-drop n cells
+
+-- bytes that are few enough spell what they are split into
+pub table_of_few : (bytes : List ℕ) → length bytes ≤ 268435456 → table_of bytes ≡ table_in bytes
+table_of_few bytes h =
+    let few : nat_lt 268435456 (length bytes) ≡ false = grind (arith, nat_tests) in
+    rw few refl

@@ -64,11 +64,12 @@ rows_more ks done (t ∷ ts) all few h =
     let longer : length (done ++ r ∷ []) ≡ length done + 1 = length-append done (r ∷ []) in
     let below : length done < 1048576 = ltb-true (length done) 1048576 fits.0 in
     let rest = rows_more ks (done ++ r ∷ []) ts all (omega arith) step.2 in
-    let sum = rest.3 in
-    (r ∷ rest.0,
-        rest.1 ∙ append_assoc done (r ∷ []) rest.0,
-        ((row.0, row.1, ap (row_of (length done + 1)) row.2), subst (λ n. WriteRows ks (n + 1) ts rest.0) longer rest.2),
-        omega arith)
+    let sum = rest.3 in (
+      r ∷ rest.0,
+      rest.1 ∙ append_assoc done (r ∷ []) rest.0,
+      ((row.0, row.1, ap (row_of (length done + 1)) row.2), subst (λ n. WriteRows ks (n + 1) ts rest.0) longer rest.2),
+      omega arith,
+    )
 
 pub rows_again : (ks : List Kind) (done : List Row) (ts : List (List (List ℕ))) (rs : List Row) → length done + length ts ≤ 1048576 → WriteRows ks (length done + 1) ts rs → rows_after ks done ts ≡ Ok (done ++ rs)
 rows_again ks done [] [] few w = ap (λ (rs : List Row). Ok rs) (sym (append-nil done))

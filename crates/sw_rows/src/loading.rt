@@ -1,6 +1,6 @@
 //! A table from a source.
 
-ghost use Rattle.std.specs.Prelude.{◌≡◌, ◌⊎◌, IfSome, IfErr, OnOk, OnErr};
+ghost use Rattle.std.specs.Prelude.{◌≡◌, ◌≤◌, ◌⊎◌, ℕ, List, length, IfOk, IfSome, IfErr, OnOk, OnErr};
 ghost use Rattle.std.specs.Io.KnownBytes.{IsAtEnd};
 ghost use Rattle.sw_rows.specs.Gives.{Gives, Raised, TellsSource};
 ghost use Rattle.sw_rows.specs.Tables.{bytes_within, shown_table, table_of};
@@ -21,6 +21,7 @@ pub const MOST_BYTES: usize = 268_435_456;
 /// What it gave before a refusal is lost.
 pub fn read_all<R: Source>(alloc: Global, source: &mut R, limit: usize) -> Result<Vec<u8>, Refusal>
     ensures spelled { IfSome (R.left source.old) (λ bytes. Gives (Raised (R.failed source.old) (R.failed source.new)) (λ v. v.items) result (bytes_within limit bytes)) }
+    ensures short { IfOk result (λ bytes. length bytes.items ≤ limit) }
     ensures steady { OnOk result (R.failed source.new ≡ R.failed source.old) }
     ensures told { IfErr result (TellsSource (Raised (R.failed source.old) (R.failed source.new))) }
     ensures ended { OnOk result (IsAtEnd (R.left source.new)) }
@@ -50,15 +51,20 @@ pub fn read_all<R: Source>(alloc: Global, source: &mut R, limit: usize) -> Resul
 /// The first fault refuses it: `TooMany` of 268,435,456 bytes, before anything is split; `BadTable` of record 0, field 0
 /// where there is no header; `TooMany` of 8 attributes; `BadTable` at the first field of the header that is none; then record
 /// by record `TooMany` of 1,048,576 rows, `BadTable` at the first field that is missing or too many, `BadTable` at the first
-/// cell that is none of its kind. `Input` comes only where the source failed in this call.
+/// cell that is none of its kind. What is answered is the table of some bytes, also where the source does not tell its own.
+/// `Input` comes only where the source failed in this call.
 pub fn load<R: Source>(alloc: Global, source: &mut R) -> Result<(Schema, Vec<Row>), Refusal>
     ensures spelled { IfSome (R.left source.old) (λ bytes. Gives (Raised (R.failed source.old) (R.failed source.new)) shown_table result (table_of bytes)) }
     ensures steady { OnOk result (R.failed source.new ≡ R.failed source.old) }
+    ensures table { IfOk result (λ t. (bytes : List ℕ) × (table_of bytes ≡ Ok (shown_table t))) }
     ensures told { IfErr result (TellsSource (Raised (R.failed source.old) (R.failed source.new))) }
     ensures ended { OnOk result (IsAtEnd (R.left source.new)) }
 {
     match read_all(alloc, source, MOST_BYTES) {
-        Ok(bytes) => read_table(alloc, &bytes),
+        Ok(bytes) => match read_table(alloc, &bytes) {
+            Ok(table) => Ok(table),
+            Err(e) => Err(e),
+        },
         Err(e) => Err(e),
     }
 }

@@ -1,0 +1,223 @@
+-- What the grammar relates to a line fits the table.
+use Rattle.std.proofs.Common.{◌≡◌, ◌∙◌, ap, sym, refl, subst, ℕ, zero, suc, ℤ, pos, ◌+◌, ◌-◌, ◌<◌, ◌≤◌, ◌⊎◌, inl, inr, Bool, true, false, cond, eqb, List, [], ◌∷◌, ◌++◌, length, map, replicate, Option, Some, None, Result, Ok, Err, slice_get, All, IfSome, nat_eq, arith}
+use Rattle.std.specs.Prelude.{bytes_eq, codes}
+use Rattle.std.specs.List.{AllByRecursion, IsDistinct}
+use Rattle.std.proofs.lemmas.Bool.Decides.{Decides-eqb}
+use Rattle.std.proofs.lemmas.List.{length-map}
+use Rattle.std.proofs.lemmas.List.Elements.{All-from_recursion}
+use Rattle.std.proofs.lemmas.Option.{slice_get_within}
+use Rattle.sw_rows.specs.Bounds.{bound_below, greater, lesser}
+use Rattle.sw_rows.specs.Cells.{cell_value, flag_value}
+use Rattle.sw_rows.specs.Header.{Column, kinds_of, names_of}
+use Rattle.sw_rows.specs.Scan.{AsksBelow}
+use Rattle.sw_rows.specs.Tables.{padded}
+use Rattle.sw_rows.specs.declared.bound.Bound.{Bound}
+use Rattle.sw_rows.specs.declared.bound.Bound.TheVariants.{Before, After}
+use Rattle.sw_rows.specs.declared.kind.Kind.{Kind}
+use Rattle.sw_rows.specs.declared.kind.Kind.TheVariants as kind
+use Rattle.sw_rows.specs.declared.query.Cond.{Cond}
+use Rattle.sw_rows.specs.declared.query.Call.{Call}
+use Rattle.sw_rows.specs.declared.query.Call.TheVariants.{Select, Insert, Delete}
+use Rattle.sw_rows.specs.declared.query.Query.{Query}
+use Rattle.sw_rows.specs.declared.query.Want.{Want}
+use Rattle.sw_rows.specs.declared.query.Want.TheVariants.{Rows, Count, Sum, Min, Max}
+use Rattle.sw_lang.specs.declared.term.Term.{Term}
+use Rattle.sw_lang.specs.declared.token.Op.{Op}
+use Rattle.sw_lang.specs.declared.token.Op.TheVariants.{Lt, Le, Eq, Ge, Gt}
+use Rattle.sw_lang.specs.Replies.{kind_at}
+use Rattle.sw_lang.specs.Terms.{add_term, attrs_after, conditions, lower_of, upper_of, with_attr}
+use Rattle.sw_lang.specs.Tokens.{Tok}
+use Rattle.sw_lang.specs.Fits.{FitsCall, FitsCells, FitsQuery, HasBoundsOfKind, HasFewNames, IsBoundOfKind, IsOfKind}
+use Rattle.sw_lang.specs.Grammar.{IsCall, IsLine, IsName, IsNames, IsTerm, IsTerms, IsValue, IsValues, IsWant, IsWhere, MoreValues}
+use Rattle.sw_lang.proofs.Merge.{Distinct, conds_from, conds_from-conditions, distinct-more, eqb-turned, has, or-false}
+
+name_within : (schema : List Column) (t : Tok) (i : ℕ) → IsName schema t i → i < length schema
+name_within schema t i (w, is, at) = rw length-map at (slice_get_within (names_of schema) i w at)
+
+flag-kind : (p q : Bool) (z : ℤ) → cond p (Some (pos 1)) (cond q (Some (pos 0)) None) ≡ Some z → IsOfKind kind.Flag z
+flag-kind true q z h = inr (cc)
+flag-kind false true z h = inl (cc)
+flag-kind false false z h = absurd cc
+
+value_kind : (k : Kind) (t : Tok) (z : ℤ) → IsValue k t z → IsOfKind k z
+value_kind kind.Int t z h = tt
+value_kind (kind.Fix places) t z h = tt
+value_kind kind.Flag t z (w, is, value) = flag-kind (bytes_eq w (codes "true")) (bytes_eq w (codes "false")) z value
+
+-- ---- conditions
+
+abbrev TermFits : List Column → Term → Type 0
+TermFits schema t = (t.attr < length schema) × IsOfKind (kind_at schema t.attr) t.value
+
+abbrev TermsFit : List Column → List Term → Type 0
+TermsFit schema [] = Unit {0}
+TermsFit schema (t ∷ ts) = TermFits schema t × TermsFit schema ts
+
+term_fits : (schema : List Column) (a b c : Tok) (t : Term) → IsTerm schema a b c t → TermFits schema t
+term_fits schema a b c t is = (name_within schema a t.attr is.name, value_kind (kind_at schema t.attr) c t.value is.value)
+
+terms_fit : (schema : List Column) (ts : List Tok) (us : List Term) → IsTerms schema ts us → TermsFit schema us
+terms_fit schema ts [] h = absurd h
+terms_fit schema ts (t ∷ []) (a, b, c, e, is) = (term_fits schema a b c t is, tt)
+terms_fit schema ts (t ∷ u ∷ us) (a, b, c, rest, e, is, more) = (term_fits schema a b c t is, terms_fit schema rest (u ∷ us) more)
+
+abbrev CondFits : List Column → Cond → Type 0
+CondFits schema c = (c.attr < length schema) × HasBoundsOfKind schema c
+
+abbrev CondsFit : List Column → List Cond → Type 0
+CondsFit schema [] = Unit {0}
+CondsFit schema (c ∷ cs) = CondFits schema c × CondsFit schema cs
+
+one_of : (k : Kind) (v : Bool) (a b : Bound) → IsBoundOfKind k (Some a) → IsBoundOfKind k (Some b) → IsBoundOfKind k (cond v (Some a) (Some b))
+one_of k true a b ha hb = ha
+one_of k false a b ha hb = hb
+
+greater_kind : (k : Kind) (l m : Option Bound) → IsBoundOfKind k l → IsBoundOfKind k m → IsBoundOfKind k (greater l m)
+greater_kind k None m hl hm = hm
+greater_kind k (Some a) None hl hm = hl
+greater_kind k (Some a) (Some b) hl hm = one_of k (bound_below a b) b a hm hl
+
+lesser_kind : (k : Kind) (l m : Option Bound) → IsBoundOfKind k l → IsBoundOfKind k m → IsBoundOfKind k (lesser l m)
+lesser_kind k None m hl hm = hm
+lesser_kind k (Some a) None hl hm = hl
+lesser_kind k (Some a) (Some b) hl hm = one_of k (bound_below a b) a b hl hm
+
+lower_kind : (k : Kind) (o : Op) (z : ℤ) → IsOfKind k z → IsBoundOfKind k (lower_of o z)
+lower_kind k Lt z h = tt
+lower_kind k Le z h = tt
+lower_kind k Eq z h = h
+lower_kind k Ge z h = h
+lower_kind k Gt z h = h
+
+upper_kind : (k : Kind) (o : Op) (z : ℤ) → IsOfKind k z → IsBoundOfKind k (upper_of o z)
+upper_kind k Lt z h = h
+upper_kind k Le z h = h
+upper_kind k Eq z h = h
+upper_kind k Ge z h = tt
+upper_kind k Gt z h = tt
+
+add-by : (v : Bool) (schema : List Column) (c : Cond) (cs : List Cond) (t : Term) → eqb c.attr t.attr ≡ v → CondsFit schema (c ∷ cs) → TermFits schema t → CondsFit schema (add_term cs t) → CondsFit schema (add_term (c ∷ cs) t)
+add-by true schema c cs t e h f ih =
+    let same : t.attr ≡ c.attr = sym ((Decides-eqb c.attr t.attr).0 e) in
+    let of_kind : IsOfKind (kind_at schema c.attr) t.value = subst (λ (a : ℕ). IsOfKind (kind_at schema a) t.value) same f.1 in
+    let k = kind_at schema c.attr in
+    rw e ((h.0.0, (greater_kind k c.lower (lower_of t.op t.value) h.0.1.0 (lower_kind k t.op t.value of_kind), lesser_kind k c.upper (upper_of t.op t.value) h.0.1.1 (upper_kind k t.op t.value of_kind))), h.1)
+add-by false schema c cs t e h f ih = rw e (h.0, ih)
+
+add_fits : (schema : List Column) (cs : List Cond) (t : Term) → CondsFit schema cs → TermFits schema t → CondsFit schema (add_term cs t)
+add_fits schema [] t h f = ((f.0, (lower_kind (kind_at schema t.attr) t.op t.value f.1, upper_kind (kind_at schema t.attr) t.op t.value f.1)), tt)
+add_fits schema (c ∷ cs) t h f = add-by (eqb c.attr t.attr) schema c cs t refl h f (add_fits schema cs t h.1 f)
+
+from_fits : (schema : List Column) (cs : List Cond) (ts : List Term) → CondsFit schema cs → TermsFit schema ts → CondsFit schema (conds_from cs ts)
+from_fits schema cs [] h f = h
+from_fits schema cs (t ∷ ts) h f = from_fits schema (add_term cs t) ts (add_fits schema cs t h f.0) f.1
+
+attrs_distinct : (xs : List ℕ) (ts : List Term) → Distinct xs → Distinct (attrs_after xs ts)
+attrs_distinct xs [] d = d
+attrs_distinct xs (t ∷ ts) d = attrs_distinct (with_attr xs t.attr) ts (distinct-more xs t.attr d)
+
+attrs-conditions : (ts : List Term) (xs : List ℕ) (f : ℕ → Cond) → ((a : ℕ) → (f a).attr ≡ a) → map (λ c. c.attr) (map f xs) ≡ xs
+attrs-conditions ts [] f h = refl
+attrs-conditions ts (x ∷ xs) f h = rw (h x, attrs-conditions ts xs f h) refl
+
+apart : (xs : List ℕ) (a : ℕ) → has xs a ≡ false → AllByRecursion (λ y. nat_eq a y ≡ false) xs
+apart [] a h = tt
+apart (b ∷ xs) a h = let parts = or-false (eqb b a) (has xs a) h in (eqb-turned false b a parts.0, apart xs a parts.1)
+
+distinct : (xs : List ℕ) → Distinct xs → IsDistinct nat_eq xs
+unfolding IsDistinct
+distinct [] d = tt
+distinct (a ∷ xs) d = (apart xs a d.0, distinct xs d.1)
+
+-- what holds of conditions that a line gives
+pub record CondsOf (schema : List Column) (conds : List Cond) : Type 0 where
+  pub fit : CondsFit schema conds
+  pub once : IsDistinct nat_eq (map (λ c. c.attr) conds)
+
+none_once : IsDistinct nat_eq []
+unfolding IsDistinct
+none_once = tt
+
+where_fits : (schema : List Column) (ts : List Tok) (conds : List Cond) → IsWhere schema ts conds → CondsOf schema conds
+where_fits schema ts conds (inl (none, no_conds)) = subst (λ (w : List Cond). CondsOf schema w) (sym no_conds) (record { fit = tt; once = none_once })
+where_fits schema ts conds (inr (terms, rest, e, is, made)) =
+    let fit : CondsFit schema (conditions terms) = subst (λ (w : List Cond). CondsFit schema w) (conds_from-conditions terms) (from_fits schema [] terms tt (terms_fit schema rest terms is)) in
+    let attrs : map (λ c. c.attr) (conditions terms) ≡ attrs_after [] terms = attrs-conditions terms (attrs_after [] terms) _ (λ a. refl) in
+    let once : IsDistinct nat_eq (map (λ c. c.attr) (conditions terms)) = subst (λ (w : List ℕ). IsDistinct nat_eq w) (sym attrs) (distinct (attrs_after [] terms) (attrs_distinct [] terms tt)) in
+    subst (λ (w : List Cond). CondsOf schema w) (sym made) (record { fit = fit; once = once })
+
+-- ---- questions
+
+below : (schema : List Column) (cs : List Cond) → CondsFit schema cs → AllByRecursion (λ c. c.attr < length schema) cs
+below schema [] h = tt
+below schema (c ∷ cs) h = (h.0.0, below schema cs h.1)
+
+kinds : (schema : List Column) (cs : List Cond) → CondsFit schema cs → AllByRecursion (HasBoundsOfKind schema) cs
+kinds schema [] h = tt
+kinds schema (c ∷ cs) h = (h.0.1, kinds schema cs h.1)
+
+names_below : (schema : List Column) (ts : List Tok) (is : List ℕ) → IsNames schema ts is → AllByRecursion (λ a. a < length schema) is
+names_below schema ts [] h = absurd h
+names_below schema ts (i ∷ []) (a, e, is) = (name_within schema a i is, tt)
+names_below schema ts (i ∷ j ∷ js) (a, rest, e, is, more) = (name_within schema a i is, names_below schema rest (j ∷ js) more)
+
+some_names : (schema : List Column) (ts : List Tok) (is : List ℕ) → IsNames schema ts is → 1 ≤ length is
+some_names schema ts [] h = absurd h
+some_names schema ts (i ∷ is) h = omega arith
+
+want_fits : (schema : List Column) (front : List Tok) (conds : List Cond) (want : Want) → IsWant schema front want → CondsOf schema conds → FitsQuery schema (record { conds = conds; want = want })
+want_fits schema front conds (Rows names) (rest, e, is, few) h = record {
+  attrs = record { conds = All-from_recursion (λ c. c.attr < length schema) conds (below schema conds h.fit); want = All-from_recursion (λ a. a < length schema) names (names_below schema rest names is) };
+  once = h.once;
+  bounds = All-from_recursion (HasBoundsOfKind schema) conds (kinds schema conds h.fit);
+  names = (some_names schema rest names is, few);
+}
+want_fits schema front conds Count e h = record {
+  attrs = record { conds = All-from_recursion (λ c. c.attr < length schema) conds (below schema conds h.fit); want = tt };
+  once = h.once;
+  bounds = All-from_recursion (HasBoundsOfKind schema) conds (kinds schema conds h.fit);
+  names = tt;
+}
+want_fits schema front conds (Sum a) (t, e, is) h = record {
+  attrs = record { conds = All-from_recursion (λ c. c.attr < length schema) conds (below schema conds h.fit); want = name_within schema t a is };
+  once = h.once;
+  bounds = All-from_recursion (HasBoundsOfKind schema) conds (kinds schema conds h.fit);
+  names = tt;
+}
+want_fits schema front conds (Min a) (t, e, is) h = record {
+  attrs = record { conds = All-from_recursion (λ c. c.attr < length schema) conds (below schema conds h.fit); want = name_within schema t a is };
+  once = h.once;
+  bounds = All-from_recursion (HasBoundsOfKind schema) conds (kinds schema conds h.fit);
+  names = tt;
+}
+want_fits schema front conds (Max a) (t, e, is) h = record {
+  attrs = record { conds = All-from_recursion (λ c. c.attr < length schema) conds (below schema conds h.fit); want = name_within schema t a is };
+  once = h.once;
+  bounds = All-from_recursion (HasBoundsOfKind schema) conds (kinds schema conds h.fit);
+  names = tt;
+}
+
+-- ---- rows
+
+zeros : (n : ℕ) → replicate n (pos 0) ≡ replicate (length (replicate n (pos 0))) (pos 0)
+zeros zero = refl
+zeros (suc n) = ap (λ (w : List ℤ). pos 0 ∷ w) (zeros n)
+
+more_fit : (ks : List Kind) (ts : List Tok) (zs : List ℤ) (n : ℕ) → MoreValues ks ts zs → FitsCells ks (zs ++ replicate n (pos 0))
+more_fit [] ts zs n (none, no_values) = rw no_values (zeros n)
+more_fit (k ∷ ks) ts [] n h = absurd h
+more_fit (k ∷ ks) ts (z ∷ zs) n (a, rest, e, is, more) = (value_kind k a z is, more_fit ks rest zs n more)
+
+values_fit : (ks : List Kind) (ts : List Tok) (zs : List ℤ) (n : ℕ) → IsValues ks ts zs → FitsCells ks (zs ++ replicate n (pos 0))
+values_fit [] ts zs n (none, no_values) = rw no_values (zeros n)
+values_fit (k ∷ ks) ts [] n h = absurd h
+values_fit (k ∷ ks) ts (z ∷ zs) n (a, rest, e, is, more) = (value_kind k a z is, more_fit ks rest zs n more)
+
+pub call_fits : (schema : List Column) (ts : List Tok) (c : Call) → IsCall schema ts c → FitsCall schema c
+call_fits schema ts (Select q) (front, rest, parts, is, h) = want_fits schema front q.conds q.want is (where_fits schema rest q.conds h)
+call_fits schema ts (Insert cells) (zs, rest, e, is, pad) = subst (λ (w : List ℤ). FitsCells (kinds_of schema) w) (sym pad) (values_fit (kinds_of schema) rest zs (8 - length zs) is)
+call_fits schema ts (Delete key) h = tt
+
+pub line_fits : (schema : List Column) (text : List ℕ) (call : Option Call) → IsLine schema text call → IfSome call (λ c. FitsCall schema c)
+line_fits schema text None h = tt
+line_fits schema text (Some c) h = call_fits schema _ c h.2

@@ -1,0 +1,11 @@
+use Rattle.std.proofs.Common.{refl}
+use Rattle.std.specs.Fmt.{digits}
+use Rattle.sw_lang.proofs.printed_examples.updates_as_words.Goals as goal
+
+pub returns : goal.returns
+unfolding digits
+returns c = record {
+  insert = refl;
+  kinds = refl;
+  delete = refl;
+}

@@ -1,0 +1,58 @@
+-- What holds of each call that a line gives, beside the line's own text.
+use Rattle.std.specs.Prelude.{◌≡◌, ◌≤◌, ◌-◌, ◌⊎◌, ℕ, ℤ, pos, List, [], ◌∷◌, length, map, nat_eq, replicate, Option, Some, None, All}
+use Rattle.std.specs.List.{IsDistinct}
+use Rattle.sw_rows.specs.Header.{Column, kinds_of}
+use Rattle.sw_rows.specs.Scan.{AsksBelow}
+use Rattle.sw_rows.specs.declared.bound.Bound.{Bound}
+use Rattle.sw_rows.specs.declared.bound.Bound.TheVariants.{Before, After}
+use Rattle.sw_rows.specs.declared.kind.Kind.{Kind}
+use Rattle.sw_rows.specs.declared.kind.Kind.TheVariants as kind
+use Rattle.sw_rows.specs.declared.query.Cond.{Cond}
+use Rattle.sw_rows.specs.declared.query.Call.{Call}
+use Rattle.sw_rows.specs.declared.query.Call.TheVariants.{Select, Insert, Delete}
+use Rattle.sw_rows.specs.declared.query.Query.{Query}
+use Rattle.sw_rows.specs.declared.query.Want.{Want}
+use Rattle.sw_rows.specs.declared.query.Want.TheVariants.{Rows, Count, Sum, Min, Max}
+use Rattle.sw_lang.specs.Replies.{kind_at}
+
+-- a cell of a kind: of flags 0 or 1
+abbrev pub IsOfKind : Kind → ℤ → Type 0
+IsOfKind kind.Int z = Unit {0}
+IsOfKind (kind.Fix places) z = Unit {0}
+IsOfKind kind.Flag z = (z ≡ pos 0) ⊎ (z ≡ pos 1)
+
+-- a bound, if there is one, stands at a cell of the kind
+abbrev pub IsBoundOfKind : Kind → Option Bound → Type 0
+IsBoundOfKind k None = Unit {0}
+IsBoundOfKind k (Some (Before z)) = IsOfKind k z
+IsBoundOfKind k (Some (After z)) = IsOfKind k z
+
+abbrev pub HasBoundsOfKind : List Column → Cond → Type 0
+HasBoundsOfKind schema c = IsBoundOfKind (kind_at schema c.attr) c.lower × IsBoundOfKind (kind_at schema c.attr) c.upper
+
+-- a list of names has 1 to 8
+abbrev pub HasFewNames : Want → Type 0
+HasFewNames (Rows names) = (1 ≤ length names) × (length names ≤ 8)
+HasFewNames Count = Unit {0}
+HasFewNames (Sum a) = Unit {0}
+HasFewNames (Min a) = Unit {0}
+HasFewNames (Max a) = Unit {0}
+
+-- a query of the table's attributes, each of them in one condition at most
+pub record FitsQuery (schema : List Column) (q : Query) : Type 0 where
+  pub attrs : AsksBelow (length schema) q
+  pub once : IsDistinct nat_eq (map (λ c. c.attr) q.conds)
+  pub bounds : All (HasBoundsOfKind schema) q.conds
+  pub names : HasFewNames q.want
+
+-- cells of these kinds, and zeros after them
+abbrev pub FitsCells : List Kind → List ℤ → Type 0
+FitsCells [] cells = cells ≡ replicate (length cells) (pos 0)
+FitsCells (k ∷ ks) [] = ⊥
+FitsCells (k ∷ ks) (z ∷ zs) = IsOfKind k z × FitsCells ks zs
+
+-- a call of the table
+abbrev pub FitsCall : List Column → Call → Type 0
+FitsCall schema (Select q) = FitsQuery schema q
+FitsCall schema (Insert cells) = FitsCells (kinds_of schema) cells
+FitsCall schema (Delete key) = Unit {0}

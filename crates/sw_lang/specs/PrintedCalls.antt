@@ -1,0 +1,68 @@
+-- Calls as they are printed.
+use Rattle.std.specs.Prelude.{ℕ, ℤ, Bool, true, false, List, [], ◌∷◌, ◌++◌, map, slice_index_or, Option, Some, None, codes, decimal, if◌then◌else◌}
+use Rattle.std.specs.List.{flat_map}
+use Rattle.sw_rows.specs.Header.{Column, kinds_of, names_of}
+use Rattle.sw_rows.specs.declared.bound.Bound.{Bound}
+use Rattle.sw_rows.specs.declared.bound.Bound.TheVariants.{Before, After}
+use Rattle.sw_rows.specs.declared.query.Cond.{Cond}
+use Rattle.sw_rows.specs.declared.query.Want.{Want}
+use Rattle.sw_rows.specs.declared.query.Want.TheVariants as want
+use Rattle.sw_rows.specs.declared.query.Call.{Call}
+use Rattle.sw_rows.specs.declared.query.Call.TheVariants as call
+use Rattle.sw_lang.specs.Replies.{cell_text, cells_text, kind_at}
+
+-- the name of an attribute
+abbrev pub name_at : List Column → ℕ → List ℕ
+name_at columns a = slice_index_or (names_of columns) a []
+
+-- names with a comma and a space between
+abbrev pub more_names : List (List ℕ) → List ℕ
+more_names ns = flat_map (λ n. codes ", " ++ n) ns
+
+abbrev pub names_text : List (List ℕ) → List ℕ
+names_text [] = []
+names_text (n ∷ ns) = n ++ more_names ns
+
+-- an attribute, an operator with its spaces, and a value
+abbrev pub comparison : List Column → ℕ → List ℕ → ℤ → List ℕ
+comparison columns a op v = name_at columns a ++ (op ++ cell_text (kind_at columns a) v)
+
+abbrev pub lower_terms : List Column → ℕ → Option Bound → List (List ℕ)
+lower_terms columns a None = []
+lower_terms columns a (Some (Before v)) = comparison columns a (codes " >= ") v ∷ []
+lower_terms columns a (Some (After v)) = comparison columns a (codes " > ") v ∷ []
+
+abbrev pub upper_terms : List Column → ℕ → Option Bound → List (List ℕ)
+upper_terms columns a None = []
+upper_terms columns a (Some (Before v)) = comparison columns a (codes " < ") v ∷ []
+upper_terms columns a (Some (After v)) = comparison columns a (codes " <= ") v ∷ []
+
+-- the comparisons of a condition, that of its lower bound first
+abbrev pub cond_terms : List Column → Cond → List (List ℕ)
+cond_terms columns c = lower_terms columns c.attr c.lower ++ upper_terms columns c.attr c.upper
+
+-- comparisons after ` where ` or, where others stand before them, ` and `
+abbrev pub joiner : Bool → List ℕ
+joiner started = if started then codes " and " else codes " where "
+
+abbrev pub terms_text : Bool → List (List ℕ) → List ℕ
+terms_text started [] = []
+terms_text started (t ∷ ts) = (joiner started ++ t) ++ terms_text true ts
+
+-- the comparisons of conditions; nothing where there are none
+abbrev pub where_text : List Column → Bool → List Cond → List ℕ
+where_text columns started conds = terms_text started (flat_map (cond_terms columns) conds)
+
+-- what is asked for
+abbrev pub want_text : List Column → Want → List ℕ
+want_text columns (want.Rows names) = codes "select " ++ names_text (map (name_at columns) names)
+want_text columns want.Count = codes "count"
+want_text columns (want.Sum a) = codes "sum " ++ name_at columns a
+want_text columns (want.Min a) = codes "min " ++ name_at columns a
+want_text columns (want.Max a) = codes "max " ++ name_at columns a
+
+-- a call; an inserted row has a cell for each attribute
+abbrev pub call_text : List Column → Call → List ℕ
+call_text columns (call.Select q) = want_text columns q.want ++ where_text columns false q.conds
+call_text columns (call.Insert cells) = codes "insert " ++ cells_text (kinds_of columns) cells
+call_text columns (call.Delete key) = codes "delete " ++ decimal key

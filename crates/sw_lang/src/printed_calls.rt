@@ -1,0 +1,276 @@
+//! Calls go out as text.
+
+ghost use Rattle.std.specs.Prelude.{◌≡◌, ◌++◌, ◌||◌, codes, decimal, false, is_some, map};
+ghost use Rattle.sw_lang.specs.PrintedCalls.{call_text, comparison, cond_terms, joiner, lower_terms, more_names, name_at, names_text, terms_text, upper_terms, want_text, where_text};
+ghost use Rattle.sw_lang.specs.Replies.{cell_text, cells_text};
+ghost use Rattle.sw_lang.specs.Sinks.{Writes};
+ghost use Rattle.sw_rows.specs.Cells.{HasPlaces};
+ghost use Rattle.sw_rows.specs.Header.{kinds_of};
+
+use crate::printed_cells::write_cell;
+use crate::printed_rows::{kind_at, write_cells};
+use crate::sinks::{write_all, write_number};
+use sw_rows::{Bound, Call, Cond, Kind, Query, Refusal, Schema, Sink, Want};
+
+// The name of an attribute.
+fn write_name<W: Sink>(schema: &Schema, attr: usize, out: &mut W) -> Result<(), Refusal>
+    ensures { Writes (W.taken out.old) (W.taken out.new) (W.failed out.old) (W.failed out.new) result
+        (name_at schema.now attr) }
+{
+    if attr < schema.len() {
+        write_all(out, schema.name(attr).as_bytes())
+    } else {
+        Ok(())
+    }
+}
+
+// A comma, a space and a name.
+fn write_next_name<W: Sink>(schema: &Schema, attr: usize, out: &mut W) -> Result<(), Refusal>
+    ensures { Writes (W.taken out.old) (W.taken out.new) (W.failed out.old) (W.failed out.new) result
+        (codes ", " ++ name_at schema.now attr) }
+{
+    write_all(out, b", ")?;
+    write_name(schema, attr, out)
+}
+
+fn write_more_names<W: Sink>(schema: &Schema, attrs: &[usize], out: &mut W) -> Result<(), Refusal>
+    ensures { Writes (W.taken out.old) (W.taken out.new) (W.failed out.old) (W.failed out.new) result
+        (more_names (map (name_at schema.now) attrs.now)) }
+{
+    let mut attrs = attrs;
+    while let Some((attr, later)) = attrs.split_first() {
+        write_next_name(schema, *attr, out)?;
+        attrs = later;
+    }
+    Ok(())
+}
+
+fn write_some_names<W: Sink>(
+    schema: &Schema,
+    attr: usize,
+    later: &[usize],
+    out: &mut W,
+) -> Result<(), Refusal>
+    ensures { Writes (W.taken out.old) (W.taken out.new) (W.failed out.old) (W.failed out.new) result
+        (name_at schema.now attr ++ more_names (map (name_at schema.now) later.now)) }
+{
+    write_name(schema, attr, out)?;
+    write_more_names(schema, later, out)
+}
+
+fn write_names<W: Sink>(schema: &Schema, attrs: &[usize], out: &mut W) -> Result<(), Refusal>
+    ensures { Writes (W.taken out.old) (W.taken out.new) (W.failed out.old) (W.failed out.new) result
+        (names_text (map (name_at schema.now) attrs.now)) }
+{
+    match attrs.split_first() {
+        Some((attr, later)) => write_some_names(schema, *attr, later, out),
+        None => Ok(()),
+    }
+}
+
+fn write_select<W: Sink>(schema: &Schema, attrs: &[usize], out: &mut W) -> Result<(), Refusal>
+    ensures { Writes (W.taken out.old) (W.taken out.new) (W.failed out.old) (W.failed out.new) result
+        (codes "select " ++ names_text (map (name_at schema.now) attrs.now)) }
+{
+    write_all(out, b"select ")?;
+    write_names(schema, attrs, out)
+}
+
+// A word, with its space, and a name.
+fn write_aggregate<W: Sink>(
+    word: &[u8],
+    schema: &Schema,
+    attr: usize,
+    out: &mut W,
+) -> Result<(), Refusal>
+    ensures { Writes (W.taken out.old) (W.taken out.new) (W.failed out.old) (W.failed out.new) result
+        (word.now ++ name_at schema.now attr) }
+{
+    write_all(out, word)?;
+    write_name(schema, attr, out)
+}
+
+// What is asked for.
+fn write_want<W: Sink>(schema: &Schema, want: &Want, out: &mut W) -> Result<(), Refusal>
+    ensures { Writes (W.taken out.old) (W.taken out.new) (W.failed out.old) (W.failed out.new) result
+        (want_text schema.now want.now) }
+{
+    match want {
+        Want::Rows(attrs) => write_select(schema, attrs.as_slice(), out),
+        Want::Count => write_all(out, b"count"),
+        Want::Sum(attr) => write_aggregate(b"sum ", schema, *attr, out),
+        Want::Min(attr) => write_aggregate(b"min ", schema, *attr, out),
+        Want::Max(attr) => write_aggregate(b"max ", schema, *attr, out),
+    }
+}
+
+// An operator with its spaces, and a value.
+fn write_compared<W: Sink>(kind: Kind, op: &[u8], value: &i64, out: &mut W) -> Result<(), Refusal>
+    requires { HasPlaces kind }
+    ensures { Writes (W.taken out.old) (W.taken out.new) (W.failed out.old) (W.failed out.new) result
+        (op.now ++ cell_text kind value.now) }
+{
+    write_all(out, op)?;
+    write_cell(kind, value, out)
+}
+
+fn write_comparison<W: Sink>(
+    schema: &Schema,
+    attr: usize,
+    op: &[u8],
+    value: &i64,
+    out: &mut W,
+) -> Result<(), Refusal>
+    ensures { Writes (W.taken out.old) (W.taken out.new) (W.failed out.old) (W.failed out.new) result
+        (comparison schema.now attr op.now value.now) }
+{
+    write_name(schema, attr, out)?;
+    write_compared(kind_at(schema, attr), op, value, out)
+}
+
+fn write_joiner<W: Sink>(started: bool, out: &mut W) -> Result<(), Refusal>
+    ensures { Writes (W.taken out.old) (W.taken out.new) (W.failed out.old) (W.failed out.new) result (joiner started) }
+{
+    write_all(out, if started { b" and " } else { b" where " })
+}
+
+// A comparison after its joiner.
+fn write_term<W: Sink>(
+    schema: &Schema,
+    started: bool,
+    attr: usize,
+    op: &[u8],
+    value: &i64,
+    out: &mut W,
+) -> Result<(), Refusal>
+    ensures { Writes (W.taken out.old) (W.taken out.new) (W.failed out.old) (W.failed out.new) result
+        (joiner started ++ comparison schema.now attr op.now value.now) }
+{
+    write_joiner(started, out)?;
+    write_comparison(schema, attr, op, value, out)
+}
+
+fn write_lower<W: Sink>(
+    schema: &Schema,
+    started: bool,
+    cond: &Cond,
+    out: &mut W,
+) -> Result<(), Refusal>
+    ensures { Writes (W.taken out.old) (W.taken out.new) (W.failed out.old) (W.failed out.new) result
+        (terms_text started (lower_terms schema.now cond.now.attr cond.now.lower)) }
+{
+    match &cond.lower {
+        Some(Bound::Before(value)) => write_term(schema, started, cond.attr, b" >= ", value, out),
+        Some(Bound::After(value)) => write_term(schema, started, cond.attr, b" > ", value, out),
+        None => Ok(()),
+    }
+}
+
+fn write_upper<W: Sink>(
+    schema: &Schema,
+    started: bool,
+    cond: &Cond,
+    out: &mut W,
+) -> Result<(), Refusal>
+    ensures { Writes (W.taken out.old) (W.taken out.new) (W.failed out.old) (W.failed out.new) result
+        (terms_text started (upper_terms schema.now cond.now.attr cond.now.upper)) }
+{
+    match &cond.upper {
+        Some(Bound::Before(value)) => write_term(schema, started, cond.attr, b" < ", value, out),
+        Some(Bound::After(value)) => write_term(schema, started, cond.attr, b" <= ", value, out),
+        None => Ok(()),
+    }
+}
+
+// Whether a comparison stands before an upper bound's.
+fn continues(started: bool, lower: Option<Bound>) -> bool
+    ensures { result ≡ (started || is_some lower) }
+{
+    started || lower.is_some()
+}
+
+// The comparisons of a condition.
+fn write_cond<W: Sink>(
+    schema: &Schema,
+    started: bool,
+    cond: &Cond,
+    out: &mut W,
+) -> Result<(), Refusal>
+    ensures { Writes (W.taken out.old) (W.taken out.new) (W.failed out.old) (W.failed out.new) result
+        (terms_text started (cond_terms schema.now cond.now)) }
+{
+    write_lower(schema, started, cond, out)?;
+    write_upper(schema, continues(started, cond.lower), cond, out)
+}
+
+// Whether a comparison stands before what follows a condition.
+fn starts(started: bool, cond: &Cond) -> bool
+    ensures { result ≡ (started || (is_some cond.now.lower || is_some cond.now.upper)) }
+{
+    started || cond.lower.is_some() || cond.upper.is_some()
+}
+
+// The comparisons of conditions.
+fn write_where<W: Sink>(schema: &Schema, conds: &[Cond], out: &mut W) -> Result<(), Refusal>
+    ensures { Writes (W.taken out.old) (W.taken out.new) (W.failed out.old) (W.failed out.new) result
+        (where_text schema.now false conds.now) }
+{
+    let mut conds = conds;
+    let mut started = false;
+    while let Some((cond, later)) = conds.split_first() {
+        write_cond(schema, started, cond, out)?;
+        started = starts(started, cond);
+        conds = later;
+    }
+    Ok(())
+}
+
+fn write_query<W: Sink>(schema: &Schema, query: &Query, out: &mut W) -> Result<(), Refusal>
+    ensures { Writes (W.taken out.old) (W.taken out.new) (W.failed out.old) (W.failed out.new) result
+        (want_text schema.now query.now.want ++ where_text schema.now false query.now.conds) }
+{
+    write_want(schema, &query.want, out)?;
+    write_where(schema, query.conds.as_slice(), out)
+}
+
+// The numbers of all attributes that a table may have.
+const ATTRS: [usize; 8] = [0, 1, 2, 3, 4, 5, 6, 7];
+
+// A cell for each attribute.
+fn write_row_cells<W: Sink>(schema: &Schema, cells: &[i64], out: &mut W) -> Result<(), Refusal>
+    ensures { Writes (W.taken out.old) (W.taken out.new) (W.failed out.old) (W.failed out.new) result
+        (cells_text (kinds_of schema.now) cells.now) }
+{
+    write_cells(schema, &ATTRS[..schema.len()], cells, out)
+}
+
+fn write_insert<W: Sink>(schema: &Schema, cells: &[i64], out: &mut W) -> Result<(), Refusal>
+    ensures { Writes (W.taken out.old) (W.taken out.new) (W.failed out.old) (W.failed out.new) result
+        (codes "insert " ++ cells_text (kinds_of schema.now) cells.now) }
+{
+    write_all(out, b"insert ")?;
+    write_row_cells(schema, cells, out)
+}
+
+fn write_delete<W: Sink>(key: u64, out: &mut W) -> Result<(), Refusal>
+    ensures { Writes (W.taken out.old) (W.taken out.new) (W.failed out.old) (W.failed out.new) result
+        (codes "delete " ++ decimal key) }
+{
+    write_all(out, b"delete ")?;
+    write_number(key, out)
+}
+
+/// Writes a call as a line without its end.
+///
+/// Conditions stand in their order, each as a comparison for its lower bound and one for its upper bound. Takes no
+/// memory. Refused `Output` where the sink fails; then a beginning of the text went out.
+pub fn write_call<W: Sink>(schema: &Schema, call: &Call, out: &mut W) -> Result<(), Refusal>
+    ensures { Writes (W.taken out.old) (W.taken out.new) (W.failed out.old) (W.failed out.new) result
+        (call_text schema.now call.now) }
+{
+    match call {
+        Call::Select(query) => write_query(schema, query, out),
+        Call::Insert(cells) => write_insert(schema, cells, out),
+        Call::Delete(key) => write_delete(*key, out),
+    }
+}
