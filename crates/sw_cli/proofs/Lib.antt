@@ -1,3 +1,4 @@
 pub mod Calls
 pub mod Desks
+pub mod Starts
 pub mod Waiting

@@ -1,5 +1,5 @@
 -- A run: what it starts from, and what it writes.
-use Rattle.std.specs.Prelude.{◌≡◌, ◌++◌, ℕ, Bool, true, false, List, [], ◌∷◌, codes, fold, length, map, nat_lt, Result, Ok, Err, if◌then◌else◌}
+use Rattle.std.specs.Prelude.{◌≡◌, ◌++◌, ℕ, Bool, true, false, List, [], ◌∷◌, codes, fold, length, map, nat_lt, Option, Result, Ok, Err, if◌then◌else◌}
 use Rattle.sw_rows.specs.Header.{Column, Fault, bad_table, too_many}
 use Rattle.sw_rows.specs.Tables.{Table, bytes_within, table_of}
 use Rattle.sw_rows.specs.declared.row.Row.{Row}
@@ -9,6 +9,8 @@ use Rattle.sw_rows.specs.declared.reply.Reply.{Reply}
 use Rattle.sw_rows.specs.declared.refusal.Refusal.{Refusal}
 use Rattle.sw_rows.specs.declared.refusal.Refusal.TheVariants.{BadTable, TooMany}
 use Rattle.sw_lang.specs.Replies.{reply_bytes}
+use Rattle.sw_lang.specs.Sinks.{Took}
+use Rattle.sw_spine.specs.History.{History, mine}
 use Rattle.sw_spine.specs.Table.{opened, reply_to, updates_then}
 use Rattle.sw_cli.specs.Script.{◌>>=◌, calls_of}
 
@@ -95,3 +97,15 @@ done_by columns limit rows made = fold (done_then columns limit) (nothing_done r
 
 abbrev pub calls_made : List (Call × Bool) → List Call
 calls_made made = map (λ m. m.0) made
+
+-- ---- what a run leaves
+
+-- a run from a start that made calls: the record is of the same table and limit, its session's answered calls are those
+-- that were answered, and the sink took what they wrote
+pub record Leaves (limit : ℕ) (s : Start) (made : List (Call × Bool)) (old new : Option (List ℕ)) (h : History) : Type 0 where
+  pub calls : calls_made made ≡ s.calls
+  pub wrote : Took old new (done_by s.columns limit s.rows made).text
+  pub columns : h.columns ≡ s.columns
+  pub rows : h.rows ≡ s.rows
+  pub limit_is : h.limit ≡ limit
+  pub answered : mine 1 h.entries ≡ (done_by s.columns limit s.rows made).answered

@@ -7,7 +7,9 @@ mod desk;
 mod fault;
 pub mod fault_examples;
 mod plain;
+mod run;
 mod script;
+mod start;
 
 pub use fault::{status, write_fault};
 pub use script::MOST_CALLS;

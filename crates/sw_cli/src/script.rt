@@ -1,7 +1,10 @@
 //! The calls of a script.
 
-ghost use Rattle.std.specs.Prelude.{◌≡◌, ◌<◌, ◌≤◌, [], ◌∷◌, length, OnOk, OnErr, IfErr};
+ghost use Rattle.std.specs.Prelude.{◌≡◌, ◌≤◌, length, IfErr, IfOk, IfSome, OnOk};
 ghost use Rattle.sw_lang.specs.Reading.{Answers};
+ghost use Rattle.sw_spine.specs.History.{CallsBelow};
+ghost use Rattle.sw_cli.specs.Desks.{AllCallsBelow};
+ghost use Rattle.sw_cli.specs.Starts.{TellsText};
 ghost use Rattle.sw_cli.specs.Script.{call_of_line, calls_of, with_call, Reads};
 
 use bstr::ByteSlice;
@@ -19,7 +22,9 @@ fn call_of_line(
     number: u32,
     line: &[u8],
 ) -> Result<Option<Call>, Refusal>
-    ensures { Answers result (call_of_line schema.now number line.now) }
+    ensures answers { Answers result (call_of_line schema.now number line.now) }
+    ensures below { IfOk result (λ call. IfSome call (CallsBelow (length schema.now))) }
+    ensures why { IfErr result TellsText }
 {
     if line.len() > MOST_LINE {
         let why = Why::Length;
@@ -36,7 +41,10 @@ fn call_of_line(
 
 /// Adds a line's call, if it has one, to those of the lines before.
 fn add_call(calls: &mut Vec<Call>, call: Option<Call>) -> Result<(), Refusal>
-    ensures { Reads (λ _. calls.new.items) result (with_call calls.old.items call) }
+    requires { length calls.old.items ≤ 1048576 }
+    ensures answers { Reads (λ _. calls.new.items) result (with_call calls.old.items call) }
+    ensures short { OnOk result (length calls.new.items ≤ 1048576) }
+    ensures why { IfErr result TellsText }
 {
     let Some(call) = call else {
         return Ok(());
@@ -62,7 +70,10 @@ pub(crate) fn read_calls(
     text: &[u8],
 ) -> Result<Vec<Call>, Refusal>
     requires { length text.now ≤ 268435456 }
-    ensures { Reads (λ calls. calls.items) result (calls_of schema.now text.now) }
+    ensures answers { Reads (λ calls. calls.items) result (calls_of schema.now text.now) }
+    ensures below { IfOk result (λ calls. AllCallsBelow (length schema.now) calls.items) }
+    ensures short { IfOk result (λ calls. length calls.items ≤ 1048576) }
+    ensures why { IfErr result TellsText }
 {
     let mut calls: Vec<Call> = Vec::new(alloc);
     let mut number: u32 = 0;
