@@ -6,9 +6,9 @@ ghost use Rattle.sw_lang.specs.declared.fault.ParseError.TheVariants.{Memory};
 use std::alloc::{AllocError, AllocFailed};
 use sw_rows::{Name, Why};
 
-/// The first fault from the left.
+/// The first fault of a line, from the left.
 #[derive(Drop)]
-pub(crate) enum Fault {
+pub enum Fault {
     Bad(Why),
     /// A well-formed name that is no attribute.
     Unknown(Name),

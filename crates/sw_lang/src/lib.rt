@@ -14,6 +14,7 @@ mod sinks;
 mod term;
 mod token;
 
+pub use fault::Fault;
 pub use line_law::{examples_of_lines, lines_are_read_as_related, terms_make_conditions};
 pub use parse::{MOST_LINE, parse_line};
 pub use printed_calls::write_call;

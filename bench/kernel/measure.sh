@@ -1,0 +1,48 @@
+#!/usr/bin/env bash
+# The proved partition beside C: two cursors, blocks of 64, and blocks with a rest that is listed too.
+#
+#     bench/kernel/measure.sh [REPEATS]
+#
+# Copies sw_rows and sw_kernel with a static library of its own into a folder under TMPDIR, proves and builds them there,
+# builds the C with the kit's clang at the flags that the kit compiles with, runs all by turns on the same pairs REPEATS
+# times (by default 9), compares every byte, and prints the least nanoseconds a pair, with the two ratios that matter.
+# Nothing of the repository is written.
+set -euo pipefail
+repeats=${1:-9}
+here=$(cd "$(dirname "$0")" && pwd)
+top=$(cd "$here/../.." && pwd)
+kit=${KIT:-/opt/rattle}
+work=$(mktemp -d "${TMPDIR:-/tmp}/bench-kernel.XXXXXX")
+trap 'rm -rf "$work"' EXIT
+
+mkdir -p "$work/crates/split_c/src"
+cp "$top/HANDLES" "$work/"
+grep -E '^(sw_rows|sw_kernel)\b' "$top/crates.txt" > "$work/crates.txt"
+echo 'split_c staticlib: sw_rows sw_kernel' >> "$work/crates.txt"
+cp -r "$top/crates/sw_rows" "$top/crates/sw_kernel" "$work/crates/"
+cp "$here/split.rt.txt" "$work/crates/split_c/src/lib.rt"
+(cd "$work/crates/split_c" && rt lib > "$work/build.log" 2>&1) || { tail -n 20 "$work/build.log"; exit 1; }
+
+"$kit/toolchain/bin/clang" -O3 -march=x86-64-v2 -c -o "$work/peers.o" "$here/peers.c" 2> "$work/clang.log" ||
+  clang -O3 -march=x86-64-v2 -c -o "$work/peers.o" "$here/peers.c"
+cc -O2 -o "$work/main" "$here/main.c" "$work/peers.o" "$work/crates/split_c/out/libsplit_c.a" -lm -lpthread
+
+for pairs in 1048576 16777216; do
+  "$work/main" "$pairs" "$repeats" 50 "$pairs" >> "$work/times"
+done
+for piece in 30 100 300 1000; do
+  "$work/main" 1000000 "$repeats" 50 "$piece" >> "$work/times"
+done
+
+python3 - "$work/times" <<'END'
+import sys
+least = {}
+for line in open(sys.argv[1]):
+    pairs, piece, _, name, low, _ = line.split()
+    least.setdefault((int(pairs), int(piece)), {})[name] = float(low)
+print(f"{'pairs':>10} {'piece':>10} {'two cursors':>12} {'blocks':>8} {'listed':>8} {'proved':>8}   proved/blocks proved/listed proved/two cursors")
+for (pairs, piece), t in least.items():
+    p = t["proved"]
+    print(f"{pairs:>10} {piece:>10} {t['two_cursors']:>12.2f} {t['blocks']:>8.2f} {t['blocks_listed']:>8.2f} {p:>8.2f}   "
+          f"{p / t['blocks']:>13.2f} {p / t['blocks_listed']:>13.2f} {p / t['two_cursors']:>18.2f}")
+END

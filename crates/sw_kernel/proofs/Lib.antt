@@ -1,0 +1,16 @@
+pub mod Parts
+pub mod Zips
+pub mod Cursors
+pub mod Blocks
+pub mod Seen
+pub mod Ripples
+pub mod Removals
+pub mod Cracks
+pub mod Orders
+pub mod Rising
+pub mod Moves
+pub mod Members
+pub mod Sound
+pub mod Once
+pub mod Marks
+pub mod Shown

@@ -1,0 +1,120 @@
+//! The ripple of an insertion.
+
+ghost use Rattle.std.specs.Prelude.{◌≡◌, ◌+◌, ◌<◌, ◌≤◌, length, zip, slice_index_or, slice_set, nat_lt, cond, drop, All, ◌++◌, ◌∷◌, [], ◌^◌, vec_len, vec_capacity};
+ghost use Rattle.sw_kernel.specs.declared.mark.Mark.{Mark};
+ghost use Rattle.sw_kernel.specs.Partition.{head_of};
+ghost use Rattle.sw_kernel.specs.Arrangement.{ripple_insert};
+ghost use Rattle.sw_kernel.specs.Ripple.{piece_of, carried, later_from};
+ghost use Rattle.sw_kernel.specs.Flat.{Become, InOrder, end_before};
+
+use crate::mark::Mark;
+
+/// How many marks stand before the first whose bound the value lies left of.
+fn piece_of(marks: &[Mark], value: i64) -> usize
+    ensures piece { result ≡ piece_of marks.now value }
+    ensures within { result ≤ length marks.now }
+{
+    for k in 0..marks.len() {
+        if marks[k].bound.is_left(value) {
+            return k;
+        }
+    }
+    marks.len()
+}
+
+/// Where the piece before the k-th mark ends.
+fn end_before(marks: &[Mark], k: usize, n: usize) -> usize
+    ensures { result ≡ end_before (drop k marks.now) n }
+{
+    if k < marks.len() { marks[k].at } else { n }
+}
+
+/// If the piece from `at` up to `end` has an item, its first makes room for the carried one and is carried on.
+#[inline]
+fn hand_over(
+    head: &mut [i64],
+    tail: &mut [i64],
+    at: usize,
+    end: usize,
+    h: i64,
+    t: i64,
+) -> (i64, i64)
+    requires lengths { length head.old ≡ length tail.old }
+    requires room { end ≤ length head.old }
+    ensures pairs { zip head.new tail.new ≡ cond (nat_lt at end) (slice_set (zip head.old tail.old) at (h, t)) (zip head.old tail.old) }
+    ensures carried { (result.0, result.1) ≡ cond (nat_lt at end) (slice_index_or (zip head.old tail.old) at (h, t)) (h, t) }
+{
+    if at < end {
+        let next = (head[at], tail[at]);
+        head[at] = h;
+        tail[at] = t;
+        next
+    } else {
+        (h, t)
+    }
+}
+
+/// Carries an item on from the k-th mark, and answers the one that is left in hand.
+fn carry_on(
+    head: &mut [i64],
+    tail: &mut [i64],
+    marks: &[Mark],
+    from: usize,
+    h: i64,
+    t: i64,
+) -> (i64, i64)
+    requires lengths { length head.old ≡ length tail.old }
+    requires range { All (λ (m : Mark). m.at ≤ length head.old) marks.now }
+    requires from { from ≤ length marks.now }
+    ensures { zip head.new tail.new ++ (result.0, result.1) ∷ [] ≡ carried (drop from marks.now) (length head.old) (h, t) (zip head.old tail.old) }
+{
+    let n = head.len();
+    let mut hand = (h, t);
+    for k in from..marks.len() {
+        let at = marks[k].at;
+        let end = end_before(marks, k + 1, n);
+        hand = hand_over(head, tail, at, end, hand.0, hand.1);
+    }
+    hand
+}
+
+/// Moves the marks from the `from`-th on one place later.
+fn bump(marks: &mut [Mark], from: usize)
+    requires range { All (λ (m : Mark). m.at < 2 ^ 63) marks.old }
+    requires from { from ≤ length marks.old }
+    ensures { marks.new ≡ later_from from marks.old }
+{
+    for k in from..marks.len() {
+        marks[k].at += 1;
+    }
+}
+
+/// Pushes a value for which there is room.
+fn append(values: &mut Vec<i64>, value: i64)
+    requires { vec_len values.old < vec_capacity values.old }
+    ensures items { values.new.items ≡ values.old.items ++ value ∷ [] }
+    ensures len { vec_len values.new ≡ vec_len values.old + 1 }
+    ensures capacity { vec_capacity values.new ≡ vec_capacity values.old }
+{
+    values.push_reserved(value);
+}
+
+/// Puts the pair of `h` and `t` at the end of its piece; in each later piece that is not empty the first pair goes to that
+/// piece's end, and the marks move with the pieces.
+///
+/// Head and tail are of one length and have room for one more, and the marks' places never fall and never pass that
+/// length. It takes no memory and cannot be refused.
+pub fn ripple_in(head: &mut Vec<i64>, tail: &mut Vec<i64>, marks: &mut [Mark], h: i64, t: i64)
+    requires lengths { vec_len head.old ≡ vec_len tail.old }
+    requires room { (vec_len head.old < vec_capacity head.old) × (vec_len tail.old < vec_capacity tail.old) }
+    requires order { InOrder 0 (vec_len head.old) marks.old }
+    ensures rippled { Become (ripple_insert head_of (h, t)) (zip head.old.items tail.old.items) marks.old (zip head.new.items tail.new.items) marks.new }
+    ensures lengths { (vec_len head.new ≡ vec_len head.old + 1) × (vec_len tail.new ≡ vec_len tail.old + 1) }
+    ensures capacity { (vec_capacity head.new ≡ vec_capacity head.old) × (vec_capacity tail.new ≡ vec_capacity tail.old) }
+{
+    let from = piece_of(marks, h);
+    let (x, y) = carry_on(head, tail, marks, from, h, t);
+    bump(marks, from);
+    append(head, x);
+    append(tail, y);
+}

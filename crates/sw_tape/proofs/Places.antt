@@ -1,0 +1,99 @@
+-- The place of a bound among rising ones.
+use Rattle.std.proofs.Common.{◌≡◌, ℕ, suc, zero, ◌<◌, ◌≤◌, Bool, true, false, ◌||◌, List, [], ◌∷◌, length, get_or, drop, insert, refl, sym, ap, ap₂, ◌∙◌, arith, inl, inr}
+use Rattle.std.specs.List.Sorted.{IsPartitionPoint, IsPartitionedBy}
+use Rattle.std.proofs.lemmas.Bool.{cases_Bool}
+use Rattle.sw_rows.specs.declared.bound.Bound.{Bound}
+use Rattle.sw_rows.specs.Bounds.{bound_below, same_bound}
+use Rattle.sw_kernel.specs.Tapes.{IsBelowAll, IsRising}
+use Rattle.sw_kernel.proofs.Orders.{below-trans, below-new, above, same-same, same-flips}
+use Rattle.sw_tape.specs.Bounds.{is_among, is_first, IsPlaceOf}
+
+all-at : (b : Bound) (bs : List Bound) → IsBelowAll b bs → (k : ℕ) (d : Bound) → k < length bs → bound_below b (get_or bs k d) ≡ true
+all-at b [] h k d lt = absurd (omega (arith, lt))
+all-at b (c ∷ cs) h zero d lt = h.0
+all-at b (c ∷ cs) h (suc k) d lt = all-at b cs h.1 k d (omega (arith, lt))
+
+-- no bound below b comes after one that is not
+pub rising-parted : (b : Bound) (bs : List Bound) → IsRising bs → IsPartitionedBy (λ c. bound_below c b) bs
+rising-parted b [] r i j d le lt e = absurd (omega (arith, lt))
+rising-parted b (c ∷ cs) r zero zero d le lt e = e
+rising-parted b (c ∷ cs) r (suc i) zero d le lt e = absurd (omega (arith, le))
+rising-parted b (c ∷ cs) r zero (suc j) d le lt e = below-trans c (get_or cs j d) b (all-at c cs r.0 j d (omega (arith, lt))) e
+rising-parted b (c ∷ cs) r (suc i) (suc j) d le lt e = rising-parted b cs r.1 i j d (omega (arith, le)) (omega (arith, lt)) e
+
+pub place-from_point : (b : Bound) (bs : List Bound) (k : ℕ) → k ≤ length bs → IsPartitionPoint (λ c. bound_below c b ≡ true) (λ c. bound_below c b ≡ false) bs k → IsPlaceOf b k bs
+place-from_point b [] zero le p = tt
+place-from_point b [] (suc k) le p = absurd (omega (arith, le))
+place-from_point b (c ∷ cs) zero le p = p.1 0 c (omega arith) (omega arith)
+place-from_point b (c ∷ cs) (suc k) le p =
+    (p.0 0 c (omega arith) (omega arith), place-from_point b cs k (omega (arith, le)) (λ m d lo hi. p.0 (suc m) d (omega arith) (omega (arith, hi)), λ m d lo hi. p.1 (suc m) d (omega (arith, lo)) (omega (arith, hi))))
+
+pub place-within : (b : Bound) (bs : List Bound) (k : ℕ) → IsPlaceOf b k bs → k ≤ length bs
+place-within b [] zero p = omega arith
+place-within b [] (suc k) p = absurd p
+place-within b (c ∷ cs) zero p = omega arith
+place-within b (c ∷ cs) (suc k) p = let h = place-within b cs k p.1 in omega (arith, h)
+
+-- ---- among
+or-none : (t : Bool) → t ≡ false → t || false ≡ false
+or-none t e = rw e refl
+
+none-above : (b c : Bound) (cs : List Bound) → bound_below b c ≡ true → IsBelowAll c cs → is_among b cs ≡ false
+none-above b c [] h al = refl
+none-above b c (x ∷ xs) h al = let e : same_bound b x ≡ false = below-new b x (below-trans b c x h al.0) in rw e (none-above b c xs h al.1)
+
+-- a bound is among rising ones exactly where it stands at its place
+pub among-first : (b : Bound) (bs : List Bound) (k : ℕ) → IsRising bs → IsPlaceOf b k bs → is_among b bs ≡ is_first b (drop k bs)
+among-first b [] zero r p = refl
+among-first b [] (suc k) r p = absurd p
+among-first b (c ∷ cs) zero r p = elim (cases_Bool (same_bound b c)) [
+  | inl here ↦ rw here refl
+  | inr other ↦
+      let past : bound_below b c ≡ true = above c b p (same-flips c b ∙ other) in
+      rw other (none-above b c cs past r.0)
+]
+among-first b (c ∷ cs) (suc k) r p =
+    let e : same_bound b c ≡ false = same-flips b c ∙ below-new c b p.0 in
+    rw e (among-first b cs k r.1 p.1)
+
+-- ---- one more
+or-turn : (s t u : Bool) → s || (t || u) ≡ t || (s || u)
+or-turn true true u = refl
+or-turn true false u = refl
+or-turn false t u = refl
+
+pub among-insert : (b c : Bound) (bs : List Bound) (k : ℕ) → k ≤ length bs → is_among b (insert bs k c) ≡ same_bound b c || is_among b bs
+among-insert b c [] zero le = refl
+among-insert b c [] (suc k) le = absurd (omega (arith, le))
+among-insert b c (x ∷ xs) zero le = refl
+among-insert b c (x ∷ xs) (suc k) le = ap (λ t. same_bound b x || t) (among-insert b c xs k (omega (arith, le))) ∙ or-turn (same_bound b x) (same_bound b c) (is_among b xs)
+
+all-past : (b c : Bound) (bs : List Bound) → bound_below b c ≡ true → IsBelowAll c bs → IsBelowAll b bs
+all-past b c [] h al = tt
+all-past b c (x ∷ bs) h al = (below-trans b c x h al.0, all-past b c bs h al.1)
+
+all-insert : (a c : Bound) (bs : List Bound) (k : ℕ) → k ≤ length bs → bound_below a c ≡ true → IsBelowAll a bs → IsBelowAll a (insert bs k c)
+all-insert a c [] zero le h al = (h, tt)
+all-insert a c [] (suc k) le h al = absurd (omega (arith, le))
+all-insert a c (x ∷ xs) zero le h al = (h, al)
+all-insert a c (x ∷ xs) (suc k) le h al = (al.0, all-insert a c xs k (omega (arith, le)) h al.1)
+
+-- a bound that does not stand at its place, put there
+pub rising-insert : (b : Bound) (bs : List Bound) (k : ℕ) → IsRising bs → IsPlaceOf b k bs → is_first b (drop k bs) ≡ false → IsRising (insert bs k b)
+rising-insert b [] zero r p e = (tt, tt)
+rising-insert b [] (suc k) r p e = absurd p
+rising-insert b (c ∷ cs) zero r p e =
+    let past : bound_below b c ≡ true = above c b p (same-flips c b ∙ e) in
+    ((past, all-past b c cs past r.0), r)
+rising-insert b (c ∷ cs) (suc k) r p e = (all-insert c b cs k (place-within b cs k p.1) p.0 r.0, rising-insert b cs k r.1 p.1 e)
+
+-- a bound that is there adds nothing
+pub same-again : (b c : Bound) (bs : List Bound) → is_among c bs ≡ true → same_bound b c || is_among b bs ≡ is_among b bs
+same-again b c bs e = elim (cases_Bool (same_bound b c)) [
+  | inl here ↦ rw here (sym (among-same b c bs here ∙ e))
+  | inr other ↦ rw other refl
+]
+  where
+    among-same : (b c : Bound) (bs : List Bound) → same_bound b c ≡ true → is_among b bs ≡ is_among c bs
+    among-same b c [] h = refl
+    among-same b c (x ∷ xs) h = ap₂ (λ s t. s || t) (same-flips b x ∙ sym (same-same x b c h) ∙ same-flips x c) (among-same b c xs h)

@@ -1,0 +1,145 @@
+//! The tape.
+
+ghost use Rattle.std.specs.Prelude.{◌≡◌, ◌<◌, ◌≤◌, ◌+◌, ◌++◌, ◌∷◌, ◌||◌, [], List, length, map, vec_len, vec_capacity, MatchOption, MatchResult, OnErr, OnOk, IfErr, slice_get, Some};
+ghost use Rattle.sw_rows.specs.declared.bound.Bound.{Bound};
+ghost use Rattle.sw_rows.specs.declared.row.Row.{Row};
+ghost use Rattle.sw_rows.specs.declared.refusal.Refusal.TheVariants.{NoMemory, TooMany};
+ghost use Rattle.sw_kernel.specs.Replay.{Step, loaded};
+ghost use Rattle.sw_kernel.specs.Tapes.{IsRising, IsTape, MayFollow, count_from, is_marked, peak_from, ranges_at};
+ghost use Rattle.sw_tape.specs.Bounds.{is_among};
+ghost use Rattle.sw_tape.specs.Entries.{IsKept, step_of};
+
+use crate::bounds::{add_some, is_among};
+use crate::entry::{Entry, pairs_after};
+use std::alloc::Global;
+use std::marker::Model;
+use sw_rows::{Bound, Refusal, Row};
+
+/// How many entries a tape has at most.
+pub const MAX_ENTRIES: usize = 4096;
+
+/// One load of rows, and what came after it. Contracts see the list of steps on rows.
+#[derive(Drop)]
+pub struct Tape {
+    entries: Vec<Entry>,
+    bounds: Vec<Bound>,
+    pairs: usize,
+    peak: usize,
+}
+
+impl Model for Tape {
+    ghost Value = { List (Step Row) };
+
+    ghost view = { λ t. map step_of t.entries.items };
+
+    ghost invariant = { λ t. IsKept (map step_of t.entries.items) t.bounds.items t.pairs t.peak };
+}
+
+/// A load of a copy of the rows.
+fn load_of(alloc: Global, rows: &[Row]) -> Result<Entry, Refusal>
+    ensures { MatchResult result (λ e. step_of e ≡ loaded rows.now) (λ e. e ≡ NoMemory) }
+{
+    match Vec::from_slice(alloc, rows) {
+        Ok(copy) => Ok(Entry::Load(copy)),
+        Err(_) => Err(Refusal::NoMemory),
+    }
+}
+
+/// Adds the bounds of an entry to those that stand in ranges.
+fn add_bounds(bounds: &mut Vec<Bound>, entry: &Entry)
+    requires room { vec_len bounds.old + 2 ≤ vec_capacity bounds.old }
+    requires rising { IsRising bounds.old.items }
+    ensures rising { IsRising bounds.new.items }
+    ensures among { (b : Bound) → is_among b bounds.new.items ≡ ranges_at b (step_of entry.now) || is_among b bounds.old.items }
+{
+    if let Entry::Range(lower, upper) = entry {
+        add_some(bounds, *lower);
+        add_some(bounds, *upper);
+    }
+}
+
+impl Tape {
+    /// A tape of one load. It is refused `NoMemory` alone.
+    pub fn new(alloc: Global, rows: &[Row]) -> Result<Tape, Refusal>
+        ensures { MatchResult result (λ tape. tape ≡ loaded rows.now ∷ []) (λ e. e ≡ NoMemory) }
+    {
+        let load = load_of(alloc, rows)?;
+        let mut entries = Vec::new(alloc);
+        if entries.push(load).is_err() {
+            return Err(Refusal::NoMemory);
+        }
+        Ok(Tape {
+            entries,
+            bounds: Vec::new(alloc),
+            pairs: rows.len(),
+            peak: rows.len(),
+        })
+    }
+
+    /// Makes the tape one load of these rows. It is refused `NoMemory` alone, and then the tape is as it was.
+    pub fn restart(&mut self, rows: &[Row]) -> Result<(), Refusal>
+        ensures ok { OnOk result (self.new ≡ loaded rows.now ∷ []) }
+        ensures err { IfErr result (λ e. (self.new ≡ self.old) × (e ≡ NoMemory)) }
+    {
+        let load = load_of(*self.entries.allocator(), rows)?;
+        self.entries.clear();
+        self.entries.push_reserved(load);
+        self.bounds.clear();
+        self.pairs = rows.len();
+        self.peak = rows.len();
+        Ok(())
+    }
+
+    /// Appends an entry that is no load, and whose removed place is one of the pairs'. It is refused `TooMany` where the
+    /// tape has 4,096 entries, and otherwise `NoMemory` alone; refused, the tape is as it was.
+    pub fn push(&mut self, entry: Entry) -> Result<(), Refusal>
+        requires follows { MayFollow (count_from 0 self.old) (step_of entry) }
+        ensures ok { OnOk result (self.new ≡ self.old ++ step_of entry ∷ []) }
+        ensures err { OnErr result (self.new ≡ self.old) }
+        ensures full { length self.old ≡ 4096 → result ≡ Err (TooMany 4096) }
+        ensures room { length self.old < 4096 → IfErr result (λ e. e ≡ NoMemory) }
+    {
+        if self.len() == MAX_ENTRIES {
+            return Err(Refusal::TooMany { limit: 4096 });
+        }
+        if self.entries.reserve(1).is_err() || self.bounds.reserve(2).is_err() {
+            return Err(Refusal::NoMemory);
+        }
+        let pairs = pairs_after(self.pairs, &entry);
+        add_bounds(&mut self.bounds, &entry);
+        self.entries.push_reserved(entry);
+        self.pairs = pairs;
+        self.peak = self.peak.max(pairs);
+        Ok(())
+    }
+
+    /// The number of entries, which begin with the one load. A tape is never empty.
+    pub fn len(&self) -> usize
+        ensures count { result ≡ length self.now }
+        ensures most { result ≤ 4096 }
+        ensures tape { IsTape self.now }
+    {
+        self.entries.len()
+    }
+
+    /// The entry at an index, from 0.
+    pub fn get(&self, index: usize) -> Option<&Entry>
+        ensures { MatchOption result (length self.now ≤ index) (λ e. slice_get self.now index ≡ Some (step_of e.now)) }
+    {
+        self.entries.get(index)
+    }
+
+    /// The greatest number of pairs after any entry.
+    pub fn peak(&self) -> usize
+        ensures { result ≡ peak_from 0 self.now }
+    {
+        self.peak
+    }
+
+    /// Whether the bound stands in a range of the tape, by binary search.
+    pub fn marked(&self, bound: Bound) -> bool
+        ensures { result ≡ is_marked bound self.now }
+    {
+        is_among(&self.bounds, bound)
+    }
+}
