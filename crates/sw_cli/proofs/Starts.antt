@@ -1,14 +1,17 @@
 -- Why a run is refused before its first call.
-use Rattle.std.proofs.Common.{◌≡◌, ◌∙◌, ap, sym, subst, refl, ℕ, ◌+◌, ◌≤◌, ◌⊎◌, inl, inr, Bool, true, false, zero, suc, List, [], ◌∷◌, length, Option, Some, None, Result, Ok, Err, arith, slice_get, add-one, eqb, ◌&&◌}
+use Rattle.std.proofs.Common.{◌≡◌, ◌∙◌, ap, sym, subst, refl, ℕ, ◌+◌, ◌≤◌, ◌⊎◌, inl, inr, Bool, true, false, zero, suc, List, [], ◌∷◌, length, Option, Some, None, Result, Ok, Err, arith, slice_get, IfErr, IfOk, IfSome, add-one, eqb, ◌&&◌}
 use Rattle.std.proofs.lemmas.Bool.Decides.{Decides-eqb, nat_tests}
 use Rattle.sw_rows.proofs.RowLaws.{keys-count}
 use Rattle.sw_rows.specs.Gives.{Fails}
-use Rattle.sw_rows.specs.Header.{Fault}
 use Rattle.sw_rows.specs.Tables.{Table, table_of}
 use Rattle.sw_rows.specs.declared.row.Row.{Row}
 use Rattle.sw_rows.specs.declared.refusal.Refusal.{Refusal}
 use Rattle.sw_rows.specs.declared.refusal.Refusal.TheVariants as refusal
+use Rattle.sw_rows.specs.Header.{Column, Fault}
 use Rattle.sw_rows.specs.declared.query.Call.{Call}
+use Rattle.sw_rows.specs.declared.query.Call.TheVariants as call
+use Rattle.sw_lang.specs.Fits.{FitsCall}
+use Rattle.sw_spine.specs.History.{CallsBelow}
 use Rattle.sw_lang.specs.Reading.{Answers, refused, refusal_of as line_refusal}
 use Rattle.sw_lang.specs.declared.fault.Fault.{Fault as LineFault}
 use Rattle.sw_lang.specs.declared.fault.Fault.TheVariants.{Bad, Unknown}
@@ -75,6 +78,25 @@ line_tells {A} n e (Err (Unknown name)) h = subst TellsText (same_refusal {A = A
 pub answers_tell : {A : Type 0} (n : ℕ) (e : Refusal) (r : Result A LineFault) → Answers {A = A} (Err e) (refused n r) → TellsText e
 answers_tell n refusal.NoMemory r h = tt
 answers_tell n e r h = line_tells n e r h
+
+-- what is answered is a refusal of a text
+pub result_tells : {A : Type 0} (n : ℕ) (result : Result A Refusal) (r : Result A LineFault) → Answers {A = A} result (refused n r) → IfErr result TellsText
+result_tells n (Ok x) r h = tt
+result_tells n (Err e) r h = answers_tell n e r h
+
+-- a call of the table names attributes of the table
+call_below : (schema : List Column) (c : Call) → FitsCall schema c → CallsBelow (length schema) c
+call_below schema (call.Select q) h = h.attrs
+call_below schema (call.Insert cells) h = tt
+call_below schema (call.Delete key) h = tt
+
+some_below : (schema : List Column) (o : Option Call) → IfSome o (FitsCall schema) → IfSome o (CallsBelow (length schema))
+some_below schema None h = tt
+some_below schema (Some c) h = call_below schema c h
+
+pub fits_below : (schema : List Column) (result : Result (Option Call) Refusal) → IfOk result (λ o. IfSome o (FitsCall schema)) → IfOk result (λ o. IfSome o (CallsBelow (length schema)))
+fits_below schema (Ok o) h = some_below schema o h
+fits_below schema (Err e) h = tt
 
 both-true : (a b : Bool) → a ≡ true → b ≡ true → (a && b) ≡ true
 both-true a b h k = rw (h, k) refl
