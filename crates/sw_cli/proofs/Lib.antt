@@ -1,4 +1,5 @@
 pub mod Calls
+pub mod Complete
 pub mod Desks
 pub mod Serving
 pub mod Starts

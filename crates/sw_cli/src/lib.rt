@@ -7,11 +7,12 @@ mod desk;
 mod fault;
 pub mod fault_examples;
 mod plain;
-mod run;
+mod running;
 mod script;
 mod start;
 
 pub use fault::{status, write_fault};
+pub use running::{Options, run};
 pub use script::MOST_CALLS;
 
 #[cfg(test)]
