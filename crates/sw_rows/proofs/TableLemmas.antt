@@ -1,12 +1,12 @@
 -- Cells and rows, one by one.
-use Rattle.std.proofs.Common.{◌≡◌, ◌∙◌, ap, sym, refl, ℕ, ℤ, pos, ◌+◌, ◌-◌, ◌<◌, ◌≤◌, Bool, true, false, cond, List, [], ◌∷◌, ◌++◌, length, get_or, take, drop, Option, Some, None, replicate, suc, slice_get, min, nat_eq, arith, Result, Ok, Err}
+use Rattle.std.proofs.Common.{◌≡◌, ◌∙◌, ap, sym, refl, ℕ, ℤ, pos, ◌+◌, ◌-◌, ◌<◌, ◌≤◌, true, cond, List, [], ◌∷◌, ◌++◌, length, get_or, take, drop, Some, None, replicate, suc, slice_get, min, nat_eq, arith, Ok, Err}
 use Rattle.std.proofs.lemmas.List.{drop_more, drop_all, take-append-drop, get_or-drop}
 use Rattle.std.proofs.lemmas.Grind.{common_steps}
 use Rattle.std.proofs.lemmas.Option.{slice_get_within, get_or_from_slice_get}
 use Rattle.std.proofs.lemmas.Bool.Decides.{nat_tests}
 use Rattle.sw_rows.specs.Cells.{cell_value}
-use Rattle.sw_rows.specs.Header.{Fault, bad_table, too_many}
-use Rattle.sw_rows.specs.Tables.{cells_after, cells_of, or_bad, padded, then_padded}
+use Rattle.sw_rows.specs.Header.{bad_table}
+use Rattle.sw_rows.specs.Tables.{cells_after, cells_of, or_bad, padded}
 use Rattle.sw_rows.specs.declared.kind.Kind.{Kind}
 
 -- one more cell
