@@ -1,4 +1,6 @@
 mod Examples
 pub mod Histories
+pub mod Keys
+pub mod Runs
 pub mod Spines
 pub mod StoreLemmas

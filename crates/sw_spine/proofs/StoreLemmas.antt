@@ -77,7 +77,7 @@ pub inserts_opened : (rows : List Row) → inserts (opened rows) ≡ length rows
 inserts_opened [] = refl
 inserts_opened (r ∷ rows) = sum_by-append (λ u. cond (is_insert u) 1 0) (update.Insert r ∷ []) (opened rows) ∙ (let e : 1 + inserts (opened rows) ≡ length rows + 1 = omega (arith, inserts_opened rows) in grind (arith, e))
 
-has_numbered : (n key : ℕ) (rows : List Row) → is_numbered n rows ≡ true → has_key key rows ≡ (nat_le n key && nat_lt key (n + length rows))
+pub has_numbered : (n key : ℕ) (rows : List Row) → is_numbered n rows ≡ true → has_key key rows ≡ (nat_le n key && nat_lt key (n + length rows))
 has_numbered n key [] numbered = grind (arith, nat_tests)
 has_numbered n key (r ∷ rows) numbered = grind (arith, nat_tests, numbered, has_numbered (n + 1) key rows)
 

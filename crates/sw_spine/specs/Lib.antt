@@ -1,3 +1,4 @@
 pub mod Table
 pub mod History
 pub mod Books
+pub mod Visits

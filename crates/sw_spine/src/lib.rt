@@ -2,8 +2,10 @@
 #![tactic(auto)]
 
 mod history;
+mod laws;
 mod spine;
 mod store;
 
 pub use history::{Entry, Lines, Record, State};
+pub use laws::{keys_are_given_once, visits_keep_books};
 pub use spine::{MOST_ENTRIES, MOST_SESSIONS, Spine};
