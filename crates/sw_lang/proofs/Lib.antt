@@ -1,0 +1,10 @@
+pub mod Lines
+pub mod Merge
+pub mod Names
+pub mod Narrow
+pub mod Progress
+pub mod Relates
+pub mod Singles
+pub mod Steps
+pub mod Texts
+pub mod Words

@@ -1,2 +1,23 @@
 //! The language of scripts: a line's call, and the lines of a reply.
 #![tactic(auto)]
+
+mod fault;
+mod line_law;
+mod parse;
+mod printed_cells;
+mod printed_rows;
+mod replies;
+mod single;
+mod sinks;
+mod term;
+mod token;
+
+pub use line_law::{examples_of_lines, lines_are_read_as_related, terms_make_conditions};
+pub use parse::{MOST_LINE, parse_line};
+pub use replies::write_reply;
+pub use sinks::{write_all, write_number};
+pub use term::Term;
+pub use token::Op;
+
+#[cfg(test)]
+mod parse_tests;

@@ -6,6 +6,7 @@
 
 mod bound;
 mod cell;
+pub mod examples;
 mod kind;
 mod loading;
 mod name;
@@ -17,6 +18,7 @@ mod row;
 mod scan;
 mod schema;
 mod source;
+pub mod spelling;
 mod table;
 mod updates;
 
@@ -34,3 +36,6 @@ pub use schema::{Schema, is_name};
 pub use source::{Counted, Sink, Source};
 pub use table::MOST_ROWS;
 pub use updates::{has_key, update, update_all};
+
+#[cfg(test)]
+mod tests;

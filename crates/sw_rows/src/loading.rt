@@ -1,6 +1,7 @@
 //! A table from a source.
 
-ghost use Rattle.std.specs.Prelude.{◌≡◌, IfSome, IfErr, OnOk};
+ghost use Rattle.std.specs.Prelude.{◌≡◌, ◌⊎◌, IfSome, IfErr, OnOk, OnErr};
+ghost use Rattle.std.specs.Io.KnownBytes.{IsAtEnd};
 ghost use Rattle.sw_rows.specs.Gives.{Gives, Raised, TellsSource};
 ghost use Rattle.sw_rows.specs.Tables.{bytes_within, shown_table, table_of};
 
@@ -22,6 +23,8 @@ pub fn read_all<R: Source>(alloc: Global, source: &mut R, limit: usize) -> Resul
     ensures spelled { IfSome (R.left source.old) (λ bytes. Gives (Raised (R.failed source.old) (R.failed source.new)) (λ v. v.items) result (bytes_within limit bytes)) }
     ensures steady { OnOk result (R.failed source.new ≡ R.failed source.old) }
     ensures told { IfErr result (TellsSource (Raised (R.failed source.old) (R.failed source.new))) }
+    ensures ended { OnOk result (IsAtEnd (R.left source.new)) }
+    ensures refused { OnErr result ((result ≡ Err Refusal.NoMemory) ⊎ (result ≡ Err Refusal.Input) ⊎ (result ≡ Err (Refusal.TooMany limit))) }
 {
     let mut bytes: Vec<u8> = Vec::new(alloc);
     let mut block = [0u8; 65536];
@@ -52,6 +55,7 @@ pub fn load<R: Source>(alloc: Global, source: &mut R) -> Result<(Schema, Vec<Row
     ensures spelled { IfSome (R.left source.old) (λ bytes. Gives (Raised (R.failed source.old) (R.failed source.new)) shown_table result (table_of bytes)) }
     ensures steady { OnOk result (R.failed source.new ≡ R.failed source.old) }
     ensures told { IfErr result (TellsSource (Raised (R.failed source.old) (R.failed source.new))) }
+    ensures ended { OnOk result (IsAtEnd (R.left source.new)) }
 {
     match read_all(alloc, source, MOST_BYTES) {
         Ok(bytes) => read_table(alloc, &bytes),

@@ -1,0 +1,2 @@
+//! The command line: how refusals are told on standard error.
+#![tactic(auto)]

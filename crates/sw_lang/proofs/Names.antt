@@ -1,0 +1,150 @@
+-- Which words are names, values, keys and words of the language.
+use Rattle.std.proofs.Common.{◌≡◌, ◌∙◌, ap, sym, refl, ℕ, zero, suc, ℤ, ◌+◌, ◌<◌, ◌≤◌, Bool, true, false, cond, not, ◌&&◌, List, [], ◌∷◌, length, map, get_or, Option, Some, None, Result, Ok, Err, slice_get, arith}
+use Rattle.std.specs.Prelude.{position, bytes_eq, codes}
+use Rattle.std.specs.List.{list_all, list_any, position_or_len}
+use Rattle.std.proofs.lemmas.Bool.{false≢true, lt-ltb}
+use Rattle.std.proofs.lemmas.List.{get_or-map, length-map}
+use Rattle.std.proofs.lemmas.List.Folds.{list_all_at, list_any_at}
+use Rattle.std.proofs.lemmas.List.Quantifiers.{position-Some}
+use Rattle.std.proofs.lemmas.Option.{slice_get-get_or, slice_get_within, get_or_from_slice_get}
+use Rattle.std.proofs.lemmas.Slice.Eq.{bytes_eq-Decides}
+use Rattle.sw_rows.specs.Cells.{cell_value}
+use Rattle.sw_rows.specs.Header.{Column, IsSchema, is_known, is_name, names_differ, names_of}
+use Rattle.sw_rows.specs.declared.kind.Kind.{Kind}
+use Rattle.sw_rows.specs.declared.kind.Kind.TheVariants as kind
+use Rattle.sw_rows.specs.declared.refusal.Why.TheVariants as why
+use Rattle.sw_lang.specs.declared.fault.Fault.{Fault}
+use Rattle.sw_lang.specs.declared.fault.Fault.TheVariants.{Bad}
+use Rattle.sw_lang.specs.declared.token.Op.{Op}
+use Rattle.sw_lang.specs.Tokens.{Tok, word, op, comma, stray}
+use Rattle.sw_lang.specs.Reading.{found, valued, key_value, key_of, name_of, op_of, value_of, is_word, is_comma}
+use Rattle.sw_lang.specs.Grammar.{IsName, IsValue, IsKey}
+
+pub same_bytes : (v w : List ℕ) → bytes_eq v w ≡ true → v ≡ w
+same_bytes v w h = (bytes_eq-Decides v w).0 h
+
+pub bytes-same : (w : List ℕ) → bytes_eq w w ≡ true
+bytes-same w = (bytes_eq-Decides w w).1 refl
+
+bytes-turned : (v w : List ℕ) → bytes_eq v w ≡ false → bytes_eq w v ≡ false
+bytes-turned v w e = by_cases (bytes_eq w v) refl
+  where
+    by_cases : (b : Bool) → bytes_eq w v ≡ b → bytes_eq w v ≡ false
+    by_cases true f = absurd (false≢true (sym e ∙ (bytes_eq-Decides v w).1 (sym (same_bytes w v f))))
+    by_cases false f = f
+
+pub word_is : (w : List ℕ) (t : Tok) → is_word w t ≡ true → t ≡ word w
+word_is w (word v) h = ap word (same_bytes v w h)
+word_is w (op o) h = absurd (false≢true h)
+word_is w comma h = absurd (false≢true h)
+word_is w stray h = absurd (false≢true h)
+
+pub comma_is : (t : Tok) → is_comma t ≡ true → t ≡ comma
+comma_is (word v) h = absurd (false≢true h)
+comma_is (op o) h = absurd (false≢true h)
+comma_is comma h = refl
+comma_is stray h = absurd (false≢true h)
+
+-- ---- names
+
+found_at : (w : List ℕ) (o : Option ℕ) (i : ℕ) → found w o ≡ Ok i → o ≡ Some i
+found_at w (Some j) i h = cc
+found_at w None i h = absurd cc
+
+named : (v : Bool) (w : List ℕ) (o : Option ℕ) (i : ℕ) → cond v (found w o) (Err (Bad why.Word)) ≡ Ok i → (v ≡ true) × (o ≡ Some i)
+named true w o i h = (refl, found_at w o i h)
+named false w o i h = absurd cc
+
+no_column : Column
+no_column = ([], kind.Int)
+
+at_place : (schema : List Column) (w : List ℕ) (i : ℕ) → position (λ c. bytes_eq w c.0) schema ≡ Some i → slice_get (names_of schema) i ≡ Some w
+at_place schema w i h =
+    let p = position-Some (λ c. bytes_eq w c.0) schema i no_column h in
+    let within : i < length (names_of schema) = rw length-map p.0 in
+    slice_get-get_or (names_of schema) i [] within ∙ ap Some (get_or-map (λ c. c.0) schema i no_column [] p.0 ∙ sym (same_bytes w (get_or schema i no_column).0 p.1))
+
+pub name_found : (schema : List Column) (t : Tok) (i : ℕ) → name_of schema t ≡ Ok i → IsName schema t i
+unfolding name_of
+name_found schema (word w) i h = (w, refl, at_place schema w i (named (is_name w) w (position (λ c. bytes_eq w c.0) schema) i h).1)
+name_found schema (op o) i h = absurd cc
+name_found schema comma i h = absurd cc
+name_found schema stray i h = absurd cc
+
+and-true : (p q : Bool) → (p && q) ≡ true → (p ≡ true) × (q ≡ true)
+and-true true q h = (refl, h)
+and-true false q h = absurd (false≢true h)
+
+not-true : (p : Bool) → not p ≡ true → p ≡ false
+not-true true h = absurd (false≢true h)
+not-true false h = refl
+
+-- the place of a name among distinct ones
+place-of : (cols : List Column) (i : ℕ) → names_differ cols ≡ true → i < length cols → position_or_len (λ c. bytes_eq (get_or cols i no_column).0 c.0) cols ≡ i
+place-of [] i d h = absurd (omega arith)
+place-of (c ∷ cs) zero d h = rw (bytes-same c.0) refl
+place-of (c ∷ cs) (suc j) d h =
+    let parts = and-true (not (is_known cs c.0)) (names_differ cs) d in
+    let fresh : is_known cs c.0 ≡ false = not-true (is_known cs c.0) parts.0 in
+    let lt : j < length cs = omega arith in
+    let other = get_or cs j no_column in
+    let apart : bytes_eq other.0 c.0 ≡ false = bytes-turned c.0 other.0 (by_cases c cs j fresh lt (bytes_eq c.0 other.0) refl) in
+    let more = place-of cs j parts.1 lt in
+    rw (apart, more) (omega arith)
+  where
+    by_cases : (c : Column) (cs : List Column) (j : ℕ) → is_known cs c.0 ≡ false → j < length cs → (b : Bool) → bytes_eq c.0 (get_or cs j no_column).0 ≡ b → bytes_eq c.0 (get_or cs j no_column).0 ≡ false
+    by_cases c cs j fresh lt true e = absurd (false≢true (sym fresh ∙ list_any_at (λ d. bytes_eq c.0 d.0) cs j no_column lt e))
+    by_cases c cs j fresh lt false e = e
+
+all-true : (v : Bool) (cols : List Column) (i : ℕ) → is_name (get_or cols i no_column).0 ≡ v → i < length cols → list_all (λ c. is_name c.0) cols ≡ true → v ≡ true
+all-true true cols i e h all = refl
+all-true false cols i e h all = absurd (false≢true (sym (list_all_at (λ c. is_name c.0) cols i no_column h e) ∙ all))
+
+-- the name of an attribute is found at its place
+pub name_read : (schema : List Column) (t : Tok) (i : ℕ) → IsSchema schema → IsName schema t i → name_of schema t ≡ Ok i
+unfolding name_of
+name_read schema t i ok (w, is, at) =
+    let within : i < length schema = rw length-map at (slice_get_within (names_of schema) i w at) in
+    let here : (get_or schema i no_column).0 ≡ w = sym (get_or-map (λ c. c.0) schema i no_column [] within) ∙ get_or_from_slice_get (names_of schema) i w [] at in
+    let good : is_name w ≡ true = ap is_name (sym here) ∙ all-true (is_name (get_or schema i no_column).0) schema i refl within ok.sound.names in
+    let place : position_or_len (λ c. bytes_eq w c.0) schema ≡ i = rw here at (place-of schema i ok.sound.distinct within) in
+    rw (is, good, place, lt-ltb i (length schema) within) refl
+
+-- ---- operators, values and keys
+
+pub op_found : (t : Tok) (o : Op) → op_of t ≡ Ok o → t ≡ op o
+unfolding op_of
+op_found (word w) o h = absurd cc
+op_found (op p) o h = cc
+op_found comma o h = absurd cc
+op_found stray o h = absurd cc
+
+pub op_read : (t : Tok) (o : Op) → t ≡ op o → op_of t ≡ Ok o
+unfolding op_of
+op_read t o h = rw h refl
+
+valued_is : {A : Type 0} (x : Option A) (z : A) → valued x ≡ Ok z → x ≡ Some z
+valued_is (Some y) z h = cc
+valued_is None z h = absurd cc
+
+pub value_found : (k : Kind) (t : Tok) (z : ℤ) → value_of k t ≡ Ok z → IsValue k t z
+unfolding value_of
+value_found k (word w) z h = (w, refl, valued_is (cell_value k w) z h)
+value_found k (op o) z h = absurd cc
+value_found k comma z h = absurd cc
+value_found k stray z h = absurd cc
+
+pub value_read : (k : Kind) (t : Tok) (z : ℤ) → IsValue k t z → value_of k t ≡ Ok z
+unfolding value_of
+value_read k t z (w, is, value) = rw is (ap valued value)
+
+pub key_found : (t : Tok) (n : ℕ) → key_of t ≡ Ok n → IsKey t n
+unfolding key_of
+key_found (word w) n h = (w, refl, valued_is (key_value w) n h)
+key_found (op o) n h = absurd cc
+key_found comma n h = absurd cc
+key_found stray n h = absurd cc
+
+pub key_read : (t : Tok) (n : ℕ) → IsKey t n → key_of t ≡ Ok n
+unfolding key_of
+key_read t n (w, is, value) = rw is (ap valued value)

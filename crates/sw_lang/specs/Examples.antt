@@ -1,0 +1,95 @@
+-- Lines over tables of three attributes, and what each is.
+use Rattle.std.specs.Prelude.{ℕ, ℤ, pos, neg_ℤ, List, [], ◌∷◌, Option, Some, None, Result, Ok, Err, codes}
+use Rattle.sw_rows.specs.Header.{Column}
+use Rattle.sw_rows.specs.declared.bound.Bound.{Bound}
+use Rattle.sw_rows.specs.declared.bound.Bound.TheVariants.{Before, After}
+use Rattle.sw_rows.specs.declared.kind.Kind.{Kind}
+use Rattle.sw_rows.specs.declared.kind.Kind.TheVariants as kind
+use Rattle.sw_rows.specs.declared.query.Cond.{Cond}
+use Rattle.sw_rows.specs.declared.query.Query.{Query}
+use Rattle.sw_rows.specs.declared.query.Call.{Call}
+use Rattle.sw_rows.specs.declared.query.Call.TheVariants.{Select, Insert, Delete}
+use Rattle.sw_rows.specs.declared.query.Want.{Want}
+use Rattle.sw_rows.specs.declared.query.Want.TheVariants.{Rows, Count, Sum}
+use Rattle.sw_rows.specs.declared.refusal.Why.TheVariants as why
+use Rattle.sw_lang.specs.declared.fault.Fault.{Fault}
+use Rattle.sw_lang.specs.declared.fault.Fault.TheVariants.{Bad, Unknown}
+
+-- whole numbers
+abbrev pub three : List Column
+three = (codes "a", kind.Int) ∷ (codes "b", kind.Int) ∷ (codes "c", kind.Int) ∷ []
+
+-- one attribute of each kind
+abbrev pub mixed : List Column
+mixed = (codes "a", kind.Int) ∷ (codes "b", kind.Fix 2) ∷ (codes "c", kind.Flag) ∷ []
+
+-- a line and what it gives
+abbrev pub Example : Type 0
+Example = List ℕ × Result (Option Call) Fault
+
+abbrev pub asks : Want → List Cond → Result (Option Call) Fault
+asks want conds = Ok (Some (Select (record { conds = conds; want = want })))
+
+abbrev pub on : ℕ → Option Bound → Option Bound → Cond
+on a lower upper = record { attr = a; lower = lower; upper = upper }
+
+-- over the mixed table
+abbrev pub calls : List Example
+calls =
+    (codes "", Ok None)
+    ∷ (codes " # select", Ok None)
+    ∷ (codes "count where a=5", asks Count (on 0 (Some (Before (pos 5))) (Some (After (pos 5))) ∷ []))
+    ∷ (codes "select b,a where b < 9.5 and a>=-1 and b>0", asks (Rows (1 ∷ 0 ∷ [])) (on 1 (Some (After (pos 0))) (Some (Before (pos 950))) ∷ on 0 (Some (Before (neg_ℤ (pos 1)))) None ∷ []))
+    ∷ (codes "sum c", asks (Sum 2) [])
+    ∷ (codes "insert -1, +2.5, true", Ok (Some (Insert (neg_ℤ (pos 1) ∷ pos 250 ∷ pos 1 ∷ pos 0 ∷ pos 0 ∷ pos 0 ∷ pos 0 ∷ pos 0 ∷ []))))
+    ∷ (codes "delete 18446744073709551615", Ok (Some (Delete 18446744073709551615)))
+    ∷ []
+
+-- over the table of whole numbers
+abbrev pub refusals : List Example
+refusals =
+    (codes "select", Err (Bad why.End))
+    ∷ (codes "select a where", Err (Bad why.End))
+    ∷ (codes "fetch a", Err (Bad why.Word))
+    ∷ (codes "select a b", Err (Bad why.Word))
+    ∷ (codes "select a,a,a,a,a,a,a,a,a", Err (Bad why.Word))
+    ∷ (codes "insert 1, 2", Err (Bad why.End))
+    ∷ (codes "insert 1, 2, 3, 4", Err (Bad why.Word))
+    ∷ (codes "count where a > 1x", Err (Bad why.Value))
+    ∷ (codes "count where d > 1", Err (Unknown (codes "d")))
+    ∷ (codes "delete -1", Err (Bad why.Value))
+    ∷ (codes "delete 18446744073709551616", Err (Bad why.Value))
+    ∷ (codes "---", Err (Bad why.Word))
+    ∷ (codes "Count", Err (Bad why.Word))
+    ∷ (codes "count;", Err (Bad why.Word))
+    ∷ (codes "count a", Err (Bad why.Word))
+    ∷ (codes "select a,", Err (Bad why.End))
+    ∷ (codes "select a,a,a,a,a,a,a,a,", Err (Bad why.Word))
+    ∷ (codes "select , a", Err (Bad why.Word))
+    ∷ (codes "select select", Err (Bad why.Word))
+    ∷ (codes "select true", Err (Bad why.Word))
+    ∷ (codes "select 1a", Err (Bad why.Word))
+    ∷ (codes "select a-b", Err (Bad why.Word))
+    ∷ (codes "select a where and", Err (Bad why.Word))
+    ∷ (codes "sum", Err (Bad why.End))
+    ∷ (codes "sum a, b", Err (Bad why.Word))
+    ∷ (codes "count where a", Err (Bad why.End))
+    ∷ (codes "count where a 1", Err (Bad why.Word))
+    ∷ (codes "count where a <", Err (Bad why.End))
+    ∷ (codes "count where a < =", Err (Bad why.Word))
+    ∷ (codes "count where a =< 1", Err (Bad why.Word))
+    ∷ (codes "count where a <> 1", Err (Bad why.Word))
+    ∷ (codes "count where a = and", Err (Bad why.Value))
+    ∷ (codes "count where a = b", Err (Bad why.Value))
+    ∷ (codes "count where a = ,", Err (Bad why.Word))
+    ∷ (codes "count where a = 1 or b = 2", Err (Bad why.Word))
+    ∷ (codes "count where a = 1, b = 2", Err (Bad why.Word))
+    ∷ (codes "count where a = 1 and", Err (Bad why.End))
+    ∷ (codes "insert", Err (Bad why.End))
+    ∷ (codes "insert 1 2 3", Err (Bad why.Word))
+    ∷ (codes "insert 1, 2,", Err (Bad why.End))
+    ∷ (codes "insert 1, , 3", Err (Bad why.Word))
+    ∷ (codes "insert 1, x, 3", Err (Bad why.Value))
+    ∷ (codes "delete", Err (Bad why.End))
+    ∷ (codes "delete 1 2", Err (Bad why.Word))
+    ∷ []

@@ -1,0 +1,31 @@
+//! Laws of the grammar of lines. Each function has no body to speak of: its contract is the law.
+
+ghost use Rattle.std.specs.Prelude.{◌≡◌, ℕ, List, [], Ok, Option, fold, map};
+ghost use Rattle.sw_lang.specs.declared.term.Term.{Term};
+ghost use Rattle.sw_lang.specs.Terms.{add_term, conditions};
+ghost use Rattle.sw_rows.specs.Header.{Column, IsSchema};
+ghost use Rattle.sw_lang.specs.Grammar.{IsLine};
+ghost use Rattle.sw_rows.specs.declared.query.Call.{Call};
+ghost use Rattle.sw_lang.specs.Reading.{line_at};
+ghost use Rattle.sw_lang.specs.Examples.{calls, mixed, refusals, three};
+
+/// The format's examples are read as the format says.
+pub fn examples_of_lines()
+    ensures calls { map (λ e. line_at mixed e.0) calls ≡ map (λ e. e.1) calls }
+    ensures refusals { map (λ e. line_at three e.0) refusals ≡ map (λ e. e.1) refusals }
+{
+}
+
+/// Terms that are met one after another, each narrowing the condition on its attribute or adding one, make the conditions
+/// that all of them make at once.
+pub fn terms_make_conditions()
+    ensures { (terms : List Term) → fold add_term [] terms ≡ conditions terms }
+{
+}
+
+/// Reading a line from left to right finds just what the grammar relates to the line.
+pub fn lines_are_read_as_related()
+    ensures found { (schema : List Column) (text : List ℕ) (call : Option Call) → line_at schema text ≡ Ok call → IsLine schema text call }
+    ensures only { (schema : List Column) (text : List ℕ) (call : Option Call) → IsSchema schema → IsLine schema text call → line_at schema text ≡ Ok call }
+{
+}

@@ -1,0 +1,288 @@
+//! The call of a line.
+
+ghost use Rattle.std.specs.Prelude.{◌≡◌, ◌<◌, ◌≤◌, [], ℤ, List, length, IfOk, ◌==◌};
+ghost use Rattle.sw_rows.specs.Cells.{HasPlaces};
+ghost use Rattle.sw_lang.specs.Reading.{aggregate_at, asked, call_at, call_of, cells_at, delete_at, first_by, insert_at, is_comment, line_at, name_of, names_at, next_value, nothing_left, past_comma, refused, select_at, term_at, terms_at, where_at, Answers, Gives};
+ghost use Rattle.sw_lang.specs.Tokens.{tok, tokens};
+
+use crate::fault::{Fault, ParseError, bad};
+use crate::single::{is_comma, is_word, key_at, kind_at, name_at, op_at, value_at};
+use crate::term::{Term, add_term};
+use crate::token::{Token, next_token, skip_blanks};
+use std::alloc::Global;
+use sw_rows::{Call, Conds, Kind, Names, Query, Refusal, Schema, Want, Why};
+
+/// The greatest length of a line, in bytes.
+pub const MOST_LINE: usize = 4096;
+
+#[tactic(auto, unfolding(crate::specs::Reading::term_at))]
+fn term_at<'a>(
+    alloc: Global,
+    schema: &Schema,
+    text: &'a [u8],
+) -> Result<(Term, &'a [u8]), ParseError>
+    ensures gives { Gives (λ p. (p.0, tokens p.1.now)) result (term_at schema.now (tokens text.now)) }
+    ensures shorter { IfOk result (λ p. length p.1.now < length text.now) }
+{
+    let (attr, rest) = name_at(alloc, schema, text)?;
+    let (op, rest) = op_at(rest)?;
+    let (value, rest) = value_at(kind_at(schema, attr), rest)?;
+    Ok((Term { attr, op, value }, rest))
+}
+
+fn terms_at(alloc: Global, schema: &Schema, text: &[u8]) -> Result<Conds, ParseError>
+    ensures { Gives (λ c. c) result (terms_at schema.now [] (tokens text.now)) }
+{
+    let mut conds = Conds::new(alloc);
+    let mut rest = text;
+    loop {
+        let (term, after) = term_at(alloc, schema, rest)?;
+        add_term(&mut conds, term)?;
+        let Some((token, next)) = next_token(after) else {
+            return Ok(conds);
+        };
+        if !is_word(token, b"and") {
+            return Err(bad(Why::Word));
+        }
+        rest = next;
+    }
+}
+
+#[tactic(auto, unfolding(crate::specs::Reading::where_at))]
+fn where_at(alloc: Global, schema: &Schema, text: &[u8]) -> Result<Conds, ParseError>
+    ensures { Gives (λ c. c) result (where_at schema.now (tokens text.now)) }
+{
+    let Some((token, rest)) = next_token(text) else {
+        return Ok(Conds::new(alloc));
+    };
+    if !is_word(token, b"where") {
+        return Err(bad(Why::Word));
+    }
+    terms_at(alloc, schema, rest)
+}
+
+fn names_at<'a>(
+    alloc: Global,
+    schema: &Schema,
+    text: &'a [u8],
+) -> Result<(Names, &'a [u8]), ParseError>
+    ensures { Gives (λ p. (p.0, tokens p.1.now)) result (names_at schema.now [] (tokens text.now)) }
+{
+    let mut names = Names::new(alloc);
+    let mut rest = text;
+    loop {
+        let (name, after) = name_at(alloc, schema, rest)?;
+        let has_room = names.len() < 7;
+        names.push(name)?;
+        let Some((token, next)) = next_token(after) else {
+            return Ok((names, after));
+        };
+        if !is_comma(token) {
+            return Ok((names, after));
+        }
+        if !has_room {
+            return Err(bad(Why::Word));
+        }
+        rest = next;
+    }
+}
+
+fn asked(alloc: Global, schema: &Schema, want: Want, text: &[u8]) -> Result<Call, ParseError>
+    ensures { Gives (λ c. c) result (asked schema.now want (tokens text.now)) }
+{
+    let conds = where_at(alloc, schema, text)?;
+    Ok(Call::Select(Query { conds, want }))
+}
+
+#[tactic(auto, unfolding(crate::specs::Reading::select_at))]
+fn select_at(alloc: Global, schema: &Schema, text: &[u8]) -> Result<Call, ParseError>
+    ensures { Gives (λ c. c) result (select_at schema.now (tokens text.now)) }
+{
+    let (names, rest) = names_at(alloc, schema, text)?;
+    let call = asked(alloc, schema, Want::Rows(names), rest)?;
+    Ok(call)
+}
+
+#[tactic(auto, unfolding(crate::specs::Reading::aggregate_at))]
+fn sum_at(alloc: Global, schema: &Schema, text: &[u8]) -> Result<Call, ParseError>
+    ensures { Gives (λ c. c) result (aggregate_at schema.now Want.Sum (tokens text.now)) }
+{
+    let (attr, rest) = name_at(alloc, schema, text)?;
+    let call = asked(alloc, schema, Want::Sum(attr), rest)?;
+    Ok(call)
+}
+
+#[tactic(auto, unfolding(crate::specs::Reading::aggregate_at))]
+fn min_at(alloc: Global, schema: &Schema, text: &[u8]) -> Result<Call, ParseError>
+    ensures { Gives (λ c. c) result (aggregate_at schema.now Want.Min (tokens text.now)) }
+{
+    let (attr, rest) = name_at(alloc, schema, text)?;
+    let call = asked(alloc, schema, Want::Min(attr), rest)?;
+    Ok(call)
+}
+
+#[tactic(auto, unfolding(crate::specs::Reading::aggregate_at))]
+fn max_at(alloc: Global, schema: &Schema, text: &[u8]) -> Result<Call, ParseError>
+    ensures { Gives (λ c. c) result (aggregate_at schema.now Want.Max (tokens text.now)) }
+{
+    let (attr, rest) = name_at(alloc, schema, text)?;
+    let call = asked(alloc, schema, Want::Max(attr), rest)?;
+    Ok(call)
+}
+
+// The bytes past the comma that stands before a value, or all of them before the first.
+#[tactic(auto, unfolding(crate::specs::Reading::past_comma))]
+fn past_comma(is_first: bool, text: &[u8]) -> Result<&[u8], ParseError>
+    ensures gives { (values : List ℤ) → is_first ≡ (length values == 0)
+        → Gives (λ rest. tokens rest.now) result (past_comma values (tokens text.now)) }
+{
+    if is_first {
+        return Ok(text);
+    }
+    let Some((token, rest)) = next_token(text) else {
+        return Err(bad(Why::End));
+    };
+    if !is_comma(token) {
+        return Err(bad(Why::Word));
+    }
+    Ok(rest)
+}
+
+#[tactic(auto, unfolding(crate::specs::Reading::next_value))]
+fn next_value(is_first: bool, kind: Kind, text: &[u8]) -> Result<(i64, &[u8]), ParseError>
+    requires { HasPlaces kind }
+    ensures { (values : List ℤ) → is_first ≡ (length values == 0)
+        → Gives (λ p. (p.0, tokens p.1.now)) result (next_value values kind (tokens text.now)) }
+{
+    let rest = past_comma(is_first, text)?;
+    let (value, rest) = value_at(kind, rest)?;
+    Ok((value, rest))
+}
+
+fn nothing_left(text: &[u8]) -> Result<(), ParseError>
+    ensures { Gives (λ u. u) result (nothing_left tt (tokens text.now)) }
+{
+    match next_token(text) {
+        Some(_) => Err(bad(Why::Word)),
+        None => Ok(()),
+    }
+}
+
+fn cells_at(schema: &Schema, text: &[u8]) -> Result<[i64; 8], ParseError>
+    ensures { Gives (λ cells. cells) result (cells_at schema.now (tokens text.now)) }
+{
+    let mut cells = [0; 8];
+    let mut rest = text;
+    for attr in 0..schema.len() {
+        let (value, after) = next_value(attr == 0, kind_at(schema, attr), rest)?;
+        cells[attr] = value;
+        rest = after;
+    }
+    nothing_left(rest)?;
+    Ok(cells)
+}
+
+fn insert_at(schema: &Schema, text: &[u8]) -> Result<Call, ParseError>
+    ensures { Gives (λ c. c) result (insert_at schema.now (tokens text.now)) }
+{
+    let cells = cells_at(schema, text)?;
+    Ok(Call::Insert(cells))
+}
+
+#[tactic(auto, unfolding(crate::specs::Reading::delete_at))]
+fn delete_at(text: &[u8]) -> Result<Call, ParseError>
+    ensures { Gives (λ c. c) result (delete_at (tokens text.now)) }
+{
+    let (key, rest) = key_at(text)?;
+    nothing_left(rest)?;
+    Ok(Call::Delete(key))
+}
+
+// The call that begins with this token.
+#[tactic(auto, unfolding(crate::specs::Reading::call_of))]
+fn call_of(
+    alloc: Global,
+    schema: &Schema,
+    first: Token,
+    text: &[u8],
+) -> Result<Call, ParseError>
+    ensures { Gives (λ c. c) result (call_of schema.now (tok first.entry) (tokens text.now)) }
+{
+    if is_word(first, b"select") {
+        return select_at(alloc, schema, text);
+    }
+    if is_word(first, b"count") {
+        return asked(alloc, schema, Want::Count, text);
+    }
+    if is_word(first, b"sum") {
+        return sum_at(alloc, schema, text);
+    }
+    if is_word(first, b"min") {
+        return min_at(alloc, schema, text);
+    }
+    if is_word(first, b"max") {
+        return max_at(alloc, schema, text);
+    }
+    if is_word(first, b"insert") {
+        return insert_at(schema, text);
+    }
+    if is_word(first, b"delete") {
+        return delete_at(text);
+    }
+    Err(bad(Why::Word))
+}
+
+#[tactic(auto, unfolding(crate::specs::Reading::call_at))]
+fn call_at(alloc: Global, schema: &Schema, text: &[u8]) -> Result<Option<Call>, ParseError>
+    ensures { Gives (λ c. c) result (call_at schema.now (tokens text.now)) }
+{
+    let Some((first, rest)) = next_token(text) else {
+        return Ok(None);
+    };
+    let call = call_of(alloc, schema, first, rest)?;
+    Ok(Some(call))
+}
+
+fn is_comment(text: &[u8]) -> bool
+    ensures { result ≡ is_comment text.now }
+{
+    let Some((first, _)) = skip_blanks(text).split_first() else {
+        return false;
+    };
+    *first == b'#'
+}
+
+#[tactic(auto, unfolding(crate::specs::Reading::line_at))]
+fn line_at(alloc: Global, schema: &Schema, text: &[u8]) -> Result<Option<Call>, ParseError>
+    ensures { Gives (λ c. c) result (line_at schema.now text.now) }
+{
+    if text.len() > MOST_LINE {
+        return Err(bad(Why::Length));
+    }
+    if is_comment(text) {
+        return Ok(None);
+    }
+    let call = call_at(alloc, schema, text)?;
+    Ok(call)
+}
+
+/// The call of a line of a script, and None of an empty line or a comment.
+///
+/// The text is the line without its end. Refused `BadLine` with the line's number, from 1, as it is given: why `Length`
+/// where the text is longer than 4,096 bytes; else `Word`, `End` or `Value` for the first token from the left that cannot
+/// stand where it does. `UnknownAttribute` where that token is a well-formed name that no attribute has.
+pub fn parse_line(
+    alloc: Global,
+    schema: &Schema,
+    line: u32,
+    text: &str,
+) -> Result<Option<Call>, Refusal>
+    ensures { Answers result (refused line (line_at schema.now text.now)) }
+{
+    match line_at(alloc, schema, text.as_bytes()) {
+        Ok(call) => Ok(call),
+        Err(ParseError::Memory) => Err(Refusal::NoMemory),
+        Err(ParseError::Fault(Fault::Bad(why))) => Err(Refusal::BadLine { line, why }),
+        Err(ParseError::Fault(Fault::Unknown(name))) => Err(Refusal::UnknownAttribute { name }),
+    }
+}

@@ -1,0 +1,104 @@
+//! Cells and sums go out as text.
+
+ghost use Rattle.std.specs.Prelude.{◌≡◌, ◌<◌, ◌≤◌, ◌+◌, ◌^◌, ◌++◌, codes, decimal};
+ghost use Rattle.sw_lang.specs.Replies.{cell_text, extreme_text, fixed_text, padded_digits, sum_text, with_point};
+ghost use Rattle.sw_lang.specs.Sinks.{Writes};
+ghost use Rattle.sw_rows.specs.Cells.{HasPlaces};
+
+use crate::sinks::{write_all, write_number};
+use sw_rows::{Kind, Refusal, Sink};
+
+const POWERS_OF_TEN: [u128; 7] = [1, 10, 100, 1_000, 10_000, 100_000, 1_000_000];
+
+// Ten to a power.
+fn power_of_ten(power: u8) -> u128
+    requires { power ≤ 6 }
+    ensures value { result ≡ 10 ^ power }
+    ensures some { 1 ≤ result }
+    ensures few { result ≤ 1000000 }
+{
+    POWERS_OF_TEN[power as usize]
+}
+
+// A dot, and just so many decimals.
+fn write_fraction<W: Sink>(places: u8, fraction: u64, out: &mut W) -> Result<(), Refusal>
+    requires some { 1 ≤ places }
+    requires few { places ≤ 6 }
+    requires below { fraction < 10 ^ places }
+    ensures { Writes (W.taken out.old) (W.taken out.new) (W.failed out.old) (W.failed out.new) result (codes "." ++ padded_digits places (decimal fraction)) }
+{
+    let mut text = *b".000000";
+    let end = places as usize + 1;
+    itoa::write_digits(fraction, &mut text, end);
+    write_all(out, &text[..end])
+}
+
+// Units, of which ten to the power `places` are one: the whole part, a dot and the decimals.
+fn write_with_point<W: Sink>(places: u8, units: u128, out: &mut W) -> Result<(), Refusal>
+    requires some { 1 ≤ places }
+    requires few { places ≤ 6 }
+    ensures { Writes (W.taken out.old) (W.taken out.new) (W.failed out.old) (W.failed out.new) result (with_point places units) }
+{
+    let one = power_of_ten(places);
+    let fraction = (units % one) as u64;
+    write_number(units / one, out)?;
+    write_fraction(places, fraction, out)
+}
+
+// The same below 0.
+fn write_below_zero<W: Sink>(places: u8, units: u128, out: &mut W) -> Result<(), Refusal>
+    requires some { 1 ≤ places }
+    requires few { places ≤ 6 }
+    ensures { Writes (W.taken out.old) (W.taken out.new) (W.failed out.old) (W.failed out.new) result (codes "-" ++ with_point places units) }
+{
+    write_all(out, b"-")?;
+    write_with_point(places, units, out)
+}
+
+// A number of units with a sign.
+fn write_fixed<W: Sink>(places: u8, units: i128, out: &mut W) -> Result<(), Refusal>
+    requires some { 1 ≤ places }
+    requires few { places ≤ 6 }
+    ensures { Writes (W.taken out.old) (W.taken out.new) (W.failed out.old) (W.failed out.new) result (fixed_text places units) }
+{
+    if units < 0 {
+        write_below_zero(places, units.unsigned_abs(), out)
+    } else {
+        write_with_point(places, units.unsigned_abs(), out)
+    }
+}
+
+// Writes a cell of a kind.
+pub(crate) fn write_cell<W: Sink>(kind: Kind, cell: &i64, out: &mut W) -> Result<(), Refusal>
+    requires { HasPlaces kind }
+    ensures { Writes (W.taken out.old) (W.taken out.new) (W.failed out.old) (W.failed out.new) result (cell_text kind cell.now) }
+{
+    match kind {
+        Kind::Int => write_number(*cell, out),
+        Kind::Fix(places) => write_fixed(places, i128::from(*cell), out),
+        Kind::Flag if *cell == 1 => write_all(out, b"true"),
+        Kind::Flag => write_all(out, b"false"),
+    }
+}
+
+// Writes a sum over a kind.
+pub(crate) fn write_sum<W: Sink>(kind: Kind, sum: i128, out: &mut W) -> Result<(), Refusal>
+    requires { HasPlaces kind }
+    ensures { Writes (W.taken out.old) (W.taken out.new) (W.failed out.old) (W.failed out.new) result (sum_text kind sum) }
+{
+    match kind {
+        Kind::Fix(places) => write_fixed(places, sum, out),
+        Kind::Int | Kind::Flag => write_number(sum, out),
+    }
+}
+
+// Writes the least or the greatest of a kind, if there is one.
+pub(crate) fn write_extreme<W: Sink>(kind: Kind, extreme: Option<i64>, out: &mut W) -> Result<(), Refusal>
+    requires { HasPlaces kind }
+    ensures { Writes (W.taken out.old) (W.taken out.new) (W.failed out.old) (W.failed out.new) result (extreme_text kind extreme) }
+{
+    match extreme {
+        Some(cell) => write_cell(kind, &cell, out),
+        None => write_all(out, b"none"),
+    }
+}

@@ -1,0 +1,129 @@
+//! Rows go out as lines.
+
+ghost use Rattle.std.specs.Prelude.{◌≡◌, ◌++◌, ◌∷◌, [], codes, decimal, length, map};
+ghost use Rattle.sw_lang.specs.Replies.{cell_text, cells_text, kind_at, more_cells, row_line, rows_line, with_ends};
+ghost use Rattle.sw_lang.specs.Sinks.{Writes};
+ghost use Rattle.sw_rows.specs.Cells.{HasPlaces};
+
+use crate::printed_cells::write_cell;
+use crate::sinks::{write_all, write_number};
+use sw_rows::{Kind, Refusal, ReplyRow, Schema, Sink};
+
+// The kind of an attribute.
+pub(crate) fn kind_at(schema: &Schema, attr: usize) -> Kind
+    ensures value { result ≡ kind_at schema.now attr }
+    ensures places { HasPlaces result }
+{
+    if attr < schema.len() {
+        schema.kind(attr)
+    } else {
+        Kind::Int
+    }
+}
+
+// A comma, a space and a cell.
+fn write_next_cell<W: Sink>(kind: Kind, cell: &i64, out: &mut W) -> Result<(), Refusal>
+    requires { HasPlaces kind }
+    ensures { Writes (W.taken out.old) (W.taken out.new) (W.failed out.old) (W.failed out.new) result (codes ", " ++ cell_text kind cell.now) }
+{
+    write_all(out, b", ")?;
+    write_cell(kind, cell, out)
+}
+
+// The cells after the first.
+fn write_more_cells<W: Sink>(schema: &Schema, attrs: &[usize], cells: &[i64], out: &mut W) -> Result<(), Refusal>
+    ensures { Writes (W.taken out.old) (W.taken out.new) (W.failed out.old) (W.failed out.new) result (more_cells (map (kind_at schema.now) attrs.now) cells.now) }
+{
+    let mut attrs = attrs;
+    let mut cells = cells;
+    while let Some((attr, later)) = attrs.split_first() {
+        let Some((cell, after)) = cells.split_first() else {
+            return Ok(());
+        };
+        write_next_cell(kind_at(schema, *attr), cell, out)?;
+        attrs = later;
+        cells = after;
+    }
+    Ok(())
+}
+
+// The first cell and those after it.
+fn write_some_cells<W: Sink>(schema: &Schema, attr: usize, later: &[usize], cell: &i64, after: &[i64], out: &mut W) -> Result<(), Refusal>
+    ensures { Writes (W.taken out.old) (W.taken out.new) (W.failed out.old) (W.failed out.new) result (cells_text (map (kind_at schema.now) (attr ∷ later.now)) (cell.now ∷ after.now)) }
+{
+    write_cell(kind_at(schema, attr), cell, out)?;
+    write_more_cells(schema, later, after, out)
+}
+
+// The cells of a row.
+fn write_cells<W: Sink>(schema: &Schema, attrs: &[usize], cells: &[i64], out: &mut W) -> Result<(), Refusal>
+    ensures { Writes (W.taken out.old) (W.taken out.new) (W.failed out.old) (W.failed out.new) result (cells_text (map (kind_at schema.now) attrs.now) cells.now) }
+{
+    let Some((attr, later)) = attrs.split_first() else {
+        return Ok(());
+    };
+    let Some((cell, after)) = cells.split_first() else {
+        return Ok(());
+    };
+    write_some_cells(schema, *attr, later, cell, after, out)
+}
+
+// A colon, a space and the cells of a row.
+fn write_after_key<W: Sink>(schema: &Schema, attrs: &[usize], cells: &[i64], out: &mut W) -> Result<(), Refusal>
+    ensures { Writes (W.taken out.old) (W.taken out.new) (W.failed out.old) (W.failed out.new) result (codes ": " ++ cells_text (map (kind_at schema.now) attrs.now) cells.now) }
+{
+    write_all(out, b": ")?;
+    write_cells(schema, attrs, cells, out)
+}
+
+// A row without its line's end.
+fn write_row<W: Sink>(schema: &Schema, attrs: &[usize], row: &ReplyRow, out: &mut W) -> Result<(), Refusal>
+    ensures { Writes (W.taken out.old) (W.taken out.new) (W.failed out.old) (W.failed out.new) result (row_line (map (kind_at schema.now) attrs.now) row.now) }
+{
+    write_number(row.key, out)?;
+    write_after_key(schema, attrs, row.cells.as_slice(), out)
+}
+
+// A row as a line.
+fn write_row_line<W: Sink>(schema: &Schema, attrs: &[usize], row: &ReplyRow, out: &mut W) -> Result<(), Refusal>
+    ensures { Writes (W.taken out.old) (W.taken out.new) (W.failed out.old) (W.failed out.new) result (row_line (map (kind_at schema.now) attrs.now) row.now ++ codes "\n") }
+{
+    write_row(schema, attrs, row, out)?;
+    write_all(out, b"\n")
+}
+
+// Rows as lines.
+fn write_row_lines<W: Sink>(schema: &Schema, attrs: &[usize], rows: &[ReplyRow], out: &mut W) -> Result<(), Refusal>
+    ensures { Writes (W.taken out.old) (W.taken out.new) (W.failed out.old) (W.failed out.new) result (with_ends (map (row_line (map (kind_at schema.now) attrs.now)) rows.now)) }
+{
+    let mut rows = rows;
+    while let Some((row, later)) = rows.split_first() {
+        write_row_line(schema, attrs, row, out)?;
+        rows = later;
+    }
+    Ok(())
+}
+
+// How many rows there are, without the bracket before it.
+fn write_count_end<W: Sink>(count: usize, out: &mut W) -> Result<(), Refusal>
+    ensures { Writes (W.taken out.old) (W.taken out.new) (W.failed out.old) (W.failed out.new) result ((decimal count ++ codes " rows)") ++ codes "\n") }
+{
+    write_number(count, out)?;
+    write_all(out, b" rows)\n")
+}
+
+// How many rows there are, as a line.
+fn write_rows_line<W: Sink>(count: usize, out: &mut W) -> Result<(), Refusal>
+    ensures { Writes (W.taken out.old) (W.taken out.new) (W.failed out.old) (W.failed out.new) result (rows_line count ++ codes "\n") }
+{
+    write_all(out, b"(")?;
+    write_count_end(count, out)
+}
+
+// Rows as lines, and how many there are.
+pub(crate) fn write_rows<W: Sink>(schema: &Schema, attrs: &[usize], rows: &[ReplyRow], out: &mut W) -> Result<(), Refusal>
+    ensures { Writes (W.taken out.old) (W.taken out.new) (W.failed out.old) (W.failed out.new) result (with_ends (map (row_line (map (kind_at schema.now) attrs.now)) rows.now ++ rows_line (length rows.now) ∷ [])) }
+{
+    write_row_lines(schema, attrs, rows, out)?;
+    write_rows_line(rows.len(), out)
+}

@@ -1,0 +1,108 @@
+//! Replies go out as lines.
+
+ghost use Rattle.std.specs.Prelude.{◌≡◌, ◌++◌, ◌∷◌, [], codes, decimal, length, map};
+ghost use Rattle.sw_lang.specs.Replies.{extreme_text, first_kind, kinds_called, kinds_wanted, reply_bytes, row_line, rows_line, sum_text, with_ends};
+ghost use Rattle.sw_lang.specs.Sinks.{Writes};
+ghost use Rattle.sw_rows.specs.Cells.{HasPlaces};
+
+use crate::printed_cells::{write_extreme, write_sum};
+use crate::printed_rows::{kind_at, write_rows};
+use crate::sinks::{write_all, write_number};
+use sw_rows::{Call, Kind, Refusal, Reply, ReplyRow, Schema, Sink, Want};
+
+// The kind of the first attribute that is shown, or of the one that is summed or compared.
+fn kind_wanted(schema: &Schema, want: &Want) -> Kind
+    ensures value { result ≡ first_kind (kinds_wanted schema.now want.now) }
+    ensures places { HasPlaces result }
+{
+    match want {
+        Want::Rows(attrs) => match attrs.as_slice().first() {
+            Some(attr) => kind_at(schema, *attr),
+            None => Kind::Int,
+        },
+        Want::Count => Kind::Int,
+        Want::Sum(attr) | Want::Min(attr) | Want::Max(attr) => kind_at(schema, *attr),
+    }
+}
+
+fn kind_called(schema: &Schema, call: &Call) -> Kind
+    ensures value { result ≡ first_kind (kinds_called schema.now call.now) }
+    ensures places { HasPlaces result }
+{
+    match call {
+        Call::Select(query) => kind_wanted(schema, &query.want),
+        Call::Insert(_) | Call::Delete(_) => Kind::Int,
+    }
+}
+
+// The rows that a query is answered.
+fn write_rows_wanted<W: Sink>(schema: &Schema, want: &Want, rows: &[ReplyRow], out: &mut W) -> Result<(), Refusal>
+    ensures { Writes (W.taken out.old) (W.taken out.new) (W.failed out.old) (W.failed out.new) result (with_ends (map (row_line (kinds_wanted schema.now want.now)) rows.now ++ rows_line (length rows.now) ∷ [])) }
+{
+    match want {
+        Want::Rows(attrs) => write_rows(schema, attrs.as_slice(), rows, out),
+        Want::Count => write_rows(schema, &[], rows, out),
+        Want::Sum(attr) => write_rows(schema, &[*attr], rows, out),
+        Want::Min(attr) => write_rows(schema, &[*attr], rows, out),
+        Want::Max(attr) => write_rows(schema, &[*attr], rows, out),
+    }
+}
+
+fn write_rows_called<W: Sink>(schema: &Schema, call: &Call, rows: &[ReplyRow], out: &mut W) -> Result<(), Refusal>
+    ensures { Writes (W.taken out.old) (W.taken out.new) (W.failed out.old) (W.failed out.new) result (with_ends (map (row_line (kinds_called schema.now call.now)) rows.now ++ rows_line (length rows.now) ∷ [])) }
+{
+    match call {
+        Call::Select(query) => write_rows_wanted(schema, &query.want, rows, out),
+        Call::Insert(_) | Call::Delete(_) => write_rows(schema, &[], rows, out),
+    }
+}
+
+// A number as a line.
+fn write_number_line<W: Sink>(number: u64, out: &mut W) -> Result<(), Refusal>
+    ensures { Writes (W.taken out.old) (W.taken out.new) (W.failed out.old) (W.failed out.new) result (decimal number ++ codes "\n") }
+{
+    write_number(number, out)?;
+    write_all(out, b"\n")
+}
+
+fn write_sum_line<W: Sink>(kind: Kind, sum: i128, out: &mut W) -> Result<(), Refusal>
+    requires { HasPlaces kind }
+    ensures { Writes (W.taken out.old) (W.taken out.new) (W.failed out.old) (W.failed out.new) result (sum_text kind sum ++ codes "\n") }
+{
+    write_sum(kind, sum, out)?;
+    write_all(out, b"\n")
+}
+
+fn write_extreme_line<W: Sink>(kind: Kind, extreme: Option<i64>, out: &mut W) -> Result<(), Refusal>
+    requires { HasPlaces kind }
+    ensures { Writes (W.taken out.old) (W.taken out.new) (W.failed out.old) (W.failed out.new) result (extreme_text kind extreme ++ codes "\n") }
+{
+    write_extreme(kind, extreme, out)?;
+    write_all(out, b"\n")
+}
+
+fn write_key_line<W: Sink>(key: u64, out: &mut W) -> Result<(), Refusal>
+    ensures { Writes (W.taken out.old) (W.taken out.new) (W.failed out.old) (W.failed out.new) result ((codes "key " ++ decimal key) ++ codes "\n") }
+{
+    write_all(out, b"key ")?;
+    write_number_line(key, out)
+}
+
+/// Writes the lines of the reply to a call.
+///
+/// Cells are written by the kinds of the attributes that the call names. Refused `Output` where the sink fails; then a
+/// beginning of the lines went out.
+pub fn write_reply<W: Sink>(schema: &Schema, call: &Call, reply: &Reply, out: &mut W) -> Result<(), Refusal>
+    ensures { Writes (W.taken out.old) (W.taken out.new) (W.failed out.old) (W.failed out.new) result (reply_bytes schema.now call.now reply.now) }
+{
+    match reply {
+        Reply::Rows(rows) => write_rows_called(schema, call, rows.as_slice(), out),
+        Reply::Count(count) => write_number_line(*count, out),
+        Reply::Sum(sum) => write_sum_line(kind_called(schema, call), *sum, out),
+        Reply::Least(extreme) => write_extreme_line(kind_called(schema, call), *extreme, out),
+        Reply::Inserted(key) => write_key_line(*key, out),
+        Reply::Full => write_all(out, b"full\n"),
+        Reply::Removed => write_all(out, b"removed\n"),
+        Reply::NoSuchKey => write_all(out, b"no such key\n"),
+    }
+}
