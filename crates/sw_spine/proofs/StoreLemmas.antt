@@ -105,3 +105,11 @@ slice_since us later x n k is here past =
 pub length_opened : (rows : List Row) → length (opened rows) ≡ length rows
 length_opened [] = refl
 length_opened (r ∷ rows) = grind (arith, length_opened rows)
+
+-- a plain list of rows that makes further updates
+pub rows_of_more : (us more : List Update) → fold rows_then (rows_of us) more ≡ rows_of (us ++ more)
+rows_of_more us more = rows_from us [] more
+  where
+    rows_from : (us : List Update) (rs : List Row) (more : List Update) → fold rows_then (fold rows_then rs us) more ≡ fold rows_then rs (us ++ more)
+    rows_from [] rs more = refl
+    rows_from (u ∷ us) rs more = rows_from us (rows_then rs u) more

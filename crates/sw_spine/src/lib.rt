@@ -9,3 +9,6 @@ mod store;
 pub use history::{Entry, Lines, Record, State};
 pub use laws::{keys_are_given_once, visits_keep_books};
 pub use spine::{MOST_ENTRIES, MOST_SESSIONS, Spine};
+
+#[cfg(test)]
+mod tests;
