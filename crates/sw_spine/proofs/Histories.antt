@@ -40,6 +40,7 @@ mine_push s (x ∷ es) e r same is = with_more (x.session == s) x.call x.state (
     answers_more c (state.Lines ls) xs ys z is = is
     answers_more c state.Open xs ys z is = is
     answers_more c state.Void xs ys z is = is
+
     with_more : (b : Bool) (c : Call) (st : State) (xs ys : List (Call × Reply)) (z : Call × Reply) → ys ≡ xs ++ z ∷ [] → cond b (with_answer c st ys) ys ≡ cond b (with_answer c st xs) xs ++ z ∷ []
     with_more true c st xs ys z is = answers_more c st xs ys z is
     with_more false c st xs ys z is = is

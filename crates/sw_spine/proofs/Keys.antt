@@ -1,5 +1,6 @@
 -- Keys are given once.
-use Rattle.std.proofs.Common.{◌≡◌, ◌≢◌, ◌<◌, ◌≤◌, ◌+◌, ◌++◌, ◌==◌, ℕ, Bool, true, false, not, List, [], ◌∷◌, length, refl, sym, ap, ◌∙◌, arith, cond, subst, length-append, ⊎_elim, ◌&&◌, ◌||◌}
+use Rattle.std.proofs.Common.{◌≡◌, ◌≢◌, ◌<◌, ◌≤◌, ◌+◌, ◌++◌, ◌==◌, ℕ, Bool, true, false, not, List, [], ◌∷◌, length, refl, sym, ap, ◌∙◌, arith, cond, subst, length-append, ⊎_elim, ◌&&◌, ◌||◌, suc, Some}
+use Rattle.std.specs.Prelude.{slice_get}
 use Rattle.std.proofs.lemmas.Bool.{cases_lt}
 use Rattle.std.proofs.lemmas.Bool.Decides.{nat_tests}
 use Rattle.std.proofs.lemmas.List.{append-nil}
@@ -55,14 +56,14 @@ fresh_insert us r f is =
       numbered = rw (given_insert us r) (numbered_push 1 (rows_given us) r f.numbered (omega (arith, is, f.count)));
       count = ap (λ l. length l) (given_insert us r) ∙ (length-append (rows_given us) (r ∷ []) ∙ (ap (λ n. n + 1) f.count ∙ sym (inserts_insert us r)));
       above = λ key less.
-        let lower : inserts us < key = omega (arith, less, inserts_insert us r) in
-        let apart : key ≢ r.key = λ e. omega (arith, less, inserts_insert us r, is, e) in
-        there key ∙ grind (arith, nat_tests, f.above key lower, apart);
+          let lower : inserts us < key = omega (arith, less, inserts_insert us r) in
+          let apart : key ≢ r.key = λ e. omega (arith, less, inserts_insert us r, is, e) in
+          there key ∙ grind (arith, nat_tests, f.above key lower, apart);
       gone = λ key h.
-        let before : is_removed key us ≡ true = sym (removed_insert key us r) ∙ h in
-        let low : key ≤ inserts us = f.within key before in
-        let apart : key ≢ r.key = λ e. omega (arith, low, is, e) in
-        there key ∙ grind (arith, nat_tests, f.gone key before, apart);
+          let before : is_removed key us ≡ true = sym (removed_insert key us r) ∙ h in
+          let low : key ≤ inserts us = f.within key before in
+          let apart : key ≢ r.key = λ e. omega (arith, low, is, e) in
+          there key ∙ grind (arith, nat_tests, f.gone key before, apart);
       within = λ key h. omega (arith, f.within key (sym (removed_insert key us r) ∙ h), inserts_insert us r);
     }
 
@@ -82,17 +83,18 @@ fresh_remove us k f had =
     gone_at key h = ⊎_elim
         (λ less. let apart : key ≢ k = λ e. omega (arith, less, e) in grind (arith, nat_tests, f.gone key (removed_remove key us k h apart)))
         (λ past. ⊎_elim
-            (λ more. let apart : key ≢ k = λ e. omega (arith, more, e) in grind (arith, nat_tests, f.gone key (removed_remove key us k h apart)))
-            (λ most. let same : key ≡ k = omega (arith, past, most) in grind (arith, nat_tests, same))
-            (cases_lt k key))
+        (λ more. let apart : key ≢ k = λ e. omega (arith, more, e) in grind (arith, nat_tests, f.gone key (removed_remove key us k h apart)))
+        (λ most. let same : key ≡ k = omega (arith, past, most) in grind (arith, nat_tests, same))
+        (cases_lt k key))
         (cases_lt key k)
+
     within_at : (key : ℕ) → is_removed key (us ++ update.Remove k ∷ []) ≡ true → k ≤ inserts us → key ≤ inserts (us ++ update.Remove k ∷ [])
     within_at key h low = ⊎_elim
         (λ less. omega (arith, less, low, inserts_remove us k))
         (λ past. ⊎_elim
-            (λ more. let apart : key ≢ k = λ e. omega (arith, more, e) in omega (arith, f.within key (removed_remove key us k h apart), inserts_remove us k))
-            (λ most. omega (arith, most, low, inserts_remove us k))
-            (cases_lt k key))
+        (λ more. let apart : key ≢ k = λ e. omega (arith, more, e) in omega (arith, f.within key (removed_remove key us k h apart), inserts_remove us k))
+        (λ most. omega (arith, most, low, inserts_remove us k))
+        (cases_lt k key))
         (cases_lt key k)
 
 given_opened : (rows : List Row) → rows_given (opened rows) ≡ rows
@@ -108,8 +110,8 @@ fresh_opened rows numbered = record {
   numbered = rw (given_opened rows) numbered;
   count = ap (λ l. length l) (given_opened rows) ∙ sym (inserts_opened rows);
   above = λ key less.
-    let high : length rows < key = omega (arith, less, inserts_opened rows) in
-    ap (has_key key) (rows_of_opened rows) ∙ (has_numbered 1 key rows numbered ∙ grind (arith, nat_tests, high));
+      let high : length rows < key = omega (arith, less, inserts_opened rows) in
+      ap (has_key key) (rows_of_opened rows) ∙ (has_numbered 1 key rows numbered ∙ grind (arith, nat_tests, high));
   gone = λ key h. let e : true ≡ false = sym h ∙ removed_opened key rows in absurd cc;
   within = λ key h. let e : true ≡ false = sym h ∙ removed_opened key rows in absurd cc;
 }
@@ -145,10 +147,18 @@ after_both limit us [] more = refl
 after_both limit us (e ∷ es) more = after_both limit (updates_then limit us e.call) es more
 
 pub given_once : KeysAreGivenOnce
-given_once =
-    ( (λ h numbered. (fresh_after h.limit (opened h.rows) h.entries (fresh_opened h.rows numbered)).numbered)
-    , (λ h es key numbered gone.
-        let us = updates_of h in
-        let f : AreFresh us = fresh_after h.limit (opened h.rows) h.entries (fresh_opened h.rows numbered) in
-        let later : updates_of (with_more h es) ≡ updates_after h.limit us es = after_both h.limit (opened h.rows) h.entries es in
-        rw later ((fresh_after h.limit us es f).gone key (removed_after key h.limit us es gone))) )
+given_once = (
+  (λ h numbered. (fresh_after h.limit (opened h.rows) h.entries (fresh_opened h.rows numbered)).numbered),
+  (λ h es key numbered gone.
+      let us = updates_of h in
+      let f : AreFresh us = fresh_after h.limit (opened h.rows) h.entries (fresh_opened h.rows numbered) in
+      let later : updates_of (with_more h es) ≡ updates_after h.limit us es = after_both h.limit (opened h.rows) h.entries es in
+      rw later ((fresh_after h.limit us es f).gone key (removed_after key h.limit us es gone))),
+)
+
+pub numbered_by_place : (n : ℕ) (rows : List Row) → ((i : ℕ) (r : Row) → slice_get rows i ≡ Some r → r.key ≡ i + n) → is_numbered n rows ≡ true
+numbered_by_place n [] h = refl
+numbered_by_place n (x ∷ rows) h =
+    let first : x.key ≡ n = omega (arith, h 0 x refl) in
+    let rest = numbered_by_place (n + 1) rows (λ i r e. let k : r.key ≡ suc i + n = h (suc i) r e in omega (arith, k)) in
+    grind (arith, nat_tests, first, rest)

@@ -51,39 +51,45 @@ kept_visit (voids session) b k may =
 kept_visit (commits session c) b k may =
     let s : Stored = record { rows = b.rows; limit = b.limit; later = k.0 } in
     ((stored_then s c).later, k.1, subst (λ (us : List Update). IsSpine (record b { entries = b.entries ++ entry session c (state.Answered (reply_to b.limit us c)) ∷ [] }) (stored_then s c).later k.1) (sym k.2.updates_are) (kept_answered b.columns s b.entries b.taken b.sessions b.published k.1 session c k.2 may.0.opened may.0.rest (below_change (length b.columns) c may.1) may.0.room))
-kept_visit (publishes n) b k may =
-    (k.0, k.1, record {
-      sound = k.2.sound;
-      legal = k.2.legal;
-      updates_are = k.2.updates_are;
-      orderly = k.2.orderly;
-      given = k.2.given;
-      places_are = k.2.places_are;
-      known = k.2.known;
-      slots = k.2.slots;
-      few = k.2.few;
-      heads = k.2.heads;
-      taken = λ h less. record { low = (k.2.taken h less).low; high = (k.2.taken h less).high };
-      published = record { low = omega (arith, k.2.published.low, may.0); high = may.1 };
-    })
+kept_visit (publishes n) b k may = (
+  k.0,
+  k.1,
+  record {
+    sound = k.2.sound;
+    legal = k.2.legal;
+    updates_are = k.2.updates_are;
+    orderly = k.2.orderly;
+    given = k.2.given;
+    places_are = k.2.places_are;
+    known = k.2.known;
+    slots = k.2.slots;
+    few = k.2.few;
+    heads = k.2.heads;
+    taken = λ h less. record { low = (k.2.taken h less).low; high = (k.2.taken h less).high };
+    published = record { low = omega (arith, k.2.published.low, may.0); high = may.1 };
+  },
+)
 
 kept_new : (columns : List Column) (rows : List Row) (limit : ℕ) → 0 < limit → limit ≤ 1048576 → length rows ≤ limit → is_numbered 1 rows ≡ true → HasSpine (new_books columns rows limit)
 kept_new columns rows limit some most few numbered =
-    let all : length rows ≤ length (opened rows) = omega (arith, length_opened rows) in
-    ([], [], record {
-      sound = record { some = some; most = most; few = few; numbered = numbered; short = omega arith; below = tt };
-      legal = tt;
-      updates_are = sym (append-nil (opened rows));
-      orderly = refl;
-      given = refl;
-      places_are = λ i less. absurd (omega arith);
-      known = λ n out. refl;
-      slots = refl;
-      few = omega arith;
-      heads = length-replicate 8 (length rows);
-      taken = λ h less. rw (get_or-replicate 8 h (length rows) 0 less) (record { low = omega arith; high = all });
-      published = record { low = omega arith; high = all };
-    })
+    let all : length rows ≤ length (opened rows) = omega (arith, length_opened rows) in (
+      [],
+      [],
+      record {
+        sound = record { some = some; most = most; few = few; numbered = numbered; short = omega arith; below = tt };
+        legal = tt;
+        updates_are = sym (append-nil (opened rows));
+        orderly = refl;
+        given = refl;
+        places_are = λ i less. absurd (omega arith);
+        known = λ n out. refl;
+        slots = refl;
+        few = omega arith;
+        heads = length-replicate 8 (length rows);
+        taken = λ h less. rw (get_or-replicate 8 h (length rows) 0 less) (record { low = omega arith; high = all });
+        published = record { low = omega arith; high = all };
+      },
+    )
 
 pub kept_run : (vs : List Visit) (b : Books) → HasSpine b → AreAllowed vs b → HasSpine (books_after vs b)
 kept_run [] b k may = k
@@ -167,7 +173,7 @@ asked_run s (v ∷ vs) b k may =
 
 -- ---- all visits of a new spine
 
-took_new : (columns : List Column) (rows : List Row) (limit h : ℕ) → h < 8 → took h (new_books columns rows limit) ≡ opened rows
+pub took_new : (columns : List Column) (rows : List Row) (limit h : ℕ) → h < 8 → took h (new_books columns rows limit) ≡ opened rows
 took_new columns rows limit h less =
     ap (λ n. take n (opened rows)) (get_or-replicate 8 h (length rows) 0 less ∙ sym (length_opened rows)) ∙ take-length (opened rows)
 

@@ -62,7 +62,7 @@ slots_remove limit us live key slots some = record {
   most = slots.most;
   within = rw (length-set live (key - 1) false) slots.within;
   given = inserts_remove us key ∙ slots.given ∙ sym (length-set live (key - 1) false);
-  lives = λ k. ap (has_key k) (rows_push us (update.Remove key)) ∙ has_key_without k key (rows_of us) ∙ ap (λ b. not (k == key) && b) (slots.lives k) ∙ sym (is_live_set k key live some)
+  lives = λ k. ap (has_key k) (rows_push us (update.Remove key)) ∙ has_key_without k key (rows_of us) ∙ ap (λ b. not (k == key) && b) (slots.lives k) ∙ sym (is_live_set k key live some);
 }
 
 -- rows that are numbered from n have the keys from n on
@@ -89,7 +89,7 @@ slots_new limit rows most few numbered = record {
   most = most;
   within = rw (length-replicate (length rows) true) few;
   given = inserts_opened rows ∙ sym (length-replicate (length rows) true);
-  lives = λ k. ap (has_key k) (rows_of_opened rows) ∙ has_numbered 1 k rows numbered ∙ sym (live_new (length rows) k)
+  lives = λ k. ap (has_key k) (rows_of_opened rows) ∙ has_numbered 1 k rows numbered ∙ sym (live_new (length rows) k);
 }
 
 -- ---- the updates since a place

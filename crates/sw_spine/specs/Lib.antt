@@ -2,3 +2,4 @@ pub mod Table
 pub mod History
 pub mod Books
 pub mod Visits
+pub mod Rest

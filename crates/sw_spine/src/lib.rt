@@ -7,7 +7,7 @@ mod spine;
 mod store;
 
 pub use history::{Entry, Lines, Record, State};
-pub use laws::{keys_are_given_once, visits_keep_books};
+pub use laws::{keys_are_given_once, rows_in_order_are_numbered, visits_keep_books};
 pub use spine::{MOST_ENTRIES, MOST_SESSIONS, Spine};
 
 #[cfg(test)]

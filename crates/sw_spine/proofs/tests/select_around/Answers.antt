@@ -34,10 +34,10 @@ invariant_of-result c =
     let inbox : c.as_slice.result.now ≡ untaken 0 b = search rules in
     let rows : c.update_all.new.rows.items ≡ rows_of (updates b) = took_rest b c.bench.inside.rows.items _ c.as_slice.result.now c.bench.invariant.4 inbox c.in_ok-update_all.ensures.ok in
     let taken : took 0 c.finish.new.self ≡ updates b = c.finish.ensures.taken 0 some ∙ (c.commit.ensures.taken 0 some ∙ c.in_ok-begin.ensures.took) in
-    let waits : waits_for 1 c.finish.new.self ≡ None = c.finish.ensures.others.waits 1 apart ∙ c.commit.ensures.rest in
-    (
+    let waits : waits_for 1 c.finish.new.self ≡ None = c.finish.ensures.others.waits 1 apart ∙ c.commit.ensures.rest in (
       ap (λ (o : Books). o.sessions) c.finish.ensures.finished ∙ (ap (λ (o : Books). o.sessions) c.in_ok-commit.ensures.committed.1 ∙ (ap (λ (o : Books). o.sessions) c.in_ok-begin.ensures.begun ∙ c.bench.invariant.0)),
       ap (λ (o : Books). length o.columns) c.finish.ensures.finished ∙ (ap (λ (o : Books). length o.columns) c.in_ok-commit.ensures.committed.1 ∙ (ap (λ (o : Books). length o.columns) c.in_ok-begin.ensures.begun ∙ c.bench.invariant.1)),
-      waits, c.finish.ensures.rest,
+      waits,
+      c.finish.ensures.rest,
       rw taken rows,
     )

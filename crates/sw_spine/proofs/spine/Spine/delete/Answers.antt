@@ -19,5 +19,5 @@ invariant_of-self-2 c =
     let short : length s.entries.items < 1048576 = subst (λ (o : Books). length o.entries < 1048576) (sym c.self.view_is) c.requires.room in
     let reply : c.removed.result ≡ reply_to s.store.limit (all_updates s.store) (Delete c.args.key) = c.removed.ensures ∙ c.in_ok-found.ensures.0 in
     let grown : c.push_reserved.new.self.items ≡ s.entries.items ++ entry c.args.session (Delete c.args.key) (Answered (reply_to s.store.limit (all_updates s.store) (Delete c.args.key))) ∷ [] =
-        c.push_reserved.ensures.items ∙ (ap (λ es. es ++ entry c.args.session (Delete c.args.key) (Answered c.removed.result) ∷ []) c.in_ok-reserve.ensures.items ∙ ap (λ r. s.entries.items ++ entry c.args.session (Delete c.args.key) (Answered r) ∷ []) reply) in
+    c.push_reserved.ensures.items ∙ (ap (λ es. es ++ entry c.args.session (Delete c.args.key) (Answered c.removed.result) ∷ []) c.in_ok-reserve.ensures.items ∙ ap (λ r. s.entries.items ++ entry c.args.session (Delete c.args.key) (Answered r) ∷ []) reply) in
     rw (grown, c.in_ok-found.ensures.1) (kept_answered s.schema s.store s.entries.items s.taken s.sessions s.published s.places.items c.args.session (Delete c.args.key) c.self.invariant opened rest tt short)

@@ -19,5 +19,5 @@ invariant_of-self-2 c =
     let short : length s.entries.items < 1048576 = subst (λ (o : Books). length o.entries < 1048576) (sym c.self.view_is) c.requires.room in
     let reply : c.inserted.result ≡ reply_to s.store.limit (all_updates s.store) (Insert c.args.cells) = c.inserted.ensures ∙ c.in_ok-given.ensures.0 in
     let grown : c.push_reserved.new.self.items ≡ s.entries.items ++ entry c.args.session (Insert c.args.cells) (Answered (reply_to s.store.limit (all_updates s.store) (Insert c.args.cells))) ∷ [] =
-        c.push_reserved.ensures.items ∙ (ap (λ es. es ++ entry c.args.session (Insert c.args.cells) (Answered c.inserted.result) ∷ []) c.in_ok-reserve.ensures.items ∙ ap (λ r. s.entries.items ++ entry c.args.session (Insert c.args.cells) (Answered r) ∷ []) reply) in
+    c.push_reserved.ensures.items ∙ (ap (λ es. es ++ entry c.args.session (Insert c.args.cells) (Answered c.inserted.result) ∷ []) c.in_ok-reserve.ensures.items ∙ ap (λ r. s.entries.items ++ entry c.args.session (Insert c.args.cells) (Answered r) ∷ []) reply) in
     rw (grown, c.in_ok-given.ensures.1) (kept_answered s.schema s.store s.entries.items s.taken s.sessions s.published s.places.items c.args.session (Insert c.args.cells) c.self.invariant opened rest tt short)
