@@ -1,0 +1,6 @@
+pub mod Calls
+pub mod Complete
+pub mod Desks
+pub mod Serving
+pub mod Starts
+pub mod Waiting

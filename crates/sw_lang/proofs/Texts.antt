@@ -1,11 +1,11 @@
 -- The texts of cells and rows, as the writers put them together.
-use Rattle.std.proofs.Common.{◌≡◌, ◌∙◌, ap, sym, refl, subst, ℕ, suc, ◌+◌, ◌-◌, ◌<◌, ◌≤◌, List, [], ◌∷◌, ◌++◌, length, map, take, drop, replicate, codes, ℤ, pos, negsuc, ◌≤ℤ◌, arith, append_assoc, length-append, add-one, unsigned_abs, decimal}
+use Rattle.std.proofs.Common.{◌≡◌, ◌∙◌, ap, sym, ℕ, suc, ◌+◌, ◌-◌, ◌≤◌, List, [], ◌∷◌, ◌++◌, length, map, take, drop, replicate, codes, ℤ, arith, append_assoc, length-append}
 use Rattle.std.proofs.lemmas.List.{take-append-drop, take-replicate, length-replicate, append-nil}
 use Rattle.std.proofs.lemmas.List.Concat.{flat_map-cons}
 use Rattle.std.proofs.lemmas.Grind.{flat_map-append}
 use Rattle.std.proofs.Math.Seq.{take-append_seam}
 use Rattle.sw_rows.specs.declared.kind.Kind.{Kind}
-use Rattle.sw_lang.specs.Replies.{cell_text, fixed_text, more_cells, padded_digits, with_ends, with_point}
+use Rattle.sw_lang.specs.Replies.{cell_text, more_cells, padded_digits, with_ends}
 
 -- digits written into a dot and zeros, from their end
 pub fraction_text : (places r : ℕ) (ds new : List ℕ) → places ≤ 6 → length ds ≤ places → r + length ds ≡ places + 1 → drop r new ≡ ds ++ drop (places + 1) (codes ".000000") → take r new ≡ take r (codes ".000000") → take (places + 1) new ≡ codes "." ++ padded_digits places ds

@@ -7,10 +7,7 @@ use Rattle.sw_rows.specs.declared.kind.Kind.TheVariants as kind
 use Rattle.sw_rows.specs.declared.query.Call.{Call}
 use Rattle.sw_rows.specs.declared.query.Call.TheVariants as call
 use Rattle.sw_rows.specs.declared.query.Want.{Want}
-use Rattle.sw_rows.specs.declared.query.Want.TheVariants as want
 use Rattle.sw_rows.specs.declared.reply.ReplyRow.{ReplyRow}
-use Rattle.sw_rows.specs.declared.reply.Reply.{Reply}
-use Rattle.sw_rows.specs.declared.reply.Reply.TheVariants as reply
 
 -- three attributes of whole numbers
 abbrev pub abc : List Column

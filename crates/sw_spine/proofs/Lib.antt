@@ -1,4 +1,7 @@
 mod Examples
 pub mod Histories
+pub mod Keys
+pub mod RestLemmas
+pub mod Runs
 pub mod Spines
 pub mod StoreLemmas

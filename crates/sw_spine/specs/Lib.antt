@@ -1,3 +1,5 @@
 pub mod Table
 pub mod History
 pub mod Books
+pub mod Visits
+pub mod Rest

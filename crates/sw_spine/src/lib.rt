@@ -2,8 +2,13 @@
 #![tactic(auto)]
 
 mod history;
+mod laws;
 mod spine;
 mod store;
 
 pub use history::{Entry, Lines, Record, State};
+pub use laws::{keys_are_given_once, rows_in_order_are_numbered, visits_keep_books};
 pub use spine::{MOST_ENTRIES, MOST_SESSIONS, Spine};
+
+#[cfg(test)]
+mod tests;

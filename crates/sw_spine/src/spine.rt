@@ -5,6 +5,7 @@ ghost use Rattle.sw_rows.specs.Scan.{AsksBelow};
 ghost use Rattle.sw_rows.specs.declared.query.Call.TheVariants.{Select, Insert, Delete};
 ghost use Rattle.sw_spine.specs.Table.{inserted, is_numbered, removed, reply_to, updates_then};
 ghost use Rattle.sw_spine.specs.History.{IsLegal, all_given, is_absent, is_select, mine, open_place, settled};
+ghost use Rattle.sw_spine.specs.Rest.{none_open};
 ghost use Rattle.sw_spine.specs.Books.{IsCount, KeepsOtherHeads, KeepsOthers, KeepsTaken, RefusesEntry, RefusesRows, RefusesSession, history_of, is_opened, new_books, reply_now, took, untaken, updates, waits_for, with_answered, with_open, with_published, with_session, with_settled};
 ghost use Rattle.sw_spine.specs.declared.history.State.TheVariants.{Answered, Void};
 
@@ -70,12 +71,7 @@ fn removed(found: bool) -> Reply
 }
 
 /// Changes the state of a session's open entry.
-fn settle(
-    entries: &mut Vec<Entry>,
-    places: &mut Vec<Option<usize>>,
-    session: u64,
-    state: State,
-)
+fn settle(entries: &mut Vec<Entry>, places: &mut Vec<Option<usize>>, session: u64, state: State)
     requires place { slice_index_or places.old.items (session - 1) None ≡ open_place session entries.old.items }
     requires some { 0 < session }
     requires slot { session - 1 < length places.old.items }
@@ -93,12 +89,7 @@ impl Spine {
     ///
     /// Refused `TooMany` of the limit where there are more rows, `NoMemory` otherwise. The caller's conditions: the limit is
     /// 1 to 1,048,576, and the rows have the keys 1, 2, 3 and so on.
-    pub fn new(
-        alloc: Global,
-        schema: Schema,
-        rows: Vec<Row>,
-        limit: u64,
-    ) -> Result<Spine, Refusal>
+    pub fn new(alloc: Global, schema: Schema, rows: Vec<Row>, limit: u64) -> Result<Spine, Refusal>
         requires some { 0 < limit }
         requires most { limit ≤ 1048576 }
         requires numbered { is_numbered 1 rows.items ≡ true }
@@ -273,12 +264,7 @@ impl Spine {
         ensures updates { updates self.new ≡ updates self.old }
         ensures taken { KeepsTaken self.old self.new }
     {
-        settle(
-            &mut self.entries,
-            &mut self.places,
-            session,
-            State::Void,
-        );
+        settle(&mut self.entries, &mut self.places, session, State::Void);
     }
 
     /// An insert or a delete is answered at the end of the history, with the plain table's reply there.
@@ -397,6 +383,7 @@ impl Spine {
         ensures legal { IsLegal (history_of self) }
         ensures given { all_given self.entries ≡ true }
         ensures known { (s : ℕ) → is_opened s self ≡ false → is_absent s self.entries ≡ true }
+        ensures closed { ((s : ℕ) → is_opened s self ≡ true → waits_for s self ≡ None) → none_open self.entries ≡ true }
     {
         let Spine {
             schema,

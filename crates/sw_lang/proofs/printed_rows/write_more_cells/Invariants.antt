@@ -1,5 +1,5 @@
 use Rattle.std.proofs.Common.{length, map}
-use Rattle.sw_lang.specs.Replies.{kind_at, more_cells, row_line, with_ends}
+use Rattle.sw_lang.specs.Replies.{kind_at, more_cells}
 use Rattle.sw_lang.proofs.Progress.{Progress}
 use Rattle.sw_lang.proofs.printed_rows.write_more_cells.Given as goal
 

@@ -1,7 +1,5 @@
-use Rattle.std.proofs.Common.{◌≡◌, ◌≢◌, ◌<◌, ◌≤◌, ◌∷◌, [], ◌++◌, ℕ, true, length, sym, ◌∙◌, ap, subst, refl, arith, rules, append_assoc}
-use Rattle.std.specs.Prelude.{IfSome, IsSomeAnd, IsSome, None, Some}
-use Rattle.std.specs.List.{slice_index}
-use Rattle.sw_spine.specs.Books.{Books, IsCount}
+use Rattle.std.proofs.Common.{◌≡◌, length, sym, ◌∙◌, ap, arith}
+use Rattle.sw_spine.specs.Books.{Books}
 use Rattle.sw_spine.proofs.Spines.{open_heads, open_mine, open_others, open_took, open_updates, open_waits}
 use Rattle.sw_spine.proofs.spine.Spine.begin.Goals as goal
 

@@ -1,4 +1,4 @@
-use Rattle.std.proofs.Common.{◌≡◌, ◌<◌, ◌∷◌, [], ◌++◌, None, arith, rules}
+use Rattle.std.proofs.Common.{◌≡◌, ◌∷◌, [], ◌++◌, None, arith, rules}
 use Rattle.sw_spine.proofs.Spines.{kept_session}
 use Rattle.sw_spine.proofs.spine.Spine.open_session.Goals as goal
 

@@ -1,0 +1,113 @@
+-- Why a run is refused before its first call.
+use Rattle.std.proofs.Common.{◌≡◌, ◌∙◌, ap, sym, subst, refl, ℕ, ◌+◌, ◌≤◌, ◌⊎◌, inl, inr, Bool, true, false, zero, suc, List, [], ◌∷◌, length, Option, Some, None, Result, Ok, Err, arith, slice_get, IfErr, IfOk, IfSome, add-one, eqb, ◌&&◌}
+use Rattle.std.proofs.lemmas.Bool.Decides.{Decides-eqb, nat_tests}
+use Rattle.sw_rows.proofs.RowLaws.{keys-count}
+use Rattle.sw_rows.specs.Gives.{Fails}
+use Rattle.sw_rows.specs.Tables.{Table, table_of}
+use Rattle.sw_rows.specs.declared.row.Row.{Row}
+use Rattle.sw_rows.specs.declared.refusal.Refusal.{Refusal}
+use Rattle.sw_rows.specs.declared.refusal.Refusal.TheVariants as refusal
+use Rattle.sw_rows.specs.Header.{Column, Fault}
+use Rattle.sw_rows.specs.declared.query.Call.{Call}
+use Rattle.sw_rows.specs.declared.query.Call.TheVariants as call
+use Rattle.sw_lang.specs.Fits.{FitsCall}
+use Rattle.sw_spine.specs.History.{CallsBelow}
+use Rattle.sw_lang.specs.Reading.{Answers, refused, refusal_of as line_refusal}
+use Rattle.sw_lang.specs.declared.fault.Fault.{Fault as LineFault}
+use Rattle.sw_lang.specs.declared.fault.Fault.TheVariants.{Bad, Unknown}
+use Rattle.sw_spine.specs.Table.{is_numbered}
+use Rattle.sw_cli.specs.Script.{◌>>=◌}
+use Rattle.sw_cli.specs.Run.{or_refusal}
+use Rattle.sw_cli.specs.Starts.{RefusedFrom, TellsText}
+
+-- a fault of the table is the refusal of what comes after it too
+pub table_refuses : {A B : Type 0} (I J : Type 0) (e : Refusal) (read : Result A Fault) (f : A → Result B Refusal) → Fails I e read → RefusedFrom {Y = B} (I ⊎ J) e (or_refusal read >>= f)
+table_refuses I J refusal.NoMemory read f h = tt
+table_refuses I J (refusal.BadTable rec field) read f h = rw h refl
+table_refuses I J (refusal.BadLine line why) read f h = absurd h
+table_refuses I J (refusal.UnknownAttribute name) read f h = absurd h
+table_refuses I J (refusal.TooMany limit) read f h = rw h refl
+table_refuses I J (refusal.NoBlank boxes needed) read f h = absurd h
+table_refuses I J (refusal.Short used want capacity) read f h = absurd h
+table_refuses I J (refusal.Contended seen found) read f h = absurd h
+table_refuses I J (refusal.SharesOut made given) read f h = absurd h
+table_refuses I J (refusal.HistoryFull entries) read f h = absurd h
+table_refuses I J (refusal.NotLegal index) read f h = absurd h
+table_refuses I J refusal.Input read f h = inl h
+table_refuses I J refusal.Output read f h = absurd h
+table_refuses I J (refusal.Ahead seen told) read f h = absurd h
+
+-- the same of bytes that are too many, where one source alone is read
+pub bytes_refuse : {A B : Type 0} (I : Type 0) (e : Refusal) (read : Result A Fault) (f : A → Result B Refusal) → Fails I e read → RefusedFrom {Y = B} I e (or_refusal read >>= f)
+bytes_refuse I refusal.NoMemory read f h = tt
+bytes_refuse I (refusal.BadTable rec field) read f h = rw h refl
+bytes_refuse I (refusal.BadLine line why) read f h = absurd h
+bytes_refuse I (refusal.UnknownAttribute name) read f h = absurd h
+bytes_refuse I (refusal.TooMany limit) read f h = rw h refl
+bytes_refuse I (refusal.NoBlank boxes needed) read f h = absurd h
+bytes_refuse I (refusal.Short used want capacity) read f h = absurd h
+bytes_refuse I (refusal.Contended seen found) read f h = absurd h
+bytes_refuse I (refusal.SharesOut made given) read f h = absurd h
+bytes_refuse I (refusal.HistoryFull entries) read f h = absurd h
+bytes_refuse I (refusal.NotLegal index) read f h = absurd h
+bytes_refuse I refusal.Input read f h = h
+bytes_refuse I refusal.Output read f h = absurd h
+bytes_refuse I (refusal.Ahead seen told) read f h = absurd h
+
+-- a refusal of the script is that of what comes after it too
+pub script_refuses : {A B : Type 0} (I J : Type 0) (e : Refusal) (said : Result A Refusal) (f : A → Result B Refusal) → RefusedFrom {Y = A} J e said → RefusedFrom {Y = B} (I ⊎ J) e (said >>= f)
+script_refuses I J refusal.NoMemory said f h = tt
+script_refuses I J refusal.Input said f h = inr h
+script_refuses {A} I J e said f h = ap (λ (r : Result A Refusal). r >>= f) h
+
+-- a text's refusal is that of its source
+pub text_refuses : {A : Type 0} (I : Type 0) (e : Refusal) (said : Result A Refusal) → TellsText e → Answers {A = A} (Err e) said → RefusedFrom {Y = A} I e said
+text_refuses I refusal.NoMemory said t h = tt
+text_refuses I refusal.Input said t h = absurd t
+text_refuses I e said t h = h
+
+same_refusal : {A : Type 0} (d e : Refusal) → ◌≡◌ {A = Result A Refusal} (Err d) (Err e) → d ≡ e
+same_refusal d e h = cc
+
+line_tells : {A : Type 0} (n : ℕ) (e : Refusal) (r : Result A LineFault) → refused n r ≡ Err e → TellsText e
+line_tells n e (Ok x) h = absurd cc
+line_tells {A} n e (Err (Bad why)) h = subst TellsText (same_refusal {A = A} (line_refusal n (Bad why)) e h) tt
+line_tells {A} n e (Err (Unknown name)) h = subst TellsText (same_refusal {A = A} (line_refusal n (Unknown name)) e h) tt
+
+-- what a line is refused is a refusal of a text
+pub answers_tell : {A : Type 0} (n : ℕ) (e : Refusal) (r : Result A LineFault) → Answers {A = A} (Err e) (refused n r) → TellsText e
+answers_tell n refusal.NoMemory r h = tt
+answers_tell n e r h = line_tells n e r h
+
+-- what is answered is a refusal of a text
+pub result_tells : {A : Type 0} (n : ℕ) (result : Result A Refusal) (r : Result A LineFault) → Answers {A = A} result (refused n r) → IfErr result TellsText
+result_tells n (Ok x) r h = tt
+result_tells n (Err e) r h = answers_tell n e r h
+
+-- a call of the table names attributes of the table
+call_below : (schema : List Column) (c : Call) → FitsCall schema c → CallsBelow (length schema) c
+call_below schema (call.Select q) h = h.attrs
+call_below schema (call.Insert cells) h = tt
+call_below schema (call.Delete key) h = tt
+
+some_below : (schema : List Column) (o : Option Call) → IfSome o (FitsCall schema) → IfSome o (CallsBelow (length schema))
+some_below schema None h = tt
+some_below schema (Some c) h = call_below schema c h
+
+pub fits_below : (schema : List Column) (result : Result (Option Call) Refusal) → IfOk result (λ o. IfSome o (FitsCall schema)) → IfOk result (λ o. IfSome o (CallsBelow (length schema)))
+fits_below schema (Ok o) h = some_below schema o h
+fits_below schema (Err e) h = tt
+
+both-true : (a b : Bool) → a ≡ true → b ≡ true → (a && b) ≡ true
+both-true a b h k = rw (h, k) refl
+
+-- rows whose keys count on from n
+numbered_from : (n : ℕ) (rows : List Row) → ((i : ℕ) (r : Row) → slice_get rows i ≡ Some r → r.key ≡ n + i) → is_numbered n rows ≡ true
+numbered_from n [] h = refl
+numbered_from n (r ∷ rs) h =
+    let first : r.key ≡ n = let k = h 0 r refl in omega arith in
+    both-true (eqb r.key n) (is_numbered (n + 1) rs) ((Decides-eqb r.key n).1 first) (numbered_from (n + 1) rs (λ i s e. let k = h (suc i) s e in omega arith))
+
+-- the rows of a table have the keys 1, 2, 3 and so on
+pub table_numbered : (bytes : List ℕ) (t : Table) → table_of bytes ≡ Ok t → is_numbered 1 t.rows ≡ true
+table_numbered bytes t h = numbered_from 1 t.rows (λ i r e. let k = keys-count bytes t i r h e in omega arith)

@@ -1,0 +1,111 @@
+-- A run: what it starts from, and what it writes.
+use Rattle.std.specs.Prelude.{◌≡◌, ◌++◌, ℕ, Bool, true, false, List, [], ◌∷◌, codes, fold, length, map, nat_lt, Option, Result, Ok, Err, if◌then◌else◌}
+use Rattle.sw_rows.specs.Header.{Column, Fault, bad_table, too_many}
+use Rattle.sw_rows.specs.Tables.{Table, bytes_within, table_of}
+use Rattle.sw_rows.specs.declared.row.Row.{Row}
+use Rattle.sw_rows.specs.declared.row.Update.{Update}
+use Rattle.sw_rows.specs.declared.query.Call.{Call}
+use Rattle.sw_rows.specs.declared.reply.Reply.{Reply}
+use Rattle.sw_rows.specs.declared.refusal.Refusal.{Refusal}
+use Rattle.sw_rows.specs.declared.refusal.Refusal.TheVariants.{BadTable, TooMany}
+use Rattle.sw_lang.specs.Replies.{reply_bytes}
+use Rattle.sw_lang.specs.Sinks.{Took}
+use Rattle.sw_spine.specs.History.{History, mine}
+use Rattle.sw_spine.specs.Table.{opened, reply_to, updates_then}
+use Rattle.sw_cli.specs.Script.{◌>>=◌, calls_of}
+
+-- ---- what a run starts from
+
+-- a table and a script that were read: the attributes, the rows, and the calls of the script's one block
+pub record Start : Type 0 where
+  pub columns : List Column
+  pub rows : List Row
+  pub calls : List Call
+
+-- the refusal of a fault in a table
+abbrev pub refusal_of : Fault → Refusal
+refusal_of (bad_table rec field) = BadTable rec field
+refusal_of (too_many limit) = TooMany limit
+
+abbrev pub or_refusal : {A : Type 0} → Result A Fault → Result A Refusal
+or_refusal (Ok x) = Ok x
+or_refusal (Err f) = Err (refusal_of f)
+
+-- no more rows than the limit
+abbrev pub rows_within : ℕ → List Row → Result (List Row) Refusal
+rows_within limit rows = if nat_lt limit (length rows) then Err (TooMany limit) else Ok rows
+
+-- the calls that the bytes of a script spell; a script has at most 268,435,456 bytes
+abbrev pub script_of : List Column → List ℕ → Result (List Call) Refusal
+script_of columns bytes = or_refusal (bytes_within 268435456 bytes) >>= calls_of columns
+
+-- the bytes of the table are looked at first, then those of the script, and then the rows are held against the limit;
+-- the first fault in that order is the refusal
+abbrev pub start_of : ℕ → List ℕ → List ℕ → Result Start Refusal
+start_of limit table script =
+    or_refusal (table_of table) >>= λ t.
+    (script_of t.columns script >>= λ calls.
+    (rows_within limit t.rows >>= λ rows. Ok (record { columns = t.columns; rows = rows; calls = calls })))
+
+-- ---- what calls write
+
+-- the bytes of the replies to calls, one after another, where all are answered
+abbrev pub replies_bytes : List Column → ℕ → List Update → List Call → List ℕ
+replies_bytes columns limit us [] = []
+replies_bytes columns limit us (c ∷ cs) = reply_bytes columns c (reply_to limit us c) ++ replies_bytes columns limit (updates_then limit us c) cs
+
+-- what a run from this start writes, where all its calls are answered
+abbrev pub out_of : ℕ → Start → List ℕ
+out_of limit s = replies_bytes s.columns limit (opened s.rows) s.calls
+
+-- the bytes that a call writes: those of the table's reply where it is answered, and else the line of a refusal, which
+-- can only be one of memory
+abbrev pub written_by : List Column → ℕ → List Update → Call → Bool → List ℕ
+written_by columns limit us c true = reply_bytes columns c (reply_to limit us c)
+written_by columns limit us c false = codes "refused 1\n"
+
+-- the table's updates after a call that is answered, or is refused and changes nothing
+abbrev pub updates_by : ℕ → List Update → Call → Bool → List Update
+updates_by limit us c true = updates_then limit us c
+updates_by limit us c false = us
+
+-- the answered calls of a session after a call of its own that is answered or refused
+abbrev pub answered_by : ℕ → List Update → Call → Bool → List (Call × Reply) → List (Call × Reply)
+answered_by limit us c true given = given ++ (c, reply_to limit us c) ∷ []
+answered_by limit us c false given = given
+
+-- what was done so far: the updates of the plain table, what was written, and the answered calls with their replies
+pub record Done : Type 0 where
+  pub updates : List Update
+  pub text : List ℕ
+  pub answered : List (Call × Reply)
+
+-- one more call, answered or refused
+abbrev pub done_then : List Column → ℕ → Done → Call × Bool → Done
+done_then columns limit d m = record {
+  updates = updates_by limit d.updates m.0 m.1;
+  text = d.text ++ written_by columns limit d.updates m.0 m.1;
+  answered = answered_by limit d.updates m.0 m.1 d.answered;
+}
+
+abbrev pub nothing_done : List Row → Done
+nothing_done rows = record { updates = opened rows; text = []; answered = [] }
+
+-- calls that were made one after another, each answered or refused
+abbrev pub done_by : List Column → ℕ → List Row → List (Call × Bool) → Done
+done_by columns limit rows made = fold (done_then columns limit) (nothing_done rows) made
+
+abbrev pub calls_made : List (Call × Bool) → List Call
+calls_made made = map (λ m. m.0) made
+
+-- ---- what a run leaves
+
+-- a run from a start that made calls: the record is of the same table and limit, its session's answered calls are those
+-- that were answered, and the sink took what they wrote
+pub record Leaves (limit : ℕ) (s : Start) (made : List (Call × Bool)) (old new : Option (List ℕ)) (h : History) : Type 0 where
+  pub calls : calls_made made ≡ s.calls
+  pub wrote : Took old new (done_by s.columns limit s.rows made).text
+  pub columns : h.columns ≡ s.columns
+  pub rows : h.rows ≡ s.rows
+  pub limit_is : h.limit ≡ limit
+  pub answered : mine 1 h.entries ≡ (done_by s.columns limit s.rows made).answered

@@ -1,0 +1,89 @@
+//! A sink that is written by the block.
+
+ghost use Rattle.std.specs.Prelude.{◌≡◌, ◌≤◌, IfOk, [], drop, OnOk, OnErr, vec_capacity, vec_len};
+ghost use Rattle.std.specs.Io.KnownBytes.{Keeps, append_known};
+ghost use Rattle.sw_rows.specs.Gives.{Raised};
+
+use std::alloc::{AllocError, Global};
+use std::io;
+use sw_rows::Sink;
+
+/// How many bytes a block has.
+const BLOCK: usize = 65536;
+
+/// Memory for a block.
+pub(crate) fn block(alloc: Global) -> Result<Vec<u8>, AllocError>
+    ensures { IfOk result (λ block. (block.items ≡ []) × (65536 ≤ vec_capacity block)) }
+{
+    Vec::with_capacity(alloc, BLOCK)
+}
+
+/// A sink behind a block of 64 KiB, which it is given when the block is full and at `send`.
+#[derive(Drop)]
+pub(crate) struct Buffered<W: Sink> {
+    sink: W,
+    block: Vec<u8>,
+    sent: usize,
+    ghost room: { 65536 ≤ vec_capacity block },
+    ghost filled: { vec_len block ≤ 65536 },
+    ghost waiting: { sent ≤ vec_len block },
+}
+
+impl<W: Sink> Buffered<W> {
+    /// An empty block before a sink.
+    pub(crate) fn new(block: Vec<u8>, sink: W) -> Buffered<W>
+        requires empty { block.items ≡ [] }
+        requires room { 65536 ≤ vec_capacity block }
+        ensures taken { append_known (W.taken result.sink) (drop result.sent result.block.items) ≡ append_known (W.taken sink) [] }
+        ensures failed { W.failed result.sink ≡ W.failed sink }
+    {
+        Buffered {
+            sink,
+            block,
+            sent: 0,
+        }
+    }
+
+    /// The sink, without what it has not been given.
+    pub(crate) fn into_sink(self) -> W
+        ensures { result ≡ self.sink }
+    {
+        let Buffered { sink, block: _, sent: _ } = self;
+        sink
+    }
+
+    /// Gives the sink all that waits. After an error what it has not taken still waits.
+    pub(crate) fn send(&mut self) -> io::Result<()>
+        ensures kept { Keeps (append_known (W.taken self.old.sink) (drop self.old.sent self.old.block.items)) (append_known (W.taken self.new.sink) (drop self.new.sent self.new.block.items)) }
+        ensures sent { OnOk result (self.new.block.items ≡ []) }
+        ensures went { OnOk result (W.failed self.new.sink ≡ W.failed self.old.sink) }
+        ensures raised { OnErr result (Raised (W.failed self.old.sink) (W.failed self.new.sink)) }
+    {
+        while self.sent < self.block.len() {
+            let (_, waiting) = self.block.split_at(self.sent);
+            self.sent += self.sink.write_some(waiting)?;
+        }
+        self.sent = 0;
+        self.block.clear();
+        Ok(())
+    }
+}
+
+impl<W: Sink> Sink for Buffered<W> {
+    ghost taken = { λ s. append_known (W.taken s.sink) (drop s.sent s.block.items) };
+
+    ghost failed = { λ s. W.failed s.sink };
+
+    fn write_some(&mut self, buf: &[u8]) -> io::Result<usize> {
+        if self.block.len() >= BLOCK {
+            self.send()?;
+        }
+        let n = buf.len().min(BLOCK - self.block.len());
+        self.block.extend_from_slice(&buf[..n])?;
+        Ok(n)
+    }
+
+    fn failures(&self) -> u64 {
+        self.sink.failures()
+    }
+}

@@ -1,0 +1,68 @@
+//! What a run starts from: a table and a script, read to their ends.
+
+ghost use Rattle.std.specs.Prelude.{◌≡◌, ◌≤◌, ◌⊎◌, length, IfErr, IfOk, IfSome, OnOk};
+ghost use Rattle.sw_rows.specs.Gives.{Raised};
+ghost use Rattle.sw_cli.specs.Desks.{AllCallsBelow};
+ghost use Rattle.sw_cli.specs.Run.{script_of, start_of};
+ghost use Rattle.sw_cli.specs.Starts.{IfBoth, IsStart, ReadsFrom, TellsStart, start_seen};
+
+use crate::script::read_calls;
+use std::alloc::Global;
+use sw_rows::{Call, MOST_BYTES, Refusal, Row, Schema, Source, load, read_all};
+
+/// A table and a script that were read.
+#[derive(Drop)]
+pub(crate) struct Opened {
+    pub(crate) schema: Schema,
+    pub(crate) rows: Vec<Row>,
+    pub(crate) calls: Vec<Call>,
+}
+
+/// Reads a script from its source.
+fn read_script<S: Source>(
+    alloc: Global,
+    schema: &Schema,
+    script: &mut S,
+) -> Result<Vec<Call>, Refusal>
+    ensures spelled { IfSome (S.left script.old) (λ bytes. ReadsFrom (Raised (S.failed script.old) (S.failed script.new)) (λ calls. calls.items) result (script_of schema.now bytes)) }
+    ensures below { IfOk result (λ calls. AllCallsBelow (length schema.now) calls.items) }
+    ensures short { IfOk result (λ calls. length calls.items ≤ 1048576) }
+    ensures told { IfErr result (TellsStart (Raised (S.failed script.old) (S.failed script.new))) }
+{
+    match read_all(alloc, script, MOST_BYTES) {
+        Ok(text) => match read_calls(alloc, schema, &text) {
+            Ok(calls) => Ok(calls),
+            Err(e) => Err(e),
+        },
+        Err(e) => Err(e),
+    }
+}
+
+/// Reads a table, then a script, and holds the rows against the limit.
+pub(crate) fn read_start<T: Source, S: Source>(
+    alloc: Global,
+    table: &mut T,
+    script: &mut S,
+    limit: u64,
+) -> Result<Opened, Refusal>
+    ensures spelled { IfBoth (T.left table.old) (S.left script.old) (λ t s. ReadsFrom (Raised (T.failed table.old) (T.failed table.new) ⊎ Raised (S.failed script.old) (S.failed script.new)) start_seen result (start_of limit t s)) }
+    ensures sound { IfOk result (λ o. IsStart limit (start_seen o)) }
+    ensures told { IfErr result (TellsStart (Raised (T.failed table.old) (T.failed table.new) ⊎ Raised (S.failed script.old) (S.failed script.new))) }
+{
+    let (schema, rows) = match load(alloc, table) {
+        Ok(found) => found,
+        Err(e) => return Err(e),
+    };
+    let calls = match read_script(alloc, &schema, script) {
+        Ok(calls) => calls,
+        Err(e) => return Err(e),
+    };
+    if rows.len() as u64 > limit {
+        return Err(Refusal::TooMany { limit });
+    }
+    Ok(Opened {
+        schema,
+        rows,
+        calls,
+    })
+}
