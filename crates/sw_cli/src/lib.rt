@@ -17,3 +17,5 @@ pub use script::MOST_CALLS;
 
 #[cfg(test)]
 mod fault_tests;
+#[cfg(test)]
+mod run_tests;
