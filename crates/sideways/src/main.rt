@@ -3,6 +3,8 @@
 
 mod noting;
 
+ghost use Rattle.std.specs.Prelude.{◌<◌, ◌≤◌, IfSome};
+
 use crate::noting::Noting;
 use clap::{Arg, ArgAction, ArgMatches, Command};
 use std::alloc::Global;
@@ -35,7 +37,11 @@ fn limit<'a>(alloc: Global) -> Arg<'a> {
 fn command<'a>(alloc: Global) -> Result<Command<'a>, clap::Error> {
     let run = Command::new(alloc, "run")
         .about("Answers the calls of a script over a table, a reply line each")
-        .arg(file(alloc, "table", "The table: comma-separated values, of which the first record names the attributes"))?
+        .arg(file(
+            alloc,
+            "table",
+            "The table: comma-separated values, of which the first record names the attributes",
+        ))?
         .arg(file(alloc, "script", "The script: a call a line"))?
         .arg(limit(alloc))?;
     Ok(
@@ -53,20 +59,35 @@ fn refused<E: Sink>(refusal: &Refusal, errors: &mut E) -> ExitCode {
 }
 
 /// Runs a script over a table, of which both are open.
-fn run_open<T: Source, S: Source, W: Sink, E: Sink>(
+fn run_open<T: Source, S: Source, W: Sink + Drop, E: Sink>(
     alloc: Global,
     table: &mut T,
     script: &mut S,
     out: W,
     errors: &mut E,
-    options: &Options,
-) -> ExitCode {
+    limit: u64,
+) -> ExitCode
+    requires some { 0 < limit }
+    requires most { limit ≤ 1048576 }
+{
+    let options = Options { limit };
     let mut noting = Noting::new(out);
-    match run(alloc, table, script, &mut noting, options) {
+    match run(alloc, table, script, &mut noting, &options) {
         Ok(_) if noting.has_refused() => ExitCode::from(3),
         Ok(_) => ExitCode::SUCCESS,
         Err(refusal) => refused(&refusal, errors),
     }
+}
+
+/// The limit of rows that was given.
+fn limit_given(given: &ArgMatches) -> Option<u64>
+    ensures { IfSome result (λ limit. (0 < limit) × (limit ≤ 1048576)) }
+{
+    let limit = given.get_one::<u64>("limit")?;
+    if limit == 0 || limit > 1_048_576 {
+        return None;
+    }
+    Some(limit)
 }
 
 /// Opens the table, then the script, and runs.
@@ -79,7 +100,7 @@ fn run_files<R: Files + Print, E: Sink>(
     let (Some(table), Some(script)) = (given.get_str("table"), given.get_str("script")) else {
         return ExitCode::from(2);
     };
-    let Some(limit) = given.get_one::<u64>("limit") else {
+    let Some(limit) = limit_given(given) else {
         return ExitCode::from(2);
     };
     let (Ok(table), Ok(script)) = (File::open(rt, table), File::open(rt, script)) else {
@@ -91,7 +112,7 @@ fn run_files<R: Files + Print, E: Sink>(
         &mut Counted::new(script),
         Counted::new(io::writer(rt)),
         errors,
-        &Options { limit },
+        limit,
     )
 }
 

@@ -73,10 +73,10 @@ begun_makes session c answered q old begun new is same mine_is m =
       limit = m.limit ∙ limits;
       updates_are = m.updates_are ∙ ap (λ (us : List Update). updates_by begun.limit us c answered) same ∙ ap (λ (n : ℕ). updates_by n (updates old) c answered) limits;
       mine_is =
-        m.mine_is
-        ∙ ap (λ (us : List Update). answered_by begun.limit us c answered (mine session begun.entries)) same
-        ∙ ap (λ (n : ℕ). answered_by n (updates old) c answered (mine session begun.entries)) limits
-        ∙ ap (λ (given : List (Call × Reply)). answered_by old.limit (updates old) c answered given) mine_is;
+          m.mine_is
+          ∙ ap (λ (us : List Update). answered_by begun.limit us c answered (mine session begun.entries)) same
+          ∙ ap (λ (n : ℕ). answered_by n (updates old) c answered (mine session begun.entries)) limits
+          ∙ ap (λ (given : List (Call × Reply)). answered_by old.limit (updates old) c answered given) mine_is;
     }
 
 -- a call that was refused before it had a place
@@ -129,16 +129,16 @@ made_more session made c answered old mid new all one =
       rows = one.rows ∙ all.rows;
       limit = one.limit ∙ all.limit;
       updates_are =
-        one.updates_are
-        ∙ ap (λ (us : List Update). updates_by mid.limit us c answered) all.updates_are
-        ∙ ap (λ (n : ℕ). updates_by n d.updates c answered) all.limit
-        ∙ sym (ap (λ (x : Done). x.updates) more);
+          one.updates_are
+          ∙ ap (λ (us : List Update). updates_by mid.limit us c answered) all.updates_are
+          ∙ ap (λ (n : ℕ). updates_by n d.updates c answered) all.limit
+          ∙ sym (ap (λ (x : Done). x.updates) more);
       mine_is =
-        one.mine_is
-        ∙ ap (λ (us : List Update). answered_by mid.limit us c answered (mine session mid.entries)) all.updates_are
-        ∙ ap (λ (n : ℕ). answered_by n d.updates c answered (mine session mid.entries)) all.limit
-        ∙ ap (λ (given : List (Call × Reply)). answered_by old.limit d.updates c answered given) all.mine_is
-        ∙ sym (ap (λ (x : Done). x.answered) more);
+          one.mine_is
+          ∙ ap (λ (us : List Update). answered_by mid.limit us c answered (mine session mid.entries)) all.updates_are
+          ∙ ap (λ (n : ℕ). answered_by n d.updates c answered (mine session mid.entries)) all.limit
+          ∙ ap (λ (given : List (Call × Reply)). answered_by old.limit d.updates c answered given) all.mine_is
+          ∙ sym (ap (λ (x : Done). x.answered) more);
     }
 
 -- what one more call writes comes after what was written

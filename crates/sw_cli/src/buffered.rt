@@ -48,7 +48,11 @@ impl<W: Sink> Buffered<W> {
     pub(crate) fn into_sink(self) -> W
         ensures { result ≡ self.sink }
     {
-        let Buffered { sink, block: _, sent: _ } = self;
+        let Buffered {
+            sink,
+            block: _,
+            sent: _,
+        } = self;
         sink
     }
 

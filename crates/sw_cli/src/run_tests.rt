@@ -109,7 +109,15 @@ fn faults_before_any_call(rt: HostRuntime) -> Result<(), Fail> {
     }
     let (bytes, refusal) = ran(alloc, T, "count\n---\ncount\n", LIMIT)?;
     assert!(rt; bytes.is_empty());
-    assert!(rt; matches!(refusal, Some(Refusal::BadLine { line: 2, why: Why::Word })));
+    assert!(rt;
+        matches!(
+            refusal,
+            Some(Refusal::BadLine {
+                line: 2,
+                why: Why::Word
+            })
+        )
+    );
     Ok(())
 }
 
@@ -151,7 +159,13 @@ fn failing_sinks(rt: HostRuntime) -> Result<(), Fail> {
             left,
             failed: 0,
         });
-        let result = run(alloc, &mut table, &mut script, &mut out, &Options { limit: LIMIT });
+        let result = run(
+            alloc,
+            &mut table,
+            &mut script,
+            &mut out,
+            &Options { limit: LIMIT },
+        );
         assert!(rt; matches!(result, Err(Refusal::Output)));
         assert!(rt; wanted.starts_with(out.inner.bytes.as_slice()));
         assert_eq!(rt; out.failures(), 1);

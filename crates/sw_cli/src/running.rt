@@ -82,7 +82,14 @@ fn serve<W: Sink>(sink: W, job: Job) -> (W, Result<Record, Refusal>)
         calls,
     } = job;
     let mut buffered = Buffered::new(block, sink);
-    match make_all(alloc, &mut spine, &mut plain, SESSION, calls.as_slice(), &mut buffered) {
+    match make_all(
+        alloc,
+        &mut spine,
+        &mut plain,
+        SESSION,
+        calls.as_slice(),
+        &mut buffered,
+    ) {
         Ok(()) => match buffered.send() {
             Ok(()) => (buffered.into_sink(), Ok(spine.into_record())),
             Err(_) => (buffered.into_sink(), Err(Refusal::Output)),
@@ -92,12 +99,7 @@ fn serve<W: Sink>(sink: W, job: Job) -> (W, Result<Record, Refusal>)
 }
 
 /// Makes the calls of a run that was opened.
-fn begin<W: Sink>(
-    alloc: Global,
-    opened: Opened,
-    limit: u64,
-    out: &mut W,
-) -> Result<Record, Refusal>
+fn begin<W: Sink>(alloc: Global, opened: Opened, limit: u64, out: &mut W) -> Result<Record, Refusal>
     requires some { 0 < limit }
     requires most { limit ≤ 1048576 }
     requires sound { IsStart limit (start_seen opened) }

@@ -64,11 +64,7 @@ fn add_call(calls: &mut Vec<Call>, call: Option<Call>) -> Result<(), Refusal>
 /// The first fault in the order of lines refuses it: `BadLine` with the line's number, from 1, and why `Length` where it has
 /// more than 4,096 bytes, `Encoding` where it is not UTF-8, or what `parse_line` finds; `UnknownAttribute`; `TooMany` at
 /// the call number 1,048,577.
-pub(crate) fn read_calls(
-    alloc: Global,
-    schema: &Schema,
-    text: &[u8],
-) -> Result<Vec<Call>, Refusal>
+pub(crate) fn read_calls(alloc: Global, schema: &Schema, text: &[u8]) -> Result<Vec<Call>, Refusal>
     requires { length text.now ≤ 268435456 }
     ensures answers { Reads (λ calls. calls.items) result (calls_of schema.now text.now) }
     ensures below { IfOk result (λ calls. AllCallsBelow (length schema.now) calls.items) }

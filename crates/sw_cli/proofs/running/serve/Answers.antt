@@ -8,31 +8,34 @@ pub returns-in-Ok-send : goal.returns-in-Ok-send
 returns-in-Ok-send g c =
     let m = c.in-Ok.ensures in
     let s = g.W.Sink in
-    let b = c.send.new.self in
-    (m.0,
-     rw c.into_sink.ensures
-     (served_whole c.into_record.result c.in-Ok.field-0 (s.taken c.args.sink) _ _ (s.taken b.sink) (s.failed c.args.sink) _ _ (s.failed b.sink) (done_from 1 c.args.job.spine m.0).text
-     c.new-buffered.ensures.taken c.new-buffered.ensures.failed m.1 (keeps_empty _ _ b.sent b.block.items c.in-Ok-send.ensures.kept c.in-Ok-send.ensures.sent) c.in-Ok-send.ensures.went),
-     (m.2.0 ∙ c.as_slice.ensures.value, served_record 1 m.0 c.args.job.spine c.make_all.new.spine c.into_record.result m.2.1 c.into_record.ensures.record_is c.into_record.ensures.legal))
+    let b = c.send.new.self in (
+      m.0,
+      rw c.into_sink.ensures
+          (served_whole c.into_record.result c.in-Ok.field-0 (s.taken c.args.sink) _ _ (s.taken b.sink) (s.failed c.args.sink) _ _ (s.failed b.sink) (done_from 1 c.args.job.spine m.0).text
+          c.new-buffered.ensures.taken c.new-buffered.ensures.failed m.1 (keeps_empty _ _ b.sent b.block.items c.in-Ok-send.ensures.kept c.in-Ok-send.ensures.sent) c.in-Ok-send.ensures.went),
+      (m.2.0 ∙ c.as_slice.ensures.value, served_record 1 m.0 c.args.job.spine c.make_all.new.spine c.into_record.result m.2.1 c.into_record.ensures.record_is c.into_record.ensures.legal),
+    )
 
 pub returns-in-Err-send : goal.returns-in-Err-send
 returns-in-Err-send g c =
     let m = c.in-Ok.ensures in
     let s = g.W.Sink in
-    let b = c.send.new.self in
-    (m.0,
-     rw c.into_sink-in-Err-send.ensures
-     (served_part c.in-Ok.field-0 (s.taken c.args.sink) _ _ (s.taken b.sink) (drop b.sent b.block.items) (s.failed c.args.sink) _ _ (s.failed b.sink) (done_from 1 c.args.job.spine m.0).text
-     c.new-buffered.ensures.taken c.new-buffered.ensures.failed m.1 c.in-Err-send.ensures.kept c.in-Err-send.ensures.raised),
-     tt)
+    let b = c.send.new.self in (
+      m.0,
+      rw c.into_sink-in-Err-send.ensures
+          (served_part c.in-Ok.field-0 (s.taken c.args.sink) _ _ (s.taken b.sink) (drop b.sent b.block.items) (s.failed c.args.sink) _ _ (s.failed b.sink) (done_from 1 c.args.job.spine m.0).text
+          c.new-buffered.ensures.taken c.new-buffered.ensures.failed m.1 c.in-Err-send.ensures.kept c.in-Err-send.ensures.raised),
+      tt,
+    )
 
 pub returns-in-Err : goal.returns-in-Err
 returns-in-Err g c =
     let m = c.in-Err.ensures in
     let s = g.W.Sink in
-    let b = c.make_all.new.out in
-    (m.0,
-     rw c.into_sink-in-Err.ensures
-     (served_beginning c.in-Err.e (s.taken c.args.sink) _ (s.taken b.sink) (drop b.sent b.block.items) (s.failed c.args.sink) _ (s.failed b.sink) (done_from 1 c.args.job.spine m.0).text
-     c.new-buffered.ensures.taken c.new-buffered.ensures.failed m.1),
-     tt)
+    let b = c.make_all.new.out in (
+      m.0,
+      rw c.into_sink-in-Err.ensures
+          (served_beginning c.in-Err.e (s.taken c.args.sink) _ (s.taken b.sink) (drop b.sent b.block.items) (s.failed c.args.sink) _ (s.failed b.sink) (done_from 1 c.args.job.spine m.0).text
+          c.new-buffered.ensures.taken c.new-buffered.ensures.failed m.1),
+      tt,
+    )
