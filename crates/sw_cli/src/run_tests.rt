@@ -1,3 +1,5 @@
+ghost use Rattle.std.specs.Prelude.{◌<◌, ◌≤◌};
+
 use crate::{Options, run};
 use std::alloc::{AllocError, Global};
 use std::io;
@@ -14,7 +16,10 @@ fn ran(
     table: &str,
     script: &str,
     limit: u64,
-) -> Result<(Vec<u8>, Option<Refusal>), AllocError> {
+) -> Result<(Vec<u8>, Option<Refusal>), AllocError>
+    requires some { 0 < limit }
+    requires most { limit ≤ 1048576 }
+{
     let mut table = Counted::new(table.as_bytes());
     let mut script = Counted::new(script.as_bytes());
     let mut out = Counted::new(Vec::new(alloc));
