@@ -1,3 +1,4 @@
+pub mod CutSteps
 pub mod Fit
 pub mod Lines
 pub mod Merge

@@ -1,6 +1,7 @@
 //! The language of scripts: a line's call, and the lines of a reply.
 #![tactic(auto)]
 
+mod cuts;
 mod fault;
 mod line_law;
 mod parse;
@@ -12,12 +13,17 @@ mod sinks;
 mod term;
 mod token;
 
-pub use line_law::{examples_of_lines, lines_are_read_as_related, terms_make_conditions};
+pub use cuts::{Cuts, MOST_CUTS, parse_cuts};
+pub use line_law::{
+    examples_of_cuts, examples_of_lines, lines_are_read_as_related, terms_make_conditions,
+};
 pub use parse::{MOST_LINE, parse_line};
 pub use replies::write_reply;
 pub use sinks::{write_all, write_number};
 pub use term::Term;
 pub use token::Op;
 
+#[cfg(test)]
+mod cut_tests;
 #[cfg(test)]
 mod parse_tests;

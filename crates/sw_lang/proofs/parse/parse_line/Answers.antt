@@ -37,3 +37,9 @@ returns-in-Err-Fault-Unknown-clause-only c = λ ok call is.
     let one = line_read c.args.schema.now c.args.text.now call ok is in
     let failed = rw (c.in-Err-Fault-Unknown.field-0-is, c.as_bytes.ensures.value) at c.in-Err-Fault-Unknown.ensures in
     absurd (no_fault call _ (line_at c.args.schema.now c.args.text.now) one failed)
+
+pub returns-in-Err-Fault-Excess-clause-only : goal.returns-in-Err-Fault-Excess-clause-only
+returns-in-Err-Fault-Excess-clause-only c = λ ok call is.
+    let one = line_read c.args.schema.now c.args.text.now call ok is in
+    let failed = rw (c.in-Err-Fault-Excess.field-0-is, c.as_bytes.ensures.value) at c.in-Err-Fault-Excess.ensures in
+    absurd (no_fault call _ (line_at c.args.schema.now c.args.text.now) one failed)
