@@ -1,10 +1,9 @@
 -- One token, and one value after another.
-use Rattle.std.proofs.Common.{◌≡◌, ◌∙◌, ap, sym, refl, ℕ, ℤ, pos, ◌+◌, ◌<◌, ◌≤◌, true, Option, Some, None, List, [], ◌∷◌, ◌++◌, length, map, get_or, take, drop, Result, Ok, Err, arith}
+use Rattle.std.proofs.Common.{◌≡◌, ◌∙◌, ap, sym, refl, ℕ, ℤ, pos, ◌+◌, ◌<◌, ◌≤◌, true, None, List, [], ◌∷◌, ◌++◌, length, get_or, take, drop, Ok, Err}
 use Rattle.std.specs.Prelude.{position, bytes_eq}
 use Rattle.std.proofs.lemmas.List.{drop_more, drop_all, length-map}
 use Rattle.sw_rows.proofs.TableLemmas.{padded_take}
 use Rattle.sw_rows.specs.Header.{Column, is_name, kinds_of}
-use Rattle.sw_rows.specs.Tables.{padded}
 use Rattle.sw_rows.specs.declared.kind.Kind.{Kind}
 use Rattle.sw_rows.specs.declared.kind.Kind.TheVariants as kind
 use Rattle.sw_rows.specs.declared.refusal.Why.{Why}
@@ -13,7 +12,7 @@ use Rattle.sw_lang.specs.declared.fault.Fault.TheVariants.{Unknown}
 use Rattle.sw_lang.specs.declared.fault.ParseError.{ParseError}
 use Rattle.sw_lang.specs.declared.fault.ParseError.TheVariants as errors
 use Rattle.sw_lang.specs.Replies.{kind_at}
-use Rattle.sw_lang.specs.Tokens.{Tok, word}
+use Rattle.sw_lang.specs.Tokens.{Tok}
 use Rattle.sw_lang.specs.Reading.{◌>>=◌, Fails, attr_of, found, next_value, nothing_left, values_at, cells_at}
 
 -- a name that no attribute has

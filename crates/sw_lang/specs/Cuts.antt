@@ -1,12 +1,12 @@
 -- The text that cuts heads, read from left to right, with the first fault that is met.
-use Rattle.std.specs.Prelude.{◌≡◌, ◌<◌, ◌≤◌, ◌+◌, ◌-◌, ℕ, ℤ, Bool, List, [], ◌∷◌, ◌++◌, length, take, drop, replicate, position, int_lt, nat_lt, slice_index_or, slice_set, ◌==◌, Option, Some, None, Result, Ok, Err, if◌then◌else◌}
+use Rattle.std.specs.Prelude.{◌+◌, ℕ, ℤ, Bool, List, [], ◌∷◌, ◌++◌, length, take, drop, replicate, position, int_lt, nat_lt, slice_index_or, slice_set, ◌==◌, Option, Some, None, Result, Ok, Err, if◌then◌else◌}
 use Rattle.std.specs.List.{list_all, slice_split}
 use Rattle.sw_rows.specs.Cells.{cell_value}
 use Rattle.sw_rows.specs.Header.{Column}
 use Rattle.sw_rows.specs.declared.kind.Kind.{Kind}
 use Rattle.sw_rows.specs.declared.refusal.Why.TheVariants as why
 use Rattle.sw_lang.specs.declared.fault.Fault.{Fault}
-use Rattle.sw_lang.specs.declared.fault.Fault.TheVariants.{Bad, Unknown, Excess}
+use Rattle.sw_lang.specs.declared.fault.Fault.TheVariants.{Bad, Excess}
 use Rattle.sw_lang.specs.Replies.{kind_at}
 use Rattle.sw_lang.specs.Reading.{◌>>=◌, attr_of}
 

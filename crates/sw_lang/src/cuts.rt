@@ -172,12 +172,7 @@ fn before(part: &[u8], equals: Option<usize>) -> &[u8]
 
 // Adds the cut of a name, '=' and a value.
 #[tactic(auto, unfolding(crate::specs::Cuts::cut_split))]
-fn add_part(
-    alloc: Global,
-    schema: &Schema,
-    cuts: &mut Cuts,
-    part: &[u8],
-) -> Result<(), ParseError>
+fn add_part(alloc: Global, schema: &Schema, cuts: &mut Cuts, part: &[u8]) -> Result<(), ParseError>
     requires { length cuts.old ≡ length schema.now }
     ensures gives { Gives (λ _. cuts.new) result (cut_split schema.now cuts.old part.now (equals_at part.now)) }
     ensures lists { OnOk result (length cuts.new ≡ length cuts.old) }
