@@ -93,11 +93,7 @@ pub(crate) fn write_sum<W: Sink>(kind: Kind, sum: i128, out: &mut W) -> Result<(
 }
 
 // Writes the least or the greatest of a kind, if there is one.
-pub(crate) fn write_extreme<W: Sink>(
-    kind: Kind,
-    extreme: Option<i64>,
-    out: &mut W,
-) -> Result<(), Refusal>
+pub(crate) fn write_extreme<W: Sink>(kind: Kind, extreme: Option<i64>, out: &mut W) -> Result<(), Refusal>
     requires { HasPlaces kind }
     ensures { Writes (W.taken out.old) (W.taken out.new) (W.failed out.old) (W.failed out.new) result (extreme_text kind extreme) }
 {

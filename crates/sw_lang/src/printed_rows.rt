@@ -31,12 +31,7 @@ fn write_next_cell<W: Sink>(kind: Kind, cell: &i64, out: &mut W) -> Result<(), R
 }
 
 // The cells after the first.
-fn write_more_cells<W: Sink>(
-    schema: &Schema,
-    attrs: &[usize],
-    cells: &[i64],
-    out: &mut W,
-) -> Result<(), Refusal>
+fn write_more_cells<W: Sink>(schema: &Schema, attrs: &[usize], cells: &[i64], out: &mut W) -> Result<(), Refusal>
     ensures { Writes (W.taken out.old) (W.taken out.new) (W.failed out.old) (W.failed out.new) result (more_cells (map (kind_at schema.now) attrs.now) cells.now) }
 {
     let mut attrs = attrs;
@@ -53,14 +48,7 @@ fn write_more_cells<W: Sink>(
 }
 
 // The first cell and those after it.
-fn write_some_cells<W: Sink>(
-    schema: &Schema,
-    attr: usize,
-    later: &[usize],
-    cell: &i64,
-    after: &[i64],
-    out: &mut W,
-) -> Result<(), Refusal>
+fn write_some_cells<W: Sink>(schema: &Schema, attr: usize, later: &[usize], cell: &i64, after: &[i64], out: &mut W) -> Result<(), Refusal>
     ensures { Writes (W.taken out.old) (W.taken out.new) (W.failed out.old) (W.failed out.new) result (cells_text (map (kind_at schema.now) (attr ∷ later.now)) (cell.now ∷ after.now)) }
 {
     write_cell(kind_at(schema, attr), cell, out)?;
@@ -68,12 +56,7 @@ fn write_some_cells<W: Sink>(
 }
 
 // The cells of a row.
-fn write_cells<W: Sink>(
-    schema: &Schema,
-    attrs: &[usize],
-    cells: &[i64],
-    out: &mut W,
-) -> Result<(), Refusal>
+fn write_cells<W: Sink>(schema: &Schema, attrs: &[usize], cells: &[i64], out: &mut W) -> Result<(), Refusal>
     ensures { Writes (W.taken out.old) (W.taken out.new) (W.failed out.old) (W.failed out.new) result (cells_text (map (kind_at schema.now) attrs.now) cells.now) }
 {
     let Some((attr, later)) = attrs.split_first() else {
@@ -86,12 +69,7 @@ fn write_cells<W: Sink>(
 }
 
 // A colon, a space and the cells of a row.
-fn write_after_key<W: Sink>(
-    schema: &Schema,
-    attrs: &[usize],
-    cells: &[i64],
-    out: &mut W,
-) -> Result<(), Refusal>
+fn write_after_key<W: Sink>(schema: &Schema, attrs: &[usize], cells: &[i64], out: &mut W) -> Result<(), Refusal>
     ensures { Writes (W.taken out.old) (W.taken out.new) (W.failed out.old) (W.failed out.new) result (codes ": " ++ cells_text (map (kind_at schema.now) attrs.now) cells.now) }
 {
     write_all(out, b": ")?;
@@ -99,12 +77,7 @@ fn write_after_key<W: Sink>(
 }
 
 // A row without its line's end.
-fn write_row<W: Sink>(
-    schema: &Schema,
-    attrs: &[usize],
-    row: &ReplyRow,
-    out: &mut W,
-) -> Result<(), Refusal>
+fn write_row<W: Sink>(schema: &Schema, attrs: &[usize], row: &ReplyRow, out: &mut W) -> Result<(), Refusal>
     ensures { Writes (W.taken out.old) (W.taken out.new) (W.failed out.old) (W.failed out.new) result (row_line (map (kind_at schema.now) attrs.now) row.now) }
 {
     write_number(row.key, out)?;
@@ -112,12 +85,7 @@ fn write_row<W: Sink>(
 }
 
 // A row as a line.
-fn write_row_line<W: Sink>(
-    schema: &Schema,
-    attrs: &[usize],
-    row: &ReplyRow,
-    out: &mut W,
-) -> Result<(), Refusal>
+fn write_row_line<W: Sink>(schema: &Schema, attrs: &[usize], row: &ReplyRow, out: &mut W) -> Result<(), Refusal>
     ensures { Writes (W.taken out.old) (W.taken out.new) (W.failed out.old) (W.failed out.new) result (row_line (map (kind_at schema.now) attrs.now) row.now ++ codes "\n") }
 {
     write_row(schema, attrs, row, out)?;
@@ -125,12 +93,7 @@ fn write_row_line<W: Sink>(
 }
 
 // Rows as lines.
-fn write_row_lines<W: Sink>(
-    schema: &Schema,
-    attrs: &[usize],
-    rows: &[ReplyRow],
-    out: &mut W,
-) -> Result<(), Refusal>
+fn write_row_lines<W: Sink>(schema: &Schema, attrs: &[usize], rows: &[ReplyRow], out: &mut W) -> Result<(), Refusal>
     ensures { Writes (W.taken out.old) (W.taken out.new) (W.failed out.old) (W.failed out.new) result (with_ends (map (row_line (map (kind_at schema.now) attrs.now)) rows.now)) }
 {
     let mut rows = rows;
@@ -158,12 +121,7 @@ fn write_rows_line<W: Sink>(count: usize, out: &mut W) -> Result<(), Refusal>
 }
 
 // Rows as lines, and how many there are.
-pub(crate) fn write_rows<W: Sink>(
-    schema: &Schema,
-    attrs: &[usize],
-    rows: &[ReplyRow],
-    out: &mut W,
-) -> Result<(), Refusal>
+pub(crate) fn write_rows<W: Sink>(schema: &Schema, attrs: &[usize], rows: &[ReplyRow], out: &mut W) -> Result<(), Refusal>
     ensures { Writes (W.taken out.old) (W.taken out.new) (W.failed out.old) (W.failed out.new) result (with_ends (map (row_line (map (kind_at schema.now) attrs.now)) rows.now ++ rows_line (length rows.now) ∷ [])) }
 {
     write_row_lines(schema, attrs, rows, out)?;

@@ -36,12 +36,7 @@ fn kind_called(schema: &Schema, call: &Call) -> Kind
 }
 
 // The rows that a query is answered.
-fn write_rows_wanted<W: Sink>(
-    schema: &Schema,
-    want: &Want,
-    rows: &[ReplyRow],
-    out: &mut W,
-) -> Result<(), Refusal>
+fn write_rows_wanted<W: Sink>(schema: &Schema, want: &Want, rows: &[ReplyRow], out: &mut W) -> Result<(), Refusal>
     ensures { Writes (W.taken out.old) (W.taken out.new) (W.failed out.old) (W.failed out.new) result (with_ends (map (row_line (kinds_wanted schema.now want.now)) rows.now ++ rows_line (length rows.now) ∷ [])) }
 {
     match want {
@@ -53,12 +48,7 @@ fn write_rows_wanted<W: Sink>(
     }
 }
 
-fn write_rows_called<W: Sink>(
-    schema: &Schema,
-    call: &Call,
-    rows: &[ReplyRow],
-    out: &mut W,
-) -> Result<(), Refusal>
+fn write_rows_called<W: Sink>(schema: &Schema, call: &Call, rows: &[ReplyRow], out: &mut W) -> Result<(), Refusal>
     ensures { Writes (W.taken out.old) (W.taken out.new) (W.failed out.old) (W.failed out.new) result (with_ends (map (row_line (kinds_called schema.now call.now)) rows.now ++ rows_line (length rows.now) ∷ [])) }
 {
     match call {
@@ -102,12 +92,7 @@ fn write_key_line<W: Sink>(key: u64, out: &mut W) -> Result<(), Refusal>
 ///
 /// Cells are written by the kinds of the attributes that the call names. Refused `Output` where the sink fails; then a
 /// beginning of the lines went out.
-pub fn write_reply<W: Sink>(
-    schema: &Schema,
-    call: &Call,
-    reply: &Reply,
-    out: &mut W,
-) -> Result<(), Refusal>
+pub fn write_reply<W: Sink>(schema: &Schema, call: &Call, reply: &Reply, out: &mut W) -> Result<(), Refusal>
     ensures { Writes (W.taken out.old) (W.taken out.new) (W.failed out.old) (W.failed out.new) result (reply_bytes schema.now call.now reply.now) }
 {
     match reply {
