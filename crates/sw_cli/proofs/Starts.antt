@@ -14,7 +14,7 @@ use Rattle.sw_lang.specs.Fits.{FitsCall}
 use Rattle.sw_spine.specs.History.{CallsBelow}
 use Rattle.sw_lang.specs.Reading.{Answers, refused, refusal_of as line_refusal}
 use Rattle.sw_lang.specs.declared.fault.Fault.{Fault as LineFault}
-use Rattle.sw_lang.specs.declared.fault.Fault.TheVariants.{Bad, Unknown}
+use Rattle.sw_lang.specs.declared.fault.Fault.TheVariants.{Bad, Excess, Unknown}
 use Rattle.sw_spine.specs.Table.{is_numbered}
 use Rattle.sw_cli.specs.Script.{◌>>=◌}
 use Rattle.sw_cli.specs.Run.{or_refusal}
@@ -73,6 +73,7 @@ line_tells : {A : Type 0} (n : ℕ) (e : Refusal) (r : Result A LineFault) → r
 line_tells n e (Ok x) h = absurd cc
 line_tells {A} n e (Err (Bad why)) h = subst TellsText (same_refusal {A = A} (line_refusal n (Bad why)) e h) tt
 line_tells {A} n e (Err (Unknown name)) h = subst TellsText (same_refusal {A = A} (line_refusal n (Unknown name)) e h) tt
+line_tells {A} n e (Err (Excess limit)) h = subst TellsText (same_refusal {A = A} (line_refusal n (Excess limit)) e h) tt
 
 -- what a line is refused is a refusal of a text
 pub answers_tell : {A : Type 0} (n : ℕ) (e : Refusal) (r : Result A LineFault) → Answers {A = A} (Err e) (refused n r) → TellsText e

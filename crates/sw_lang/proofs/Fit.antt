@@ -1,5 +1,5 @@
 -- What the grammar relates to a line fits the table.
-use Rattle.std.proofs.Common.{◌≡◌, ◌∙◌, ap, sym, refl, subst, ℕ, zero, suc, ℤ, pos, ◌+◌, ◌-◌, ◌<◌, ◌≤◌, ◌⊎◌, inl, inr, Bool, true, false, cond, eqb, List, [], ◌∷◌, ◌++◌, length, map, replicate, Option, Some, None, Result, Ok, Err, slice_get, All, IfSome, nat_eq, arith}
+use Rattle.std.proofs.Common.{◌≡◌, ap, sym, refl, subst, ℕ, zero, suc, ℤ, pos, ◌-◌, ◌<◌, ◌≤◌, inl, inr, Bool, true, false, cond, eqb, List, [], ◌∷◌, ◌++◌, length, map, replicate, Option, Some, None, IfSome, nat_eq, arith}
 use Rattle.std.specs.Prelude.{bytes_eq, codes}
 use Rattle.std.specs.List.{AllByRecursion, IsDistinct}
 use Rattle.std.proofs.lemmas.Bool.Decides.{Decides-eqb}
@@ -7,18 +7,13 @@ use Rattle.std.proofs.lemmas.List.{length-map}
 use Rattle.std.proofs.lemmas.List.Elements.{All-from_recursion}
 use Rattle.std.proofs.lemmas.Option.{slice_get_within}
 use Rattle.sw_rows.specs.Bounds.{bound_below, greater, lesser}
-use Rattle.sw_rows.specs.Cells.{cell_value, flag_value}
 use Rattle.sw_rows.specs.Header.{Column, kinds_of, names_of}
-use Rattle.sw_rows.specs.Scan.{AsksBelow}
-use Rattle.sw_rows.specs.Tables.{padded}
 use Rattle.sw_rows.specs.declared.bound.Bound.{Bound}
-use Rattle.sw_rows.specs.declared.bound.Bound.TheVariants.{Before, After}
 use Rattle.sw_rows.specs.declared.kind.Kind.{Kind}
 use Rattle.sw_rows.specs.declared.kind.Kind.TheVariants as kind
 use Rattle.sw_rows.specs.declared.query.Cond.{Cond}
 use Rattle.sw_rows.specs.declared.query.Call.{Call}
 use Rattle.sw_rows.specs.declared.query.Call.TheVariants.{Select, Insert, Delete}
-use Rattle.sw_rows.specs.declared.query.Query.{Query}
 use Rattle.sw_rows.specs.declared.query.Want.{Want}
 use Rattle.sw_rows.specs.declared.query.Want.TheVariants.{Rows, Count, Sum, Min, Max}
 use Rattle.sw_lang.specs.declared.term.Term.{Term}
@@ -27,7 +22,7 @@ use Rattle.sw_lang.specs.declared.token.Op.TheVariants.{Lt, Le, Eq, Ge, Gt}
 use Rattle.sw_lang.specs.Replies.{kind_at}
 use Rattle.sw_lang.specs.Terms.{add_term, attrs_after, conditions, lower_of, upper_of, with_attr}
 use Rattle.sw_lang.specs.Tokens.{Tok}
-use Rattle.sw_lang.specs.Fits.{FitsCall, FitsCells, FitsQuery, HasBoundsOfKind, HasFewNames, IsBoundOfKind, IsOfKind}
+use Rattle.sw_lang.specs.Fits.{FitsCall, FitsCells, FitsQuery, HasBoundsOfKind, IsBoundOfKind, IsOfKind}
 use Rattle.sw_lang.specs.Grammar.{IsCall, IsLine, IsName, IsNames, IsTerm, IsTerms, IsValue, IsValues, IsWant, IsWhere, MoreValues}
 use Rattle.sw_lang.proofs.Merge.{Distinct, conds_from, conds_from-conditions, distinct-more, eqb-turned, has, or-false}
 

@@ -1,4 +1,5 @@
 pub mod CallTexts
+pub mod CutSteps
 pub mod Fit
 pub mod Lines
 pub mod Merge

@@ -1,22 +1,20 @@
 -- Lines: the reading finds the call that the grammar relates to a line, and no other.
-use Rattle.std.proofs.Common.{◌≡◌, ◌∙◌, ap, sym, refl, subst, ℕ, ◌+◌, ◌<◌, ◌≤◌, ◌⊎◌, inl, inr, Bool, true, false, cond, List, [], ◌∷◌, ◌++◌, length, Option, Some, None, Result, Ok, Err, arith, nat_lt, if◌then◌else◌}
+use Rattle.std.proofs.Common.{◌≡◌, ◌∙◌, ap, sym, refl, subst, ℕ, ◌≤◌, ◌⊎◌, inl, inr, Bool, true, false, cond, List, [], ◌∷◌, ◌++◌, length, Option, Some, None, Result, Ok, Err, arith, nat_lt, if◌then◌else◌}
 use Rattle.std.specs.Prelude.{codes}
-use Rattle.std.proofs.lemmas.Bool.{le-ltb, ltb-false, false≢true}
+use Rattle.std.proofs.lemmas.Bool.{le-ltb, ltb-false}
 use Rattle.sw_rows.specs.Header.{Column, IsSchema, kinds_of}
 use Rattle.sw_rows.specs.Tables.{padded}
-use Rattle.sw_rows.specs.declared.kind.Kind.{Kind}
 use Rattle.sw_rows.specs.declared.query.Cond.{Cond}
 use Rattle.sw_rows.specs.declared.query.Call.{Call}
 use Rattle.sw_rows.specs.declared.query.Call.TheVariants.{Select, Insert, Delete}
-use Rattle.sw_rows.specs.declared.query.Query.{Query}
 use Rattle.sw_rows.specs.declared.query.Want.{Want}
 use Rattle.sw_rows.specs.declared.query.Want.TheVariants.{Rows, Count, Sum, Min, Max}
 use Rattle.sw_rows.specs.declared.refusal.Why.TheVariants as why
 use Rattle.sw_lang.specs.declared.fault.Fault.{Fault}
 use Rattle.sw_lang.specs.declared.fault.Fault.TheVariants.{Bad}
 use Rattle.sw_lang.specs.Tokens.{Tok, word, tokens}
-use Rattle.sw_lang.specs.Reading.{◌>>=◌, aggregate_at, asked, call_at, call_of, cells_at, delete_at, first_by, insert_at, is_comment, is_word, key_of, line_at, name_of, names_at, nothing_left, select_at, values_at, where_at}
-use Rattle.sw_lang.specs.Grammar.{IsCall, IsKey, IsLine, IsName, IsNames, IsValues, IsWant, IsWhere}
+use Rattle.sw_lang.specs.Reading.{aggregate_at, asked, call_at, call_of, cells_at, delete_at, first_by, insert_at, is_comment, is_word, key_of, line_at, name_of, names_at, nothing_left, select_at, values_at, where_at}
+use Rattle.sw_lang.specs.Grammar.{IsCall, IsLine, IsName, IsNames, IsWant, IsWhere}
 use Rattle.sw_lang.proofs.Names.{key_found, key_read, name_found, name_read, word_is}
 use Rattle.sw_lang.proofs.Relates.{bind_ok, first_is, first_read, names_found, names_read, same_ok, values_found, values_read, where-NoComma, where_found, where_read}
 

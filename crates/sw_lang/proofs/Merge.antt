@@ -1,5 +1,5 @@
 -- Terms taken one after another make the conditions that all of them make at once.
-use Rattle.std.proofs.Common.{◌≡◌, ◌∙◌, ℕ, Bool, true, false, cond, eqb, ◌||◌, List, [], ◌∷◌, ◌++◌, map, Option, Some, None, refl, sym, ap}
+use Rattle.std.proofs.Common.{◌≡◌, ◌∙◌, ℕ, Bool, true, false, cond, eqb, ◌||◌, List, [], ◌∷◌, ◌++◌, map, Option, None, refl, sym, ap}
 use Rattle.std.specs.List.{list_any}
 use Rattle.std.proofs.lemmas.Bool.Decides.{Decides-eqb}
 use Rattle.std.proofs.lemmas.Bool.{false≢true}
@@ -8,7 +8,7 @@ use Rattle.sw_rows.specs.Bounds.{greater, lesser}
 use Rattle.sw_rows.specs.declared.bound.Bound.{Bound}
 use Rattle.sw_rows.specs.declared.query.Cond.{Cond}
 use Rattle.sw_lang.specs.declared.term.Term.{Term}
-use Rattle.sw_lang.specs.Terms.{add_term, cond_of, narrowed, lower_of, upper_of, with_attr, attrs_after, lower_after, upper_after, conditions}
+use Rattle.sw_lang.specs.Terms.{add_term, cond_of, lower_of, upper_of, with_attr, attrs_after, lower_after, upper_after, conditions}
 
 -- the conditions after further terms
 abbrev pub conds_from : List Cond → List Term → List Cond

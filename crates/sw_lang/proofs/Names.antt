@@ -1,7 +1,7 @@
 -- Which words are names, values, keys and words of the language.
-use Rattle.std.proofs.Common.{◌≡◌, ◌∙◌, ap, sym, refl, ℕ, zero, suc, ℤ, ◌+◌, ◌<◌, ◌≤◌, Bool, true, false, cond, not, ◌&&◌, List, [], ◌∷◌, length, map, get_or, Option, Some, None, Result, Ok, Err, slice_get, arith}
-use Rattle.std.specs.Prelude.{position, bytes_eq, codes}
-use Rattle.std.specs.List.{list_all, list_any, position_or_len}
+use Rattle.std.proofs.Common.{◌≡◌, ◌∙◌, ap, sym, refl, ℕ, zero, suc, ℤ, ◌<◌, Bool, true, false, cond, not, ◌&&◌, List, [], ◌∷◌, length, get_or, Option, Some, None, Ok, Err, slice_get, arith}
+use Rattle.std.specs.Prelude.{position, bytes_eq}
+use Rattle.std.specs.List.{list_all, position_or_len}
 use Rattle.std.proofs.lemmas.Bool.{false≢true, lt-ltb}
 use Rattle.std.proofs.lemmas.List.{get_or-map, length-map}
 use Rattle.std.proofs.lemmas.List.Folds.{list_all_at, list_any_at}
@@ -13,7 +13,6 @@ use Rattle.sw_rows.specs.Header.{Column, IsSchema, is_known, is_name, names_diff
 use Rattle.sw_rows.specs.declared.kind.Kind.{Kind}
 use Rattle.sw_rows.specs.declared.kind.Kind.TheVariants as kind
 use Rattle.sw_rows.specs.declared.refusal.Why.TheVariants as why
-use Rattle.sw_lang.specs.declared.fault.Fault.{Fault}
 use Rattle.sw_lang.specs.declared.fault.Fault.TheVariants.{Bad}
 use Rattle.sw_lang.specs.declared.token.Op.{Op}
 use Rattle.sw_lang.specs.Tokens.{Tok, word, op, comma, stray}

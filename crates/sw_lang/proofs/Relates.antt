@@ -1,7 +1,7 @@
 -- The reading from left to right finds what the grammar relates, and nothing else.
-use Rattle.std.proofs.Common.{◌≡◌, ◌∙◌, ap, sym, refl, subst, ℕ, zero, suc, ℤ, ◌+◌, ◌<◌, ◌≤◌, ◌⊎◌, inl, inr, Bool, true, false, cond, List, [], ◌∷◌, ◌++◌, length, append_assoc, Option, Some, None, Result, Ok, Err, arith, nat_lt}
+use Rattle.std.proofs.Common.{◌≡◌, ◌∙◌, ap, sym, refl, subst, ℕ, zero, suc, ℤ, ◌+◌, ◌<◌, ◌≤◌, ◌⊎◌, inl, inr, Bool, true, false, cond, List, [], ◌∷◌, ◌++◌, length, append_assoc, Result, Ok, Err, arith, nat_lt}
 use Rattle.std.specs.Prelude.{codes}
-use Rattle.std.proofs.lemmas.Bool.{lt-ltb, ltb-true, false≢true}
+use Rattle.std.proofs.lemmas.Bool.{lt-ltb, ltb-true}
 use Rattle.sw_rows.specs.Header.{Column, IsSchema}
 use Rattle.sw_rows.specs.declared.kind.Kind.{Kind}
 use Rattle.sw_rows.specs.declared.query.Cond.{Cond}
@@ -9,12 +9,11 @@ use Rattle.sw_rows.specs.declared.refusal.Why.TheVariants as why
 use Rattle.sw_lang.specs.declared.fault.Fault.{Fault}
 use Rattle.sw_lang.specs.declared.fault.Fault.TheVariants.{Bad}
 use Rattle.sw_lang.specs.declared.term.Term.{Term}
-use Rattle.sw_lang.specs.declared.token.Op.{Op}
 use Rattle.sw_lang.specs.Replies.{kind_at}
-use Rattle.sw_lang.specs.Terms.{add_term, conditions}
-use Rattle.sw_lang.specs.Tokens.{Tok, word, op, comma}
+use Rattle.sw_lang.specs.Terms.{add_term}
+use Rattle.sw_lang.specs.Tokens.{Tok, word, comma}
 use Rattle.sw_lang.specs.Reading.{◌>>=◌, first_by, is_word, is_comma, name_of, names_at, next_value, nothing_left, op_of, past_comma, term_at, terms_at, value_of, values_at, where_at}
-use Rattle.sw_lang.specs.Grammar.{IsName, IsNames, IsTerm, IsTerms, IsValue, IsValues, IsWhere, MoreValues}
+use Rattle.sw_lang.specs.Grammar.{IsName, IsNames, IsTerm, IsTerms, IsValues, IsWhere, MoreValues}
 use Rattle.sw_lang.proofs.Merge.{conds_from, conds_from-conditions}
 use Rattle.sw_lang.proofs.Names.{comma_is, name_found, name_read, op_found, op_read, value_found, value_read, word_is}
 use Rattle.sw_lang.proofs.Steps.{more_names, more_terms, names_step, terms_step}

@@ -1,24 +1,23 @@
 -- One token, and one value after another.
-use Rattle.std.proofs.Common.{◌≡◌, ◌∙◌, ap, sym, refl, ℕ, ℤ, pos, ◌+◌, ◌<◌, ◌≤◌, true, Option, Some, None, List, [], ◌∷◌, ◌++◌, length, map, get_or, take, drop, Result, Ok, Err, arith}
+use Rattle.std.proofs.Common.{◌≡◌, ◌∙◌, ap, sym, refl, ℕ, ℤ, pos, ◌+◌, ◌<◌, ◌≤◌, true, None, List, [], ◌∷◌, ◌++◌, length, get_or, take, drop, Ok, Err}
 use Rattle.std.specs.Prelude.{position, bytes_eq}
 use Rattle.std.proofs.lemmas.List.{drop_more, drop_all, length-map}
 use Rattle.sw_rows.proofs.TableLemmas.{padded_take}
 use Rattle.sw_rows.specs.Header.{Column, is_name, kinds_of}
-use Rattle.sw_rows.specs.Tables.{padded}
 use Rattle.sw_rows.specs.declared.kind.Kind.{Kind}
 use Rattle.sw_rows.specs.declared.kind.Kind.TheVariants as kind
+use Rattle.sw_rows.specs.declared.refusal.Why.{Why}
 use Rattle.sw_lang.specs.declared.fault.Fault.{Fault}
 use Rattle.sw_lang.specs.declared.fault.Fault.TheVariants.{Unknown}
 use Rattle.sw_lang.specs.declared.fault.ParseError.{ParseError}
 use Rattle.sw_lang.specs.declared.fault.ParseError.TheVariants as errors
 use Rattle.sw_lang.specs.Replies.{kind_at}
-use Rattle.sw_lang.specs.Tokens.{Tok, word}
-use Rattle.sw_lang.specs.Reading.{◌>>=◌, Fails, name_of, found, next_value, nothing_left, values_at, cells_at}
+use Rattle.sw_lang.specs.Tokens.{Tok}
+use Rattle.sw_lang.specs.Reading.{◌>>=◌, Fails, attr_of, found, next_value, nothing_left, values_at, cells_at}
 
 -- a name that no attribute has
-pub unknown : (schema : List Column) (w n name : List ℕ) → is_name w ≡ true → n ≡ w → None ≡ position (λ c. bytes_eq n c.0) schema → name ≡ n → name_of schema (word w) ≡ Err (Unknown name)
-unfolding name_of
-unknown schema w n name is e none same =
+pub unknown : (schema : List Column) (malformed : Why) (w n name : List ℕ) → is_name w ≡ true → n ≡ w → None ≡ position (λ c. bytes_eq n c.0) schema → name ≡ n → attr_of schema malformed w ≡ Err (Unknown name)
+unknown schema malformed w n name is e none same =
     rw is (ap (found w) (ap (λ x. position (λ c. bytes_eq x c.0) schema) (sym e) ∙ sym none) ∙ ap (λ x. Err (Unknown x)) (sym e ∙ sym same))
 
 -- the value of the next attribute

@@ -3,17 +3,15 @@ use Rattle.std.specs.Prelude.{ℕ, ℤ, pos, neg_ℤ, List, [], ◌∷◌, Optio
 use Rattle.sw_rows.specs.Header.{Column}
 use Rattle.sw_rows.specs.declared.bound.Bound.{Bound}
 use Rattle.sw_rows.specs.declared.bound.Bound.TheVariants.{Before, After}
-use Rattle.sw_rows.specs.declared.kind.Kind.{Kind}
 use Rattle.sw_rows.specs.declared.kind.Kind.TheVariants as kind
 use Rattle.sw_rows.specs.declared.query.Cond.{Cond}
-use Rattle.sw_rows.specs.declared.query.Query.{Query}
 use Rattle.sw_rows.specs.declared.query.Call.{Call}
 use Rattle.sw_rows.specs.declared.query.Call.TheVariants.{Select, Insert, Delete}
 use Rattle.sw_rows.specs.declared.query.Want.{Want}
 use Rattle.sw_rows.specs.declared.query.Want.TheVariants.{Rows, Count, Sum}
 use Rattle.sw_rows.specs.declared.refusal.Why.TheVariants as why
 use Rattle.sw_lang.specs.declared.fault.Fault.{Fault}
-use Rattle.sw_lang.specs.declared.fault.Fault.TheVariants.{Bad, Unknown}
+use Rattle.sw_lang.specs.declared.fault.Fault.TheVariants.{Bad, Unknown, Excess}
 
 -- whole numbers
 abbrev pub three : List Column
@@ -92,4 +90,26 @@ refusals =
     ∷ (codes "insert 1, x, 3", Err (Bad why.Value))
     ∷ (codes "delete", Err (Bad why.End))
     ∷ (codes "delete 1 2", Err (Bad why.Word))
+    ∷ []
+
+-- ---- cuts over the table of whole numbers
+
+abbrev pub CutExample : Type 0
+CutExample = List ℕ × Result (List (List ℤ)) Fault
+
+abbrev pub cut_texts : List CutExample
+cut_texts =
+    (codes "", Ok ([] ∷ [] ∷ [] ∷ []))
+    ∷ (codes "a=12;b=3;a=20", Ok ((pos 12 ∷ pos 20 ∷ []) ∷ (pos 3 ∷ []) ∷ [] ∷ []))
+    ∷ (codes "a=1;", Err (Bad why.Cuts))
+    ∷ (codes "a", Err (Bad why.Cuts))
+    ∷ (codes "a=", Err (Bad why.Cuts))
+    ∷ (codes "a=1;a=1", Err (Bad why.Cuts))
+    ∷ (codes "a=2;b=9;a=1", Err (Bad why.Cuts))
+    ∷ (codes "a=1; b=2", Err (Bad why.Cuts))
+    ∷ (codes "a=1=2", Err (Bad why.Cuts))
+    ∷ (codes "where=1", Err (Bad why.Cuts))
+    ∷ (codes "d", Err (Unknown (codes "d")))
+    ∷ (codes "d=x", Err (Unknown (codes "d")))
+    ∷ (codes "a=1;a=2;a=3;a=4;a=5;a=6;a=7;a=8;a=9;a=10;a=11;a=12;a=13;a=14;a=15;a", Err (Excess 15))
     ∷ []

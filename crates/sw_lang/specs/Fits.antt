@@ -1,5 +1,5 @@
 -- What holds of each call that a line gives, beside the line's own text.
-use Rattle.std.specs.Prelude.{◌≡◌, ◌≤◌, ◌-◌, ◌⊎◌, ℕ, ℤ, pos, List, [], ◌∷◌, length, map, nat_eq, replicate, Option, Some, None, All}
+use Rattle.std.specs.Prelude.{◌≡◌, ◌≤◌, ◌⊎◌, ℤ, pos, List, [], ◌∷◌, length, map, nat_eq, replicate, Option, Some, None, All}
 use Rattle.std.specs.List.{IsDistinct}
 use Rattle.sw_rows.specs.Header.{Column, kinds_of}
 use Rattle.sw_rows.specs.Scan.{AsksBelow}

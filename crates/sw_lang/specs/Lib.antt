@@ -1,3 +1,4 @@
+pub mod Cuts
 pub mod Examples
 pub mod Fits
 pub mod Grammar

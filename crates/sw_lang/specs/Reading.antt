@@ -10,10 +10,11 @@ use Rattle.sw_rows.specs.declared.query.Call.TheVariants.{Select, Insert, Delete
 use Rattle.sw_rows.specs.declared.query.Want.{Want}
 use Rattle.sw_rows.specs.declared.query.Want.TheVariants.{Rows, Count, Sum, Min, Max}
 use Rattle.sw_rows.specs.declared.refusal.Refusal.{Refusal}
-use Rattle.sw_rows.specs.declared.refusal.Refusal.TheVariants.{NoMemory, BadLine, UnknownAttribute}
+use Rattle.sw_rows.specs.declared.refusal.Refusal.TheVariants.{NoMemory, BadLine, UnknownAttribute, TooMany}
+use Rattle.sw_rows.specs.declared.refusal.Why.{Why}
 use Rattle.sw_rows.specs.declared.refusal.Why.TheVariants as why
 use Rattle.sw_lang.specs.declared.fault.Fault.{Fault}
-use Rattle.sw_lang.specs.declared.fault.Fault.TheVariants.{Bad, Unknown}
+use Rattle.sw_lang.specs.declared.fault.Fault.TheVariants.{Bad, Unknown, Excess}
 use Rattle.sw_lang.specs.declared.fault.ParseError.{ParseError}
 use Rattle.sw_lang.specs.declared.fault.ParseError.TheVariants as errors
 use Rattle.sw_lang.specs.declared.token.Op.{Op}
@@ -42,9 +43,13 @@ abbrev pub found : List ℕ → Option ℕ → Result ℕ Fault
 found w (Some i) = Ok i
 found w None = Err (Unknown w)
 
+-- the attribute of a well-formed name; another text is refused with this why
+abbrev pub attr_of : List Column → Why → List ℕ → Result ℕ Fault
+attr_of schema malformed w = if is_name w then found w (position (λ c. bytes_eq w c.0) schema) else Err (Bad malformed)
+
 -- the attribute that a token names
 unfoldable pub name_of : List Column → Tok → Result ℕ Fault
-name_of schema (word w) = if is_name w then found w (position (λ c. bytes_eq w c.0) schema) else Err (Bad why.Word)
+name_of schema (word w) = attr_of schema why.Word w
 name_of schema t = Err (Bad why.Word)
 
 unfoldable pub op_of : Tok → Result Op Fault
@@ -192,6 +197,7 @@ line_at schema text =
 abbrev pub refusal_of : ℕ → Fault → Refusal
 refusal_of line (Bad why) = BadLine line why
 refusal_of line (Unknown name) = UnknownAttribute name
+refusal_of line (Excess limit) = TooMany limit
 
 abbrev pub refused : {A : Type 0} → ℕ → Result A Fault → Result A Refusal
 refused line (Ok x) = Ok x

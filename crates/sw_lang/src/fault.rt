@@ -12,6 +12,8 @@ pub enum Fault {
     Bad(Why),
     /// A well-formed name that is no attribute.
     Unknown(Name),
+    /// There is more of something than its greatest number.
+    Excess(u64),
 }
 
 /// Why nothing was read.

@@ -1,6 +1,7 @@
 //! The language of scripts: a line's call, and the lines of a reply.
 #![tactic(auto)]
 
+mod cuts;
 mod fault;
 mod line_law;
 mod parse;
@@ -14,8 +15,11 @@ mod sinks;
 mod term;
 mod token;
 
+pub use cuts::{Cuts, MOST_CUTS, parse_cuts};
 pub use fault::Fault;
-pub use line_law::{examples_of_lines, lines_are_read_as_related, terms_make_conditions};
+pub use line_law::{
+    examples_of_cuts, examples_of_lines, lines_are_read_as_related, terms_make_conditions,
+};
 pub use parse::{MOST_LINE, parse_line};
 pub use printed_calls::write_call;
 pub use replies::write_reply;
@@ -23,6 +27,8 @@ pub use sinks::{write_all, write_number};
 pub use term::Term;
 pub use token::Op;
 
+#[cfg(test)]
+mod cut_tests;
 #[cfg(test)]
 mod parse_tests;
 #[cfg(test)]

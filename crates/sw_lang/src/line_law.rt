@@ -6,13 +6,19 @@ ghost use Rattle.sw_lang.specs.Terms.{add_term, conditions};
 ghost use Rattle.sw_rows.specs.Header.{Column, IsSchema};
 ghost use Rattle.sw_lang.specs.Grammar.{IsLine};
 ghost use Rattle.sw_rows.specs.declared.query.Call.{Call};
+ghost use Rattle.sw_lang.specs.Cuts.{cuts_at};
 ghost use Rattle.sw_lang.specs.Reading.{line_at};
-ghost use Rattle.sw_lang.specs.Examples.{calls, mixed, refusals, three};
+ghost use Rattle.sw_lang.specs.Examples.{calls, cut_texts, mixed, refusals, three};
 
 /// The format's examples are read as the format says.
 pub fn examples_of_lines()
     ensures calls { map (λ e. line_at mixed e.0) calls ≡ map (λ e. e.1) calls }
     ensures refusals { map (λ e. line_at three e.0) refusals ≡ map (λ e. e.1) refusals }
+{}
+
+/// The same for texts of cuts.
+pub fn examples_of_cuts()
+    ensures { map (λ e. cuts_at three e.0) cut_texts ≡ map (λ e. e.1) cut_texts }
 {}
 
 /// Terms that are met one after another, each narrowing the condition on its attribute or adding one, make the conditions

@@ -289,5 +289,6 @@ pub fn parse_line(
         Err(ParseError::Memory) => Err(Refusal::NoMemory),
         Err(ParseError::Fault(Fault::Bad(why))) => Err(Refusal::BadLine { line, why }),
         Err(ParseError::Fault(Fault::Unknown(name))) => Err(Refusal::UnknownAttribute { name }),
+        Err(ParseError::Fault(Fault::Excess(limit))) => Err(Refusal::TooMany { limit }),
     }
 }

@@ -4,7 +4,7 @@ ghost use Rattle.std.specs.Prelude.{◌≡◌, ◌<◌, length, IfOk, MatchOptio
 ghost use Rattle.sw_rows.specs.Cells.{digits_after, digits_number, fitting, HasPlaces};
 ghost use Rattle.sw_rows.specs.Header.{is_name};
 ghost use Rattle.sw_lang.specs.Replies.{kind_at};
-ghost use Rattle.sw_lang.specs.Reading.{first_by, is_comma, is_word, key_of, key_value, name_of, op_of, value_of, Gives};
+ghost use Rattle.sw_lang.specs.Reading.{attr_of, first_by, is_comma, is_word, key_of, key_value, name_of, op_of, value_of, Gives};
 ghost use Rattle.sw_lang.specs.Tokens.{tok, tokens};
 
 use crate::fault::{Fault, ParseError, bad};
@@ -31,16 +31,18 @@ fn as_name(word: &[u8]) -> Option<&str>
     std::str::from_utf8(word).ok()
 }
 
-#[tactic(auto, unfolding(crate::specs::Reading::name_of))]
-fn name_of(alloc: Global, schema: &Schema, token: Token) -> Result<usize, ParseError>
-    ensures gives { Gives (λ i. i) result (name_of schema.now (tok token.entry)) }
+/// The attribute of a name; a text that is no name is refused with the given why.
+pub(crate) fn attr_of(
+    alloc: Global,
+    schema: &Schema,
+    word: &[u8],
+    malformed: Why,
+) -> Result<usize, ParseError>
+    ensures gives { Gives (λ i. i) result (attr_of schema.now malformed word.now) }
     ensures within { IfOk result (λ i. i < length schema.now) }
 {
-    let Token::Word(word) = token else {
-        return Err(bad(Why::Word));
-    };
     let Some(name) = as_name(word) else {
-        return Err(bad(Why::Word));
+        return Err(bad(malformed));
     };
     match schema.find(name) {
         Some(attr) => Ok(attr),
@@ -49,6 +51,18 @@ fn name_of(alloc: Global, schema: &Schema, token: Token) -> Result<usize, ParseE
             Err(ParseError::Fault(Fault::Unknown(name)))
         }
     }
+}
+
+#[tactic(auto, unfolding(crate::specs::Reading::name_of))]
+fn name_of(alloc: Global, schema: &Schema, token: Token) -> Result<usize, ParseError>
+    ensures gives { Gives (λ i. i) result (name_of schema.now (tok token.entry)) }
+    ensures within { IfOk result (λ i. i < length schema.now) }
+{
+    let Token::Word(word) = token else {
+        return Err(bad(Why::Word));
+    };
+    let attr = attr_of(alloc, schema, word, Why::Word)?;
+    Ok(attr)
 }
 
 #[tactic(auto, unfolding(crate::specs::Reading::op_of))]

@@ -1,4 +1,4 @@
-use Rattle.std.proofs.Common.{◌≡◌, ◌<◌, ◌≤◌, length, take, arith, ap, sym, nat_eq}
+use Rattle.std.proofs.Common.{◌≡◌, length, take, arith, ap, sym, nat_eq}
 use Rattle.std.proofs.lemmas.Result.{err_from_is_err_and}
 use Rattle.std.proofs.lemmas.Grind.{common_steps}
 use Rattle.sw_lang.specs.Tokens.{tokens}

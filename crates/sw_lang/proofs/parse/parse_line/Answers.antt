@@ -1,6 +1,5 @@
 use Rattle.std.proofs.Common.{◌≡◌, ◌∙◌, sym, ap, Result, Ok, Err, Option}
 use Rattle.sw_rows.specs.declared.query.Call.{Call}
-use Rattle.sw_rows.specs.declared.refusal.Refusal.{Refusal}
 use Rattle.sw_lang.specs.declared.fault.Fault.{Fault}
 use Rattle.sw_lang.specs.Reading.{line_at}
 use Rattle.sw_lang.proofs.Fit.{line_fits}
@@ -36,4 +35,10 @@ pub returns-in-Err-Fault-Unknown-clause-only : goal.returns-in-Err-Fault-Unknown
 returns-in-Err-Fault-Unknown-clause-only c = λ ok call is.
     let one = line_read c.args.schema.now c.args.text.now call ok is in
     let failed = rw (c.in-Err-Fault-Unknown.field-0-is, c.as_bytes.ensures.value) at c.in-Err-Fault-Unknown.ensures in
+    absurd (no_fault call _ (line_at c.args.schema.now c.args.text.now) one failed)
+
+pub returns-in-Err-Fault-Excess-clause-only : goal.returns-in-Err-Fault-Excess-clause-only
+returns-in-Err-Fault-Excess-clause-only c = λ ok call is.
+    let one = line_read c.args.schema.now c.args.text.now call ok is in
+    let failed = rw (c.in-Err-Fault-Excess.field-0-is, c.as_bytes.ensures.value) at c.in-Err-Fault-Excess.ensures in
     absurd (no_fault call _ (line_at c.args.schema.now c.args.text.now) one failed)
