@@ -1,0 +1,36 @@
+#!/bin/sh
+# Times a run of one count over a table of random ints beside the C++ peer in scan mode, by turns, and prints the ratio of
+# the medians and the greatest memory. Usage: bench/run/measure.sh [ROWS [ROUNDS]]
+set -eu
+here=$(CDPATH= cd -- "$(dirname -- "$0")" && pwd)
+top=$(dirname -- "$(dirname -- "$here")")
+rows=${1:-1000000}
+rounds=${2:-9}
+work=$(mktemp -d)
+trap 'rm -rf "$work"' EXIT
+"$top/sideways" --help >/dev/null 2>&1
+program=$top/crates/sideways/out/sideways
+g++ -O3 -march=native -o "$work/peer" "$top/bench/peers/peer.cpp"
+python3 "$top/bench/peers/gen.py" "$work" --rows "$rows" --attrs 3 --calls 1 --mix count
+python3 - "$program" "$work" "$rounds" <<'PY'
+import os, resource, statistics, subprocess, sys, time
+program, work, rounds = sys.argv[1], sys.argv[2], int(sys.argv[3])
+table, script = work + "/t.csv", work + "/s.txt"
+ours = [program, "run", "--table", table, "--script", script]
+peer = [work + "/peer", "scan", table, script]
+def timed(words):
+    start = time.perf_counter()
+    child = subprocess.Popen(words, stdout=subprocess.PIPE, stderr=subprocess.DEVNULL)
+    text = child.stdout.read()
+    _, status, usage = os.wait4(child.pid, 0)
+    assert status == 0, status
+    return time.perf_counter() - start, usage.ru_maxrss, text
+times, peers, memory = [], [], 0
+for _ in range(rounds):
+    a, kilobytes, mine = timed(ours)
+    b, _, theirs = timed(peer)
+    assert mine == theirs, (mine[:80], theirs[:80])
+    times.append(a); peers.append(b); memory = max(memory, kilobytes)
+print("sideways %.3f s, peer %.3f s (medians of %d), ratio %.2f, memory %d MB" %
+      (statistics.median(times), statistics.median(peers), rounds, statistics.median(times) / statistics.median(peers), memory // 1024))
+PY
