@@ -1,19 +1,8 @@
 -- The line that tells of a refusal, and the status that a program ends with.
 use Rattle.std.specs.Prelude.{ℕ, List, ◌++◌, codes, decimal}
+use Rattle.sw_rows.specs.Refusals.{why_name}
 use Rattle.sw_rows.specs.declared.refusal.Refusal.{Refusal}
 use Rattle.sw_rows.specs.declared.refusal.Refusal.TheVariants as refusal
-use Rattle.sw_rows.specs.declared.refusal.Why.{Why}
-use Rattle.sw_rows.specs.declared.refusal.Why.TheVariants as why
-
--- whys go by their names
-abbrev pub why_name : Why → List ℕ
-why_name why.Encoding = codes "Encoding"
-why_name why.Length = codes "Length"
-why_name why.Word = codes "Word"
-why_name why.End = codes "End"
-why_name why.Value = codes "Value"
-why_name why.History = codes "History"
-why_name why.Cuts = codes "Cuts"
 
 -- a number after its label
 abbrev pub labelled : List ℕ → ℕ → List ℕ

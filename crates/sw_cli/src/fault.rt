@@ -1,7 +1,8 @@
 //! Refusals on standard error.
 
 ghost use Rattle.std.specs.Prelude.{◌≡◌, ◌++◌, codes, decimal};
-ghost use Rattle.sw_cli.specs.Faults.{fault_line, labelled, refusal_text, status_of, why_name};
+ghost use Rattle.sw_cli.specs.Faults.{fault_line, labelled, refusal_text, status_of};
+ghost use Rattle.sw_rows.specs.Refusals.{why_name};
 ghost use Rattle.sw_lang.specs.Sinks.{Writes};
 
 use sw_lang::{write_all, write_number};
