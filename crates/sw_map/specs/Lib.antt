@@ -1,0 +1,4 @@
+pub mod Held
+pub mod Lawful
+pub mod Codes
+pub mod Refusals

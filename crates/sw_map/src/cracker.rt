@@ -1,0 +1,130 @@
+//! The trait of maps, and a box of any map.
+
+ghost use Rattle.std.specs.Prelude.{◌≡◌, ℕ, ◌+◌, ◌<◌, ◌≤◌, pos, true, false, MatchResult, slice_index_or};
+ghost use Rattle.sw_rows.specs.declared.refusal.Refusal.TheVariants.{NoMemory};
+ghost use Rattle.sw_kernel.specs.Arrangement.{joined};
+ghost use Rattle.sw_tape.specs.Entries.{step_of};
+ghost use Rattle.sw_map.specs.Held.{Held, blank, begun, after, pairs_in, place_of, MayReplay, KeysFit};
+ghost use Rattle.sw_map.specs.Refusals.{IsBeginRefusal};
+
+use crate::tail::Tail;
+use sw_rows::{Bound, Refusal};
+use sw_tape::Entry;
+
+/// A two-column table that replays the tape of an area. Contracts see what it holds.
+///
+/// A blank map has no head, no pairs and no lease. `begin` gives it a lease and a head and tail, each `step` replays the
+/// next entry of the tape, and `clear` makes it blank again.
+pub trait CrackerMap: Send + Drop {
+    ghost held: { Self → Held };
+
+    /// Whether the map is blank.
+    fn is_blank(&self) -> bool
+        ensures { result ≡ (held self.now).is_blank };
+
+    /// The attribute that its head has cells of; 0 where it is blank.
+    fn head(&self) -> u8
+        ensures { result ≡ (held self.now).head };
+
+    /// What its tail holds; the key where it is blank.
+    fn tail(&self) -> Tail
+        ensures { result ≡ (held self.now).tail };
+
+    /// The cells of its lease, each of them room for one pair; 0 where it is blank.
+    fn cells(&self) -> u64
+        ensures { result ≡ (held self.now).cells };
+
+    /// How many entries of the tape it has replayed.
+    fn cursor(&self) -> usize
+        ensures { result ≡ (held self.now).cursor };
+
+    /// How many pairs it has.
+    fn len(&self) -> usize
+        ensures { result ≡ pairs_in (held self.now) };
+
+    /// How many pairs stand before the bound, if it has cracked at that bound.
+    fn find(&self, bound: Bound) -> Option<usize>
+        ensures { result ≡ place_of bound (held self.now).pairs };
+
+    /// The head of the pair at a place, from 0.
+    fn head_at(&self, place: usize) -> i64
+        requires { place < pairs_in (held self.now) }
+        ensures { result ≡ (slice_index_or (joined (held self.now).pairs) place (pos 0, pos 0)).0 };
+
+    /// The tail of the pair at a place, from 0.
+    fn tail_at(&self, place: usize) -> i64
+        requires { place < pairs_in (held self.now) }
+        ensures { result ≡ (slice_index_or (joined (held self.now).pairs) place (pos 0, pos 0)).1 };
+
+    /// Begins a blank map of this head and tail, with a lease of so many cells: cursor 0, and no pairs. It is refused
+    /// `NoMemory`, `Short` or `Contended`, and is then blank.
+    fn begin(&mut self, head: u8, tail: Tail, cells: u64) -> Result<(), Refusal>
+        requires { held self.old ≡ blank }
+        ensures { MatchResult result (λ _. held self.new ≡ begun head tail cells) (λ e. (held self.new ≡ blank) × IsBeginRefusal cells e) };
+
+    /// Replays the next entry of the tape, and the cursor rises by one. It is refused `NoMemory` alone, and then nothing
+    /// has changed.
+    fn step(&mut self, entry: &Entry) -> Result<(), Refusal>
+        requires begun { (held self.old).is_blank ≡ false }
+        requires early { (held self.old).cursor < 4096 }
+        requires next { MayReplay (held self.old) (step_of entry.now) }
+        requires keys { KeysFit (step_of entry.now) }
+        requires room { pairs_in (after (step_of entry.now) (held self.old)) ≤ (held self.old).cells }
+        ensures { MatchResult result (λ _. held self.new ≡ after (step_of entry.now) (held self.old)) (λ e. (held self.new ≡ held self.old) × (e ≡ NoMemory)) };
+
+    /// Makes the map blank; its lease is given back. It takes no memory.
+    fn clear(&mut self)
+        ensures { held self.new ≡ blank };
+}
+
+impl CrackerMap for Box<dyn CrackerMap> {
+    ghost held = { λ b. (CrackerMap-box b).held b.value };
+
+    fn is_blank(&self) -> bool {
+        (**self).is_blank()
+    }
+
+    fn head(&self) -> u8 {
+        (**self).head()
+    }
+
+    fn tail(&self) -> Tail {
+        (**self).tail()
+    }
+
+    fn cells(&self) -> u64 {
+        (**self).cells()
+    }
+
+    fn cursor(&self) -> usize {
+        (**self).cursor()
+    }
+
+    fn len(&self) -> usize {
+        (**self).len()
+    }
+
+    fn find(&self, bound: Bound) -> Option<usize> {
+        (**self).find(bound)
+    }
+
+    fn head_at(&self, place: usize) -> i64 {
+        (**self).head_at(place)
+    }
+
+    fn tail_at(&self, place: usize) -> i64 {
+        (**self).tail_at(place)
+    }
+
+    fn begin(&mut self, head: u8, tail: Tail, cells: u64) -> Result<(), Refusal> {
+        (**self).begin(head, tail, cells)
+    }
+
+    fn step(&mut self, entry: &Entry) -> Result<(), Refusal> {
+        (**self).step(entry)
+    }
+
+    fn clear(&mut self) {
+        (**self).clear();
+    }
+}
