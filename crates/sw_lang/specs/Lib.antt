@@ -4,6 +4,7 @@ pub mod Fits
 pub mod Grammar
 pub mod PrintedCalls
 pub mod PrintedExamples
+pub mod ReadBack
 pub mod Reading
 pub mod Replies
 pub mod Sinks

@@ -7,6 +7,7 @@ ghost use Rattle.sw_rows.specs.Header.{Column, IsSchema};
 ghost use Rattle.sw_lang.specs.Grammar.{IsLine};
 ghost use Rattle.sw_rows.specs.declared.query.Call.{Call};
 ghost use Rattle.sw_lang.specs.Cuts.{cuts_at};
+ghost use Rattle.sw_lang.specs.ReadBack.{PrintedCallsAreLines, PrintedCallsAreRead};
 ghost use Rattle.sw_lang.specs.Reading.{line_at};
 ghost use Rattle.sw_lang.specs.Examples.{calls, cut_texts, mixed, refusals, three};
 
@@ -31,4 +32,11 @@ pub fn terms_make_conditions()
 pub fn lines_are_read_as_related()
     ensures found { (schema : List Column) (text : List ℕ) (call : Option Call) → line_at schema text ≡ Ok call → IsLine schema text call }
     ensures only { (schema : List Column) (text : List ℕ) (call : Option Call) → IsSchema schema → IsLine schema text call → line_at schema text ≡ Ok call }
+{}
+
+/// Where a line is a call, what `write_call` prints of the call is a line too, of at most 4,096 bytes, and is the same
+/// call; so `parse_line` reads it as that call.
+pub fn printed_calls_are_read()
+    ensures lines { PrintedCallsAreLines }
+    ensures read { PrintedCallsAreRead }
 {}
