@@ -34,7 +34,7 @@ flag-kind true q z h = inr (cc)
 flag-kind false true z h = inl (cc)
 flag-kind false false z h = absurd cc
 
-value_kind : (k : Kind) (t : Tok) (z : ℤ) → IsValue k t z → IsOfKind k z
+pub value_kind : (k : Kind) (t : Tok) (z : ℤ) → IsValue k t z → IsOfKind k z
 value_kind kind.Int t z h = tt
 value_kind (kind.Fix places) t z h = tt
 value_kind kind.Flag t z (w, is, value) = flag-kind (bytes_eq w (codes "true")) (bytes_eq w (codes "false")) z value

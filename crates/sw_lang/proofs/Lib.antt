@@ -1,5 +1,7 @@
 pub mod CallTexts
+pub mod CutLists
 pub mod CutSteps
+pub mod CutTexts
 pub mod Fit
 pub mod LineConds
 pub mod Lines

@@ -164,7 +164,7 @@ cell_back k z c = cell_read_back k (cell_text k z) z (cell_writes k z c)
 
 -- ---- a cell's text is one word, and not long
 
-digit-word : (b : ℕ) → is_ascii_digit b ≡ true → is_word_byte b ≡ true
+pub digit-word : (b : ℕ) → is_ascii_digit b ≡ true → is_word_byte b ≡ true
 digit-word b h = grind (arith, nat_tests)
 
 pub digits_word : (ds : List ℕ) → list_all is_ascii_digit ds ≡ true → list_all is_word_byte ds ≡ true
@@ -204,7 +204,7 @@ flag_word : (text : List ℕ) (z : ℤ) → WritesCell kind.Flag text z → IsCe
 flag_word text z (inl w) = subst IsCellWord (sym w.0) true_word
 flag_word text z (inr w) = subst IsCellWord (sym w.0) false_word
 
-text_word : (k : Kind) (text : List ℕ) (z : ℤ) → WritesCell k text z → IsCellWord text
+pub text_word : (k : Kind) (text : List ℕ) (z : ℤ) → WritesCell k text z → IsCellWord text
 text_word kind.Int text z w = number_word 0 text z w
 text_word (kind.Fix places) text z w = number_word places text z w
 text_word kind.Flag text z w = flag_word text z w

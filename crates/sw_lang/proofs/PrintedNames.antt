@@ -23,7 +23,7 @@ pub record IsNameWord (w : List ℕ) : Type 0 where
 name-byte : (b : ℕ) → is_name_byte b ≡ true → is_word_byte b ≡ true
 name-byte b h = rw h refl
 
-word_of : (w : List ℕ) → is_name w ≡ true → IsNameWord w
+pub word_of : (w : List ℕ) → is_name w ≡ true → IsNameWord w
 word_of w h =
     let word_is : is_word w ≡ true = (and_parts (is_word w) (not (is_reserved w)) h).0 in
     let front = and_parts (nat_lt 0 (length w) && list_all is_name_byte w && not (is_ascii_digit (slice_index w 0))) (nat_le (length w) 32) word_is in

@@ -1,4 +1,5 @@
 pub mod Cuts
+pub mod CutsReading
 pub mod Examples
 pub mod Fits
 pub mod Grammar

@@ -6,7 +6,8 @@ ghost use Rattle.sw_lang.specs.Terms.{add_term, conditions};
 ghost use Rattle.sw_rows.specs.Header.{Column, IsSchema};
 ghost use Rattle.sw_lang.specs.Grammar.{IsLine};
 ghost use Rattle.sw_rows.specs.declared.query.Call.{Call};
-ghost use Rattle.sw_lang.specs.Cuts.{cuts_at};
+ghost use Rattle.sw_lang.specs.Cuts.{CutLists, IsCuts};
+ghost use Rattle.sw_lang.specs.CutsReading.{cuts_at};
 ghost use Rattle.sw_lang.specs.ReadBack.{PrintedCallsAreLines, PrintedCallsAreRead};
 ghost use Rattle.sw_lang.specs.Reading.{line_at};
 ghost use Rattle.sw_lang.specs.Examples.{calls, cut_texts, mixed, refusals, three};
@@ -39,4 +40,10 @@ pub fn lines_are_read_as_related()
 pub fn printed_calls_are_read()
     ensures lines { PrintedCallsAreLines }
     ensures read { PrintedCallsAreRead }
+{}
+
+/// Reading a text of cuts from left to right finds just what the relation of cuts relates to the text.
+pub fn cuts_are_read_as_related()
+    ensures found { (schema : List Column) (text : List ℕ) (cuts : CutLists) → cuts_at schema text ≡ Ok cuts → IsCuts schema text cuts }
+    ensures only { (schema : List Column) (text : List ℕ) (cuts : CutLists) → IsSchema schema → IsCuts schema text cuts → cuts_at schema text ≡ Ok cuts }
 {}
