@@ -189,5 +189,5 @@ pub printed_good : (schema : List Column) (cs : List Cond) → AreStored schema 
 printed_good schema [] h = tt
 printed_good schema (c ∷ cs) h =
     good_append schema (printed c) (printed_all cs)
-      (good_append schema (lower_term c.attr c.lower) (upper_term c.attr c.upper) (lower_good schema c.attr c.lower h.0.attr h.0.lower) (upper_good schema c.attr c.upper h.0.attr h.0.upper))
-      (printed_good schema cs h.1)
+    (good_append schema (lower_term c.attr c.lower) (upper_term c.attr c.upper) (lower_good schema c.attr c.lower h.0.attr h.0.lower) (upper_good schema c.attr c.upper h.0.attr h.0.upper))
+    (printed_good schema cs h.1)

@@ -184,11 +184,13 @@ pub number_word : (places : ℕ) (text : List ℕ) (z : ℤ) → WritesNumber pl
 number_word places text z w =
     let rest : List ℕ = w.whole ++ fraction w.decimals in
     let words : list_all is_word_byte rest ≡ true = all_both is_word_byte w.whole (fraction w.decimals) (digits_word w.whole w.whole_digits) (fraction_word w.decimals w.decimal_digits) in
-    let long : length text ≡ length (w.sign ++ rest) = ap length w.text_is in
-    (record {
-      some = omega (arith, long, w.some_digits, length-append w.sign rest, length-append w.whole (fraction w.decimals));
-      bytes = ap (list_all is_word_byte) w.text_is ∙ all_both is_word_byte w.sign rest (sign_word w.sign w.negative w.sign_is) words;
-    }, w.short)
+    let long : length text ≡ length (w.sign ++ rest) = ap length w.text_is in (
+      record {
+        some = omega (arith, long, w.some_digits, length-append w.sign rest, length-append w.whole (fraction w.decimals));
+        bytes = ap (list_all is_word_byte) w.text_is ∙ all_both is_word_byte w.sign rest (sign_word w.sign w.negative w.sign_is) words;
+      },
+      w.short,
+    )
 
 -- the text of a cell is one word of at most 64 bytes
 abbrev pub IsCellWord : List ℕ → Type 0

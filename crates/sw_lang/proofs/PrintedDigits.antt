@@ -41,10 +41,10 @@ one-more n ds h w = record {
   some = omega (arith, length-append ds ((48 + n % 10) ∷ []));
   digits = all_both is_ascii_digit ds ((48 + n % 10) ∷ []) w.digits (and_both (is_ascii_digit (48 + n % 10)) true (digit-is (n % 10) (omega arith)) refl);
   after = λ m.
-    let long : length (ds ++ (48 + n % 10) ∷ []) ≡ suc (length ds) = omega (arith, length-append ds ((48 + n % 10) ∷ [])) in
-    let power : 10 ^ suc (length ds) ≡ 10 ^ length ds * 10 = pow-suc 10 (length ds) in
-    let product : m * (10 ^ length ds * 10) ≡ m * 10 ^ length ds * 10 = sym (mul_assoc m (10 ^ length ds) 10) in
-    fold-append more m ds ((48 + n % 10) ∷ []) ∙ ap (λ k. more k (48 + n % 10)) (w.after m) ∙ rw (long, power, product) (omega arith);
+      let long : length (ds ++ (48 + n % 10) ∷ []) ≡ suc (length ds) = omega (arith, length-append ds ((48 + n % 10) ∷ [])) in
+      let power : 10 ^ suc (length ds) ≡ 10 ^ length ds * 10 = pow-suc 10 (length ds) in
+      let product : m * (10 ^ length ds * 10) ≡ m * 10 ^ length ds * 10 = sym (mul_assoc m (10 ^ length ds) 10) in
+      fold-append more m ds ((48 + n % 10) ∷ []) ∙ ap (λ k. more k (48 + n % 10)) (w.after m) ∙ rw (long, power, product) (omega arith);
 }
 
 pub decimal_writes : (n : ℕ) → n < 2 ^ 64 → Writes n (decimal n)
@@ -60,10 +60,10 @@ zeros_write (suc k) r ds w =
       some = omega arith;
       digits = and_both true (list_all is_ascii_digit rest) refl more_zeros.digits;
       after = λ m.
-        let power : 10 ^ suc (length rest) ≡ 10 ^ length rest * 10 = pow-suc 10 (length rest) in
-        let zero_more : m * 10 + 0 ≡ m * 10 = omega arith in
-        let product : (m * 10 + 0) * 10 ^ length rest ≡ m * (10 ^ length rest * 10) = ap (λ k. k * 10 ^ length rest) zero_more ∙ mul_assoc m 10 (10 ^ length rest) ∙ ap (λ k. m * k) (mul_comm 10 (10 ^ length rest)) in
-        more_zeros.after (m * 10 + 0) ∙ rw (power, product) refl;
+          let power : 10 ^ suc (length rest) ≡ 10 ^ length rest * 10 = pow-suc 10 (length rest) in
+          let zero_more : m * 10 + 0 ≡ m * 10 = omega arith in
+          let product : (m * 10 + 0) * 10 ^ length rest ≡ m * (10 ^ length rest * 10) = ap (λ k. k * 10 ^ length rest) zero_more ∙ mul_assoc m 10 (10 ^ length rest) ∙ ap (λ k. m * k) (mul_comm 10 (10 ^ length rest)) in
+          more_zeros.after (m * 10 + 0) ∙ rw (power, product) refl;
     }
 
 -- just so many decimals

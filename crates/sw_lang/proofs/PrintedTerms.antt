@@ -109,8 +109,7 @@ started schema t ts = term_text schema t ++ terms_text true (map (term_text sche
 terms_are : (schema : List Column) (t : Term) (ts : List Term) → IsSchema schema → AreGood schema (t ∷ ts) → IsTerms schema (tokens (started schema t ts)) (t ∷ ts)
 terms_are schema t [] ok good = (name_tok schema t.attr, op t.op, value_tok schema t, term_tokens schema t [] ok good.0 refl, term_is schema t good.0)
 terms_are schema t (u ∷ us) ok good =
-    let rest : List ℕ = terms_text true (map (term_text schema) (u ∷ us)) in
-    (
+    let rest : List ℕ = terms_text true (map (term_text schema) (u ∷ us)) in (
       name_tok schema t.attr,
       op t.op,
       value_tok schema t,

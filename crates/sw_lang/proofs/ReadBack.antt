@@ -113,8 +113,7 @@ more_back [] ts zs pad p (none, no_values) = (refl, no_values)
 more_back (k ∷ ks) ts [] pad p h = absurd h
 more_back (k ∷ ks) ts (z ∷ zs) pad p (a, rest, e, is, others) =
     let cell = value_stored k a z p.0 is in
-    let later : List ℕ = more_cells ks (zs ++ pad) in
-    (
+    let later : List ℕ = more_cells ks (zs ++ pad) in (
       word (cell_text k z),
       tokens later,
       ap (λ l. comma ∷ l) (front_word (cell_text k z) later (cell_word k z cell).0 (cells_stop ks (zs ++ pad))),
@@ -127,8 +126,7 @@ values_back [] ts zs pad p (none, no_values) = (refl, no_values)
 values_back (k ∷ ks) ts [] pad p h = absurd h
 values_back (k ∷ ks) ts (z ∷ zs) pad p (a, rest, e, is, others) =
     let cell = value_stored k a z p.0 is in
-    let later : List ℕ = more_cells ks (zs ++ pad) in
-    (
+    let later : List ℕ = more_cells ks (zs ++ pad) in (
       word (cell_text k z),
       tokens later,
       front_word (cell_text k z) later (cell_word k z cell).0 (cells_stop ks (zs ++ pad)),

@@ -10,7 +10,7 @@ ghost use Rattle.sw_lang.specs.Cuts.{CutLists, IsCuts};
 ghost use Rattle.sw_lang.specs.CutsReading.{cuts_at};
 ghost use Rattle.sw_lang.specs.ReadBack.{PrintedCallsAreLines, PrintedCallsAreRead};
 ghost use Rattle.sw_lang.specs.Reading.{line_at};
-ghost use Rattle.sw_lang.specs.Examples.{calls, cut_texts, mixed, refusals, three};
+ghost use Rattle.sw_lang.specs.Examples.{calls, cut_texts, mixed, mixed_cuts, printed_lines, printed_of, refusals, three};
 
 /// The format's examples are read as the format says.
 pub fn examples_of_lines()
@@ -18,9 +18,15 @@ pub fn examples_of_lines()
     ensures refusals { map (λ e. line_at three e.0) refusals ≡ map (λ e. e.1) refusals }
 {}
 
+/// The calls of some lines are printed as the format says.
+pub fn examples_of_printed_lines()
+    ensures { map (λ e. printed_of mixed (line_at mixed e.0)) printed_lines ≡ map (λ e. e.1) printed_lines }
+{}
+
 /// The same for texts of cuts.
 pub fn examples_of_cuts()
-    ensures { map (λ e. cuts_at three e.0) cut_texts ≡ map (λ e. e.1) cut_texts }
+    ensures whole_numbers { map (λ e. cuts_at three e.0) cut_texts ≡ map (λ e. e.1) cut_texts }
+    ensures kinds { map (λ e. cuts_at mixed e.0) mixed_cuts ≡ map (λ e. e.1) mixed_cuts }
 {}
 
 /// Terms that are met one after another, each narrowing the condition on its attribute or adding one, make the conditions
