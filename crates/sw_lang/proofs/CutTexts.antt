@@ -1,5 +1,5 @@
 -- Texts of cuts: the reading finds the cuts that the relation relates to a text, and no others.
-use Rattle.std.proofs.Common.{◌≡◌, ◌∙◌, ap, sym, refl, subst, ℕ, zero, suc, ℤ, ◌+◌, ◌<◌, ◌≤◌, Bool, true, false, not, cond, eqb, List, [], ◌∷◌, ◌++◌, length, take, drop, replicate, map, codes, All, Option, Some, None, Result, Ok, Err, position, slice_get, int_lt, nat_lt, length-append, length-drop, ext_get_or, arith, lt-ltb, ltb-true, ◌==◌}
+use Rattle.std.proofs.Common.{◌≡◌, ◌∙◌, ap, sym, refl, subst, ℕ, zero, suc, ℤ, ◌+◌, ◌<◌, ◌≤◌, Bool, true, false, not, cond, eqb, List, [], ◌∷◌, ◌++◌, length, take, drop, codes, All, Option, Some, None, Result, Ok, Err, position, slice_get, int_lt, nat_lt, length-append, length-drop, ext_get_or, arith, lt-ltb, ltb-true, ◌==◌}
 use Rattle.std.specs.List.{AllByRecursion, list_all, slice_split}
 use Rattle.std.proofs.Math.Seq.{take-append_seam}
 use Rattle.std.proofs.lemmas.Bool.{and_parts}
@@ -16,7 +16,7 @@ use Rattle.sw_rows.specs.declared.refusal.Why.TheVariants as why
 use Rattle.sw_lang.specs.declared.fault.Fault.{Fault}
 use Rattle.sw_lang.specs.declared.fault.Fault.TheVariants.{Bad, Excess}
 use Rattle.sw_lang.specs.Cuts.{AreCuts, AreEntries, Cut, CutLists, FitCuts, IsCuts, IsEntry, cuts_on, values_on}
-use Rattle.sw_lang.specs.CutsReading.{before, cut_name, cut_split, cut_value, cut_valued, cuts_after, cuts_at, equals_at, is_divider, no_cuts, with_cut, with_room}
+use Rattle.sw_lang.specs.CutsReading.{cut_name, cut_split, cut_value, cut_valued, cuts_after, cuts_at, equals_at, is_divider, no_cuts, with_cut, with_room}
 use Rattle.sw_lang.specs.Fits.{IsOfKind}
 use Rattle.sw_lang.specs.Reading.{◌>>=◌, attr_of}
 use Rattle.sw_lang.specs.Replies.{kind_at}

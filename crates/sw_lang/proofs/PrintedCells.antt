@@ -15,7 +15,7 @@ use Rattle.sw_rows.specs.declared.kind.Kind.TheVariants as kind
 use Rattle.sw_lang.specs.Fits.{IsOfKind}
 use Rattle.sw_lang.specs.Replies.{cell_text, fixed_text, padded_digits, with_point}
 use Rattle.sw_lang.specs.Tokens.{is_word_byte}
-use Rattle.sw_lang.proofs.PrintedDigits.{Writes, all_both, and_both, decimal_writes, decimals_write, more}
+use Rattle.sw_lang.proofs.PrintedDigits.{all_both, and_both, decimal_writes, decimals_write, more}
 use Rattle.sw_lang.proofs.PrintedTokens.{IsRun}
 
 -- a stored cell of a kind

@@ -1,5 +1,5 @@
 -- Digits that are printed, and the number that they write.
-use Rattle.std.proofs.Common.{◌≡◌, ◌∙◌, ap, sym, refl, ℕ, zero, suc, ◌+◌, ◌-◌, ◌*◌, ◌/◌, ◌%◌, ◌^◌, ◌<◌, ◌≤◌, true, List, [], ◌∷◌, ◌++◌, length, replicate, fold, decimal, length-append, pow-suc, pow-add, mul_assoc, mul_comm, arith, ◌&&◌, Bool, false, Some, None, nat_lt, le-ltb, lt-ltb, ltb-true, subst, if◌then◌else◌}
+use Rattle.std.proofs.Common.{◌≡◌, ◌∙◌, ap, sym, refl, ℕ, zero, suc, ◌+◌, ◌-◌, ◌*◌, ◌/◌, ◌%◌, ◌^◌, ◌<◌, ◌≤◌, true, List, [], ◌∷◌, ◌++◌, length, replicate, fold, decimal, length-append, pow-suc, mul_assoc, mul_comm, arith, ◌&&◌, Bool, false, Some, None, nat_lt, le-ltb, lt-ltb, ltb-true, subst, if◌then◌else◌}
 use Rattle.std.proofs.lemmas.Bool.{and_parts}
 use Rattle.std.proofs.lemmas.Bool.Decides.{nat_tests}
 use Rattle.std.proofs.lemmas.Fmt.{decimal_by_steps, length-decimal-le}

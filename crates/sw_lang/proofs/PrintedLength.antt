@@ -1,6 +1,6 @@
 -- The printed text of a call that a line gives is not long.
-use Rattle.std.proofs.Common.{◌≡◌, ◌∙◌, ap, sym, refl, subst, ℕ, ℤ, pos, ◌+◌, ◌-◌, ◌*◌, ◌^◌, ◌<◌, ◌≤◌, Bool, true, false, ◌||◌, eqb, List, [], ◌∷◌, ◌++◌, length, map, replicate, codes, decimal, Option, Some, None, length-append, arith}
-use Rattle.std.specs.List.{list_any, IsDistinct}
+use Rattle.std.proofs.Common.{◌≡◌, ap, refl, ℕ, ℤ, pos, ◌-◌, ◌*◌, ◌^◌, ◌<◌, ◌≤◌, Bool, true, false, ◌||◌, eqb, List, [], ◌∷◌, ◌++◌, length, map, replicate, codes, decimal, Option, Some, None, length-append, arith}
+use Rattle.std.specs.List.{list_any}
 use Rattle.std.proofs.lemmas.Bool.Decides.{Decides-eqb}
 use Rattle.std.proofs.lemmas.Fmt.{length-decimal-le}
 use Rattle.std.proofs.lemmas.List.{length-map}
@@ -20,7 +20,7 @@ use Rattle.sw_lang.specs.declared.term.Term.{Term}
 use Rattle.sw_lang.specs.declared.token.Op.{Op}
 use Rattle.sw_lang.specs.declared.token.Op.TheVariants.{Lt, Le, Eq, Ge, Gt}
 use Rattle.sw_lang.specs.Grammar.{IsCall, IsValues, IsWant, MoreValues}
-use Rattle.sw_lang.specs.PrintedCalls.{call_text, cond_terms, joiner, more_names, name_at, names_text, terms_text, want_text, where_text}
+use Rattle.sw_lang.specs.PrintedCalls.{call_text, joiner, more_names, name_at, names_text, terms_text, want_text, where_text}
 use Rattle.sw_lang.specs.Replies.{cell_text, cells_text, kind_at, more_cells}
 use Rattle.sw_lang.specs.Tokens.{Tok}
 use Rattle.sw_lang.proofs.Fit.{distinct, name_within, names_below}

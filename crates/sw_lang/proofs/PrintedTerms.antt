@@ -1,25 +1,20 @@
 -- The comparisons that a condition is printed by, and the tokens of their text.
-use Rattle.std.proofs.Common.{◌≡◌, ◌∙◌, ap, sym, refl, ℕ, ◌+◌, ◌*◌, ◌<◌, ◌≤◌, Bool, true, false, List, [], ◌∷◌, ◌++◌, length, map, get_or, codes, Option, Some, None, append_assoc, append-nil, length-append, arith, slice_get, slice_index_or, flat_map, inl, inr, subst}
-use Rattle.std.specs.List.{list_all}
-use Rattle.std.proofs.lemmas.Bool.{and_parts}
-use Rattle.std.proofs.lemmas.List.{length-map, map-append}
-use Rattle.std.proofs.lemmas.List.Folds.{list_all_at}
-use Rattle.std.proofs.lemmas.Option.{slice_get-get_or}
-use Rattle.sw_rows.specs.Header.{Column, IsSchema, is_name, is_name_byte, names_of}
+use Rattle.std.proofs.Common.{◌≡◌, ◌∙◌, ap, sym, refl, ℕ, ◌<◌, true, false, List, [], ◌∷◌, ◌++◌, length, map, Option, Some, None, append_assoc, flat_map, inl, inr, subst}
+use Rattle.std.proofs.lemmas.List.{map-append}
+use Rattle.sw_rows.specs.Header.{Column, IsSchema}
 use Rattle.sw_rows.specs.declared.bound.Bound.{Bound}
 use Rattle.sw_rows.specs.declared.bound.Bound.TheVariants.{Before, After}
 use Rattle.sw_rows.specs.declared.query.Cond.{Cond}
 use Rattle.sw_lang.specs.declared.term.Term.{Term}
-use Rattle.sw_lang.specs.declared.token.Op.{Op}
 use Rattle.sw_lang.specs.declared.token.Op.TheVariants.{Lt, Le, Ge, Gt}
-use Rattle.sw_lang.specs.Grammar.{IsName, IsTerm, IsTerms, IsValue, IsWhere}
-use Rattle.sw_lang.specs.PrintedCalls.{comparison, cond_terms, joiner, lower_terms, name_at, terms_text, upper_terms, where_text}
+use Rattle.sw_lang.specs.Grammar.{IsTerm, IsTerms, IsWhere}
+use Rattle.sw_lang.specs.PrintedCalls.{comparison, cond_terms, lower_terms, name_at, terms_text, upper_terms, where_text}
 use Rattle.sw_lang.specs.Replies.{cell_text, kind_at}
 use Rattle.sw_lang.specs.Terms.{conditions}
-use Rattle.sw_lang.specs.Tokens.{Tok, word, op, is_word_byte, tokens}
+use Rattle.sw_lang.specs.Tokens.{Tok, word, op, tokens}
 use Rattle.sw_lang.proofs.PrintedCells.{IsCell, cell_back, cell_word}
-use Rattle.sw_lang.proofs.PrintedNames.{IsNameWord, name_is, name_word}
-use Rattle.sw_lang.proofs.PrintedTokens.{IsRun, Stops, front_and, front_op, front_where, front_word, op_stops, op_text}
+use Rattle.sw_lang.proofs.PrintedNames.{name_is, name_word}
+use Rattle.sw_lang.proofs.PrintedTokens.{Stops, front_op, front_word, op_stops, op_text}
 
 -- ---- the terms that a condition is printed by
 

@@ -1,10 +1,10 @@
 -- The tokens of a text that is put together from words and what stands between them.
-use Rattle.std.proofs.Common.{◌≡◌, ◌∙◌, ap, refl, ℕ, ◌<◌, Bool, true, false, List, [], ◌∷◌, ◌++◌, length, append_assoc, append-nil, codes, slice_index, arith}
+use Rattle.std.proofs.Common.{◌≡◌, ◌∙◌, ap, refl, ℕ, ◌<◌, true, false, List, [], ◌∷◌, ◌++◌, length, append_assoc, append-nil, codes, slice_index, arith}
 use Rattle.std.specs.List.{list_all}
 use Rattle.std.proofs.lemmas.Bool.{and_parts}
 use Rattle.sw_lang.specs.declared.token.Op.{Op}
 use Rattle.sw_lang.specs.declared.token.Op.TheVariants.{Lt, Le, Eq, Ge, Gt}
-use Rattle.sw_lang.specs.Tokens.{Tok, word, op, comma, is_word_byte, tokens, tokens_after}
+use Rattle.sw_lang.specs.Tokens.{word, op, comma, is_word_byte, tokens, tokens_after}
 
 -- one word byte or more
 pub record IsRun (w : List ℕ) : Type 0 where

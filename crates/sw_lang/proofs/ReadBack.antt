@@ -1,23 +1,22 @@
 -- A call that a line gives is the call of its printed text.
-use Rattle.std.proofs.Common.{◌≡◌, ◌∙◌, ap, sym, refl, subst, ℕ, ℤ, pos, ◌+◌, ◌-◌, ◌*◌, ◌^◌, ◌<◌, ◌≤◌, true, false, List, [], ◌∷◌, ◌++◌, length, map, replicate, codes, decimal, Some, append_assoc, append-nil, arith}
+use Rattle.std.proofs.Common.{◌≡◌, ◌∙◌, ap, sym, refl, subst, ℕ, ℤ, pos, ◌-◌, ◌^◌, ◌<◌, false, List, [], ◌∷◌, ◌++◌, length, map, replicate, codes, decimal, append_assoc, append-nil, arith}
 use Rattle.std.specs.List.{AllByRecursion}
 use Rattle.std.proofs.lemmas.List.Elements.{recursion_from_All}
 use Rattle.sw_rows.specs.Cells.{HasPlaces}
 use Rattle.sw_rows.specs.Header.{Column, IsSchema, kinds_of}
-use Rattle.sw_rows.specs.Tables.{padded}
 use Rattle.sw_rows.specs.declared.kind.Kind.{Kind}
 use Rattle.sw_rows.specs.declared.query.Call.{Call}
 use Rattle.sw_rows.specs.declared.query.Call.TheVariants.{Select, Insert, Delete}
 use Rattle.sw_rows.specs.declared.query.Cond.{Cond}
 use Rattle.sw_rows.specs.declared.query.Want.{Want}
 use Rattle.sw_rows.specs.declared.query.Want.TheVariants.{Rows, Count, Sum, Min, Max}
-use Rattle.sw_lang.specs.Grammar.{IsCall, IsKey, IsNames, IsValues, IsWant, IsWhere, MoreValues}
+use Rattle.sw_lang.specs.Grammar.{IsCall, IsNames, IsValues, IsWant, IsWhere, MoreValues}
 use Rattle.sw_lang.specs.PrintedCalls.{call_text, more_names, name_at, names_text, want_text, where_text}
 use Rattle.sw_lang.specs.Reading.{is_comment}
-use Rattle.sw_lang.specs.Replies.{cell_text, cells_text, kind_at, more_cells}
+use Rattle.sw_lang.specs.Replies.{cell_text, cells_text, more_cells}
 use Rattle.sw_lang.specs.Tokens.{Tok, word, comma, tokens}
 use Rattle.sw_lang.proofs.Fit.{name_within, names_below}
-use Rattle.sw_lang.proofs.LineConds.{CondsOf, all_bound, printed_good, value_stored, where_conds}
+use Rattle.sw_lang.proofs.LineConds.{all_bound, printed_good, value_stored, where_conds}
 use Rattle.sw_lang.proofs.PrintedCells.{cell_back, cell_word, digits_word}
 use Rattle.sw_lang.proofs.PrintedDigits.{decimal_writes, key_back, key_fits}
 use Rattle.sw_lang.proofs.PrintedMerge.{printed_make}

@@ -1,5 +1,5 @@
 -- Calls that are printed and read again.
-use Rattle.std.specs.Prelude.{◌≡◌, ℕ, List, Option, Some, Result, Ok}
+use Rattle.std.specs.Prelude.{◌≡◌, ℕ, List, Some, Ok}
 use Rattle.sw_rows.specs.Header.{Column, IsSchema}
 use Rattle.sw_rows.specs.declared.query.Call.{Call}
 use Rattle.sw_lang.specs.Grammar.{IsLine}

@@ -1,4 +1,4 @@
-use Rattle.sw_lang.proofs.CutTexts.{cuts_fit, cuts_found, cuts_read}
+use Rattle.sw_lang.proofs.CutTexts.{cuts_found, cuts_read}
 use Rattle.sw_lang.proofs.line_law.cuts_are_read_as_related.Goals as goal
 
 pub returns-clause-found : goal.returns-clause-found
