@@ -1,0 +1,4 @@
+pub mod Boxes
+pub mod Picks
+pub mod Shelves
+pub mod Looks

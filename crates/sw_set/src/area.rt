@@ -1,0 +1,259 @@
+//! An area, and its single changes.
+
+ghost use Rattle.std.specs.Prelude.{◌≡◌, ◌≢◌, ◌<◌, ◌≤◌, ◌+◌, ◌^◌, ◌∷◌, ◌++◌, [], true, false, ℕ, length, map, All, Contains, IfErr, IfSome, MatchOption, MatchResult, OnOk, slice_index_or, slice_set};
+ghost use Rattle.sw_rows.specs.declared.row.Row.{Row};
+ghost use Rattle.sw_rows.specs.declared.refusal.Refusal.TheVariants.{NoMemory};
+ghost use Rattle.sw_kernel.specs.Replay.{Step, loaded, ranged};
+ghost use Rattle.sw_kernel.specs.Tapes.{peak_from};
+ghost use Rattle.sw_map.specs.Held.{Held, blank, begun, pairs_in, place_of};
+ghost use Rattle.sw_map.specs.Refusals.{IsBeginRefusal};
+ghost use Rattle.sw_set.specs.Prepared.{IsSpare, IsFreshBut, stands_if};
+ghost use Rattle.sw_set.specs.Shelf.{AreaState, AreSameMaps, HasRoomWhereNeeded, IsAreaLawful, IsAtEnd, IsSameArea, Rises, key_of, lies_within, logged_rows};
+
+use crate::align::align_boxes;
+use crate::pick::{find_blank, find_leased, find_map, find_unneeded};
+use std::alloc::Global;
+use std::marker::Model;
+use sw_map::{CrackerMap, Tail};
+use sw_rows::{Bound, Refusal, Row, Update};
+use sw_tape::{Entry, MAX_ENTRIES, Tape};
+
+/// The rows whose cells of one attribute lie in an interval, the tape that reorganised them, and the boxes whose maps
+/// replay it.
+#[derive(Drop)]
+pub struct Area<M: CrackerMap> {
+    alloc: Global,
+    attribute: u8,
+    from: Option<i64>,
+    below: Option<i64>,
+    inbox: Vec<Update>,
+    tape: Tape,
+    boxes: Vec<M>,
+    stamps: Vec<u64>,
+    clock: u64,
+}
+
+impl<M: CrackerMap> Model for Area<M> {
+    ghost use Rattle.std.specs.Prelude.{◌≡◌, map, vec_len};
+    ghost use Rattle.sw_set.specs.Shelf.{AreaState, IsAreaLawful, first_rows, logged_rows};
+    ghost use Rattle.sw_set.specs.Codes.{area_code};
+
+    ghost Value = { AreaState };
+
+    ghost coded = { area_code };
+
+    ghost view = { λ a. record { attribute = a.attribute; from = a.from; below = a.below; inbox = a.inbox.items; tape = a.tape; boxes = map M.held a.boxes.items } };
+
+    ghost invariant = { λ a. IsAreaLawful (record { attribute = a.attribute; from = a.from; below = a.below; inbox = a.inbox.items; tape = a.tape; boxes = map M.held a.boxes.items }) × (vec_len a.stamps ≡ vec_len a.boxes) × (first_rows a.tape ≡ logged_rows a.attribute a.tape) };
+}
+
+impl<M: CrackerMap> Area<M> {
+    /// An area of these rows, which rise by key and lie in the interval from the one value up to below the other; its tape
+    /// is one load of them, and it has no boxes. Refused `NoMemory` alone.
+    pub fn new(alloc: Global, attribute: u8, from: Option<i64>, below: Option<i64>, rows: &[Row]) -> Result<Area<M>, Refusal>
+        requires attribute { attribute < 8 }
+        requires keys { All (λ (r : Row). r.key < 2 ^ 63) rows.now }
+        requires rise { Rises key_of rows.now }
+        requires within { All (λ (r : Row). lies_within attribute from below r ≡ true) rows.now }
+        ensures { MatchResult result (λ a. a ≡ record { attribute = attribute; from = from; below = below; inbox = []; tape = loaded rows.now ∷ []; boxes = [] }) (λ e. e ≡ NoMemory) }
+    {
+        let tape = Tape::new(alloc, rows)?;
+        Ok(Area {
+            alloc,
+            attribute,
+            from,
+            below,
+            inbox: Vec::new(alloc),
+            tape,
+            boxes: Vec::new(alloc),
+            stamps: Vec::new(alloc),
+            clock: 0,
+        })
+    }
+
+    /// Takes a blank box. Refused `NoMemory`, nothing has changed, and the box comes back.
+    pub fn supply(&mut self, it: M) -> Result<(), (M, Refusal)>
+        requires { M.held it ≡ blank }
+        ensures { MatchResult result (λ _. self.new ≡ record self.old { boxes = self.old.boxes ++ blank ∷ [] }) (λ r. (self.new ≡ self.old) × (M.held r.0 ≡ blank) × (r.1 ≡ NoMemory)) }
+    {
+        if self.boxes.reserve(1).is_err() || self.stamps.reserve(1).is_err() {
+            return Err((it, Refusal::NoMemory));
+        }
+        self.boxes.push_reserved(it);
+        self.stamps.push_reserved(0);
+        Ok(())
+    }
+
+    /// Tells a caller in another module when an area is lawful.
+    pub(crate) fn known(&self)
+        ensures { IsAreaLawful self.now }
+    {
+        let _many = self.boxes.len();
+    }
+
+    /// How many boxes there are.
+    pub fn boxes(&self) -> usize
+        ensures { result ≡ length self.now.boxes }
+    {
+        self.boxes.len()
+    }
+
+    /// How many entries the tape has.
+    pub fn tape_len(&self) -> usize
+        ensures { result ≡ length self.now.tape }
+    {
+        self.tape.len()
+    }
+
+    /// The area's tape.
+    pub(crate) fn tape(&self) -> &Tape
+        ensures { result.now ≡ self.now.tape }
+    {
+        &self.tape
+    }
+
+    /// The live rows, by rising keys.
+    pub(crate) fn rows(&self) -> &[Row]
+        ensures { result.now ≡ logged_rows self.now.attribute self.now.tape }
+    {
+        match self.tape.get(0) {
+            Some(Entry::Load(rows)) => rows.as_slice(),
+            _ => unreachable!(),
+        }
+    }
+
+    /// Logs one range at the tape's end. A refusal changes nothing.
+    pub(crate) fn log(&mut self, lower: Option<Bound>, upper: Option<Bound>) -> Result<(), Refusal>
+        requires { length self.old.tape < 4096 }
+        ensures { MatchResult result (λ _. self.new ≡ record self.old { tape = self.old.tape ++ ranged lower upper ∷ [] }) (λ e. (self.new ≡ self.old) × (e ≡ NoMemory)) }
+    {
+        self.tape.push(Entry::Range(lower, upper))
+    }
+
+    /// Begins the tape anew with one load of the rows, all boxes blank. A refusal changes nothing.
+    pub(crate) fn restart(&mut self) -> Result<(), Refusal>
+        ensures same { IsSameArea self.old self.new }
+        ensures ends { MatchResult result (λ _. self.new.tape ≡ loaded (logged_rows self.old.attribute self.old.tape) ∷ []) (λ e. (self.new ≡ self.old) × (e ≡ NoMemory)) }
+    {
+        let tape = Tape::new(self.alloc, self.rows())?;
+        clear_all(self.boxes.as_mut_slice());
+        self.tape = tape;
+        Ok(())
+    }
+
+    /// Whether a bound, if it is there, stands in a range of the tape.
+    pub(crate) fn stands(&self, bound: Option<Bound>) -> bool
+        ensures { result ≡ stands_if bound self.now.tape }
+    {
+        match bound {
+            None => true,
+            Some(b) => self.tape.marked(b),
+        }
+    }
+
+    /// The greatest number of pairs after any entry of the tape.
+    pub(crate) fn peak(&self) -> usize
+        ensures { result ≡ peak_from 0 self.now.tape }
+    {
+        self.tape.peak()
+    }
+
+    /// The box that has a map of the tail.
+    pub(crate) fn with_map(&self, tail: Tail) -> Option<usize>
+        ensures { MatchOption result (All (λ m. m.is_blank ≡ false → m.tail ≢ tail) self.now.boxes) (λ i. (i < length self.now.boxes) × ((d : Held) → ((slice_index_or self.now.boxes i d).is_blank ≡ false) × ((slice_index_or self.now.boxes i d).tail ≡ tail))) }
+    {
+        find_map(self.boxes.as_slice(), tail)
+    }
+
+    /// A box for a new map: the first blank one, else the least recently used that the tails do not need.
+    pub(crate) fn spare(&self, tails: &[Tail]) -> Option<usize>
+        ensures { MatchOption result (All (λ m. (m.is_blank ≡ false) × Contains tails.now m.tail) self.now.boxes) (λ i. (i < length self.now.boxes) × ((d : Held) → IsSpare tails.now (slice_index_or self.now.boxes i d))) }
+    {
+        if let Some(i) = find_blank(self.boxes.as_slice()) {
+            return Some(i);
+        }
+        find_unneeded(self.boxes.as_slice(), self.stamps.as_slice(), tails)
+    }
+
+    /// The least recently used box with a lease that the tails do not need.
+    pub(crate) fn leased(&self, tails: &[Tail]) -> Option<usize>
+        ensures { IfSome result (λ i. (i < length self.now.boxes) × ((d : Held) → ¬ Contains tails.now (slice_index_or self.now.boxes i d).tail)) }
+    {
+        find_leased(self.boxes.as_slice(), self.stamps.as_slice(), tails)
+    }
+
+    /// The cells of the box at a place.
+    pub(crate) fn cells_at(&self, at: usize) -> u64
+        requires { at < length self.now.boxes }
+        ensures { (d : Held) → result ≡ (slice_index_or self.now.boxes at d).cells }
+    {
+        self.boxes[at].cells()
+    }
+
+    /// Where a bound stands in the box at a place.
+    pub(crate) fn place_at(&self, at: usize, bound: Bound) -> Option<usize>
+        requires { at < length self.now.boxes }
+        ensures { (d : Held) → result ≡ place_of bound (slice_index_or self.now.boxes at d).pairs }
+    {
+        self.boxes[at].find(bound)
+    }
+
+    /// How many pairs the box at a place has.
+    pub(crate) fn pairs_at(&self, at: usize) -> usize
+        requires { at < length self.now.boxes }
+        ensures { (d : Held) → result ≡ pairs_in (slice_index_or self.now.boxes at d) }
+    {
+        self.boxes[at].len()
+    }
+
+    /// Clears the box at a place.
+    pub(crate) fn clear_at(&mut self, at: usize)
+        requires { at < length self.old.boxes }
+        ensures { self.new ≡ record self.old { boxes = slice_set self.old.boxes at blank } }
+    {
+        clear_box(&mut self.boxes[at]);
+    }
+
+    /// Steps every box that has a map of the tails to the tape's end.
+    pub(crate) fn align(&mut self, tails: &[Tail]) -> Result<(), Refusal>
+        requires room { All (HasRoomWhereNeeded tails.now self.old.tape) self.old.boxes }
+        ensures same { IsSameArea self.old self.new }
+        ensures tape { self.new.tape ≡ self.old.tape }
+        ensures maps { AreSameMaps self.old.boxes self.new.boxes }
+        ensures ends { MatchResult result (λ _. All (IsAtEnd tails.now self.old.tape) self.new.boxes) (λ e. e ≡ NoMemory) }
+    {
+        align_boxes(self.attribute, self.boxes.as_mut_slice(), tails, &self.tape)
+    }
+
+    /// Clears the box at a place and begins a map in it. Refused, it is blank.
+    pub(crate) fn make(&mut self, at: usize, tail: Tail, cells: u64) -> Result<(), Refusal>
+        requires within { at < length self.old.boxes }
+        requires fresh { IsFreshBut at tail self.old.boxes }
+        ensures { MatchResult result (λ _. self.new ≡ record self.old { boxes = slice_set self.old.boxes at (begun self.old.attribute tail cells) }) (λ e. (self.new ≡ record self.old { boxes = slice_set self.old.boxes at blank }) × IsBeginRefusal cells e) }
+    {
+        let attribute = self.attribute;
+        begin_box(&mut self.boxes[at], attribute, tail, cells)
+    }
+}
+
+fn clear_box<M: CrackerMap>(it: &mut M)
+    ensures { M.held it.new ≡ blank }
+{
+    it.clear();
+}
+
+fn clear_all<M: CrackerMap>(boxes: &mut [M])
+    ensures blank { All (λ m. M.held m ≡ blank) boxes.new }
+    ensures many { length boxes.new ≡ length boxes.old }
+{
+    for it in boxes.iter_mut() {
+        clear_box(it);
+    }
+}
+
+fn begin_box<M: CrackerMap>(it: &mut M, attribute: u8, tail: Tail, cells: u64) -> Result<(), Refusal>
+    ensures { MatchResult result (λ _. M.held it.new ≡ begun attribute tail cells) (λ e. (M.held it.new ≡ blank) × IsBeginRefusal cells e) }
+{
+    it.clear();
+    it.begin(attribute, tail, cells)
+}

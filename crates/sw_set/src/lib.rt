@@ -1,0 +1,8 @@
+//! Areas: the live rows of an interval of a head's values, the tape that reorganised them, and the boxed maps that replay it.
+#![tactic(auto)]
+
+mod align;
+mod area;
+mod pick;
+
+pub use area::Area;
