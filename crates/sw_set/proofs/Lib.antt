@@ -2,3 +2,4 @@ pub mod Boxes
 pub mod Picks
 pub mod Shelves
 pub mod Looks
+pub mod Trying

@@ -3,6 +3,7 @@
 
 mod align;
 mod area;
+mod making;
 mod pick;
 
 pub use area::Area;
