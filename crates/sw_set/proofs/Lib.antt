@@ -3,3 +3,4 @@ pub mod Picks
 pub mod Shelves
 pub mod Looks
 pub mod Trying
+pub mod Tails

@@ -4,6 +4,7 @@
 mod align;
 mod area;
 mod making;
+mod needs;
 mod pick;
 
 pub use area::Area;
