@@ -4,3 +4,5 @@ pub mod Shelves
 pub mod Looks
 pub mod Trying
 pub mod Tails
+pub mod Noting
+pub mod Ends

@@ -105,6 +105,27 @@ impl<M: CrackerMap> Area<M> {
         self.tape.len()
     }
 
+    /// The attribute that is the head of the area's maps.
+    pub fn attribute(&self) -> u8
+        ensures { result ≡ self.now.attribute }
+    {
+        self.attribute
+    }
+
+    /// Where the interval of the head's cells begins, if it has a beginning.
+    pub(crate) fn from(&self) -> Option<i64>
+        ensures { result ≡ self.now.from }
+    {
+        self.from
+    }
+
+    /// The value below which the interval of the head's cells ends, if it has an end.
+    pub(crate) fn below(&self) -> Option<i64>
+        ensures { result ≡ self.now.below }
+    {
+        self.below
+    }
+
     /// The area's tape.
     pub(crate) fn tape(&self) -> &Tape
         ensures { result.now ≡ self.now.tape }
@@ -153,7 +174,8 @@ impl<M: CrackerMap> Area<M> {
 
     /// The greatest number of pairs after any entry of the tape.
     pub(crate) fn peak(&self) -> usize
-        ensures { result ≡ peak_from 0 self.now.tape }
+        ensures peak { result ≡ peak_from 0 self.now.tape }
+        ensures few { result ≤ 2 ^ 63 }
     {
         self.tape.peak()
     }

@@ -6,5 +6,7 @@ mod area;
 mod making;
 mod needs;
 mod pick;
+mod prepare;
 
 pub use area::Area;
+pub use prepare::Ready;
