@@ -10,7 +10,7 @@ ghost use Rattle.sw_map.specs.Refusals.{IsBeginRefusal};
 ghost use Rattle.sw_set.specs.Prepared.{IsSpare, IsFreshBut, stands_if};
 ghost use Rattle.sw_set.specs.Shelf.{AreaState, AreSameMaps, HasRoomWhereNeeded, IsAreaLawful, IsAtEnd, IsSameArea, Rises, key_of, lies_within, logged_rows};
 
-use crate::align::align_boxes;
+use crate::align::{align_boxes, is_needed};
 use crate::pick::{find_blank, find_leased, find_map, find_unneeded};
 use std::alloc::Global;
 use std::marker::Model;
@@ -31,6 +31,7 @@ pub struct Area<M: CrackerMap> {
     boxes: Vec<M>,
     stamps: Vec<u64>,
     clock: u64,
+    counts: bool,
 }
 
 impl<M: CrackerMap> Model for Area<M> {
@@ -68,6 +69,7 @@ impl<M: CrackerMap> Area<M> {
             boxes: Vec::new(alloc),
             stamps: Vec::new(alloc),
             clock: 0,
+            counts: true,
         })
     }
 
@@ -103,6 +105,36 @@ impl<M: CrackerMap> Area<M> {
         ensures { result ≡ length self.now.tape }
     {
         self.tape.len()
+    }
+
+    /// The number by which uses of maps are stamped from now on. Until it is first set, the area counts its own queries.
+    pub fn set_now(&mut self, now: u64)
+        ensures { self.new ≡ self.old }
+    {
+        self.clock = now;
+        self.counts = false;
+    }
+
+    /// Counts one query more, if the area counts its own; the number stops at the greatest of its type.
+    pub(crate) fn tick(&mut self)
+        ensures { self.new ≡ self.old }
+    {
+        if self.counts {
+            self.clock = self.clock.saturating_add(1);
+        }
+    }
+
+    /// Stamps the boxes whose maps are needed.
+    pub(crate) fn stamp(&mut self, tails: &[Tail])
+        ensures { self.new ≡ self.old }
+    {
+        let now = self.clock;
+        stamp_needed(self.boxes.as_slice(), self.stamps.as_mut_slice(), tails, now);
+    }
+
+    /// The allocator that the area's collections use.
+    pub(crate) fn alloc(&self) -> Global {
+        self.alloc
     }
 
     /// The attribute that is the head of the area's maps.
@@ -278,4 +310,15 @@ fn begin_box<M: CrackerMap>(it: &mut M, attribute: u8, tail: Tail, cells: u64) -
 {
     it.clear();
     it.begin(attribute, tail, cells)
+}
+
+/// Sets the stamps of the boxes whose maps are needed.
+fn stamp_needed<M: CrackerMap>(boxes: &[M], stamps: &mut [u64], tails: &[Tail], now: u64)
+    ensures { length stamps.new ≡ length stamps.old }
+{
+    for at in 0..stamps.len() {
+        if at < boxes.len() && is_needed(tails, boxes[at].tail()) {
+            stamps[at] = now;
+        }
+    }
 }

@@ -14,8 +14,9 @@ ghost use Rattle.sw_set.specs.Shelf.{IsAtEnd, IsSameArea, logged_rows};
 
 use crate::area::Area;
 use crate::making::make_all;
+use crate::needs::{edge, lower_from, lower_of, needed_tails, touches, upper_of, upper_upto};
 use sw_map::{CrackerMap, Tail};
-use sw_rows::{Bound, Refusal};
+use sw_rows::{Bound, Query, Refusal};
 use sw_tape::MAX_ENTRIES;
 
 /// A range of places in each map of an area: from the one, up to below the other.
@@ -107,4 +108,35 @@ fn prepare_range<M: CrackerMap>(area: &mut Area<M>, lower: Option<Bound>, upper:
     area.known();
     area.align(tails)?;
     Ok(range_of(area, lower, upper, tails))
+}
+
+impl<M: CrackerMap> Area<M> {
+    /// Prepares the area for a query over its head. The range is logged where one of its bounds stands in no range of the
+    /// tape, after a restart where the tape is full; the maps that the query needs are made and stepped to the tape's end;
+    /// and the answer is the range of places that qualify. A query that does not touch the area gets an empty range, and
+    /// nothing is logged.
+    ///
+    /// It is refused `NoMemory`, `Short` or `Contended`, or `NoBlank` where the area has fewer boxes than the query needs.
+    /// The area then stands for the same rows, and each box is blank or stands lawfully at some cursor.
+    pub fn prepare(&mut self, query: &Query) -> Result<Ready, Refusal>
+        requires received { self.old.inbox ≡ [] }
+        ensures same { IsSameArea self.old self.new }
+        ensures ends { MatchResult result (λ r. IsNotedFor query.now self.old self.new.tape × IsPreparedFor query.now self.new r.from r.upto) (λ e. IsPartlyNoted query.now self.old self.new.tape × IsPrepareRefusal (length self.old.boxes) (length (needed self.old.attribute query.now)) (cells_for (peak_from 0 self.new.tape)) e) }
+    {
+        self.tick();
+        let start = edge(self.from());
+        let end = edge(self.below());
+        let lower = lower_of(&query.conds);
+        let upper = upper_of(&query.conds);
+        if !touches(start, end, lower, upper) {
+            return Ok(Ready { from: 0, upto: 0 });
+        }
+        let tails = match needed_tails(self.alloc(), self.attribute(), query) {
+            Ok(tails) => tails,
+            Err(e) => return Err(e),
+        };
+        let done = prepare_range(self, lower_from(start, lower), upper_upto(end, upper), tails.as_slice());
+        self.stamp(tails.as_slice());
+        done
+    }
 }
