@@ -63,7 +63,7 @@ stands-right true t e = e
 stands-right false t e = absurd (true≢false (sym e))
 
 -- ---- maps of one tail stand in one box
-only-place : (ms : List Held) (i j : ℕ) (d e : Held) → AreApart ms → i < length ms → j < length ms → (get_or ms i d).is_blank ≡ false → (get_or ms j e).is_blank ≡ false → (get_or ms i d).tail ≡ (get_or ms j e).tail → i ≡ j
+pub only-place : (ms : List Held) (i j : ℕ) (d e : Held) → AreApart ms → i < length ms → j < length ms → (get_or ms i d).is_blank ≡ false → (get_or ms j e).is_blank ≡ false → (get_or ms i d).tail ≡ (get_or ms j e).tail → i ≡ j
 unfolding AreApart
 only-place ms i j d e apart li lj bi bj same = by (eqb i j) refl
   where

@@ -6,3 +6,4 @@ pub mod Trying
 pub mod Tails
 pub mod Noting
 pub mod Ends
+pub mod Views

@@ -1,5 +1,5 @@
 -- What `prepare` makes of an area, and why it is refused.
-use Rattle.std.specs.Prelude.{◌≡◌, ◌≢◌, ◌≤◌, ◌<◌, ◌+◌, ◌*◌, ◌/◌, ◌&&◌, ◌⊎◌, ℕ, Bool, true, false, max, List, [], ◌∷◌, ◌++◌, length, slice_index_or, Option, Some, None, All, Any, Contains}
+use Rattle.std.specs.Prelude.{◌≡◌, ◌≢◌, ◌≤◌, ◌<◌, ◌+◌, ◌*◌, ◌/◌, ◌&&◌, ◌⊎◌, ℕ, Bool, true, false, max, List, [], ◌∷◌, ◌++◌, length, slice_index_or, slice_set, Option, Some, None, All, Any, Contains}
 use Rattle.sw_rows.specs.declared.bound.Bound.{Bound}
 use Rattle.sw_rows.specs.declared.row.Row.{Row}
 use Rattle.sw_rows.specs.declared.query.Query.{Query}
@@ -9,7 +9,7 @@ use Rattle.sw_kernel.specs.Arrangement.{Arrangement, joined}
 use Rattle.sw_kernel.specs.Replay.{Step, loaded, ranged}
 use Rattle.sw_kernel.specs.Tapes.{is_marked, peak_from}
 use Rattle.sw_map.specs.declared.tail.Tail.{Tail}
-use Rattle.sw_map.specs.Held.{Held, place_of}
+use Rattle.sw_map.specs.Held.{Held, blank, place_of}
 use Rattle.sw_map.specs.Lawful.{rows_by}
 use Rattle.sw_map.specs.Refusals.{IsBeginRefusal}
 use Rattle.sw_set.specs.Needs.{edge, touches, lower_in, upper_in, lower_from, upper_upto, needed}
@@ -114,3 +114,15 @@ IsHeld t n ms = Any (IsMapOf t n) ms
 abbrev pub IsFoundAt : Option Bound → ℕ → Held → ℕ → Type 0
 IsFoundAt None absent m place = place ≡ absent
 IsFoundAt (Some b) absent m place = place_of b m.pairs ≡ Some place
+
+-- the boxes after the map of a tail was cleared, if there was one
+pub record IsCleared (t : Tail) (ms ns : List Held) : Type 0 where
+  pub many : length ns ≡ length ms
+  pub gone : All (λ m. m.is_blank ≡ false → m.tail ≢ t) ns
+  pub kept : (k : ℕ) (d : Held) → k < length ms → (slice_index_or ns k d ≡ slice_index_or ms k d) ⊎ ((slice_index_or ns k d ≡ blank) × ((slice_index_or ms k d).tail ≡ t))
+
+-- One map less, and the cells of its lease; or no box had a map, and none came back.
+abbrev pub IsOneCleared : List Held → List Held → ℕ → Type 0
+IsOneCleared ms ns cells =
+    (All (λ m. m.is_blank ≡ true) ms × (ns ≡ ms) × (cells ≡ 0)) ⊎
+    ((at : ℕ) × (at < length ms) × ((d : Held) → ((slice_index_or ms at d).is_blank ≡ false) × (cells ≡ (slice_index_or ms at d).cells)) × (ns ≡ slice_set ms at blank))

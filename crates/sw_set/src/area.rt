@@ -1,13 +1,15 @@
 //! An area, and its single changes.
 
-ghost use Rattle.std.specs.Prelude.{◌≡◌, ◌≢◌, ◌<◌, ◌≤◌, ◌+◌, ◌^◌, ◌∷◌, ◌++◌, [], true, false, ℕ, length, map, All, Contains, IfErr, IfSome, MatchOption, MatchResult, OnOk, slice_index_or, slice_set};
+ghost use Rattle.std.specs.Prelude.{◌≡◌, ◌≢◌, ◌<◌, ◌≤◌, ◌+◌, ◌^◌, ◌∷◌, ◌++◌, [], true, false, ℕ, length, map, pos, All, Any, Contains, MatchOption, MatchResult, None, Some, slice_index_or, slice_set};
 ghost use Rattle.sw_rows.specs.declared.row.Row.{Row};
 ghost use Rattle.sw_rows.specs.declared.refusal.Refusal.TheVariants.{NoMemory};
+ghost use Rattle.sw_kernel.specs.Arrangement.{joined};
 ghost use Rattle.sw_kernel.specs.Replay.{Step, loaded, ranged};
+ghost use Rattle.sw_map.specs.declared.tail.Tail.TheVariants.{Key};
 ghost use Rattle.sw_kernel.specs.Tapes.{peak_from};
 ghost use Rattle.sw_map.specs.Held.{Held, blank, begun, pairs_in, place_of};
 ghost use Rattle.sw_map.specs.Refusals.{IsBeginRefusal};
-ghost use Rattle.sw_set.specs.Prepared.{IsSpare, IsFreshBut, stands_if};
+ghost use Rattle.sw_set.specs.Prepared.{IsCleared, IsFreshBut, IsOneCleared, IsSameButBoxes, IsSpare, stands_if};
 ghost use Rattle.sw_set.specs.Shelf.{AreaState, AreSameMaps, HasRoomWhereNeeded, IsAreaLawful, IsAtEnd, IsSameArea, Rises, key_of, lies_within, logged_rows};
 
 use crate::align::{align_boxes, is_needed};
@@ -231,7 +233,7 @@ impl<M: CrackerMap> Area<M> {
 
     /// The least recently used box with a lease that the tails do not need.
     pub(crate) fn leased(&self, tails: &[Tail]) -> Option<usize>
-        ensures { IfSome result (λ i. (i < length self.now.boxes) × ((d : Held) → ¬ Contains tails.now (slice_index_or self.now.boxes i d).tail)) }
+        ensures { MatchOption result (All (λ m. m.is_blank ≡ false → Contains tails.now m.tail) self.now.boxes) (λ i. (i < length self.now.boxes) × ((d : Held) → ((slice_index_or self.now.boxes i d).is_blank ≡ false) × ¬ Contains tails.now (slice_index_or self.now.boxes i d).tail)) }
     {
         find_leased(self.boxes.as_slice(), self.stamps.as_slice(), tails)
     }
@@ -260,12 +262,95 @@ impl<M: CrackerMap> Area<M> {
         self.boxes[at].len()
     }
 
+    /// The cursor of the box at a place.
+    fn cursor_at(&self, at: usize) -> usize
+        requires { at < length self.now.boxes }
+        ensures { (d : Held) → result ≡ (slice_index_or self.now.boxes at d).cursor }
+    {
+        self.boxes[at].cursor()
+    }
+
+    /// The tail at a place of the box at a place.
+    fn shown_at(&self, at: usize, place: usize) -> i64
+        requires within { at < length self.now.boxes }
+        requires there { (d : Held) → place < pairs_in (slice_index_or self.now.boxes at d) }
+        ensures { (d : Held) → result ≡ (slice_index_or (joined (slice_index_or self.now.boxes at d).pairs) place (pos 0, pos 0)).1 }
+    {
+        self.boxes[at].tail_at(place)
+    }
+
     /// Clears the box at a place.
     pub(crate) fn clear_at(&mut self, at: usize)
         requires { at < length self.old.boxes }
         ensures { self.new ≡ record self.old { boxes = slice_set self.old.boxes at blank } }
     {
         clear_box(&mut self.boxes[at]);
+    }
+
+    /// Clears the map of a tail, if there is one. It is never refused.
+    pub fn clear(&mut self, tail: Tail)
+        ensures same { IsSameButBoxes self.old self.new }
+        ensures cleared { IsCleared tail self.old.boxes self.new.boxes }
+    {
+        self.known();
+        if let Some(at) = self.with_map(tail) {
+            self.clear_at(at);
+        }
+    }
+
+    /// Clears the least recently used map, and answers the cells of its lease; 0 where no box has a map. It is never refused.
+    pub fn clear_oldest(&mut self) -> u64
+        ensures same { IsSameButBoxes self.old self.new }
+        ensures cleared { IsOneCleared self.old.boxes self.new.boxes result }
+    {
+        let Some(at) = self.leased(&[]) else {
+            return 0;
+        };
+        let cells = self.cells_at(at);
+        self.clear_at(at);
+        cells
+    }
+
+    /// The stamp of the least recently used map, if a box has one.
+    pub fn oldest(&self) -> Option<u64>
+        ensures { MatchOption result (All (λ m. m.is_blank ≡ true) self.now.boxes) (λ _. Any (λ m. m.is_blank ≡ false) self.now.boxes) }
+    {
+        let Some(at) = self.leased(&[]) else {
+            return None;
+        };
+        if at < self.stamps.len() { Some(self.stamps[at]) } else { Some(0) }
+    }
+
+    /// The cursor of the map of a tail, if there is one.
+    pub fn cursor(&self, tail: Tail) -> Option<usize>
+        ensures { MatchOption result (All (λ m. m.is_blank ≡ false → m.tail ≢ tail) self.now.boxes) (λ n. Any (λ m. (m.is_blank ≡ false) × (m.tail ≡ tail) × (n ≡ m.cursor)) self.now.boxes) }
+    {
+        match self.with_map(tail) {
+            Some(at) => Some(self.cursor_at(at)),
+            None => None,
+        }
+    }
+
+    /// What the map of a tail shows at a place, if there is such a map and such a place.
+    pub fn peek(&self, tail: Tail, place: usize) -> Option<i64>
+        ensures { MatchOption result (All (λ m. m.is_blank ≡ false → m.tail ≡ tail → pairs_in m ≤ place) self.now.boxes) (λ v. Any (λ m. (m.is_blank ≡ false) × (m.tail ≡ tail) × (place < pairs_in m) × (v ≡ (slice_index_or (joined m.pairs) place (pos 0, pos 0)).1)) self.now.boxes) }
+    {
+        self.known();
+        let Some(at) = self.with_map(tail) else {
+            return None;
+        };
+        if place < self.pairs_at(at) { Some(self.shown_at(at, place)) } else { None }
+    }
+
+    /// How many pairs of the key map stand before a bound, if there is a key map and it has cracked at that bound.
+    pub fn place(&self, bound: Bound) -> Option<usize>
+        ensures { MatchOption result (All (λ m. m.is_blank ≡ false → m.tail ≡ Key → place_of bound m.pairs ≡ None) self.now.boxes) (λ n. Any (λ m. (m.is_blank ≡ false) × (m.tail ≡ Key) × (place_of bound m.pairs ≡ Some n)) self.now.boxes) }
+    {
+        self.known();
+        match self.with_map(Tail::Key) {
+            Some(at) => self.place_at(at, bound),
+            None => None,
+        }
     }
 
     /// Steps every box that has a map of the tails to the tape's end.

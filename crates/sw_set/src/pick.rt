@@ -68,14 +68,19 @@ pub(crate) fn find_unneeded<M: CrackerMap>(boxes: &[M], stamps: &[u64], tails: &
 
 /// Whether a box has a lease for a map that the tails lack.
 fn is_leased<M: CrackerMap>(it: &M, tails: &[Tail]) -> bool
-    ensures { result ≡ true → ¬ Contains tails.now (M.held it.now).tail }
+    ensures free { result ≡ true → ((M.held it.now).is_blank ≡ false) × ¬ Contains tails.now (M.held it.now).tail }
+    ensures other { result ≡ false → (M.held it.now).is_blank ≡ false → Contains tails.now (M.held it.now).tail }
 {
     !it.is_blank() && !is_needed(tails, it.tail())
 }
 
 /// The least recently used box with a lease for a map that the tails lack.
 pub(crate) fn find_leased<M: CrackerMap>(boxes: &[M], stamps: &[u64], tails: &[Tail]) -> Option<usize>
-    ensures { IfSome result (λ i. (i < length boxes.now) × ((d : M) → ¬ Contains tails.now (M.held (slice_index_or boxes.now i d)).tail)) }
+    ensures {
+        MatchOption result
+            (All (λ m. (M.held m).is_blank ≡ false → Contains tails.now (M.held m).tail) boxes.now)
+            (λ i. (i < length boxes.now) × ((d : M) → ((M.held (slice_index_or boxes.now i d)).is_blank ≡ false) × ¬ Contains tails.now (M.held (slice_index_or boxes.now i d)).tail))
+    }
 {
     let mut best: Option<usize> = None;
     for at in 0..boxes.len() {
