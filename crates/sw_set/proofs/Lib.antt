@@ -1,0 +1,5 @@
+pub mod Blocks
+pub mod Choosing
+pub mod Gathered
+pub mod KeyOrder
+pub mod Refined

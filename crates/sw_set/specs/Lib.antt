@@ -1,0 +1,4 @@
+pub mod Needs
+pub mod Shelf
+pub mod Prepared
+pub mod Choice

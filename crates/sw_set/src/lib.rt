@@ -1,0 +1,6 @@
+//! Areas: the live rows of an interval of a head's values, the tape that reorganised them, and the boxed maps that replay it.
+#![tactic(auto)]
+
+mod choice;
+mod totals;
+mod window;
