@@ -82,3 +82,10 @@ module _ (o : Option (List Bool)) (xs : List ℤ) (i : ℕ) (lt : i < length xs)
 
   pub greatest_no : (f : Option ℤ) → is_chosen o i ≡ false → f ≡ greatest (chosen o (take i xs)) → f ≡ greatest (chosen o (take (i + 1) xs))
   greatest_no f is_out so_far = so_far ∙ sym (greatest_more o xs i (pos 0) lt ∙ picks (is_chosen o i) false _ _ is_out)
+
+module _ {X : Type 0} (o : Option (List Bool)) (xs : List X) (i : ℕ) (lt : i < length xs) where
+  pub chosen_yes : (ys : List X) (x : X) → is_chosen o i ≡ true → x ≡ get_or xs i x → ys ≡ chosen o (take i xs) → ys ++ x ∷ [] ≡ chosen o (take (i + 1) xs)
+  chosen_yes ys x is_in is so_far = ap (λ v. v ++ x ∷ []) so_far ∙ ap (λ v. chosen o (take i xs) ++ v ∷ []) is ∙ sym (chosen-more o xs i x lt ∙ ap (λ b. chosen o (take i xs) ++ cond b (get_or xs i x ∷ []) []) is_in)
+
+  pub chosen_no : (ys : List X) (d : X) → is_chosen o i ≡ false → ys ≡ chosen o (take i xs) → ys ≡ chosen o (take (i + 1) xs)
+  chosen_no ys d is_out so_far = so_far ∙ sym (append-nil _) ∙ sym (chosen-more o xs i d lt ∙ ap (λ b. chosen o (take i xs) ++ cond b (get_or xs i d ∷ []) []) is_out)

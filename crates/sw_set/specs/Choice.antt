@@ -2,12 +2,13 @@
 use Rattle.std.specs.Prelude.{◌≡◌, ◌≢◌, ◌≤◌, ◌<◌, ◌+◌, ◌-◌, ℕ, zero, suc, ℤ, pos, Bool, true, false, cond, List, [], ◌∷◌, length, map, take, drop, get_or, slice_range, count_by, unsigned_abs, Option, None, Some, All, Any}
 use Rattle.std.specs.Int.{int_min, int_max}
 use Rattle.sw_rows.specs.declared.query.Cond.{Cond}
+use Rattle.sw_rows.specs.declared.reply.ReplyRow.{ReplyRow}
 use Rattle.sw_rows.specs.declared.row.Row.{Row}
 use Rattle.sw_rows.specs.Scan.{meets, meets_all, column}
 use Rattle.sw_kernel.specs.Arrangement.{joined}
 use Rattle.sw_kernel.specs.Replay.{Step}
 use Rattle.sw_map.specs.declared.tail.Tail.TheVariants.{Key, Cell}
-use Rattle.sw_map.specs.Held.{Held, blank}
+use Rattle.sw_map.specs.Held.{Held, blank, pairs_in}
 use Rattle.sw_map.specs.Lawful.{IsLawful, rows_by}
 use Rattle.sw_set.specs.Prepared.{IsReady}
 use Rattle.sw_set.specs.declared.window.Side.{Side}
@@ -54,10 +55,30 @@ pub record AreStocked (head : ℕ) (tape : List (Step Row)) (ms : List Held) : T
 abbrev pub HasCells : ℕ → List (Step Row) → List Held → ℕ → Type 0
 HasCells head tape ms b = b ≢ head → Any (IsReady (Cell b) tape) ms
 
+-- the value of a column at a place
+abbrev pub value_in : List Held → Column → ℕ → ℤ
+value_in ms c place = get_or (side_in c.side (get_or ms c.at blank)) place (pos 0)
+
 -- the column of a box is these values
 pub record IsColumn (ms : List Held) (c : Column) (values : List ℤ) : Type 0 where
   pub inside : c.at < length ms
   pub values_are : side_in c.side (get_or ms c.at blank) ≡ values
+
+-- a column of a box with at least so many places
+pub record IsInside (ms : List Held) (many : ℕ) (c : Column) : Type 0 where
+  pub box : c.at < length ms
+  pub places : many ≤ pairs_in (get_or ms c.at blank)
+
+-- where the columns of attributes stand, by their numbers
+abbrev pub first_column : Column
+first_column = record { at = 0; side = Head }
+
+abbrev pub column_at : List Column → ℕ → Column
+column_at cs a = get_or cs a first_column
+
+-- a row put together by its place
+abbrev pub row_in : List Held → List Column → List ℕ → ℕ × ℕ → ReplyRow
+row_in ms cs names p = record { key = p.0; cells = map (λ a. value_in ms (column_at cs a) p.1) names }
 
 -- a block of cells, read from one place up to below another
 pub record IsBlock (block : List ℤ) (start end : ℕ) (xs : List ℤ) : Type 0 where

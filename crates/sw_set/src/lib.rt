@@ -2,5 +2,7 @@
 #![tactic(auto)]
 
 mod choice;
+mod finding;
+mod replies;
 mod totals;
 mod window;
