@@ -7,3 +7,10 @@ pub mod Tails
 pub mod Noting
 pub mod Ends
 pub mod Views
+pub mod Blocks
+pub mod Choosing
+pub mod Gathered
+pub mod KeyOrder
+pub mod Placed
+pub mod Refined
+pub mod Stock

@@ -3,10 +3,15 @@
 
 mod align;
 mod area;
+mod choice;
+mod finding;
 mod making;
 mod needs;
 mod pick;
 mod prepare;
+mod replies;
+mod totals;
+mod window;
 
 pub use area::Area;
 pub use prepare::Ready;
