@@ -7,6 +7,7 @@ pub mod Tails
 pub mod Noting
 pub mod Ends
 pub mod Views
+pub mod Ranges
 pub mod Blocks
 pub mod Choosing
 pub mod Gathered
