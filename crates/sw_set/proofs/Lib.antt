@@ -1,7 +1,11 @@
+pub mod Answered
 pub mod Blocks
 pub mod Choosing
 pub mod Gathered
 pub mod KeyOrder
+pub mod Needing
 pub mod Placed
 pub mod Refined
+pub mod Rowed
 pub mod Stock
+pub mod Told

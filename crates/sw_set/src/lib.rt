@@ -2,6 +2,7 @@
 #![tactic(auto)]
 
 mod choice;
+mod collect;
 mod finding;
 mod replies;
 mod totals;
