@@ -84,7 +84,7 @@ column-range h xs c x f rows from upto is at =
     let lt : c.at < length xs = omega (arith, is.inside, length-map xs h) in
     ap (λ (m : Held). slice_range (side_in c.side m) from upto) (held-at h xs c.at x lt at) ∙ ap (λ (v : List ℤ). slice_range v from upto) is.values_are ∙ sym (map-range f rows from upto)
 
-side-long : (s : Side) (m : Held) → length (side_in s m) ≡ pairs_in m
+pub side-long : (s : Side) (m : Held) → length (side_in s m) ≡ pairs_in m
 side-long Head m = length-map (joined m.pairs) (λ (p : ℤ × ℤ). p.0)
 side-long tail_side m = length-map (joined m.pairs) (λ (p : ℤ × ℤ). p.1)
 

@@ -1,10 +1,15 @@
 -- Columns of maps, the range of places that qualifies, and what truth values choose of it.
-use Rattle.std.specs.Prelude.{◌≡◌, ◌≢◌, ◌≤◌, ◌<◌, ◌+◌, ◌-◌, ℕ, zero, suc, ℤ, pos, Bool, true, false, cond, List, [], ◌∷◌, length, map, take, drop, get_or, slice_range, count_by, unsigned_abs, Option, None, Some, All, Any}
+use Rattle.std.specs.Prelude.{◌≡◌, ◌≢◌, ◌≤◌, ◌<◌, ◌+◌, ◌-◌, ℕ, zero, suc, ℤ, pos, Bool, true, false, cond, List, [], ◌∷◌, length, map, take, drop, get_or, slice_range, count_by, unsigned_abs, Option, None, Some, All, Any, IsPermutation}
 use Rattle.std.specs.Int.{int_min, int_max}
+use Rattle.std.specs.List.Sorted.{IsNonDecreasingBy}
 use Rattle.sw_rows.specs.declared.query.Cond.{Cond}
+use Rattle.sw_rows.specs.declared.query.Want.{Want}
+use Rattle.sw_rows.specs.declared.query.Want.TheVariants as want
+use Rattle.sw_rows.specs.declared.reply.Reply.{Reply}
+use Rattle.sw_rows.specs.declared.reply.Reply.TheVariants as reply
 use Rattle.sw_rows.specs.declared.reply.ReplyRow.{ReplyRow}
 use Rattle.sw_rows.specs.declared.row.Row.{Row}
-use Rattle.sw_rows.specs.Scan.{meets, meets_all, column}
+use Rattle.sw_rows.specs.Scan.{meets, meets_all, column, projected, answer_over}
 use Rattle.sw_kernel.specs.Arrangement.{joined}
 use Rattle.sw_kernel.specs.Replay.{Step}
 use Rattle.sw_map.specs.declared.tail.Tail.TheVariants.{Key, Cell}
@@ -133,3 +138,23 @@ lesser_with (Some l) z = int_min l z
 abbrev pub larger_with : Option ℤ → ℤ → ℤ
 larger_with None z = z
 larger_with (Some l) z = int_max l z
+
+-- ---- replies
+
+-- these rows of a reply, by keys that do not fall
+pub record AreInKeyOrder (xs ys : List ReplyRow) : Type 0 where
+  pub moved : IsPermutation xs ys
+  pub sorted : IsNonDecreasingBy (λ r. r.key) ys
+
+-- what is wanted of rows that are held in another order than that of their keys
+abbrev pub IsReplyOver : List Row → Want → Reply → Type 0
+IsReplyOver xs (want.Rows names) told = (ys : List ReplyRow) × (told ≡ reply.Rows ys) × AreInKeyOrder (map (projected names) xs) ys
+IsReplyOver xs w told = told ≡ answer_over xs w
+
+-- the columns of what is wanted are there
+abbrev pub HasWanted : ℕ → List (Step Row) → List Held → Want → Type 0
+HasWanted head tape ms (want.Rows names) = All (HasCells head tape ms) names
+HasWanted head tape ms want.Count = Unit {0}
+HasWanted head tape ms (want.Sum a) = HasCells head tape ms a
+HasWanted head tape ms (want.Min a) = HasCells head tape ms a
+HasWanted head tape ms (want.Max a) = HasCells head tape ms a

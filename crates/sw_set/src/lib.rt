@@ -4,6 +4,7 @@
 mod align;
 mod area;
 mod choice;
+mod collect;
 mod finding;
 mod making;
 mod needs;

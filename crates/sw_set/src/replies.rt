@@ -22,7 +22,7 @@ fn push_found(found: &mut Vec<(u64, usize)>, key: u64, place: usize) -> Result<(
 }
 
 /// The keys of the chosen rows of a range, each with its place. The range begins at a place.
-fn found_keys<M: CrackerMap>(alloc: Global, keys: &mut Window<'_, M>, from: usize, choice: &Choice) -> Result<Vec<(u64, usize)>, Refusal>
+pub(crate) fn found_keys<M: CrackerMap>(alloc: Global, keys: &mut Window<'_, M>, from: usize, choice: &Choice) -> Result<Vec<(u64, usize)>, Refusal>
     requires whole { All (λ (k : ℤ). pos 0 ≤ℤ k) keys.old }
     requires fits { from + length keys.old < 2 ^ 64 }
     ensures { MatchResult result (λ found. found.items ≡ chosen choice.now.bits (placed from keys.old)) (λ e. e ≡ NoMemory) }
@@ -37,7 +37,7 @@ fn found_keys<M: CrackerMap>(alloc: Global, keys: &mut Window<'_, M>, from: usiz
 }
 
 /// Puts keys in ascending order, each with its place.
-fn sort_by_key(found: &mut Vec<(u64, usize)>)
+pub(crate) fn sort_by_key(found: &mut Vec<(u64, usize)>)
     ensures moved { IsPermutation found.old.items found.new.items }
     ensures sorted { IsNonDecreasingBy (λ p. p.0) found.new.items }
 {
@@ -79,7 +79,7 @@ fn push_row(rows: &mut ReplyRows, key: u64, cells: Cells) -> Result<(), Refusal>
 }
 
 /// The rows at places, in their order, each with its key and its cells of some attributes.
-fn rows_at<M: CrackerMap>(alloc: Global, boxes: &[M], columns: &[Column; 8], names: &[usize], found: &[(u64, usize)]) -> Result<ReplyRows, Refusal>
+pub(crate) fn rows_at<M: CrackerMap>(alloc: Global, boxes: &[M], columns: &[Column; 8], names: &[usize], found: &[(u64, usize)]) -> Result<ReplyRows, Refusal>
     requires few { All (λ (a : ℕ). a < 8) names.now }
     requires inside { All (λ (p : ℕ × ℕ). All (λ (a : ℕ). IsInside (map M.held boxes.now) (p.1 + 1) (column_at columns.now a)) names.now) found.now }
     ensures { MatchResult result (λ rows. rows ≡ map (row_in (map M.held boxes.now) columns.now names.now) found.now) (λ e. e ≡ NoMemory) }

@@ -49,6 +49,7 @@ fn read_block<M: CrackerMap>(map: &M, side: Side, from: usize, upto: usize, bloc
 
 /// A column from one place up to below another, which asks its map for a block of values at a time. Contracts see the list
 /// of its values.
+#[derive(Drop)]
 pub(crate) struct Window<'a, M: CrackerMap> {
     map: &'a M,
     side: Side,
