@@ -1,5 +1,5 @@
 -- The range of places that a prepared area gives is that of the rows that meet the condition on the head.
-use Rattle.std.proofs.Common.{◌≡◌, ◌≢◌, ℕ, zero, suc, ℤ, ◌+◌, ◌-◌, ◌<◌, ◌≤◌, ◌&&◌, not, Bool, true, false, true≢false, if◌then◌else◌, cond, List, [], ◌∷◌, ◌++◌, length, get_or, map, filter, take, drop, refl, ap, sym, ◌∙◌, arith, subst, All, Contains, Option, Some, None}
+use Rattle.std.proofs.Common.{◌≡◌, ◌≢◌, ℕ, zero, suc, ℤ, ◌+◌, ◌-◌, ◌<◌, ◌≤◌, ◌&&◌, not, Bool, true, false, true≢false, if◌then◌else◌, cond, List, [], ◌∷◌, ◌++◌, length, get_or, map, filter, take, drop, fold, refl, ap, sym, ◌∙◌, arith, subst, All, Any, Contains, Option, Some, None}
 use Rattle.std.specs.List.{AllByRecursion, IsDistinct, slice_range}
 use Rattle.std.specs.Prelude.{nat_eq}
 use Rattle.std.proofs.lemmas.List.{drop-take}
@@ -7,7 +7,10 @@ use Rattle.std.proofs.lemmas.List.Elements.{All-drop, All-take}
 use Rattle.sw_rows.specs.declared.bound.Bound.{Bound}
 use Rattle.sw_rows.specs.declared.bound.Bound.TheVariants.{Before, After}
 use Rattle.sw_rows.specs.declared.query.Cond.{Cond}
+use Rattle.sw_rows.specs.declared.query.Query.{Query}
 use Rattle.sw_rows.specs.declared.row.Row.{Row}
+use Rattle.sw_rows.specs.declared.row.Update.{Update}
+use Rattle.sw_rows.specs.Updates.{rows_then}
 use Rattle.sw_rows.specs.Bounds.{bound_below, is_above, is_below, is_left, is_within}
 use Rattle.sw_rows.specs.Scan.{cell_of, meets}
 use Rattle.sw_kernel.specs.Arrangement.{Arrangement, joined}
@@ -19,9 +22,9 @@ use Rattle.sw_map.specs.declared.tail.Tail.{Tail}
 use Rattle.sw_map.specs.Held.{place_of}
 use Rattle.sw_map.specs.Lawful.{rows_by}
 use Rattle.sw_map.proofs.Replays.{place-sound, place-within, places-rise}
-use Rattle.sw_set.specs.Needs.{edge, head_in, is_before, lower_from, lower_in, touches, upper_in, upper_upto}
-use Rattle.sw_set.specs.Shelf.{AreaState, IsAreaLawful, Rises, key_of, lies_within, logged_rows}
-use Rattle.sw_set.specs.Prepared.{IsPlace, IsPrepared, area_lower, area_upper, is_touched}
+use Rattle.sw_set.specs.Needs.{edge, needed, head_in, is_before, lower_from, lower_in, touches, upper_in, upper_upto}
+use Rattle.sw_set.specs.Shelf.{AreaState, IsAreaLawful, Rises, key_of, lies_within, logged_rows, rows_in}
+use Rattle.sw_set.specs.Prepared.{IsPlace, IsPrepared, IsPreparedFor, IsReady, is_touched}
 use Rattle.sw_set.specs.Choice.{IsRun, meets_first, shown_rows}
 use Rattle.sw_set.proofs.Boxes.{get_or_any}
 
@@ -245,3 +248,31 @@ untouched-first x [] r head off w = absurd (true≢false (sym (none-upper (edge 
     none-upper None = refl
     none-upper (Some b) = refl
 untouched-first x (c ∷ cs) r head off w = ap (λ (n : ℕ). is_within c.lower c.upper (cell_of n r)) head ∙ untouched-none (edge x.from) (edge x.below) c.lower c.upper (cell_of x.attribute r) off w
+
+-- ---- what a prepared area is collected from
+by-touched : {P : Type 0} (q : Query) (x : AreaState) → (is_touched x q ≡ true → P) → (is_touched x q ≡ false → P) → P
+by-touched {P} q x met other = by (is_touched x q) refl
+  where
+    by : (t : Bool) → is_touched x q ≡ t → P
+    by true e = met e
+    by false e = other e
+
+pub prepared-maps : (q : Query) (x : AreaState) (from upto : ℕ) → IsPreparedFor q x from upto → from < upto → (t : Tail) → Contains (needed x.attribute q) t → Any (IsReady t x.tape) x.boxes
+prepared-maps q x from upto p some t need =
+    by-touched q x (λ e. (p.touched e).maps t need) (λ e. let none = p.untouched e in let lo = none.0 in let hi = none.1 in absurd (omega (arith, some, lo, hi)))
+
+pub prepared-runs : (q : Query) (x : AreaState) (from upto : ℕ) → IsAreaLawful x → head_in q.conds ≡ x.attribute → IsPreparedFor q x from upto → IsRun (meets_first q.conds) (shown_rows x.attribute x.tape) from upto
+prepared-runs q x from upto w head p =
+    by-touched q x (λ e. prepared-run x q.conds (needed x.attribute q) from upto w head e (p.touched e)) (λ e. subst (λ (k : ℕ). IsRun (meets_first q.conds) (shown_rows x.attribute x.tape) k upto) (sym (p.untouched e).0) (subst (λ (k : ℕ). IsRun (meets_first q.conds) (shown_rows x.attribute x.tape) 0 k) (sym (p.untouched e).1) (none e)))
+  where
+    none : is_touched x q ≡ false → IsRun (meets_first q.conds) (shown_rows x.attribute x.tape) 0 0
+    none e = record {
+        ordered = omega arith;
+        within = omega arith;
+        before = λ k d lt. absurd (let no : k < 0 = lt in omega (arith, no));
+        inside = λ k d lt. absurd (let no : k < 0 = lt in omega (arith, no));
+        behind = λ k d lt. untouched-first x q.conds (get_or (shown_rows x.attribute x.tape) k d) head e (all-within x w k d lt)
+        }
+
+pub rows-received : (x : AreaState) → x.inbox ≡ [] → rows_in x ≡ logged_rows x.attribute x.tape
+rows-received x e = ap (λ (us : List Update). fold rows_then (logged_rows x.attribute x.tape) us) e

@@ -79,6 +79,11 @@ abbrev pub IsPrepareRefusal : ℕ → ℕ → ℕ → Refusal → Type 0
 IsPrepareRefusal boxes many cells (NoBlank has needs) = (has ≡ boxes) × (needs ≡ many) × (has < needs)
 IsPrepareRefusal boxes many cells e = IsBeginRefusal cells e
 
+-- What is told beside a reply: nothing where the area stands as `prepare` leaves it; otherwise why it could not be prepared.
+abbrev pub IsTold : Query → AreaState → AreaState → Option Refusal → Type 0
+IsTold q x y None = IsNotedFor q x y.tape × ((from : ℕ) × (upto : ℕ) × IsPreparedFor q y from upto)
+IsTold q x y (Some e) = IsPartlyNoted q x y.tape × IsPrepareRefusal (length x.boxes) (length (needed x.attribute q)) (cells_for (peak_from 0 y.tape)) e
+
 -- the area but for its boxes
 pub record IsSameButBoxes (x y : AreaState) : Type 0 where
   pub attribute : y.attribute ≡ x.attribute

@@ -1,23 +1,27 @@
 //! An area, and its single changes.
 
-ghost use Rattle.std.specs.Prelude.{◌≡◌, ◌≢◌, ◌<◌, ◌≤◌, ◌+◌, ◌^◌, ◌∷◌, ◌++◌, [], true, false, ℕ, length, map, pos, All, Any, Contains, MatchOption, MatchResult, None, Some, slice_index_or, slice_set};
+ghost use Rattle.std.specs.Prelude.{◌≡◌, ◌≢◌, ◌<◌, ◌≤◌, ◌+◌, ◌^◌, ◌∷◌, ◌++◌, [], true, false, ℕ, length, map, pos, All, Any, Contains, IfOk, IsOk, IsOkUnless, MatchOption, MatchResult, None, Some, slice_index_or, slice_set};
 ghost use Rattle.sw_rows.specs.declared.row.Row.{Row};
 ghost use Rattle.sw_rows.specs.declared.refusal.Refusal.TheVariants.{NoMemory};
+ghost use Rattle.sw_rows.specs.Scan.{AsksBelow, TakesMemory, answer};
 ghost use Rattle.sw_kernel.specs.Arrangement.{joined};
 ghost use Rattle.sw_kernel.specs.Replay.{Step, loaded, ranged};
 ghost use Rattle.sw_map.specs.declared.tail.Tail.TheVariants.{Key};
 ghost use Rattle.sw_kernel.specs.Tapes.{peak_from};
 ghost use Rattle.sw_map.specs.Held.{Held, blank, begun, pairs_in, place_of};
 ghost use Rattle.sw_map.specs.Refusals.{IsBeginRefusal};
-ghost use Rattle.sw_set.specs.Prepared.{IsCleared, IsFreshBut, IsOneCleared, IsSameButBoxes, IsSpare, stands_if};
-ghost use Rattle.sw_set.specs.Shelf.{AreaState, AreSameMaps, HasRoomWhereNeeded, IsAreaLawful, IsAtEnd, IsSameArea, Rises, key_of, lies_within, logged_rows};
+ghost use Rattle.sw_set.specs.Prepared.{IsCleared, IsFreshBut, IsOneCleared, IsPreparedFor, IsSameButBoxes, IsSpare, stands_if};
+ghost use Rattle.sw_set.specs.Shelf.{AreaState, AreSameMaps, HasRoomWhereNeeded, IsAreaLawful, IsAtEnd, IsSameArea, Rises, key_of, lies_within, logged_rows, rows_in};
+ghost use Rattle.sw_set.specs.Needs.{head_in};
 
 use crate::align::{align_boxes, is_needed};
+use crate::collect::collect_from;
 use crate::pick::{find_blank, find_leased, find_map, find_unneeded};
+use crate::prepare::Ready;
 use std::alloc::Global;
 use std::marker::Model;
 use sw_map::{CrackerMap, Tail};
-use sw_rows::{Bound, Refusal, Row, Update};
+use sw_rows::{Bound, Query, Refusal, Reply, Row, Update, answer};
 use sw_tape::{Entry, MAX_ENTRIES, Tape};
 
 /// The rows whose cells of one attribute lie in an interval, the tape that reorganised them, and the boxes whose maps
@@ -351,6 +355,33 @@ impl<M: CrackerMap> Area<M> {
             Some(at) => self.place_at(at, bound),
             None => None,
         }
+    }
+
+    /// The plain answer over the area's rows; no map is used, and none changes. Only a list of rows takes memory, and the one
+    /// refusal is `NoMemory`.
+    pub fn scan(&self, query: &Query) -> Result<Reply, Refusal>
+        requires received { self.now.inbox ≡ [] }
+        requires asks { AsksBelow 8 query.now }
+        ensures answered { IfOk result (λ reply. reply ≡ answer (rows_in self.now) query.now) }
+        ensures refused { IsOkUnless result NoMemory }
+        ensures scalars { (TakesMemory query.now.want → ⊥) → IsOk result }
+    {
+        answer(self.alloc, self.rows(), query)
+    }
+
+    /// The answer of a query from the maps of an area that `prepare` left ready for it. Only a list of rows and a second
+    /// condition take memory, and the one refusal is `NoMemory`.
+    pub fn collect(&self, ready: &Ready, query: &Query) -> Result<Reply, Refusal>
+        requires received { self.now.inbox ≡ [] }
+        requires asks { AsksBelow 8 query.now }
+        requires head { head_in query.now.conds ≡ self.now.attribute }
+        requires ready { IsPreparedFor query.now self.now ready.now.from ready.now.upto }
+        ensures answered { IfOk result (λ reply. reply ≡ answer (rows_in self.now) query.now) }
+        ensures refused { IsOkUnless result NoMemory }
+        ensures scalars { (TakesMemory query.now.want → ⊥) → length query.now.conds ≤ 1 → IsOk result }
+    {
+        self.known();
+        collect_from(self.alloc, self.boxes.as_slice(), self.attribute, &self.tape, ready.from, ready.upto, query)
     }
 
     /// Steps every box that has a map of the tails to the tape's end.

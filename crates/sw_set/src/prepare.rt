@@ -1,7 +1,8 @@
 //! Preparing an area for a query: the range is logged, the maps that are needed are made and aligned, and the places of the
 //! range's bounds are found.
 
-ghost use Rattle.std.specs.Prelude.{◌≡◌, ℕ, ◌<◌, ◌≤◌, ◌^◌, ◌&&◌, ◌⊎◌, ◌∷◌, [], true, length, All, Any, Contains, MatchResult, slice_index_or};
+ghost use Rattle.std.specs.Prelude.{◌≡◌, ℕ, ◌<◌, ◌≤◌, ◌^◌, ◌&&◌, ◌⊎◌, ◌∷◌, [], true, length, All, Any, Contains, IfOk, IsOkUnless, MatchResult, slice_index_or};
+ghost use Rattle.sw_rows.specs.Scan.{AsksBelow, answer};
 ghost use Rattle.sw_rows.specs.declared.refusal.Refusal.TheVariants.{NoMemory};
 ghost use Rattle.sw_kernel.specs.Replay.{loaded};
 ghost use Rattle.sw_kernel.specs.Tapes.{peak_from};
@@ -9,14 +10,14 @@ ghost use Rattle.sw_map.specs.declared.tail.Tail.{Tail};
 ghost use Rattle.sw_map.specs.declared.tail.Tail.TheVariants.{Key};
 ghost use Rattle.sw_map.specs.Held.{Held};
 ghost use Rattle.sw_set.specs.Needs.{head_in, needed};
-ghost use Rattle.sw_set.specs.Prepared.{IsFoundAt, IsHeld, IsNoted, IsNotedFor, IsPartlyNoted, IsPrepareRefusal, IsPrepared, IsPreparedFor, IsReady, area_lower, area_upper, cells_for, stands_if};
-ghost use Rattle.sw_set.specs.Shelf.{IsAtEnd, IsSameArea, logged_rows};
+ghost use Rattle.sw_set.specs.Prepared.{IsFoundAt, IsHeld, IsNoted, IsNotedFor, IsPartlyNoted, IsPrepareRefusal, IsPrepared, IsPreparedFor, IsReady, IsTold, area_lower, area_upper, cells_for, stands_if};
+ghost use Rattle.sw_set.specs.Shelf.{IsAtEnd, IsSameArea, logged_rows, rows_in};
 
 use crate::area::Area;
 use crate::making::make_all;
 use crate::needs::{edge, lower_from, lower_of, needed_tails, touches, upper_of, upper_upto};
 use sw_map::{CrackerMap, Tail};
-use sw_rows::{Bound, Query, Refusal};
+use sw_rows::{Bound, Query, Refusal, Reply};
 use sw_tape::MAX_ENTRIES;
 
 /// A range of places in each map of an area: from the one, up to below the other.
@@ -138,5 +139,31 @@ impl<M: CrackerMap> Area<M> {
         let done = prepare_range(self, lower_from(start, lower), upper_upto(end, upper), tails.as_slice());
         self.stamp(tails.as_slice());
         done
+    }
+
+    /// The answer of a query: the area is prepared and the reply put together from its maps; where `prepare` is refused, the
+    /// area's rows are scanned, and that refusal is told beside the reply. The reply is the same.
+    ///
+    /// The one refusal is `NoMemory`. The area stands for the same rows then and otherwise, and where no refusal was told it
+    /// stands as `prepare` leaves it.
+    pub fn answer(&mut self, query: &Query) -> Result<(Reply, Option<Refusal>), Refusal>
+        requires received { self.old.inbox ≡ [] }
+        requires asks { AsksBelow 8 query.now }
+        requires head { head_in query.now.conds ≡ self.old.attribute }
+        ensures same { IsSameArea self.old self.new }
+        ensures answered { IfOk result (λ r. r.0 ≡ answer (rows_in self.old) query.now) }
+        ensures told { IfOk result (λ r. IsTold query.now self.old self.new r.1) }
+        ensures refused { IsOkUnless result NoMemory }
+    {
+        match self.prepare(query) {
+            Ok(ready) => match self.collect(&ready, query) {
+                Ok(reply) => Ok((reply, None)),
+                Err(e) => Err(e),
+            },
+            Err(e) => match self.scan(query) {
+                Ok(reply) => Ok((reply, Some(e))),
+                Err(refusal) => Err(refusal),
+            },
+        }
     }
 }
