@@ -6,7 +6,7 @@ use Rattle.std.proofs.lemmas.Bool.Decides.{nat_tests}
 use Rattle.std.proofs.lemmas.List.{take-append-drop}
 use Rattle.std.proofs.lemmas.List.Elements.{filter-append}
 use Rattle.std.proofs.lemmas.List.Folds.{drop_split}
-use Rattle.std.proofs.lemmas.List.Sorted.{IsPermutation-sym, IsPermutation-map}
+use Rattle.std.proofs.lemmas.List.Sorted.{IsPermutation-refl, IsPermutation-sym, IsPermutation-map}
 use Rattle.std.proofs.lemmas.Map.Keys.{IsDistinct-IsPermutation}
 use Rattle.sw_rows.specs.declared.query.Cond.{Cond}
 use Rattle.sw_rows.specs.declared.query.Query.{Query}
@@ -129,3 +129,17 @@ told-answer cs want.Count items rows told once rises h = h ∙ ap reply.Count (c
 told-answer cs (want.Sum a) items rows told once rises h = h ∙ ap reply.Sum (total-same (cell_of a) (meets_all cs) key_of items rows (same-once key_of items rows once rises))
 told-answer cs (want.Min a) items rows told once rises h = h ∙ ap reply.Least (least-same (cell_of a) (meets_all cs) key_of items rows (same-once key_of items rows once rises))
 told-answer cs (want.Max a) items rows told once rises h = h ∙ ap reply.Least (greatest-same (cell_of a) (meets_all cs) key_of items rows (same-once key_of items rows once rises))
+
+-- ---- of no rows
+
+pub told-nothing : (w : Want) → IsReplyOver [] w (answer_over [] w)
+told-nothing (want.Rows names) = ([], refl, record { moved = IsPermutation-refl []; sorted = λ i j d l m. absurd (omega arith) })
+told-nothing want.Count = refl
+told-nothing (want.Sum a) = refl
+told-nothing (want.Min a) = refl
+told-nothing (want.Max a) = refl
+
+pub none-matching : (cs : List Cond) (items : List Row) (from upto : ℕ) → IsRun (meets_first cs) items from upto → from ≡ upto → filter (meets_all cs) items ≡ []
+none-matching cs items from upto run e =
+    let none : slice_range items from upto ≡ [] = ap (λ (n : ℕ). take n (drop from items)) (let z : upto - from ≡ 0 = omega arith in z) in
+    sym (first-further cs items) ∙ ap (filter (meets_all (further cs))) (filter-run (meets_first cs) items from upto run ∙ none)
