@@ -1,5 +1,5 @@
 -- What is chosen of a column is the column of what is chosen; truth values of a test; ranges.
-use Rattle.std.proofs.Common.{◌≡◌, ◌∙◌, ap, sym, refl, ℕ, zero, suc, ◌+◌, ◌-◌, ◌<◌, ◌≤◌, Bool, true, false, cond, ◌&&◌, List, [], ◌∷◌, ◌++◌, map, filter, replicate, length, get_or, take, drop, slice_range, count_by, All, ℤ, pos, Option, Some, None, Result, Ok, Err, MatchResult, IfOk, arith}
+use Rattle.std.proofs.Common.{◌≡◌, ◌∙◌, ap, sym, refl, ℕ, zero, suc, ◌+◌, ◌-◌, ◌<◌, ◌≤◌, Bool, true, false, cond, ◌&&◌, List, [], ◌∷◌, map, replicate, length, get_or, take, drop, slice_range, count_by, ℤ, pos, Option, Some, None, Result, Ok, Err, MatchResult, IfOk, arith}
 use Rattle.std.proofs.lemmas.List.{length-map, get_or-map, get_or-drop, length-drop, length-take}
 use Rattle.std.proofs.lemmas.List.Sums.{sum_by-append}
 use Rattle.std.proofs.lemmas.List.Folds.{list_all_more}

@@ -1,13 +1,13 @@
 -- What `prepare` makes of an area, and why it is refused.
-use Rattle.std.specs.Prelude.{◌≡◌, ◌≢◌, ◌≤◌, ◌<◌, ◌+◌, ◌*◌, ◌/◌, ◌&&◌, ◌⊎◌, ℕ, Bool, true, false, max, List, [], ◌∷◌, ◌++◌, length, slice_index_or, Option, Some, None, All, Any, Contains}
+use Rattle.std.specs.Prelude.{◌≡◌, ◌≢◌, ◌≤◌, ◌<◌, ◌+◌, ◌*◌, ◌/◌, ◌&&◌, ◌⊎◌, ℕ, Bool, true, false, max, List, [], ◌∷◌, ◌++◌, length, slice_index_or, Option, Some, None, Any, Contains}
 use Rattle.sw_rows.specs.declared.bound.Bound.{Bound}
 use Rattle.sw_rows.specs.declared.row.Row.{Row}
 use Rattle.sw_rows.specs.declared.query.Query.{Query}
 use Rattle.sw_rows.specs.declared.refusal.Refusal.{Refusal}
-use Rattle.sw_rows.specs.declared.refusal.Refusal.TheVariants.{NoMemory, NoBlank, Short, Contended}
+use Rattle.sw_rows.specs.declared.refusal.Refusal.TheVariants.{NoBlank}
 use Rattle.sw_kernel.specs.Arrangement.{Arrangement, joined}
 use Rattle.sw_kernel.specs.Replay.{Step, loaded, ranged}
-use Rattle.sw_kernel.specs.Tapes.{is_marked, peak_from}
+use Rattle.sw_kernel.specs.Tapes.{is_marked}
 use Rattle.sw_map.specs.declared.tail.Tail.{Tail}
 use Rattle.sw_map.specs.Held.{Held, place_of}
 use Rattle.sw_map.specs.Lawful.{rows_by}

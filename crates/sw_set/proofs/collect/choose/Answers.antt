@@ -1,4 +1,4 @@
-use Rattle.std.proofs.Common.{arith, ◌≡◌, ap, List, get_or, slice_range}
+use Rattle.std.proofs.Common.{ap, List, get_or, slice_range}
 use Rattle.sw_set.specs.Choice.{shown_rows}
 use Rattle.sw_rows.specs.declared.query.Cond.{Cond}
 use Rattle.sw_rows.specs.Scan.{meets_all}

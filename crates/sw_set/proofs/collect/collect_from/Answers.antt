@@ -1,11 +1,10 @@
-use Rattle.std.proofs.Common.{arith, ◌≡◌, ◌∙◌, ◌<◌, ap, sym, subst, List, All, map, slice_range, filter, []}
+use Rattle.std.proofs.Common.{arith, ◌≡◌, ◌∙◌, ◌<◌, sym, subst, List, All, map, slice_range, []}
 use Rattle.sw_rows.specs.declared.query.Cond.{Cond}
-use Rattle.sw_rows.specs.declared.query.Want.{Want}
 use Rattle.sw_rows.specs.declared.reply.Reply.{Reply}
 use Rattle.sw_rows.specs.declared.refusal.Refusal.{Refusal}
 use Rattle.sw_rows.specs.declared.refusal.Refusal.TheVariants.{NoMemory}
 use Rattle.sw_rows.specs.declared.row.Row.{Row}
-use Rattle.sw_rows.specs.Scan.{answer, answer_over, matching, meets_all}
+use Rattle.sw_rows.specs.Scan.{answer, answer_over, meets_all}
 use Rattle.sw_set.specs.Choice.{AreOf, HasCells, IsReplyOver, chosen, further, shown_rows}
 use Rattle.sw_set.proofs.Answered.{none-matching, range-matching, told-answer, told-nothing}
 use Rattle.sw_set.proofs.Needing.{conds-held, want-held}
@@ -18,7 +17,7 @@ returns-then-from-upto-clause-answered g c =
     let items = shown_rows c.args.head c.args.tape.now in
     let none = none-matching q.conds items c.args.from c.args.upto c.requires.run c.if-from-upto.true in
     λ rows once rises.
-        c.nothing.ensures ∙ told-answer q.conds q.want items rows (answer_over [] q.want) once rises (subst (λ (v : List Row). IsReplyOver v q.want (answer_over [] q.want)) (sym none) (told-nothing q.want))
+    c.nothing.ensures ∙ told-answer q.conds q.want items rows (answer_over [] q.want) once rises (subst (λ (v : List Row). IsReplyOver v q.want (answer_over [] q.want)) (sym none) (told-nothing q.want))
 
 pub choose-requires-clause-cells : goal.choose-requires-clause-cells
 choose-requires-clause-cells g c κs within =
@@ -42,6 +41,6 @@ returns-clause-answered g c =
     let are = subst (λ (v : List Cond). AreOf (meets_all (further v)) range o) c.as_slice.ensures c.in_ok-choice.ensures.chosen in
     let same = range-matching q.conds items c.args.from c.args.upto o c.requires.run are in
     λ rows once rises.
-        if-ok (IsReplyOver (chosen o range) q.want) (λ (r : Reply). r ≡ answer rows q) (λ (e : Refusal). e ≡ NoMemory) c.wanted.result
-        (λ told h. told-answer q.conds q.want items rows told once rises (subst (λ (v : List Row). IsReplyOver v q.want told) same h))
-        c.wanted.ensures.told
+    if-ok (IsReplyOver (chosen o range) q.want) (λ (r : Reply). r ≡ answer rows q) (λ (e : Refusal). e ≡ NoMemory) c.wanted.result
+    (λ told h. told-answer q.conds q.want items rows told once rises (subst (λ (v : List Row). IsReplyOver v q.want told) same h))
+    c.wanted.ensures.told

@@ -1,6 +1,5 @@
-use Rattle.std.proofs.Common.{rules, arith, ◌≡◌, ◌∙◌, ◌<◌, ◌-◌, ap, sym, refl, List, Bool, length, take, map, slice_range, get_or, None}
+use Rattle.std.proofs.Common.{◌∙◌, ◌-◌, sym, refl, slice_range, get_or, None}
 use Rattle.sw_rows.specs.declared.query.Cond.{Cond}
-use Rattle.std.proofs.lemmas.List.{length-map}
 use Rattle.sw_set.specs.Choice.{shown_rows}
 use Rattle.sw_set.proofs.Told.{all-true, range-long, refined-step}
 use Rattle.sw_set.proofs.collect.refined.Goals as goal

@@ -1,5 +1,4 @@
-use Rattle.std.proofs.Common.{rules, arith, ◌≡◌, ◌∙◌, ◌+◌, ◌-◌, ◌<◌, ◌≤◌, ◌≤ℤ◌, ap, sym, subst, ℕ, ℤ, pos, List, All, length, map, slice_range, get_or, IsPermutation}
-use Rattle.std.specs.List.Sorted.{IsNonDecreasingBy}
+use Rattle.std.proofs.Common.{arith, ◌≡◌, ◌∙◌, ◌+◌, ◌-◌, ◌≤ℤ◌, ap, sym, subst, ℕ, ℤ, pos, List, All, length, map, slice_range, get_or, IsPermutation}
 use Rattle.std.proofs.lemmas.Int.{ints}
 use Rattle.std.proofs.lemmas.List.{length-map}
 use Rattle.std.proofs.lemmas.List.Elements.{All-map}
@@ -26,8 +25,8 @@ rows_at-requires-clause-inside g c κs within =
     let many : length c.open_keys-keys.result ≡ c.args.upto - c.args.from = ap length c.open_keys-keys.ensures ∙ length-map range (λ (r : Row). pos r.key) ∙ range-long rows c.args.from c.args.upto c.requires.ordered c.requires.within in
     let moved = subst (λ (v : List (ℕ × ℕ)). IsPermutation c.in_ok-found.found.items v) (sym c.deref.ensures.value) c.sort_by_key.ensures.moved in
     λ k d l j a m.
-        (let below = found-below c.args.choice.now.bits c.args.from c.open_keys-keys.result c.in_ok-found.found.items c.deref.result.now k d c.in_ok-found.ensures moved l in
-         column-inside ms (column_at c.columns_of-columns.result (get_or c.args.names.now j a)) (cell_of (get_or c.args.names.now j a)) rows ((get_or c.deref.result.now k d).1 + 1) (c.columns_of-columns.ensures j a m) (omega (arith, below, many)))
+    (let below = found-below c.args.choice.now.bits c.args.from c.open_keys-keys.result c.in_ok-found.found.items c.deref.result.now k d c.in_ok-found.ensures moved l in
+    column-inside ms (column_at c.columns_of-columns.result (get_or c.args.names.now j a)) (cell_of (get_or c.args.names.now j a)) rows ((get_or c.deref.result.now k d).1 + 1) (c.columns_of-columns.ensures j a m) (omega (arith, below, many)))
 
 pub returns : goal.returns
 returns g c =

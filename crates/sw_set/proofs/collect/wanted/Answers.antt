@@ -1,4 +1,4 @@
-use Rattle.std.proofs.Common.{rules, arith, ◌≡◌, ◌∙◌, ◌-◌, ap, sym, subst, to_z, of_z, ℤ, List, length, slice_range}
+use Rattle.std.proofs.Common.{rules, ◌∙◌, ap, sym, subst, to_z, of_z, ℤ, List, slice_range}
 use Rattle.std.proofs.lemmas.Int.{to_z-of_z}
 use mir.Val.{SFits}
 use mir.Syntax.{w128}
