@@ -1,24 +1,22 @@
 -- What is told of the chosen rows of a range is the plain answer over the rows in key order.
-use Rattle.std.proofs.Common.{◌≡◌, ◌≢◌, ◌∙◌, ap, sym, refl, subst, ℕ, ℤ, zero, suc, ◌+◌, ◌-◌, ◌<◌, ◌≤◌, ◌&&◌, Bool, true, false, cond, nat_eq, List, [], ◌∷◌, ◌++◌, map, filter, length, get_or, take, drop, slice_range, All, Option, Some, None, IsPermutation, ◌⊎◌, inl, inr, append-nil, arith}
+use Rattle.std.proofs.Common.{◌≡◌, ◌≢◌, ◌∙◌, ap, sym, refl, subst, ℕ, suc, ◌-◌, ◌<◌, ◌&&◌, Bool, true, false, cond, nat_eq, List, [], ◌∷◌, ◌++◌, map, filter, take, drop, slice_range, All, Option, Some, None, inl, inr, append-nil, arith}
 use Rattle.std.specs.List.{IsDistinct, AllByRecursion}
-use Rattle.std.specs.List.Sorted.{IsNonDecreasingBy}
 use Rattle.std.proofs.lemmas.Bool.Decides.{nat_tests}
 use Rattle.std.proofs.lemmas.List.{take-append-drop}
 use Rattle.std.proofs.lemmas.List.Elements.{filter-append}
 use Rattle.std.proofs.lemmas.List.Folds.{drop_split}
-use Rattle.std.proofs.lemmas.List.Sorted.{IsPermutation-sym, IsPermutation-map}
+use Rattle.std.proofs.lemmas.List.Sorted.{IsPermutation-refl, IsPermutation-sym, IsPermutation-map}
 use Rattle.std.proofs.lemmas.Map.Keys.{IsDistinct-IsPermutation}
 use Rattle.sw_rows.specs.declared.query.Cond.{Cond}
-use Rattle.sw_rows.specs.declared.query.Query.{Query}
 use Rattle.sw_rows.specs.declared.query.Want.{Want}
 use Rattle.sw_rows.specs.declared.query.Want.TheVariants as want
 use Rattle.sw_rows.specs.declared.reply.Reply.{Reply}
 use Rattle.sw_rows.specs.declared.reply.Reply.TheVariants as reply
 use Rattle.sw_rows.specs.declared.reply.ReplyRow.{ReplyRow}
 use Rattle.sw_rows.specs.declared.row.Row.{Row}
-use Rattle.sw_rows.specs.Scan.{answer, answer_over, cell_of, column, matching, meets, meets_all, projected}
+use Rattle.sw_rows.specs.Scan.{answer_over, cell_of, matching, meets, meets_all, projected}
 use Rattle.sw_kernel.specs.Tapes.{HoldsOnce}
-use Rattle.sw_kernel.proofs.Members.{Mem, mem-filter, mem-filtered, mem-permutation, all-from_mem}
+use Rattle.sw_kernel.proofs.Members.{Mem, mem-filter, mem-filtered, mem-permutation}
 use Rattle.sw_set.specs.Shelf.{Rises, key_of}
 use Rattle.sw_set.specs.Choice.{AreInKeyOrder, AreOf, IsReplyOver, IsRun, chosen, further, kept, meets_first}
 use Rattle.sw_set.proofs.Gathered.{Apart, Same, same-once, apart-distinct}
@@ -78,6 +76,7 @@ distinct-apart key (x ∷ xs) a = (heads key (key x) xs a.0, distinct-apart key 
         told : (t : Bool) → nat_eq n m ≡ t → t ≡ false
         told true e = absurd (d (let s : m ≡ n = grind (arith, nat_tests) in s))
         told false e = refl
+
     heads : {X : Type 0} (key : X → ℕ) (n : ℕ) (xs : List X) → ((y : X) → Mem y xs → key y ≢ n) → AllByRecursion (λ m. nat_eq n m ≡ false) (map key xs)
     heads key n [] h = tt
     heads key n (x ∷ xs) h = (differs (key x) n (h x (inl refl)), heads key n xs (λ y m. h y (inr m)))
@@ -116,11 +115,11 @@ told-rows names p items rows told same rises order =
     let told_once = IsDistinct-IsPermutation nat_eq eq-flips (map k shown) (map k told) (IsPermutation-map k shown told order.moved) (subst (IsDistinct nat_eq) (sym (keys-projected names (filter p items))) once) in
     rising-unique k told (map (projected names) (filter p rows)) (rises-sorted k told order.sorted (apart-distinct k told told_once)) (rises-projected names (filter p rows) (rises-filter key_of p rows rises))
     (λ y m. (let s = mem-row names (filter p items) y (mem-permutation told shown (IsPermutation-sym shown told order.moved) y m) in
-             let f = mem-filtered p items s.0 s.1 in
-             subst (λ (v : ReplyRow). Mem v (map (projected names) (filter p rows))) (sym s.2) (mem-projected names (filter p rows) s.0 (mem-filter p rows s.0 (same.to s.0 f.0) f.1))))
+    let f = mem-filtered p items s.0 s.1 in
+    subst (λ (v : ReplyRow). Mem v (map (projected names) (filter p rows))) (sym s.2) (mem-projected names (filter p rows) s.0 (mem-filter p rows s.0 (same.to s.0 f.0) f.1))))
     (λ y m. (let s = mem-row names (filter p rows) y m in
-             let f = mem-filtered p rows s.0 s.1 in
-             mem-permutation shown told order.moved y (subst (λ (v : ReplyRow). Mem v shown) (sym s.2) (mem-projected names (filter p items) s.0 (mem-filter p items s.0 (same.back s.0 f.0) f.1)))))
+    let f = mem-filtered p rows s.0 s.1 in
+    mem-permutation shown told order.moved y (subst (λ (v : ReplyRow). Mem v shown) (sym s.2) (mem-projected names (filter p items) s.0 (mem-filter p items s.0 (same.back s.0 f.0) f.1)))))
 
 -- THE ANSWER
 pub told-answer : (cs : List Cond) (w : Want) (items rows : List Row) (told : Reply) → HoldsOnce key_of items rows → Rises key_of rows → IsReplyOver (filter (meets_all cs) items) w told → told ≡ answer_over (matching cs rows) w
@@ -129,3 +128,17 @@ told-answer cs want.Count items rows told once rises h = h ∙ ap reply.Count (c
 told-answer cs (want.Sum a) items rows told once rises h = h ∙ ap reply.Sum (total-same (cell_of a) (meets_all cs) key_of items rows (same-once key_of items rows once rises))
 told-answer cs (want.Min a) items rows told once rises h = h ∙ ap reply.Least (least-same (cell_of a) (meets_all cs) key_of items rows (same-once key_of items rows once rises))
 told-answer cs (want.Max a) items rows told once rises h = h ∙ ap reply.Least (greatest-same (cell_of a) (meets_all cs) key_of items rows (same-once key_of items rows once rises))
+
+-- ---- of no rows
+
+pub told-nothing : (w : Want) → IsReplyOver [] w (answer_over [] w)
+told-nothing (want.Rows names) = ([], refl, record { moved = IsPermutation-refl []; sorted = λ i j d l m. absurd (omega arith) })
+told-nothing want.Count = refl
+told-nothing (want.Sum a) = refl
+told-nothing (want.Min a) = refl
+told-nothing (want.Max a) = refl
+
+pub none-matching : (cs : List Cond) (items : List Row) (from upto : ℕ) → IsRun (meets_first cs) items from upto → from ≡ upto → filter (meets_all cs) items ≡ []
+none-matching cs items from upto run e =
+    let none : slice_range items from upto ≡ [] = ap (λ (n : ℕ). take n (drop from items)) (let z : upto - from ≡ 0 = omega arith in z) in
+    sym (first-further cs items) ∙ ap (filter (meets_all (further cs))) (filter-run (meets_first cs) items from upto run ∙ none)

@@ -1,6 +1,5 @@
 -- Blocks of cells.
-use Rattle.std.proofs.Common.{◌≡◌, ◌≢◌, ℕ, zero, suc, ◌+◌, ◌-◌, ◌<◌, ◌≤◌, ℤ, pos, List, [], ◌∷◌, length, get_or, set, take, drop, slice_range, ◌⊎◌, inl, inr, refl, ap, sym, ◌∙◌, arith, get_or-set_same, get_or-set_other}
-use Rattle.std.proofs.lemmas.List.{get_or-drop, length-drop}
+use Rattle.std.proofs.Common.{◌≡◌, ◌≢◌, ℕ, zero, suc, ◌+◌, ◌-◌, ◌<◌, ◌≤◌, ℤ, pos, List, length, get_or, set, ◌⊎◌, inl, inr, refl, ap, sym, ◌∙◌, arith, get_or-set_same, get_or-set_other}
 
 pub equal-or-not : (m n : ℕ) → (m ≡ n) ⊎ (m ≢ n)
 equal-or-not zero zero = inl refl

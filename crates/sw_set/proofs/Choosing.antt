@@ -1,5 +1,5 @@
 -- What is chosen of a list, with one more item looked at, and where the truth values are those of a test.
-use Rattle.std.proofs.Common.{◌≡◌, ◌∙◌, ap, sym, refl, ℕ, zero, suc, ◌+◌, ◌-◌, ◌<◌, ◌≤◌, Bool, true, false, cond, ◌&&◌, List, [], ◌∷◌, ◌++◌, map, filter, fold, length, get_or, take, drop, count_by, All, ℤ, pos, ◌+ℤ◌, Option, Some, None, append-nil, arith}
+use Rattle.std.proofs.Common.{◌≡◌, ◌∙◌, ap, sym, refl, ℕ, zero, suc, ◌+◌, ◌<◌, Bool, true, false, cond, List, [], ◌∷◌, ◌++◌, fold, length, get_or, take, ℤ, pos, ◌+ℤ◌, Option, Some, None, append-nil, arith}
 use Rattle.std.proofs.lemmas.List.{take_more}
 use Rattle.std.specs.Int.{int_min, int_max}
 use Rattle.sw_rows.specs.Scan.{total, least, greatest}

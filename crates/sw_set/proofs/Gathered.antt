@@ -1,12 +1,11 @@
 -- What is gathered from the items that pass a test is the same for two lists that hold the same items, each once.
-use Rattle.std.proofs.Common.{◌≡◌, ◌≢◌, ℕ, zero, suc, ◌+◌, ◌<◌, ◌≤◌, ℤ, pos, ◌+ℤ◌, Bool, true, false, cond, nat_eq, List, [], ◌∷◌, ◌++◌, length, map, filter, fold, Option, None, Some, ◌⊎◌, inl, inr, refl, ap, sym, ◌∙◌, arith, subst, int_lt}
+use Rattle.std.proofs.Common.{◌≡◌, ◌≢◌, ℕ, ◌+◌, ◌<◌, ℤ, ◌+ℤ◌, Bool, true, false, cond, nat_eq, List, [], ◌∷◌, ◌++◌, map, Option, None, Some, ◌⊎◌, inl, inr, refl, ap, sym, ◌∙◌, arith, subst}
 use Rattle.std.specs.List.{IsDistinct, AllByRecursion}
 use Rattle.std.specs.Int.{int_min, int_max}
 use Rattle.std.proofs.lemmas.Bool.Decides.{nat_tests}
 use Rattle.std.proofs.lemmas.Int.{ints}
-use Rattle.sw_rows.specs.Scan.{total, least, greatest}
 use Rattle.sw_kernel.specs.Tapes.{HoldsOnce}
-use Rattle.sw_kernel.proofs.Members.{Mem, mem-left, all-mem}
+use Rattle.sw_kernel.proofs.Members.{Mem, all-mem}
 use Rattle.sw_kernel.proofs.Once.{held-from_once}
 use Rattle.sw_set.specs.Shelf.{Rises}
 
@@ -92,15 +91,17 @@ module _ {X V Z : Type 0} (put : V → Z → Z) (start : Z) (f : X → V) (p : X
       other : (x : X) (us vs : List X) (y : X) → key y ≢ key x → (y ≡ x) ⊎ Mem y (us ++ vs) → Mem y (us ++ vs)
       other x us vs y d (inl e) = absurd (d (ap key e))
       other x us vs y d (inr m) = m
+
       kept-in : (x : X) (xs : List X) (y : X) → key y ≢ key x → Mem y (x ∷ xs) → Mem y xs
       kept-in x xs y d (inl e) = absurd (d (ap key e))
       kept-in x xs y d (inr m) = m
+
       rest-same : (x : X) (xs us vs : List X) → ((y : X) → Mem y (x ∷ xs) → Mem y (us ++ x ∷ vs)) → ((y : X) → Mem y (us ++ x ∷ vs) → Mem y (x ∷ xs)) → Apart key (x ∷ xs) → Apart key (us ++ x ∷ vs) → Same key xs (us ++ vs)
       rest-same x xs us vs to back left right = record {
         to = λ y m. other x us vs y (left.0 y m) (mem-others us x vs y (to y (inr m)));
         back = λ y m. kept-in x xs y (apart-middle key us x vs right y m) (back y (mem-again us x vs y m));
         left = left.1;
-        right = apart-others key us x vs right
+        right = apart-others key us x vs right;
       }
 
 -- ---- from the tape's law

@@ -1,12 +1,12 @@
 -- The rows that pass a test, in key order, from items that hold each row once.
-use Rattle.std.proofs.Common.{◌≡◌, ◌≢◌, ℕ, zero, suc, ◌+◌, ◌<◌, ◌≤◌, ℤ, pos, ◌+ℤ◌, Bool, true, false, cond, List, [], ◌∷◌, ◌++◌, length, map, filter, fold, get_or, Option, None, Some, IsPermutation, ◌⊎◌, inl, inr, refl, ap, sym, ◌∙◌, arith, subst}
+use Rattle.std.proofs.Common.{◌≡◌, ◌≢◌, ℕ, suc, ◌+◌, ◌<◌, ◌≤◌, ℤ, pos, ◌+ℤ◌, Bool, true, false, cond, List, [], ◌∷◌, length, map, filter, fold, get_or, Option, None, Some, IsPermutation, inl, inr, refl, ap, sym, ◌∙◌, arith}
 use Rattle.std.specs.List.{AllByRecursion}
 use Rattle.std.specs.List.Sorted.{IsNonDecreasingBy}
 use Rattle.std.specs.Int.{int_min, int_max}
 use Rattle.std.proofs.lemmas.Int.{ints}
 use Rattle.std.proofs.lemmas.List.Sorted.{IsPermutation-sym}
 use Rattle.sw_rows.specs.Scan.{total, least, greatest}
-use Rattle.sw_kernel.proofs.Members.{Mem, mem-at, mem-permutation, all-mem, mem-filter, mem-filtered}
+use Rattle.sw_kernel.proofs.Members.{Mem, mem-permutation, all-mem, mem-filter, mem-filtered}
 use Rattle.sw_set.specs.Shelf.{Rises}
 use Rattle.sw_set.proofs.Gathered.{Apart, Same, gathered, gathered-same, count_in, count-swaps, total-swaps, min-swaps, max-swaps, lesser_of, larger_of}
 
@@ -62,9 +62,10 @@ strictly k n (x ∷ xs) le d =
 
 pub rises-sorted : {X : Type 0} (k : X → ℕ) (xs : List X) → IsNonDecreasingBy k xs → Apart k xs → Rises k xs
 rises-sorted k [] s a = tt
-rises-sorted k (x ∷ xs) s a =
-    (strictly k (k x) xs (λ j e lt. s 0 (suc j) e (omega arith) (omega arith)) a.0,
-     rises-sorted k xs (λ i j e le lt. s (suc i) (suc j) e (omega arith) (omega arith)) a.1)
+rises-sorted k (x ∷ xs) s a = (
+  strictly k (k x) xs (λ j e lt. s 0 (suc j) e (omega arith) (omega arith)) a.0,
+  rises-sorted k xs (λ i j e le lt. s (suc i) (suc j) e (omega arith) (omega arith)) a.1,
+)
 
 apart-moved-head : {X : Type 0} (key : X → ℕ) (xs ys : List X) → IsPermutation xs ys → (P : X → Type 0) → ((y : X) → Mem y xs → P y) → (y : X) → Mem y ys → P y
 apart-moved-head key xs ys p P h y m = h y (mem-permutation ys xs (IsPermutation-sym xs ys p) y m)

@@ -1,5 +1,5 @@
 -- Places refined one after the other.
-use Rattle.std.proofs.Common.{◌≡◌, ◌≢◌, ℕ, zero, suc, ◌+◌, ◌<◌, ◌≤◌, ◌&&◌, Bool, false, List, length, get_or, set, ◌⊎◌, inl, inr, refl, ap, sym, ◌∙◌, arith, get_or-set_same, get_or-set_other}
+use Rattle.std.proofs.Common.{◌≡◌, ◌≢◌, ℕ, ◌+◌, ◌<◌, ◌≤◌, ◌&&◌, Bool, false, List, length, get_or, set, ◌⊎◌, inl, inr, ap, sym, ◌∙◌, arith, get_or-set_same, get_or-set_other}
 use Rattle.sw_set.proofs.Blocks.{equal-or-not}
 
 module _ (old bits : List Bool) (place : ℕ) (x : Bool) (p : ℕ → Bool) (is : x ≡ p place) (lt : place < length bits) (so_far : (k : ℕ) → k < place → get_or bits k false ≡ (get_or old k false && p k)) (rest : (k : ℕ) → place ≤ k → get_or bits k false ≡ get_or old k false) where

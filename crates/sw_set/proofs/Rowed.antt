@@ -1,5 +1,5 @@
 -- Rows put together by place are the rows.
-use Rattle.std.proofs.Common.{◌≡◌, ◌∙◌, ap, sym, refl, subst, ℕ, zero, suc, ◌+◌, ◌-◌, ◌<◌, ◌≤◌, Bool, true, false, cond, List, [], ◌∷◌, ◌++◌, map, length, get_or, slice_range, All, IsPermutation, ℤ, pos, Option, Some, None, ◌⊎◌, inl, inr, arith}
+use Rattle.std.proofs.Common.{◌≡◌, ◌∙◌, ap, sym, refl, subst, ℕ, suc, ◌+◌, ◌<◌, ◌≤◌, Bool, true, false, List, [], ◌∷◌, map, length, get_or, slice_range, All, IsPermutation, ℤ, pos, Option, Some, None, inl, inr, arith}
 use Rattle.std.specs.List.Sorted.{IsNonDecreasingBy}
 use Rattle.std.proofs.lemmas.List.{length-map, get_or-map}
 use Rattle.std.proofs.lemmas.List.Elements.{Contains-get_or}
@@ -7,11 +7,10 @@ use Rattle.std.proofs.lemmas.List.Sorted.{IsPermutation-map, IsPermutation-sym}
 use Rattle.sw_rows.specs.declared.reply.ReplyRow.{ReplyRow}
 use Rattle.sw_rows.specs.declared.row.Row.{Row}
 use Rattle.sw_rows.specs.Scan.{cell_of, column, projected}
-use Rattle.sw_kernel.proofs.Members.{Mem, mem-at, mem-from_contains, mem-permutation}
-use Rattle.sw_map.specs.Held.{Held, pairs_in, blank}
-use Rattle.sw_set.specs.Choice.{AreInKeyOrder, IsColumn, IsInside, chosen, column_at, kept, placed, row_in, side_in, value_in}
+use Rattle.sw_kernel.proofs.Members.{Mem, mem-from_contains, mem-permutation}
+use Rattle.sw_map.specs.Held.{Held, blank}
+use Rattle.sw_set.specs.Choice.{AreInKeyOrder, IsColumn, IsInside, chosen, column_at, kept, placed, row_in, value_in}
 use Rattle.sw_set.specs.declared.window.Column.{Column}
-use Rattle.sw_set.proofs.Placed.{length-placed, get_or-placed}
 use Rattle.sw_set.proofs.Stock.{side-long}
 use Rattle.sw_set.proofs.Told.{chosen-map, range-at, range-long}
 
@@ -79,11 +78,12 @@ pub in-key-order : (ms : List Held) (cs : List Column) (names : List ℕ) (rows 
 in-key-order ms cs names rows o from upto found sorted told are le within is moved rise was =
     let same = ap (map (row_in ms cs names)) is ∙ rows-found ms cs names rows o from upto are le within in
     record {
-        moved = subst (λ (v : List ReplyRow). IsPermutation v told) same (subst (λ (v : List ReplyRow). IsPermutation (map (row_in ms cs names) found) v) (sym was) (IsPermutation-map (row_in ms cs names) found sorted moved));
-        sorted = subst (λ (v : List ReplyRow). IsNonDecreasingBy (λ (r : ReplyRow). r.key) v) (sym was) (λ i j d l m. keys-rise i j d l (omega (arith, m, length-map sorted (row_in ms cs names))))
+      moved = subst (λ (v : List ReplyRow). IsPermutation v told) same (subst (λ (v : List ReplyRow). IsPermutation (map (row_in ms cs names) found) v) (sym was) (IsPermutation-map (row_in ms cs names) found sorted moved));
+      sorted = subst (λ (v : List ReplyRow). IsNonDecreasingBy (λ (r : ReplyRow). r.key) v) (sym was) (λ i j d l m. keys-rise i j d l (omega (arith, m, length-map sorted (row_in ms cs names))));
     }
   where
     key-at : (i : ℕ) (d : ReplyRow) → i < length sorted → (get_or (map (row_in ms cs names) sorted) i d).key ≡ (get_or sorted i (0, 0)).0
     key-at i d lt = ap (λ (r : ReplyRow). r.key) (get_or-map (row_in ms cs names) sorted i (0, 0) d lt)
+
     keys-rise : (i j : ℕ) (d : ReplyRow) → i ≤ j → j < length sorted → (get_or (map (row_in ms cs names) sorted) i d).key ≤ (get_or (map (row_in ms cs names) sorted) j d).key
     keys-rise i j d l m = omega (arith, key-at i d (omega arith), key-at j d m, rise i j (0, 0) l m)

@@ -1,5 +1,5 @@
 -- What the columns of ready boxes are.
-use Rattle.std.proofs.Common.{◌≡◌, ◌≢◌, ℕ, zero, suc, ◌+◌, ◌-◌, ◌<◌, ◌≤◌, ℤ, pos, List, [], ◌∷◌, ◌++◌, length, map, get_or, take, drop, slice_range, false, ◌⊎◌, inl, inr, refl, ap, sym, ◌∙◌, arith, subst, All, Any}
+use Rattle.std.proofs.Common.{◌≡◌, ℕ, zero, suc, ◌-◌, ◌<◌, ℤ, List, [], ◌∷◌, ◌++◌, length, map, get_or, take, drop, slice_range, false, inl, inr, refl, ap, sym, ◌∙◌, arith, subst, Any}
 use Rattle.std.proofs.Math.Seq.{take-length}
 use Rattle.std.proofs.lemmas.List.{length-map, get_or-map, map-append}
 use Rattle.sw_rows.specs.declared.row.Row.{Row}
@@ -7,11 +7,10 @@ use Rattle.sw_rows.specs.Scan.{cell_of, column}
 use Rattle.sw_kernel.specs.Arrangement.{Arrangement, last, piece, joined}
 use Rattle.sw_kernel.specs.Replay.{Step, shown}
 use Rattle.sw_map.specs.declared.tail.Tail.{Tail}
-use Rattle.sw_map.specs.declared.tail.Tail.TheVariants.{Key, Cell}
 use Rattle.sw_map.specs.Held.{Held, blank, pair_in, tail_value, pairs_in}
 use Rattle.sw_map.specs.Lawful.{IsAligned, IsLawful, rows_by}
 use Rattle.sw_set.specs.Prepared.{IsReady}
-use Rattle.sw_set.specs.Choice.{AreStocked, IsColumn, IsInside, shown_rows, side_in}
+use Rattle.sw_set.specs.Choice.{AreStocked, IsColumn, shown_rows, side_in}
 use Rattle.sw_set.specs.declared.window.Side.{Side}
 use Rattle.sw_set.specs.declared.window.Side.TheVariants.{Head, Tail as tail_side}
 use Rattle.sw_set.specs.declared.window.Column.{Column}

@@ -1,5 +1,5 @@
 -- What is chosen of a column is the column of what is chosen; truth values of a test; ranges.
-use Rattle.std.proofs.Common.{◌≡◌, ◌∙◌, ap, sym, refl, ℕ, zero, suc, ◌+◌, ◌-◌, ◌<◌, ◌≤◌, Bool, true, false, cond, ◌&&◌, List, [], ◌∷◌, ◌++◌, map, filter, replicate, length, get_or, take, drop, slice_range, count_by, All, ℤ, pos, Option, Some, None, Result, Ok, Err, MatchResult, arith}
+use Rattle.std.proofs.Common.{◌≡◌, ◌∙◌, ap, sym, refl, ℕ, zero, suc, ◌+◌, ◌-◌, ◌<◌, ◌≤◌, Bool, true, false, cond, ◌&&◌, List, [], ◌∷◌, map, replicate, length, get_or, take, drop, slice_range, count_by, ℤ, pos, Option, Some, None, Result, Ok, Err, MatchResult, IfOk, arith}
 use Rattle.std.proofs.lemmas.List.{length-map, get_or-map, get_or-drop, length-drop, length-take}
 use Rattle.std.proofs.lemmas.List.Sums.{sum_by-append}
 use Rattle.std.proofs.lemmas.List.Folds.{list_all_more}
@@ -7,7 +7,7 @@ use Rattle.sw_rows.specs.declared.query.Cond.{Cond}
 use Rattle.sw_rows.specs.declared.row.Row.{Row}
 use Rattle.sw_rows.specs.Bounds.{is_within}
 use Rattle.sw_rows.specs.Scan.{cell_of, column, meets, meets_all}
-use Rattle.sw_set.specs.Choice.{kept, chosen, count_chosen, AreFor, AreOf}
+use Rattle.sw_set.specs.Choice.{kept, chosen, count_chosen, further, AreFor, AreOf}
 
 kept-map : {A B : Type 0} (f : A → B) (bs : List Bool) (xs : List A) → kept bs (map f xs) ≡ map f (kept bs xs)
 kept-map f [] xs = refl
@@ -67,8 +67,8 @@ pub all-true : {A : Type 0} (xs : List A) (n : ℕ) → n ≡ length xs → repl
 all-true [] n e = ap (λ (k : ℕ). replicate k true) e
 all-true (x ∷ xs) n e = ap (λ (k : ℕ). replicate k true) e ∙ ap (λ v. true ∷ v) (all-true xs (length xs) refl)
 
-pub refined-step : (range : List Row) (conds : List Cond) (i : ℕ) (c : Cond) (old new : List Bool) (cells : List ℤ) → i < length conds → c ≡ get_or conds i c → old ≡ map (meets_all (take i conds)) range → cells ≡ column c.attr range → length new ≡ length old → ((k : ℕ) → k < length old → get_or new k false ≡ (get_or old k false && is_within c.lower c.upper (get_or cells k (pos 0)))) → new ≡ map (meets_all (take (i + 1) conds)) range
-refined-step range conds i c old new cells lt at was are long each =
+pub refined-step : (range : List Row) (conds : List Cond) (i : ℕ) (c e : Cond) (old new : List Bool) (cells : List ℤ) → i < length conds → c ≡ get_or conds i e → old ≡ map (meets_all (take i conds)) range → cells ≡ column c.attr range → length new ≡ length old → ((k : ℕ) → k < length old → get_or new k false ≡ (get_or old k false && is_within c.lower c.upper (get_or cells k (pos 0)))) → new ≡ map (meets_all (take (i + 1) conds)) range
+refined-step range conds i c e old new cells lt at was are long each =
     let many : length old ≡ length range = ap length was ∙ length-map range (meets_all (take i conds)) in
     let goal_long : length (map (meets_all (take (i + 1) conds)) range) ≡ length range = length-map range (meets_all (take (i + 1) conds)) in
     same-list new (map (meets_all (take (i + 1) conds)) range) (omega (arith, many, goal_long, long)) (λ k l. at-row (record { key = 0; cells = [] }) k (omega (arith, long)) many)
@@ -79,8 +79,21 @@ refined-step range conds i c old new cells lt at was are long each =
         let r = get_or range k d in
         let a : get_or old k false ≡ meets_all (take i conds) r = ap (λ (v : List Bool). get_or v k false) was ∙ get_or-map (meets_all (take i conds)) range k d false in_range in
         let b : get_or cells k (pos 0) ≡ cell_of c.attr r = ap (λ (v : List ℤ). get_or v k (pos 0)) are ∙ get_or-map (cell_of c.attr) range k d (pos 0) in_range in
-        each k l ∙ ap (λ (v : Bool). v && is_within c.lower c.upper (get_or cells k (pos 0))) a ∙ ap (λ (z : ℤ). meets_all (take i conds) r && is_within c.lower c.upper z) b ∙ ap (λ (e : Cond). meets_all (take i conds) r && meets r e) at ∙ sym (list_all_more (meets r) conds i c lt) ∙ sym (get_or-map (meets_all (take (i + 1) conds)) range k d false in_range)
+        each k l ∙ ap (λ (v : Bool). v && is_within c.lower c.upper (get_or cells k (pos 0))) a ∙ ap (λ (z : ℤ). meets_all (take i conds) r && is_within c.lower c.upper z) b ∙ ap (λ (v : Cond). meets_all (take i conds) r && meets r v) at ∙ sym (list_all_more (meets r) conds i e lt) ∙ sym (get_or-map (meets_all (take (i + 1) conds)) range k d false in_range)
 
 pub weaker : {A E : Type 0} (P Q : A → Type 0) (R : E → Type 0) (r : Result A E) → ((x : A) → P x → Q x) → MatchResult r P R → MatchResult r Q R
 weaker P Q R (Ok x) f h = f x h
 weaker P Q R (Err e) f h = h
+
+pub if-ok : {A E : Type 0} (P Q : A → Type 0) (R : E → Type 0) (r : Result A E) → ((x : A) → P x → Q x) → MatchResult r P R → IfOk r Q
+if-ok P Q R (Ok x) f h = f x h
+if-ok P Q R (Err e) f h = tt
+
+pub none-further : (cs : List Cond) → length cs < 2 → further cs ≡ []
+none-further [] l = refl
+none-further (c ∷ []) l = refl
+none-further (c ∷ (d ∷ cs)) l = absurd (omega arith)
+
+pub dropped-further : (cs : List Cond) → drop 1 cs ≡ further cs
+dropped-further [] = refl
+dropped-further (c ∷ cs) = refl

@@ -1,5 +1,5 @@
 -- Columns of maps, the range of places that qualifies, and what truth values choose of it.
-use Rattle.std.specs.Prelude.{◌≡◌, ◌≢◌, ◌≤◌, ◌<◌, ◌+◌, ◌-◌, ℕ, zero, suc, ℤ, pos, Bool, true, false, cond, List, [], ◌∷◌, length, map, take, drop, get_or, slice_range, count_by, unsigned_abs, Option, None, Some, All, Any, IsPermutation}
+use Rattle.std.specs.Prelude.{◌≡◌, ◌≢◌, ◌≤◌, ◌<◌, ◌+◌, ◌-◌, ℕ, suc, ℤ, pos, Bool, true, false, cond, List, [], ◌∷◌, length, map, take, drop, get_or, slice_range, count_by, unsigned_abs, Option, None, Some, All, Any, IsPermutation}
 use Rattle.std.specs.Int.{int_min, int_max}
 use Rattle.std.specs.List.Sorted.{IsNonDecreasingBy}
 use Rattle.sw_rows.specs.declared.query.Cond.{Cond}
@@ -9,7 +9,7 @@ use Rattle.sw_rows.specs.declared.reply.Reply.{Reply}
 use Rattle.sw_rows.specs.declared.reply.Reply.TheVariants as reply
 use Rattle.sw_rows.specs.declared.reply.ReplyRow.{ReplyRow}
 use Rattle.sw_rows.specs.declared.row.Row.{Row}
-use Rattle.sw_rows.specs.Scan.{meets, meets_all, column, projected, answer_over}
+use Rattle.sw_rows.specs.Scan.{meets, projected, answer_over}
 use Rattle.sw_kernel.specs.Arrangement.{joined}
 use Rattle.sw_kernel.specs.Replay.{Step}
 use Rattle.sw_map.specs.declared.tail.Tail.TheVariants.{Key, Cell}

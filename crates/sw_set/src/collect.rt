@@ -23,7 +23,15 @@ use sw_rows::{Cond, Query, Refusal, Reply, ReplyRows, Want};
 use sw_tape::Tape;
 
 /// Which rows of a range meet some conditions.
-fn refined<M: CrackerMap>(alloc: Global, boxes: &[M], head: u8, tape: &Tape, from: usize, upto: usize, conds: &[Cond]) -> Result<Bits, Refusal>
+fn refined<M: CrackerMap>(
+    alloc: Global,
+    boxes: &[M],
+    head: u8,
+    tape: &Tape,
+    from: usize,
+    upto: usize,
+    conds: &[Cond],
+) -> Result<Bits, Refusal>
     requires few { CondsBelow 8 conds.now }
     requires stocked { AreStocked head tape.now (map M.held boxes.now) }
     requires cells { All (λ c. HasCells head tape.now (map M.held boxes.now) c.attr) conds.now }
@@ -40,7 +48,15 @@ fn refined<M: CrackerMap>(alloc: Global, boxes: &[M], head: u8, tape: &Tape, fro
 }
 
 /// Which rows of a range meet the conditions after the first. It takes no memory where there is one condition at most.
-fn choose<M: CrackerMap>(alloc: Global, boxes: &[M], head: u8, tape: &Tape, from: usize, upto: usize, conds: &[Cond]) -> Result<Choice, Refusal>
+fn choose<M: CrackerMap>(
+    alloc: Global,
+    boxes: &[M],
+    head: u8,
+    tape: &Tape,
+    from: usize,
+    upto: usize,
+    conds: &[Cond],
+) -> Result<Choice, Refusal>
     requires few { CondsBelow 8 conds.now }
     requires stocked { AreStocked head tape.now (map M.held boxes.now) }
     requires cells { All (λ c. HasCells head tape.now (map M.held boxes.now) c.attr) conds.now }
@@ -58,7 +74,16 @@ fn choose<M: CrackerMap>(alloc: Global, boxes: &[M], head: u8, tape: &Tape, from
 }
 
 /// The chosen rows of a range, in key order.
-fn select<M: CrackerMap>(alloc: Global, boxes: &[M], head: u8, tape: &Tape, from: usize, upto: usize, names: &[usize], choice: &Choice) -> Result<ReplyRows, Refusal>
+fn select<M: CrackerMap>(
+    alloc: Global,
+    boxes: &[M],
+    head: u8,
+    tape: &Tape,
+    from: usize,
+    upto: usize,
+    names: &[usize],
+    choice: &Choice,
+) -> Result<ReplyRows, Refusal>
     requires few { All (λ a. a < 8) names.now }
     requires stocked { AreStocked head tape.now (map M.held boxes.now) }
     requires cells { All (HasCells head tape.now (map M.held boxes.now)) names.now }
@@ -74,7 +99,16 @@ fn select<M: CrackerMap>(alloc: Global, boxes: &[M], head: u8, tape: &Tape, from
 }
 
 /// What is wanted of the chosen rows of a range. Only a list of rows takes memory.
-fn wanted<M: CrackerMap>(alloc: Global, boxes: &[M], head: u8, tape: &Tape, from: usize, upto: usize, want: &Want, choice: &Choice) -> Result<Reply, Refusal>
+fn wanted<M: CrackerMap>(
+    alloc: Global,
+    boxes: &[M],
+    head: u8,
+    tape: &Tape,
+    from: usize,
+    upto: usize,
+    want: &Want,
+    choice: &Choice,
+) -> Result<Reply, Refusal>
     requires few { WantsBelow 8 want.now }
     requires stocked { AreStocked head tape.now (map M.held boxes.now) }
     requires cells { HasWanted head tape.now (map M.held boxes.now) want.now }
@@ -85,7 +119,16 @@ fn wanted<M: CrackerMap>(alloc: Global, boxes: &[M], head: u8, tape: &Tape, from
     ensures scalars { (TakesMemory want.now → ⊥) → IsOk result }
 {
     match want {
-        Want::Rows(names) => match select(alloc, boxes, head, tape, from, upto, names.as_slice(), choice) {
+        Want::Rows(names) => match select(
+            alloc,
+            boxes,
+            head,
+            tape,
+            from,
+            upto,
+            names.as_slice(),
+            choice,
+        ) {
             Ok(rows) => Ok(Reply::Rows(rows)),
             Err(e) => Err(e),
         },
@@ -122,7 +165,15 @@ fn nothing(alloc: Global, want: &Want) -> Reply
 ///
 /// The reply is that of a plain scan over the rows that the tape holds, in key order. The one refusal is `NoMemory`, and only
 /// where rows are asked for or there are two conditions or more.
-pub(crate) fn collect_from<M: CrackerMap>(alloc: Global, boxes: &[M], head: u8, tape: &Tape, from: usize, upto: usize, query: &Query) -> Result<Reply, Refusal>
+pub(crate) fn collect_from<M: CrackerMap>(
+    alloc: Global,
+    boxes: &[M],
+    head: u8,
+    tape: &Tape,
+    from: usize,
+    upto: usize,
+    query: &Query,
+) -> Result<Reply, Refusal>
     requires asks { AsksBelow 8 query.now }
     requires head { head_in query.now.conds ≡ head }
     requires lawful { All (IsLawful head tape.now) (map M.held boxes.now) }

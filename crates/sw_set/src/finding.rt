@@ -51,7 +51,12 @@ pub(crate) fn column_of<M: CrackerMap>(boxes: &[M], head: u8, tape: &Tape, attr:
 }
 
 /// Where the cells of each of some attributes stand, by the attribute's number.
-pub(crate) fn columns_of<M: CrackerMap>(boxes: &[M], head: u8, tape: &Tape, names: &[usize]) -> [Column; 8]
+pub(crate) fn columns_of<M: CrackerMap>(
+    boxes: &[M],
+    head: u8,
+    tape: &Tape,
+    names: &[usize],
+) -> [Column; 8]
     requires few { All (λ (a : ℕ). a < 8) names.now }
     requires stocked { AreStocked head tape.now (map M.held boxes.now) }
     requires cells { All (HasCells head tape.now (map M.held boxes.now)) names.now }
@@ -68,7 +73,14 @@ pub(crate) fn columns_of<M: CrackerMap>(boxes: &[M], head: u8, tape: &Tape, name
 }
 
 /// The cells of an attribute from one place up to below another.
-pub(crate) fn open_cells<'a, M: CrackerMap>(boxes: &'a [M], head: u8, tape: &Tape, attr: usize, from: usize, upto: usize) -> Window<'a, M>
+pub(crate) fn open_cells<'a, M: CrackerMap>(
+    boxes: &'a [M],
+    head: u8,
+    tape: &Tape,
+    attr: usize,
+    from: usize,
+    upto: usize,
+) -> Window<'a, M>
     requires few { attr < 8 }
     requires stocked { AreStocked head tape.now (map M.held boxes.now) }
     requires cells { HasCells head tape.now (map M.held boxes.now) attr }
@@ -81,7 +93,13 @@ pub(crate) fn open_cells<'a, M: CrackerMap>(boxes: &'a [M], head: u8, tape: &Tap
 }
 
 /// The keys from one place up to below another.
-pub(crate) fn open_keys<'a, M: CrackerMap>(boxes: &'a [M], head: u8, tape: &Tape, from: usize, upto: usize) -> Window<'a, M>
+pub(crate) fn open_keys<'a, M: CrackerMap>(
+    boxes: &'a [M],
+    head: u8,
+    tape: &Tape,
+    from: usize,
+    upto: usize,
+) -> Window<'a, M>
     requires stocked { AreStocked head tape.now (map M.held boxes.now) }
     requires ordered { from ≤ upto }
     requires within { upto ≤ length (shown_rows head tape.now) }

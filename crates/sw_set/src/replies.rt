@@ -22,7 +22,12 @@ fn push_found(found: &mut Vec<(u64, usize)>, key: u64, place: usize) -> Result<(
 }
 
 /// The keys of the chosen rows of a range, each with its place. The range begins at a place.
-pub(crate) fn found_keys<M: CrackerMap>(alloc: Global, keys: &mut Window<'_, M>, from: usize, choice: &Choice) -> Result<Vec<(u64, usize)>, Refusal>
+pub(crate) fn found_keys<M: CrackerMap>(
+    alloc: Global,
+    keys: &mut Window<'_, M>,
+    from: usize,
+    choice: &Choice,
+) -> Result<Vec<(u64, usize)>, Refusal>
     requires whole { All (λ (k : ℤ). pos 0 ≤ℤ k) keys.old }
     requires fits { from + length keys.old < 2 ^ 64 }
     ensures { MatchResult result (λ found. found.items ≡ chosen choice.now.bits (placed from keys.old)) (λ e. e ≡ NoMemory) }
@@ -55,7 +60,13 @@ fn push_cell(cells: &mut Cells, cell: i64) -> Result<(), Refusal>
 }
 
 /// The cells of some attributes at a place, where so many places are in each column.
-fn cells_at<M: CrackerMap>(alloc: Global, boxes: &[M], columns: &[Column; 8], names: &[usize], place: usize) -> Result<Cells, Refusal>
+fn cells_at<M: CrackerMap>(
+    alloc: Global,
+    boxes: &[M],
+    columns: &[Column; 8],
+    names: &[usize],
+    place: usize,
+) -> Result<Cells, Refusal>
     requires few { All (λ (a : ℕ). a < 8) names.now }
     requires inside { All (λ (a : ℕ). IsInside (map M.held boxes.now) (place + 1) (column_at columns.now a)) names.now }
     ensures { MatchResult result (λ cells. cells ≡ map (λ a. value_in (map M.held boxes.now) (column_at columns.now a) place) names.now) (λ e. e ≡ NoMemory) }
@@ -79,7 +90,13 @@ fn push_row(rows: &mut ReplyRows, key: u64, cells: Cells) -> Result<(), Refusal>
 }
 
 /// The rows at places, in their order, each with its key and its cells of some attributes.
-pub(crate) fn rows_at<M: CrackerMap>(alloc: Global, boxes: &[M], columns: &[Column; 8], names: &[usize], found: &[(u64, usize)]) -> Result<ReplyRows, Refusal>
+pub(crate) fn rows_at<M: CrackerMap>(
+    alloc: Global,
+    boxes: &[M],
+    columns: &[Column; 8],
+    names: &[usize],
+    found: &[(u64, usize)],
+) -> Result<ReplyRows, Refusal>
     requires few { All (λ (a : ℕ). a < 8) names.now }
     requires inside { All (λ (p : ℕ × ℕ). All (λ (a : ℕ). IsInside (map M.held boxes.now) (p.1 + 1) (column_at columns.now a)) names.now) found.now }
     ensures { MatchResult result (λ rows. rows ≡ map (row_in (map M.held boxes.now) columns.now names.now) found.now) (λ e. e ≡ NoMemory) }

@@ -37,7 +37,13 @@ pub(crate) fn value_at<M: CrackerMap>(map: &M, side: Side, place: usize) -> i64
 }
 
 /// Reads a column from one place up to below another, at most a block apart.
-fn read_block<M: CrackerMap>(map: &M, side: Side, from: usize, upto: usize, block: &mut [i64; BLOCK])
+fn read_block<M: CrackerMap>(
+    map: &M,
+    side: Side,
+    from: usize,
+    upto: usize,
+    block: &mut [i64; BLOCK],
+)
     requires within { upto ≤ pairs_in (M.held map.now) }
     requires short { upto ≤ from + 256 }
     ensures { (k : ℕ) → from ≤ k → k < upto → slice_index_or block.new (k - from) (pos 0) ≡ slice_index_or (side_in side (M.held map.now)) k (pos 0) }
@@ -104,7 +110,13 @@ impl<'a, M: CrackerMap> Window<'a, M> {
         ensures same { self.new ≡ self.old }
     {
         let end = place + (self.len - place).min(BLOCK);
-        read_block(self.map, self.side, self.from + place, self.from + end, &mut self.block);
+        read_block(
+            self.map,
+            self.side,
+            self.from + place,
+            self.from + end,
+            &mut self.block,
+        );
         self.start = place;
         self.end = end;
         self.block[0]

@@ -1,4 +1,4 @@
-use Rattle.std.proofs.Common.{◌≡◌, ◌∙◌, ap, sym, subst, ℕ, map}
+use Rattle.std.proofs.Common.{sym, subst, ℕ, map}
 use Rattle.sw_rows.specs.Scan.{column}
 use Rattle.sw_map.specs.declared.tail.Tail.TheVariants.{Key, Cell}
 use Rattle.sw_set.specs.Choice.{IsColumn, shown_rows}

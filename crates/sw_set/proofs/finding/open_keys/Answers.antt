@@ -1,5 +1,4 @@
-use Rattle.std.proofs.Common.{◌≡◌, ◌∙◌, arith, pos, ℤ, map}
-use Rattle.sw_rows.specs.declared.row.Row.{Row}
+use Rattle.std.proofs.Common.{◌∙◌, arith, map}
 use Rattle.sw_map.specs.declared.tail.Tail.TheVariants.{Key}
 use Rattle.sw_map.specs.Held.{tail_value}
 use Rattle.sw_set.specs.Choice.{IsColumn, shown_rows}

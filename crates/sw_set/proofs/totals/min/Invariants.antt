@@ -1,5 +1,5 @@
-use Rattle.std.proofs.Common.{◌≡◌, ◌*◌, ◌^◌, take, pos, neg_ℤ, ◌≤ℤ◌}
-use Rattle.sw_rows.specs.Scan.{total, least, greatest}
+use Rattle.std.proofs.Common.{◌≡◌, take}
+use Rattle.sw_rows.specs.Scan.{least}
 use Rattle.sw_set.specs.Choice.{chosen}
 use Rattle.sw_set.proofs.totals.min.Given as goal
 

@@ -1,4 +1,4 @@
-use Rattle.std.proofs.Common.{rules, arith, w64, ◌≡◌, ◌∙◌, ◌<◌, ◌+◌, ◌+ℤ◌, ℤ, List, ap, sym, pos, get_or, length}
+use Rattle.std.proofs.Common.{arith, ◌∙◌}
 use Rattle.std.proofs.lemmas.Int.{ints, to_z-of_z}
 use Rattle.std.proofs.lemmas.Grind.{common_steps}
 use Rattle.sw_set.proofs.Choosing.{total_yes, total_no}
