@@ -1,1 +1,4 @@
 pub mod Replays
+pub mod Layouts
+pub mod Finding
+pub mod Cracking

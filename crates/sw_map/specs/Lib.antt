@@ -2,3 +2,5 @@ pub mod Held
 pub mod Lawful
 pub mod Codes
 pub mod Refusals
+pub mod Pieces
+pub mod PairsCode

@@ -5,7 +5,10 @@
 //! depends on heads alone, so that maps of one head at one cursor hold the same row at each place.
 #![tactic(auto)]
 
+mod crack;
 mod cracker;
+mod pairs;
+mod places;
 mod tail;
 
 pub use cracker::CrackerMap;
