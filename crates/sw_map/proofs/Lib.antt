@@ -2,3 +2,4 @@ pub mod Replays
 pub mod Layouts
 pub mod Finding
 pub mod Cracking
+pub mod Tables

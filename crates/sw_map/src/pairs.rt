@@ -1,6 +1,6 @@
 //! Pairs of head and tail as two flat lists and marks.
 
-ghost use Rattle.std.specs.Prelude.{◌≡◌, ◌+◌, ◌<◌, ◌≤◌, ◌^◌, All, MatchResult, length, map, pos, slice_index_or, []};
+ghost use Rattle.std.specs.Prelude.{◌≡◌, ◌+◌, ◌++◌, ◌<◌, ◌≤◌, ◌^◌, All, MatchResult, length, map, pos, slice_index_or, vec_capacity, vec_len, []};
 ghost use Rattle.sw_rows.specs.declared.refusal.Refusal.TheVariants.{NoMemory};
 ghost use Rattle.sw_rows.specs.declared.row.Row.{Row};
 ghost use Rattle.sw_rows.specs.Scan.{cell_of};
@@ -58,6 +58,34 @@ fn shown_by(tail: Tail, row: &Row) -> i64
     }
 }
 
+/// The value at a place.
+fn value_at(values: &[i64], place: usize) -> i64
+    requires { place < length values.now }
+    ensures { result ≡ slice_index_or values.now place (pos 0) }
+{
+    values[place]
+}
+
+/// Puts the cells of rows at the end of head and tail, for which there is room.
+fn append(
+    heads: &mut Vec<i64>,
+    tails: &mut Vec<i64>,
+    head: u8,
+    tail: Tail,
+    rows: &[Row],
+)
+    requires room { (vec_len heads.old + length rows.now ≤ vec_capacity heads.old) × (vec_len tails.old + length rows.now ≤ vec_capacity tails.old) }
+    requires keys { All (λ (r : Row). r.key < 2 ^ 63) rows.now }
+    ensures items { (heads.new.items ≡ heads.old.items ++ map (cell_of head) rows.now) × (tails.new.items ≡ tails.old.items ++ map (tail_value tail) rows.now) }
+    ensures lengths { (vec_len heads.new ≡ vec_len heads.old + length rows.now) × (vec_len tails.new ≡ vec_len tails.old + length rows.now) }
+    ensures capacity { (vec_capacity heads.new ≡ vec_capacity heads.old) × (vec_capacity tails.new ≡ vec_capacity tails.old) }
+{
+    for row in rows {
+        heads.push_reserved(cell_of(row, head));
+        tails.push_reserved(shown_by(tail, row));
+    }
+}
+
 impl Pairs {
     /// No pairs, and room for so many in head and tail. It is refused `NoMemory` alone, and then keeps no memory.
     pub(crate) fn with_room(alloc: Global, room: usize) -> Result<Pairs, Refusal>
@@ -88,7 +116,7 @@ impl Pairs {
         requires { place < length (joined self.now.pieces) }
         ensures { result ≡ (slice_index_or (joined self.now.pieces) place (pos 0, pos 0)).0 }
     {
-        self.head[place]
+        value_at(&self.head, place)
     }
 
     /// The tail of the pair at a place.
@@ -96,7 +124,7 @@ impl Pairs {
         requires { place < length (joined self.now.pieces) }
         ensures { result ≡ (slice_index_or (joined self.now.pieces) place (pos 0, pos 0)).1 }
     {
-        self.tail[place]
+        value_at(&self.tail, place)
     }
 
     /// How many pairs stand before the bound, if it is one of those between the pieces.
@@ -112,10 +140,7 @@ impl Pairs {
         requires keys { All (λ (r : Row). r.key < 2 ^ 63) rows.now }
         ensures { self.new ≡ stepped (loaded (map (pair_in head tail) rows.now)) self.old }
     {
-        for row in rows {
-            self.head.push_reserved(cell_of(row, head));
-            self.tail.push_reserved(shown_by(tail, row));
-        }
+        append(&mut self.head, &mut self.tail, head, tail, rows);
     }
 
     /// Puts a pair at the end of its piece. It takes no memory.
