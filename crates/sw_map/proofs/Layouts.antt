@@ -1,7 +1,6 @@
 -- Flat lists with marks, and the pieces that they are.
-use Rattle.std.proofs.Common.{◌≡◌, ℕ, suc, zero, ◌+◌, ◌-◌, ◌<◌, ◌≤◌, ℤ, List, [], ◌∷◌, ◌++◌, length, map, take, drop, zip, get_or, refl, sym, ap, ap₂, ◌∙◌, arith, subst, pos}
-use Rattle.std.proofs.lemmas.List.{append_assoc, length-append, take_at, drop_at, length-take, length-drop, take-append-drop, take-append-le, drop-append-le}
-use Rattle.sw_rows.specs.declared.bound.Bound.{Bound}
+use Rattle.std.proofs.Common.{◌≡◌, ℕ, suc, zero, ◌+◌, ◌-◌, ◌<◌, ◌≤◌, ℤ, List, [], ◌∷◌, ◌++◌, length, take, drop, zip, get_or, refl, sym, ap, ap₂, ◌∙◌, arith, subst, pos}
+use Rattle.std.proofs.lemmas.List.{length-append, take_at, drop_at, length-take, length-drop, take-append-drop, take-append-le, drop-append-le}
 use Rattle.sw_kernel.specs.declared.mark.Mark.{Mark}
 use Rattle.sw_kernel.specs.Arrangement.{Arrangement, last, piece, joined, bounds}
 use Rattle.sw_kernel.specs.Replay.{load}

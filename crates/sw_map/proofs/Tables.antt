@@ -1,12 +1,11 @@
 -- Two lists and marks, as a table of pairs.
-use Rattle.std.proofs.Common.{◌≡◌, ℕ, ◌<◌, ◌≤◌, ◌+◌, ℤ, pos, List, [], ◌∷◌, ◌++◌, length, map, zip, get_or, refl, sym, ap, ap₂, ◌∙◌, arith, subst}
-use Rattle.sw_rows.specs.declared.bound.Bound.{Bound}
+use Rattle.std.proofs.Common.{◌≡◌, ℕ, ◌<◌, ◌+◌, ℤ, pos, List, [], ◌∷◌, ◌++◌, length, map, zip, get_or, refl, sym, ap, ◌∙◌, arith, subst}
 use Rattle.sw_rows.specs.declared.row.Row.{Row}
 use Rattle.sw_rows.specs.Scan.{cell_of}
 use Rattle.sw_kernel.specs.declared.mark.Mark.{Mark}
 use Rattle.sw_kernel.specs.Arrangement.{Arrangement, joined, bounds}
 use Rattle.sw_kernel.specs.Replay.{load}
-use Rattle.sw_kernel.specs.Flat.{Become, InOrder, IsFlat}
+use Rattle.sw_kernel.specs.Flat.{Become, InOrder}
 use Rattle.sw_kernel.specs.Tapes.{IsRising}
 use Rattle.sw_map.specs.declared.tail.Tail.{Tail}
 use Rattle.sw_map.specs.Held.{pair_in, tail_value}

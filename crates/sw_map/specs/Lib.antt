@@ -4,3 +4,4 @@ pub mod Codes
 pub mod Refusals
 pub mod Pieces
 pub mod PairsCode
+pub mod States

@@ -1,12 +1,13 @@
 -- A map's flat lists as pieces between bounds, and what they always keep.
-use Rattle.std.specs.Prelude.{◌≡◌, ℤ, ℕ, List, [], ◌∷◌, ◌++◌, ◌-◌, map, length, take, drop, zip, Option, None, Some, Bool, cond, vec_len, vec_capacity}
+use Rattle.std.specs.Prelude.{◌≡◌, ◌<◌, ℤ, ℕ, List, [], ◌∷◌, ◌++◌, ◌-◌, map, length, take, drop, zip, Option, None, Some, Bool, cond, vec_len, vec_capacity}
 use Rattle.std.specs.Global.{Vec}
 use Rattle.sw_rows.specs.declared.bound.Bound.{Bound}
+use Rattle.sw_rows.specs.declared.row.Row.{Row}
 use Rattle.sw_rows.specs.Bounds.{same_bound}
 use Rattle.sw_kernel.specs.declared.mark.Mark.{Mark}
 use Rattle.sw_kernel.specs.Partition.{partition, head_of}
-use Rattle.sw_kernel.specs.Arrangement.{Arrangement, last, piece}
-use Rattle.sw_kernel.specs.Replay.{Step, step}
+use Rattle.sw_kernel.specs.Arrangement.{Arrangement, last, piece, joined}
+use Rattle.sw_kernel.specs.Replay.{Step, loaded, inserted, removed, ranged, step}
 use Rattle.sw_kernel.specs.Flat.{InOrder}
 use Rattle.sw_kernel.specs.Tapes.{IsRising}
 
@@ -41,6 +42,20 @@ pub record Table : Type 0 where
 -- a step on the pairs; the room stays
 abbrev pub stepped : Step (ℤ × ℤ) → Table → Table
 stepped e t = record { pieces = step head_of e t.pieces; room = t.room }
+
+-- a removed place is one of the pairs'
+abbrev pub HasPlace : Step (ℤ × ℤ) → Table → Type 0
+HasPlace (loaded xs) t = Unit {0}
+HasPlace (inserted x) t = Unit {0}
+HasPlace (removed place) t = place < length (joined t.pieces)
+HasPlace (ranged lower upper) t = Unit {0}
+
+-- every entry but a range is replayed without memory
+abbrev pub TakesNoMemory : Step Row → Type 0
+TakesNoMemory (loaded rows) = Unit {0}
+TakesNoMemory (inserted row) = Unit {0}
+TakesNoMemory (removed place) = Unit {0}
+TakesNoMemory (ranged lower upper) = ⊥
 
 -- the two lists and the marks as a table
 abbrev pub table_of : Vec ℤ → Vec ℤ → List Mark → Table

@@ -5,11 +5,15 @@
 //! depends on heads alone, so that maps of one head at one cursor hold the same row at each place.
 #![tactic(auto)]
 
+mod active;
 mod crack;
 mod cracker;
+mod home;
+mod pair_map;
 mod pairs;
 mod places;
 mod tail;
 
 pub use cracker::CrackerMap;
+pub use pair_map::PairMap;
 pub use tail::Tail;

@@ -1,14 +1,15 @@
 //! Pairs of head and tail as two flat lists and marks.
 
-ghost use Rattle.std.specs.Prelude.{◌≡◌, ◌+◌, ◌++◌, ◌<◌, ◌≤◌, ◌^◌, All, MatchResult, length, map, pos, slice_index_or, vec_capacity, vec_len, []};
+ghost use Rattle.std.specs.Prelude.{◌≡◌, ◌+◌, ◌++◌, ◌<◌, ◌≤◌, ◌^◌, All, IsOk, MatchResult, length, map, pos, slice_index_or, vec_capacity, vec_len, []};
 ghost use Rattle.sw_rows.specs.declared.refusal.Refusal.TheVariants.{NoMemory};
 ghost use Rattle.sw_rows.specs.declared.row.Row.{Row};
 ghost use Rattle.sw_rows.specs.Scan.{cell_of};
 ghost use Rattle.sw_kernel.specs.Arrangement.{joined, last};
 ghost use Rattle.sw_kernel.specs.Partition.{head_of};
-ghost use Rattle.sw_kernel.specs.Replay.{inserted, loaded, ranged, removed, step};
-ghost use Rattle.sw_map.specs.Held.{pair_in, place_of, tail_value};
-ghost use Rattle.sw_map.specs.Pieces.{stepped};
+ghost use Rattle.sw_kernel.specs.Replay.{inserted, loaded, ranged, removed, shown_step};
+ghost use Rattle.sw_tape.specs.Entries.{step_of};
+ghost use Rattle.sw_map.specs.Held.{KeysFit, pair_in, place_of, tail_value};
+ghost use Rattle.sw_map.specs.Pieces.{HasPlace, TakesNoMemory, stepped};
 
 use crate::crack::crack_some;
 use crate::places::find_mark;
@@ -17,6 +18,7 @@ use std::alloc::Global;
 use std::marker::Model;
 use sw_kernel::{Mark, ripple_in, ripple_out};
 use sw_rows::{Bound, Refusal, Row};
+use sw_tape::Entry;
 
 /// Pairs of head and tail in pieces between bounds. Contracts see the pieces, and for how many pairs there is room.
 #[derive(Drop)]
@@ -111,6 +113,13 @@ impl Pairs {
         self.head.len()
     }
 
+    /// For how many pairs there is room.
+    pub(crate) fn room(&self) -> usize
+        ensures { result ≡ self.now.room }
+    {
+        self.head.capacity()
+    }
+
     /// The head of the pair at a place.
     pub(crate) fn head_at(&self, place: usize) -> i64
         requires { place < length (joined self.now.pieces) }
@@ -173,5 +182,40 @@ impl Pairs {
         crack_some(&mut self.head, &mut self.tail, &mut self.marks, lower);
         crack_some(&mut self.head, &mut self.tail, &mut self.marks, upper);
         Ok(())
+    }
+
+    /// Puts a row's pair at the end of its piece. It takes no memory.
+    fn insert_row(&mut self, head: u8, tail: Tail, row: &Row)
+        requires room { length (joined self.old.pieces) < self.old.room }
+        requires key { row.now.key < 2 ^ 63 }
+        ensures { self.new ≡ stepped (inserted (pair_in head tail row.now)) self.old }
+    {
+        self.insert(cell_of(row, head), shown_by(tail, row));
+    }
+
+    /// Replays an entry of a tape, each row as the pair of this head and tail. It is refused `NoMemory` alone, at a range
+    /// alone, and then nothing has changed.
+    pub(crate) fn replay(&mut self, head: u8, tail: Tail, entry: &Entry) -> Result<(), Refusal>
+        requires room { length (joined (stepped (shown_step (pair_in head tail) (step_of entry.now)) self.old).pieces) ≤ self.old.room }
+        requires place { HasPlace (shown_step (pair_in head tail) (step_of entry.now)) self.old }
+        requires keys { KeysFit (step_of entry.now) }
+        ensures steps { MatchResult result (λ _. self.new ≡ stepped (shown_step (pair_in head tail) (step_of entry.now)) self.old) (λ e. (self.new ≡ self.old) × (e ≡ NoMemory)) }
+        ensures memory { TakesNoMemory (step_of entry.now) → IsOk result }
+    {
+        match entry {
+            Entry::Load(rows) => {
+                self.load(head, tail, rows);
+                Ok(())
+            }
+            Entry::Insert(row) => {
+                self.insert_row(head, tail, row);
+                Ok(())
+            }
+            Entry::Remove(place) => {
+                self.remove(*place);
+                Ok(())
+            }
+            Entry::Range(lower, upper) => self.range(*lower, *upper),
+        }
     }
 }

@@ -1,4 +1,4 @@
-use Rattle.std.proofs.Common.{rules, ◌≡◌, ◌-◌, ◌+◌, ◌<◌, ◌≤◌, length, ℕ, ℤ, pos, true, false, List, zip, get_or, sym, ap, ap₂, ◌∙◌, arith, subst}
+use Rattle.std.proofs.Common.{rules, ◌≡◌, ◌-◌, length, ℕ, pos, true, false, List, zip, get_or, sym, ◌∙◌, arith, subst}
 use Rattle.sw_rows.specs.declared.bound.Bound.TheVariants.{Before}
 use Rattle.sw_rows.specs.Bounds.{same_bound}
 use Rattle.sw_kernel.specs.declared.mark.Mark.{Mark}

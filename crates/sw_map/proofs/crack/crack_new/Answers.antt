@@ -1,8 +1,6 @@
-use Rattle.std.proofs.Common.{rules, ◌≡◌, ◌-◌, ◌+◌, ◌<◌, ◌≤◌, ◌++◌, ◌∷◌, length, ℕ, ℤ, List, zip, take, drop, count_by, sym, ap, ap₂, ◌∙◌, arith, subst}
-use Rattle.std.proofs.lemmas.Slice.Zip.{length-zip}
-use Rattle.sw_kernel.specs.declared.mark.Mark.{Mark}
+use Rattle.std.proofs.Common.{rules, ◌≡◌, ◌-◌, ◌+◌, ◌++◌, ◌∷◌, length, ℕ, ℤ, List, zip, take, drop, count_by, sym, ap, ap₂, ◌∙◌, arith, subst}
 use Rattle.sw_kernel.specs.Partition.{goes_left, head_of}
-use Rattle.sw_kernel.specs.Flat.{InOrder, end_before, marks_below, start_at}
+use Rattle.sw_kernel.specs.Flat.{InOrder, end_before, start_at}
 use Rattle.sw_kernel.proofs.Ripples.{written}
 use Rattle.sw_map.specs.Pieces.{parted, pieces_between}
 use Rattle.sw_map.proofs.Layouts.{pieces-joined, pieces-marks, zip-long}

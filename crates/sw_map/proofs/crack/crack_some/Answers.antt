@@ -1,6 +1,5 @@
-use Rattle.std.proofs.Common.{rules, ◌≡◌, length, ℕ, List, zip, sym, ap, ◌∙◌, arith, subst, refl, Option, None, Some, ℤ}
+use Rattle.std.proofs.Common.{rules, ◌≡◌, length, ℕ, zip, sym, ◌∙◌, arith, subst, refl, Option, None}
 use Rattle.sw_rows.specs.declared.bound.Bound.{Bound}
-use Rattle.sw_kernel.specs.declared.mark.Mark.{Mark}
 use Rattle.sw_kernel.specs.Flat.{InOrder}
 use Rattle.sw_kernel.specs.Partition.{head_of}
 use Rattle.sw_kernel.specs.Replay.{crack_at}

@@ -1,6 +1,5 @@
-use Rattle.std.proofs.Common.{rules, ◌≡◌, ◌-◌, ◌<◌, ◌≤◌, ◌++◌, length, ℕ, List, zip, take, drop, sym, ap, ap₂, ◌∙◌, arith, subst}
+use Rattle.std.proofs.Common.{rules, ◌≡◌, ◌-◌, ◌≤◌, ◌++◌, length, zip, take, ap, ap₂, ◌∙◌}
 use Rattle.sw_kernel.specs.Partition.{goes_left, head_of}
-use Rattle.sw_map.specs.Pieces.{parted}
 use Rattle.sw_map.proofs.Cracking.{zip-written, count-part, drop-rest}
 use Rattle.sw_map.proofs.crack.part.Goals as goal
 

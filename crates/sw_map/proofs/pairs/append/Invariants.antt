@@ -1,4 +1,4 @@
-use Rattle.std.proofs.Common.{◌≡◌, ◌+◌, ◌++◌, length, map, take, vec_len, vec_capacity}
+use Rattle.std.proofs.Common.{◌≡◌, ◌+◌, ◌++◌, map, take, vec_len, vec_capacity}
 use Rattle.sw_rows.specs.Scan.{cell_of}
 use Rattle.sw_map.specs.Held.{tail_value}
 use Rattle.sw_map.proofs.pairs.append.Given as goal

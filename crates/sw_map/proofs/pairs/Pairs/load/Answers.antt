@@ -1,10 +1,8 @@
-use Rattle.std.proofs.Common.{rules, ◌≡◌, ◌<◌, ◌≤◌, ◌+◌, ◌++◌, ℕ, ℤ, List, length, map, zip, arith, sym, ap, ap₂, ◌∙◌, subst, vec_capacity}
-use Rattle.sw_rows.specs.Scan.{cell_of}
-use Rattle.sw_kernel.specs.declared.mark.Mark.{Mark}
+use Rattle.std.proofs.Common.{rules, ◌≡◌, ℕ, ℤ, List, length, map, zip, arith, sym, ap, ap₂, ◌∙◌, subst, vec_capacity}
 use Rattle.sw_kernel.specs.Arrangement.{Arrangement, joined}
 use Rattle.sw_kernel.specs.Replay.{loaded}
 use Rattle.sw_kernel.specs.Flat.{InOrder}
-use Rattle.sw_map.specs.Held.{pair_in, tail_value}
+use Rattle.sw_map.specs.Held.{pair_in}
 use Rattle.sw_map.specs.Pieces.{Table, pieces_between, stepped}
 use Rattle.sw_map.proofs.Layouts.{order-longer}
 use Rattle.sw_map.proofs.Tables.{table-length, table-loaded}

@@ -1,4 +1,4 @@
-use Rattle.std.proofs.Common.{rules, ◌≡◌, ◌<◌, ◌≤◌, ◌+◌, ℕ, ℤ, List, length, zip, arith, sym, ap, ap₂, ◌∙◌, subst, vec_capacity}
+use Rattle.std.proofs.Common.{rules, ◌≡◌, ◌≤◌, ℕ, ℤ, List, length, zip, arith, sym, ap, ap₂, ◌∙◌, subst, vec_capacity}
 use Rattle.sw_kernel.specs.declared.mark.Mark.{Mark}
 use Rattle.sw_kernel.specs.Arrangement.{Arrangement, joined, ripple_remove}
 use Rattle.sw_kernel.specs.Replay.{removed}
