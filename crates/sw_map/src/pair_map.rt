@@ -1,12 +1,8 @@
 //! The map of the program.
 
-ghost use Rattle.std.specs.Prelude.{◌≡◌, ◌<◌, ◌≤◌, IsOk, MatchResult, false};
-ghost use Rattle.sw_rows.specs.declared.refusal.Refusal.TheVariants.{NoMemory};
-ghost use Rattle.sw_tape.specs.Entries.{step_of};
-ghost use Rattle.sw_map.specs.Held.{KeysFit, MayReplay, after, begun, blank, pairs_in};
-ghost use Rattle.sw_map.specs.Pieces.{TakesNoMemory};
-ghost use Rattle.sw_map.specs.Refusals.{IsBeginRefusal};
-ghost use Rattle.sw_map.specs.States.{HasLeased, HasReturned, cleared, held_by, seat_of};
+ghost use Rattle.std.specs.Prelude.{◌≡◌};
+ghost use Rattle.sw_map.specs.Held.{blank};
+ghost use Rattle.sw_map.specs.States.{seat_of};
 
 use crate::cracker::CrackerMap;
 use crate::home::{Home, Plan};
@@ -39,7 +35,13 @@ impl PairMap {
 }
 
 impl CrackerMap for PairMap {
-    ghost use Rattle.sw_map.specs.States.{held_by};
+    ghost use Rattle.std.specs.Prelude.{◌≡◌, ◌<◌, ◌≤◌, IsOk, MatchResult, false};
+    ghost use Rattle.sw_rows.specs.declared.refusal.Refusal.TheVariants.{NoMemory};
+    ghost use Rattle.sw_tape.specs.Entries.{step_of};
+    ghost use Rattle.sw_map.specs.Held.{KeysFit, MayReplay, after, begun, blank, pairs_in};
+    ghost use Rattle.sw_map.specs.Pieces.{TakesNoMemory};
+    ghost use Rattle.sw_map.specs.Refusals.{IsBeginRefusal};
+    ghost use Rattle.sw_map.specs.States.{HasLeased, HasReturned, cleared, held_by, seat_of};
 
     ghost held = { λ m. held_by m.home };
 
@@ -106,7 +108,13 @@ impl CrackerMap for PairMap {
         }
     }
 
-    fn begin(&mut self, head: u8, tail: Tail, cells: u64) -> Result<(), Refusal> {
+    /// Its lists have room for just as many pairs as the lease has cells. Where it is refused it has its purse again, and no
+    /// memory.
+    fn begin(&mut self, head: u8, tail: Tail, cells: u64) -> Result<(), Refusal>
+        requires { held_by self.old.home ≡ blank }
+        ensures held { MatchResult result (λ _. held_by self.new.home ≡ begun head tail cells) (λ e. (held_by self.new.home ≡ blank) × IsBeginRefusal cells e) }
+        ensures seat { MatchResult result (λ _. HasLeased (seat_of self.old.home) cells (seat_of self.new.home)) (λ e. HasReturned (seat_of self.old.home) cells (seat_of self.new.home) e) }
+    {
         let plan = Plan {
             alloc: self.alloc,
             head,
@@ -116,7 +124,17 @@ impl CrackerMap for PairMap {
         replace_with(&mut self.home, plan, Home::begin)
     }
 
-    fn step(&mut self, entry: &Entry) -> Result<(), Refusal> {
+    /// It is never refused but at a range, and its lease stays as it was.
+    fn step(&mut self, entry: &Entry) -> Result<(), Refusal>
+        requires begun { (held_by self.old.home).is_blank ≡ false }
+        requires early { (held_by self.old.home).cursor < 4096 }
+        requires next { MayReplay (held_by self.old.home) (step_of entry.now) }
+        requires keys { KeysFit (step_of entry.now) }
+        requires room { pairs_in (after (step_of entry.now) (held_by self.old.home)) ≤ (held_by self.old.home).cells }
+        ensures held { MatchResult result (λ _. held_by self.new.home ≡ after (step_of entry.now) (held_by self.old.home)) (λ e. (held_by self.new.home ≡ held_by self.old.home) × (e ≡ NoMemory)) }
+        ensures memory { TakesNoMemory (step_of entry.now) → IsOk result }
+        ensures seat { seat_of self.new.home ≡ seat_of self.old.home }
+    {
         match &mut self.home {
             Home::Blank(_) => unreachable!(),
             Home::Active(active) => {
@@ -127,7 +145,11 @@ impl CrackerMap for PairMap {
         }
     }
 
-    fn clear(&mut self) {
+    /// Its lease, if it has one, is given back, once.
+    fn clear(&mut self)
+        ensures held { held_by self.new.home ≡ blank }
+        ensures seat { seat_of self.new.home ≡ cleared (seat_of self.old.home) (held_by self.old.home).is_blank }
+    {
         replace_with(&mut self.home, (), |home: Home, _: ()| (home.clear(), ()));
     }
 }
