@@ -5,3 +5,4 @@ pub mod Refusals
 pub mod Pieces
 pub mod PairsCode
 pub mod States
+pub mod Laws
