@@ -17,7 +17,8 @@ use Rattle.sw_kernel.specs.Flat.{marks_from}
 use Rattle.sw_kernel.specs.Tapes.{IsTape, AllFollow, MayFollow, IsBelowAll, IsRising, IsSound, count_after, count_from, peak_from, is_marked}
 use Rattle.sw_kernel.proofs.Seen.{shown-step}
 use Rattle.sw_kernel.proofs.Shown.{joined-shown}
-use Rattle.sw_kernel.proofs.Once.{count-replay}
+use Rattle.sw_kernel.proofs.Moves.{load-joined}
+use Rattle.sw_kernel.proofs.Once.{count-replay, count-step}
 use Rattle.sw_kernel.proofs.Orders.{below-trans, below-new, same-flips}
 use Rattle.sw_kernel.proofs.Rising.{has-replay_from, replay_from-rises}
 use Rattle.sw_kernel.proofs.Sound.{LeftOfAll, marks-sound, replay-ordered}
@@ -308,3 +309,12 @@ places-rise_from b c i k n (piece xs d rest) r lt p q = elim (cases_Bool (same_b
 -- of two bounds with places the lower has the lower place
 pub places-rise : (a : ℕ) (tape : List (Step Row)) (b c : Bound) (k n : ℕ) → bound_below b c ≡ true → place_of b (rows_by a tape) ≡ Some k → place_of c (rows_by a tape) ≡ Some n → k ≤ n
 places-rise a tape b c k n lt p q = places-rise_from b c 0 k n (rows_by a tape) (replay_from-rises (cell_of a) tape (last []) tt) lt p q
+
+-- ---- how many pairs an entry leaves
+pub after-pairs : (m : Held) (e : Step Row) → MayReplay m e → pairs_in (after e m) ≡ count_after (pairs_in m) e
+after-pairs m (loaded rows) may =
+    let f : Row → ℤ × ℤ = pair_in m.head m.tail in
+    ap length (load-joined (map f rows) m.pairs) ∙ length-append (joined m.pairs) (map f rows) ∙ ap (λ (n : ℕ). pairs_in m + n) (length-map rows f)
+after-pairs m (inserted row) may = count-step head_of (inserted (pair_in m.head m.tail row)) m.pairs tt
+after-pairs m (removed place) may = count-step head_of (removed place) m.pairs may
+after-pairs m (ranged lower upper) may = count-step head_of (ranged lower upper) m.pairs tt
