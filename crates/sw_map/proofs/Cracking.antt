@@ -24,12 +24,12 @@ crack-there value b i (piece xs c rest) zero d e h = rw h refl
 crack-there {A} value b i (piece xs c rest) (suc n) d e h =
     let j = i + length xs in
     elim (cases_Bool (same_bound b c)) [
-      inl here ↦ rw here refl
-    | inr other ↦ elim (cases_Bool (bound_below b c)) [
-        inl first ↦ let z : 0 ≡ suc (suc n) = sym (step-no b (record { bound = c; at = j }) (marks_from j rest) first) ∙ e in absurd (omega (arith, z))
-      | inr past ↦
-          let z : suc (marks_below (marks_from j rest) b) ≡ suc (suc n) = sym (step-on b (record { bound = c; at = j }) (marks_from j rest) past) ∙ e in
-          rw (other, past) (ap (λ r. piece xs c r) (crack-there value b j rest n d (omega (arith, z)) h))
+      | inl here ↦ rw here refl
+      | inr other ↦ elim (cases_Bool (bound_below b c)) [
+        | inl first ↦ let z : 0 ≡ suc (suc n) = sym (step-no b (record { bound = c; at = j }) (marks_from j rest) first) ∙ e in absurd (omega (arith, z))
+        | inr past ↦
+            let z : suc (marks_below (marks_from j rest) b) ≡ suc (suc n) = sym (step-on b (record { bound = c; at = j }) (marks_from j rest) past) ∙ e in
+            rw (other, past) (ap (λ r. piece xs c r) (crack-there value b j rest n d (omega (arith, z)) h))
       ]
     ]
 

@@ -73,39 +73,40 @@ step-no b m ms e = rw e refl
 pub new-at : (b : Bound) (ms : List Mark) (n : ℕ) (d : Mark) → marks_below ms b ≡ n → IsRising (bounds_of ms) → (0 < n → same_bound b (get_or ms (n - 1) d).bound ≡ false) → IsNew b ms
 new-at b [] n d e r h = tt
 new-at b (m ∷ ms) zero d e r h = elim (cases_Bool (bound_below b m.bound)) [
-      inl here ↦ (below-new b m.bound here, all-new b m.bound ms here r.0)
-    | inr past ↦ let z : suc (marks_below ms b) ≡ 0 = sym (step-on b m ms past) ∙ e in absurd (omega (arith, z))
-    ]
+  | inl here ↦ (below-new b m.bound here, all-new b m.bound ms here r.0)
+  | inr past ↦ let z : suc (marks_below ms b) ≡ 0 = sym (step-on b m ms past) ∙ e in absurd (omega (arith, z))
+]
 new-at b (m ∷ ms) (suc zero) d e r h = elim (cases_Bool (bound_below b m.bound)) [
-      inl here ↦ (below-new b m.bound here, all-new b m.bound ms here r.0)
-    | inr past ↦ let z : suc (marks_below ms b) ≡ 1 = sym (step-on b m ms past) ∙ e in (h (omega arith), new-at b ms zero d (omega (arith, z)) r.1 (λ lt. nope 0 lt))
-    ]
+  | inl here ↦ (below-new b m.bound here, all-new b m.bound ms here r.0)
+  | inr past ↦ let z : suc (marks_below ms b) ≡ 1 = sym (step-on b m ms past) ∙ e in (h (omega arith), new-at b ms zero d (omega (arith, z)) r.1 (λ lt. nope 0 lt))
+]
 new-at b (m ∷ []) (suc (suc n)) d e r h = elim (cases_Bool (bound_below b m.bound)) [
-      inl here ↦ (below-new b m.bound here, tt)
-    | inr past ↦ let z : 1 ≡ suc (suc n) = sym (step-on b m [] past) ∙ e in absurd (omega (arith, z))
-    ]
+  | inl here ↦ (below-new b m.bound here, tt)
+  | inr past ↦ let z : 1 ≡ suc (suc n) = sym (step-on b m [] past) ∙ e in absurd (omega (arith, z))
+]
 new-at b (m ∷ (x ∷ xs)) (suc (suc n)) d e r h = elim (cases_Bool (bound_below b m.bound)) [
-      inl here ↦ (below-new b m.bound here, all-new b m.bound (x ∷ xs) here r.0)
-    | inr past ↦
-        let z : suc (marks_below (x ∷ xs) b) ≡ suc (suc n) = sym (step-on b m (x ∷ xs) past) ∙ e in
-        let z' : marks_below (x ∷ xs) b ≡ suc n = omega (arith, z) in
-        let one : suc (suc n) - 1 ≡ suc n = omega arith in
-        let two : n ≡ suc n - 1 = omega arith in
-        let q : same_bound b (get_or (m ∷ (x ∷ xs)) (suc n) d).bound ≡ false = subst (λ (k : ℕ). same_bound b (get_or (m ∷ (x ∷ xs)) k d).bound ≡ false) one (h (omega arith)) in
-        let q' : same_bound b (get_or (x ∷ xs) (suc n - 1) d).bound ≡ false = subst (λ (k : ℕ). same_bound b (get_or (x ∷ xs) k d).bound ≡ false) two q in
-        let ih = new-at b (x ∷ xs) (suc n) d z' r.1 (λ lt. q') in
-        elim (cases_Bool (bound_below b x.bound)) [
-          inl first ↦ let w : 0 ≡ suc n = sym (step-no b x xs first) ∙ z' in absurd (omega (arith, w))
+  | inl here ↦ (below-new b m.bound here, all-new b m.bound (x ∷ xs) here r.0)
+  | inr past ↦
+      let z : suc (marks_below (x ∷ xs) b) ≡ suc (suc n) = sym (step-on b m (x ∷ xs) past) ∙ e in
+      let z' : marks_below (x ∷ xs) b ≡ suc n = omega (arith, z) in
+      let one : suc (suc n) - 1 ≡ suc n = omega arith in
+      let two : n ≡ suc n - 1 = omega arith in
+      let q : same_bound b (get_or (m ∷ (x ∷ xs)) (suc n) d).bound ≡ false = subst (λ (k : ℕ). same_bound b (get_or (m ∷ (x ∷ xs)) k d).bound ≡ false) one (h (omega arith)) in
+      let q' : same_bound b (get_or (x ∷ xs) (suc n - 1) d).bound ≡ false = subst (λ (k : ℕ). same_bound b (get_or (x ∷ xs) k d).bound ≡ false) two q in
+      let ih = new-at b (x ∷ xs) (suc n) d z' r.1 (λ lt. q') in
+      elim (cases_Bool (bound_below b x.bound)) [
+        | inl first ↦ let w : 0 ≡ suc n = sym (step-no b x xs first) ∙ z' in absurd (omega (arith, w))
         | inr on ↦ (between-new b m.bound x.bound on r.0.0, ih)
-        ]
-    ]
+      ]
+]
 
 pub start-at : (i : ℕ) (ms : List Mark) (k : ℕ) (d : Mark) → k < length ms → start_at i ms (suc k) ≡ (get_or ms k d).at
 start-at i [] k d lt = nope k lt
 start-at i (m ∷ ms) zero d lt = start-zero m.at ms
-  where start-zero : (j : ℕ) (l : List Mark) → start_at j l 0 ≡ j
-        start-zero j [] = refl
-        start-zero j (x ∷ l) = refl
+  where
+    start-zero : (j : ℕ) (l : List Mark) → start_at j l 0 ≡ j
+    start-zero j [] = refl
+    start-zero j (x ∷ l) = refl
 start-at i (m ∷ ms) (suc k) d lt = start-at m.at ms k d (omega (arith, lt))
 
 pub start-end : (i n : ℕ) (ms : List Mark) (k : ℕ) → InOrder i n ms → k ≤ length ms → (start_at i ms k ≤ end_before (drop k ms) n) × (end_before (drop k ms) n ≤ n)
@@ -123,12 +124,12 @@ pub mark-there : (b : Bound) (ms : List Mark) (n : ℕ) (d : Mark) → IsRising 
 mark-there b [] n d r lt h = absurd (omega (arith, lt))
 mark-there b (m ∷ ms) zero d r lt h = rw h refl
 mark-there b (m ∷ ms) (suc n) d r lt h = elim (cases_Bool (same_bound b m.bound)) [
-      inl here ↦
-        let c : Bound = (get_or ms n d).bound in
-        let q : bound_below m.bound c ≡ true = rising-at (m ∷ ms) r 0 (suc n) d (omega arith) lt in
-        absurd (true≢false (sym h ∙ below-new b c (same-below b m.bound c here q)))
-    | inr other ↦ rw other (mark-there b ms n d r.1 (omega (arith, lt)) h)
-    ]
+  | inl here ↦
+      let c : Bound = (get_or ms n d).bound in
+      let q : bound_below m.bound c ≡ true = rising-at (m ∷ ms) r 0 (suc n) d (omega arith) lt in
+      absurd (true≢false (sym h ∙ below-new b c (same-below b m.bound c here q)))
+  | inr other ↦ rw other (mark-there b ms n d r.1 (omega (arith, lt)) h)
+]
 
 pub place-mark : {A : Type 0} (b : Bound) (i : ℕ) (a : Arrangement A) → place_from i b a ≡ mark_of b (marks_from i a)
 place-mark b i (last xs) = refl

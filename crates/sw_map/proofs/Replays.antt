@@ -46,24 +46,24 @@ aligned-more a tape m e at al =
     let x : Arrangement Row = rows_by a (take m.cursor tape) in
     let more : rows_by a (take (m.cursor + 1) tape) ≡ step (cell_of a) e x = ap (rows_by a) (taken-more tape m.cursor e at) ∙ rows-more a (take m.cursor tape) e in
     record {
-    begun = al.begun;
-    same_head = al.same_head;
-    within = omega arith;
-    pairs_are =
-        ap (λ (h : ℕ). step head_of (shown_step (pair_in h m.tail) e) m.pairs) al.same_head
-        ∙ ap (step head_of (shown_step (pair_in a m.tail) e)) al.pairs_are
-        ∙ sym (shown-step (pair_in a m.tail) head_of e x)
-        ∙ ap (shown (pair_in a m.tail)) (sym more);
+      begun = al.begun;
+      same_head = al.same_head;
+      within = omega arith;
+      pairs_are =
+          ap (λ (h : ℕ). step head_of (shown_step (pair_in h m.tail) e) m.pairs) al.same_head
+          ∙ ap (step head_of (shown_step (pair_in a m.tail) e)) al.pairs_are
+          ∙ sym (shown-step (pair_in a m.tail) head_of e x)
+          ∙ ap (shown (pair_in a m.tail)) (sym more);
     }
 
 -- ---- a longer tape
 pub aligned-longer : (a : ℕ) (tape es : List (Step Row)) (m : Held) → IsAligned a tape m → IsAligned a (tape ++ es) m
 aligned-longer a tape es m al = record {
-    begun = al.begun;
-    same_head = al.same_head;
-    within = let n = length-append tape es in let w = al.within in omega arith;
-    pairs_are = al.pairs_are ∙ ap (λ (v : List (Step Row)). shown (pair_in a m.tail) (rows_by a v)) (sym (take-append-le m.cursor tape es al.within));
-    }
+  begun = al.begun;
+  same_head = al.same_head;
+  within = let n = length-append tape es in let w = al.within in omega arith;
+  pairs_are = al.pairs_are ∙ ap (λ (v : List (Step Row)). shown (pair_in a m.tail) (rows_by a v)) (sym (take-append-le m.cursor tape es al.within));
+}
 
 pub lawful-longer : (a : ℕ) (tape es : List (Step Row)) (m : Held) → IsLawful a tape m → IsLawful a (tape ++ es) m
 unfolding IsLawful
@@ -268,9 +268,9 @@ place_from-within b i n (last xs) e = absurd (none-some n e)
 place_from-within b i n (piece xs c rest) e =
     let long = length-append xs (joined rest) in
     elim (cases_Bool (same_bound b c)) [
-  | inl here ↦ let at : i + length xs ≡ n = some-same (i + length xs) n (rw here at e) in (omega (arith, at), omega (arith, at, long))
-  | inr other ↦ let p = place_from-within b (i + length xs) n rest (rw other at e) in (omega (arith, p.0), omega (arith, p.1, long))
-]
+      | inl here ↦ let at : i + length xs ≡ n = some-same (i + length xs) n (rw here at e) in (omega (arith, at), omega (arith, at, long))
+      | inr other ↦ let p = place_from-within b (i + length xs) n rest (rw other at e) in (omega (arith, p.0), omega (arith, p.1, long))
+    ]
 
 -- a place is at most the number of items
 pub place-within : {A : Type 0} (b : Bound) (n : ℕ) (x : Arrangement A) → place_of b x ≡ Some n → n ≤ length (joined x)
@@ -302,6 +302,7 @@ places-rise_from b c i k n (piece xs d rest) r lt p q = elim (cases_Bool (same_b
   where
     some-none : (n : ℕ) → Some n ≡ None → ⊥
     some-none n h = cc
+
     all-past : (b c : Bound) (bs : List Bound) → bound_below b c ≡ true → IsBelowAll c bs → IsBelowAll b bs
     all-past b c [] h al = tt
     all-past b c (x ∷ bs) h al = (below-trans b c x h al.0, all-past b c bs h al.1)

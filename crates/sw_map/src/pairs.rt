@@ -69,13 +69,7 @@ fn value_at(values: &[i64], place: usize) -> i64
 }
 
 /// Puts the cells of rows at the end of head and tail, for which there is room.
-fn append(
-    heads: &mut Vec<i64>,
-    tails: &mut Vec<i64>,
-    head: u8,
-    tail: Tail,
-    rows: &[Row],
-)
+fn append(heads: &mut Vec<i64>, tails: &mut Vec<i64>, head: u8, tail: Tail, rows: &[Row])
     requires room { (vec_len heads.old + length rows.now ≤ vec_capacity heads.old) × (vec_len tails.old + length rows.now ≤ vec_capacity tails.old) }
     requires keys { All (λ (r : Row). r.key < 2 ^ 63) rows.now }
     ensures items { (heads.new.items ≡ heads.old.items ++ map (cell_of head) rows.now) × (tails.new.items ≡ tails.old.items ++ map (tail_value tail) rows.now) }

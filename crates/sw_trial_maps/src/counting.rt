@@ -30,7 +30,11 @@ impl Counts {
 
     /// Counts a call that may have been refused.
     fn tell(&self, count: &AtomicU64, answer: &Result<(), Refusal>) {
-        add_one(if answer.is_ok() { count } else { &self.refusals });
+        add_one(if answer.is_ok() {
+            count
+        } else {
+            &self.refusals
+        });
     }
 }
 

@@ -12,7 +12,7 @@ mod replaying;
 mod tests;
 
 pub use contended::ContendedMap;
-pub use counting::{Counts, CountingMap};
+pub use counting::{CountingMap, Counts};
 pub use gated::{Gate, GatedMap};
 pub use refusing::RefusingMap;
 pub use replaying::{can_replay, replay, replay_all};

@@ -140,14 +140,17 @@ fn equal_cells_and_the_ends(rt: HostRuntime) -> Result<(), Fail> {
     assert!(rt; shows(&map, &[4, 5, 5, 5, 7], &[5, 2, 3, 1, 4]));
     assert!(rt; has_places(&map, (Bound::Before(5), 1), (Bound::After(5), 4)));
     map.clear();
-    let all = Entry::Range(
-        Some(Bound::Before(i64::MIN)),
-        Some(Bound::After(i64::MAX)),
-    );
+    let all = Entry::Range(Some(Bound::Before(i64::MIN)), Some(Bound::After(i64::MAX)));
     map.begin(0, Tail::Key, 64)?;
     replay_all(&mut map, &[four_rows(alloc)?, all])?;
     assert!(rt; shows(&map, &[12, 3, 12, 20], &[1, 2, 3, 4]));
-    assert!(rt; has_places(&map, (Bound::Before(i64::MIN), 0), (Bound::After(i64::MAX), 4)));
+    assert!(rt;
+        has_places(
+            &map,
+            (Bound::Before(i64::MIN), 0),
+            (Bound::After(i64::MAX), 4)
+        )
+    );
     Ok(())
 }
 
@@ -161,10 +164,16 @@ fn leases_come_back(rt: HostRuntime) -> Result<(), Fail> {
     assert!(rt; budget.used() == 0);
     one.begin(0, Tail::Key, 100)?;
     assert!(rt; budget.used() == 100);
-    assert!(rt; matches!(
-        two.begin(0, Tail::Key, 29),
-        Err(Refusal::Short { used: 100, want: 29, capacity: 128 })
-    ));
+    assert!(rt;
+        matches!(
+            two.begin(0, Tail::Key, 29),
+            Err(Refusal::Short {
+                used: 100,
+                want: 29,
+                capacity: 128
+            })
+        )
+    );
     assert!(rt; two.is_blank() && two.cells() == 0 && budget.used() == 100);
     two.begin(1, Tail::Cell(0), 28)?;
     assert!(rt; budget.used() == 128);
@@ -250,10 +259,7 @@ fn gate(
 }
 
 /// A boxed map of four rows, cracked once, and how many pairs stand before 10.
-fn replayed(
-    map: Box<dyn CrackerMap>,
-    load: Entry,
-) -> (Box<dyn CrackerMap>, Option<usize>) {
+fn replayed(map: Box<dyn CrackerMap>, load: Entry) -> (Box<dyn CrackerMap>, Option<usize>) {
     let mut map = map;
     if replay_all(&mut map, &[load, ten_to_fifteen()]).is_err() {
         return (map, None);

@@ -53,7 +53,7 @@ invariant_of-self c =
     let ft : SFits w64 c.args.tail = search rules in
     let x' : (to_z w64 (of_z w64 c.args.head), to_z w64 (of_z w64 c.args.tail)) ≡ (c.args.head, c.args.tail) = ap₂ (λ (u v : ℤ). (u, v)) (to_z-of_z w64 c.args.head fh) (to_z-of_z w64 c.args.tail ft) in
     let become : Become (ripple_insert head_of (c.args.head, c.args.tail)) zs ms zs' r.marks =
-        subst (λ (x : ℤ × ℤ). Become (ripple_insert head_of x) zs ms zs' r.marks) x' (subst (λ (l : List Mark). Become (ripple_insert head_of (to_z w64 (of_z w64 c.args.head), to_z w64 (of_z w64 c.args.tail))) zs l zs' r.marks) vm c.ripple_in.ensures.rippled) in
+    subst (λ (x : ℤ × ℤ). Become (ripple_insert head_of x) zs ms zs' r.marks) x' (subst (λ (l : List Mark). Become (ripple_insert head_of (to_z w64 (of_z w64 c.args.head), to_z w64 (of_z w64 c.args.tail))) zs l zs' r.marks) vm c.ripple_in.ensures.rippled) in
     let laid : IsLaidOut (ripple_insert head_of (c.args.head, c.args.tail) (pieces_between 0 zs ms)) zs' r.marks = rippled (ripple_insert head_of (c.args.head, c.args.tail)) zs zs' ms r.marks o i.rising (λ a. bounds-insert head_of (c.args.head, c.args.tail) a) become in
     record {
       lengths = e0;
@@ -87,7 +87,7 @@ returns c =
     let ft : SFits w64 c.args.tail = search rules in
     let x' : (to_z w64 (of_z w64 c.args.head), to_z w64 (of_z w64 c.args.tail)) ≡ (c.args.head, c.args.tail) = ap₂ (λ (u v : ℤ). (u, v)) (to_z-of_z w64 c.args.head fh) (to_z-of_z w64 c.args.tail ft) in
     let become : Become (ripple_insert head_of (c.args.head, c.args.tail)) zs ms zs' r.marks =
-        subst (λ (x : ℤ × ℤ). Become (ripple_insert head_of x) zs ms zs' r.marks) x' (subst (λ (l : List Mark). Become (ripple_insert head_of (to_z w64 (of_z w64 c.args.head), to_z w64 (of_z w64 c.args.tail))) zs l zs' r.marks) vm c.ripple_in.ensures.rippled) in
+    subst (λ (x : ℤ × ℤ). Become (ripple_insert head_of x) zs ms zs' r.marks) x' (subst (λ (l : List Mark). Become (ripple_insert head_of (to_z w64 (of_z w64 c.args.head), to_z w64 (of_z w64 c.args.tail))) zs l zs' r.marks) vm c.ripple_in.ensures.rippled) in
     let laid : IsLaidOut (ripple_insert head_of (c.args.head, c.args.tail) (pieces_between 0 zs ms)) zs' r.marks = rippled (ripple_insert head_of (c.args.head, c.args.tail)) zs zs' ms r.marks o i.rising (λ a. bounds-insert head_of (c.args.head, c.args.tail) a) become in
     ap (λ (l : List Mark). record { pieces = pieces_between 0 zs' l; room = vec_capacity r.head }) wr
     ∙ ap₂ (λ (b : Arrangement (ℤ × ℤ)) (n : ℕ). record { pieces = b; room = n }) laid.pieces c.ripple_in.ensures.capacity.0
