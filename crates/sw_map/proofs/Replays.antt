@@ -17,7 +17,8 @@ use Rattle.sw_kernel.specs.Flat.{marks_from}
 use Rattle.sw_kernel.specs.Tapes.{IsTape, AllFollow, MayFollow, IsBelowAll, IsRising, IsSound, count_after, count_from, peak_from, is_marked}
 use Rattle.sw_kernel.proofs.Seen.{shown-step}
 use Rattle.sw_kernel.proofs.Shown.{joined-shown}
-use Rattle.sw_kernel.proofs.Once.{count-replay}
+use Rattle.sw_kernel.proofs.Moves.{load-joined}
+use Rattle.sw_kernel.proofs.Once.{count-replay, count-step}
 use Rattle.sw_kernel.proofs.Orders.{below-trans, below-new, same-flips}
 use Rattle.sw_kernel.proofs.Rising.{has-replay_from, replay_from-rises}
 use Rattle.sw_kernel.proofs.Sound.{LeftOfAll, marks-sound, replay-ordered}
@@ -45,24 +46,24 @@ aligned-more a tape m e at al =
     let x : Arrangement Row = rows_by a (take m.cursor tape) in
     let more : rows_by a (take (m.cursor + 1) tape) ≡ step (cell_of a) e x = ap (rows_by a) (taken-more tape m.cursor e at) ∙ rows-more a (take m.cursor tape) e in
     record {
-    begun = al.begun;
-    same_head = al.same_head;
-    within = omega arith;
-    pairs_are =
-        ap (λ (h : ℕ). step head_of (shown_step (pair_in h m.tail) e) m.pairs) al.same_head
-        ∙ ap (step head_of (shown_step (pair_in a m.tail) e)) al.pairs_are
-        ∙ sym (shown-step (pair_in a m.tail) head_of e x)
-        ∙ ap (shown (pair_in a m.tail)) (sym more);
+      begun = al.begun;
+      same_head = al.same_head;
+      within = omega arith;
+      pairs_are =
+          ap (λ (h : ℕ). step head_of (shown_step (pair_in h m.tail) e) m.pairs) al.same_head
+          ∙ ap (step head_of (shown_step (pair_in a m.tail) e)) al.pairs_are
+          ∙ sym (shown-step (pair_in a m.tail) head_of e x)
+          ∙ ap (shown (pair_in a m.tail)) (sym more);
     }
 
 -- ---- a longer tape
 pub aligned-longer : (a : ℕ) (tape es : List (Step Row)) (m : Held) → IsAligned a tape m → IsAligned a (tape ++ es) m
 aligned-longer a tape es m al = record {
-    begun = al.begun;
-    same_head = al.same_head;
-    within = let n = length-append tape es in let w = al.within in omega arith;
-    pairs_are = al.pairs_are ∙ ap (λ (v : List (Step Row)). shown (pair_in a m.tail) (rows_by a v)) (sym (take-append-le m.cursor tape es al.within));
-    }
+  begun = al.begun;
+  same_head = al.same_head;
+  within = let n = length-append tape es in let w = al.within in omega arith;
+  pairs_are = al.pairs_are ∙ ap (λ (v : List (Step Row)). shown (pair_in a m.tail) (rows_by a v)) (sym (take-append-le m.cursor tape es al.within));
+}
 
 pub lawful-longer : (a : ℕ) (tape es : List (Step Row)) (m : Held) → IsLawful a tape m → IsLawful a (tape ++ es) m
 unfolding IsLawful
@@ -267,9 +268,9 @@ place_from-within b i n (last xs) e = absurd (none-some n e)
 place_from-within b i n (piece xs c rest) e =
     let long = length-append xs (joined rest) in
     elim (cases_Bool (same_bound b c)) [
-  | inl here ↦ let at : i + length xs ≡ n = some-same (i + length xs) n (rw here at e) in (omega (arith, at), omega (arith, at, long))
-  | inr other ↦ let p = place_from-within b (i + length xs) n rest (rw other at e) in (omega (arith, p.0), omega (arith, p.1, long))
-]
+      | inl here ↦ let at : i + length xs ≡ n = some-same (i + length xs) n (rw here at e) in (omega (arith, at), omega (arith, at, long))
+      | inr other ↦ let p = place_from-within b (i + length xs) n rest (rw other at e) in (omega (arith, p.0), omega (arith, p.1, long))
+    ]
 
 -- a place is at most the number of items
 pub place-within : {A : Type 0} (b : Bound) (n : ℕ) (x : Arrangement A) → place_of b x ≡ Some n → n ≤ length (joined x)
@@ -301,6 +302,7 @@ places-rise_from b c i k n (piece xs d rest) r lt p q = elim (cases_Bool (same_b
   where
     some-none : (n : ℕ) → Some n ≡ None → ⊥
     some-none n h = cc
+
     all-past : (b c : Bound) (bs : List Bound) → bound_below b c ≡ true → IsBelowAll c bs → IsBelowAll b bs
     all-past b c [] h al = tt
     all-past b c (x ∷ bs) h al = (below-trans b c x h al.0, all-past b c bs h al.1)
@@ -308,3 +310,12 @@ places-rise_from b c i k n (piece xs d rest) r lt p q = elim (cases_Bool (same_b
 -- of two bounds with places the lower has the lower place
 pub places-rise : (a : ℕ) (tape : List (Step Row)) (b c : Bound) (k n : ℕ) → bound_below b c ≡ true → place_of b (rows_by a tape) ≡ Some k → place_of c (rows_by a tape) ≡ Some n → k ≤ n
 places-rise a tape b c k n lt p q = places-rise_from b c 0 k n (rows_by a tape) (replay_from-rises (cell_of a) tape (last []) tt) lt p q
+
+-- ---- how many pairs an entry leaves
+pub after-pairs : (m : Held) (e : Step Row) → MayReplay m e → pairs_in (after e m) ≡ count_after (pairs_in m) e
+after-pairs m (loaded rows) may =
+    let f : Row → ℤ × ℤ = pair_in m.head m.tail in
+    ap length (load-joined (map f rows) m.pairs) ∙ length-append (joined m.pairs) (map f rows) ∙ ap (λ (n : ℕ). pairs_in m + n) (length-map rows f)
+after-pairs m (inserted row) may = count-step head_of (inserted (pair_in m.head m.tail row)) m.pairs tt
+after-pairs m (removed place) may = count-step head_of (removed place) m.pairs may
+after-pairs m (ranged lower upper) may = count-step head_of (ranged lower upper) m.pairs tt
