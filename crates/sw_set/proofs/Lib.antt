@@ -19,3 +19,4 @@ pub mod Tails
 pub mod Told
 pub mod Trying
 pub mod Views
+pub mod Swaps

@@ -3,6 +3,7 @@
 
 mod align;
 mod area;
+mod at_once;
 mod choice;
 mod collect;
 mod finding;
