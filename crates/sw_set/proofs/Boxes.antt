@@ -144,3 +144,7 @@ held-at h P (x ∷ xs) i lt p e = subst P (sym (get_or-map h (x ∷ xs) i x e lt
 
 pub held-all : {X : Type 0} (h : X → Held) (P : Held → Type 0) (xs : List X) → All (λ m. P (h m)) xs → All P (map h xs)
 held-all h P xs all k d lt = let many = length-map xs h in held-at h P xs k (omega arith) (λ e. all k e (omega arith)) d
+
+-- what holds of what boxes hold holds of the boxes
+pub all-held : {X : Type 0} (h : X → Held) (P : Held → Type 0) (xs : List X) → All P (map h xs) → All (λ m. P (h m)) xs
+all-held h P xs all k d lt = let many = length-map xs h in subst P (get_or-map h xs k d (h d) lt) (all k (h d) (omega arith))

@@ -14,12 +14,14 @@ ghost use Rattle.sw_set.specs.Prepared.{IsCleared, IsFreshBut, IsOneCleared, IsP
 ghost use Rattle.sw_set.specs.Shelf.{AreaState, AreSameMaps, HasRoomWhereNeeded, IsAreaLawful, IsAtEnd, IsSameArea, Rises, key_of, lies_within, logged_rows, rows_in};
 ghost use Rattle.sw_set.specs.Needs.{head_in};
 
-use crate::align::{align_boxes, is_needed};
+use crate::align::is_needed;
+use crate::at_once::align_at_once;
 use crate::collect::collect_from;
 use crate::pick::{find_blank, find_leased, find_map, find_unneeded};
 use crate::prepare::Ready;
 use std::alloc::Global;
 use std::marker::Model;
+use std::thread::Threads;
 use sw_map::{CrackerMap, Tail};
 use sw_rows::{Bound, Query, Refusal, Reply, Row, Update, answer};
 use sw_tape::{Entry, MAX_ENTRIES, Tape};
@@ -384,15 +386,15 @@ impl<M: CrackerMap> Area<M> {
         collect_from(self.alloc, self.boxes.as_slice(), self.attribute, &self.tape, ready.from, ready.upto, query)
     }
 
-    /// Steps every box that has a map of the tails to the tape's end.
-    pub(crate) fn align(&mut self, tails: &[Tail]) -> Result<(), Refusal>
+    /// Steps every box that has a map of the tails to the tape's end, those that lack entries at once.
+    pub(crate) fn align<R: Threads + Sync>(&mut self, rt: &R, tails: &[Tail]) -> Result<(), Refusal>
         requires room { All (HasRoomWhereNeeded tails.now self.old.tape) self.old.boxes }
         ensures same { IsSameArea self.old self.new }
         ensures tape { self.new.tape ≡ self.old.tape }
         ensures maps { AreSameMaps self.old.boxes self.new.boxes }
         ensures ends { MatchResult result (λ _. All (IsAtEnd tails.now self.old.tape) self.new.boxes) (λ e. e ≡ NoMemory) }
     {
-        align_boxes(self.attribute, self.boxes.as_mut_slice(), tails, &self.tape)
+        align_at_once(rt, self.attribute, self.boxes.as_mut_slice(), tails, &self.tape)
     }
 
     /// Clears the box at a place and begins a map in it. Refused, it is blank.
