@@ -1,7 +1,7 @@
 -- What is done to items that are brought to other places and back is done to each at its own place.
 use Rattle.std.proofs.Common.{◌≡◌, ◌≢◌, ℕ, ◌<◌, ◌≤◌, Bool, true, false, true≢false, List, length, get_or, map, refl, ap, sym, ◌∙◌, arith, subst, All, Contains, eqb, eqb-true, eq-eqb}
 use Rattle.std.specs.List.{SwappedAt}
-use Rattle.std.proofs.lemmas.List.{length-map, get_or-map}
+use Rattle.std.proofs.lemmas.List.{length-map}
 use Rattle.sw_kernel.specs.Replay.{Step}
 use Rattle.sw_rows.specs.declared.row.Row.{Row}
 use Rattle.sw_map.specs.declared.tail.Tail.{Tail}
@@ -14,6 +14,7 @@ swapped-back R xs ys zs ws i j many li lj there done back k d lt = at (eqb k i) 
   where
     pair : (k' : ℕ) → k' < length xs → get_or ys k' d ≡ get_or xs k d → get_or ws k d ≡ get_or zs k' d → R (get_or xs k d) (get_or ws k d)
     pair k' l p q = subst (λ v. R v (get_or ws k d)) p (subst (λ v. R (get_or ys k' d) v) (sym q) (done k' d (omega (arith, l, many))))
+
     at : (b : Bool) → eqb k i ≡ b → R (get_or xs k d) (get_or ws k d)
     at true e =
         let is = eqb-true k i e in
@@ -35,12 +36,13 @@ same-boxes h xs ys many same =
     let lx = length-map xs h in
     let ly = length-map ys h in
     record {
-    many = omega (arith, lx, ly, many);
-    each = λ k d e lt. held-at h (λ m. IsSameMap m (get_or (map h ys) k e)) xs k (omega (arith, lt, lx)) (λ x. held-at h (λ n. IsSameMap (h (get_or xs k x)) n) ys k (omega (arith, lt, lx, many)) (λ y. other k x y (omega (arith, lt, lx))) e) d
+      many = omega (arith, lx, ly, many);
+      each = λ k d e lt. held-at h (λ m. IsSameMap m (get_or (map h ys) k e)) xs k (omega (arith, lt, lx)) (λ x. held-at h (λ n. IsSameMap (h (get_or xs k x)) n) ys k (omega (arith, lt, lx, many)) (λ y. other k x y (omega (arith, lt, lx))) e) d;
     }
   where
     any : {Y : Type 0} (zs : List Y) (k : ℕ) (d e : Y) → k < length zs → get_or zs k d ≡ get_or zs k e
     any zs k d e lt = get_or_any zs k d e lt
+
     other : (k : ℕ) (x y : _) → k < length xs → IsSameMap (h (get_or xs k x)) (h (get_or ys k y))
     other k x y lt = subst (λ v. IsSameMap (h (get_or xs k x)) (h v)) (any ys k x y (omega (arith, lt, many))) (same k x lt)
 

@@ -4,7 +4,7 @@ use Rattle.sw_rows.specs.declared.bound.Bound.{Bound}
 use Rattle.sw_rows.specs.declared.row.Row.{Row}
 use Rattle.sw_rows.specs.declared.query.Query.{Query}
 use Rattle.sw_rows.specs.declared.refusal.Refusal.{Refusal}
-use Rattle.sw_rows.specs.declared.refusal.Refusal.TheVariants.{NoMemory, NoBlank, Short, Contended}
+use Rattle.sw_rows.specs.declared.refusal.Refusal.TheVariants.{NoBlank}
 use Rattle.sw_kernel.specs.Arrangement.{Arrangement, joined}
 use Rattle.sw_kernel.specs.Replay.{Step, loaded, ranged}
 use Rattle.sw_kernel.specs.Tapes.{is_marked, peak_from}

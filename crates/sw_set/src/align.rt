@@ -38,7 +38,12 @@ pub(crate) fn is_needed(tails: &[Tail], tail: Tail) -> bool
 }
 
 /// Steps one box to the tape's end where it holds a map that is needed.
-pub(crate) fn align_box<M: CrackerMap>(attribute: u8, it: &mut M, tails: &[Tail], tape: &Tape) -> Result<(), Refusal>
+pub(crate) fn align_box<M: CrackerMap>(
+    attribute: u8,
+    it: &mut M,
+    tails: &[Tail],
+    tape: &Tape,
+) -> Result<(), Refusal>
     requires lawful { IsLawful attribute tape.now (M.held it.old) }
     requires keys { All (λ (e : Step Row). KeysFit e) tape.now }
     requires room { HasRoomWhereNeeded tails.now tape.now (M.held it.old) }

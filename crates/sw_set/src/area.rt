@@ -59,7 +59,13 @@ impl<M: CrackerMap> Model for Area<M> {
 impl<M: CrackerMap> Area<M> {
     /// An area of these rows, which rise by key and lie in the interval from the one value up to below the other; its tape
     /// is one load of them, and it has no boxes. Refused `NoMemory` alone.
-    pub fn new(alloc: Global, attribute: u8, from: Option<i64>, below: Option<i64>, rows: &[Row]) -> Result<Area<M>, Refusal>
+    pub fn new(
+        alloc: Global,
+        attribute: u8,
+        from: Option<i64>,
+        below: Option<i64>,
+        rows: &[Row],
+    ) -> Result<Area<M>, Refusal>
         requires attribute { attribute < 8 }
         requires keys { All (λ (r : Row). r.key < 2 ^ 63) rows.now }
         requires rise { Rises key_of rows.now }
@@ -137,7 +143,12 @@ impl<M: CrackerMap> Area<M> {
         ensures { self.new ≡ self.old }
     {
         let now = self.clock;
-        stamp_needed(self.boxes.as_slice(), self.stamps.as_mut_slice(), tails, now);
+        stamp_needed(
+            self.boxes.as_slice(),
+            self.stamps.as_mut_slice(),
+            tails,
+            now,
+        );
     }
 
     /// The allocator that the area's collections use.
@@ -324,7 +335,11 @@ impl<M: CrackerMap> Area<M> {
         let Some(at) = self.leased(&[]) else {
             return None;
         };
-        if at < self.stamps.len() { Some(self.stamps[at]) } else { Some(0) }
+        if at < self.stamps.len() {
+            Some(self.stamps[at])
+        } else {
+            Some(0)
+        }
     }
 
     /// The cursor of the map of a tail, if there is one.
@@ -345,7 +360,11 @@ impl<M: CrackerMap> Area<M> {
         let Some(at) = self.with_map(tail) else {
             return None;
         };
-        if place < self.pairs_at(at) { Some(self.shown_at(at, place)) } else { None }
+        if place < self.pairs_at(at) {
+            Some(self.shown_at(at, place))
+        } else {
+            None
+        }
     }
 
     /// How many pairs of the key map stand before a bound, if there is a key map and it has cracked at that bound.
@@ -383,7 +402,15 @@ impl<M: CrackerMap> Area<M> {
         ensures scalars { (TakesMemory query.now.want → ⊥) → length query.now.conds ≤ 1 → IsOk result }
     {
         self.known();
-        collect_from(self.alloc, self.boxes.as_slice(), self.attribute, &self.tape, ready.from, ready.upto, query)
+        collect_from(
+            self.alloc,
+            self.boxes.as_slice(),
+            self.attribute,
+            &self.tape,
+            ready.from,
+            ready.upto,
+            query,
+        )
     }
 
     /// Steps every box that has a map of the tails to the tape's end, those that lack entries at once.
@@ -394,7 +421,13 @@ impl<M: CrackerMap> Area<M> {
         ensures maps { AreSameMaps self.old.boxes self.new.boxes }
         ensures ends { MatchResult result (λ _. All (IsAtEnd tails.now self.old.tape) self.new.boxes) (λ e. e ≡ NoMemory) }
     {
-        align_at_once(rt, self.attribute, self.boxes.as_mut_slice(), tails, &self.tape)
+        align_at_once(
+            rt,
+            self.attribute,
+            self.boxes.as_mut_slice(),
+            tails,
+            &self.tape,
+        )
     }
 
     /// Clears the box at a place and begins a map in it. Refused, it is blank.
@@ -423,7 +456,12 @@ fn clear_all<M: CrackerMap>(boxes: &mut [M])
     }
 }
 
-fn begin_box<M: CrackerMap>(it: &mut M, attribute: u8, tail: Tail, cells: u64) -> Result<(), Refusal>
+fn begin_box<M: CrackerMap>(
+    it: &mut M,
+    attribute: u8,
+    tail: Tail,
+    cells: u64,
+) -> Result<(), Refusal>
     ensures { MatchResult result (λ _. M.held it.new ≡ begun attribute tail cells) (λ e. (M.held it.new ≡ blank) × IsBeginRefusal cells e) }
 {
     it.clear();

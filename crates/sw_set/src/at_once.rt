@@ -17,7 +17,14 @@ use sw_tape::Tape;
 
 /// Steps the first boxes at once, each towards the tape's end; a single one is stepped by the caller. A box whose step is
 /// refused stops at the cursor that it reached, and the others go on.
-fn step_first<R: Threads + Sync, M: CrackerMap>(rt: &R, attribute: u8, boxes: &mut [M], many: usize, tails: &[Tail], tape: &Tape)
+fn step_first<R: Threads + Sync, M: CrackerMap>(
+    rt: &R,
+    attribute: u8,
+    boxes: &mut [M],
+    many: usize,
+    tails: &[Tail],
+    tape: &Tape,
+)
     requires lawful { All (λ m. IsLawful attribute tape.now (M.held m)) boxes.old }
     requires keys { All (λ (e : Step Row). KeysFit e) tape.now }
     requires room { All (λ m. HasRoomWhereNeeded tails.now tape.now (M.held m)) boxes.old }
@@ -51,7 +58,12 @@ fn lacks<M: CrackerMap>(it: &M, tails: &[Tail], end: usize) -> bool
 }
 
 /// The first box, from a place on, whose needed map lacks entries.
-fn find_lacking<M: CrackerMap>(boxes: &[M], from: usize, tails: &[Tail], end: usize) -> Option<usize>
+fn find_lacking<M: CrackerMap>(
+    boxes: &[M],
+    from: usize,
+    tails: &[Tail],
+    end: usize,
+) -> Option<usize>
     ensures { MatchOption result ((k : ℕ) (d : M) → from ≤ k → k < length boxes.now → (M.held (slice_index_or boxes.now k d)).is_blank ≡ false → Contains tails.now (M.held (slice_index_or boxes.now k d)).tail → (M.held (slice_index_or boxes.now k d)).cursor ≡ end) (λ at. (from ≤ at) × (at < length boxes.now)) }
 {
     for at in from..boxes.len() {
@@ -64,7 +76,15 @@ fn find_lacking<M: CrackerMap>(boxes: &[M], from: usize, tails: &[Tail], end: us
 
 /// Brings the boxes that lack entries to the front, from the place `done` on, steps all that are there at once, and puts each
 /// back at its place.
-fn step_lacking<R: Threads + Sync, M: CrackerMap>(rt: &R, attribute: u8, boxes: &mut [M], done: usize, from: usize, tails: &[Tail], tape: &Tape)
+fn step_lacking<R: Threads + Sync, M: CrackerMap>(
+    rt: &R,
+    attribute: u8,
+    boxes: &mut [M],
+    done: usize,
+    from: usize,
+    tails: &[Tail],
+    tape: &Tape,
+)
     requires lawful { All (λ m. IsLawful attribute tape.now (M.held m)) boxes.old }
     requires keys { All (λ (e : Step Row). KeysFit e) tape.now }
     requires room { All (λ m. HasRoomWhereNeeded tails.now tape.now (M.held m)) boxes.old }
@@ -86,7 +106,13 @@ fn step_lacking<R: Threads + Sync, M: CrackerMap>(rt: &R, attribute: u8, boxes: 
 
 /// Steps every box that has a needed map to the tape's end, those that lack entries at once. Refused `NoMemory`, a box whose
 /// step was refused stands at the cursor that it reached, and all others at the end.
-pub(crate) fn align_at_once<R: Threads + Sync, M: CrackerMap>(rt: &R, attribute: u8, boxes: &mut [M], tails: &[Tail], tape: &Tape) -> Result<(), Refusal>
+pub(crate) fn align_at_once<R: Threads + Sync, M: CrackerMap>(
+    rt: &R,
+    attribute: u8,
+    boxes: &mut [M],
+    tails: &[Tail],
+    tape: &Tape,
+) -> Result<(), Refusal>
     requires lawful { All (λ m. IsLawful attribute tape.now (M.held m)) boxes.old }
     requires keys { All (λ (e : Step Row). KeysFit e) tape.now }
     requires room { All (λ m. HasRoomWhereNeeded tails.now tape.now (M.held m)) boxes.old }

@@ -37,7 +37,11 @@ fn all_stand<M: CrackerMap>(area: &Area<M>, lower: Option<Bound>, upper: Option<
 
 /// Logs the range exactly where one of its bounds stands in no range of the tape, after a restart where the tape is full.
 /// Refused `NoMemory`, the tape is as it was, or one load of the rows.
-fn note<M: CrackerMap>(area: &mut Area<M>, lower: Option<Bound>, upper: Option<Bound>) -> Result<(), Refusal>
+fn note<M: CrackerMap>(
+    area: &mut Area<M>,
+    lower: Option<Bound>,
+    upper: Option<Bound>,
+) -> Result<(), Refusal>
     ensures same { IsSameArea area.old area.new }
     ensures ends { MatchResult result (λ _. IsNoted lower upper (logged_rows area.old.attribute area.old.tape) area.old.tape area.new.tape) (λ e. (e ≡ NoMemory) × ((area.new.tape ≡ area.old.tape) ⊎ (area.new.tape ≡ loaded (logged_rows area.old.attribute area.old.tape) ∷ []))) }
 {
@@ -77,7 +81,12 @@ fn place_in<M: CrackerMap>(area: &Area<M>, at: usize, bound: Option<Bound>, abse
 }
 
 /// The range of the bounds, in an area whose needed maps stand at the tape's end.
-fn range_of<M: CrackerMap>(area: &Area<M>, lower: Option<Bound>, upper: Option<Bound>, tails: &[Tail]) -> Ready
+fn range_of<M: CrackerMap>(
+    area: &Area<M>,
+    lower: Option<Bound>,
+    upper: Option<Bound>,
+    tails: &[Tail],
+) -> Ready
     requires maps { (t : Tail) → Contains tails.now t → Any (IsReady t area.now.tape) area.now.boxes }
     requires key { Contains tails.now Key }
     requires stand { stands_if lower area.now.tape && stands_if upper area.now.tape ≡ true }
@@ -93,7 +102,13 @@ fn range_of<M: CrackerMap>(area: &Area<M>, lower: Option<Bound>, upper: Option<B
 }
 
 /// Counts the boxes, logs the range, makes the maps, aligns them and finds the places of the bounds.
-fn prepare_range<R: Threads + Sync, M: CrackerMap>(rt: &R, area: &mut Area<M>, lower: Option<Bound>, upper: Option<Bound>, tails: &[Tail]) -> Result<Ready, Refusal>
+fn prepare_range<R: Threads + Sync, M: CrackerMap>(
+    rt: &R,
+    area: &mut Area<M>,
+    lower: Option<Bound>,
+    upper: Option<Bound>,
+    tails: &[Tail],
+) -> Result<Ready, Refusal>
     requires key { Contains tails.now Key }
     ensures same { IsSameArea area.old area.new }
     ensures ends { MatchResult result (λ r. IsNoted lower upper (logged_rows area.old.attribute area.old.tape) area.old.tape area.new.tape × IsPrepared lower upper tails.now area.new r.from r.upto) (λ e. ((area.new.tape ≡ area.old.tape) ⊎ (IsNoted lower upper (logged_rows area.old.attribute area.old.tape) area.old.tape area.new.tape ⊎ (area.new.tape ≡ loaded (logged_rows area.old.attribute area.old.tape) ∷ []))) × IsPrepareRefusal (length area.old.boxes) (length tails.now) (cells_for (peak_from 0 area.new.tape)) e) }
@@ -137,7 +152,13 @@ impl<M: CrackerMap> Area<M> {
             Ok(tails) => tails,
             Err(e) => return Err(e),
         };
-        let done = prepare_range(rt, self, lower_from(start, lower), upper_upto(end, upper), tails.as_slice());
+        let done = prepare_range(
+            rt,
+            self,
+            lower_from(start, lower),
+            upper_upto(end, upper),
+            tails.as_slice(),
+        );
         self.stamp(tails.as_slice());
         done
     }
@@ -147,7 +168,11 @@ impl<M: CrackerMap> Area<M> {
     ///
     /// The one refusal is `NoMemory`. The area stands for the same rows then and otherwise, and where no refusal was told it
     /// stands as `prepare` leaves it.
-    pub fn answer<R: Threads + Sync>(&mut self, rt: &R, query: &Query) -> Result<(Reply, Option<Refusal>), Refusal>
+    pub fn answer<R: Threads + Sync>(
+        &mut self,
+        rt: &R,
+        query: &Query,
+    ) -> Result<(Reply, Option<Refusal>), Refusal>
         requires received { self.old.inbox ≡ [] }
         requires asks { AsksBelow 8 query.now }
         requires head { head_in query.now.conds ≡ self.old.attribute }

@@ -1,4 +1,4 @@
-use Rattle.std.proofs.Common.{◌≡◌, List, map, length, sym, ap, ◌∙◌, subst, arith, All}
+use Rattle.std.proofs.Common.{◌≡◌, List, map, length, sym, subst, arith, All}
 use Rattle.std.proofs.lemmas.List.{length-map}
 use Rattle.sw_set.proofs.Shelves.{area-with, apart-same, written}
 use Rattle.sw_map.specs.Lawful.{IsLawful}
