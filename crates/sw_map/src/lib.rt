@@ -5,8 +5,20 @@
 //! depends on heads alone, so that maps of one head at one cursor hold the same row at each place.
 #![tactic(auto)]
 
+mod active;
+mod crack;
 mod cracker;
+mod home;
+mod laws;
+mod pair_map;
+mod pairs;
+mod places;
 mod tail;
 
 pub use cracker::CrackerMap;
+pub use laws::{
+    begun_maps_are_aligned, longer_tapes_keep_lawful, next_entries_fit, places_part_rows,
+    ready_maps_show_rows, steps_keep_alignment,
+};
+pub use pair_map::PairMap;
 pub use tail::Tail;

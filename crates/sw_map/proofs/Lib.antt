@@ -1,0 +1,5 @@
+pub mod Replays
+pub mod Layouts
+pub mod Finding
+pub mod Cracking
+pub mod Tables

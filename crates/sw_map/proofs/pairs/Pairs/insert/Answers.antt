@@ -1,0 +1,94 @@
+use Rattle.std.proofs.Common.{rules, ◌≡◌, ◌≤◌, ℕ, ℤ, List, length, zip, arith, sym, ap, ap₂, ◌∙◌, subst, vec_capacity}
+use mir.Syntax.{w64}
+use mir.Val.{SFits, of_z, to_z}
+use Rattle.std.proofs.lemmas.Int.{to_z-of_z}
+use Rattle.sw_kernel.specs.declared.mark.Mark.{Mark}
+use Rattle.sw_kernel.specs.Arrangement.{Arrangement, joined, ripple_insert}
+use Rattle.sw_kernel.specs.Partition.{head_of}
+use Rattle.sw_kernel.specs.Replay.{inserted}
+use Rattle.sw_kernel.specs.Flat.{Become, InOrder}
+use Rattle.sw_kernel.specs.Tapes.{IsRising}
+use Rattle.sw_kernel.proofs.Ripples.{written}
+use Rattle.sw_kernel.proofs.Rising.{bounds-insert}
+use Rattle.sw_map.specs.Pieces.{IsLaidOut, Table, bounds_of, pieces_between, stepped}
+use Rattle.sw_map.proofs.Layouts.{zip-long}
+use Rattle.sw_map.proofs.Tables.{rippled, table-length}
+use Rattle.sw_map.proofs.pairs.Pairs.insert.Goals as goal
+
+pub ripple_in-requires-clause-room : goal.ripple_in-requires-clause-room
+ripple_in-requires-clause-room c =
+    let s = c.self.inside in let i = c.self.invariant in
+    let hs = s.head.items in let ts = s.tail.items in
+    let ln : length hs ≡ s.head.len = search rules in
+    let lt : length ts ≡ s.tail.len = search rules in
+    let same : length hs ≡ length ts = omega (arith, i.lengths) in
+    let long = table-length hs ts s.marks.items same in
+    let long' = ap (λ (t : Table). length (joined t.pieces)) (sym c.self.view_is) in
+    let room' = ap (λ (t : Table). t.room) (sym c.self.view_is) in
+    let within = c.requires in
+    (omega (arith, long, long', room', within), omega (arith, long, long', room', within, i.lengths, i.room))
+
+pub invariant_of-self : goal.invariant_of-self
+invariant_of-self c =
+    let s = c.self.inside in let i = c.self.invariant in
+    let hs = s.head.items in let ts = s.tail.items in let ms = s.marks.items in
+    let zs : List (ℤ × ℤ) = zip hs ts in
+    let r = c.ripple_in.new in
+    let zs' : List (ℤ × ℤ) = zip r.head.items r.tail.items in
+    let ln : length hs ≡ s.head.len = search rules in
+    let lt : length ts ≡ s.tail.len = search rules in
+    let ln' : length r.head.items ≡ r.head.len = search rules in
+    let lt' : length r.tail.items ≡ r.tail.len = search rules in
+    let same : length hs ≡ length ts = omega (arith, i.lengths) in
+    let e0 : r.head.len ≡ r.tail.len = omega (arith, i.lengths, c.ripple_in.ensures.lengths.0, c.ripple_in.ensures.lengths.1) in
+    let same' : length r.head.items ≡ length r.tail.items = omega (arith, e0) in
+    let lz : length zs ≡ s.head.len = zip-long hs ts same ∙ ln in
+    let lz' : length zs' ≡ r.head.len = zip-long r.head.items r.tail.items same' ∙ ln' in
+    let o : InOrder 0 (length zs) ms = subst (λ (j : ℕ). InOrder 0 j ms) (sym lz) i.order in
+    let vm : c.deref_mut.result.now ≡ ms = search rules in
+    let lm : length r.marks ≡ length ms = search rules in
+    let lw : length ms ≤ s.marks.len = search rules in
+    let wr = written s.marks.len ms r.marks lm lw in
+    let fh : SFits w64 c.args.head = search rules in
+    let ft : SFits w64 c.args.tail = search rules in
+    let x' : (to_z w64 (of_z w64 c.args.head), to_z w64 (of_z w64 c.args.tail)) ≡ (c.args.head, c.args.tail) = ap₂ (λ (u v : ℤ). (u, v)) (to_z-of_z w64 c.args.head fh) (to_z-of_z w64 c.args.tail ft) in
+    let become : Become (ripple_insert head_of (c.args.head, c.args.tail)) zs ms zs' r.marks =
+    subst (λ (x : ℤ × ℤ). Become (ripple_insert head_of x) zs ms zs' r.marks) x' (subst (λ (l : List Mark). Become (ripple_insert head_of (to_z w64 (of_z w64 c.args.head), to_z w64 (of_z w64 c.args.tail))) zs l zs' r.marks) vm c.ripple_in.ensures.rippled) in
+    let laid : IsLaidOut (ripple_insert head_of (c.args.head, c.args.tail) (pieces_between 0 zs ms)) zs' r.marks = rippled (ripple_insert head_of (c.args.head, c.args.tail)) zs zs' ms r.marks o i.rising (λ a. bounds-insert head_of (c.args.head, c.args.tail) a) become in
+    record {
+      lengths = e0;
+      order = subst (λ (l : List Mark). InOrder 0 r.head.len l) (sym wr) (subst (λ (j : ℕ). InOrder 0 j r.marks) lz' laid.order);
+      rising = subst (λ (l : List Mark). IsRising (bounds_of l)) (sym wr) laid.rising;
+      room = omega (arith, i.room, c.ripple_in.ensures.capacity.0, c.ripple_in.ensures.capacity.1);
+    }
+
+pub returns : goal.returns
+returns c =
+    let s = c.self.inside in let i = c.self.invariant in
+    let hs = s.head.items in let ts = s.tail.items in let ms = s.marks.items in
+    let zs : List (ℤ × ℤ) = zip hs ts in
+    let r = c.ripple_in.new in
+    let zs' : List (ℤ × ℤ) = zip r.head.items r.tail.items in
+    let ln : length hs ≡ s.head.len = search rules in
+    let lt : length ts ≡ s.tail.len = search rules in
+    let ln' : length r.head.items ≡ r.head.len = search rules in
+    let lt' : length r.tail.items ≡ r.tail.len = search rules in
+    let same : length hs ≡ length ts = omega (arith, i.lengths) in
+    let e0 : r.head.len ≡ r.tail.len = omega (arith, i.lengths, c.ripple_in.ensures.lengths.0, c.ripple_in.ensures.lengths.1) in
+    let same' : length r.head.items ≡ length r.tail.items = omega (arith, e0) in
+    let lz : length zs ≡ s.head.len = zip-long hs ts same ∙ ln in
+    let lz' : length zs' ≡ r.head.len = zip-long r.head.items r.tail.items same' ∙ ln' in
+    let o : InOrder 0 (length zs) ms = subst (λ (j : ℕ). InOrder 0 j ms) (sym lz) i.order in
+    let vm : c.deref_mut.result.now ≡ ms = search rules in
+    let lm : length r.marks ≡ length ms = search rules in
+    let lw : length ms ≤ s.marks.len = search rules in
+    let wr = written s.marks.len ms r.marks lm lw in
+    let fh : SFits w64 c.args.head = search rules in
+    let ft : SFits w64 c.args.tail = search rules in
+    let x' : (to_z w64 (of_z w64 c.args.head), to_z w64 (of_z w64 c.args.tail)) ≡ (c.args.head, c.args.tail) = ap₂ (λ (u v : ℤ). (u, v)) (to_z-of_z w64 c.args.head fh) (to_z-of_z w64 c.args.tail ft) in
+    let become : Become (ripple_insert head_of (c.args.head, c.args.tail)) zs ms zs' r.marks =
+    subst (λ (x : ℤ × ℤ). Become (ripple_insert head_of x) zs ms zs' r.marks) x' (subst (λ (l : List Mark). Become (ripple_insert head_of (to_z w64 (of_z w64 c.args.head), to_z w64 (of_z w64 c.args.tail))) zs l zs' r.marks) vm c.ripple_in.ensures.rippled) in
+    let laid : IsLaidOut (ripple_insert head_of (c.args.head, c.args.tail) (pieces_between 0 zs ms)) zs' r.marks = rippled (ripple_insert head_of (c.args.head, c.args.tail)) zs zs' ms r.marks o i.rising (λ a. bounds-insert head_of (c.args.head, c.args.tail) a) become in
+    ap (λ (l : List Mark). record { pieces = pieces_between 0 zs' l; room = vec_capacity r.head }) wr
+    ∙ ap₂ (λ (b : Arrangement (ℤ × ℤ)) (n : ℕ). record { pieces = b; room = n }) laid.pieces c.ripple_in.ensures.capacity.0
+    ∙ ap (λ (t : Table). stepped (inserted (c.args.head, c.args.tail)) t) c.self.view_is

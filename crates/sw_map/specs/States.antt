@@ -1,0 +1,33 @@
+-- What a map's box has: a purse while it is blank, a lease and pairs while it is in use.
+use Rattle.std.specs.Prelude.{◌≡◌, ◌+◌, ◌≤◌, ℕ, Bool, true, false}
+use Rattle.sw_rows.specs.declared.refusal.Refusal.{Refusal}
+use Rattle.sw_rows.specs.declared.refusal.Refusal.TheVariants.{NoMemory}
+use Rattle.sw_budget.specs.Account.{Account, Refused, asked, returned}
+use Rattle.sw_map.specs.declared.home.Home.{Home}
+use Rattle.sw_map.specs.declared.home.Home.TheVariants.{Blank, Active}
+use Rattle.sw_map.specs.Held.{Held, blank}
+
+-- what it holds; its cells are those that its lease holds
+abbrev pub held_by : Home → Held
+held_by (Blank purse) = blank
+held_by (Active a) = record { is_blank = false; head = a.head; tail = a.tail; cells = a.lease.held; cursor = a.cursor; pairs = a.pairs.pieces }
+
+-- its seat at the budget
+abbrev pub seat_of : Home → Account
+seat_of (Blank purse) = purse
+seat_of (Active a) = a.lease
+
+-- the seat after a begin: one load and one compare-exchange, which took the cells
+abbrev pub HasLeased : Account → ℕ → Account → Type 0
+HasLeased a cells b = (b ≡ asked a cells b.seen b.seen) × (b.seen + cells ≤ a.capacity)
+
+-- the seat after a begin that was refused: where the budget refused, as it left the purse; where memory was refused, the
+-- lease was given back
+abbrev pub HasReturned : Account → ℕ → Account → Refusal → Type 0
+HasReturned a cells b NoMemory = b ≡ returned (asked a cells b.seen b.seen)
+HasReturned a cells b e = Refused a cells b e
+
+-- the seat after a clear: what it held is given back, if it was in use
+abbrev pub cleared : Account → Bool → Account
+cleared a true = a
+cleared a false = returned a

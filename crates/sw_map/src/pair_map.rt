@@ -1,0 +1,155 @@
+//! The map of the program.
+
+ghost use Rattle.std.specs.Prelude.{◌≡◌};
+ghost use Rattle.sw_map.specs.Held.{blank};
+ghost use Rattle.sw_map.specs.States.{seat_of};
+
+use crate::cracker::CrackerMap;
+use crate::home::{Home, Plan};
+use crate::tail::Tail;
+use core::mem::replace_with;
+use std::alloc::Global;
+use sw_budget::Purse;
+use sw_rows::{Bound, Refusal};
+use sw_tape::Entry;
+
+/// A map of two flat lists and marks. It has a purse while it is blank and a lease while it is in use; its drop gives the
+/// lease back. It takes memory in `begin` and in a step of a range alone.
+#[derive(Drop)]
+pub struct PairMap {
+    alloc: Global,
+    home: Home,
+}
+
+impl PairMap {
+    /// A blank map, which owns the purse. It takes no memory.
+    pub fn blank(alloc: Global, purse: Purse) -> PairMap
+        ensures blank { ⟦<PairMap as CrackerMap>⟧.held result ≡ blank }
+        ensures seat { seat_of result.home ≡ purse }
+    {
+        PairMap {
+            alloc,
+            home: Home::Blank(purse),
+        }
+    }
+}
+
+impl CrackerMap for PairMap {
+    ghost use Rattle.std.specs.Prelude.{◌≡◌, ◌<◌, ◌≤◌, IsOk, MatchResult, false};
+    ghost use Rattle.sw_rows.specs.declared.refusal.Refusal.TheVariants.{NoMemory};
+    ghost use Rattle.sw_tape.specs.Entries.{step_of};
+    ghost use Rattle.sw_map.specs.Held.{KeysFit, MayReplay, after, begun, blank, pairs_in};
+    ghost use Rattle.sw_map.specs.Pieces.{TakesNoMemory};
+    ghost use Rattle.sw_map.specs.Refusals.{IsBeginRefusal};
+    ghost use Rattle.sw_map.specs.States.{HasLeased, HasReturned, cleared, held_by, seat_of};
+
+    ghost held = { λ m. held_by m.home };
+
+    fn is_blank(&self) -> bool {
+        match &self.home {
+            Home::Blank(_) => true,
+            Home::Active(_) => false,
+        }
+    }
+
+    fn head(&self) -> u8 {
+        match &self.home {
+            Home::Blank(_) => 0,
+            Home::Active(active) => active.head,
+        }
+    }
+
+    fn tail(&self) -> Tail {
+        match &self.home {
+            Home::Blank(_) => Tail::Key,
+            Home::Active(active) => active.tail,
+        }
+    }
+
+    fn cells(&self) -> u64 {
+        match &self.home {
+            Home::Blank(_) => 0,
+            Home::Active(active) => active.pairs.room() as u64,
+        }
+    }
+
+    fn cursor(&self) -> usize {
+        match &self.home {
+            Home::Blank(_) => 0,
+            Home::Active(active) => active.cursor,
+        }
+    }
+
+    fn len(&self) -> usize {
+        match &self.home {
+            Home::Blank(_) => 0,
+            Home::Active(active) => active.pairs.len(),
+        }
+    }
+
+    fn find(&self, bound: Bound) -> Option<usize> {
+        match &self.home {
+            Home::Blank(_) => None,
+            Home::Active(active) => active.pairs.find(bound),
+        }
+    }
+
+    fn head_at(&self, place: usize) -> i64 {
+        match &self.home {
+            Home::Blank(_) => unreachable!(),
+            Home::Active(active) => active.pairs.head_at(place),
+        }
+    }
+
+    fn tail_at(&self, place: usize) -> i64 {
+        match &self.home {
+            Home::Blank(_) => unreachable!(),
+            Home::Active(active) => active.pairs.tail_at(place),
+        }
+    }
+
+    /// Its lists have room for just as many pairs as the lease has cells. Where it is refused it has its purse again, and no
+    /// memory.
+    fn begin(&mut self, head: u8, tail: Tail, cells: u64) -> Result<(), Refusal>
+        requires { held_by self.old.home ≡ blank }
+        ensures held { MatchResult result (λ _. held_by self.new.home ≡ begun head tail cells) (λ e. (held_by self.new.home ≡ blank) × IsBeginRefusal cells e) }
+        ensures seat { MatchResult result (λ _. HasLeased (seat_of self.old.home) cells (seat_of self.new.home)) (λ e. HasReturned (seat_of self.old.home) cells (seat_of self.new.home) e) }
+    {
+        let plan = Plan {
+            alloc: self.alloc,
+            head,
+            tail,
+            cells,
+        };
+        replace_with(&mut self.home, plan, Home::begin)
+    }
+
+    /// It is never refused but at a range, and its lease stays as it was.
+    fn step(&mut self, entry: &Entry) -> Result<(), Refusal>
+        requires begun { (held_by self.old.home).is_blank ≡ false }
+        requires early { (held_by self.old.home).cursor < 4096 }
+        requires next { MayReplay (held_by self.old.home) (step_of entry.now) }
+        requires keys { KeysFit (step_of entry.now) }
+        requires room { pairs_in (after (step_of entry.now) (held_by self.old.home)) ≤ (held_by self.old.home).cells }
+        ensures held { MatchResult result (λ _. held_by self.new.home ≡ after (step_of entry.now) (held_by self.old.home)) (λ e. (held_by self.new.home ≡ held_by self.old.home) × (e ≡ NoMemory)) }
+        ensures memory { TakesNoMemory (step_of entry.now) → IsOk result }
+        ensures seat { seat_of self.new.home ≡ seat_of self.old.home }
+    {
+        match &mut self.home {
+            Home::Blank(_) => unreachable!(),
+            Home::Active(active) => {
+                active.pairs.replay(active.head, active.tail, entry)?;
+                active.cursor += 1;
+                Ok(())
+            }
+        }
+    }
+
+    /// Its lease, if it has one, is given back, once.
+    fn clear(&mut self)
+        ensures held { held_by self.new.home ≡ blank }
+        ensures seat { seat_of self.new.home ≡ cleared (seat_of self.old.home) (held_by self.old.home).is_blank }
+    {
+        replace_with(&mut self.home, (), |home: Home, _: ()| (home.clear(), ()));
+    }
+}

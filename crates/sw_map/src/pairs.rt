@@ -1,0 +1,215 @@
+//! Pairs of head and tail as two flat lists and marks.
+
+ghost use Rattle.std.specs.Prelude.{◌≡◌, ◌+◌, ◌++◌, ◌<◌, ◌≤◌, ◌^◌, All, IsOk, MatchResult, length, map, pos, slice_index_or, vec_capacity, vec_len, []};
+ghost use Rattle.sw_rows.specs.declared.refusal.Refusal.TheVariants.{NoMemory};
+ghost use Rattle.sw_rows.specs.declared.row.Row.{Row};
+ghost use Rattle.sw_rows.specs.Scan.{cell_of};
+ghost use Rattle.sw_kernel.specs.Arrangement.{joined, last};
+ghost use Rattle.sw_kernel.specs.Partition.{head_of};
+ghost use Rattle.sw_kernel.specs.Replay.{inserted, loaded, ranged, removed, shown_step};
+ghost use Rattle.sw_tape.specs.Entries.{step_of};
+ghost use Rattle.sw_map.specs.Held.{KeysFit, pair_in, place_of, tail_value};
+ghost use Rattle.sw_map.specs.Pieces.{HasPlace, TakesNoMemory, stepped};
+
+use crate::crack::crack_some;
+use crate::places::find_mark;
+use crate::tail::Tail;
+use std::alloc::Global;
+use std::marker::Model;
+use sw_kernel::{Mark, ripple_in, ripple_out};
+use sw_rows::{Bound, Refusal, Row};
+use sw_tape::Entry;
+
+/// Pairs of head and tail in pieces between bounds. Contracts see the pieces, and for how many pairs there is room.
+#[derive(Drop)]
+pub struct Pairs {
+    head: Vec<i64>,
+    tail: Vec<i64>,
+    marks: Vec<Mark>,
+}
+
+impl Model for Pairs {
+    ghost use Rattle.sw_map.specs.Pieces.{Table, IsTable, table_of};
+    ghost use Rattle.sw_map.specs.PairsCode.{table_code};
+
+    ghost Value = { Table };
+
+    ghost coded = { table_code };
+
+    ghost view = { λ s. table_of s.head s.tail s.marks.items };
+
+    ghost invariant = { λ s. IsTable s.head s.tail s.marks.items };
+}
+
+/// A row's cell of an attribute; 0 past the last.
+fn cell_of(row: &Row, attribute: u8) -> i64
+    ensures { result ≡ cell_of attribute row.now }
+{
+    let at = attribute as usize;
+    if at < 8 { row.cells[at] } else { 0 }
+}
+
+/// What a tail shows of a row whose key fits a cell.
+fn shown_by(tail: Tail, row: &Row) -> i64
+    requires { row.now.key < 2 ^ 63 }
+    ensures { result ≡ tail_value tail row.now }
+{
+    match tail {
+        Tail::Key => row.key as i64,
+        Tail::Cell(attribute) => cell_of(row, attribute),
+    }
+}
+
+/// The value at a place.
+fn value_at(values: &[i64], place: usize) -> i64
+    requires { place < length values.now }
+    ensures { result ≡ slice_index_or values.now place (pos 0) }
+{
+    values[place]
+}
+
+/// Puts the cells of rows at the end of head and tail, for which there is room.
+fn append(heads: &mut Vec<i64>, tails: &mut Vec<i64>, head: u8, tail: Tail, rows: &[Row])
+    requires room { (vec_len heads.old + length rows.now ≤ vec_capacity heads.old) × (vec_len tails.old + length rows.now ≤ vec_capacity tails.old) }
+    requires keys { All (λ (r : Row). r.key < 2 ^ 63) rows.now }
+    ensures items { (heads.new.items ≡ heads.old.items ++ map (cell_of head) rows.now) × (tails.new.items ≡ tails.old.items ++ map (tail_value tail) rows.now) }
+    ensures lengths { (vec_len heads.new ≡ vec_len heads.old + length rows.now) × (vec_len tails.new ≡ vec_len tails.old + length rows.now) }
+    ensures capacity { (vec_capacity heads.new ≡ vec_capacity heads.old) × (vec_capacity tails.new ≡ vec_capacity tails.old) }
+{
+    for row in rows {
+        heads.push_reserved(cell_of(row, head));
+        tails.push_reserved(shown_by(tail, row));
+    }
+}
+
+impl Pairs {
+    /// No pairs, and room for so many in head and tail. It is refused `NoMemory` alone, and then keeps no memory.
+    pub(crate) fn with_room(alloc: Global, room: usize) -> Result<Pairs, Refusal>
+        ensures { MatchResult result (λ p. p ≡ record { pieces = last []; room = room }) (λ e. e ≡ NoMemory) }
+    {
+        let Ok(head) = Vec::with_capacity(alloc, room) else {
+            return Err(Refusal::NoMemory);
+        };
+        let Ok(tail) = Vec::with_capacity(alloc, room) else {
+            return Err(Refusal::NoMemory);
+        };
+        Ok(Pairs {
+            head,
+            tail,
+            marks: Vec::new(alloc),
+        })
+    }
+
+    /// The number of pairs.
+    pub(crate) fn len(&self) -> usize
+        ensures { result ≡ length (joined self.now.pieces) }
+    {
+        self.head.len()
+    }
+
+    /// For how many pairs there is room.
+    pub(crate) fn room(&self) -> usize
+        ensures { result ≡ self.now.room }
+    {
+        self.head.capacity()
+    }
+
+    /// The head of the pair at a place.
+    pub(crate) fn head_at(&self, place: usize) -> i64
+        requires { place < length (joined self.now.pieces) }
+        ensures { result ≡ (slice_index_or (joined self.now.pieces) place (pos 0, pos 0)).0 }
+    {
+        value_at(&self.head, place)
+    }
+
+    /// The tail of the pair at a place.
+    pub(crate) fn tail_at(&self, place: usize) -> i64
+        requires { place < length (joined self.now.pieces) }
+        ensures { result ≡ (slice_index_or (joined self.now.pieces) place (pos 0, pos 0)).1 }
+    {
+        value_at(&self.tail, place)
+    }
+
+    /// How many pairs stand before the bound, if it is one of those between the pieces.
+    pub(crate) fn find(&self, bound: Bound) -> Option<usize>
+        ensures { result ≡ place_of bound self.now.pieces }
+    {
+        find_mark(&self.marks, bound)
+    }
+
+    /// Puts the pairs of rows at the end of the last piece. It takes no memory.
+    pub(crate) fn load(&mut self, head: u8, tail: Tail, rows: &[Row])
+        requires room { length (joined self.old.pieces) + length rows.now ≤ self.old.room }
+        requires keys { All (λ (r : Row). r.key < 2 ^ 63) rows.now }
+        ensures { self.new ≡ stepped (loaded (map (pair_in head tail) rows.now)) self.old }
+    {
+        append(&mut self.head, &mut self.tail, head, tail, rows);
+    }
+
+    /// Puts a pair at the end of its piece. It takes no memory.
+    pub(crate) fn insert(&mut self, head: i64, tail: i64)
+        requires { length (joined self.old.pieces) < self.old.room }
+        ensures { self.new ≡ stepped (inserted (head, tail)) self.old }
+    {
+        ripple_in(&mut self.head, &mut self.tail, &mut self.marks, head, tail);
+    }
+
+    /// Takes the pair at a place out. It takes no memory.
+    pub(crate) fn remove(&mut self, place: usize)
+        requires { place < length (joined self.old.pieces) }
+        ensures { self.new ≡ stepped (removed place) self.old }
+    {
+        ripple_out(&mut self.head, &mut self.tail, &mut self.marks, place);
+    }
+
+    /// Cracks at two bounds, where they are there. It is refused `NoMemory` alone, before anything is changed.
+    pub(crate) fn range(
+        &mut self,
+        lower: Option<Bound>,
+        upper: Option<Bound>,
+    ) -> Result<(), Refusal>
+        ensures { MatchResult result (λ _. self.new ≡ stepped (ranged lower upper) self.old) (λ e. (self.new ≡ self.old) × (e ≡ NoMemory)) }
+    {
+        if self.marks.reserve(2).is_err() {
+            return Err(Refusal::NoMemory);
+        }
+        crack_some(&mut self.head, &mut self.tail, &mut self.marks, lower);
+        crack_some(&mut self.head, &mut self.tail, &mut self.marks, upper);
+        Ok(())
+    }
+
+    /// Puts a row's pair at the end of its piece. It takes no memory.
+    fn insert_row(&mut self, head: u8, tail: Tail, row: &Row)
+        requires room { length (joined self.old.pieces) < self.old.room }
+        requires key { row.now.key < 2 ^ 63 }
+        ensures { self.new ≡ stepped (inserted (pair_in head tail row.now)) self.old }
+    {
+        self.insert(cell_of(row, head), shown_by(tail, row));
+    }
+
+    /// Replays an entry of a tape, each row as the pair of this head and tail. It is refused `NoMemory` alone, at a range
+    /// alone, and then nothing has changed.
+    pub(crate) fn replay(&mut self, head: u8, tail: Tail, entry: &Entry) -> Result<(), Refusal>
+        requires room { length (joined (stepped (shown_step (pair_in head tail) (step_of entry.now)) self.old).pieces) ≤ self.old.room }
+        requires place { HasPlace (shown_step (pair_in head tail) (step_of entry.now)) self.old }
+        requires keys { KeysFit (step_of entry.now) }
+        ensures steps { MatchResult result (λ _. self.new ≡ stepped (shown_step (pair_in head tail) (step_of entry.now)) self.old) (λ e. (self.new ≡ self.old) × (e ≡ NoMemory)) }
+        ensures memory { TakesNoMemory (step_of entry.now) → IsOk result }
+    {
+        match entry {
+            Entry::Load(rows) => {
+                self.load(head, tail, rows);
+                Ok(())
+            }
+            Entry::Insert(row) => {
+                self.insert_row(head, tail, row);
+                Ok(())
+            }
+            Entry::Remove(place) => {
+                self.remove(*place);
+                Ok(())
+            }
+            Entry::Range(lower, upper) => self.range(*lower, *upper),
+        }
+    }
+}

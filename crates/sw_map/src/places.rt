@@ -1,0 +1,54 @@
+//! Where a bound's mark stands among rising marks.
+
+ghost use Rattle.std.specs.Prelude.{◌≡◌, ◌-◌, ◌<◌, ◌≤◌, true, false, length, slice_index_or};
+ghost use Rattle.sw_rows.specs.Bounds.{same_bound};
+ghost use Rattle.sw_kernel.specs.declared.mark.Mark.{Mark};
+ghost use Rattle.sw_kernel.specs.Flat.{marks_below};
+ghost use Rattle.sw_kernel.specs.Tapes.{IsRising};
+ghost use Rattle.sw_map.specs.Pieces.{bounds_of, mark_of};
+
+use sw_kernel::Mark;
+use sw_rows::Bound;
+
+/// Whether two bounds are one.
+fn is_same(one: Bound, other: Bound) -> bool
+    ensures { result ≡ same_bound one other }
+{
+    match (one, other) {
+        (Bound::Before(low), Bound::Before(high)) => low == high,
+        (Bound::After(low), Bound::After(high)) => low == high,
+        _ => false,
+    }
+}
+
+/// How many marks do not stand above the bound, by binary search.
+pub(crate) fn marks_below(marks: &[Mark], bound: Bound) -> usize
+    requires { IsRising (bounds_of marks.now) }
+    ensures below { result ≡ marks_below marks.now bound }
+    ensures within { result ≤ length marks.now }
+{
+    marks.partition_point(|mark| !bound.is_below(mark.bound))
+}
+
+/// Whether the mark before the k-th piece has the bound.
+pub(crate) fn is_marked(marks: &[Mark], k: usize, bound: Bound) -> bool
+    requires { k ≤ length marks.now }
+    ensures low { result ≡ true → 0 < k }
+    ensures there { result ≡ true → (d : Mark) → (0 < k) × (same_bound bound (slice_index_or marks.now (k - 1) d).bound ≡ true) }
+    ensures new { result ≡ false → (d : Mark) → 0 < k → same_bound bound (slice_index_or marks.now (k - 1) d).bound ≡ false }
+{
+    0 < k && is_same(bound, marks[k - 1].bound)
+}
+
+/// The place of the bound's mark, if it has one.
+pub(crate) fn find_mark(marks: &[Mark], bound: Bound) -> Option<usize>
+    requires { IsRising (bounds_of marks.now) }
+    ensures { result ≡ mark_of bound marks.now }
+{
+    let k = marks_below(marks, bound);
+    if is_marked(marks, k, bound) {
+        Some(marks[k - 1].at)
+    } else {
+        None
+    }
+}

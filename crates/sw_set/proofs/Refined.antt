@@ -1,0 +1,15 @@
+-- Places refined one after the other.
+use Rattle.std.proofs.Common.{◌≡◌, ◌≢◌, ℕ, ◌+◌, ◌<◌, ◌≤◌, ◌&&◌, Bool, false, List, length, get_or, set, ◌⊎◌, inl, inr, ap, sym, ◌∙◌, arith, get_or-set_same, get_or-set_other}
+use Rattle.sw_set.proofs.Blocks.{equal-or-not}
+
+module _ (old bits : List Bool) (place : ℕ) (x : Bool) (p : ℕ → Bool) (is : x ≡ p place) (lt : place < length bits) (so_far : (k : ℕ) → k < place → get_or bits k false ≡ (get_or old k false && p k)) (rest : (k : ℕ) → place ≤ k → get_or bits k false ≡ get_or old k false) where
+  first-at : (k : ℕ) → k < place + 1 → (k ≡ place) ⊎ (k ≢ place) → get_or (set bits place (get_or bits place false && x)) k false ≡ (get_or old k false && p k)
+  first-at k l (inl e) =
+      ap (λ (n : ℕ). get_or (set bits place (get_or bits place false && x)) n false) e ∙ get_or-set_same bits place (get_or bits place false && x) false lt ∙ ap (λ b. b && x) (rest place (omega arith)) ∙ ap (λ b. get_or old place false && b) is ∙ ap (λ (n : ℕ). get_or old n false && p n) (sym e)
+  first-at k l (inr d) = get_or-set_other bits place k (get_or bits place false && x) false d ∙ so_far k (omega arith)
+
+  pub refined-first : (k : ℕ) → k < place + 1 → get_or (set bits place (get_or bits place false && x)) k false ≡ (get_or old k false && p k)
+  refined-first k l = first-at k l (equal-or-not k place)
+
+  pub refined-rest : (k : ℕ) → place + 1 ≤ k → get_or (set bits place (get_or bits place false && x)) k false ≡ get_or old k false
+  refined-rest k l = get_or-set_other bits place k (get_or bits place false && x) false (λ e. omega arith) ∙ rest k (omega arith)

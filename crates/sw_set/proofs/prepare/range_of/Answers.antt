@@ -1,0 +1,27 @@
+use Rattle.std.proofs.Common.{◌∙◌, subst, ◌≡◌, ℕ, length}
+use Rattle.sw_map.specs.declared.tail.Tail.TheVariants.{Key}
+use Rattle.sw_map.specs.Held.{blank}
+use Rattle.sw_map.specs.Lawful.{rows_by}
+use Rattle.sw_kernel.specs.Arrangement.{joined}
+use Rattle.sw_set.specs.Prepared.{IsPlace}
+use Rattle.sw_set.proofs.Ends.{at-end_of, found-stands, key-missing, pairs-at_end, place-found, stands-left, stands-right}
+use Rattle.sw_set.proofs.prepare.range_of.Goals as goal
+
+pub returns-in_default : goal.returns-in_default
+returns-in_default g c = key-missing _ _ _ c.requires.maps c.requires.key c.in_default.ensures
+
+pub place_in-from-requires-clause-marked : goal.place_in-from-requires-clause-marked
+place_in-from-requires-clause-marked g c κs within = λ d. found-stands _ _ _ _ _ (at-end_of _ _ _ c.known.ensures (c.requires.maps Key c.requires.key) c.in-Some.ensures.0 c.in-Some.ensures.1 d) (stands-left _ _ c.requires.stand)
+
+pub place_in-upto-requires-clause-marked : goal.place_in-upto-requires-clause-marked
+place_in-upto-requires-clause-marked g c κs within = λ d. found-stands _ _ _ _ _ (at-end_of _ _ _ c.known.ensures (c.requires.maps Key c.requires.key) c.in-Some.ensures.0 c.in-Some.ensures.1 d) (stands-right _ _ c.requires.stand)
+
+pub returns : goal.returns
+returns g c =
+    let w = at-end_of _ _ _ c.known.ensures (c.requires.maps Key c.requires.key) c.in-Some.ensures.0 c.in-Some.ensures.1 blank in
+    let many : c.pairs_at.result ≡ length (joined (rows_by c.args.area.now.attribute c.args.area.now.tape)) = c.pairs_at.ensures blank ∙ pairs-at_end _ _ _ w in
+    record {
+      maps = c.requires.maps;
+      lower_at = place-found _ _ _ _ _ _ w (c.place_in-from.ensures blank);
+      upper_at = subst (λ (n : ℕ). IsPlace c.args.upper n (rows_by c.args.area.now.attribute c.args.area.now.tape) c.place_in-upto.result) many (place-found _ _ _ _ _ _ w (c.place_in-upto.ensures blank));
+    }

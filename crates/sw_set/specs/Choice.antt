@@ -1,0 +1,160 @@
+-- Columns of maps, the range of places that qualifies, and what truth values choose of it.
+use Rattle.std.specs.Prelude.{◌≡◌, ◌≢◌, ◌≤◌, ◌<◌, ◌+◌, ◌-◌, ℕ, suc, ℤ, pos, Bool, true, false, cond, List, [], ◌∷◌, length, map, take, drop, get_or, slice_range, count_by, unsigned_abs, Option, None, Some, All, Any, IsPermutation}
+use Rattle.std.specs.Int.{int_min, int_max}
+use Rattle.std.specs.List.Sorted.{IsNonDecreasingBy}
+use Rattle.sw_rows.specs.declared.query.Cond.{Cond}
+use Rattle.sw_rows.specs.declared.query.Want.{Want}
+use Rattle.sw_rows.specs.declared.query.Want.TheVariants as want
+use Rattle.sw_rows.specs.declared.reply.Reply.{Reply}
+use Rattle.sw_rows.specs.declared.reply.Reply.TheVariants as reply
+use Rattle.sw_rows.specs.declared.reply.ReplyRow.{ReplyRow}
+use Rattle.sw_rows.specs.declared.row.Row.{Row}
+use Rattle.sw_rows.specs.Scan.{meets, projected, answer_over}
+use Rattle.sw_kernel.specs.Arrangement.{joined}
+use Rattle.sw_kernel.specs.Replay.{Step}
+use Rattle.sw_map.specs.declared.tail.Tail.TheVariants.{Key, Cell}
+use Rattle.sw_map.specs.Held.{Held, blank, pairs_in}
+use Rattle.sw_map.specs.Lawful.{IsLawful, rows_by}
+use Rattle.sw_set.specs.Prepared.{IsReady}
+use Rattle.sw_set.specs.declared.window.Side.{Side}
+use Rattle.sw_set.specs.declared.window.Side.TheVariants.{Head, Tail}
+use Rattle.sw_set.specs.declared.window.Column.{Column}
+
+-- ---- the range
+
+-- the items from one place up to below another pass the test, and no other does
+pub record IsRun {X : Type 0} (p : X → Bool) (xs : List X) (from upto : ℕ) : Type 0 where
+  pub ordered : from ≤ upto
+  pub within : upto ≤ length xs
+  pub before : All (λ (x : X). p x ≡ false) (take from xs)
+  pub inside : All (λ (x : X). p x ≡ true) (slice_range xs from upto)
+  pub behind : All (λ (x : X). p x ≡ false) (drop upto xs)
+
+-- whether a row meets the first condition, that on the head
+abbrev pub meets_first : List Cond → Row → Bool
+meets_first [] r = true
+meets_first (c ∷ cs) r = meets r c
+
+-- the conditions after the first
+abbrev pub further : List Cond → List Cond
+further [] = []
+further (c ∷ cs) = cs
+
+-- ---- columns
+
+-- the heads of a map's pairs, in order, or the tails
+abbrev pub side_in : Side → Held → List ℤ
+side_in Head m = map (λ p. p.0) (joined m.pairs)
+side_in Tail m = map (λ p. p.1) (joined m.pairs)
+
+-- the rows that maps of a head show at a tape's end, in order
+abbrev pub shown_rows : ℕ → List (Step Row) → List Row
+shown_rows head tape = joined (rows_by head tape)
+
+-- boxes that are lawful, of which one has the keys at the tape's end
+pub record AreStocked (head : ℕ) (tape : List (Step Row)) (ms : List Held) : Type 0 where
+  pub lawful : All (IsLawful head tape) ms
+  pub keys : Any (IsReady Key tape) ms
+
+-- the cells of an attribute are there: it is the head, or one of the boxes has them at the tape's end
+abbrev pub HasCells : ℕ → List (Step Row) → List Held → ℕ → Type 0
+HasCells head tape ms b = b ≢ head → Any (IsReady (Cell b) tape) ms
+
+-- the value of a column at a place
+abbrev pub value_in : List Held → Column → ℕ → ℤ
+value_in ms c place = get_or (side_in c.side (get_or ms c.at blank)) place (pos 0)
+
+-- the column of a box is these values
+pub record IsColumn (ms : List Held) (c : Column) (values : List ℤ) : Type 0 where
+  pub inside : c.at < length ms
+  pub values_are : side_in c.side (get_or ms c.at blank) ≡ values
+
+-- a column of a box with at least so many places
+pub record IsInside (ms : List Held) (many : ℕ) (c : Column) : Type 0 where
+  pub box : c.at < length ms
+  pub places : many ≤ pairs_in (get_or ms c.at blank)
+
+-- where the columns of attributes stand, by their numbers
+abbrev pub first_column : Column
+first_column = record { at = 0; side = Head }
+
+abbrev pub column_at : List Column → ℕ → Column
+column_at cs a = get_or cs a first_column
+
+-- a row put together by its place
+abbrev pub row_in : List Held → List Column → List ℕ → ℕ × ℕ → ReplyRow
+row_in ms cs names p = record { key = p.0; cells = map (λ a. value_in ms (column_at cs a) p.1) names }
+
+-- a block of cells, read from one place up to below another
+pub record IsBlock (block : List ℤ) (start end : ℕ) (xs : List ℤ) : Type 0 where
+  pub short : end ≤ start + 256
+  pub within : end ≤ length xs
+  pub cells : (k : ℕ) → start ≤ k → k < end → get_or block (k - start) (pos 0) ≡ get_or xs k (pos 0)
+
+-- ---- what is chosen of the range
+
+-- the items whose truth value is true
+abbrev pub kept : {X : Type 0} → List Bool → List X → List X
+kept [] xs = []
+kept (b ∷ bs) [] = []
+kept (b ∷ bs) (x ∷ xs) = cond b (x ∷ kept bs xs) (kept bs xs)
+
+-- the items that truth values choose, or all where there are none
+abbrev pub chosen : {X : Type 0} → Option (List Bool) → List X → List X
+chosen None xs = xs
+chosen (Some bs) xs = kept bs xs
+
+-- whether the item at a place is chosen
+abbrev pub is_chosen : Option (List Bool) → ℕ → Bool
+is_chosen None k = true
+is_chosen (Some bs) k = get_or bs k false
+
+-- how many of n items are chosen
+abbrev pub count_chosen : Option (List Bool) → ℕ → ℕ
+count_chosen None n = n
+count_chosen (Some bs) n = count_by (λ b. b) bs
+
+-- there is a truth value for each of n items, if there are any
+abbrev pub AreFor : ℕ → Option (List Bool) → Type 0
+AreFor n None = Unit {0}
+AreFor n (Some bs) = length bs ≡ n
+
+-- the truth values are those of a test, where there are any; else each item passes it
+abbrev pub AreOf : {X : Type 0} → (X → Bool) → List X → Option (List Bool) → Type 0
+AreOf {X} q xs None = All (λ (x : X). q x ≡ true) xs
+AreOf q xs (Some bs) = bs ≡ map q xs
+
+-- numbers, each with its place, from i on
+abbrev pub placed : ℕ → List ℤ → List (ℕ × ℕ)
+placed i [] = []
+placed i (k ∷ ks) = (unsigned_abs k, i) ∷ placed (suc i) ks
+
+-- the lesser of what was found, if anything was, and a value
+abbrev pub lesser_with : Option ℤ → ℤ → ℤ
+lesser_with None z = z
+lesser_with (Some l) z = int_min l z
+
+-- the greater of them
+abbrev pub larger_with : Option ℤ → ℤ → ℤ
+larger_with None z = z
+larger_with (Some l) z = int_max l z
+
+-- ---- replies
+
+-- these rows of a reply, by keys that do not fall
+pub record AreInKeyOrder (xs ys : List ReplyRow) : Type 0 where
+  pub moved : IsPermutation xs ys
+  pub sorted : IsNonDecreasingBy (λ r. r.key) ys
+
+-- what is wanted of rows that are held in another order than that of their keys
+abbrev pub IsReplyOver : List Row → Want → Reply → Type 0
+IsReplyOver xs (want.Rows names) told = (ys : List ReplyRow) × (told ≡ reply.Rows ys) × AreInKeyOrder (map (projected names) xs) ys
+IsReplyOver xs w told = told ≡ answer_over xs w
+
+-- the columns of what is wanted are there
+abbrev pub HasWanted : ℕ → List (Step Row) → List Held → Want → Type 0
+HasWanted head tape ms (want.Rows names) = All (HasCells head tape ms) names
+HasWanted head tape ms want.Count = Unit {0}
+HasWanted head tape ms (want.Sum a) = HasCells head tape ms a
+HasWanted head tape ms (want.Min a) = HasCells head tape ms a
+HasWanted head tape ms (want.Max a) = HasCells head tape ms a

@@ -1,0 +1,5 @@
+pub mod Needs
+pub mod Shelf
+pub mod Prepared
+pub mod Codes
+pub mod Choice

@@ -1,0 +1,102 @@
+-- What an area is, which rows it stands for, and when it is lawful.
+use Rattle.std.specs.Prelude.{◌≡◌, ◌≢◌, ◌≤◌, ◌<◌, ◌^◌, ℕ, ℤ, Bool, true, false, List, [], ◌∷◌, fold, length, slice_index_or, Option, All, Contains}
+use Rattle.std.specs.List.{AllByRecursion}
+use Rattle.sw_rows.specs.declared.row.Row.{Row}
+use Rattle.sw_rows.specs.declared.row.Update.{Update}
+use Rattle.sw_rows.specs.Bounds.{is_within}
+use Rattle.sw_rows.specs.Scan.{cell_of}
+use Rattle.sw_rows.specs.Updates.{rows_then}
+use Rattle.sw_kernel.specs.Replay.{Step, loaded, inserted, removed, ranged}
+use Rattle.sw_kernel.specs.Tapes.{IsTape, live_rows, brought, peak_from}
+use Rattle.sw_map.specs.declared.tail.Tail.{Tail}
+use Rattle.sw_map.specs.Held.{Held, KeysFit}
+use Rattle.sw_map.specs.Lawful.{IsLawful}
+use Rattle.sw_set.specs.Needs.{edge}
+
+-- An area: the attribute that is the head of its maps, the interval of its rows' cells there (from the one value, below the
+-- other), the updates that wait, the tape, and the boxes.
+pub record AreaState : Type 0 where
+  pub attribute : ℕ
+  pub from : Option ℤ
+  pub below : Option ℤ
+  pub inbox : List Update
+  pub tape : List (Step Row)
+  pub boxes : List Held
+
+abbrev pub key_of : Row → ℕ
+key_of r = r.key
+
+-- the live rows of the tape
+abbrev pub logged_rows : ℕ → List (Step Row) → List Row
+logged_rows a tape = live_rows (cell_of a) key_of tape
+
+-- the rows of the one load that the tape begins with
+abbrev pub first_rows_of : Step Row → List Row
+first_rows_of (loaded rows) = rows
+first_rows_of (inserted row) = []
+first_rows_of (removed place) = []
+first_rows_of (ranged lower upper) = []
+
+abbrev pub first_rows : List (Step Row) → List Row
+first_rows [] = []
+first_rows (e ∷ es) = first_rows_of e
+
+-- the rows that an area stands for: those of the tape, and then what waits
+abbrev pub rows_in : AreaState → List Row
+rows_in x = fold rows_then (logged_rows x.attribute x.tape) x.inbox
+
+-- whether a row's cell lies in the interval
+abbrev pub lies_within : ℕ → Option ℤ → Option ℤ → Row → Bool
+lies_within a from below r = is_within (edge from) (edge below) (cell_of a r)
+
+-- strictly rising by a number
+abbrev pub Rises : {X : Type 0} → (X → ℕ) → List X → Type 0
+Rises k [] = Unit {0}
+Rises k (x ∷ xs) = AllByRecursion (λ y. k x < k y) xs × Rises k xs
+
+-- no two boxes that are not blank have maps of the same tail
+unfoldable pub AreApart : List Held → Type 0
+AreApart ms =
+    (i j : ℕ) (d e : Held) → i < length ms → j < length ms → i ≢ j → (slice_index_or ms i d).is_blank ≡ false →
+    (slice_index_or ms j e).is_blank ≡ false → (slice_index_or ms i d).tail ≢ (slice_index_or ms j e).tail
+
+-- the tape holds rows of the interval, by rising keys, and each box is blank or lawful at some cursor of it
+pub record IsAreaLawful (x : AreaState) : Type 0 where
+  pub attribute : x.attribute < 8
+  pub tape : IsTape x.tape
+  pub short : length x.tape ≤ 4096
+  pub keys : All (λ (e : Step Row). KeysFit e) x.tape
+  pub brought_rise : Rises key_of (brought x.tape)
+  pub rows_rise : Rises key_of (logged_rows x.attribute x.tape)
+  pub rows_fit : All (λ (r : Row). r.key < 2 ^ 63) (logged_rows x.attribute x.tape)
+  pub within : All (λ (r : Row). lies_within x.attribute x.from x.below r ≡ true) (logged_rows x.attribute x.tape)
+  pub boxes : All (IsLawful x.attribute x.tape) x.boxes
+  pub apart : AreApart x.boxes
+
+-- the same map, at perhaps another cursor
+pub record IsSameMap (m n : Held) : Type 0 where
+  pub blank : n.is_blank ≡ m.is_blank
+  pub tail : n.tail ≡ m.tail
+  pub cells : n.cells ≡ m.cells
+
+-- the boxes hold the same maps, place by place
+pub record AreSameMaps (ms ns : List Held) : Type 0 where
+  pub many : length ns ≡ length ms
+  pub each : (k : ℕ) (d e : Held) → k < length ms → IsSameMap (slice_index_or ms k d) (slice_index_or ns k e)
+
+-- a map with one of the tails, and then it stands at the tape's end
+unfoldable pub IsAtEnd : List Tail → List (Step Row) → Held → Type 0
+IsAtEnd tails tape m = m.is_blank ≡ false → Contains tails m.tail → m.cursor ≡ length tape
+
+-- a map with one of the tails has room for the tape after each of its entries
+unfoldable pub HasRoomWhereNeeded : List Tail → List (Step Row) → Held → Type 0
+HasRoomWhereNeeded tails tape m = m.is_blank ≡ false → Contains tails m.tail → peak_from 0 tape ≤ m.cells
+
+-- the area but for its boxes and its tape; it stands for the same rows
+pub record IsSameArea (x y : AreaState) : Type 0 where
+  pub attribute : y.attribute ≡ x.attribute
+  pub from : y.from ≡ x.from
+  pub below : y.below ≡ x.below
+  pub inbox : y.inbox ≡ x.inbox
+  pub logged : logged_rows y.attribute y.tape ≡ logged_rows x.attribute x.tape
+  pub many : length y.boxes ≡ length x.boxes

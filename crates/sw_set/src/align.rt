@@ -1,0 +1,61 @@
+//! Alignment: maps replay the tape up to its end.
+
+ghost use Rattle.std.specs.Prelude.{◌≡◌, ◌<◌, ◌≤◌, ◌↔◌, false, length, All, Contains, IsTrue, MatchResult};
+ghost use Rattle.sw_rows.specs.declared.row.Row.{Row};
+ghost use Rattle.sw_rows.specs.declared.refusal.Refusal.TheVariants.{NoMemory};
+ghost use Rattle.sw_kernel.specs.Replay.{Step};
+ghost use Rattle.sw_kernel.specs.Tapes.{IsTape, peak_from};
+ghost use Rattle.sw_map.specs.Held.{KeysFit};
+ghost use Rattle.sw_map.specs.Lawful.{IsAligned, IsLawful};
+ghost use Rattle.sw_set.specs.Shelf.{HasRoomWhereNeeded, IsAtEnd, IsSameMap};
+
+use sw_map::{CrackerMap, Tail};
+use sw_rows::Refusal;
+use sw_tape::Tape;
+
+/// Steps a map to the end of the tape. Refused `NoMemory`, it stands at the cursor that it reached.
+pub(crate) fn align_map<M: CrackerMap>(it: &mut M, tape: &Tape) -> Result<(), Refusal>
+    requires aligned { IsAligned (M.held it.old).head tape.now (M.held it.old) }
+    requires keys { All (λ (e : Step Row). KeysFit e) tape.now }
+    requires room { peak_from 0 tape.now ≤ (M.held it.old).cells }
+    ensures aligned { IsAligned (M.held it.old).head tape.now (M.held it.new) }
+    ensures same { IsSameMap (M.held it.old) (M.held it.new) }
+    ensures ends { MatchResult result (λ _. (M.held it.new).cursor ≡ length tape.now) (λ e. e ≡ NoMemory) }
+{
+    for i in it.cursor()..tape.len() {
+        if let Some(entry) = tape.get(i) {
+            it.step(entry)?;
+        }
+    }
+    Ok(())
+}
+
+/// Whether a tail is among those that are needed.
+pub(crate) fn is_needed(tails: &[Tail], tail: Tail) -> bool
+    ensures { IsTrue result ↔ Contains tails.now tail }
+{
+    tails.contains(&tail)
+}
+
+/// Steps one box to the tape's end where it holds a map that is needed.
+pub(crate) fn align_box<M: CrackerMap>(
+    attribute: u8,
+    it: &mut M,
+    tails: &[Tail],
+    tape: &Tape,
+) -> Result<(), Refusal>
+    requires lawful { IsLawful attribute tape.now (M.held it.old) }
+    requires keys { All (λ (e : Step Row). KeysFit e) tape.now }
+    requires room { HasRoomWhereNeeded tails.now tape.now (M.held it.old) }
+    ensures lawful { IsLawful attribute tape.now (M.held it.new) }
+    ensures same { IsSameMap (M.held it.old) (M.held it.new) }
+    ensures ends { MatchResult result (λ _. IsAtEnd tails.now tape.now (M.held it.new)) (λ e. e ≡ NoMemory) }
+{
+    if it.is_blank() {
+        return Ok(());
+    }
+    if !is_needed(tails, it.tail()) {
+        return Ok(());
+    }
+    align_map(it, tape)
+}

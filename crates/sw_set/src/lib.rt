@@ -1,0 +1,19 @@
+//! Areas: the live rows of an interval of a head's values, the tape that reorganised them, and the boxed maps that replay it.
+#![tactic(auto)]
+
+mod align;
+mod area;
+mod at_once;
+mod choice;
+mod collect;
+mod finding;
+mod making;
+mod needs;
+mod pick;
+mod prepare;
+mod replies;
+mod totals;
+mod window;
+
+pub use area::Area;
+pub use prepare::Ready;

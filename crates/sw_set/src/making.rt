@@ -1,0 +1,93 @@
+//! Making the maps that a query needs.
+
+ghost use Rattle.std.specs.Prelude.{◌≡◌, ◌≢◌, ◌<◌, ◌≤◌, false, length, All, Contains, MatchResult, slice_index_or};
+ghost use Rattle.sw_rows.specs.declared.refusal.Refusal.TheVariants.{NoBlank};
+ghost use Rattle.sw_map.specs.Held.{Held};
+ghost use Rattle.sw_map.specs.Refusals.{IsBeginRefusal};
+ghost use Rattle.sw_set.specs.Prepared.{AreNeededKept, IsFreshBut, IsHeld, IsPrepareRefusal, IsSameButBoxes, IsSpare};
+
+use crate::area::Area;
+use sw_map::{CrackerMap, Tail};
+use sw_rows::Refusal;
+
+/// Begins a map in a box. On `Short` the least recently used unneeded box with a lease is cleared and it is tried again, until
+/// it succeeds or there is no such box.
+fn begin_again<M: CrackerMap>(
+    area: &mut Area<M>,
+    at: usize,
+    tails: &[Tail],
+    tail: Tail,
+    cells: u64,
+) -> Result<(), Refusal>
+    requires within { at < length area.old.boxes }
+    requires fresh { IsFreshBut at tail area.old.boxes }
+    ensures same { IsSameButBoxes area.old area.new }
+    ensures kept { AreNeededKept at tails.now area.old.boxes area.new.boxes }
+    ensures ends { MatchResult result (λ _. IsHeld tail cells area.new.boxes) (λ e. IsBeginRefusal cells e) }
+{
+    for _turn in 0..area.boxes() {
+        let Err(e) = area.make(at, tail, cells) else {
+            return Ok(());
+        };
+        let Refusal::Short { .. } = e else {
+            return Err(e);
+        };
+        let Some(i) = area.leased(tails) else {
+            return Err(e);
+        };
+        area.clear_at(i);
+    }
+    area.make(at, tail, cells)
+}
+
+/// A box for a map that the area lacks. Refused `NoBlank`, all boxes have needed maps, so there are fewer than are needed.
+fn take<M: CrackerMap>(area: &Area<M>, tails: &[Tail], tail: Tail) -> Result<usize, Refusal>
+    requires needed { Contains tails.now tail }
+    requires lacks { All (λ m. m.is_blank ≡ false → m.tail ≢ tail) area.now.boxes }
+    ensures { MatchResult result (λ i. (i < length area.now.boxes) × ((d : Held) → IsSpare tails.now (slice_index_or area.now.boxes i d))) (λ e. (e ≡ NoBlank (length area.now.boxes) (length tails.now)) × (length area.now.boxes < length tails.now)) }
+{
+    area.known();
+    let Some(at) = area.spare(tails) else {
+        let boxes = area.boxes() as u64;
+        let needed = tails.len() as u64;
+        return Err(Refusal::NoBlank { boxes, needed });
+    };
+    Ok(at)
+}
+
+/// Sees to it that a box has a map of the tail with room for so many pairs.
+fn ensure_map<M: CrackerMap>(
+    area: &mut Area<M>,
+    tails: &[Tail],
+    tail: Tail,
+    cells: u64,
+) -> Result<(), Refusal>
+    requires needed { Contains tails.now tail }
+    ensures same { IsSameButBoxes area.old area.new }
+    ensures ends { MatchResult result (λ _. IsHeld tail cells area.new.boxes × ((u : Tail) → Contains tails.now u → IsHeld u cells area.old.boxes → IsHeld u cells area.new.boxes)) (λ e. IsPrepareRefusal (length area.old.boxes) (length tails.now) cells e) }
+{
+    area.known();
+    if let Some(at) = area.with_map(tail) {
+        if area.cells_at(at) >= cells {
+            return Ok(());
+        }
+        return begin_again(area, at, tails, tail, cells);
+    }
+    let at = take(area, tails, tail)?;
+    begin_again(area, at, tails, tail, cells)
+}
+
+/// Sees to it for every tail that is needed, in order.
+pub(crate) fn make_all<M: CrackerMap>(
+    area: &mut Area<M>,
+    tails: &[Tail],
+    cells: u64,
+) -> Result<(), Refusal>
+    ensures same { IsSameButBoxes area.old area.new }
+    ensures ends { MatchResult result (λ _. All (λ t. IsHeld t cells area.new.boxes) tails.now) (λ e. IsPrepareRefusal (length area.old.boxes) (length tails.now) cells e) }
+{
+    for i in 0..tails.len() {
+        ensure_map(area, tails, tails[i], cells)?;
+    }
+    Ok(())
+}

@@ -1,0 +1,195 @@
+//! Preparing an area for a query: the range is logged, the maps that are needed are made and aligned, and the places of the
+//! range's bounds are found.
+
+ghost use Rattle.std.specs.Prelude.{◌≡◌, ℕ, ◌<◌, ◌≤◌, ◌^◌, ◌&&◌, ◌⊎◌, ◌∷◌, [], true, length, All, Any, Contains, IfOk, IsOkUnless, MatchResult, slice_index_or};
+ghost use Rattle.sw_rows.specs.Scan.{AsksBelow, answer};
+ghost use Rattle.sw_rows.specs.declared.refusal.Refusal.TheVariants.{NoMemory};
+ghost use Rattle.sw_kernel.specs.Replay.{loaded};
+ghost use Rattle.sw_kernel.specs.Tapes.{peak_from};
+ghost use Rattle.sw_map.specs.declared.tail.Tail.{Tail};
+ghost use Rattle.sw_map.specs.declared.tail.Tail.TheVariants.{Key};
+ghost use Rattle.sw_map.specs.Held.{Held};
+ghost use Rattle.sw_set.specs.Needs.{head_in, needed};
+ghost use Rattle.sw_set.specs.Prepared.{IsFoundAt, IsHeld, IsNoted, IsNotedFor, IsPartlyNoted, IsPrepareRefusal, IsPrepared, IsPreparedFor, IsReady, IsTold, area_lower, area_upper, cells_for, stands_if};
+ghost use Rattle.sw_set.specs.Shelf.{IsAtEnd, IsSameArea, logged_rows, rows_in};
+
+use crate::area::Area;
+use crate::making::make_all;
+use crate::needs::{edge, lower_from, lower_of, needed_tails, touches, upper_of, upper_upto};
+use std::thread::Threads;
+use sw_map::{CrackerMap, Tail};
+use sw_rows::{Bound, Query, Refusal, Reply};
+use sw_tape::MAX_ENTRIES;
+
+/// A range of places in each map of an area: from the one, up to below the other.
+#[derive(Clone, Copy, Debug, PartialEq, Eq)]
+pub struct Ready {
+    pub from: usize,
+    pub upto: usize,
+}
+
+/// Whether both bounds, where they are there, stand in ranges of the tape.
+fn all_stand<M: CrackerMap>(area: &Area<M>, lower: Option<Bound>, upper: Option<Bound>) -> bool
+    ensures { result ≡ stands_if lower area.now.tape && stands_if upper area.now.tape }
+{
+    area.stands(lower) && area.stands(upper)
+}
+
+/// Logs the range exactly where one of its bounds stands in no range of the tape, after a restart where the tape is full.
+/// Refused `NoMemory`, the tape is as it was, or one load of the rows.
+fn note<M: CrackerMap>(
+    area: &mut Area<M>,
+    lower: Option<Bound>,
+    upper: Option<Bound>,
+) -> Result<(), Refusal>
+    ensures same { IsSameArea area.old area.new }
+    ensures ends { MatchResult result (λ _. IsNoted lower upper (logged_rows area.old.attribute area.old.tape) area.old.tape area.new.tape) (λ e. (e ≡ NoMemory) × ((area.new.tape ≡ area.old.tape) ⊎ (area.new.tape ≡ loaded (logged_rows area.old.attribute area.old.tape) ∷ []))) }
+{
+    area.known();
+    if all_stand(area, lower, upper) {
+        return Ok(());
+    }
+    if area.tape_len() == MAX_ENTRIES {
+        area.restart()?;
+        return area.log(lower, upper);
+    }
+    area.log(lower, upper)
+}
+
+/// The cells for so many pairs: a multiple of 64, and at least 64.
+fn cells_for(pairs: usize) -> u64
+    requires { pairs ≤ 2 ^ 63 }
+    ensures { result ≡ cells_for pairs }
+{
+    let blocks = (pairs as u64 + 63) / 64;
+    (64 * blocks).max(64)
+}
+
+/// Where a bound stands in the box at a place; an absent one stands where it is said.
+fn place_in<M: CrackerMap>(area: &Area<M>, at: usize, bound: Option<Bound>, absent: usize) -> usize
+    requires within { at < length area.now.boxes }
+    requires marked { (d : Held) → (i : ℕ) × IsFoundAt bound absent (slice_index_or area.now.boxes at d) i }
+    ensures { (d : Held) → IsFoundAt bound absent (slice_index_or area.now.boxes at d) result }
+{
+    let Some(b) = bound else {
+        return absent;
+    };
+    match area.place_at(at, b) {
+        Some(place) => place,
+        None => absent,
+    }
+}
+
+/// The range of the bounds, in an area whose needed maps stand at the tape's end.
+fn range_of<M: CrackerMap>(
+    area: &Area<M>,
+    lower: Option<Bound>,
+    upper: Option<Bound>,
+    tails: &[Tail],
+) -> Ready
+    requires maps { (t : Tail) → Contains tails.now t → Any (IsReady t area.now.tape) area.now.boxes }
+    requires key { Contains tails.now Key }
+    requires stand { stands_if lower area.now.tape && stands_if upper area.now.tape ≡ true }
+    ensures { IsPrepared lower upper tails.now area.now result.from result.upto }
+{
+    area.known();
+    let Some(at) = area.with_map(Tail::Key) else {
+        return Ready { from: 0, upto: 0 };
+    };
+    let from = place_in(area, at, lower, 0);
+    let upto = place_in(area, at, upper, area.pairs_at(at));
+    Ready { from, upto }
+}
+
+/// Counts the boxes, logs the range, makes the maps, aligns them and finds the places of the bounds.
+fn prepare_range<R: Threads + Sync, M: CrackerMap>(
+    rt: &R,
+    area: &mut Area<M>,
+    lower: Option<Bound>,
+    upper: Option<Bound>,
+    tails: &[Tail],
+) -> Result<Ready, Refusal>
+    requires key { Contains tails.now Key }
+    ensures same { IsSameArea area.old area.new }
+    ensures ends { MatchResult result (λ r. IsNoted lower upper (logged_rows area.old.attribute area.old.tape) area.old.tape area.new.tape × IsPrepared lower upper tails.now area.new r.from r.upto) (λ e. ((area.new.tape ≡ area.old.tape) ⊎ (IsNoted lower upper (logged_rows area.old.attribute area.old.tape) area.old.tape area.new.tape ⊎ (area.new.tape ≡ loaded (logged_rows area.old.attribute area.old.tape) ∷ []))) × IsPrepareRefusal (length area.old.boxes) (length tails.now) (cells_for (peak_from 0 area.new.tape)) e) }
+{
+    if area.boxes() < tails.len() {
+        let boxes = area.boxes() as u64;
+        let needed = tails.len() as u64;
+        return Err(Refusal::NoBlank { boxes, needed });
+    }
+    area.known();
+    note(area, lower, upper)?;
+    let cells = cells_for(area.peak());
+    make_all(area, tails, cells)?;
+    area.known();
+    area.align(rt, tails)?;
+    Ok(range_of(area, lower, upper, tails))
+}
+
+impl<M: CrackerMap> Area<M> {
+    /// Prepares the area for a query over its head. The range is logged where one of its bounds stands in no range of the
+    /// tape, after a restart where the tape is full; the maps that the query needs are made and stepped to the tape's end;
+    /// and the answer is the range of places that qualify. A query that does not touch the area gets an empty range, and
+    /// nothing is logged.
+    ///
+    /// It is refused `NoMemory`, `Short` or `Contended`, or `NoBlank` where the area has fewer boxes than the query needs.
+    /// The area then stands for the same rows, and each box is blank or stands lawfully at some cursor.
+    pub fn prepare<R: Threads + Sync>(&mut self, rt: &R, query: &Query) -> Result<Ready, Refusal>
+        requires received { self.old.inbox ≡ [] }
+        ensures same { IsSameArea self.old self.new }
+        ensures ends { MatchResult result (λ r. IsNotedFor query.now self.old self.new.tape × IsPreparedFor query.now self.new r.from r.upto) (λ e. IsPartlyNoted query.now self.old self.new.tape × IsPrepareRefusal (length self.old.boxes) (length (needed self.old.attribute query.now)) (cells_for (peak_from 0 self.new.tape)) e) }
+    {
+        self.tick();
+        let start = edge(self.from());
+        let end = edge(self.below());
+        let lower = lower_of(&query.conds);
+        let upper = upper_of(&query.conds);
+        if !touches(start, end, lower, upper) {
+            return Ok(Ready { from: 0, upto: 0 });
+        }
+        let tails = match needed_tails(self.alloc(), self.attribute(), query) {
+            Ok(tails) => tails,
+            Err(e) => return Err(e),
+        };
+        let done = prepare_range(
+            rt,
+            self,
+            lower_from(start, lower),
+            upper_upto(end, upper),
+            tails.as_slice(),
+        );
+        self.stamp(tails.as_slice());
+        done
+    }
+
+    /// The answer of a query: the area is prepared and the reply put together from its maps; where `prepare` is refused, the
+    /// area's rows are scanned, and that refusal is told beside the reply. The reply is the same.
+    ///
+    /// The one refusal is `NoMemory`. The area stands for the same rows then and otherwise, and where no refusal was told it
+    /// stands as `prepare` leaves it.
+    pub fn answer<R: Threads + Sync>(
+        &mut self,
+        rt: &R,
+        query: &Query,
+    ) -> Result<(Reply, Option<Refusal>), Refusal>
+        requires received { self.old.inbox ≡ [] }
+        requires asks { AsksBelow 8 query.now }
+        requires head { head_in query.now.conds ≡ self.old.attribute }
+        ensures same { IsSameArea self.old self.new }
+        ensures answered { IfOk result (λ r. r.0 ≡ answer (rows_in self.old) query.now) }
+        ensures told { IfOk result (λ r. IsTold query.now self.old self.new r.1) }
+        ensures refused { IsOkUnless result NoMemory }
+    {
+        match self.prepare(rt, query) {
+            Ok(ready) => match self.collect(&ready, query) {
+                Ok(reply) => Ok((reply, None)),
+                Err(e) => Err(e),
+            },
+            Err(e) => match self.scan(query) {
+                Ok(reply) => Ok((reply, Some(e))),
+                Err(refusal) => Err(refusal),
+            },
+        }
+    }
+}

@@ -1,0 +1,71 @@
+//! The sum, the least and the greatest of what is chosen of a column.
+
+ghost use Rattle.std.specs.Prelude.{◌≡◌, List, ℤ, length};
+ghost use Rattle.sw_rows.specs.Scan.{total, least, greatest};
+ghost use Rattle.sw_set.specs.Choice.{chosen, lesser_with, larger_with};
+
+use crate::choice::Choice;
+use crate::window::Window;
+use sw_map::CrackerMap;
+
+/// The sum of the chosen values, 0 for none.
+#[tactic(auto, using(crate::proofs::Choosing::chosen_nil, crate::proofs::Choosing::total_yes, crate::proofs::Choosing::total_no))]
+pub(crate) fn sum<M: CrackerMap>(window: &mut Window<'_, M>, choice: &Choice) -> i128
+    ensures { result ≡ total (chosen choice.now.bits window.old) }
+{
+    let mut sum: i128 = 0;
+    for place in 0..window.len() {
+        if choice.has(place) {
+            sum += i128::from(window.at(place));
+        }
+    }
+    sum
+}
+
+/// The lesser of what was found, if anything was, and a value.
+fn lesser(found: Option<i64>, here: i64) -> i64
+    ensures { result ≡ lesser_with found here }
+{
+    match found {
+        Some(low) => here.min(low),
+        None => here,
+    }
+}
+
+/// The greater of what was found, if anything was, and a value.
+fn larger(found: Option<i64>, here: i64) -> i64
+    ensures { result ≡ larger_with found here }
+{
+    match found {
+        Some(high) => here.max(high),
+        None => here,
+    }
+}
+
+/// The least of the chosen values, if there are any.
+#[tactic(auto, using(crate::proofs::Choosing::chosen_nil, crate::proofs::Choosing::least_yes, crate::proofs::Choosing::least_no))]
+pub(crate) fn min<M: CrackerMap>(window: &mut Window<'_, M>, choice: &Choice) -> Option<i64>
+    ensures { result ≡ least (chosen choice.now.bits window.old) }
+{
+    let mut found: Option<i64> = None;
+    for place in 0..window.len() {
+        if choice.has(place) {
+            found = Some(lesser(found, window.at(place)));
+        }
+    }
+    found
+}
+
+/// The greatest of the chosen values, if there are any.
+#[tactic(auto, using(crate::proofs::Choosing::chosen_nil, crate::proofs::Choosing::greatest_yes, crate::proofs::Choosing::greatest_no))]
+pub(crate) fn max<M: CrackerMap>(window: &mut Window<'_, M>, choice: &Choice) -> Option<i64>
+    ensures { result ≡ greatest (chosen choice.now.bits window.old) }
+{
+    let mut found: Option<i64> = None;
+    for place in 0..window.len() {
+        if choice.has(place) {
+            found = Some(larger(found, window.at(place)));
+        }
+    }
+    found
+}

@@ -1,0 +1,83 @@
+//! A map that finds the budget contended at every second begin.
+
+ghost use Rattle.std.specs.Prelude.{◌≡◌};
+
+use sw_map::{CrackerMap, Tail};
+use sw_rows::{Bound, Refusal};
+use sw_tape::Entry;
+
+/// A map whose `begin` is passed on at the first, third and each further odd call, and answers `Contended` at the others.
+#[derive(Drop)]
+pub struct ContendedMap<M: CrackerMap> {
+    pub inner: M,
+    is_due: bool,
+}
+
+impl<M: CrackerMap> ContendedMap<M> {
+    /// Lets a map answer `Contended` at every second begin.
+    pub fn new(inner: M) -> ContendedMap<M>
+        ensures { result.inner ≡ inner }
+    {
+        ContendedMap {
+            inner,
+            is_due: false,
+        }
+    }
+}
+
+impl<M: CrackerMap> CrackerMap for ContendedMap<M> {
+    ghost held = { λ c. M.held c.inner };
+
+    fn is_blank(&self) -> bool {
+        self.inner.is_blank()
+    }
+
+    fn head(&self) -> u8 {
+        self.inner.head()
+    }
+
+    fn tail(&self) -> Tail {
+        self.inner.tail()
+    }
+
+    fn cells(&self) -> u64 {
+        self.inner.cells()
+    }
+
+    fn cursor(&self) -> usize {
+        self.inner.cursor()
+    }
+
+    fn len(&self) -> usize {
+        self.inner.len()
+    }
+
+    fn find(&self, bound: Bound) -> Option<usize> {
+        self.inner.find(bound)
+    }
+
+    fn head_at(&self, place: usize) -> i64 {
+        self.inner.head_at(place)
+    }
+
+    fn tail_at(&self, place: usize) -> i64 {
+        self.inner.tail_at(place)
+    }
+
+    fn begin(&mut self, head: u8, tail: Tail, cells: u64) -> Result<(), Refusal> {
+        let is_due = self.is_due;
+        self.is_due = !is_due;
+        if is_due {
+            return Err(Refusal::Contended { seen: 0, found: 1 });
+        }
+        self.inner.begin(head, tail, cells)
+    }
+
+    fn step(&mut self, entry: &Entry) -> Result<(), Refusal> {
+        self.inner.step(entry)
+    }
+
+    fn clear(&mut self) {
+        self.inner.clear();
+    }
+}
