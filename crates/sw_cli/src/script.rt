@@ -177,7 +177,7 @@ impl Blocks {
 
     /// All blocks.
     fn close(self) -> Result<Vec<Block>, Refusal>
-        ensures blocks { IfOk result (λ blocks. blocks.items ≡ all_blocks self) }
+        ensures all { IfOk result (λ blocks. blocks.items ≡ all_blocks self) }
         ensures refused { IfErr result (λ e. e ≡ Refusal.NoMemory) }
     {
         let Blocks {
