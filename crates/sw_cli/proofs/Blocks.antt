@@ -1,5 +1,6 @@
 -- The blocks of a script's lines.
-use Rattle.std.proofs.Common.{◌≡◌, ◌∙◌, sym, ap, subst, refl, ℕ, ◌+◌, ◌<◌, ◌≤◌, ◌&&◌, All, Bool, true, false, suc, List, [], ◌∷◌, ◌++◌, length, length-append, Result, Ok, Err, IfOk, arith}
+use Rattle.std.proofs.lemmas.List.{take_more}
+use Rattle.std.proofs.Common.{get_or, take, zero, ◌≡◌, ◌∙◌, sym, ap, subst, refl, ℕ, ◌+◌, ◌<◌, ◌≤◌, ◌&&◌, All, Bool, true, false, suc, List, [], ◌∷◌, ◌++◌, length, length-append, Result, Ok, Err, IfOk, arith}
 use Rattle.std.proofs.lemmas.List.Elements.{All-nil, All-push}
 use Rattle.sw_rows.specs.declared.query.Call.{Call}
 use Rattle.sw_rows.specs.declared.refusal.Refusal.{Refusal}
@@ -10,6 +11,15 @@ use Rattle.sw_cli.specs.Script.{AllCallsBelow, AreBlocks, AreSound, SoFar, all_b
 pub calls_more_block : (bs : List (List Call)) (b : List Call) → calls_in (bs ++ b ∷ []) ≡ calls_in bs + length b
 calls_more_block [] b = omega arith
 calls_more_block (c ∷ bs) b = let more = calls_more_block bs b in omega arith
+
+pub calls_within : (n : ℕ) (bs : List (List Call)) → calls_in (take n bs) ≤ calls_in bs
+calls_within zero bs = omega arith
+calls_within (suc n) [] = omega arith
+calls_within (suc n) (b ∷ bs) = let more = calls_within n bs in omega arith
+
+-- the blocks up to one and that one
+pub calls_at : (bs : List (List Call)) (i : ℕ) (b d : List Call) → i < length bs → b ≡ get_or bs i d → calls_in (take (i + 1) bs) ≡ calls_in (take i bs) + length b
+calls_at bs i b d here is = ap calls_in (take_more bs i d here) ∙ calls_more_block (take i bs) (get_or bs i d) ∙ ap (λ (l : List Call). calls_in (take i bs) + length l) (sym is)
 
 -- what all blocks are, where those so far are sound
 pub all_sound : (n : ℕ) (p : SoFar) → AreSound n p → AreBlocks n (all_blocks p)

@@ -114,7 +114,7 @@ wants_below n (want.Max a) le h = omega arith
 pub asks_below : (n : ℕ) (q : Query) → n ≤ 8 → AsksBelow n q → AsksBelow 8 q
 asks_below n q le h = record { conds = λ i d lt. let a = h.conds i d lt in omega arith; want = wants_below n q.want le h.want }
 
-fold-append : {A B : Type 0} (f : B → A → B) (b : B) (xs ys : List A) → fold f b (xs ++ ys) ≡ fold f (fold f b xs) ys
+pub fold-append : {A B : Type 0} (f : B → A → B) (b : B) (xs ys : List A) → fold f b (xs ++ ys) ≡ fold f (fold f b xs) ys
 fold-append f b [] ys = refl
 fold-append f b (x ∷ xs) ys = fold-append f (f b x) xs ys
 
@@ -155,7 +155,7 @@ never_waits b p numbered s = never_later s.made p.waits (ap never_returns (sym s
 
 -- ---- calls one after another
 
-fold-end : {A B : Type 0} (f : B → A → B) (b : B) (xs : List A) (y : A) → fold f b (xs ++ y ∷ []) ≡ f (fold f b xs) y
+pub fold-end : {A B : Type 0} (f : B → A → B) (b : B) (xs : List A) (y : A) → fold f b (xs ++ y ∷ []) ≡ f (fold f b xs) y
 fold-end f b xs y = fold-append f b xs (y ∷ [])
 
 -- one more call

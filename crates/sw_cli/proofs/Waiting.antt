@@ -7,6 +7,11 @@ use Rattle.std.specs.Io.KnownBytes.{Appends, Keeps, append_known}
 use Rattle.sw_lang.specs.Sinks.{TookBeginning}
 use Rattle.sw_cli.specs.Sent.{extends}
 
+-- nothing was taken yet
+pub wrote_nothing : (t : Option (List ℕ)) → Appends t t []
+wrote_nothing None = tt
+wrote_nothing (Some x) = sym (append-nil x)
+
 -- what the sink took does not wait any longer
 pub taken_on : (start old new : Option (List ℕ)) (block : List ℕ) (sent n : ℕ) → Keeps start (append_known old (drop sent block)) → Appends old new (take n (drop sent block)) → Keeps start (append_known new (drop (sent + n) block))
 taken_on None old new block sent n h k = tt
