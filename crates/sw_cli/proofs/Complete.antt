@@ -118,10 +118,10 @@ all_out limit s made old new h l all =
     let are = answers_are s.columns limit (nothing_ended us) made in
     let count = length-blocks made in
     let full = full_from s.columns limit us made (λ i less.
-        ap (λ (given : List (List (Call × Reply))). length (get_or given i [])) (sym are)
-        ∙ sym (ap (λ (cs : List (Call × Reply)). length cs) (l.answered i))
-        ∙ all i (subst (λ (bs : List (List Call)). i < length bs) l.calls (omega (arith, less, count)))
-        ∙ sym (ap (λ (bs : List (List Call)). length (get_or bs i [])) l.calls)) in
+    ap (λ (given : List (List (Call × Reply))). length (get_or given i [])) (sym are)
+    ∙ sym (ap (λ (cs : List (Call × Reply)). length cs) (l.answered i))
+    ∙ all i (subst (λ (bs : List (List Call)). i < length bs) l.calls (omega (arith, less, count)))
+    ∙ sym (ap (λ (bs : List (List Call)). length (get_or bs i [])) l.calls)) in
     subst (λ (w : List ℕ). Took old new w) (blocks_text s.columns limit us made full ∙ ap (blocks_bytes s.columns limit us) l.calls) l.wrote
 
 same_start : (s t : Start) → ◌≡◌ {A = Result Start Refusal} (Ok s) (Ok t) → s ≡ t

@@ -14,9 +14,9 @@ use Rattle.sw_cli.proofs.Desks.{fold-end}
 either : (P : ℕ → Type 0) (k : ℕ) → P k → ((s : ℕ) → s ≢ k → P s) → (s : ℕ) → P s
 either P k at other s =
     ⊎_elim
-        (λ less. other s (λ e. omega (arith, less, e)))
-        (λ past. ⊎_elim (λ more. other s (λ e. omega (arith, more, e))) (λ most. let same : k ≡ s = omega (arith, past, most) in subst P same at) (cases_lt k s))
-        (cases_lt s k)
+    (λ less. other s (λ e. omega (arith, less, e)))
+    (λ past. ⊎_elim (λ more. other s (λ e. omega (arith, more, e))) (λ most. let same : k ≡ s = omega (arith, past, most) in subst P same at) (cases_lt k s))
+    (cases_lt s k)
 
 get_push_other : {X : Type 0} (xs : List X) (y d : X) (i : ℕ) → i ≢ length xs → get_or (xs ++ y ∷ []) i d ≡ get_or xs i d
 get_push_other [] y d zero h = absurd (h refl)
@@ -71,9 +71,9 @@ blocks_after made m old mid new all one =
       mine_are = either (λ i. mine (i + 1) new.entries ≡ get_or (ended_from old (made ++ m ∷ [])).answered i []) k
           (one.mine_is ∙ ap (λ (d : Done). d.answered) same ∙ sym (get_or_push before.answered done.answered [] k count) ∙ sym (ap (λ (e : Ended). get_or e.answered k []) more))
           (λ i apart.
-              let other : i + 1 ≢ k + 1 = λ e. apart (omega (arith, e)) in
-              let past : i ≢ length before.answered = λ e. apart (omega (arith, e, count)) in
-              one.others.mine (i + 1) other ∙ all.mine_are i ∙ sym (get_push_other before.answered done.answered [] i past) ∙ sym (ap (λ (e : Ended). get_or e.answered i []) more));
+          let other : i + 1 ≢ k + 1 = λ e. apart (omega (arith, e)) in
+          let past : i ≢ length before.answered = λ e. apart (omega (arith, e, count)) in
+          one.others.mine (i + 1) other ∙ all.mine_are i ∙ sym (get_push_other before.answered done.answered [] i past) ∙ sym (ap (λ (e : Ended). get_or e.answered i []) more));
     }
 
 -- what one more block writes comes after what was written
@@ -115,4 +115,3 @@ no_block old none = record {
   updates_are = refl;
   mine_are = λ i. rw none refl;
 }
-

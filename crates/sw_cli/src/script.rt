@@ -160,7 +160,13 @@ impl Blocks {
     }
 
     /// Reads one more line, of this number.
-    fn read(&mut self, alloc: Global, schema: &Schema, number: u32, line: &[u8]) -> Result<(), Refusal>
+    fn read(
+        &mut self,
+        alloc: Global,
+        schema: &Schema,
+        number: u32,
+        line: &[u8],
+    ) -> Result<(), Refusal>
         requires { AreSound (length schema.now) self.old }
         ensures answers { Reads (λ _. self.new) result (with_line schema.now number self.old line.now) }
         ensures sound { OnOk result (AreSound (length schema.now) self.new) }
@@ -181,7 +187,9 @@ impl Blocks {
         ensures refused { IfErr result (λ e. e ≡ Refusal.NoMemory) }
     {
         let Blocks {
-            mut closed, last, ..
+            mut closed,
+            last,
+            ..
         } = self;
         match closed.push(Block { calls: last }) {
             Ok(()) => Ok(closed),

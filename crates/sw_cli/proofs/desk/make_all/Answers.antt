@@ -56,7 +56,7 @@ returns-in_err-make-clause-made g c =
     let wrote = both (done_from c.args.session old inv.made).text (written_by mid.columns mid.limit (updates mid) item one.0) (Err c.in_err-make.field-0.0) (record { whole = (inv.wrote, inv.steady); part = tt }) one.1 in
     let made = inv.made ++ (item, one.0) ∷ [] in
     let calls : calls_made made ≡ take (i + 1) c.args.calls.now =
-        calls_more inv.made item one.0 ∙ ap (λ (cs : List Call). cs ++ item ∷ []) inv.calls ∙ ap (λ (x : Call). take i c.args.calls.now ++ x ∷ []) c.call-item.is ∙ sym (take_more c.args.calls.now i item here) in
+    calls_more inv.made item one.0 ∙ ap (λ (cs : List Call). cs ++ item ∷ []) inv.calls ∙ ap (λ (x : Call). take i c.args.calls.now ++ x ∷ []) c.call-item.is ∙ sym (take_more c.args.calls.now i item here) in
     let more = made_rest c.args.session made old (drop (i + 1) c.args.calls.now) in (
       made ++ all_of (drop (i + 1) c.args.calls.now),
       calls_rest made c.args.calls.now (i + 1) calls,
