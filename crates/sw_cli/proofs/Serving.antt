@@ -17,6 +17,8 @@ use Rattle.sw_spine.specs.Books.{Books, history_of, is_opened, new_books, took}
 use Rattle.sw_spine.specs.History.{History, IsLegal, is_absent}
 use Rattle.sw_cli.specs.Desks.{IsServed, MakesBlocks, Served, ended_from, with_sessions}
 use Rattle.sw_cli.specs.Plain.{StandsFor, listed}
+use Rattle.sw_cli.specs.Script.{calls_in}
+use Rattle.sw_spine.specs.Rest.{none_open}
 use Rattle.sw_cli.specs.Run.{Start, blocks_made, done_by}
 use Rattle.sw_cli.specs.Sent.{extends}
 use Rattle.sw_cli.specs.Starts.{Goes}
@@ -61,14 +63,17 @@ served_beginning e t begun two waiting f g h text is eg after w =
     }
 
 -- the record of the blocks that were made
-pub served_record : (made : List (List (Call × Bool))) (old new : Books) (h : History) → MakesBlocks made old new → h ≡ history_of new → IsLegal (history_of new) → ((s : ℕ) → is_opened s new ≡ false → is_absent s new.entries ≡ true) → IsServed made old h
-served_record made old new h m is legal known = record {
+pub served_record : (made : List (List (Call × Bool))) (old new : Books) (h : History) → MakesBlocks made old new → h ≡ history_of new → IsLegal (history_of new) → ((s : ℕ) → is_opened s new ≡ false → is_absent s new.entries ≡ true) → none_open new.entries ≡ true → length new.entries ≤ calls_in (blocks_made made)
+    → IsServed made old h
+served_record made old new h m is legal known closed few = record {
   legal = rw is legal;
   columns = rw is m.columns;
   rows = rw is m.rows;
   limit = rw is m.limit;
   answered = rw is m.mine_are;
   alone = rw is (λ session no. known session (ap (λ (n : ℕ). nat_lt 0 session && nat_le session n) m.sessions ∙ no));
+  closed = rw is closed;
+  few = rw is few;
 }
 
 rows_after : (done rows : List Row) → fold rows_then done (opened rows) ≡ done ++ rows
@@ -89,7 +94,7 @@ opened_plain n columns rows limit =
 goes_on : (limit : ℕ) (s : Start) (made : List (List (Call × Bool))) (old new : Option (List ℕ)) (f g : ℕ) (h : History) → blocks_made made ≡ s.blocks
     → Served old new f g (Ok h) (done_by s.columns limit s.rows made).text → IsServed made (with_sessions (length s.blocks) (new_books s.columns s.rows limit)) h → Goes limit s old new f g (Ok h)
 goes_on limit s made old new f g h calls served is =
-    (is.legal, (made, record { calls = calls; wrote = served.whole.0; columns = is.columns; rows = is.rows; limit_is = is.limit; answered = is.answered; alone = is.alone }), served.whole.1)
+    (is.legal, (made, record { calls = calls; wrote = served.whole.0; columns = is.columns; rows = is.rows; limit_is = is.limit; answered = is.answered; alone = is.alone; closed = is.closed; few = subst (λ (bs : List (List Call)). length h.entries ≤ calls_in bs) calls is.few }), served.whole.1)
 
 -- and that were not
 goes_wrong : (limit : ℕ) (s : Start) (made : List (List (Call × Bool))) (old new : Option (List ℕ)) (f g : ℕ) (e : Refusal) → blocks_made made ≡ s.blocks

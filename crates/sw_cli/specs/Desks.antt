@@ -1,5 +1,5 @@
 -- A call that a session makes.
-use Rattle.std.specs.Prelude.{◌≡◌, ◌+◌, ℕ, Bool, true, false, List, [], fold, slice_index_or, IfErr, OnOk, Option, None, Result}
+use Rattle.std.specs.Prelude.{◌≡◌, ◌≤◌, ◌+◌, ℕ, Bool, true, false, List, [], fold, length, slice_index_or, IfErr, OnOk, Option, None, Result}
 use Rattle.sw_lang.specs.Sinks.{Took, TookBeginning}
 use Rattle.sw_rows.specs.Gives.{Raised}
 use Rattle.sw_rows.specs.declared.refusal.Refusal.{Refusal}
@@ -8,7 +8,9 @@ use Rattle.sw_rows.specs.declared.query.Call.{Call}
 use Rattle.sw_spine.specs.Books.{Books, KeepsOthers, is_opened, updates, waits_for}
 use Rattle.sw_spine.specs.History.{History, IsLegal, is_absent, mine}
 use Rattle.sw_spine.specs.Table.{is_numbered}
-use Rattle.sw_cli.specs.Run.{Done, Ended, answered_by, block_then, done_then, nothing_ended, updates_by}
+use Rattle.sw_spine.specs.Rest.{none_open}
+use Rattle.sw_cli.specs.Script.{calls_in}
+use Rattle.sw_cli.specs.Run.{Done, Ended, answered_by, block_then, blocks_made, done_then, nothing_ended, updates_by}
 
 -- a session was opened and waits for nothing; the opening rows have the keys 1, 2, 3 and so on
 pub record IsReady (session : ℕ) (b : Books) : Type 0 where
@@ -62,7 +64,7 @@ pub record MakesBlocks (made : List (List (Call × Bool))) (old new : Books) : T
   pub mine_are : (i : ℕ) → mine (i + 1) new.entries ≡ slice_index_or (ended_from old made).answered i []
 
 -- the record of blocks that were made: its history is legal, of the same table and limit, with each session's replies, and
--- of no other sessions
+-- of no other sessions; nothing in it is open, and it has no more entries than there are calls
 pub record IsServed (made : List (List (Call × Bool))) (old : Books) (h : History) : Type 0 where
   pub legal : IsLegal h
   pub columns : h.columns ≡ old.columns
@@ -70,6 +72,8 @@ pub record IsServed (made : List (List (Call × Bool))) (old : Books) (h : Histo
   pub limit : h.limit ≡ old.limit
   pub answered : (i : ℕ) → mine (i + 1) h.entries ≡ slice_index_or (ended_from old made).answered i []
   pub alone : (session : ℕ) → is_opened session old ≡ false → is_absent session h.entries ≡ true
+  pub closed : none_open h.entries ≡ true
+  pub few : length h.entries ≤ calls_in (blocks_made made)
 
 -- the sink took all of a text; or it failed, and took a beginning
 pub record Served {A : Type 0} (old new : Option (List ℕ)) (failed_old failed_new : ℕ) (result : Result A Refusal) (text : List ℕ) : Type 0 where

@@ -1,5 +1,5 @@
 -- A run: what it starts from, and what it writes.
-use Rattle.std.specs.Prelude.{◌≡◌, ◌+◌, ◌++◌, ◌&&◌, ℕ, zero, suc, Bool, true, false, List, [], ◌∷◌, codes, fold, length, map, nat_le, nat_lt, slice_index_or, Option, Result, Ok, Err, if◌then◌else◌}
+use Rattle.std.specs.Prelude.{◌≡◌, ◌≤◌, ◌+◌, ◌++◌, ◌&&◌, ℕ, zero, suc, Bool, true, false, List, [], ◌∷◌, codes, fold, length, map, nat_le, nat_lt, slice_index_or, Option, Result, Ok, Err, if◌then◌else◌}
 use Rattle.sw_rows.specs.Header.{Column, Fault, bad_table, too_many}
 use Rattle.sw_rows.specs.Tables.{Table, bytes_within, table_of}
 use Rattle.sw_rows.specs.declared.row.Row.{Row}
@@ -12,7 +12,8 @@ use Rattle.sw_lang.specs.Replies.{reply_bytes}
 use Rattle.sw_lang.specs.Sinks.{Took, TookBeginning}
 use Rattle.sw_spine.specs.History.{History, is_absent, mine}
 use Rattle.sw_spine.specs.Table.{opened, reply_to, updates_then}
-use Rattle.sw_cli.specs.Script.{◌>>=◌, blocks_of}
+use Rattle.sw_spine.specs.Rest.{none_open}
+use Rattle.sw_cli.specs.Script.{◌>>=◌, blocks_of, calls_in}
 
 -- ---- what a run starts from
 
@@ -148,7 +149,8 @@ abbrev pub is_session : ℕ → ℕ → Bool
 is_session n session = nat_lt 0 session && nat_le session n
 
 -- a run from a start that made its blocks: the record is of the same table and limit, block i's answered calls are those
--- of session i, no other session has entries, and the sink took what the blocks wrote
+-- of session i, no other session has entries, nothing is open, there are no more entries than calls, and the sink took what
+-- the blocks wrote
 pub record Leaves (limit : ℕ) (s : Start) (made : List (List (Call × Bool))) (old new : Option (List ℕ)) (h : History) : Type 0 where
   pub calls : blocks_made made ≡ s.blocks
   pub wrote : Took old new (done_by s.columns limit s.rows made).text
@@ -157,6 +159,8 @@ pub record Leaves (limit : ℕ) (s : Start) (made : List (List (Call × Bool))) 
   pub limit_is : h.limit ≡ limit
   pub answered : (i : ℕ) → mine (i + 1) h.entries ≡ slice_index_or (done_by s.columns limit s.rows made).answered i []
   pub alone : (session : ℕ) → is_session (length s.blocks) session ≡ false → is_absent session h.entries ≡ true
+  pub closed : none_open h.entries ≡ true
+  pub few : length h.entries ≤ calls_in s.blocks
 
 -- the sink took a beginning of what the blocks of a start write, each call of them answered or refused
 pub record Began (limit : ℕ) (s : Start) (old new : Option (List ℕ)) : Type 0 where

@@ -11,7 +11,7 @@ ghost use Rattle.sw_spine.specs.Table.{is_numbered, reply_to};
 ghost use Rattle.sw_cli.specs.Desks.{IsReady, Makes, MakesAll, MakesBlocks, done_from, ended_from};
 ghost use Rattle.sw_cli.specs.Plain.{StandsFor};
 ghost use Rattle.sw_cli.specs.Run.{blocks_made, calls_made, line_before, written_by};
-ghost use Rattle.sw_cli.specs.Script.{AllCallsBelow, AreBlocks};
+ghost use Rattle.sw_cli.specs.Script.{AllCallsBelow, AreBlocks, calls_in};
 
 use crate::plain::Plain;
 use crate::script::Block;
@@ -242,7 +242,8 @@ pub(crate) fn make_blocks<W: Sink>(
     requires stands { StandsFor plain.old (took 0 spine.old) }
     requires blocks { AreBlocks (length spine.old.columns) blocks.now }
     requires wide { length spine.old.columns ≤ 8 }
-    ensures { (made : List (List (Call × Bool))) × (blocks_made made ≡ blocks.now) × Writes (W.taken out.old) (W.taken out.new) (W.failed out.old) (W.failed out.new) result (ended_from spine.old made).text × OnOk result (MakesBlocks made spine.old spine.new) }
+    ensures made { (made : List (List (Call × Bool))) × (blocks_made made ≡ blocks.now) × Writes (W.taken out.old) (W.taken out.new) (W.failed out.old) (W.failed out.new) result (ended_from spine.old made).text × OnOk result (MakesBlocks made spine.old spine.new) }
+    ensures count { OnOk result (length spine.new.entries ≤ calls_in blocks.now) }
 {
     let mut before = 0;
     for block in blocks {

@@ -55,8 +55,8 @@ loop-block-preserved g c =
       room = let more = calls_at blocks i c.calls.result.now _ here item in omega (arith, more, inv.room, c.in_ok-make_block.ensures.count);
     }
 
-pub returns-in_err-make_block : goal.returns-in_err-make_block
-returns-in_err-make_block g c =
+pub returns-in_err-make_block-clause-made : goal.returns-in_err-make_block-clause-made
+returns-in_err-make_block-clause-made g c =
     let inv = c.loop-block.invariant in
     let one = c.in_err-make_block.ensures.made in
     let k = c.loop-block.before in

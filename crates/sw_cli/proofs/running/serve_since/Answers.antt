@@ -6,7 +6,7 @@ use Rattle.sw_cli.proofs.running.serve_since.Goals as goal
 
 pub returns-in-Ok-send : goal.returns-in-Ok-send
 returns-in-Ok-send g c =
-    let m = c.in-Ok.ensures in
+    let m = c.in-Ok.ensures.made in
     let s = g.W.Sink in
     let b = c.send.new.self in (
       m.0,
@@ -14,12 +14,12 @@ returns-in-Ok-send g c =
       rw c.into_sink.ensures.sink
           (served_whole c.into_record.result c.in-Ok.field-0 (s.taken c.args.sink) _ _ (s.taken b.sink) (s.failed c.args.sink) _ _ (s.failed b.sink) (ended_from c.args.job.spine m.0).text
           c.new-buffered.ensures.taken c.new-buffered.ensures.failed m.2 (keeps_empty _ _ b.sent b.block.items c.in-Ok-send.ensures.kept c.in-Ok-send.ensures.sent) c.in-Ok-send.ensures.went),
-      served_record m.0 c.args.job.spine c.make_blocks.new.spine c.into_record.result m.3 c.into_record.ensures.record_is c.into_record.ensures.legal c.into_record.ensures.known,
+      served_record m.0 c.args.job.spine c.make_blocks.new.spine c.into_record.result m.3 c.into_record.ensures.record_is c.into_record.ensures.legal c.into_record.ensures.known (c.into_record.ensures.closed (λ s o. m.3.rest s)) (rw m.1 c.in-Ok.ensures.count),
     )
 
 pub returns-in-Err-send : goal.returns-in-Err-send
 returns-in-Err-send g c =
-    let m = c.in-Ok.ensures in
+    let m = c.in-Ok.ensures.made in
     let s = g.W.Sink in
     let b = c.send.new.self in (
       m.0,
@@ -32,7 +32,7 @@ returns-in-Err-send g c =
 
 pub returns-in-Err : goal.returns-in-Err
 returns-in-Err g c =
-    let m = c.in-Err.ensures in
+    let m = c.in-Err.ensures.made in
     let s = g.W.Sink in
     let b = c.make_blocks.new.out in (
       m.0,
