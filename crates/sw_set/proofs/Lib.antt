@@ -1,6 +1,7 @@
 pub mod Answered
 pub mod Blocks
 pub mod Choosing
+pub mod Dense
 pub mod Gathered
 pub mod KeyOrder
 pub mod Needing

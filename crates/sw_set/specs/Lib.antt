@@ -2,3 +2,4 @@ pub mod Needs
 pub mod Shelf
 pub mod Prepared
 pub mod Choice
+pub mod Slots

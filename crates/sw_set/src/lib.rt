@@ -5,5 +5,6 @@ mod choice;
 mod collect;
 mod finding;
 mod replies;
+mod slots;
 mod totals;
 mod window;
