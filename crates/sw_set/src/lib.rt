@@ -5,6 +5,8 @@ mod choice;
 mod collect;
 mod finding;
 mod replies;
+#[cfg(test)]
+mod slot_tests;
 mod slots;
 mod totals;
 mod window;
