@@ -12,6 +12,9 @@ mod needs;
 mod pick;
 mod prepare;
 mod replies;
+#[cfg(test)]
+mod slot_tests;
+mod slots;
 mod totals;
 mod window;
 

@@ -6,6 +6,7 @@ ghost use Rattle.sw_rows.specs.declared.refusal.Refusal.TheVariants.{NoMemory};
 ghost use Rattle.sw_set.specs.Choice.{IsInside, chosen, column_at, placed, row_in, value_in};
 
 use crate::choice::Choice;
+use crate::slots::sort_dense;
 use crate::window::{Column, Window, value_at};
 use std::alloc::Global;
 use sw_map::CrackerMap;
@@ -41,11 +42,14 @@ pub(crate) fn found_keys<M: CrackerMap>(
     Ok(found)
 }
 
-/// Puts keys in ascending order, each with its place.
-pub(crate) fn sort_by_key(found: &mut Vec<(u64, usize)>)
+/// Puts keys in ascending order, each with its place. Dense keys are put into slots, others are compared.
+pub(crate) fn sort_by_key(alloc: Global, found: &mut Vec<(u64, usize)>)
     ensures moved { IsPermutation found.old.items found.new.items }
     ensures sorted { IsNonDecreasingBy (λ p. p.0) found.new.items }
 {
+    if sort_dense(alloc, found) {
+        return;
+    }
     found.sort_unstable_by_key(|p| p.0);
 }
 
