@@ -3,6 +3,7 @@ pub mod Blocks
 pub mod Boxes
 pub mod Choosing
 pub mod Dense
+pub mod Dropped
 pub mod Ends
 pub mod Gathered
 pub mod KeyOrder

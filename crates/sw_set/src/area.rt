@@ -1,6 +1,6 @@
 //! An area, and its single changes.
 
-ghost use Rattle.std.specs.Prelude.{◌≡◌, ◌≢◌, ◌<◌, ◌≤◌, ◌+◌, ◌^◌, ◌∷◌, ◌++◌, [], true, false, ℕ, length, map, pos, All, Any, Contains, IfOk, IsOk, IsOkUnless, MatchOption, MatchResult, None, Some, slice_index_or, slice_set};
+ghost use Rattle.std.specs.Prelude.{◌≡◌, ◌≢◌, ◌<◌, ◌≤◌, ◌+◌, ◌^◌, ◌∷◌, ◌++◌, [], true, false, ℕ, length, map, pos, All, Any, Contains, IfOk, IsOk, IsOkUnless, MatchOption, MatchResult, None, Some, remove, slice_index_or, slice_set};
 ghost use Rattle.sw_rows.specs.declared.row.Row.{Row};
 ghost use Rattle.sw_rows.specs.declared.refusal.Refusal.TheVariants.{NoMemory};
 ghost use Rattle.sw_rows.specs.Scan.{AsksBelow, TakesMemory, answer};
@@ -10,7 +10,7 @@ ghost use Rattle.sw_map.specs.declared.tail.Tail.TheVariants.{Key};
 ghost use Rattle.sw_kernel.specs.Tapes.{peak_from};
 ghost use Rattle.sw_map.specs.Held.{Held, blank, begun, pairs_in, place_of};
 ghost use Rattle.sw_map.specs.Refusals.{IsBeginRefusal};
-ghost use Rattle.sw_set.specs.Prepared.{IsCleared, IsFreshBut, IsOneCleared, IsPreparedFor, IsSameButBoxes, IsSpare, stands_if};
+ghost use Rattle.sw_set.specs.Prepared.{IsCleared, IsFreshBut, IsOneCleared, IsPreparedFor, IsSameButBoxes, IsShed, IsSpare, stands_if};
 ghost use Rattle.sw_set.specs.Shelf.{AreaState, AreSameMaps, HasRoomWhereNeeded, IsAreaLawful, IsAtEnd, IsSameArea, Rises, key_of, lies_within, logged_rows, rows_in};
 ghost use Rattle.sw_set.specs.Needs.{head_in};
 
@@ -326,6 +326,40 @@ impl<M: CrackerMap> Area<M> {
         let cells = self.cells_at(at);
         self.clear_at(at);
         cells
+    }
+
+    /// The box to drop first: a blank one, else that of the least recently used map.
+    fn droppable(&self) -> Option<usize>
+        ensures { MatchOption result (length self.now.boxes ≡ 0) (λ at. at < length self.now.boxes) }
+    {
+        if let Some(at) = find_blank(self.boxes.as_slice()) {
+            return Some(at);
+        }
+        find_leased(self.boxes.as_slice(), self.stamps.as_slice(), &[])
+    }
+
+    /// Drops the box at a place; its lease goes back.
+    fn drop_at(&mut self, at: usize)
+        requires { at < length self.old.boxes }
+        ensures { self.new ≡ record self.old { boxes = remove self.old.boxes at } }
+    {
+        let _box = self.boxes.remove(at);
+        let _stamp = self.stamps.remove(at);
+    }
+
+    /// Drops up to so many boxes, blank ones first, then by least recent use, and answers how many: as many as that, or all. It
+    /// is never refused.
+    pub fn shed(&mut self, most: usize) -> usize
+        ensures shed { IsShed most self.old self.new result }
+        ensures all { result < most → length self.new.boxes ≡ 0 }
+    {
+        for gone in 0..most {
+            let Some(at) = self.droppable() else {
+                return gone;
+            };
+            self.drop_at(at);
+        }
+        most
     }
 
     /// The stamp of the least recently used map, if a box has one.
