@@ -87,15 +87,15 @@ shed-none most x = record { attribute = refl; from = refl; below = refl; inbox =
 
 pub shed-more : (most : ℕ) (x y z : AreaState) (gone i : ℕ) → gone < most → i < length y.boxes → z ≡ record y { boxes = remove y.boxes i } → IsShed most x y gone → IsShed most x z (gone + 1)
 shed-more most x y z gone i lt li is w = subst (λ (v : AreaState). IsShed most x v (gone + 1)) (sym is) (record {
-    attribute = w.attribute;
-    from = w.from;
-    below = w.below;
-    inbox = w.inbox;
-    tape = w.tape;
-    many = let n = length-remove y.boxes i li in let m = w.many in omega (arith, n, m);
-    few = omega (arith, lt);
-    left = all-removed (λ m. Contains x.boxes m) y.boxes i li w.left
-    })
+  attribute = w.attribute;
+  from = w.from;
+  below = w.below;
+  inbox = w.inbox;
+  tape = w.tape;
+  many = let n = length-remove y.boxes i li in let m = w.many in omega (arith, n, m);
+  few = omega (arith, lt);
+  left = all-removed (λ m. Contains x.boxes m) y.boxes i li w.left;
+})
 
 -- ---- which box goes first
 nothing-left : {X : Type 0} (h : X → Held) (xs : List X) → All (λ m. (h m).is_blank ≡ false) xs → All (λ m. (h m).is_blank ≡ false → Contains [] (h m).tail) xs → length xs ≡ 0
