@@ -7,3 +7,4 @@ pub mod Spines
 pub mod StoreLemmas
 pub mod ReplayLemmas
 pub mod PrintedLemmas
+pub mod CheckLemmas

@@ -4,6 +4,7 @@ use Rattle.std.specs.Prelude.{String, bytes_eq, string_bytes}
 use Rattle.std.specs.Bool.{Decides}
 use Rattle.std.specs.Cmp.Lexicographic.{pointwise}
 use Rattle.std.specs.List.{flat_map, list_all}
+use Rattle.std.specs.Ordering.{int_eq}
 use Rattle.std.specs.String.{string_eq}
 use Rattle.std.specs.declared.alloc.Global.{Global}
 use Rattle.std.proofs.lemmas.Slice.Eq.{bytes_eq-Decides, slice_eq-Decides}
@@ -32,6 +33,10 @@ both a b h k = rw (h, k) refl
 joined : (xs ys : List ℕ) → shown xs ≡ true → shown ys ≡ true → shown (xs ++ ys) ≡ true
 joined xs ys h k = list_all-append is_printed xs ys ∙ both (shown xs) (shown ys) h k
 
+either : (b : Bool) (xs ys : List ℕ) → shown xs ≡ true → shown ys ≡ true → shown (cond b xs ys) ≡ true
+either true xs ys h k = h
+either false xs ys h k = k
+
 -- ---- numbers
 
 glyph_shown : (n : ℕ) → is_printed (digit_glyph false (n % 10)) ≡ true
@@ -41,14 +46,9 @@ glyph_shown n =
 
 digits_shown : (k n : ℕ) (acc : List ℕ) → shown acc ≡ true → shown (digits_onto k 10 false n acc) ≡ true
 digits_shown zero n acc h = h
-digits_shown (suc k) n acc h = at (n / 10 == 0)
-  where
-    more : shown (digit_glyph false (n % 10) ∷ acc) ≡ true
-    more = both (is_printed (digit_glyph false (n % 10))) (shown acc) (glyph_shown n) h
-
-    at : (b : Bool) → shown (cond b (digit_glyph false (n % 10) ∷ acc) (digits_onto k 10 false (n / 10) (digit_glyph false (n % 10) ∷ acc))) ≡ true
-    at true = more
-    at false = digits_shown k (n / 10) (digit_glyph false (n % 10) ∷ acc) more
+digits_shown (suc k) n acc h =
+    let more : shown (digit_glyph false (n % 10) ∷ acc) ≡ true = both (is_printed (digit_glyph false (n % 10))) (shown acc) (glyph_shown n) h in
+    either (n / 10 == 0) (digit_glyph false (n % 10) ∷ acc) (digits_onto k 10 false (n / 10) (digit_glyph false (n % 10) ∷ acc)) more (digits_shown k (n / 10) (digit_glyph false (n % 10) ∷ acc) more)
 
 decimal_shown : (n : ℕ) → shown (decimal n) ≡ true
 unfolding digits
@@ -65,23 +65,19 @@ zeros_shown (suc n) = zeros_shown n
 point_shown : (places n : ℕ) → shown (with_point places n) ≡ true
 point_shown places n =
     joined (decimal (n / 10 ^ places)) _ (decimal_shown (n / 10 ^ places))
-        (joined (codes ".") (padded_digits places (decimal (n % 10 ^ places))) refl
-        (joined (replicate (places - length (decimal (n % 10 ^ places))) 48) (decimal (n % 10 ^ places)) (zeros_shown (places - length (decimal (n % 10 ^ places)))) (decimal_shown (n % 10 ^ places))))
+    (joined (codes ".") (padded_digits places (decimal (n % 10 ^ places))) refl
+    (joined (replicate (places - length (decimal (n % 10 ^ places))) 48) (decimal (n % 10 ^ places)) (zeros_shown (places - length (decimal (n % 10 ^ places)))) (decimal_shown (n % 10 ^ places))))
 
 fixed_shown : (places : ℕ) (z : ℤ) → shown (fixed_text places z) ≡ true
 fixed_shown places (pos n) = point_shown places n
 fixed_shown places (negsuc n) = joined (codes "-") (with_point places (n + 1)) refl (point_shown places (n + 1))
-
-flag_shown : (b : Bool) → shown (cond b (codes "true") (codes "false")) ≡ true
-flag_shown true = refl
-flag_shown false = refl
 
 -- ---- cells and lines
 
 cell_shown : (k : Kind) (z : ℤ) → shown (cell_text k z) ≡ true
 cell_shown kind.Int z = signed_shown z
 cell_shown (kind.Fix places) z = fixed_shown places z
-cell_shown kind.Flag z = flag_shown _
+cell_shown kind.Flag z = either (int_eq z (pos 1)) (codes "true") (codes "false") refl refl
 
 sum_shown : (k : Kind) (z : ℤ) → shown (sum_text k z) ≡ true
 sum_shown kind.Int z = signed_shown z

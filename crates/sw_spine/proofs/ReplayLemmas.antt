@@ -81,12 +81,15 @@ living_set live key (r ∷ rs) some = grind (arith, nat_tests, is_live_set r.key
 pub deletes_row : (us : List Update) (t : Replayed) (key : ℕ) → StandsAfter us t → 0 < key → is_live t.live key ≡ true → (reply.Removed ≡ reply_to t.limit us (call.Delete key)) × StandsAfter (updates_then t.limit us (call.Delete key)) (replayed t.rows (set t.live (key - 1) false) t.limit false)
 deletes_row us t key s some lives =
     let there : has_key key (rows_of us) ≡ true = s.slots.lives key ∙ lives in
-    rw there (refl, record {
-      slots = slots_remove t.limit us t.live key s.slots some;
-      within = rw (length-set t.live (key - 1) false) s.within;
-      rows_are = rows_push us (update.Remove key) ∙ ap (without key) s.rows_are ∙ sym (living_set t.live key t.rows some);
-      all = λ h. absurd cc;
-    })
+    rw there (
+      refl,
+      record {
+        slots = slots_remove t.limit us t.live key s.slots some;
+        within = rw (length-set t.live (key - 1) false) s.within;
+        rows_are = rows_push us (update.Remove key) ∙ ap (without key) s.rows_are ∙ sym (living_set t.live key t.rows some);
+        all = λ h. absurd cc;
+      },
+    )
 
 pub deletes_none : (us : List Update) (t : Replayed) (key : ℕ) → StandsAfter us t → is_live t.live key ≡ false → (reply.NoSuchKey ≡ reply_to t.limit us (call.Delete key)) × StandsAfter (updates_then t.limit us (call.Delete key)) t
 deletes_none us t key s dead =
