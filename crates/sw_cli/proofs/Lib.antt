@@ -9,3 +9,4 @@ pub mod Returns
 pub mod Serving
 pub mod Starts
 pub mod Waiting
+pub mod RecordTextLemmas

@@ -10,10 +10,12 @@ mod plain;
 mod running;
 mod script;
 mod start;
+mod writing;
 
 pub use fault::{status, write_fault};
 pub use running::{Options, run};
 pub use script::{MOST_BLOCKS, MOST_CALLS};
+pub use writing::write_record;
 
 #[cfg(test)]
 mod fault_tests;

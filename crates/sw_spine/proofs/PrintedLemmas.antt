@@ -24,16 +24,16 @@ use Rattle.sw_rows.specs.declared.reply.Reply.TheVariants as reply
 use Rattle.sw_lang.specs.Replies.{cell_text, cells_text, extreme_text, first_kind, fixed_text, kinds_called, lines_of, more_cells, padded_digits, reply_bytes, reply_lines, row_line, rows_line, sum_text, with_ends, with_point}
 use Rattle.sw_spine.specs.Printed.{Divided, all_printed, divide, divided, is_printed, is_text, with_byte}
 
-abbrev shown : List ℕ → Bool
+abbrev pub shown : List ℕ → Bool
 shown bs = list_all is_printed bs
 
-both : (a b : Bool) → a ≡ true → b ≡ true → (a && b) ≡ true
+pub both : (a b : Bool) → a ≡ true → b ≡ true → (a && b) ≡ true
 both a b h k = rw (h, k) refl
 
-joined : (xs ys : List ℕ) → shown xs ≡ true → shown ys ≡ true → shown (xs ++ ys) ≡ true
+pub joined : (xs ys : List ℕ) → shown xs ≡ true → shown ys ≡ true → shown (xs ++ ys) ≡ true
 joined xs ys h k = list_all-append is_printed xs ys ∙ both (shown xs) (shown ys) h k
 
-either : (b : Bool) (xs ys : List ℕ) → shown xs ≡ true → shown ys ≡ true → shown (cond b xs ys) ≡ true
+pub either : (b : Bool) (xs ys : List ℕ) → shown xs ≡ true → shown ys ≡ true → shown (cond b xs ys) ≡ true
 either true xs ys h k = h
 either false xs ys h k = k
 
@@ -50,7 +50,7 @@ digits_shown (suc k) n acc h =
     let more : shown (digit_glyph false (n % 10) ∷ acc) ≡ true = both (is_printed (digit_glyph false (n % 10))) (shown acc) (glyph_shown n) h in
     either (n / 10 == 0) (digit_glyph false (n % 10) ∷ acc) (digits_onto k 10 false (n / 10) (digit_glyph false (n % 10) ∷ acc)) more (digits_shown k (n / 10) (digit_glyph false (n % 10) ∷ acc) more)
 
-decimal_shown : (n : ℕ) → shown (decimal n) ≡ true
+pub decimal_shown : (n : ℕ) → shown (decimal n) ≡ true
 unfolding digits
 decimal_shown n = digits_shown 64 n [] refl
 
@@ -74,7 +74,7 @@ fixed_shown places (negsuc n) = joined (codes "-") (with_point places (n + 1)) r
 
 -- ---- cells and lines
 
-cell_shown : (k : Kind) (z : ℤ) → shown (cell_text k z) ≡ true
+pub cell_shown : (k : Kind) (z : ℤ) → shown (cell_text k z) ≡ true
 cell_shown kind.Int z = signed_shown z
 cell_shown (kind.Fix places) z = fixed_shown places z
 cell_shown kind.Flag z = either (int_eq z (pos 1)) (codes "true") (codes "false") refl refl
@@ -93,7 +93,7 @@ more_shown [] zs = refl
 more_shown (k ∷ ks) [] = refl
 more_shown (k ∷ ks) (z ∷ zs) = joined (codes ", ") (cell_text k z ++ more_cells ks zs) refl (joined (cell_text k z) (more_cells ks zs) (cell_shown k z) (more_shown ks zs))
 
-cells_shown : (ks : List Kind) (zs : List ℤ) → shown (cells_text ks zs) ≡ true
+pub cells_shown : (ks : List Kind) (zs : List ℤ) → shown (cells_text ks zs) ≡ true
 cells_shown [] zs = refl
 cells_shown (k ∷ ks) [] = refl
 cells_shown (k ∷ ks) (z ∷ zs) = joined (cell_text k z) (more_cells ks zs) (cell_shown k z) (more_shown ks zs)
