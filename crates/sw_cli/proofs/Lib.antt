@@ -10,3 +10,4 @@ pub mod Serving
 pub mod Starts
 pub mod Waiting
 pub mod RecordTextLemmas
+pub mod RecordReadingLemmas
