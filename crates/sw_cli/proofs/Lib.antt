@@ -11,3 +11,4 @@ pub mod Starts
 pub mod Waiting
 pub mod RecordTextLemmas
 pub mod RecordReadingLemmas
+pub mod FileCheckLemmas
