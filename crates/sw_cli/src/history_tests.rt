@@ -138,13 +138,12 @@ fn faults_of_entries(rt: HostRuntime) -> Result<(), Fail> {
     let comment = "{\"call\":\"# count\",\"reply\":[\"4\"],\"session\":1}";
     assert!(rt; refuses_entries(alloc, comment, 1, Why::History)?);
     let unknown = file(alloc, "{\"call\":\"count where d = 1\",\"reply\":[\"4\"],\"session\":1}")?;
-    match read_record(alloc, unknown.as_bytes()) {
-        Err(Refusal::UnknownAttribute { name }) => {
-            assert!(rt; name.as_str() == "d");
-            Ok(())
-        }
-        _ => Err(Fail),
-    }
+    let is_named = match read_record(alloc, unknown.as_bytes()) {
+        Err(Refusal::UnknownAttribute { name }) => name.as_str() == "d",
+        _ => false,
+    };
+    assert!(rt; is_named);
+    Ok(())
 }
 
 #[test]
