@@ -1,5 +1,5 @@
 -- What a call leaves.
-use Rattle.std.proofs.Common.{◌≡◌, ◌∙◌, sym, ap, refl, ℕ, ◌+◌, ◌<◌, ◌≤◌, Bool, true, false, suc, List, [], ◌∷◌, ◌++◌, length, Option, Some, None, IfSome, append_assoc, arith, cond, fold, subst, take, drop}
+use Rattle.std.proofs.Common.{◌≡◌, ◌∙◌, sym, ap, refl, ℕ, ◌≤◌, Bool, true, false, suc, List, [], ◌∷◌, ◌++◌, length, Some, None, IfSome, append_assoc, arith, cond, fold, subst}
 use Rattle.std.proofs.lemmas.List.{append-nil, map-append, take-append-drop}
 use Rattle.std.specs.Prelude.{slice_index}
 use Rattle.sw_rows.specs.Updates.{rows_of, rows_then}

@@ -1,5 +1,5 @@
 -- Calls that were not made any more count as answered.
-use Rattle.std.proofs.Common.{◌≡◌, ◌∙◌, sym, ap, refl, ℕ, Bool, true, List, [], ◌∷◌, ◌++◌, Option, Result, Err, append_assoc, drop, fold, length, map, take}
+use Rattle.std.proofs.Common.{◌≡◌, ◌∙◌, sym, ap, refl, ℕ, Bool, true, List, [], ◌∷◌, ◌++◌, Option, Err, append_assoc, drop, fold, length, map, take}
 use Rattle.std.proofs.lemmas.List.{append-nil, map-append, take-append-drop}
 use Rattle.sw_lang.specs.Sinks.{Writes}
 use Rattle.sw_rows.specs.Header.{Column}

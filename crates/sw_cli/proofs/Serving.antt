@@ -1,17 +1,15 @@
 -- What a run's block leaves of what was written.
 use Rattle.std.proofs.Common.{◌≡◌, ◌∙◌, ◌&&◌, sym, ap, subst, refl, ℕ, zero, suc, Bool, true, false, nat_le, nat_lt, List, [], ◌∷◌, ◌++◌, ◌≤◌, arith, append_assoc, drop, fold, length, Option, IfOk, Result, Ok, Err}
 use Rattle.std.proofs.lemmas.List.{append-nil, take_all}
-use Rattle.std.specs.Io.KnownBytes.{Appends, Keeps, append_known}
+use Rattle.std.specs.Io.KnownBytes.{Keeps, append_known}
 use Rattle.sw_rows.specs.Gives.{Raised}
 use Rattle.sw_rows.specs.declared.query.Call.{Call}
 use Rattle.sw_rows.specs.declared.refusal.Refusal.{Refusal}
 use Rattle.sw_rows.specs.declared.refusal.Refusal.TheVariants as refusal
-use Rattle.sw_lang.specs.Sinks.{TookBeginning, Writes}
+use Rattle.sw_lang.specs.Sinks.{Writes}
 use Rattle.sw_rows.specs.Header.{Column}
-use Rattle.sw_rows.specs.Updates.{rows_of, rows_then}
+use Rattle.sw_rows.specs.Updates.{rows_then}
 use Rattle.sw_rows.specs.declared.row.Row.{Row}
-use Rattle.sw_rows.specs.declared.row.Update.{Update}
-use Rattle.sw_rows.specs.declared.row.Update.TheVariants as update
 use Rattle.sw_spine.specs.Table.{opened}
 use Rattle.sw_spine.specs.Books.{Books, history_of, is_opened, new_books, took}
 use Rattle.sw_spine.specs.History.{History, IsLegal, is_absent}

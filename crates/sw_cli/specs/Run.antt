@@ -1,7 +1,7 @@
 -- A run: what it starts from, and what it writes.
 use Rattle.std.specs.Prelude.{◌≡◌, ◌≤◌, ◌+◌, ◌++◌, ◌&&◌, ℕ, zero, suc, Bool, true, false, List, [], ◌∷◌, codes, fold, length, map, nat_le, nat_lt, slice_index_or, Option, Result, Ok, Err, if◌then◌else◌}
 use Rattle.sw_rows.specs.Header.{Column, Fault, bad_table, too_many}
-use Rattle.sw_rows.specs.Tables.{Table, bytes_within, table_of}
+use Rattle.sw_rows.specs.Tables.{bytes_within, table_of}
 use Rattle.sw_rows.specs.declared.row.Row.{Row}
 use Rattle.sw_rows.specs.declared.row.Update.{Update}
 use Rattle.sw_rows.specs.declared.query.Call.{Call}

@@ -1,5 +1,4 @@
-use Rattle.std.proofs.Common.{◌∙◌, ap, drop, subst, List, Option, ℕ, []}
-use Rattle.std.specs.Io.KnownBytes.{Keeps, append_known}
+use Rattle.std.proofs.Common.{◌∙◌, drop}
 use Rattle.sw_cli.specs.Desks.{ended_from}
 use Rattle.sw_cli.proofs.Serving.{keeps_empty, served_beginning, served_part, served_record, served_whole}
 use Rattle.sw_cli.proofs.running.serve_since.Goals as goal
