@@ -183,8 +183,8 @@ pub record_has_none : (h : History) → has_float (record_data h) ≡ false
 record_has_none h =
     let rows = rows_have_none (length h.columns) h.rows in
     neither (items_have_float (items_of (map (λ t. string t) (map attribute_text h.columns)))) _ (texts_have_none (map attribute_text h.columns))
-        (neither (items_have_float (items_of (map (entry_data h.columns) h.entries))) _ (entries_have_none h.columns h.entries)
-        (neither (items_have_float (items_of (map (row_data (length h.columns)) h.rows))) false rows refl))
+    (neither (items_have_float (items_of (map (entry_data h.columns) h.entries))) _ (entries_have_none h.columns h.entries)
+    (neither (items_have_float (items_of (map (row_data (length h.columns)) h.rows))) false rows refl))
 
 -- ---- what a writer of a whole text does
 

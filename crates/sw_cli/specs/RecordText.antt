@@ -61,7 +61,7 @@ whole_data attributes entries limit rows =
 abbrev pub record_data : History → Data
 record_data h =
     whole_data (texts_data (map attribute_text h.columns)) (list_data (map (entry_data h.columns) h.entries))
-        h.limit (list_data (map (row_data (length h.columns)) h.rows))
+    h.limit (list_data (map (row_data (length h.columns)) h.rows))
 
 -- the bytes of a record's file: no blanks, and in each object the keys ascend
 unfoldable pub record_text : History → List ℕ

@@ -65,14 +65,18 @@ fn a_count_is_written_and_checked(rt: HostRuntime) -> Result<(), Fail> {
     let kept = written(alloc, "count\n")?;
     assert!(rt; kept.as_slice() == text.as_bytes());
     assert!(rt; checks(alloc, text.as_bytes(), 0, "legal: 1 entries\n"));
-    let five = file(alloc, "{\"call\":\"count\",\"reply\":[\"5\"],\"session\":1}")?;
+    let five = file(
+        alloc,
+        "{\"call\":\"count\",\"reply\":[\"5\"],\"session\":1}",
+    )?;
     assert!(rt; checks(alloc, five.as_bytes(), 1, "not legal: entry 1\n"));
     Ok(())
 }
 
 const INSERTED: &str = "{\"call\":\"insert 1, 9, 0\",\"reply\":[\"key 5\"],\"session\":1}";
 
-const SELECTED: &str = "{\"call\":\"select b where a < 10\",\"reply\":[\"2: 8\",\"5: 9\",\"(2 rows)\"],\"session\":1}";
+const SELECTED: &str =
+    "{\"call\":\"select b where a < 10\",\"reply\":[\"2: 8\",\"5: 9\",\"(2 rows)\"],\"session\":1}";
 
 #[test]
 fn entries_are_checked_in_order(rt: HostRuntime) -> Result<(), Fail> {
@@ -132,12 +136,22 @@ fn faults_of_entries(rt: HostRuntime) -> Result<(), Fail> {
     let none = "{\"call\":\"count\",\"reply\":[\"4\"],\"session\":0}";
     assert!(rt; refuses_entries(alloc, none, 1, Why::History)?);
     let float = "{\"call\":\"count\",\"reply\":[\"4\"],\"session\":1.0}";
-    assert!(rt; refuses_entries(alloc, &format!(in alloc; "{COUNTED},{float}")?, 2, Why::History)?);
+    assert!(rt;
+        refuses_entries(
+            alloc,
+            &format!(in alloc; "{COUNTED},{float}")?,
+            2,
+            Why::History
+        )?
+    );
     let extra = "{\"call\":\"count where\",\"more\":1,\"reply\":[\"4\"],\"session\":1}";
     assert!(rt; refuses_entries(alloc, extra, 1, Why::History)?);
     let comment = "{\"call\":\"# count\",\"reply\":[\"4\"],\"session\":1}";
     assert!(rt; refuses_entries(alloc, comment, 1, Why::History)?);
-    let unknown = file(alloc, "{\"call\":\"count where d = 1\",\"reply\":[\"4\"],\"session\":1}")?;
+    let unknown = file(
+        alloc,
+        "{\"call\":\"count where d = 1\",\"reply\":[\"4\"],\"session\":1}",
+    )?;
     let is_named = match read_record(alloc, unknown.as_bytes()) {
         Err(Refusal::UnknownAttribute { name }) => name.as_str() == "d",
         _ => false,
@@ -151,17 +165,21 @@ fn faults_outside_the_entries(rt: HostRuntime) -> Result<(), Fail> {
     let alloc = rt.alloc();
     let some = b"{\"attributes\":[\"a\"],\"entries\":[],\"format\":1,\"limit\":1,\"rows\":[[7]]}";
     assert!(rt; checks(alloc, some, 0, "legal: 0 entries\n"));
-    let blanks = b" { \"rows\" : [ ] , \"limit\" : 1048576 , \"format\" : 1 ,\n\"entries\" : [ ] , \"attributes\" : [ \"a:flag\" ] } ";
+    let blanks =
+        b" { \"rows\" : [ ] , \"limit\" : 1048576 , \"format\" : 1 ,\n\"entries\" : [ ] , \"attributes\" : [ \"a:flag\" ] } ";
     assert!(rt; checks(alloc, blanks, 0, "legal: 0 entries\n"));
     let zero = b"{\"attributes\":[\"a\"],\"entries\":[],\"format\":1,\"limit\":0,\"rows\":[]}";
     assert!(rt; refuses(alloc, zero, 0, Why::History));
-    let more = b"{\"attributes\":[\"a\"],\"entries\":[],\"format\":1,\"limit\":1048577,\"rows\":[]}";
+    let more =
+        b"{\"attributes\":[\"a\"],\"entries\":[],\"format\":1,\"limit\":1048577,\"rows\":[]}";
     assert!(rt; refuses(alloc, more, 0, Why::History));
     let float = b"{\"attributes\":[\"a\"],\"entries\":[],\"format\":1.0,\"limit\":1,\"rows\":[]}";
     assert!(rt; refuses(alloc, float, 0, Why::History));
-    let rows = b"{\"attributes\":[\"a\"],\"entries\":[],\"format\":1,\"limit\":1,\"rows\":[[7],[8]]}";
+    let rows =
+        b"{\"attributes\":[\"a\"],\"entries\":[],\"format\":1,\"limit\":1,\"rows\":[[7],[8]]}";
     assert!(rt; refuses(alloc, rows, 0, Why::History));
-    let flag = b"{\"attributes\":[\"a:flag\"],\"entries\":[],\"format\":1,\"limit\":1,\"rows\":[[2]]}";
+    let flag =
+        b"{\"attributes\":[\"a:flag\"],\"entries\":[],\"format\":1,\"limit\":1,\"rows\":[[2]]}";
     assert!(rt; refuses(alloc, flag, 0, Why::History));
     let first = b"{\"attributes\":[\"a\"],\"entries\":[1],\"format\":1,\"limit\":0,\"rows\":[]}";
     assert!(rt; refuses(alloc, first, 0, Why::History));

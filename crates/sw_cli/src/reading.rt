@@ -297,12 +297,7 @@ fn read_state(alloc: Global, call: &Call, value: &Value) -> Result<Option<State>
 }
 
 /// The entry of a line: its members are looked at first, then its call, then its session and its reply.
-fn read_entry(
-    alloc: Global,
-    schema: &Schema,
-    line: u32,
-    value: &Value,
-) -> Result<Entry, Refusal>
+fn read_entry(alloc: Global, schema: &Schema, line: u32, value: &Value) -> Result<Entry, Refusal>
     ensures answers { Reads (λ e. e) result (entry_in schema.now line (view value.now)) }
     ensures below { IfOk result (λ e. CallsBelow (length schema.now) e.call) }
     ensures why { IfErr result TellsText }
@@ -329,11 +324,7 @@ fn read_entry(
 }
 
 /// Entries in order; they count from 1.
-fn read_entries(
-    alloc: Global,
-    schema: &Schema,
-    items: &[Value],
-) -> Result<Vec<Entry>, Refusal>
+fn read_entries(alloc: Global, schema: &Schema, items: &[Value]) -> Result<Vec<Entry>, Refusal>
     requires { length items.now ≤ 1048576 }
     ensures answers { Reads (λ entries. entries.items) result (entries_after schema.now [] (map view items.now)) }
     ensures below { IfOk result (λ entries. AllBelow (length schema.now) entries.items) }
