@@ -9,3 +9,6 @@ pub mod Returns
 pub mod Serving
 pub mod Starts
 pub mod Waiting
+pub mod RecordTextLemmas
+pub mod RecordReadingLemmas
+pub mod FileCheckLemmas

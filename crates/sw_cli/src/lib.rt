@@ -3,19 +3,27 @@
 #![tactic(auto)]
 
 mod buffered;
+mod checking;
 mod desk;
 mod fault;
 pub mod fault_examples;
 mod plain;
+mod reading;
 mod running;
 mod script;
 mod start;
+mod writing;
 
+pub use checking::check_file;
 pub use fault::{status, write_fault};
+pub use reading::read_record;
 pub use running::{Options, run};
 pub use script::{MOST_BLOCKS, MOST_CALLS};
+pub use writing::write_record;
 
 #[cfg(test)]
 mod fault_tests;
+#[cfg(test)]
+mod history_tests;
 #[cfg(test)]
 mod run_tests;

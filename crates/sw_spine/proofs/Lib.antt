@@ -5,3 +5,6 @@ pub mod RestLemmas
 pub mod Runs
 pub mod Spines
 pub mod StoreLemmas
+pub mod ReplayLemmas
+pub mod PrintedLemmas
+pub mod CheckLemmas

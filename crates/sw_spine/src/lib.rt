@@ -1,8 +1,12 @@
 //! The spine: the history of all sessions' calls, the rows ever inserted, and the updates that heads take from.
 #![tactic(auto)]
 
+mod check;
 mod history;
 mod laws;
+mod printed;
+mod replay;
+mod same;
 mod spine;
 mod store;
 

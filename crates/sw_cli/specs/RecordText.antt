@@ -1,0 +1,79 @@
+-- The text of a record: a JSON object, in which numbers are whole.
+use Rattle.std.specs.Prelude.{◌≡◌, ◌++◌, ℕ, ℤ, List, [], ◌∷◌, codes, length, map, take, Option, Result, IfErr, OnOk}
+use Rattle.serde_json.specs.Data.{Data, array, member, no_members, number, object, string, unsigned}
+use Rattle.serde_json.specs.Find.{of_integer}
+use Rattle.serde_json.specs.View.{items_of}
+use Rattle.serde_json.specs.Written.{compact_text}
+use Rattle.sw_rows.specs.Header.{Column}
+use Rattle.sw_rows.specs.Spelling.{kind_text}
+use Rattle.sw_rows.specs.declared.row.Row.{Row}
+use Rattle.sw_rows.specs.declared.query.Call.{Call}
+use Rattle.sw_rows.specs.Gives.{Raised}
+use Rattle.sw_rows.specs.declared.refusal.Refusal.{Refusal}
+use Rattle.sw_rows.specs.declared.refusal.Refusal.TheVariants as refusal
+use Rattle.sw_lang.specs.PrintedCalls.{call_text}
+use Rattle.sw_lang.specs.Sinks.{Took, TookBeginning}
+use Rattle.sw_lang.specs.Replies.{reply_lines}
+use Rattle.sw_spine.specs.History.{History}
+use Rattle.sw_spine.specs.declared.history.Entry.{Entry}
+use Rattle.sw_spine.specs.declared.history.State.{State}
+use Rattle.sw_spine.specs.declared.history.State.TheVariants as state
+
+abbrev pub list_data : List Data → Data
+list_data ds = array (items_of ds)
+
+-- an attribute, with its type
+abbrev pub attribute_text : Column → List ℕ
+attribute_text c = c.0 ++ (codes ":" ++ kind_text c.1)
+
+abbrev pub texts_data : List (List ℕ) → Data
+texts_data ts = list_data (map (λ t. string t) ts)
+
+abbrev pub cell_data : ℤ → Data
+cell_data z = number (of_integer z)
+
+-- the stored cells of a row of n attributes
+abbrev pub row_data : ℕ → Row → Data
+row_data n r = list_data (map cell_data (take n r.cells))
+
+-- the lines of a reply, or the word for a call that has none
+abbrev pub state_data : List Column → Call → State → Data
+state_data columns c (state.Answered r) = texts_data (reply_lines columns c r)
+state_data columns c (state.Lines ls) = texts_data ls
+state_data columns c state.Open = string (codes "open")
+state_data columns c state.Void = string (codes "void")
+
+abbrev pub entry_data : List Column → Entry → Data
+entry_data columns e =
+    object (member (codes "call") (string (call_text columns e.call))
+    (member (codes "reply") (state_data columns e.call e.state)
+    (member (codes "session") (number (unsigned e.session)) no_members)))
+
+-- the five members of the file
+abbrev pub whole_data : Data → Data → ℕ → Data → Data
+whole_data attributes entries limit rows =
+    object (member (codes "attributes") attributes
+    (member (codes "entries") entries
+    (member (codes "format") (number (unsigned 1))
+    (member (codes "limit") (number (unsigned limit))
+    (member (codes "rows") rows no_members)))))
+
+abbrev pub record_data : History → Data
+record_data h =
+    whole_data (texts_data (map attribute_text h.columns)) (list_data (map (entry_data h.columns) h.entries))
+    h.limit (list_data (map (row_data (length h.columns)) h.rows))
+
+-- the bytes of a record's file: no blanks, and in each object the keys ascend
+unfoldable pub record_text : History → List ℕ
+record_text h = compact_text (record_data h)
+
+-- what a refusal of a writer leaves: without memory nothing was written; after a failure a beginning of the text was
+abbrev pub Stops : Option (List ℕ) → Option (List ℕ) → ℕ → ℕ → List ℕ → Refusal → Type 0
+Stops old new failed_old failed_new text refusal.NoMemory = (new ≡ old) × (failed_new ≡ failed_old)
+Stops old new failed_old failed_new text refusal.Output = TookBeginning old new text × Raised failed_old failed_new
+Stops old new failed_old failed_new text other = ⊥
+
+-- a text went out whole, and the count of failures stands; or the refusal tells how much of it did
+pub record WritesText (old new : Option (List ℕ)) (failed_old failed_new : ℕ) (result : Result (Unit {0}) Refusal) (text : List ℕ) : Type 0 where
+  pub whole : OnOk result (Took old new text × (failed_new ≡ failed_old))
+  pub part : IfErr result (Stops old new failed_old failed_new text)
