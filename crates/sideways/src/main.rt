@@ -30,7 +30,9 @@ fn history<'a>(alloc: Global) -> Arg<'a> {
     Arg::new(alloc, "history")
         .long("history")
         .value_name("FILE")
-        .help("Where the history is written after the replies: the calls in order, each with its reply")
+        .help(
+            "Where the history is written after the replies: the calls in order, each with its reply",
+        )
         .action(ArgAction::Set)
 }
 
@@ -52,7 +54,11 @@ fn command<'a>(alloc: Global) -> Result<Command<'a>, clap::Error> {
             "table",
             "The table: comma-separated values, of which the first record names the attributes",
         ))?
-        .arg(file(alloc, "script", "The script: a call a line; a line --- divides blocks"))?
+        .arg(file(
+            alloc,
+            "script",
+            "The script: a call a line; a line --- divides blocks",
+        ))?
         .arg(limit(alloc))?
         .arg(history(alloc))?;
     let check = Command::new(alloc, "check")
@@ -171,7 +177,11 @@ fn check_path<R: Files + Print + AllocGlobal, E: Sink>(
     let Ok(bytes) = fs::read(rt, path) else {
         return refused(&Refusal::Input, errors);
     };
-    match check_file(rt.alloc(), bytes.as_slice(), &mut Counted::new(io::writer(rt))) {
+    match check_file(
+        rt.alloc(),
+        bytes.as_slice(),
+        &mut Counted::new(io::writer(rt)),
+    ) {
         Ok(verdict) => ExitCode::from(verdict),
         Err(refusal) => refused(&refusal, errors),
     }

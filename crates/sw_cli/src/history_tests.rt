@@ -168,6 +168,9 @@ fn faults_outside_the_entries(rt: HostRuntime) -> Result<(), Fail> {
     let blanks =
         b" { \"rows\" : [ ] , \"limit\" : 1048576 , \"format\" : 1 ,\n\"entries\" : [ ] , \"attributes\" : [ \"a:flag\" ] } ";
     assert!(rt; checks(alloc, blanks, 0, "legal: 0 entries\n"));
+    let doubled =
+        b"{\"attributes\":[\"a\"],\"entries\":[],\"format\":2,\"format\":1,\"limit\":1,\"rows\":[]}";
+    assert!(rt; checks(alloc, doubled, 0, "legal: 0 entries\n"));
     let zero = b"{\"attributes\":[\"a\"],\"entries\":[],\"format\":1,\"limit\":0,\"rows\":[]}";
     assert!(rt; refuses(alloc, zero, 0, Why::History));
     let more =
