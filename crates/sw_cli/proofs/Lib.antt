@@ -12,3 +12,4 @@ pub mod Waiting
 pub mod RecordTextLemmas
 pub mod RecordReadingLemmas
 pub mod FileCheckLemmas
+pub mod RecordLaws

@@ -150,7 +150,7 @@ cells_long kinds vs long =
     let same : (length (map view vs) == length kinds) ≡ true = grind (arith, nat_tests, views_long vs, long) in
     ap (λ b. cond b (option_map padded (cells_after [] kinds (map view vs))) None) same
 
-map_some : {A B : Type 0} (g : A → B) (o : Option A) (y : B) → option_map g o ≡ Some y → (x : A) × (o ≡ Some x) × (g x ≡ y)
+pub map_some : {A B : Type 0} (g : A → B) (o : Option A) (y : B) → option_map g o ≡ Some y → (x : A) × (o ≡ Some x) × (g x ≡ y)
 map_some g None y h = absurd (none-some y h)
 map_some g (Some x) y h = (x, refl, same_Some (g x) y h)
 

@@ -44,6 +44,10 @@ fn checks(alloc: Global, text: &[u8], status: u8, line: &str) -> bool {
     }
 }
 
+fn refusal_of(alloc: Global, text: &[u8]) -> Option<Refusal> {
+    read_record(alloc, text).err()
+}
+
 /// Whether a text is refused at this line for this reason.
 fn refuses(alloc: Global, text: &[u8], at: u32, reason: Why) -> bool {
     match read_record(alloc, text) {
@@ -152,11 +156,11 @@ fn faults_of_entries(rt: HostRuntime) -> Result<(), Fail> {
         alloc,
         "{\"call\":\"count where d = 1\",\"reply\":[\"4\"],\"session\":1}",
     )?;
-    let is_named = match read_record(alloc, unknown.as_bytes()) {
-        Err(Refusal::UnknownAttribute { name }) => name.as_str() == "d",
-        _ => false,
-    };
-    assert!(rt; is_named);
+    let refusal = refusal_of(alloc, unknown.as_bytes());
+    match refusal {
+        Some(Refusal::UnknownAttribute { name }) => assert!(rt; name.as_str() == "d"),
+        _ => assert!(rt; false),
+    }
     Ok(())
 }
 
@@ -168,6 +172,9 @@ fn faults_outside_the_entries(rt: HostRuntime) -> Result<(), Fail> {
     let blanks =
         b" { \"rows\" : [ ] , \"limit\" : 1048576 , \"format\" : 1 ,\n\"entries\" : [ ] , \"attributes\" : [ \"a:flag\" ] } ";
     assert!(rt; checks(alloc, blanks, 0, "legal: 0 entries\n"));
+    let doubled =
+        b"{\"attributes\":[\"a\"],\"entries\":[],\"format\":2,\"format\":1,\"limit\":1,\"rows\":[]}";
+    assert!(rt; checks(alloc, doubled, 0, "legal: 0 entries\n"));
     let zero = b"{\"attributes\":[\"a\"],\"entries\":[],\"format\":1,\"limit\":0,\"rows\":[]}";
     assert!(rt; refuses(alloc, zero, 0, Why::History));
     let more =

@@ -7,6 +7,7 @@ mod checking;
 mod desk;
 mod fault;
 pub mod fault_examples;
+mod history_law;
 mod plain;
 mod reading;
 mod running;
@@ -16,6 +17,7 @@ mod writing;
 
 pub use checking::check_file;
 pub use fault::{status, write_fault};
+pub use history_law::histories_are_read_as_related;
 pub use reading::read_record;
 pub use running::{Options, run};
 pub use script::{MOST_BLOCKS, MOST_CALLS};
