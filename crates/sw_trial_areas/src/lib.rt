@@ -2,6 +2,7 @@
 #![tactic(auto)]
 
 mod asking;
+pub mod examples;
 #[cfg(test)]
 mod mixes;
 #[cfg(test)]

@@ -28,17 +28,17 @@ impl Dice {
     }
 
     /// The next number below a limit, or 0.
-    fn roll(&mut self, below: u64) -> u64 {
+    fn roll(&mut self, below: u32) -> u32 {
         let mut x = self.state;
         x ^= x << 13;
         x ^= x >> 7;
         x ^= x << 17;
         self.state = x;
-        (x >> 11) % below.max(1)
+        u32::try_from(x >> 32).unwrap_or(0) % below.max(1)
     }
 
     /// Whether one of so many.
-    fn is_one_in(&mut self, many: u64) -> bool {
+    fn is_one_in(&mut self, many: u32) -> bool {
         self.roll(many) == 0
     }
 
@@ -47,7 +47,7 @@ impl Dice {
         match self.roll(40) {
             0 => i64::MIN,
             1 => i64::MAX,
-            _ => self.roll(24) as i64,
+            _ => i64::from(self.roll(24)),
         }
     }
 
@@ -71,9 +71,14 @@ impl Dice {
         Cond { attr, lower, upper }
     }
 
+    /// The number of one of five attributes.
+    fn number(&mut self) -> u8 {
+        u8::try_from(self.roll(5)).unwrap_or(0)
+    }
+
     /// One of five attributes.
     fn attribute(&mut self) -> usize {
-        self.roll(5) as usize
+        usize::from(self.number())
     }
 
     /// What is wanted.
@@ -169,12 +174,12 @@ fn mixed<M: CrackerMap>(
             return Ok(Outcome { wrong, told });
         }
         match dice.roll(16) {
-            0 => area.clear(Tail::Cell(dice.roll(5) as u8)),
+            0 => area.clear(Tail::Cell(dice.number())),
             1 => area.clear(Tail::Key),
             2 => {
                 let _cells = area.clear_oldest();
             }
-            3 => area.set_now(dice.roll(4)),
+            3 => area.set_now(u64::from(dice.roll(4))),
             _ => {}
         }
     }
@@ -201,14 +206,14 @@ fn mix<M: CrackerMap>(
 ) -> Result<Outcome, Fail>
     requires { All (λ m. M.held m ≡ blank) maps.items }
 {
-    let attribute = dice.attribute() as u8;
+    let attribute = dice.number();
     let from = if dice.is_one_in(2) {
-        Some(dice.roll(8) as i64)
+        Some(i64::from(dice.roll(8)))
     } else {
         None
     };
     let below = if dice.is_one_in(2) {
-        Some(dice.roll(12) as i64 + 12)
+        Some(i64::from(dice.roll(12)) + 12)
     } else {
         None
     };

@@ -202,9 +202,10 @@ pub(crate) fn play<M: CrackerMap>(alloc: Global, area: &mut Area<M>, watch: Watc
     requires { area.old.inbox ≡ [] }
     ensures { area.new.inbox ≡ [] }
 {
-    for (place, (step, expected)) in moves.iter().enumerate() {
-        let seen = make(alloc, area, watch, *step)?;
-        if seen.as_str() != *expected {
+    for place in 0..moves.len() {
+        let (step, expected) = moves[place];
+        let seen = make(alloc, area, watch, step)?;
+        if seen.as_str() != expected {
             return Ok(format!(in alloc; "{place}: {seen}")?);
         }
     }
