@@ -1,5 +1,5 @@
 -- Pieces of the worked examples, computed.
-use Rattle.std.proofs.Common.{◌≡◌, ◌×◌, ◌∷◌, [], pos, Some, None, refl, inr, arith}
+use Rattle.std.proofs.Common.{◌≡◌, ◌∷◌, [], pos, Some, None, refl, inr, arith}
 use Rattle.sw_rows.specs.declared.bound.Bound.TheVariants.{Before, After}
 use Rattle.sw_rows.specs.declared.row.Update.TheVariants.{Remove}
 use Rattle.sw_kernel.specs.Partition.{left_part, right_part}
