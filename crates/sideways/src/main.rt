@@ -42,7 +42,11 @@ fn command<'a>(alloc: Global) -> Result<Command<'a>, clap::Error> {
             "table",
             "The table: comma-separated values, of which the first record names the attributes",
         ))?
-        .arg(file(alloc, "script", "The script: a call a line"))?
+        .arg(file(
+            alloc,
+            "script",
+            "The script: a call a line; a line --- divides blocks",
+        ))?
         .arg(limit(alloc))?;
     Ok(
         Command::new(alloc, "sideways")

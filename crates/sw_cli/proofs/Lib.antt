@@ -1,6 +1,11 @@
+pub mod Blocks
 pub mod Calls
 pub mod Complete
 pub mod Desks
+pub mod Ending
+pub mod Passes
+pub mod Rest
+pub mod Returns
 pub mod Serving
 pub mod Starts
 pub mod Waiting

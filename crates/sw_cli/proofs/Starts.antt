@@ -1,6 +1,6 @@
 -- Why a run is refused before its first call.
-use Rattle.std.proofs.Common.{◌≡◌, ◌∙◌, ap, sym, subst, refl, ℕ, ◌+◌, ◌≤◌, ◌⊎◌, inl, inr, Bool, true, false, zero, suc, List, [], ◌∷◌, length, Option, Some, None, Result, Ok, Err, arith, slice_get, IfErr, IfOk, IfSome, add-one, eqb, ◌&&◌}
-use Rattle.std.proofs.lemmas.Bool.Decides.{Decides-eqb, nat_tests}
+use Rattle.std.proofs.Common.{◌≡◌, ap, subst, refl, ℕ, ◌+◌, ◌⊎◌, inl, inr, Bool, true, suc, List, [], ◌∷◌, length, Option, Some, None, Result, Ok, Err, arith, slice_get, IfErr, IfOk, IfSome, eqb, ◌&&◌}
+use Rattle.std.proofs.lemmas.Bool.Decides.{Decides-eqb}
 use Rattle.sw_rows.proofs.RowLaws.{keys-count}
 use Rattle.sw_rows.specs.Gives.{Fails}
 use Rattle.sw_rows.specs.Tables.{Table, table_of}

@@ -1,5 +1,6 @@
--- The calls of a script.
-use Rattle.std.specs.Prelude.{◌≡◌, ◌+◌, ◌++◌, ℕ, List, [], ◌∷◌, length, map, nat_lt, Option, Some, None, Result, Ok, Err, if◌then◌else◌}
+-- The blocks of a script, and their calls.
+use Rattle.std.specs.Prelude.{◌≡◌, ◌≤◌, ◌<◌, ◌+◌, ◌++◌, ◌&&◌, ℕ, Bool, All, List, [], ◌∷◌, bytes_eq, codes, drop, take, length, map, nat_le, nat_lt, Option, Some, None, Result, Ok, Err, if◌then◌else◌}
+use Rattle.std.specs.List.{list_all}
 use Rattle.std.specs.Str.{is_utf8}
 use Rattle.bstr.specs.Text.{lines_of, without_terminator}
 use Rattle.sw_rows.specs.Header.{Column}
@@ -8,6 +9,8 @@ use Rattle.sw_rows.specs.declared.refusal.Refusal.{Refusal}
 use Rattle.sw_rows.specs.declared.refusal.Refusal.TheVariants.{BadLine, TooMany}
 use Rattle.sw_rows.specs.declared.refusal.Why.TheVariants as why
 use Rattle.sw_lang.specs.Reading.{Answers, line_at, refused}
+use Rattle.sw_lang.specs.Tokens.{is_blank}
+use Rattle.sw_spine.specs.History.{CallsBelow}
 
 infixl 10 ◌>>=◌
 abbrev pub ◌>>=◌ : {A B : Type 0} → Result A Refusal → (A → Result B Refusal) → Result B Refusal
@@ -18,6 +21,10 @@ abbrev pub ◌>>=◌ : {A B : Type 0} → Result A Refusal → (A → Result B R
 abbrev pub script_lines : List ℕ → List (List ℕ)
 script_lines text = map without_terminator (lines_of text)
 
+-- whether a line divides blocks: it has at most 4,096 bytes, `---` and then spaces and tabs alone
+abbrev pub is_divider : List ℕ → Bool
+is_divider line = nat_le (length line) 4096 && (bytes_eq (take 3 line) (codes "---") && list_all is_blank (drop 3 line))
+
 -- the call of line n, if it has one; its length is looked at first, and then whether it is UTF-8
 abbrev pub call_of_line : List Column → ℕ → List ℕ → Result (Option Call) Refusal
 call_of_line columns n line =
@@ -25,21 +32,62 @@ call_of_line columns n line =
     else if is_utf8 line then refused n (line_at columns line)
     else Err (BadLine n why.Encoding)
 
--- the calls so far and that of one more line; call 1,048,577 is too many
-abbrev pub with_call : List Call → Option Call → Result (List Call) Refusal
-with_call calls None = Ok calls
-with_call calls (Some c) = if nat_lt (length calls) 1048576 then Ok (calls ++ c ∷ []) else Err (TooMany 1048576)
+-- how many calls blocks have
+abbrev pub calls_in : List (List Call) → ℕ
+calls_in [] = 0
+calls_in (b ∷ bs) = length b + calls_in bs
 
--- the calls so far and those of further lines, of which the first is line n
-abbrev pub calls_after : List Column → ℕ → List Call → List (List ℕ) → Result (List Call) Refusal
-calls_after columns n calls [] = Ok calls
-calls_after columns n calls (l ∷ ls) = call_of_line columns n l >>= λ c. (with_call calls c >>= λ more. calls_after columns (n + 1) more ls)
+-- the blocks of the lines so far, the last one apart
+pub record SoFar : Type 0 where
+  pub closed : List (List Call)
+  pub last : List Call
 
--- the calls of a script, or the first fault in the order of its lines
-abbrev pub calls_of : List Column → List ℕ → Result (List Call) Refusal
-calls_of columns text = calls_after columns 1 [] (script_lines text)
+abbrev pub so_far : List (List Call) → List Call → SoFar
+so_far closed last = record { closed = closed; last = last }
+
+abbrev pub all_blocks : SoFar → List (List Call)
+all_blocks p = p.closed ++ p.last ∷ []
+
+-- one more block begins; block 1,025 is too many
+abbrev pub with_block : SoFar → Result SoFar Refusal
+with_block p = if nat_lt (length (all_blocks p)) 1024 then Ok (so_far (all_blocks p) []) else Err (TooMany 1024)
+
+-- one more line's call, if it has one; call 1,048,577 of the script is too many
+abbrev pub with_call : SoFar → Option Call → Result SoFar Refusal
+with_call p None = Ok p
+with_call p (Some c) = if nat_lt (calls_in p.closed + length p.last) 1048576 then Ok (so_far p.closed (p.last ++ c ∷ [])) else Err (TooMany 1048576)
+
+-- one more line, which is line n
+abbrev pub with_line : List Column → ℕ → SoFar → List ℕ → Result SoFar Refusal
+with_line columns n p line = if is_divider line then with_block p else call_of_line columns n line >>= with_call p
+
+-- further lines, of which the first is line n
+abbrev pub with_lines : List Column → ℕ → SoFar → List (List ℕ) → Result SoFar Refusal
+with_lines columns n p [] = Ok p
+with_lines columns n p (l ∷ ls) = with_line columns n p l >>= λ q. with_lines columns (n + 1) q ls
+
+-- the calls of the blocks of a script, or the first fault in the order of its lines
+abbrev pub blocks_of : List Column → List ℕ → Result (List (List Call)) Refusal
+blocks_of columns text = with_lines columns 1 (so_far [] []) (script_lines text) >>= λ p. Ok (all_blocks p)
 
 -- what was answered, seen by view, is what the text says, unless memory ran out
 abbrev pub Reads : {X Y : Type 0} → (X → Y) → Result X Refusal → Result Y Refusal → Type 0
 Reads view (Ok x) said = said ≡ Ok (view x)
 Reads {X} {Y} view (Err e) said = Answers {A = Y} (Err e) said
+
+-- calls name attributes of the first n alone
+abbrev pub AllCallsBelow : ℕ → List Call → Type 0
+AllCallsBelow n cs = All (CallsBelow n) cs
+
+-- what holds of the blocks so far: their calls name attributes of the first n alone, and neither blocks nor calls are too many
+pub record AreSound (n : ℕ) (p : SoFar) : Type 0 where
+  pub below : All (AllCallsBelow n) p.closed
+  pub below_last : AllCallsBelow n p.last
+  pub few : length p.closed < 1024
+  pub short : calls_in p.closed + length p.last ≤ 1048576
+
+-- and of all blocks
+pub record AreBlocks (n : ℕ) (bs : List (List Call)) : Type 0 where
+  pub below : All (AllCallsBelow n) bs
+  pub few : length bs ≤ 1024
+  pub short : calls_in bs ≤ 1048576

@@ -1,11 +1,13 @@
 //! A sink that is written by the block.
 
-ghost use Rattle.std.specs.Prelude.{◌≡◌, ◌≤◌, IfOk, [], drop, OnOk, OnErr, vec_capacity, vec_len};
+ghost use Rattle.std.specs.Prelude.{◌≡◌, ◌≤◌, IfOk, [], ◌∷◌, List, ℕ, Option, None, drop, OnOk, OnErr, true, vec_capacity, vec_len};
 ghost use Rattle.std.specs.Io.KnownBytes.{Keeps, append_known};
 ghost use Rattle.sw_rows.specs.Gives.{Raised};
+ghost use Rattle.sw_cli.specs.Sent.{extends};
 
 use std::alloc::{AllocError, Global};
 use std::io;
+use std::marker::{Brand, PhantomData};
 use sw_rows::Sink;
 
 /// How many bytes a block has.
@@ -18,20 +20,34 @@ pub(crate) fn block(alloc: Global) -> Result<Vec<u8>, AllocError>
     Vec::with_capacity(alloc, BLOCK)
 }
 
-/// A sink behind a block of 64 KiB, which it is given when the block is full and at `send`.
+/// What a sink had taken when a block was put before it. It stands in contracts alone: a call with `Brand` picks it.
+pub(crate) trait Base {
+    /// The bytes, where they are known.
+    ghost base: { Option (List ℕ) };
+}
+
+impl Base for Brand {
+    ghost base = { None };
+}
+
+/// A sink behind a block of 64 KiB, which it is given when the block is full and at `send`. What the sink took since the
+/// block was put before it comes after what it had taken then.
 #[derive(Drop)]
-pub(crate) struct Buffered<W: Sink> {
+pub(crate) struct Buffered<J: Base, W: Sink> {
     sink: W,
     block: Vec<u8>,
     sent: usize,
+    since: PhantomData<J>,
     ghost room: { 65536 ≤ vec_capacity block },
     ghost filled: { vec_len block ≤ 65536 },
     ghost waiting: { sent ≤ vec_len block },
+    ghost after: { extends J.base (W.taken sink) ≡ true },
 }
 
-impl<W: Sink> Buffered<W> {
+impl<J: Base, W: Sink> Buffered<J, W> {
     /// An empty block before a sink.
-    pub(crate) fn new(block: Vec<u8>, sink: W) -> Buffered<W>
+    pub(crate) fn new(block: Vec<u8>, sink: W) -> Buffered<J, W>
+        requires base { J.base ≡ W.taken sink }
         requires empty { block.items ≡ [] }
         requires room { 65536 ≤ vec_capacity block }
         ensures taken { append_known (W.taken result.sink) (drop result.sent result.block.items) ≡ append_known (W.taken sink) [] }
@@ -41,18 +57,16 @@ impl<W: Sink> Buffered<W> {
             sink,
             block,
             sent: 0,
+            since: PhantomData,
         }
     }
 
     /// The sink, without what it has not been given.
     pub(crate) fn into_sink(self) -> W
-        ensures { result ≡ self.sink }
+        ensures sink { result ≡ self.sink }
+        ensures after { extends J.base (W.taken result) ≡ true }
     {
-        let Buffered {
-            sink,
-            block: _,
-            sent: _,
-        } = self;
+        let Buffered { sink, .. } = self;
         sink
     }
 
@@ -73,7 +87,7 @@ impl<W: Sink> Buffered<W> {
     }
 }
 
-impl<W: Sink> Sink for Buffered<W> {
+impl<J: Base, W: Sink> Sink for Buffered<J, W> {
     ghost taken = { λ s. append_known (W.taken s.sink) (drop s.sent s.block.items) };
 
     ghost failed = { λ s. W.failed s.sink };

@@ -13,7 +13,7 @@ mod start;
 
 pub use fault::{status, write_fault};
 pub use running::{Options, run};
-pub use script::MOST_CALLS;
+pub use script::{MOST_BLOCKS, MOST_CALLS};
 
 #[cfg(test)]
 mod fault_tests;

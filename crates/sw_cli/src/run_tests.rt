@@ -94,6 +94,8 @@ fn kinds_of_cells(rt: HostRuntime) -> Result<(), Fail> {
     let script = "select price where ok = true\nsum price\nmin price\nmax ok\nsum ok\n";
     let wanted = "1: 7.50\n3: 3.00\n(2 rows)\n10.25\n-0.25\ntrue\n2\n";
     assert!(rt; prints(alloc, table, script, wanted));
+    let below = "select price where price < 0.2";
+    assert!(rt; prints(alloc, table, below, "2: -0.25\n(1 rows)\n"));
     Ok(())
 }
 
@@ -112,17 +114,101 @@ fn faults_before_any_call(rt: HostRuntime) -> Result<(), Fail> {
         Some(Refusal::UnknownAttribute { name }) => assert!(rt; name.as_str() == "d"),
         _ => assert!(rt; false),
     }
-    let (bytes, refusal) = ran(alloc, T, "count\n---\ncount\n", LIMIT)?;
+    let value = "count\ninsert 9.999, true\n";
+    let (bytes, refusal) = ran(alloc, "price:fix2,ok:flag\n", value, LIMIT)?;
     assert!(rt; bytes.is_empty());
-    assert!(rt;
-        matches!(
-            refusal,
-            Some(Refusal::BadLine {
-                line: 2,
-                why: Why::Word
-            })
-        )
-    );
+    assert!(rt; is_bad_line(&refusal, 2, Why::Value));
+    Ok(())
+}
+
+fn is_bad_line(refusal: &Option<Refusal>, line: u32, why: Why) -> bool {
+    match refusal {
+        Some(Refusal::BadLine { line: at, why: is }) => *at == line && *is == why,
+        _ => false,
+    }
+}
+
+#[test]
+fn equal_cells(rt: HostRuntime) -> Result<(), Fail> {
+    let alloc = rt.alloc();
+    let table = "a\n5\n5\n5\n";
+    let script =
+        "count where a = 5\ncount where a < 5\ninsert 7\ninsert 4\nselect a where a <= 5\n";
+    let wanted = "3\n0\nkey 4\nkey 5\n1: 5\n2: 5\n3: 5\n5: 4\n(4 rows)\n";
+    assert!(rt; prints(alloc, table, script, wanted));
+    let greatest =
+        "x\n9223372036854775807\n9223372036854775807\n9223372036854775807\n9223372036854775807\n";
+    assert!(rt; prints(alloc, greatest, "sum x", "36893488147419103228\n"));
+    Ok(())
+}
+
+#[test]
+fn updates_between_selects(rt: HostRuntime) -> Result<(), Fail> {
+    let alloc = rt.alloc();
+    let first = "select b where a >= 10 and a <= 15\n";
+    let replies = "1: 7\n3: 5\n(2 rows)\n";
+    let insert = format!(in alloc; "{first}insert 1, 9, 0\ncount where a < 10\n")?;
+    let wanted = format!(in alloc; "{replies}key 5\n2\n")?;
+    assert!(rt; prints(alloc, T, insert.as_str(), wanted.as_str()));
+    let delete = format!(in alloc; "{first}delete 2\nselect a where a >= 10\n")?;
+    let wanted = format!(in alloc; "{replies}removed\n1: 12\n3: 12\n4: 20\n(3 rows)\n")?;
+    assert!(rt; prints(alloc, T, delete.as_str(), wanted.as_str()));
+    // A row that was inserted and deleted before any select, and rows deleted between two.
+    let script = "insert 1, 1, 1\ndelete 5\ndelete 1\ncount\ninsert 2, 2, 2\ndelete 4\nselect a\n";
+    let wanted = "key 5\nremoved\nremoved\n3\nkey 6\nremoved\n2: 3\n3: 12\n6: 2\n(3 rows)\n";
+    assert!(rt; prints(alloc, T, script, wanted));
+    Ok(())
+}
+
+#[test]
+fn blocks(rt: HostRuntime) -> Result<(), Fail> {
+    let alloc = rt.alloc();
+    let script = "count\n---\ninsert 1, 9, 0\ncount\n";
+    assert!(rt; prints(alloc, T, script, "4\n---\nkey 5\n5\n"));
+    let three = "count\n--- \t\n# none\n---\r\ndelete 1\ncount";
+    assert!(rt; prints(alloc, T, three, "4\n---\n---\nremoved\n3\n"));
+    assert!(rt; prints(alloc, T, "", ""));
+    assert!(rt; prints(alloc, T, "---", "---\n"));
+    assert!(rt; prints(alloc, T, "---\ncount\n", "---\n4\n"));
+    assert!(rt; prints(alloc, T, "count\n---\n", "4\n---\n"));
+    for (script, line, why) in [
+        ("count\n ---\n", 2, Why::Word),
+        ("count\n----\n", 2, Why::Word),
+        ("count\n--- count\n", 2, Why::Word),
+        ("---\ncount\n---\ncount where", 4, Why::End),
+    ] {
+        let (bytes, refusal) = ran(alloc, T, script, LIMIT)?;
+        assert!(rt; bytes.is_empty());
+        assert!(rt; is_bad_line(&refusal, line, why), "{script}");
+    }
+    Ok(())
+}
+
+/// A line so many times, and then another text.
+fn repeated(alloc: Global, line: &str, times: usize, end: &str) -> Result<String, AllocError> {
+    let mut text = String::new(alloc);
+    for _ in 0..times {
+        text.push_str(line)?;
+    }
+    text.push_str(end)?;
+    Ok(text)
+}
+
+#[test]
+fn limits_of_scripts(rt: HostRuntime) -> Result<(), Fail> {
+    let alloc = rt.alloc();
+    let most = repeated(alloc, "---\n", 1023, "count\n")?;
+    let (bytes, refusal) = ran(alloc, T, most.as_str(), LIMIT)?;
+    assert!(rt; refusal.is_none());
+    assert_eq!(rt; bytes.len(), 1023 * 4 + 2);
+    let more = repeated(alloc, "---\n", 1024, "fault\n")?;
+    let (bytes, refusal) = ran(alloc, T, more.as_str(), LIMIT)?;
+    assert!(rt; bytes.is_empty());
+    assert!(rt; matches!(refusal, Some(Refusal::TooMany { limit: 1024 })));
+    let long = repeated(alloc, " ", 4097, "\n")?;
+    let script = format!(in alloc; "count\n---{long}")?;
+    let (_, refusal) = ran(alloc, T, script.as_str(), LIMIT)?;
+    assert!(rt; is_bad_line(&refusal, 2, Why::Length));
     Ok(())
 }
 

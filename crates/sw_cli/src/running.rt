@@ -1,26 +1,27 @@
 //! A run, from two sources to a sink.
 
-ghost use Rattle.std.specs.Prelude.{◌≡◌, ◌<◌, ◌≤◌, ◌⊎◌, ◌+◌, ℕ, Bool, List, true, [], length, IfErr, IfOk, OnErr, OnOk, vec_capacity};
-ghost use Rattle.std.specs.Io.KnownBytes.{Keeps, append_known};
-ghost use Rattle.sw_lang.specs.Sinks.{TookBeginning, Took};
+ghost use Rattle.std.specs.Prelude.{◌≡◌, ◌<◌, ◌≤◌, ◌⊎◌, ℕ, Bool, List, true, length, IfErr, IfOk, OnOk};
+ghost use Rattle.std.specs.Io.KnownBytes.{Keeps};
 ghost use Rattle.sw_rows.specs.Gives.{Raised};
 ghost use Rattle.sw_rows.specs.declared.query.Call.{Call};
-ghost use Rattle.sw_spine.specs.Books.{new_books, took, with_session};
+ghost use Rattle.sw_spine.specs.Books.{new_books};
 ghost use Rattle.sw_spine.specs.History.{IsLegal};
 ghost use Rattle.sw_spine.specs.Table.{is_numbered};
-ghost use Rattle.sw_rows.specs.Updates.{rows_of};
-ghost use Rattle.sw_cli.specs.Desks.{AllCallsBelow, IsReady, IsServed, Served, done_from};
-ghost use Rattle.sw_cli.specs.Run.{Leaves, calls_made, done_by, start_of};
+ghost use Rattle.sw_cli.specs.Desks.{IsServed, Served, ended_from, with_sessions};
 ghost use Rattle.sw_cli.specs.Jobs.{IsJob};
+ghost use Rattle.sw_cli.specs.Plain.{listed};
+ghost use Rattle.sw_cli.specs.Run.{blocks_made};
 ghost use Rattle.sw_cli.specs.Starts.{Goes, IfBoth, IsStart, Ran, TellsRun, WritesAll, start_seen};
 
-use crate::buffered::{Buffered, block};
-use crate::desk::make_all;
+use crate::buffered::{Base, Buffered, block};
+use crate::desk::make_blocks;
 use crate::plain::Plain;
+use crate::script::Block;
 use crate::start::{Opened, read_start};
 use core::mem::replace_with;
 use std::alloc::Global;
-use sw_rows::{Call, Refusal, Row, Schema, Sink, Source};
+use std::marker::Brand;
+use sw_rows::{Refusal, Row, Schema, Sink, Source};
 use sw_spine::{Record, Spine};
 
 /// What a run is told besides its files.
@@ -30,21 +31,36 @@ pub struct Options {
     pub limit: u64,
 }
 
-/// The number of a run's one session.
-const SESSION: u64 = 1;
+/// Opens so many sessions of a spine that has none.
+fn open_sessions(spine: &mut Spine, count: usize) -> Result<(), Refusal>
+    requires none { spine.old.sessions ≡ 0 }
+    requires few { count ≤ 1024 }
+    ensures opened { OnOk result (spine.new ≡ with_sessions count spine.old) }
+    ensures refused { IfErr result (λ e. e ≡ Refusal.NoMemory) }
+{
+    for _ in 0..count {
+        match spine.open_session() {
+            Ok(_) => {}
+            Err(_) => return Err(Refusal::NoMemory),
+        }
+    }
+    Ok(())
+}
 
-/// A spine of these rows with one session, and a plain list of them.
+/// A spine of these rows with so many sessions, and a plain list of them.
 fn open_desk(
     alloc: Global,
     schema: Schema,
     rows: Vec<Row>,
     limit: u64,
+    sessions: usize,
 ) -> Result<(Spine, Plain), Refusal>
     requires some { 0 < limit }
     requires most { limit ≤ 1048576 }
     requires numbered { is_numbered 1 rows.items ≡ true }
     requires few { length rows.items ≤ limit }
-    ensures desk { IfOk result (λ d. (d.0 ≡ with_session (new_books schema rows.items limit)) × (d.1 ≡ rows.items)) }
+    requires sessions { sessions ≤ 1024 }
+    ensures desk { IfOk result (λ d. (d.0 ≡ with_sessions sessions (new_books schema rows.items limit)) × (d.1 ≡ listed rows.items)) }
     ensures refused { IfErr result (λ e. e ≡ Refusal.NoMemory) }
 {
     let Ok(copy) = Vec::from_slice(alloc, rows.as_slice()) else {
@@ -53,41 +69,41 @@ fn open_desk(
     let Ok(mut spine) = Spine::new(alloc, schema, rows, limit) else {
         return Err(Refusal::NoMemory);
     };
-    match spine.open_session() {
-        Ok(_) => Ok((spine, Plain::new(alloc, copy))),
-        Err(_) => Err(Refusal::NoMemory),
+    match open_sessions(&mut spine, sessions) {
+        Ok(()) => Ok((spine, Plain::new(alloc, copy))),
+        Err(e) => Err(e),
     }
 }
 
-/// The calls of a session with what answers them, and a block of memory.
+/// The blocks of a script with what answers their calls, and the memory of a block of bytes.
 #[derive(Drop)]
 struct Job {
     alloc: Global,
-    block: Vec<u8>,
+    memory: Vec<u8>,
     spine: Spine,
     plain: Plain,
-    calls: Vec<Call>,
+    blocks: Vec<Block>,
 }
 
-/// Makes the calls of a session through a block before a sink, and hands the sink back.
-fn serve<W: Sink>(sink: W, job: Job) -> (W, Result<Record, Refusal>)
-    requires { IsJob job }
-    ensures { (made : List (Call × Bool)) × Served (W.taken sink) (W.taken result.0) (W.failed sink) (W.failed result.0) result.1 (done_from SESSION job.spine made).text × IfOk result.1 (λ left. (calls_made made ≡ job.calls.items) × IsServed SESSION made job.spine left) }
+/// Makes the blocks of a script through a block of bytes before a sink, and hands the sink back.
+fn serve_since<J: Base, W: Sink>(sink: W, job: Job) -> (W, Result<Record, Refusal>)
+    requires base { J.base ≡ W.taken sink }
+    requires job { IsJob job }
+    ensures { (made : List (List (Call × Bool))) × (blocks_made made ≡ job.blocks.items) × Served (W.taken sink) (W.taken result.0) (W.failed sink) (W.failed result.0) result.1 (ended_from job.spine made).text × IfOk result.1 (IsServed made job.spine) }
 {
     let Job {
         alloc,
-        block,
+        memory,
         mut spine,
         mut plain,
-        calls,
+        blocks,
     } = job;
-    let mut buffered = Buffered::new(block, sink);
-    match make_all(
+    let mut buffered: Buffered<J, W> = Buffered::new(memory, sink);
+    match make_blocks(
         alloc,
         &mut spine,
         &mut plain,
-        SESSION,
-        calls.as_slice(),
+        blocks.as_slice(),
         &mut buffered,
     ) {
         Ok(()) => match buffered.send() {
@@ -98,7 +114,15 @@ fn serve<W: Sink>(sink: W, job: Job) -> (W, Result<Record, Refusal>)
     }
 }
 
-/// Makes the calls of a run that was opened.
+/// The same from what the sink has taken now.
+fn serve<W: Sink>(sink: W, job: Job) -> (W, Result<Record, Refusal>)
+    requires { IsJob job }
+    ensures { (made : List (List (Call × Bool))) × (blocks_made made ≡ job.blocks.items) × Served (W.taken sink) (W.taken result.0) (W.failed sink) (W.failed result.0) result.1 (ended_from job.spine made).text × IfOk result.1 (IsServed made job.spine) }
+{
+    serve_since::<Brand, W>(sink, job)
+}
+
+/// Makes the blocks of a run that was opened.
 fn begin<W: Sink>(alloc: Global, opened: Opened, limit: u64, out: &mut W) -> Result<Record, Refusal>
     requires some { 0 < limit }
     requires most { limit ≤ 1048576 }
@@ -108,19 +132,19 @@ fn begin<W: Sink>(alloc: Global, opened: Opened, limit: u64, out: &mut W) -> Res
     let Opened {
         schema,
         rows,
-        calls,
+        blocks,
     } = opened;
-    let Ok(block) = block(alloc) else {
+    let Ok(memory) = block(alloc) else {
         return Err(Refusal::NoMemory);
     };
-    match open_desk(alloc, schema, rows, limit) {
+    match open_desk(alloc, schema, rows, limit, blocks.len()) {
         Ok((spine, plain)) => {
             let job = Job {
                 alloc,
-                block,
+                memory,
                 spine,
                 plain,
-                calls,
+                blocks,
             };
             replace_with(out, job, serve)
         }
@@ -128,8 +152,8 @@ fn begin<W: Sink>(alloc: Global, opened: Opened, limit: u64, out: &mut W) -> Res
     }
 }
 
-/// Reads a table and a script of one block, makes the script's calls one after another as one session, and writes the lines
-/// of their replies.
+/// Reads a table and a script, makes the calls of the script's blocks one block after another, block i as session i, and
+/// writes the lines of their replies, with a line `---` between two blocks.
 ///
 /// The table is read first, then the script; then the rows are held against the limit. The first fault in that order
 /// refuses the run before any call: `BadTable`, `BadLine`, `UnknownAttribute`, `TooMany`, `Input` where a source failed, or

@@ -1,19 +1,68 @@
-//! The calls of a script.
+//! The blocks of a script, and their calls.
 
-ghost use Rattle.std.specs.Prelude.{◌≡◌, ◌≤◌, length, IfErr, IfOk, IfSome, OnOk};
+ghost use Rattle.std.specs.Prelude.{◌≡◌, ◌≤◌, ◌+◌, ℕ, [], length, IfErr, IfOk, IfSome, OnOk};
+ghost use Rattle.std.specs.List.{list_all};
 ghost use Rattle.sw_lang.specs.Reading.{Answers};
+ghost use Rattle.sw_lang.specs.Tokens.{is_blank};
 ghost use Rattle.sw_spine.specs.History.{CallsBelow};
-ghost use Rattle.sw_cli.specs.Desks.{AllCallsBelow};
+ghost use Rattle.sw_cli.specs.Script.{AreBlocks, AreSound, Reads, all_blocks, blocks_of, call_of_line, calls_in, is_divider, so_far, with_block, with_call, with_line};
 ghost use Rattle.sw_cli.specs.Starts.{TellsText};
-ghost use Rattle.sw_cli.specs.Script.{call_of_line, calls_of, with_call, Reads};
 
 use bstr::ByteSlice;
+use core::mem::replace;
 use std::alloc::Global;
+use std::marker::Model;
 use sw_lang::{MOST_LINE, parse_line};
 use sw_rows::{Call, Refusal, Schema, Why};
 
 /// How many calls a script has at most.
 pub const MOST_CALLS: usize = 1_048_576;
+
+/// How many blocks a script has at most.
+pub const MOST_BLOCKS: usize = 1_024;
+
+/// The calls of a block. Contracts see a list.
+#[derive(Drop)]
+pub(crate) struct Block {
+    calls: Vec<Call>,
+}
+
+impl Model for Block {
+    ghost use Rattle.std.specs.Prelude.{List};
+    ghost use Rattle.sw_rows.specs.declared.query.Call.{Call};
+
+    ghost Value = { List Call };
+
+    ghost view = { λ b. b.calls.items };
+}
+
+impl Block {
+    /// The calls.
+    pub(crate) fn calls(&self) -> &[Call]
+        ensures { result.now ≡ self.now }
+    {
+        self.calls.as_slice()
+    }
+}
+
+fn is_blank(bytes: &[u8]) -> bool
+    ensures { result ≡ list_all is_blank bytes.now }
+{
+    bytes.iter().all(|byte| *byte == b' ' || *byte == b'\t')
+}
+
+/// Whether a line divides blocks.
+fn is_divider(line: &[u8]) -> bool
+    ensures { result ≡ is_divider line.now }
+{
+    if line.len() > MOST_LINE {
+        return false;
+    }
+    match line.strip_prefix(b"---".as_slice()) {
+        Some(rest) => is_blank(rest),
+        None => false,
+    }
+}
 
 /// The call of a line of this number, if it has one.
 fn call_of_line(
@@ -39,49 +88,139 @@ fn call_of_line(
     }
 }
 
-/// Adds a line's call, if it has one, to those of the lines before.
-fn add_call(calls: &mut Vec<Call>, call: Option<Call>) -> Result<(), Refusal>
-    requires { length calls.old.items ≤ 1048576 }
-    ensures answers { Reads (λ _. calls.new.items) result (with_call calls.old.items call) }
-    ensures short { OnOk result (length calls.new.items ≤ 1048576) }
-    ensures why { IfErr result TellsText }
-{
-    let Some(call) = call else {
-        return Ok(());
-    };
-    if calls.len() >= MOST_CALLS {
-        let limit = MOST_CALLS as u64;
-        return Err(Refusal::TooMany { limit });
+/// The blocks of the lines so far, the last one apart. Contracts see both.
+#[derive(Drop)]
+struct Blocks {
+    closed: Vec<Block>,
+    last: Vec<Call>,
+    before: usize,
+}
+
+impl Model for Blocks {
+    ghost use Rattle.std.specs.Prelude.{◌≡◌};
+    ghost use Rattle.sw_cli.specs.Script.{SoFar, calls_in, so_far};
+
+    ghost Value = { SoFar };
+
+    ghost view = { λ p. so_far p.closed.items p.last.items };
+
+    ghost invariant = { λ p. p.before ≡ calls_in p.closed.items };
+}
+
+impl Blocks {
+    /// One block without calls.
+    fn new(alloc: Global) -> Blocks
+        ensures { result ≡ so_far [] [] }
+    {
+        Blocks {
+            closed: Vec::new(alloc),
+            last: Vec::new(alloc),
+            before: 0,
+        }
     }
-    match calls.push(call) {
-        Ok(()) => Ok(()),
-        Err(_) => Err(Refusal::NoMemory),
+
+    /// Begins a block.
+    fn divide(&mut self, alloc: Global) -> Result<(), Refusal>
+        requires { calls_in self.old.closed + length self.old.last ≤ 1048576 }
+        ensures answers { Reads (λ _. self.new) result (with_block self.old) }
+        ensures sound { (n : ℕ) → AreSound n self.old → OnOk result (AreSound n self.new) }
+        ensures why { IfErr result TellsText }
+    {
+        if self.closed.len() + 1 >= MOST_BLOCKS {
+            let limit = MOST_BLOCKS as u64;
+            return Err(Refusal::TooMany { limit });
+        }
+        if self.closed.reserve(1).is_err() {
+            return Err(Refusal::NoMemory);
+        }
+        self.before += self.last.len();
+        let calls = replace(&mut self.last, Vec::new(alloc));
+        self.closed.push_reserved(Block { calls });
+        Ok(())
+    }
+
+    /// Adds a line's call, if it has one.
+    fn add(&mut self, call: Option<Call>) -> Result<(), Refusal>
+        requires { calls_in self.old.closed + length self.old.last ≤ 1048576 }
+        ensures answers { Reads (λ _. self.new) result (with_call self.old call) }
+        ensures sound { (n : ℕ) → IfSome call (CallsBelow n) → AreSound n self.old → OnOk result (AreSound n self.new) }
+        ensures why { IfErr result TellsText }
+    {
+        let Some(call) = call else {
+            return Ok(());
+        };
+        if self.before + self.last.len() >= MOST_CALLS {
+            let limit = MOST_CALLS as u64;
+            return Err(Refusal::TooMany { limit });
+        }
+        match self.last.push(call) {
+            Ok(()) => Ok(()),
+            Err(_) => Err(Refusal::NoMemory),
+        }
+    }
+
+    /// Reads one more line, of this number.
+    fn read(
+        &mut self,
+        alloc: Global,
+        schema: &Schema,
+        number: u32,
+        line: &[u8],
+    ) -> Result<(), Refusal>
+        requires { AreSound (length schema.now) self.old }
+        ensures answers { Reads (λ _. self.new) result (with_line schema.now number self.old line.now) }
+        ensures sound { OnOk result (AreSound (length schema.now) self.new) }
+        ensures why { IfErr result TellsText }
+    {
+        if is_divider(line) {
+            return self.divide(alloc);
+        }
+        match call_of_line(alloc, schema, number, line) {
+            Ok(call) => self.add(call),
+            Err(e) => Err(e),
+        }
+    }
+
+    /// All blocks.
+    fn close(self) -> Result<Vec<Block>, Refusal>
+        ensures all { IfOk result (λ blocks. blocks.items ≡ all_blocks self) }
+        ensures refused { IfErr result (λ e. e ≡ Refusal.NoMemory) }
+    {
+        let Blocks {
+            mut closed,
+            last,
+            ..
+        } = self;
+        match closed.push(Block { calls: last }) {
+            Ok(()) => Ok(closed),
+            Err(_) => Err(Refusal::NoMemory),
+        }
     }
 }
 
-/// The calls of a script's lines, in order.
+/// The calls of a script's blocks, in the order of its lines. A line `---` divides two blocks; a block may have no calls.
 ///
 /// The first fault in the order of lines refuses it: `BadLine` with the line's number, from 1, and why `Length` where it has
-/// more than 4,096 bytes, `Encoding` where it is not UTF-8, or what `parse_line` finds; `UnknownAttribute`; `TooMany` at
-/// the call number 1,048,577.
-pub(crate) fn read_calls(alloc: Global, schema: &Schema, text: &[u8]) -> Result<Vec<Call>, Refusal>
+/// more than 4,096 bytes, `Encoding` where it is not UTF-8, or what `parse_line` finds; `UnknownAttribute`; `TooMany` of
+/// 1,048,576 at the call of that number and one, and of 1,024 at the line that begins block 1,025.
+pub(crate) fn read_blocks(
+    alloc: Global,
+    schema: &Schema,
+    text: &[u8],
+) -> Result<Vec<Block>, Refusal>
     requires { length text.now ≤ 268435456 }
-    ensures answers { Reads (λ calls. calls.items) result (calls_of schema.now text.now) }
-    ensures below { IfOk result (λ calls. AllCallsBelow (length schema.now) calls.items) }
-    ensures short { IfOk result (λ calls. length calls.items ≤ 1048576) }
+    ensures answers { Reads (λ blocks. blocks.items) result (blocks_of schema.now text.now) }
+    ensures sound { IfOk result (λ blocks. AreBlocks (length schema.now) blocks.items) }
     ensures why { IfErr result TellsText }
 {
-    let mut calls: Vec<Call> = Vec::new(alloc);
+    let mut blocks = Blocks::new(alloc);
     let mut number: u32 = 0;
     for line in text.lines() {
         number += 1;
-        match call_of_line(alloc, schema, number, line) {
-            Ok(call) => match add_call(&mut calls, call) {
-                Ok(()) => {}
-                Err(e) => return Err(e),
-            },
+        match blocks.read(alloc, schema, number, line) {
+            Ok(()) => {}
             Err(e) => return Err(e),
         }
     }
-    Ok(calls)
+    blocks.close()
 }

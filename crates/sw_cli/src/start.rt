@@ -1,21 +1,21 @@
 //! What a run starts from: a table and a script, read to their ends.
 
-ghost use Rattle.std.specs.Prelude.{◌≡◌, ◌≤◌, ◌⊎◌, length, IfErr, IfOk, IfSome, OnOk};
+ghost use Rattle.std.specs.Prelude.{◌≡◌, ◌⊎◌, length, IfErr, IfOk, IfSome};
 ghost use Rattle.sw_rows.specs.Gives.{Raised};
-ghost use Rattle.sw_cli.specs.Desks.{AllCallsBelow};
 ghost use Rattle.sw_cli.specs.Run.{script_of, start_of};
+ghost use Rattle.sw_cli.specs.Script.{AreBlocks};
 ghost use Rattle.sw_cli.specs.Starts.{IfBoth, IsStart, ReadsFrom, TellsStart, start_seen};
 
-use crate::script::read_calls;
+use crate::script::{Block, read_blocks};
 use std::alloc::Global;
-use sw_rows::{Call, MOST_BYTES, Refusal, Row, Schema, Source, load, read_all};
+use sw_rows::{MOST_BYTES, Refusal, Row, Schema, Source, load, read_all};
 
 /// A table and a script that were read.
 #[derive(Drop)]
 pub(crate) struct Opened {
     pub(crate) schema: Schema,
     pub(crate) rows: Vec<Row>,
-    pub(crate) calls: Vec<Call>,
+    pub(crate) blocks: Vec<Block>,
 }
 
 /// Reads a script from its source.
@@ -23,15 +23,14 @@ fn read_script<S: Source>(
     alloc: Global,
     schema: &Schema,
     script: &mut S,
-) -> Result<Vec<Call>, Refusal>
-    ensures spelled { IfSome (S.left script.old) (λ bytes. ReadsFrom (Raised (S.failed script.old) (S.failed script.new)) (λ calls. calls.items) result (script_of schema.now bytes)) }
-    ensures below { IfOk result (λ calls. AllCallsBelow (length schema.now) calls.items) }
-    ensures short { IfOk result (λ calls. length calls.items ≤ 1048576) }
+) -> Result<Vec<Block>, Refusal>
+    ensures spelled { IfSome (S.left script.old) (λ bytes. ReadsFrom (Raised (S.failed script.old) (S.failed script.new)) (λ blocks. blocks.items) result (script_of schema.now bytes)) }
+    ensures sound { IfOk result (λ blocks. AreBlocks (length schema.now) blocks.items) }
     ensures told { IfErr result (TellsStart (Raised (S.failed script.old) (S.failed script.new))) }
 {
     match read_all(alloc, script, MOST_BYTES) {
-        Ok(text) => match read_calls(alloc, schema, &text) {
-            Ok(calls) => Ok(calls),
+        Ok(text) => match read_blocks(alloc, schema, &text) {
+            Ok(blocks) => Ok(blocks),
             Err(e) => Err(e),
         },
         Err(e) => Err(e),
@@ -53,8 +52,8 @@ pub(crate) fn read_start<T: Source, S: Source>(
         Ok(found) => found,
         Err(e) => return Err(e),
     };
-    let calls = match read_script(alloc, &schema, script) {
-        Ok(calls) => calls,
+    let blocks = match read_script(alloc, &schema, script) {
+        Ok(blocks) => blocks,
         Err(e) => return Err(e),
     };
     if rows.len() as u64 > limit {
@@ -63,6 +62,6 @@ pub(crate) fn read_start<T: Source, S: Source>(
     Ok(Opened {
         schema,
         rows,
-        calls,
+        blocks,
     })
 }

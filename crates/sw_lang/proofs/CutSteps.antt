@@ -10,7 +10,8 @@ use Rattle.sw_rows.specs.Header.{Column}
 use Rattle.sw_lang.specs.declared.fault.Fault.{Fault}
 use Rattle.sw_lang.specs.declared.fault.ParseError.{ParseError}
 use Rattle.sw_lang.specs.declared.fault.ParseError.TheVariants as errors
-use Rattle.sw_lang.specs.Cuts.{CutLists, cut_split, cuts_after, cuts_at, equals_at, is_divider, no_cuts}
+use Rattle.sw_lang.specs.Cuts.{CutLists}
+use Rattle.sw_lang.specs.CutsReading.{cut_split, cuts_after, cuts_at, equals_at, is_divider, no_cuts}
 use Rattle.sw_lang.specs.Reading.{◌>>=◌, Fails}
 
 pub some_text : (schema : List Column) (text : List ℕ) → 0 < length text → cuts_after schema (no_cuts schema) (slice_split is_divider text) ≡ cuts_at schema text

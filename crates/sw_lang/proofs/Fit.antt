@@ -26,7 +26,7 @@ use Rattle.sw_lang.specs.Fits.{FitsCall, FitsCells, FitsQuery, HasBoundsOfKind, 
 use Rattle.sw_lang.specs.Grammar.{IsCall, IsLine, IsName, IsNames, IsTerm, IsTerms, IsValue, IsValues, IsWant, IsWhere, MoreValues}
 use Rattle.sw_lang.proofs.Merge.{Distinct, conds_from, conds_from-conditions, distinct-more, eqb-turned, has, or-false}
 
-name_within : (schema : List Column) (t : Tok) (i : ℕ) → IsName schema t i → i < length schema
+pub name_within : (schema : List Column) (t : Tok) (i : ℕ) → IsName schema t i → i < length schema
 name_within schema t i (w, is, at) = rw length-map at (slice_get_within (names_of schema) i w at)
 
 flag-kind : (p q : Bool) (z : ℤ) → cond p (Some (pos 1)) (cond q (Some (pos 0)) None) ≡ Some z → IsOfKind kind.Flag z
@@ -34,7 +34,7 @@ flag-kind true q z h = inr (cc)
 flag-kind false true z h = inl (cc)
 flag-kind false false z h = absurd cc
 
-value_kind : (k : Kind) (t : Tok) (z : ℤ) → IsValue k t z → IsOfKind k z
+pub value_kind : (k : Kind) (t : Tok) (z : ℤ) → IsValue k t z → IsOfKind k z
 value_kind kind.Int t z h = tt
 value_kind (kind.Fix places) t z h = tt
 value_kind kind.Flag t z (w, is, value) = flag-kind (bytes_eq w (codes "true")) (bytes_eq w (codes "false")) z value
@@ -107,11 +107,11 @@ from_fits : (schema : List Column) (cs : List Cond) (ts : List Term) → CondsFi
 from_fits schema cs [] h f = h
 from_fits schema cs (t ∷ ts) h f = from_fits schema (add_term cs t) ts (add_fits schema cs t h f.0) f.1
 
-attrs_distinct : (xs : List ℕ) (ts : List Term) → Distinct xs → Distinct (attrs_after xs ts)
+pub attrs_distinct : (xs : List ℕ) (ts : List Term) → Distinct xs → Distinct (attrs_after xs ts)
 attrs_distinct xs [] d = d
 attrs_distinct xs (t ∷ ts) d = attrs_distinct (with_attr xs t.attr) ts (distinct-more xs t.attr d)
 
-attrs-conditions : (ts : List Term) (xs : List ℕ) (f : ℕ → Cond) → ((a : ℕ) → (f a).attr ≡ a) → map (λ c. c.attr) (map f xs) ≡ xs
+pub attrs-conditions : (ts : List Term) (xs : List ℕ) (f : ℕ → Cond) → ((a : ℕ) → (f a).attr ≡ a) → map (λ c. c.attr) (map f xs) ≡ xs
 attrs-conditions ts [] f h = refl
 attrs-conditions ts (x ∷ xs) f h = rw (h x, attrs-conditions ts xs f h) refl
 
@@ -119,7 +119,7 @@ apart : (xs : List ℕ) (a : ℕ) → has xs a ≡ false → AllByRecursion (λ 
 apart [] a h = tt
 apart (b ∷ xs) a h = let parts = or-false (eqb b a) (has xs a) h in (eqb-turned false b a parts.0, apart xs a parts.1)
 
-distinct : (xs : List ℕ) → Distinct xs → IsDistinct nat_eq xs
+pub distinct : (xs : List ℕ) → Distinct xs → IsDistinct nat_eq xs
 unfolding IsDistinct
 distinct [] d = tt
 distinct (a ∷ xs) d = (apart xs a d.0, distinct xs d.1)
@@ -151,7 +151,7 @@ kinds : (schema : List Column) (cs : List Cond) → CondsFit schema cs → AllBy
 kinds schema [] h = tt
 kinds schema (c ∷ cs) h = (h.0.1, kinds schema cs h.1)
 
-names_below : (schema : List Column) (ts : List Tok) (is : List ℕ) → IsNames schema ts is → AllByRecursion (λ a. a < length schema) is
+pub names_below : (schema : List Column) (ts : List Tok) (is : List ℕ) → IsNames schema ts is → AllByRecursion (λ a. a < length schema) is
 names_below schema ts [] h = absurd h
 names_below schema ts (i ∷ []) (a, e, is) = (name_within schema a i is, tt)
 names_below schema ts (i ∷ j ∷ js) (a, rest, e, is, more) = (name_within schema a i is, names_below schema rest (j ∷ js) more)

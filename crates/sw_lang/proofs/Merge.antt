@@ -37,7 +37,7 @@ abbrev pub Distinct : List ℕ → Type 0
 Distinct [] = Unit {0}
 Distinct (a ∷ xs) = (has xs a ≡ false) × Distinct xs
 
-eqb-same : (n : ℕ) → eqb n n ≡ true
+pub eqb-same : (n : ℕ) → eqb n n ≡ true
 eqb-same n = (Decides-eqb n n).1 refl
 
 pub eqb-turned : (v : Bool) (m n : ℕ) → eqb m n ≡ v → eqb n m ≡ v
@@ -97,7 +97,7 @@ step-by false lower upper t xs e d none = new-step lower upper t xs e (none e).0
 
 -- ---- what holds of the attributes so far goes on
 
-has-last : (xs : List ℕ) (b a : ℕ) → has (xs ++ b ∷ []) a ≡ (has xs a || eqb b a)
+pub has-last : (xs : List ℕ) (b a : ℕ) → has (xs ++ b ∷ []) a ≡ (has xs a || eqb b a)
 has-last [] b a = or-none (eqb b a)
   where
     or-none : (p : Bool) → (p || false) ≡ p

@@ -12,11 +12,12 @@ use Rattle.sw_rows.specs.Cells.{cell_value}
 use Rattle.sw_rows.specs.Header.{Column, IsSchema, is_known, is_name, names_differ, names_of}
 use Rattle.sw_rows.specs.declared.kind.Kind.{Kind}
 use Rattle.sw_rows.specs.declared.kind.Kind.TheVariants as kind
+use Rattle.sw_rows.specs.declared.refusal.Why.{Why}
 use Rattle.sw_rows.specs.declared.refusal.Why.TheVariants as why
 use Rattle.sw_lang.specs.declared.fault.Fault.TheVariants.{Bad}
 use Rattle.sw_lang.specs.declared.token.Op.{Op}
 use Rattle.sw_lang.specs.Tokens.{Tok, word, op, comma, stray}
-use Rattle.sw_lang.specs.Reading.{found, valued, key_value, key_of, name_of, op_of, value_of, is_word, is_comma}
+use Rattle.sw_lang.specs.Reading.{attr_of, found, valued, key_value, key_of, name_of, op_of, value_of, is_word, is_comma}
 use Rattle.sw_lang.specs.Grammar.{IsName, IsValue, IsKey}
 
 pub same_bytes : (v w : List ℕ) → bytes_eq v w ≡ true → v ≡ w
@@ -50,9 +51,9 @@ found_at : (w : List ℕ) (o : Option ℕ) (i : ℕ) → found w o ≡ Ok i → 
 found_at w (Some j) i h = cc
 found_at w None i h = absurd cc
 
-named : (v : Bool) (w : List ℕ) (o : Option ℕ) (i : ℕ) → cond v (found w o) (Err (Bad why.Word)) ≡ Ok i → (v ≡ true) × (o ≡ Some i)
-named true w o i h = (refl, found_at w o i h)
-named false w o i h = absurd cc
+named : (v : Bool) (malformed : Why) (w : List ℕ) (o : Option ℕ) (i : ℕ) → cond v (found w o) (Err (Bad malformed)) ≡ Ok i → (v ≡ true) × (o ≡ Some i)
+named true malformed w o i h = (refl, found_at w o i h)
+named false malformed w o i h = absurd cc
 
 no_column : Column
 no_column = ([], kind.Int)
@@ -63,9 +64,12 @@ at_place schema w i h =
     let within : i < length (names_of schema) = rw length-map p.0 in
     slice_get-get_or (names_of schema) i [] within ∙ ap Some (get_or-map (λ c. c.0) schema i no_column [] p.0 ∙ sym (same_bytes w (get_or schema i no_column).0 p.1))
 
+pub attr_found : (schema : List Column) (malformed : Why) (w : List ℕ) (i : ℕ) → attr_of schema malformed w ≡ Ok i → slice_get (names_of schema) i ≡ Some w
+attr_found schema malformed w i h = at_place schema w i (named (is_name w) malformed w (position (λ c. bytes_eq w c.0) schema) i h).1
+
 pub name_found : (schema : List Column) (t : Tok) (i : ℕ) → name_of schema t ≡ Ok i → IsName schema t i
 unfolding name_of
-name_found schema (word w) i h = (w, refl, at_place schema w i (named (is_name w) w (position (λ c. bytes_eq w c.0) schema) i h).1)
+name_found schema (word w) i h = (w, refl, attr_found schema why.Word w i h)
 name_found schema (op o) i h = absurd cc
 name_found schema comma i h = absurd cc
 name_found schema stray i h = absurd cc
@@ -99,15 +103,29 @@ all-true : (v : Bool) (cols : List Column) (i : ℕ) → is_name (get_or cols i 
 all-true true cols i e h all = refl
 all-true false cols i e h all = absurd (false≢true (sym (list_all_at (λ c. is_name c.0) cols i no_column h e) ∙ all))
 
+pub attr_within : (schema : List Column) (w : List ℕ) (i : ℕ) → slice_get (names_of schema) i ≡ Some w → i < length schema
+attr_within schema w i at = rw length-map at (slice_get_within (names_of schema) i w at)
+
+attr_here : (schema : List Column) (w : List ℕ) (i : ℕ) → slice_get (names_of schema) i ≡ Some w → (get_or schema i no_column).0 ≡ w
+attr_here schema w i at = sym (get_or-map (λ c. c.0) schema i no_column [] (attr_within schema w i at)) ∙ get_or_from_slice_get (names_of schema) i w [] at
+
+-- the name of an attribute is well formed
+pub attr_named : (schema : List Column) (w : List ℕ) (i : ℕ) → IsSchema schema → slice_get (names_of schema) i ≡ Some w → is_name w ≡ true
+attr_named schema w i ok at =
+    ap is_name (sym (attr_here schema w i at)) ∙ all-true (is_name (get_or schema i no_column).0) schema i refl (attr_within schema w i at) ok.sound.names
+
 -- the name of an attribute is found at its place
+pub attr_read : (schema : List Column) (malformed : Why) (w : List ℕ) (i : ℕ) → IsSchema schema → slice_get (names_of schema) i ≡ Some w → attr_of schema malformed w ≡ Ok i
+attr_read schema malformed w i ok at =
+    let within = attr_within schema w i at in
+    let here = attr_here schema w i at in
+    let good : is_name w ≡ true = attr_named schema w i ok at in
+    let place : position_or_len (λ c. bytes_eq w c.0) schema ≡ i = rw here at (place-of schema i ok.sound.distinct within) in
+    rw (good, place, lt-ltb i (length schema) within) refl
+
 pub name_read : (schema : List Column) (t : Tok) (i : ℕ) → IsSchema schema → IsName schema t i → name_of schema t ≡ Ok i
 unfolding name_of
-name_read schema t i ok (w, is, at) =
-    let within : i < length schema = rw length-map at (slice_get_within (names_of schema) i w at) in
-    let here : (get_or schema i no_column).0 ≡ w = sym (get_or-map (λ c. c.0) schema i no_column [] within) ∙ get_or_from_slice_get (names_of schema) i w [] at in
-    let good : is_name w ≡ true = ap is_name (sym here) ∙ all-true (is_name (get_or schema i no_column).0) schema i refl within ok.sound.names in
-    let place : position_or_len (λ c. bytes_eq w c.0) schema ≡ i = rw here at (place-of schema i ok.sound.distinct within) in
-    rw (is, good, place, lt-ltb i (length schema) within) refl
+name_read schema t i ok (w, is, at) = rw is (attr_read schema why.Word w i ok at)
 
 -- ---- operators, values and keys
 

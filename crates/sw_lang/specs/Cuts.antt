@@ -1,14 +1,10 @@
--- The text that cuts heads, read from left to right, with the first fault that is met.
-use Rattle.std.specs.Prelude.{◌+◌, ℕ, ℤ, Bool, List, [], ◌∷◌, ◌++◌, length, take, drop, replicate, position, int_lt, nat_lt, slice_index_or, slice_set, ◌==◌, Option, Some, None, Result, Ok, Err, if◌then◌else◌}
-use Rattle.std.specs.List.{list_all, slice_split}
+-- Which texts cut heads at which values, apart from the reading from left to right.
+use Rattle.std.specs.Prelude.{◌≡◌, ◌<◌, ◌≤◌, ◌==◌, ◌&&◌, ℕ, ℤ, Bool, true, List, [], ◌∷◌, ◌++◌, length, codes, int_lt, slice_get, slice_index_or, Some, All, if◌then◌else◌}
+use Rattle.std.specs.List.{list_all}
 use Rattle.sw_rows.specs.Cells.{cell_value}
-use Rattle.sw_rows.specs.Header.{Column}
-use Rattle.sw_rows.specs.declared.kind.Kind.{Kind}
-use Rattle.sw_rows.specs.declared.refusal.Why.TheVariants as why
-use Rattle.sw_lang.specs.declared.fault.Fault.{Fault}
-use Rattle.sw_lang.specs.declared.fault.Fault.TheVariants.{Bad, Excess}
+use Rattle.sw_rows.specs.Header.{Column, names_of}
+use Rattle.sw_lang.specs.Fits.{IsOfKind}
 use Rattle.sw_lang.specs.Replies.{kind_at}
-use Rattle.sw_lang.specs.Reading.{◌>>=◌, attr_of}
 
 -- for each attribute the values at which its head is cut
 abbrev pub CutLists : Type 0
@@ -17,59 +13,49 @@ CutLists = List (List ℤ)
 abbrev pub cuts_on : CutLists → ℕ → List ℤ
 cuts_on cuts a = slice_index_or cuts a []
 
--- an attribute has at most 15 cuts
-unfoldable pub with_room : CutLists → ℕ → Result ℕ Fault
-with_room cuts a = if nat_lt (length (cuts_on cuts a)) 15 then Ok a else Err (Excess 15)
+-- an attribute, and a value at which its head is cut
+abbrev pub Cut : Type 0
+Cut = ℕ × ℤ
 
--- the attribute that is cut
-unfoldable pub cut_name : List Column → CutLists → List ℕ → Result ℕ Fault
-cut_name schema cuts name = attr_of schema why.Cuts name >>= with_room cuts
+-- the name of an attribute, '=', and a cell of its kind
+pub record IsEntry (schema : List Column) (text : List ℕ) (cut : Cut) : Type 0 where
+  pub name : List ℕ
+  pub value : List ℕ
+  pub text_is : text ≡ name ++ (codes "=" ++ value)
+  pub named : slice_get (names_of schema) cut.0 ≡ Some name
+  pub valued : cell_value (kind_at schema cut.0) value ≡ Some cut.1
 
-abbrev pub cut_valued : Option ℤ → Result ℤ Fault
-cut_valued (Some z) = Ok z
-cut_valued None = Err (Bad why.Cuts)
+-- nothing, or one entry or more with ';' between
+abbrev pub AreEntries : List Column → List ℕ → List Cut → Type 0
+AreEntries schema text [] = text ≡ []
+AreEntries schema text (c ∷ []) = IsEntry schema text c
+AreEntries schema text (c ∷ d ∷ ds) = (entry rest : List ℕ) × (text ≡ entry ++ (codes ";" ++ rest)) × IsEntry schema entry c × AreEntries schema rest (d ∷ ds)
 
--- the value that follows a name's '=', if there is one
-unfoldable pub cut_value : Kind → List ℕ → Option ℕ → Result ℤ Fault
-cut_value kind part None = Err (Bad why.Cuts)
-cut_value kind part (Some equals) = cut_valued (cell_value kind (drop (equals + 1) part))
+-- the values of an attribute, in the order of the cuts
+abbrev pub values_on : List Cut → ℕ → List ℤ
+values_on [] a = []
+values_on (c ∷ cs) a = if c.0 == a then c.1 ∷ values_on cs a else values_on cs a
 
--- the cuts of an attribute rise
-unfoldable pub with_cut : CutLists → ℕ → ℤ → Result CutLists Fault
-with_cut cuts a z = if list_all (λ y. int_lt y z) (cuts_on cuts a) then Ok (slice_set cuts a (cuts_on cuts a ++ z ∷ [])) else Err (Bad why.Cuts)
+-- each value stands below all that come after it
+abbrev pub rises : List ℤ → Bool
+rises [] = true
+rises (z ∷ zs) = list_all (λ y. int_lt z y) zs && rises zs
 
--- the bytes before '=', or all of them
-abbrev pub before : List ℕ → Option ℕ → List ℕ
-before part None = part
-before part (Some equals) = take equals part
+-- at most 15 values, which rise
+pub record AreCuts (values : List ℤ) : Type 0 where
+  pub rise : rises values ≡ true
+  pub few : length values ≤ 15
 
--- the cuts with that of a name and a value at which '=' stands here
-unfoldable pub cut_split : List Column → CutLists → List ℕ → Option ℕ → Result CutLists Fault
-cut_split schema cuts part equals = do
-  a ← cut_name schema cuts (before part equals)
-  z ← cut_value (kind_at schema a) part equals
-  with_cut cuts a z
+-- the cuts that a text of entries gives: for each attribute of the table the values that the entries write for it
+pub record IsCuts (schema : List Column) (text : List ℕ) (cuts : CutLists) : Type 0 where
+  pub entries : List Cut
+  pub text_is : AreEntries schema text entries
+  pub lists : length cuts ≡ length schema
+  pub values : (a : ℕ) → a < length schema → cuts_on cuts a ≡ values_on entries a
+  pub lawful : (a : ℕ) → a < length schema → AreCuts (cuts_on cuts a)
 
-abbrev pub equals_at : List ℕ → Option ℕ
-equals_at part = position (λ b. b == 61) part
-
--- the cuts with those of further parts
-abbrev pub cuts_after : List Column → CutLists → List (List ℕ) → Result CutLists Fault
-cuts_after schema cuts [] = Ok cuts
-cuts_after schema cuts (part ∷ parts) = cut_split schema cuts part (equals_at part) >>= λ more. cuts_after schema more parts
-
-abbrev pub is_divider : ℕ → Bool
-is_divider b = b == 59
-
--- the parts of what follows a divider, where there is one
-abbrev pub parts_after : Option (List ℕ) → List (List ℕ)
-parts_after None = []
-parts_after (Some rest) = slice_split is_divider rest
-
-abbrev pub no_cuts : List Column → CutLists
-no_cuts schema = replicate (length schema) []
-
--- an empty text has no cuts; any other is parts divided by ';'
-unfoldable pub cuts_at : List Column → List ℕ → Result CutLists Fault
-cuts_at schema [] = Ok (no_cuts schema)
-cuts_at schema (b ∷ bs) = cuts_after schema (no_cuts schema) (slice_split is_divider (b ∷ bs))
+-- what holds of the cuts of each text: a list for each attribute, of cells of its kind, which rise, at most 15
+pub record FitCuts (schema : List Column) (cuts : CutLists) : Type 0 where
+  pub lists : length cuts ≡ length schema
+  pub lawful : (a : ℕ) → a < length schema → AreCuts (cuts_on cuts a)
+  pub kinds : (a : ℕ) → a < length schema → All (IsOfKind (kind_at schema a)) (cuts_on cuts a)

@@ -1,5 +1,5 @@
 -- Lines over tables of three attributes, and what each is.
-use Rattle.std.specs.Prelude.{ℕ, ℤ, pos, neg_ℤ, List, [], ◌∷◌, Option, Some, None, Result, Ok, Err, codes}
+use Rattle.std.specs.Prelude.{ℕ, ℤ, pos, neg_ℤ, List, [], ◌∷◌, Option, Some, None, Result, Ok, Err, codes, replicate}
 use Rattle.sw_rows.specs.Header.{Column}
 use Rattle.sw_rows.specs.declared.bound.Bound.{Bound}
 use Rattle.sw_rows.specs.declared.bound.Bound.TheVariants.{Before, After}
@@ -8,8 +8,9 @@ use Rattle.sw_rows.specs.declared.query.Cond.{Cond}
 use Rattle.sw_rows.specs.declared.query.Call.{Call}
 use Rattle.sw_rows.specs.declared.query.Call.TheVariants.{Select, Insert, Delete}
 use Rattle.sw_rows.specs.declared.query.Want.{Want}
-use Rattle.sw_rows.specs.declared.query.Want.TheVariants.{Rows, Count, Sum}
+use Rattle.sw_rows.specs.declared.query.Want.TheVariants.{Rows, Count, Sum, Min, Max}
 use Rattle.sw_rows.specs.declared.refusal.Why.TheVariants as why
+use Rattle.sw_lang.specs.PrintedCalls.{call_text}
 use Rattle.sw_lang.specs.declared.fault.Fault.{Fault}
 use Rattle.sw_lang.specs.declared.fault.Fault.TheVariants.{Bad, Unknown, Excess}
 
@@ -41,6 +42,23 @@ calls =
     ∷ (codes "sum c", asks (Sum 2) [])
     ∷ (codes "insert -1, +2.5, true", Ok (Some (Insert (neg_ℤ (pos 1) ∷ pos 250 ∷ pos 1 ∷ pos 0 ∷ pos 0 ∷ pos 0 ∷ pos 0 ∷ pos 0 ∷ []))))
     ∷ (codes "delete 18446744073709551615", Ok (Some (Delete 18446744073709551615)))
+    ∷ (codes "delete 00000000000000000007", Ok (Some (Delete 7)))
+    ∷ (codes "select a, a, a, a, a, a, a, a", asks (Rows (0 ∷ 0 ∷ 0 ∷ 0 ∷ 0 ∷ 0 ∷ 0 ∷ 0 ∷ [])) [])
+    ∷ (codes "min b where c=true", asks (Min 1) (on 2 (Some (Before (pos 1))) (Some (After (pos 1))) ∷ []))
+    ∷ (codes "max a", asks (Max 0) [])
+    ∷ (codes "count\twhere\ta=1", asks Count (on 0 (Some (Before (pos 1))) (Some (After (pos 1))) ∷ []))
+    ∷ (codes "count where a > 1 and a >= 2 and a < 9 and a <= 8", asks Count (on 0 (Some (Before (pos 2))) (Some (After (pos 8))) ∷ []))
+    ∷ (codes "count where a >= 2 and a > 2 and a <= 9 and a < 9", asks Count (on 0 (Some (After (pos 2))) (Some (Before (pos 9))) ∷ []))
+    ∷ (codes "count where a=3 and a=5", asks Count (on 0 (Some (Before (pos 5))) (Some (After (pos 3))) ∷ []))
+    ∷ (codes "insert 1, +007.5, true", Ok (Some (Insert (pos 1 ∷ pos 750 ∷ pos 1 ∷ pos 0 ∷ pos 0 ∷ pos 0 ∷ pos 0 ∷ pos 0 ∷ []))))
+    ∷ (codes "insert -0, -0.25, false", Ok (Some (Insert (pos 0 ∷ neg_ℤ (pos 25) ∷ pos 0 ∷ pos 0 ∷ pos 0 ∷ pos 0 ∷ pos 0 ∷ pos 0 ∷ []))))
+    ∷ (codes "insert 1, 9.999, true", Err (Bad why.Value))
+    ∷ (codes "insert 1, 5., true", Err (Bad why.Value))
+    ∷ (codes "insert 1, .5, true", Err (Bad why.Value))
+    ∷ (codes "insert 1, 5, 1", Err (Bad why.Value))
+    ∷ (codes "insert 9223372036854775808, 5, true", Err (Bad why.Value))
+    ∷ (codes "count where b = 1.234", Err (Bad why.Value))
+    ∷ (codes "count where c > yes", Err (Bad why.Value))
     ∷ []
 
 -- over the table of whole numbers
@@ -90,7 +108,35 @@ refusals =
     ∷ (codes "insert 1, x, 3", Err (Bad why.Value))
     ∷ (codes "delete", Err (Bad why.End))
     ∷ (codes "delete 1 2", Err (Bad why.Word))
+    ∷ (codes "delete +1", Err (Bad why.Value))
+    ∷ (codes "delete 000000000000000000007", Err (Bad why.Value))
+    ∷ (codes "delete ,", Err (Bad why.Word))
+    ∷ (codes "count\r", Err (Bad why.Word))
+    ∷ (codes "select a where where", Err (Bad why.Word))
+    ∷ (codes "select A", Err (Unknown (codes "A")))
+    ∷ (35 ∷ replicate 4096 32, Err (Bad why.Length))
     ∷ []
+
+-- lines over the mixed table, and what is printed of each one's call
+abbrev pub printed_lines : List (List ℕ × List ℕ)
+printed_lines =
+    (codes "count where a=5", codes "count where a >= 5 and a <= 5")
+    ∷ (codes "  select b,a,b where b<9.5 and a>-1 and b>=+0", codes "select b, a, b where b >= 0.00 and b < 9.50 and a > -1")
+    ∷ (codes "sum b where c=true and a<=7 and c=true", codes "sum b where c >= true and c <= true and a <= 7")
+    ∷ (codes "min a", codes "min a")
+    ∷ (codes "max c where a=3 and a=5", codes "max c where a >= 5 and a <= 3")
+    ∷ (codes "insert -007 ,\t.5", [])
+    ∷ (codes "insert -007,-.5,true", [])
+    ∷ (codes "insert -007,-0.5,true", codes "insert -7, -0.50, true")
+    ∷ (codes "insert -9223372036854775808,-92233720368547758.08,false", codes "insert -9223372036854775808, -92233720368547758.08, false")
+    ∷ (codes "delete 007", codes "delete 7")
+    ∷ []
+
+-- what is printed of a line's call; nothing where there is none
+abbrev pub printed_of : List Column → Result (Option Call) Fault → List ℕ
+printed_of columns (Ok (Some call)) = call_text columns call
+printed_of columns (Ok None) = []
+printed_of columns (Err f) = []
 
 -- ---- cuts over the table of whole numbers
 
@@ -112,4 +158,20 @@ cut_texts =
     ∷ (codes "d", Err (Unknown (codes "d")))
     ∷ (codes "d=x", Err (Unknown (codes "d")))
     ∷ (codes "a=1;a=2;a=3;a=4;a=5;a=6;a=7;a=8;a=9;a=10;a=11;a=12;a=13;a=14;a=15;a", Err (Excess 15))
+    ∷ (codes "a=1;b=2;d=3", Err (Unknown (codes "d")))
+    ∷ (codes "c=-5;c=+3", Ok ([] ∷ [] ∷ (neg_ℤ (pos 5) ∷ pos 3 ∷ []) ∷ []))
+    ∷ (codes " ", Err (Bad why.Cuts))
+    ∷ (codes ";a=1", Err (Bad why.Cuts))
+    ∷ (codes "a=1;;b=2", Err (Bad why.Cuts))
+    ∷ (codes "=1", Err (Bad why.Cuts))
+    ∷ (codes "a=x", Err (Bad why.Cuts))
+    ∷ []
+
+-- and over the mixed table
+abbrev pub mixed_cuts : List CutExample
+mixed_cuts =
+    (codes "b=1.5;c=false;b=2;c=true", Ok ([] ∷ (pos 150 ∷ pos 200 ∷ []) ∷ (pos 0 ∷ pos 1 ∷ []) ∷ []))
+    ∷ (codes "b=1.5;b=1.50", Err (Bad why.Cuts))
+    ∷ (codes "c=true;c=false", Err (Bad why.Cuts))
+    ∷ (codes "c=1", Err (Bad why.Cuts))
     ∷ []

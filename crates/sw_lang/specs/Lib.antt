@@ -1,9 +1,11 @@
 pub mod Cuts
+pub mod CutsReading
 pub mod Examples
 pub mod Fits
 pub mod Grammar
 pub mod PrintedCalls
 pub mod PrintedExamples
+pub mod ReadBack
 pub mod Reading
 pub mod Replies
 pub mod Sinks

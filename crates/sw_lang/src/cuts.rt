@@ -1,9 +1,11 @@
 //! Where heads are cut before the first query.
 
-ghost use Rattle.std.specs.Prelude.{◌≡◌, ◌<◌, ◌++◌, ◌∷◌, ◌==◌, [], List, ℤ, length, position, replicate, int_lt, slice_index_or, slice_set, option_map, IfOk, IfSome, OnOk};
+ghost use Rattle.std.specs.Prelude.{◌≡◌, ◌<◌, ◌++◌, ◌∷◌, ◌==◌, [], List, ℤ, length, position, replicate, int_lt, slice_index_or, slice_set, option_map, Ok, IfOk, IfSome, OnOk};
 ghost use Rattle.std.specs.List.{list_all, slice_split};
 ghost use Rattle.sw_rows.specs.Cells.{HasPlaces};
-ghost use Rattle.sw_lang.specs.Cuts.{before, cut_name, cut_split, cut_value, cuts_after, cuts_at, cuts_on, equals_at, is_divider, no_cuts, parts_after, with_cut, with_room};
+ghost use Rattle.sw_rows.specs.Header.{IsSchema};
+ghost use Rattle.sw_lang.specs.Cuts.{CutLists, FitCuts, IsCuts, cuts_on};
+ghost use Rattle.sw_lang.specs.CutsReading.{before, cut_name, cut_split, cut_value, cuts_after, cuts_at, equals_at, is_divider, no_cuts, parts_after, with_cut, with_room};
 ghost use Rattle.sw_lang.specs.Reading.{attr_of, refused, Answers, Gives};
 
 use crate::fault::{Fault, ParseError, bad};
@@ -103,7 +105,7 @@ impl Cuts {
 }
 
 // The attribute that is cut, which has room for one more.
-#[tactic(auto, unfolding(crate::specs::Cuts::cut_name, crate::specs::Cuts::with_room))]
+#[tactic(auto, unfolding(crate::specs::CutsReading::cut_name, crate::specs::CutsReading::with_room))]
 fn cut_name(alloc: Global, schema: &Schema, cuts: &Cuts, name: &[u8]) -> Result<usize, ParseError>
     requires { length cuts.now ≡ length schema.now }
     ensures gives { Gives (λ a. a) result (cut_name schema.now cuts.now name.now) }
@@ -117,7 +119,7 @@ fn cut_name(alloc: Global, schema: &Schema, cuts: &Cuts, name: &[u8]) -> Result<
 }
 
 // The value after '='.
-#[tactic(auto, unfolding(crate::specs::Cuts::cut_value))]
+#[tactic(auto, unfolding(crate::specs::CutsReading::cut_value))]
 fn cut_value(kind: Kind, part: &[u8], equals: Option<usize>) -> Result<i64, ParseError>
     requires places { HasPlaces kind }
     requires within { IfSome equals (λ i. i < length part.now) }
@@ -139,7 +141,7 @@ fn is_above(values: &[i64], value: i64) -> bool
     values.iter().all(|y| *y < value)
 }
 
-#[tactic(auto, unfolding(crate::specs::Cuts::with_cut))]
+#[tactic(auto, unfolding(crate::specs::CutsReading::with_cut))]
 fn add_cut(cuts: &mut Cuts, attr: usize, value: i64) -> Result<(), ParseError>
     requires { attr < length cuts.old }
     ensures gives { Gives (λ _. cuts.new) result (with_cut cuts.old attr value) }
@@ -171,7 +173,7 @@ fn before(part: &[u8], equals: Option<usize>) -> &[u8]
 }
 
 // Adds the cut of a name, '=' and a value.
-#[tactic(auto, unfolding(crate::specs::Cuts::cut_split))]
+#[tactic(auto, unfolding(crate::specs::CutsReading::cut_split))]
 fn add_part(alloc: Global, schema: &Schema, cuts: &mut Cuts, part: &[u8]) -> Result<(), ParseError>
     requires { length cuts.old ≡ length schema.now }
     ensures gives { Gives (λ _. cuts.new) result (cut_split schema.now cuts.old part.now (equals_at part.now)) }
@@ -228,7 +230,14 @@ fn cuts_at(alloc: Global, schema: &Schema, text: &[u8]) -> Result<Cuts, ParseErr
 /// `UnknownAttribute` at a well-formed name that no attribute has, `TooMany` of limit 15 at the name of an attribute's
 /// sixteenth cut, and `BadLine` of line 0 and why `Cuts` at anything else.
 pub fn parse_cuts(alloc: Global, schema: &Schema, text: &str) -> Result<Cuts, Refusal>
-    ensures { Answers result (refused 0 (cuts_at schema.now text.now)) }
+    ensures reading { Answers result (refused 0 (cuts_at schema.now text.now)) }
+
+    // cuts come just where the relation of cuts relates them to the text
+    ensures grammar { IfOk result (IsCuts schema.now text.now) }
+    ensures only { IsSchema schema.now → (cuts : CutLists) → IsCuts schema.now text.now cuts → Answers result (Ok cuts) }
+
+    // of each attribute at most 15, which rise, each a cell of its kind
+    ensures fits { IfOk result (FitCuts schema.now) }
 {
     match cuts_at(alloc, schema, text.as_bytes()) {
         Ok(cuts) => Ok(cuts),

@@ -18,7 +18,8 @@ mod token;
 pub use cuts::{Cuts, MOST_CUTS, parse_cuts};
 pub use fault::Fault;
 pub use line_law::{
-    examples_of_cuts, examples_of_lines, lines_are_read_as_related, terms_make_conditions,
+    cuts_are_read_as_related, examples_of_cuts, examples_of_lines, examples_of_printed_lines,
+    lines_are_read_as_related, printed_calls_are_read, terms_make_conditions,
 };
 pub use parse::{MOST_LINE, parse_line};
 pub use printed_calls::write_call;

@@ -6,9 +6,11 @@ ghost use Rattle.sw_lang.specs.Terms.{add_term, conditions};
 ghost use Rattle.sw_rows.specs.Header.{Column, IsSchema};
 ghost use Rattle.sw_lang.specs.Grammar.{IsLine};
 ghost use Rattle.sw_rows.specs.declared.query.Call.{Call};
-ghost use Rattle.sw_lang.specs.Cuts.{cuts_at};
+ghost use Rattle.sw_lang.specs.Cuts.{CutLists, IsCuts};
+ghost use Rattle.sw_lang.specs.CutsReading.{cuts_at};
+ghost use Rattle.sw_lang.specs.ReadBack.{PrintedCallsAreLines, PrintedCallsAreRead};
 ghost use Rattle.sw_lang.specs.Reading.{line_at};
-ghost use Rattle.sw_lang.specs.Examples.{calls, cut_texts, mixed, refusals, three};
+ghost use Rattle.sw_lang.specs.Examples.{calls, cut_texts, mixed, mixed_cuts, printed_lines, printed_of, refusals, three};
 
 /// The format's examples are read as the format says.
 pub fn examples_of_lines()
@@ -16,9 +18,15 @@ pub fn examples_of_lines()
     ensures refusals { map (λ e. line_at three e.0) refusals ≡ map (λ e. e.1) refusals }
 {}
 
+/// The calls of some lines are printed as the format says.
+pub fn examples_of_printed_lines()
+    ensures { map (λ e. printed_of mixed (line_at mixed e.0)) printed_lines ≡ map (λ e. e.1) printed_lines }
+{}
+
 /// The same for texts of cuts.
 pub fn examples_of_cuts()
-    ensures { map (λ e. cuts_at three e.0) cut_texts ≡ map (λ e. e.1) cut_texts }
+    ensures whole_numbers { map (λ e. cuts_at three e.0) cut_texts ≡ map (λ e. e.1) cut_texts }
+    ensures kinds { map (λ e. cuts_at mixed e.0) mixed_cuts ≡ map (λ e. e.1) mixed_cuts }
 {}
 
 /// Terms that are met one after another, each narrowing the condition on its attribute or adding one, make the conditions
@@ -31,4 +39,17 @@ pub fn terms_make_conditions()
 pub fn lines_are_read_as_related()
     ensures found { (schema : List Column) (text : List ℕ) (call : Option Call) → line_at schema text ≡ Ok call → IsLine schema text call }
     ensures only { (schema : List Column) (text : List ℕ) (call : Option Call) → IsSchema schema → IsLine schema text call → line_at schema text ≡ Ok call }
+{}
+
+/// Where a line is a call, what `write_call` prints of the call is a line too, of at most 4,096 bytes, and is the same
+/// call; so `parse_line` reads it as that call.
+pub fn printed_calls_are_read()
+    ensures lines { PrintedCallsAreLines }
+    ensures read { PrintedCallsAreRead }
+{}
+
+/// Reading a text of cuts from left to right finds just what the relation of cuts relates to the text.
+pub fn cuts_are_read_as_related()
+    ensures found { (schema : List Column) (text : List ℕ) (cuts : CutLists) → cuts_at schema text ≡ Ok cuts → IsCuts schema text cuts }
+    ensures only { (schema : List Column) (text : List ℕ) (cuts : CutLists) → IsSchema schema → IsCuts schema text cuts → cuts_at schema text ≡ Ok cuts }
 {}

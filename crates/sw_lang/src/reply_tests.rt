@@ -1,3 +1,4 @@
+use crate::parse_line;
 use crate::printed_calls::write_call;
 use crate::replies::write_reply;
 use crate::sinks::{write_all, write_number};
@@ -274,5 +275,37 @@ fn calls(rt: HostRuntime) -> Result<(), Fail> {
     let insert = Call::Insert([1, 9, 0, 0, 0, 0, 0, 0]);
     assert!(rt; is_call_written(alloc, &insert, "insert 1, 9, 0")?);
     assert!(rt; is_call_written(alloc, &Call::Delete(2), "delete 2")?);
+    Ok(())
+}
+
+/// Whether this text is what is printed of a line's call.
+fn is_printed(alloc: Global, schema: &Schema, line: &str, text: &str) -> Result<bool, Refusal> {
+    let mut out = new_memory(alloc, 3, 0);
+    match parse_line(alloc, schema, 1, line)? {
+        Some(call) => write_call(schema, &call, &mut out)?,
+        None => return Ok(false),
+    }
+    Ok(out.bytes.as_slice() == text.as_bytes())
+}
+
+const PRINTED: &[(&str, &str)] = &[
+    ("count where a=5", "count where a >= 5 and a <= 5"),
+    (
+        "select b,a where b<9.5 and a>-1 and b>=+0",
+        "select b, a where b >= 0.00 and b < 9.50 and a > -1",
+    ),
+    ("max c where c=true", "max c where c >= true and c <= true"),
+    (" insert -007,-0.5,true", "insert -7, -0.50, true"),
+    ("delete 007", "delete 7"),
+];
+
+#[test]
+fn reads_what_it_prints(rt: HostRuntime) -> Result<(), Fail> {
+    let alloc = rt.alloc();
+    let schema = Schema::of(alloc, &["a", "b:fix2", "c:flag"])?;
+    for (line, text) in PRINTED {
+        assert!(rt; is_printed(alloc, &schema, *line, *text)?);
+        assert!(rt; is_printed(alloc, &schema, *text, *text)?);
+    }
     Ok(())
 }

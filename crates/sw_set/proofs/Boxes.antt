@@ -1,8 +1,8 @@
 -- Lemmas on maps on their way to the tape's end, and on lists of boxes.
-use Rattle.std.proofs.Common.{◌≡◌, ◌≢◌, ℕ, zero, suc, ◌+◌, ◌<◌, ◌≤◌, Bool, true, false, true≢false, List, [], ◌∷◌, ◌++◌, length, get_or, set, map, refl, ap, sym, ◌∙◌, arith, subst, All, Contains, rules, inl, inr, ◌⊎◌, Option, Some, None, Result, Ok, Err, MatchResult, if◌then◌else◌}
+use Rattle.std.proofs.Common.{◌≡◌, ◌≢◌, ℕ, zero, suc, ◌+◌, ◌<◌, ◌≤◌, false, List, [], ◌∷◌, length, get_or, set, map, refl, ap, sym, ◌∙◌, arith, subst, All, Contains, Some, Result, Ok, Err, MatchResult}
 use Rattle.std.specs.List.{slice_get}
-use Rattle.std.proofs.lemmas.List.{length-map, get_or-map, map-set, map-append, length-append}
-use Rattle.std.proofs.lemmas.List.Elements.{All-set, All-append}
+use Rattle.std.proofs.lemmas.List.{length-map, get_or-map, map-set}
+use Rattle.std.proofs.lemmas.List.Elements.{All-set}
 use Rattle.std.proofs.lemmas.Option.{slice_get_within, get_or_from_slice_get}
 use Rattle.std.proofs.Math.ListN.{length-set}
 use Rattle.sw_rows.specs.declared.row.Row.{Row}
@@ -11,7 +11,7 @@ use Rattle.sw_rows.specs.declared.refusal.Refusal.TheVariants.{NoMemory}
 use Rattle.sw_kernel.specs.Replay.{Step}
 use Rattle.sw_kernel.specs.Tapes.{IsTape, peak_from}
 use Rattle.sw_map.specs.declared.tail.Tail.{Tail}
-use Rattle.sw_map.specs.Held.{Held, blank, begun, after, pairs_in, MayReplay, KeysFit}
+use Rattle.sw_map.specs.Held.{Held, after, pairs_in, MayReplay, KeysFit}
 use Rattle.sw_map.specs.Lawful.{IsAligned, IsLawful}
 use Rattle.sw_map.proofs.Replays.{aligned-more, after-room, may-replay, aligned-lawful, lawful-aligned}
 use Rattle.sw_set.specs.Shelf.{HasRoomWhereNeeded, IsAtEnd, IsSameMap, AreSameMaps}
@@ -31,9 +31,9 @@ at-cursor tape i m0 m e is w = ap (slice_get tape) w.at ∙ is
 pub way-more : (tape : List (Step Row)) (i : ℕ) (m0 m m' : Held) (e : Step Row) → slice_get tape i ≡ Some e → m' ≡ after e m → IsOnTheWay tape i m0 m → IsOnTheWay tape (i + 1) m0 m'
 way-more tape i m0 m m' e is now w =
     subst (λ (v : Held). IsOnTheWay tape (i + 1) m0 v) (sym now) (record {
-        at = ap (λ k. k + 1) w.at;
-        same = record { blank = w.same.blank; tail = w.same.tail; cells = w.same.cells };
-        aligned = aligned-more m0.head tape m e (at-cursor tape i m0 m e is w) w.aligned
+      at = ap (λ k. k + 1) w.at;
+      same = record { blank = w.same.blank; tail = w.same.tail; cells = w.same.cells };
+      aligned = aligned-more m0.head tape m e (at-cursor tape i m0 m e is w) w.aligned;
     })
 
 -- what a step asks for
@@ -101,16 +101,16 @@ pub same-set : (ms ns : List Held) (i : ℕ) (n : Held) → AreSameMaps ms ns �
 same-set ms ns i n s lt one =
     let many : length (set ns i n) ≡ length ms = length-set ns i n ∙ s.many in
     record {
-    many = many;
-    each = λ k d e lt'. set-each (λ (j : ℕ) (v : Held). IsSameMap (get_or ms j d) v) ns i n (same-trans _ _ _ (s.each i d d (omega arith)) (one d)) (λ j f n l. s.each j d f (omega arith)) k e (omega arith)
+      many = many;
+      each = λ k d e lt'. set-each (λ (j : ℕ) (v : Held). IsSameMap (get_or ms j d) v) ns i n (same-trans _ _ _ (s.each i d d (omega arith)) (one d)) (λ j f n l. s.each j d f (omega arith)) k e (omega arith);
     }
 
 pub partly-more : (a : ℕ) (tails : List Tail) (tape : List (Step Row)) (i : ℕ) (ms ns : List Held) (n : Held) → i < length ns → IsPartlyAligned a tails tape i ms ns → IsLawful a tape n → ((d : Held) → IsSameMap (get_or ns i d) n) → IsAtEnd tails tape n → IsPartlyAligned a tails tape (i + 1) ms (set ns i n)
 partly-more a tails tape i ms ns n lt p law one end = record {
-    lawful = All-set (IsLawful a tape) ns i n law p.lawful;
-    same = same-set ms ns i n p.same lt one;
-    ends = λ k d l1 l2. set-each (λ (j : ℕ) (v : Held). j < i + 1 → IsAtEnd tails tape v) ns i n (λ _. end) (λ j e n l q. p.ends j e (omega arith) l) k d l2 l1
-    }
+  lawful = All-set (IsLawful a tape) ns i n law p.lawful;
+  same = same-set ms ns i n p.same lt one;
+  ends = λ k d l1 l2. set-each (λ (j : ℕ) (v : Held). j < i + 1 → IsAtEnd tails tape v) ns i n (λ _. end) (λ j e n l q. p.ends j e (omega arith) l) k d l2 l1;
+}
 
 -- the same over boxes of which a function says what they hold
 pub boxes-more : {X : Type 0} (h : X → Held) (a : ℕ) (tails : List Tail) (tape : List (Step Row)) (i : ℕ) (ms : List Held) (xs : List X) (x y : X) → i < length xs → IsPartlyAligned a tails tape i ms (map h xs) → IsLawful a tape (h y) → IsSameMap (h (get_or xs i x)) (h y) → IsAtEnd tails tape (h y) → IsPartlyAligned a tails tape (i + 1) ms (map h (set xs i y))
@@ -136,7 +136,6 @@ room-at h tails tape ms xs i x lt s all =
     let many = length-map xs h in let many' = s.many in
     subst (HasRoomWhereNeeded tails tape) (get_or-map h xs i x (h x) lt) (room-same tails tape _ _ (s.each i (h x) (h x) (omega arith)) (all i (h x) (omega arith)))
 
-
 -- what holds of a place among boxes holds of it among what they hold
 pub held-at : {X : Type 0} (h : X → Held) (P : Held → Type 0) (xs : List X) (i : ℕ) → i < length xs → ((d : X) → P (h (get_or xs i d))) → (e : Held) → P (get_or (map h xs) i e)
 held-at h P [] i lt p e = let no : i < 0 = lt in absurd (omega arith)
@@ -144,3 +143,7 @@ held-at h P (x ∷ xs) i lt p e = subst P (sym (get_or-map h (x ∷ xs) i x e lt
 
 pub held-all : {X : Type 0} (h : X → Held) (P : Held → Type 0) (xs : List X) → All (λ m. P (h m)) xs → All P (map h xs)
 held-all h P xs all k d lt = let many = length-map xs h in held-at h P xs k (omega arith) (λ e. all k e (omega arith)) d
+
+-- what holds of what boxes hold holds of the boxes
+pub all-held : {X : Type 0} (h : X → Held) (P : Held → Type 0) (xs : List X) → All P (map h xs) → All (λ m. P (h m)) xs
+all-held h P xs all k d lt = let many = length-map xs h in subst P (get_or-map h xs k d (h d) lt) (all k (h d) (omega arith))

@@ -1,23 +1,21 @@
 -- From maps that were made and aligned to the range of places that a query gets.
-use Rattle.std.proofs.Common.{◌≡◌, ◌≢◌, ℕ, zero, suc, ◌+◌, ◌<◌, ◌≤◌, ◌||◌, ◌&&◌, Bool, true, false, true≢false, List, [], ◌∷◌, ◌++◌, length, get_or, map, refl, ap, sym, ◌∙◌, arith, subst, All, Any, Contains, Option, Some, None, eqb, eqb-true, eq-eqb}
+use Rattle.std.proofs.Common.{◌≡◌, ◌≢◌, ℕ, ◌<◌, ◌≤◌, ◌||◌, ◌&&◌, Bool, true, false, true≢false, List, [], ◌∷◌, ◌++◌, length, get_or, refl, ap, sym, ◌∙◌, arith, subst, All, Any, Contains, Option, Some, None, eqb, eqb-true, eq-eqb}
 use Rattle.std.proofs.lemmas.List.{length-map}
-use Rattle.std.proofs.lemmas.List.Elements.{Contains-get_or}
-use mathlib.Core.Option.{some-ne-none}
 use Rattle.sw_rows.specs.declared.bound.Bound.{Bound}
 use Rattle.sw_rows.specs.declared.bound.Bound.TheVariants.{Before, After}
 use Rattle.sw_rows.specs.declared.row.Row.{Row}
 use Rattle.sw_rows.specs.Bounds.{same_bound}
-use Rattle.sw_kernel.specs.Arrangement.{Arrangement, joined}
+use Rattle.sw_kernel.specs.Arrangement.{joined}
 use Rattle.sw_kernel.specs.Replay.{Step, loaded, ranged}
-use Rattle.sw_kernel.specs.Tapes.{IsTape, is_marked, is_bound, ranges_at, peak_from}
+use Rattle.sw_kernel.specs.Tapes.{is_marked, is_bound, peak_from}
 use Rattle.sw_tape.proofs.Steps.{marked-push}
 use Rattle.sw_map.specs.declared.tail.Tail.{Tail}
 use Rattle.sw_map.specs.declared.tail.Tail.TheVariants.{Key}
-use Rattle.sw_map.specs.Held.{Held, blank, pairs_in, pair_in, place_of}
-use Rattle.sw_map.specs.Lawful.{IsAligned, IsLawful, rows_by}
+use Rattle.sw_map.specs.Held.{Held, pairs_in, pair_in, place_of}
+use Rattle.sw_map.specs.Lawful.{IsAligned, rows_by}
 use Rattle.sw_map.proofs.Replays.{aligned-lawful, ready-joined, ready-place, place-marked}
 use Rattle.sw_set.specs.Shelf.{AreaState, AreApart, AreSameMaps, HasRoomWhereNeeded, IsAreaLawful, IsAtEnd}
-use Rattle.sw_set.specs.Prepared.{IsFoundAt, IsHeld, IsMapOf, IsNoted, IsPlace, IsPrepared, IsReady, cells_for, stands_if}
+use Rattle.sw_set.specs.Prepared.{IsFoundAt, IsHeld, IsNoted, IsPlace, IsReady, cells_for, stands_if}
 use Rattle.sw_set.proofs.Boxes.{get_or_any}
 
 -- ---- after a range was noted its bounds stand
@@ -113,8 +111,8 @@ at-end_of x t at w (i, m, li, is, r) lt own d =
     let here : i ≡ at = only-place x.boxes i at m d w.apart li lt b (own d).0 k in
     let same : get_or x.boxes at d ≡ m = get_or_any x.boxes at d m lt ∙ ap (λ j. get_or x.boxes j m) (sym here) ∙ is in
     record {
-    aligned = aligned-lawful x.attribute x.tape (get_or x.boxes at d) (w.boxes at d lt) (own d).0;
-    at_end = ap (λ (v : Held). v.cursor) same ∙ r.at_end
+      aligned = aligned-lawful x.attribute x.tape (get_or x.boxes at d) (w.boxes at d lt) (own d).0;
+      at_end = ap (λ (v : Held). v.cursor) same ∙ r.at_end;
     }
 
 pub found-stands : (a : ℕ) (tape : List (Step Row)) (m : Held) (bound : Option Bound) (absent : ℕ) → IsMapAtEnd a tape m → stands_if bound tape ≡ true → (i : ℕ) × IsFoundAt bound absent m i

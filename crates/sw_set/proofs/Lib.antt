@@ -2,6 +2,8 @@ pub mod Answered
 pub mod Blocks
 pub mod Boxes
 pub mod Choosing
+pub mod Dense
+pub mod Dropped
 pub mod Ends
 pub mod Gathered
 pub mod KeyOrder
@@ -15,6 +17,7 @@ pub mod Refined
 pub mod Rowed
 pub mod Shelves
 pub mod Stock
+pub mod Swaps
 pub mod Tails
 pub mod Told
 pub mod Trying

@@ -1,5 +1,5 @@
 -- How many pairs a tape of rising keys has at most; what a logged range leaves of an area.
-use Rattle.std.proofs.Common.{◌≡◌, ◌≢◌, ℕ, zero, suc, ◌+◌, ◌-◌, ◌<◌, ◌≤◌, ◌^◌, ◌||◌, ◌&&◌, ◌⊎◌, inl, inr, Bool, true, false, true≢false, max, List, [], ◌∷◌, ◌++◌, length, get_or, refl, ap, sym, ◌∙◌, arith, subst, All, Option, Some, None, Result, Ok, Err, MatchResult}
+use Rattle.std.proofs.Common.{◌≡◌, ℕ, suc, ◌+◌, ◌-◌, ◌<◌, ◌≤◌, ◌^◌, ◌&&◌, ◌⊎◌, inl, inr, true, false, true≢false, List, [], ◌∷◌, ◌++◌, length, refl, ap, sym, ◌∙◌, arith, subst, All, Option, Result, Ok, Err, MatchResult}
 use Rattle.std.specs.List.{AllByRecursion}
 use Rattle.std.proofs.lemmas.List.{length-append}
 use Rattle.std.proofs.lemmas.List.Elements.{All-append}
@@ -8,9 +8,9 @@ use Rattle.sw_rows.specs.declared.row.Row.{Row}
 use Rattle.sw_rows.specs.declared.refusal.Refusal.{Refusal}
 use Rattle.sw_rows.specs.declared.refusal.Refusal.TheVariants.{NoMemory}
 use Rattle.sw_kernel.specs.Replay.{Step, loaded, inserted, removed, ranged}
-use Rattle.sw_kernel.specs.Tapes.{brought, brought_by, count_after, peak_from, is_marked}
+use Rattle.sw_kernel.specs.Tapes.{brought, brought_by, count_after, peak_from}
 use Rattle.sw_map.specs.Held.{KeysFit}
-use Rattle.sw_set.specs.Shelf.{AreaState, IsAreaLawful, IsSameArea, Rises, key_of, logged_rows}
+use Rattle.sw_set.specs.Shelf.{AreaState, IsAreaLawful, IsSameArea, Rises, key_of}
 use Rattle.sw_set.specs.Prepared.{IsNoted, stands_if}
 use Rattle.sw_set.proofs.Shelves.{logged-ranged}
 

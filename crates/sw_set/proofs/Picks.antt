@@ -1,5 +1,5 @@
 -- The least recently used box among those looked at so far.
-use Rattle.std.proofs.Common.{◌≡◌, ◌≢◌, ℕ, zero, suc, ◌+◌, ◌<◌, ◌⊎◌, inl, inr, List, length, get_or, refl, ap, sym, ◌∙◌, arith, subst, Option, Some, None, MatchOption, eqb, eqb-true, eq-eqb, Bool, true, false, true≢false}
+use Rattle.std.proofs.Common.{◌≡◌, ◌≢◌, ℕ, ◌+◌, ◌<◌, ◌⊎◌, inl, inr, List, length, get_or, refl, ap, sym, ◌∙◌, arith, subst, Option, Some, None, MatchOption, eqb, eqb-true, eq-eqb, Bool, true, false, true≢false}
 use Rattle.sw_set.proofs.Boxes.{get_or_any}
 
 -- what is known of the first n elements

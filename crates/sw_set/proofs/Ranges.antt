@@ -1,5 +1,5 @@
 -- The range of places that a prepared area gives is that of the rows that meet the condition on the head.
-use Rattle.std.proofs.Common.{◌≡◌, ◌≢◌, ℕ, zero, suc, ℤ, ◌+◌, ◌-◌, ◌<◌, ◌≤◌, ◌&&◌, not, Bool, true, false, true≢false, if◌then◌else◌, cond, List, [], ◌∷◌, ◌++◌, length, get_or, map, filter, take, drop, fold, refl, ap, sym, ◌∙◌, arith, subst, All, Any, Contains, Option, Some, None}
+use Rattle.std.proofs.Common.{◌≡◌, ℕ, ℤ, ◌+◌, ◌-◌, ◌<◌, ◌≤◌, ◌&&◌, not, Bool, true, false, true≢false, if◌then◌else◌, List, [], ◌∷◌, length, get_or, map, take, drop, fold, refl, ap, sym, ◌∙◌, arith, subst, All, Any, Contains, Option, Some, None}
 use Rattle.std.specs.List.{AllByRecursion, IsDistinct, slice_range}
 use Rattle.std.specs.Prelude.{nat_eq}
 use Rattle.std.proofs.lemmas.List.{drop-take}
@@ -12,14 +12,11 @@ use Rattle.sw_rows.specs.declared.row.Row.{Row}
 use Rattle.sw_rows.specs.declared.row.Update.{Update}
 use Rattle.sw_rows.specs.Updates.{rows_then}
 use Rattle.sw_rows.specs.Bounds.{bound_below, is_above, is_below, is_left, is_within}
-use Rattle.sw_rows.specs.Scan.{cell_of, meets}
-use Rattle.sw_kernel.specs.Arrangement.{Arrangement, joined}
-use Rattle.sw_kernel.specs.Partition.{goes_left}
+use Rattle.sw_rows.specs.Scan.{cell_of}
 use Rattle.sw_kernel.specs.Replay.{Step}
-use Rattle.sw_kernel.specs.Tapes.{HoldsOnce, IsSound, IsTape, brought}
+use Rattle.sw_kernel.specs.Tapes.{HoldsOnce, IsTape, brought}
 use Rattle.sw_kernel.proofs.Once.{held-replay, once-from_held}
 use Rattle.sw_map.specs.declared.tail.Tail.{Tail}
-use Rattle.sw_map.specs.Held.{place_of}
 use Rattle.sw_map.specs.Lawful.{rows_by}
 use Rattle.sw_map.proofs.Replays.{place-sound, place-within, places-rise}
 use Rattle.sw_set.specs.Needs.{edge, needed, head_in, is_before, lower_from, lower_in, touches, upper_in, upper_upto}
@@ -63,6 +60,7 @@ clip-lower (Some s) (Some b) v h = by (bound_below s b) refl
     none (Before x) (After y) p q = grind (arith, p, q)
     none (After x) (Before y) p q = grind (arith, p, q)
     none (After x) (After y) p q = grind (arith, p, q)
+
     by : (t : Bool) → bound_below s b ≡ t → is_above (if bound_below s b then Some b else None) v ≡ is_above (Some b) v
     by true p = ap (λ t. is_above (if t then Some b else None) v) p
     by false p = ap (λ t. is_above (if t then Some b else None) v) p ∙ none s b p h
@@ -77,6 +75,7 @@ clip-upper (Some e) (Some b) v h = by (bound_below b e) refl
     all (Before x) (After y) p q = grind (arith, p, q)
     all (After x) (Before y) p q = grind (arith, p, q)
     all (After x) (After y) p q = grind (arith, p, q)
+
     by : (t : Bool) → bound_below b e ≡ t → is_below (if bound_below b e then Some b else None) v ≡ is_below (Some b) v
     by true p = ap (λ t. is_below (if t then Some b else None) v) p
     by false p = ap (λ t. is_below (if t then Some b else None) v) p ∙ all e b p h
@@ -172,12 +171,12 @@ slice-low P from upto xs le all =
 -- the rows between two bounds' places are those between the bounds
 pub run-of : (a : ℕ) (tape : List (Step Row)) (lower upper : Option Bound) (from upto : ℕ) → IsTape tape → is_before lower upper ≡ true → IsPlace lower 0 (rows_by a tape) from → IsPlace upper (length (shown_rows a tape)) (rows_by a tape) upto → IsRun (λ (r : Row). is_within lower upper (cell_of a r)) (shown_rows a tape) from upto
 run-of a tape lower upper from upto t before lo hi = record {
-    ordered = places-ordered a tape lower upper from upto before lo hi;
-    within = places-within a tape upper upto hi;
-    before = λ k d lt. and-false_left _ _ (lower-before a tape lower from t lo k d lt);
-    inside = λ k d lt. and-both _ _ (slice-high (λ (r : Row). is_above lower (cell_of a r) ≡ true) from upto (shown_rows a tape) (lower-behind a tape lower from t lo) k d lt) (slice-low (λ (r : Row). is_below upper (cell_of a r) ≡ true) from upto (shown_rows a tape) (places-ordered a tape lower upper from upto before lo hi) (upper-before a tape upper (length (shown_rows a tape)) upto t hi) k d lt);
-    behind = λ k d lt. and-false_right _ _ (upper-behind a tape upper upto t hi k d lt)
-    }
+  ordered = places-ordered a tape lower upper from upto before lo hi;
+  within = places-within a tape upper upto hi;
+  before = λ k d lt. and-false_left _ _ (lower-before a tape lower from t lo k d lt);
+  inside = λ k d lt. and-both _ _ (slice-high (λ (r : Row). is_above lower (cell_of a r) ≡ true) from upto (shown_rows a tape) (lower-behind a tape lower from t lo) k d lt) (slice-low (λ (r : Row). is_below upper (cell_of a r) ≡ true) from upto (shown_rows a tape) (places-ordered a tape lower upper from upto before lo hi) (upper-before a tape upper (length (shown_rows a tape)) upto t hi) k d lt);
+  behind = λ k d lt. and-false_right _ _ (upper-behind a tape upper upto t hi k d lt);
+}
 
 -- ---- the range of a query
 -- bounds that are in order are so within an interval
@@ -195,6 +194,7 @@ clipped-before start end lower upper before = by (lower_from start lower) (upper
           where
             none-is-not : None ≡ Some b → ⊥
             none-is-not p = cc
+
     kept-upper : (end upper : Option Bound) (b : Bound) → upper_upto end upper ≡ Some b → upper ≡ Some b
     kept-upper end None b e = e
     kept-upper None (Some c) b e = e
@@ -206,6 +206,7 @@ clipped-before start end lower upper before = by (lower_from start lower) (upper
           where
             none-is-not : None ≡ Some b → ⊥
             none-is-not p = cc
+
     by : (lo hi : Option Bound) → ((b : Bound) → lo ≡ Some b → lower ≡ Some b) → ((b : Bound) → hi ≡ Some b → upper ≡ Some b) → is_before lo hi ≡ true
     by None hi l u = refl
     by (Some b) None l u = refl
@@ -223,12 +224,12 @@ first-clipped x (c ∷ cs) r head w =
 -- a run of one test is a run of another that says the same of each item
 run-same : {X : Type 0} (p q : X → Bool) (xs : List X) (from upto : ℕ) → All (λ (x : X). p x ≡ q x) xs → IsRun q xs from upto → IsRun p xs from upto
 run-same p q xs from upto same run = record {
-    ordered = run.ordered;
-    within = run.within;
-    before = λ k d lt. All-take (λ x. p x ≡ q x) from xs same k d lt ∙ run.before k d lt;
-    inside = λ k d lt. slice-high (λ x. p x ≡ q x) from upto xs (All-drop (λ x. p x ≡ q x) from xs same) k d lt ∙ run.inside k d lt;
-    behind = λ k d lt. All-drop (λ x. p x ≡ q x) upto xs same k d lt ∙ run.behind k d lt
-    }
+  ordered = run.ordered;
+  within = run.within;
+  before = λ k d lt. All-take (λ x. p x ≡ q x) from xs same k d lt ∙ run.before k d lt;
+  inside = λ k d lt. slice-high (λ x. p x ≡ q x) from upto xs (All-drop (λ x. p x ≡ q x) from xs same) k d lt ∙ run.inside k d lt;
+  behind = λ k d lt. All-drop (λ x. p x ≡ q x) upto xs same k d lt ∙ run.behind k d lt;
+}
 
 -- the range of a prepared area is that of the rows that meet the first condition
 pub prepared-run : (x : AreaState) (cs : List Cond) (tails : List Tail) (from upto : ℕ) → IsAreaLawful x → head_in cs ≡ x.attribute → touches (edge x.from) (edge x.below) (lower_in cs) (upper_in cs) ≡ true → IsPrepared (lower_from (edge x.from) (lower_in cs)) (upper_upto (edge x.below) (upper_in cs)) tails x from upto → IsRun (meets_first cs) (shown_rows x.attribute x.tape) from upto
@@ -267,12 +268,12 @@ prepared-runs q x from upto w head p =
   where
     none : is_touched x q ≡ false → IsRun (meets_first q.conds) (shown_rows x.attribute x.tape) 0 0
     none e = record {
-        ordered = omega arith;
-        within = omega arith;
-        before = λ k d lt. absurd (let no : k < 0 = lt in omega (arith, no));
-        inside = λ k d lt. absurd (let no : k < 0 = lt in omega (arith, no));
-        behind = λ k d lt. untouched-first x q.conds (get_or (shown_rows x.attribute x.tape) k d) head e (all-within x w k d lt)
-        }
+      ordered = omega arith;
+      within = omega arith;
+      before = λ k d lt. absurd (let no : k < 0 = lt in omega (arith, no));
+      inside = λ k d lt. absurd (let no : k < 0 = lt in omega (arith, no));
+      behind = λ k d lt. untouched-first x q.conds (get_or (shown_rows x.attribute x.tape) k d) head e (all-within x w k d lt);
+    }
 
 pub rows-received : (x : AreaState) → x.inbox ≡ [] → rows_in x ≡ logged_rows x.attribute x.tape
 rows-received x e = ap (λ (us : List Update). fold rows_then (logged_rows x.attribute x.tape) us) e

@@ -1,8 +1,7 @@
 -- What single changes leave of a lawful area.
-use Rattle.std.proofs.Common.{◌≡◌, ◌≢◌, ℕ, zero, suc, ◌+◌, ◌<◌, ◌≤◌, ◌^◌, ℤ, Bool, true, false, true≢false, List, [], ◌∷◌, ◌++◌, length, get_or, set, map, take, drop, refl, ap, sym, ◌∙◌, arith, subst, All, Contains, rules, Option, Result, Ok, Err, MatchResult, OnOk, OnErr}
-use Rattle.std.proofs.lemmas.List.{length-map, get_or-map, map-set, map-append, length-append}
+use Rattle.std.proofs.Common.{◌≡◌, ◌≢◌, ℕ, zero, suc, ◌<◌, ◌^◌, ℤ, true, false, true≢false, List, [], ◌∷◌, ◌++◌, length, get_or, set, map, take, drop, refl, ap, sym, ◌∙◌, arith, subst, All, Option, Result, Ok, Err, MatchResult, OnOk, OnErr}
+use Rattle.std.proofs.lemmas.List.{map-set, map-append, length-append}
 use Rattle.std.proofs.lemmas.List.Elements.{All-set, All-append}
-use Rattle.std.proofs.Math.ListN.{length-set}
 use Rattle.sw_rows.specs.declared.bound.Bound.{Bound}
 use Rattle.sw_rows.specs.declared.row.Row.{Row}
 use Rattle.sw_rows.specs.declared.row.Update.{Update}
@@ -10,11 +9,11 @@ use Rattle.sw_rows.specs.declared.refusal.Refusal.{Refusal}
 use Rattle.sw_rows.specs.Scan.{cell_of}
 use Rattle.sw_kernel.specs.Arrangement.{Arrangement, last, joined}
 use Rattle.sw_kernel.specs.Replay.{Step, loaded, ranged, step, replay_from}
-use Rattle.sw_kernel.specs.Tapes.{IsTape, brought, brought_by, count_from, live_from, live_after, live_rows}
+use Rattle.sw_kernel.specs.Tapes.{IsTape, brought, brought_by, live_from, live_after}
 use Rattle.sw_tape.proofs.Steps.{tape-push}
 use Rattle.sw_map.specs.declared.tail.Tail.{Tail}
 use Rattle.sw_map.specs.Held.{Held, blank, begun, KeysFit}
-use Rattle.sw_map.specs.Lawful.{IsAligned, IsLawful}
+use Rattle.sw_map.specs.Lawful.{IsLawful}
 use Rattle.sw_map.specs.Refusals.{IsBeginRefusal}
 use Rattle.sw_map.proofs.Replays.{lawful-longer, lawful-blank, lawful-aligned, begun-aligned}
 use Rattle.sw_set.specs.Shelf.{AreaState, AreApart, AreSameMaps, IsAreaLawful, Rises, first_rows, key_of, lies_within, logged_rows}
@@ -48,16 +47,16 @@ pub area-logged : (a : ℕ) (f b : Option ℤ) (inb : List Update) (tape : List 
 area-logged a f b inb tape ms lower upper room w =
     let same = logged-ranged a tape lower upper in
     record {
-    attribute = w.attribute;
-    tape = tape-push tape (ranged lower upper) w.tape tt;
-    short = let n = length-append tape (ranged lower upper ∷ []) in omega arith;
-    keys = All-append (λ (e : Step Row). KeysFit e) tape (ranged lower upper ∷ []) w.keys (All-one (λ (e : Step Row). KeysFit e) (ranged lower upper) (λ k d lt. let no : k < 0 = lt in absurd (omega arith)));
-    brought_rise = subst (Rises key_of) (sym (brought-ranged tape lower upper)) w.brought_rise;
-    rows_rise = subst (Rises key_of) (sym same) w.rows_rise;
-    rows_fit = subst (λ (v : List Row). All (λ (r : Row). r.key < 2 ^ 63) v) (sym same) w.rows_fit;
-    within = subst (λ (v : List Row). All (λ (r : Row). lies_within a f b r ≡ true) v) (sym same) w.within;
-    boxes = λ k d lt. lawful-longer a tape (ranged lower upper ∷ []) _ (w.boxes k d lt);
-    apart = w.apart
+      attribute = w.attribute;
+      tape = tape-push tape (ranged lower upper) w.tape tt;
+      short = let n = length-append tape (ranged lower upper ∷ []) in omega arith;
+      keys = All-append (λ (e : Step Row). KeysFit e) tape (ranged lower upper ∷ []) w.keys (All-one (λ (e : Step Row). KeysFit e) (ranged lower upper) (λ k d lt. let no : k < 0 = lt in absurd (omega arith)));
+      brought_rise = subst (Rises key_of) (sym (brought-ranged tape lower upper)) w.brought_rise;
+      rows_rise = subst (Rises key_of) (sym same) w.rows_rise;
+      rows_fit = subst (λ (v : List Row). All (λ (r : Row). r.key < 2 ^ 63) v) (sym same) w.rows_fit;
+      within = subst (λ (v : List Row). All (λ (r : Row). lies_within a f b r ≡ true) v) (sym same) w.within;
+      boxes = λ k d lt. lawful-longer a tape (ranged lower upper ∷ []) _ (w.boxes k d lt);
+      apart = w.apart;
     }
 
 -- ---- boxes
@@ -65,7 +64,7 @@ area-logged a f b inb tape ms lower upper room w =
 pub apart-set : (ms : List Held) (i : ℕ) (n : Held) → AreApart ms → (n.is_blank ≡ false → IsFreshBut i n.tail ms) → AreApart (set ms i n)
 unfolding AreApart IsFreshBut
 apart-set ms i n apart fresh = λ k j d e lk lj kj bk bj.
-  set-each (λ (k' : ℕ) (v : Held). (j' : ℕ) (e' : Held) → j' < length (set ms i n) → k' ≢ j' → v.is_blank ≡ false → (get_or (set ms i n) j' e').is_blank ≡ false → v.tail ≢ (get_or (set ms i n) j' e').tail) ms i n
+    set-each (λ (k' : ℕ) (v : Held). (j' : ℕ) (e' : Held) → j' < length (set ms i n) → k' ≢ j' → v.is_blank ≡ false → (get_or (set ms i n) j' e').is_blank ≡ false → v.tail ≢ (get_or (set ms i n) j' e').tail) ms i n
     (λ j' e' l' ne b b'. set-each (λ (j'' : ℕ) (w : Held). i ≢ j'' → w.is_blank ≡ false → n.tail ≢ w.tail) ms i n (λ no. absurd (no refl)) (λ j'' f nj l _ bw same. fresh b j'' f l nj bw (sym same)) j' e' l' ne b')
     (λ k' f nk l j' e' l' ne b b'. set-each (λ (j'' : ℕ) (w : Held). k' ≢ j'' → w.is_blank ≡ false → (get_or ms k' f).tail ≢ w.tail) ms i n (λ _ bn. fresh bn k' f l nk b) (λ j'' g nj l2 ne2 bw. apart k' j'' f g l l2 ne2 b bw) j' e' l' ne b')
     k d lk j e lj kj bk bj
@@ -99,17 +98,17 @@ apart-more ms m b apart = λ i j d e li lj ne bi bj eq.
 -- the same area with other boxes
 pub area-with : (a : ℕ) (f b : Option ℤ) (inb : List Update) (tape : List (Step Row)) (ms ns : List Held) → All (IsLawful a tape) ns → AreApart ns → IsAreaLawful (area_of a f b inb tape ms) → IsAreaLawful (area_of a f b inb tape ns)
 area-with a f b inb tape ms ns law apart w = record {
-    attribute = w.attribute;
-    tape = w.tape;
-    short = w.short;
-    keys = w.keys;
-    brought_rise = w.brought_rise;
-    rows_rise = w.rows_rise;
-    rows_fit = w.rows_fit;
-    within = w.within;
-    boxes = law;
-    apart = apart
-    }
+  attribute = w.attribute;
+  tape = w.tape;
+  short = w.short;
+  keys = w.keys;
+  brought_rise = w.brought_rise;
+  rows_rise = w.rows_rise;
+  rows_fit = w.rows_fit;
+  within = w.within;
+  boxes = law;
+  apart = apart;
+}
 
 pub area-set : {X : Type 0} (h : X → Held) (a : ℕ) (f b : Option ℤ) (inb : List Update) (tape : List (Step Row)) (xs : List X) (i : ℕ) (y : X) → IsLawful a tape (h y) → ((h y).is_blank ≡ false → IsFreshBut i (h y).tail (map h xs)) → IsAreaLawful (area_of a f b inb tape (map h xs)) → IsAreaLawful (area_of a f b inb tape (map h (set xs i y)))
 area-set h a f b inb tape xs i y law fresh w =
@@ -133,17 +132,17 @@ lawful-of_begun a tape t n m e = subst (IsLawful a tape) (sym e) (lawful-aligned
 -- the tape begun anew, all boxes blank
 pub area-restarted : (a : ℕ) (f b : Option ℤ) (inb : List Update) (tape : List (Step Row)) (ms ns : List Held) → All (λ m. m ≡ blank) ns → IsAreaLawful (area_of a f b inb tape ms) → IsAreaLawful (area_of a f b inb (loaded (logged_rows a tape) ∷ []) ns)
 area-restarted a f b inb tape ms ns blanks w = record {
-    attribute = w.attribute;
-    tape = tt;
-    short = omega arith;
-    keys = All-one (λ (e : Step Row). KeysFit e) (loaded (logged_rows a tape)) w.rows_fit;
-    brought_rise = subst (Rises key_of) (sym (append-none (logged_rows a tape))) w.rows_rise;
-    rows_rise = w.rows_rise;
-    rows_fit = w.rows_fit;
-    within = w.within;
-    boxes = λ k d lt. lawful-of_blank a (loaded (logged_rows a tape) ∷ []) _ (blanks k d lt);
-    apart = apart-blank ns blanks
-    }
+  attribute = w.attribute;
+  tape = tt;
+  short = omega arith;
+  keys = All-one (λ (e : Step Row). KeysFit e) (loaded (logged_rows a tape)) w.rows_fit;
+  brought_rise = subst (Rises key_of) (sym (append-none (logged_rows a tape))) w.rows_rise;
+  rows_rise = w.rows_rise;
+  rows_fit = w.rows_fit;
+  within = w.within;
+  boxes = λ k d lt. lawful-of_blank a (loaded (logged_rows a tape) ∷ []) _ (blanks k d lt);
+  apart = apart-blank ns blanks;
+}
   where
     append-none : (rows : List Row) → rows ++ [] ≡ rows
     append-none [] = refl
@@ -153,17 +152,17 @@ area-restarted a f b inb tape ms ns blanks w = record {
 pub area-new : (a : ℕ) (f b : Option ℤ) (rows : List Row) → a < 8 → All (λ (r : Row). r.key < 2 ^ 63) rows → Rises key_of rows → All (λ (r : Row). lies_within a f b r ≡ true) rows → IsAreaLawful (area_of a f b [] (loaded rows ∷ []) [])
 unfolding AreApart
 area-new a f b rows few fit rise within = record {
-    attribute = few;
-    tape = tt;
-    short = omega arith;
-    keys = All-one (λ (e : Step Row). KeysFit e) (loaded rows) fit;
-    brought_rise = subst (Rises key_of) (sym (append-none rows)) rise;
-    rows_rise = rise;
-    rows_fit = fit;
-    within = within;
-    boxes = λ k d lt. let no : k < 0 = lt in absurd (omega arith);
-    apart = λ i j d e li. let no : i < 0 = li in absurd (omega arith)
-    }
+  attribute = few;
+  tape = tt;
+  short = omega arith;
+  keys = All-one (λ (e : Step Row). KeysFit e) (loaded rows) fit;
+  brought_rise = subst (Rises key_of) (sym (append-none rows)) rise;
+  rows_rise = rise;
+  rows_fit = fit;
+  within = within;
+  boxes = λ k d lt. let no : k < 0 = lt in absurd (omega arith);
+  apart = λ i j d e li. let no : i < 0 = li in absurd (omega arith);
+}
   where
     append-none : (rows : List Row) → rows ++ [] ≡ rows
     append-none [] = refl

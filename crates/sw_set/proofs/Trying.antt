@@ -1,5 +1,5 @@
 -- Lemmas on making the maps that are needed.
-use Rattle.std.proofs.Common.{◌≡◌, ◌≢◌, ℕ, zero, suc, ◌+◌, ◌<◌, ◌≤◌, Bool, true, false, List, [], ◌∷◌, ◌++◌, length, get_or, set, map, refl, ap, sym, ◌∙◌, arith, subst, All, Any, Contains, rules, true≢false, MatchResult, eqb, eqb-true, eq-eqb, Result, Ok, Err}
+use Rattle.std.proofs.Common.{◌≡◌, ◌≢◌, ℕ, zero, suc, ◌+◌, ◌<◌, ◌≤◌, Bool, true, false, List, [], ◌∷◌, length, get_or, set, map, refl, ap, sym, ◌∙◌, arith, subst, All, Contains, true≢false, MatchResult, eqb, eqb-true, eq-eqb, Result, Ok, Err}
 use Rattle.std.proofs.lemmas.List.{length-map, get_or-map}
 use Rattle.std.proofs.Math.ListN.{length-set}
 use Rattle.std.proofs.lemmas.List.Elements.{Contains-get_or}
@@ -9,7 +9,7 @@ use Rattle.sw_map.specs.declared.tail.Tail.{Tail}
 use Rattle.sw_map.specs.Held.{Held, blank, begun}
 use Rattle.sw_map.specs.Refusals.{IsBeginRefusal}
 use Rattle.sw_set.specs.Shelf.{AreaState, AreApart}
-use Rattle.sw_set.specs.Prepared.{IsHeld, IsMapOf, IsFreshBut, IsSameButBoxes, AreNeededKept, IsPrepareRefusal}
+use Rattle.sw_set.specs.Prepared.{IsHeld, IsFreshBut, IsSameButBoxes, AreNeededKept, IsPrepareRefusal}
 use Rattle.sw_set.proofs.Boxes.{set-each, get_or_any}
 
 -- an injection of the places of one list into those of another
@@ -55,6 +55,7 @@ no-blank ms tails t apart needed lacks full =
     apart-tails ms t apart begun lacks zero (suc j) d e li lj ne = let many = length-map ms (λ (m : Held). m.tail) in λ q. lacks j blank (omega arith) (begun j (omega arith)) (sym (q ∙ get_or-map (λ (m : Held). m.tail) ms j blank e (omega arith)))
     apart-tails ms t apart begun lacks (suc i) zero d e li lj ne = let many = length-map ms (λ (m : Held). m.tail) in λ q. lacks i blank (omega arith) (begun i (omega arith)) (sym (get_or-map (λ (m : Held). m.tail) ms i blank d (omega arith)) ∙ q)
     apart-tails ms t apart begun lacks (suc i) (suc j) d e li lj ne = let many = length-map ms (λ (m : Held). m.tail) in λ q. apart i j blank blank (omega arith) (omega arith) (λ s. ne (ap suc s)) (begun i (omega arith)) (begun j (omega arith)) (sym (get_or-map (λ (m : Held). m.tail) ms i blank d (omega arith)) ∙ q ∙ get_or-map (λ (m : Held). m.tail) ms j blank e (omega arith))
+
     into-tails : (ms : List Held) (tails : List Tail) (t : Tail) → Contains tails t → ((i : ℕ) → i < length ms → Contains tails (get_or ms i blank).tail) → (i : ℕ) (d : Tail) → i < length (t ∷ map (λ (m : Held). m.tail) ms) → Contains tails (get_or (t ∷ map (λ (m : Held). m.tail) ms) i d)
     into-tails ms tails t needed full zero d lt = needed
     into-tails ms tails t needed full (suc i) d lt = let many = length-map ms (λ (m : Held). m.tail) in subst (Contains tails) (sym (get_or-map (λ (m : Held). m.tail) ms i blank d (omega arith))) (full i (omega arith))
@@ -73,20 +74,20 @@ trying-start at tails t x fresh = record { same = record { attribute = refl; fro
 pub trying-at : (at : ℕ) (tails : List Tail) (t : Tail) (x0 x y : AreaState) (n : Held) → y ≡ record x { boxes = set x.boxes at n } → IsTrying at tails t x0 x → IsTrying at tails t x0 y
 unfolding AreNeededKept IsFreshBut
 trying-at at tails t x0 x y n is w = subst (IsTrying at tails t x0) (sym is) (record {
-    same = record { attribute = w.same.attribute; from = w.same.from; below = w.same.below; inbox = w.same.inbox; tape = w.same.tape; many = length-set x.boxes at n ∙ w.same.many };
-    kept = λ k d l ne c. let many = w.same.many in let lx : k < length x.boxes = omega arith in let ls = length-set x.boxes at n in set-each (λ (j : ℕ) (v : Held). j ≢ at → v ≡ get_or x.boxes j d) x.boxes at n (λ no. absurd (no refl)) (λ j e nj lj _. get_or_any x.boxes j e d lj) k d (omega arith) ne ∙ w.kept k d l ne c;
-    fresh = set-each (λ (j : ℕ) (v : Held). j ≢ at → v.is_blank ≡ false → v.tail ≢ t) x.boxes at n (λ no. absurd (no refl)) (λ j e nj lj ne b. w.fresh j e lj ne b)
-    })
+  same = record { attribute = w.same.attribute; from = w.same.from; below = w.same.below; inbox = w.same.inbox; tape = w.same.tape; many = length-set x.boxes at n ∙ w.same.many };
+  kept = λ k d l ne c. let many = w.same.many in let lx : k < length x.boxes = omega arith in let ls = length-set x.boxes at n in set-each (λ (j : ℕ) (v : Held). j ≢ at → v ≡ get_or x.boxes j d) x.boxes at n (λ no. absurd (no refl)) (λ j e nj lj _. get_or_any x.boxes j e d lj) k d (omega arith) ne ∙ w.kept k d l ne c;
+  fresh = set-each (λ (j : ℕ) (v : Held). j ≢ at → v.is_blank ≡ false → v.tail ≢ t) x.boxes at n (λ no. absurd (no refl)) (λ j e nj lj ne b. w.fresh j e lj ne b);
+})
 
 -- an unneeded box cleared
 pub trying-clear : (at : ℕ) (tails : List Tail) (t : Tail) (x0 x y : AreaState) (i : ℕ) → y ≡ record x { boxes = set x.boxes i blank } → i < length x.boxes → ((d : Held) → ¬ Contains tails (get_or x.boxes i d).tail) → IsTrying at tails t x0 x → IsTrying at tails t x0 y
 unfolding AreNeededKept IsFreshBut
 trying-clear at tails t x0 x y i is li un w = subst (IsTrying at tails t x0) (sym is) (record {
-    same = record { attribute = w.same.attribute; from = w.same.from; below = w.same.below; inbox = w.same.inbox; tape = w.same.tape; many = length-set x.boxes i blank ∙ w.same.many };
-    kept = λ k d l ne c. let many = w.same.many in let ls = length-set x.boxes i blank in
+  same = record { attribute = w.same.attribute; from = w.same.from; below = w.same.below; inbox = w.same.inbox; tape = w.same.tape; many = length-set x.boxes i blank ∙ w.same.many };
+  kept = λ k d l ne c. let many = w.same.many in let ls = length-set x.boxes i blank in
       set-each (λ (j : ℕ) (v : Held). Contains tails (get_or x.boxes j d).tail → v ≡ get_or x.boxes j d) x.boxes i blank (λ c'. absurd (un d c')) (λ j e nj lj _. get_or_any x.boxes j e d lj) k d (omega arith) (subst (λ (v : Held). Contains tails v.tail) (sym (w.kept k d l ne c)) c) ∙ w.kept k d l ne c;
-    fresh = set-each (λ (j : ℕ) (v : Held). j ≢ at → v.is_blank ≡ false → v.tail ≢ t) x.boxes i blank (λ ne b. absurd (true≢false b)) (λ j e nj lj ne b. w.fresh j e lj ne b)
-    })
+  fresh = set-each (λ (j : ℕ) (v : Held). j ≢ at → v.is_blank ≡ false → v.tail ≢ t) x.boxes i blank (λ ne b. absurd (true≢false b)) (λ j e nj lj ne b. w.fresh j e lj ne b);
+})
 
 get_or-set_here : {X : Type 0} (xs : List X) (i : ℕ) (y d : X) → i < length xs → get_or (set xs i y) i d ≡ y
 get_or-set_here [] i y d lt = let no : i < 0 = lt in absurd (omega arith)
@@ -104,6 +105,7 @@ held-kept at tails t n ms ns many kept now takeable u need (k, m, lt, is, mp) = 
   where
     needs : Contains tails (get_or ms k m).tail
     needs = subst (Contains tails) (sym (ap (λ (x : Held). x.tail) is ∙ mp.tail)) need
+
     by : (b : Bool) → eqb k at ≡ b → IsHeld u n ns
     by true q =
         let here : get_or ms at m ≡ m = ap (λ j. get_or ms j m) (sym (eqb-true k at q)) ∙ is in

@@ -1,10 +1,9 @@
 -- What looks at the map of a tail say of all boxes.
-use Rattle.std.proofs.Common.{◌≡◌, ◌≢◌, ℕ, ℤ, pos, ◌<◌, ◌≤◌, ◌⊎◌, inl, inr, Bool, true, false, true≢false, List, length, get_or, set, refl, ap, sym, ◌∙◌, arith, subst, All, Any, MatchOption, Option, Some, None}
+use Rattle.std.proofs.Common.{◌≡◌, ◌≢◌, ℕ, ◌<◌, ◌⊎◌, inl, inr, false, true≢false, List, length, get_or, set, refl, sym, ◌∙◌, arith, subst, All, Any, MatchOption, Option, Some, None}
 use Rattle.std.proofs.Math.ListN.{length-set}
 use Rattle.sw_rows.specs.declared.bound.Bound.{Bound}
-use Rattle.sw_kernel.specs.Arrangement.{joined}
 use Rattle.sw_map.specs.declared.tail.Tail.{Tail}
-use Rattle.sw_map.specs.Held.{Held, blank, pairs_in, place_of}
+use Rattle.sw_map.specs.Held.{Held, blank, place_of}
 use Rattle.sw_set.specs.Shelf.{AreApart}
 use Rattle.sw_set.specs.Prepared.{IsCleared}
 use Rattle.sw_set.proofs.Boxes.{get_or_any, set-each}
@@ -26,10 +25,10 @@ all-own ms at t P apart lt own p k d l b e =
 pub cleared-set : (ms : List Held) (at : ℕ) (t : Tail) → AreApart ms → at < length ms → IsOwn t ms at → IsCleared t ms (set ms at blank)
 unfolding AreApart
 cleared-set ms at t apart lt own = record {
-    many = length-set ms at blank;
-    gone = set-each (λ (j : ℕ) (v : Held). v.is_blank ≡ false → v.tail ≢ t) ms at blank (λ b. absurd (true≢false b)) (λ j e nj l b same. apart j at e e l lt nj b (own e).0 (same ∙ sym (own e).1));
-    kept = λ k d l. let s = length-set ms at blank in set-each (λ (j : ℕ) (v : Held). (v ≡ get_or ms j d) ⊎ ((v ≡ blank) × ((get_or ms j d).tail ≡ t))) ms at blank (inr (refl, (own d).1)) (λ j e nj lj. inl (get_or_any ms j e d lj)) k d (omega arith)
-    }
+  many = length-set ms at blank;
+  gone = set-each (λ (j : ℕ) (v : Held). v.is_blank ≡ false → v.tail ≢ t) ms at blank (λ b. absurd (true≢false b)) (λ j e nj l b same. apart j at e e l lt nj b (own e).0 (same ∙ sym (own e).1));
+  kept = λ k d l. let s = length-set ms at blank in set-each (λ (j : ℕ) (v : Held). (v ≡ get_or ms j d) ⊎ ((v ≡ blank) × ((get_or ms j d).tail ≡ t))) ms at blank (inr (refl, (own d).1)) (λ j e nj lj. inl (get_or_any ms j e d lj)) k d (omega arith);
+}
 
 pub placed : (r : Option ℕ) (ms : List Held) (at : ℕ) (t : Tail) (b : Bound) → AreApart ms → at < length ms → IsOwn t ms at → ((d : Held) → r ≡ place_of b (get_or ms at d).pairs) → MatchOption r (All (λ m. m.is_blank ≡ false → m.tail ≡ t → place_of b m.pairs ≡ None) ms) (λ n. Any (λ m. (m.is_blank ≡ false) × (m.tail ≡ t) × (place_of b m.pairs ≡ Some n)) ms)
 placed None ms at t b apart lt own is = all-own ms at t (λ m. place_of b m.pairs ≡ None) apart lt own (λ d. sym (is d))

@@ -3,3 +3,4 @@ pub mod Shelf
 pub mod Prepared
 pub mod Codes
 pub mod Choice
+pub mod Slots

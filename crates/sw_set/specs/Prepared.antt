@@ -4,7 +4,7 @@ use Rattle.sw_rows.specs.declared.bound.Bound.{Bound}
 use Rattle.sw_rows.specs.declared.row.Row.{Row}
 use Rattle.sw_rows.specs.declared.query.Query.{Query}
 use Rattle.sw_rows.specs.declared.refusal.Refusal.{Refusal}
-use Rattle.sw_rows.specs.declared.refusal.Refusal.TheVariants.{NoMemory, NoBlank, Short, Contended}
+use Rattle.sw_rows.specs.declared.refusal.Refusal.TheVariants.{NoBlank}
 use Rattle.sw_kernel.specs.Arrangement.{Arrangement, joined}
 use Rattle.sw_kernel.specs.Replay.{Step, loaded, ranged}
 use Rattle.sw_kernel.specs.Tapes.{is_marked, peak_from}
@@ -131,3 +131,14 @@ abbrev pub IsOneCleared : List Held → List Held → ℕ → Type 0
 IsOneCleared ms ns cells =
     (All (λ m. m.is_blank ≡ true) ms × (ns ≡ ms) × (cells ≡ 0)) ⊎
     ((at : ℕ) × (at < length ms) × ((d : Held) → ((slice_index_or ms at d).is_blank ≡ false) × (cells ≡ (slice_index_or ms at d).cells)) × (ns ≡ slice_set ms at blank))
+
+-- The area after boxes were dropped: at most so many, and all where it has no more; the boxes that are left were there.
+pub record IsShed (most : ℕ) (x y : AreaState) (gone : ℕ) : Type 0 where
+  pub attribute : y.attribute ≡ x.attribute
+  pub from : y.from ≡ x.from
+  pub below : y.below ≡ x.below
+  pub inbox : y.inbox ≡ x.inbox
+  pub tape : y.tape ≡ x.tape
+  pub many : length y.boxes + gone ≡ length x.boxes
+  pub few : gone ≤ most
+  pub left : All (λ m. Contains x.boxes m) y.boxes

@@ -1,13 +1,13 @@
 //! Alignment: maps replay the tape up to its end.
 
-ghost use Rattle.std.specs.Prelude.{◌≡◌, ◌<◌, ◌≤◌, ◌↔◌, false, length, map, All, Contains, IsTrue, MatchResult};
+ghost use Rattle.std.specs.Prelude.{◌≡◌, ◌<◌, ◌≤◌, ◌↔◌, false, length, All, Contains, IsTrue, MatchResult};
 ghost use Rattle.sw_rows.specs.declared.row.Row.{Row};
 ghost use Rattle.sw_rows.specs.declared.refusal.Refusal.TheVariants.{NoMemory};
 ghost use Rattle.sw_kernel.specs.Replay.{Step};
 ghost use Rattle.sw_kernel.specs.Tapes.{IsTape, peak_from};
 ghost use Rattle.sw_map.specs.Held.{KeysFit};
 ghost use Rattle.sw_map.specs.Lawful.{IsAligned, IsLawful};
-ghost use Rattle.sw_set.specs.Shelf.{HasRoomWhereNeeded, IsAtEnd, IsSameMap, AreSameMaps};
+ghost use Rattle.sw_set.specs.Shelf.{HasRoomWhereNeeded, IsAtEnd, IsSameMap};
 
 use sw_map::{CrackerMap, Tail};
 use sw_rows::Refusal;
@@ -38,7 +38,12 @@ pub(crate) fn is_needed(tails: &[Tail], tail: Tail) -> bool
 }
 
 /// Steps one box to the tape's end where it holds a map that is needed.
-pub(crate) fn align_box<M: CrackerMap>(attribute: u8, it: &mut M, tails: &[Tail], tape: &Tape) -> Result<(), Refusal>
+pub(crate) fn align_box<M: CrackerMap>(
+    attribute: u8,
+    it: &mut M,
+    tails: &[Tail],
+    tape: &Tape,
+) -> Result<(), Refusal>
     requires lawful { IsLawful attribute tape.now (M.held it.old) }
     requires keys { All (λ (e : Step Row). KeysFit e) tape.now }
     requires room { HasRoomWhereNeeded tails.now tape.now (M.held it.old) }
@@ -53,19 +58,4 @@ pub(crate) fn align_box<M: CrackerMap>(attribute: u8, it: &mut M, tails: &[Tail]
         return Ok(());
     }
     align_map(it, tape)
-}
-
-/// Steps every box that holds a needed map to the tape's end, in order, up to the first refusal.
-pub(crate) fn align_boxes<M: CrackerMap>(attribute: u8, boxes: &mut [M], tails: &[Tail], tape: &Tape) -> Result<(), Refusal>
-    requires lawful { All (IsLawful attribute tape.now) (map M.held boxes.old) }
-    requires keys { All (λ (e : Step Row). KeysFit e) tape.now }
-    requires room { All (HasRoomWhereNeeded tails.now tape.now) (map M.held boxes.old) }
-    ensures lawful { All (IsLawful attribute tape.now) (map M.held boxes.new) }
-    ensures same { AreSameMaps (map M.held boxes.old) (map M.held boxes.new) }
-    ensures ends { MatchResult result (λ _. All (IsAtEnd tails.now tape.now) (map M.held boxes.new)) (λ e. e ≡ NoMemory) }
-{
-    for it in boxes.iter_mut() {
-        align_box(attribute, it, tails, tape)?;
-    }
-    Ok(())
 }

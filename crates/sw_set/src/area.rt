@@ -1,6 +1,6 @@
 //! An area, and its single changes.
 
-ghost use Rattle.std.specs.Prelude.{◌≡◌, ◌≢◌, ◌<◌, ◌≤◌, ◌+◌, ◌^◌, ◌∷◌, ◌++◌, [], true, false, ℕ, length, map, pos, All, Any, Contains, IfOk, IsOk, IsOkUnless, MatchOption, MatchResult, None, Some, slice_index_or, slice_set};
+ghost use Rattle.std.specs.Prelude.{◌≡◌, ◌≢◌, ◌<◌, ◌≤◌, ◌+◌, ◌^◌, ◌∷◌, ◌++◌, [], true, false, ℕ, length, map, pos, All, Any, Contains, IfOk, IsOk, IsOkUnless, MatchOption, MatchResult, None, Some, remove, slice_index_or, slice_set};
 ghost use Rattle.sw_rows.specs.declared.row.Row.{Row};
 ghost use Rattle.sw_rows.specs.declared.refusal.Refusal.TheVariants.{NoMemory};
 ghost use Rattle.sw_rows.specs.Scan.{AsksBelow, TakesMemory, answer};
@@ -10,16 +10,18 @@ ghost use Rattle.sw_map.specs.declared.tail.Tail.TheVariants.{Key};
 ghost use Rattle.sw_kernel.specs.Tapes.{peak_from};
 ghost use Rattle.sw_map.specs.Held.{Held, blank, begun, pairs_in, place_of};
 ghost use Rattle.sw_map.specs.Refusals.{IsBeginRefusal};
-ghost use Rattle.sw_set.specs.Prepared.{IsCleared, IsFreshBut, IsOneCleared, IsPreparedFor, IsSameButBoxes, IsSpare, stands_if};
+ghost use Rattle.sw_set.specs.Prepared.{IsCleared, IsFreshBut, IsOneCleared, IsPreparedFor, IsSameButBoxes, IsShed, IsSpare, stands_if};
 ghost use Rattle.sw_set.specs.Shelf.{AreaState, AreSameMaps, HasRoomWhereNeeded, IsAreaLawful, IsAtEnd, IsSameArea, Rises, key_of, lies_within, logged_rows, rows_in};
 ghost use Rattle.sw_set.specs.Needs.{head_in};
 
-use crate::align::{align_boxes, is_needed};
+use crate::align::is_needed;
+use crate::at_once::align_at_once;
 use crate::collect::collect_from;
 use crate::pick::{find_blank, find_leased, find_map, find_unneeded};
 use crate::prepare::Ready;
 use std::alloc::Global;
 use std::marker::Model;
+use std::thread::Threads;
 use sw_map::{CrackerMap, Tail};
 use sw_rows::{Bound, Query, Refusal, Reply, Row, Update, answer};
 use sw_tape::{Entry, MAX_ENTRIES, Tape};
@@ -57,7 +59,13 @@ impl<M: CrackerMap> Model for Area<M> {
 impl<M: CrackerMap> Area<M> {
     /// An area of these rows, which rise by key and lie in the interval from the one value up to below the other; its tape
     /// is one load of them, and it has no boxes. Refused `NoMemory` alone.
-    pub fn new(alloc: Global, attribute: u8, from: Option<i64>, below: Option<i64>, rows: &[Row]) -> Result<Area<M>, Refusal>
+    pub fn new(
+        alloc: Global,
+        attribute: u8,
+        from: Option<i64>,
+        below: Option<i64>,
+        rows: &[Row],
+    ) -> Result<Area<M>, Refusal>
         requires attribute { attribute < 8 }
         requires keys { All (λ (r : Row). r.key < 2 ^ 63) rows.now }
         requires rise { Rises key_of rows.now }
@@ -135,7 +143,12 @@ impl<M: CrackerMap> Area<M> {
         ensures { self.new ≡ self.old }
     {
         let now = self.clock;
-        stamp_needed(self.boxes.as_slice(), self.stamps.as_mut_slice(), tails, now);
+        stamp_needed(
+            self.boxes.as_slice(),
+            self.stamps.as_mut_slice(),
+            tails,
+            now,
+        );
     }
 
     /// The allocator that the area's collections use.
@@ -315,6 +328,40 @@ impl<M: CrackerMap> Area<M> {
         cells
     }
 
+    /// The box to drop first: a blank one, else that of the least recently used map.
+    fn droppable(&self) -> Option<usize>
+        ensures { MatchOption result (length self.now.boxes ≡ 0) (λ at. at < length self.now.boxes) }
+    {
+        if let Some(at) = find_blank(self.boxes.as_slice()) {
+            return Some(at);
+        }
+        find_leased(self.boxes.as_slice(), self.stamps.as_slice(), &[])
+    }
+
+    /// Drops the box at a place; its lease goes back.
+    fn drop_at(&mut self, at: usize)
+        requires { at < length self.old.boxes }
+        ensures { self.new ≡ record self.old { boxes = remove self.old.boxes at } }
+    {
+        let _box = self.boxes.remove(at);
+        let _stamp = self.stamps.remove(at);
+    }
+
+    /// Drops up to so many boxes, blank ones first, then by least recent use, and answers how many: as many as that, or all. It
+    /// is never refused.
+    pub fn shed(&mut self, most: usize) -> usize
+        ensures shed { IsShed most self.old self.new result }
+        ensures all { result < most → length self.new.boxes ≡ 0 }
+    {
+        for gone in 0..most {
+            let Some(at) = self.droppable() else {
+                return gone;
+            };
+            self.drop_at(at);
+        }
+        most
+    }
+
     /// The stamp of the least recently used map, if a box has one.
     pub fn oldest(&self) -> Option<u64>
         ensures { MatchOption result (All (λ m. m.is_blank ≡ true) self.now.boxes) (λ _. Any (λ m. m.is_blank ≡ false) self.now.boxes) }
@@ -322,7 +369,11 @@ impl<M: CrackerMap> Area<M> {
         let Some(at) = self.leased(&[]) else {
             return None;
         };
-        if at < self.stamps.len() { Some(self.stamps[at]) } else { Some(0) }
+        if at < self.stamps.len() {
+            Some(self.stamps[at])
+        } else {
+            Some(0)
+        }
     }
 
     /// The cursor of the map of a tail, if there is one.
@@ -343,7 +394,11 @@ impl<M: CrackerMap> Area<M> {
         let Some(at) = self.with_map(tail) else {
             return None;
         };
-        if place < self.pairs_at(at) { Some(self.shown_at(at, place)) } else { None }
+        if place < self.pairs_at(at) {
+            Some(self.shown_at(at, place))
+        } else {
+            None
+        }
     }
 
     /// How many pairs of the key map stand before a bound, if there is a key map and it has cracked at that bound.
@@ -381,18 +436,32 @@ impl<M: CrackerMap> Area<M> {
         ensures scalars { (TakesMemory query.now.want → ⊥) → length query.now.conds ≤ 1 → IsOk result }
     {
         self.known();
-        collect_from(self.alloc, self.boxes.as_slice(), self.attribute, &self.tape, ready.from, ready.upto, query)
+        collect_from(
+            self.alloc,
+            self.boxes.as_slice(),
+            self.attribute,
+            &self.tape,
+            ready.from,
+            ready.upto,
+            query,
+        )
     }
 
-    /// Steps every box that has a map of the tails to the tape's end.
-    pub(crate) fn align(&mut self, tails: &[Tail]) -> Result<(), Refusal>
+    /// Steps every box that has a map of the tails to the tape's end, those that lack entries at once.
+    pub(crate) fn align<R: Threads + Sync>(&mut self, rt: &R, tails: &[Tail]) -> Result<(), Refusal>
         requires room { All (HasRoomWhereNeeded tails.now self.old.tape) self.old.boxes }
         ensures same { IsSameArea self.old self.new }
         ensures tape { self.new.tape ≡ self.old.tape }
         ensures maps { AreSameMaps self.old.boxes self.new.boxes }
         ensures ends { MatchResult result (λ _. All (IsAtEnd tails.now self.old.tape) self.new.boxes) (λ e. e ≡ NoMemory) }
     {
-        align_boxes(self.attribute, self.boxes.as_mut_slice(), tails, &self.tape)
+        align_at_once(
+            rt,
+            self.attribute,
+            self.boxes.as_mut_slice(),
+            tails,
+            &self.tape,
+        )
     }
 
     /// Clears the box at a place and begins a map in it. Refused, it is blank.
@@ -421,7 +490,12 @@ fn clear_all<M: CrackerMap>(boxes: &mut [M])
     }
 }
 
-fn begin_box<M: CrackerMap>(it: &mut M, attribute: u8, tail: Tail, cells: u64) -> Result<(), Refusal>
+fn begin_box<M: CrackerMap>(
+    it: &mut M,
+    attribute: u8,
+    tail: Tail,
+    cells: u64,
+) -> Result<(), Refusal>
     ensures { MatchResult result (λ _. M.held it.new ≡ begun attribute tail cells) (λ e. (M.held it.new ≡ blank) × IsBeginRefusal cells e) }
 {
     it.clear();

@@ -93,7 +93,7 @@ fn select<M: CrackerMap>(
 {
     let mut keys = open_keys(boxes, head, tape, from, upto);
     let mut found = found_keys(alloc, &mut keys, from, choice)?;
-    sort_by_key(&mut found);
+    sort_by_key(alloc, &mut found);
     let columns = columns_of(boxes, head, tape, names);
     rows_at(alloc, boxes, &columns, names, &found)
 }

@@ -3,6 +3,7 @@
 
 mod align;
 mod area;
+mod at_once;
 mod choice;
 mod collect;
 mod finding;
@@ -11,6 +12,9 @@ mod needs;
 mod pick;
 mod prepare;
 mod replies;
+#[cfg(test)]
+mod slot_tests;
+mod slots;
 mod totals;
 mod window;
 

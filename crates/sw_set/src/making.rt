@@ -12,7 +12,13 @@ use sw_rows::Refusal;
 
 /// Begins a map in a box. On `Short` the least recently used unneeded box with a lease is cleared and it is tried again, until
 /// it succeeds or there is no such box.
-fn begin_again<M: CrackerMap>(area: &mut Area<M>, at: usize, tails: &[Tail], tail: Tail, cells: u64) -> Result<(), Refusal>
+fn begin_again<M: CrackerMap>(
+    area: &mut Area<M>,
+    at: usize,
+    tails: &[Tail],
+    tail: Tail,
+    cells: u64,
+) -> Result<(), Refusal>
     requires within { at < length area.old.boxes }
     requires fresh { IsFreshBut at tail area.old.boxes }
     ensures same { IsSameButBoxes area.old area.new }
@@ -50,7 +56,12 @@ fn take<M: CrackerMap>(area: &Area<M>, tails: &[Tail], tail: Tail) -> Result<usi
 }
 
 /// Sees to it that a box has a map of the tail with room for so many pairs.
-fn ensure_map<M: CrackerMap>(area: &mut Area<M>, tails: &[Tail], tail: Tail, cells: u64) -> Result<(), Refusal>
+fn ensure_map<M: CrackerMap>(
+    area: &mut Area<M>,
+    tails: &[Tail],
+    tail: Tail,
+    cells: u64,
+) -> Result<(), Refusal>
     requires needed { Contains tails.now tail }
     ensures same { IsSameButBoxes area.old area.new }
     ensures ends { MatchResult result (λ _. IsHeld tail cells area.new.boxes × ((u : Tail) → Contains tails.now u → IsHeld u cells area.old.boxes → IsHeld u cells area.new.boxes)) (λ e. IsPrepareRefusal (length area.old.boxes) (length tails.now) cells e) }
@@ -67,7 +78,11 @@ fn ensure_map<M: CrackerMap>(area: &mut Area<M>, tails: &[Tail], tail: Tail, cel
 }
 
 /// Sees to it for every tail that is needed, in order.
-pub(crate) fn make_all<M: CrackerMap>(area: &mut Area<M>, tails: &[Tail], cells: u64) -> Result<(), Refusal>
+pub(crate) fn make_all<M: CrackerMap>(
+    area: &mut Area<M>,
+    tails: &[Tail],
+    cells: u64,
+) -> Result<(), Refusal>
     ensures same { IsSameButBoxes area.old area.new }
     ensures ends { MatchResult result (λ _. All (λ t. IsHeld t cells area.new.boxes) tails.now) (λ e. IsPrepareRefusal (length area.old.boxes) (length tails.now) cells e) }
 {

@@ -38,7 +38,12 @@ fn is_before(lower: Option<Bound>, upper: Option<Bound>) -> bool
 }
 
 /// Whether a range meets an interval, both given by where they begin and end.
-pub(crate) fn touches(start: Option<Bound>, end: Option<Bound>, lower: Option<Bound>, upper: Option<Bound>) -> bool
+pub(crate) fn touches(
+    start: Option<Bound>,
+    end: Option<Bound>,
+    lower: Option<Bound>,
+    upper: Option<Bound>,
+) -> bool
     ensures { result ≡ touches start end lower upper }
 {
     is_before(lower, upper) && (is_before(lower, end) && is_before(start, upper))
@@ -66,7 +71,11 @@ pub(crate) fn upper_upto(end: Option<Bound>, upper: Option<Bound>) -> Option<Bou
     };
     match end {
         None => Some(high),
-        Some(last) => if high.is_below(last) { Some(high) } else { None },
+        Some(last) => if high.is_below(last) {
+            Some(high)
+        } else {
+            None
+        },
     }
 }
 

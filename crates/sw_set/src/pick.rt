@@ -7,11 +7,9 @@ use sw_map::{CrackerMap, Tail};
 
 /// The box that has a map of the tail.
 pub(crate) fn find_map<M: CrackerMap>(boxes: &[M], tail: Tail) -> Option<usize>
-    ensures {
-        MatchOption result
-            (All (λ m. (M.held m).is_blank ≡ false → (M.held m).tail ≢ tail) boxes.now)
-            (λ i. (i < length boxes.now) × ((d : M) → ((M.held (slice_index_or boxes.now i d)).is_blank ≡ false) × ((M.held (slice_index_or boxes.now i d)).tail ≡ tail)))
-    }
+    ensures { MatchOption result
+        (All (λ m. (M.held m).is_blank ≡ false → (M.held m).tail ≢ tail) boxes.now)
+        (λ i. (i < length boxes.now) × ((d : M) → ((M.held (slice_index_or boxes.now i d)).is_blank ≡ false) × ((M.held (slice_index_or boxes.now i d)).tail ≡ tail))) }
 {
     for i in 0..boxes.len() {
         if !boxes[i].is_blank() && boxes[i].tail() == tail {
@@ -23,11 +21,9 @@ pub(crate) fn find_map<M: CrackerMap>(boxes: &[M], tail: Tail) -> Option<usize>
 
 /// The first blank box.
 pub(crate) fn find_blank<M: CrackerMap>(boxes: &[M]) -> Option<usize>
-    ensures {
-        MatchOption result
-            (All (λ m. (M.held m).is_blank ≡ false) boxes.now)
-            (λ i. (i < length boxes.now) × ((d : M) → (M.held (slice_index_or boxes.now i d)).is_blank ≡ true))
-    }
+    ensures { MatchOption result
+        (All (λ m. (M.held m).is_blank ≡ false) boxes.now)
+        (λ i. (i < length boxes.now) × ((d : M) → (M.held (slice_index_or boxes.now i d)).is_blank ≡ true)) }
 {
     for i in 0..boxes.len() {
         if boxes[i].is_blank() {
@@ -50,12 +46,14 @@ pub(crate) fn older(best: Option<usize>, at: usize, stamps: &[u64]) -> usize
 }
 
 /// The least recently used box whose map the tails lack.
-pub(crate) fn find_unneeded<M: CrackerMap>(boxes: &[M], stamps: &[u64], tails: &[Tail]) -> Option<usize>
-    ensures {
-        MatchOption result
-            (All (λ m. Contains tails.now (M.held m).tail) boxes.now)
-            (λ i. (i < length boxes.now) × ((d : M) → ¬ Contains tails.now (M.held (slice_index_or boxes.now i d)).tail))
-    }
+pub(crate) fn find_unneeded<M: CrackerMap>(
+    boxes: &[M],
+    stamps: &[u64],
+    tails: &[Tail],
+) -> Option<usize>
+    ensures { MatchOption result
+        (All (λ m. Contains tails.now (M.held m).tail) boxes.now)
+        (λ i. (i < length boxes.now) × ((d : M) → ¬ Contains tails.now (M.held (slice_index_or boxes.now i d)).tail)) }
 {
     let mut best: Option<usize> = None;
     for at in 0..boxes.len() {
@@ -75,12 +73,14 @@ fn is_leased<M: CrackerMap>(it: &M, tails: &[Tail]) -> bool
 }
 
 /// The least recently used box with a lease for a map that the tails lack.
-pub(crate) fn find_leased<M: CrackerMap>(boxes: &[M], stamps: &[u64], tails: &[Tail]) -> Option<usize>
-    ensures {
-        MatchOption result
-            (All (λ m. (M.held m).is_blank ≡ false → Contains tails.now (M.held m).tail) boxes.now)
-            (λ i. (i < length boxes.now) × ((d : M) → ((M.held (slice_index_or boxes.now i d)).is_blank ≡ false) × ¬ Contains tails.now (M.held (slice_index_or boxes.now i d)).tail))
-    }
+pub(crate) fn find_leased<M: CrackerMap>(
+    boxes: &[M],
+    stamps: &[u64],
+    tails: &[Tail],
+) -> Option<usize>
+    ensures { MatchOption result
+        (All (λ m. (M.held m).is_blank ≡ false → Contains tails.now (M.held m).tail) boxes.now)
+        (λ i. (i < length boxes.now) × ((d : M) → ((M.held (slice_index_or boxes.now i d)).is_blank ≡ false) × ¬ Contains tails.now (M.held (slice_index_or boxes.now i d)).tail)) }
 {
     let mut best: Option<usize> = None;
     for at in 0..boxes.len() {

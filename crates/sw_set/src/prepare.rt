@@ -16,6 +16,7 @@ ghost use Rattle.sw_set.specs.Shelf.{IsAtEnd, IsSameArea, logged_rows, rows_in};
 use crate::area::Area;
 use crate::making::make_all;
 use crate::needs::{edge, lower_from, lower_of, needed_tails, touches, upper_of, upper_upto};
+use std::thread::Threads;
 use sw_map::{CrackerMap, Tail};
 use sw_rows::{Bound, Query, Refusal, Reply};
 use sw_tape::MAX_ENTRIES;
@@ -36,7 +37,11 @@ fn all_stand<M: CrackerMap>(area: &Area<M>, lower: Option<Bound>, upper: Option<
 
 /// Logs the range exactly where one of its bounds stands in no range of the tape, after a restart where the tape is full.
 /// Refused `NoMemory`, the tape is as it was, or one load of the rows.
-fn note<M: CrackerMap>(area: &mut Area<M>, lower: Option<Bound>, upper: Option<Bound>) -> Result<(), Refusal>
+fn note<M: CrackerMap>(
+    area: &mut Area<M>,
+    lower: Option<Bound>,
+    upper: Option<Bound>,
+) -> Result<(), Refusal>
     ensures same { IsSameArea area.old area.new }
     ensures ends { MatchResult result (λ _. IsNoted lower upper (logged_rows area.old.attribute area.old.tape) area.old.tape area.new.tape) (λ e. (e ≡ NoMemory) × ((area.new.tape ≡ area.old.tape) ⊎ (area.new.tape ≡ loaded (logged_rows area.old.attribute area.old.tape) ∷ []))) }
 {
@@ -76,7 +81,12 @@ fn place_in<M: CrackerMap>(area: &Area<M>, at: usize, bound: Option<Bound>, abse
 }
 
 /// The range of the bounds, in an area whose needed maps stand at the tape's end.
-fn range_of<M: CrackerMap>(area: &Area<M>, lower: Option<Bound>, upper: Option<Bound>, tails: &[Tail]) -> Ready
+fn range_of<M: CrackerMap>(
+    area: &Area<M>,
+    lower: Option<Bound>,
+    upper: Option<Bound>,
+    tails: &[Tail],
+) -> Ready
     requires maps { (t : Tail) → Contains tails.now t → Any (IsReady t area.now.tape) area.now.boxes }
     requires key { Contains tails.now Key }
     requires stand { stands_if lower area.now.tape && stands_if upper area.now.tape ≡ true }
@@ -92,7 +102,13 @@ fn range_of<M: CrackerMap>(area: &Area<M>, lower: Option<Bound>, upper: Option<B
 }
 
 /// Counts the boxes, logs the range, makes the maps, aligns them and finds the places of the bounds.
-fn prepare_range<M: CrackerMap>(area: &mut Area<M>, lower: Option<Bound>, upper: Option<Bound>, tails: &[Tail]) -> Result<Ready, Refusal>
+fn prepare_range<R: Threads + Sync, M: CrackerMap>(
+    rt: &R,
+    area: &mut Area<M>,
+    lower: Option<Bound>,
+    upper: Option<Bound>,
+    tails: &[Tail],
+) -> Result<Ready, Refusal>
     requires key { Contains tails.now Key }
     ensures same { IsSameArea area.old area.new }
     ensures ends { MatchResult result (λ r. IsNoted lower upper (logged_rows area.old.attribute area.old.tape) area.old.tape area.new.tape × IsPrepared lower upper tails.now area.new r.from r.upto) (λ e. ((area.new.tape ≡ area.old.tape) ⊎ (IsNoted lower upper (logged_rows area.old.attribute area.old.tape) area.old.tape area.new.tape ⊎ (area.new.tape ≡ loaded (logged_rows area.old.attribute area.old.tape) ∷ []))) × IsPrepareRefusal (length area.old.boxes) (length tails.now) (cells_for (peak_from 0 area.new.tape)) e) }
@@ -107,7 +123,7 @@ fn prepare_range<M: CrackerMap>(area: &mut Area<M>, lower: Option<Bound>, upper:
     let cells = cells_for(area.peak());
     make_all(area, tails, cells)?;
     area.known();
-    area.align(tails)?;
+    area.align(rt, tails)?;
     Ok(range_of(area, lower, upper, tails))
 }
 
@@ -119,7 +135,7 @@ impl<M: CrackerMap> Area<M> {
     ///
     /// It is refused `NoMemory`, `Short` or `Contended`, or `NoBlank` where the area has fewer boxes than the query needs.
     /// The area then stands for the same rows, and each box is blank or stands lawfully at some cursor.
-    pub fn prepare(&mut self, query: &Query) -> Result<Ready, Refusal>
+    pub fn prepare<R: Threads + Sync>(&mut self, rt: &R, query: &Query) -> Result<Ready, Refusal>
         requires received { self.old.inbox ≡ [] }
         ensures same { IsSameArea self.old self.new }
         ensures ends { MatchResult result (λ r. IsNotedFor query.now self.old self.new.tape × IsPreparedFor query.now self.new r.from r.upto) (λ e. IsPartlyNoted query.now self.old self.new.tape × IsPrepareRefusal (length self.old.boxes) (length (needed self.old.attribute query.now)) (cells_for (peak_from 0 self.new.tape)) e) }
@@ -136,7 +152,13 @@ impl<M: CrackerMap> Area<M> {
             Ok(tails) => tails,
             Err(e) => return Err(e),
         };
-        let done = prepare_range(self, lower_from(start, lower), upper_upto(end, upper), tails.as_slice());
+        let done = prepare_range(
+            rt,
+            self,
+            lower_from(start, lower),
+            upper_upto(end, upper),
+            tails.as_slice(),
+        );
         self.stamp(tails.as_slice());
         done
     }
@@ -146,7 +168,11 @@ impl<M: CrackerMap> Area<M> {
     ///
     /// The one refusal is `NoMemory`. The area stands for the same rows then and otherwise, and where no refusal was told it
     /// stands as `prepare` leaves it.
-    pub fn answer(&mut self, query: &Query) -> Result<(Reply, Option<Refusal>), Refusal>
+    pub fn answer<R: Threads + Sync>(
+        &mut self,
+        rt: &R,
+        query: &Query,
+    ) -> Result<(Reply, Option<Refusal>), Refusal>
         requires received { self.old.inbox ≡ [] }
         requires asks { AsksBelow 8 query.now }
         requires head { head_in query.now.conds ≡ self.old.attribute }
@@ -155,7 +181,7 @@ impl<M: CrackerMap> Area<M> {
         ensures told { IfOk result (λ r. IsTold query.now self.old self.new r.1) }
         ensures refused { IsOkUnless result NoMemory }
     {
-        match self.prepare(query) {
+        match self.prepare(rt, query) {
             Ok(ready) => match self.collect(&ready, query) {
                 Ok(reply) => Ok((reply, None)),
                 Err(e) => Err(e),

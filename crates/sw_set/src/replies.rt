@@ -6,6 +6,7 @@ ghost use Rattle.sw_rows.specs.declared.refusal.Refusal.TheVariants.{NoMemory};
 ghost use Rattle.sw_set.specs.Choice.{IsInside, chosen, column_at, placed, row_in, value_in};
 
 use crate::choice::Choice;
+use crate::slots::sort_dense;
 use crate::window::{Column, Window, value_at};
 use std::alloc::Global;
 use sw_map::CrackerMap;
@@ -21,6 +22,16 @@ fn push_found(found: &mut Vec<(u64, usize)>, key: u64, place: usize) -> Result<(
     }
 }
 
+/// An empty list with room for so many keys.
+fn room_for(alloc: Global, many: usize) -> Result<Vec<(u64, usize)>, Refusal>
+    ensures { MatchResult result (λ found. found.items ≡ []) (λ e. e ≡ NoMemory) }
+{
+    match Vec::with_capacity(alloc, many) {
+        Ok(found) => Ok(found),
+        Err(_) => Err(Refusal::NoMemory),
+    }
+}
+
 /// The keys of the chosen rows of a range, each with its place. The range begins at a place.
 pub(crate) fn found_keys<M: CrackerMap>(
     alloc: Global,
@@ -32,7 +43,7 @@ pub(crate) fn found_keys<M: CrackerMap>(
     requires fits { from + length keys.old < 2 ^ 64 }
     ensures { MatchResult result (λ found. found.items ≡ chosen choice.now.bits (placed from keys.old)) (λ e. e ≡ NoMemory) }
 {
-    let mut found = Vec::new(alloc);
+    let mut found = room_for(alloc, choice.count(keys.len()))?;
     for place in 0..keys.len() {
         if choice.has(place) {
             push_found(&mut found, keys.at(place) as u64, from + place)?;
@@ -41,11 +52,14 @@ pub(crate) fn found_keys<M: CrackerMap>(
     Ok(found)
 }
 
-/// Puts keys in ascending order, each with its place.
-pub(crate) fn sort_by_key(found: &mut Vec<(u64, usize)>)
+/// Puts keys in ascending order, each with its place. Dense keys are put into slots, others are compared.
+pub(crate) fn sort_by_key(alloc: Global, found: &mut Vec<(u64, usize)>)
     ensures moved { IsPermutation found.old.items found.new.items }
     ensures sorted { IsNonDecreasingBy (λ p. p.0) found.new.items }
 {
+    if sort_dense(alloc, found) {
+        return;
+    }
     found.sort_unstable_by_key(|p| p.0);
 }
 

@@ -5,6 +5,7 @@ ghost use Rattle.sw_rows.specs.declared.query.Cond.{Cond};
 ghost use Rattle.sw_rows.specs.Scan.{AsksBelow, CondsBelow, WantsBelow};
 ghost use Rattle.sw_set.specs.Needs.{head_in};
 
+use std::thread::Threads;
 use sw_map::CrackerMap;
 use sw_rows::{Cond, Query, Refusal, Reply, Want};
 use sw_set::{Area, Ready};
@@ -75,25 +76,25 @@ pub fn is_askable<M: CrackerMap>(area: &Area<M>, query: &Query) -> bool
 }
 
 /// What an area answers a query; `Input` where it may not be asked it.
-pub fn ask<M: CrackerMap>(area: &mut Area<M>, query: &Query) -> Result<(Reply, Option<Refusal>), Refusal>
+pub fn ask<R: Threads + Sync, M: CrackerMap>(rt: &R, area: &mut Area<M>, query: &Query) -> Result<(Reply, Option<Refusal>), Refusal>
     requires { area.old.inbox ≡ [] }
     ensures { area.new.inbox ≡ [] }
 {
     if !is_askable(area, query) {
         return Err(Refusal::Input);
     }
-    area.answer(query)
+    area.answer(rt, query)
 }
 
 /// Prepares an area for a query; `Input` where it may not be asked it.
-pub fn ready<M: CrackerMap>(area: &mut Area<M>, query: &Query) -> Result<Ready, Refusal>
+pub fn ready<R: Threads + Sync, M: CrackerMap>(rt: &R, area: &mut Area<M>, query: &Query) -> Result<Ready, Refusal>
     requires { area.old.inbox ≡ [] }
     ensures { area.new.inbox ≡ [] }
 {
     if !is_askable(area, query) {
         return Err(Refusal::Input);
     }
-    area.prepare(query)
+    area.prepare(rt, query)
 }
 
 /// The plain answer over an area's rows; `Input` where it may not be asked the query.

@@ -12,4 +12,4 @@ mod opening;
 mod tests;
 
 pub use asking::{ask, asks_below_eight, is_askable, ready, scan};
-pub use opening::{Shape, numbered, open};
+pub use opening::{Shape, add, numbered, open};

@@ -4,9 +4,10 @@ ghost use Rattle.std.specs.Prelude.{◌≡◌, [], All, IfOk};
 ghost use Rattle.sw_map.specs.Held.{blank};
 
 use crate::moves::shown;
-use crate::{Shape, ask, asks_below_eight, numbered, open};
+use crate::{Shape, add, ask, asks_below_eight, numbered, open};
 use std::alloc::Global;
 use std::test::Fail;
+use std::thread::Threads;
 use sw_budget::{Budget, Purse};
 use sw_map::{CrackerMap, PairMap, Tail};
 use sw_rows::{Bound, Cond, Conds, Names, Query, Refusal, Reply, Row, Want, answer};
@@ -152,7 +153,8 @@ struct Outcome {
 }
 
 /// Asks an area so many queries of a mix.
-fn mixed<M: CrackerMap>(
+fn mixed<R: Threads + Sync, M: CrackerMap>(
+    rt: &R,
     alloc: Global,
     rows: &[Row],
     area: &mut Area<M>,
@@ -165,7 +167,7 @@ fn mixed<M: CrackerMap>(
     let mut told = 0u64;
     for call in 0..calls {
         let query = dice.query(alloc, head)?;
-        let (reply, refusal) = ask(area, &query)?;
+        let (reply, refusal) = ask(rt, area, &query)?;
         told = told.saturating_add(u64::from(refusal.is_some()));
         let seen = shown(alloc, &reply)?;
         let plain = shown(alloc, &plainly(alloc, rows, &query)?)?;
@@ -197,7 +199,8 @@ fn cells_for(alloc: Global, shape: Shape, dice: &mut Dice) -> Result<Vec<[i64; 8
 }
 
 /// A mix over an area of its own.
-fn mix<M: CrackerMap>(
+fn mix<R: Threads + Sync, M: CrackerMap>(
+    rt: &R,
     alloc: Global,
     maps: Vec<M>,
     boxes: usize,
@@ -226,7 +229,7 @@ fn mix<M: CrackerMap>(
     let cells = cells_for(alloc, shape, dice)?;
     let rows = numbered(alloc, cells.as_slice())?;
     let mut area = open(alloc, shape, rows.as_slice(), maps)?;
-    mixed(alloc, rows.as_slice(), &mut area, dice, calls)
+    mixed(rt, alloc, rows.as_slice(), &mut area, dice, calls)
 }
 
 /// A map that refuses every n-th step, none where n is 0.
@@ -242,7 +245,8 @@ fn refusing(
 }
 
 /// A mix over boxes of which every n-th step is refused.
-fn refused_mix(
+fn refused_mix<R: Threads + Sync>(
+    rt: &R,
     alloc: Global,
     capacity: u64,
     boxes: usize,
@@ -256,8 +260,13 @@ fn refused_mix(
     let three: Box<dyn CrackerMap> = Box::new(alloc, refusing(alloc, &mut purse, every)?)?;
     let four: Box<dyn CrackerMap> = Box::new(alloc, refusing(alloc, &mut purse, every)?)?;
     let five: Box<dyn CrackerMap> = Box::new(alloc, refusing(alloc, &mut purse, every)?)?;
-    let maps = Vec::from_array(alloc, [one, two, three, four, five])?;
-    mix(alloc, maps, boxes, dice, calls)
+    let mut maps: Vec<Box<dyn CrackerMap>> = Vec::new(alloc);
+    add(&mut maps, one)?;
+    add(&mut maps, two)?;
+    add(&mut maps, three)?;
+    add(&mut maps, four)?;
+    add(&mut maps, five)?;
+    mix(rt, alloc, maps, boxes, dice, calls)
 }
 
 /// A map that answers `Contended` at every second begin.
@@ -269,7 +278,8 @@ fn contended(alloc: Global, purse: &mut Purse) -> Result<ContendedMap<PairMap>, 
 }
 
 /// A mix over boxes of which every second begin finds the budget contended.
-fn contended_mix(
+fn contended_mix<R: Threads + Sync>(
+    rt: &R,
     alloc: Global,
     capacity: u64,
     boxes: usize,
@@ -281,8 +291,12 @@ fn contended_mix(
     let two: Box<dyn CrackerMap> = Box::new(alloc, contended(alloc, &mut purse)?)?;
     let three: Box<dyn CrackerMap> = Box::new(alloc, contended(alloc, &mut purse)?)?;
     let four: Box<dyn CrackerMap> = Box::new(alloc, contended(alloc, &mut purse)?)?;
-    let maps = Vec::from_array(alloc, [one, two, three, four])?;
-    mix(alloc, maps, boxes, dice, calls)
+    let mut maps: Vec<Box<dyn CrackerMap>> = Vec::new(alloc);
+    add(&mut maps, one)?;
+    add(&mut maps, two)?;
+    add(&mut maps, three)?;
+    add(&mut maps, four)?;
+    mix(rt, alloc, maps, boxes, dice, calls)
 }
 
 /// Budgets of no cells, of some maps' cells, and of enough for all.
@@ -293,7 +307,7 @@ fn mixes_are_answered_as_the_rows_do(rt: HostRuntime) -> Result<(), Fail> {
     let mut dice = Dice::new(1);
     for capacity in CAPACITIES {
         for boxes in 0..6 {
-            let seen = refused_mix(rt.alloc(), capacity, boxes, 0, &mut dice, 150)?;
+            let seen = refused_mix(&rt, rt.alloc(), capacity, boxes, 0, &mut dice, 150)?;
             assert_eq!(rt; seen.wrong.as_str(), "");
             // with five boxes and cells for all of them nothing is refused, with none of either everything is
             assert!(rt; seen.told == 0 || boxes < 5 || capacity < 4096);
@@ -308,7 +322,7 @@ fn refused_steps_leave_the_replies(rt: HostRuntime) -> Result<(), Fail> {
     let mut dice = Dice::new(2);
     for every in 1..6 {
         for capacity in CAPACITIES {
-            let seen = refused_mix(rt.alloc(), capacity, 5, every, &mut dice, 150)?;
+            let seen = refused_mix(&rt, rt.alloc(), capacity, 5, every, &mut dice, 150)?;
             assert_eq!(rt; seen.wrong.as_str(), "");
             assert!(rt; seen.told > 0);
         }
@@ -321,7 +335,7 @@ fn contended_begins_leave_the_replies(rt: HostRuntime) -> Result<(), Fail> {
     let mut dice = Dice::new(3);
     for capacity in CAPACITIES {
         for boxes in 1..5 {
-            let seen = contended_mix(rt.alloc(), capacity, boxes, &mut dice, 150)?;
+            let seen = contended_mix(&rt, rt.alloc(), capacity, boxes, &mut dice, 150)?;
             assert_eq!(rt; seen.wrong.as_str(), "");
             assert!(rt; seen.told > 0);
         }

@@ -6,6 +6,7 @@ use crate::{ask, ready, scan};
 use std::alloc::Global;
 use std::sync::atomic::{AtomicU64, Ordering};
 use std::test::Fail;
+use std::thread::Threads;
 use sw_budget::Budget;
 use sw_lang::parse_line;
 use sw_map::{CrackerMap, Tail};
@@ -126,12 +127,12 @@ fn taken(count: &AtomicU64) -> u64 {
 }
 
 /// The reply of an area, with the refusal that is told beside it.
-fn answered<M: CrackerMap>(alloc: Global, area: &mut Area<M>, line: &str) -> Result<String, Fail>
+fn answered<R: Threads + Sync, M: CrackerMap>(rt: &R, alloc: Global, area: &mut Area<M>, line: &str) -> Result<String, Fail>
     requires { area.old.inbox ≡ [] }
     ensures { area.new.inbox ≡ [] }
 {
     let query = query(alloc, line)?;
-    let (reply, told) = ask(area, &query)?;
+    let (reply, told) = ask(rt, area, &query)?;
     let mut text = shown(alloc, &reply)?;
     if let Some(e) = told {
         text.push_str(format!(in alloc; ", told {e}")?.as_str())?;
@@ -140,12 +141,12 @@ fn answered<M: CrackerMap>(alloc: Global, area: &mut Area<M>, line: &str) -> Res
 }
 
 /// The range of places of a query, or the refusal.
-fn prepared<M: CrackerMap>(alloc: Global, area: &mut Area<M>, line: &str) -> Result<String, Fail>
+fn prepared<R: Threads + Sync, M: CrackerMap>(rt: &R, alloc: Global, area: &mut Area<M>, line: &str) -> Result<String, Fail>
     requires { area.old.inbox ≡ [] }
     ensures { area.new.inbox ≡ [] }
 {
     let query = query(alloc, line)?;
-    match ready(area, &query) {
+    match ready(rt, area, &query) {
         Ok(range) => Ok(format!(in alloc; "{}..{}", range.from, range.upto)?),
         Err(e) => Ok(format!(in alloc; "{e}")?),
     }
@@ -173,13 +174,13 @@ fn look<M: CrackerMap>(alloc: Global, area: &Area<M>, watch: Watch<'_>, step: Mo
 }
 
 /// Makes a move, and tells what is seen.
-pub(crate) fn make<M: CrackerMap>(alloc: Global, area: &mut Area<M>, watch: Watch<'_>, step: Move<'_>) -> Result<String, Fail>
+pub(crate) fn make<R: Threads + Sync, M: CrackerMap>(rt: &R, alloc: Global, area: &mut Area<M>, watch: Watch<'_>, step: Move<'_>) -> Result<String, Fail>
     requires { area.old.inbox ≡ [] }
     ensures { area.new.inbox ≡ [] }
 {
     match step {
-        Move::Answer(line) => answered(alloc, area, line),
-        Move::Prepare(line) => prepared(alloc, area, line),
+        Move::Answer(line) => answered(rt, alloc, area, line),
+        Move::Prepare(line) => prepared(rt, alloc, area, line),
         Move::Clear(tail) => {
             area.clear(tail);
             Ok(String::new(alloc))
@@ -198,13 +199,13 @@ pub(crate) fn make<M: CrackerMap>(alloc: Global, area: &mut Area<M>, watch: Watc
 
 /// Makes moves in order. Of the first that does not show what is expected it tells the number, from 0, and what it shows; else
 /// nothing.
-pub(crate) fn play<M: CrackerMap>(alloc: Global, area: &mut Area<M>, watch: Watch<'_>, moves: &[(Move<'_>, &str)]) -> Result<String, Fail>
+pub(crate) fn play<R: Threads + Sync, M: CrackerMap>(rt: &R, alloc: Global, area: &mut Area<M>, watch: Watch<'_>, moves: &[(Move<'_>, &str)]) -> Result<String, Fail>
     requires { area.old.inbox ≡ [] }
     ensures { area.new.inbox ≡ [] }
 {
     for place in 0..moves.len() {
         let (step, expected) = moves[place];
-        let seen = make(alloc, area, watch, step)?;
+        let seen = make(rt, alloc, area, watch, step)?;
         if seen.as_str() != expected {
             return Ok(format!(in alloc; "{place}: {seen}")?);
         }

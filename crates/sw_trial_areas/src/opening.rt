@@ -81,6 +81,19 @@ fn lie_within(rows: &[Row], attribute: u8, from: Option<i64>, below: Option<i64>
     true
 }
 
+/// Adds a blank box. Refused `NoMemory` alone.
+pub fn add<M: CrackerMap>(maps: &mut Vec<M>, map: M) -> Result<(), Refusal>
+    requires all { All (λ m. M.held m ≡ blank) maps.old.items }
+    requires one { M.held map ≡ blank }
+    ensures { All (λ m. M.held m ≡ blank) maps.new.items }
+{
+    if maps.reserve(1).is_err() {
+        return Err(Refusal::NoMemory);
+    }
+    maps.push_reserved(map);
+    Ok(())
+}
+
 /// Takes the last box.
 fn take_last<M: CrackerMap>(maps: &mut Vec<M>) -> Option<M>
     requires { All (λ m. M.held m ≡ blank) maps.old.items }

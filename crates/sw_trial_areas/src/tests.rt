@@ -6,11 +6,12 @@ ghost use Rattle.sw_map.specs.Held.{blank};
 ghost use Rattle.sw_set.specs.Shelf.{Rises, key_of};
 
 use crate::moves::{Move, Watch, play, query, shown};
-use crate::{Shape, ask, numbered, open};
+use crate::{Shape, add, ask, numbered, open};
 use std::alloc::{AllocError, Global};
 use std::sync::Arc;
 use std::sync::atomic::Ordering;
 use std::test::Fail;
+use std::thread::Threads;
 use sw_budget::{Budget, Purse};
 use sw_map::{CrackerMap, PairMap, Tail};
 use sw_rows::{Bound, Refusal, Row};
@@ -62,7 +63,8 @@ fn counting(
 }
 
 /// An area over boxes, and moves on it.
-fn played<M: CrackerMap>(
+fn played<R: Threads + Sync, M: CrackerMap>(
+    rt: &R,
     alloc: Global,
     shape: Shape,
     cells: &[[i64; 8]],
@@ -74,12 +76,13 @@ fn played<M: CrackerMap>(
 {
     let rows = numbered(alloc, cells)?;
     let mut area = open(alloc, shape, rows.as_slice(), maps)?;
-    play(alloc, &mut area, watch, moves)
+    play(rt, alloc, &mut area, watch, moves)
 }
 
 /// Makes moves on an area over four boxes, of which it takes some, with a budget. Of the first that does not show what is
 /// expected it tells the number and what it shows; else nothing.
-fn trial(
+fn trial<R: Threads + Sync>(
+    rt: &R,
     alloc: Global,
     shape: Shape,
     cells: &[[i64; 8]],
@@ -92,12 +95,16 @@ fn trial(
     let two: Box<dyn CrackerMap> = Box::new(alloc, counting(alloc, &mut purse, &counts)?)?;
     let three: Box<dyn CrackerMap> = Box::new(alloc, counting(alloc, &mut purse, &counts)?)?;
     let four: Box<dyn CrackerMap> = Box::new(alloc, counting(alloc, &mut purse, &counts)?)?;
-    let maps = Vec::from_array(alloc, [one, two, three, four])?;
+    let mut maps: Vec<Box<dyn CrackerMap>> = Vec::new(alloc);
+    add(&mut maps, one)?;
+    add(&mut maps, two)?;
+    add(&mut maps, three)?;
+    add(&mut maps, four)?;
     let watch = Watch {
         budget: &budget,
         counts: &counts,
     };
-    let mut text = played(alloc, shape, cells, maps, watch, moves)?;
+    let mut text = played(rt, alloc, shape, cells, maps, watch, moves)?;
     if budget.used() != 0 {
         text.push_str("; cells are in use after the drop")?;
     }
@@ -141,7 +148,7 @@ fn a_range_is_cracked_once(rt: HostRuntime) -> Result<(), Fail> {
         (Move::Scan(line), "1: 7, 3: 5, 2 rows"),
         (Move::Counts, "0 begins, 0 steps, 0 tails"),
     ];
-    assert_eq!(rt; trial(rt.alloc(), wide(4), &FOUR_ROWS, 1 << 20, &moves)?.as_str(), "");
+    assert_eq!(rt; trial(&rt, rt.alloc(), wide(4), &FOUR_ROWS, 1 << 20, &moves)?.as_str(), "");
     Ok(())
 }
 
@@ -157,7 +164,7 @@ fn what_touches_nothing_logs_nothing(rt: HostRuntime) -> Result<(), Fail> {
         (Move::Counts, "1 begins, 1 steps, 0 tails"),
         (Move::Sizes, "3 boxes, 1 entries"),
     ];
-    assert_eq!(rt; trial(rt.alloc(), wide(3), &FOUR_ROWS, 1 << 20, &moves)?.as_str(), "");
+    assert_eq!(rt; trial(&rt, rt.alloc(), wide(3), &FOUR_ROWS, 1 << 20, &moves)?.as_str(), "");
     Ok(())
 }
 
@@ -171,7 +178,7 @@ fn the_ends_of_all_values(rt: HostRuntime) -> Result<(), Fail> {
         (Move::Shown(Tail::Key), "1 2 3 4"),
         (Move::Sizes, "3 boxes, 2 entries"),
     ];
-    assert_eq!(rt; trial(rt.alloc(), wide(3), &FOUR_ROWS, 1 << 20, &moves)?.as_str(), "");
+    assert_eq!(rt; trial(&rt, rt.alloc(), wide(3), &FOUR_ROWS, 1 << 20, &moves)?.as_str(), "");
     Ok(())
 }
 
@@ -185,7 +192,7 @@ fn an_area_of_no_rows(rt: HostRuntime) -> Result<(), Fail> {
         (Move::Answer("max c where a < 5 and b > 1"), "none"),
         (Move::Sizes, "3 boxes, 2 entries"),
     ];
-    assert_eq!(rt; trial(rt.alloc(), wide(3), &[], 1 << 20, &moves)?.as_str(), "");
+    assert_eq!(rt; trial(&rt, rt.alloc(), wide(3), &[], 1 << 20, &moves)?.as_str(), "");
     Ok(())
 }
 
@@ -205,7 +212,7 @@ fn further_conditions_and_aggregates(rt: HostRuntime) -> Result<(), Fail> {
         (Move::Answer("min c where a >= 10 and b > 90"), "none"),
         (Move::Sizes, "3 boxes, 2 entries"),
     ];
-    assert_eq!(rt; trial(rt.alloc(), wide(3), &FOUR_ROWS, 1 << 20, &moves)?.as_str(), "");
+    assert_eq!(rt; trial(&rt, rt.alloc(), wide(3), &FOUR_ROWS, 1 << 20, &moves)?.as_str(), "");
     Ok(())
 }
 
@@ -233,7 +240,7 @@ fn an_interval_of_the_values(rt: HostRuntime) -> Result<(), Fail> {
         (Move::Answer("count where a > 20"), "0"),
         (Move::Sizes, "2 boxes, 3 entries"),
     ];
-    assert_eq!(rt; trial(rt.alloc(), shape, &THREE_ROWS, 1 << 20, &moves)?.as_str(), "");
+    assert_eq!(rt; trial(&rt, rt.alloc(), shape, &THREE_ROWS, 1 << 20, &moves)?.as_str(), "");
     Ok(())
 }
 
@@ -260,7 +267,7 @@ fn a_budget_for_two_maps(rt: HostRuntime) -> Result<(), Fail> {
             "1: 7 1, 3: 5 1, 4: 2 0, 3 rows, told 7 used 128 want 64 capacity 128",
         ),
     ];
-    assert_eq!(rt; trial(rt.alloc(), wide(3), &FOUR_ROWS, 128, &moves)?.as_str(), "");
+    assert_eq!(rt; trial(&rt, rt.alloc(), wide(3), &FOUR_ROWS, 128, &moves)?.as_str(), "");
     Ok(())
 }
 
@@ -279,9 +286,9 @@ fn a_box_too_few(rt: HostRuntime) -> Result<(), Fail> {
         (Move::Answer("select a where a >= 10"), "1: 12, 3: 12, 4: 20, 3 rows"),
         (Move::Sizes, "1 boxes, 2 entries"),
     ];
-    assert_eq!(rt; trial(rt.alloc(), wide(1), &FOUR_ROWS, 1 << 20, &moves)?.as_str(), "");
+    assert_eq!(rt; trial(&rt, rt.alloc(), wide(1), &FOUR_ROWS, 1 << 20, &moves)?.as_str(), "");
     let none = [(Move::Answer("count"), "4, told 6 boxes 0 needed 1")];
-    assert_eq!(rt; trial(rt.alloc(), wide(0), &FOUR_ROWS, 1 << 20, &none)?.as_str(), "");
+    assert_eq!(rt; trial(&rt, rt.alloc(), wide(0), &FOUR_ROWS, 1 << 20, &none)?.as_str(), "");
     Ok(())
 }
 
@@ -297,7 +304,7 @@ fn a_budget_of_no_cells(rt: HostRuntime) -> Result<(), Fail> {
         (Move::Counts, "0 begins, 0 steps, 0 tails"),
         (Move::Used, "0"),
     ];
-    assert_eq!(rt; trial(rt.alloc(), wide(3), &FOUR_ROWS, 0, &moves)?.as_str(), "");
+    assert_eq!(rt; trial(&rt, rt.alloc(), wide(3), &FOUR_ROWS, 0, &moves)?.as_str(), "");
     Ok(())
 }
 
@@ -329,7 +336,7 @@ fn the_least_recently_used_box_is_cleared(rt: HostRuntime) -> Result<(), Fail> {
         (Move::ClearOldest, "0"),
         (Move::Oldest, "none"),
     ];
-    assert_eq!(rt; trial(rt.alloc(), wide(4), &FOUR_ROWS, 1 << 20, &moves)?.as_str(), "");
+    assert_eq!(rt; trial(&rt, rt.alloc(), wide(4), &FOUR_ROWS, 1 << 20, &moves)?.as_str(), "");
     Ok(())
 }
 
@@ -345,7 +352,7 @@ fn of_boxes_with_one_stamp_the_lowest_is_cleared(rt: HostRuntime) -> Result<(), 
         (Move::Cursor(C), "2"),
         (Move::Cursor(D), "2"),
     ];
-    assert_eq!(rt; trial(rt.alloc(), wide(3), &FOUR_ROWS, 1 << 20, &moves)?.as_str(), "");
+    assert_eq!(rt; trial(&rt, rt.alloc(), wide(3), &FOUR_ROWS, 1 << 20, &moves)?.as_str(), "");
     Ok(())
 }
 
@@ -363,13 +370,13 @@ fn a_short_budget_clears_the_least_recently_used(rt: HostRuntime) -> Result<(), 
         (Move::Cursor(B), "2"),
         (Move::Used, "192"),
     ];
-    assert_eq!(rt; trial(rt.alloc(), wide(4), &FOUR_ROWS, 192, &moves)?.as_str(), "");
+    assert_eq!(rt; trial(&rt, rt.alloc(), wide(4), &FOUR_ROWS, 192, &moves)?.as_str(), "");
     Ok(())
 }
 
 /// What an area of one box shows of 4,096 ranges that end at 1, 2, 3 and so on: the tape's length before the last, the last
 /// reply, and the tape's length after it.
-fn ranged<M: CrackerMap>(alloc: Global, maps: Vec<M>) -> Result<String, Fail>
+fn ranged<R: Threads + Sync, M: CrackerMap>(rt: &R, alloc: Global, maps: Vec<M>) -> Result<String, Fail>
     requires { All (λ m. M.held m ≡ blank) maps.items }
 {
     let rows = numbered(alloc, &FOUR_ROWS)?;
@@ -377,11 +384,11 @@ fn ranged<M: CrackerMap>(alloc: Global, maps: Vec<M>) -> Result<String, Fail>
     for value in 1..4096u32 {
         let line = format!(in alloc; "count where a < {value}")?;
         let query = query(alloc, line.as_str())?;
-        let (_reply, _told) = ask(&mut area, &query)?;
+        let (_reply, _told) = ask(rt, &mut area, &query)?;
     }
     let full = area.tape_len();
     let query = query(alloc, "count where a < 4096")?;
-    let (reply, told) = ask(&mut area, &query)?;
+    let (reply, told) = ask(rt, &mut area, &query)?;
     let last = shown(alloc, &reply)?;
     let known = told.is_none();
     Ok(format!(in alloc; "{full}, {last}, {known}, {}", area.tape_len())?)
@@ -393,8 +400,9 @@ fn a_full_tape_begins_anew(rt: HostRuntime) -> Result<(), Fail> {
     let (_budget, mut purse) = Budget::open(alloc, 64)?;
     let counts = Arc::new(alloc, Counts::none())?;
     let one: Box<dyn CrackerMap> = Box::new(alloc, counting(alloc, &mut purse, &counts)?)?;
-    let maps = Vec::from_array(alloc, [one])?;
-    assert_eq!(rt; ranged(alloc, maps)?.as_str(), "4096, 4, true, 2");
+    let mut maps: Vec<Box<dyn CrackerMap>> = Vec::new(alloc);
+    add(&mut maps, one)?;
+    assert_eq!(rt; ranged(&rt, alloc, maps)?.as_str(), "4096, 4, true, 2");
     // 4,096 entries in the first map, two in the second
     assert!(rt; counts.begins.load(Ordering::SeqCst) == 2);
     assert!(rt; counts.steps.load(Ordering::SeqCst) == 4098);

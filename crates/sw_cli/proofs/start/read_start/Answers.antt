@@ -12,6 +12,5 @@ returns-clause-sound g c =
       wide = (table-schema t.0 (shown_table c.in-Ok.found) t.1).sound.few;
       numbered = table_numbered t.0 (shown_table c.in-Ok.found) t.1;
       few = grind (arith, common_steps);
-      below = c.in-Ok-read_script.ensures.below;
-      short = c.in-Ok-read_script.ensures.short;
+      blocks = c.in-Ok-read_script.ensures.sound;
     }

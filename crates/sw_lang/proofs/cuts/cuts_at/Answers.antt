@@ -2,7 +2,8 @@ use Rattle.std.proofs.Common.{◌≡◌, ◌∙◌, ◌<◌, ap, [], length, rep
 use Rattle.std.specs.List.{slice_split}
 use Rattle.std.proofs.lemmas.Bool.Decides.{nat_tests}
 use Rattle.std.proofs.lemmas.List.{length-replicate}
-use Rattle.sw_lang.specs.Cuts.{CutLists, cuts_after, is_divider, no_cuts}
+use Rattle.sw_lang.specs.Cuts.{CutLists}
+use Rattle.sw_lang.specs.CutsReading.{cuts_after, is_divider, no_cuts}
 use Rattle.sw_lang.proofs.CutSteps.{empty_text, some_text}
 use Rattle.sw_lang.proofs.cuts.cuts_at.Goals as goal
 

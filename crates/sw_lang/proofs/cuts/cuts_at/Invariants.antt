@@ -1,6 +1,6 @@
 use Rattle.std.proofs.Common.{◌≡◌, length}
 use Rattle.std.specs.List.{slice_split}
-use Rattle.sw_lang.specs.Cuts.{cuts_after, cuts_at, is_divider}
+use Rattle.sw_lang.specs.CutsReading.{cuts_after, cuts_at, is_divider}
 use Rattle.sw_lang.proofs.cuts.cuts_at.Given as goal
 
 abbrev pub invariant-loop-cuts : goal.invariant-loop-cuts

@@ -1,7 +1,11 @@
 use Rattle.std.proofs.Common.{refl}
-use Rattle.sw_lang.specs.Cuts.{cut_name, cut_split, cut_value, cuts_at, with_cut, with_room}
+use Rattle.sw_lang.specs.CutsReading.{cut_name, cut_split, cut_value, cuts_at, with_cut, with_room}
 use Rattle.sw_lang.proofs.line_law.examples_of_cuts.Goals as goal
 
-pub returns : goal.returns
+pub returns-clause-whole_numbers : goal.returns-clause-whole_numbers
 unfolding cut_name cut_split cut_value cuts_at with_cut with_room
-returns c = refl
+returns-clause-whole_numbers c = refl
+
+pub returns-clause-kinds : goal.returns-clause-kinds
+unfolding cut_name cut_split cut_value cuts_at with_cut with_room
+returns-clause-kinds c = refl

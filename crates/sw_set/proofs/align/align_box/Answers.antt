@@ -1,4 +1,4 @@
-use Rattle.std.proofs.Common.{◌≡◌, false, true, Contains, arith, refl, sym, ap, ◌∙◌, rules, true≢false}
+use Rattle.std.proofs.Common.{◌≡◌, false, true, Contains, sym, ◌∙◌, rules, true≢false}
 use Rattle.sw_set.proofs.align.align_box.Goals as goal
 use Rattle.sw_set.proofs.Boxes.{own-aligned, lawful-after, room-own, ends-at, at-end-unneeded}
 

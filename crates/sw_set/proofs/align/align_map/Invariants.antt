@@ -1,4 +1,3 @@
-use Rattle.std.proofs.Common.{◌≡◌, ℕ}
 use Rattle.sw_set.proofs.Boxes.{IsOnTheWay}
 use Rattle.sw_set.proofs.align.align_map.Given as goal
 

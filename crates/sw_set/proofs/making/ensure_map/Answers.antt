@@ -1,5 +1,5 @@
-use Rattle.std.proofs.Common.{refl, sym, arith, ap, ◌∙◌, ◌≡◌, ◌<◌, false, length, get_or, Contains, MatchResult}
-use Rattle.sw_map.specs.Held.{Held, blank}
+use Rattle.std.proofs.Common.{arith, get_or}
+use Rattle.sw_map.specs.Held.{blank}
 use Rattle.sw_set.proofs.Boxes.{get_or_any}
 use Rattle.sw_set.proofs.Trying.{held-kept, fresh-but-own, fresh-but-none, either-ends}
 use Rattle.sw_set.proofs.making.ensure_map.Goals as goal

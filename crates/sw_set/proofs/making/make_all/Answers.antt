@@ -1,4 +1,3 @@
-use Rattle.std.proofs.Common.{arith}
 use Rattle.sw_set.proofs.Boxes.{get_or_any}
 use Rattle.sw_set.proofs.Trying.{held-so-far, same-area-trans}
 use Rattle.sw_set.proofs.making.make_all.Goals as goal

@@ -1,4 +1,4 @@
-use Rattle.std.proofs.Common.{ap, arith, length}
+use Rattle.std.proofs.Common.{ap, length}
 use Rattle.sw_rows.specs.declared.refusal.Refusal.TheVariants.{NoBlank}
 use Rattle.sw_set.proofs.Trying.{no-blank}
 use Rattle.sw_set.proofs.making.take.Goals as goal

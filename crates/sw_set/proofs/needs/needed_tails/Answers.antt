@@ -1,4 +1,3 @@
-use Rattle.std.proofs.Common.{arith}
 use Rattle.sw_set.specs.Needs.{needs_cell}
 use Rattle.sw_set.proofs.Tails.{tails-more}
 use Rattle.sw_set.proofs.needs.needed_tails.Goals as goal

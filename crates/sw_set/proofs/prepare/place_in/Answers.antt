@@ -1,4 +1,3 @@
-use Rattle.std.proofs.Common.{sym, ◌∙◌}
 use Rattle.sw_set.proofs.Ends.{found-none}
 use Rattle.sw_set.proofs.prepare.place_in.Goals as goal
 

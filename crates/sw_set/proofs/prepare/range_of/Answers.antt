@@ -1,6 +1,6 @@
-use Rattle.std.proofs.Common.{sym, ap, ◌∙◌, subst, ◌≡◌, ℕ, length}
+use Rattle.std.proofs.Common.{◌∙◌, subst, ◌≡◌, ℕ, length}
 use Rattle.sw_map.specs.declared.tail.Tail.TheVariants.{Key}
-use Rattle.sw_map.specs.Held.{Held, blank}
+use Rattle.sw_map.specs.Held.{blank}
 use Rattle.sw_map.specs.Lawful.{rows_by}
 use Rattle.sw_kernel.specs.Arrangement.{joined}
 use Rattle.sw_set.specs.Prepared.{IsPlace}
@@ -21,7 +21,7 @@ returns g c =
     let w = at-end_of _ _ _ c.known.ensures (c.requires.maps Key c.requires.key) c.in-Some.ensures.0 c.in-Some.ensures.1 blank in
     let many : c.pairs_at.result ≡ length (joined (rows_by c.args.area.now.attribute c.args.area.now.tape)) = c.pairs_at.ensures blank ∙ pairs-at_end _ _ _ w in
     record {
-    maps = c.requires.maps;
-    lower_at = place-found _ _ _ _ _ _ w (c.place_in-from.ensures blank);
-    upper_at = subst (λ (n : ℕ). IsPlace c.args.upper n (rows_by c.args.area.now.attribute c.args.area.now.tape) c.place_in-upto.result) many (place-found _ _ _ _ _ _ w (c.place_in-upto.ensures blank))
+      maps = c.requires.maps;
+      lower_at = place-found _ _ _ _ _ _ w (c.place_in-from.ensures blank);
+      upper_at = subst (λ (n : ℕ). IsPlace c.args.upper n (rows_by c.args.area.now.attribute c.args.area.now.tape) c.place_in-upto.result) many (place-found _ _ _ _ _ _ w (c.place_in-upto.ensures blank));
     }

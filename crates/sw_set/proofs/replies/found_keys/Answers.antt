@@ -9,7 +9,7 @@ use Rattle.sw_set.proofs.replies.found_keys.Goals as goal
 use Rattle.sw_set.proofs.replies.found_keys.Goals.{then-has+in_ok-push_found, else-has}
 
 pub loop-place-init : goal.loop-place-init
-loop-place-init g c = (c.new-found.ensures.items ∙ sym (chosen_nil c.args.choice.now.bits), refl)
+loop-place-init g c = (c.in_ok-found.ensures ∙ sym (chosen_nil c.args.choice.now.bits), refl)
 
 pub loop-place-preserved : goal.loop-place-preserved
 loop-place-preserved g c =

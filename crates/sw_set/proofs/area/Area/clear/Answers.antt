@@ -1,4 +1,4 @@
-use Rattle.std.proofs.Common.{ap, sym, ◌∙◌, subst, List}
+use Rattle.std.proofs.Common.{ap, sym, subst, List}
 use Rattle.sw_map.specs.Held.{Held}
 use Rattle.sw_set.specs.Shelf.{AreaState}
 use Rattle.sw_set.specs.Prepared.{IsCleared}

@@ -1,4 +1,4 @@
-use Rattle.std.proofs.Common.{sym, ap, ◌∙◌, arith}
+use Rattle.std.proofs.Common.{arith}
 use Rattle.sw_set.proofs.Noting.{peak-few}
 use Rattle.sw_set.proofs.area.Area.peak.Goals as goal
 

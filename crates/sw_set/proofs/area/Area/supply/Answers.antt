@@ -1,4 +1,4 @@
-use Rattle.std.proofs.Common.{◌≡◌, List, map, sym, ap, ◌∙◌, arith, vec_len}
+use Rattle.std.proofs.Common.{arith}
 use Rattle.sw_set.proofs.Shelves.{area-more}
 use Rattle.sw_set.proofs.area.Area.supply.Goals as goal
 

@@ -1,0 +1,193 @@
+-- The conditions that a line gives: each has a bound, and its bounds stand at stored cells.
+use Rattle.std.proofs.Common.{◌≡◌, sym, refl, subst, ℕ, ℤ, ◌<◌, inl, inr, Bool, true, false, ◌||◌, cond, eqb, List, [], ◌∷◌, ◌++◌, length, is_some, Option, Some, None}
+use Rattle.std.proofs.lemmas.Bool.Decides.{Decides-eqb}
+use Rattle.std.proofs.lemmas.List.{length-map}
+use Rattle.std.proofs.lemmas.Option.{slice_get-get_or}
+use Rattle.sw_rows.proofs.ColumnLemmas.{places_at}
+use Rattle.sw_rows.specs.Bounds.{bound_below, greater, lesser}
+use Rattle.sw_rows.specs.Cells.{HasPlaces}
+use Rattle.sw_rows.specs.Header.{Column, IsSchema, kinds_of}
+use Rattle.sw_rows.specs.declared.bound.Bound.{Bound}
+use Rattle.sw_rows.specs.declared.bound.Bound.TheVariants.{Before, After}
+use Rattle.sw_rows.specs.declared.kind.Kind.{Kind}
+use Rattle.sw_rows.specs.declared.kind.Kind.TheVariants as kind
+use Rattle.sw_rows.specs.declared.query.Cond.{Cond}
+use Rattle.sw_lang.specs.declared.term.Term.{Term}
+use Rattle.sw_lang.specs.declared.token.Op.{Op}
+use Rattle.sw_lang.specs.declared.token.Op.TheVariants.{Lt, Le, Eq, Ge, Gt}
+use Rattle.sw_lang.specs.Grammar.{IsTerm, IsTerms, IsValue, IsWhere}
+use Rattle.sw_lang.specs.Replies.{kind_at}
+use Rattle.sw_lang.specs.Terms.{add_term, attrs_after, cond_of, conditions, lower_of, narrowed, upper_of}
+use Rattle.sw_lang.specs.Tokens.{Tok}
+use Rattle.sw_lang.proofs.Fit.{attrs-conditions, attrs_distinct, name_within}
+use Rattle.sw_lang.proofs.Merge.{Distinct, conds_from, conds_from-conditions}
+use Rattle.sw_lang.proofs.PrintedCells.{IsCell, cell_stored}
+use Rattle.sw_lang.proofs.PrintedMerge.{AllBound, attrs, is_bound}
+use Rattle.sw_lang.proofs.PrintedTerms.{AreGood, IsGood, lower_term, printed, printed_all, upper_term}
+
+pub kind_places : (schema : List Column) (a : ℕ) → IsSchema schema → a < length schema → HasPlaces (kind_at schema a)
+kind_places schema a ok h =
+    let within : a < length (kinds_of schema) = rw length-map h in
+    places_at schema a (kind_at schema a) ok.sound (slice_get-get_or (kinds_of schema) a kind.Int within)
+
+pub value_stored : (k : Kind) (t : Tok) (z : ℤ) → HasPlaces k → IsValue k t z → IsCell k z
+value_stored k t z p (w, is, value) = cell_stored k w z p value
+
+-- ---- terms
+
+term_good : (schema : List Column) (a b c : Tok) (t : Term) → IsSchema schema → IsTerm schema a b c t → IsGood schema t
+term_good schema a b c t ok is =
+    let within = name_within schema a t.attr is.name in
+    record { attr = within; cell = value_stored (kind_at schema t.attr) c t.value (kind_places schema t.attr ok within) is.value }
+
+terms_good : (schema : List Column) (ts : List Tok) (us : List Term) → IsSchema schema → IsTerms schema ts us → AreGood schema us
+terms_good schema ts [] ok h = absurd h
+terms_good schema ts (t ∷ []) ok (a, b, c, e, is) = (term_good schema a b c t ok is, tt)
+terms_good schema ts (t ∷ u ∷ us) ok (a, b, c, rest, e, is, more) = (term_good schema a b c t ok is, terms_good schema rest (u ∷ us) ok more)
+
+-- ---- bounds
+
+abbrev pub IsBoundOf : Kind → Option Bound → Type 0
+IsBoundOf k None = Unit {0}
+IsBoundOf k (Some (Before z)) = IsCell k z
+IsBoundOf k (Some (After z)) = IsCell k z
+
+one_of : (k : Kind) (v : Bool) (a b : Bound) → IsBoundOf k (Some a) → IsBoundOf k (Some b) → IsBoundOf k (cond v (Some a) (Some b))
+one_of k true a b ha hb = ha
+one_of k false a b ha hb = hb
+
+greater_of : (k : Kind) (l m : Option Bound) → IsBoundOf k l → IsBoundOf k m → IsBoundOf k (greater l m)
+greater_of k None m hl hm = hm
+greater_of k (Some a) None hl hm = hl
+greater_of k (Some a) (Some b) hl hm = one_of k (bound_below a b) b a hm hl
+
+lesser_of : (k : Kind) (l m : Option Bound) → IsBoundOf k l → IsBoundOf k m → IsBoundOf k (lesser l m)
+lesser_of k None m hl hm = hm
+lesser_of k (Some a) None hl hm = hl
+lesser_of k (Some a) (Some b) hl hm = one_of k (bound_below a b) a b hl hm
+
+lower_cell : (k : Kind) (o : Op) (z : ℤ) → IsCell k z → IsBoundOf k (lower_of o z)
+lower_cell k Lt z h = tt
+lower_cell k Le z h = tt
+lower_cell k Eq z h = h
+lower_cell k Ge z h = h
+lower_cell k Gt z h = h
+
+upper_cell : (k : Kind) (o : Op) (z : ℤ) → IsCell k z → IsBoundOf k (upper_of o z)
+upper_cell k Lt z h = h
+upper_cell k Le z h = h
+upper_cell k Eq z h = h
+upper_cell k Ge z h = tt
+upper_cell k Gt z h = tt
+
+term_bound : (o : Op) (z : ℤ) → is_bound (lower_of o z) (upper_of o z) ≡ true
+term_bound Lt z = refl
+term_bound Le z = refl
+term_bound Eq z = refl
+term_bound Ge z = refl
+term_bound Gt z = refl
+
+some_if : (v : Bool) (a b : Bound) → is_some (cond v (Some a) (Some b)) ≡ true
+some_if true a b = refl
+some_if false a b = refl
+
+greater_some : (a : Bound) (m : Option Bound) → is_some (greater (Some a) m) ≡ true
+greater_some a None = refl
+greater_some a (Some b) = some_if (bound_below a b) b a
+
+lesser_some : (a : Bound) (m : Option Bound) → is_some (lesser (Some a) m) ≡ true
+lesser_some a None = refl
+lesser_some a (Some b) = some_if (bound_below a b) a b
+
+or-true : (p : Bool) → (p || true) ≡ true
+or-true true = refl
+or-true false = refl
+
+-- bounds that are narrowed are bounds
+still_bound : (lower upper l u : Option Bound) → is_bound lower upper ≡ true → is_bound (greater lower l) (lesser upper u) ≡ true
+still_bound None None l u h = absurd cc
+still_bound (Some a) upper l u h = rw (greater_some a l) refl
+still_bound None (Some b) l u h = rw (lesser_some b u) (or-true (is_some l))
+
+-- ---- conditions
+
+pub record IsStored (schema : List Column) (c : Cond) : Type 0 where
+  pub attr : c.attr < length schema
+  pub lower : IsBoundOf (kind_at schema c.attr) c.lower
+  pub upper : IsBoundOf (kind_at schema c.attr) c.upper
+  pub some : is_bound c.lower c.upper ≡ true
+
+abbrev pub AreStored : List Column → List Cond → Type 0
+AreStored schema [] = Unit {0}
+AreStored schema (c ∷ cs) = IsStored schema c × AreStored schema cs
+
+new_stored : (schema : List Column) (t : Term) → IsGood schema t → IsStored schema (cond_of t)
+new_stored schema t g = record {
+  attr = g.attr;
+  lower = lower_cell (kind_at schema t.attr) t.op t.value g.cell;
+  upper = upper_cell (kind_at schema t.attr) t.op t.value g.cell;
+  some = term_bound t.op t.value;
+}
+
+narrowed_stored : (schema : List Column) (c : Cond) (t : Term) → c.attr ≡ t.attr → IsStored schema c → IsGood schema t → IsStored schema (narrowed c t)
+narrowed_stored schema c t same s g =
+    let k = kind_at schema c.attr in
+    let cell : IsCell k t.value = subst (λ (a : ℕ). IsCell (kind_at schema a) t.value) (sym same) g.cell in
+    record {
+      attr = s.attr;
+      lower = greater_of k c.lower (lower_of t.op t.value) s.lower (lower_cell k t.op t.value cell);
+      upper = lesser_of k c.upper (upper_of t.op t.value) s.upper (upper_cell k t.op t.value cell);
+      some = still_bound c.lower c.upper (lower_of t.op t.value) (upper_of t.op t.value) s.some;
+    }
+
+add-by : (v : Bool) (schema : List Column) (c : Cond) (cs : List Cond) (t : Term) → eqb c.attr t.attr ≡ v → AreStored schema (c ∷ cs) → IsGood schema t → AreStored schema (add_term cs t) → AreStored schema (add_term (c ∷ cs) t)
+add-by true schema c cs t e h g ih = rw e (narrowed_stored schema c t ((Decides-eqb c.attr t.attr).0 e) h.0 g, h.1)
+add-by false schema c cs t e h g ih = rw e (h.0, ih)
+
+add_stored : (schema : List Column) (cs : List Cond) (t : Term) → AreStored schema cs → IsGood schema t → AreStored schema (add_term cs t)
+add_stored schema [] t h g = (new_stored schema t g, tt)
+add_stored schema (c ∷ cs) t h g = add-by (eqb c.attr t.attr) schema c cs t refl h g (add_stored schema cs t h.1 g)
+
+from_stored : (schema : List Column) (cs : List Cond) (ts : List Term) → AreStored schema cs → AreGood schema ts → AreStored schema (conds_from cs ts)
+from_stored schema cs [] h g = h
+from_stored schema cs (t ∷ ts) h g = from_stored schema (add_term cs t) ts (add_stored schema cs t h g.0) g.1
+
+-- what holds of the conditions of a line
+pub record CondsOf (schema : List Column) (conds : List Cond) : Type 0 where
+  pub stored : AreStored schema conds
+  pub once : Distinct (attrs conds)
+
+pub where_conds : (schema : List Column) (ts : List Tok) (conds : List Cond) → IsSchema schema → IsWhere schema ts conds → CondsOf schema conds
+where_conds schema ts conds ok (inl (none, no_conds)) = subst (λ (w : List Cond). CondsOf schema w) (sym no_conds) (record { stored = tt; once = tt })
+where_conds schema ts conds ok (inr (terms, rest, e, is, made)) =
+    let stored : AreStored schema (conditions terms) = subst (λ (w : List Cond). AreStored schema w) (conds_from-conditions terms) (from_stored schema [] terms tt (terms_good schema rest terms ok is)) in
+    let places : attrs (conditions terms) ≡ attrs_after [] terms = attrs-conditions terms (attrs_after [] terms) _ (λ a. refl) in
+    let once : Distinct (attrs (conditions terms)) = subst (λ (w : List ℕ). Distinct w) (sym places) (attrs_distinct [] terms tt) in
+    subst (λ (w : List Cond). CondsOf schema w) (sym made) (record { stored = stored; once = once })
+
+-- ---- and of the terms that they are printed by
+
+pub all_bound : (schema : List Column) (cs : List Cond) → AreStored schema cs → AllBound cs
+all_bound schema [] h = tt
+all_bound schema (c ∷ cs) h = (h.0.some, all_bound schema cs h.1)
+
+good_append : (schema : List Column) (ts us : List Term) → AreGood schema ts → AreGood schema us → AreGood schema (ts ++ us)
+good_append schema [] us g h = h
+good_append schema (t ∷ ts) us g h = (g.0, good_append schema ts us g.1 h)
+
+lower_good : (schema : List Column) (a : ℕ) (o : Option Bound) → a < length schema → IsBoundOf (kind_at schema a) o → AreGood schema (lower_term a o)
+lower_good schema a None h b = tt
+lower_good schema a (Some (Before v)) h b = (record { attr = h; cell = b }, tt)
+lower_good schema a (Some (After v)) h b = (record { attr = h; cell = b }, tt)
+
+upper_good : (schema : List Column) (a : ℕ) (o : Option Bound) → a < length schema → IsBoundOf (kind_at schema a) o → AreGood schema (upper_term a o)
+upper_good schema a None h b = tt
+upper_good schema a (Some (Before v)) h b = (record { attr = h; cell = b }, tt)
+upper_good schema a (Some (After v)) h b = (record { attr = h; cell = b }, tt)
+
+pub printed_good : (schema : List Column) (cs : List Cond) → AreStored schema cs → AreGood schema (printed_all cs)
+printed_good schema [] h = tt
+printed_good schema (c ∷ cs) h =
+    good_append schema (printed c) (printed_all cs)
+    (good_append schema (lower_term c.attr c.lower) (upper_term c.attr c.upper) (lower_good schema c.attr c.lower h.0.attr h.0.lower) (upper_good schema c.attr c.upper h.0.attr h.0.upper))
+    (printed_good schema cs h.1)

@@ -1,0 +1,232 @@
+-- A printed cell is read back, and is one word.
+use Rattle.std.proofs.Common.{◌≡◌, ◌∙◌, ap, sym, refl, subst, ℕ, zero, suc, ◌+◌, ◌-◌, ◌*◌, ◌/◌, ◌%◌, ◌^◌, ◌<◌, ◌≤◌, inl, inr, ℤ, pos, negsuc, neg_ℤ, Bool, true, false, List, [], ◌∷◌, ◌++◌, length, fold, decimal, codes, Some, FitsSigned, w64, append-nil, length-append, div-le_self, arith}
+use Rattle.std.proofs.lemmas.Bool.Decides.{nat_tests}
+use Rattle.std.proofs.lemmas.Fmt.{length-decimal-le}
+use Rattle.std.proofs.lemmas.List.Sums.{fold-append}
+use Rattle.std.proofs.lemmas.Nat.{div-add-mod', mod_below}
+use Rattle.std.specs.Char.{is_ascii_digit}
+use Rattle.std.specs.Fmt.{signed_decimal}
+use Rattle.std.specs.List.{list_all}
+use Rattle.sw_rows.proofs.CellSpelling.{all_like, cell_read_back, cell_spelled}
+use Rattle.sw_rows.specs.Cells.{cell_value, HasPlaces}
+use Rattle.sw_rows.specs.Spelling.{IsSign, WritesCell, WritesNumber, fraction, number_of}
+use Rattle.sw_rows.specs.declared.kind.Kind.{Kind}
+use Rattle.sw_rows.specs.declared.kind.Kind.TheVariants as kind
+use Rattle.sw_lang.specs.Fits.{IsOfKind}
+use Rattle.sw_lang.specs.Replies.{cell_text, fixed_text, padded_digits, with_point}
+use Rattle.sw_lang.specs.Tokens.{is_word_byte}
+use Rattle.sw_lang.proofs.PrintedDigits.{all_both, and_both, decimal_writes, decimals_write, more}
+use Rattle.sw_lang.proofs.PrintedTokens.{IsRun}
+
+-- a stored cell of a kind
+pub record IsCell (k : Kind) (z : ℤ) : Type 0 where
+  pub places : HasPlaces k
+  pub of_kind : IsOfKind k z
+  pub fits : FitsSigned w64 z
+
+-- ---- a magnitude as it is printed: its whole part and its decimals
+
+pub record Spelled (places m : ℕ) (text : List ℕ) : Type 0 where
+  pub whole : List ℕ
+  pub decimals : List ℕ
+  pub text_is : text ≡ whole ++ fraction decimals
+  pub some : 0 < length whole
+  pub whole_digits : list_all is_ascii_digit whole ≡ true
+  pub decimal_digits : list_all is_ascii_digit decimals ≡ true
+  pub count : length decimals ≡ places
+  pub value : number_of (whole ++ decimals) ≡ m
+  pub short : length text ≤ 30
+
+whole_spelled : (n : ℕ) → n < 2 ^ 64 → Spelled 0 n (decimal n)
+whole_spelled n h =
+    let w = decimal_writes n h in
+    record {
+      whole = decimal n;
+      decimals = [];
+      text_is = sym (append-nil (decimal n));
+      some = w.some;
+      whole_digits = w.digits;
+      decimal_digits = refl;
+      count = refl;
+      value = ap number_of (append-nil (decimal n)) ∙ w.after 0 ∙ omega arith;
+      short = let l : length (decimal n) ≤ 20 = length-decimal-le 20 n (omega arith) (omega arith) h in omega arith;
+    }
+
+-- decimals that are there stand after a dot
+some_fraction : (ds : List ℕ) → 0 < length ds → codes "." ++ ds ≡ fraction ds
+some_fraction [] h = absurd (omega arith)
+some_fraction (d ∷ ds) h = refl
+
+point_spelled : (places n : ℕ) → 1 ≤ places → places ≤ 6 → 10 ^ places ≤ 1000000 → 0 < 10 ^ places → n < 2 ^ 64 → Spelled places n (with_point places n)
+point_spelled places n some few small positive h =
+    let part : ℕ = n / 10 ^ places in
+    let rest : ℕ = n % 10 ^ places in
+    let below : rest < 10 ^ places = mod_below n (10 ^ places) positive in
+    let part_fits : part < 2 ^ 64 = omega (arith, div-le_self n (10 ^ places)) in
+    let w = decimal_writes part part_fits in
+    let d = decimals_write places rest (omega arith) below (omega arith) in
+    let ds : List ℕ = padded_digits places (decimal rest) in
+    let there : 0 < length ds = omega (arith, d.1) in
+    record {
+      whole = decimal part;
+      decimals = ds;
+      text_is = ap (λ t. decimal part ++ t) (some_fraction ds there);
+      some = w.some;
+      whole_digits = w.digits;
+      decimal_digits = d.0.digits;
+      count = d.1;
+      value = fold-append more 0 (decimal part) ds ∙ ap (λ m. fold more m ds) (w.after 0 ∙ omega arith) ∙ d.0.after part ∙ ap (λ k. part * 10 ^ k + rest) d.1 ∙ div-add-mod' n (10 ^ places);
+      short = let l : length (decimal part) ≤ 20 = length-decimal-le 20 part (omega arith) (omega arith) part_fits in omega (arith, length-append (decimal part) (codes "." ++ ds));
+    }
+
+abbrev magnitude_text : ℕ → ℕ → List ℕ
+magnitude_text zero n = decimal n
+magnitude_text (suc p) n = with_point (suc p) n
+
+fixed_spelled : (places n : ℕ) → 1 ≤ places → places ≤ 6 → n < 2 ^ 64 → Spelled places n (with_point places n)
+fixed_spelled zero n some few h = absurd (omega arith)
+fixed_spelled (suc zero) n some few h = point_spelled 1 n (omega arith) (omega arith) (omega arith) (omega arith) h
+fixed_spelled (suc (suc zero)) n some few h = point_spelled 2 n (omega arith) (omega arith) (omega arith) (omega arith) h
+fixed_spelled (suc (suc (suc zero))) n some few h = point_spelled 3 n (omega arith) (omega arith) (omega arith) (omega arith) h
+fixed_spelled (suc (suc (suc (suc zero)))) n some few h = point_spelled 4 n (omega arith) (omega arith) (omega arith) (omega arith) h
+fixed_spelled (suc (suc (suc (suc (suc zero))))) n some few h = point_spelled 5 n (omega arith) (omega arith) (omega arith) (omega arith) h
+fixed_spelled (suc (suc (suc (suc (suc (suc zero)))))) n some few h = point_spelled 6 n (omega arith) (omega arith) (omega arith) (omega arith) h
+fixed_spelled (suc (suc (suc (suc (suc (suc (suc p))))))) n some few h = absurd (omega arith)
+
+-- ---- its number
+
+no_shift : (places count n m : ℕ) → count ≡ places → n ≡ m → n * 10 ^ (places - count) ≡ m
+no_shift places count n m same is =
+    let none : places - count ≡ 0 = omega arith in
+    rw (none, is) (omega arith)
+
+above : (places n : ℕ) (text : List ℕ) → Spelled places n text → FitsSigned w64 (pos n) → WritesNumber places text (pos n)
+above places n text s f = record {
+  sign = [];
+  negative = false;
+  whole = s.whole;
+  decimals = s.decimals;
+  text_is = s.text_is;
+  sign_is = inl (refl, refl);
+  some_digits = s.some;
+  whole_digits = s.whole_digits;
+  decimal_digits = s.decimal_digits;
+  few_decimals = omega (arith, s.count);
+  short = omega (arith, s.short);
+  value = ap pos (sym (no_shift places (length s.decimals) (number_of (s.whole ++ s.decimals)) n s.count s.value));
+  fits = f;
+}
+
+below_zero : (places n : ℕ) (text : List ℕ) → Spelled places (n + 1) text → FitsSigned w64 (negsuc n) → WritesNumber places (codes "-" ++ text) (negsuc n)
+below_zero places n text s f =
+    let next : suc n ≡ n + 1 = omega arith in
+    let is : negsuc n ≡ neg_ℤ (pos (n + 1)) = ap (λ m. neg_ℤ (pos m)) next in
+    record {
+      sign = codes "-";
+      negative = true;
+      whole = s.whole;
+      decimals = s.decimals;
+      text_is = ap (λ t. codes "-" ++ t) s.text_is;
+      sign_is = inr (inr (refl, refl));
+      some_digits = s.some;
+      whole_digits = s.whole_digits;
+      decimal_digits = s.decimal_digits;
+      few_decimals = omega (arith, s.count);
+      short = omega (arith, s.short);
+      value = is ∙ ap (λ m. neg_ℤ (pos m)) (sym (no_shift places (length s.decimals) (number_of (s.whole ++ s.decimals)) (n + 1) s.count s.value));
+      fits = f;
+    }
+
+int_writes : (z : ℤ) → FitsSigned w64 z → WritesNumber 0 (signed_decimal z) z
+int_writes (pos n) f = above 0 n (decimal n) (whole_spelled n (omega (arith, f.sfits))) f
+int_writes (negsuc n) f =
+    let next : suc n ≡ n + 1 = omega arith in
+    ap_text (sym next) (below_zero 0 n (decimal (n + 1)) (whole_spelled (n + 1) (omega (arith, f.sfits))) f)
+  where
+    ap_text : (n + 1 ≡ suc n) → WritesNumber 0 (codes "-" ++ decimal (n + 1)) (negsuc n) → WritesNumber 0 (codes "-" ++ decimal (suc n)) (negsuc n)
+    ap_text e w = subst (λ m. WritesNumber 0 (codes "-" ++ decimal m) (negsuc n)) e w
+
+fixed_writes : (places : ℕ) (z : ℤ) → 1 ≤ places → places ≤ 6 → FitsSigned w64 z → WritesNumber places (fixed_text places z) z
+fixed_writes places (pos n) some few f = above places n (with_point places n) (fixed_spelled places n some few (omega (arith, f.sfits))) f
+fixed_writes places (negsuc n) some few f = below_zero places n (with_point places (n + 1)) (fixed_spelled places (n + 1) some few (omega (arith, f.sfits))) f
+
+flag_writes : (z : ℤ) → IsOfKind kind.Flag z → WritesCell kind.Flag (cell_text kind.Flag z) z
+flag_writes z (inl zero_is) = subst (λ w. WritesCell kind.Flag (cell_text kind.Flag w) w) (sym zero_is) (inr (refl, refl))
+flag_writes z (inr one_is) = subst (λ w. WritesCell kind.Flag (cell_text kind.Flag w) w) (sym one_is) (inl (refl, refl))
+
+cell_writes : (k : Kind) (z : ℤ) → IsCell k z → WritesCell k (cell_text k z) z
+cell_writes kind.Int z c = int_writes z c.fits
+cell_writes (kind.Fix places) z c = fixed_writes places z c.places.0 c.places.1 c.fits
+cell_writes kind.Flag z c = flag_writes z c.of_kind
+
+pub cell_back : (k : Kind) (z : ℤ) → IsCell k z → cell_value k (cell_text k z) ≡ Some z
+cell_back k z c = cell_read_back k (cell_text k z) z (cell_writes k z c)
+
+-- ---- a cell's text is one word, and not long
+
+pub digit-word : (b : ℕ) → is_ascii_digit b ≡ true → is_word_byte b ≡ true
+digit-word b h = grind (arith, nat_tests)
+
+pub digits_word : (ds : List ℕ) → list_all is_ascii_digit ds ≡ true → list_all is_word_byte ds ≡ true
+digits_word ds h = all_like is_ascii_digit is_word_byte digit-word ds h
+
+fraction_word : (ds : List ℕ) → list_all is_ascii_digit ds ≡ true → list_all is_word_byte (fraction ds) ≡ true
+fraction_word [] h = refl
+fraction_word (d ∷ ds) h = and_both true (list_all is_word_byte (d ∷ ds)) refl (digits_word (d ∷ ds) h)
+
+sign_word : (sign : List ℕ) (negative : Bool) → IsSign sign negative → list_all is_word_byte sign ≡ true
+sign_word sign negative (inl s) = ap (list_all is_word_byte) s.0
+sign_word sign negative (inr (inl s)) = ap (list_all is_word_byte) s.0
+sign_word sign negative (inr (inr s)) = ap (list_all is_word_byte) s.0
+
+-- the text of a number is one word of at most 64 bytes
+pub number_word : (places : ℕ) (text : List ℕ) (z : ℤ) → WritesNumber places text z → IsRun text × (length text ≤ 64)
+number_word places text z w =
+    let rest : List ℕ = w.whole ++ fraction w.decimals in
+    let words : list_all is_word_byte rest ≡ true = all_both is_word_byte w.whole (fraction w.decimals) (digits_word w.whole w.whole_digits) (fraction_word w.decimals w.decimal_digits) in
+    let long : length text ≡ length (w.sign ++ rest) = ap length w.text_is in (
+      record {
+        some = omega (arith, long, w.some_digits, length-append w.sign rest, length-append w.whole (fraction w.decimals));
+        bytes = ap (list_all is_word_byte) w.text_is ∙ all_both is_word_byte w.sign rest (sign_word w.sign w.negative w.sign_is) words;
+      },
+      w.short,
+    )
+
+-- the text of a cell is one word of at most 64 bytes
+abbrev pub IsCellWord : List ℕ → Type 0
+IsCellWord text = IsRun text × (length text ≤ 64)
+
+true_word : IsCellWord (codes "true")
+true_word = (record { some = omega arith; bytes = refl }, omega arith)
+
+false_word : IsCellWord (codes "false")
+false_word = (record { some = omega arith; bytes = refl }, omega arith)
+
+flag_word : (text : List ℕ) (z : ℤ) → WritesCell kind.Flag text z → IsCellWord text
+flag_word text z (inl w) = subst IsCellWord (sym w.0) true_word
+flag_word text z (inr w) = subst IsCellWord (sym w.0) false_word
+
+pub text_word : (k : Kind) (text : List ℕ) (z : ℤ) → WritesCell k text z → IsCellWord text
+text_word kind.Int text z w = number_word 0 text z w
+text_word (kind.Fix places) text z w = number_word places text z w
+text_word kind.Flag text z w = flag_word text z w
+
+pub cell_word : (k : Kind) (z : ℤ) → IsCell k z → IsCellWord (cell_text k z)
+cell_word k z c = text_word k (cell_text k z) z (cell_writes k z c)
+
+-- ---- what is read is a stored cell
+
+one_fits : FitsSigned w64 (pos 1)
+one_fits = record { sfits = omega arith }
+
+zero_fits : FitsSigned w64 (pos 0)
+zero_fits = record { sfits = omega arith }
+
+stored : (k : Kind) (text : List ℕ) (z : ℤ) → HasPlaces k → WritesCell k text z → IsCell k z
+stored kind.Int text z p w = record { places = p; of_kind = tt; fits = w.fits }
+stored (kind.Fix places) text z p w = record { places = p; of_kind = tt; fits = w.fits }
+stored kind.Flag text z p (inl w) = record { places = p; of_kind = inr w.1; fits = subst (FitsSigned w64) (sym w.1) one_fits }
+stored kind.Flag text z p (inr w) = record { places = p; of_kind = inl w.1; fits = subst (FitsSigned w64) (sym w.1) zero_fits }
+
+pub cell_stored : (k : Kind) (text : List ℕ) (z : ℤ) → HasPlaces k → cell_value k text ≡ Some z → IsCell k z
+cell_stored k text z p h = stored k text z p (cell_spelled k text z h)

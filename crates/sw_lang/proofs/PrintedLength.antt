@@ -1,0 +1,156 @@
+-- The printed text of a call that a line gives is not long.
+use Rattle.std.proofs.Common.{◌≡◌, ap, refl, ℕ, ℤ, pos, ◌-◌, ◌*◌, ◌^◌, ◌<◌, ◌≤◌, Bool, true, false, ◌||◌, eqb, List, [], ◌∷◌, ◌++◌, length, map, replicate, codes, decimal, Option, Some, None, length-append, arith}
+use Rattle.std.specs.List.{list_any}
+use Rattle.std.proofs.lemmas.Bool.Decides.{Decides-eqb}
+use Rattle.std.proofs.lemmas.Fmt.{length-decimal-le}
+use Rattle.std.proofs.lemmas.List.{length-map}
+use Rattle.std.proofs.lemmas.List.Elements.{recursion_from_All}
+use Rattle.std.proofs.lemmas.Map.Steps.{length-le_from_distinct_below}
+use Rattle.sw_rows.specs.Cells.{HasPlaces}
+use Rattle.sw_rows.specs.Header.{Column, IsSchema, kinds_of}
+use Rattle.sw_rows.specs.declared.bound.Bound.{Bound}
+use Rattle.sw_rows.specs.declared.bound.Bound.TheVariants.{Before, After}
+use Rattle.sw_rows.specs.declared.kind.Kind.{Kind}
+use Rattle.sw_rows.specs.declared.query.Call.{Call}
+use Rattle.sw_rows.specs.declared.query.Call.TheVariants.{Select, Insert, Delete}
+use Rattle.sw_rows.specs.declared.query.Cond.{Cond}
+use Rattle.sw_rows.specs.declared.query.Want.{Want}
+use Rattle.sw_rows.specs.declared.query.Want.TheVariants.{Rows, Count, Sum, Min, Max}
+use Rattle.sw_lang.specs.declared.term.Term.{Term}
+use Rattle.sw_lang.specs.declared.token.Op.{Op}
+use Rattle.sw_lang.specs.declared.token.Op.TheVariants.{Lt, Le, Eq, Ge, Gt}
+use Rattle.sw_lang.specs.Grammar.{IsCall, IsValues, IsWant, MoreValues}
+use Rattle.sw_lang.specs.PrintedCalls.{call_text, joiner, more_names, name_at, names_text, terms_text, want_text, where_text}
+use Rattle.sw_lang.specs.Replies.{cell_text, cells_text, kind_at, more_cells}
+use Rattle.sw_lang.specs.Tokens.{Tok}
+use Rattle.sw_lang.proofs.Fit.{distinct, name_within, names_below}
+use Rattle.sw_lang.proofs.LineConds.{AreStored, CondsOf, printed_good, value_stored, where_conds}
+use Rattle.sw_lang.proofs.PrintedCells.{cell_word}
+use Rattle.sw_lang.proofs.PrintedDigits.{key_fits}
+use Rattle.sw_lang.proofs.PrintedMerge.{attrs}
+use Rattle.sw_lang.proofs.PrintedNames.{name_word}
+use Rattle.sw_lang.proofs.PrintedTerms.{AreGood, IsGood, conds-text, lower_term, printed, printed_all, term_text, upper_term}
+use Rattle.sw_lang.proofs.PrintedTokens.{op_text}
+use Rattle.sw_lang.proofs.ReadBack.{AllPlaces, Below, kinds_places}
+
+-- ---- comparisons
+
+op_short : (o : Op) → length (op_text o) ≤ 4
+op_short Lt = omega arith
+op_short Le = omega arith
+op_short Eq = omega arith
+op_short Ge = omega arith
+op_short Gt = omega arith
+
+term_short : (schema : List Column) (t : Term) → IsSchema schema → IsGood schema t → length (term_text schema t) ≤ 100
+term_short schema t ok good =
+    let name : List ℕ = name_at schema t.attr in
+    let sign : List ℕ = op_text t.op in
+    let value : List ℕ = cell_text (kind_at schema t.attr) t.value in
+    let name_few : length name ≤ 32 = (name_word schema t.attr ok good.attr).short in
+    let value_few : length value ≤ 64 = (cell_word (kind_at schema t.attr) t.value good.cell).1 in
+    omega (arith, name_few, value_few, op_short t.op, length-append name (sign ++ value), length-append sign value)
+
+joiner_short : (s : Bool) → length (joiner s) ≤ 7
+joiner_short true = omega arith
+joiner_short false = omega arith
+
+terms_short : (schema : List Column) (s : Bool) (ts : List Term) → IsSchema schema → AreGood schema ts → length (terms_text s (map (term_text schema) ts)) ≤ 107 * length ts
+terms_short schema s [] ok good = omega arith
+terms_short schema s (t ∷ ts) ok good =
+    let first = joiner s in
+    let one = term_text schema t in
+    let rest : List ℕ = terms_text true (map (term_text schema) ts) in
+    omega (arith, joiner_short s, term_short schema t ok good.0, terms_short schema true ts ok good.1, length-append (first ++ one) rest, length-append first one)
+
+lower_few : (a : ℕ) (o : Option Bound) → length (lower_term a o) ≤ 1
+lower_few a None = omega arith
+lower_few a (Some (Before v)) = omega arith
+lower_few a (Some (After v)) = omega arith
+
+upper_few : (a : ℕ) (o : Option Bound) → length (upper_term a o) ≤ 1
+upper_few a None = omega arith
+upper_few a (Some (Before v)) = omega arith
+upper_few a (Some (After v)) = omega arith
+
+printed_few : (cs : List Cond) → length (printed_all cs) ≤ 2 * length cs
+printed_few [] = omega arith
+printed_few (c ∷ cs) = omega (arith, lower_few c.attr c.lower, upper_few c.attr c.upper, printed_few cs, length-append (printed c) (printed_all cs), length-append (lower_term c.attr c.lower) (upper_term c.attr c.upper))
+
+-- each attribute has one condition at most
+below-first : (v : Bool) (schema : List Column) (c : Cond) (cs : List Cond) (q : ℕ) → eqb q c.attr ≡ v → c.attr < length schema → (v || list_any (eqb q) (attrs cs)) ≡ true
+    → (list_any (eqb q) (attrs cs) ≡ true → q < length schema) → q < length schema
+below-first true schema c cs q e within h more = let same : q ≡ c.attr = (Decides-eqb q c.attr).0 e in omega arith
+below-first false schema c cs q e within h more = more h
+
+all_below : (schema : List Column) (cs : List Cond) (q : ℕ) → AreStored schema cs → list_any (eqb q) (attrs cs) ≡ true → q < length schema
+all_below schema [] q s h = absurd cc
+all_below schema (c ∷ cs) q s h = below-first (eqb q c.attr) schema c cs q refl s.0.attr h (all_below schema cs q s.1)
+
+conds_few : (schema : List Column) (cs : List Cond) → CondsOf schema cs → length cs ≤ length schema
+conds_few schema cs c =
+    let few = length-le_from_distinct_below (attrs cs) (length schema) (distinct (attrs cs) c.once) (λ q h. all_below schema cs q c.stored h) in
+    omega (arith, few, length-map cs (λ (d : Cond). d.attr))
+
+where_short : (schema : List Column) (cs : List Cond) → IsSchema schema → CondsOf schema cs → length (where_text schema false cs) ≤ 1712
+where_short schema cs ok c =
+    let terms : List Term = printed_all cs in
+    let long = terms_short schema false terms ok (printed_good schema cs c.stored) in
+    let same : where_text schema false cs ≡ terms_text false (map (term_text schema) terms) = ap (terms_text false) (conds-text schema cs) in
+    rw same (omega (arith, long, printed_few cs, conds_few schema cs c, ok.sound.few))
+
+-- ---- names
+
+more_short : (schema : List Column) (xs : List ℕ) → IsSchema schema → Below schema xs → length (more_names (map (name_at schema) xs)) ≤ 34 * length xs
+more_short schema [] ok b = omega arith
+more_short schema (a ∷ xs) ok b =
+    let name : List ℕ = name_at schema a in
+    let rest : List ℕ = more_names (map (name_at schema) xs) in
+    let name_few : length name ≤ 32 = (name_word schema a ok b.0).short in
+    omega (arith, name_few, more_short schema xs ok b.1, length-append (codes ", " ++ name) rest)
+
+names_short : (schema : List Column) (xs : List ℕ) → IsSchema schema → Below schema xs → length (names_text (map (name_at schema) xs)) ≤ 34 * length xs
+names_short schema [] ok b = omega arith
+names_short schema (a ∷ xs) ok b =
+    let name : List ℕ = name_at schema a in
+    let rest : List ℕ = more_names (map (name_at schema) xs) in
+    let name_few : length name ≤ 32 = (name_word schema a ok b.0).short in
+    omega (arith, name_few, more_short schema xs ok b.1, length-append name rest)
+
+want_short : (schema : List Column) (ts : List Tok) (want : Want) → IsSchema schema → IsWant schema ts want → length (want_text schema want) ≤ 300
+want_short schema ts (Rows names) ok (more, e, is, few) = omega (arith, names_short schema names ok (names_below schema more names is), few)
+want_short schema ts Count ok e = omega arith
+want_short schema ts (Sum a) ok (t, e, is) = let short : length (name_at schema a) ≤ 32 = (name_word schema a ok (name_within schema t a is)).short in omega arith
+want_short schema ts (Min a) ok (t, e, is) = let short : length (name_at schema a) ≤ 32 = (name_word schema a ok (name_within schema t a is)).short in omega arith
+want_short schema ts (Max a) ok (t, e, is) = let short : length (name_at schema a) ≤ 32 = (name_word schema a ok (name_within schema t a is)).short in omega arith
+
+-- ---- rows
+
+cells_more : (ks : List Kind) (ts : List Tok) (zs pad : List ℤ) → AllPlaces ks → MoreValues ks ts zs → length (more_cells ks (zs ++ pad)) ≤ 66 * length ks
+cells_more [] ts zs pad p h = omega arith
+cells_more (k ∷ ks) ts [] pad p h = absurd h
+cells_more (k ∷ ks) ts (z ∷ zs) pad p (a, rest, e, is, others) =
+    let short : length (cell_text k z) ≤ 64 = (cell_word k z (value_stored k a z p.0 is)).1 in
+    omega (arith, short, cells_more ks rest zs pad p.1 others, length-append (cell_text k z) (more_cells ks (zs ++ pad)))
+
+cells_short : (ks : List Kind) (ts : List Tok) (zs pad : List ℤ) → AllPlaces ks → IsValues ks ts zs → length (cells_text ks (zs ++ pad)) ≤ 66 * length ks
+cells_short [] ts zs pad p h = omega arith
+cells_short (k ∷ ks) ts [] pad p h = absurd h
+cells_short (k ∷ ks) ts (z ∷ zs) pad p (a, rest, e, is, others) =
+    let short : length (cell_text k z) ≤ 64 = (cell_word k z (value_stored k a z p.0 is)).1 in
+    omega (arith, short, cells_more ks rest zs pad p.1 others, length-append (cell_text k z) (more_cells ks (zs ++ pad)))
+
+-- ---- calls
+
+pub call_short : (schema : List Column) (ts : List Tok) (c : Call) → IsSchema schema → IsCall schema ts c → length (call_text schema c) ≤ 4096
+call_short schema ts (Select q) ok (front, rest, parts, is, h) =
+    omega (arith, want_short schema front q.want ok is, where_short schema q.conds ok (where_conds schema rest q.conds ok h), length-append (want_text schema q.want) (where_text schema false q.conds))
+call_short schema ts (Insert cells) ok (zs, rest, e, is, pad) =
+    let places = kinds_places schema (recursion_from_All (λ (c : Column). HasPlaces c.1) schema ok.sound.places) in
+    let count : length (kinds_of schema) ≡ length schema = length-map schema (λ (c : Column). c.1) in
+    let short : length (cells_text (kinds_of schema) cells) ≤ 66 * length (kinds_of schema) = rw pad (cells_short (kinds_of schema) rest zs (replicate (8 - length zs) (pos 0)) places is) in
+    omega (arith, short, count, ok.sound.few)
+call_short schema ts (Delete key) ok (t, e, (w, word_is, value)) =
+    let fits : key < 2 ^ 64 = key_fits w key value in
+    let short : length (decimal key) ≤ 20 = length-decimal-le 20 key (omega arith) (omega arith) fits in
+    omega (arith, short)

@@ -1,0 +1,165 @@
+-- A call that a line gives is the call of its printed text.
+use Rattle.std.proofs.Common.{◌≡◌, ◌∙◌, ap, sym, refl, subst, ℕ, ℤ, pos, ◌-◌, ◌^◌, ◌<◌, false, List, [], ◌∷◌, ◌++◌, length, map, replicate, codes, decimal, append_assoc, append-nil, arith}
+use Rattle.std.specs.List.{AllByRecursion}
+use Rattle.std.proofs.lemmas.List.Elements.{recursion_from_All}
+use Rattle.sw_rows.specs.Cells.{HasPlaces}
+use Rattle.sw_rows.specs.Header.{Column, IsSchema, kinds_of}
+use Rattle.sw_rows.specs.declared.kind.Kind.{Kind}
+use Rattle.sw_rows.specs.declared.query.Call.{Call}
+use Rattle.sw_rows.specs.declared.query.Call.TheVariants.{Select, Insert, Delete}
+use Rattle.sw_rows.specs.declared.query.Cond.{Cond}
+use Rattle.sw_rows.specs.declared.query.Want.{Want}
+use Rattle.sw_rows.specs.declared.query.Want.TheVariants.{Rows, Count, Sum, Min, Max}
+use Rattle.sw_lang.specs.Grammar.{IsCall, IsNames, IsValues, IsWant, IsWhere, MoreValues}
+use Rattle.sw_lang.specs.PrintedCalls.{call_text, more_names, name_at, names_text, want_text, where_text}
+use Rattle.sw_lang.specs.Reading.{is_comment}
+use Rattle.sw_lang.specs.Replies.{cell_text, cells_text, more_cells}
+use Rattle.sw_lang.specs.Tokens.{Tok, word, comma, tokens}
+use Rattle.sw_lang.proofs.Fit.{name_within, names_below}
+use Rattle.sw_lang.proofs.LineConds.{all_bound, printed_good, value_stored, where_conds}
+use Rattle.sw_lang.proofs.PrintedCells.{cell_back, cell_word, digits_word}
+use Rattle.sw_lang.proofs.PrintedDigits.{decimal_writes, key_back, key_fits}
+use Rattle.sw_lang.proofs.PrintedMerge.{printed_make}
+use Rattle.sw_lang.proofs.PrintedNames.{name_is, name_word}
+use Rattle.sw_lang.proofs.PrintedTerms.{name_tok, where_is, where_stops}
+use Rattle.sw_lang.proofs.PrintedTokens.{IsRun, Stops, front_word}
+
+-- ---- names
+
+abbrev pub Below : List Column → List ℕ → Type 0
+Below schema names = AllByRecursion (λ a. a < length schema) names
+
+abbrev more_toks : List Column → List ℕ → List Tok
+more_toks schema [] = []
+more_toks schema (a ∷ xs) = comma ∷ name_tok schema a ∷ more_toks schema xs
+
+abbrev name_toks : List Column → List ℕ → List Tok
+name_toks schema [] = []
+name_toks schema (a ∷ xs) = name_tok schema a ∷ more_toks schema xs
+
+more_stops : (schema : List Column) (xs rest : List ℕ) → Stops rest → Stops (more_names (map (name_at schema) xs) ++ rest)
+more_stops schema [] rest h = h
+more_stops schema (a ∷ xs) rest h = refl
+
+more_tokens : (schema : List Column) (xs rest : List ℕ) → IsSchema schema → Below schema xs → Stops rest → tokens (more_names (map (name_at schema) xs) ++ rest) ≡ more_toks schema xs ++ tokens rest
+more_tokens schema [] rest ok below stops = refl
+more_tokens schema (a ∷ xs) rest ok below stops =
+    let name : List ℕ = name_at schema a in
+    let later : List ℕ = more_names (map (name_at schema) xs) in
+    ap tokens (append_assoc (codes ", " ++ name) later rest)
+    ∙ ap (λ l. comma ∷ l) (front_word name (later ++ rest) (name_word schema a ok below.0).run (more_stops schema xs rest stops))
+    ∙ ap (λ l. comma ∷ word name ∷ l) (more_tokens schema xs rest ok below.1 stops)
+
+names_tokens : (schema : List Column) (xs rest : List ℕ) → IsSchema schema → Below schema xs → Stops rest → tokens (names_text (map (name_at schema) xs) ++ rest) ≡ name_toks schema xs ++ tokens rest
+names_tokens schema [] rest ok below stops = refl
+names_tokens schema (a ∷ xs) rest ok below stops =
+    let name : List ℕ = name_at schema a in
+    let later : List ℕ = more_names (map (name_at schema) xs) in
+    ap tokens (append_assoc name later rest)
+    ∙ front_word name (later ++ rest) (name_word schema a ok below.0).run (more_stops schema xs rest stops)
+    ∙ ap (λ l. word name ∷ l) (more_tokens schema xs rest ok below.1 stops)
+
+names_are : (schema : List Column) (ts : List Tok) (xs : List ℕ) → Below schema xs → IsNames schema ts xs → IsNames schema (name_toks schema xs) xs
+names_are schema ts [] below h = absurd h
+names_are schema ts (a ∷ []) below h = (name_tok schema a, refl, name_is schema a below.0)
+names_are schema ts (a ∷ b ∷ xs) below (t, rest, e, is, more) = (name_tok schema a, name_toks schema (b ∷ xs), refl, name_is schema a below.0, names_are schema rest (b ∷ xs) below.1 more)
+
+-- ---- questions
+
+-- the tokens of what is asked for, before the conditions' text
+abbrev WantFront : List Column → Want → List ℕ → Type 0
+WantFront schema want rest = (front : List Tok) × (tokens (want_text schema want ++ rest) ≡ front ++ tokens rest) × IsWant schema front want
+
+count_run : IsRun (codes "count")
+count_run = record { some = omega arith; bytes = refl }
+
+want_front : (schema : List Column) (ts : List Tok) (want : Want) (rest : List ℕ) → IsSchema schema → IsWant schema ts want → Stops rest → WantFront schema want rest
+want_front schema ts (Rows names) rest ok (more, e, is, few) stops =
+    let below = names_below schema more names is in
+    (word (codes "select") ∷ name_toks schema names, ap (λ l. word (codes "select") ∷ l) (names_tokens schema names rest ok below stops), (name_toks schema names, refl, names_are schema more names below is, few))
+want_front schema ts Count rest ok e stops = (word (codes "count") ∷ [], front_word (codes "count") rest count_run stops, refl)
+want_front schema ts (Sum a) rest ok (t, e, is) stops =
+    let within = name_within schema t a is in
+    (word (codes "sum") ∷ name_tok schema a ∷ [], ap (λ l. word (codes "sum") ∷ l) (front_word (name_at schema a) rest (name_word schema a ok within).run stops), (name_tok schema a, refl, name_is schema a within))
+want_front schema ts (Min a) rest ok (t, e, is) stops =
+    let within = name_within schema t a is in
+    (word (codes "min") ∷ name_tok schema a ∷ [], ap (λ l. word (codes "min") ∷ l) (front_word (name_at schema a) rest (name_word schema a ok within).run stops), (name_tok schema a, refl, name_is schema a within))
+want_front schema ts (Max a) rest ok (t, e, is) stops =
+    let within = name_within schema t a is in
+    (word (codes "max") ∷ name_tok schema a ∷ [], ap (λ l. word (codes "max") ∷ l) (front_word (name_at schema a) rest (name_word schema a ok within).run stops), (name_tok schema a, refl, name_is schema a within))
+
+where_back : (schema : List Column) (ts : List Tok) (conds : List Cond) → IsSchema schema → IsWhere schema ts conds → IsWhere schema (tokens (where_text schema false conds)) conds
+where_back schema ts conds ok h =
+    let c = where_conds schema ts conds ok h in
+    where_is schema conds ok (printed_good schema conds c.stored) (printed_make conds c.once (all_bound schema conds c.stored))
+
+-- ---- rows
+
+abbrev pub AllPlaces : List Kind → Type 0
+AllPlaces ks = AllByRecursion HasPlaces ks
+
+pub kinds_places : (columns : List Column) → AllByRecursion (λ c. HasPlaces c.1) columns → AllPlaces (kinds_of columns)
+kinds_places [] h = tt
+kinds_places (c ∷ cs) h = (h.0, kinds_places cs h.1)
+
+cells_stop : (ks : List Kind) (zs : List ℤ) → Stops (more_cells ks zs)
+cells_stop [] zs = refl
+cells_stop (k ∷ ks) [] = refl
+cells_stop (k ∷ ks) (z ∷ zs) = refl
+
+more_back : (ks : List Kind) (ts : List Tok) (zs pad : List ℤ) → AllPlaces ks → MoreValues ks ts zs → MoreValues ks (tokens (more_cells ks (zs ++ pad))) zs
+more_back [] ts zs pad p (none, no_values) = (refl, no_values)
+more_back (k ∷ ks) ts [] pad p h = absurd h
+more_back (k ∷ ks) ts (z ∷ zs) pad p (a, rest, e, is, others) =
+    let cell = value_stored k a z p.0 is in
+    let later : List ℕ = more_cells ks (zs ++ pad) in (
+      word (cell_text k z),
+      tokens later,
+      ap (λ l. comma ∷ l) (front_word (cell_text k z) later (cell_word k z cell).0 (cells_stop ks (zs ++ pad))),
+      (cell_text k z, refl, cell_back k z cell),
+      more_back ks rest zs pad p.1 others,
+    )
+
+values_back : (ks : List Kind) (ts : List Tok) (zs pad : List ℤ) → AllPlaces ks → IsValues ks ts zs → IsValues ks (tokens (cells_text ks (zs ++ pad))) zs
+values_back [] ts zs pad p (none, no_values) = (refl, no_values)
+values_back (k ∷ ks) ts [] pad p h = absurd h
+values_back (k ∷ ks) ts (z ∷ zs) pad p (a, rest, e, is, others) =
+    let cell = value_stored k a z p.0 is in
+    let later : List ℕ = more_cells ks (zs ++ pad) in (
+      word (cell_text k z),
+      tokens later,
+      front_word (cell_text k z) later (cell_word k z cell).0 (cells_stop ks (zs ++ pad)),
+      (cell_text k z, refl, cell_back k z cell),
+      more_back ks rest zs pad p.1 others,
+    )
+
+-- ---- calls
+
+pub key_run : (key : ℕ) → key < 2 ^ 64 → IsRun (decimal key)
+key_run key h = let w = decimal_writes key h in record { some = w.some; bytes = digits_word (decimal key) w.digits }
+
+pub call_back : (schema : List Column) (ts : List Tok) (c : Call) → IsSchema schema → IsCall schema ts c → IsCall schema (tokens (call_text schema c)) c
+call_back schema ts (Select q) ok (front, rest, parts, is, h) =
+    let conds : List ℕ = where_text schema false q.conds in
+    let f = want_front schema front q.want conds ok is (where_stops schema q.conds) in
+    (f.0, tokens conds, f.1, f.2, where_back schema rest q.conds ok h)
+call_back schema ts (Insert cells) ok (zs, rest, e, is, pad) =
+    let places = kinds_places schema (recursion_from_All (λ (c : Column). HasPlaces c.1) schema ok.sound.places) in
+    let values = values_back (kinds_of schema) rest zs (replicate (8 - length zs) (pos 0)) places is in
+    (zs, tokens (cells_text (kinds_of schema) cells), refl, subst (λ (w : List ℤ). IsValues (kinds_of schema) (tokens (cells_text (kinds_of schema) w)) zs) (sym pad) values, pad)
+call_back schema ts (Delete key) ok (t, e, (w, word_is, value)) =
+    let fits = key_fits w key value in
+    let one : tokens (decimal key) ≡ word (decimal key) ∷ [] = ap tokens (sym (append-nil (decimal key))) ∙ front_word (decimal key) [] (key_run key fits) refl in
+    (word (decimal key), ap (λ l. word (codes "delete") ∷ l) one, (decimal key, refl, key_back key fits))
+
+pub no_comment : (schema : List Column) (c : Call) → is_comment (call_text schema c) ≡ false
+no_comment schema (Select q) = by_want q.want
+  where
+    by_want : (want : Want) → is_comment (want_text schema want ++ where_text schema false q.conds) ≡ false
+    by_want (Rows names) = refl
+    by_want Count = refl
+    by_want (Sum a) = refl
+    by_want (Min a) = refl
+    by_want (Max a) = refl
+no_comment schema (Insert cells) = refl
+no_comment schema (Delete key) = refl

@@ -1,0 +1,128 @@
+//! Alignment of several maps at once.
+
+ghost use Rattle.std.specs.Prelude.{◌≡◌, ℕ, ◌<◌, ◌≤◌, false, true, length, map, All, Contains, MatchOption, MatchResult, slice_index_or};
+ghost use Rattle.sw_rows.specs.declared.row.Row.{Row};
+ghost use Rattle.sw_rows.specs.declared.refusal.Refusal.TheVariants.{NoMemory};
+ghost use Rattle.sw_kernel.specs.Replay.{Step};
+ghost use Rattle.sw_map.specs.Held.{KeysFit};
+ghost use Rattle.sw_map.specs.Lawful.{IsLawful};
+ghost use Rattle.sw_set.specs.Shelf.{HasRoomWhereNeeded, IsAtEnd, IsSameMap, AreSameMaps};
+
+use crate::align::{align_box, is_needed};
+use std::thread;
+use std::thread::Threads;
+use sw_map::{CrackerMap, Tail};
+use sw_rows::Refusal;
+use sw_tape::Tape;
+
+/// Steps the first boxes at once, each towards the tape's end; a single one is stepped by the caller. A box whose step is
+/// refused stops at the cursor that it reached, and the others go on.
+fn step_first<R: Threads + Sync, M: CrackerMap>(
+    rt: &R,
+    attribute: u8,
+    boxes: &mut [M],
+    many: usize,
+    tails: &[Tail],
+    tape: &Tape,
+)
+    requires lawful { All (λ m. IsLawful attribute tape.now (M.held m)) boxes.old }
+    requires keys { All (λ (e : Step Row). KeysFit e) tape.now }
+    requires room { All (λ m. HasRoomWhereNeeded tails.now tape.now (M.held m)) boxes.old }
+    requires within { many ≤ length boxes.old }
+    ensures lawful { All (λ m. IsLawful attribute tape.now (M.held m)) boxes.new }
+    ensures many { length boxes.new ≡ length boxes.old }
+    ensures same { (k : ℕ) (d : M) → k < length boxes.old → IsSameMap (M.held (slice_index_or boxes.old k d)) (M.held (slice_index_or boxes.new k d)) }
+{
+    if many == 0 {
+        return;
+    }
+    let (front, _) = boxes.split_at_mut(many);
+    thread::for_each_mut(
+        rt,
+        front,
+        many,
+        &|_, it: &mut M|
+            requires { IsLawful attribute tape.now (M.held it.now) × All (λ (e : Step Row). KeysFit e) tape.now × HasRoomWhereNeeded tails.now tape.now (M.held it.now) }
+            ensures { IsLawful attribute tape.entry.now (M.held it.exit.now) × IsSameMap (M.held it.entry.now) (M.held it.exit.now) }
+        {
+            let _ = align_box(attribute, it, tails, tape);
+        },
+    );
+}
+
+/// Whether a box has a needed map that lacks entries of a tape of this length.
+fn lacks<M: CrackerMap>(it: &M, tails: &[Tail], end: usize) -> bool
+    ensures { result ≡ false → (M.held it.now).is_blank ≡ false → Contains tails.now (M.held it.now).tail → (M.held it.now).cursor ≡ end }
+{
+    !it.is_blank() && is_needed(tails, it.tail()) && it.cursor() != end
+}
+
+/// The first box, from a place on, whose needed map lacks entries.
+fn find_lacking<M: CrackerMap>(
+    boxes: &[M],
+    from: usize,
+    tails: &[Tail],
+    end: usize,
+) -> Option<usize>
+    ensures { MatchOption result ((k : ℕ) (d : M) → from ≤ k → k < length boxes.now → (M.held (slice_index_or boxes.now k d)).is_blank ≡ false → Contains tails.now (M.held (slice_index_or boxes.now k d)).tail → (M.held (slice_index_or boxes.now k d)).cursor ≡ end) (λ at. (from ≤ at) × (at < length boxes.now)) }
+{
+    for at in from..boxes.len() {
+        if lacks(&boxes[at], tails, end) {
+            return Some(at);
+        }
+    }
+    None
+}
+
+/// Brings the boxes that lack entries to the front, from the place `done` on, steps all that are there at once, and puts each
+/// back at its place.
+fn step_lacking<R: Threads + Sync, M: CrackerMap>(
+    rt: &R,
+    attribute: u8,
+    boxes: &mut [M],
+    done: usize,
+    from: usize,
+    tails: &[Tail],
+    tape: &Tape,
+)
+    requires lawful { All (λ m. IsLawful attribute tape.now (M.held m)) boxes.old }
+    requires keys { All (λ (e : Step Row). KeysFit e) tape.now }
+    requires room { All (λ m. HasRoomWhereNeeded tails.now tape.now (M.held m)) boxes.old }
+    requires done { done ≤ from }
+    requires within { from ≤ length boxes.old }
+    ensures lawful { All (λ m. IsLawful attribute tape.now (M.held m)) boxes.new }
+    ensures many { length boxes.new ≡ length boxes.old }
+    ensures same { (k : ℕ) (d : M) → k < length boxes.old → IsSameMap (M.held (slice_index_or boxes.old k d)) (M.held (slice_index_or boxes.new k d)) }
+{
+    match find_lacking(boxes, from, tails, tape.len()) {
+        None => step_first(rt, attribute, boxes, done, tails, tape),
+        Some(at) => {
+            boxes.swap(done, at);
+            step_lacking(rt, attribute, boxes, done + 1, at + 1, tails, tape);
+            boxes.swap(done, at);
+        }
+    }
+}
+
+/// Steps every box that has a needed map to the tape's end, those that lack entries at once. Refused `NoMemory`, a box whose
+/// step was refused stands at the cursor that it reached, and all others at the end.
+pub(crate) fn align_at_once<R: Threads + Sync, M: CrackerMap>(
+    rt: &R,
+    attribute: u8,
+    boxes: &mut [M],
+    tails: &[Tail],
+    tape: &Tape,
+) -> Result<(), Refusal>
+    requires lawful { All (λ m. IsLawful attribute tape.now (M.held m)) boxes.old }
+    requires keys { All (λ (e : Step Row). KeysFit e) tape.now }
+    requires room { All (λ m. HasRoomWhereNeeded tails.now tape.now (M.held m)) boxes.old }
+    ensures lawful { All (IsLawful attribute tape.now) (map M.held boxes.new) }
+    ensures same { AreSameMaps (map M.held boxes.old) (map M.held boxes.new) }
+    ensures ends { MatchResult result (λ _. All (IsAtEnd tails.now tape.now) (map M.held boxes.new)) (λ e. e ≡ NoMemory) }
+{
+    step_lacking(rt, attribute, boxes, 0, 0, tails, tape);
+    match find_lacking(boxes, 0, tails, tape.len()) {
+        None => Ok(()),
+        Some(_) => Err(Refusal::NoMemory),
+    }
+}
