@@ -1,0 +1,57 @@
+#!/usr/bin/env bash
+# One area of a table's rows beside a C++ peer that cracks the same maps, over the same calls.
+#
+#     bench/area/measure.sh [ROWS [ROUNDS [CALLS]]]
+#
+# Copies the crates up to sw_set with a program of its own into a folder under TMPDIR, proves and builds them there, makes a
+# table of random ints of three attributes and scripts of CALLS (by default 1,000) random calls at width one thousandth:
+# counts, sums, selects of two tails, and sums with a second condition. It runs the program and bench/peers/peer.cpp in
+# crack mode by turns ROUNDS times (by default 5) over each script, compares both outputs, and prints the medians of the
+# seconds that the calls took, texts of replies included, with their ratio, and how much of it the area took.
+# It needs rt, g++ and python3. Nothing of the repository is written.
+set -euo pipefail
+rows=${1:-1000000}
+rounds=${2:-5}
+calls=${3:-1000}
+here=$(cd "$(dirname "$0")" && pwd)
+top=$(cd "$here/../.." && pwd)
+work=${WORK:-$(mktemp -d "${TMPDIR:-/tmp}/bench-area.XXXXXX")}
+[ -n "${WORK:-}" ] || trap 'rm -rf "$work"' EXIT
+program=$work/crates/replies/out/replies
+
+if [ ! -x "$program" ]; then
+  mkdir -p "$work/crates/replies/src"
+  cp "$top/HANDLES" "$work/"
+  crates="sw_rows sw_lang sw_kernel sw_tape sw_budget sw_bits sw_map sw_trial_maps sw_set sw_trial_areas"
+  for crate in $crates; do
+    grep -E "^$crate\b" "$top/crates.txt" >> "$work/crates.txt"
+    cp -rp "$top/crates/$crate" "$work/crates/"
+  done
+  echo "replies: $crates anyhow" >> "$work/crates.txt"
+  cp "$here/replies.rt.txt" "$work/crates/replies/src/main.rt"
+  (cd "$work/crates/replies" && rt run > "$work/build.log" 2>&1) || { tail -n 20 "$work/build.log"; exit 1; }
+fi
+g++ -O3 -march=native -o "$work/peer" "$top/bench/peers/peer.cpp"
+
+for mix in count sum select multi; do
+  python3 "$top/bench/peers/gen.py" "$work/$mix" --rows "$rows" --attrs 3 --calls "$calls" --mix "$mix" --width 0.001
+done
+python3 - "$work" "$program" "$rounds" <<'END'
+import statistics, subprocess, sys
+work, program, rounds = sys.argv[1], sys.argv[2], int(sys.argv[3])
+def ran(words):
+    done = subprocess.run(words, capture_output=True)
+    assert done.returncode == 0, (words, done.returncode, done.stderr)
+    return done.stdout, done.stderr.decode().split()
+for mix in ("count", "sum", "select", "multi"):
+    files = [f"{work}/{mix}/t.csv", f"{work}/{mix}/s.txt"]
+    ours, areas, peers = [], [], []
+    for _ in range(rounds):
+        text, told = ran([program, *files])
+        peer_text, peer_told = ran([f"{work}/peer", "crack", *files])
+        assert text == peer_text, (mix, text[:80], peer_text[:80])
+        assert told[5] == "0", told
+        ours.append(int(told[1]) / 1e9); areas.append(int(told[3]) / 1e9); peers.append(float(peer_told[1]))
+    a, b, c = statistics.median(ours), statistics.median(peers), statistics.median(areas)
+    print(f"{mix:>6}: sideways {a:.3f} s (the area alone {c:.3f}), peer {b:.3f} s, ratio {a / b:.2f}, of the least {min(ours) / min(peers):.2f}")
+END

@@ -1,0 +1,15 @@
+//! Areas for tests: rows, areas over boxes that are handed in, and queries whose conditions are tested when they run.
+#![tactic(auto)]
+
+mod asking;
+pub mod examples;
+#[cfg(test)]
+mod mixes;
+#[cfg(test)]
+mod moves;
+mod opening;
+#[cfg(test)]
+mod tests;
+
+pub use asking::{ask, asks_below_eight, is_askable, ready, scan};
+pub use opening::{Shape, add, numbered, open};

@@ -1,0 +1,129 @@
+//! Rows by their numbers, and areas of them.
+
+ghost use Rattle.std.specs.Prelude.{◌≡◌, ◌<◌, ◌+◌, ◌^◌, ◌++◌, ◌∷◌, [], All, OnOk, IfOk, IfSome, true};
+ghost use Rattle.sw_rows.specs.declared.row.Row.{Row};
+ghost use Rattle.sw_map.specs.Held.{blank};
+ghost use Rattle.sw_set.specs.Needs.{edge};
+ghost use Rattle.sw_set.specs.Shelf.{Rises, key_of, lies_within};
+
+use std::alloc::Global;
+use sw_map::CrackerMap;
+use sw_rows::{Bound, Refusal, Row, is_within};
+use sw_set::Area;
+
+/// The most rows of a trial.
+const MOST_ROWS: usize = 1 << 20;
+
+/// Adds the row of these cells whose key is one more than a number. Refused `NoMemory` alone.
+fn push_row(rows: &mut Vec<Row>, number: usize, cells: [i64; 8]) -> Result<(), Refusal>
+    requires { number < 2 ^ 20 }
+    ensures { OnOk result (rows.new.items ≡ rows.old.items ++ record { key = number + 1; cells = cells } ∷ []) }
+{
+    let row = Row {
+        key: number as u64 + 1,
+        cells,
+    };
+    match rows.push(row) {
+        Ok(()) => Ok(()),
+        Err(_) => Err(Refusal::NoMemory),
+    }
+}
+
+/// Rows of these cells, by the keys 1, 2, 3 and so on; of the first 1,048,576 alone. Refused `NoMemory` alone.
+pub fn numbered(alloc: Global, cells: &[[i64; 8]]) -> Result<Vec<Row>, Refusal>
+    ensures rise { IfOk result (λ rows. Rises key_of rows.items) }
+    ensures fit { IfOk result (λ rows. All (λ (r : Row). r.key < 2 ^ 63) rows.items) }
+{
+    let mut rows: Vec<Row> = Vec::new(alloc);
+    for i in 0..cells.len().min(MOST_ROWS) {
+        push_row(&mut rows, i, cells[i])?;
+    }
+    Ok(rows)
+}
+
+/// The attribute that is the head of an area's maps, the interval of its rows' cells there, and how many boxes it takes.
+#[derive(Clone, Copy, Debug, PartialEq, Eq)]
+pub struct Shape {
+    pub attribute: u8,
+    pub from: Option<i64>,
+    pub below: Option<i64>,
+    pub boxes: usize,
+}
+
+/// Where an interval begins or ends, as a bound.
+fn edge(value: Option<i64>) -> Option<Bound>
+    ensures { result ≡ edge value }
+{
+    match value {
+        None => None,
+        Some(v) => Some(Bound::Before(v)),
+    }
+}
+
+/// Whether a row's cell lies in the interval.
+fn lies_within(row: &Row, attribute: u8, from: Option<i64>, below: Option<i64>) -> bool
+    requires { attribute < 8 }
+    ensures { result ≡ lies_within attribute from below row.now }
+{
+    is_within(edge(from), edge(below), row.cells[usize::from(attribute)])
+}
+
+/// Whether the cells of all these rows lie in the interval.
+fn lie_within(rows: &[Row], attribute: u8, from: Option<i64>, below: Option<i64>) -> bool
+    requires { attribute < 8 }
+    ensures { result ≡ true → All (λ (r : Row). lies_within attribute from below r ≡ true) rows.now }
+{
+    for row in rows {
+        if !lies_within(row, attribute, from, below) {
+            return false;
+        }
+    }
+    true
+}
+
+/// Adds a blank box. Refused `NoMemory` alone.
+pub fn add<M: CrackerMap>(maps: &mut Vec<M>, map: M) -> Result<(), Refusal>
+    requires all { All (λ m. M.held m ≡ blank) maps.old.items }
+    requires one { M.held map ≡ blank }
+    ensures { All (λ m. M.held m ≡ blank) maps.new.items }
+{
+    if maps.reserve(1).is_err() {
+        return Err(Refusal::NoMemory);
+    }
+    maps.push_reserved(map);
+    Ok(())
+}
+
+/// Takes the last box.
+fn take_last<M: CrackerMap>(maps: &mut Vec<M>) -> Option<M>
+    requires { All (λ m. M.held m ≡ blank) maps.old.items }
+    ensures rest { All (λ m. M.held m ≡ blank) maps.new.items }
+    ensures taken { IfSome result (λ m. M.held m ≡ blank) }
+{
+    maps.pop()
+}
+
+/// An area of these rows, supplied with as many of these boxes as it takes, from the last on. `Input` where the attribute is
+/// not below 8 or a row lies outside the interval, and otherwise refused `NoMemory` alone.
+pub fn open<M: CrackerMap>(alloc: Global, shape: Shape, rows: &[Row], maps: Vec<M>) -> Result<Area<M>, Refusal>
+    requires rise { Rises key_of rows.now }
+    requires fit { All (λ (r : Row). r.key < 2 ^ 63) rows.now }
+    requires blank { All (λ m. M.held m ≡ blank) maps.items }
+    ensures { IfOk result (λ area. area.inbox ≡ []) }
+{
+    let Shape { attribute, from, below, boxes } = shape;
+    if attribute >= 8 || !lie_within(rows, attribute, from, below) {
+        return Err(Refusal::Input);
+    }
+    let mut area = Area::new(alloc, attribute, from, below, rows)?;
+    let mut maps = maps;
+    for _turn in 0..boxes {
+        let Some(map) = take_last(&mut maps) else {
+            return Ok(area);
+        };
+        if area.supply(map).is_err() {
+            return Err(Refusal::NoMemory);
+        }
+    }
+    Ok(area)
+}
