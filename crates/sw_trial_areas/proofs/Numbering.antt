@@ -28,8 +28,8 @@ numbered-none = record { rise = tt; few = tt }
 pub numbered-more : (n : ℕ) (rows : List Row) (x : Row) → key_of x ≡ n + 1 → IsNumberedTo n rows → IsNumberedTo (n + 1) (rows ++ x ∷ [])
 numbered-more n rows x is so =
     record {
-        rise = rises-last n rows x so.rise so.few (omega arith);
-        few = all-last (λ (r : Row). key_of r ≤ n + 1) rows x (few-more n rows so.few) (omega arith)
+      rise = rises-last n rows x so.rise so.few (omega arith);
+      few = all-last (λ (r : Row). key_of r ≤ n + 1) rows x (few-more n rows so.few) (omega arith);
     }
 
 fit-all : (n : ℕ) (rows : List Row) → n < 2 ^ 63 → AllByRecursion (λ (r : Row). key_of r ≤ n) rows → AllByRecursion (λ (r : Row). r.key < 2 ^ 63) rows

@@ -73,13 +73,13 @@ mixed_tape = fives_tape ++ inserted (row_of_one 4 (pos 7)) ∷ inserted (row_of_
 -- the map of the second attribute at the end of the cracked tape
 abbrev pub second_map : Held
 second_map = record {
-    is_blank = false;
-    head = 0;
-    tail = Cell 1;
-    cells = 64;
-    cursor = 2;
-    pairs = piece ((pos 3, pos 8) ∷ []) (Before (pos 10)) (piece ((pos 12, pos 7) ∷ (pos 12, pos 5) ∷ []) (After (pos 15)) (last ((pos 20, pos 2) ∷ [])))
-  }
+  is_blank = false;
+  head = 0;
+  tail = Cell 1;
+  cells = 64;
+  cursor = 2;
+  pairs = piece ((pos 3, pos 8) ∷ []) (Before (pos 10)) (piece ((pos 12, pos 7) ∷ (pos 12, pos 5) ∷ []) (After (pos 15)) (last ((pos 20, pos 2) ∷ [])));
+}
 
 -- an area of four rows, one of which waits to go
 abbrev pub waiting_area : Update → AreaState

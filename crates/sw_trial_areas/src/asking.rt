@@ -76,7 +76,11 @@ pub fn is_askable<M: CrackerMap>(area: &Area<M>, query: &Query) -> bool
 }
 
 /// What an area answers a query; `Input` where it may not be asked it.
-pub fn ask<R: Threads + Sync, M: CrackerMap>(rt: &R, area: &mut Area<M>, query: &Query) -> Result<(Reply, Option<Refusal>), Refusal>
+pub fn ask<R: Threads + Sync, M: CrackerMap>(
+    rt: &R,
+    area: &mut Area<M>,
+    query: &Query,
+) -> Result<(Reply, Option<Refusal>), Refusal>
     requires { area.old.inbox ≡ [] }
     ensures { area.new.inbox ≡ [] }
 {
@@ -87,7 +91,11 @@ pub fn ask<R: Threads + Sync, M: CrackerMap>(rt: &R, area: &mut Area<M>, query: 
 }
 
 /// Prepares an area for a query; `Input` where it may not be asked it.
-pub fn ready<R: Threads + Sync, M: CrackerMap>(rt: &R, area: &mut Area<M>, query: &Query) -> Result<Ready, Refusal>
+pub fn ready<R: Threads + Sync, M: CrackerMap>(
+    rt: &R,
+    area: &mut Area<M>,
+    query: &Query,
+) -> Result<Ready, Refusal>
     requires { area.old.inbox ≡ [] }
     ensures { area.new.inbox ≡ [] }
 {

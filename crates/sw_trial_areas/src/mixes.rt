@@ -233,11 +233,7 @@ fn mix<R: Threads + Sync, M: CrackerMap>(
 }
 
 /// A map that refuses every n-th step, none where n is 0.
-fn refusing(
-    alloc: Global,
-    purse: &mut Purse,
-    every: u64,
-) -> Result<RefusingMap<PairMap>, Refusal>
+fn refusing(alloc: Global, purse: &mut Purse, every: u64) -> Result<RefusingMap<PairMap>, Refusal>
     ensures { IfOk result (λ m. ⟦<RefusingMap<PairMap> as CrackerMap>⟧.held m ≡ blank) }
 {
     let mine = purse.split()?;

@@ -127,7 +127,12 @@ fn taken(count: &AtomicU64) -> u64 {
 }
 
 /// The reply of an area, with the refusal that is told beside it.
-fn answered<R: Threads + Sync, M: CrackerMap>(rt: &R, alloc: Global, area: &mut Area<M>, line: &str) -> Result<String, Fail>
+fn answered<R: Threads + Sync, M: CrackerMap>(
+    rt: &R,
+    alloc: Global,
+    area: &mut Area<M>,
+    line: &str,
+) -> Result<String, Fail>
     requires { area.old.inbox ≡ [] }
     ensures { area.new.inbox ≡ [] }
 {
@@ -141,7 +146,12 @@ fn answered<R: Threads + Sync, M: CrackerMap>(rt: &R, alloc: Global, area: &mut 
 }
 
 /// The range of places of a query, or the refusal.
-fn prepared<R: Threads + Sync, M: CrackerMap>(rt: &R, alloc: Global, area: &mut Area<M>, line: &str) -> Result<String, Fail>
+fn prepared<R: Threads + Sync, M: CrackerMap>(
+    rt: &R,
+    alloc: Global,
+    area: &mut Area<M>,
+    line: &str,
+) -> Result<String, Fail>
     requires { area.old.inbox ≡ [] }
     ensures { area.new.inbox ≡ [] }
 {
@@ -153,7 +163,12 @@ fn prepared<R: Threads + Sync, M: CrackerMap>(rt: &R, alloc: Global, area: &mut 
 }
 
 /// Looks at an area.
-fn look<M: CrackerMap>(alloc: Global, area: &Area<M>, watch: Watch<'_>, step: Move<'_>) -> Result<String, Fail>
+fn look<M: CrackerMap>(
+    alloc: Global,
+    area: &Area<M>,
+    watch: Watch<'_>,
+    step: Move<'_>,
+) -> Result<String, Fail>
     requires { area.now.inbox ≡ [] }
 {
     match step {
@@ -163,18 +178,33 @@ fn look<M: CrackerMap>(alloc: Global, area: &Area<M>, watch: Watch<'_>, step: Mo
             shown(alloc, &reply)
         }
         Move::Oldest => shown_number(alloc, area.oldest()),
-        Move::Sizes => Ok(format!(in alloc; "{} boxes, {} entries", area.boxes(), area.tape_len())?),
+        Move::Sizes => Ok(format!(in alloc;
+            "{} boxes, {} entries",
+            area.boxes(),
+            area.tape_len()
+        )?),
         Move::Shown(tail) => shown_tail(alloc, area, tail),
         Move::Place(bound) => shown_place(alloc, area.place(bound)),
         Move::Cursor(tail) => shown_place(alloc, area.cursor(tail)),
-        Move::Counts => Ok(format!(in alloc; "{} begins, {} steps, {} tails", taken(&watch.counts.begins), taken(&watch.counts.steps), taken(&watch.counts.tails))?),
+        Move::Counts => Ok(format!(in alloc;
+            "{} begins, {} steps, {} tails",
+            taken(&watch.counts.begins),
+            taken(&watch.counts.steps),
+            taken(&watch.counts.tails)
+        )?),
         Move::Used => Ok(format!(in alloc; "{}", watch.budget.used())?),
         _ => Ok(String::new(alloc)),
     }
 }
 
 /// Makes a move, and tells what is seen.
-pub(crate) fn make<R: Threads + Sync, M: CrackerMap>(rt: &R, alloc: Global, area: &mut Area<M>, watch: Watch<'_>, step: Move<'_>) -> Result<String, Fail>
+pub(crate) fn make<R: Threads + Sync, M: CrackerMap>(
+    rt: &R,
+    alloc: Global,
+    area: &mut Area<M>,
+    watch: Watch<'_>,
+    step: Move<'_>,
+) -> Result<String, Fail>
     requires { area.old.inbox ≡ [] }
     ensures { area.new.inbox ≡ [] }
 {
@@ -199,7 +229,13 @@ pub(crate) fn make<R: Threads + Sync, M: CrackerMap>(rt: &R, alloc: Global, area
 
 /// Makes moves in order. Of the first that does not show what is expected it tells the number, from 0, and what it shows; else
 /// nothing.
-pub(crate) fn play<R: Threads + Sync, M: CrackerMap>(rt: &R, alloc: Global, area: &mut Area<M>, watch: Watch<'_>, moves: &[(Move<'_>, &str)]) -> Result<String, Fail>
+pub(crate) fn play<R: Threads + Sync, M: CrackerMap>(
+    rt: &R,
+    alloc: Global,
+    area: &mut Area<M>,
+    watch: Watch<'_>,
+    moves: &[(Move<'_>, &str)],
+) -> Result<String, Fail>
     requires { area.old.inbox ≡ [] }
     ensures { area.new.inbox ≡ [] }
 {

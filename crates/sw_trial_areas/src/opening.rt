@@ -105,13 +105,23 @@ fn take_last<M: CrackerMap>(maps: &mut Vec<M>) -> Option<M>
 
 /// An area of these rows, supplied with as many of these boxes as it takes, from the last on. `Input` where the attribute is
 /// not below 8 or a row lies outside the interval, and otherwise refused `NoMemory` alone.
-pub fn open<M: CrackerMap>(alloc: Global, shape: Shape, rows: &[Row], maps: Vec<M>) -> Result<Area<M>, Refusal>
+pub fn open<M: CrackerMap>(
+    alloc: Global,
+    shape: Shape,
+    rows: &[Row],
+    maps: Vec<M>,
+) -> Result<Area<M>, Refusal>
     requires rise { Rises key_of rows.now }
     requires fit { All (λ (r : Row). r.key < 2 ^ 63) rows.now }
     requires blank { All (λ m. M.held m ≡ blank) maps.items }
     ensures { IfOk result (λ area. area.inbox ≡ []) }
 {
-    let Shape { attribute, from, below, boxes } = shape;
+    let Shape {
+        attribute,
+        from,
+        below,
+        boxes,
+    } = shape;
     if attribute >= 8 || !lie_within(rows, attribute, from, below) {
         return Err(Refusal::Input);
     }

@@ -33,8 +33,11 @@ const THREE_ROWS: [[i64; 8]; 3] = [
 ];
 
 const B: Tail = Tail::Cell(1);
+
 const C: Tail = Tail::Cell(2);
+
 const D: Tail = Tail::Cell(3);
+
 const E: Tail = Tail::Cell(4);
 
 /// An area of the attribute a and all values.
@@ -148,7 +151,10 @@ fn a_range_is_cracked_once(rt: HostRuntime) -> Result<(), Fail> {
         (Move::Scan(line), "1: 7, 3: 5, 2 rows"),
         (Move::Counts, "0 begins, 0 steps, 0 tails"),
     ];
-    assert_eq!(rt; trial(&rt, rt.alloc(), wide(4), &FOUR_ROWS, 1 << 20, &moves)?.as_str(), "");
+    assert_eq!(rt;
+        trial(&rt, rt.alloc(), wide(4), &FOUR_ROWS, 1 << 20, &moves)?.as_str(),
+        ""
+    );
     Ok(())
 }
 
@@ -164,7 +170,10 @@ fn what_touches_nothing_logs_nothing(rt: HostRuntime) -> Result<(), Fail> {
         (Move::Counts, "1 begins, 1 steps, 0 tails"),
         (Move::Sizes, "3 boxes, 1 entries"),
     ];
-    assert_eq!(rt; trial(&rt, rt.alloc(), wide(3), &FOUR_ROWS, 1 << 20, &moves)?.as_str(), "");
+    assert_eq!(rt;
+        trial(&rt, rt.alloc(), wide(3), &FOUR_ROWS, 1 << 20, &moves)?.as_str(),
+        ""
+    );
     Ok(())
 }
 
@@ -178,7 +187,10 @@ fn the_ends_of_all_values(rt: HostRuntime) -> Result<(), Fail> {
         (Move::Shown(Tail::Key), "1 2 3 4"),
         (Move::Sizes, "3 boxes, 2 entries"),
     ];
-    assert_eq!(rt; trial(&rt, rt.alloc(), wide(3), &FOUR_ROWS, 1 << 20, &moves)?.as_str(), "");
+    assert_eq!(rt;
+        trial(&rt, rt.alloc(), wide(3), &FOUR_ROWS, 1 << 20, &moves)?.as_str(),
+        ""
+    );
     Ok(())
 }
 
@@ -192,7 +204,10 @@ fn an_area_of_no_rows(rt: HostRuntime) -> Result<(), Fail> {
         (Move::Answer("max c where a < 5 and b > 1"), "none"),
         (Move::Sizes, "3 boxes, 2 entries"),
     ];
-    assert_eq!(rt; trial(&rt, rt.alloc(), wide(3), &[], 1 << 20, &moves)?.as_str(), "");
+    assert_eq!(rt;
+        trial(&rt, rt.alloc(), wide(3), &[], 1 << 20, &moves)?.as_str(),
+        ""
+    );
     Ok(())
 }
 
@@ -212,7 +227,10 @@ fn further_conditions_and_aggregates(rt: HostRuntime) -> Result<(), Fail> {
         (Move::Answer("min c where a >= 10 and b > 90"), "none"),
         (Move::Sizes, "3 boxes, 2 entries"),
     ];
-    assert_eq!(rt; trial(&rt, rt.alloc(), wide(3), &FOUR_ROWS, 1 << 20, &moves)?.as_str(), "");
+    assert_eq!(rt;
+        trial(&rt, rt.alloc(), wide(3), &FOUR_ROWS, 1 << 20, &moves)?.as_str(),
+        ""
+    );
     Ok(())
 }
 
@@ -240,7 +258,10 @@ fn an_interval_of_the_values(rt: HostRuntime) -> Result<(), Fail> {
         (Move::Answer("count where a > 20"), "0"),
         (Move::Sizes, "2 boxes, 3 entries"),
     ];
-    assert_eq!(rt; trial(&rt, rt.alloc(), shape, &THREE_ROWS, 1 << 20, &moves)?.as_str(), "");
+    assert_eq!(rt;
+        trial(&rt, rt.alloc(), shape, &THREE_ROWS, 1 << 20, &moves)?.as_str(),
+        ""
+    );
     Ok(())
 }
 
@@ -267,7 +288,10 @@ fn a_budget_for_two_maps(rt: HostRuntime) -> Result<(), Fail> {
             "1: 7 1, 3: 5 1, 4: 2 0, 3 rows, told 7 used 128 want 64 capacity 128",
         ),
     ];
-    assert_eq!(rt; trial(&rt, rt.alloc(), wide(3), &FOUR_ROWS, 128, &moves)?.as_str(), "");
+    assert_eq!(rt;
+        trial(&rt, rt.alloc(), wide(3), &FOUR_ROWS, 128, &moves)?.as_str(),
+        ""
+    );
     Ok(())
 }
 
@@ -283,12 +307,21 @@ fn a_box_too_few(rt: HostRuntime) -> Result<(), Fail> {
         (Move::Counts, "0 begins, 0 steps, 0 tails"),
         (Move::Sizes, "1 boxes, 1 entries"),
         // one box serves what needs the key map alone
-        (Move::Answer("select a where a >= 10"), "1: 12, 3: 12, 4: 20, 3 rows"),
+        (
+            Move::Answer("select a where a >= 10"),
+            "1: 12, 3: 12, 4: 20, 3 rows",
+        ),
         (Move::Sizes, "1 boxes, 2 entries"),
     ];
-    assert_eq!(rt; trial(&rt, rt.alloc(), wide(1), &FOUR_ROWS, 1 << 20, &moves)?.as_str(), "");
+    assert_eq!(rt;
+        trial(&rt, rt.alloc(), wide(1), &FOUR_ROWS, 1 << 20, &moves)?.as_str(),
+        ""
+    );
     let none = [(Move::Answer("count"), "4, told 6 boxes 0 needed 1")];
-    assert_eq!(rt; trial(&rt, rt.alloc(), wide(0), &FOUR_ROWS, 1 << 20, &none)?.as_str(), "");
+    assert_eq!(rt;
+        trial(&rt, rt.alloc(), wide(0), &FOUR_ROWS, 1 << 20, &none)?.as_str(),
+        ""
+    );
     Ok(())
 }
 
@@ -304,7 +337,10 @@ fn a_budget_of_no_cells(rt: HostRuntime) -> Result<(), Fail> {
         (Move::Counts, "0 begins, 0 steps, 0 tails"),
         (Move::Used, "0"),
     ];
-    assert_eq!(rt; trial(&rt, rt.alloc(), wide(3), &FOUR_ROWS, 0, &moves)?.as_str(), "");
+    assert_eq!(rt;
+        trial(&rt, rt.alloc(), wide(3), &FOUR_ROWS, 0, &moves)?.as_str(),
+        ""
+    );
     Ok(())
 }
 
@@ -336,7 +372,10 @@ fn the_least_recently_used_box_is_cleared(rt: HostRuntime) -> Result<(), Fail> {
         (Move::ClearOldest, "0"),
         (Move::Oldest, "none"),
     ];
-    assert_eq!(rt; trial(&rt, rt.alloc(), wide(4), &FOUR_ROWS, 1 << 20, &moves)?.as_str(), "");
+    assert_eq!(rt;
+        trial(&rt, rt.alloc(), wide(4), &FOUR_ROWS, 1 << 20, &moves)?.as_str(),
+        ""
+    );
     Ok(())
 }
 
@@ -352,7 +391,10 @@ fn of_boxes_with_one_stamp_the_lowest_is_cleared(rt: HostRuntime) -> Result<(), 
         (Move::Cursor(C), "2"),
         (Move::Cursor(D), "2"),
     ];
-    assert_eq!(rt; trial(&rt, rt.alloc(), wide(3), &FOUR_ROWS, 1 << 20, &moves)?.as_str(), "");
+    assert_eq!(rt;
+        trial(&rt, rt.alloc(), wide(3), &FOUR_ROWS, 1 << 20, &moves)?.as_str(),
+        ""
+    );
     Ok(())
 }
 
@@ -370,13 +412,20 @@ fn a_short_budget_clears_the_least_recently_used(rt: HostRuntime) -> Result<(), 
         (Move::Cursor(B), "2"),
         (Move::Used, "192"),
     ];
-    assert_eq!(rt; trial(&rt, rt.alloc(), wide(4), &FOUR_ROWS, 192, &moves)?.as_str(), "");
+    assert_eq!(rt;
+        trial(&rt, rt.alloc(), wide(4), &FOUR_ROWS, 192, &moves)?.as_str(),
+        ""
+    );
     Ok(())
 }
 
 /// What an area of one box shows of 4,096 ranges that end at 1, 2, 3 and so on: the tape's length before the last, the last
 /// reply, and the tape's length after it.
-fn ranged<R: Threads + Sync, M: CrackerMap>(rt: &R, alloc: Global, maps: Vec<M>) -> Result<String, Fail>
+fn ranged<R: Threads + Sync, M: CrackerMap>(
+    rt: &R,
+    alloc: Global,
+    maps: Vec<M>,
+) -> Result<String, Fail>
     requires { All (λ m. M.held m ≡ blank) maps.items }
 {
     let rows = numbered(alloc, &FOUR_ROWS)?;
