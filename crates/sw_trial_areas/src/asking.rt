@@ -1,9 +1,11 @@
 //! Queries of an area whose conditions are tested when they run.
 
-ghost use Rattle.std.specs.Prelude.{◌≡◌, ◌<◌, [], All, true};
+ghost use Rattle.std.specs.Prelude.{◌≡◌, ◌<◌, [], All, IfOk, true};
 ghost use Rattle.sw_rows.specs.declared.query.Cond.{Cond};
-ghost use Rattle.sw_rows.specs.Scan.{AsksBelow, CondsBelow, WantsBelow};
+ghost use Rattle.sw_rows.specs.Scan.{AsksBelow, CondsBelow, WantsBelow, answer};
 ghost use Rattle.sw_set.specs.Needs.{head_in};
+ghost use Rattle.sw_set.specs.Prepared.{IsPreparedFor, IsTold};
+ghost use Rattle.sw_set.specs.Shelf.{rows_in};
 
 use std::thread::Threads;
 use sw_map::CrackerMap;
@@ -82,7 +84,9 @@ pub fn ask<R: Threads + Sync, M: CrackerMap>(
     query: &Query,
 ) -> Result<(Reply, Option<Refusal>), Refusal>
     requires { area.old.inbox ≡ [] }
-    ensures { area.new.inbox ≡ [] }
+    ensures received { area.new.inbox ≡ [] }
+    ensures answered { IfOk result (λ r. r.0 ≡ answer (rows_in area.old) query.now) }
+    ensures told { IfOk result (λ r. IsTold query.now area.old area.new r.1) }
 {
     if !is_askable(area, query) {
         return Err(Refusal::Input);
@@ -97,7 +101,8 @@ pub fn ready<R: Threads + Sync, M: CrackerMap>(
     query: &Query,
 ) -> Result<Ready, Refusal>
     requires { area.old.inbox ≡ [] }
-    ensures { area.new.inbox ≡ [] }
+    ensures received { area.new.inbox ≡ [] }
+    ensures prepared { IfOk result (λ r. IsPreparedFor query.now area.new r.from r.upto) }
 {
     if !is_askable(area, query) {
         return Err(Refusal::Input);
@@ -108,6 +113,7 @@ pub fn ready<R: Threads + Sync, M: CrackerMap>(
 /// The plain answer over an area's rows; `Input` where it may not be asked the query.
 pub fn scan<M: CrackerMap>(area: &Area<M>, query: &Query) -> Result<Reply, Refusal>
     requires { area.now.inbox ≡ [] }
+    ensures { IfOk result (λ reply. reply ≡ answer (rows_in area.now) query.now) }
 {
     if !is_askable(area, query) {
         return Err(Refusal::Input);
