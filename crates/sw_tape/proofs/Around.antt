@@ -75,12 +75,6 @@ split-from_point v (c ∷ cs) zero le p = not-yes (is_left c v) (p.1 0 c (omega 
 split-from_point v (c ∷ cs) (suc k) le p =
     (not-not (is_left c v) (p.0 0 c (omega arith) (omega arith)), split-from_point v cs k (omega (arith, le)) (λ m d lo hi. p.0 (suc m) d (omega arith) (omega (arith, hi)), λ m d lo hi. p.1 (suc m) d (omega (arith, lo)) (omega (arith, hi))))
 
-pub split-within : (v : ℤ) (bs : List Bound) (k : ℕ) → IsSplit v k bs → k ≤ length bs
-split-within v [] zero s = omega arith
-split-within v [] (suc k) s = absurd s
-split-within v (c ∷ cs) zero s = omega arith
-split-within v (c ∷ cs) (suc k) s = let h = split-within v cs k s.1 in omega (arith, h)
-
 -- ---- the nearest below
 all-left : (v : ℤ) (bs : List Bound) → IsRising bs → IsSplit v 0 bs → (b : Bound) → is_among b bs ≡ true → is_left b v ≡ true
 all-left v [] r s b h = absurd (true≢false (sym h))
@@ -110,13 +104,12 @@ low-last v (c ∷ cs) (suc k) d r s b h e = elim (cases_Bool (same_bound b c)) [
 pub nearest-none_below : (v : ℤ) (bs : List Bound) (k : ℕ) → k ≡ 0 → IsRising bs → IsSplit v k bs → IsNearestBelow (λ b. is_among b bs) v None
 nearest-none_below v bs k e r s = all-left v bs r (subst (λ (n : ℕ). IsSplit v n bs) e s)
 
-pub nearest-low : (v : ℤ) (bs : List Bound) (k : ℕ) (c : Bound) → k ≢ 0 → IsRising bs → IsSplit v k bs → c ≡ get_or bs (k - 1) c → IsNearestBelow (λ b. is_among b bs) v (Some c)
-nearest-low v bs zero c ne r s is = absurd (ne refl)
-nearest-low v bs (suc k) c ne r s is =
+pub nearest-low : (v : ℤ) (bs : List Bound) (k : ℕ) (d : Bound) → k ≢ 0 → IsRising bs → IsSplit v k bs → IsNearestBelow (λ b. is_among b bs) v (Some (get_or bs (k - 1) d))
+nearest-low v bs zero d ne r s = absurd (ne refl)
+nearest-low v bs (suc k) d ne r s =
     let e : suc k - 1 ≡ k = omega arith in
-    let at : c ≡ get_or bs k c = is ∙ ap (λ (n : ℕ). get_or bs n c) e in
-    let h = low-side v bs k c s in
-    subst (λ (x : Bound). IsNearestBelow (λ b. is_among b bs) v (Some x)) (sym at) (among-at bs k c h.1, h.0, low-last v bs k c r s)
+    let h = low-side v bs k d s in
+    subst (λ (n : ℕ). IsNearestBelow (λ b. is_among b bs) v (Some (get_or bs n d))) (sym e) (among-at bs k d h.1, h.0, low-last v bs k d r s)
 
 -- ---- the nearest above
 none-left : (v : ℤ) (bs : List Bound) (k : ℕ) → k ≡ length bs → IsSplit v k bs → (b : Bound) → is_among b bs ≡ true → is_left b v ≡ false
@@ -146,15 +139,14 @@ high-first v (c ∷ cs) (suc k) d lt r s b h e = elim (cases_Bool (same_bound b 
 pub nearest-none_above : (v : ℤ) (bs : List Bound) (k : ℕ) → k ≡ length bs → IsSplit v k bs → IsNearestAbove (λ b. is_among b bs) v None
 nearest-none_above v bs k e s = none-left v bs k e s
 
-pub nearest-high : (v : ℤ) (bs : List Bound) (k : ℕ) (c : Bound) → k < length bs → IsRising bs → IsSplit v k bs → c ≡ get_or bs k c → IsNearestAbove (λ b. is_among b bs) v (Some c)
-nearest-high v bs k c lt r s is =
-    subst (λ (x : Bound). IsNearestAbove (λ b. is_among b bs) v (Some x)) (sym is) (among-at bs k c lt, high-side v bs k c lt s, high-first v bs k c lt r s)
+pub nearest-high : (v : ℤ) (bs : List Bound) (k : ℕ) (d : Bound) → k < length bs → IsRising bs → IsSplit v k bs → IsNearestAbove (λ b. is_among b bs) v (Some (get_or bs k d))
+nearest-high v bs k d lt r s = (among-at bs k d lt, high-side v bs k d lt s, high-first v bs k d lt r s)
 
 -- ---- bounds that pass another test that says the same
 pub below-same : (p q : Bound → Bool) (v : ℤ) (o : Option Bound) → ((b : Bound) → p b ≡ q b) → IsNearestBelow p v o → IsNearestBelow q v o
-below-same p q v None same h b e = h b (same b ∙ e)
+below-same p q v None same h = λ b e. h b (same b ∙ e)
 below-same p q v (Some c) same h = (sym (same c) ∙ h.0, h.1, λ b e l. h.2 b (same b ∙ e) l)
 
 pub above-same : (p q : Bound → Bool) (v : ℤ) (o : Option Bound) → ((b : Bound) → p b ≡ q b) → IsNearestAbove p v o → IsNearestAbove q v o
-above-same p q v None same h b e = h b (same b ∙ e)
+above-same p q v None same h = λ b e. h b (same b ∙ e)
 above-same p q v (Some c) same h = (sym (same c) ∙ h.0, h.1, λ b e l. h.2 b (same b ∙ e) l)

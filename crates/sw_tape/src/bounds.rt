@@ -1,6 +1,6 @@
 //! A rising list of bounds.
 
-ghost use Rattle.std.specs.Prelude.{◌≡◌, ◌<◌, ◌≤◌, ◌+◌, ◌||◌, drop, insert, vec_capacity, vec_len};
+ghost use Rattle.std.specs.Prelude.{◌≡◌, ◌<◌, ◌≤◌, ◌+◌, ◌||◌, drop, insert, length, vec_capacity, vec_len};
 ghost use Rattle.sw_rows.specs.Bounds.{same_bound};
 ghost use Rattle.sw_rows.specs.declared.bound.Bound.{Bound};
 ghost use Rattle.sw_kernel.specs.Tapes.{IsRising, is_bound};
@@ -88,7 +88,8 @@ pub(crate) fn add_some(bounds: &mut Vec<Bound>, bound: Option<Bound>)
 /// How many of the bounds do not have the value on their left, by binary search.
 fn count_up_to(bounds: &[Bound], value: i64) -> usize
     requires { IsRising bounds.now }
-    ensures { IsSplit value result bounds.now }
+    ensures within { result ≤ length bounds.now }
+    ensures split { IsSplit value result bounds.now }
 {
     bounds.partition_point(|known| !known.is_left(value))
 }
@@ -96,6 +97,7 @@ fn count_up_to(bounds: &[Bound], value: i64) -> usize
 /// The greatest bound that does not have the value on its left, from how many of them do not.
 fn nearest_below(bounds: &[Bound], count: usize, value: i64) -> Option<Bound>
     requires rising { IsRising bounds.now }
+    requires within { count ≤ length bounds.now }
     requires split { IsSplit value count bounds.now }
     ensures { IsNearestBelow (λ b. is_among b bounds.now) value result }
 {
@@ -108,6 +110,7 @@ fn nearest_below(bounds: &[Bound], count: usize, value: i64) -> Option<Bound>
 /// The least bound that has the value on its left, from how many of them do not.
 fn nearest_above(bounds: &[Bound], count: usize, value: i64) -> Option<Bound>
     requires rising { IsRising bounds.now }
+    requires within { count ≤ length bounds.now }
     requires split { IsSplit value count bounds.now }
     ensures { IsNearestAbove (λ b. is_among b bounds.now) value result }
 {

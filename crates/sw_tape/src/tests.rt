@@ -95,9 +95,24 @@ fn nearest_bounds_are_around(rt: HostRuntime) -> Result<(), Refusal> {
     assert!(rt; matches!(tape.around(12), (None, None)));
     tape.push(Entry::Range(Some(Bound::Before(10)), Some(Bound::After(15))))?;
     tape.push(Entry::Range(Some(Bound::After(12)), Some(Bound::Before(20))))?;
-    assert!(rt; matches!(tape.around(12), (Some(Bound::Before(10)), Some(Bound::After(12)))));
-    assert!(rt; matches!(tape.around(13), (Some(Bound::After(12)), Some(Bound::After(15)))));
-    assert!(rt; matches!(tape.around(10), (Some(Bound::Before(10)), Some(Bound::After(12)))));
+    assert!(rt;
+        matches!(
+            tape.around(12),
+            (Some(Bound::Before(10)), Some(Bound::After(12)))
+        )
+    );
+    assert!(rt;
+        matches!(
+            tape.around(13),
+            (Some(Bound::After(12)), Some(Bound::After(15)))
+        )
+    );
+    assert!(rt;
+        matches!(
+            tape.around(10),
+            (Some(Bound::Before(10)), Some(Bound::After(12)))
+        )
+    );
     assert!(rt; matches!(tape.around(3), (None, Some(Bound::Before(10)))));
     assert!(rt; matches!(tape.around(20), (Some(Bound::Before(20)), None)));
     Ok(())
