@@ -1,6 +1,6 @@
 //! Where a row's pair stands in the key map.
 
-ghost use Rattle.std.specs.Prelude.{◌≡◌, ℕ, ◌<◌, ◌≤◌, pos, length, slice_range, slice_index_or, Any, Contains};
+ghost use Rattle.std.specs.Prelude.{◌≡◌, ℕ, ◌<◌, ◌≤◌, pos, length, slice_range, slice_index_or, unsigned_abs, Any, Contains};
 ghost use Rattle.sw_rows.specs.declared.row.Row.{Row};
 ghost use Rattle.sw_rows.specs.Scan.{cell_of};
 ghost use Rattle.sw_kernel.specs.Arrangement.{joined};
@@ -14,6 +14,7 @@ ghost use Rattle.sw_set.specs.Prepared.{IsFoundAt};
 ghost use Rattle.sw_set.specs.Shelf.{Rises, key_of, logged_rows};
 ghost use Rattle.sw_set.specs.declared.window.Side.TheVariants.{Tail};
 
+use crate::window::{Side, value_at};
 use sw_map::CrackerMap;
 use sw_rows::Bound;
 use sw_tape::Tape;
@@ -36,11 +37,11 @@ fn place_in<M: CrackerMap>(it: &M, bound: Option<Bound>, absent: usize) -> usize
 fn find_key<M: CrackerMap>(it: &M, key: u64, from: usize, upto: usize) -> usize
     requires within { upto ≤ pairs_in (M.held it.now) }
     requires there { Contains (slice_range (side_in Tail (M.held it.now)) from upto) (pos key) }
-    ensures within { result < upto }
-    ensures found { slice_index_or (side_in Tail (M.held it.now)) result (pos 0) ≡ pos key }
+    ensures within { result < pairs_in (M.held it.now) }
+    ensures found { unsigned_abs (slice_index_or (side_in Tail (M.held it.now)) result (pos 0)) ≡ key }
 {
     for place in from..upto {
-        if it.tail_at(place).unsigned_abs() == key {
+        if value_at(it, Side::Tail, place).unsigned_abs() == key {
             return place;
         }
     }
