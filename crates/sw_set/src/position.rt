@@ -33,7 +33,7 @@ fn place_in<M: CrackerMap>(it: &M, bound: Option<Bound>, absent: usize) -> usize
     place
 }
 
-/// The first place, from one up to below another, whose tail is the key; one of them is.
+/// A place, from one up to below another, whose tail is the key; one of them is.
 fn find_key<M: CrackerMap>(it: &M, key: u64, from: usize, upto: usize) -> usize
     requires within { upto ≤ pairs_in (M.held it.now) }
     requires there { Contains (slice_range (side_in Tail (M.held it.now)) from upto) (pos key) }
