@@ -7,11 +7,13 @@ pub mod Dropped
 pub mod Ends
 pub mod Gathered
 pub mod KeyOrder
+pub mod Longer
 pub mod Looks
 pub mod Needing
 pub mod Noting
 pub mod Picks
 pub mod Placed
+pub mod Positions
 pub mod Ranges
 pub mod Refined
 pub mod Rowed

@@ -4,3 +4,4 @@ pub mod Prepared
 pub mod Codes
 pub mod Choice
 pub mod Slots
+pub mod Position

@@ -10,6 +10,7 @@ mod finding;
 mod making;
 mod needs;
 mod pick;
+mod position;
 mod prepare;
 mod replies;
 #[cfg(test)]
