@@ -13,6 +13,7 @@ pub mod Noting
 pub mod Picks
 pub mod Placed
 pub mod Ranges
+pub mod Receiving
 pub mod Refined
 pub mod Rowed
 pub mod Shelves
