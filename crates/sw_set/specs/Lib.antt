@@ -3,4 +3,5 @@ pub mod Shelf
 pub mod Prepared
 pub mod Codes
 pub mod Choice
+pub mod Live
 pub mod Slots

@@ -7,11 +7,15 @@ mod at_once;
 mod choice;
 mod collect;
 mod finding;
+mod live;
+#[cfg(test)]
+mod live_tests;
 mod making;
 mod needs;
 mod pick;
 mod prepare;
 mod replies;
+mod scanning;
 #[cfg(test)]
 mod slot_tests;
 mod slots;
