@@ -8,7 +8,6 @@ pub mod Ends
 pub mod Gathered
 pub mod KeyOrder
 pub mod LiveLaws
-pub mod LiveScans
 pub mod Looks
 pub mod Needing
 pub mod Noting
