@@ -8,11 +8,13 @@ pub mod Ends
 pub mod Gathered
 pub mod KeyOrder
 pub mod LiveLaws
+pub mod Longer
 pub mod Looks
 pub mod Needing
 pub mod Noting
 pub mod Picks
 pub mod Placed
+pub mod Positions
 pub mod Ranges
 pub mod Receiving
 pub mod Refined

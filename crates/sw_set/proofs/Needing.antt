@@ -31,7 +31,7 @@ mem-attribute (suc (suc (suc (suc (suc (suc zero)))))) l = inr (inr (inr (inr (i
 mem-attribute (suc (suc (suc (suc (suc (suc (suc zero))))))) l = inr (inr (inr (inr (inr (inr (inr (inl refl)))))))
 mem-attribute (suc (suc (suc (suc (suc (suc (suc (suc b)))))))) l = absurd (omega arith)
 
-mem-map : {A B : Type 0} (f : A → B) (xs : List A) (x : A) → Mem x xs → Mem (f x) (map f xs)
+pub mem-map : {A B : Type 0} (f : A → B) (xs : List A) (x : A) → Mem x xs → Mem (f x) (map f xs)
 mem-map f [] x m = absurd m
 mem-map f (y ∷ ys) x (inl e) = inl (ap f e)
 mem-map f (y ∷ ys) x (inr m) = inr (mem-map f ys x m)

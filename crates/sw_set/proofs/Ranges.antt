@@ -81,7 +81,7 @@ clip-upper (Some e) (Some b) v h = by (bound_below b e) refl
     by false p = ap (λ t. is_below (if t then Some b else None) v) p ∙ all e b p h
 
 -- ---- two bounds that a value lies between are in order
-between : (lower upper : Option Bound) (v : ℤ) → is_above lower v ≡ true → is_below upper v ≡ true → is_before lower upper ≡ true
+pub between : (lower upper : Option Bound) (v : ℤ) → is_above lower v ≡ true → is_below upper v ≡ true → is_before lower upper ≡ true
 between None upper v p q = refl
 between (Some b) None v p q = refl
 between (Some (Before x)) (Some (Before y)) v p q = grind (arith, p, q)

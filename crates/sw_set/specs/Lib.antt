@@ -5,3 +5,4 @@ pub mod Codes
 pub mod Choice
 pub mod Live
 pub mod Slots
+pub mod Position

@@ -13,6 +13,7 @@ mod live_tests;
 mod making;
 mod needs;
 mod pick;
+mod position;
 mod prepare;
 mod replies;
 mod scanning;
