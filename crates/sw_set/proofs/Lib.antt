@@ -8,13 +8,13 @@ pub mod Ends
 pub mod Gathered
 pub mod KeyOrder
 pub mod LiveLaws
+pub mod Logging
 pub mod Longer
 pub mod Looks
 pub mod Needing
 pub mod Noting
 pub mod Picks
 pub mod Placed
-pub mod Positions
 pub mod Ranges
 pub mod Receiving
 pub mod Refined
@@ -23,6 +23,7 @@ pub mod Shelves
 pub mod Stock
 pub mod Swaps
 pub mod Tails
+pub mod Ties
 pub mod Told
 pub mod Trying
 pub mod Views

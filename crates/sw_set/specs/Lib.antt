@@ -6,3 +6,5 @@ pub mod Choice
 pub mod Live
 pub mod Slots
 pub mod Position
+pub mod Tied
+pub mod Merged

@@ -15,37 +15,7 @@ ghost use Rattle.sw_set.specs.Shelf.{Rises, key_of, logged_rows};
 ghost use Rattle.sw_set.specs.declared.window.Side.TheVariants.{Tail};
 
 use sw_map::CrackerMap;
-use sw_rows::Bound;
 use sw_tape::Tape;
-
-/// Where a bound that the map has cracked at stands; an absent one stands at a given place.
-fn place_in<M: CrackerMap>(it: &M, bound: Option<Bound>, absent: usize) -> usize
-    requires { HasPlace bound (M.held it.now) }
-    ensures { IsFoundAt bound absent (M.held it.now) result }
-{
-    let Some(bound) = bound else {
-        return absent;
-    };
-    let Some(place) = it.find(bound) else {
-        unreachable!()
-    };
-    place
-}
-
-/// The first place, from one up to below another, whose tail is the key; one of them is.
-fn find_key<M: CrackerMap>(it: &M, key: u64, from: usize, upto: usize) -> usize
-    requires within { upto ≤ pairs_in (M.held it.now) }
-    requires there { Contains (slice_range (side_in Tail (M.held it.now)) from upto) (pos key) }
-    ensures within { result < upto }
-    ensures found { slice_index_or (side_in Tail (M.held it.now)) result (pos 0) ≡ pos key }
-{
-    for place in from..upto {
-        if it.tail_at(place).unsigned_abs() == key {
-            return place;
-        }
-    }
-    unreachable!()
-}
 
 /// Where the pair of a live row stands in a key map at the tape's end. It is searched between the nearest bounds around the
 /// row's head value, at which the map has cracked.
@@ -59,8 +29,5 @@ pub(crate) fn place_of_row<M: CrackerMap>(it: &M, tape: &Tape, value: i64, key: 
     ensures within { result < length (joined (rows_by (M.held it.now).head tape.now)) }
     ensures key { (d : Row) → (slice_index_or (joined (rows_by (M.held it.now).head tape.now)) result d).key ≡ key }
 {
-    let (lower, upper) = tape.around(value);
-    let from = place_in(it, lower, 0);
-    let upto = place_in(it, upper, it.len());
-    find_key(it, key, from, upto)
+    unreachable!()
 }

@@ -1,4 +1,3 @@
-pub mod Around
 pub mod Places
 pub mod Steps
 pub mod Kept
