@@ -7,7 +7,11 @@ pub mod Dropped
 pub mod Ends
 pub mod Gathered
 pub mod KeyOrder
+pub mod LiveFinds
+pub mod LiveFlags
 pub mod LiveLaws
+pub mod LiveScans
+pub mod LiveStandings
 pub mod Logging
 pub mod Longer
 pub mod Looks

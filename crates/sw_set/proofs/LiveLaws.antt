@@ -80,7 +80,7 @@ kept-lacks k fs xs a = lacks-key k (kept fs xs) (lacks-kept k fs xs (lacks-all k
 pub without-lacks : (k : ℕ) (fs : List Bool) (xs : List Row) → All (λ (r : Row). r.key ≢ k) xs → without k (kept fs xs) ≡ kept fs xs
 without-lacks k fs xs a = lacks-without k (kept fs xs) (lacks-kept k fs xs (lacks-all k xs a))
 
-above-at : (n : ℕ) (xs : List Row) (p : ℕ) (d : Row) → AllByRecursion (λ (r : Row). n < key_of r) xs → p < length xs → n < (get_or xs p d).key
+pub above-at : (n : ℕ) (xs : List Row) (p : ℕ) (d : Row) → AllByRecursion (λ (r : Row). n < key_of r) xs → p < length xs → n < (get_or xs p d).key
 above-at n [] p d a lt = absurd (omega (arith, lt))
 above-at n (x ∷ xs) zero d a lt = a.0
 above-at n (x ∷ xs) (suc p) d a lt = above-at n xs p d a.1 (omega (arith, lt))
@@ -118,9 +118,3 @@ module _ (k : ℕ) (d : Row) where
       let other : k == x.key ≡ false = not-same k x.key (λ q. head-other k x xs p d r (omega (arith, lt)) is (sym q)) in
       rw other (kept-has fs xs p (omega (arith, e)) r.1 (omega (arith, lt)) is)
   kept-has (false ∷ fs) (x ∷ xs) (suc p) e r lt is = kept-has fs xs p (omega (arith, e)) r.1 (omega (arith, lt)) is
-
--- a flag that was true is so again after it was turned false and true
-pub restored : (fs : List Bool) (p : ℕ) → get_or fs p false ≡ true → slice_set (slice_set fs p false) p true ≡ fs
-restored [] p e = refl
-restored (b ∷ fs) zero e = ap (λ v. v ∷ fs) (sym e)
-restored (b ∷ fs) (suc p) e = ap (λ v. b ∷ v) (restored fs p e)

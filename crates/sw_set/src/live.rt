@@ -1,6 +1,6 @@
 //! Which rows of a tape are live.
 
-ghost use Rattle.std.specs.Prelude.{◌≡◌, ◌≢◌, ◌-◌, ◌<◌, ◌++◌, ◌∷◌, [], true, false, length, take, replicate, slice_index_or, slice_set, option_to_list, All, IfOk, IsOk, IsOkUnless, MatchOption, MatchResult};
+ghost use Rattle.std.specs.Prelude.{◌≡◌, ◌≢◌, ◌-◌, ◌<◌, ◌++◌, ◌∷◌, [], true, false, length, take, replicate, slice_index_or, slice_set, option_to_list, All, Bool, IfOk, IsOk, IsOkUnless, MatchOption, MatchResult};
 ghost use Rattle.sw_rows.specs.declared.row.Row.{Row};
 ghost use Rattle.sw_rows.specs.declared.refusal.Refusal.TheVariants.{NoMemory};
 ghost use Rattle.sw_rows.specs.Scan.{AsksBelow, TakesMemory, answer};
@@ -50,14 +50,14 @@ pub(crate) struct LiveRows {
 }
 
 impl Model for LiveRows {
-    ghost use Rattle.std.specs.Prelude.{◌≡◌, ◌+◌, count_by, length};
+    ghost use Rattle.std.specs.Prelude.{◌≡◌, filter, length, not};
     ghost use Rattle.sw_set.specs.Live.{Standing};
 
     ghost Value = { Standing };
 
     ghost view = { λ s. record { later = s.later.items; flags = s.flags.items } };
 
-    ghost invariant = { λ s. s.gone + count_by (λ b. b) s.flags.items ≡ length s.flags.items };
+    ghost invariant = { λ s. s.gone ≡ length (filter not s.flags.items) };
 }
 
 impl LiveRows {

@@ -1,6 +1,6 @@
 //! The plain scan over the rows that are live.
 
-ghost use Rattle.std.specs.Prelude.{◌≡◌, ◌<◌, ◌++◌, ◌∷◌, ◌&&◌, [], ℕ, length, map, slice_index_or, All, IfOk, IsOk, IsOkUnless, MatchResult};
+ghost use Rattle.std.specs.Prelude.{◌≡◌, ◌<◌, ◌++◌, ◌∷◌, ◌&&◌, [], ℕ, false, length, map, slice_index_or, All, IfOk, IsOk, IsOkUnless, MatchResult};
 ghost use Rattle.sw_rows.specs.declared.refusal.Refusal.TheVariants.{NoMemory};
 ghost use Rattle.sw_rows.specs.declared.row.Row.{Row};
 ghost use Rattle.sw_rows.specs.Scan.{AsksBelow, CondsBelow, TakesMemory, answer, cell_of, column, greatest, least, matching, meets, meets_all, projected, total};
