@@ -21,6 +21,7 @@ pub mod Needing
 pub mod Noting
 pub mod Picks
 pub mod Placed
+pub mod Positions
 pub mod Ranges
 pub mod Receiving
 pub mod Refined
