@@ -1,6 +1,6 @@
 //! Which rows of a tape are live.
 
-ghost use Rattle.std.specs.Prelude.{◌≡◌, ◌≢◌, ◌-◌, ◌<◌, ◌++◌, ◌∷◌, [], true, false, length, take, replicate, slice_index_or, slice_set, option_to_list, All, Bool, IfOk, IsOk, IsOkUnless, MatchOption, MatchResult};
+ghost use Rattle.std.specs.Prelude.{◌≡◌, ◌≢◌, ◌-◌, ◌<◌, ◌++◌, ◌∷◌, [], true, false, length, take, replicate, slice_index_or, slice_set, option_to_list, All, Bool, Decides, IfOk, IsOk, IsOkUnless, MatchOption, MatchResult};
 ghost use Rattle.sw_rows.specs.declared.row.Row.{Row};
 ghost use Rattle.sw_rows.specs.declared.refusal.Refusal.TheVariants.{NoMemory};
 ghost use Rattle.sw_rows.specs.Scan.{AsksBelow, TakesMemory, answer};
@@ -192,7 +192,7 @@ impl LiveRows {
 
     /// Whether each row is of the load, and live.
     fn is_load(&self) -> bool
-        ensures { result ≡ true → (length self.now.later ≡ 0) × All (λ (b : Bool). b ≡ true) self.now.flags }
+        ensures { Decides result ((length self.now.later ≡ 0) × All (λ (b : Bool). b ≡ true) self.now.flags) }
     {
         self.gone == 0 && self.later.is_empty()
     }

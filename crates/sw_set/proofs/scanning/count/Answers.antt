@@ -1,4 +1,4 @@
-use Rattle.std.proofs.Common.{◌≡◌, ◌∙◌, ◌<◌, ◌++◌, ap, sym, [], length, arith}
+use Rattle.std.proofs.Common.{◌∙◌, ◌<◌, ◌++◌, ap, sym, [], length, arith}
 use Rattle.sw_rows.specs.declared.row.Row.{Row}
 use Rattle.sw_set.proofs.LiveScans.{count-yes, found-no, found-none}
 use Rattle.sw_set.proofs.scanning.count.Goals as goal

@@ -1,4 +1,4 @@
-use Rattle.std.proofs.Common.{◌≡◌, ◌∙◌, ◌<◌, ◌++◌, ap, sym, [], length, map, arith}
+use Rattle.std.proofs.Common.{◌∙◌, ◌<◌, ◌++◌, ap, sym, [], length, map, arith}
 use Rattle.sw_rows.specs.declared.row.Row.{Row}
 use Rattle.sw_rows.specs.Scan.{projected}
 use Rattle.sw_set.proofs.LiveScans.{found-no, found-none, shown-yes}
