@@ -9,6 +9,7 @@ use Rattle.sw_kernel.specs.Replay.{Step}
 use Rattle.sw_kernel.specs.Tapes.{peak_from}
 use Rattle.sw_map.specs.Held.{Held}
 use Rattle.sw_map.specs.Lawful.{IsAligned, IsLawful}
+use Rattle.sw_map.proofs.Replays.{aligned-lawful}
 use Rattle.sw_set.specs.Shelf.{AreSameMaps, AreaState, IsAreaLawful, IsSameMap}
 use Rattle.sw_set.proofs.Boxes.{boxes-kept, get_or-here, lawful-after, lawful-at, own-aligned, same-refl}
 use Rattle.sw_set.proofs.Shelves.{apart-same, area-with, area_of}
@@ -31,6 +32,9 @@ module _ {X : Type 0} (h : X → Held) (s : AreaState) (a : ℕ) (f b : Option �
   module _ (begun : (d : Held) → (get_or s.boxes at d).is_blank ≡ false) (w : IsAreaLawful (area_of a f b inb sp tape (map h xs))) where
     at-begun : (h x).is_blank ≡ false
     at-begun = at-place (λ m. m.is_blank ≡ false) begun
+
+    pub at-head : (h x).head ≡ a
+    at-head = (aligned-lawful a tape (h x) (at-lawful w) at-begun).same_head
 
     pub at-aligned : IsAligned (h x).head tape (h x)
     at-aligned = own-aligned a tape (h x) (at-lawful w) at-begun

@@ -1,5 +1,5 @@
 -- Merging, update by update: the live rows, what came, and what may still be received.
-use Rattle.std.proofs.Common.{◌≡◌, ℕ, zero, suc, ◌+◌, ◌<◌, ◌≤◌, Bool, true, false, nat_lt, false≢true, true≢false, ◌⊎◌, inl, inr, List, [], ◌∷◌, ◌++◌, fold, length, get_or, take, drop, refl, ap, sym, ◌∙◌, arith, subst, All, Any, Option, Some, None, Result, Ok, Err, MatchOption, MatchResult}
+use Rattle.std.proofs.Common.{◌≡◌, ◌≢◌, ℕ, zero, suc, ◌+◌, ◌<◌, ◌≤◌, Bool, true, false, nat_lt, ◌⊎◌, inl, inr, List, [], ◌∷◌, ◌++◌, fold, length, get_or, take, drop, refl, ap, sym, ◌∙◌, arith, subst, All, Any, Option, Some, None, Result, Ok, Err, MatchOption, MatchResult}
 use Rattle.std.proofs.lemmas.List.{append-nil, drop_all, drop_more, take_all, take_more}
 use Rattle.std.proofs.lemmas.List.Elements.{All-append}
 use Rattle.std.proofs.lemmas.List.Sums.{fold-append}
@@ -12,7 +12,7 @@ use Rattle.sw_kernel.specs.Tapes.{brought, peak_from}
 use Rattle.sw_map.specs.declared.tail.Tail.TheVariants.{Key}
 use Rattle.sw_map.specs.Held.{Held}
 use Rattle.sw_set.specs.Merged.{AreMerged, IsAllMerged, IsMerged, IsMergedUpTo, IsPartlyMerged, IsSameShell, IsStoppedAt, LacksKeys, StandsForSame, without_inbox}
-use Rattle.sw_set.specs.Prepared.{IsReady}
+use Rattle.sw_set.specs.Prepared.{IsReady, IsSameButBoxes}
 use Rattle.sw_set.specs.Shelf.{AreApart, AreReceivable, AreSameMaps, AreaState, MayReceive, came_then, logged_rows}
 use Rattle.sw_set.proofs.Boxes.{same-refl}
 use Rattle.sw_set.proofs.Longer.{all-without, brought-inserted, brought-removed, logged-all, logged-inserted, logged-removed}
@@ -33,8 +33,16 @@ keys-behind x at apart lt own behind =
     let all = all-own x.boxes at Key (λ (m : Held). m.cursor < length x.tape) apart lt own behind in
     λ k d l ready. let b = all k d l ready.begun ready.tail_is in let e = ready.at_end in absurd (omega (arith, b, e))
 
+-- a key map that was stepped to the end
+pub keys-ready : (x m : AreaState) (at : ℕ) → IsSameButBoxes x m → AreSameMaps x.boxes m.boxes → at < length x.boxes → IsOwn Key x.boxes at → ((d : Held) → (get_or m.boxes at d).cursor ≡ length x.tape) → (at < length m.boxes) × ((d : Held) → IsReady Key m.tape (get_or m.boxes at d))
+keys-ready x m at p maps lt own ends =
+    let many = maps.many in (
+      omega (arith, many, lt),
+      λ d. let one = maps.each at d d lt in record { begun = one.blank ∙ (own d).0; tail_is = one.tail ∙ (own d).1; at_end = ends d ∙ sym (ap length p.tape) },
+    )
+
 -- ---- one update
-logged-at : (a b : ℕ) (t u : List (Step Row)) → b ≡ a → u ≡ t → logged_rows b u ≡ logged_rows a t
+pub logged-at : (a b : ℕ) (t u : List (Step Row)) → b ≡ a → u ≡ t → logged_rows b u ≡ logged_rows a t
 logged-at a b t u e f = ap (λ (n : ℕ). logged_rows n u) e ∙ ap (logged_rows a) f
 
 full-or-not : {P : Type 0} (n : ℕ) → n ≤ 4096 → (n < 4096 → P) → (n ≡ 4096 → P) → P

@@ -63,14 +63,6 @@ pub has-without : (k j : ℕ) (rows : List Row) → has_key k (without j rows) �
 has-without k j [] = refl
 has-without k j (x ∷ rows) = by (x.key == j) (k == x.key) (j == k) refl refl refl (has-without k j rows)
   where
-    by : (s t u : Bool) → x.key == j ≡ s → k == x.key ≡ t → j == k ≡ u → has_key k (without j rows) ≡ has_key k rows && not (j == k) → has_key k (without j (x ∷ rows)) ≡ has_key k (x ∷ rows) && not (j == k)
-    by true true true p q r rest = rw (p, q, r) (rest ∙ rw r (and-false (has_key k rows)))
-    by true true false p q r rest = absurd (clash x.key j k p q r)
-    by true false u p q r rest = rw (p, q) rest
-    by false true true p q r rest = absurd (clash' x.key j k p q r)
-    by false true false p q r rest = rw (p, q, r) refl
-    by false false u p q r rest = rw (p, q) rest
-
     and-false : (b : Bool) → b && false ≡ false
     and-false true = refl
     and-false false = refl
@@ -80,3 +72,11 @@ has-without k j (x ∷ rows) = by (x.key == j) (k == x.key) (j == k) refl refl r
 
     clash' : (n j k : ℕ) → n == j ≡ false → k == n ≡ true → j == k ≡ true → ⊥
     clash' n j k p q r = grind (arith, nat_tests, p, q, r)
+
+    by : (s t u : Bool) → x.key == j ≡ s → k == x.key ≡ t → j == k ≡ u → has_key k (without j rows) ≡ has_key k rows && not (j == k) → has_key k (without j (x ∷ rows)) ≡ has_key k (x ∷ rows) && not (j == k)
+    by true true true p q r rest = rw (p, q, r) (rest ∙ rw r (and-false (has_key k rows)))
+    by true true false p q r rest = absurd (clash x.key j k p q r)
+    by true false u p q r rest = rw (p, q) rest
+    by false true true p q r rest = absurd (clash' x.key j k p q r)
+    by false true false p q r rest = rw (p, q, r) refl
+    by false false u p q r rest = rw (p, q) rest

@@ -1,31 +1,25 @@
-use Rattle.std.proofs.Common.{rules, ◌≡◌, ◌≢◌, ◌<◌, ◌≤◌, ◌+◌, ◌-◌, ◌^◌, ◌∷◌, ◌++◌, [], true, false, ℕ, List, length, map, pos, All, Any, Contains, IfOk, IsOk, IsOkUnless, MatchOption, MatchResult, None, Some, remove, slice_index_or, slice_set, vec_capacity, vec_len, ◌*◌, ◌/◌, ◌%◌, Bool, nat_eq, nat_lt, bit_and, bit_or, Fits, w8, w32, w64, Bor, MutBor}
+use Rattle.std.proofs.Common.{◌≡◌, ◌++◌, Bool, true, false, true≢false, List, get_or, slice_set, [], ap, sym, ◌∙◌}
+use Rattle.std.proofs.lemmas.List.{append-nil}
 use Rattle.sw_rows.specs.declared.row.Row.{Row}
-use Rattle.sw_rows.specs.declared.row.Update.TheVariants.{Insert, Remove}
-use Rattle.sw_rows.specs.declared.refusal.Refusal.TheVariants.{NoMemory}
-use Rattle.sw_rows.specs.Updates.{has_key, rows_then, without}
-use Rattle.sw_rows.specs.Scan.{AsksBelow, TakesMemory, answer}
-use Rattle.sw_kernel.specs.Arrangement.{joined}
-use Rattle.sw_kernel.specs.Replay.{Step, inserted, loaded, ranged, removed}
-use Rattle.sw_map.specs.declared.tail.Tail.TheVariants.{Key}
-use Rattle.sw_kernel.specs.Tapes.{brought, peak_from}
-use Rattle.sw_map.specs.Held.{Held, blank, begun, pairs_in, place_of}
-use Rattle.sw_map.specs.Lawful.{rows_by}
-use Rattle.sw_map.specs.Refusals.{IsBeginRefusal}
-use Rattle.sw_set.specs.Live.{IsStanding, live_among}
-use Rattle.sw_set.specs.Merged.{IsBegunAnew, IsSameShell}
-use Rattle.sw_set.specs.Prepared.{IsCleared, IsFreshBut, IsOneCleared, IsPreparedFor, IsReady, IsSameButBoxes, IsShed, IsSpare, stands_if}
-use Rattle.sw_set.specs.Shelf.{AreReceivable, AreSameMaps, AreaState, HasRoomWhereNeeded, IsAreaLawful, IsAtEnd, IsSameArea, MayReceive, Rises, came_in, first_rows, key_of, lies_within, logged_rows, rows_in}
-use Rattle.sw_set.specs.Needs.{head_in}
+use Rattle.sw_set.specs.Live.{Standing, live_among}
+use Rattle.sw_set.proofs.LiveLaws.{kept-has, kept-lacks, kept-removed, restored}
+use Rattle.sw_set.proofs.Told.{weaker}
 use Rattle.sw_set.proofs.area.rows_without.Goals as goal
 
--- src/area.rt:667:9
 pub unreachable-requires : goal.unreachable-requires
-unreachable-requires c = ?
+unreachable-requires c =
+    let s = c.args.live.now in
+    absurd (true≢false (sym c.requires.live ∙ kept-lacks c.args.key s.flags (c.args.load.now ++ s.later) c.in_default.ensures))
 
--- src/area.rt:655:1
 pub returns-clause-same : goal.returns-clause-same
-returns-clause-same c = ?
+returns-clause-same c =
+    let s = c.args.live.now in
+    let none : Row = record { key = 0; cells = [] } in
+    let on : get_or s.flags c.in-Some.place false ≡ true = sym (kept-has c.args.key none s.flags (c.args.load.now ++ s.later) c.in-Some.place c.requires.standing.many c.requires.standing.rise c.in-Some.ensures.0 (c.in-Some.ensures.1 none)) ∙ c.requires.live in
+    c.restore.ensures ∙ ap (λ (v : Standing). record v { flags = slice_set v.flags c.in-Some.place true }) c.remove.ensures ∙ ap (λ (fs : List Bool). record s { flags = fs }) (restored s.flags c.in-Some.place on)
 
--- src/area.rt:655:1
 pub returns-clause-ends : goal.returns-clause-ends
-returns-clause-ends c = ?
+returns-clause-ends c =
+    let s = c.args.live.now in
+    let none : Row = record { key = 0; cells = [] } in
+    weaker _ _ _ _ (λ rows are. are ∙ append-nil (live_among c.args.load.now c.remove.new.self) ∙ ap (live_among c.args.load.now) c.remove.ensures ∙ kept-removed c.args.key none s.flags (c.args.load.now ++ s.later) c.in-Some.place c.requires.standing.many c.requires.standing.rise c.in-Some.ensures.0 (c.in-Some.ensures.1 none)) c.copied-rows.ensures

@@ -1,22 +1,18 @@
-use Rattle.std.proofs.Common.{rules, ◌≡◌, ◌≢◌, ◌<◌, ◌≤◌, ◌+◌, ◌-◌, ◌^◌, ◌∷◌, ◌++◌, [], true, false, ℕ, List, length, map, pos, All, Any, Contains, IfOk, IsOk, IsOkUnless, MatchOption, MatchResult, None, Some, remove, slice_index_or, slice_set, vec_capacity, vec_len, ◌*◌, ◌/◌, ◌%◌, Bool, nat_eq, nat_lt, bit_and, bit_or, Fits, w8, w32, w64, Bor, MutBor}
-use Rattle.sw_rows.specs.declared.row.Row.{Row}
-use Rattle.sw_rows.specs.declared.row.Update.TheVariants.{Insert, Remove}
-use Rattle.sw_rows.specs.declared.refusal.Refusal.TheVariants.{NoMemory}
-use Rattle.sw_rows.specs.Updates.{has_key, rows_then, without}
-use Rattle.sw_rows.specs.Scan.{AsksBelow, TakesMemory, answer}
-use Rattle.sw_kernel.specs.Arrangement.{joined}
-use Rattle.sw_kernel.specs.Replay.{Step, inserted, loaded, ranged, removed}
-use Rattle.sw_map.specs.declared.tail.Tail.TheVariants.{Key}
-use Rattle.sw_kernel.specs.Tapes.{brought, peak_from}
-use Rattle.sw_map.specs.Held.{Held, blank, begun, pairs_in, place_of}
-use Rattle.sw_map.specs.Lawful.{rows_by}
-use Rattle.sw_map.specs.Refusals.{IsBeginRefusal}
-use Rattle.sw_set.specs.Live.{IsStanding, live_among}
-use Rattle.sw_set.specs.Merged.{IsBegunAnew, IsSameShell}
-use Rattle.sw_set.specs.Prepared.{IsCleared, IsFreshBut, IsOneCleared, IsPreparedFor, IsReady, IsSameButBoxes, IsShed, IsSpare, stands_if}
-use Rattle.sw_set.specs.Shelf.{AreReceivable, AreSameMaps, AreaState, HasRoomWhereNeeded, IsAreaLawful, IsAtEnd, IsSameArea, MayReceive, Rises, came_in, first_rows, key_of, lies_within, logged_rows, rows_in}
-use Rattle.sw_set.specs.Needs.{head_in}
+use Rattle.std.proofs.Common.{◌≡◌, ◌<◌, [], length, map, ap, sym, ◌∙◌, subst}
+use Rattle.sw_rows.specs.declared.row.Update.TheVariants.{Insert}
+use Rattle.sw_kernel.specs.Tapes.{brought}
+use Rattle.sw_set.specs.Shelf.{AreaState, MayReceive, logged_rows}
+use Rattle.sw_set.proofs.Logging.{area-inserted}
+use Rattle.sw_set.proofs.Ties.{tied-inserted}
 use Rattle.sw_set.proofs.area.Area.log_insertion.Goals as goal
 
 pub invariant_of-self-in_default : goal.invariant_of-self-in_default
-invariant_of-self-in_default g c = ?
+invariant_of-self-in_default g c =
+    let s = c.self.inside in
+    let none : s.inbox.items ≡ [] = ap (λ (v : AreaState). v.inbox) c.self.view_is ∙ c.requires.received in
+    let room : length s.tape < 4096 = subst (λ (v : AreaState). length v.tape < 4096) (sym c.self.view_is) c.requires.room in
+    let may : MayReceive s.attribute s.from s.below (brought s.tape) (logged_rows s.attribute s.tape) (Insert c.args.row) = subst (λ (v : AreaState). MayReceive v.attribute v.from v.below (brought v.tape) (logged_rows v.attribute v.tape) (Insert c.args.row)) (sym c.self.view_is) c.requires.may in (
+      rw c.in_default.ensures.ok (area-inserted s.attribute s.from s.below s.inbox.items _ s.tape (map g.M.CrackerMap.held s.boxes.items) c.args.row none room may c.self.invariant.0),
+      c.self.invariant.1,
+      rw (c.in_default.ensures.ok, c.in_ok-push.ensures) (tied-inserted s.attribute s.tape s.live c.args.row c.self.invariant.0.tape c.self.invariant.2),
+    )
