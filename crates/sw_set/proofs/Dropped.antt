@@ -66,24 +66,24 @@ pub map-removed : {A B : Type 0} (f : A → B) (xs : List A) (i : ℕ) → map f
 map-removed f xs i =
     let t = map-take f i xs in let d = map-drop f (suc i) xs in let a = map-append f (take i xs) (drop (suc i) xs) in cc
 
-pub area-removed : {X : Type 0} (h : X → Held) (a : ℕ) (f b : Option ℤ) (inb : List Update) (tape : List (Step Row)) (xs : List X) (i : ℕ) → i < length xs → IsAreaLawful (area_of a f b inb tape (map h xs)) → IsAreaLawful (area_of a f b inb tape (map h (remove xs i)))
-area-removed h a f b inb tape xs i lt w =
+pub area-removed : {X : Type 0} (h : X → Held) (a : ℕ) (f b : Option ℤ) (inb : List Update) (sp : ℕ) (tape : List (Step Row)) (xs : List X) (i : ℕ) → i < length xs → IsAreaLawful (area_of a f b inb sp tape (map h xs)) → IsAreaLawful (area_of a f b inb sp tape (map h (remove xs i)))
+area-removed h a f b inb sp tape xs i lt w =
     let many = length-map xs h in
     let lm : i < length (map h xs) = omega (arith, lt, many) in
-    area-with a f b inb tape (map h xs) (map h (remove xs i))
+    area-with a f b inb sp tape (map h xs) (map h (remove xs i))
     (subst (λ (v : List Held). All (IsLawful a tape) v) (sym (map-removed h xs i)) (all-removed (IsLawful a tape) (map h xs) i lm w.boxes))
     (subst AreApart (sym (map-removed h xs i)) (apart-removed (map h xs) i lm w.apart)) w
 
-pub view-removed : {X : Type 0} (h : X → Held) (s : AreaState) (a : ℕ) (f b : Option ℤ) (inb : List Update) (tape : List (Step Row)) (xs : List X) (i : ℕ) → area_of a f b inb tape (map h xs) ≡ s → area_of a f b inb tape (map h (remove xs i)) ≡ record s { boxes = remove s.boxes i }
-view-removed h s a f b inb tape xs i is =
-    ap (area_of a f b inb tape) (map-removed h xs i) ∙ ap (λ (v : AreaState). record v { boxes = remove v.boxes i }) is
+pub view-removed : {X : Type 0} (h : X → Held) (s : AreaState) (a : ℕ) (f b : Option ℤ) (inb : List Update) (sp : ℕ) (tape : List (Step Row)) (xs : List X) (i : ℕ) → area_of a f b inb sp tape (map h xs) ≡ s → area_of a f b inb sp tape (map h (remove xs i)) ≡ record s { boxes = remove s.boxes i }
+view-removed h s a f b inb sp tape xs i is =
+    ap (area_of a f b inb sp tape) (map-removed h xs i) ∙ ap (λ (v : AreaState). record v { boxes = remove v.boxes i }) is
 
 -- ---- one box after another
 self-contained : {X : Type 0} (xs : List X) → All (λ x. Contains xs x) xs
 self-contained xs k d lt = Contains-get_or xs k d lt
 
 pub shed-none : (most : ℕ) (x : AreaState) → IsShed most x x 0
-shed-none most x = record { attribute = refl; from = refl; below = refl; inbox = refl; tape = refl; many = omega arith; few = omega arith; left = self-contained x.boxes }
+shed-none most x = record { attribute = refl; from = refl; below = refl; inbox = refl; spare = refl; tape = refl; many = omega arith; few = omega arith; left = self-contained x.boxes }
 
 pub shed-more : (most : ℕ) (x y z : AreaState) (gone i : ℕ) → gone < most → i < length y.boxes → z ≡ record y { boxes = remove y.boxes i } → IsShed most x y gone → IsShed most x z (gone + 1)
 shed-more most x y z gone i lt li is w = subst (λ (v : AreaState). IsShed most x v (gone + 1)) (sym is) (record {
@@ -91,6 +91,7 @@ shed-more most x y z gone i lt li is w = subst (λ (v : AreaState). IsShed most 
   from = w.from;
   below = w.below;
   inbox = w.inbox;
+  spare = w.spare;
   tape = w.tape;
   many = let n = length-remove y.boxes i li in let m = w.many in omega (arith, n, m);
   few = omega (arith, lt);

@@ -11,8 +11,9 @@ use Rattle.sw_kernel.specs.Replay.{Step, loaded, inserted, removed, ranged}
 use Rattle.sw_kernel.specs.Tapes.{brought, brought_by, count_after, peak_from}
 use Rattle.sw_map.specs.Held.{KeysFit}
 use Rattle.sw_set.specs.Shelf.{AreaState, IsAreaLawful, IsSameArea, Rises, key_of}
-use Rattle.sw_set.specs.Prepared.{IsNoted, stands_if}
-use Rattle.sw_set.proofs.Shelves.{logged-ranged}
+use Rattle.sw_set.specs.Prepared.{IsNoted, IsSameButBoxes, stands_if}
+use Rattle.sw_set.proofs.Receiving.{IsBelow, brings-less}
+use Rattle.sw_set.proofs.Shelves.{brought-ranged, logged-ranged}
 
 -- ---- how many pairs
 count-brought : {A : Type 0} (n : ℕ) (e : Step A) → count_after n e ≤ n + length (brought_by e)
@@ -58,13 +59,35 @@ peak-few x w =
 
 -- ---- one more range
 pub same-area : (x : AreaState) → IsSameArea x x
-same-area x = record { attribute = refl; from = refl; below = refl; inbox = refl; logged = refl; many = refl }
+same-area x = record { attribute = refl; from = refl; below = refl; inbox = refl; spare = refl; logged = refl; many = refl; brings = λ n h. h }
 
 pub same-trans : (x y z : AreaState) → IsSameArea x y → IsSameArea y z → IsSameArea x z
-same-trans x y z p q = record { attribute = q.attribute ∙ p.attribute; from = q.from ∙ p.from; below = q.below ∙ p.below; inbox = q.inbox ∙ p.inbox; logged = q.logged ∙ p.logged; many = q.many ∙ p.many }
+same-trans x y z p q = record { attribute = q.attribute ∙ p.attribute; from = q.from ∙ p.from; below = q.below ∙ p.below; inbox = q.inbox ∙ p.inbox; spare = q.spare ∙ p.spare; logged = q.logged ∙ p.logged; many = q.many ∙ p.many; brings = λ n h. q.brings n (p.brings n h) }
+
+-- an area whose boxes alone changed
+pub same-tape : (x y : AreaState) → IsSameButBoxes x y → IsSameArea x y
+same-tape x y p = record {
+  attribute = p.attribute;
+  from = p.from;
+  below = p.below;
+  inbox = p.inbox;
+  spare = p.spare;
+  logged = rw (p.attribute, p.tape) refl;
+  many = p.many;
+  brings = brings-less x y p.inbox (λ n h. subst (λ (t : List (Step Row)). IsBelow n (brought t)) (sym p.tape) h);
+}
 
 pub same-logged : {U : Type 0} (r : Result U Refusal) (lower upper : Option Bound) (x y : AreaState) → MatchResult r (λ _. y ≡ record x { tape = x.tape ++ ranged lower upper ∷ [] }) (λ e. (y ≡ x) × (e ≡ NoMemory)) → IsSameArea x y
-same-logged (Ok u) lower upper x y is = subst (IsSameArea x) (sym is) (record { attribute = refl; from = refl; below = refl; inbox = refl; logged = logged-ranged x.attribute x.tape lower upper; many = refl })
+same-logged (Ok u) lower upper x y is = subst (IsSameArea x) (sym is) (record {
+  attribute = refl;
+  from = refl;
+  below = refl;
+  inbox = refl;
+  spare = refl;
+  logged = logged-ranged x.attribute x.tape lower upper;
+  many = refl;
+  brings = brings-less x (record x { tape = x.tape ++ ranged lower upper ∷ [] }) refl (λ n h. subst (IsBelow n) (sym (brought-ranged x.tape lower upper)) h);
+})
 same-logged (Err e) lower upper x y is = subst (IsSameArea x) (sym is.0) (same-area x)
 
 pub noted-stood : (lower upper : Option Bound) (rows : List Row) (tape : List (Step Row)) → stands_if lower tape && stands_if upper tape ≡ true → IsNoted lower upper rows tape tape

@@ -1,12 +1,13 @@
 -- What single changes leave of a lawful area.
-use Rattle.std.proofs.Common.{◌≡◌, ◌≢◌, ℕ, zero, suc, ◌<◌, ◌^◌, ℤ, true, false, true≢false, List, [], ◌∷◌, ◌++◌, length, get_or, set, map, take, drop, refl, ap, sym, ◌∙◌, arith, subst, All, Option, Result, Ok, Err, MatchResult, OnOk, OnErr}
-use Rattle.std.proofs.lemmas.List.{map-set, map-append, length-append}
+use Rattle.std.proofs.Common.{◌≡◌, ◌≢◌, ℕ, zero, suc, ◌<◌, ◌^◌, ℤ, true, false, true≢false, List, [], ◌∷◌, ◌++◌, fold, length, get_or, set, map, take, drop, refl, ap, sym, ◌∙◌, arith, subst, All, Option, Result, Ok, Err, MatchResult, OnOk, OnErr}
+use Rattle.std.proofs.lemmas.List.{length-map, map-set, map-append, length-append}
 use Rattle.std.proofs.lemmas.List.Elements.{All-set, All-append}
 use Rattle.sw_rows.specs.declared.bound.Bound.{Bound}
 use Rattle.sw_rows.specs.declared.row.Row.{Row}
 use Rattle.sw_rows.specs.declared.row.Update.{Update}
 use Rattle.sw_rows.specs.declared.refusal.Refusal.{Refusal}
 use Rattle.sw_rows.specs.Scan.{cell_of}
+use Rattle.sw_rows.specs.Updates.{rows_then}
 use Rattle.sw_kernel.specs.Arrangement.{Arrangement, last, joined}
 use Rattle.sw_kernel.specs.Replay.{Step, loaded, ranged, step, replay_from}
 use Rattle.sw_kernel.specs.Tapes.{IsTape, brought, brought_by, live_from, live_after}
@@ -16,12 +17,14 @@ use Rattle.sw_map.specs.Held.{Held, blank, begun, KeysFit}
 use Rattle.sw_map.specs.Lawful.{IsLawful}
 use Rattle.sw_map.specs.Refusals.{IsBeginRefusal}
 use Rattle.sw_map.proofs.Replays.{lawful-longer, lawful-blank, lawful-aligned, begun-aligned}
-use Rattle.sw_set.specs.Shelf.{AreaState, AreApart, AreSameMaps, IsAreaLawful, Rises, first_rows, key_of, lies_within, logged_rows}
+use Rattle.sw_set.specs.Shelf.{AreaState, AreApart, AreReceivable, AreSameMaps, IsAreaLawful, Rises, came_then, first_rows, key_of, lies_within, logged_rows}
 use Rattle.sw_set.specs.Prepared.{IsFreshBut}
-use Rattle.sw_set.proofs.Boxes.{set-each}
+use Rattle.sw_set.specs.Merged.{IsBegunAnew, IsSameShell}
+use Rattle.sw_set.proofs.Boxes.{held-all, set-each}
+use Rattle.sw_set.proofs.Receiving.{IsBelow, all-one, receivable-append, receivable-less}
 
-abbrev pub area_of : ℕ → Option ℤ → Option ℤ → List Update → List (Step Row) → List Held → AreaState
-area_of a f b inb tape ms = record { attribute = a; from = f; below = b; inbox = inb; tape = tape; boxes = ms }
+abbrev pub area_of : ℕ → Option ℤ → Option ℤ → List Update → ℕ → List (Step Row) → List Held → AreaState
+area_of a f b inb sp tape ms = record { attribute = a; from = f; below = b; inbox = inb; spare = sp; tape = tape; boxes = ms }
 
 -- ---- the rows of a tape with one more range
 live-more : {A : Type 0} (value : A → ℤ) (key : A → ℕ) (es : List (Step A)) (e : Step A) (a : Arrangement A) (rows : List A) → live_from value key a (es ++ e ∷ []) rows ≡ live_after key (joined (replay_from value a es)) e (live_from value key a es rows)
@@ -31,7 +34,7 @@ live-more value key (x ∷ es) e a rows = live-more value key es e (step value x
 pub logged-ranged : (a : ℕ) (tape : List (Step Row)) (lower upper : Option Bound) → logged_rows a (tape ++ ranged lower upper ∷ []) ≡ logged_rows a tape
 logged-ranged a tape lower upper = live-more (cell_of a) key_of tape (ranged lower upper) (last []) []
 
-brought-ranged : (tape : List (Step Row)) (lower upper : Option Bound) → brought (tape ++ ranged lower upper ∷ []) ≡ brought tape
+pub brought-ranged : (tape : List (Step Row)) (lower upper : Option Bound) → brought (tape ++ ranged lower upper ∷ []) ≡ brought tape
 brought-ranged [] lower upper = refl
 brought-ranged (e ∷ es) lower upper = ap (λ v. brought_by e ++ v) (brought-ranged es lower upper)
 
@@ -39,24 +42,21 @@ pub first-ranged : (tape : List (Step Row)) (lower upper : Option Bound) → IsT
 first-ranged [] lower upper t = absurd t
 first-ranged (e ∷ es) lower upper t = refl
 
-All-one : {X : Type 0} (P : X → Type 0) (x : X) → P x → All P (x ∷ [])
-All-one P x px zero d lt = px
-All-one P x px (suc k) d lt = absurd (omega arith)
-
-pub area-logged : (a : ℕ) (f b : Option ℤ) (inb : List Update) (tape : List (Step Row)) (ms : List Held) (lower upper : Option Bound) → length tape < 4096 → IsAreaLawful (area_of a f b inb tape ms) → IsAreaLawful (area_of a f b inb (tape ++ ranged lower upper ∷ []) ms)
-area-logged a f b inb tape ms lower upper room w =
+pub area-logged : (a : ℕ) (f b : Option ℤ) (inb : List Update) (sp : ℕ) (tape : List (Step Row)) (ms : List Held) (lower upper : Option Bound) → length tape < 4096 → IsAreaLawful (area_of a f b inb sp tape ms) → IsAreaLawful (area_of a f b inb sp (tape ++ ranged lower upper ∷ []) ms)
+area-logged a f b inb sp tape ms lower upper room w =
     let same = logged-ranged a tape lower upper in
     record {
       attribute = w.attribute;
       tape = tape-push tape (ranged lower upper) w.tape tt;
       short = let n = length-append tape (ranged lower upper ∷ []) in omega arith;
-      keys = All-append (λ (e : Step Row). KeysFit e) tape (ranged lower upper ∷ []) w.keys (All-one (λ (e : Step Row). KeysFit e) (ranged lower upper) (λ k d lt. let no : k < 0 = lt in absurd (omega arith)));
+      keys = All-append (λ (e : Step Row). KeysFit e) tape (ranged lower upper ∷ []) w.keys (all-one (λ (e : Step Row). KeysFit e) (ranged lower upper) (λ k d lt. let no : k < 0 = lt in absurd (omega arith)));
       brought_rise = subst (Rises key_of) (sym (brought-ranged tape lower upper)) w.brought_rise;
       rows_rise = subst (Rises key_of) (sym same) w.rows_rise;
       rows_fit = subst (λ (v : List Row). All (λ (r : Row). r.key < 2 ^ 63) v) (sym same) w.rows_fit;
       within = subst (λ (v : List Row). All (λ (r : Row). lies_within a f b r ≡ true) v) (sym same) w.within;
       boxes = λ k d lt. lawful-longer a tape (ranged lower upper ∷ []) _ (w.boxes k d lt);
       apart = w.apart;
+      receivable = rw (brought-ranged tape lower upper, same) w.receivable;
     }
 
 -- ---- boxes
@@ -96,8 +96,8 @@ apart-more ms m b apart = λ i j d e li lj ne bi bj eq.
     apart i j d e pi.0 pj.0 ne (sym (ap (λ (x : Held). x.is_blank) pi.1) ∙ bi) (sym (ap (λ (x : Held). x.is_blank) pj.1) ∙ bj) (sym (ap (λ (x : Held). x.tail) pi.1) ∙ eq ∙ ap (λ (x : Held). x.tail) pj.1)
 
 -- the same area with other boxes
-pub area-with : (a : ℕ) (f b : Option ℤ) (inb : List Update) (tape : List (Step Row)) (ms ns : List Held) → All (IsLawful a tape) ns → AreApart ns → IsAreaLawful (area_of a f b inb tape ms) → IsAreaLawful (area_of a f b inb tape ns)
-area-with a f b inb tape ms ns law apart w = record {
+pub area-with : (a : ℕ) (f b : Option ℤ) (inb : List Update) (sp : ℕ) (tape : List (Step Row)) (ms ns : List Held) → All (IsLawful a tape) ns → AreApart ns → IsAreaLawful (area_of a f b inb sp tape ms) → IsAreaLawful (area_of a f b inb sp tape ns)
+area-with a f b inb sp tape ms ns law apart w = record {
   attribute = w.attribute;
   tape = w.tape;
   short = w.short;
@@ -108,19 +108,20 @@ area-with a f b inb tape ms ns law apart w = record {
   within = w.within;
   boxes = law;
   apart = apart;
+  receivable = w.receivable;
 }
 
-pub area-set : {X : Type 0} (h : X → Held) (a : ℕ) (f b : Option ℤ) (inb : List Update) (tape : List (Step Row)) (xs : List X) (i : ℕ) (y : X) → IsLawful a tape (h y) → ((h y).is_blank ≡ false → IsFreshBut i (h y).tail (map h xs)) → IsAreaLawful (area_of a f b inb tape (map h xs)) → IsAreaLawful (area_of a f b inb tape (map h (set xs i y)))
-area-set h a f b inb tape xs i y law fresh w =
-    area-with a f b inb tape (map h xs) (map h (set xs i y))
+pub area-set : {X : Type 0} (h : X → Held) (a : ℕ) (f b : Option ℤ) (inb : List Update) (sp : ℕ) (tape : List (Step Row)) (xs : List X) (i : ℕ) (y : X) → IsLawful a tape (h y) → ((h y).is_blank ≡ false → IsFreshBut i (h y).tail (map h xs)) → IsAreaLawful (area_of a f b inb sp tape (map h xs)) → IsAreaLawful (area_of a f b inb sp tape (map h (set xs i y)))
+area-set h a f b inb sp tape xs i y law fresh w =
+    area-with a f b inb sp tape (map h xs) (map h (set xs i y))
     (subst (λ (v : List Held). All (IsLawful a tape) v) (sym (map-set h xs i y)) (All-set (IsLawful a tape) (map h xs) i (h y) law w.boxes))
     (subst AreApart (sym (map-set h xs i y)) (apart-set (map h xs) i (h y) w.apart fresh)) w
 
-pub area-more : {X : Type 0} (h : X → Held) (a : ℕ) (f b : Option ℤ) (inb : List Update) (tape : List (Step Row)) (xs : List X) (y : X) → h y ≡ blank → IsAreaLawful (area_of a f b inb tape (map h xs)) → IsAreaLawful (area_of a f b inb tape (map h (xs ++ y ∷ [])))
-area-more h a f b inb tape xs y is w =
+pub area-more : {X : Type 0} (h : X → Held) (a : ℕ) (f b : Option ℤ) (inb : List Update) (sp : ℕ) (tape : List (Step Row)) (xs : List X) (y : X) → h y ≡ blank → IsAreaLawful (area_of a f b inb sp tape (map h xs)) → IsAreaLawful (area_of a f b inb sp tape (map h (xs ++ y ∷ [])))
+area-more h a f b inb sp tape xs y is w =
     let more : map h (xs ++ y ∷ []) ≡ map h xs ++ blank ∷ [] = map-append h xs (y ∷ []) ∙ ap (λ (m : Held). map h xs ++ m ∷ []) is in
-    area-with a f b inb tape (map h xs) (map h (xs ++ y ∷ []))
-    (subst (λ (v : List Held). All (IsLawful a tape) v) (sym more) (All-append (IsLawful a tape) (map h xs) (blank ∷ []) w.boxes (All-one (IsLawful a tape) blank (lawful-blank a tape))))
+    area-with a f b inb sp tape (map h xs) (map h (xs ++ y ∷ []))
+    (subst (λ (v : List Held). All (IsLawful a tape) v) (sym more) (All-append (IsLawful a tape) (map h xs) (blank ∷ []) w.boxes (all-one (IsLawful a tape) blank (lawful-blank a tape))))
     (subst AreApart (sym more) (apart-more (map h xs) blank refl w.apart)) w
 
 pub lawful-of_blank : (a : ℕ) (tape : List (Step Row)) (m : Held) → m ≡ blank → IsLawful a tape m
@@ -129,50 +130,77 @@ lawful-of_blank a tape m e = subst (IsLawful a tape) (sym e) (lawful-blank a tap
 pub lawful-of_begun : (a : ℕ) (tape : List (Step Row)) (t : Tail) (n : ℕ) (m : Held) → m ≡ begun a t n → IsLawful a tape m
 lawful-of_begun a tape t n m e = subst (IsLawful a tape) (sym e) (lawful-aligned a tape _ (begun-aligned a tape t n))
 
--- the tape begun anew, all boxes blank
-pub area-restarted : (a : ℕ) (f b : Option ℤ) (inb : List Update) (tape : List (Step Row)) (ms ns : List Held) → All (λ m. m ≡ blank) ns → IsAreaLawful (area_of a f b inb tape ms) → IsAreaLawful (area_of a f b inb (loaded (logged_rows a tape) ∷ []) ns)
-area-restarted a f b inb tape ms ns blanks w = record {
-  attribute = w.attribute;
-  tape = tt;
-  short = omega arith;
-  keys = All-one (λ (e : Step Row). KeysFit e) (loaded (logged_rows a tape)) w.rows_fit;
-  brought_rise = subst (Rises key_of) (sym (append-none (logged_rows a tape))) w.rows_rise;
-  rows_rise = w.rows_rise;
-  rows_fit = w.rows_fit;
-  within = w.within;
-  boxes = λ k d lt. lawful-of_blank a (loaded (logged_rows a tape) ∷ []) _ (blanks k d lt);
-  apart = apart-blank ns blanks;
-}
-  where
-    append-none : (rows : List Row) → rows ++ [] ≡ rows
-    append-none [] = refl
-    append-none (r ∷ rs) = ap (λ t. r ∷ t) (append-none rs)
+-- the tape begun anew with rows, all boxes blank
+append-none : (rows : List Row) → rows ++ [] ≡ rows
+append-none [] = refl
+append-none (r ∷ rs) = ap (λ t. r ∷ t) (append-none rs)
 
--- a new area
-pub area-new : (a : ℕ) (f b : Option ℤ) (rows : List Row) → a < 8 → All (λ (r : Row). r.key < 2 ^ 63) rows → Rises key_of rows → All (λ (r : Row). lies_within a f b r ≡ true) rows → IsAreaLawful (area_of a f b [] (loaded rows ∷ []) [])
-unfolding AreApart
-area-new a f b rows few fit rise within = record {
+pub area-begun : (a : ℕ) (f b : Option ℤ) (inb : List Update) (sp : ℕ) (rows : List Row) (ns : List Held) → a < 8 → All (λ (r : Row). r.key < 2 ^ 63) rows → Rises key_of rows → All (λ (r : Row). lies_within a f b r ≡ true) rows → All (λ m. m ≡ blank) ns → AreReceivable a f b rows rows inb → IsAreaLawful (area_of a f b inb sp (loaded rows ∷ []) ns)
+area-begun a f b inb sp rows ns few fit rise within blanks receivable = record {
   attribute = few;
   tape = tt;
   short = omega arith;
-  keys = All-one (λ (e : Step Row). KeysFit e) (loaded rows) fit;
+  keys = all-one (λ (e : Step Row). KeysFit e) (loaded rows) fit;
   brought_rise = subst (Rises key_of) (sym (append-none rows)) rise;
   rows_rise = rise;
   rows_fit = fit;
   within = within;
-  boxes = λ k d lt. let no : k < 0 = lt in absurd (omega arith);
-  apart = λ i j d e li. let no : i < 0 = li in absurd (omega arith);
+  boxes = λ k d lt. lawful-of_blank a (loaded rows ∷ []) _ (blanks k d lt);
+  apart = apart-blank ns blanks;
+  receivable = subst (λ (v : List Row). AreReceivable a f b v rows inb) (sym (append-none rows)) receivable;
 }
-  where
-    append-none : (rows : List Row) → rows ++ [] ≡ rows
-    append-none [] = refl
-    append-none (r ∷ rs) = ap (λ t. r ∷ t) (append-none rs)
+
+pub begun-shell : {X : Type 0} (h : X → Held) (s : AreaState) (a : ℕ) (f b : Option ℤ) (inb : List Update) (sp : ℕ) (tape new : List (Step Row)) (rows : List Row) (xs ys : List X) → area_of a f b inb sp tape (map h xs) ≡ s → new ≡ loaded rows ∷ [] → length ys ≡ length xs → All (λ (y : X). h y ≡ blank) ys → IsSameShell s (area_of a f b inb sp new (map h ys)) × IsBegunAnew rows (area_of a f b inb sp new (map h ys))
+begun-shell h s a f b inb sp tape new rows xs ys is tapes many blanks =
+    let one = length-map xs h in
+    let two = length-map ys h in
+    let boxes : length (map h ys) ≡ length (map h xs) = omega (arith, one, two, many) in (
+      record {
+        attribute = ap (λ (v : AreaState). v.attribute) is;
+        from = ap (λ (v : AreaState). v.from) is;
+        below = ap (λ (v : AreaState). v.below) is;
+        inbox = ap (λ (v : AreaState). v.inbox) is;
+        spare = ap (λ (v : AreaState). v.spare) is;
+        many = boxes ∙ ap (λ (v : AreaState). length v.boxes) is;
+      },
+      record { tape = tapes; boxes = held-all h (λ (m : Held). m ≡ blank) ys blanks },
+    )
+
+-- with its live rows, which came to it
+pub area-restarted : (a : ℕ) (f b : Option ℤ) (inb : List Update) (sp : ℕ) (tape : List (Step Row)) (ms ns : List Held) → ((n : ℕ) → IsBelow n (brought tape) → IsBelow n (logged_rows a tape)) → All (λ m. m ≡ blank) ns → IsAreaLawful (area_of a f b inb sp tape ms) → IsAreaLawful (area_of a f b inb sp (loaded (logged_rows a tape) ∷ []) ns)
+area-restarted a f b inb sp tape ms ns less blanks w =
+    area-begun a f b inb sp (logged_rows a tape) ns w.attribute w.rows_fit w.rows_rise w.within blanks (receivable-less a f b (brought tape) (logged_rows a tape) (logged_rows a tape) inb less w.receivable)
+
+-- other updates that wait
+area-waiting : (a : ℕ) (f b : Option ℤ) (inb new : List Update) (sp more : ℕ) (tape : List (Step Row)) (ms : List Held) → AreReceivable a f b (brought tape) (logged_rows a tape) new → IsAreaLawful (area_of a f b inb sp tape ms) → IsAreaLawful (area_of a f b new more tape ms)
+area-waiting a f b inb new sp more tape ms receivable w = record {
+  attribute = w.attribute;
+  tape = w.tape;
+  short = w.short;
+  keys = w.keys;
+  brought_rise = w.brought_rise;
+  rows_rise = w.rows_rise;
+  rows_fit = w.rows_fit;
+  within = w.within;
+  boxes = w.boxes;
+  apart = w.apart;
+  receivable = receivable;
+}
+
+-- more of them, or as many as there were
+pub area-received : {U : Type 0} (r : Result U Refusal) (a : ℕ) (f b : Option ℤ) (inb us new : List Update) (sp more : ℕ) (tape : List (Step Row)) (ms : List Held) → MatchResult r (λ _. new ≡ inb ++ us) (λ _. new ≡ inb) → AreReceivable a f b (fold came_then (brought tape) inb) (fold rows_then (logged_rows a tape) inb) us → IsAreaLawful (area_of a f b inb sp tape ms) → IsAreaLawful (area_of a f b new more tape ms)
+area-received (Ok u) a f b inb us new sp more tape ms is after w = area-waiting a f b inb new sp more tape ms (rw is (receivable-append a f b (brought tape) (logged_rows a tape) inb us w.receivable after)) w
+area-received (Err e) a f b inb us new sp more tape ms is after w = area-waiting a f b inb new sp more tape ms (rw is w.receivable) w
+
+-- a new area
+pub area-new : (a : ℕ) (f b : Option ℤ) (sp : ℕ) (rows : List Row) → a < 8 → All (λ (r : Row). r.key < 2 ^ 63) rows → Rises key_of rows → All (λ (r : Row). lies_within a f b r ≡ true) rows → IsAreaLawful (area_of a f b [] sp (loaded rows ∷ []) [])
+area-new a f b sp rows few fit rise within = area-begun a f b [] sp rows [] few fit rise within (λ k d lt. let no : k < 0 = lt in absurd (omega arith)) tt
 
 -- the value of an area of which one box changed
-pub view-set : {X : Type 0} (h : X → Held) (s : AreaState) (a : ℕ) (f b : Option ℤ) (inb : List Update) (tape : List (Step Row)) (xs : List X) (i : ℕ) (y : X) (m : Held) → area_of a f b inb tape (map h xs) ≡ s → h y ≡ m → area_of a f b inb tape (map h (set xs i y)) ≡ record s { boxes = set s.boxes i m }
-view-set h s a f b inb tape xs i y m is e =
+pub view-set : {X : Type 0} (h : X → Held) (s : AreaState) (a : ℕ) (f b : Option ℤ) (inb : List Update) (sp : ℕ) (tape : List (Step Row)) (xs : List X) (i : ℕ) (y : X) (m : Held) → area_of a f b inb sp tape (map h xs) ≡ s → h y ≡ m → area_of a f b inb sp tape (map h (set xs i y)) ≡ record s { boxes = set s.boxes i m }
+view-set h s a f b inb sp tape xs i y m is e =
     let boxes : map h (set xs i y) ≡ set (map h xs) i m = map-set h xs i y ∙ ap (set (map h xs) i) e in
-    ap (area_of a f b inb tape) boxes ∙ ap (λ (v : AreaState). record v { boxes = set v.boxes i m }) is
+    ap (area_of a f b inb sp tape) boxes ∙ ap (λ (v : AreaState). record v { boxes = set v.boxes i m }) is
 
 pub blank-not : {Y : Type 0} {m : Held} → m.is_blank ≡ false → m ≡ blank → Y
 blank-not {Y} {m} b e = let t : true ≡ false = sym (ap (λ (x : Held). x.is_blank) e) ∙ b in absurd (true≢false t)
@@ -199,6 +227,6 @@ pub tried-fresh : {U : Type 0} (r : Result U Refusal) (a at : ℕ) (t : Tail) (n
 tried-fresh (Ok u) a at t n m ms is fresh b = subst (λ (v : Tail). IsFreshBut at v ms) (sym (ap (λ (x : Held). x.tail) is)) fresh
 tried-fresh (Err e) a at t n m ms is fresh b = blank-not b is.0
 
-pub tried-view : {U X : Type 0} (r : Result U Refusal) (h : X → Held) (s : AreaState) (a : ℕ) (f b : Option ℤ) (inb : List Update) (tape : List (Step Row)) (xs : List X) (i : ℕ) (y : X) (t : Tail) (n : ℕ) → area_of a f b inb tape (map h xs) ≡ s → MatchResult r (λ _. h y ≡ begun a t n) (λ e. (h y ≡ blank) × IsBeginRefusal n e) → MatchResult r (λ _. area_of a f b inb tape (map h (set xs i y)) ≡ record s { boxes = set s.boxes i (begun s.attribute t n) }) (λ e. (area_of a f b inb tape (map h (set xs i y)) ≡ record s { boxes = set s.boxes i blank }) × IsBeginRefusal n e)
-tried-view (Ok u) h s a f b inb tape xs i y t n is e = view-set h s a f b inb tape xs i y (begun s.attribute t n) is (e ∙ ap (λ (v : AreaState). begun v.attribute t n) is)
-tried-view (Err x) h s a f b inb tape xs i y t n is e = (view-set h s a f b inb tape xs i y blank is e.0, e.1)
+pub tried-view : {U X : Type 0} (r : Result U Refusal) (h : X → Held) (s : AreaState) (a : ℕ) (f b : Option ℤ) (inb : List Update) (sp : ℕ) (tape : List (Step Row)) (xs : List X) (i : ℕ) (y : X) (t : Tail) (n : ℕ) → area_of a f b inb sp tape (map h xs) ≡ s → MatchResult r (λ _. h y ≡ begun a t n) (λ e. (h y ≡ blank) × IsBeginRefusal n e) → MatchResult r (λ _. area_of a f b inb sp tape (map h (set xs i y)) ≡ record s { boxes = set s.boxes i (begun s.attribute t n) }) (λ e. (area_of a f b inb sp tape (map h (set xs i y)) ≡ record s { boxes = set s.boxes i blank }) × IsBeginRefusal n e)
+tried-view (Ok u) h s a f b inb sp tape xs i y t n is e = view-set h s a f b inb sp tape xs i y (begun s.attribute t n) is (e ∙ ap (λ (v : AreaState). begun v.attribute t n) is)
+tried-view (Err x) h s a f b inb sp tape xs i y t n is e = (view-set h s a f b inb sp tape xs i y blank is e.0, e.1)

@@ -68,13 +68,13 @@ pub record IsTrying (at : ℕ) (tails : List Tail) (t : Tail) (x0 x : AreaState)
 
 pub trying-start : (at : ℕ) (tails : List Tail) (t : Tail) (x : AreaState) → IsFreshBut at t x.boxes → IsTrying at tails t x x
 unfolding AreNeededKept
-trying-start at tails t x fresh = record { same = record { attribute = refl; from = refl; below = refl; inbox = refl; tape = refl; many = refl }; kept = λ k d l n c. refl; fresh = fresh }
+trying-start at tails t x fresh = record { same = record { attribute = refl; from = refl; below = refl; inbox = refl; spare = refl; tape = refl; many = refl }; kept = λ k d l n c. refl; fresh = fresh }
 
 -- a box set at the place
 pub trying-at : (at : ℕ) (tails : List Tail) (t : Tail) (x0 x y : AreaState) (n : Held) → y ≡ record x { boxes = set x.boxes at n } → IsTrying at tails t x0 x → IsTrying at tails t x0 y
 unfolding AreNeededKept IsFreshBut
 trying-at at tails t x0 x y n is w = subst (IsTrying at tails t x0) (sym is) (record {
-  same = record { attribute = w.same.attribute; from = w.same.from; below = w.same.below; inbox = w.same.inbox; tape = w.same.tape; many = length-set x.boxes at n ∙ w.same.many };
+  same = record { attribute = w.same.attribute; from = w.same.from; below = w.same.below; inbox = w.same.inbox; spare = w.same.spare; tape = w.same.tape; many = length-set x.boxes at n ∙ w.same.many };
   kept = λ k d l ne c. let many = w.same.many in let lx : k < length x.boxes = omega arith in let ls = length-set x.boxes at n in set-each (λ (j : ℕ) (v : Held). j ≢ at → v ≡ get_or x.boxes j d) x.boxes at n (λ no. absurd (no refl)) (λ j e nj lj _. get_or_any x.boxes j e d lj) k d (omega arith) ne ∙ w.kept k d l ne c;
   fresh = set-each (λ (j : ℕ) (v : Held). j ≢ at → v.is_blank ≡ false → v.tail ≢ t) x.boxes at n (λ no. absurd (no refl)) (λ j e nj lj ne b. w.fresh j e lj ne b);
 })
@@ -83,7 +83,7 @@ trying-at at tails t x0 x y n is w = subst (IsTrying at tails t x0) (sym is) (re
 pub trying-clear : (at : ℕ) (tails : List Tail) (t : Tail) (x0 x y : AreaState) (i : ℕ) → y ≡ record x { boxes = set x.boxes i blank } → i < length x.boxes → ((d : Held) → ¬ Contains tails (get_or x.boxes i d).tail) → IsTrying at tails t x0 x → IsTrying at tails t x0 y
 unfolding AreNeededKept IsFreshBut
 trying-clear at tails t x0 x y i is li un w = subst (IsTrying at tails t x0) (sym is) (record {
-  same = record { attribute = w.same.attribute; from = w.same.from; below = w.same.below; inbox = w.same.inbox; tape = w.same.tape; many = length-set x.boxes i blank ∙ w.same.many };
+  same = record { attribute = w.same.attribute; from = w.same.from; below = w.same.below; inbox = w.same.inbox; spare = w.same.spare; tape = w.same.tape; many = length-set x.boxes i blank ∙ w.same.many };
   kept = λ k d l ne c. let many = w.same.many in let ls = length-set x.boxes i blank in
       set-each (λ (j : ℕ) (v : Held). Contains tails (get_or x.boxes j d).tail → v ≡ get_or x.boxes j d) x.boxes i blank (λ c'. absurd (un d c')) (λ j e nj lj _. get_or_any x.boxes j e d lj) k d (omega arith) (subst (λ (v : Held). Contains tails v.tail) (sym (w.kept k d l ne c)) c) ∙ w.kept k d l ne c;
   fresh = set-each (λ (j : ℕ) (v : Held). j ≢ at → v.is_blank ≡ false → v.tail ≢ t) x.boxes i blank (λ ne b. absurd (true≢false b)) (λ j e nj lj ne b. w.fresh j e lj ne b);
@@ -148,7 +148,7 @@ tried (Ok u) at tails t n x0 x y lt w is = (trying-at at tails t x0 x y _ is w, 
 tried (Err e) at tails t n x0 x y lt w is = (trying-at at tails t x0 x y _ is.0 w, is.1)
 
 pub same-area-trans : (x y z : AreaState) → IsSameButBoxes x y → IsSameButBoxes y z → IsSameButBoxes x z
-same-area-trans x y z p q = record { attribute = q.attribute ∙ p.attribute; from = q.from ∙ p.from; below = q.below ∙ p.below; inbox = q.inbox ∙ p.inbox; tape = q.tape ∙ p.tape; many = q.many ∙ p.many }
+same-area-trans x y z p q = record { attribute = q.attribute ∙ p.attribute; from = q.from ∙ p.from; below = q.below ∙ p.below; inbox = q.inbox ∙ p.inbox; spare = q.spare ∙ p.spare; tape = q.tape ∙ p.tape; many = q.many ∙ p.many }
 
 pub held-so-far : (tails : List Tail) (i n : ℕ) (t : Tail) (ms ns : List Held) → (i < length tails) × (get_or tails i t ≡ t) → ((k : ℕ) (d : Tail) → k < i → k < length tails → IsHeld (get_or tails k d) n ms) → IsHeld t n ns → ((u : Tail) → Contains tails u → IsHeld u n ms → IsHeld u n ns) → (k : ℕ) (d : Tail) → k < i + 1 → k < length tails → IsHeld (get_or tails k d) n ns
 held-so-far tails i n t ms ns at before now kept k d lk l = by (eqb k i) refl

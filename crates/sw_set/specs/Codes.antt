@@ -68,12 +68,12 @@ step_code =
     step_parts step_of_parts step_of-parts
 
 abbrev pub AreaParts : Type 0
-AreaParts = (ℕ × (Option ℤ × Option ℤ)) × (List Update × (List (Step Row) × List Held))
+AreaParts = (ℕ × (Option ℤ × Option ℤ)) × ((List Update × ℕ) × (List (Step Row) × List Held))
 
 abbrev pub area_code : Coded AreaState
 area_code =
     code_by AreaParts
-    (coded× (coded× coded_ℕ (coded× (coded_option coded_ℤ) (coded_option coded_ℤ))) (coded× (coded_list update_code) (coded× (coded_list step_code) (coded_list held_code))))
-    (λ x. ((x.attribute, (x.from, x.below)), (x.inbox, (x.tape, x.boxes))))
-    (λ p. record { attribute = p.0.0; from = p.0.1.0; below = p.0.1.1; inbox = p.1.0; tape = p.1.1.0; boxes = p.1.1.1 })
+    (coded× (coded× coded_ℕ (coded× (coded_option coded_ℤ) (coded_option coded_ℤ))) (coded× (coded× (coded_list update_code) coded_ℕ) (coded× (coded_list step_code) (coded_list held_code))))
+    (λ x. ((x.attribute, (x.from, x.below)), ((x.inbox, x.spare), (x.tape, x.boxes))))
+    (λ p. record { attribute = p.0.0; from = p.0.1.0; below = p.0.1.1; inbox = p.1.0.0; spare = p.1.0.1; tape = p.1.1.0; boxes = p.1.1.1 })
     (λ _. refl)

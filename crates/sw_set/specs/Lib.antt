@@ -3,5 +3,8 @@ pub mod Shelf
 pub mod Prepared
 pub mod Codes
 pub mod Choice
+pub mod Live
 pub mod Slots
 pub mod Position
+pub mod Tied
+pub mod Merged

@@ -90,6 +90,7 @@ pub record IsSameButBoxes (x y : AreaState) : Type 0 where
   pub from : y.from ≡ x.from
   pub below : y.below ≡ x.below
   pub inbox : y.inbox ≡ x.inbox
+  pub spare : y.spare ≡ x.spare
   pub tape : y.tape ≡ x.tape
   pub many : length y.boxes ≡ length x.boxes
 
@@ -138,6 +139,7 @@ pub record IsShed (most : ℕ) (x y : AreaState) (gone : ℕ) : Type 0 where
   pub from : y.from ≡ x.from
   pub below : y.below ≡ x.below
   pub inbox : y.inbox ≡ x.inbox
+  pub spare : y.spare ≡ x.spare
   pub tape : y.tape ≡ x.tape
   pub many : length y.boxes + gone ≡ length x.boxes
   pub few : gone ≤ most

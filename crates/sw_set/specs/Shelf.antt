@@ -1,11 +1,12 @@
 -- What an area is, which rows it stands for, and when it is lawful.
-use Rattle.std.specs.Prelude.{◌≡◌, ◌≢◌, ◌≤◌, ◌<◌, ◌^◌, ℕ, ℤ, Bool, true, false, List, [], ◌∷◌, fold, length, slice_index_or, Option, All, Contains}
+use Rattle.std.specs.Prelude.{◌≡◌, ◌≢◌, ◌≤◌, ◌<◌, ◌^◌, ℕ, ℤ, Bool, true, false, List, [], ◌∷◌, ◌++◌, fold, length, slice_index_or, Option, All, Contains}
 use Rattle.std.specs.List.{AllByRecursion}
 use Rattle.sw_rows.specs.declared.row.Row.{Row}
 use Rattle.sw_rows.specs.declared.row.Update.{Update}
+use Rattle.sw_rows.specs.declared.row.Update.TheVariants as update
 use Rattle.sw_rows.specs.Bounds.{is_within}
 use Rattle.sw_rows.specs.Scan.{cell_of}
-use Rattle.sw_rows.specs.Updates.{rows_then}
+use Rattle.sw_rows.specs.Updates.{has_key, rows_then}
 use Rattle.sw_kernel.specs.Replay.{Step, loaded, inserted, removed, ranged}
 use Rattle.sw_kernel.specs.Tapes.{IsTape, live_rows, brought, peak_from}
 use Rattle.sw_map.specs.declared.tail.Tail.{Tail}
@@ -14,12 +15,13 @@ use Rattle.sw_map.specs.Lawful.{IsLawful}
 use Rattle.sw_set.specs.Needs.{edge}
 
 -- An area: the attribute that is the head of its maps, the interval of its rows' cells there (from the one value, below the
--- other), the updates that wait, the tape, and the boxes.
+-- other), the updates that wait, how many more may come before they take memory, the tape, and the boxes.
 pub record AreaState : Type 0 where
   pub attribute : ℕ
   pub from : Option ℤ
   pub below : Option ℤ
   pub inbox : List Update
+  pub spare : ℕ
   pub tape : List (Step Row)
   pub boxes : List Held
 
@@ -49,6 +51,30 @@ rows_in x = fold rows_then (logged_rows x.attribute x.tape) x.inbox
 abbrev pub lies_within : ℕ → Option ℤ → Option ℤ → Row → Bool
 lies_within a from below r = is_within (edge from) (edge below) (cell_of a r)
 
+-- the rows that ever came, after one more update
+abbrev pub came_then : List Row → Update → List Row
+came_then rs (update.Insert r) = rs ++ r ∷ []
+came_then rs (update.Remove key) = rs
+
+-- the rows that came to an area since its tape began, those that wait among them
+abbrev pub came_in : AreaState → List Row
+came_in x = fold came_then (brought x.tape) x.inbox
+
+-- each number that exceeds the keys of all rows that came to x exceeds those of y
+abbrev pub BringsNoMore : AreaState → AreaState → Type 0
+BringsNoMore x y = (n : ℕ) → All (λ (r : Row). r.key < n) (came_in x) → All (λ (r : Row). r.key < n) (came_in y)
+
+-- What an area may receive, where these rows came and these of them are live: a row of its interval whose key fits a signed
+-- cell and exceeds those of all that came; the removal of a live one.
+abbrev pub MayReceive : ℕ → Option ℤ → Option ℤ → List Row → List Row → Update → Type 0
+MayReceive a from below came live (update.Insert r) = All (λ (c : Row). c.key < r.key) came × (r.key < 2 ^ 63) × (lies_within a from below r ≡ true)
+MayReceive a from below came live (update.Remove key) = has_key key live ≡ true
+
+-- one after the other
+abbrev pub AreReceivable : ℕ → Option ℤ → Option ℤ → List Row → List Row → List Update → Type 0
+AreReceivable a from below came live [] = Unit {0}
+AreReceivable a from below came live (u ∷ us) = MayReceive a from below came live u × AreReceivable a from below (came_then came u) (rows_then live u) us
+
 -- strictly rising by a number
 abbrev pub Rises : {X : Type 0} → (X → ℕ) → List X → Type 0
 Rises k [] = Unit {0}
@@ -60,7 +86,8 @@ AreApart ms =
     (i j : ℕ) (d e : Held) → i < length ms → j < length ms → i ≢ j → (slice_index_or ms i d).is_blank ≡ false →
     (slice_index_or ms j e).is_blank ≡ false → (slice_index_or ms i d).tail ≢ (slice_index_or ms j e).tail
 
--- the tape holds rows of the interval, by rising keys, and each box is blank or lawful at some cursor of it
+-- The tape holds rows of the interval, by rising keys; each box is blank or lawful at some cursor of it; and what waits may be
+-- received.
 pub record IsAreaLawful (x : AreaState) : Type 0 where
   pub attribute : x.attribute < 8
   pub tape : IsTape x.tape
@@ -72,6 +99,7 @@ pub record IsAreaLawful (x : AreaState) : Type 0 where
   pub within : All (λ (r : Row). lies_within x.attribute x.from x.below r ≡ true) (logged_rows x.attribute x.tape)
   pub boxes : All (IsLawful x.attribute x.tape) x.boxes
   pub apart : AreApart x.boxes
+  pub receivable : AreReceivable x.attribute x.from x.below (brought x.tape) (logged_rows x.attribute x.tape) x.inbox
 
 -- the same map, at perhaps another cursor
 pub record IsSameMap (m n : Held) : Type 0 where
@@ -98,5 +126,7 @@ pub record IsSameArea (x y : AreaState) : Type 0 where
   pub from : y.from ≡ x.from
   pub below : y.below ≡ x.below
   pub inbox : y.inbox ≡ x.inbox
+  pub spare : y.spare ≡ x.spare
   pub logged : logged_rows y.attribute y.tape ≡ logged_rows x.attribute x.tape
   pub many : length y.boxes ≡ length x.boxes
+  pub brings : BringsNoMore x y

@@ -1,6 +1,6 @@
 //! Alignment: maps replay the tape up to its end.
 
-ghost use Rattle.std.specs.Prelude.{◌≡◌, ◌<◌, ◌≤◌, ◌↔◌, false, length, All, Contains, IsTrue, MatchResult};
+ghost use Rattle.std.specs.Prelude.{◌≡◌, ◌<◌, ◌≤◌, ◌↔◌, false, length, All, Contains, IsTrue, MatchResult, OnErr};
 ghost use Rattle.sw_rows.specs.declared.row.Row.{Row};
 ghost use Rattle.sw_rows.specs.declared.refusal.Refusal.TheVariants.{NoMemory};
 ghost use Rattle.sw_kernel.specs.Replay.{Step};
@@ -13,7 +13,7 @@ use sw_map::{CrackerMap, Tail};
 use sw_rows::Refusal;
 use sw_tape::Tape;
 
-/// Steps a map to the end of the tape. Refused `NoMemory`, it stands at the cursor that it reached.
+/// Steps a map to the end of the tape. Refused `NoMemory`, it had entries to replay, and stands at the cursor that it reached.
 pub(crate) fn align_map<M: CrackerMap>(it: &mut M, tape: &Tape) -> Result<(), Refusal>
     requires aligned { IsAligned (M.held it.old).head tape.now (M.held it.old) }
     requires keys { All (λ (e : Step Row). KeysFit e) tape.now }
@@ -21,6 +21,7 @@ pub(crate) fn align_map<M: CrackerMap>(it: &mut M, tape: &Tape) -> Result<(), Re
     ensures aligned { IsAligned (M.held it.old).head tape.now (M.held it.new) }
     ensures same { IsSameMap (M.held it.old) (M.held it.new) }
     ensures ends { MatchResult result (λ _. (M.held it.new).cursor ≡ length tape.now) (λ e. e ≡ NoMemory) }
+    ensures behind { OnErr result ((M.held it.old).cursor < length tape.now) }
 {
     for i in it.cursor()..tape.len() {
         if let Some(entry) = tape.get(i) {

@@ -1,29 +1,37 @@
 //! An area, and its single changes.
 
-ghost use Rattle.std.specs.Prelude.{◌≡◌, ◌≢◌, ◌<◌, ◌≤◌, ◌+◌, ◌^◌, ◌∷◌, ◌++◌, [], true, false, ℕ, length, map, pos, All, Any, Contains, IfOk, IsOk, IsOkUnless, MatchOption, MatchResult, None, Some, remove, slice_index_or, slice_set};
+ghost use Rattle.std.specs.Prelude.{◌≡◌, ◌≢◌, ◌<◌, ◌≤◌, ◌+◌, ◌-◌, ◌^◌, ◌∷◌, ◌++◌, [], true, false, ℕ, List, length, map, pos, All, Any, Contains, IfOk, IsOk, IsOkUnless, MatchOption, MatchResult, None, Some, remove, slice_index_or, slice_set, vec_capacity, vec_len};
 ghost use Rattle.sw_rows.specs.declared.row.Row.{Row};
+ghost use Rattle.sw_rows.specs.declared.row.Update.TheVariants.{Insert, Remove};
 ghost use Rattle.sw_rows.specs.declared.refusal.Refusal.TheVariants.{NoMemory};
+ghost use Rattle.sw_rows.specs.Updates.{has_key, rows_then, without};
 ghost use Rattle.sw_rows.specs.Scan.{AsksBelow, TakesMemory, answer};
 ghost use Rattle.sw_kernel.specs.Arrangement.{joined};
-ghost use Rattle.sw_kernel.specs.Replay.{Step, loaded, ranged};
+ghost use Rattle.sw_kernel.specs.Replay.{Step, inserted, loaded, ranged, removed};
 ghost use Rattle.sw_map.specs.declared.tail.Tail.TheVariants.{Key};
-ghost use Rattle.sw_kernel.specs.Tapes.{peak_from};
+ghost use Rattle.sw_kernel.specs.Tapes.{brought, peak_from};
 ghost use Rattle.sw_map.specs.Held.{Held, blank, begun, pairs_in, place_of};
+ghost use Rattle.sw_map.specs.Lawful.{rows_by};
 ghost use Rattle.sw_map.specs.Refusals.{IsBeginRefusal};
-ghost use Rattle.sw_set.specs.Prepared.{IsCleared, IsFreshBut, IsOneCleared, IsPreparedFor, IsSameButBoxes, IsShed, IsSpare, stands_if};
-ghost use Rattle.sw_set.specs.Shelf.{AreaState, AreSameMaps, HasRoomWhereNeeded, IsAreaLawful, IsAtEnd, IsSameArea, Rises, key_of, lies_within, logged_rows, rows_in};
+ghost use Rattle.sw_set.specs.Live.{IsStanding, live_among};
+ghost use Rattle.sw_set.specs.Merged.{IsBegunAnew, IsSameShell};
+ghost use Rattle.sw_set.specs.Prepared.{IsCleared, IsFreshBut, IsOneCleared, IsPreparedFor, IsReady, IsSameButBoxes, IsShed, IsSpare, stands_if};
+ghost use Rattle.sw_set.specs.Shelf.{AreReceivable, AreSameMaps, AreaState, HasRoomWhereNeeded, IsAreaLawful, IsAtEnd, IsSameArea, MayReceive, Rises, came_in, first_rows, key_of, lies_within, logged_rows, rows_in};
 ghost use Rattle.sw_set.specs.Needs.{head_in};
 
-use crate::align::is_needed;
+use crate::align::{align_map, is_needed};
 use crate::at_once::align_at_once;
 use crate::collect::collect_from;
+use crate::live::LiveRows;
 use crate::pick::{find_blank, find_leased, find_map, find_unneeded};
+use crate::position::place_of_row;
 use crate::prepare::Ready;
 use std::alloc::Global;
 use std::marker::Model;
+use std::mem;
 use std::thread::Threads;
 use sw_map::{CrackerMap, Tail};
-use sw_rows::{Bound, Query, Refusal, Reply, Row, Update, answer};
+use sw_rows::{Bound, Query, Refusal, Reply, Row, Update};
 use sw_tape::{Entry, MAX_ENTRIES, Tape};
 
 /// The rows whose cells of one attribute lie in an interval, the tape that reorganised them, and the boxes whose maps
@@ -36,6 +44,7 @@ pub struct Area<M: CrackerMap> {
     below: Option<i64>,
     inbox: Vec<Update>,
     tape: Tape,
+    live: LiveRows,
     boxes: Vec<M>,
     stamps: Vec<u64>,
     clock: u64,
@@ -43,17 +52,18 @@ pub struct Area<M: CrackerMap> {
 }
 
 impl<M: CrackerMap> Model for Area<M> {
-    ghost use Rattle.std.specs.Prelude.{◌≡◌, map, vec_len};
-    ghost use Rattle.sw_set.specs.Shelf.{AreaState, IsAreaLawful, first_rows, logged_rows};
+    ghost use Rattle.std.specs.Prelude.{◌≡◌, ◌-◌, map, vec_capacity, vec_len};
+    ghost use Rattle.sw_set.specs.Shelf.{AreaState, IsAreaLawful};
+    ghost use Rattle.sw_set.specs.Tied.{IsTied};
     ghost use Rattle.sw_set.specs.Codes.{area_code};
 
     ghost Value = { AreaState };
 
     ghost coded = { area_code };
 
-    ghost view = { λ a. record { attribute = a.attribute; from = a.from; below = a.below; inbox = a.inbox.items; tape = a.tape; boxes = map M.held a.boxes.items } };
+    ghost view = { λ a. record { attribute = a.attribute; from = a.from; below = a.below; inbox = a.inbox.items; spare = vec_capacity a.inbox - vec_len a.inbox; tape = a.tape; boxes = map M.held a.boxes.items } };
 
-    ghost invariant = { λ a. IsAreaLawful (record { attribute = a.attribute; from = a.from; below = a.below; inbox = a.inbox.items; tape = a.tape; boxes = map M.held a.boxes.items }) × (vec_len a.stamps ≡ vec_len a.boxes) × (first_rows a.tape ≡ logged_rows a.attribute a.tape) };
+    ghost invariant = { λ a. IsAreaLawful (record { attribute = a.attribute; from = a.from; below = a.below; inbox = a.inbox.items; spare = vec_capacity a.inbox - vec_len a.inbox; tape = a.tape; boxes = map M.held a.boxes.items }) × (vec_len a.stamps ≡ vec_len a.boxes) × IsTied a.attribute a.tape a.live };
 }
 
 impl<M: CrackerMap> Area<M> {
@@ -70,9 +80,10 @@ impl<M: CrackerMap> Area<M> {
         requires keys { All (λ (r : Row). r.key < 2 ^ 63) rows.now }
         requires rise { Rises key_of rows.now }
         requires within { All (λ (r : Row). lies_within attribute from below r ≡ true) rows.now }
-        ensures { MatchResult result (λ a. a ≡ record { attribute = attribute; from = from; below = below; inbox = []; tape = loaded rows.now ∷ []; boxes = [] }) (λ e. e ≡ NoMemory) }
+        ensures { MatchResult result (λ a. a ≡ record { attribute = attribute; from = from; below = below; inbox = []; spare = 0; tape = loaded rows.now ∷ []; boxes = [] }) (λ e. e ≡ NoMemory) }
     {
         let tape = Tape::new(alloc, rows)?;
+        let live = LiveRows::all(alloc, rows.len())?;
         Ok(Area {
             alloc,
             attribute,
@@ -80,6 +91,7 @@ impl<M: CrackerMap> Area<M> {
             below,
             inbox: Vec::new(alloc),
             tape,
+            live,
             boxes: Vec::new(alloc),
             stamps: Vec::new(alloc),
             clock: 0,
@@ -184,16 +196,6 @@ impl<M: CrackerMap> Area<M> {
         &self.tape
     }
 
-    /// The live rows, by rising keys.
-    pub(crate) fn rows(&self) -> &[Row]
-        ensures { result.now ≡ logged_rows self.now.attribute self.now.tape }
-    {
-        match self.tape.get(0) {
-            Some(Entry::Load(rows)) => rows.as_slice(),
-            _ => unreachable!(),
-        }
-    }
-
     /// Logs one range at the tape's end. A refusal changes nothing.
     pub(crate) fn log(&mut self, lower: Option<Bound>, upper: Option<Bound>) -> Result<(), Refusal>
         requires { length self.old.tape < 4096 }
@@ -202,15 +204,164 @@ impl<M: CrackerMap> Area<M> {
         self.tape.push(Entry::Range(lower, upper))
     }
 
-    /// Begins the tape anew with one load of the rows, all boxes blank. A refusal changes nothing.
+    /// Logs a row that comes, at the tape's end. A refusal changes nothing.
+    pub(crate) fn log_insertion(&mut self, row: Row) -> Result<(), Refusal>
+        requires received { self.old.inbox ≡ [] }
+        requires room { length self.old.tape < 4096 }
+        requires may { MayReceive self.old.attribute self.old.from self.old.below (brought self.old.tape) (logged_rows self.old.attribute self.old.tape) (Insert row) }
+        ensures { MatchResult result (λ _. self.new ≡ record self.old { tape = self.old.tape ++ inserted row ∷ [] }) (λ e. (self.new ≡ self.old) × (e ≡ NoMemory)) }
+    {
+        self.live.push(row)?;
+        if let Err(e) = self.tape.push(Entry::Insert(row)) {
+            self.live.undo_push();
+            return Err(e);
+        }
+        Ok(())
+    }
+
+    /// Logs that the live row of a key goes, whose pair stands at a place at the tape's end. A refusal changes nothing.
+    pub(crate) fn log_removal(&mut self, key: u64, place: usize) -> Result<(), Refusal>
+        requires received { self.old.inbox ≡ [] }
+        requires room { length self.old.tape < 4096 }
+        requires live { has_key key (logged_rows self.old.attribute self.old.tape) ≡ true }
+        requires within { place < length (joined (rows_by self.old.attribute self.old.tape)) }
+        requires own { (d : Row) → (slice_index_or (joined (rows_by self.old.attribute self.old.tape)) place d).key ≡ key }
+        ensures { MatchResult result (λ _. self.new ≡ record self.old { tape = self.old.tape ++ removed place ∷ [] }) (λ e. (self.new ≡ self.old) × (e ≡ NoMemory)) }
+    {
+        let Some(at) = self.live.find(load_of(&self.tape), key) else {
+            unreachable!()
+        };
+        self.tape.push(Entry::Remove(place))?;
+        self.live.remove(at);
+        Ok(())
+    }
+
+    /// Begins the area anew: its tape is one load of these rows, and all boxes are blank. A refusal changes nothing.
+    fn begin_anew(&mut self, rows: Vec<Row>) -> Result<(), Refusal>
+        requires keys { All (λ (r : Row). r.key < 2 ^ 63) rows.items }
+        requires rise { Rises key_of rows.items }
+        requires within { All (λ (r : Row). lies_within self.old.attribute self.old.from self.old.below r ≡ true) rows.items }
+        requires receivable { AreReceivable self.old.attribute self.old.from self.old.below rows.items rows.items self.old.inbox }
+        ensures { MatchResult result (λ _. IsSameShell self.old self.new × IsBegunAnew rows.items self.new) (λ e. (self.new ≡ self.old) × (e ≡ NoMemory)) }
+    {
+        let many = rows.len();
+        let tape = Tape::of(rows)?;
+        let live = LiveRows::all(self.alloc, many)?;
+        clear_all(self.boxes.as_mut_slice());
+        self.tape = tape;
+        self.live = live;
+        Ok(())
+    }
+
+    /// Begins the area anew with its live rows. A refusal changes nothing.
     pub(crate) fn restart(&mut self) -> Result<(), Refusal>
         ensures same { IsSameArea self.old self.new }
         ensures ends { MatchResult result (λ _. self.new.tape ≡ loaded (logged_rows self.old.attribute self.old.tape) ∷ []) (λ e. (self.new ≡ self.old) × (e ≡ NoMemory)) }
     {
-        let tape = Tape::new(self.alloc, self.rows())?;
-        clear_all(self.boxes.as_mut_slice());
-        self.tape = tape;
-        Ok(())
+        let rows = self.live.copied(self.alloc, load_of(&self.tape), None)?;
+        self.begin_anew(rows)
+    }
+
+    /// Begins the area anew with its live rows and one that comes. A refusal changes nothing.
+    pub(crate) fn restart_with(&mut self, row: Row) -> Result<(), Refusal>
+        requires received { self.old.inbox ≡ [] }
+        requires may { MayReceive self.old.attribute self.old.from self.old.below (brought self.old.tape) (logged_rows self.old.attribute self.old.tape) (Insert row) }
+        ensures { MatchResult result (λ _. IsSameShell self.old self.new × IsBegunAnew (logged_rows self.old.attribute self.old.tape ++ row ∷ []) self.new) (λ e. (self.new ≡ self.old) × (e ≡ NoMemory)) }
+    {
+        let rows = self
+            .live
+            .copied(self.alloc, load_of(&self.tape), Some(row))?;
+        self.begin_anew(rows)
+    }
+
+    /// Begins the area anew with its live rows but that of a key. A refusal changes nothing.
+    pub(crate) fn restart_without(&mut self, key: u64) -> Result<(), Refusal>
+        requires received { self.old.inbox ≡ [] }
+        requires live { has_key key (logged_rows self.old.attribute self.old.tape) ≡ true }
+        ensures { MatchResult result (λ _. IsSameShell self.old self.new × IsBegunAnew (without key (logged_rows self.old.attribute self.old.tape)) self.new) (λ e. (self.new ≡ self.old) × (e ≡ NoMemory)) }
+    {
+        let rows = rows_without(&mut self.live, self.alloc, load_of(&self.tape), key)?;
+        self.begin_anew(rows)
+    }
+
+    /// Steps the map in the box at a place to the tape's end. Refused, it had entries to replay, and stands at the cursor that it
+    /// reached.
+    pub(crate) fn align_at(&mut self, at: usize) -> Result<(), Refusal>
+        requires within { at < length self.old.boxes }
+        requires begun { (d : Held) → (slice_index_or self.old.boxes at d).is_blank ≡ false }
+        requires room { (d : Held) → peak_from 0 self.old.tape ≤ (slice_index_or self.old.boxes at d).cells }
+        ensures same { IsSameButBoxes self.old self.new }
+        ensures maps { AreSameMaps self.old.boxes self.new.boxes }
+        ensures ends { MatchResult result (λ _. (d : Held) → (slice_index_or self.new.boxes at d).cursor ≡ length self.old.tape) (λ _. (d : Held) → (slice_index_or self.old.boxes at d).cursor < length self.old.tape) }
+    {
+        align_map(&mut self.boxes[at], &self.tape)
+    }
+
+    /// Where the pair of the live row of a key stands at the tape's end, told by the key map in the box at a place.
+    pub(crate) fn place_of(&self, at: usize, key: u64) -> usize
+        requires within { at < length self.now.boxes }
+        requires ready { (d : Held) → IsReady Key self.now.tape (slice_index_or self.now.boxes at d) }
+        requires live { has_key key (logged_rows self.now.attribute self.now.tape) ≡ true }
+        ensures within { result < length (joined (rows_by self.now.attribute self.now.tape)) }
+        ensures own { (d : Row) → (slice_index_or (joined (rows_by self.now.attribute self.now.tape)) result d).key ≡ key }
+    {
+        let load = load_of(&self.tape);
+        let Some(row) = self.live.find(load, key) else {
+            unreachable!()
+        };
+        let value = self.live.row(load, row).cells[usize::from(self.attribute)];
+        place_of_row(&self.boxes[at], &self.tape, value, key)
+    }
+
+    /// Makes room for so many updates more: until they are received, `receive` takes no memory. A refusal changes nothing.
+    pub fn room(&mut self, more: usize) -> Result<(), Refusal>
+        ensures same { self.new ≡ record self.old { spare = self.new.spare } }
+        ensures ends { MatchResult result (λ _. (more ≤ self.new.spare) × (self.old.spare ≤ self.new.spare)) (λ e. (self.new.spare ≡ self.old.spare) × (e ≡ NoMemory)) }
+    {
+        match self.inbox.reserve(more) {
+            Ok(()) => Ok(()),
+            Err(_) => Err(Refusal::NoMemory),
+        }
+    }
+
+    /// Appends updates to those that wait: an inserted key exceeds all that came before it, its row lies in the area's
+    /// interval, and a removed key is live then. A refusal changes nothing.
+    pub fn receive(&mut self, updates: &[Update]) -> Result<(), Refusal>
+        requires { AreReceivable self.old.attribute self.old.from self.old.below (came_in self.old) (rows_in self.old) updates.now }
+        ensures ends { MatchResult result (λ _. (self.new ≡ record self.old { inbox = self.old.inbox ++ updates.now; spare = self.new.spare }) × (self.old.spare ≤ self.new.spare + length updates.now)) (λ e. (self.new ≡ self.old) × (e ≡ NoMemory)) }
+        ensures roomy { length updates.now ≤ self.old.spare → IsOk result }
+    {
+        append(&mut self.inbox, updates)
+    }
+
+    /// Whether the area has a row of a key, as if what waits were merged. It takes no memory.
+    pub fn holds(&self, key: u64) -> bool
+        ensures { result ≡ has_key key (rows_in self.now) }
+    {
+        let mut held = self.live.holds(load_of(&self.tape), key);
+        for update in self.inbox.as_slice() {
+            held = holds_after(held, update, key);
+        }
+        held
+    }
+
+    /// Takes out what waits.
+    pub(crate) fn take_inbox(&mut self) -> Vec<Update>
+        ensures area { self.new ≡ record self.old { inbox = []; spare = 0 } }
+        ensures taken { result.items ≡ self.old.inbox }
+        ensures spare { vec_capacity result ≡ self.old.spare + length self.old.inbox }
+        ensures receivable { AreReceivable self.old.attribute self.old.from self.old.below (brought self.old.tape) (logged_rows self.old.attribute self.old.tape) result.items }
+    {
+        let none = Vec::new(self.alloc);
+        mem::replace(&mut self.inbox, none)
+    }
+
+    /// These updates wait from now on, and no others.
+    pub(crate) fn put_inbox(&mut self, waiting: Vec<Update>)
+        requires { AreReceivable self.old.attribute self.old.from self.old.below (brought self.old.tape) (logged_rows self.old.attribute self.old.tape) waiting.items }
+        ensures { self.new ≡ record self.old { inbox = waiting.items; spare = vec_capacity waiting - vec_len waiting } }
+    {
+        self.inbox = waiting;
     }
 
     /// Whether a bound, if it is there, stands in a range of the tape.
@@ -421,7 +572,7 @@ impl<M: CrackerMap> Area<M> {
         ensures refused { IsOkUnless result NoMemory }
         ensures scalars { (TakesMemory query.now.want → ⊥) → IsOk result }
     {
-        answer(self.alloc, self.rows(), query)
+        self.live.scan(self.alloc, load_of(&self.tape), query)
     }
 
     /// The answer of a query from the maps of an area that `prepare` left ready for it. Only a list of rows and a second
@@ -472,6 +623,63 @@ impl<M: CrackerMap> Area<M> {
     {
         let attribute = self.attribute;
         begin_box(&mut self.boxes[at], attribute, tail, cells)
+    }
+}
+
+/// The rows of a tape's load.
+fn load_of(tape: &Tape) -> &[Row]
+    ensures { result.now ≡ first_rows tape.now }
+{
+    let _many = tape.len();
+    match tape.get(0) {
+        Some(Entry::Load(rows)) => rows.as_slice(),
+        _ => unreachable!(),
+    }
+}
+
+/// Appends updates to others. A refusal changes nothing.
+fn append(waiting: &mut Vec<Update>, updates: &[Update]) -> Result<(), Refusal>
+    ensures items { MatchResult result (λ _. waiting.new.items ≡ waiting.old.items ++ updates.now) (λ _. waiting.new.items ≡ waiting.old.items) }
+    ensures room { MatchResult result (λ _. (vec_len waiting.new ≡ vec_len waiting.old + length updates.now) × (vec_capacity waiting.old ≤ vec_capacity waiting.new)) (λ e. (vec_len waiting.new ≡ vec_len waiting.old) × (vec_capacity waiting.new ≡ vec_capacity waiting.old) × (e ≡ NoMemory)) }
+    ensures roomy { vec_len waiting.old + length updates.now ≤ vec_capacity waiting.old → IsOk result }
+{
+    if waiting.reserve(updates.len()).is_err() {
+        return Err(Refusal::NoMemory);
+    }
+    if waiting.extend_from_slice(updates).is_err() {
+        unreachable!()
+    }
+    Ok(())
+}
+
+/// The live rows but that of a key, which is live.
+fn rows_without(
+    live: &mut LiveRows,
+    alloc: Global,
+    load: &[Row],
+    key: u64,
+) -> Result<Vec<Row>, Refusal>
+    requires standing { IsStanding load.now live.old }
+    requires live { has_key key (live_among load.now live.old) ≡ true }
+    ensures same { live.new ≡ live.old }
+    ensures ends { MatchResult result (λ rows. rows.items ≡ without key (live_among load.now live.old)) (λ e. e ≡ NoMemory) }
+{
+    let Some(place) = live.find(load, key) else {
+        unreachable!()
+    };
+    live.remove(place);
+    let rows = live.copied(alloc, load, None);
+    live.restore(place);
+    rows
+}
+
+/// Whether there is a row of a key after an update, from whether there was one before it.
+fn holds_after(held: bool, update: &Update, key: u64) -> bool
+    ensures { (rows : List Row) → held ≡ has_key key rows → result ≡ has_key key (rows_then rows update.now) }
+{
+    match update {
+        Update::Insert(row) => held || row.key == key,
+        Update::Remove(gone) => held && *gone != key,
     }
 }
 

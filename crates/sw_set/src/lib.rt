@@ -7,12 +7,17 @@ mod at_once;
 mod choice;
 mod collect;
 mod finding;
+mod live;
+#[cfg(test)]
+mod live_tests;
 mod making;
+mod merging;
 mod needs;
 mod pick;
 mod position;
 mod prepare;
 mod replies;
+mod scanning;
 #[cfg(test)]
 mod slot_tests;
 mod slots;

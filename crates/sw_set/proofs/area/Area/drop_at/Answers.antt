@@ -1,4 +1,4 @@
-use Rattle.std.proofs.Common.{◌≡◌, ◌<◌, ap, sym, ◌∙◌, map, List, subst, length, arith}
+use Rattle.std.proofs.Common.{◌≡◌, ◌<◌, ◌-◌, ap, sym, ◌∙◌, map, List, subst, length, arith, vec_capacity, vec_len}
 use Rattle.std.proofs.lemmas.List.{length-map}
 use Rattle.sw_set.specs.Shelf.{AreaState}
 use Rattle.sw_set.proofs.Dropped.{area-removed, view-removed}
@@ -14,10 +14,10 @@ invariant_of-self g c =
     let one = c.remove-box.ensures.len in
     let two = c.remove-stamp.ensures.len in
     let same = c.self.invariant.1 in
-    (rw c.remove-box.ensures.items (area-removed g.M.CrackerMap.held s.attribute s.from s.below s.inbox.items s.tape s.boxes.items c.args.at lt c.self.invariant.0), omega (arith, one, two, same), c.self.invariant.2)
+    (rw c.remove-box.ensures.items (area-removed g.M.CrackerMap.held s.attribute s.from s.below s.inbox.items _ s.tape s.boxes.items c.args.at lt c.self.invariant.0), omega (arith, one, two, same), c.self.invariant.2)
 
 pub returns : goal.returns
 returns g c =
     let s = c.self.inside in
-    ap (λ (ys : List g.row.M.Denot). area_of s.attribute s.from s.below s.inbox.items s.tape (map g.M.CrackerMap.held ys)) c.remove-box.ensures.items
-    ∙ view-removed g.M.CrackerMap.held c.args.self.now s.attribute s.from s.below s.inbox.items s.tape s.boxes.items c.args.at c.self.view_is
+    ap (λ (ys : List g.row.M.Denot). area_of s.attribute s.from s.below s.inbox.items (vec_capacity s.inbox - vec_len s.inbox) s.tape (map g.M.CrackerMap.held ys)) c.remove-box.ensures.items
+    ∙ view-removed g.M.CrackerMap.held c.args.self.now s.attribute s.from s.below s.inbox.items _ s.tape s.boxes.items c.args.at c.self.view_is

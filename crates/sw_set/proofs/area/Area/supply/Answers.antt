@@ -9,4 +9,4 @@ invariant_of-self-2 g c =
     let r = c.reserve.ensures.len in
     let q = c.reserve-else-is_err.ensures.len in
     let same = c.self.invariant.1 in
-    (rw (c.push_reserved.ensures.items, c.reserve.ensures.items) (area-more g.M.CrackerMap.held _ _ _ _ _ _ _ c.requires c.self.invariant.0), omega (arith, one, two, r, q, same), c.self.invariant.2)
+    (rw (c.push_reserved.ensures.items, c.reserve.ensures.items) (area-more g.M.CrackerMap.held _ _ _ _ _ _ _ _ c.requires c.self.invariant.0), omega (arith, one, two, r, q, same), c.self.invariant.2)

@@ -1,0 +1,246 @@
+//! Which rows of a tape are live.
+
+ghost use Rattle.std.specs.Prelude.{◌≡◌, ◌≢◌, ◌-◌, ◌<◌, ◌++◌, ◌∷◌, [], true, false, length, take, replicate, slice_index_or, slice_set, option_to_list, All, Bool, Decides, IfOk, IsOk, IsOkUnless, MatchOption, MatchResult};
+ghost use Rattle.sw_rows.specs.declared.row.Row.{Row};
+ghost use Rattle.sw_rows.specs.declared.refusal.Refusal.TheVariants.{NoMemory};
+ghost use Rattle.sw_rows.specs.Scan.{AsksBelow, TakesMemory, answer};
+ghost use Rattle.sw_rows.specs.Updates.{has_key};
+ghost use Rattle.sw_set.specs.Live.{IsStanding, Standing, live_among};
+ghost use Rattle.sw_set.specs.Shelf.{Rises, key_of};
+
+use crate::scanning::scan_live;
+use std::alloc::Global;
+use std::marker::Model;
+use sw_rows::{Query, Refusal, Reply, Row, answer};
+
+/// Whether the row at a place, if there is one, has the key.
+fn stands_at(rows: &[Row], place: usize, key: u64) -> bool
+    ensures there { result ≡ true → (place < length rows.now) × ((d : Row) → (slice_index_or rows.now place d).key ≡ key) }
+    ensures other { result ≡ false → (d : Row) → place < length rows.now → (slice_index_or rows.now place d).key ≢ key }
+{
+    place < rows.len() && rows[place].key == key
+}
+
+/// The place of a key among rows that rise by key, by binary search.
+fn find_key(rows: &[Row], key: u64) -> Option<usize>
+    requires { Rises key_of rows.now }
+    ensures { MatchOption result (All (λ (r : Row). r.key ≢ key) rows.now) (λ p. (p < length rows.now) × ((d : Row) → (slice_index_or rows.now p d).key ≡ key)) }
+{
+    let place = rows.partition_point(|row| row.key < key);
+    if stands_at(rows, place, key) {
+        Some(place)
+    } else {
+        None
+    }
+}
+
+/// A row comes last.
+fn push_row(rows: &mut Vec<Row>, row: Row) -> Result<(), Refusal>
+    ensures { MatchResult result (λ _. rows.new.items ≡ rows.old.items ++ row ∷ []) (λ e. e ≡ NoMemory) }
+{
+    match rows.push(row) {
+        Ok(()) => Ok(()),
+        Err(_) => Err(Refusal::NoMemory),
+    }
+}
+
+/// The row, if there is one, comes last.
+fn push_one(rows: &mut Vec<Row>, more: Option<Row>) -> Result<(), Refusal>
+    ensures { MatchResult result (λ _. rows.new.items ≡ rows.old.items ++ option_to_list more) (λ e. e ≡ NoMemory) }
+{
+    match more {
+        Some(row) => push_row(rows, row),
+        None => Ok(()),
+    }
+}
+
+/// Which of the rows that a tape brought are live: of those in its load, and of those that came later. Each has a place: those
+/// of the load first, then the later ones, in the order in which they came.
+#[derive(Drop)]
+pub(crate) struct LiveRows {
+    later: Vec<Row>,
+    flags: Vec<bool>,
+    /// How many flags are false.
+    gone: usize,
+}
+
+impl Model for LiveRows {
+    ghost use Rattle.std.specs.Prelude.{◌≡◌, filter, length, not};
+    ghost use Rattle.sw_set.specs.Live.{Standing};
+
+    ghost Value = { Standing };
+
+    ghost view = { λ s. record { later = s.later.items; flags = s.flags.items } };
+
+    ghost invariant = { λ s. s.gone ≡ length (filter not s.flags.items) };
+}
+
+impl LiveRows {
+    /// As many rows as that, all of them of the load, and all live. Refused `NoMemory` alone.
+    pub(crate) fn all(alloc: Global, many: usize) -> Result<LiveRows, Refusal>
+        ensures { MatchResult result (λ live. live ≡ record { later = []; flags = replicate many true }) (λ e. e ≡ NoMemory) }
+    {
+        match vec![in alloc; true; many] {
+            Ok(flags) => Ok(LiveRows {
+                later: Vec::new(alloc),
+                flags,
+                gone: 0,
+            }),
+            Err(_) => Err(Refusal::NoMemory),
+        }
+    }
+
+    /// How many places there are.
+    pub(crate) fn places(&self) -> usize
+        ensures { result ≡ length self.now.flags }
+    {
+        self.flags.len()
+    }
+
+    /// Whether the row at a place is live.
+    #[inline]
+    pub(crate) fn is_live(&self, place: usize) -> bool
+        requires { place < length self.now.flags }
+        ensures { (d : Bool) → result ≡ slice_index_or self.now.flags place d }
+    {
+        self.flags[place]
+    }
+
+    /// The row at a place.
+    #[inline]
+    pub(crate) fn row<'a>(&'a self, load: &'a [Row], place: usize) -> &'a Row
+        requires { place < length (load.now ++ self.now.later) }
+        ensures { (d : Row) → result.now ≡ slice_index_or (load.now ++ self.now.later) place d }
+    {
+        if place < load.len() {
+            &load[place]
+        } else {
+            &self.later[place - load.len()]
+        }
+    }
+
+    /// The place of a key, whether or not its row is live. By binary search.
+    pub(crate) fn find(&self, load: &[Row], key: u64) -> Option<usize>
+        requires { IsStanding load.now self.now }
+        ensures { MatchOption result (All (λ (r : Row). r.key ≢ key) (load.now ++ self.now.later)) (λ p. (p < length (load.now ++ self.now.later)) × ((d : Row) → (slice_index_or (load.now ++ self.now.later) p d).key ≡ key)) }
+    {
+        if let Some(place) = find_key(load, key) {
+            return Some(place);
+        }
+        match find_key(self.later.as_slice(), key) {
+            Some(place) => Some(load.len() + place),
+            None => None,
+        }
+    }
+
+    /// Whether a live row has the key. By binary search.
+    pub(crate) fn holds(&self, load: &[Row], key: u64) -> bool
+        requires { IsStanding load.now self.now }
+        ensures { result ≡ has_key key (live_among load.now self.now) }
+    {
+        match self.find(load, key) {
+            Some(place) => self.is_live(place),
+            None => false,
+        }
+    }
+
+    /// A row comes, and it is live. Refused `NoMemory` alone, and then nothing has changed.
+    pub(crate) fn push(&mut self, row: Row) -> Result<(), Refusal>
+        ensures { MatchResult result (λ _. self.new ≡ record { later = self.old.later ++ row ∷ []; flags = self.old.flags ++ true ∷ [] }) (λ e. (self.new ≡ self.old) × (e ≡ NoMemory)) }
+    {
+        if self.later.reserve(1).is_err() || self.flags.reserve(1).is_err() {
+            return Err(Refusal::NoMemory);
+        }
+        self.later.push_reserved(row);
+        self.flags.push_reserved(true);
+        Ok(())
+    }
+
+    /// Takes the row away that came last, and its flag.
+    pub(crate) fn undo_push(&mut self)
+        requires rows { 0 < length self.old.later }
+        requires flags { 0 < length self.old.flags }
+        ensures { self.new ≡ record { later = take (length self.old.later - 1) self.old.later; flags = take (length self.old.flags - 1) self.old.flags } }
+    {
+        let _row = self.later.pop();
+        if self.flags.pop() == Some(false) {
+            self.gone -= 1;
+        }
+    }
+
+    /// The row at a place is live no longer.
+    pub(crate) fn remove(&mut self, place: usize)
+        requires { place < length self.old.flags }
+        ensures { self.new ≡ record self.old { flags = slice_set self.old.flags place false } }
+    {
+        if self.is_live(place) {
+            self.flags[place] = false;
+            self.gone += 1;
+        }
+    }
+
+    /// The row at a place is live again.
+    pub(crate) fn restore(&mut self, place: usize)
+        requires { place < length self.old.flags }
+        ensures { self.new ≡ record self.old { flags = slice_set self.old.flags place true } }
+    {
+        if !self.is_live(place) {
+            self.flags[place] = true;
+            self.gone -= 1;
+        }
+    }
+
+    /// Whether each row is of the load, and live.
+    fn is_load(&self) -> bool
+        ensures { Decides result ((length self.now.later ≡ 0) × All (λ (b : Bool). b ≡ true) self.now.flags) }
+    {
+        self.gone == 0 && self.later.is_empty()
+    }
+
+    /// Adds the rows that are live to others.
+    fn push_live(&self, load: &[Row], rows: &mut Vec<Row>) -> Result<(), Refusal>
+        requires { length self.now.flags ≡ length (load.now ++ self.now.later) }
+        ensures { MatchResult result (λ _. rows.new.items ≡ rows.old.items ++ live_among load.now self.now) (λ e. e ≡ NoMemory) }
+    {
+        for place in 0..self.flags.len() {
+            if self.is_live(place) {
+                push_row(rows, *self.row(load, place))?;
+            }
+        }
+        Ok(())
+    }
+
+    /// The rows that are live, and then one more, if there is one. Refused `NoMemory` alone.
+    pub(crate) fn copied(
+        &self,
+        alloc: Global,
+        load: &[Row],
+        more: Option<Row>,
+    ) -> Result<Vec<Row>, Refusal>
+        requires { length self.now.flags ≡ length (load.now ++ self.now.later) }
+        ensures { MatchResult result (λ rows. rows.items ≡ live_among load.now self.now ++ option_to_list more) (λ e. e ≡ NoMemory) }
+    {
+        let many = (self.flags.len() - self.gone).saturating_add(1);
+        let Ok(mut rows) = Vec::with_capacity(alloc, many) else {
+            return Err(Refusal::NoMemory);
+        };
+        self.push_live(load, &mut rows)?;
+        push_one(&mut rows, more)?;
+        Ok(rows)
+    }
+
+    /// What a query is answered over the rows that are live. It takes memory only where rows are asked for, and then it may be
+    /// refused, `NoMemory` alone. The caller's condition: attributes are below 8.
+    pub(crate) fn scan(&self, alloc: Global, load: &[Row], query: &Query) -> Result<Reply, Refusal>
+        requires asks { AsksBelow 8 query.now }
+        requires many { length self.now.flags ≡ length (load.now ++ self.now.later) }
+        ensures answered { IfOk result (λ reply. reply ≡ answer (live_among load.now self.now) query.now) }
+        ensures refused { IsOkUnless result NoMemory }
+        ensures scalars { (TakesMemory query.now.want → ⊥) → IsOk result }
+    {
+        if self.is_load() {
+            return answer(alloc, load, query);
+        }
+        scan_live(alloc, self, load, query)
+    }
+}

@@ -1,0 +1,150 @@
+//! Merging: the updates that wait go into the tape, one after the other.
+
+ghost use Rattle.std.specs.Prelude.{◌≡◌, ◌<◌, ◌≤◌, ◌+◌, [], ℕ, true, length, drop, MatchOption, MatchResult, slice_index_or, vec_capacity, vec_len};
+ghost use Rattle.sw_rows.specs.declared.row.Update.TheVariants.{Insert};
+ghost use Rattle.sw_rows.specs.declared.refusal.Refusal.TheVariants.{NoMemory};
+ghost use Rattle.sw_rows.specs.Updates.{has_key};
+ghost use Rattle.sw_kernel.specs.Tapes.{brought};
+ghost use Rattle.sw_map.specs.declared.tail.Tail.TheVariants.{Key};
+ghost use Rattle.sw_map.specs.Held.{Held};
+ghost use Rattle.sw_set.specs.Merged.{IsAllMerged, IsInserted, IsMerged, IsMergedUpTo, IsPartlyMerged, IsRemovalLogged, IsRemoved, IsSameShell, IsStoppedAt, LacksKeys, StandsForSame};
+ghost use Rattle.sw_set.specs.Prepared.{IsReady, IsSameButBoxes};
+ghost use Rattle.sw_set.specs.Shelf.{AreReceivable, AreSameMaps, MayReceive, logged_rows};
+
+use crate::area::Area;
+use sw_map::{CrackerMap, Tail};
+use sw_rows::{Refusal, Row, Update};
+use sw_tape::MAX_ENTRIES;
+
+/// Merges a row that comes: it is logged, or where the tape is full the area is begun anew with it. Refused `NoMemory`, nothing
+/// has changed.
+fn merge_insertion<M: CrackerMap>(area: &mut Area<M>, row: Row) -> Result<(), Refusal>
+    requires received { area.old.inbox ≡ [] }
+    requires may { MayReceive area.old.attribute area.old.from area.old.below (brought area.old.tape) (logged_rows area.old.attribute area.old.tape) (Insert row) }
+    ensures same { IsSameShell area.old area.new }
+    ensures ends { MatchResult result (λ _. IsInserted row area.old area.new) (λ e. (area.new ≡ area.old) × (e ≡ NoMemory)) }
+{
+    area.known();
+    if area.tape_len() == MAX_ENTRIES {
+        return area.restart_with(row);
+    }
+    area.log_insertion(row)
+}
+
+/// The box of the key map, which is stepped to the tape's end; none where there is no key map, its lease is too small for the
+/// tape's peak, or a step found no memory.
+fn aligned_keys<M: CrackerMap>(area: &mut Area<M>) -> Option<usize>
+    ensures same { IsSameButBoxes area.old area.new }
+    ensures maps { AreSameMaps area.old.boxes area.new.boxes }
+    ensures found { MatchOption result (LacksKeys area.old) (λ at. (at < length area.new.boxes) × ((d : Held) → IsReady Key area.new.tape (slice_index_or area.new.boxes at d))) }
+{
+    area.known();
+    let Some(at) = area.with_map(Tail::Key) else {
+        return None;
+    };
+    if area.cells_at(at) < area.peak() as u64 {
+        return None;
+    }
+    if let Err(_) = area.align_at(at) {
+        return None;
+    }
+    Some(at)
+}
+
+/// Logs that the live row of a key goes, at the place that the key map in a box tells. Refused `NoMemory`, nothing has changed.
+fn log_at<M: CrackerMap>(area: &mut Area<M>, at: usize, key: u64) -> Result<(), Refusal>
+    requires received { area.old.inbox ≡ [] }
+    requires room { length area.old.tape < 4096 }
+    requires live { has_key key (logged_rows area.old.attribute area.old.tape) ≡ true }
+    requires within { at < length area.old.boxes }
+    requires ready { (d : Held) → IsReady Key area.old.tape (slice_index_or area.old.boxes at d) }
+    ensures same { IsSameShell area.old area.new }
+    ensures ends { MatchResult result (λ _. IsRemovalLogged key area.old area.new) (λ e. (area.new ≡ area.old) × (e ≡ NoMemory)) }
+{
+    let place = area.place_of(at, key);
+    area.log_removal(key, place)
+}
+
+/// Merges that the live row of a key goes: it is logged, or the area is begun anew without the row. Refused `NoMemory`, the
+/// tape is as it was, and the key map has perhaps gone further.
+fn merge_removal<M: CrackerMap>(area: &mut Area<M>, key: u64) -> Result<(), Refusal>
+    requires received { area.old.inbox ≡ [] }
+    requires live { has_key key (logged_rows area.old.attribute area.old.tape) ≡ true }
+    ensures same { IsSameShell area.old area.new }
+    ensures ends { MatchResult result (λ _. IsRemoved key area.old area.new) (λ e. (e ≡ NoMemory) × (area.new.tape ≡ area.old.tape) × AreSameMaps area.old.boxes area.new.boxes) }
+{
+    area.known();
+    if area.tape_len() == MAX_ENTRIES {
+        return area.restart_without(key);
+    }
+    let Some(at) = aligned_keys(area) else {
+        return area.restart_without(key);
+    };
+    log_at(area, at, key)
+}
+
+/// Merges an update. Refused `NoMemory`, the tape is as it was, and the key map has perhaps gone further.
+fn merge_one<M: CrackerMap>(area: &mut Area<M>, update: Update) -> Result<(), Refusal>
+    requires received { area.old.inbox ≡ [] }
+    requires may { MayReceive area.old.attribute area.old.from area.old.below (brought area.old.tape) (logged_rows area.old.attribute area.old.tape) update }
+    ensures same { IsSameShell area.old area.new }
+    ensures ends { MatchResult result (λ _. IsMerged update area.old area.new) (λ e. (e ≡ NoMemory) × (area.new.tape ≡ area.old.tape) × AreSameMaps area.old.boxes area.new.boxes) }
+{
+    match update {
+        Update::Insert(row) => merge_insertion(area, row),
+        Update::Remove(key) => merge_removal(area, key),
+    }
+}
+
+/// Merges updates one after the other. A refusal stops it, and it answers how many are merged.
+fn merge_each<M: CrackerMap>(area: &mut Area<M>, updates: &[Update]) -> Result<(), usize>
+    requires received { area.old.inbox ≡ [] }
+    requires receivable { AreReceivable area.old.attribute area.old.from area.old.below (brought area.old.tape) (logged_rows area.old.attribute area.old.tape) updates.now }
+    ensures { MatchResult result (λ _. IsMergedUpTo updates.now (length updates.now) area.old area.new) (λ many. IsStoppedAt updates.now many area.old area.new) }
+{
+    for many in 0..updates.len() {
+        area.known();
+        if let Err(_) = merge_one(area, updates[many]) {
+            return Err(many);
+        }
+    }
+    Ok(())
+}
+
+/// Takes the first updates away.
+fn drop_first(waiting: &mut Vec<Update>, many: usize)
+    requires { many ≤ vec_len waiting.old }
+    ensures items { waiting.new.items ≡ drop many waiting.old.items }
+    ensures len { vec_len waiting.new + many ≡ vec_len waiting.old }
+    ensures capacity { vec_capacity waiting.new ≡ vec_capacity waiting.old }
+{
+    waiting.drain(..many);
+}
+
+impl<M: CrackerMap> Area<M> {
+    /// Merges the updates that wait, one after the other. A row that comes is logged, or, where the tape is full, the area is
+    /// begun anew with it. A row that goes is logged by the place of its pair in the key map at the tape's end; where the tape
+    /// is full, or no key map with room for the tape's peak can be stepped to the end, the area is begun anew without it.
+    ///
+    /// The area stands for the same rows. The one refusal is `NoMemory`: a beginning of the updates is merged then, and the
+    /// rest waits.
+    pub fn merge(&mut self) -> Result<(), Refusal>
+        ensures same { StandsForSame self.old self.new }
+        ensures ends { MatchResult result (λ _. IsAllMerged self.old self.new) (λ e. (e ≡ NoMemory) × IsPartlyMerged self.old self.new) }
+        ensures nothing { self.old.inbox ≡ [] → self.new ≡ self.old }
+    {
+        let mut waiting = self.take_inbox();
+        match merge_each(self, waiting.as_slice()) {
+            Ok(()) => {
+                waiting.clear();
+                self.put_inbox(waiting);
+                Ok(())
+            }
+            Err(many) => {
+                drop_first(&mut waiting, many);
+                self.put_inbox(waiting);
+                Err(Refusal::NoMemory)
+            }
+        }
+    }
+}
