@@ -79,10 +79,16 @@ abbrev pub IsPrepareRefusal : ℕ → ℕ → ℕ → Refusal → Type 0
 IsPrepareRefusal boxes many cells (NoBlank has needs) = (has ≡ boxes) × (needs ≡ many) × (has < needs)
 IsPrepareRefusal boxes many cells e = IsBeginRefusal cells e
 
--- What is told beside a reply: nothing where the area stands as `prepare` leaves it; otherwise why it could not be prepared.
+-- the refusal says that there are too few boxes
+abbrev pub IsNoBlank : Refusal → Type 0
+IsNoBlank (NoBlank boxes needs) = Unit {0}
+IsNoBlank e = ⊥
+
+-- What is told beside a reply: nothing where the area stands as `prepare` leaves it; otherwise why it could not be
+-- prepared; and too few boxes have changed nothing.
 abbrev pub IsTold : Query → AreaState → AreaState → Option Refusal → Type 0
 IsTold q x y None = IsNotedFor q x y.tape × ((from : ℕ) × (upto : ℕ) × IsPreparedFor q y from upto)
-IsTold q x y (Some e) = IsPartlyNoted q x y.tape × IsPrepareRefusal (length x.boxes) (length (needed x.attribute q)) (cells_for (peak_from 0 y.tape)) e
+IsTold q x y (Some e) = IsPartlyNoted q x y.tape × IsPrepareRefusal (length x.boxes) (length (needed x.attribute q)) (cells_for (peak_from 0 y.tape)) e × (IsNoBlank e → y ≡ x)
 
 -- the area but for its boxes
 pub record IsSameButBoxes (x y : AreaState) : Type 0 where

@@ -1,7 +1,7 @@
 //! Preparing an area for a query: the range is logged, the maps that are needed are made and aligned, and the places of the
 //! range's bounds are found.
 
-ghost use Rattle.std.specs.Prelude.{◌≡◌, ℕ, ◌<◌, ◌≤◌, ◌^◌, ◌&&◌, ◌⊎◌, ◌∷◌, [], true, length, All, Any, Contains, IfOk, IsOkUnless, MatchResult, slice_index_or};
+ghost use Rattle.std.specs.Prelude.{◌≡◌, ℕ, ◌<◌, ◌≤◌, ◌^◌, ◌&&◌, ◌⊎◌, ◌∷◌, [], true, length, All, Any, Contains, IfErr, IfOk, IsOkUnless, MatchResult, slice_index_or};
 ghost use Rattle.sw_rows.specs.Scan.{AsksBelow, answer};
 ghost use Rattle.sw_rows.specs.declared.refusal.Refusal.TheVariants.{NoMemory};
 ghost use Rattle.sw_kernel.specs.Replay.{loaded};
@@ -10,7 +10,7 @@ ghost use Rattle.sw_map.specs.declared.tail.Tail.{Tail};
 ghost use Rattle.sw_map.specs.declared.tail.Tail.TheVariants.{Key};
 ghost use Rattle.sw_map.specs.Held.{Held};
 ghost use Rattle.sw_set.specs.Needs.{head_in, needed};
-ghost use Rattle.sw_set.specs.Prepared.{IsFoundAt, IsHeld, IsNoted, IsNotedFor, IsPartlyNoted, IsPrepareRefusal, IsPrepared, IsPreparedFor, IsReady, IsTold, area_lower, area_upper, cells_for, stands_if};
+ghost use Rattle.sw_set.specs.Prepared.{IsFoundAt, IsHeld, IsNoBlank, IsNoted, IsNotedFor, IsPartlyNoted, IsPrepareRefusal, IsPrepared, IsPreparedFor, IsReady, IsTold, area_lower, area_upper, cells_for, stands_if};
 ghost use Rattle.sw_set.specs.Shelf.{IsAtEnd, IsSameArea, logged_rows, rows_in};
 
 use crate::area::Area;
@@ -110,6 +110,7 @@ fn prepare_range<R: Threads + Sync, M: CrackerMap>(
     tails: &[Tail],
 ) -> Result<Ready, Refusal>
     requires key { Contains tails.now Key }
+    ensures counted { IfErr result (λ e. IsNoBlank e → area.new ≡ area.old) }
     ensures same { IsSameArea area.old area.new }
     ensures ends { MatchResult result (λ r. IsNoted lower upper (logged_rows area.old.attribute area.old.tape) area.old.tape area.new.tape × IsPrepared lower upper tails.now area.new r.from r.upto) (λ e. ((area.new.tape ≡ area.old.tape) ⊎ (IsNoted lower upper (logged_rows area.old.attribute area.old.tape) area.old.tape area.new.tape ⊎ (area.new.tape ≡ loaded (logged_rows area.old.attribute area.old.tape) ∷ []))) × IsPrepareRefusal (length area.old.boxes) (length tails.now) (cells_for (peak_from 0 area.new.tape)) e) }
 {
@@ -133,10 +134,11 @@ impl<M: CrackerMap> Area<M> {
     /// and the answer is the range of places that qualify. A query that does not touch the area gets an empty range, and
     /// nothing is logged.
     ///
-    /// It is refused `NoMemory`, `Short` or `Contended`, or `NoBlank` where the area has fewer boxes than the query needs.
-    /// The area then stands for the same rows, and each box is blank or stands lawfully at some cursor.
+    /// It is refused `NoMemory`, `Short` or `Contended`, or `NoBlank` where the area has fewer boxes than the query needs, and
+    /// then nothing has changed. Otherwise the area stands for the same rows, and each box is blank or stands lawfully at some cursor.
     pub fn prepare<R: Threads + Sync>(&mut self, rt: &R, query: &Query) -> Result<Ready, Refusal>
         requires received { self.old.inbox ≡ [] }
+        ensures counted { IfErr result (λ e. IsNoBlank e → self.new ≡ self.old) }
         ensures same { IsSameArea self.old self.new }
         ensures ends { MatchResult result (λ r. IsNotedFor query.now self.old self.new.tape × IsPreparedFor query.now self.new r.from r.upto) (λ e. IsPartlyNoted query.now self.old self.new.tape × IsPrepareRefusal (length self.old.boxes) (length (needed self.old.attribute query.now)) (cells_for (peak_from 0 self.new.tape)) e) }
     {
