@@ -1,5 +1,5 @@
 -- Tapes, boxes and queries of the worked examples.
-use Rattle.std.specs.Prelude.{◌^◌, ◌-◌, ℕ, ℤ, pos, neg_ℤ, false, List, [], ◌∷◌, ◌++◌, map, Option, Some, None}
+use Rattle.std.specs.Prelude.{◌^◌, ◌-◌, ℕ, pos, neg_ℤ, false, List, [], ◌∷◌, ◌++◌, map, Option, Some, None}
 use Rattle.sw_rows.specs.declared.bound.Bound.{Bound}
 use Rattle.sw_rows.specs.declared.bound.Bound.TheVariants.{Before, After}
 use Rattle.sw_rows.specs.declared.query.Query.{Query}
@@ -9,7 +9,7 @@ use Rattle.sw_rows.specs.declared.row.Update.{Update}
 use Rattle.sw_rows.specs.Examples.{asking, four_rows, on, row_of_one, row_with}
 use Rattle.sw_kernel.specs.Arrangement.{Arrangement, joined, last, piece}
 use Rattle.sw_kernel.specs.Replay.{Step, loaded, inserted, removed, ranged}
-use Rattle.sw_map.specs.declared.tail.Tail.TheVariants.{Key, Cell}
+use Rattle.sw_map.specs.declared.tail.Tail.TheVariants.{Cell}
 use Rattle.sw_map.specs.Held.{Held, place_of}
 use Rattle.sw_map.specs.Lawful.{rows_by}
 use Rattle.sw_set.specs.Shelf.{AreaState, key_of}

@@ -4,6 +4,8 @@
 mod asking;
 pub mod examples;
 #[cfg(test)]
+mod gates;
+#[cfg(test)]
 mod mixes;
 #[cfg(test)]
 mod moves;

@@ -27,6 +27,8 @@ pub(crate) enum Move<'t> {
     Clear(Tail),
     /// Clears the least recently used map: the cells that came back.
     ClearOldest,
+    /// Drops up to so many boxes: how many.
+    Shed(usize),
     /// Sets the number that stamps uses.
     SetNow(u64),
     /// The stamp of the least recently used map.
@@ -218,6 +220,10 @@ pub(crate) fn make<R: Threads + Sync, M: CrackerMap>(
         Move::ClearOldest => {
             let cells = area.clear_oldest();
             Ok(format!(in alloc; "{cells}")?)
+        }
+        Move::Shed(most) => {
+            let gone = area.shed(most);
+            Ok(format!(in alloc; "{gone}")?)
         }
         Move::SetNow(now) => {
             area.set_now(now);

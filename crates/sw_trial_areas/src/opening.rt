@@ -1,10 +1,13 @@
 //! Rows by their numbers, and areas of them.
 
-ghost use Rattle.std.specs.Prelude.{◌≡◌, ◌<◌, ◌+◌, ◌^◌, ◌++◌, ◌∷◌, [], All, OnOk, IfOk, IfSome, true};
+ghost use Rattle.std.specs.Prelude.{◌≡◌, ◌<◌, ◌+◌, ◌^◌, ◌++◌, ◌∷◌, [], All, MatchOption, MatchResult, IfOk, IfSome, cond, take, true, vec_len};
+ghost use Rattle.std.specs.List.{list_all};
+ghost use Rattle.sw_rows.specs.declared.refusal.Refusal.TheVariants.{Input, NoMemory};
 ghost use Rattle.sw_rows.specs.declared.row.Row.{Row};
 ghost use Rattle.sw_map.specs.Held.{blank};
 ghost use Rattle.sw_set.specs.Needs.{edge};
 ghost use Rattle.sw_set.specs.Shelf.{Rises, key_of, lies_within};
+ghost use Rattle.sw_trial_areas.specs.Opening.{may_open, numbered, opened, row_of};
 
 use std::alloc::Global;
 use sw_map::CrackerMap;
@@ -17,7 +20,7 @@ const MOST_ROWS: usize = 1 << 20;
 /// Adds the row of these cells whose key is one more than a number. Refused `NoMemory` alone.
 fn push_row(rows: &mut Vec<Row>, number: usize, cells: [i64; 8]) -> Result<(), Refusal>
     requires { number < 2 ^ 20 }
-    ensures { OnOk result (rows.new.items ≡ rows.old.items ++ record { key = number + 1; cells = cells } ∷ []) }
+    ensures { MatchResult result (λ _. rows.new.items ≡ rows.old.items ++ row_of (number + 1, cells) ∷ []) (λ e. e ≡ NoMemory) }
 {
     let row = Row {
         key: number as u64 + 1,
@@ -31,6 +34,7 @@ fn push_row(rows: &mut Vec<Row>, number: usize, cells: [i64; 8]) -> Result<(), R
 
 /// Rows of these cells, by the keys 1, 2, 3 and so on; of the first 1,048,576 alone. Refused `NoMemory` alone.
 pub fn numbered(alloc: Global, cells: &[[i64; 8]]) -> Result<Vec<Row>, Refusal>
+    ensures rows { MatchResult result (λ rows. rows.items ≡ numbered (take (2 ^ 20) cells.now)) (λ e. e ≡ NoMemory) }
     ensures rise { IfOk result (λ rows. Rises key_of rows.items) }
     ensures fit { IfOk result (λ rows. All (λ (r : Row). r.key < 2 ^ 63) rows.items) }
 {
@@ -71,7 +75,7 @@ fn lies_within(row: &Row, attribute: u8, from: Option<i64>, below: Option<i64>) 
 /// Whether the cells of all these rows lie in the interval.
 fn lie_within(rows: &[Row], attribute: u8, from: Option<i64>, below: Option<i64>) -> bool
     requires { attribute < 8 }
-    ensures { result ≡ true → All (λ (r : Row). lies_within attribute from below r ≡ true) rows.now }
+    ensures { result ≡ list_all (lies_within attribute from below) rows.now }
 {
     for row in rows {
         if !lies_within(row, attribute, from, below) {
@@ -81,11 +85,19 @@ fn lie_within(rows: &[Row], attribute: u8, from: Option<i64>, below: Option<i64>
     true
 }
 
-/// Adds a blank box. Refused `NoMemory` alone.
+/// Whether an area of this shape may have these rows.
+fn may_open(shape: Shape, rows: &[Row]) -> bool
+    ensures { result ≡ may_open shape rows.now }
+{
+    shape.attribute < 8 && lie_within(rows, shape.attribute, shape.from, shape.below)
+}
+
+/// Adds a blank box. Refused `NoMemory` alone; the boxes are as they were then, and this one is dropped.
 pub fn add<M: CrackerMap>(maps: &mut Vec<M>, map: M) -> Result<(), Refusal>
     requires all { All (λ m. M.held m ≡ blank) maps.old.items }
     requires one { M.held map ≡ blank }
-    ensures { All (λ m. M.held m ≡ blank) maps.new.items }
+    ensures added { MatchResult result (λ _. maps.new.items ≡ maps.old.items ++ map ∷ []) (λ e. (maps.new.items ≡ maps.old.items) × (e ≡ NoMemory)) }
+    ensures blank { All (λ m. M.held m ≡ blank) maps.new.items }
 {
     if maps.reserve(1).is_err() {
         return Err(Refusal::NoMemory);
@@ -99,6 +111,7 @@ fn take_last<M: CrackerMap>(maps: &mut Vec<M>) -> Option<M>
     requires { All (λ m. M.held m ≡ blank) maps.old.items }
     ensures rest { All (λ m. M.held m ≡ blank) maps.new.items }
     ensures taken { IfSome result (λ m. M.held m ≡ blank) }
+    ensures many { MatchOption result ((vec_len maps.old ≡ 0) × (vec_len maps.new ≡ 0)) (λ _. vec_len maps.new + 1 ≡ vec_len maps.old) }
 {
     maps.pop()
 }
@@ -114,20 +127,15 @@ pub fn open<M: CrackerMap>(
     requires rise { Rises key_of rows.now }
     requires fit { All (λ (r : Row). r.key < 2 ^ 63) rows.now }
     requires blank { All (λ m. M.held m ≡ blank) maps.items }
-    ensures { IfOk result (λ area. area.inbox ≡ []) }
+    ensures opened { MatchResult result (λ area. (may_open shape rows.now ≡ true) × (area ≡ opened shape rows.now (vec_len maps))) (λ e. e ≡ cond (may_open shape rows.now) NoMemory Input) }
+    ensures received { IfOk result (λ area. area.inbox ≡ []) }
 {
-    let Shape {
-        attribute,
-        from,
-        below,
-        boxes,
-    } = shape;
-    if attribute >= 8 || !lie_within(rows, attribute, from, below) {
+    if !may_open(shape, rows) {
         return Err(Refusal::Input);
     }
-    let mut area = Area::new(alloc, attribute, from, below, rows)?;
+    let mut area = Area::new(alloc, shape.attribute, shape.from, shape.below, rows)?;
     let mut maps = maps;
-    for _turn in 0..boxes {
+    for _turn in 0..shape.boxes {
         let Some(map) = take_last(&mut maps) else {
             return Ok(area);
         };

@@ -18,7 +18,7 @@ use sw_rows::{Bound, Refusal, Row};
 use sw_trial_maps::{CountingMap, Counts};
 
 /// Four rows of the attributes a, b and c; d and e are 0.
-const FOUR_ROWS: [[i64; 8]; 4] = [
+pub(crate) const FOUR_ROWS: [[i64; 8]; 4] = [
     [12, 7, 1, 0, 0, 0, 0, 0],
     [3, 8, 0, 0, 0, 0, 0, 0],
     [12, 5, 1, 0, 0, 0, 0, 0],
@@ -41,7 +41,7 @@ const D: Tail = Tail::Cell(3);
 const E: Tail = Tail::Cell(4);
 
 /// An area of the attribute a and all values.
-fn wide(boxes: usize) -> Shape {
+pub(crate) fn wide(boxes: usize) -> Shape {
     Shape {
         attribute: 0,
         from: None,
@@ -51,7 +51,7 @@ fn wide(boxes: usize) -> Shape {
 }
 
 /// A counting map over a purse of its own.
-fn counting(
+pub(crate) fn counting(
     alloc: Global,
     purse: &mut Purse,
     counts: &Arc<Counts>,
@@ -66,7 +66,7 @@ fn counting(
 }
 
 /// An area over boxes, and moves on it.
-fn played<R: Threads + Sync, M: CrackerMap>(
+pub(crate) fn played<R: Threads + Sync, M: CrackerMap>(
     rt: &R,
     alloc: Global,
     shape: Shape,
@@ -390,6 +390,94 @@ fn of_boxes_with_one_stamp_the_lowest_is_cleared(rt: HostRuntime) -> Result<(), 
         (Move::Cursor(B), "none"),
         (Move::Cursor(C), "2"),
         (Move::Cursor(D), "2"),
+    ];
+    assert_eq!(rt;
+        trial(&rt, rt.alloc(), wide(3), &FOUR_ROWS, 1 << 20, &moves)?.as_str(),
+        ""
+    );
+    Ok(())
+}
+
+#[test]
+fn of_maps_with_one_stamp_the_lowest_is_oldest(rt: HostRuntime) -> Result<(), Fail> {
+    let moves = [
+        (Move::Answer("sum b where a >= 10"), "14"),
+        (Move::SetNow(3), ""),
+        (Move::Answer("sum c where a >= 10"), "2"),
+        (Move::Answer("sum d where a >= 10"), "0"),
+        // b was used as number 1; then the key map, c and d all as number 3
+        (Move::Oldest, "1"),
+        (Move::ClearOldest, "64"),
+        (Move::Cursor(B), "none"),
+        (Move::Oldest, "3"),
+        (Move::ClearOldest, "64"),
+        (Move::Cursor(Tail::Key), "none"),
+        (Move::Cursor(C), "2"),
+        // the number may fall: the key map, made in the first box, and c are now the oldest
+        (Move::SetNow(2), ""),
+        (Move::Answer("sum c where a >= 10"), "2"),
+        (Move::Oldest, "2"),
+        (Move::ClearOldest, "64"),
+        (Move::Cursor(Tail::Key), "none"),
+        (Move::ClearOldest, "64"),
+        (Move::Cursor(C), "none"),
+        (Move::Cursor(D), "2"),
+        (Move::Oldest, "3"),
+    ];
+    assert_eq!(rt;
+        trial(&rt, rt.alloc(), wide(4), &FOUR_ROWS, 1 << 20, &moves)?.as_str(),
+        ""
+    );
+    Ok(())
+}
+
+#[test]
+fn boxes_are_shed_blank_ones_first(rt: HostRuntime) -> Result<(), Fail> {
+    let moves = [
+        (Move::Answer("sum b where a >= 10"), "14"),
+        (Move::Answer("sum c where a >= 10"), "2"),
+        (Move::Used, "192"),
+        (Move::Shed(0), "0"),
+        (Move::Sizes, "4 boxes, 2 entries"),
+        // the fourth box is blank, then b's is the least recently used
+        (Move::Shed(1), "1"),
+        (Move::Sizes, "3 boxes, 2 entries"),
+        (Move::Used, "192"),
+        (Move::Shed(1), "1"),
+        (Move::Cursor(B), "none"),
+        (Move::Used, "128"),
+        (Move::Oldest, "2"),
+        // two boxes are left: c gives its own to b
+        (Move::Answer("sum b where a >= 10"), "14"),
+        (Move::Cursor(C), "none"),
+        (Move::Counts, "4 begins, 8 steps, 9 tails"),
+        (Move::Shed(5), "2"),
+        (Move::Sizes, "0 boxes, 2 entries"),
+        (Move::Used, "0"),
+        (Move::Oldest, "none"),
+        (Move::Answer("count"), "4, told 6 boxes 0 needed 1"),
+        (Move::Shed(3), "0"),
+    ];
+    assert_eq!(rt;
+        trial(&rt, rt.alloc(), wide(4), &FOUR_ROWS, 1 << 20, &moves)?.as_str(),
+        ""
+    );
+    Ok(())
+}
+
+#[test]
+fn of_boxes_with_one_stamp_the_lowest_is_shed(rt: HostRuntime) -> Result<(), Fail> {
+    let moves = [
+        (Move::SetNow(7), ""),
+        (Move::Answer("sum b where a >= 10"), "14"),
+        (Move::Answer("sum c where a >= 10"), "2"),
+        (Move::Shed(1), "1"),
+        (Move::Cursor(Tail::Key), "none"),
+        (Move::Cursor(B), "2"),
+        (Move::Shed(1), "1"),
+        (Move::Cursor(B), "none"),
+        (Move::Cursor(C), "2"),
+        (Move::Used, "64"),
     ];
     assert_eq!(rt;
         trial(&rt, rt.alloc(), wide(3), &FOUR_ROWS, 1 << 20, &moves)?.as_str(),

@@ -1,5 +1,6 @@
-use Rattle.sw_trial_areas.proofs.Numbering.{IsNumberedTo}
+use Rattle.std.proofs.Common.{◌≡◌, take}
+use Rattle.sw_trial_areas.specs.Opening.{numbered}
 use Rattle.sw_trial_areas.proofs.opening.numbered.Given as goal
 
 abbrev pub invariant-loop-i : goal.invariant-loop-i
-invariant-loop-i l = IsNumberedTo l.i l.rows.items
+invariant-loop-i l = l.rows.items ≡ numbered (take l.i l.cells)
