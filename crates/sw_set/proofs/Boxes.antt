@@ -147,3 +147,9 @@ held-all h P xs all k d lt = let many = length-map xs h in held-at h P xs k (ome
 -- what holds of what boxes hold holds of the boxes
 pub all-held : {X : Type 0} (h : X → Held) (P : Held → Type 0) (xs : List X) → All P (map h xs) → All (λ m. P (h m)) xs
 all-held h P xs all k d lt = let many = length-map xs h in subst P (get_or-map h xs k d (h d) lt) (all k (h d) (omega arith))
+
+-- the box that was set at a place
+pub get_or-here : {X : Type 0} (h : X → Held) (xs : List X) (i : ℕ) (y : X) (d : Held) → i < length xs → get_or (map h (set xs i y)) i d ≡ h y
+get_or-here h [] i y d lt = let no : i < 0 = lt in absurd (omega arith)
+get_or-here h (x ∷ xs) zero y d lt = refl
+get_or-here h (x ∷ xs) (suc i) y d lt = get_or-here h xs i y d (omega (arith, lt))

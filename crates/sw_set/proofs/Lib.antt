@@ -1,3 +1,4 @@
+pub mod Aligning
 pub mod Answered
 pub mod Blocks
 pub mod Boxes
@@ -15,13 +16,16 @@ pub mod LiveStandings
 pub mod Logging
 pub mod Longer
 pub mod Looks
+pub mod Merges
 pub mod Needing
 pub mod Noting
 pub mod Picks
 pub mod Placed
+pub mod Positions
 pub mod Ranges
 pub mod Receiving
 pub mod Refined
+pub mod Restarts
 pub mod Rowed
 pub mod Shelves
 pub mod Stock

@@ -1,5 +1,5 @@
 -- The place of a key among rows that rise by key.
-use Rattle.std.proofs.Common.{◌≡◌, ◌≢◌, ◌∙◌, ◌<◌, ◌≤◌, ap, sym, refl, ℕ, zero, suc, Bool, true, false, List, [], ◌∷◌, ◌++◌, length, get_or, All, arith}
+use Rattle.std.proofs.Common.{◌≡◌, ◌≢◌, ◌<◌, ◌≤◌, ℕ, zero, suc, true, false, List, [], ◌∷◌, ◌++◌, length, get_or, All, arith}
 use Rattle.std.specs.List.{AllByRecursion}
 use Rattle.std.specs.List.Sorted.{IsNonDecreasingBy, IsPartitionPoint, IsPartitionedBy}
 use Rattle.std.proofs.Math.Dec.{ltb}
@@ -35,14 +35,14 @@ all-cons k x xs a more (suc i) d lt = more i d (omega (arith, lt))
 
 -- a key that is not at the place where it would be is nowhere
 pub key-nowhere : (k : ℕ) (xs : List Row) (p : ℕ) → Rises key_of xs → p ≤ length xs → IsPartitionPoint (λ (r : Row). ltb r.key k ≡ true) (λ (r : Row). ltb r.key k ≡ false) xs p → ((d : Row) → p < length xs → (get_or xs p d).key ≢ k) → All (λ (r : Row). r.key ≢ k) xs
-key-nowhere k [] p r le at no i d lt = absurd (omega (arith, lt))
-key-nowhere k (x ∷ xs) zero r le at no =
-    let other : x.key ≢ k = no x (omega arith) in
+key-nowhere k [] p r le at absent = λ i d lt. absurd (omega (arith, lt))
+key-nowhere k (x ∷ xs) zero r le at absent =
+    let other : x.key ≢ k = absent x (omega arith) in
     let above : k < x.key = more-above x.key k (at.1 0 x (omega arith) (omega arith)) other in
     all-cons k x xs other (none-above k x.key xs above r.0)
-key-nowhere k (x ∷ xs) (suc p) r le at no =
+key-nowhere k (x ∷ xs) (suc p) r le at absent =
     all-cons k x xs (less-not x.key k (at.0 0 x (omega arith) (omega arith)))
-    (key-nowhere k xs p r.1 (omega (arith, le)) (λ i d lo hi. at.0 (suc i) d (omega arith) (omega (arith, hi)), λ i d lo hi. at.1 (suc i) d (omega (arith, lo)) (omega (arith, hi))) (λ d lt. no d (omega (arith, lt))))
+    (key-nowhere k xs p r.1 (omega (arith, le)) (λ i d lo hi. at.0 (suc i) d (omega arith) (omega (arith, hi)), λ i d lo hi. at.1 (suc i) d (omega (arith, lo)) (omega (arith, hi))) (λ d lt. absent d (omega (arith, lt))))
 
 -- each part of a rising list rises
 pub rises-front : (xs ys : List Row) → Rises key_of (xs ++ ys) → Rises key_of xs

@@ -1,5 +1,5 @@
 -- How many of some flags are false, and flags that turn.
-use Rattle.std.proofs.Common.{◌≡◌, ap, sym, refl, ℕ, zero, suc, ◌+◌, ◌<◌, ◌≤◌, Bool, true, false, not, cond, List, [], ◌∷◌, ◌++◌, length, filter, get_or, replicate, slice_set, All, arith}
+use Rattle.std.proofs.Common.{◌≡◌, ap, sym, refl, ℕ, zero, suc, ◌+◌, ◌≤◌, Bool, true, false, not, cond, List, [], ◌∷◌, ◌++◌, length, filter, get_or, replicate, slice_set, All, arith}
 use Rattle.std.proofs.lemmas.Bool.{true≢false}
 
 -- the flags that are false
@@ -40,6 +40,11 @@ false-none [] e k d lt = absurd (omega (arith, lt))
 false-none (true ∷ fs) e zero d lt = refl
 false-none (false ∷ fs) e k d lt = absurd (omega (arith, e))
 false-none (true ∷ fs) e (suc k) d lt = false-none fs e k d (omega (arith, lt))
+
+pub false-nowhere : (fs : List Bool) → All (λ (b : Bool). b ≡ true) fs → false_in fs ≡ 0
+false-nowhere [] a = refl
+false-nowhere (true ∷ fs) a = false-nowhere fs (λ k d lt. a (suc k) d (omega (arith, lt)))
+false-nowhere (false ∷ fs) a = absurd (true≢false (sym (a 0 true (omega arith))))
 
 -- the flag as it already is
 pub set-same : (fs : List Bool) (p : ℕ) (b : Bool) → get_or fs p (not b) ≡ b → slice_set fs p b ≡ fs

@@ -1,5 +1,5 @@
 -- One more place of a scan over the rows that are live.
-use Rattle.std.proofs.Common.{◌≡◌, ◌∙◌, ◌&&◌, ap, sym, refl, ℕ, ◌+◌, ◌<◌, ◌≤◌, Bool, true, false, cond, List, [], ◌∷◌, ◌++◌, map, filter, fold, length, get_or, take, ℤ, pos, ◌+ℤ◌, Option, Some, None, append-nil, arith}
+use Rattle.std.proofs.Common.{◌≡◌, ◌∙◌, ◌&&◌, ap, sym, refl, ℕ, ◌+◌, ◌<◌, ◌≤◌, Bool, true, false, cond, List, [], ◌∷◌, ◌++◌, map, filter, length, get_or, take, ℤ, pos, ◌+ℤ◌, Option, Some, append-nil}
 use Rattle.std.proofs.lemmas.List.{length_push, map-append, take_all}
 use Rattle.std.proofs.lemmas.List.Elements.{filter-append}
 use Rattle.std.proofs.lemmas.List.Sums.{fold-append}
@@ -7,6 +7,7 @@ use Rattle.std.specs.Int.{int_min, int_max}
 use Rattle.sw_rows.specs.Scan.{cell_of, column, least, greatest, matching, meets_all, projected, total}
 use Rattle.sw_rows.specs.declared.row.Row.{Row}
 use Rattle.sw_rows.specs.declared.query.Cond.{Cond}
+use Rattle.sw_rows.specs.declared.reply.ReplyRow.{ReplyRow}
 use Rattle.sw_set.specs.Choice.{kept, lesser_with, larger_with}
 use Rattle.sw_set.proofs.Choosing.{chosen-more, chosen_nil}
 
@@ -64,3 +65,32 @@ greatest-end a rs r = ap greatest (column-end a rs r) ∙ greatest-of (column a 
 
 pub shown-end : (names : List ℕ) (rs : List Row) (r : Row) → map (projected names) (rs ++ r ∷ []) ≡ map (projected names) rs ++ projected names r ∷ []
 shown-end names rs r = map-append (projected names) rs (r ∷ [])
+
+-- ---- a step of each loop, where the row at the place is found and where it isn't
+
+module _ (cs : List Cond) (fs : List Bool) (xs : List Row) (i : ℕ) (d : Row) (lt : i < length xs) (yes : is_found_at cs fs xs i d ≡ true) where
+  more-found : found_in cs fs xs (i + 1) ≡ found_in cs fs xs i ++ get_or xs i d ∷ []
+  more-found = found-yes cs fs xs i d lt yes
+
+  pub count-yes : (n : ℕ) → n ≡ length (found_in cs fs xs i) → n + 1 ≡ length (found_in cs fs xs (i + 1))
+  count-yes n so_far = ap (λ k. k + 1) so_far ∙ sym (length_push (found_in cs fs xs i) (get_or xs i d)) ∙ sym (ap length more-found)
+
+  pub total-yes : (a : ℕ) (s z : ℤ) → z ≡ cell_of a (get_or xs i d) → s ≡ total (column a (found_in cs fs xs i)) → s +ℤ z ≡ total (column a (found_in cs fs xs (i + 1)))
+  total-yes a s z is so_far =
+      ap (λ v. v +ℤ z) so_far ∙ ap (λ v. total (column a (found_in cs fs xs i)) +ℤ v) is
+      ∙ sym (total-end a (found_in cs fs xs i) (get_or xs i d)) ∙ sym (ap (λ v. total (column a v)) more-found)
+
+  pub least-yes : (a : ℕ) (f : Option ℤ) (z : ℤ) → z ≡ cell_of a (get_or xs i d) → f ≡ least (column a (found_in cs fs xs i)) → Some (lesser_with f z) ≡ least (column a (found_in cs fs xs (i + 1)))
+  least-yes a f z is so_far =
+      ap (λ v. Some (lesser_with v z)) so_far ∙ ap (λ v. Some (lesser_with (least (column a (found_in cs fs xs i))) v)) is
+      ∙ sym (least-end a (found_in cs fs xs i) (get_or xs i d)) ∙ sym (ap (λ v. least (column a v)) more-found)
+
+  pub greatest-yes : (a : ℕ) (f : Option ℤ) (z : ℤ) → z ≡ cell_of a (get_or xs i d) → f ≡ greatest (column a (found_in cs fs xs i)) → Some (larger_with f z) ≡ greatest (column a (found_in cs fs xs (i + 1)))
+  greatest-yes a f z is so_far =
+      ap (λ v. Some (larger_with v z)) so_far ∙ ap (λ v. Some (larger_with (greatest (column a (found_in cs fs xs i))) v)) is
+      ∙ sym (greatest-end a (found_in cs fs xs i) (get_or xs i d)) ∙ sym (ap (λ v. greatest (column a v)) more-found)
+
+  pub shown-yes : (names : List ℕ) (ys : List ReplyRow) (r : Row) → r ≡ get_or xs i d → ys ≡ map (projected names) (found_in cs fs xs i) → ys ++ projected names r ∷ [] ≡ map (projected names) (found_in cs fs xs (i + 1))
+  shown-yes names ys r is so_far =
+      ap (λ v. v ++ projected names r ∷ []) so_far ∙ ap (λ v. map (projected names) (found_in cs fs xs i) ++ projected names v ∷ []) is
+      ∙ sym (shown-end names (found_in cs fs xs i) (get_or xs i d)) ∙ sym (ap (map (projected names)) more-found)

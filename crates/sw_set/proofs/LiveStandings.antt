@@ -1,12 +1,12 @@
 -- What is live after one step: all of a load, one row more, one less, and a step taken back.
-use Rattle.std.proofs.Common.{◌≡◌, ◌≢◌, ◌∙◌, ◌-◌, ◌+◌, ◌<◌, ap, sym, subst, refl, ℕ, zero, suc, Bool, true, false, List, [], ◌∷◌, ◌++◌, length, take, get_or, replicate, slice_set, All, append-nil, append_assoc, length-append, length-set, arith}
+use Rattle.std.proofs.Common.{◌≡◌, ◌∙◌, ◌-◌, ◌+◌, ◌<◌, ap, sym, subst, ℕ, suc, Bool, true, false, List, [], ◌∷◌, ◌++◌, length, take, get_or, replicate, slice_set, All, append-nil, append_assoc, length-set, arith}
 use Rattle.std.specs.List.{AllByRecursion}
-use Rattle.std.proofs.lemmas.List.{length-replicate, length_push, take_at}
+use Rattle.std.proofs.lemmas.List.{length-replicate, length_push, nil_from_length, take_at}
 use Rattle.sw_rows.specs.declared.row.Row.{Row}
 use Rattle.sw_rows.specs.Updates.{has_key, without}
 use Rattle.sw_set.specs.Live.{IsStanding, Standing, live_among}
 use Rattle.sw_set.specs.Shelf.{Rises, key_of}
-use Rattle.sw_set.proofs.LiveLaws.{kept-fresh, kept-has, kept-more, kept-removed}
+use Rattle.sw_set.proofs.LiveLaws.{kept-all, kept-fresh, kept-has, kept-more, kept-removed}
 
 -- all rows of a load, each of them live
 abbrev pub fresh : List Row → Standing
@@ -64,3 +64,7 @@ module _ (load : List Row) (s : Standing) (standing : IsStanding load s) where
 -- the last item taken away again
 pub push-undone : {X : Type 0} (xs : List X) (x : X) → take (length (xs ++ x ∷ []) - 1) (xs ++ x ∷ []) ≡ xs
 push-undone xs x = take_at xs (x ∷ []) (length (xs ++ x ∷ []) - 1) (let h = length_push xs x in omega (arith, h))
+
+-- where nothing went and nothing came later, the live rows are those of the load
+pub live-load : (load : List Row) (s : Standing) → length s.flags ≡ length (load ++ s.later) → length s.later ≡ 0 → All (λ (b : Bool). b ≡ true) s.flags → live_among load s ≡ load
+live-load load s many none all = kept-all s.flags (load ++ s.later) many all ∙ ap (λ v. load ++ v) (nil_from_length s.later none) ∙ append-nil load

@@ -1,8 +1,9 @@
 -- What one entry more, an insertion or a removal, leaves of a lawful area.
-use Rattle.std.proofs.Common.{◌≡◌, ℕ, ◌<◌, ◌^◌, ℤ, true, List, [], ◌∷◌, ◌++◌, length, get_or, sym, arith, subst, All, Option}
+use Rattle.std.proofs.Common.{◌≡◌, ℕ, ◌<◌, ◌≤◌, ◌^◌, ℤ, true, List, [], ◌∷◌, ◌++◌, length, get_or, sym, arith, subst, All, Option}
 use Rattle.std.proofs.lemmas.List.{length-append}
 use Rattle.std.proofs.lemmas.List.Elements.{All-append}
 use Rattle.sw_rows.specs.declared.row.Row.{Row}
+use Rattle.sw_rows.specs.declared.row.Update.{Update}
 use Rattle.sw_rows.specs.declared.row.Update.TheVariants.{Insert}
 use Rattle.sw_rows.specs.Updates.{without}
 use Rattle.sw_kernel.specs.Arrangement.{joined}
@@ -16,13 +17,16 @@ use Rattle.sw_set.proofs.Longer.{all-without, brought-inserted, brought-removed,
 use Rattle.sw_set.proofs.Receiving.{all-one}
 use Rattle.sw_set.proofs.Shelves.{area_of}
 
-pub area-inserted : (a : ℕ) (f b : Option ℤ) (sp : ℕ) (tape : List (Step Row)) (ms : List Held) (r : Row) → length tape < 4096 → MayReceive a f b (brought tape) (logged_rows a tape) (Insert r) → IsAreaLawful (area_of a f b [] sp tape ms) → IsAreaLawful (area_of a f b [] sp (tape ++ inserted r ∷ []) ms)
-area-inserted a f b sp tape ms r room may w =
+short-more : (tape : List (Step Row)) (e : Step Row) → length tape < 4096 → length (tape ++ e ∷ []) ≤ 4096
+short-more tape e room = let n = length-append tape (e ∷ []) in omega (arith, n, room)
+
+pub area-inserted : (a : ℕ) (f b : Option ℤ) (inb : List Update) (sp : ℕ) (tape : List (Step Row)) (ms : List Held) (r : Row) → inb ≡ [] → length tape < 4096 → MayReceive a f b (brought tape) (logged_rows a tape) (Insert r) → IsAreaLawful (area_of a f b inb sp tape ms) → IsAreaLawful (area_of a f b inb sp (tape ++ inserted r ∷ []) ms)
+area-inserted a f b inb sp tape ms r none room may w =
     let same = logged-inserted a tape r in
     record {
       attribute = w.attribute;
       tape = tape-inserted tape r w.tape;
-      short = let n = length-append tape (inserted r ∷ []) in omega arith;
+      short = short-more tape (inserted r) room;
       keys = keys-inserted tape r may.1 w.keys;
       brought_rise = subst (Rises key_of) (sym (brought-inserted tape r)) (rises-last key_of (brought tape) r w.brought_rise may.0);
       rows_rise = subst (Rises key_of) (sym same) (rises-last key_of (logged_rows a tape) r w.rows_rise (logged-all (λ (c : Row). c.key < r.key) a tape may.0));
@@ -30,16 +34,16 @@ area-inserted a f b sp tape ms r room may w =
       within = subst (λ (v : List Row). All (λ (c : Row). lies_within a f b c ≡ true) v) (sym same) (All-append (λ (c : Row). lies_within a f b c ≡ true) (logged_rows a tape) (r ∷ []) w.within (all-one (λ (c : Row). lies_within a f b c ≡ true) r may.2));
       boxes = λ k d lt. lawful-longer a tape (inserted r ∷ []) _ (w.boxes k d lt);
       apart = w.apart;
-      receivable = tt;
+      receivable = rw none tt;
     }
 
-pub area-removal : (a : ℕ) (f b : Option ℤ) (sp : ℕ) (tape : List (Step Row)) (ms : List Held) (k place : ℕ) → length tape < 4096 → place < length (joined (rows_by a tape)) → ((d : Row) → (get_or (joined (rows_by a tape)) place d).key ≡ k) → IsAreaLawful (area_of a f b [] sp tape ms) → IsAreaLawful (area_of a f b [] sp (tape ++ removed place ∷ []) ms)
-area-removal a f b sp tape ms k place room within own w =
+pub area-removal : (a : ℕ) (f b : Option ℤ) (inb : List Update) (sp : ℕ) (tape : List (Step Row)) (ms : List Held) (k place : ℕ) → inb ≡ [] → length tape < 4096 → place < length (joined (rows_by a tape)) → ((d : Row) → (get_or (joined (rows_by a tape)) place d).key ≡ k) → IsAreaLawful (area_of a f b inb sp tape ms) → IsAreaLawful (area_of a f b inb sp (tape ++ removed place ∷ []) ms)
+area-removal a f b inb sp tape ms k place none room within own w =
     let same = logged-removed a tape place k within own in
     record {
       attribute = w.attribute;
       tape = tape-removed tape place w.tape (place-counted a tape place w.tape within);
-      short = let n = length-append tape (removed {A = Row} place ∷ []) in omega arith;
+      short = short-more tape (removed place) room;
       keys = keys-removed tape place w.keys;
       brought_rise = subst (Rises key_of) (sym (brought-removed tape place)) w.brought_rise;
       rows_rise = subst (Rises key_of) (sym same) (rises-without k (logged_rows a tape) w.rows_rise);
@@ -47,5 +51,5 @@ area-removal a f b sp tape ms k place room within own w =
       within = subst (λ (v : List Row). All (λ (c : Row). lies_within a f b c ≡ true) v) (sym same) (all-without (λ (c : Row). lies_within a f b c ≡ true) k (logged_rows a tape) w.within);
       boxes = λ j d lt. lawful-longer a tape (removed place ∷ []) _ (w.boxes j d lt);
       apart = w.apart;
-      receivable = tt;
+      receivable = rw none tt;
     }

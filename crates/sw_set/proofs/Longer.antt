@@ -1,5 +1,5 @@
 -- The laws of a tape that is one entry longer: which rows it brings, and which it leaves live.
-use Rattle.std.proofs.Common.{◌≡◌, ◌≢◌, ℕ, zero, suc, ◌+◌, ◌<◌, ℤ, Bool, true, false, not, cond, nat_eq, List, [], ◌∷◌, ◌++◌, length, get_or, filter, ◌⊎◌, inl, inr, refl, ap, sym, ◌∙◌, arith, subst, All, Contains}
+use Rattle.std.proofs.Common.{◌≡◌, ℕ, zero, suc, ◌<◌, ◌^◌, ℤ, Bool, true, false, not, cond, nat_eq, List, [], ◌∷◌, ◌++◌, length, get_or, filter, ◌⊎◌, inl, inr, refl, ap, sym, ◌∙◌, arith, subst, All, Contains}
 use Rattle.std.specs.List.{AllByRecursion}
 use Rattle.std.proofs.lemmas.List.{append-nil, append_assoc}
 use Rattle.std.proofs.lemmas.List.Elements.{All-from_recursion, All-append}
@@ -8,10 +8,10 @@ use Rattle.sw_rows.specs.Scan.{cell_of}
 use Rattle.sw_rows.specs.Updates.{without}
 use Rattle.sw_kernel.specs.Arrangement.{Arrangement, last, joined}
 use Rattle.sw_kernel.specs.Replay.{Step, loaded, inserted, removed, ranged, step, replay_from}
-use Rattle.sw_kernel.specs.Tapes.{IsTape, MayFollow, brought, brought_by, count_after, count_from, live_from, live_after, peak_from, without_place}
-use Rattle.sw_kernel.proofs.Members.{Mem, mem-from_contains, contains-from_mem, mem-left, mem-last, mem-either, mem-filtered, all-append, all-front, all-from_mem, all-mem}
+use Rattle.sw_kernel.specs.Tapes.{IsTape, brought, brought_by, count_from, live_from, live_after, without_place}
+use Rattle.sw_kernel.proofs.Members.{Mem, mem-from_contains, contains-from_mem, mem-left, mem-either, mem-filtered, all-append, all-from_mem}
 use Rattle.sw_kernel.proofs.Once.{count-replay}
-use Rattle.sw_tape.proofs.Steps.{count-push, peak-push, tape-push}
+use Rattle.sw_tape.proofs.Steps.{tape-push}
 use Rattle.sw_map.specs.Held.{KeysFit}
 use Rattle.sw_map.specs.Lawful.{rows_by}
 use Rattle.sw_set.specs.Shelf.{Rises, key_of, logged_rows}

@@ -33,7 +33,7 @@ above-other k (r ∷ rs) h = (let p = h.0 in differ k r.key p, above-other k rs 
     differ : (k n : ℕ) → k < n → nat_eq k n ≡ false
     differ k n lt = grind (arith, lt)
 
-rising-distinct : (rows : List Row) → Rises key_of rows → IsDistinct nat_eq (map key_of rows)
+pub rising-distinct : (rows : List Row) → Rises key_of rows → IsDistinct nat_eq (map key_of rows)
 unfolding IsDistinct
 rising-distinct [] h = tt
 rising-distinct (r ∷ rs) h = (above-other r.key rs h.0, rising-distinct rs h.1)

@@ -1,10 +1,11 @@
 -- What may be received goes on to be so when fewer rows came; lists of rows under a bound.
-use Rattle.std.proofs.Common.{◌≡◌, ℕ, zero, suc, ℤ, ◌<◌, true, List, [], ◌∷◌, ◌++◌, fold, length, refl, ap, sym, ◌∙◌, arith, subst, All, Option}
+use Rattle.std.proofs.Common.{◌≡◌, ℕ, zero, suc, ℤ, ◌<◌, ◌==◌, ◌||◌, ◌&&◌, not, Bool, true, false, List, [], ◌∷◌, ◌++◌, fold, length, refl, ap, sym, ◌∙◌, arith, subst, All, Option}
+use Rattle.std.proofs.lemmas.Bool.Decides.{nat_tests}
 use Rattle.std.proofs.lemmas.List.Elements.{All-append}
 use Rattle.sw_rows.specs.declared.row.Row.{Row}
 use Rattle.sw_rows.specs.declared.row.Update.{Update}
 use Rattle.sw_rows.specs.declared.row.Update.TheVariants.{Insert, Remove}
-use Rattle.sw_rows.specs.Updates.{rows_then}
+use Rattle.sw_rows.specs.Updates.{has_key, rows_then, without}
 use Rattle.sw_kernel.specs.Tapes.{brought}
 use Rattle.sw_set.specs.Shelf.{AreReceivable, AreaState, BringsNoMore, came_in, came_then}
 
@@ -44,3 +45,38 @@ receivable-less a f b xs ys live [] less w = tt
 receivable-less a f b xs ys live (Insert r ∷ us) less w =
     ((less r.key w.0.0, w.0.1, w.0.2), receivable-less a f b (came_then xs (Insert r)) (came_then ys (Insert r)) (rows_then live (Insert r)) us (less-then xs ys (Insert r) less) w.1)
 receivable-less a f b xs ys live (Remove k ∷ us) less w = (w.0, receivable-less a f b xs ys (rows_then live (Remove k)) us less w.1)
+
+-- ---- whether there is a row of a key
+pub has-last : (k : ℕ) (rows : List Row) (r : Row) → has_key k (rows ++ r ∷ []) ≡ has_key k rows || (k == r.key)
+has-last k [] r = or-false (k == r.key)
+  where
+    or-false : (b : Bool) → b || false ≡ b
+    or-false true = refl
+    or-false false = refl
+has-last k (x ∷ rows) r = ap (λ (b : Bool). (k == x.key) || b) (has-last k rows r) ∙ or-turn (k == x.key) (has_key k rows) (k == r.key)
+  where
+    or-turn : (s t u : Bool) → s || (t || u) ≡ (s || t) || u
+    or-turn true t u = refl
+    or-turn false t u = refl
+
+pub has-without : (k j : ℕ) (rows : List Row) → has_key k (without j rows) ≡ has_key k rows && not (j == k)
+has-without k j [] = refl
+has-without k j (x ∷ rows) = by (x.key == j) (k == x.key) (j == k) refl refl refl (has-without k j rows)
+  where
+    and-false : (b : Bool) → b && false ≡ false
+    and-false true = refl
+    and-false false = refl
+
+    clash : (n j k : ℕ) → n == j ≡ true → k == n ≡ true → j == k ≡ false → ⊥
+    clash n j k p q r = grind (arith, nat_tests, p, q, r)
+
+    clash' : (n j k : ℕ) → n == j ≡ false → k == n ≡ true → j == k ≡ true → ⊥
+    clash' n j k p q r = grind (arith, nat_tests, p, q, r)
+
+    by : (s t u : Bool) → x.key == j ≡ s → k == x.key ≡ t → j == k ≡ u → has_key k (without j rows) ≡ has_key k rows && not (j == k) → has_key k (without j (x ∷ rows)) ≡ has_key k (x ∷ rows) && not (j == k)
+    by true true true p q r rest = rw (p, q, r) (rest ∙ rw r (and-false (has_key k rows)))
+    by true true false p q r rest = absurd (clash x.key j k p q r)
+    by true false u p q r rest = rw (p, q) rest
+    by false true true p q r rest = absurd (clash' x.key j k p q r)
+    by false true false p q r rest = rw (p, q, r) refl
+    by false false u p q r rest = rw (p, q) rest

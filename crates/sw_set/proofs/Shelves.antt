@@ -1,6 +1,6 @@
 -- What single changes leave of a lawful area.
 use Rattle.std.proofs.Common.{◌≡◌, ◌≢◌, ℕ, zero, suc, ◌<◌, ◌^◌, ℤ, true, false, true≢false, List, [], ◌∷◌, ◌++◌, length, get_or, set, map, take, drop, refl, ap, sym, ◌∙◌, arith, subst, All, Option, Result, Ok, Err, MatchResult, OnOk, OnErr}
-use Rattle.std.proofs.lemmas.List.{map-set, map-append, length-append}
+use Rattle.std.proofs.lemmas.List.{length-map, map-set, map-append, length-append}
 use Rattle.std.proofs.lemmas.List.Elements.{All-set, All-append}
 use Rattle.sw_rows.specs.declared.bound.Bound.{Bound}
 use Rattle.sw_rows.specs.declared.row.Row.{Row}
@@ -18,7 +18,8 @@ use Rattle.sw_map.specs.Refusals.{IsBeginRefusal}
 use Rattle.sw_map.proofs.Replays.{lawful-longer, lawful-blank, lawful-aligned, begun-aligned}
 use Rattle.sw_set.specs.Shelf.{AreaState, AreApart, AreReceivable, AreSameMaps, IsAreaLawful, Rises, first_rows, key_of, lies_within, logged_rows}
 use Rattle.sw_set.specs.Prepared.{IsFreshBut}
-use Rattle.sw_set.proofs.Boxes.{set-each}
+use Rattle.sw_set.specs.Merged.{IsBegunAnew, IsSameShell}
+use Rattle.sw_set.proofs.Boxes.{held-all, set-each}
 use Rattle.sw_set.proofs.Receiving.{IsBelow, all-one, receivable-less}
 
 abbrev pub area_of : ℕ → Option ℤ → Option ℤ → List Update → ℕ → List (Step Row) → List Held → AreaState
@@ -147,6 +148,20 @@ area-begun a f b inb sp rows ns few fit rise within blanks receivable = record {
   apart = apart-blank ns blanks;
   receivable = subst (λ (v : List Row). AreReceivable a f b v rows inb) (sym (append-none rows)) receivable;
 }
+
+pub begun-shell : {X : Type 0} (h : X → Held) (s : AreaState) (a : ℕ) (f b : Option ℤ) (inb : List Update) (sp : ℕ) (tape new : List (Step Row)) (rows : List Row) (xs ys : List X) → area_of a f b inb sp tape (map h xs) ≡ s → new ≡ loaded rows ∷ [] → length ys ≡ length xs → All (λ (y : X). h y ≡ blank) ys → IsSameShell s (area_of a f b inb sp new (map h ys)) × IsBegunAnew rows (area_of a f b inb sp new (map h ys))
+begun-shell h s a f b inb sp tape new rows xs ys is tapes many blanks =
+    let one = length-map xs h in
+    let two = length-map ys h in
+    let boxes : length (map h ys) ≡ length (map h xs) = omega (arith, one, two, many) in
+    (record {
+      attribute = ap (λ (v : AreaState). v.attribute) is;
+      from = ap (λ (v : AreaState). v.from) is;
+      below = ap (λ (v : AreaState). v.below) is;
+      inbox = ap (λ (v : AreaState). v.inbox) is;
+      spare = ap (λ (v : AreaState). v.spare) is;
+      many = boxes ∙ ap (λ (v : AreaState). length v.boxes) is;
+    }, record { tape = tapes; boxes = held-all h (λ (m : Held). m ≡ blank) ys blanks })
 
 -- with its live rows, which came to it
 pub area-restarted : (a : ℕ) (f b : Option ℤ) (inb : List Update) (sp : ℕ) (tape : List (Step Row)) (ms ns : List Held) → ((n : ℕ) → IsBelow n (brought tape) → IsBelow n (logged_rows a tape)) → All (λ m. m ≡ blank) ns → IsAreaLawful (area_of a f b inb sp tape ms) → IsAreaLawful (area_of a f b inb sp (loaded (logged_rows a tape) ∷ []) ns)

@@ -328,13 +328,10 @@ impl<M: CrackerMap> Area<M> {
     /// interval, and a removed key is live then. A refusal changes nothing.
     pub fn receive(&mut self, updates: &[Update]) -> Result<(), Refusal>
         requires { AreReceivable self.old.attribute self.old.from self.old.below (came_in self.old) (rows_in self.old) updates.now }
-        ensures ends { MatchResult result (λ _. self.new ≡ record self.old { inbox = self.old.inbox ++ updates.now; spare = self.new.spare }) (λ e. (self.new ≡ self.old) × (e ≡ NoMemory)) }
-        ensures roomy { length updates.now ≤ self.old.spare → IsOk result × (self.new.spare + length updates.now ≡ self.old.spare) }
+        ensures ends { MatchResult result (λ _. (self.new ≡ record self.old { inbox = self.old.inbox ++ updates.now; spare = self.new.spare }) × (self.old.spare ≤ self.new.spare + length updates.now)) (λ e. (self.new ≡ self.old) × (e ≡ NoMemory)) }
+        ensures roomy { length updates.now ≤ self.old.spare → IsOk result }
     {
-        match self.inbox.extend_from_slice(updates) {
-            Ok(()) => Ok(()),
-            Err(_) => Err(Refusal::NoMemory),
-        }
+        append(&mut self.inbox, updates)
     }
 
     /// Whether the area has a row of a key, as if what waits were merged. It takes no memory.
@@ -638,6 +635,20 @@ fn load_of(tape: &Tape) -> &[Row]
         Some(Entry::Load(rows)) => rows.as_slice(),
         _ => unreachable!(),
     }
+}
+
+/// Appends updates to others. A refusal changes nothing.
+fn append(waiting: &mut Vec<Update>, updates: &[Update]) -> Result<(), Refusal>
+    ensures ends { MatchResult result (λ _. (waiting.new.items ≡ waiting.old.items ++ updates.now) × (vec_len waiting.new ≡ vec_len waiting.old + length updates.now) × (vec_capacity waiting.old ≤ vec_capacity waiting.new)) (λ e. (waiting.new.items ≡ waiting.old.items) × (vec_len waiting.new ≡ vec_len waiting.old) × (vec_capacity waiting.new ≡ vec_capacity waiting.old) × (e ≡ NoMemory)) }
+    ensures roomy { vec_len waiting.old + length updates.now ≤ vec_capacity waiting.old → IsOk result }
+{
+    if waiting.reserve(updates.len()).is_err() {
+        return Err(Refusal::NoMemory);
+    }
+    if waiting.extend_from_slice(updates).is_err() {
+        unreachable!()
+    }
+    Ok(())
 }
 
 /// The live rows but that of a key, which is live.

@@ -11,6 +11,7 @@ mod live;
 #[cfg(test)]
 mod live_tests;
 mod making;
+mod merging;
 mod needs;
 mod pick;
 mod position;

@@ -1,6 +1,6 @@
 //! Which rows of a tape are live.
 
-ghost use Rattle.std.specs.Prelude.{◌≡◌, ◌≢◌, ◌-◌, ◌<◌, ◌++◌, ◌∷◌, [], true, false, length, take, replicate, slice_index_or, slice_set, option_to_list, All, Bool, IfOk, IsOk, IsOkUnless, MatchOption, MatchResult};
+ghost use Rattle.std.specs.Prelude.{◌≡◌, ◌≢◌, ◌-◌, ◌<◌, ◌++◌, ◌∷◌, [], true, false, length, take, replicate, slice_index_or, slice_set, option_to_list, All, Bool, Decides, IfOk, IsOk, IsOkUnless, MatchOption, MatchResult};
 ghost use Rattle.sw_rows.specs.declared.row.Row.{Row};
 ghost use Rattle.sw_rows.specs.declared.refusal.Refusal.TheVariants.{NoMemory};
 ghost use Rattle.sw_rows.specs.Scan.{AsksBelow, TakesMemory, answer};
@@ -13,16 +13,34 @@ use std::alloc::Global;
 use std::marker::Model;
 use sw_rows::{Query, Refusal, Reply, Row, answer};
 
+/// Whether the row at a place, if there is one, has the key.
+fn stands_at(rows: &[Row], place: usize, key: u64) -> bool
+    ensures there { result ≡ true → (place < length rows.now) × ((d : Row) → (slice_index_or rows.now place d).key ≡ key) }
+    ensures other { result ≡ false → (d : Row) → place < length rows.now → (slice_index_or rows.now place d).key ≢ key }
+{
+    place < rows.len() && rows[place].key == key
+}
+
 /// The place of a key among rows that rise by key, by binary search.
 fn find_key(rows: &[Row], key: u64) -> Option<usize>
     requires { Rises key_of rows.now }
     ensures { MatchOption result (All (λ (r : Row). r.key ≢ key) rows.now) (λ p. (p < length rows.now) × ((d : Row) → (slice_index_or rows.now p d).key ≡ key)) }
 {
     let place = rows.partition_point(|row| row.key < key);
-    if place < rows.len() && rows[place].key == key {
+    if stands_at(rows, place, key) {
         Some(place)
     } else {
         None
+    }
+}
+
+/// A row comes last.
+fn push_row(rows: &mut Vec<Row>, row: Row) -> Result<(), Refusal>
+    ensures { MatchResult result (λ _. rows.new.items ≡ rows.old.items ++ row ∷ []) (λ e. e ≡ NoMemory) }
+{
+    match rows.push(row) {
+        Ok(()) => Ok(()),
+        Err(_) => Err(Refusal::NoMemory),
     }
 }
 
@@ -30,12 +48,9 @@ fn find_key(rows: &[Row], key: u64) -> Option<usize>
 fn push_one(rows: &mut Vec<Row>, more: Option<Row>) -> Result<(), Refusal>
     ensures { MatchResult result (λ _. rows.new.items ≡ rows.old.items ++ option_to_list more) (λ e. e ≡ NoMemory) }
 {
-    let Some(row) = more else {
-        return Ok(());
-    };
-    match rows.push(row) {
-        Ok(()) => Ok(()),
-        Err(_) => Err(Refusal::NoMemory),
+    match more {
+        Some(row) => push_row(rows, row),
+        None => Ok(()),
     }
 }
 
@@ -158,7 +173,7 @@ impl LiveRows {
         requires { place < length self.old.flags }
         ensures { self.new ≡ record self.old { flags = slice_set self.old.flags place false } }
     {
-        if self.flags[place] {
+        if self.is_live(place) {
             self.flags[place] = false;
             self.gone += 1;
         }
@@ -169,7 +184,7 @@ impl LiveRows {
         requires { place < length self.old.flags }
         ensures { self.new ≡ record self.old { flags = slice_set self.old.flags place true } }
     {
-        if !self.flags[place] {
+        if !self.is_live(place) {
             self.flags[place] = true;
             self.gone -= 1;
         }
@@ -177,7 +192,7 @@ impl LiveRows {
 
     /// Whether each row is of the load, and live.
     fn is_load(&self) -> bool
-        ensures { result ≡ true → (length self.now.later ≡ 0) × All (λ (b : Bool). b ≡ true) self.now.flags }
+        ensures { Decides result ((length self.now.later ≡ 0) × All (λ (b : Bool). b ≡ true) self.now.flags) }
     {
         self.gone == 0 && self.later.is_empty()
     }
@@ -188,8 +203,8 @@ impl LiveRows {
         ensures { MatchResult result (λ _. rows.new.items ≡ rows.old.items ++ live_among load.now self.now) (λ e. e ≡ NoMemory) }
     {
         for place in 0..self.flags.len() {
-            if self.flags[place] && rows.push(*self.row(load, place)).is_err() {
-                return Err(Refusal::NoMemory);
+            if self.is_live(place) {
+                push_row(rows, *self.row(load, place))?;
             }
         }
         Ok(())

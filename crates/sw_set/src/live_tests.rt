@@ -62,7 +62,8 @@ fn are_shown(reply: &Reply, shown: &[(u64, i64)]) -> bool {
         return false;
     }
     for i in 0..rows.len() {
-        if rows[i].key != shown[i].0 || rows[i].cells.as_slice() != [shown[i].1] {
+        let cells = rows[i].cells.as_slice();
+        if rows[i].key != shown[i].0 || cells.len() != 1 || cells[0] != shown[i].1 {
             return false;
         }
     }

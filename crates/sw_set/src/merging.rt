@@ -45,10 +45,10 @@ fn aligned_keys<M: CrackerMap>(area: &mut Area<M>) -> Option<usize>
     if area.cells_at(at) < area.peak() as u64 {
         return None;
     }
-    match area.align_at(at) {
-        Ok(()) => Some(at),
-        Err(_) => None,
+    if let Err(_) = area.align_at(at) {
+        return None;
     }
+    Some(at)
 }
 
 /// Logs that the live row of a key goes, at the place that the key map in a box tells. Refused `NoMemory`, nothing has changed.
@@ -103,7 +103,7 @@ fn merge_each<M: CrackerMap>(area: &mut Area<M>, updates: &[Update]) -> Result<(
     ensures { MatchResult result (λ _. IsMergedUpTo updates.now (length updates.now) area.old area.new) (λ many. IsStoppedAt updates.now many area.old area.new) }
 {
     for many in 0..updates.len() {
-        if merge_one(area, updates[many]).is_err() {
+        if let Err(_) = merge_one(area, updates[many]) {
             return Err(many);
         }
     }

@@ -1,6 +1,6 @@
 //! Where a row's pair stands in the key map.
 
-ghost use Rattle.std.specs.Prelude.{◌≡◌, ℕ, ◌<◌, ◌≤◌, pos, length, slice_range, slice_index_or, Any, Contains};
+ghost use Rattle.std.specs.Prelude.{◌≡◌, ℕ, ◌<◌, ◌≤◌, pos, length, slice_range, slice_index_or, unsigned_abs, Any, Contains};
 ghost use Rattle.sw_rows.specs.declared.row.Row.{Row};
 ghost use Rattle.sw_rows.specs.Scan.{cell_of};
 ghost use Rattle.sw_kernel.specs.Arrangement.{joined};
@@ -14,8 +14,39 @@ ghost use Rattle.sw_set.specs.Prepared.{IsFoundAt};
 ghost use Rattle.sw_set.specs.Shelf.{Rises, key_of, logged_rows};
 ghost use Rattle.sw_set.specs.declared.window.Side.TheVariants.{Tail};
 
+use crate::window::{Side, value_at};
 use sw_map::CrackerMap;
+use sw_rows::Bound;
 use sw_tape::Tape;
+
+/// Where a bound that the map has cracked at stands; an absent one stands at a given place.
+fn place_in<M: CrackerMap>(it: &M, bound: Option<Bound>, absent: usize) -> usize
+    requires { HasPlace bound (M.held it.now) }
+    ensures { IsFoundAt bound absent (M.held it.now) result }
+{
+    let Some(bound) = bound else {
+        return absent;
+    };
+    let Some(place) = it.find(bound) else {
+        unreachable!()
+    };
+    place
+}
+
+/// A place, from one up to below another, whose tail is the key; one of them is.
+fn find_key<M: CrackerMap>(it: &M, key: u64, from: usize, upto: usize) -> usize
+    requires within { upto ≤ pairs_in (M.held it.now) }
+    requires there { Contains (slice_range (side_in Tail (M.held it.now)) from upto) (pos key) }
+    ensures within { result < pairs_in (M.held it.now) }
+    ensures found { unsigned_abs (slice_index_or (side_in Tail (M.held it.now)) result (pos 0)) ≡ key }
+{
+    for place in from..upto {
+        if value_at(it, Side::Tail, place).unsigned_abs() == key {
+            return place;
+        }
+    }
+    unreachable!()
+}
 
 /// Where the pair of a live row stands in a key map at the tape's end. It is searched between the nearest bounds around the
 /// row's head value, at which the map has cracked.
@@ -29,5 +60,8 @@ pub(crate) fn place_of_row<M: CrackerMap>(it: &M, tape: &Tape, value: i64, key: 
     ensures within { result < length (joined (rows_by (M.held it.now).head tape.now)) }
     ensures key { (d : Row) → (slice_index_or (joined (rows_by (M.held it.now).head tape.now)) result d).key ≡ key }
 {
-    unreachable!()
+    let (lower, upper) = tape.around(value);
+    let from = place_in(it, lower, 0);
+    let upto = place_in(it, upper, it.len());
+    find_key(it, key, from, upto)
 }

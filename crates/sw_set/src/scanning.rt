@@ -85,7 +85,7 @@ fn min(live: &LiveRows, load: &[Row], conds: &[Cond], attr: usize) -> Option<i64
         if is_found(live, load, conds, place) {
             let here = cell(live.row(load, place), attr);
             found = match found {
-                Some(low) => Some(here.min(low)),
+                Some(low) => Some(low.min(here)),
                 None => Some(here),
             };
         }
@@ -105,7 +105,7 @@ fn max(live: &LiveRows, load: &[Row], conds: &[Cond], attr: usize) -> Option<i64
         if is_found(live, load, conds, place) {
             let here = cell(live.row(load, place), attr);
             found = match found {
-                Some(high) => Some(here.max(high)),
+                Some(high) => Some(high.max(here)),
                 None => Some(here),
             };
         }

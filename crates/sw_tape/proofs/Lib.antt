@@ -1,3 +1,4 @@
+pub mod Around
 pub mod Places
 pub mod Steps
 pub mod Kept

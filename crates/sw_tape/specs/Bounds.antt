@@ -1,7 +1,7 @@
--- Where a bound's place is in a rising list of bounds.
-use Rattle.std.specs.Prelude.{◌≡◌, ℕ, Bool, true, false, ◌||◌, zero, suc, List, [], ◌∷◌}
+-- Where a bound's place is in a rising list of bounds, and which of them are nearest around a value.
+use Rattle.std.specs.Prelude.{◌≡◌, ℕ, ℤ, Bool, true, false, ◌||◌, zero, suc, List, [], ◌∷◌, Option, None, Some}
 use Rattle.sw_rows.specs.declared.bound.Bound.{Bound}
-use Rattle.sw_rows.specs.Bounds.{bound_below, same_bound}
+use Rattle.sw_rows.specs.Bounds.{bound_below, is_left, same_bound}
 
 -- whether a bound is among these
 abbrev pub is_among : Bound → List Bound → Bool
@@ -19,3 +19,20 @@ IsPlaceOf b zero [] = Unit {0}
 IsPlaceOf b zero (c ∷ cs) = bound_below c b ≡ false
 IsPlaceOf b (suc k) [] = ⊥
 IsPlaceOf b (suc k) (c ∷ cs) = (bound_below c b ≡ true) × IsPlaceOf b k cs
+
+-- just the bounds before this place do not have the value on their left
+abbrev pub IsSplit : ℤ → ℕ → List Bound → Type 0
+IsSplit v zero [] = Unit {0}
+IsSplit v zero (c ∷ cs) = is_left c v ≡ true
+IsSplit v (suc k) [] = ⊥
+IsSplit v (suc k) (c ∷ cs) = (is_left c v ≡ false) × IsSplit v k cs
+
+-- of the bounds that pass the test and do not have the value on their left, the greatest; no bound where there is none
+abbrev pub IsNearestBelow : (Bound → Bool) → ℤ → Option Bound → Type 0
+IsNearestBelow there v None = (b : Bound) → there b ≡ true → is_left b v ≡ true
+IsNearestBelow there v (Some c) = (there c ≡ true) × (is_left c v ≡ false) × ((b : Bound) → there b ≡ true → is_left b v ≡ false → bound_below c b ≡ false)
+
+-- of the bounds that pass the test and have the value on their left, the least; no bound where there is none
+abbrev pub IsNearestAbove : (Bound → Bool) → ℤ → Option Bound → Type 0
+IsNearestAbove there v None = (b : Bound) → there b ≡ true → is_left b v ≡ false
+IsNearestAbove there v (Some c) = (there c ≡ true) × (is_left c v ≡ true) × ((b : Bound) → there b ≡ true → is_left b v ≡ true → bound_below b c ≡ false)

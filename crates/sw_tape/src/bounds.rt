@@ -1,10 +1,10 @@
 //! A rising list of bounds.
 
-ghost use Rattle.std.specs.Prelude.{◌≡◌, ◌<◌, ◌≤◌, ◌+◌, ◌||◌, drop, insert, vec_capacity, vec_len};
+ghost use Rattle.std.specs.Prelude.{◌≡◌, ◌<◌, ◌≤◌, ◌+◌, ◌||◌, drop, insert, length, vec_capacity, vec_len};
 ghost use Rattle.sw_rows.specs.Bounds.{same_bound};
 ghost use Rattle.sw_rows.specs.declared.bound.Bound.{Bound};
 ghost use Rattle.sw_kernel.specs.Tapes.{IsRising, is_bound};
-ghost use Rattle.sw_tape.specs.Bounds.{IsPlaceOf, is_among, is_first};
+ghost use Rattle.sw_tape.specs.Bounds.{IsNearestAbove, IsNearestBelow, IsPlaceOf, IsSplit, is_among, is_first};
 
 use sw_rows::Bound;
 
@@ -83,4 +83,52 @@ pub(crate) fn add_some(bounds: &mut Vec<Bound>, bound: Option<Bound>)
     if let Some(bound) = bound {
         add(bounds, bound);
     }
+}
+
+/// How many of the bounds do not have the value on their left, by binary search.
+fn count_up_to(bounds: &[Bound], value: i64) -> usize
+    requires { IsRising bounds.now }
+    ensures within { result ≤ length bounds.now }
+    ensures split { IsSplit value result bounds.now }
+{
+    bounds.partition_point(|known| !known.is_left(value))
+}
+
+/// The greatest bound that does not have the value on its left, from how many of them do not.
+fn nearest_below(bounds: &[Bound], count: usize, value: i64) -> Option<Bound>
+    requires rising { IsRising bounds.now }
+    requires within { count ≤ length bounds.now }
+    requires split { IsSplit value count bounds.now }
+    ensures { IsNearestBelow (λ b. is_among b bounds.now) value result }
+{
+    if count == 0 {
+        return None;
+    }
+    Some(bounds[count - 1])
+}
+
+/// The least bound that has the value on its left, from how many of them do not.
+fn nearest_above(bounds: &[Bound], count: usize, value: i64) -> Option<Bound>
+    requires rising { IsRising bounds.now }
+    requires within { count ≤ length bounds.now }
+    requires split { IsSplit value count bounds.now }
+    ensures { IsNearestAbove (λ b. is_among b bounds.now) value result }
+{
+    if count == bounds.len() {
+        return None;
+    }
+    Some(bounds[count])
+}
+
+/// The nearest of the bounds around a value: the greatest that does not have it on its left, and the least that has.
+pub(crate) fn around(bounds: &[Bound], value: i64) -> (Option<Bound>, Option<Bound>)
+    requires { IsRising bounds.now }
+    ensures lower { IsNearestBelow (λ b. is_among b bounds.now) value result.0 }
+    ensures upper { IsNearestAbove (λ b. is_among b bounds.now) value result.1 }
+{
+    let count = count_up_to(bounds, value);
+    (
+        nearest_below(bounds, count, value),
+        nearest_above(bounds, count, value),
+    )
 }

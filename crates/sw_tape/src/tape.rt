@@ -6,10 +6,10 @@ ghost use Rattle.sw_rows.specs.declared.row.Row.{Row};
 ghost use Rattle.sw_rows.specs.declared.refusal.Refusal.TheVariants.{NoMemory, TooMany};
 ghost use Rattle.sw_kernel.specs.Replay.{Step, loaded};
 ghost use Rattle.sw_kernel.specs.Tapes.{IsRising, IsTape, MayFollow, count_from, is_marked, peak_from, ranges_at};
-ghost use Rattle.sw_tape.specs.Bounds.{is_among};
+ghost use Rattle.sw_tape.specs.Bounds.{IsNearestAbove, IsNearestBelow, is_among};
 ghost use Rattle.sw_tape.specs.Entries.{IsKept, step_of};
 
-use crate::bounds::{add_some, is_among};
+use crate::bounds::{add_some, around, is_among};
 use crate::entry::{Entry, pairs_after};
 use std::alloc::Global;
 use std::marker::Model;
@@ -159,5 +159,14 @@ impl Tape {
         ensures { result ≡ is_marked bound self.now }
     {
         is_among(&self.bounds, bound)
+    }
+
+    /// The nearest bounds of the tape's ranges around a value: the greatest that does not have it on its left, and the least
+    /// that has. They are found by binary search.
+    pub fn around(&self, value: i64) -> (Option<Bound>, Option<Bound>)
+        ensures lower { IsNearestBelow (λ b. is_marked b self.now) value result.0 }
+        ensures upper { IsNearestAbove (λ b. is_marked b self.now) value result.1 }
+    {
+        around(&self.bounds, value)
     }
 }

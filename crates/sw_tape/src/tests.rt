@@ -88,3 +88,47 @@ fn the_entry_after_the_last_is_refused(rt: HostRuntime) -> Result<(), Refusal> {
     assert!(rt; tape.len() == MAX_ENTRIES && tape.peak() == 4);
     Ok(())
 }
+
+#[test]
+fn nearest_bounds_are_around(rt: HostRuntime) -> Result<(), Refusal> {
+    let mut tape = worked_tape(rt.alloc())?;
+    assert!(rt; matches!(tape.around(12), (None, None)));
+    tape.push(Entry::Range(Some(Bound::Before(10)), Some(Bound::After(15))))?;
+    tape.push(Entry::Range(Some(Bound::After(12)), Some(Bound::Before(20))))?;
+    assert!(rt;
+        matches!(
+            tape.around(12),
+            (Some(Bound::Before(10)), Some(Bound::After(12)))
+        )
+    );
+    assert!(rt;
+        matches!(
+            tape.around(13),
+            (Some(Bound::After(12)), Some(Bound::After(15)))
+        )
+    );
+    assert!(rt;
+        matches!(
+            tape.around(10),
+            (Some(Bound::Before(10)), Some(Bound::After(12)))
+        )
+    );
+    assert!(rt; matches!(tape.around(3), (None, Some(Bound::Before(10)))));
+    assert!(rt; matches!(tape.around(20), (Some(Bound::Before(20)), None)));
+    Ok(())
+}
+
+#[test]
+fn rows_are_taken_over(rt: HostRuntime) -> Result<(), Refusal> {
+    let Ok(rows) = Vec::from_slice(rt.alloc(), &[row(1, 12), row(4, 20)]) else {
+        return Err(Refusal::NoMemory);
+    };
+    let mut tape = Tape::of(rows)?;
+    assert!(rt; tape.len() == 1 && tape.peak() == 2);
+    assert!(rt;
+        matches!(tape.get(0), Some(Entry::Load(rows)) if rows.len() == 2 && rows[1].key == 4)
+    );
+    tape.push(Entry::Insert(row(5, 7)))?;
+    assert!(rt; tape.peak() == 3);
+    Ok(())
+}

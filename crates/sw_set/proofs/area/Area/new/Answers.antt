@@ -1,4 +1,4 @@
-use Rattle.std.proofs.Common.{sym, ◌∙◌}
+use Rattle.std.proofs.Common.{sym, ◌∙◌, rules}
 use Rattle.sw_set.proofs.Shelves.{area-new}
 use Rattle.sw_set.proofs.Ties.{tied-loaded}
 use Rattle.sw_set.proofs.area.Area.new.Goals as goal

@@ -1,22 +1,25 @@
-use Rattle.std.proofs.Common.{◌≡◌, List, [], ◌∷◌, map, length, sym, ap, ◌∙◌, arith, refl}
+use Rattle.std.proofs.Common.{◌≡◌, ap, sym, ◌∙◌, subst, List}
+use Rattle.std.proofs.lemmas.List.{append-nil}
 use Rattle.sw_rows.specs.declared.row.Row.{Row}
-use Rattle.sw_kernel.specs.Replay.{loaded}
-use Rattle.sw_set.specs.Shelf.{AreaState, logged_rows}
-use Rattle.sw_set.proofs.Boxes.{held-all}
-use Rattle.sw_set.proofs.Shelves.{area-restarted, written}
-use Rattle.sw_map.specs.Held.{Held, blank}
+use Rattle.sw_kernel.specs.Tapes.{brought}
+use Rattle.sw_set.specs.Live.{live_among}
+use Rattle.sw_set.specs.Shelf.{AreReceivable, AreaState, logged_rows}
+use Rattle.sw_set.proofs.Longer.{logged-all}
+use Rattle.sw_set.proofs.Receiving.{receivable-less}
+use Rattle.sw_set.proofs.Restarts.{restarted-same}
+use Rattle.sw_set.proofs.Ties.{tied-live}
 use Rattle.sw_set.proofs.area.Area.restart.Goals as goal
 
-pub invariant_of-self : goal.invariant_of-self
-invariant_of-self g c =
+pub begin_anew-requires-clause-receivable : goal.begin_anew-requires-clause-receivable
+begin_anew-requires-clause-receivable g c κs within =
     let s = c.self.inside in
-    let ys = c.clear_all.new.boxes in
-    let value = ap length c.as_mut_slice.ensures.value in
-    let many = c.clear_all.ensures.many in
-    let n : s.boxes.len ≡ length ys = omega arith in
-    let rows : c.rows.result.now ≡ logged_rows s.attribute s.tape = c.rows.ensures ∙ sym (ap (λ (v : AreaState). logged_rows v.attribute v.tape) c.self.view_is) in
-    let tape : c.in_ok-tape.tape ≡ loaded (logged_rows s.attribute s.tape) ∷ [] = c.in_ok-tape.ensures ∙ ap (λ (v : List Row). loaded v ∷ []) rows in (
-      rw (written s.boxes.len ys s.boxes.items n, tape) (area-restarted s.attribute s.from s.below s.inbox.items s.tape (map g.M.CrackerMap.held s.boxes.items) (map g.M.CrackerMap.held ys) (held-all g.M.CrackerMap.held (λ (m : Held). m ≡ blank) ys c.clear_all.ensures.blank) c.self.invariant.0),
-      c.self.invariant.1,
-      rw tape refl,
-    )
+    let w = c.self.invariant.0 in
+    let are : c.in_ok-rows.rows.items ≡ logged_rows s.attribute s.tape = c.in_ok-rows.ensures ∙ append-nil _ ∙ tied-live s.attribute s.tape s.live _ c.load_of.ensures c.self.invariant.2 in
+    subst (λ (v : AreaState). AreReceivable v.attribute v.from v.below c.in_ok-rows.rows.items c.in_ok-rows.rows.items v.inbox) c.self.view_is
+    (subst (λ (v : List Row). AreReceivable s.attribute s.from s.below v v s.inbox.items) (sym are)
+      (receivable-less s.attribute s.from s.below (brought s.tape) (logged_rows s.attribute s.tape) (logged_rows s.attribute s.tape) s.inbox.items (λ n h. logged-all _ s.attribute s.tape h) w.receivable))
+
+pub returns-clause-same : goal.returns-clause-same
+returns-clause-same g c =
+    let s = c.self.inside in
+    restarted-same _ c.in_ok-rows.rows.items _ _ (c.in_ok-rows.ensures ∙ append-nil _ ∙ tied-live s.attribute s.tape s.live _ c.load_of.ensures c.self.invariant.2 ∙ ap (λ (v : AreaState). logged_rows v.attribute v.tape) c.self.view_is) c.begin_anew.ensures

@@ -1,0 +1,5 @@
+use Rattle.sw_set.specs.Merged.{IsMergedUpTo}
+use Rattle.sw_set.proofs.merging.merge_each.Given as goal
+
+abbrev pub invariant-loop-many : goal.invariant-loop-many
+invariant-loop-many g l = IsMergedUpTo l.updates l.many l.initial.area l.area
