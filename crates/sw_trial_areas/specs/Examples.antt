@@ -83,7 +83,7 @@ second_map = record {
 
 -- an area of four rows, one of which waits to go
 abbrev pub waiting_area : Update → AreaState
-waiting_area u = record { attribute = 0; from = None; below = None; inbox = u ∷ []; tape = cracked_tape; boxes = [] }
+waiting_area u = record { attribute = 0; from = None; below = None; inbox = u ∷ []; spare = 0; tape = cracked_tape; boxes = [] }
 
 -- `select b` with a range of a
 abbrev pub select_b : Query

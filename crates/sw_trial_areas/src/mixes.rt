@@ -233,7 +233,11 @@ fn mix<R: Threads + Sync, M: CrackerMap>(
 }
 
 /// A map that refuses every n-th step, none where n is 0.
-pub(crate) fn refusing(alloc: Global, purse: &mut Purse, every: u64) -> Result<RefusingMap<PairMap>, Refusal>
+pub(crate) fn refusing(
+    alloc: Global,
+    purse: &mut Purse,
+    every: u64,
+) -> Result<RefusingMap<PairMap>, Refusal>
     ensures { IfOk result (λ m. ⟦<RefusingMap<PairMap> as CrackerMap>⟧.held m ≡ blank) }
 {
     let mine = purse.split()?;

@@ -45,11 +45,7 @@ fn come<M: CrackerMap>(
 
 /// Receives that a row goes, one of those that there are or another, and tells what is wrong: there was one and it was not
 /// found, or the other way round, or it is there still.
-fn go<M: CrackerMap>(
-    alloc: Global,
-    trial: &mut Trial<M>,
-    dice: &mut Dice,
-) -> Result<String, Fail> {
+fn go<M: CrackerMap>(alloc: Global, trial: &mut Trial<M>, dice: &mut Dice) -> Result<String, Fail> {
     let many = trial.rows().len();
     let mut key = u64::from(dice.roll(64));
     if many > 0 && !dice.is_one_in(8) {
@@ -146,7 +142,11 @@ fn mixed<R: Threads + Sync, M: CrackerMap>(
             asked(rt, alloc, trial, shape, dice, &mut told)?
         };
         if wrong.as_str() != "" {
-            let wrong = format!(in alloc; "call {call} of head {}: {}", shape.attribute, wrong.as_str())?;
+            let wrong = format!(in alloc;
+                "call {call} of head {}: {}",
+                shape.attribute,
+                wrong.as_str()
+            )?;
             return Ok(Outcome { wrong, told });
         }
         tended(trial, dice)?;
@@ -256,7 +256,16 @@ fn updates_and_queries_are_answered_as_the_rows_do(rt: HostRuntime) -> Result<()
     let mut dice = Dice::new(11);
     for capacity in CAPACITIES {
         for boxes in 0..7 {
-            let seen = refused_mix(&rt, rt.alloc(), capacity, boxes, 0, MORE_COME, &mut dice, 1000)?;
+            let seen = refused_mix(
+                &rt,
+                rt.alloc(),
+                capacity,
+                boxes,
+                0,
+                MORE_COME,
+                &mut dice,
+                1000,
+            )?;
             assert_eq!(rt; seen.wrong.as_str(), "", "{boxes} boxes, {capacity} cells");
             assert!(rt; seen.told > 0 || (boxes > 0 && capacity > 0));
         }
@@ -269,7 +278,16 @@ fn refused_steps_leave_the_replies_under_updates(rt: HostRuntime) -> Result<(), 
     let mut dice = Dice::new(12);
     for every in 1..6 {
         for capacity in CAPACITIES {
-            let seen = refused_mix(&rt, rt.alloc(), capacity, 6, every, MORE_COME, &mut dice, 1000)?;
+            let seen = refused_mix(
+                &rt,
+                rt.alloc(),
+                capacity,
+                6,
+                every,
+                MORE_COME,
+                &mut dice,
+                1000,
+            )?;
             assert_eq!(rt; seen.wrong.as_str(), "", "every {every}, {capacity} cells");
             assert!(rt; seen.told > 0);
         }
@@ -294,7 +312,16 @@ fn contended_begins_leave_the_replies_under_updates(rt: HostRuntime) -> Result<(
 fn tapes_that_fill_again_and_again(rt: HostRuntime) -> Result<(), Fail> {
     let mut dice = Dice::new(14);
     for boxes in 1..4 {
-        let seen = refused_mix(&rt, rt.alloc(), 1 << 20, boxes, 0, AS_MANY_GO, &mut dice, 12_000)?;
+        let seen = refused_mix(
+            &rt,
+            rt.alloc(),
+            1 << 20,
+            boxes,
+            0,
+            AS_MANY_GO,
+            &mut dice,
+            12_000,
+        )?;
         assert_eq!(rt; seen.wrong.as_str(), "", "{boxes} boxes");
     }
     Ok(())

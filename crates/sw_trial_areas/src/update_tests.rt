@@ -218,7 +218,10 @@ fn a_row_that_comes_is_rippled_in(rt: HostRuntime) -> Result<(), Fail> {
         ),
         (Step::Look(Move::Cursor(B)), "4"),
     ];
-    assert_eq!(rt; updated(&rt, rt.alloc(), 3, &FOUR_ROWS, 1 << 20, &steps)?.as_str(), "");
+    assert_eq!(rt;
+        updated(&rt, rt.alloc(), 3, &FOUR_ROWS, 1 << 20, &steps)?.as_str(),
+        ""
+    );
     Ok(())
 }
 
@@ -244,7 +247,10 @@ fn a_row_that_goes_is_rippled_out(rt: HostRuntime) -> Result<(), Fail> {
         (Step::Ask("sum b where a >= 10 and a <= 15"), "12"),
         (Step::Look(Move::Shown(B)), "5 7 2"),
     ];
-    assert_eq!(rt; updated(&rt, rt.alloc(), 3, &FOUR_ROWS, 1 << 20, &steps)?.as_str(), "");
+    assert_eq!(rt;
+        updated(&rt, rt.alloc(), 3, &FOUR_ROWS, 1 << 20, &steps)?.as_str(),
+        ""
+    );
     Ok(())
 }
 
@@ -292,7 +298,10 @@ fn a_removal_without_a_key_map_begins_anew(rt: HostRuntime) -> Result<(), Fail> 
         (Step::Look(Move::Place(Bound::Before(10))), "0"),
         (Step::Look(Move::Place(Bound::After(15))), "none"),
     ];
-    assert_eq!(rt; updated(&rt, rt.alloc(), 3, &FOUR_ROWS, 1 << 20, &steps)?.as_str(), "");
+    assert_eq!(rt;
+        updated(&rt, rt.alloc(), 3, &FOUR_ROWS, 1 << 20, &steps)?.as_str(),
+        ""
+    );
     Ok(())
 }
 
@@ -317,7 +326,10 @@ fn rows_of_one_value(rt: HostRuntime) -> Result<(), Fail> {
         (Step::Look(Move::Place(Bound::Before(5))), "1"),
         (Step::Look(Move::Place(Bound::After(5))), "4"),
     ];
-    assert_eq!(rt; updated(&rt, rt.alloc(), 3, &FIVES, 1 << 20, &steps)?.as_str(), "");
+    assert_eq!(rt;
+        updated(&rt, rt.alloc(), 3, &FIVES, 1 << 20, &steps)?.as_str(),
+        ""
+    );
     Ok(())
 }
 
@@ -334,7 +346,10 @@ fn a_lease_too_small_is_asked_for_again(rt: HostRuntime) -> Result<(), Fail> {
         (Step::Look(Move::Used), "128"),
         (Step::Entries, "63"),
     ];
-    assert_eq!(rt; updated(&rt, rt.alloc(), 1, &FOUR_ROWS, 256, &steps)?.as_str(), "");
+    assert_eq!(rt;
+        updated(&rt, rt.alloc(), 1, &FOUR_ROWS, 256, &steps)?.as_str(),
+        ""
+    );
     // a removal finds the key map without room for the 65th pair
     let steps = [
         (Step::Ask("count where a >= 10"), "3"),
@@ -348,7 +363,10 @@ fn a_lease_too_small_is_asked_for_again(rt: HostRuntime) -> Result<(), Fail> {
         (Step::Entries, "2"),
         (Step::Look(Move::Used), "64"),
     ];
-    assert_eq!(rt; updated(&rt, rt.alloc(), 1, &FOUR_ROWS, 256, &steps)?.as_str(), "");
+    assert_eq!(rt;
+        updated(&rt, rt.alloc(), 1, &FOUR_ROWS, 256, &steps)?.as_str(),
+        ""
+    );
     Ok(())
 }
 
@@ -362,7 +380,10 @@ fn an_update_that_meets_a_full_tape_begins_anew(rt: HostRuntime) -> Result<(), F
         (Step::Ask("count"), "4096"),
         (Step::Holds(4096), "true"),
     ];
-    assert_eq!(rt; updated(&rt, rt.alloc(), 1, &[], 1 << 20, &inserted)?.as_str(), "");
+    assert_eq!(rt;
+        updated(&rt, rt.alloc(), 1, &[], 1 << 20, &inserted)?.as_str(),
+        ""
+    );
     let removed = [
         (Step::Ask("count where a >= 0 and a < 9"), "0"),
         (Step::InsertMany(4094, 1), "key 4094"),
@@ -377,7 +398,10 @@ fn an_update_that_meets_a_full_tape_begins_anew(rt: HostRuntime) -> Result<(), F
         (Step::Holds(17), "false"),
         (Step::Remove(17), "no such key"),
     ];
-    assert_eq!(rt; updated(&rt, rt.alloc(), 1, &[], 1 << 20, &removed)?.as_str(), "");
+    assert_eq!(rt;
+        updated(&rt, rt.alloc(), 1, &[], 1 << 20, &removed)?.as_str(),
+        ""
+    );
     Ok(())
 }
 
@@ -399,8 +423,16 @@ fn a_row_outside_the_interval_does_not_come(rt: HostRuntime) -> Result<(), Fail>
     assert!(rt; matches!(trial.insert(cells(5, 9, 5)), Err(Refusal::Input)));
     assert_eq!(rt; trial.insert(cells(0, 3, 0))?, 3);
     assert_eq!(rt; trial.insert(cells(0, 8, 0))?, 4);
-    assert_eq!(rt; asked(&rt, alloc, &mut trial, "select b where b >= 3")?.as_str(), "1: 7, 2: 8, 3: 3, 4: 8, 4 rows");
-    assert!(rt; matches!(trial.ask(&rt, &query(alloc, "count where a < 3")?), Err(Refusal::Input)));
+    assert_eq!(rt;
+        asked(&rt, alloc, &mut trial, "select b where b >= 3")?.as_str(),
+        "1: 7, 2: 8, 3: 3, 4: 8, 4 rows"
+    );
+    assert!(rt;
+        matches!(
+            trial.ask(&rt, &query(alloc, "count where a < 3")?),
+            Err(Refusal::Input)
+        )
+    );
     Ok(())
 }
 
