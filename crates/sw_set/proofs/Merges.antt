@@ -72,7 +72,7 @@ pub merged-came : (u : Update) (x z : AreaState) → length x.tape ≤ 4096 → 
 merged-came (Insert r) x z short w n h =
     full-or-not (length x.tape) short (λ room. came-logged n r x z (w.logged room).0 h)
     (λ full. came-loaded n (logged_rows x.attribute x.tape ++ r ∷ []) z (w.restarted full).tape
-      (All-append (λ (c : Row). c.key < n) (logged_rows x.attribute x.tape) (r ∷ []) (logged-all (λ (c : Row). c.key < n) x.attribute x.tape (all-left (λ (c : Row). c.key < n) (brought x.tape) (r ∷ []) h)) (all-right (λ (c : Row). c.key < n) (brought x.tape) (r ∷ []) h)))
+    (All-append (λ (c : Row). c.key < n) (logged_rows x.attribute x.tape) (r ∷ []) (logged-all (λ (c : Row). c.key < n) x.attribute x.tape (all-left (λ (c : Row). c.key < n) (brought x.tape) (r ∷ []) h)) (all-right (λ (c : Row). c.key < n) (brought x.tape) (r ∷ []) h)))
 merged-came (Remove k) x z short (inl w) n h = subst (IsBelow n) (sym (ap brought w.1.tape ∙ brought-removed x.tape w.1.place)) h
 merged-came (Remove k) x z short (inr w) n h =
     came-loaded n (without k (logged_rows x.attribute x.tape)) z w.1.tape (all-without (λ (c : Row). c.key < n) k (logged_rows x.attribute x.tape) (logged-all (λ (c : Row). c.key < n) x.attribute x.tape h))

@@ -46,6 +46,11 @@ receivable-less a f b xs ys live (Insert r ∷ us) less w =
     ((less r.key w.0.0, w.0.1, w.0.2), receivable-less a f b (came_then xs (Insert r)) (came_then ys (Insert r)) (rows_then live (Insert r)) us (less-then xs ys (Insert r) less) w.1)
 receivable-less a f b xs ys live (Remove k ∷ us) less w = (w.0, receivable-less a f b xs ys (rows_then live (Remove k)) us less w.1)
 
+-- and then more
+pub receivable-append : (a : ℕ) (f b : Option ℤ) (came live : List Row) (us vs : List Update) → AreReceivable a f b came live us → AreReceivable a f b (fold came_then came us) (fold rows_then live us) vs → AreReceivable a f b came live (us ++ vs)
+receivable-append a f b came live [] vs w after = after
+receivable-append a f b came live (u ∷ us) vs w after = (w.0, receivable-append a f b (came_then came u) (rows_then live u) us vs w.1 after)
+
 -- ---- whether there is a row of a key
 pub has-last : (k : ℕ) (rows : List Row) (r : Row) → has_key k (rows ++ r ∷ []) ≡ has_key k rows || (k == r.key)
 has-last k [] r = or-false (k == r.key)

@@ -108,14 +108,17 @@ removal-restarted (Err e) key x m y why p maps w = (
 pub removal-after : {U : Type 0} (r : Result U Refusal) (key : ℕ) (x m y : AreaState) → length x.tape < 4096 → IsSameButBoxes x m → AreSameMaps x.boxes m.boxes → IsSameShell m y → MatchResult r (λ _. IsRemovalLogged key m y) (λ e. (y ≡ m) × (e ≡ NoMemory)) → RemovalEnds r key x y
 removal-after (Ok u) key x m y room p maps s w = (
   shell-after x m y p s,
-  inl (room, record {
-    place = w.place;
-    tape = w.tape ∙ ap (λ (t : List (Step Row)). t ++ removed w.place ∷ []) p.tape;
-    within = subst (λ (a : ℕ). w.place < length (joined (rows_by a x.tape))) p.attribute (subst (λ (t : List (Step Row)). w.place < length (joined (rows_by m.attribute t))) p.tape w.within);
-    own = λ d. subst (λ (a : ℕ). (get_or (joined (rows_by a x.tape)) w.place d).key ≡ key) p.attribute (subst (λ (t : List (Step Row)). (get_or (joined (rows_by m.attribute t)) w.place d).key ≡ key) p.tape (w.own d));
-    maps = maps-after x.boxes m.boxes y.boxes maps w.maps;
-    keys = subst (λ (t : List (Step Row)). Any (IsReady Key t) y.boxes) p.tape w.keys;
-  }),
+  inl (
+    room,
+    record {
+      place = w.place;
+      tape = w.tape ∙ ap (λ (t : List (Step Row)). t ++ removed w.place ∷ []) p.tape;
+      within = subst (λ (a : ℕ). w.place < length (joined (rows_by a x.tape))) p.attribute (subst (λ (t : List (Step Row)). w.place < length (joined (rows_by m.attribute t))) p.tape w.within);
+      own = λ d. subst (λ (a : ℕ). (get_or (joined (rows_by a x.tape)) w.place d).key ≡ key) p.attribute (subst (λ (t : List (Step Row)). (get_or (joined (rows_by m.attribute t)) w.place d).key ≡ key) p.tape (w.own d));
+      maps = maps-after x.boxes m.boxes y.boxes maps w.maps;
+      keys = subst (λ (t : List (Step Row)). Any (IsReady Key t) y.boxes) p.tape w.keys;
+    },
+  ),
 )
 removal-after (Err e) key x m y room p maps s w = (
   shell-after x m y p s,

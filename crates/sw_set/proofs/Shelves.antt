@@ -1,5 +1,5 @@
 -- What single changes leave of a lawful area.
-use Rattle.std.proofs.Common.{◌≡◌, ◌≢◌, ℕ, zero, suc, ◌<◌, ◌^◌, ℤ, true, false, true≢false, List, [], ◌∷◌, ◌++◌, length, get_or, set, map, take, drop, refl, ap, sym, ◌∙◌, arith, subst, All, Option, Result, Ok, Err, MatchResult, OnOk, OnErr}
+use Rattle.std.proofs.Common.{◌≡◌, ◌≢◌, ℕ, zero, suc, ◌<◌, ◌^◌, ℤ, true, false, true≢false, List, [], ◌∷◌, ◌++◌, fold, length, get_or, set, map, take, drop, refl, ap, sym, ◌∙◌, arith, subst, All, Option, Result, Ok, Err, MatchResult, OnOk, OnErr}
 use Rattle.std.proofs.lemmas.List.{length-map, map-set, map-append, length-append}
 use Rattle.std.proofs.lemmas.List.Elements.{All-set, All-append}
 use Rattle.sw_rows.specs.declared.bound.Bound.{Bound}
@@ -7,6 +7,7 @@ use Rattle.sw_rows.specs.declared.row.Row.{Row}
 use Rattle.sw_rows.specs.declared.row.Update.{Update}
 use Rattle.sw_rows.specs.declared.refusal.Refusal.{Refusal}
 use Rattle.sw_rows.specs.Scan.{cell_of}
+use Rattle.sw_rows.specs.Updates.{rows_then}
 use Rattle.sw_kernel.specs.Arrangement.{Arrangement, last, joined}
 use Rattle.sw_kernel.specs.Replay.{Step, loaded, ranged, step, replay_from}
 use Rattle.sw_kernel.specs.Tapes.{IsTape, brought, brought_by, live_from, live_after}
@@ -16,11 +17,11 @@ use Rattle.sw_map.specs.Held.{Held, blank, begun, KeysFit}
 use Rattle.sw_map.specs.Lawful.{IsLawful}
 use Rattle.sw_map.specs.Refusals.{IsBeginRefusal}
 use Rattle.sw_map.proofs.Replays.{lawful-longer, lawful-blank, lawful-aligned, begun-aligned}
-use Rattle.sw_set.specs.Shelf.{AreaState, AreApart, AreReceivable, AreSameMaps, IsAreaLawful, Rises, first_rows, key_of, lies_within, logged_rows}
+use Rattle.sw_set.specs.Shelf.{AreaState, AreApart, AreReceivable, AreSameMaps, IsAreaLawful, Rises, came_then, first_rows, key_of, lies_within, logged_rows}
 use Rattle.sw_set.specs.Prepared.{IsFreshBut}
 use Rattle.sw_set.specs.Merged.{IsBegunAnew, IsSameShell}
 use Rattle.sw_set.proofs.Boxes.{held-all, set-each}
-use Rattle.sw_set.proofs.Receiving.{IsBelow, all-one, receivable-less}
+use Rattle.sw_set.proofs.Receiving.{IsBelow, all-one, receivable-append, receivable-less}
 
 abbrev pub area_of : ℕ → Option ℤ → Option ℤ → List Update → ℕ → List (Step Row) → List Held → AreaState
 area_of a f b inb sp tape ms = record { attribute = a; from = f; below = b; inbox = inb; spare = sp; tape = tape; boxes = ms }
@@ -153,20 +154,43 @@ pub begun-shell : {X : Type 0} (h : X → Held) (s : AreaState) (a : ℕ) (f b :
 begun-shell h s a f b inb sp tape new rows xs ys is tapes many blanks =
     let one = length-map xs h in
     let two = length-map ys h in
-    let boxes : length (map h ys) ≡ length (map h xs) = omega (arith, one, two, many) in
-    (record {
-      attribute = ap (λ (v : AreaState). v.attribute) is;
-      from = ap (λ (v : AreaState). v.from) is;
-      below = ap (λ (v : AreaState). v.below) is;
-      inbox = ap (λ (v : AreaState). v.inbox) is;
-      spare = ap (λ (v : AreaState). v.spare) is;
-      many = boxes ∙ ap (λ (v : AreaState). length v.boxes) is;
-    }, record { tape = tapes; boxes = held-all h (λ (m : Held). m ≡ blank) ys blanks })
+    let boxes : length (map h ys) ≡ length (map h xs) = omega (arith, one, two, many) in (
+      record {
+        attribute = ap (λ (v : AreaState). v.attribute) is;
+        from = ap (λ (v : AreaState). v.from) is;
+        below = ap (λ (v : AreaState). v.below) is;
+        inbox = ap (λ (v : AreaState). v.inbox) is;
+        spare = ap (λ (v : AreaState). v.spare) is;
+        many = boxes ∙ ap (λ (v : AreaState). length v.boxes) is;
+      },
+      record { tape = tapes; boxes = held-all h (λ (m : Held). m ≡ blank) ys blanks },
+    )
 
 -- with its live rows, which came to it
 pub area-restarted : (a : ℕ) (f b : Option ℤ) (inb : List Update) (sp : ℕ) (tape : List (Step Row)) (ms ns : List Held) → ((n : ℕ) → IsBelow n (brought tape) → IsBelow n (logged_rows a tape)) → All (λ m. m ≡ blank) ns → IsAreaLawful (area_of a f b inb sp tape ms) → IsAreaLawful (area_of a f b inb sp (loaded (logged_rows a tape) ∷ []) ns)
 area-restarted a f b inb sp tape ms ns less blanks w =
     area-begun a f b inb sp (logged_rows a tape) ns w.attribute w.rows_fit w.rows_rise w.within blanks (receivable-less a f b (brought tape) (logged_rows a tape) (logged_rows a tape) inb less w.receivable)
+
+-- other updates that wait
+area-waiting : (a : ℕ) (f b : Option ℤ) (inb new : List Update) (sp more : ℕ) (tape : List (Step Row)) (ms : List Held) → AreReceivable a f b (brought tape) (logged_rows a tape) new → IsAreaLawful (area_of a f b inb sp tape ms) → IsAreaLawful (area_of a f b new more tape ms)
+area-waiting a f b inb new sp more tape ms receivable w = record {
+  attribute = w.attribute;
+  tape = w.tape;
+  short = w.short;
+  keys = w.keys;
+  brought_rise = w.brought_rise;
+  rows_rise = w.rows_rise;
+  rows_fit = w.rows_fit;
+  within = w.within;
+  boxes = w.boxes;
+  apart = w.apart;
+  receivable = receivable;
+}
+
+-- more of them, or as many as there were
+pub area-received : {U : Type 0} (r : Result U Refusal) (a : ℕ) (f b : Option ℤ) (inb us new : List Update) (sp more : ℕ) (tape : List (Step Row)) (ms : List Held) → MatchResult r (λ _. new ≡ inb ++ us) (λ _. new ≡ inb) → AreReceivable a f b (fold came_then (brought tape) inb) (fold rows_then (logged_rows a tape) inb) us → IsAreaLawful (area_of a f b inb sp tape ms) → IsAreaLawful (area_of a f b new more tape ms)
+area-received (Ok u) a f b inb us new sp more tape ms is after w = area-waiting a f b inb new sp more tape ms (rw is (receivable-append a f b (brought tape) (logged_rows a tape) inb us w.receivable after)) w
+area-received (Err e) a f b inb us new sp more tape ms is after w = area-waiting a f b inb new sp more tape ms (rw is w.receivable) w
 
 -- a new area
 pub area-new : (a : ℕ) (f b : Option ℤ) (sp : ℕ) (rows : List Row) → a < 8 → All (λ (r : Row). r.key < 2 ^ 63) rows → Rises key_of rows → All (λ (r : Row). lies_within a f b r ≡ true) rows → IsAreaLawful (area_of a f b [] sp (loaded rows ∷ []) [])

@@ -639,7 +639,8 @@ fn load_of(tape: &Tape) -> &[Row]
 
 /// Appends updates to others. A refusal changes nothing.
 fn append(waiting: &mut Vec<Update>, updates: &[Update]) -> Result<(), Refusal>
-    ensures ends { MatchResult result (λ _. (waiting.new.items ≡ waiting.old.items ++ updates.now) × (vec_len waiting.new ≡ vec_len waiting.old + length updates.now) × (vec_capacity waiting.old ≤ vec_capacity waiting.new)) (λ e. (waiting.new.items ≡ waiting.old.items) × (vec_len waiting.new ≡ vec_len waiting.old) × (vec_capacity waiting.new ≡ vec_capacity waiting.old) × (e ≡ NoMemory)) }
+    ensures items { MatchResult result (λ _. waiting.new.items ≡ waiting.old.items ++ updates.now) (λ _. waiting.new.items ≡ waiting.old.items) }
+    ensures room { MatchResult result (λ _. (vec_len waiting.new ≡ vec_len waiting.old + length updates.now) × (vec_capacity waiting.old ≤ vec_capacity waiting.new)) (λ e. (vec_len waiting.new ≡ vec_len waiting.old) × (vec_capacity waiting.new ≡ vec_capacity waiting.old) × (e ≡ NoMemory)) }
     ensures roomy { vec_len waiting.old + length updates.now ≤ vec_capacity waiting.old → IsOk result }
 {
     if waiting.reserve(updates.len()).is_err() {

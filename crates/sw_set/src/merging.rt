@@ -103,6 +103,7 @@ fn merge_each<M: CrackerMap>(area: &mut Area<M>, updates: &[Update]) -> Result<(
     ensures { MatchResult result (λ _. IsMergedUpTo updates.now (length updates.now) area.old area.new) (λ many. IsStoppedAt updates.now many area.old area.new) }
 {
     for many in 0..updates.len() {
+        area.known();
         if let Err(_) = merge_one(area, updates[many]) {
             return Err(many);
         }

@@ -11,4 +11,4 @@ pub returns-in-Err-clause-found : goal.returns-in-Err-clause-found
 returns-in-Err-clause-found g c = keys-behind c.args.area.now c.in-Some.at c.known.ensures.apart c.in-Some.ensures.0 c.in-Some.ensures.1 c.in-Err.ensures.ends
 
 pub returns-clause-found : goal.returns-clause-found
-returns-clause-found g c = keys-ready c.args.area.now c.align_at.new.area c.in-Some.at c.align_at.ensures.same c.align_at.ensures.maps c.in-Some.ensures.0 c.in-Some.ensures.1 ?
+returns-clause-found g c = keys-ready c.args.area.now c.align_at.new.self c.in-Some.at c.align_at.ensures.same c.align_at.ensures.maps c.in-Some.ensures.0 c.in-Some.ensures.1 c.in_default-align_at.ensures.ends

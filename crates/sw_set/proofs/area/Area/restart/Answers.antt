@@ -1,4 +1,4 @@
-use Rattle.std.proofs.Common.{◌≡◌, ap, sym, ◌∙◌, subst, List}
+use Rattle.std.proofs.Common.{◌≡◌, ◌<◌, ap, sym, ◌∙◌, subst, List}
 use Rattle.std.proofs.lemmas.List.{append-nil}
 use Rattle.sw_rows.specs.declared.row.Row.{Row}
 use Rattle.sw_kernel.specs.Tapes.{brought}
@@ -17,7 +17,7 @@ begin_anew-requires-clause-receivable g c κs within =
     let are : c.in_ok-rows.rows.items ≡ logged_rows s.attribute s.tape = c.in_ok-rows.ensures ∙ append-nil _ ∙ tied-live s.attribute s.tape s.live _ c.load_of.ensures c.self.invariant.2 in
     subst (λ (v : AreaState). AreReceivable v.attribute v.from v.below c.in_ok-rows.rows.items c.in_ok-rows.rows.items v.inbox) c.self.view_is
     (subst (λ (v : List Row). AreReceivable s.attribute s.from s.below v v s.inbox.items) (sym are)
-      (receivable-less s.attribute s.from s.below (brought s.tape) (logged_rows s.attribute s.tape) (logged_rows s.attribute s.tape) s.inbox.items (λ n h. logged-all _ s.attribute s.tape h) w.receivable))
+    (receivable-less s.attribute s.from s.below (brought s.tape) (logged_rows s.attribute s.tape) (logged_rows s.attribute s.tape) s.inbox.items (λ n h. logged-all (λ (r : Row). r.key < n) s.attribute s.tape h) w.receivable))
 
 pub returns-clause-same : goal.returns-clause-same
 returns-clause-same g c =

@@ -23,4 +23,4 @@ begin_anew-requires-clause-within g c κs within =
     let here : lies_within s.attribute s.from s.below row ≡ true = subst (λ (v : AreaState). lies_within v.attribute v.from v.below row ≡ true) (sym c.self.view_is) c.requires.may.2 in
     subst (λ (v : AreaState). All (λ (r : Row). lies_within v.attribute v.from v.below r ≡ true) c.in_ok-rows.rows.items) c.self.view_is
     (subst (All (λ (r : Row). lies_within s.attribute s.from s.below r ≡ true)) (sym (c.in_ok-rows.ensures ∙ ap (λ (v : List Row). v ++ row ∷ []) (tied-live s.attribute s.tape s.live _ c.load_of.ensures c.self.invariant.2)))
-      (All-append (λ (r : Row). lies_within s.attribute s.from s.below r ≡ true) (logged_rows s.attribute s.tape) (row ∷ []) c.self.invariant.0.within (all-one (λ (r : Row). lies_within s.attribute s.from s.below r ≡ true) row here)))
+    (All-append (λ (r : Row). lies_within s.attribute s.from s.below r ≡ true) (logged_rows s.attribute s.tape) (row ∷ []) c.self.invariant.0.within (all-one (λ (r : Row). lies_within s.attribute s.from s.below r ≡ true) row here)))

@@ -1,7 +1,7 @@
 use Rattle.std.proofs.Common.{◌≡◌, ◌<◌, ◌^◌, true, List, ap, sym, ◌∙◌, subst, All}
 use Rattle.sw_rows.specs.declared.row.Row.{Row}
 use Rattle.sw_rows.specs.Updates.{without}
-use Rattle.sw_set.specs.Shelf.{AreaState, Rises, key_of, lies_within, logged_rows}
+use Rattle.sw_set.specs.Shelf.{Rises, key_of, lies_within, logged_rows}
 use Rattle.sw_set.proofs.Longer.{all-without, rises-without}
 use Rattle.sw_set.proofs.Ties.{tied-live}
 use Rattle.sw_set.proofs.area.Area.restart_without.Goals as goal
@@ -21,6 +21,5 @@ begin_anew-requires-clause-rise g c κs within =
 pub begin_anew-requires-clause-within : goal.begin_anew-requires-clause-within
 begin_anew-requires-clause-within g c κs within =
     let s = c.self.inside in
-    subst (λ (v : AreaState). All (λ (r : Row). lies_within v.attribute v.from v.below r ≡ true) c.in_ok-rows.rows.items) c.self.view_is
-    (subst (All (λ (r : Row). lies_within s.attribute s.from s.below r ≡ true)) (sym (c.in_ok-rows.ensures.ends ∙ ap (without c.args.key) (tied-live s.attribute s.tape s.live _ c.load_of.ensures c.self.invariant.2)))
-      (all-without (λ (r : Row). lies_within s.attribute s.from s.below r ≡ true) c.args.key (logged_rows s.attribute s.tape) c.self.invariant.0.within))
+    subst (All (λ (r : Row). lies_within s.attribute s.from s.below r ≡ true)) (sym (c.in_ok-rows.ensures.ends ∙ ap (without c.args.key) (tied-live s.attribute s.tape s.live _ c.load_of.ensures c.self.invariant.2)))
+    (all-without (λ (r : Row). lies_within s.attribute s.from s.below r ≡ true) c.args.key (logged_rows s.attribute s.tape) c.self.invariant.0.within)
