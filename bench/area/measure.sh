@@ -8,39 +8,31 @@
 # counts, sums, selects of two tails, and sums with a second condition. It runs the program and bench/peers/peer.cpp in
 # crack mode by turns ROUNDS times (by default 5) over each script, compares both outputs, and prints the medians of the
 # seconds that the calls took, texts of replies included, with their ratio, and how much of it the area took.
+# Maps are aligned in threads, which on a busy machine wait for a processor: RUN='chrt -f 10' (as root) runs both sides at
+# real-time priority, so that a started thread gets one as it would on a quiet machine.
 # It needs rt, g++ and python3. Nothing of the repository is written.
 set -euo pipefail
 rows=${1:-1000000}
 rounds=${2:-5}
 calls=${3:-1000}
 here=$(cd "$(dirname "$0")" && pwd)
-top=$(cd "$here/../.." && pwd)
-work=${WORK:-$(mktemp -d "${TMPDIR:-/tmp}/bench-area.XXXXXX")}
-[ -n "${WORK:-}" ] || trap 'rm -rf "$work"' EXIT
+. "$here/../proved.sh"
+mkdir -p "$work/crates/replies/proofs/answer_all"
+cp "$here/answer_all.antt.txt" "$work/crates/replies/proofs/answer_all/Invariants.antt"
+build program replies "$here/replies.rt.txt" \
+  sw_rows sw_lang sw_kernel sw_tape sw_budget sw_bits sw_map sw_trial_maps sw_set sw_trial_areas anyhow
 program=$work/crates/replies/out/replies
-
-if [ ! -x "$program" ]; then
-  mkdir -p "$work/crates/replies/src"
-  cp "$top/HANDLES" "$work/"
-  crates="sw_rows sw_lang sw_kernel sw_tape sw_budget sw_bits sw_map sw_trial_maps sw_set sw_trial_areas"
-  for crate in $crates; do
-    grep -E "^$crate\b" "$top/crates.txt" >> "$work/crates.txt"
-    cp -rp "$top/crates/$crate" "$work/crates/"
-  done
-  echo "replies: $crates anyhow" >> "$work/crates.txt"
-  cp "$here/replies.rt.txt" "$work/crates/replies/src/main.rt"
-  (cd "$work/crates/replies" && rt run > "$work/build.log" 2>&1) || { tail -n 20 "$work/build.log"; exit 1; }
-fi
 g++ -O3 -march=native -o "$work/peer" "$top/bench/peers/peer.cpp"
 
 for mix in count sum select multi; do
   python3 "$top/bench/peers/gen.py" "$work/$mix" --rows "$rows" --attrs 3 --calls "$calls" --mix "$mix" --width 0.001
 done
 python3 - "$work" "$program" "$rounds" <<'END'
-import statistics, subprocess, sys
+import os, statistics, subprocess, sys
+before = os.environ.get("RUN", "").split()
 work, program, rounds = sys.argv[1], sys.argv[2], int(sys.argv[3])
 def ran(words):
-    done = subprocess.run(words, capture_output=True)
+    done = subprocess.run(before + words, capture_output=True)
     assert done.returncode == 0, (words, done.returncode, done.stderr)
     return done.stdout, done.stderr.decode().split()
 for mix in ("count", "sum", "select", "multi"):

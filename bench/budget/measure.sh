@@ -9,20 +9,9 @@
 set -euo pipefail
 rounds=${1:-21}
 here=$(cd "$(dirname "$0")" && pwd)
-top=$(cd "$here/../.." && pwd)
-work=$(mktemp -d "${TMPDIR:-/tmp}/bench-budget.XXXXXX")
-trap 'rm -rf "$work"' EXIT
-
-mkdir -p "$work/crates/leases/src"
-cp "$top/HANDLES" "$work/"
-grep -E '^(sw_rows|sw_budget)\b' "$top/crates.txt" > "$work/crates.txt"
-echo 'leases: sw_budget' >> "$work/crates.txt"
-cp -r "$top/crates/sw_rows" "$top/crates/sw_budget" "$work/crates/"
-cp "$here/leases.rt.txt" "$work/crates/leases/src/main.rt"
-
+. "$here/../proved.sh"
+build program leases "$here/leases.rt.txt" sw_rows sw_budget
 rustc -C opt-level=3 -o "$work/plain" "$here/plain.rs"
-# proves, builds and runs it once
-(cd "$work/crates/leases" && rt run > "$work/build.log" 2>&1) || { tail -n 20 "$work/build.log"; exit 1; }
 
 for _ in $(seq "$rounds"); do
   "$work/plain" | sed 's/^/plain /' >> "$work/times"

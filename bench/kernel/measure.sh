@@ -10,18 +10,9 @@
 set -euo pipefail
 repeats=${1:-9}
 here=$(cd "$(dirname "$0")" && pwd)
-top=$(cd "$here/../.." && pwd)
 kit=${KIT:-/opt/rattle}
-work=$(mktemp -d "${TMPDIR:-/tmp}/bench-kernel.XXXXXX")
-trap 'rm -rf "$work"' EXIT
-
-mkdir -p "$work/crates/split_c/src"
-cp "$top/HANDLES" "$work/"
-grep -E '^(sw_rows|sw_kernel)\b' "$top/crates.txt" > "$work/crates.txt"
-echo 'split_c staticlib: sw_rows sw_kernel' >> "$work/crates.txt"
-cp -r "$top/crates/sw_rows" "$top/crates/sw_kernel" "$work/crates/"
-cp "$here/split.rt.txt" "$work/crates/split_c/src/lib.rt"
-(cd "$work/crates/split_c" && rt lib > "$work/build.log" 2>&1) || { tail -n 20 "$work/build.log"; exit 1; }
+. "$here/../proved.sh"
+build library split_c "$here/split.rt.txt" sw_rows sw_kernel
 
 "$kit/toolchain/bin/clang" -O3 -march=x86-64-v2 -c -o "$work/peers.o" "$here/peers.c" 2> "$work/clang.log" ||
   clang -O3 -march=x86-64-v2 -c -o "$work/peers.o" "$here/peers.c"

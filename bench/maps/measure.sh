@@ -9,23 +9,9 @@
 set -euo pipefail
 rounds=${1:-9}
 here=$(cd "$(dirname "$0")" && pwd)
-top=$(cd "$here/../.." && pwd)
-work=$(mktemp -d "${TMPDIR:-/tmp}/bench-maps.XXXXXX")
-trap 'rm -rf "$work"' EXIT
-
-mkdir -p "$work/crates/steps/src"
-cp "$top/HANDLES" "$work/"
-below='sw_rows sw_kernel sw_tape sw_budget sw_map sw_trial_maps'
-for crate in $below; do
-  grep -E "^$crate\b" "$top/crates.txt" >> "$work/crates.txt"
-  cp -r "$top/crates/$crate" "$work/crates/"
-done
-echo "steps: $below" >> "$work/crates.txt"
-cp "$here/steps.rt.txt" "$work/crates/steps/src/main.rt"
-
+. "$here/../proved.sh"
+build program steps "$here/steps.rt.txt" sw_rows sw_kernel sw_tape sw_budget sw_map sw_trial_maps
 g++ -O3 -march=native -o "$work/peer" "$here/peer.cpp"
-# proves, builds and runs it once
-(cd "$work/crates/steps" && rt run > "$work/build.log" 2>&1) || { tail -n 20 "$work/build.log"; exit 1; }
 
 for _ in $(seq "$rounds"); do
   "$work/peer" | sed 's/^/peer /' >> "$work/times"

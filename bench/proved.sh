@@ -1,0 +1,30 @@
+# What the drivers below this folder share; they source it. It sets `top`, the repository, and `work`, a folder under TMPDIR that goes
+# when the driver ends (with WORK=FOLDER it is that one, and stays, with what was built there), and it has `build`.
+top=$(cd "$(dirname "${BASH_SOURCE[0]}")/.." && pwd)
+work=${WORK:-$(mktemp -d "${TMPDIR:-/tmp}/bench.XXXXXX")}
+[ -n "${WORK:-}" ] || trap 'rm -rf "$work"' EXIT
+
+# build KIND NAME SOURCE LIBRARY..
+# Proves and builds SOURCE in the work folder over copies of the repository's crates among the libraries, which are listed lowest
+# first. KIND is `program`: crates/NAME/out/NAME, which is also run once with no words; or `library`: crates/NAME/out/libNAME.a.
+build() {
+  local kind=$1 name=$2 source=$3 uses=${*:4}
+  local root=main.rt command=run line="$name: $uses" made=$work/crates/$name/out/$name library
+  if [ "$kind" = library ]; then
+    root=lib.rt command=lib line="$name staticlib: $uses" made=$work/crates/$name/out/lib$name.a
+  fi
+  if [ -e "$made" ]; then
+    return
+  fi
+  mkdir -p "$work/crates/$name/src"
+  cp "$top/HANDLES" "$work/"
+  echo "$line" > "$work/crates.txt"
+  cp "$source" "$work/crates/$name/src/$root"
+  for library in $uses; do
+    if [ -d "$top/crates/$library" ]; then
+      grep -E "^$library\b" "$top/crates.txt" >> "$work/crates.txt"
+      cp -rp "$top/crates/$library" "$work/crates/"
+    fi
+  done
+  (cd "$work/crates/$name" && rt "$command" > "$work/build.log" 2>&1) || { tail -n 20 "$work/build.log"; exit 1; }
+}
