@@ -1,16 +1,21 @@
 -- What one more update makes of the rows that came to an area and of those it stands for; the key after rows that rise.
-use Rattle.std.proofs.Common.{◌≡◌, ◌∙◌, refl, ap, sym, subst, arith, ℕ, ◌+◌, ◌-◌, ◌<◌, ◌≤◌, List, [], ◌∷◌, ◌++◌, fold, length, take, get_or, All}
+use Rattle.std.proofs.Common.{◌≡◌, ◌∙◌, refl, ap, sym, subst, arith, ℕ, ◌+◌, ◌-◌, ◌<◌, ◌≤◌, List, [], ◌∷◌, ◌++◌, Bool, true, false, ◌&&◌, fold, length, nat_lt, slice_get, take, get_or, All, Option, Some, append-nil}
 use Rattle.std.specs.List.{AllByRecursion}
+use Rattle.std.proofs.lemmas.Bool.{ltb-true}
 use Rattle.std.proofs.lemmas.List.{take_all, take_more}
 use Rattle.std.proofs.lemmas.List.Elements.{All-append, All-from_recursion}
 use Rattle.std.proofs.lemmas.List.Sums.{fold-append}
+use Rattle.std.proofs.lemmas.Option.{get_or_from_slice_get, slice_get_within}
 use Rattle.sw_rows.specs.declared.row.Row.{Row}
 use Rattle.sw_rows.specs.declared.row.Update.{Update}
 use Rattle.sw_rows.specs.declared.row.Update.TheVariants.{Insert, Remove}
 use Rattle.sw_rows.specs.Updates.{rows_then}
 use Rattle.sw_kernel.specs.Tapes.{brought}
 use Rattle.sw_set.specs.Shelf.{AreaState, Rises, came_in, came_then, key_of, logged_rows, rows_in}
+use Rattle.sw_set.proofs.Ends.{stands-left}
 use Rattle.sw_set.proofs.Receiving.{IsBelow, all-one}
+use Rattle.sw_trial_areas.specs.declared.opening.Shape.{Shape}
+use Rattle.sw_trial_areas.specs.Opening.{may_open, opened}
 use Rattle.sw_trial_areas.specs.Updating.{IsReceived, key_after}
 
 -- one update more
@@ -37,7 +42,7 @@ past : (n : ℕ) (rows : List Row) → AllByRecursion (λ (r : Row). n < key_of 
 past n [] a = tt
 past n (r ∷ rs) a = (let p = a.0 in omega (arith, p), past n rs a.1)
 
-after : ℕ → List Row → ℕ
+abbrev after : ℕ → List Row → ℕ
 after n rows = fold (λ (m : ℕ) (r : Row). r.key + 1) n rows
 
 grows : (n : ℕ) (rows : List Row) → Rises key_of rows → AllByRecursion (λ (r : Row). n ≤ key_of r) rows → n ≤ after n rows
@@ -62,3 +67,17 @@ after-last rows many d long =
     let whole : take (many + 1) rows ≡ rows = take_all (many + 1) rows (omega (arith, long)) in
     let parts : rows ≡ take many rows ++ get_or rows many d ∷ [] = sym whole ∙ take_more rows many d (omega (arith, long)) in
     ap key_after parts ∙ fold-append (λ (m : ℕ) (r : Row). r.key + 1) 1 (take many rows) (get_or rows many d ∷ [])
+
+-- the keys of the rows are below that after the last of them
+pub below-last : (rows : List Row) (r : Row) → slice_get rows (length rows - 1) ≡ Some r → Rises key_of rows → IsBelow (r.key + 1) rows
+below-last rows r is rise =
+    let within : length rows - 1 < length rows = slice_get_within rows (length rows - 1) r is in
+    let key = after-last rows (length rows - 1) r (omega (arith, within)) ∙ ap (λ (x : Row). x.key + 1) (get_or_from_slice_get rows (length rows - 1) r r is) in
+    subst (λ n. IsBelow n rows) key (all-below rows rise)
+
+-- ---- an area that is opened over rows
+pub below-opened : (n : ℕ) (s : Shape) (rows : List Row) (many : ℕ) (x : AreaState) → x ≡ opened s rows many → IsBelow n rows → IsBelow n (came_in x)
+below-opened n s rows many x is h = subst (IsBelow n) (sym (ap came_in is ∙ append-nil rows)) h
+
+pub opened-small : (s : Shape) (rows : List Row) → may_open s rows ≡ true → s.attribute < 8
+opened-small s rows may = ltb-true s.attribute 8 (stands-left _ _ may)

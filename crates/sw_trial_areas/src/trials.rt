@@ -154,7 +154,7 @@ impl<M: CrackerMap> Trial<M> {
             return Err(Refusal::Input);
         }
         let (reply, told) = self.area.ask(rt, query)?;
-        let plain = answer(self.alloc, self.rows.as_slice(), query)?;
+        let plain = answer(self.alloc, self.rows(), query)?;
         Ok(Asked { reply, told, plain })
     }
 

@@ -58,7 +58,7 @@ impl<M: CrackerMap> Model for GrowingArea<M> {
 
     ghost view = { λ g. record { area = g.area; next = g.next } };
 
-    ghost invariant = { λ g. All (λ (r : Row). r.key < g.next) (came_in g.area) × (g.shape.attribute ≡ g.area.attribute) × (g.shape.from ≡ g.area.from) × (g.shape.below ≡ g.area.below) };
+    ghost invariant = { λ g. All (λ (r : Row). r.key < g.next) (came_in g.area) × (g.shape.attribute < 8) × (g.shape.attribute ≡ g.area.attribute) × (g.shape.from ≡ g.area.from) × (g.shape.below ≡ g.area.below) };
 }
 
 impl<M: CrackerMap> GrowingArea<M> {
@@ -107,7 +107,7 @@ impl<M: CrackerMap> GrowingArea<M> {
         self.next < KEYS_END
             && lies_within(
                 &row,
-                self.area.attribute(),
+                self.shape.attribute,
                 self.shape.from,
                 self.shape.below,
             )
@@ -171,7 +171,7 @@ impl<M: CrackerMap> GrowingArea<M> {
         if !is_askable(&self.area, query) {
             return Err(Refusal::Input);
         }
-        self.area.merge()?;
+        self.merge()?;
         self.area.answer(rt, query)
     }
 
