@@ -12,6 +12,14 @@ mod moves;
 mod opening;
 #[cfg(test)]
 mod tests;
+mod trials;
+#[cfg(test)]
+mod update_mixes;
+#[cfg(test)]
+mod update_tests;
+mod updating;
 
 pub use asking::{ask, asks_below_eight, is_askable, ready, scan};
 pub use opening::{Shape, add, numbered, open};
+pub use trials::{Asked, Trial};
+pub use updating::GrowingArea;

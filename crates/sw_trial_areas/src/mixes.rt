@@ -16,20 +16,20 @@ use sw_trial_maps::{ContendedMap, RefusingMap};
 
 /// A fixed sequence of numbers.
 #[derive(Drop)]
-struct Dice {
+pub(crate) struct Dice {
     state: u64,
 }
 
 impl Dice {
     /// The sequence of a seed.
-    fn new(seed: u64) -> Dice {
+    pub(crate) fn new(seed: u64) -> Dice {
         Dice {
             state: seed.wrapping_mul(0x9E37_79B9_7F4A_7C15) | 1,
         }
     }
 
     /// The next number below a limit, or 0.
-    fn roll(&mut self, below: u32) -> u32 {
+    pub(crate) fn roll(&mut self, below: u32) -> u32 {
         let mut x = self.state;
         x ^= x << 13;
         x ^= x >> 7;
@@ -39,7 +39,7 @@ impl Dice {
     }
 
     /// Whether one of so many.
-    fn is_one_in(&mut self, many: u32) -> bool {
+    pub(crate) fn is_one_in(&mut self, many: u32) -> bool {
         self.roll(many) == 0
     }
 
@@ -73,7 +73,7 @@ impl Dice {
     }
 
     /// The number of one of five attributes.
-    fn number(&mut self) -> u8 {
+    pub(crate) fn number(&mut self) -> u8 {
         u8::try_from(self.roll(5)).unwrap_or(0)
     }
 
@@ -102,7 +102,7 @@ impl Dice {
     }
 
     /// A query of a head.
-    fn query(&mut self, alloc: Global, head: usize) -> Result<Query, Fail> {
+    pub(crate) fn query(&mut self, alloc: Global, head: usize) -> Result<Query, Fail> {
         let mut conds = Conds::new(alloc);
         if head > 0 || !self.is_one_in(6) {
             conds.push(self.cond(head))?;
@@ -117,7 +117,7 @@ impl Dice {
     }
 
     /// The cells of a row, that of a head within an interval.
-    fn cells(&mut self, head: usize, from: Option<i64>, below: Option<i64>) -> [i64; 8] {
+    pub(crate) fn cells(&mut self, head: usize, from: Option<i64>, below: Option<i64>) -> [i64; 8] {
         let mut cells = [0; 8];
         for attribute in 0..5 {
             cells[attribute] = self.cell();
@@ -147,9 +147,9 @@ fn plainly(alloc: Global, rows: &[Row], query: &Query) -> Result<Reply, Refusal>
 
 /// What became of a mix: the first reply that is not that of the rows, and how many refusals were told.
 #[derive(Drop)]
-struct Outcome {
-    wrong: String,
-    told: u64,
+pub(crate) struct Outcome {
+    pub(crate) wrong: String,
+    pub(crate) told: u64,
 }
 
 /// Asks an area so many queries of a mix.
@@ -233,7 +233,11 @@ fn mix<R: Threads + Sync, M: CrackerMap>(
 }
 
 /// A map that refuses every n-th step, none where n is 0.
-fn refusing(alloc: Global, purse: &mut Purse, every: u64) -> Result<RefusingMap<PairMap>, Refusal>
+pub(crate) fn refusing(
+    alloc: Global,
+    purse: &mut Purse,
+    every: u64,
+) -> Result<RefusingMap<PairMap>, Refusal>
     ensures { IfOk result (λ m. ⟦<RefusingMap<PairMap> as CrackerMap>⟧.held m ≡ blank) }
 {
     let mine = purse.split()?;
@@ -266,7 +270,7 @@ fn refused_mix<R: Threads + Sync>(
 }
 
 /// A map that answers `Contended` at every second begin.
-fn contended(alloc: Global, purse: &mut Purse) -> Result<ContendedMap<PairMap>, Refusal>
+pub(crate) fn contended(alloc: Global, purse: &mut Purse) -> Result<ContendedMap<PairMap>, Refusal>
     ensures { IfOk result (λ m. ⟦<ContendedMap<PairMap> as CrackerMap>⟧.held m ≡ blank) }
 {
     let mine = purse.split()?;
@@ -296,7 +300,7 @@ fn contended_mix<R: Threads + Sync>(
 }
 
 /// Budgets of no cells, of some maps' cells, and of enough for all.
-const CAPACITIES: [u64; 5] = [0, 128, 320, 448, 4096];
+pub(crate) const CAPACITIES: [u64; 5] = [0, 128, 320, 448, 4096];
 
 #[test]
 fn mixes_are_answered_as_the_rows_do(rt: HostRuntime) -> Result<(), Fail> {

@@ -165,7 +165,7 @@ fn prepared<R: Threads + Sync, M: CrackerMap>(
 }
 
 /// Looks at an area.
-fn look<M: CrackerMap>(
+pub(crate) fn look<M: CrackerMap>(
     alloc: Global,
     area: &Area<M>,
     watch: Watch<'_>,
