@@ -78,10 +78,7 @@ fn count_items(alloc: Global, reader: &mut Reader<'_>, depth: usize) -> Result<u
 }
 
 /// An array's number of values and the array without them, or another value as it is.
-fn read_emptied(
-    alloc: Global,
-    reader: &mut Reader<'_>,
-) -> Result<(Value, Option<usize>), NoValue>
+fn read_emptied(alloc: Global, reader: &mut Reader<'_>) -> Result<(Value, Option<usize>), NoValue>
     ensures ok { IfOk result (λ r. (d : Data) × (converted of_json (value 126 reader.old) ≡ Some (d, reader.new)) × (view r.0 ≡ emptied d) × Counts r.1 d reader.old) }
     ensures shorter { OnOk result (length reader.new < length reader.old) }
     ensures err { result ≡ Err NoValue.Invalid → converted of_json (value 126 reader.old) ≡ None }

@@ -273,7 +273,7 @@ fn word_of(call: &Call, word: &str) -> Option<State>
 fn copies(alloc: Global, texts: &[&str]) -> Result<Vec<String>, AllocError>
     ensures { IfOk result (λ v. map (λ t. string_bytes t) v.items ≡ map (λ t. t.now) texts.now) }
 {
-    let mut found = Vec::new(alloc);
+    let mut found = Vec::with_capacity(alloc, texts.len())?;
     for text in texts {
         found.push(String::from_str(alloc, text)?)?;
     }

@@ -101,11 +101,7 @@ fn number_of(text: &str) -> Option<Number>
 
 /// The next value. Arrays and objects may nest this deep.
 #[cycle(read)]
-pub(crate) fn read(
-    alloc: Global,
-    reader: &mut Reader<'_>,
-    depth: usize,
-) -> Result<Value, NoValue>
+pub(crate) fn read(alloc: Global, reader: &mut Reader<'_>, depth: usize) -> Result<Value, NoValue>
     ensures ok { IfOk result (λ v. converted of_json (value depth reader.old) ≡ Some (view v, reader.new)) }
     ensures shorter { OnOk result (length reader.new < length reader.old) }
     ensures err { result ≡ Err NoValue.Invalid → converted of_json (value depth reader.old) ≡ None }
@@ -154,11 +150,7 @@ pub(crate) fn read_from(
 
 /// The values of an array that was begun, up to its end.
 #[cycle(read)]
-fn read_items(
-    alloc: Global,
-    reader: &mut Reader<'_>,
-    depth: usize,
-) -> Result<Vec<Value>, NoValue>
+fn read_items(alloc: Global, reader: &mut Reader<'_>, depth: usize) -> Result<Vec<Value>, NoValue>
     ensures ok { IfOk result (λ v. converted of_items (items (value depth) (length reader.old) reader.old) ≡ Some (items_view v.items, reader.new)) }
     ensures shorter { OnOk result (length reader.new < length reader.old) }
     ensures err { result ≡ Err NoValue.Invalid → converted of_items (items (value depth) (length reader.old) reader.old) ≡ None }
