@@ -1,15 +1,15 @@
 -- The entries of a file, one after another from its tokens, and the part outside them from its outline.
-use Rattle.std.proofs.Common.{◌≡◌, ◌∙◌, sym, ap, refl, subst, ℕ, zero, suc, ◌+◌, ◌-◌, ◌<◌, ◌≤◌, ◌&&◌, ◌==◌, Bool, true, false, cond, List, [], ◌∷◌, ◌++◌, length, arith, Option, Some, None, Result, Ok, Err, codes, bytes_eq, nat_le, IsUtf8, IfOk}
+use Rattle.std.proofs.Common.{◌≡◌, ◌∙◌, sym, ap, refl, subst, ℕ, ◌+◌, ◌-◌, ◌<◌, ◌≤◌, ◌&&◌, ◌==◌, Bool, true, false, cond, List, [], ◌∷◌, ◌++◌, length, arith, Option, Some, None, Result, Ok, Err, codes, nat_le, IsUtf8}
 use Rattle.std.specs.Prelude.{option_and_then, option_map, is_some, IfSome, IsSomeAnd}
 use Rattle.std.specs.Str.{is_utf8}
 use Rattle.std.proofs.lemmas.Bool.Decides.{nat_tests}
-use Rattle.std.proofs.lemmas.Option.{IfSome_then, none-some, same_Some}
+use Rattle.std.proofs.lemmas.Option.{none-some, same_Some}
 use Rattle.std.proofs.lemmas.Str.{IsUtf8-from_is_utf8, is_utf8-from_IsUtf8}
 use Rattle.json.specs.Token.{Token}
 use Rattle.json.specs.Json as json
 use Rattle.json.specs.Json.{Parse, after_end_array, items, parse_map}
 use Rattle.json.specs.Lex.{tokens}
-use Rattle.serde_json.specs.Data.{Data, Items, Members, array, boolean, item, no_items, null, number, object, string}
+use Rattle.serde_json.specs.Data.{Data, Items, Members, array, boolean, item, null, number, object, string}
 use Rattle.serde_json.specs.Find.{as_array, as_number, as_object, as_u64, get_member}
 use Rattle.serde_json.specs.Read.{converted, of_items, of_json, read}
 use Rattle.sw_rows.specs.Header.{Column, header_of, kinds_of}
@@ -20,9 +20,8 @@ use Rattle.sw_rows.specs.declared.refusal.Refusal.TheVariants as refusal
 use Rattle.sw_rows.specs.declared.refusal.Refusal.TheVariants.{BadLine, TooMany}
 use Rattle.sw_rows.specs.declared.refusal.Why.TheVariants as why
 use Rattle.sw_lang.specs.Reading.{Answers}
-use Rattle.sw_spine.specs.History.{History}
 use Rattle.sw_spine.specs.declared.history.Entry.{Entry}
-use Rattle.sw_cli.specs.Script.{◌>>=◌, Reads}
+use Rattle.sw_cli.specs.Script.{◌>>=◌}
 use Rattle.sw_cli.specs.RecordReading.{Frame, array_at, columns_in, entries_after, entries_of, entry_in, frame, frame_in, frame_of, has_format, has_members, history_of, history_with, in_range, limit_in, list_of, or_fault, record_at, rows_within, texts_after}
 use Rattle.sw_cli.specs.Outlines.{IsCount, IsOutlineOf, NoObject, Stands, after_brace, emptied, items_after, outline_at, outline_of, record_in, values_after, values_at, values_in, without_items}
 use Rattle.sw_cli.specs.declared.outline.Entries.{Entries}

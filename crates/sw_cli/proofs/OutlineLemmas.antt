@@ -8,10 +8,10 @@ use Rattle.std.proofs.lemmas.Map.Text.{is_eq-slice_cmp}
 use Rattle.std.proofs.Common.{Ordering, Less, Equal, Greater, is_eq, nat_cmp}
 use Rattle.std.proofs.lemmas.Option.{same_Some}
 use Rattle.serde_json.proofs.Views.{get_member-put, get_member-put_other}
-use Rattle.serde_json.specs.Data.{Data, Items, Members, array, boolean, item, member, no_items, no_members, null, number, object, put, string}
+use Rattle.serde_json.specs.Data.{Data, Items, Members, array, boolean, member, no_members, null, number, object, put, string}
 use Rattle.serde_json.specs.Events.{members_len}
-use Rattle.serde_json.specs.Find.{as_array, as_object, get, get_member}
-use Rattle.serde_json.specs.View.{items_view, view}
+use Rattle.serde_json.specs.Find.{as_array, as_object, get_member}
+use Rattle.serde_json.specs.View.{items_view}
 use Rattle.serde_json.specs.declared.value.Value.{Value}
 use Rattle.json.specs.Token.{Token}
 use Rattle.json.specs.Json.{items, members, parse_map, read_key, skip_value, value}

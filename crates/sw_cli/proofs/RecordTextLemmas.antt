@@ -1,11 +1,11 @@
 -- A record's text is ASCII where a call is printed, and has no float.
-use Rattle.std.proofs.Common.{◌≡◌, ◌∙◌, sym, ap, refl, subst, ℕ, ℤ, zero, suc, pos, negsuc, ◌+◌, ◌<◌, ◌&&◌, ◌||◌, Bool, true, false, List, [], ◌∷◌, ◌++◌, length, map, take, cond, codes, decimal, arith, All, Option, Some, None, slice_get, Result, Ok, Err, OnOk, IfErr, IsUtf8, get_or, slice_index_or, add-one, append_assoc, rules}
+use Rattle.std.proofs.Common.{◌≡◌, ◌∙◌, sym, ap, refl, subst, ℕ, ℤ, zero, suc, pos, negsuc, ◌+◌, ◌<◌, ◌&&◌, ◌||◌, Bool, true, false, List, [], ◌∷◌, ◌++◌, length, map, take, codes, decimal, arith, All, Option, Some, None, slice_get, Result, Ok, Err, IsUtf8, add-one, append_assoc, rules}
 use Rattle.std.specs.List.{flat_map, list_all}
 use Rattle.std.proofs.lemmas.Bool.Decides.{nat_tests}
 use Rattle.std.proofs.lemmas.Option.{none-some, same_Some}
 use Rattle.std.proofs.lemmas.Str.{IsUtf8-from_ascii}
 use Rattle.std.proofs.lemmas.Str.Ascii.{IsAscii-from_all}
-use Rattle.serde_json.specs.Data.{Data, number, object, string}
+use Rattle.serde_json.specs.Data.{Data, string}
 use Rattle.serde_json.specs.Find.{is_float, of_integer}
 use Rattle.serde_json.specs.View.{items_of, view}
 use Rattle.serde_json.specs.declared.value.Value.{Value, the_lemmas}
@@ -15,8 +15,7 @@ use Rattle.std.specs.declared.alloc.Global.{Global}
 use Rattle.std.specs.Fmt.{digits}
 use Rattle.json.specs.Print.{escape_byte}
 use Rattle.serde_json.specs.Written.{compact_text, has_float, items_have_float}
-use Rattle.sw_rows.specs.Gives.{Raised}
-use Rattle.sw_rows.specs.Header.{Column, IsSchema, is_name, is_name_byte, is_word, kinds_of, names_of}
+use Rattle.sw_rows.specs.Header.{Column, IsSchema, is_name, is_name_byte, kinds_of, names_of}
 use Rattle.sw_rows.specs.declared.bound.Bound.{Bound}
 use Rattle.sw_rows.specs.declared.bound.Bound.TheVariants.{Before, After}
 use Rattle.sw_rows.specs.declared.kind.Kind.{Kind}
@@ -27,7 +26,6 @@ use Rattle.sw_rows.specs.declared.query.Want.TheVariants as want
 use Rattle.sw_rows.specs.declared.query.Call.{Call}
 use Rattle.sw_rows.specs.declared.query.Call.TheVariants as call
 use Rattle.sw_rows.specs.declared.refusal.Refusal.{Refusal}
-use Rattle.sw_rows.specs.declared.refusal.Refusal.TheVariants as refusal
 use Rattle.sw_lang.specs.PrintedCalls.{call_text, comparison, cond_terms, joiner, lower_terms, more_names, name_at, names_text, terms_text, upper_terms, want_text, where_text}
 use Rattle.sw_lang.specs.Replies.{cell_text, cells_text, kind_at, reply_lines}
 use Rattle.sw_lang.specs.Sinks.{Writes}

@@ -1,11 +1,11 @@
-use Rattle.std.proofs.Common.{rules, ◌≡◌, ◌∙◌, ap, sym, refl, ◌∷◌, ◌<◌, ℕ, List, length, Err, None, Some, ◌+◌, ◌-◌, [], ◌++◌, arith}
+use Rattle.std.proofs.Common.{◌≡◌, ◌∙◌, ap, sym, refl, ◌∷◌, length, None, [], arith}
 use Rattle.std.specs.Prelude.{option_and_then, option_map}
 use Rattle.json.specs.Token.{Token}
 use Rattle.json.specs.Json.{items, parse_map, value}
 use Rattle.json.specs.Reads.{token_of}
 use Rattle.json.proofs.Grammar.{value_is, value-begin_array}
 use Rattle.serde_json.specs.Data.{array}
-use Rattle.serde_json.specs.Read.{converted, of_items, of_json}
+use Rattle.serde_json.specs.Read.{converted, of_json}
 use Rattle.serde_json.specs.View.{items_view, view}
 use Rattle.serde_json.proofs.Views.{view-Array}
 use Rattle.sw_cli.specs.RecordReading.{list_of}

@@ -1,8 +1,7 @@
-use Rattle.std.proofs.Common.{rules, ◌≡◌, ◌∙◌, ap, sym, refl, ℕ, length, codes, Some, None, ◌+◌, ◌-◌, ◌≤◌, ◌<◌, ◌∷◌, [], arith, string_bytes}
-use Rattle.json.specs.Json.{members, read_key, value}
+use Rattle.std.proofs.Common.{rules, ◌≡◌, ◌∙◌, ap, sym, refl, length, Some, None, ◌+◌, ◌-◌, arith, string_bytes}
+use Rattle.json.specs.Json.{read_key, value}
 use Rattle.json.proofs.Grammar.{read_key-shorter}
 use Rattle.serde_json.specs.Data.{no_members, put}
-use Rattle.serde_json.specs.Read.{converted, of_json, of_members}
 use Rattle.serde_json.specs.View.{members_view, view}
 use Rattle.serde_json.proofs.Views.{members_view-insert_entry}
 use Rattle.sw_cli.specs.Outlines.{after_members, outline_at, outline_of}

@@ -1,4 +1,4 @@
-use Rattle.std.proofs.Common.{◌≡◌, ℕ, ◌≤◌, List, length, Some}
+use Rattle.std.proofs.Common.{◌≡◌, ℕ, ◌≤◌, length, Some}
 use Rattle.json.specs.Json.{members, value}
 use Rattle.serde_json.specs.Data.{Members, no_members}
 use Rattle.serde_json.specs.Read.{converted, of_members}

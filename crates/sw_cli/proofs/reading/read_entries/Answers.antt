@@ -1,9 +1,7 @@
-use Rattle.std.proofs.Common.{◌≡◌, ◌+◌, ◌-◌, ◌<◌, ◌∷◌, [], ◌++◌, ◌∙◌, ℕ, ap, sym, subst, length, arith, rules, None, Err, List, length-append}
+use Rattle.std.proofs.Common.{◌≡◌, ◌+◌, ◌-◌, ◌<◌, ◌∷◌, [], ◌++◌, ◌∙◌, ap, sym, subst, length, arith, rules, None, Err, List, length-append}
 use Rattle.std.proofs.lemmas.Option.{IfSome_then}
 use Rattle.json.specs.Json.{after_end_array, value}
 use Rattle.serde_json.specs.View.{view}
-use Rattle.sw_rows.specs.declared.refusal.Refusal.{Refusal}
-use Rattle.sw_spine.specs.History.{AllBelow}
 use Rattle.sw_spine.specs.declared.history.Entry.{Entry}
 use Rattle.sw_spine.proofs.Histories.{below_push}
 use Rattle.sw_lang.specs.Reading.{Answers}

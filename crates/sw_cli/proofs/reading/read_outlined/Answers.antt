@@ -1,7 +1,6 @@
 use Rattle.std.proofs.Common.{◌≡◌, ◌∙◌, ◌≤◌, ◌<◌, ap, sym, subst, arith, List, length, None, Some, Ok, Err, []}
 use Rattle.std.specs.Prelude.{option_map}
 use Rattle.serde_json.specs.Data.{object}
-use Rattle.sw_rows.specs.declared.refusal.Refusal.{Refusal}
 use Rattle.sw_lang.specs.Reading.{Answers}
 use Rattle.sw_spine.specs.History.{History}
 use Rattle.sw_spine.specs.declared.history.Entry.{Entry}

@@ -1,4 +1,4 @@
-use Rattle.std.proofs.Common.{◌∙◌, ap, sym, subst, Err, IsUtf8}
+use Rattle.std.proofs.Common.{◌∙◌, ap, sym, subst, Err}
 use Rattle.sw_lang.specs.Reading.{Answers}
 use Rattle.sw_spine.specs.History.{History}
 use Rattle.sw_cli.specs.Outlines.{record_in}

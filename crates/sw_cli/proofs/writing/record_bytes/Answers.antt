@@ -1,4 +1,4 @@
-use Rattle.std.proofs.Common.{◌≡◌, ◌∙◌, ◌∷◌, ◌++◌, [], ap, sym, arith, rules, length, codes, ℕ, List}
+use Rattle.std.proofs.Common.{◌≡◌, ◌∙◌, ◌∷◌, ◌++◌, [], ap, arith, length, codes, ℕ, List}
 use Rattle.sw_rows.specs.declared.row.Row.{Row}
 use Rattle.std.specs.Prelude.{map}
 use Rattle.serde_json.specs.Written.{compact_text}
