@@ -1,5 +1,5 @@
 -- A verdict of which a beginning went out.
-use Rattle.std.proofs.Common.{◌≡◌, sym, subst, ℕ, List, Option, Err, Result}
+use Rattle.std.proofs.Common.{◌≡◌, sym, subst, ℕ, List, Option, Err}
 use Rattle.sw_rows.specs.Gives.{Raised}
 use Rattle.sw_rows.specs.declared.refusal.Refusal.{Refusal}
 use Rattle.sw_rows.specs.declared.refusal.Refusal.TheVariants as refusal

@@ -13,3 +13,6 @@ pub mod RecordTextLemmas
 pub mod RecordReadingLemmas
 pub mod FileCheckLemmas
 pub mod RecordLaws
+pub mod ValueReading
+pub mod OutlineLemmas
+pub mod EntriesLemmas

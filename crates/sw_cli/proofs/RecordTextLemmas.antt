@@ -1,20 +1,21 @@
 -- A record's text is ASCII where a call is printed, and has no float.
-use Rattle.std.proofs.Common.{◌≡◌, ◌∙◌, sym, ap, refl, subst, ℕ, ℤ, zero, suc, pos, negsuc, ◌+◌, ◌<◌, ◌&&◌, ◌||◌, Bool, true, false, List, [], ◌∷◌, ◌++◌, length, map, take, cond, codes, decimal, arith, All, Option, Some, None, slice_get, Result, Ok, Err, OnOk, IfErr, IsUtf8, get_or, slice_index_or, add-one, rules}
+use Rattle.std.proofs.Common.{◌≡◌, ◌∙◌, sym, ap, refl, subst, ℕ, ℤ, zero, suc, pos, negsuc, ◌+◌, ◌<◌, ◌&&◌, ◌||◌, Bool, true, false, List, [], ◌∷◌, ◌++◌, length, map, take, codes, decimal, arith, All, Option, Some, None, slice_get, Result, Ok, Err, IsUtf8, add-one, append_assoc, rules}
 use Rattle.std.specs.List.{flat_map, list_all}
 use Rattle.std.proofs.lemmas.Bool.Decides.{nat_tests}
 use Rattle.std.proofs.lemmas.Option.{none-some, same_Some}
 use Rattle.std.proofs.lemmas.Str.{IsUtf8-from_ascii}
 use Rattle.std.proofs.lemmas.Str.Ascii.{IsAscii-from_all}
-use Rattle.serde_json.specs.Data.{Data, number, object, string}
+use Rattle.serde_json.specs.Data.{Data, string}
 use Rattle.serde_json.specs.Find.{is_float, of_integer}
 use Rattle.serde_json.specs.View.{items_of, view}
 use Rattle.serde_json.specs.declared.value.Value.{Value, the_lemmas}
 use Rattle.serde_json.specs.declared.value.Value.TheVariants as value
 use Rattle.std.specs.Prelude.{String, string_bytes}
 use Rattle.std.specs.declared.alloc.Global.{Global}
-use Rattle.serde_json.specs.Written.{has_float, items_have_float}
-use Rattle.sw_rows.specs.Gives.{Raised}
-use Rattle.sw_rows.specs.Header.{Column, IsSchema, is_name, is_name_byte, is_word, kinds_of, names_of}
+use Rattle.std.specs.Fmt.{digits}
+use Rattle.json.specs.Print.{escape_byte}
+use Rattle.serde_json.specs.Written.{compact_text, has_float, items_have_float}
+use Rattle.sw_rows.specs.Header.{Column, IsSchema, is_name, is_name_byte, kinds_of, names_of}
 use Rattle.sw_rows.specs.declared.bound.Bound.{Bound}
 use Rattle.sw_rows.specs.declared.bound.Bound.TheVariants.{Before, After}
 use Rattle.sw_rows.specs.declared.kind.Kind.{Kind}
@@ -25,7 +26,6 @@ use Rattle.sw_rows.specs.declared.query.Want.TheVariants as want
 use Rattle.sw_rows.specs.declared.query.Call.{Call}
 use Rattle.sw_rows.specs.declared.query.Call.TheVariants as call
 use Rattle.sw_rows.specs.declared.refusal.Refusal.{Refusal}
-use Rattle.sw_rows.specs.declared.refusal.Refusal.TheVariants as refusal
 use Rattle.sw_lang.specs.PrintedCalls.{call_text, comparison, cond_terms, joiner, lower_terms, more_names, name_at, names_text, terms_text, upper_terms, want_text, where_text}
 use Rattle.sw_lang.specs.Replies.{cell_text, cells_text, kind_at, reply_lines}
 use Rattle.sw_lang.specs.Sinks.{Writes}
@@ -35,7 +35,7 @@ use Rattle.sw_spine.specs.declared.history.Entry.{Entry}
 use Rattle.sw_spine.specs.declared.history.State.{State}
 use Rattle.sw_spine.specs.declared.history.State.TheVariants as state
 use Rattle.sw_spine.proofs.PrintedLemmas.{both, cell_shown, cells_shown, decimal_shown, either, joined, shown}
-use Rattle.sw_cli.specs.RecordText.{Stops, WritesText, attribute_text, cell_data, entry_data, record_data, row_data, state_data}
+use Rattle.sw_cli.specs.RecordText.{Stops, WritesText, attribute_text, cell_data, entry_data, front_text, list_data, record_text, row_data, state_data, texts_data, whole_data}
 
 -- ---- names
 
@@ -163,28 +163,11 @@ cells_have_none : (zs : List ℤ) → items_have_float (items_of (map cell_data 
 cells_have_none [] = refl
 cells_have_none (z ∷ zs) = neither (is_float (of_integer z)) (items_have_float (items_of (map cell_data zs))) (integer_is_none z) (cells_have_none zs)
 
-rows_have_none : (n : ℕ) (rs : List Row) → items_have_float (items_of (map (row_data n) rs)) ≡ false
-rows_have_none n [] = refl
-rows_have_none n (r ∷ rs) = neither (has_float (row_data n r)) (items_have_float (items_of (map (row_data n) rs))) (cells_have_none (take n r.cells)) (rows_have_none n rs)
-
 state_has_none : (columns : List Column) (c : Call) (s : State) → has_float (state_data columns c s) ≡ false
 state_has_none columns c (state.Answered r) = texts_have_none (reply_lines columns c r)
 state_has_none columns c (state.Lines ls) = texts_have_none ls
 state_has_none columns c state.Open = refl
 state_has_none columns c state.Void = refl
-
-entries_have_none : (columns : List Column) (es : List Entry) → items_have_float (items_of (map (entry_data columns) es)) ≡ false
-entries_have_none columns [] = refl
-entries_have_none columns (e ∷ es) =
-    let here : has_float (entry_data columns e) ≡ false = neither (has_float (state_data columns e.call e.state)) false (state_has_none columns e.call e.state) refl in
-    neither (has_float (entry_data columns e)) (items_have_float (items_of (map (entry_data columns) es))) here (entries_have_none columns es)
-
-pub record_has_none : (h : History) → has_float (record_data h) ≡ false
-record_has_none h =
-    let rows = rows_have_none (length h.columns) h.rows in
-    neither (items_have_float (items_of (map (λ t. string t) (map attribute_text h.columns)))) _ (texts_have_none (map attribute_text h.columns))
-    (neither (items_have_float (items_of (map (entry_data h.columns) h.entries))) _ (entries_have_none h.columns h.entries)
-    (neither (items_have_float (items_of (map (row_data (length h.columns)) h.rows))) false rows refl))
 
 -- ---- what a writer of a whole text does
 
@@ -222,3 +205,49 @@ pub view_String : (s : String Global) (t : List ℕ) → string_bytes s ≡ t �
 view_String s t is =
     let as_text : view (value.String s) ≡ string (string_bytes s) = search (rules, the_lemmas) in
     as_text ∙ ap (λ b. string b) is
+
+-- ---- a text grows
+
+pub attributes_have_none : (columns : List Column) → has_float (texts_data (map attribute_text columns)) ≡ false
+attributes_have_none columns = texts_have_none (map attribute_text columns)
+
+pub entry_has_none : (columns : List Column) (e : Entry) → has_float (entry_data columns e) ≡ false
+entry_has_none columns e = neither (has_float (state_data columns e.call e.state)) false (state_has_none columns e.call e.state) refl
+
+pub row_has_none : (n : ℕ) (r : Row) → has_float (row_data n r) ≡ false
+row_has_none n r = cells_have_none (take n r.cells)
+
+pub none_left : {A : Type 0} (xs : List A) → length xs ≡ 0 → xs ≡ []
+none_left [] h = refl
+none_left (x ∷ xs) h = absurd (omega (arith, h))
+
+pub list_begun : (t all : List ℕ) → t ++ (91 ∷ all) ≡ (t ++ 91 ∷ []) ++ all
+list_begun t all = sym (append_assoc t (91 ∷ []) all)
+
+pub item_put : (t more comma d rest : List ℕ) → more ≡ t ++ (comma ++ d) → t ++ (comma ++ (d ++ rest)) ≡ more ++ rest
+item_put t more comma d rest is = ap (λ m. t ++ m) (sym (append_assoc comma d rest)) ∙ sym (append_assoc t (comma ++ d) rest) ∙ ap (λ m. m ++ rest) (sym is)
+
+whole_text : (a e r : Data) (limit : ℕ) → compact_text (whole_data a e limit r)
+    ≡ codes "{\"attributes\":" ++ (compact_text a ++ (codes ",\"entries\":" ++ (compact_text e ++ (codes ",\"format\":1,\"limit\":" ++ (decimal limit ++ (codes ",\"rows\":" ++ (compact_text r ++ 125 ∷ [])))))))
+unfolding escape_byte digits
+whole_text a e r limit = refl
+
+flat : (x a y e z l w r end : List ℕ) → (((((((x ++ a) ++ y) ++ e) ++ z) ++ l) ++ w) ++ r) ++ end ≡ x ++ (a ++ (y ++ (e ++ (z ++ (l ++ (w ++ (r ++ end)))))))
+flat x a y e z l w r end =
+    append_assoc ((((((x ++ a) ++ y) ++ e) ++ z) ++ l) ++ w) r end
+    ∙ append_assoc (((((x ++ a) ++ y) ++ e) ++ z) ++ l) w (r ++ end)
+    ∙ append_assoc ((((x ++ a) ++ y) ++ e) ++ z) l (w ++ (r ++ end))
+    ∙ append_assoc (((x ++ a) ++ y) ++ e) z (l ++ (w ++ (r ++ end)))
+    ∙ append_assoc ((x ++ a) ++ y) e (z ++ (l ++ (w ++ (r ++ end))))
+    ∙ append_assoc (x ++ a) y (e ++ (z ++ (l ++ (w ++ (r ++ end)))))
+    ∙ append_assoc x a (y ++ (e ++ (z ++ (l ++ (w ++ (r ++ end))))))
+
+-- the parts of a record's text, one after another
+pub record_parts : (h : History) → ((front_text [] h ++ codes ",\"rows\":") ++ compact_text (list_data (map (row_data (length h.columns)) h.rows))) ++ 125 ∷ [] ≡ record_text h
+unfolding record_text
+record_parts h =
+    let a = texts_data (map attribute_text h.columns) in
+    let e = list_data (map (entry_data h.columns) h.entries) in
+    let r = list_data (map (row_data (length h.columns)) h.rows) in
+    flat (codes "{\"attributes\":") (compact_text a) (codes ",\"entries\":") (compact_text e) (codes ",\"format\":1,\"limit\":") (decimal h.limit) (codes ",\"rows\":") (compact_text r) (125 ∷ [])
+    ∙ sym (whole_text a e r h.limit)

@@ -1,11 +1,11 @@
 -- Which text is a record's file, and what is the first fault of another one. Line 0 is what stands outside the entries.
-use Rattle.std.specs.Prelude.{◌≡◌, ◌<◌, ◌≤◌, ◌+◌, ◌++◌, ◌==◌, ◌&&◌, ◌||◌, ℕ, ℤ, pos, Bool, true, false, List, [], ◌∷◌, bytes_eq, codes, length, map, nat_le, Option, Some, None, Result, Ok, Err, option_and_then, option_map, is_some, if◌then◌else◌}
+use Rattle.std.specs.Prelude.{◌≡◌, ◌<◌, ◌≤◌, ◌+◌, ◌++◌, ◌==◌, ◌&&◌, ◌||◌, ℕ, ℤ, pos, Bool, true, false, List, [], ◌∷◌, bytes_eq, codes, length, nat_le, Option, Some, None, Result, Ok, Err, option_and_then, option_map, is_some, if◌then◌else◌}
 use Rattle.std.specs.Ordering.{int_eq}
 use Rattle.std.specs.Result.{result_ok}
 use Rattle.std.specs.Str.{is_utf8}
 use Rattle.serde_json.specs.Data.{Data, Items, array, boolean, item, no_items, null, number, object, string}
 use Rattle.serde_json.specs.Events.{members_len}
-use Rattle.serde_json.specs.Find.{as_array, as_i64, as_number, as_object, as_str, as_u64, get}
+use Rattle.serde_json.specs.Find.{as_array, as_i64, as_number, as_str, as_u64, get}
 use Rattle.serde_json.specs.Read.{read}
 use Rattle.sw_rows.specs.Header.{Column, header_of, kinds_of}
 use Rattle.sw_rows.specs.Tables.{padded, row_of}

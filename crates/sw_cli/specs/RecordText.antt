@@ -1,5 +1,5 @@
 -- The text of a record: a JSON object, in which numbers are whole.
-use Rattle.std.specs.Prelude.{◌≡◌, ◌++◌, ℕ, ℤ, List, [], ◌∷◌, codes, length, map, take, Option, Result, IfErr, OnOk}
+use Rattle.std.specs.Prelude.{◌≡◌, ◌++◌, ℕ, ℤ, List, codes, decimal, length, map, take, Option, Result, IfErr, OnOk}
 use Rattle.serde_json.specs.Data.{Data, array, member, no_members, number, object, string, unsigned}
 use Rattle.serde_json.specs.Find.{of_integer}
 use Rattle.serde_json.specs.View.{items_of}
@@ -66,6 +66,13 @@ record_data h =
 -- the bytes of a record's file: no blanks, and in each object the keys ascend
 unfoldable pub record_text : History → List ℕ
 record_text h = compact_text (record_data h)
+
+-- a text and then what stands before the rows
+abbrev pub front_text : List ℕ → History → List ℕ
+front_text before h =
+    before ++ codes "{\"attributes\":" ++ compact_text (texts_data (map attribute_text h.columns))
+    ++ codes ",\"entries\":" ++ compact_text (list_data (map (entry_data h.columns) h.entries))
+    ++ codes ",\"format\":1,\"limit\":" ++ decimal h.limit
 
 -- what a refusal of a writer leaves: without memory nothing was written; after a failure a beginning of the text was
 abbrev pub Stops : Option (List ℕ) → Option (List ℕ) → ℕ → ℕ → List ℕ → Refusal → Type 0

@@ -192,3 +192,44 @@ fn faults_outside_the_entries(rt: HostRuntime) -> Result<(), Fail> {
     assert!(rt; refuses(alloc, first, 0, Why::History));
     Ok(())
 }
+
+#[test]
+fn entries_stand_before_the_attributes(rt: HostRuntime) -> Result<(), Fail> {
+    let alloc = rt.alloc();
+    let first =
+        b"{\"entries\":[{\"session\":1,\"reply\":[\"1\"],\"call\":\"count\"}],\"rows\":[[7]],\"limit\":1,\"format\":1,\"attributes\":[\"a\"]}";
+    assert!(rt; checks(alloc, first, 0, "legal: 1 entries\n"));
+    let rows =
+        b"{\"entries\":[{\"session\":1,\"reply\":[\"1\"],\"call\":\"fetch\"}],\"rows\":[[7],[8]],\"limit\":1,\"format\":1,\"attributes\":[\"a\"]}";
+    assert!(rt; refuses(alloc, rows, 0, Why::History));
+    Ok(())
+}
+
+#[test]
+fn the_last_entries_are_read(rt: HostRuntime) -> Result<(), Fail> {
+    let alloc = rt.alloc();
+    let last =
+        b"{\"entries\":[{\"call\":\"fetch\"}],\"attributes\":[\"a\"],\"entries\":[{\"session\":1,\"reply\":[\"0\"],\"call\":\"count\"}],\"format\":1,\"limit\":1,\"rows\":[]}";
+    assert!(rt; checks(alloc, last, 0, "legal: 1 entries\n"));
+    let none =
+        b"{\"entries\":[],\"attributes\":[\"a\"],\"entries\":{},\"format\":1,\"limit\":1,\"rows\":[]}";
+    assert!(rt; refuses(alloc, none, 0, Why::History));
+    let some =
+        b"{\"entries\":7,\"attributes\":[\"a\"],\"format\":1,\"limit\":1,\"rows\":[],\"entries\":[]}";
+    assert!(rt; checks(alloc, some, 0, "legal: 0 entries\n"));
+    Ok(())
+}
+
+#[test]
+fn a_text_that_is_no_json_behind_a_fault(rt: HostRuntime) -> Result<(), Fail> {
+    let alloc = rt.alloc();
+    assert!(rt; refuses_entries(alloc, "{\"call\":\"fetch\"},1e999", 0, Why::History)?);
+    assert!(rt; refuses_entries(alloc, "{\"call\":\"fetch\"},1e9", 1, Why::History)?);
+    assert!(rt; refuses_entries(alloc, "{\"call\":\"fetch\"},[", 0, Why::History)?);
+    let long = file(alloc, COUNTED)?;
+    let more = format!(in alloc; "{long},")?;
+    assert!(rt; refuses(alloc, more.as_bytes(), 0, Why::History));
+    assert!(rt; refuses(alloc, b"[]", 0, Why::History));
+    assert!(rt; refuses(alloc, b"\xff", 0, Why::History));
+    Ok(())
+}

@@ -8,11 +8,13 @@ mod desk;
 mod fault;
 pub mod fault_examples;
 mod history_law;
+mod outline;
 mod plain;
 mod reading;
 mod running;
 mod script;
 mod start;
+mod values;
 mod writing;
 
 pub use checking::check_file;

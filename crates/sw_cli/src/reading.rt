@@ -1,16 +1,22 @@
 //! A record is read from a JSON text.
 
-ghost use Rattle.std.specs.Prelude.{◌≡◌, ◌≤◌, [], Some, None, if◌then◌else◌, length, map, option_and_then, option_map, string_bytes, IfErr, IfOk};
-ghost use Rattle.serde_json.specs.View.{view};
+ghost use Rattle.std.specs.Prelude.{◌≡◌, ◌≤◌, [], Some, None, if◌then◌else◌, length, map, option_and_then, option_map, string_bytes, IfErr, IfOk, IfSome, IsSomeAnd};
+ghost use Rattle.json.specs.Lex.{tokens};
+ghost use Rattle.serde_json.specs.Data.{object};
+ghost use Rattle.serde_json.specs.View.{members_view, view};
 ghost use Rattle.sw_rows.specs.Header.{kinds_of};
 ghost use Rattle.sw_rows.specs.declared.refusal.Refusal.TheVariants.{BadLine};
 ghost use Rattle.sw_rows.specs.declared.refusal.Why.TheVariants as why;
 ghost use Rattle.sw_spine.specs.History.{AllBelow, CallsBelow};
+ghost use Rattle.sw_cli.specs.Outlines.{IsOutlineOf, record_in, values_at, values_in, without_items};
 ghost use Rattle.sw_cli.specs.Script.{Reads};
 ghost use Rattle.sw_cli.specs.Starts.{TellsText};
-ghost use Rattle.sw_cli.specs.RecordReading.{array_at, call_in, cell_in, cells_of, columns_in, entries_after, entry_in, frame, frame_of, has_call, has_members, history_of, in_range, number_at, of_kind, record_at, row_in, rows_after, rows_in, state_in, text_at, texts_after, word_in};
+ghost use Rattle.sw_cli.specs.RecordReading.{array_at, call_in, cell_in, cells_of, columns_in, entries_after, entry_in, frame, frame_of, has_call, has_members, in_range, number_at, of_kind, record_at, row_in, rows_after, rows_in, state_in, text_at, texts_after, word_in};
 
-use serde_json::Value;
+use crate::outline::{Outline, enter, read_outline};
+use crate::values::{NoValue, read};
+use json::{Reader, Scratch};
+use serde_json::{Map, Value};
 use std::alloc::{AllocError, Global};
 use sw_lang::parse_line;
 use sw_rows::{Call, Kind, Refusal, Row, Schema, Why};
@@ -174,18 +180,17 @@ fn read_rows(
     }
 }
 
-/// What stands outside the entries of a file, and its entries, which are not read yet.
+/// What stands outside the entries of a file.
 #[derive(Drop)]
-struct Outer<'a> {
+struct Outer {
     schema: Schema,
     limit: u64,
     rows: Vec<Row>,
-    items: &'a [Value],
 }
 
 /// The part outside the entries; None where it is none.
-fn read_outer<'a>(alloc: Global, value: &'a Value) -> Result<Option<Outer<'a>>, AllocError>
-    ensures { IfOk result (λ o. option_map (λ f. frame f.schema f.limit f.rows.items (map view f.items.now)) o ≡ frame_of (view value.now)) }
+fn read_outer(alloc: Global, value: &Value) -> Result<Option<Outer>, AllocError>
+    ensures { IfOk result (λ o. option_map (λ f. frame f.schema f.limit f.rows.items []) o ≡ option_map without_items (frame_of (view value.now))) }
 {
     if !has_members(value, 5) || number_at(value, "format", 1, 1).is_none() {
         return Ok(None);
@@ -200,14 +205,21 @@ fn read_outer<'a>(alloc: Global, value: &'a Value) -> Result<Option<Outer<'a>>, 
         return Ok(None);
     };
     match array_at(value, "entries") {
-        Some(items) => Ok(Some(Outer {
+        Some(_) => Ok(Some(Outer {
             schema,
             limit,
             rows,
-            items,
         })),
         None => Ok(None),
     }
+}
+
+/// The same of an object's members, which are let go.
+fn read_outside(alloc: Global, members: Map<String, Value>) -> Result<Option<Outer>, AllocError>
+    ensures { IfOk result (λ o. option_map (λ f. frame f.schema f.limit f.rows.items []) o ≡ option_map without_items (frame_of (object (members_view members.entries)))) }
+{
+    let value = Value::Object(members);
+    read_outer(alloc, &value)
 }
 
 fn text_at<'a>(value: &'a Value, name: &str) -> Option<&'a str>
@@ -261,7 +273,7 @@ fn word_of(call: &Call, word: &str) -> Option<State>
 fn copies(alloc: Global, texts: &[&str]) -> Result<Vec<String>, AllocError>
     ensures { IfOk result (λ v. map (λ t. string_bytes t) v.items ≡ map (λ t. t.now) texts.now) }
 {
-    let mut found = Vec::new(alloc);
+    let mut found = Vec::with_capacity(alloc, texts.len())?;
     for text in texts {
         found.push(String::from_str(alloc, text)?)?;
     }
@@ -323,48 +335,98 @@ fn read_entry(alloc: Global, schema: &Schema, line: u32, value: &Value) -> Resul
     }
 }
 
-/// Entries in order; they count from 1.
-fn read_entries(alloc: Global, schema: &Schema, items: &[Value]) -> Result<Vec<Entry>, Refusal>
-    requires { length items.now ≤ 1048576 }
-    ensures answers { Reads (λ entries. entries.items) result (entries_after schema.now [] (map view items.now)) }
+/// The entry of a line, whose value is let go.
+fn take_entry(alloc: Global, schema: &Schema, line: u32, value: Value) -> Result<Entry, Refusal>
+    ensures answers { Reads (λ e. e) result (entry_in schema.now line (view value)) }
+    ensures below { IfOk result (λ e. CallsBelow (length schema.now) e.call) }
+    ensures why { IfErr result TellsText }
+{
+    read_entry(alloc, schema, line, &value)
+}
+
+/// Entries in order, up to the end of their array; they count from 1.
+fn read_entries(
+    alloc: Global,
+    schema: &Schema,
+    reader: &mut Reader<'_>,
+) -> Result<Vec<Entry>, Refusal>
+    requires { IsSomeAnd (values_in reader.old) (λ ds. length ds ≤ 1048576) }
+    ensures answers { IfSome (values_in reader.old) (λ ds. Reads (λ entries. entries.items) result (entries_after schema.now [] ds)) }
     ensures below { IfOk result (λ entries. AllBelow (length schema.now) entries.items) }
     ensures few { IfOk result (λ entries. length entries.items ≤ 1048576) }
     ensures why { IfErr result TellsText }
 {
     let mut entries: Vec<Entry> = Vec::new(alloc);
-    let mut rest = items;
-    while let Some((value, later)) = rest.split_first() {
+    'entries: while !reader.take_end_array() {
+        let value = match read(alloc, reader, 125) {
+            Ok(value) => value,
+            Err(NoValue::Memory) => return Err(Refusal::NoMemory),
+            Err(NoValue::Invalid) => unreachable!(),
+        };
         if entries.reserve(1).is_err() {
             return Err(Refusal::NoMemory);
         }
         let line = entries.len() as u32 + 1;
-        let entry = match read_entry(alloc, schema, line, value) {
+        let entry = match take_entry(alloc, schema, line, value) {
             Ok(entry) => entry,
             Err(e) => return Err(e),
         };
         entries.push_reserved(entry);
-        rest = later;
     }
     Ok(entries)
 }
 
-/// The record of a value. What stands outside the entries is looked at first, then their number, then entries in order.
-fn read_value(alloc: Global, value: &Value) -> Result<Record, Refusal>
-    ensures answers { Reads (λ h. h) result (history_of (view value.now)) }
+/// The entries of a text's object, of which the array is the value of the member after so many others.
+fn read_entries_at(
+    alloc: Global,
+    schema: &Schema,
+    text: &str,
+    scratch: &mut Scratch,
+    place: usize,
+) -> Result<Vec<Entry>, Refusal>
+    requires { IsSomeAnd (values_at place (tokens text.now)) (λ ds. length ds ≤ 1048576) }
+    ensures answers { IfSome (values_at place (tokens text.now)) (λ ds. Reads (λ entries. entries.items) result (entries_after schema.now [] ds)) }
+    ensures below { IfOk result (λ entries. AllBelow (length schema.now) entries.items) }
+    ensures few { IfOk result (λ entries. length entries.items ≤ 1048576) }
     ensures why { IfErr result TellsText }
 {
-    let Ok(read) = read_outer(alloc, value) else {
+    let Ok(mut reader) = Reader::new(text, scratch) else {
+        return Err(Refusal::NoMemory);
+    };
+    match enter(&mut reader, place) {
+        Ok(()) => read_entries(alloc, schema, &mut reader),
+        Err(_) => unreachable!(),
+    }
+}
+
+/// The record of a text whose outline was read. What stands outside the entries is looked at first, then their number, then
+/// entries in order.
+fn read_outlined(
+    alloc: Global,
+    text: &str,
+    scratch: &mut Scratch,
+    outline: Outline,
+) -> Result<Record, Refusal>
+    requires { IsOutlineOf text.now outline }
+    ensures answers { Reads (λ h. h) result (record_in text.now) }
+    ensures why { IfErr result TellsText }
+{
+    let Outline { members, entries } = outline;
+    let Some(entries) = entries else {
+        return Err(no_history(0));
+    };
+    let Ok(read) = read_outside(alloc, members) else {
         return Err(Refusal::NoMemory);
     };
     let Some(outer) = read else {
         return Err(no_history(0));
     };
-    if outer.items.len() > MOST_ENTRIES {
+    if entries.count > MOST_ENTRIES {
         return Err(Refusal::TooMany {
             limit: MOST_ENTRIES as u64,
         });
     }
-    match read_entries(alloc, &outer.schema, outer.items) {
+    match read_entries_at(alloc, &outer.schema, text, scratch, entries.place) {
         Ok(entries) => Ok(Record {
             schema: outer.schema,
             rows: outer.rows,
@@ -372,6 +434,20 @@ fn read_value(alloc: Global, value: &Value) -> Result<Record, Refusal>
             entries,
         }),
         Err(e) => Err(e),
+    }
+}
+
+/// The record of a text. The text is gone through twice: its entries are read once the attributes are known, and one after
+/// another, so that they never stand beside the record as JSON values.
+fn read_text(alloc: Global, text: &str) -> Result<Record, Refusal>
+    ensures answers { Reads (λ h. h) result (record_in text.now) }
+    ensures why { IfErr result TellsText }
+{
+    let mut scratch = Scratch::new(alloc);
+    match read_outline(alloc, text, &mut scratch) {
+        Ok(outline) => read_outlined(alloc, text, &mut scratch, outline),
+        Err(NoValue::Invalid) => Err(no_history(0)),
+        Err(NoValue::Memory) => Err(Refusal::NoMemory),
     }
 }
 
@@ -385,9 +461,8 @@ pub fn read_record(alloc: Global, bytes: &[u8]) -> Result<Record, Refusal>
     ensures answers { Reads (λ h. h) result (record_at bytes.now) }
     ensures why { IfErr result TellsText }
 {
-    match Value::from_slice(alloc, bytes) {
-        Ok(value) => read_value(alloc, &value),
-        Err(error) if error.is_memory() => Err(Refusal::NoMemory),
+    match std::str::from_utf8(bytes) {
+        Ok(text) => read_text(alloc, text),
         Err(_) => Err(no_history(0)),
     }
 }

@@ -1,11 +1,12 @@
 //! A record is written as a JSON text.
 
-ghost use Rattle.std.specs.Prelude.{◌≡◌, ◌≤◌, map, string_bytes, IfOk};
+ghost use Rattle.std.specs.Prelude.{◌≡◌, ◌≤◌, ◌++◌, codes, decimal, false, map, string_bytes, IfOk, OnOk};
 ghost use Rattle.serde_json.specs.View.{view};
+ghost use Rattle.serde_json.specs.Written.{comma_if, compact_text, has_float};
 ghost use Rattle.sw_lang.specs.PrintedCalls.{call_text};
 ghost use Rattle.sw_rows.specs.Cells.{HasPlaces};
 ghost use Rattle.sw_rows.specs.Spelling.{kind_text};
-ghost use Rattle.sw_cli.specs.RecordText.{attribute_text, cell_data, entry_data, list_data, record_data, record_text, row_data, state_data, texts_data, whole_data, WritesText};
+ghost use Rattle.sw_cli.specs.RecordText.{attribute_text, cell_data, entry_data, front_text, list_data, record_text, row_data, state_data, texts_data, WritesText};
 
 use serde_json::{Value, json};
 use std::alloc::{AllocError, Global};
@@ -91,17 +92,6 @@ fn row_value(alloc: Global, width: usize, row: &Row) -> Result<Value, AllocError
     cells_value(alloc, &row.cells[..width])
 }
 
-fn rows_value(alloc: Global, width: usize, rows: &[Row]) -> Result<Value, AllocError>
-    requires { width ≤ 8 }
-    ensures { IfOk result (λ v. view v ≡ list_data (map (row_data width) rows.now)) }
-{
-    let mut items = Vec::new(alloc);
-    for row in rows {
-        items.push(row_value(alloc, width, row)?)?;
-    }
-    Ok(Value::Array(items))
-}
-
 fn lines_value(alloc: Global, lines: &[String]) -> Result<Value, AllocError>
     ensures { IfOk result (λ v. view v ≡ texts_data (map (λ t. string_bytes t) lines.now)) }
 {
@@ -139,49 +129,131 @@ fn entry_value(alloc: Global, schema: &Schema, entry: &Entry) -> Result<Value, A
     json!(in alloc; {"call": call, "reply": reply, "session": entry.session})
 }
 
-fn entries_value(alloc: Global, schema: &Schema, entries: &[Entry]) -> Result<Value, AllocError>
-    ensures { IfOk result (λ v. view v ≡ list_data (map (entry_data schema.now) entries.now)) }
+/// Puts the text of a value after a text.
+fn put_value(alloc: Global, value: &Value, text: &mut Vec<u8>) -> Result<(), AllocError>
+    requires { has_float (view value.now) ≡ false }
+    ensures { OnOk result (text.new.items ≡ text.old.items ++ compact_text (view value.now)) }
 {
-    let mut items = Vec::new(alloc);
-    for entry in entries {
-        items.push(entry_value(alloc, schema, entry)?)?;
+    let bytes = value.to_vec(alloc)?;
+    text.extend_from_slice(bytes.as_slice())?;
+    Ok(())
+}
+
+/// Puts a comma after a text, where an item stands before.
+fn put_comma(is_later: bool, text: &mut Vec<u8>) -> Result<(), AllocError>
+    ensures { OnOk result (text.new.items ≡ text.old.items ++ comma_if is_later) }
+{
+    if is_later {
+        text.push(b',')?;
     }
-    Ok(Value::Array(items))
+    Ok(())
 }
 
-fn whole_value(
+fn put_entry(
     alloc: Global,
-    attributes: Value,
-    entries: Value,
-    limit: u64,
-    rows: Value,
-) -> Result<Value, AllocError>
-    ensures { IfOk result (λ v. view v ≡ whole_data (view attributes) (view entries) limit (view rows)) }
+    schema: &Schema,
+    entry: &Entry,
+    is_later: bool,
+    text: &mut Vec<u8>,
+) -> Result<(), AllocError>
+    ensures { OnOk result (text.new.items ≡ text.old.items ++ (comma_if is_later ++ compact_text (entry_data schema.now entry.now))) }
 {
-    json!(in alloc; {
-        "attributes": attributes,
-        "entries": entries,
-        "format": 1u64,
-        "limit": limit,
-        "rows": rows
-    })
+    let value = entry_value(alloc, schema, entry)?;
+    put_comma(is_later, text)?;
+    put_value(alloc, &value, text)
 }
 
-fn record_value(alloc: Global, history: &Record) -> Result<Value, AllocError>
-    ensures { IfOk result (λ v. view v ≡ record_data history.now) }
+/// Puts entries as an array, one after another, so that only one stands as a JSON value.
+fn put_entries(
+    alloc: Global,
+    schema: &Schema,
+    entries: &[Entry],
+    text: &mut Vec<u8>,
+) -> Result<(), AllocError>
+    ensures { OnOk result (text.new.items ≡ text.old.items ++ compact_text (list_data (map (entry_data schema.now) entries.now))) }
+{
+    text.push(b'[')?;
+    let mut is_later = false;
+    let mut rest = entries;
+    while let Some((entry, later)) = rest.split_first() {
+        put_entry(alloc, schema, entry, is_later, text)?;
+        is_later = true;
+        rest = later;
+    }
+    text.push(b']')?;
+    Ok(())
+}
+
+fn put_row(
+    alloc: Global,
+    width: usize,
+    row: &Row,
+    is_later: bool,
+    text: &mut Vec<u8>,
+) -> Result<(), AllocError>
+    requires { width ≤ 8 }
+    ensures { OnOk result (text.new.items ≡ text.old.items ++ (comma_if is_later ++ compact_text (row_data width row.now))) }
+{
+    let value = row_value(alloc, width, row)?;
+    put_comma(is_later, text)?;
+    put_value(alloc, &value, text)
+}
+
+/// Puts rows as an array.
+fn put_rows(alloc: Global, width: usize, rows: &[Row], text: &mut Vec<u8>) -> Result<(), AllocError>
+    requires { width ≤ 8 }
+    ensures { OnOk result (text.new.items ≡ text.old.items ++ compact_text (list_data (map (row_data width) rows.now))) }
+{
+    text.push(b'[')?;
+    let mut is_later = false;
+    let mut rest = rows;
+    while let Some((row, later)) = rest.split_first() {
+        put_row(alloc, width, row, is_later, text)?;
+        is_later = true;
+        rest = later;
+    }
+    text.push(b']')?;
+    Ok(())
+}
+
+/// Puts the attributes as an array.
+fn put_attributes(alloc: Global, schema: &Schema, text: &mut Vec<u8>) -> Result<(), AllocError>
+    ensures { OnOk result (text.new.items ≡ text.old.items ++ compact_text (texts_data (map attribute_text schema.now))) }
+{
+    let value = attributes_value(alloc, schema)?;
+    put_value(alloc, &value, text)
+}
+
+fn put_limit(alloc: Global, limit: u64, text: &mut Vec<u8>) -> Result<(), AllocError>
+    ensures { OnOk result (text.new.items ≡ text.old.items ++ decimal limit) }
+{
+    let value = Value::from(limit);
+    put_value(alloc, &value, text)
+}
+
+/// Puts what stands before the rows.
+fn put_front(alloc: Global, history: &Record, text: &mut Vec<u8>) -> Result<(), AllocError>
+    ensures { OnOk result (text.new.items ≡ front_text text.old.items history.now) }
+{
+    text.extend_from_slice(b"{\"attributes\":")?;
+    put_attributes(alloc, &history.schema, text)?;
+    text.extend_from_slice(b",\"entries\":")?;
+    put_entries(alloc, &history.schema, history.entries.as_slice(), text)?;
+    text.extend_from_slice(b",\"format\":1,\"limit\":")?;
+    put_limit(alloc, history.limit, text)?;
+    Ok(())
+}
+
+fn record_bytes(alloc: Global, history: &Record) -> Result<Vec<u8>, AllocError>
+    ensures { IfOk result (λ text. text.items ≡ record_text history.now) }
 {
     let width = history.schema.len();
-    let attributes = attributes_value(alloc, &history.schema)?;
-    let entries = entries_value(alloc, &history.schema, history.entries.as_slice())?;
-    let rows = rows_value(alloc, width, history.rows.as_slice())?;
-    whole_value(alloc, attributes, entries, history.limit, rows)
-}
-
-fn record_string(alloc: Global, history: &Record) -> Result<String, AllocError>
-    ensures { IfOk result (λ text. string_bytes text ≡ record_text history.now) }
-{
-    let value = record_value(alloc, history)?;
-    value.to_string(alloc)
+    let mut text = Vec::new(alloc);
+    put_front(alloc, history, &mut text)?;
+    text.extend_from_slice(b",\"rows\":")?;
+    put_rows(alloc, width, history.rows.as_slice(), &mut text)?;
+    text.push(b'}')?;
+    Ok(text)
 }
 
 /// Writes the text of a record's file: one JSON object without blanks, in which keys ascend. An answered entry is written
@@ -192,8 +264,8 @@ fn record_string(alloc: Global, history: &Record) -> Result<String, AllocError>
 pub fn write_record<W: Sink>(alloc: Global, history: &Record, out: &mut W) -> Result<(), Refusal>
     ensures { WritesText (W.taken out.old) (W.taken out.new) (W.failed out.old) (W.failed out.new) result (record_text history.now) }
 {
-    match record_string(alloc, history) {
-        Ok(text) => write_all(out, text.as_bytes()),
+    match record_bytes(alloc, history) {
+        Ok(text) => write_all(out, text.as_slice()),
         Err(_) => Err(Refusal::NoMemory),
     }
 }

@@ -1,4 +1,4 @@
-use Rattle.std.proofs.Common.{◌≡◌, ◌∙◌, ◌<◌, ◌≤◌, ap, sym, arith, rules, pos, true, length, drop, take, map, get_or, Some, FitsSigned, w64, to_z, of_z}
+use Rattle.std.proofs.Common.{◌≡◌, ◌∙◌, ◌<◌, ◌≤◌, ap, sym, arith, rules, pos, length, drop, take, map, get_or, Some, FitsSigned, w64, to_z, of_z}
 use Rattle.std.specs.Prelude.{option_map}
 use Rattle.std.proofs.lemmas.Int.{to_z-of_z}
 use Rattle.std.proofs.lemmas.List.{take_more_set}
@@ -7,7 +7,7 @@ use Rattle.serde_json.specs.View.{view}
 use Rattle.sw_rows.specs.Header.{kinds_of}
 use Rattle.sw_rows.specs.Tables.{padded}
 use Rattle.sw_rows.proofs.TableLemmas.{padded_take}
-use Rattle.sw_cli.proofs.RecordReadingLemmas.{cell_none, cell_some, cells_end, cells_long, views_long}
+use Rattle.sw_cli.proofs.RecordReadingLemmas.{cell_none, cell_some, cells_end, cells_long}
 use Rattle.sw_cli.proofs.reading.read_cells.Goals as goal
 
 pub returns-in-None : goal.returns-in-None

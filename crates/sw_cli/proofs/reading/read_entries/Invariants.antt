@@ -1,15 +1,21 @@
-use Rattle.std.proofs.Common.{◌≡◌, ◌+◌, [], length, map}
-use Rattle.serde_json.specs.View.{view}
+use Rattle.std.proofs.Common.{◌≡◌, ◌+◌, ◌≤◌, ℕ, List, [], length, Some}
+use Rattle.std.specs.Prelude.{IfSome}
+use Rattle.json.specs.Json.{items, value}
+use Rattle.serde_json.specs.Data.{Data}
+use Rattle.serde_json.specs.Read.{converted, of_items}
 use Rattle.sw_spine.specs.History.{AllBelow}
 use Rattle.sw_cli.specs.RecordReading.{entries_after}
+use Rattle.sw_cli.specs.Outlines.{values_in}
+use Rattle.sw_cli.proofs.EntriesLemmas.{listed}
 use Rattle.sw_cli.proofs.reading.read_entries.Given as goal
 
-abbrev pub invariant-loop-value : goal.invariant-loop-value
-invariant-loop-value l = record {
-  counted : length l.entries.items + length l.rest ≡ length l.items;
-  below : AllBelow (length l.schema) l.entries.items;
-  left : entries_after l.schema [] (map view l.items) ≡ entries_after l.schema l.entries.items (map view l.rest);
-}
+abbrev pub invariant-entries : goal.invariant-entries
+invariant-entries l =
+    (n : ℕ) × (left : List Data) × (length l.reader ≤ n)
+    × (listed (converted of_items (items (value 125) n l.reader)) ≡ Some left)
+    × (length l.entries.items + length left ≤ 1048576)
+    × AllBelow (length l.schema) l.entries.items
+    × IfSome (values_in l.initial.reader) (λ ds. entries_after l.schema [] ds ≡ entries_after l.schema l.entries.items left)
 
-abbrev pub decreases-loop-value : goal.decreases-loop-value
-decreases-loop-value l = length l.rest
+abbrev pub decreases-entries : goal.decreases-entries
+decreases-entries l = length l.reader

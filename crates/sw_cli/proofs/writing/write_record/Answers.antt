@@ -3,4 +3,4 @@ use Rattle.sw_cli.proofs.RecordTextLemmas.{writes_text}
 use Rattle.sw_cli.proofs.writing.write_record.Goals as goal
 
 pub returns-in-Ok : goal.returns-in-Ok
-returns-in-Ok g c = writes_text _ _ _ _ c.write_all.result _ (rw (c.as_bytes.ensures.value ∙ c.in-Ok.ensures) at c.write_all.ensures)
+returns-in-Ok g c = writes_text _ _ _ _ c.write_all.result _ (rw (c.as_slice.ensures.value ∙ c.in-Ok.ensures) at c.write_all.ensures)
