@@ -16,6 +16,8 @@ mod trials;
 #[cfg(test)]
 mod update_mixes;
 #[cfg(test)]
+mod update_refusals;
+#[cfg(test)]
 mod update_tests;
 mod updating;
 

@@ -6,14 +6,14 @@ ghost use Rattle.sw_map.specs.Held.{blank};
 use crate::mixes::refusing;
 use crate::moves::{Move, Watch, look, query, shown};
 use crate::tests::{FOUR_ROWS, counting, wide};
-use crate::{Shape, Trial, add};
+use crate::{Asked, Shape, Trial, add};
 use std::alloc::Global;
 use std::sync::Arc;
 use std::test::Fail;
 use std::thread::Threads;
 use sw_budget::Budget;
 use sw_map::{CrackerMap, Tail};
-use sw_rows::{Bound, Refusal};
+use sw_rows::Bound;
 use sw_trial_maps::Counts;
 
 /// What is done to an area under updates, or looked at.
@@ -71,13 +71,13 @@ fn asked<R: Threads + Sync, M: CrackerMap>(
     line: &str,
 ) -> Result<String, Fail> {
     let query = query(alloc, line)?;
-    let asked = trial.ask(rt, &query)?;
-    let mut text = shown(alloc, &asked.reply)?;
-    let plain = shown(alloc, &asked.plain)?;
+    let Asked { reply, told, plain } = trial.ask(rt, &query)?;
+    let mut text = shown(alloc, &reply)?;
+    let plain = shown(alloc, &plain)?;
     if text.as_str() != plain.as_str() {
         text.push_str(format!(in alloc; " for {plain}")?.as_str())?;
     }
-    if let Some(e) = asked.told {
+    if let Some(e) = told {
         text.push_str(format!(in alloc; ", told {e}")?.as_str())?;
     }
     Ok(text)
@@ -405,13 +405,14 @@ fn an_update_that_meets_a_full_tape_begins_anew(rt: HostRuntime) -> Result<(), F
     Ok(())
 }
 
-#[test]
-fn a_row_outside_the_interval_does_not_come(rt: HostRuntime) -> Result<(), Fail> {
-    let alloc = rt.alloc();
-    let (_budget, mut purse) = Budget::open(alloc, 1 << 20)?;
-    let one: Box<dyn CrackerMap> = Box::new(alloc, refusing(alloc, &mut purse, 0)?)?;
-    let mut maps: Vec<Box<dyn CrackerMap>> = Vec::new(alloc);
-    add(&mut maps, one)?;
+/// What an area of the values from 3 up to below 9 of b tells of rows outside of it and in it, and of queries.
+fn bounded<R: Threads + Sync, M: CrackerMap>(
+    rt: &R,
+    alloc: Global,
+    maps: Vec<M>,
+) -> Result<String, Fail>
+    requires { All (λ m. M.held m ≡ blank) maps.items }
+{
     let shape = Shape {
         attribute: 1,
         from: Some(3),
@@ -419,19 +420,33 @@ fn a_row_outside_the_interval_does_not_come(rt: HostRuntime) -> Result<(), Fail>
         boxes: 1,
     };
     let mut trial = Trial::open(alloc, shape, &FOUR_ROWS[..2], maps)?;
-    assert!(rt; matches!(trial.insert(cells(5, 2, 5)), Err(Refusal::Input)));
-    assert!(rt; matches!(trial.insert(cells(5, 9, 5)), Err(Refusal::Input)));
-    assert_eq!(rt; trial.insert(cells(0, 3, 0))?, 3);
-    assert_eq!(rt; trial.insert(cells(0, 8, 0))?, 4);
+    let low = receive(alloc, &mut trial, Step::Insert(5, 2, 5))?;
+    let high = receive(alloc, &mut trial, Step::Insert(5, 9, 5))?;
+    let first = receive(alloc, &mut trial, Step::Insert(0, 3, 0))?;
+    let last = receive(alloc, &mut trial, Step::Insert(0, 8, 0))?;
+    let reply = asked(rt, alloc, &mut trial, "select b where b >= 3")?;
+    let query = query(alloc, "count where a < 3")?;
+    let another = trial.ask(rt, &query).is_err();
+    Ok(format!(in alloc;
+        "{}; {}; {}; {}; {}; {another}",
+        low.as_str(),
+        high.as_str(),
+        first.as_str(),
+        last.as_str(),
+        reply.as_str()
+    )?)
+}
+
+#[test]
+fn a_row_outside_the_interval_does_not_come(rt: HostRuntime) -> Result<(), Fail> {
+    let alloc = rt.alloc();
+    let (_budget, mut purse) = Budget::open(alloc, 1 << 20)?;
+    let one: Box<dyn CrackerMap> = Box::new(alloc, refusing(alloc, &mut purse, 0)?)?;
+    let mut maps: Vec<Box<dyn CrackerMap>> = Vec::new(alloc);
+    add(&mut maps, one)?;
     assert_eq!(rt;
-        asked(&rt, alloc, &mut trial, "select b where b >= 3")?.as_str(),
-        "1: 7, 2: 8, 3: 3, 4: 8, 4 rows"
-    );
-    assert!(rt;
-        matches!(
-            trial.ask(&rt, &query(alloc, "count where a < 3")?),
-            Err(Refusal::Input)
-        )
+        bounded(&rt, alloc, maps)?.as_str(),
+        "12; 12; key 3; key 4; 1: 7, 2: 8, 3: 3, 4: 8, 4 rows; true"
     );
     Ok(())
 }
