@@ -1,12 +1,11 @@
 -- One box of an area, stepped on.
-use Rattle.std.proofs.Common.{◌≡◌, ℕ, ◌<◌, ◌≤◌, ℤ, false, List, length, get_or, set, map, ap, sym, ◌∙◌, subst, arith, All, Option, Result, Ok, Err, MatchResult, OnErr}
+use Rattle.std.proofs.Common.{◌≡◌, ℕ, ◌<◌, ℤ, false, List, length, get_or, set, map, ap, sym, ◌∙◌, subst, arith, All, Option, Result, Ok, Err, MatchResult, OnErr}
 use Rattle.std.proofs.lemmas.List.{get_or-map, length-map}
 use Rattle.sw_rows.specs.declared.row.Row.{Row}
 use Rattle.sw_rows.specs.declared.row.Update.{Update}
 use Rattle.sw_rows.specs.declared.refusal.Refusal.{Refusal}
 use Rattle.sw_rows.specs.declared.refusal.Refusal.TheVariants.{NoMemory}
 use Rattle.sw_kernel.specs.Replay.{Step}
-use Rattle.sw_kernel.specs.Tapes.{peak_from}
 use Rattle.sw_map.specs.Held.{Held}
 use Rattle.sw_map.specs.Lawful.{IsAligned, IsLawful}
 use Rattle.sw_map.proofs.Replays.{aligned-lawful}

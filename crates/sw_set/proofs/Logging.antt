@@ -5,7 +5,6 @@ use Rattle.std.proofs.lemmas.List.Elements.{All-append}
 use Rattle.sw_rows.specs.declared.row.Row.{Row}
 use Rattle.sw_rows.specs.declared.row.Update.{Update}
 use Rattle.sw_rows.specs.declared.row.Update.TheVariants.{Insert}
-use Rattle.sw_rows.specs.Updates.{without}
 use Rattle.sw_kernel.specs.Arrangement.{joined}
 use Rattle.sw_kernel.specs.Replay.{Step, inserted, removed}
 use Rattle.sw_kernel.specs.Tapes.{brought}

@@ -1,5 +1,5 @@
 -- Merging, update by update: the live rows, what came, and what may still be received.
-use Rattle.std.proofs.Common.{◌≡◌, ◌≢◌, ℕ, zero, suc, ◌+◌, ◌<◌, ◌≤◌, Bool, true, false, nat_lt, ◌⊎◌, inl, inr, List, [], ◌∷◌, ◌++◌, fold, length, get_or, take, drop, refl, ap, sym, ◌∙◌, arith, subst, All, Any, Option, Some, None, Result, Ok, Err, MatchOption, MatchResult}
+use Rattle.std.proofs.Common.{◌≡◌, ◌≢◌, ℕ, zero, suc, ◌+◌, ◌<◌, ◌≤◌, Bool, true, false, nat_lt, inl, inr, List, [], ◌∷◌, ◌++◌, fold, length, get_or, take, drop, refl, ap, sym, ◌∙◌, arith, subst, All}
 use Rattle.std.proofs.lemmas.List.{append-nil, drop_all, drop_more, take_all, take_more}
 use Rattle.std.proofs.lemmas.List.Elements.{All-append}
 use Rattle.std.proofs.lemmas.List.Sums.{fold-append}
@@ -14,7 +14,6 @@ use Rattle.sw_map.specs.Held.{Held}
 use Rattle.sw_set.specs.Merged.{AreMerged, IsAllMerged, IsMerged, IsMergedUpTo, IsPartlyMerged, IsSameShell, IsStoppedAt, LacksKeys, StandsForSame, without_inbox}
 use Rattle.sw_set.specs.Prepared.{IsReady, IsSameButBoxes}
 use Rattle.sw_set.specs.Shelf.{AreApart, AreReceivable, AreSameMaps, AreaState, MayReceive, came_then, logged_rows}
-use Rattle.sw_set.proofs.Boxes.{same-refl}
 use Rattle.sw_set.proofs.Longer.{all-without, brought-inserted, brought-removed, logged-all, logged-inserted, logged-removed}
 use Rattle.sw_set.proofs.Receiving.{IsBelow, all-left, all-right, less-after, receivable-less}
 use Rattle.sw_set.proofs.Views.{IsOwn, all-own}

@@ -1,5 +1,5 @@
 -- What may be received goes on to be so when fewer rows came; lists of rows under a bound.
-use Rattle.std.proofs.Common.{◌≡◌, ℕ, zero, suc, ℤ, ◌<◌, ◌==◌, ◌||◌, ◌&&◌, not, Bool, true, false, List, [], ◌∷◌, ◌++◌, fold, length, refl, ap, sym, ◌∙◌, arith, subst, All, Option}
+use Rattle.std.proofs.Common.{◌≡◌, ℕ, zero, suc, ℤ, ◌<◌, ◌==◌, ◌||◌, ◌&&◌, not, Bool, true, false, List, [], ◌∷◌, ◌++◌, fold, refl, ap, sym, ◌∙◌, arith, subst, All, Option}
 use Rattle.std.proofs.lemmas.Bool.Decides.{nat_tests}
 use Rattle.std.proofs.lemmas.List.Elements.{All-append}
 use Rattle.sw_rows.specs.declared.row.Row.{Row}
@@ -7,7 +7,7 @@ use Rattle.sw_rows.specs.declared.row.Update.{Update}
 use Rattle.sw_rows.specs.declared.row.Update.TheVariants.{Insert, Remove}
 use Rattle.sw_rows.specs.Updates.{has_key, rows_then, without}
 use Rattle.sw_kernel.specs.Tapes.{brought}
-use Rattle.sw_set.specs.Shelf.{AreReceivable, AreaState, BringsNoMore, came_in, came_then}
+use Rattle.sw_set.specs.Shelf.{AreReceivable, AreaState, BringsNoMore, came_then}
 
 pub all-one : {X : Type 0} (P : X → Type 0) (x : X) → P x → All P (x ∷ [])
 all-one P x px zero d lt = px

@@ -1,5 +1,5 @@
 -- Areas that are begun anew, or have one entry more, as merging wants them.
-use Rattle.std.proofs.Common.{◌≡◌, ℕ, ◌<◌, ◌≤◌, List, [], ◌∷◌, ◌++◌, length, get_or, refl, ap, sym, ◌∙◌, arith, subst, All, Any, Result, Ok, Err, MatchResult, inl, inr, ◌⊎◌}
+use Rattle.std.proofs.Common.{◌≡◌, ℕ, ◌<◌, List, [], ◌∷◌, ◌++◌, length, get_or, refl, ap, sym, ◌∙◌, arith, subst, Any, Result, Ok, Err, MatchResult, inl, inr, ◌⊎◌}
 use Rattle.std.proofs.lemmas.List.{append-nil}
 use Rattle.sw_rows.specs.declared.row.Row.{Row}
 use Rattle.sw_rows.specs.declared.refusal.Refusal.{Refusal}
@@ -9,7 +9,7 @@ use Rattle.sw_kernel.specs.Arrangement.{joined}
 use Rattle.sw_kernel.specs.Replay.{Step, loaded, inserted, removed}
 use Rattle.sw_kernel.specs.Tapes.{brought}
 use Rattle.sw_map.specs.declared.tail.Tail.TheVariants.{Key}
-use Rattle.sw_map.specs.Held.{Held, blank}
+use Rattle.sw_map.specs.Held.{Held}
 use Rattle.sw_map.specs.Lawful.{rows_by}
 use Rattle.sw_set.specs.Merged.{IsBegunAnew, IsInserted, IsRemovalLogged, IsRemoved, IsSameShell, LacksKeys}
 use Rattle.sw_set.specs.Prepared.{IsReady, IsSameButBoxes}

@@ -1,5 +1,5 @@
 -- The list of a tape's live rows, kept up when the tape changes.
-use Rattle.std.proofs.Common.{◌≡◌, ◌≢◌, ℕ, zero, suc, ◌+◌, ◌<◌, ℤ, Bool, true, false, true≢false, List, [], ◌∷◌, ◌++◌, length, get_or, replicate, slice_set, refl, ap, sym, ◌∙◌, arith, subst, All, Any, Option}
+use Rattle.std.proofs.Common.{◌≡◌, ◌≢◌, ℕ, zero, suc, ◌<◌, ℤ, Bool, true, false, true≢false, List, [], ◌∷◌, ◌++◌, length, get_or, replicate, slice_set, refl, ap, sym, ◌∙◌, arith, subst, All, Any, Option}
 use Rattle.std.proofs.lemmas.List.{append-nil, append_assoc, length-append}
 use Rattle.std.proofs.Math.ListN.{length-set}
 use Rattle.sw_rows.specs.declared.bound.Bound.{Bound}

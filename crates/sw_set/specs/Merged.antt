@@ -8,7 +8,7 @@ use Rattle.sw_kernel.specs.Arrangement.{joined}
 use Rattle.sw_kernel.specs.Replay.{loaded, inserted, removed}
 use Rattle.sw_kernel.specs.Tapes.{brought, peak_from}
 use Rattle.sw_map.specs.declared.tail.Tail.TheVariants.{Key}
-use Rattle.sw_map.specs.Held.{Held, blank}
+use Rattle.sw_map.specs.Held.{blank}
 use Rattle.sw_map.specs.Lawful.{rows_by}
 use Rattle.sw_set.specs.Shelf.{AreReceivable, AreSameMaps, AreaState, BringsNoMore, came_then, logged_rows, rows_in}
 use Rattle.sw_set.specs.Prepared.{IsReady}

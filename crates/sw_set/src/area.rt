@@ -317,6 +317,7 @@ impl<M: CrackerMap> Area<M> {
     pub fn room(&mut self, more: usize) -> Result<(), Refusal>
         ensures same { self.new ≡ record self.old { spare = self.new.spare } }
         ensures ends { MatchResult result (λ _. (more ≤ self.new.spare) × (self.old.spare ≤ self.new.spare)) (λ e. (self.new.spare ≡ self.old.spare) × (e ≡ NoMemory)) }
+        ensures roomy { more ≤ self.old.spare → IsOk result }
     {
         match self.inbox.reserve(more) {
             Ok(()) => Ok(()),

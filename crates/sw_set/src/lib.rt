@@ -8,8 +8,6 @@ mod choice;
 mod collect;
 mod finding;
 mod live;
-#[cfg(test)]
-mod live_tests;
 mod making;
 mod merging;
 mod needs;

@@ -7,6 +7,7 @@ use Rattle.sw_rows.specs.declared.bound.Bound.TheVariants.{Before, After}
 use Rattle.sw_rows.specs.Bounds.{bound_below, is_left, same_bound}
 use Rattle.sw_kernel.specs.Tapes.{IsBelowAll, IsRising}
 use Rattle.sw_kernel.proofs.Orders.{left-below, right-below}
+use Rattle.sw_tape.proofs.Places.{all-at}
 use Rattle.sw_tape.specs.Bounds.{IsNearestAbove, IsNearestBelow, IsSplit, is_among}
 
 -- ---- the order of bounds
@@ -29,11 +30,6 @@ not-below (After u) (After v) p = grind (arith, p)
 not-below_self : (b : Bound) → bound_below b b ≡ false
 not-below_self (Before v) = grind arith
 not-below_self (After v) = grind arith
-
-all-at : (b : Bound) (bs : List Bound) → IsBelowAll b bs → (k : ℕ) (d : Bound) → k < length bs → bound_below b (get_or bs k d) ≡ true
-all-at b [] h k d lt = let no : k < 0 = lt in absurd (omega arith)
-all-at b (c ∷ cs) h zero d lt = h.0
-all-at b (c ∷ cs) h (suc k) d lt = all-at b cs h.1 k d (omega arith)
 
 all-among : (c b : Bound) (bs : List Bound) → IsBelowAll c bs → is_among b bs ≡ true → bound_below c b ≡ true
 all-among c b [] al h = absurd (true≢false (sym h))

@@ -8,7 +8,7 @@ use Rattle.sw_kernel.specs.Tapes.{IsBelowAll, IsRising}
 use Rattle.sw_kernel.proofs.Orders.{below-trans, below-new, above, same-same, same-flips}
 use Rattle.sw_tape.specs.Bounds.{is_among, is_first, IsPlaceOf}
 
-all-at : (b : Bound) (bs : List Bound) → IsBelowAll b bs → (k : ℕ) (d : Bound) → k < length bs → bound_below b (get_or bs k d) ≡ true
+pub all-at : (b : Bound) (bs : List Bound) → IsBelowAll b bs → (k : ℕ) (d : Bound) → k < length bs → bound_below b (get_or bs k d) ≡ true
 all-at b [] h k d lt = absurd (omega (arith, lt))
 all-at b (c ∷ cs) h zero d lt = h.0
 all-at b (c ∷ cs) h (suc k) d lt = all-at b cs h.1 k d (omega (arith, lt))

@@ -1,3 +1,4 @@
 pub mod Numbering
 pub mod Computed
+pub mod Merging
 pub mod Updates

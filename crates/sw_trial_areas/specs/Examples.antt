@@ -1,5 +1,5 @@
 -- Tapes, boxes and queries of the worked examples.
-use Rattle.std.specs.Prelude.{◌^◌, ◌-◌, ℕ, pos, neg_ℤ, false, List, [], ◌∷◌, ◌++◌, map, Option, Some, None}
+use Rattle.std.specs.Prelude.{◌^◌, ◌-◌, ℕ, ℤ, pos, neg_ℤ, false, List, [], ◌∷◌, ◌++◌, map, Option, Some, None}
 use Rattle.sw_rows.specs.declared.bound.Bound.{Bound}
 use Rattle.sw_rows.specs.declared.bound.Bound.TheVariants.{Before, After}
 use Rattle.sw_rows.specs.declared.query.Query.{Query}
@@ -9,8 +9,8 @@ use Rattle.sw_rows.specs.declared.row.Update.{Update}
 use Rattle.sw_rows.specs.Examples.{asking, four_rows, on, row_of_one, row_with}
 use Rattle.sw_kernel.specs.Arrangement.{Arrangement, joined, last, piece}
 use Rattle.sw_kernel.specs.Replay.{Step, loaded, inserted, removed, ranged}
-use Rattle.sw_map.specs.declared.tail.Tail.TheVariants.{Cell}
-use Rattle.sw_map.specs.Held.{Held, place_of}
+use Rattle.sw_map.specs.declared.tail.Tail.TheVariants.{Key, Cell}
+use Rattle.sw_map.specs.Held.{Held, blank, place_of}
 use Rattle.sw_map.specs.Lawful.{rows_by}
 use Rattle.sw_set.specs.Shelf.{AreaState, key_of}
 
@@ -80,6 +80,32 @@ second_map = record {
   cursor = 2;
   pairs = piece ((pos 3, pos 8) ∷ []) (Before (pos 10)) (piece ((pos 12, pos 7) ∷ (pos 12, pos 5) ∷ []) (After (pos 15)) (last ((pos 20, pos 2) ∷ [])));
 }
+
+-- the key map there
+abbrev pub key_map : Held
+key_map = record {
+  is_blank = false;
+  head = 0;
+  tail = Key;
+  cells = 64;
+  cursor = 2;
+  pairs = piece ((pos 3, pos 2) ∷ []) (Before (pos 10)) (piece ((pos 12, pos 1) ∷ (pos 12, pos 3) ∷ []) (After (pos 15)) (last ((pos 20, pos 4) ∷ [])));
+}
+
+-- an area of four rows with these two maps
+abbrev pub mapped_area : AreaState
+mapped_area = record { attribute = 0; from = None; below = None; inbox = []; spare = 0; tape = cracked_tape; boxes = key_map ∷ second_map ∷ [] }
+
+-- the same when its key map was cleared, and when it was begun anew without the row of key 2
+abbrev pub cleared_area : AreaState
+cleared_area = record mapped_area { boxes = blank ∷ second_map ∷ [] }
+
+abbrev pub begun_area : AreaState
+begun_area = record mapped_area { tape = loaded three_rows ∷ []; boxes = blank ∷ blank ∷ [] }
+
+-- a row that comes
+abbrev pub fifth_row : Row
+fifth_row = row_with 5 (pos 1) (pos 9) (pos 0)
 
 -- an area of four rows, one of which waits to go
 abbrev pub waiting_area : Update → AreaState

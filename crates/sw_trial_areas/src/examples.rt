@@ -2,18 +2,20 @@
 //!
 //! Each function here does nothing. Its contract is the example, and the check computes it.
 
-ghost use Rattle.std.specs.Prelude.{◌≡◌, ◌∷◌, [], pos, false, true};
-ghost use Rattle.sw_rows.specs.Examples.{four_rows};
+ghost use Rattle.std.specs.Prelude.{◌≡◌, ◌∷◌, ◌++◌, [], pos, false, true};
+ghost use Rattle.sw_rows.specs.Examples.{four_rows, row_with};
 ghost use Rattle.sw_rows.specs.declared.bound.Bound.TheVariants.{Before, After};
-ghost use Rattle.sw_rows.specs.declared.row.Update.TheVariants.{Remove};
+ghost use Rattle.sw_rows.specs.declared.row.Update.TheVariants.{Insert, Remove};
+ghost use Rattle.sw_kernel.specs.Replay.{removed};
 ghost use Rattle.sw_kernel.specs.Tapes.{peak_from};
 ghost use Rattle.sw_map.specs.declared.tail.Tail.TheVariants.{Key, Cell};
 ghost use Rattle.sw_map.specs.Held.{begun, place_of};
 ghost use Rattle.sw_map.specs.Lawful.{IsLawful, rows_by};
 ghost use Rattle.sw_set.specs.Needs.{edge, head_in, lower_from, needed, touches, upper_upto};
 ghost use Rattle.sw_set.specs.Prepared.{cells_for, stands_if};
-ghost use Rattle.sw_set.specs.Shelf.{logged_rows, rows_in};
-ghost use Rattle.sw_trial_areas.specs.Examples.{after, before, begun_tape, count_all, cracked_pieces, cracked_tape, fives_tape, greatest_bound, keys_by, least_bound, longer_tape, mixed_tape, places_by, second_map, select_a_by_b, select_b, select_b_and_c, shorter_tape, sum_b_by_c, three_rows, waiting_area, whole_tape};
+ghost use Rattle.sw_set.specs.Merged.{IsMerged};
+ghost use Rattle.sw_set.specs.Shelf.{AreReceivable, logged_rows, rows_in};
+ghost use Rattle.sw_trial_areas.specs.Examples.{after, before, begun_area, begun_tape, cleared_area, count_all, cracked_pieces, cracked_tape, fifth_row, fives_tape, greatest_bound, keys_by, least_bound, longer_tape, mapped_area, mixed_tape, places_by, second_map, select_a_by_b, select_b, select_b_and_c, shorter_tape, sum_b_by_c, three_rows, waiting_area, whole_tape};
 
 /// Which intervals a range touches: the ends are those of bounds, and a range whose ends are turned touches none.
 pub fn intervals_that_are_touched()
@@ -93,6 +95,26 @@ pub fn rows_come_and_go()
     ensures rows_without_it { logged_rows 0 shorter_tape ≡ three_rows }
     ensures begun { keys_by begun_tape ≡ 1 ∷ 3 ∷ 4 ∷ [] }
     ensures waiting { rows_in (waiting_area (Remove 2)) ≡ three_rows }
+{}
+
+/// What merging makes of an area: a row that comes is logged; a row that goes is logged at the place of its pair, and at no
+/// other, where the key map stands at the tape's end; without a key map the area is begun anew, and with one it is not.
+#[tactic(auto, using(crate::proofs::Merging::comes_merged, crate::proofs::Merging::goes_merged, crate::proofs::Merging::another_place_refused, crate::proofs::Merging::restarts_merged, crate::proofs::Merging::restart_refused))]
+pub fn updates_that_are_merged()
+    ensures comes { IsMerged (Insert fifth_row) mapped_area (record mapped_area { tape = longer_tape }) }
+    ensures goes { IsMerged (Remove 2) mapped_area (record mapped_area { tape = shorter_tape }) }
+    ensures at_its_place { IsMerged (Remove 2) mapped_area (record mapped_area { tape = cracked_tape ++ removed 1 ∷ [] }) → ⊥ }
+    ensures restarts { IsMerged (Remove 2) cleared_area begun_area }
+    ensures only_then { IsMerged (Remove 2) mapped_area begun_area → ⊥ }
+{}
+
+/// Which updates an area of four rows may receive: a removed key is that of a live row, and an inserted one exceeds all that came.
+#[tactic(auto, using(crate::proofs::Merging::removal_received, crate::proofs::Merging::removed_twice, crate::proofs::Merging::insertion_received, crate::proofs::Merging::old_key_refused))]
+pub fn updates_that_may_be_received()
+    ensures removal { AreReceivable 0 None None four_rows four_rows (Remove 2 ∷ []) }
+    ensures twice { AreReceivable 0 None None four_rows four_rows (Remove 2 ∷ Remove 2 ∷ []) → ⊥ }
+    ensures insertion { AreReceivable 0 None None four_rows four_rows (Insert fifth_row ∷ Remove 5 ∷ []) }
+    ensures old_key { AreReceivable 0 None None four_rows three_rows (Insert (row_with 2 (pos 1) (pos 1) (pos 1)) ∷ []) → ⊥ }
 {}
 
 /// A range at the ends of all values, and rows of one value.

@@ -1,5 +1,5 @@
 use Rattle.sw_set.proofs.Boxes.{get_or_any}
-use Rattle.sw_set.proofs.Merges.{next-may, upto-more, upto-start, upto-stopped}
+use Rattle.sw_set.proofs.Merges.{upto-more, upto-start}
 use Rattle.sw_set.proofs.merging.merge_each.Goals as goal
 
 pub loop-many-init : goal.loop-many-init

@@ -1,7 +1,6 @@
 use Rattle.sw_set.proofs.Aligning.{at-aligned, at-ends, at-maps, at-place, at-stepped}
 use Rattle.sw_kernel.specs.Tapes.{peak_from}
 use Rattle.std.proofs.Common.{◌≤◌, subst, sym, get_or}
-use Rattle.sw_map.specs.Held.{Held}
 use Rattle.sw_set.specs.Shelf.{AreaState}
 use Rattle.sw_set.proofs.area.Area.align_at.Goals as goal
 

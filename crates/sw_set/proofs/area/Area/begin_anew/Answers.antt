@@ -1,4 +1,4 @@
-use Rattle.std.proofs.Common.{◌≡◌, List, true, map, length, ap, sym, subst, arith, rules, All, refl}
+use Rattle.std.proofs.Common.{◌≡◌, true, map, length, ap, sym, subst, arith, rules, All}
 use Rattle.sw_rows.specs.declared.row.Row.{Row}
 use Rattle.sw_map.specs.Held.{Held, blank}
 use Rattle.sw_set.specs.Shelf.{AreReceivable, AreaState, lies_within}

@@ -1,4 +1,4 @@
-use Rattle.std.proofs.Common.{◌≡◌, ◌<◌, ◌-◌, ap, sym, ◌∙◌, map, List, subst, length, arith, vec_capacity, vec_len}
+use Rattle.std.proofs.Common.{◌<◌, ◌-◌, ap, sym, ◌∙◌, map, List, subst, length, arith, vec_capacity, vec_len}
 use Rattle.std.proofs.lemmas.List.{length-map}
 use Rattle.sw_set.specs.Shelf.{AreaState}
 use Rattle.sw_set.proofs.Dropped.{area-removed, view-removed}

@@ -1,6 +1,6 @@
-use Rattle.std.proofs.Common.{◌≡◌, ◌+◌, ◌-◌, length, drop, ap, sym, ◌∙◌, arith, vec_capacity, vec_len}
+use Rattle.std.proofs.Common.{◌-◌, length, drop, ap, sym, ◌∙◌, arith, vec_capacity, vec_len}
 use Rattle.sw_set.specs.Merged.{IsPartlyMerged, StandsForSame}
-use Rattle.sw_set.proofs.Merges.{all-merged, none-merged, partly-merged}
+use Rattle.sw_set.proofs.Merges.{partly-merged}
 use Rattle.sw_set.proofs.area.Area.merge.Goals as goal
 
 stopped : (g : _) (c : goal.After-put_inbox-in-Err g) → IsPartlyMerged c.args.self.now c.put_inbox-in-Err.new.self × StandsForSame c.args.self.now c.put_inbox-in-Err.new.self

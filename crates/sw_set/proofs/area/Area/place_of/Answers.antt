@@ -1,7 +1,6 @@
-use Rattle.std.proofs.Common.{◌≡◌, ◌<◌, ℕ, true, length, get_or, pos, ap, sym, ◌∙◌, subst, Any, rules, w64}
+use Rattle.std.proofs.Common.{◌≡◌, ◌<◌, ℕ, true, length, get_or, pos, ap, sym, ◌∙◌, subst, rules, w64}
 use Rattle.std.proofs.lemmas.Int.{to_z-of_z}
 use Rattle.sw_rows.specs.declared.row.Row.{Row}
-use Rattle.sw_rows.specs.Scan.{cell_of}
 use Rattle.sw_rows.specs.Updates.{has_key}
 use Rattle.sw_kernel.specs.Arrangement.{joined}
 use Rattle.sw_map.specs.declared.tail.Tail.TheVariants.{Key}

@@ -2,7 +2,6 @@ use Rattle.std.proofs.Common.{◌≡◌, ◌<◌, ap, sym, ◌∙◌, subst, Lis
 use Rattle.std.proofs.lemmas.List.{append-nil}
 use Rattle.sw_rows.specs.declared.row.Row.{Row}
 use Rattle.sw_kernel.specs.Tapes.{brought}
-use Rattle.sw_set.specs.Live.{live_among}
 use Rattle.sw_set.specs.Shelf.{AreReceivable, AreaState, logged_rows}
 use Rattle.sw_set.proofs.Longer.{logged-all}
 use Rattle.sw_set.proofs.Receiving.{receivable-less}

@@ -1,4 +1,4 @@
-use Rattle.std.proofs.Common.{◌≡◌, ◌<◌, ◌^◌, true, List, ap, sym, ◌∙◌, subst, All}
+use Rattle.std.proofs.Common.{◌≡◌, ◌<◌, ◌^◌, true, ap, sym, ◌∙◌, subst, All}
 use Rattle.sw_rows.specs.declared.row.Row.{Row}
 use Rattle.sw_rows.specs.Updates.{without}
 use Rattle.sw_set.specs.Shelf.{Rises, key_of, lies_within, logged_rows}
