@@ -96,6 +96,7 @@ impl<M: CrackerMap> Trial<M> {
     pub fn room(&mut self, more: usize) -> Result<(), Refusal>
         ensures same { self.new ≡ record self.old { area = record self.old.area { spare = self.new.area.spare } } }
         ensures ends { MatchResult result (λ _. more ≤ self.new.area.spare) (λ e. (self.new ≡ self.old) × (e ≡ NoMemory)) }
+        ensures roomy { more ≤ self.old.area.spare → IsOk result }
     {
         self.area.room(more)
     }
