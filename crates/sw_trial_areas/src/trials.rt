@@ -1,6 +1,6 @@
 //! Trials: an area under updates beside the plain list of its rows.
 
-ghost use Rattle.std.specs.Prelude.{◌≡◌, ◌≤◌, ◌+◌, ◌^◌, ◌++◌, ◌∷◌, [], IfOk, IsOk, MatchResult, All, cond, take, true, vec_len};
+ghost use Rattle.std.specs.Prelude.{◌≡◌, ◌≤◌, ◌+◌, ◌^◌, ◌++◌, ◌∷◌, ◌⊎◌, [], IfErr, IfOk, IsOk, MatchResult, All, cond, take, true, vec_len};
 ghost use Rattle.sw_rows.specs.declared.row.Row.{Row};
 ghost use Rattle.sw_rows.specs.declared.row.Update.TheVariants.{Insert, Remove};
 ghost use Rattle.sw_rows.specs.declared.refusal.Refusal.TheVariants.{Input, NoMemory};
@@ -71,6 +71,7 @@ impl<M: CrackerMap> Trial<M> {
     ) -> Result<Trial<M>, Refusal>
         requires blank { All (λ m. M.held m ≡ blank) maps.items }
         ensures opened { IfOk result (λ t. (may_open shape (numbered (take (2 ^ 20) cells.now)) ≡ true) × (t ≡ record { area = opened shape (numbered (take (2 ^ 20) cells.now)) (vec_len maps); next = key_after (numbered (take (2 ^ 20) cells.now)) })) }
+        ensures refused { IfErr result (λ e. (e ≡ NoMemory) ⊎ (e ≡ cond (may_open shape (numbered (take (2 ^ 20) cells.now))) NoMemory Input)) }
     {
         let rows = numbered(alloc, cells)?;
         let area = GrowingArea::open(alloc, shape, rows.as_slice(), maps)?;
@@ -95,6 +96,7 @@ impl<M: CrackerMap> Trial<M> {
     pub fn room(&mut self, more: usize) -> Result<(), Refusal>
         ensures same { self.new ≡ record self.old { area = record self.old.area { spare = self.new.area.spare } } }
         ensures ends { MatchResult result (λ _. more ≤ self.new.area.spare) (λ e. (self.new ≡ self.old) × (e ≡ NoMemory)) }
+        ensures roomy { more ≤ self.old.area.spare → IsOk result }
     {
         self.area.room(more)
     }
@@ -149,6 +151,7 @@ impl<M: CrackerMap> Trial<M> {
         ensures rows { rows_in self.new.area ≡ rows_in self.old.area }
         ensures received { IsOk result → self.new.area.inbox ≡ [] }
         ensures answered { IfOk result (λ asked. (asked.reply ≡ answer (rows_in self.old.area) query.now) × (asked.plain ≡ asked.reply)) }
+        ensures refused { IfErr result (λ e. (e ≡ NoMemory) ⊎ (e ≡ Input)) }
     {
         if !asks_below_eight(query) {
             return Err(Refusal::Input);

@@ -1,14 +1,15 @@
 //! Areas under updates: rows come by rising keys, and nothing is received that an area may not receive.
 
-ghost use Rattle.std.specs.Prelude.{◌≡◌, ◌≤◌, ◌<◌, ◌+◌, ◌^◌, [], All, IfOk, IsOk, MatchResult, cond, true, vec_len};
+ghost use Rattle.std.specs.Prelude.{◌≡◌, ◌≤◌, ◌<◌, ◌+◌, ◌^◌, ◌⊎◌, [], All, IfErr, IfOk, IsOk, MatchResult, cond, true, vec_len};
 ghost use Rattle.sw_rows.specs.declared.row.Row.{Row};
 ghost use Rattle.sw_rows.specs.declared.row.Update.TheVariants.{Insert, Remove};
 ghost use Rattle.sw_rows.specs.declared.refusal.Refusal.TheVariants.{Input, NoMemory};
-ghost use Rattle.sw_rows.specs.Scan.{answer};
+ghost use Rattle.sw_rows.specs.Scan.{AsksBelow, answer};
 ghost use Rattle.sw_rows.specs.Updates.{has_key, without};
 ghost use Rattle.sw_map.specs.Held.{blank};
 ghost use Rattle.sw_set.specs.Merged.{IsAllMerged, IsPartlyMerged, StandsForSame};
-ghost use Rattle.sw_set.specs.Prepared.{IsCleared, IsOneCleared, IsSameButBoxes, IsTold};
+ghost use Rattle.sw_set.specs.Needs.{head_in};
+ghost use Rattle.sw_set.specs.Prepared.{IsCleared, IsOneCleared, IsSameButBoxes};
 ghost use Rattle.sw_set.specs.Shelf.{Rises, came_in, key_of, rows_in};
 ghost use Rattle.sw_trial_areas.specs.Opening.{may_open, numbered, opened, row_of};
 ghost use Rattle.sw_trial_areas.specs.Updating.{IsReceived, key_after, may_come};
@@ -92,6 +93,7 @@ impl<M: CrackerMap> GrowingArea<M> {
     pub fn room(&mut self, more: usize) -> Result<(), Refusal>
         ensures same { self.new ≡ record self.old { area = record self.old.area { spare = self.new.area.spare } } }
         ensures ends { MatchResult result (λ _. more ≤ self.new.area.spare) (λ e. (self.new ≡ self.old) × (e ≡ NoMemory)) }
+        ensures roomy { more ≤ self.old.area.spare → IsOk result }
     {
         self.area.room(more)
     }
@@ -166,7 +168,9 @@ impl<M: CrackerMap> GrowingArea<M> {
         ensures next { self.new.next ≡ self.old.next }
         ensures rows { rows_in self.new.area ≡ rows_in self.old.area }
         ensures received { IsOk result → self.new.area.inbox ≡ [] }
+        ensures may { IsOk result → AsksBelow 8 query.now × (head_in query.now.conds ≡ self.old.area.attribute) }
         ensures answered { IfOk result (λ r. r.0 ≡ answer (rows_in self.old.area) query.now) }
+        ensures refused { IfErr result (λ e. (e ≡ NoMemory) ⊎ (e ≡ Input)) }
     {
         if !is_askable(&self.area, query) {
             return Err(Refusal::Input);
