@@ -35,3 +35,5 @@ pub mod Ties
 pub mod Told
 pub mod Trying
 pub mod Views
+pub mod Stretches
+pub mod After

@@ -1,10 +1,10 @@
 -- Rows with a flag each: one more comes, one goes, one is asked for.
-use Rattle.std.proofs.Common.{◌≡◌, ◌≢◌, ◌==◌, ◌<◌, ap, sym, refl, ℕ, zero, suc, Bool, true, false, List, [], ◌∷◌, ◌++◌, length, get_or, replicate, slice_set, All, arith}
+use Rattle.std.proofs.Common.{◌≡◌, ◌≢◌, ◌==◌, ◌+◌, ◌<◌, filter, not, ap, sym, refl, ℕ, zero, suc, Bool, true, false, List, [], ◌∷◌, ◌++◌, length, get_or, replicate, slice_set, All, arith}
 use Rattle.std.specs.List.{AllByRecursion}
 use Rattle.std.proofs.lemmas.Bool.Decides.{nat_tests}
 use Rattle.sw_rows.specs.declared.row.Row.{Row}
 use Rattle.sw_rows.specs.Updates.{has_key, without}
-use Rattle.sw_set.specs.Choice.{kept}
+use Rattle.sw_tape.specs.Restart.{kept}
 use Rattle.sw_set.specs.Shelf.{Rises, key_of}
 
 -- ---- more rows
@@ -38,6 +38,13 @@ kept-all (b ∷ fs) [] e a = refl
 kept-all (b ∷ fs) (x ∷ xs) e a =
     let is : b ≡ true = a 0 b (omega arith) in
     rw is (ap (λ v. x ∷ v) (kept-all fs xs (omega (arith, e)) (λ k d lt. a (suc k) d (omega (arith, lt)))))
+
+-- how many there are
+pub kept-long : {X : Type 0} (fs : List Bool) (xs : List X) → length fs ≡ length xs → length (kept fs xs) + length (filter not fs) ≡ length fs
+kept-long [] xs e = refl
+kept-long (b ∷ fs) [] e = absurd (omega (arith, e))
+kept-long (true ∷ fs) (x ∷ xs) e = let h = kept-long fs xs (omega (arith, e)) in omega (arith, h)
+kept-long (false ∷ fs) (x ∷ xs) e = let h = kept-long fs xs (omega (arith, e)) in omega (arith, h)
 
 -- ---- the row of a key
 

@@ -8,7 +8,8 @@ use Rattle.sw_rows.specs.Scan.{cell_of, column, least, greatest, matching, meets
 use Rattle.sw_rows.specs.declared.row.Row.{Row}
 use Rattle.sw_rows.specs.declared.query.Cond.{Cond}
 use Rattle.sw_rows.specs.declared.reply.ReplyRow.{ReplyRow}
-use Rattle.sw_set.specs.Choice.{kept, lesser_with, larger_with}
+use Rattle.sw_tape.specs.Restart.{kept}
+use Rattle.sw_set.specs.Choice.{lesser_with, larger_with}
 use Rattle.sw_set.proofs.Choosing.{chosen-more, chosen_nil}
 
 -- the live rows of the first i places that meet the conditions

@@ -1,12 +1,16 @@
 -- What is live after one step: all of a load, one row more, one less, and a step taken back.
-use Rattle.std.proofs.Common.{◌≡◌, ◌∙◌, ◌-◌, ◌+◌, ◌<◌, ap, sym, subst, ℕ, suc, Bool, true, false, List, [], ◌∷◌, ◌++◌, length, take, get_or, replicate, slice_set, All, append-nil, append_assoc, length-set, arith}
-use Rattle.std.specs.List.{AllByRecursion}
+use Rattle.std.proofs.Common.{◌≡◌, ◌≢◌, ◌∙◌, ◌-◌, ◌+◌, ◌<◌, ap, sym, refl, subst, fold, drop, ℕ, Bool, true, false, List, [], ◌∷◌, ◌++◌, length, take, get_or, replicate, slice_set, All, append-nil, append_assoc, length-set, arith}
 use Rattle.std.proofs.lemmas.List.{length-replicate, length_push, nil_from_length, take_at}
 use Rattle.sw_rows.specs.declared.row.Row.{Row}
-use Rattle.sw_rows.specs.Updates.{has_key, without}
-use Rattle.sw_set.specs.Live.{IsStanding, Standing, live_among}
-use Rattle.sw_set.specs.Shelf.{Rises, key_of}
-use Rattle.sw_set.proofs.LiveLaws.{kept-all, kept-fresh, kept-has, kept-more, kept-removed}
+use Rattle.sw_rows.specs.declared.row.Update.{Update}
+use Rattle.sw_rows.specs.declared.row.Update.TheVariants.{Insert, Remove}
+use Rattle.sw_rows.specs.Updates.{without}
+use Rattle.sw_set.specs.Live.{IsNextStanding, IsStanding, Standing, live_among}
+use Rattle.sw_set.specs.Shelf.{Rises, came_then, key_of}
+use Rattle.std.proofs.lemmas.List.Sums.{fold-append}
+use Rattle.sw_set.proofs.LiveFinds.{rises-front}
+use Rattle.sw_set.proofs.LiveLaws.{kept-all, kept-fresh, kept-more, kept-removed, without-lacks}
+use Rattle.sw_set.proofs.Merges.{split-at}
 
 -- all rows of a load, each of them live
 abbrev pub fresh : List Row → Standing
@@ -29,15 +33,6 @@ standing-fresh load r = record {
   rise = subst (Rises key_of) (sym (append-nil load)) r;
 }
 
-below-end : (n : ℕ) (xs : List Row) (r : Row) → AllByRecursion (λ (x : Row). n < key_of x) xs → n < r.key → AllByRecursion (λ (x : Row). n < key_of x) (xs ++ r ∷ [])
-below-end n [] r a lt = (lt, tt)
-below-end n (x ∷ xs) r a lt = (a.0, below-end n xs r a.1 lt)
-
--- a row whose key is above all comes last
-pub rises-pushed : (xs : List Row) (r : Row) → Rises key_of xs → All (λ (x : Row). x.key < r.key) xs → Rises key_of (xs ++ r ∷ [])
-rises-pushed [] r up a = (tt, tt)
-rises-pushed (x ∷ xs) r up a = (below-end x.key xs r up.0 (a 0 x (omega arith)), rises-pushed xs r up.1 (λ k d lt. a (suc k) d (omega (arith, lt))))
-
 module _ (load : List Row) (s : Standing) (standing : IsStanding load s) where
   -- the rows with one more at their end
   later-pushed : (r : Row) → load ++ (s.later ++ r ∷ []) ≡ (load ++ s.later) ++ r ∷ []
@@ -46,20 +41,38 @@ module _ (load : List Row) (s : Standing) (standing : IsStanding load s) where
   pub live-pushed : (r : Row) → live_among load (pushed s r) ≡ live_among load s ++ r ∷ []
   live-pushed r = rw (later-pushed r) (kept-more s.flags (load ++ s.later) r standing.many)
 
-  pub standing-pushed : (r : Row) → All (λ (x : Row). x.key < r.key) (load ++ s.later) → IsStanding load (pushed s r)
-  standing-pushed r a = record {
-    many = length_push s.flags true ∙ ap (λ n. n + 1) standing.many ∙ sym (length_push (load ++ s.later) r) ∙ sym (ap length (later-pushed r));
-    rise = subst (Rises key_of) (sym (later-pushed r)) (rises-pushed (load ++ s.later) r standing.rise a);
-  }
-
   pub standing-flagged : (p : ℕ) (b : Bool) → IsStanding load (flagged s p b)
   standing-flagged p b = record { many = length-set s.flags p b ∙ standing.many; rise = standing.rise }
 
   pub live-removed : (k p : ℕ) (d : Row) → p < length (load ++ s.later) → (get_or (load ++ s.later) p d).key ≡ k → live_among load (flagged s p false) ≡ without k (live_among load s)
   live-removed k p d lt is = kept-removed k d s.flags (load ++ s.later) p standing.many standing.rise lt is
 
-  pub live-has : (k p : ℕ) (d : Row) → p < length (load ++ s.later) → (get_or (load ++ s.later) p d).key ≡ k → has_key k (live_among load s) ≡ get_or s.flags p false
-  live-has k p d lt is = kept-has k d s.flags (load ++ s.later) p standing.many standing.rise lt is
+  -- ---- one update more
+  pub next-pushed : (r : Row) → Rises key_of ((load ++ s.later) ++ r ∷ []) → IsNextStanding load (Insert r) s (pushed s r)
+  next-pushed r rise = record {
+    standing = record {
+      many = length_push s.flags true ∙ ap (λ n. n + 1) standing.many ∙ sym (length_push (load ++ s.later) r) ∙ sym (ap length (later-pushed r));
+      rise = subst (Rises key_of) (sym (later-pushed r)) rise;
+    };
+    came = later-pushed r;
+    live = live-pushed r;
+  }
+
+  pub next-removed : (k p : ℕ) (d : Row) → p < length (load ++ s.later) → (get_or (load ++ s.later) p d).key ≡ k → IsNextStanding load (Remove k) s (flagged s p false)
+  next-removed k p d lt is = record { standing = standing-flagged p false; came = refl; live = live-removed k p d lt is }
+
+  pub next-absent : (k : ℕ) → All (λ (r : Row). r.key ≢ k) (load ++ s.later) → IsNextStanding load (Remove k) s s
+  next-absent k none = record { standing = standing; came = refl; live = sym (without-lacks k s.flags (load ++ s.later) none) }
+
+-- what came before updates rises where what came with them does
+pub rises-came : (cs : List Row) (us : List Update) → Rises key_of (fold came_then cs us) → Rises key_of cs
+rises-came cs [] h = h
+rises-came cs (Insert r ∷ us) h = rises-front cs (r ∷ []) (rises-came (cs ++ r ∷ []) us h)
+rises-came cs (Remove k ∷ us) h = rises-came cs us h
+
+pub rises-part : (cs : List Row) (us : List Update) (i : ℕ) → Rises key_of (fold came_then cs us) → Rises key_of (fold came_then cs (take i us))
+rises-part cs us i h =
+    rises-came (fold came_then cs (take i us)) (drop i us) (subst (Rises key_of) (ap (fold came_then cs) (sym (split-at i us)) ∙ fold-append came_then cs (take i us) (drop i us)) h)
 
 -- the last item taken away again
 pub push-undone : {X : Type 0} (xs : List X) (x : X) → take (length (xs ++ x ∷ []) - 1) (xs ++ x ∷ []) ≡ xs

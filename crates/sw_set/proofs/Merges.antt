@@ -44,7 +44,7 @@ keys-ready x m at p maps lt own ends =
 pub logged-at : (a b : ℕ) (t u : List (Step Row)) → b ≡ a → u ≡ t → logged_rows b u ≡ logged_rows a t
 logged-at a b t u e f = ap (λ (n : ℕ). logged_rows n u) e ∙ ap (logged_rows a) f
 
-full-or-not : {P : Type 0} (n : ℕ) → n ≤ 4096 → (n < 4096 → P) → (n ≡ 4096 → P) → P
+pub full-or-not : {P : Type 0} (n : ℕ) → n ≤ 4096 → (n < 4096 → P) → (n ≡ 4096 → P) → P
 full-or-not {P} n le room full = by (nat_lt n 4096) refl
   where
     by : (t : Bool) → nat_lt n 4096 ≡ t → P

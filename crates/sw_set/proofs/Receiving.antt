@@ -27,7 +27,7 @@ abbrev pub IsBelow : ℕ → List Row → Type 0
 IsBelow n rs = All (λ (r : Row). r.key < n) rs
 
 -- one update more on both sides
-less-then : (xs ys : List Row) (u : Update) → ((n : ℕ) → IsBelow n xs → IsBelow n ys) → (n : ℕ) → IsBelow n (came_then xs u) → IsBelow n (came_then ys u)
+pub less-then : (xs ys : List Row) (u : Update) → ((n : ℕ) → IsBelow n xs → IsBelow n ys) → (n : ℕ) → IsBelow n (came_then xs u) → IsBelow n (came_then ys u)
 less-then xs ys (Insert r) less n h =
     All-append (λ (c : Row). c.key < n) ys (r ∷ []) (less n (all-left (λ (c : Row). c.key < n) xs (r ∷ []) h)) (all-right (λ (c : Row). c.key < n) xs (r ∷ []) h)
 less-then xs ys (Remove k) less n h = less n h

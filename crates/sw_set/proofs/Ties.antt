@@ -1,18 +1,19 @@
 -- The list of a tape's live rows, kept up when the tape changes.
-use Rattle.std.proofs.Common.{◌≡◌, ◌≢◌, ℕ, zero, suc, ◌<◌, ℤ, Bool, true, false, true≢false, List, [], ◌∷◌, ◌++◌, length, get_or, replicate, slice_set, refl, ap, sym, ◌∙◌, arith, subst, All, Any, Option}
+use Rattle.std.proofs.Common.{◌≡◌, ◌≢◌, ℕ, zero, suc, ◌<◌, ℤ, Bool, true, false, true≢false, List, [], ◌∷◌, ◌++◌, fold, length, get_or, replicate, slice_set, refl, ap, sym, ◌∙◌, arith, subst, All, Any, Option}
 use Rattle.std.proofs.lemmas.List.{append-nil, append_assoc, length-append}
 use Rattle.std.proofs.Math.ListN.{length-set}
 use Rattle.sw_rows.specs.declared.bound.Bound.{Bound}
 use Rattle.sw_rows.specs.declared.row.Row.{Row}
 use Rattle.sw_rows.specs.Scan.{cell_of}
-use Rattle.sw_rows.specs.Updates.{has_key, without}
+use Rattle.sw_rows.specs.declared.row.Update.{Update}
+use Rattle.sw_rows.specs.Updates.{has_key, rows_then, without}
 use Rattle.sw_kernel.specs.Arrangement.{joined}
 use Rattle.sw_kernel.specs.Replay.{Step, loaded, inserted, removed, ranged}
 use Rattle.sw_kernel.specs.Tapes.{IsTape, brought}
 use Rattle.sw_map.specs.Lawful.{rows_by}
-use Rattle.sw_set.specs.Choice.{kept}
+use Rattle.sw_tape.specs.Restart.{first_rows, kept}
 use Rattle.sw_set.specs.Live.{IsStanding, Standing, live_among}
-use Rattle.sw_set.specs.Shelf.{Rises, first_rows, key_of, logged_rows}
+use Rattle.sw_set.specs.Shelf.{Rises, key_of, logged_rows}
 use Rattle.sw_set.specs.Tied.{IsTied}
 use Rattle.sw_set.proofs.LiveLaws.{kept-fresh, kept-has, kept-lacks, kept-more, kept-removed}
 use Rattle.sw_set.proofs.Longer.{brought-inserted, brought-removed, logged-inserted, logged-removed}
@@ -71,6 +72,10 @@ tied-standing a tape s load is rise w = record { many = tied-many a tape s load 
 
 pub tied-live : (a : ℕ) (tape : List (Step Row)) (s : Standing) (load : List Row) → load ≡ first_rows tape → IsTied a tape s → live_among load s ≡ logged_rows a tape
 tied-live a tape s load is w = ap (kept s.flags) (tied-came a tape s load is w) ∙ w.live
+
+-- the rows that are live after updates
+pub tied-after : (a : ℕ) (tape : List (Step Row)) (s live : Standing) (load : List Row) (us : List Update) → load ≡ first_rows tape → IsTied a tape s → live_among load live ≡ fold rows_then (live_among load s) us → live_among (first_rows tape) live ≡ fold rows_then (logged_rows a tape) us
+tied-after a tape s live load us is w after = ap (λ (l : List Row). live_among l live) (sym is) ∙ after ∙ ap (λ (l : List Row). fold rows_then l us) (tied-live a tape s load is w)
 
 -- ---- the row of a key
 -- the row of a key goes

@@ -7,7 +7,8 @@ use Rattle.sw_rows.specs.declared.query.Cond.{Cond}
 use Rattle.sw_rows.specs.declared.row.Row.{Row}
 use Rattle.sw_rows.specs.Bounds.{is_within}
 use Rattle.sw_rows.specs.Scan.{cell_of, column, meets, meets_all}
-use Rattle.sw_set.specs.Choice.{kept, chosen, count_chosen, further, AreFor, AreOf}
+use Rattle.sw_tape.specs.Restart.{kept}
+use Rattle.sw_set.specs.Choice.{chosen, count_chosen, further, AreFor, AreOf}
 
 kept-map : {A B : Type 0} (f : A → B) (bs : List Bool) (xs : List A) → kept bs (map f xs) ≡ map f (kept bs xs)
 kept-map f [] xs = refl

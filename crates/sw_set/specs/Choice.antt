@@ -1,5 +1,5 @@
 -- Columns of maps, the range of places that qualifies, and what truth values choose of it.
-use Rattle.std.specs.Prelude.{◌≡◌, ◌≢◌, ◌≤◌, ◌<◌, ◌+◌, ◌-◌, ℕ, suc, ℤ, pos, Bool, true, false, cond, List, [], ◌∷◌, length, map, take, drop, get_or, slice_range, count_by, unsigned_abs, Option, None, Some, All, Any, IsPermutation}
+use Rattle.std.specs.Prelude.{◌≡◌, ◌≢◌, ◌≤◌, ◌<◌, ◌+◌, ◌-◌, ℕ, suc, ℤ, pos, Bool, true, false, List, [], ◌∷◌, length, map, take, drop, get_or, slice_range, count_by, unsigned_abs, Option, None, Some, All, Any, IsPermutation}
 use Rattle.std.specs.Int.{int_min, int_max}
 use Rattle.std.specs.List.Sorted.{IsNonDecreasingBy}
 use Rattle.sw_rows.specs.declared.query.Cond.{Cond}
@@ -12,6 +12,7 @@ use Rattle.sw_rows.specs.declared.row.Row.{Row}
 use Rattle.sw_rows.specs.Scan.{meets, projected, answer_over}
 use Rattle.sw_kernel.specs.Arrangement.{joined}
 use Rattle.sw_kernel.specs.Replay.{Step}
+use Rattle.sw_tape.specs.Restart.{kept}
 use Rattle.sw_map.specs.declared.tail.Tail.TheVariants.{Key, Cell}
 use Rattle.sw_map.specs.Held.{Held, blank, pairs_in}
 use Rattle.sw_map.specs.Lawful.{IsLawful, rows_by}
@@ -92,12 +93,6 @@ pub record IsBlock (block : List ℤ) (start end : ℕ) (xs : List ℤ) : Type 0
   pub cells : (k : ℕ) → start ≤ k → k < end → get_or block (k - start) (pos 0) ≡ get_or xs k (pos 0)
 
 -- ---- what is chosen of the range
-
--- the items whose truth value is true
-abbrev pub kept : {X : Type 0} → List Bool → List X → List X
-kept [] xs = []
-kept (b ∷ bs) [] = []
-kept (b ∷ bs) (x ∷ xs) = cond b (x ∷ kept bs xs) (kept bs xs)
 
 -- the items that truth values choose, or all where there are none
 abbrev pub chosen : {X : Type 0} → Option (List Bool) → List X → List X

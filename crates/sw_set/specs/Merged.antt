@@ -1,8 +1,10 @@
 -- What merging makes of an area, update by update.
-use Rattle.std.specs.Prelude.{◌≡◌, ◌<◌, ◌≤◌, ◌+◌, ◌⊎◌, ℕ, List, [], ◌∷◌, ◌++◌, fold, length, take, drop, slice_index_or, All, Any}
+use Rattle.std.specs.Prelude.{◌≡◌, ◌<◌, ◌≤◌, ◌+◌, ◌-◌, ◌⊎◌, ℕ, List, [], ◌∷◌, ◌++◌, fold, length, take, drop, get_or, slice_index_or, All, Any, Bool, cond, Result, MatchResult}
 use Rattle.sw_rows.specs.declared.row.Row.{Row}
 use Rattle.sw_rows.specs.declared.row.Update.{Update}
 use Rattle.sw_rows.specs.declared.row.Update.TheVariants as update
+use Rattle.sw_rows.specs.declared.refusal.Refusal.{Refusal}
+use Rattle.sw_rows.specs.declared.refusal.Refusal.TheVariants.{NoMemory}
 use Rattle.sw_rows.specs.Updates.{rows_then, without}
 use Rattle.sw_kernel.specs.Arrangement.{joined}
 use Rattle.sw_kernel.specs.Replay.{loaded, inserted, removed}
@@ -87,6 +89,33 @@ pub record StandsForSame (x y : AreaState) : Type 0 where
   pub brings : BringsNoMore x y
 
 -- ---- on the way
+-- An update has the area begun anew: the tape is full, or a row goes and no key map could tell its place.
+abbrev pub MustBegin : Update → AreaState → Type 0
+MustBegin (update.Insert r) x = length x.tape ≡ 4096
+MustBegin (update.Remove key) x = (length x.tape ≡ 4096) ⊎ LacksKeys x
+
+-- the area but for how far its maps have gone
+pub record IsSameTape (x y : AreaState) : Type 0 where
+  pub shell : IsSameShell x y
+  pub tape : y.tape ≡ x.tape
+  pub maps : AreSameMaps x.boxes y.boxes
+
+-- It was merged and the tape has an entry more, or it has the area begun anew; or nothing is told, and memory was refused.
+pub record IsLoggedOrNot (u : Update) (x y : AreaState) (told : Result Bool Refusal) : Type 0 where
+  pub shell : IsSameShell x y
+  pub ends : MatchResult told (λ logged. cond logged (IsMerged u x y) (MustBegin u x × IsSameTape x y)) (λ e. (e ≡ NoMemory) × IsSameTape x y)
+
+-- whether a row goes
+abbrev pub IsRemoval : Update → Type 0
+IsRemoval (update.Insert r) = ⊥
+IsRemoval (update.Remove key) = Unit {0}
+
+-- of updates from one place on so many are taken as go up to the last removal, or one, where none goes after the first
+pub record IsStretch (us : List Update) (at upto : ℕ) : Type 0 where
+  pub more : at < upto
+  pub within : upto ≤ length us
+  pub last : at + 1 < upto → (d : Update) → IsRemoval (get_or us (upto - 1) d)
+
 -- So many of these updates are merged: the live rows are those after them, no more came, and the rest may be received.
 pub record IsMergedUpTo (us : List Update) (many : ℕ) (x y : AreaState) : Type 0 where
   pub few : many ≤ length us
@@ -104,3 +133,7 @@ pub record IsStoppedAt (us : List Update) (many : ℕ) (x y : AreaState) : Type 
   pub upto : IsMergedUpTo us many x last
   pub tape : y.tape ≡ last.tape
   pub maps : AreSameMaps last.boxes y.boxes
+
+-- The updates from the one place up to the other are merged, whatever was merged before them.
+abbrev pub GoesOn : List Update → ℕ → ℕ → AreaState → AreaState → Type 0
+GoesOn us at upto x y = (first : AreaState) → IsMergedUpTo us at first x → IsMergedUpTo us upto first y

@@ -7,7 +7,7 @@ use Rattle.sw_rows.specs.declared.row.Update.TheVariants as update
 use Rattle.sw_rows.specs.Bounds.{is_within}
 use Rattle.sw_rows.specs.Scan.{cell_of}
 use Rattle.sw_rows.specs.Updates.{has_key, rows_then}
-use Rattle.sw_kernel.specs.Replay.{Step, loaded, inserted, removed, ranged}
+use Rattle.sw_kernel.specs.Replay.{Step}
 use Rattle.sw_kernel.specs.Tapes.{IsTape, live_rows, brought, peak_from}
 use Rattle.sw_map.specs.declared.tail.Tail.{Tail}
 use Rattle.sw_map.specs.Held.{Held, KeysFit}
@@ -31,17 +31,6 @@ key_of r = r.key
 -- the live rows of the tape
 abbrev pub logged_rows : ℕ → List (Step Row) → List Row
 logged_rows a tape = live_rows (cell_of a) key_of tape
-
--- the rows of the one load that the tape begins with
-abbrev pub first_rows_of : Step Row → List Row
-first_rows_of (loaded rows) = rows
-first_rows_of (inserted row) = []
-first_rows_of (removed place) = []
-first_rows_of (ranged lower upper) = []
-
-abbrev pub first_rows : List (Step Row) → List Row
-first_rows [] = []
-first_rows (e ∷ es) = first_rows_of e
 
 -- the rows that an area stands for: those of the tape, and then what waits
 abbrev pub rows_in : AreaState → List Row

@@ -3,9 +3,9 @@ use Rattle.std.specs.Prelude.{◌≡◌, ◌++◌, ℕ, List, length}
 use Rattle.sw_rows.specs.declared.row.Row.{Row}
 use Rattle.sw_kernel.specs.Replay.{Step}
 use Rattle.sw_kernel.specs.Tapes.{brought}
-use Rattle.sw_set.specs.Choice.{kept}
+use Rattle.sw_tape.specs.Restart.{first_rows, kept}
 use Rattle.sw_set.specs.Live.{Standing}
-use Rattle.sw_set.specs.Shelf.{first_rows, logged_rows}
+use Rattle.sw_set.specs.Shelf.{logged_rows}
 
 -- what came is the tape's load and the later rows, there is a flag for each, and those that are kept are live
 pub record IsTied (a : ℕ) (tape : List (Step Row)) (s : Standing) : Type 0 where

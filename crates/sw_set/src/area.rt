@@ -1,10 +1,10 @@
 //! An area, and its single changes.
 
-ghost use Rattle.std.specs.Prelude.{◌≡◌, ◌≢◌, ◌<◌, ◌≤◌, ◌+◌, ◌-◌, ◌^◌, ◌∷◌, ◌++◌, [], true, false, ℕ, List, length, map, pos, All, Any, Contains, IfOk, IsOk, IsOkUnless, MatchOption, MatchResult, None, Some, remove, slice_index_or, slice_set, vec_capacity, vec_len};
+ghost use Rattle.std.specs.Prelude.{◌≡◌, ◌≢◌, ◌<◌, ◌≤◌, ◌+◌, ◌-◌, ◌^◌, ◌∷◌, ◌++◌, [], true, false, ℕ, List, fold, length, map, pos, All, Any, Contains, IfOk, IsOk, IsOkUnless, MatchOption, MatchResult, None, Some, remove, slice_index_or, slice_set, vec_capacity, vec_len};
 ghost use Rattle.sw_rows.specs.declared.row.Row.{Row};
 ghost use Rattle.sw_rows.specs.declared.row.Update.TheVariants.{Insert, Remove};
 ghost use Rattle.sw_rows.specs.declared.refusal.Refusal.TheVariants.{NoMemory};
-ghost use Rattle.sw_rows.specs.Updates.{has_key, rows_then, without};
+ghost use Rattle.sw_rows.specs.Updates.{has_key, rows_then};
 ghost use Rattle.sw_rows.specs.Scan.{AsksBelow, TakesMemory, answer};
 ghost use Rattle.sw_kernel.specs.Arrangement.{joined};
 ghost use Rattle.sw_kernel.specs.Replay.{Step, inserted, loaded, ranged, removed};
@@ -16,7 +16,8 @@ ghost use Rattle.sw_map.specs.Refusals.{IsBeginRefusal};
 ghost use Rattle.sw_set.specs.Live.{IsStanding, live_among};
 ghost use Rattle.sw_set.specs.Merged.{IsBegunAnew, IsSameShell};
 ghost use Rattle.sw_set.specs.Prepared.{IsCleared, IsFreshBut, IsOneCleared, IsPreparedFor, IsReady, IsSameButBoxes, IsShed, IsSpare, stands_if};
-ghost use Rattle.sw_set.specs.Shelf.{AreReceivable, AreSameMaps, AreaState, HasRoomWhereNeeded, IsAreaLawful, IsAtEnd, IsSameArea, MayReceive, Rises, came_in, first_rows, key_of, lies_within, logged_rows, rows_in};
+ghost use Rattle.sw_tape.specs.Restart.{first_rows};
+ghost use Rattle.sw_set.specs.Shelf.{AreReceivable, AreSameMaps, AreaState, HasRoomWhereNeeded, IsAreaLawful, IsAtEnd, IsSameArea, MayReceive, Rises, came_in, key_of, lies_within, logged_rows, rows_in};
 ghost use Rattle.sw_set.specs.Needs.{head_in};
 
 use crate::align::{align_map, is_needed};
@@ -236,20 +237,20 @@ impl<M: CrackerMap> Area<M> {
         Ok(())
     }
 
-    /// Begins the area anew: its tape is one load of these rows, and all boxes are blank. A refusal changes nothing.
-    fn begin_anew(&mut self, rows: Vec<Row>) -> Result<(), Refusal>
-        requires keys { All (λ (r : Row). r.key < 2 ^ 63) rows.items }
-        requires rise { Rises key_of rows.items }
-        requires within { All (λ (r : Row). lies_within self.old.attribute self.old.from self.old.below r ≡ true) rows.items }
-        requires receivable { AreReceivable self.old.attribute self.old.from self.old.below rows.items rows.items self.old.inbox }
-        ensures { MatchResult result (λ _. IsSameShell self.old self.new × IsBegunAnew rows.items self.new) (λ e. (self.new ≡ self.old) × (e ≡ NoMemory)) }
+    /// Begins the area anew with those rows that are live: its tape is one load of them, and all boxes are blank. A refusal
+    /// changes nothing.
+    fn begin_anew(&mut self, live: LiveRows) -> Result<(), Refusal>
+        requires many { length live.flags ≡ length (first_rows self.old.tape ++ live.later) }
+        requires keys { All (λ (r : Row). r.key < 2 ^ 63) (live_among (first_rows self.old.tape) live) }
+        requires rise { Rises key_of (live_among (first_rows self.old.tape) live) }
+        requires within { All (λ (r : Row). lies_within self.old.attribute self.old.from self.old.below r ≡ true) (live_among (first_rows self.old.tape) live) }
+        requires receivable { AreReceivable self.old.attribute self.old.from self.old.below (live_among (first_rows self.old.tape) live) (live_among (first_rows self.old.tape) live) self.old.inbox }
+        ensures { MatchResult result (λ _. IsSameShell self.old self.new × IsBegunAnew (live_among (first_rows self.old.tape) live) self.new) (λ e. (self.new ≡ self.old) × (e ≡ NoMemory)) }
     {
-        let many = rows.len();
-        let tape = Tape::of(rows)?;
-        let live = LiveRows::all(self.alloc, many)?;
+        let all = LiveRows::all(self.alloc, live.count())?;
+        self.tape.restart_live(live.later(), live.flags())?;
         clear_all(self.boxes.as_mut_slice());
-        self.tape = tape;
-        self.live = live;
+        self.live = all;
         Ok(())
     }
 
@@ -258,30 +259,18 @@ impl<M: CrackerMap> Area<M> {
         ensures same { IsSameArea self.old self.new }
         ensures ends { MatchResult result (λ _. self.new.tape ≡ loaded (logged_rows self.old.attribute self.old.tape) ∷ []) (λ e. (self.new ≡ self.old) × (e ≡ NoMemory)) }
     {
-        let rows = self.live.copied(self.alloc, load_of(&self.tape), None)?;
-        self.begin_anew(rows)
+        let live = self.live.after(self.alloc, load_of(&self.tape), &[])?;
+        self.begin_anew(live)
     }
 
-    /// Begins the area anew with its live rows and one that comes. A refusal changes nothing.
-    pub(crate) fn restart_with(&mut self, row: Row) -> Result<(), Refusal>
+    /// Begins the area anew with the rows that are live after these updates. A refusal changes nothing.
+    pub(crate) fn restart_after(&mut self, updates: &[Update]) -> Result<(), Refusal>
         requires received { self.old.inbox ≡ [] }
-        requires may { MayReceive self.old.attribute self.old.from self.old.below (brought self.old.tape) (logged_rows self.old.attribute self.old.tape) (Insert row) }
-        ensures { MatchResult result (λ _. IsSameShell self.old self.new × IsBegunAnew (logged_rows self.old.attribute self.old.tape ++ row ∷ []) self.new) (λ e. (self.new ≡ self.old) × (e ≡ NoMemory)) }
+        requires receivable { AreReceivable self.old.attribute self.old.from self.old.below (brought self.old.tape) (logged_rows self.old.attribute self.old.tape) updates.now }
+        ensures { MatchResult result (λ _. IsSameShell self.old self.new × IsBegunAnew (fold rows_then (logged_rows self.old.attribute self.old.tape) updates.now) self.new) (λ e. (self.new ≡ self.old) × (e ≡ NoMemory)) }
     {
-        let rows = self
-            .live
-            .copied(self.alloc, load_of(&self.tape), Some(row))?;
-        self.begin_anew(rows)
-    }
-
-    /// Begins the area anew with its live rows but that of a key. A refusal changes nothing.
-    pub(crate) fn restart_without(&mut self, key: u64) -> Result<(), Refusal>
-        requires received { self.old.inbox ≡ [] }
-        requires live { has_key key (logged_rows self.old.attribute self.old.tape) ≡ true }
-        ensures { MatchResult result (λ _. IsSameShell self.old self.new × IsBegunAnew (without key (logged_rows self.old.attribute self.old.tape)) self.new) (λ e. (self.new ≡ self.old) × (e ≡ NoMemory)) }
-    {
-        let rows = rows_without(&mut self.live, self.alloc, load_of(&self.tape), key)?;
-        self.begin_anew(rows)
+        let live = self.live.after(self.alloc, load_of(&self.tape), updates)?;
+        self.begin_anew(live)
     }
 
     /// Steps the map in the box at a place to the tape's end. Refused, it had entries to replay, and stands at the cursor that it
@@ -651,27 +640,6 @@ fn append(waiting: &mut Vec<Update>, updates: &[Update]) -> Result<(), Refusal>
         unreachable!()
     }
     Ok(())
-}
-
-/// The live rows but that of a key, which is live.
-fn rows_without(
-    live: &mut LiveRows,
-    alloc: Global,
-    load: &[Row],
-    key: u64,
-) -> Result<Vec<Row>, Refusal>
-    requires standing { IsStanding load.now live.old }
-    requires live { has_key key (live_among load.now live.old) ≡ true }
-    ensures same { live.new ≡ live.old }
-    ensures ends { MatchResult result (λ rows. rows.items ≡ without key (live_among load.now live.old)) (λ e. e ≡ NoMemory) }
-{
-    let Some(place) = live.find(load, key) else {
-        unreachable!()
-    };
-    live.remove(place);
-    let rows = live.copied(alloc, load, None);
-    live.restore(place);
-    rows
 }
 
 /// Whether there is a row of a key after an update, from whether there was one before it.

@@ -1,17 +1,17 @@
 //! Which rows of a tape are live.
 
-ghost use Rattle.std.specs.Prelude.{◌≡◌, ◌≢◌, ◌-◌, ◌<◌, ◌++◌, ◌∷◌, [], true, false, length, take, replicate, slice_index_or, slice_set, option_to_list, All, Bool, Decides, IfOk, IsOk, IsOkUnless, MatchOption, MatchResult};
+ghost use Rattle.std.specs.Prelude.{◌≡◌, ◌≢◌, ◌-◌, ◌<◌, ◌++◌, ◌∷◌, ◌+◌, [], true, false, not, length, filter, fold, take, replicate, slice_index_or, slice_set, All, Bool, Decides, IfOk, IsOk, IsOkUnless, MatchOption, MatchResult};
 ghost use Rattle.sw_rows.specs.declared.row.Row.{Row};
 ghost use Rattle.sw_rows.specs.declared.refusal.Refusal.TheVariants.{NoMemory};
 ghost use Rattle.sw_rows.specs.Scan.{AsksBelow, TakesMemory, answer};
-ghost use Rattle.sw_rows.specs.Updates.{has_key};
-ghost use Rattle.sw_set.specs.Live.{IsStanding, Standing, live_among};
-ghost use Rattle.sw_set.specs.Shelf.{Rises, key_of};
+ghost use Rattle.sw_rows.specs.Updates.{has_key, rows_then};
+ghost use Rattle.sw_set.specs.Live.{IsNextStanding, IsStanding, Standing, live_among};
+ghost use Rattle.sw_set.specs.Shelf.{Rises, came_then, key_of};
 
 use crate::scanning::scan_live;
 use std::alloc::Global;
 use std::marker::Model;
-use sw_rows::{Query, Refusal, Reply, Row, answer};
+use sw_rows::{Query, Refusal, Reply, Row, Update, answer};
 
 /// Whether the row at a place, if there is one, has the key.
 fn stands_at(rows: &[Row], place: usize, key: u64) -> bool
@@ -31,26 +31,6 @@ fn find_key(rows: &[Row], key: u64) -> Option<usize>
         Some(place)
     } else {
         None
-    }
-}
-
-/// A row comes last.
-fn push_row(rows: &mut Vec<Row>, row: Row) -> Result<(), Refusal>
-    ensures { MatchResult result (λ _. rows.new.items ≡ rows.old.items ++ row ∷ []) (λ e. e ≡ NoMemory) }
-{
-    match rows.push(row) {
-        Ok(()) => Ok(()),
-        Err(_) => Err(Refusal::NoMemory),
-    }
-}
-
-/// The row, if there is one, comes last.
-fn push_one(rows: &mut Vec<Row>, more: Option<Row>) -> Result<(), Refusal>
-    ensures { MatchResult result (λ _. rows.new.items ≡ rows.old.items ++ option_to_list more) (λ e. e ≡ NoMemory) }
-{
-    match more {
-        Some(row) => push_row(rows, row),
-        None => Ok(()),
     }
 }
 
@@ -179,17 +159,6 @@ impl LiveRows {
         }
     }
 
-    /// The row at a place is live again.
-    pub(crate) fn restore(&mut self, place: usize)
-        requires { place < length self.old.flags }
-        ensures { self.new ≡ record self.old { flags = slice_set self.old.flags place true } }
-    {
-        if !self.is_live(place) {
-            self.flags[place] = true;
-            self.gone -= 1;
-        }
-    }
-
     /// Whether each row is of the load, and live.
     fn is_load(&self) -> bool
         ensures { Decides result ((length self.now.later ≡ 0) × All (λ (b : Bool). b ≡ true) self.now.flags) }
@@ -197,36 +166,77 @@ impl LiveRows {
         self.gone == 0 && self.later.is_empty()
     }
 
-    /// Adds the rows that are live to others.
-    fn push_live(&self, load: &[Row], rows: &mut Vec<Row>) -> Result<(), Refusal>
-        requires { length self.now.flags ≡ length (load.now ++ self.now.later) }
-        ensures { MatchResult result (λ _. rows.new.items ≡ rows.old.items ++ live_among load.now self.now) (λ e. e ≡ NoMemory) }
+    /// How many rows are live.
+    pub(crate) fn count(&self) -> usize
+        ensures { result + length (filter not self.now.flags) ≡ length self.now.flags }
     {
-        for place in 0..self.flags.len() {
-            if self.is_live(place) {
-                push_row(rows, *self.row(load, place))?;
-            }
-        }
-        Ok(())
+        self.flags.len() - self.gone
     }
 
-    /// The rows that are live, and then one more, if there is one. Refused `NoMemory` alone.
-    pub(crate) fn copied(
+    /// The rows that came after the load.
+    pub(crate) fn later(&self) -> &[Row]
+        ensures { result.now ≡ self.now.later }
+    {
+        self.later.as_slice()
+    }
+
+    /// The flags of the rows.
+    pub(crate) fn flags(&self) -> &[bool]
+        ensures { result.now ≡ self.now.flags }
+    {
+        self.flags.as_slice()
+    }
+
+    /// A copy. Refused `NoMemory` alone.
+    fn copied(&self, alloc: Global) -> Result<LiveRows, Refusal>
+        ensures { MatchResult result (λ live. live ≡ self.now) (λ e. e ≡ NoMemory) }
+    {
+        let Ok(later) = Vec::from_slice(alloc, self.later.as_slice()) else {
+            return Err(Refusal::NoMemory);
+        };
+        let Ok(flags) = Vec::from_slice(alloc, self.flags.as_slice()) else {
+            return Err(Refusal::NoMemory);
+        };
+        Ok(LiveRows {
+            later,
+            flags,
+            gone: self.gone,
+        })
+    }
+
+    /// A row comes, or that of a key goes, if it is there. Refused `NoMemory` alone.
+    fn take(&mut self, load: &[Row], update: &Update) -> Result<(), Refusal>
+        requires standing { IsStanding load.now self.old }
+        requires rise { Rises key_of (came_then (load.now ++ self.old.later) update.now) }
+        ensures { MatchResult result (λ _. IsNextStanding load.now update.now self.old self.new) (λ e. e ≡ NoMemory) }
+    {
+        match update {
+            Update::Insert(row) => self.push(*row),
+            Update::Remove(key) => {
+                if let Some(place) = self.find(load, *key) {
+                    self.remove(place);
+                }
+                Ok(())
+            }
+        }
+    }
+
+    /// Which rows are live after these updates. Refused `NoMemory` alone.
+    pub(crate) fn after(
         &self,
         alloc: Global,
         load: &[Row],
-        more: Option<Row>,
-    ) -> Result<Vec<Row>, Refusal>
-        requires { length self.now.flags ≡ length (load.now ++ self.now.later) }
-        ensures { MatchResult result (λ rows. rows.items ≡ live_among load.now self.now ++ option_to_list more) (λ e. e ≡ NoMemory) }
+        updates: &[Update],
+    ) -> Result<LiveRows, Refusal>
+        requires many { length self.now.flags ≡ length (load.now ++ self.now.later) }
+        requires rise { Rises key_of (fold came_then (load.now ++ self.now.later) updates.now) }
+        ensures { MatchResult result (λ live. (length live.flags ≡ length (load.now ++ live.later)) × (live_among load.now live ≡ fold rows_then (live_among load.now self.now) updates.now)) (λ e. e ≡ NoMemory) }
     {
-        let many = (self.flags.len() - self.gone).saturating_add(1);
-        let Ok(mut rows) = Vec::with_capacity(alloc, many) else {
-            return Err(Refusal::NoMemory);
-        };
-        self.push_live(load, &mut rows)?;
-        push_one(&mut rows, more)?;
-        Ok(rows)
+        let mut live = self.copied(alloc)?;
+        for update in updates {
+            live.take(load, update)?;
+        }
+        Ok(live)
     }
 
     /// What a query is answered over the rows that are live. It takes memory only where rows are asked for, and then it may be

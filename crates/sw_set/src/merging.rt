@@ -1,13 +1,13 @@
 //! Merging: the updates that wait go into the tape, one after the other.
 
-ghost use Rattle.std.specs.Prelude.{◌≡◌, ◌<◌, ◌≤◌, ◌+◌, [], ℕ, true, length, drop, MatchOption, MatchResult, slice_index_or, vec_capacity, vec_len};
-ghost use Rattle.sw_rows.specs.declared.row.Update.TheVariants.{Insert};
+ghost use Rattle.std.specs.Prelude.{◌≡◌, ◌<◌, ◌≤◌, ◌+◌, ◌-◌, [], ℕ, true, fold, length, take, drop, MatchOption, MatchResult, slice_index_or, vec_capacity, vec_len};
+ghost use Rattle.sw_rows.specs.declared.row.Update.TheVariants.{Insert, Remove};
 ghost use Rattle.sw_rows.specs.declared.refusal.Refusal.TheVariants.{NoMemory};
-ghost use Rattle.sw_rows.specs.Updates.{has_key};
+ghost use Rattle.sw_rows.specs.Updates.{has_key, rows_then};
 ghost use Rattle.sw_kernel.specs.Tapes.{brought};
 ghost use Rattle.sw_map.specs.declared.tail.Tail.TheVariants.{Key};
 ghost use Rattle.sw_map.specs.Held.{Held};
-ghost use Rattle.sw_set.specs.Merged.{IsAllMerged, IsInserted, IsMerged, IsMergedUpTo, IsPartlyMerged, IsRemovalLogged, IsRemoved, IsSameShell, IsStoppedAt, LacksKeys, StandsForSame};
+ghost use Rattle.sw_set.specs.Merged.{GoesOn, IsAllMerged, IsBegunAnew, IsLoggedOrNot, IsMergedUpTo, IsPartlyMerged, IsRemovalLogged, IsSameShell, IsSameTape, IsStoppedAt, IsStretch, LacksKeys, StandsForSame};
 ghost use Rattle.sw_set.specs.Prepared.{IsReady, IsSameButBoxes};
 ghost use Rattle.sw_set.specs.Shelf.{AreReceivable, AreSameMaps, MayReceive, logged_rows};
 
@@ -16,19 +16,18 @@ use sw_map::{CrackerMap, Tail};
 use sw_rows::{Refusal, Row, Update};
 use sw_tape::MAX_ENTRIES;
 
-/// Merges a row that comes: it is logged, or where the tape is full the area is begun anew with it. Refused `NoMemory`, nothing
-/// has changed.
-fn merge_insertion<M: CrackerMap>(area: &mut Area<M>, row: Row) -> Result<(), Refusal>
+/// Logs a row that comes, and answers whether the tape had room for it. Refused `NoMemory`, nothing has changed.
+fn log_insertion<M: CrackerMap>(area: &mut Area<M>, row: Row) -> Result<bool, Refusal>
     requires received { area.old.inbox ≡ [] }
     requires may { MayReceive area.old.attribute area.old.from area.old.below (brought area.old.tape) (logged_rows area.old.attribute area.old.tape) (Insert row) }
-    ensures same { IsSameShell area.old area.new }
-    ensures ends { MatchResult result (λ _. IsInserted row area.old area.new) (λ e. (area.new ≡ area.old) × (e ≡ NoMemory)) }
+    ensures { IsLoggedOrNot (Insert row) area.old area.new result }
 {
     area.known();
     if area.tape_len() == MAX_ENTRIES {
-        return area.restart_with(row);
+        return Ok(false);
     }
-    area.log_insertion(row)
+    area.log_insertion(row)?;
+    Ok(true)
 }
 
 /// The box of the key map, which is stepped to the tape's end; none where there is no key map, its lease is too small for the
@@ -65,35 +64,85 @@ fn log_at<M: CrackerMap>(area: &mut Area<M>, at: usize, key: u64) -> Result<(), 
     area.log_removal(key, place)
 }
 
-/// Merges that the live row of a key goes: it is logged, or the area is begun anew without the row. Refused `NoMemory`, the
-/// tape is as it was, and the key map has perhaps gone further.
-fn merge_removal<M: CrackerMap>(area: &mut Area<M>, key: u64) -> Result<(), Refusal>
+/// Logs that the live row of a key goes, and answers whether the tape had room for it and a key map told its place. Refused
+/// `NoMemory`, the tape is as it was, and the key map has perhaps gone further.
+fn log_removal<M: CrackerMap>(area: &mut Area<M>, key: u64) -> Result<bool, Refusal>
     requires received { area.old.inbox ≡ [] }
     requires live { has_key key (logged_rows area.old.attribute area.old.tape) ≡ true }
-    ensures same { IsSameShell area.old area.new }
-    ensures ends { MatchResult result (λ _. IsRemoved key area.old area.new) (λ e. (e ≡ NoMemory) × (area.new.tape ≡ area.old.tape) × AreSameMaps area.old.boxes area.new.boxes) }
+    ensures { IsLoggedOrNot (Remove key) area.old area.new result }
 {
     area.known();
     if area.tape_len() == MAX_ENTRIES {
-        return area.restart_without(key);
+        return Ok(false);
     }
     let Some(at) = aligned_keys(area) else {
-        return area.restart_without(key);
+        return Ok(false);
     };
-    log_at(area, at, key)
+    log_at(area, at, key)?;
+    Ok(true)
 }
 
-/// Merges an update. Refused `NoMemory`, the tape is as it was, and the key map has perhaps gone further.
-fn merge_one<M: CrackerMap>(area: &mut Area<M>, update: Update) -> Result<(), Refusal>
+/// Logs an update where it can be logged, and answers whether it was. Refused `NoMemory`, the tape is as it was, and the key map
+/// has perhaps gone further.
+fn log_one<M: CrackerMap>(area: &mut Area<M>, update: Update) -> Result<bool, Refusal>
     requires received { area.old.inbox ≡ [] }
     requires may { MayReceive area.old.attribute area.old.from area.old.below (brought area.old.tape) (logged_rows area.old.attribute area.old.tape) update }
-    ensures same { IsSameShell area.old area.new }
-    ensures ends { MatchResult result (λ _. IsMerged update area.old area.new) (λ e. (e ≡ NoMemory) × (area.new.tape ≡ area.old.tape) × AreSameMaps area.old.boxes area.new.boxes) }
+    ensures { IsLoggedOrNot update area.old area.new result }
 {
     match update {
-        Update::Insert(row) => merge_insertion(area, row),
-        Update::Remove(key) => merge_removal(area, key),
+        Update::Insert(row) => log_insertion(area, row),
+        Update::Remove(key) => log_removal(area, key),
     }
+}
+
+/// Where a stretch of updates ends that begins at a place: after the last removal, for what comes before it is in no tape once the
+/// area is begun anew with it; or after one update, where no later one is a removal.
+fn end_of_stretch(updates: &[Update], at: usize) -> usize
+    requires { at < length updates.now }
+    ensures { IsStretch updates.now at result }
+{
+    let mut upto = updates.len();
+    while upto > at + 1 && matches!(updates[upto - 1], Update::Insert(_)) {
+        upto -= 1;
+    }
+    upto
+}
+
+/// Begins the area anew with the updates of a stretch, and answers where that ends. Refused `NoMemory`, nothing has changed.
+fn begin_with<M: CrackerMap>(
+    area: &mut Area<M>,
+    updates: &[Update],
+    at: usize,
+) -> Result<usize, Refusal>
+    requires received { area.old.inbox ≡ [] }
+    requires within { at < length updates.now }
+    requires receivable { AreReceivable area.old.attribute area.old.from area.old.below (brought area.old.tape) (logged_rows area.old.attribute area.old.tape) (drop at updates.now) }
+    ensures same { IsSameShell area.old area.new }
+    ensures ends { MatchResult result (λ upto. IsStretch updates.now at upto × IsBegunAnew (fold rows_then (logged_rows area.old.attribute area.old.tape) (take (upto - at) (drop at updates.now))) area.new) (λ e. (e ≡ NoMemory) × (area.new ≡ area.old)) }
+{
+    let upto = end_of_stretch(updates, at);
+    area.restart_after(&updates[at..upto])?;
+    Ok(upto)
+}
+
+/// Merges the update at a place, and later ones where the area is begun anew; it answers up to where. Refused `NoMemory`, the
+/// tape is as it was, and the key map has perhaps gone further.
+fn merge_from<M: CrackerMap>(
+    area: &mut Area<M>,
+    updates: &[Update],
+    at: usize,
+) -> Result<usize, Refusal>
+    requires received { area.old.inbox ≡ [] }
+    requires within { at < length updates.now }
+    requires receivable { AreReceivable area.old.attribute area.old.from area.old.below (brought area.old.tape) (logged_rows area.old.attribute area.old.tape) (drop at updates.now) }
+    ensures same { IsSameShell area.old area.new }
+    ensures ends { MatchResult result (λ upto. (at < upto) × (upto ≤ length updates.now) × GoesOn updates.now at upto area.old area.new) (λ e. (e ≡ NoMemory) × IsSameTape area.old area.new) }
+{
+    area.known();
+    if log_one(area, updates[at])? {
+        return Ok(at + 1);
+    }
+    begin_with(area, updates, at)
 }
 
 /// Merges updates one after the other. A refusal stops it, and it answers how many are merged.
@@ -102,10 +151,11 @@ fn merge_each<M: CrackerMap>(area: &mut Area<M>, updates: &[Update]) -> Result<(
     requires receivable { AreReceivable area.old.attribute area.old.from area.old.below (brought area.old.tape) (logged_rows area.old.attribute area.old.tape) updates.now }
     ensures { MatchResult result (λ _. IsMergedUpTo updates.now (length updates.now) area.old area.new) (λ many. IsStoppedAt updates.now many area.old area.new) }
 {
-    for many in 0..updates.len() {
-        area.known();
-        if let Err(_) = merge_one(area, updates[many]) {
-            return Err(many);
+    let mut many = 0;
+    while many < updates.len() {
+        match merge_from(area, updates, many) {
+            Ok(upto) => many = upto,
+            Err(_) => return Err(many),
         }
     }
     Ok(())

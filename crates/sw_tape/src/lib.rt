@@ -7,6 +7,7 @@
 
 mod bounds;
 mod entry;
+mod live;
 mod tape;
 #[cfg(test)]
 mod tests;

@@ -1,18 +1,22 @@
 //! The tape.
 
-ghost use Rattle.std.specs.Prelude.{◌≡◌, ◌<◌, ◌≤◌, ◌+◌, ◌++◌, ◌∷◌, ◌||◌, [], List, length, map, vec_len, vec_capacity, MatchOption, MatchResult, OnErr, OnOk, IfErr, slice_get, Some};
+ghost use Rattle.std.specs.Prelude.{◌≡◌, ◌<◌, ◌≤◌, ◌+◌, ◌^◌, ◌++◌, ◌∷◌, ◌||◌, [], List, length, map, vec_len, vec_capacity, MatchOption, MatchResult, OnErr, OnOk, IfErr, IfOk, slice_get, slice_set, Some};
 ghost use Rattle.sw_rows.specs.declared.bound.Bound.{Bound};
 ghost use Rattle.sw_rows.specs.declared.row.Row.{Row};
 ghost use Rattle.sw_rows.specs.declared.refusal.Refusal.TheVariants.{NoMemory, TooMany};
 ghost use Rattle.sw_kernel.specs.Replay.{Step, loaded};
 ghost use Rattle.sw_kernel.specs.Tapes.{IsRising, IsTape, MayFollow, count_from, is_marked, peak_from, ranges_at};
 ghost use Rattle.sw_tape.specs.Bounds.{IsNearestAbove, IsNearestBelow, is_among};
+ghost use Rattle.sw_tape.specs.declared.entry.Entry.TheVariants.{Remove};
 ghost use Rattle.sw_tape.specs.Entries.{IsKept, step_of};
+ghost use Rattle.sw_tape.specs.Restart.{first_rows, kept};
 
 use crate::bounds::{add_some, around, is_among};
 use crate::entry::{Entry, pairs_after};
+use crate::live::keep_live;
 use std::alloc::Global;
 use std::marker::Model;
+use std::mem;
 use sw_rows::{Bound, Refusal, Row};
 
 /// How many entries a tape has at most.
@@ -43,6 +47,37 @@ fn load_of(alloc: Global, rows: &[Row]) -> Result<Entry, Refusal>
         Ok(copy) => Ok(Entry::Load(copy)),
         Err(_) => Err(Refusal::NoMemory),
     }
+}
+
+/// Takes the rows of the load out that entries begin with; another entry stands in its place.
+fn take_load(entries: &mut Vec<Entry>) -> Vec<Row>
+    requires { IsTape (map step_of entries.old.items) }
+    ensures rows { result.items ≡ first_rows (map step_of entries.old.items) }
+    ensures rest { entries.new.items ≡ slice_set entries.old.items 0 (Remove 0) }
+{
+    match mem::replace(&mut entries[0], Entry::Remove(0)) {
+        Entry::Load(rows) => rows,
+        _ => unreachable!(),
+    }
+}
+
+/// Makes entries that begin with a load one load of those rows that are live, and answers how many these are. Refused
+/// `NoMemory`, the entries say what they said.
+fn keep_in(entries: &mut Vec<Entry>, later: &[Row], live: &[bool]) -> Result<usize, Refusal>
+    requires tape { IsTape (map step_of entries.old.items) }
+    requires many { length live.now ≡ length (first_rows (map step_of entries.old.items) ++ later.now) }
+    ensures kept { MatchResult result (λ many. map step_of entries.new.items ≡ loaded (kept live.now (first_rows (map step_of entries.old.items) ++ later.now)) ∷ []) (λ e. (map step_of entries.new.items ≡ map step_of entries.old.items) × (e ≡ NoMemory)) }
+    ensures many { IfOk result (λ many. (many ≡ length (kept live.now (first_rows (map step_of entries.old.items) ++ later.now))) × (many < 2 ^ 63)) }
+{
+    let mut rows = take_load(entries);
+    if let Err(e) = keep_live(&mut rows, later, live) {
+        entries[0] = Entry::Load(rows);
+        return Err(e);
+    }
+    let many = rows.len();
+    entries.clear();
+    entries.push_reserved(Entry::Load(rows));
+    Ok(many)
 }
 
 /// Adds the bounds of an entry to those that stand in ranges.
@@ -76,24 +111,6 @@ impl Tape {
         })
     }
 
-    /// A tape of one load that takes these rows over. It is refused `NoMemory` alone.
-    pub fn of(rows: Vec<Row>) -> Result<Tape, Refusal>
-        ensures { MatchResult result (λ tape. tape ≡ loaded rows.items ∷ []) (λ e. e ≡ NoMemory) }
-    {
-        let alloc = *rows.allocator();
-        let pairs = rows.len();
-        let mut entries = Vec::new(alloc);
-        if entries.push(Entry::Load(rows)).is_err() {
-            return Err(Refusal::NoMemory);
-        }
-        Ok(Tape {
-            entries,
-            bounds: Vec::new(alloc),
-            pairs,
-            peak: pairs,
-        })
-    }
-
     /// Makes the tape one load of these rows. It is refused `NoMemory` alone, and then the tape is as it was.
     pub fn restart(&mut self, rows: &[Row]) -> Result<(), Refusal>
         ensures ok { OnOk result (self.new ≡ loaded rows.now ∷ []) }
@@ -105,6 +122,19 @@ impl Tape {
         self.bounds.clear();
         self.pairs = rows.len();
         self.peak = rows.len();
+        Ok(())
+    }
+
+    /// Makes the tape one load of those rows that are live: of the rows of its load, and then of the later ones, each has a flag.
+    /// They are kept in place. It is refused `NoMemory` alone, and then the tape is as it was.
+    pub fn restart_live(&mut self, later: &[Row], live: &[bool]) -> Result<(), Refusal>
+        requires many { length live.now ≡ length (first_rows self.old ++ later.now) }
+        ensures { MatchResult result (λ _. self.new ≡ loaded (kept live.now (first_rows self.old ++ later.now)) ∷ []) (λ e. (self.new ≡ self.old) × (e ≡ NoMemory)) }
+    {
+        let many = keep_in(&mut self.entries, later, live)?;
+        self.bounds = Vec::new(*self.entries.allocator());
+        self.pairs = many;
+        self.peak = many;
         Ok(())
     }
 

@@ -118,17 +118,42 @@ fn nearest_bounds_are_around(rt: HostRuntime) -> Result<(), Refusal> {
     Ok(())
 }
 
-#[test]
-fn rows_are_taken_over(rt: HostRuntime) -> Result<(), Refusal> {
-    let Ok(rows) = Vec::from_slice(rt.alloc(), &[row(1, 12), row(4, 20)]) else {
-        return Err(Refusal::NoMemory);
+/// Whether the tape is one load of rows with these keys.
+fn loads(tape: &Tape, keys: &[u64]) -> bool {
+    let Some(Entry::Load(rows)) = tape.get(0) else {
+        return false;
     };
-    let mut tape = Tape::of(rows)?;
-    assert!(rt; tape.len() == 1 && tape.peak() == 2);
-    assert!(rt;
-        matches!(tape.get(0), Some(Entry::Load(rows)) if rows.len() == 2 && rows[1].key == 4)
-    );
+    tape.len() == 1
+        && rows.len() == keys.len()
+        && rows.iter().zip(keys).all(|(row, key)| row.key == *key)
+}
+
+/// Begins the tape anew with the live rows, where there is a flag for each.
+fn restart(tape: &mut Tape, later: &[Row], live: &[bool]) -> Result<(), Refusal> {
+    let Some(Entry::Load(rows)) = tape.get(0) else {
+        return Err(Refusal::TooMany { limit: 0 });
+    };
+    if rows.len().checked_add(later.len()) != Some(live.len()) {
+        return Err(Refusal::TooMany { limit: 1 });
+    }
+    tape.restart_live(later, live)
+}
+
+#[test]
+fn live_rows_are_kept(rt: HostRuntime) -> Result<(), Refusal> {
+    let mut tape = worked_tape(rt.alloc())?;
+    tape.push(Entry::Range(Some(Bound::Before(10)), None))?;
     tape.push(Entry::Insert(row(5, 7)))?;
-    assert!(rt; tape.peak() == 3);
+    tape.push(Entry::Insert(row(6, 8)))?;
+    let later = [row(5, 7), row(6, 8)];
+    restart(&mut tape, &later, &[true, false, true, true, false, true])?;
+    assert!(rt; loads(&tape, &[1, 3, 4, 6]));
+    assert!(rt; tape.peak() == 4 && !tape.marked(Bound::Before(10)));
+    tape.push(Entry::Insert(row(7, 9)))?;
+    assert!(rt; tape.peak() == 5 && tape.len() == 2);
+    restart(&mut tape, &[row(7, 9)], &[true, true, true, true, true])?;
+    assert!(rt; loads(&tape, &[1, 3, 4, 6, 7]));
+    restart(&mut tape, &[], &[false, false, false, false, false])?;
+    assert!(rt; loads(&tape, &[]) && tape.peak() == 0);
     Ok(())
 }
