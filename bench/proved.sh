@@ -1,5 +1,5 @@
 # What the drivers below this folder share; they source it. It sets `top`, the repository, and `work`, a folder under TMPDIR that goes
-# when the driver ends (with WORK=FOLDER it is that one, and stays, with what was built there), and it has `build`.
+# when the driver ends (with WORK=FOLDER it is that one, and stays, with what was built there), and it has `build` and `area`.
 top=$(cd "$(dirname "${BASH_SOURCE[0]}")/.." && pwd)
 work=${WORK:-$(mktemp -d "${TMPDIR:-/tmp}/bench.XXXXXX")}
 [ -n "${WORK:-}" ] || trap 'rm -rf "$work"' EXIT
@@ -27,4 +27,12 @@ build() {
     fi
   done
   (cd "$work/crates/$name" && rt "$command" > "$work/build.log" 2>&1) || { tail -n 20 "$work/build.log"; exit 1; }
+}
+
+# area NAME SOURCE
+# Builds SOURCE as a program over the crates up to areas, and the C++ peer as $work/peer.
+area() {
+  build program "$1" "$2" \
+    sw_rows sw_lang sw_kernel sw_tape sw_budget sw_bits sw_map sw_trial_maps sw_set sw_trial_areas anyhow
+  g++ -O3 -march=native -o "$work/peer" "$top/bench/peers/peer.cpp"
 }

@@ -19,10 +19,8 @@ here=$(cd "$(dirname "$0")" && pwd)
 . "$here/../proved.sh"
 mkdir -p "$work/crates/replies/proofs/answer_all"
 cp "$here/answer_all.antt.txt" "$work/crates/replies/proofs/answer_all/Invariants.antt"
-build program replies "$here/replies.rt.txt" \
-  sw_rows sw_lang sw_kernel sw_tape sw_budget sw_bits sw_map sw_trial_maps sw_set sw_trial_areas anyhow
+area replies "$here/replies.rt.txt"
 program=$work/crates/replies/out/replies
-g++ -O3 -march=native -o "$work/peer" "$top/bench/peers/peer.cpp"
 
 for mix in count sum select multi; do
   python3 "$top/bench/peers/gen.py" "$work/$mix" --rows "$rows" --attrs 3 --calls "$calls" --mix "$mix" --width 0.001

@@ -17,10 +17,8 @@ rounds=${2:-5}
 calls=${3:-1000}
 here=$(cd "$(dirname "$0")" && pwd)
 . "$here/../proved.sh"
-build program updates "$here/updates.rt.txt" \
-  sw_rows sw_lang sw_kernel sw_tape sw_budget sw_bits sw_map sw_trial_maps sw_set sw_trial_areas anyhow
+area updates "$here/updates.rt.txt"
 program=$work/crates/updates/out/updates
-g++ -O3 -march=native -o "$work/peer" "$top/bench/peers/peer.cpp"
 
 for many in "$calls" "${calls}0"; do
   python3 "$top/bench/peers/gen.py" "$work/update-$many" --rows "$rows" --attrs 3 --calls "$many" --mix update --width 0.001

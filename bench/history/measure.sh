@@ -1,16 +1,11 @@
-#!/bin/sh
+#!/usr/bin/env bash
 # Runs a script of counts with a history file and without, and checks that file, by turns. Prints the median seconds, the
 # greatest memory beside the size of the file, and how many times as long the check takes as the run that writes.
 # Usage: bench/history/measure.sh [ENTRIES [ROUNDS]]
-set -eu
-here=$(CDPATH= cd -- "$(dirname -- "$0")" && pwd)
-top=$(dirname -- "$(dirname -- "$here")")
+set -euo pipefail
+. "$(dirname "$0")/../program.sh"
 entries=${1:-1000000}
 rounds=${2:-5}
-work=$(mktemp -d)
-trap 'rm -rf "$work"' EXIT
-"$top/sideways" --help >/dev/null 2>&1
-program=$top/crates/sideways/out/sideways
 python3 - "$program" "$top/examples/t.csv" "$work" "$entries" "$rounds" <<'PY'
 import os, statistics, subprocess, sys, time
 program, table, work = sys.argv[1:4]

@@ -1,16 +1,11 @@
-#!/bin/sh
+#!/usr/bin/env bash
 # Times a run of one count over a table of random ints beside the C++ peer in scan mode, by turns, and prints the ratio of
 # the medians and the greatest memory. Usage: bench/run/measure.sh [ROWS [ROUNDS]]
-set -eu
-here=$(CDPATH= cd -- "$(dirname -- "$0")" && pwd)
-top=$(dirname -- "$(dirname -- "$here")")
+set -euo pipefail
+. "$(dirname "$0")/../program.sh"
 rows=${1:-1000000}
 rounds=${2:-9}
-work=$(mktemp -d)
-trap 'rm -rf "$work"' EXIT
-"$top/sideways" --help >/dev/null 2>&1
-program=$top/crates/sideways/out/sideways
-g++ -O3 -march=native -o "$work/peer" "$top/bench/peers/peer.cpp"
+peer
 python3 "$top/bench/peers/gen.py" "$work" --rows "$rows" --attrs 3 --calls 1 --mix count
 python3 - "$program" "$work" "$rounds" <<'PY'
 import os, resource, statistics, subprocess, sys, time

@@ -1,19 +1,14 @@
-#!/bin/sh
+#!/usr/bin/env bash
 # Times a run of inserts and deletes with one count at their end beside the C++ peer in scan mode, by turns over the same
 # files, and prints the ratio of the medians. Then times ten times as many calls, and prints how many times as long the
 # calls took, without what the table took.
 # Usage: bench/run/updates.sh [ROWS [CALLS [ROUNDS]]]
-set -eu
-here=$(CDPATH= cd -- "$(dirname -- "$0")" && pwd)
-top=$(dirname -- "$(dirname -- "$here")")
+set -euo pipefail
+. "$(dirname "$0")/../program.sh"
 rows=${1:-1000000}
 calls=${2:-100000}
 rounds=${3:-9}
-work=$(mktemp -d)
-trap 'rm -rf "$work"' EXIT
-"$top/sideways" --help >/dev/null 2>&1
-program=$top/crates/sideways/out/sideways
-g++ -O3 -march=native -o "$work/peer" "$top/bench/peers/peer.cpp"
+peer
 python3 - "$program" "$work" "$rows" "$calls" "$rounds" <<'PY'
 import os, random, statistics, subprocess, sys, time
 program, work = sys.argv[1], sys.argv[2]

@@ -306,6 +306,35 @@ fn a_removal_without_a_key_map_begins_anew(rt: HostRuntime) -> Result<(), Fail> 
 }
 
 #[test]
+fn what_comes_after_the_last_removal_is_logged(rt: HostRuntime) -> Result<(), Fail> {
+    let steps = [
+        RANGE,
+        (Step::Clear(Tail::Key), ""),
+        (Step::Remove(2), "removed"),
+        (Step::Insert(1, 9, 0), "key 5"),
+        (Step::Remove(3), "removed"),
+        (Step::Remove(5), "removed"),
+        (Step::Insert(14, 6, 0), "key 6"),
+        (Step::Merge, ""),
+        // the load of keys 1 and 4, and the row of key 6
+        (Step::Entries, "2"),
+        (Step::Look(Move::Used), "0"),
+        (Step::Holds(5), "false"),
+        (
+            Step::Ask("select b where a >= 10"),
+            "1: 7, 4: 2, 6: 6, 3 rows",
+        ),
+        (Step::Entries, "3"),
+        (Step::Look(Move::Shown(Tail::Key)), "1 4 6"),
+    ];
+    assert_eq!(rt;
+        updated(&rt, rt.alloc(), 3, &FOUR_ROWS, 1 << 20, &steps)?.as_str(),
+        ""
+    );
+    Ok(())
+}
+
+#[test]
 fn rows_of_one_value(rt: HostRuntime) -> Result<(), Fail> {
     let steps = [
         (Step::Ask("count where a = 5"), "3"),

@@ -1,0 +1,12 @@
+# What the drivers of the whole program share; they source it. It sets `top`, the repository, `program`, which it builds, and `work`, a
+# folder under TMPDIR that goes when the driver ends, and it has `peer`.
+top=$(cd "$(dirname "${BASH_SOURCE[0]}")/.." && pwd)
+work=$(mktemp -d "${TMPDIR:-/tmp}/bench.XXXXXX")
+trap 'rm -rf "$work"' EXIT
+"$top/sideways" --help > "$work/build.log" 2>&1 || { tail -n 20 "$work/build.log"; exit 1; }
+program=$top/crates/sideways/out/sideways
+
+# Builds the C++ peer as $work/peer.
+peer() {
+  g++ -O3 -march=native -o "$work/peer" "$top/bench/peers/peer.cpp"
+}
