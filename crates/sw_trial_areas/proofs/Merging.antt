@@ -1,5 +1,5 @@
 -- What merging makes of areas that are written out.
-use Rattle.std.proofs.Common.{◌≡◌, ◌<◌, ◌∷◌, ◌++◌, [], List, ℕ, zero, suc, length, get_or, pos, true, false, true≢false, None, refl, ap, sym, subst, inl, inr, arith, All}
+use Rattle.std.proofs.Common.{◌≡◌, ◌<◌, ◌∷◌, ◌++◌, [], List, ℕ, zero, suc, length, get_or, pos, true≢false, None, refl, ap, sym, subst, inl, inr, arith, All}
 use Rattle.std.proofs.lemmas.List.Elements.{All-from_recursion}
 use Rattle.sw_rows.specs.declared.row.Row.{Row}
 use Rattle.sw_rows.specs.declared.row.Update.TheVariants.{Insert, Remove}

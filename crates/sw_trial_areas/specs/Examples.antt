@@ -1,5 +1,5 @@
 -- Tapes, boxes and queries of the worked examples.
-use Rattle.std.specs.Prelude.{◌^◌, ◌-◌, ℕ, ℤ, pos, neg_ℤ, false, List, [], ◌∷◌, ◌++◌, map, Option, Some, None}
+use Rattle.std.specs.Prelude.{◌^◌, ◌-◌, ℕ, pos, neg_ℤ, false, List, [], ◌∷◌, ◌++◌, map, Option, Some, None}
 use Rattle.sw_rows.specs.declared.bound.Bound.{Bound}
 use Rattle.sw_rows.specs.declared.bound.Bound.TheVariants.{Before, After}
 use Rattle.sw_rows.specs.declared.query.Query.{Query}

@@ -1,3 +1,4 @@
 pub mod Examples
 pub mod Opening
 pub mod Updating
+pub mod Asking

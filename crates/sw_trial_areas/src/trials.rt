@@ -1,6 +1,6 @@
 //! Trials: an area under updates beside the plain list of its rows.
 
-ghost use Rattle.std.specs.Prelude.{◌≡◌, ◌≤◌, ◌+◌, ◌^◌, ◌++◌, ◌∷◌, ◌⊎◌, [], IfErr, IfOk, IsOk, MatchResult, All, cond, take, true, vec_len};
+ghost use Rattle.std.specs.Prelude.{◌≡◌, ◌≤◌, ◌+◌, ◌^◌, ◌++◌, ◌∷◌, ◌⊎◌, [], Err, IfErr, IfOk, IsOk, IsOkUnless, MatchResult, All, cond, take, true, vec_len};
 ghost use Rattle.sw_rows.specs.declared.row.Row.{Row};
 ghost use Rattle.sw_rows.specs.declared.row.Update.TheVariants.{Insert, Remove};
 ghost use Rattle.sw_rows.specs.declared.refusal.Refusal.TheVariants.{Input, NoMemory};
@@ -10,6 +10,7 @@ ghost use Rattle.sw_map.specs.Held.{blank};
 ghost use Rattle.sw_set.specs.Merged.{IsAllMerged, IsPartlyMerged, StandsForSame};
 ghost use Rattle.sw_set.specs.Prepared.{IsCleared, IsOneCleared, IsSameButBoxes};
 ghost use Rattle.sw_set.specs.Shelf.{rows_in};
+ghost use Rattle.sw_trial_areas.specs.Asking.{MayAsk};
 ghost use Rattle.sw_trial_areas.specs.Opening.{may_open, numbered, opened, row_of};
 ghost use Rattle.sw_trial_areas.specs.Updating.{IsReceived, key_after, may_come};
 
@@ -151,7 +152,8 @@ impl<M: CrackerMap> Trial<M> {
         ensures rows { rows_in self.new.area ≡ rows_in self.old.area }
         ensures received { IsOk result → self.new.area.inbox ≡ [] }
         ensures answered { IfOk result (λ asked. (asked.reply ≡ answer (rows_in self.old.area) query.now) × (asked.plain ≡ asked.reply)) }
-        ensures refused { IfErr result (λ e. (e ≡ NoMemory) ⊎ (e ≡ Input)) }
+        ensures may { MayAsk self.old.area.attribute query.now → IsOkUnless result NoMemory }
+        ensures input { (MayAsk self.old.area.attribute query.now → ⊥) → (result ≡ Err Input) × (self.new ≡ self.old) }
     {
         if !asks_below_eight(query) {
             return Err(Refusal::Input);

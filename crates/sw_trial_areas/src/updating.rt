@@ -1,16 +1,16 @@
 //! Areas under updates: rows come by rising keys, and nothing is received that an area may not receive.
 
-ghost use Rattle.std.specs.Prelude.{◌≡◌, ◌≤◌, ◌<◌, ◌+◌, ◌^◌, ◌⊎◌, [], All, IfErr, IfOk, IsOk, MatchResult, cond, true, vec_len};
+ghost use Rattle.std.specs.Prelude.{◌≡◌, ◌≤◌, ◌<◌, ◌+◌, ◌^◌, [], All, Err, IfOk, IsOk, IsOkUnless, MatchResult, cond, true, vec_len};
 ghost use Rattle.sw_rows.specs.declared.row.Row.{Row};
 ghost use Rattle.sw_rows.specs.declared.row.Update.TheVariants.{Insert, Remove};
 ghost use Rattle.sw_rows.specs.declared.refusal.Refusal.TheVariants.{Input, NoMemory};
-ghost use Rattle.sw_rows.specs.Scan.{AsksBelow, answer};
+ghost use Rattle.sw_rows.specs.Scan.{answer};
 ghost use Rattle.sw_rows.specs.Updates.{has_key, without};
 ghost use Rattle.sw_map.specs.Held.{blank};
 ghost use Rattle.sw_set.specs.Merged.{IsAllMerged, IsPartlyMerged, StandsForSame};
-ghost use Rattle.sw_set.specs.Needs.{head_in};
 ghost use Rattle.sw_set.specs.Prepared.{IsCleared, IsOneCleared, IsSameButBoxes};
 ghost use Rattle.sw_set.specs.Shelf.{Rises, came_in, key_of, rows_in};
+ghost use Rattle.sw_trial_areas.specs.Asking.{MayAsk};
 ghost use Rattle.sw_trial_areas.specs.Opening.{may_open, numbered, opened, row_of};
 ghost use Rattle.sw_trial_areas.specs.Updating.{IsReceived, key_after, may_come};
 
@@ -168,9 +168,9 @@ impl<M: CrackerMap> GrowingArea<M> {
         ensures next { self.new.next ≡ self.old.next }
         ensures rows { rows_in self.new.area ≡ rows_in self.old.area }
         ensures received { IsOk result → self.new.area.inbox ≡ [] }
-        ensures may { IsOk result → AsksBelow 8 query.now × (head_in query.now.conds ≡ self.old.area.attribute) }
+        ensures may { MayAsk self.old.area.attribute query.now → IsOkUnless result NoMemory }
+        ensures input { (MayAsk self.old.area.attribute query.now → ⊥) → (result ≡ Err Input) × (self.new ≡ self.old) }
         ensures answered { IfOk result (λ r. r.0 ≡ answer (rows_in self.old.area) query.now) }
-        ensures refused { IfErr result (λ e. (e ≡ NoMemory) ⊎ (e ≡ Input)) }
     {
         if !is_askable(&self.area, query) {
             return Err(Refusal::Input);
