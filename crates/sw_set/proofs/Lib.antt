@@ -1,3 +1,4 @@
+pub mod After
 pub mod Aligning
 pub mod Answered
 pub mod Blocks
@@ -29,11 +30,10 @@ pub mod Restarts
 pub mod Rowed
 pub mod Shelves
 pub mod Stock
+pub mod Stretches
 pub mod Swaps
 pub mod Tails
 pub mod Ties
 pub mod Told
 pub mod Trying
 pub mod Views
-pub mod Stretches
-pub mod After

@@ -1,6 +1,6 @@
 -- What is live after one step: all of a load, one row more, one less, and a step taken back.
-use Rattle.std.proofs.Common.{◌≡◌, ◌≢◌, ◌∙◌, ◌-◌, ◌+◌, ◌<◌, ap, sym, refl, subst, fold, drop, ℕ, Bool, true, false, List, [], ◌∷◌, ◌++◌, length, take, get_or, replicate, slice_set, All, append-nil, append_assoc, length-set, arith}
-use Rattle.std.proofs.lemmas.List.{length-replicate, length_push, nil_from_length, take_at}
+use Rattle.std.proofs.Common.{◌≡◌, ◌≢◌, ◌∙◌, ◌-◌, ◌+◌, ◌<◌, ap, sym, refl, subst, fold, drop, ℕ, Bool, true, false, List, [], ◌∷◌, ◌++◌, length, take, get_or, slice_set, All, append-nil, append_assoc, length-set, arith}
+use Rattle.std.proofs.lemmas.List.{length_push, nil_from_length, take_at}
 use Rattle.sw_rows.specs.declared.row.Row.{Row}
 use Rattle.sw_rows.specs.declared.row.Update.{Update}
 use Rattle.sw_rows.specs.declared.row.Update.TheVariants.{Insert, Remove}
@@ -9,12 +9,8 @@ use Rattle.sw_set.specs.Live.{IsNextStanding, IsStanding, Standing, live_among}
 use Rattle.sw_set.specs.Shelf.{Rises, came_then, key_of}
 use Rattle.std.proofs.lemmas.List.Sums.{fold-append}
 use Rattle.sw_set.proofs.LiveFinds.{rises-front}
-use Rattle.sw_set.proofs.LiveLaws.{kept-all, kept-fresh, kept-more, kept-removed, without-lacks}
+use Rattle.sw_set.proofs.LiveLaws.{kept-all, kept-more, kept-removed, without-lacks}
 use Rattle.sw_set.proofs.Merges.{split-at}
-
--- all rows of a load, each of them live
-abbrev pub fresh : List Row → Standing
-fresh load = record { later = []; flags = replicate (length load) true }
 
 -- one live row more
 abbrev pub pushed : Standing → Row → Standing
@@ -23,15 +19,6 @@ pushed s r = record { later = s.later ++ r ∷ []; flags = s.flags ++ true ∷ [
 -- the flag at a place turned
 abbrev pub flagged : Standing → ℕ → Bool → Standing
 flagged s p b = record s { flags = slice_set s.flags p b }
-
-pub live-fresh : (load : List Row) → live_among load (fresh load) ≡ load
-live-fresh load = kept-fresh (length load) (load ++ []) (sym (ap length (append-nil load))) ∙ append-nil load
-
-pub standing-fresh : (load : List Row) → Rises key_of load → IsStanding load (fresh load)
-standing-fresh load r = record {
-  many = length-replicate (length load) true ∙ sym (ap length (append-nil load));
-  rise = subst (Rises key_of) (sym (append-nil load)) r;
-}
 
 module _ (load : List Row) (s : Standing) (standing : IsStanding load s) where
   -- the rows with one more at their end

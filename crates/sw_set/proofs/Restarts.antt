@@ -1,5 +1,5 @@
 -- Areas that are begun anew, or have one entry more, as merging wants them.
-use Rattle.std.proofs.Common.{◌≡◌, ℕ, ◌<◌, List, [], ◌∷◌, ◌++◌, length, get_or, refl, ap, sym, ◌∙◌, arith, subst, Any, Result, Ok, Err, MatchResult, inl, true, false}
+use Rattle.std.proofs.Common.{◌≡◌, ℕ, ◌<◌, List, [], ◌∷◌, ◌++◌, length, get_or, refl, ap, sym, ◌∙◌, arith, subst, Any, Result, Ok, Err, MatchResult, true, false}
 use Rattle.std.proofs.lemmas.List.{append-nil}
 use Rattle.sw_rows.specs.declared.row.Row.{Row}
 use Rattle.sw_rows.specs.declared.row.Update.{Update}
@@ -12,7 +12,7 @@ use Rattle.sw_kernel.specs.Tapes.{brought}
 use Rattle.sw_map.specs.declared.tail.Tail.TheVariants.{Key}
 use Rattle.sw_map.specs.Held.{Held}
 use Rattle.sw_map.specs.Lawful.{rows_by}
-use Rattle.sw_set.specs.Merged.{IsBegunAnew, IsLoggedOrNot, IsMerged, IsRemovalLogged, IsSameShell, IsSameTape, MustBegin}
+use Rattle.sw_set.specs.Merged.{IsBegunAnew, IsLogged, IsLoggedOrNot, IsRemovalLogged, IsSameShell, IsSameTape, MustBegin}
 use Rattle.sw_set.specs.Prepared.{IsReady, IsSameButBoxes}
 use Rattle.sw_set.specs.Shelf.{AreSameMaps, AreaState, IsSameArea, logged_rows}
 use Rattle.sw_set.proofs.Boxes.{same-refl, same-trans}
@@ -42,10 +42,6 @@ restarted-same (Err e) rows x y are w = subst (IsSameArea x) (sym w.0) (same-are
 pub restarted-tape : {U : Type 0} (r : Result U Refusal) (rows : List Row) (x y : AreaState) → rows ≡ logged_rows x.attribute x.tape → MatchResult r (λ _. IsSameShell x y × IsBegunAnew rows y) (λ e. (y ≡ x) × (e ≡ NoMemory)) → MatchResult r (λ _. y.tape ≡ loaded (logged_rows x.attribute x.tape) ∷ []) (λ e. (y ≡ x) × (e ≡ NoMemory))
 restarted-tape (Ok u) rows x y are w = w.1.tape ∙ ap (λ (v : List Row). loaded v ∷ []) are
 restarted-tape (Err e) rows x y are w = w
-
--- with rows that are given otherwise
-pub begun-as : {U : Type 0} (r : Result U Refusal) (rows others : List Row) (x y : AreaState) → rows ≡ others → MatchResult r (λ _. IsSameShell x y × IsBegunAnew rows y) (λ e. (y ≡ x) × (e ≡ NoMemory)) → MatchResult r (λ _. IsSameShell x y × IsBegunAnew others y) (λ e. (y ≡ x) × (e ≡ NoMemory))
-begun-as r rows others x y are w = subst (λ (v : List Row). MatchResult r (λ _. IsSameShell x y × IsBegunAnew v y) (λ e. (y ≡ x) × (e ≡ NoMemory))) are w
 
 -- ---- an update is logged, or has the area begun anew
 shell-same : (x y : AreaState) → y ≡ x → IsSameShell x y
@@ -78,8 +74,8 @@ tape-after x m y p q = record { shell = shell-trans x m y p.shell q.shell; tape 
 pub not-logged : (u : Update) (x y : AreaState) → MustBegin u x → IsSameTape x y → IsLoggedOrNot u x y (Ok false)
 not-logged u x y must same = record { shell = same.shell; ends = (must, same) }
 
-pub was-logged : (u : Update) (x y : AreaState) → IsSameShell x y → IsMerged u x y → IsLoggedOrNot u x y (Ok true)
-was-logged u x y shell merged = record { shell = shell; ends = merged }
+was-logged : (u : Update) (x y : AreaState) → IsSameShell x y → IsLogged u x y → IsLoggedOrNot u x y (Ok true)
+was-logged u x y shell logged = record { shell = shell; ends = logged }
 
 pub not-told : (u : Update) (x y : AreaState) (e : Refusal) → e ≡ NoMemory → IsSameTape x y → IsLoggedOrNot u x y (Err e)
 not-told u x y e is same = record { shell = same.shell; ends = (is, same) }
@@ -88,7 +84,7 @@ not-told u x y e is same = record { shell = same.shell; ends = (is, same) }
 pub insertion-logged : (row : Row) (x y : AreaState) → length x.tape < 4096 → y ≡ record x { tape = x.tape ++ inserted row ∷ [] } → IsLoggedOrNot (Insert row) x y (Ok true)
 insertion-logged row x y room is =
     was-logged (Insert row) x y (subst (IsSameShell x) (sym is) (record { attribute = refl; from = refl; below = refl; inbox = refl; spare = refl; many = refl }))
-    (record { logged = λ _. (ap (λ (v : AreaState). v.tape) is, ap (λ (v : AreaState). v.boxes) is); restarted = λ full. absurd (omega (arith, full, room)) })
+    (room, ap (λ (v : AreaState). v.tape) is, ap (λ (v : AreaState). v.boxes) is)
 
 -- a row that goes
 pub removal-logged : {U : Type 0} (r : Result U Refusal) (key place at : ℕ) (x y : AreaState) → place < length (joined (rows_by x.attribute x.tape)) → ((d : Row) → (get_or (joined (rows_by x.attribute x.tape)) place d).key ≡ key) → at < length x.boxes → ((d : Held) → IsReady Key x.tape (get_or x.boxes at d)) → MatchResult r (λ _. y ≡ record x { tape = x.tape ++ removed place ∷ [] }) (λ e. (y ≡ x) × (e ≡ NoMemory)) →
@@ -109,8 +105,7 @@ removal-logged (Err e) key place at x y within own lt ready is = (shell-same x y
 -- after the key map was stepped to the end
 pub removal-after : (key : ℕ) (x m y : AreaState) → length x.tape < 4096 → IsSameButBoxes x m → AreSameMaps x.boxes m.boxes → IsSameShell m y → IsRemovalLogged key m y → IsLoggedOrNot (Remove key) x y (Ok true)
 removal-after key x m y room p maps s w =
-    was-logged (Remove key) x y (shell-trans x m y (tape-but_boxes x m p maps).shell s)
-    (inl (
+    was-logged (Remove key) x y (shell-trans x m y (tape-but_boxes x m p maps).shell s) (
       room,
       record {
         place = w.place;
@@ -120,4 +115,4 @@ removal-after key x m y room p maps s w =
         maps = maps-after x.boxes m.boxes y.boxes maps w.maps;
         keys = subst (λ (t : List (Step Row)). Any (IsReady Key t) y.boxes) p.tape w.keys;
       },
-    ))
+    )

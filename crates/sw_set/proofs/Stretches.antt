@@ -1,5 +1,5 @@
 -- A stretch of updates that an area is begun anew with: it is left as if they were merged one after the other.
-use Rattle.std.proofs.Common.{◌≡◌, ℕ, zero, suc, ◌+◌, ◌-◌, ◌<◌, ◌≤◌, inr, List, [], ◌∷◌, ◌++◌, fold, length, get_or, take, drop, refl, ap, sym, ◌∙◌, arith, subst, All, Bool, true, false, true≢false, Result, Ok, Err, MatchResult}
+use Rattle.std.proofs.Common.{◌≡◌, ℕ, zero, suc, ◌+◌, ◌-◌, ◌<◌, ◌≤◌, inl, inr, List, [], ◌∷◌, ◌++◌, fold, length, get_or, take, drop, refl, ap, sym, ◌∙◌, arith, subst, All, Bool, true, false, true≢false, Result, Ok, Err, MatchResult}
 use Rattle.std.proofs.lemmas.List.{drop_more, get_or_default, length-append}
 use Rattle.sw_rows.specs.declared.row.Row.{Row}
 use Rattle.sw_rows.specs.declared.row.Update.{Update}
@@ -9,7 +9,7 @@ use Rattle.sw_rows.specs.declared.refusal.Refusal.TheVariants.{NoMemory}
 use Rattle.sw_rows.specs.Updates.{rows_then, without}
 use Rattle.sw_kernel.specs.Replay.{Step, loaded, inserted}
 use Rattle.sw_map.specs.Held.{Held, blank}
-use Rattle.sw_set.specs.Merged.{GoesOn, IsBegunAnew, IsLoggedOrNot, IsMerged, IsMergedUpTo, IsRemoval, IsSameShell, IsSameTape, IsStretch, LacksKeys, MustBegin}
+use Rattle.sw_set.specs.Merged.{GoesOn, IsBegunAnew, IsLogged, IsLoggedOrNot, IsMerged, IsMergedUpTo, IsRemoval, IsSameShell, IsSameTape, IsStretch, LacksKeys, MustBegin}
 use Rattle.sw_set.specs.Shelf.{AreaState, logged_rows}
 use Rattle.sw_set.proofs.Merges.{full-or-not, logged-at, merged-rows, shell-trans, upto-more}
 use Rattle.sw_set.proofs.Restarts.{tape-after, tape-same}
@@ -100,33 +100,38 @@ module _ (us : List Update) (first : AreaState) where
 
   -- a stretch
   module _ (at upto : ℕ) (x y : AreaState) (lt : at < length us) (stretch : IsStretch us at upto) (short : length x.tape ≤ 4096) (must : MustBegin (here at) x) (shell : IsSameShell x y) (begun : IsBegunAnew (fold rows_then (logged_rows x.attribute x.tape) (take (upto - at) (drop at us))) y) (w : IsMergedUpTo us at first x) where
-    -- the live rows after the first of it, and after its first n and one
-    abbrev first-rows : List Row
-    first-rows = rows_then (logged_rows x.attribute x.tape) (here at)
+    -- the live rows after the first of it
+    abbrev rows-first : List Row
+    rows-first = rows_then (logged_rows x.attribute x.tape) (here at)
 
-    after-all : (n : ℕ) → upto ≡ at + 1 + n → y ≡ reloaded y (fold rows_then first-rows (take n (drop (at + 1) us)))
-    after-all n e =
+    -- the area has the one load
+    loads-all : (n : ℕ) → upto ≡ at + 1 + n → y ≡ reloaded y (fold rows_then rows-first (take n (drop (at + 1) us)))
+    loads-all n e =
         let many : upto - at ≡ suc n = omega (arith, e) in
-        let rows : fold rows_then (logged_rows x.attribute x.tape) (take (upto - at) (drop at us)) ≡ fold rows_then first-rows (take n (drop (at + 1) us)) = ap (λ (k : ℕ). fold rows_then (logged_rows x.attribute x.tape) (take k (drop at us))) many ∙ ap (λ (vs : List Update). fold rows_then (logged_rows x.attribute x.tape) (take (suc n) vs)) (parted at lt) in
+        let rows : fold rows_then (logged_rows x.attribute x.tape) (take (upto - at) (drop at us)) ≡ fold rows_then rows-first (take n (drop (at + 1) us)) = ap (λ (k : ℕ). fold rows_then (logged_rows x.attribute x.tape) (take k (drop at us))) many ∙ ap (λ (vs : List Update). fold rows_then (logged_rows x.attribute x.tape) (take (suc n) vs)) (parted at lt) in
         ap (with_tape y) (begun.tape ∙ ap (λ (v : List Row). loaded v ∷ []) rows)
 
-    upto-first : IsMergedUpTo us (at + 1) first (reloaded y first-rows)
-    upto-first = upto-more us at (here at) first x (reloaded y first-rows) lt (here-is at lt) short w (shell-trans x y (reloaded y first-rows) shell (tape-shell y (loaded first-rows ∷ []))) (first-begun (here at) x (reloaded y first-rows) must (record { tape = refl; boxes = begun.boxes }))
+    upto-first : IsMergedUpTo us (at + 1) first (reloaded y rows-first)
+    upto-first = upto-more us at (here at) first x (reloaded y rows-first) lt (here-is at lt) short w (shell-trans x y (reloaded y rows-first) shell (tape-shell y (loaded rows-first ∷ []))) (first-begun (here at) x (reloaded y rows-first) must (record { tape = refl; boxes = begun.boxes }))
 
     by : (n : ℕ) → upto ≡ at + 1 + n → IsMergedUpTo us upto first y
-    by zero e = subst (λ (v : AreaState). IsMergedUpTo us upto first v) (sym (after-all 0 e)) (subst (λ (i : ℕ). IsMergedUpTo us i first (reloaded y first-rows)) (let d : at + 1 ≡ upto = omega (arith, e) in d) upto-first)
+    by zero e = subst (λ (v : AreaState). IsMergedUpTo us upto first v) (sym (loads-all 0 e)) (subst (λ (i : ℕ). IsMergedUpTo us i first (reloaded y rows-first)) (let d : at + 1 ≡ upto = omega (arith, e) in d) upto-first)
     by (suc n) e =
         let within = stretch.within in
         let gone : IsRemoval (here (at + 1 + n)) = subst (λ (i : ℕ). IsRemoval (here i)) (let d : upto - 1 ≡ at + 1 + n = omega (arith, e) in d) (stretch.last (omega (arith, e)) (Remove 0)) in
-        let done = chain n (at + 1) (reloaded y first-rows) begun.boxes (omega arith) upto-first (omega (arith, e, within)) gone in
-        subst (λ (v : AreaState). IsMergedUpTo us upto first v) (sym (after-all (suc n) e)) (subst (λ (i : ℕ). IsMergedUpTo us i first (reloaded y (fold rows_then first-rows (take (suc n) (drop (at + 1) us))))) (let d : at + 1 + n + 1 ≡ upto = omega (arith, e) in d) done)
+        let done = chain n (at + 1) (reloaded y rows-first) begun.boxes (omega arith) upto-first (omega (arith, e, within)) gone in
+        subst (λ (v : AreaState). IsMergedUpTo us upto first v) (sym (loads-all (suc n) e)) (subst (λ (i : ℕ). IsMergedUpTo us i first (reloaded y (fold rows_then rows-first (take (suc n) (drop (at + 1) us))))) (let d : at + 1 + n + 1 ≡ upto = omega (arith, e) in d) done)
 
     pub stretch-merged : IsMergedUpTo us upto first y
     stretch-merged = let more = stretch.more in by (upto - (at + 1)) (omega (arith, more))
 
 -- ---- on from a place
+logged-merged : (u : Update) (x y : AreaState) → IsLogged u x y → IsMerged u x y
+logged-merged (Insert r) x y w = record { logged = λ _. (w.1, w.2); restarted = λ full. let room = w.0 in absurd (omega (arith, full, room)) }
+logged-merged (Remove k) x y w = inl w
+
 pub told-logged : (u : Update) (x y : AreaState) (b : Bool) → b ≡ true → IsLoggedOrNot u x y (Ok b) → IsMerged u x y
-told-logged u x y true e w = w.ends
+told-logged u x y true e w = logged-merged u x y w.ends
 told-logged u x y false e w = absurd (true≢false (sym e))
 
 pub told-not : (u : Update) (x y : AreaState) (b : Bool) → b ≡ false → IsLoggedOrNot u x y (Ok b) → MustBegin u x × IsSameTape x y

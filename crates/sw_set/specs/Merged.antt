@@ -47,9 +47,14 @@ pub record IsRemovalLogged (key : ℕ) (x y : AreaState) : Type 0 where
 abbrev pub LacksKeys : AreaState → Type 0
 LacksKeys x = All (λ m. IsReady Key x.tape m → m.cells < peak_from 0 x.tape) x.boxes
 
--- Where the tape is full, or no key map could tell the place, the area is begun anew without the row.
+-- An update must have the area begun anew: the tape is full, or a row goes and no key map could tell its place.
+abbrev pub MustBegin : Update → AreaState → Type 0
+MustBegin (update.Insert r) x = length x.tape ≡ 4096
+MustBegin (update.Remove key) x = (length x.tape ≡ 4096) ⊎ LacksKeys x
+
+-- A row goes: it is logged, or, where it must, the area is begun anew without the row.
 abbrev pub IsRemoved : ℕ → AreaState → AreaState → Type 0
-IsRemoved key x y = ((length x.tape < 4096) × IsRemovalLogged key x y) ⊎ (((length x.tape ≡ 4096) ⊎ LacksKeys x) × IsBegunAnew (without key (logged_rows x.attribute x.tape)) y)
+IsRemoved key x y = ((length x.tape < 4096) × IsRemovalLogged key x y) ⊎ (MustBegin (update.Remove key) x × IsBegunAnew (without key (logged_rows x.attribute x.tape)) y)
 
 abbrev pub IsMerged : Update → AreaState → AreaState → Type 0
 IsMerged (update.Insert r) x y = IsInserted r x y
@@ -89,10 +94,10 @@ pub record StandsForSame (x y : AreaState) : Type 0 where
   pub brings : BringsNoMore x y
 
 -- ---- on the way
--- An update has the area begun anew: the tape is full, or a row goes and no key map could tell its place.
-abbrev pub MustBegin : Update → AreaState → Type 0
-MustBegin (update.Insert r) x = length x.tape ≡ 4096
-MustBegin (update.Remove key) x = (length x.tape ≡ 4096) ⊎ LacksKeys x
+-- an update is logged: the tape has one entry more
+abbrev pub IsLogged : Update → AreaState → AreaState → Type 0
+IsLogged (update.Insert r) x y = (length x.tape < 4096) × (y.tape ≡ x.tape ++ inserted r ∷ []) × (y.boxes ≡ x.boxes)
+IsLogged (update.Remove key) x y = (length x.tape < 4096) × IsRemovalLogged key x y
 
 -- the area but for how far its maps have gone
 pub record IsSameTape (x y : AreaState) : Type 0 where
@@ -100,21 +105,22 @@ pub record IsSameTape (x y : AreaState) : Type 0 where
   pub tape : y.tape ≡ x.tape
   pub maps : AreSameMaps x.boxes y.boxes
 
--- It was merged and the tape has an entry more, or it has the area begun anew; or nothing is told, and memory was refused.
+-- It is told whether an update was logged; where not, it must have the area begun anew. Or memory was refused.
 pub record IsLoggedOrNot (u : Update) (x y : AreaState) (told : Result Bool Refusal) : Type 0 where
   pub shell : IsSameShell x y
-  pub ends : MatchResult told (λ logged. cond logged (IsMerged u x y) (MustBegin u x × IsSameTape x y)) (λ e. (e ≡ NoMemory) × IsSameTape x y)
+  pub ends : MatchResult told (λ logged. cond logged (IsLogged u x y) (MustBegin u x × IsSameTape x y)) (λ e. (e ≡ NoMemory) × IsSameTape x y)
 
 -- whether a row goes
 abbrev pub IsRemoval : Update → Type 0
 IsRemoval (update.Insert r) = ⊥
 IsRemoval (update.Remove key) = Unit {0}
 
--- of updates from one place on so many are taken as go up to the last removal, or one, where none goes after the first
+-- The updates from the one place up to the other are for one load: at least one, and all up to the last by which a row goes.
 pub record IsStretch (us : List Update) (at upto : ℕ) : Type 0 where
   pub more : at < upto
   pub within : upto ≤ length us
   pub last : at + 1 < upto → (d : Update) → IsRemoval (get_or us (upto - 1) d)
+  pub rest : (k : ℕ) (d : Update) → upto ≤ k → k < length us → IsRemoval (get_or us k d) → ⊥
 
 -- So many of these updates are merged: the live rows are those after them, no more came, and the rest may be received.
 pub record IsMergedUpTo (us : List Update) (many : ℕ) (x y : AreaState) : Type 0 where

@@ -1,19 +1,19 @@
 //! An area, and its single changes.
 
-ghost use Rattle.std.specs.Prelude.{◌≡◌, ◌≢◌, ◌<◌, ◌≤◌, ◌+◌, ◌-◌, ◌^◌, ◌∷◌, ◌++◌, [], true, false, ℕ, List, fold, length, map, pos, All, Any, Contains, IfOk, IsOk, IsOkUnless, MatchOption, MatchResult, None, Some, remove, slice_index_or, slice_set, vec_capacity, vec_len};
+ghost use Rattle.std.specs.Prelude.{◌≡◌, ◌≢◌, ◌<◌, ◌≤◌, ◌+◌, ◌-◌, ◌^◌, ◌∷◌, ◌++◌, [], true, false, List, fold, length, map, pos, All, Any, Contains, IfOk, IsOk, IsOkUnless, MatchOption, MatchResult, None, Some, remove, slice_index_or, slice_set, vec_capacity, vec_len};
 ghost use Rattle.sw_rows.specs.declared.row.Row.{Row};
 ghost use Rattle.sw_rows.specs.declared.row.Update.TheVariants.{Insert, Remove};
 ghost use Rattle.sw_rows.specs.declared.refusal.Refusal.TheVariants.{NoMemory};
 ghost use Rattle.sw_rows.specs.Updates.{has_key, rows_then};
 ghost use Rattle.sw_rows.specs.Scan.{AsksBelow, TakesMemory, answer};
 ghost use Rattle.sw_kernel.specs.Arrangement.{joined};
-ghost use Rattle.sw_kernel.specs.Replay.{Step, inserted, loaded, ranged, removed};
+ghost use Rattle.sw_kernel.specs.Replay.{inserted, loaded, ranged, removed};
 ghost use Rattle.sw_map.specs.declared.tail.Tail.TheVariants.{Key};
 ghost use Rattle.sw_kernel.specs.Tapes.{brought, peak_from};
 ghost use Rattle.sw_map.specs.Held.{Held, blank, begun, pairs_in, place_of};
 ghost use Rattle.sw_map.specs.Lawful.{rows_by};
 ghost use Rattle.sw_map.specs.Refusals.{IsBeginRefusal};
-ghost use Rattle.sw_set.specs.Live.{IsStanding, live_among};
+ghost use Rattle.sw_set.specs.Live.{live_among};
 ghost use Rattle.sw_set.specs.Merged.{IsBegunAnew, IsSameShell};
 ghost use Rattle.sw_set.specs.Prepared.{IsCleared, IsFreshBut, IsOneCleared, IsPreparedFor, IsReady, IsSameButBoxes, IsShed, IsSpare, stands_if};
 ghost use Rattle.sw_tape.specs.Restart.{first_rows};
@@ -33,7 +33,7 @@ use std::mem;
 use std::thread::Threads;
 use sw_map::{CrackerMap, Tail};
 use sw_rows::{Bound, Query, Refusal, Reply, Row, Update};
-use sw_tape::{Entry, MAX_ENTRIES, Tape};
+use sw_tape::{Entry, Tape};
 
 /// The rows whose cells of one attribute lie in an interval, the tape that reorganised them, and the boxes whose maps
 /// replay it.

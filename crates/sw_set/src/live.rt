@@ -204,7 +204,7 @@ impl LiveRows {
         })
     }
 
-    /// A row comes, or that of a key goes, if it is there. Refused `NoMemory` alone.
+    /// A row comes, or that of a key goes, if it is there. Refused `NoMemory` alone, and then nothing is said of these rows.
     fn take(&mut self, load: &[Row], update: &Update) -> Result<(), Refusal>
         requires standing { IsStanding load.now self.old }
         requires rise { Rises key_of (came_then (load.now ++ self.old.later) update.now) }

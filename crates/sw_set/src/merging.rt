@@ -1,6 +1,6 @@
-//! Merging: the updates that wait go into the tape, one after the other.
+//! Merging: the updates that wait are logged in the tape one after the other, or taken up by a load with which the area begins anew.
 
-ghost use Rattle.std.specs.Prelude.{◌≡◌, ◌<◌, ◌≤◌, ◌+◌, ◌-◌, [], ℕ, true, fold, length, take, drop, MatchOption, MatchResult, slice_index_or, vec_capacity, vec_len};
+ghost use Rattle.std.specs.Prelude.{◌≡◌, ◌<◌, ◌≤◌, ◌+◌, ◌-◌, [], true, fold, length, take, drop, MatchOption, MatchResult, slice_index_or, vec_capacity, vec_len};
 ghost use Rattle.sw_rows.specs.declared.row.Update.TheVariants.{Insert, Remove};
 ghost use Rattle.sw_rows.specs.declared.refusal.Refusal.TheVariants.{NoMemory};
 ghost use Rattle.sw_rows.specs.Updates.{has_key, rows_then};
@@ -95,8 +95,8 @@ fn log_one<M: CrackerMap>(area: &mut Area<M>, update: Update) -> Result<bool, Re
     }
 }
 
-/// Where a stretch of updates ends that begins at a place: after the last removal, for what comes before it is in no tape once the
-/// area is begun anew with it; or after one update, where no later one is a removal.
+/// Where the updates end that one load takes up, from a place on: after the last removal, or after the first update where no removal
+/// follows it. Once an area has begun anew it has no key map, so each later removal would have it begin anew again.
 fn end_of_stretch(updates: &[Update], at: usize) -> usize
     requires { at < length updates.now }
     ensures { IsStretch updates.now at result }
@@ -108,7 +108,7 @@ fn end_of_stretch(updates: &[Update], at: usize) -> usize
     upto
 }
 
-/// Begins the area anew with the updates of a stretch, and answers where that ends. Refused `NoMemory`, nothing has changed.
+/// Begins the area anew with the updates that one load takes up, and answers where they end. Refused `NoMemory`, nothing has changed.
 fn begin_with<M: CrackerMap>(
     area: &mut Area<M>,
     updates: &[Update],
@@ -174,7 +174,8 @@ fn drop_first(waiting: &mut Vec<Update>, many: usize)
 impl<M: CrackerMap> Area<M> {
     /// Merges the updates that wait, one after the other. A row that comes is logged, or, where the tape is full, the area is
     /// begun anew with it. A row that goes is logged by the place of its pair in the key map at the tape's end; where the tape
-    /// is full, or no key map with room for the tape's peak can be stepped to the end, the area is begun anew without it.
+    /// is full, or no key map with room for the tape's peak can be stepped to the end, the area is begun anew without it. One load
+    /// takes up all updates to the last removal that waits.
     ///
     /// The area stands for the same rows. The one refusal is `NoMemory`: a beginning of the updates is merged then, and the
     /// rest waits.

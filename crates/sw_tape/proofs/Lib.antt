@@ -2,4 +2,4 @@ pub mod Around
 pub mod Places
 pub mod Steps
 pub mod Kept
-pub mod Keeping
+pub mod InPlace

@@ -3,7 +3,7 @@ use Rattle.std.specs.Prelude.{Bool, List, [], ◌∷◌, cond}
 use Rattle.sw_rows.specs.declared.row.Row.{Row}
 use Rattle.sw_kernel.specs.Replay.{Step, loaded, inserted, removed, ranged}
 
--- the items whose flags are true, in their order
+-- the items whose flags are true, in their order: live rows, or what truth values choose
 abbrev pub kept : {X : Type 0} → List Bool → List X → List X
 kept [] xs = []
 kept (b ∷ bs) [] = []

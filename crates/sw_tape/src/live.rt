@@ -14,7 +14,9 @@ fn keep(rows: &mut Vec<Row>, live: &[bool])
     let mut many = 0;
     for place in 0..live.len() {
         if live[place] {
-            rows[many] = rows[place];
+            if many < place {
+                rows[many] = rows[place];
+            }
             many += 1;
         }
     }

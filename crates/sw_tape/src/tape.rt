@@ -132,6 +132,7 @@ impl Tape {
         ensures { MatchResult result (λ _. self.new ≡ loaded (kept live.now (first_rows self.old ++ later.now)) ∷ []) (λ e. (self.new ≡ self.old) × (e ≡ NoMemory)) }
     {
         let many = keep_in(&mut self.entries, later, live)?;
+        // the memory of the bounds goes back, as that of the entries' rows did
         self.bounds = Vec::new(*self.entries.allocator());
         self.pairs = many;
         self.peak = many;

@@ -1,7 +1,7 @@
 use Rattle.std.proofs.Common.{◌∙◌, ap, map, slice_set}
 use Rattle.sw_tape.specs.declared.entry.Entry.TheVariants.{Load, Remove}
 use Rattle.sw_tape.specs.Entries.{step_of}
-use Rattle.sw_tape.proofs.Keeping.{put-back}
+use Rattle.sw_tape.proofs.InPlace.{put-back}
 use Rattle.sw_tape.proofs.tape.keep_in.Goals as goal
 
 pub returns-in-Err-clause-kept : goal.returns-in-Err-clause-kept

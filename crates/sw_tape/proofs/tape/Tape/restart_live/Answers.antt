@@ -1,4 +1,4 @@
-use Rattle.sw_tape.proofs.Keeping.{kept-loaded}
+use Rattle.sw_tape.proofs.InPlace.{kept-loaded}
 use Rattle.sw_tape.proofs.tape.Tape.restart_live.Goals as goal
 
 pub invariant_of-self-2 : goal.invariant_of-self-2

@@ -1,6 +1,6 @@
 -- Items that are kept in place.
 use Rattle.std.proofs.Common.{◌≡◌, ◌∙◌, ap, sym, refl, ℕ, ◌+◌, ◌<◌, ◌≤◌, Bool, true, false, List, [], ◌∷◌, ◌++◌, length, get_or, slice_set, take, drop, arith, map, Vec, Global, ◌^◌}
-use Rattle.std.proofs.lemmas.List.{append-nil, append_assoc, drop-set-lt, drop_all, drop_more, take_more_set}
+use Rattle.std.proofs.lemmas.List.{append-nil, append_assoc, drop-set-lt, drop_all, drop_more, take_more, take_more_set}
 use Rattle.sw_rows.specs.declared.row.Row.{Row}
 use Rattle.sw_kernel.specs.Replay.{Step, loaded}
 use Rattle.sw_kernel.specs.Tapes.{IsTape}
@@ -17,6 +17,14 @@ kept-moved bs xs m p x le same lt on is =
     let flag : drop p bs ≡ true ∷ drop (p + 1) bs = drop_more bs p false lt ∙ ap (λ (b : Bool). b ∷ drop (p + 1) bs) on in
     let item : drop p xs ≡ x ∷ drop (p + 1) xs = drop_more xs p x (omega (arith, same, lt)) ∙ ap (λ v. v ∷ drop (p + 1) xs) (sym is) in
     rw (front, rest, flag, item) (append_assoc (take m xs) (x ∷ []) (kept (drop (p + 1) bs) (drop (p + 1) xs)))
+
+-- the item at a place is kept where it is
+pub kept-stays : {X : Type 0} (bs : List Bool) (xs : List X) (p : ℕ) (d : X) → length xs ≡ length bs → p < length bs → get_or bs p false ≡ true → take (p + 1) xs ++ kept (drop (p + 1) bs) (drop (p + 1) xs) ≡ take p xs ++ kept (drop p bs) (drop p xs)
+kept-stays bs xs p d same lt on =
+    let inside : p < length xs = omega (arith, same, lt) in
+    let flag : drop p bs ≡ true ∷ drop (p + 1) bs = drop_more bs p false lt ∙ ap (λ (b : Bool). b ∷ drop (p + 1) bs) on in
+    let item : drop p xs ≡ get_or xs p d ∷ drop (p + 1) xs = drop_more xs p d inside in
+    rw (take_more xs p d inside, flag, item) (append_assoc (take p xs) (get_or xs p d ∷ []) (kept (drop (p + 1) bs) (drop (p + 1) xs)))
 
 -- the item at a place is not kept
 pub kept-passed : {X : Type 0} (bs : List Bool) (xs : List X) (p : ℕ) (d : X) → length xs ≡ length bs → p < length bs → get_or bs p false ≡ false → kept (drop (p + 1) bs) (drop (p + 1) xs) ≡ kept (drop p bs) (drop p xs)
