@@ -1,6 +1,6 @@
 //! Merging: the updates that wait are logged in the tape one after the other, or taken up by a load with which the area begins anew.
 
-ghost use Rattle.std.specs.Prelude.{◌≡◌, ◌<◌, ◌≤◌, ◌+◌, ◌-◌, [], true, fold, length, take, drop, MatchOption, MatchResult, slice_index_or, vec_capacity, vec_len};
+ghost use Rattle.std.specs.Prelude.{◌≡◌, ◌<◌, ◌≤◌, ◌+◌, ◌-◌, [], true, false, fold, length, take, drop, MatchOption, MatchResult, slice_index_or, vec_capacity, vec_len};
 ghost use Rattle.sw_rows.specs.declared.row.Update.TheVariants.{Insert, Remove};
 ghost use Rattle.sw_rows.specs.declared.refusal.Refusal.TheVariants.{NoMemory};
 ghost use Rattle.sw_rows.specs.Updates.{has_key, rows_then};
@@ -20,7 +20,8 @@ use sw_tape::MAX_ENTRIES;
 fn log_insertion<M: CrackerMap>(area: &mut Area<M>, row: Row) -> Result<bool, Refusal>
     requires received { area.old.inbox ≡ [] }
     requires may { MayReceive area.old.attribute area.old.from area.old.below (brought area.old.tape) (logged_rows area.old.attribute area.old.tape) (Insert row) }
-    ensures { IsLoggedOrNot (Insert row) area.old area.new result }
+    ensures told { IsLoggedOrNot (Insert row) area.old area.new result }
+    ensures nothing { MatchResult result (λ logged. logged ≡ false → area.new ≡ area.old) (λ _. area.new ≡ area.old) }
 {
     area.known();
     if area.tape_len() == MAX_ENTRIES {
