@@ -1,0 +1,4 @@
+pub mod Shelf
+pub mod Cuts
+pub mod Routing
+pub mod Heads

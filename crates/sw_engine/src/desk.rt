@@ -1,0 +1,315 @@
+//! What lies under the lock.
+
+ghost use Rattle.std.specs.Prelude.{◌≡◌, ℕ, List, [], ◌∷◌, ◌++◌, ◌<◌, ◌+◌, ◌≤◌, length, true, false, Some, None, All, IfErr, IfOk, IfSome, IsSome, IsSomeAnd, OnErr, OnOk, MatchResult};
+ghost use Rattle.sw_rows.specs.Scan.{AsksBelow};
+ghost use Rattle.sw_rows.specs.declared.query.Call.TheVariants.{Select};
+ghost use Rattle.sw_spine.specs.Table.{is_numbered, opened, reply_to, updates_then};
+ghost use Rattle.sw_spine.specs.History.{is_select, mine};
+ghost use Rattle.sw_spine.specs.Books.{RefusesRows, RefusesSession, new_books, updates, waits_for, with_session};
+ghost use Rattle.sw_engine.specs.Desk.{AreGiven, IsAtRest, IsOf, InOrder, IsShareOf, RefusesCall, RefusesMany, new_desk};
+
+use crate::latch::LatchedHead;
+use crate::naming::Naming;
+use std::alloc::Global;
+use std::marker::{Model, PhantomData};
+use std::snapshot::Snapshot;
+use sw_map::CrackerMap;
+use sw_rows::{Call, Query, Refusal, Reply, Row, Schema};
+use sw_spine::Spine;
+use sw_tie::{Book, Share};
+
+/// Books that no engine has yet.
+#[derive(Drop)]
+pub struct Blank {
+    sessions: Book<Spine>,
+    heads: Book<Spine>,
+    pub ghost no_session: { sessions.rows ≡ [] },
+    pub ghost no_head: { heads.rows ≡ [] },
+}
+
+impl Blank {
+    pub fn new() -> Blank {
+        Blank {
+            sessions: Book::new(),
+            heads: Book::new(),
+        }
+    }
+}
+
+/// What a session carries: its number, and the calls that were answered to it, as contracts see it.
+#[derive(Drop)]
+pub struct Ticket<J: Naming> {
+    pub(crate) number: u64,
+    pub(crate) share: Share<Spine>,
+    pub(crate) of: PhantomData<J>,
+}
+
+impl<J: Naming> Model for Ticket<J> {
+    ghost use Rattle.std.specs.Prelude.{ℕ, List};
+    ghost use Rattle.sw_rows.specs.declared.query.Call.{Call};
+    ghost use Rattle.sw_rows.specs.declared.reply.Reply.{Reply};
+    ghost use Rattle.sw_spine.specs.History.{mine};
+    ghost use Rattle.sw_engine.specs.Desk.{IsAtRest};
+
+    ghost Value = { ℕ × List (Call × Reply) };
+
+    ghost view = { λ t. (t.number, mine t.number t.share.value.entries) };
+
+    ghost invariant = { λ t. IsAtRest J.sessions t.number t.share };
+}
+
+/// The spine, with the books of the sessions and of the heads.
+#[derive(Drop)]
+pub struct Desk<J: Naming> {
+    spine: Spine,
+    made: usize,
+    opened: u64,
+    sessions: Book<Spine>,
+    heads: Book<Spine>,
+    of: PhantomData<J>,
+}
+
+impl<J: Naming> Model for Desk<J> {
+    ghost use Rattle.std.specs.Prelude.{◌≡◌, length, map};
+    ghost use Rattle.sw_engine.specs.Desk.{DeskState, IsOf, IsTied};
+
+    ghost Value = { DeskState };
+
+    ghost view = { λ d. record { books = d.spine; given = map (λ r. r.1) d.sessions.rows; heads = d.made } };
+
+    ghost invariant = { λ d. (d.sessions.name ≡ J.sessions) × (d.heads.name ≡ J.heads) × (d.made ≡ length d.heads.rows) × (d.opened ≡ length d.sessions.rows) × IsOf J.columns J.opening J.limit d.spine × IsTied d.spine d.sessions.rows d.heads.rows };
+}
+
+impl<J: Naming> Desk<J> {
+    /// A desk over opening rows, with no session and no head.
+    pub fn open(
+        alloc: Global,
+        books: Blank,
+        schema: Schema,
+        rows: Vec<Row>,
+        limit: u64,
+    ) -> Result<Desk<J>, Refusal>
+        requires books { (books.sessions.name ≡ J.sessions) × (books.heads.name ≡ J.heads) }
+        requires table { (schema ≡ J.columns) × (rows.items ≡ J.opening) × (limit ≡ J.limit) }
+        requires some { 0 < limit }
+        requires most { limit ≤ 1048576 }
+        requires numbered { is_numbered 1 rows.items ≡ true }
+        ensures { MatchResult result (λ d. (length rows.items ≤ limit) × (d ≡ new_desk J.columns J.opening J.limit)) (RefusesRows limit rows.items) }
+    {
+        let Blank { sessions, heads } = books;
+        let spine = Spine::new(alloc, schema, rows, limit)?;
+        Ok(Desk {
+            spine,
+            made: 0,
+            opened: 0,
+            sessions,
+            heads,
+            of: PhantomData,
+        })
+    }
+
+    /// The share of the next head, which has taken the opening rows.
+    pub fn add_head<M: CrackerMap>(&mut self, alloc: Global) -> LatchedHead<J, M>
+        requires few { length J.columns ≤ 8 }
+        requires place { self.old.heads < length J.columns }
+        requires begun { self.old.books ≡ new_books J.columns J.opening J.limit }
+        requires numbered { is_numbered 1 J.opening ≡ true }
+        requires within { length J.opening ≤ J.limit }
+        requires most { J.limit ≤ 1048576 }
+        ensures books { self.new.books ≡ self.old.books }
+        ensures given { self.new.given ≡ self.old.given }
+        ensures heads { self.new.heads ≡ self.old.heads + 1 }
+        ensures head { result ≡ record { taken = opened J.opening; made = false } }
+    {
+        let Desk {
+            spine, made, heads, ..
+        } = self;
+        let number = *made;
+        let share = heads.open(Snapshot::of(spine));
+        *made += 1;
+        LatchedHead {
+            number,
+            head: None,
+            inbox: Vec::new(alloc),
+            boxes: Vec::new(alloc),
+            share,
+            of: PhantomData,
+        }
+    }
+
+    /// The next session's ticket.
+    ///
+    /// Refused `TooMany` of limit 1,024 where that many were opened, `NoMemory` otherwise; a refused one opened none.
+    pub fn enrol(&mut self) -> Result<Ticket<J>, Refusal>
+        ensures ticket { IfOk result (λ t. (t.0 ≡ self.new.books.sessions) × (t.1 ≡ [])) }
+        ensures made { IfOk result (λ t. (self.new.books ≡ with_session self.old.books) × (self.new.given ≡ self.old.given ++ false ∷ [])) }
+        ensures refused { IfErr result (λ e. (self.new ≡ self.old) × RefusesSession self.old.books e) }
+    {
+        let Desk {
+            spine,
+            opened,
+            sessions,
+            ..
+        } = self;
+        let number = spine.open_session()?;
+        let share = sessions.open(Snapshot::of(spine));
+        *opened += 1;
+        Ok(Ticket {
+            number,
+            share,
+            of: PhantomData,
+        })
+    }
+
+    /// The tickets of the first sessions, in order.
+    #[tactic(auto, using(crate::proofs::Ties::in_order_push, crate::proofs::Ties::length_push))]
+    pub fn enrol_all(&mut self, alloc: Global, many: usize) -> Result<Vec<Ticket<J>>, Refusal>
+        requires { self.old.books.sessions ≡ 0 }
+        ensures all { IfOk result (λ v. (length v.items ≡ many) × InOrder 1 v.items) }
+        ensures refused { IfErr result (λ e. RefusesMany many e) }
+    {
+        let mut tickets = Vec::new(alloc);
+        for _ in 0..many {
+            let ticket = self.enrol()?;
+            if tickets.push(ticket).is_err() {
+                return Err(Refusal::NoMemory);
+            }
+        }
+        Ok(tickets)
+    }
+
+    /// How many sessions were opened.
+    pub fn sessions(&self) -> u64
+        ensures { result ≡ length self.now.given }
+    {
+        self.opened
+    }
+
+    /// A select begins: its place is the end of the history, and the head takes the updates that it lacks. So it has all
+    /// updates before that place.
+    pub fn begin<M: CrackerMap>(
+        &mut self,
+        number: u64,
+        share: &mut Share<Spine>,
+        head: &mut LatchedHead<J, M>,
+        query: Query,
+    ) -> Result<(), Refusal>
+        requires rest { IsAtRest J.sessions number share.old }
+        requires asks { AsksBelow (length J.columns) query }
+        ensures share { IsShareOf J.sessions number share.new }
+        ensures mine { mine number share.new.value.entries ≡ mine number share.old.value.entries }
+        ensures waits { OnOk result (waits_for number share.new.value ≡ Some (Select query, head.new.taken)) }
+        ensures rest { OnErr result (waits_for number share.new.value ≡ None) }
+        ensures updates { updates self.new.books ≡ updates self.old.books }
+        ensures made { head.new.made ≡ head.old.made }
+        ensures refused { IfErr result (λ e. RefusesCall e) }
+    {
+        let Desk {
+            spine,
+            sessions,
+            heads,
+            ..
+        } = self;
+        let LatchedHead {
+            number: place,
+            inbox,
+            share: mark,
+            ..
+        } = head;
+        sessions.agree(share);
+        heads.agree(mark);
+        spine.begin(number, query, *place, inbox)?;
+        sessions.set(share, Snapshot::of(spine));
+        heads.set(mark, Snapshot::of(spine));
+        Ok(())
+    }
+
+    /// The session's open select is answered.
+    pub fn finish(&mut self, number: u64, share: &mut Share<Spine>, reply: Reply)
+        requires share { IsShareOf J.sessions number share.old }
+        requires reply { IsSomeAnd (waits_for number share.old.value) (λ w. reply ≡ reply_to J.limit w.1 w.0) }
+        ensures rest { IsAtRest J.sessions number share.new }
+        ensures mine { IfSome (waits_for number share.old.value) (λ w. mine number share.new.value.entries ≡ mine number share.old.value.entries ++ (w.0, reply) ∷ []) }
+        ensures updates { updates self.new.books ≡ updates self.old.books }
+    {
+        let Desk {
+            spine, sessions, ..
+        } = self;
+        sessions.agree(share);
+        spine.finish(number, reply);
+        sessions.set(share, Snapshot::of(spine));
+    }
+
+    /// The session's open select is given up.
+    pub fn void(&mut self, number: u64, share: &mut Share<Spine>)
+        requires share { IsShareOf J.sessions number share.old }
+        requires waits { IsSome (waits_for number share.old.value) }
+        ensures rest { IsAtRest J.sessions number share.new }
+        ensures mine { mine number share.new.value.entries ≡ mine number share.old.value.entries }
+        ensures updates { updates self.new.books ≡ updates self.old.books }
+    {
+        let Desk {
+            spine, sessions, ..
+        } = self;
+        sessions.agree(share);
+        spine.void(number);
+        sessions.set(share, Snapshot::of(spine));
+    }
+
+    /// An insert or a delete is answered at the end of the history.
+    pub fn commit(
+        &mut self,
+        number: u64,
+        share: &mut Share<Spine>,
+        call: Call,
+    ) -> Result<Reply, Refusal>
+        requires rest { IsAtRest J.sessions number share.old }
+        requires changes { is_select call ≡ false }
+        ensures rest { IsAtRest J.sessions number share.new }
+        ensures mine { IfOk result (λ reply. mine number share.new.value.entries ≡ mine number share.old.value.entries ++ (call, reply) ∷ []) }
+        ensures err { OnErr result (mine number share.new.value.entries ≡ mine number share.old.value.entries) }
+        ensures updates { MatchResult result (λ _. updates self.new.books ≡ updates_then J.limit (updates self.old.books) call) (λ _. updates self.new.books ≡ updates self.old.books) }
+        ensures refused { IfErr result (λ e. RefusesCall e) }
+    {
+        let Desk {
+            spine, sessions, ..
+        } = self;
+        sessions.agree(share);
+        let reply = spine.commit(number, call)?;
+        sessions.set(share, Snapshot::of(spine));
+        Ok(reply)
+    }
+
+    /// A session's ticket comes back. The history has just its answered calls, and it waits for nothing.
+    pub fn give(&mut self, ticket: Ticket<J>)
+        ensures books { self.new.books ≡ self.old.books }
+        ensures mine { mine ticket.0 self.old.books.entries ≡ ticket.1 }
+        ensures rest { waits_for ticket.0 self.old.books ≡ None }
+        ensures given { AreGiven (ticket ∷ []) self.old.given self.new.given }
+    {
+        let Ticket { share, .. } = ticket;
+        self.sessions.give(share);
+    }
+
+    /// All these tickets come back.
+    pub fn give_all(&mut self, tickets: Vec<Ticket<J>>)
+        ensures books { self.new.books ≡ self.old.books }
+        ensures mine { All (λ t. mine t.0 self.old.books.entries ≡ t.1) tickets.items }
+        ensures rest { All (λ t. waits_for t.0 self.old.books ≡ None) tickets.items }
+        ensures given { AreGiven tickets.items self.old.given self.new.given }
+    {
+        for ticket in tickets {
+            self.give(ticket);
+        }
+    }
+
+    /// The spine, whose sessions are those of the tickets that were opened.
+    pub fn into_spine(self) -> Spine
+        ensures spine { result ≡ self.books }
+        ensures of { IsOf J.columns J.opening J.limit self.books }
+        ensures sessions { length self.given ≡ self.books.sessions }
+    {
+        let Desk { spine, .. } = self;
+        spine
+    }
+}

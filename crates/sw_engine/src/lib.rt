@@ -1,0 +1,19 @@
+//! The engine: one history under a lock, heads under their latches, and sessions on threads.
+#![tactic(auto)]
+
+mod blocks;
+mod copies;
+mod desk;
+mod engine;
+mod latch;
+mod naming;
+mod opening;
+mod runs;
+
+pub use blocks::{Done, Job, serve_all};
+pub use desk::{Blank, Desk, Ticket};
+pub use engine::{Engine, Session};
+pub use latch::LatchedHead;
+pub use naming::Naming;
+pub use opening::Opening;
+pub use runs::run_blocks;

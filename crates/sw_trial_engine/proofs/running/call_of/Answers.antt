@@ -1,0 +1,5 @@
+use Rattle.sw_trial_engine.proofs.Calls.{fits_below}
+use Rattle.sw_trial_engine.proofs.running.call_of.Goals as goal
+
+pub returns : goal.returns
+returns c = fits_below c.args.schema.now c.parse_line.result c.parse_line.ensures.fits

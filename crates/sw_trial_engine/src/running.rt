@@ -1,0 +1,163 @@
+//! Runs of scripts on an engine, and what its record tells.
+
+ghost use Rattle.std.specs.Prelude.{◌≡◌, ◌<◌, ◌≤◌, true, length, All, IfOk, IfSome};
+ghost use Rattle.sw_map.specs.Held.{blank};
+ghost use Rattle.sw_spine.specs.Table.{is_numbered};
+ghost use Rattle.sw_spine.specs.History.{CallsBelow, IsLegal};
+
+use std::alloc::Global;
+use std::marker::Brand;
+use std::sync::Wait;
+use std::test::Fail;
+use std::thread::Threads;
+use sw_engine::{Blank, run_blocks};
+use sw_lang::{parse_cuts, parse_line};
+use sw_map::CrackerMap;
+use sw_rows::{Call, Refusal, Reply, ReplyRow, Row, Schema};
+use sw_spine::{Record, State};
+
+/// A table, its cuts, and the limit of rows.
+#[derive(Clone, Copy)]
+pub struct Trial<'a> {
+    pub header: &'a [&'a str],
+    pub rows: &'a [[i64; 8]],
+    pub cuts: &'a str,
+    pub limit: u64,
+}
+
+/// Rows of these cells, by the keys 1, 2, 3 and so on. Refused `NoMemory` alone.
+#[tactic(auto, using(crate::proofs::Calls::numbered_push))]
+pub fn numbered(alloc: Global, cells: &[[i64; 8]]) -> Result<Vec<Row>, Refusal>
+    requires { length cells.now ≤ 1048576 }
+    ensures { IfOk result (λ rows. is_numbered 1 rows.items ≡ true) }
+{
+    let mut rows = Vec::new(alloc);
+    for it in cells {
+        let key = rows.len() as u64 + 1;
+        if rows.push(Row { key, cells: *it }).is_err() {
+            return Err(Refusal::NoMemory);
+        }
+    }
+    Ok(rows)
+}
+
+/// The call of each line.
+pub fn calls(alloc: Global, schema: &Schema, lines: &[&str]) -> Result<Vec<Call>, Refusal>
+    ensures { IfOk result (λ v. All (λ c. CallsBelow (length schema.now) c) v.items) }
+{
+    let mut calls = Vec::new(alloc);
+    for line in lines {
+        if let Some(call) = call_of(alloc, schema, line)? {
+            if calls.push(call).is_err() {
+                return Err(Refusal::NoMemory);
+            }
+        }
+    }
+    Ok(calls)
+}
+
+/// The calls of each block.
+pub fn blocks(
+    alloc: Global,
+    schema: &Schema,
+    scripts: &[&[&str]],
+) -> Result<Vec<Vec<Call>>, Refusal>
+    ensures { IfOk result (λ v. All (λ b. All (λ c. CallsBelow (length schema.now) c) b.items) v.items) }
+{
+    let mut blocks = Vec::new(alloc);
+    for lines in scripts {
+        let block = calls(alloc, schema, lines)?;
+        if blocks.push(block).is_err() {
+            return Err(Refusal::NoMemory);
+        }
+    }
+    Ok(blocks)
+}
+
+/// The call of a line, if it has one.
+fn call_of(alloc: Global, schema: &Schema, line: &str) -> Result<Option<Call>, Refusal>
+    ensures { IfOk result (λ call. IfSome call (CallsBelow (length schema.now))) }
+{
+    parse_line(alloc, schema, 1, line)
+}
+
+/// Opens an engine over the table, hands it the boxes, and makes each block's calls by a session on a thread of its own. Tells
+/// the record, and whether all calls were answered.
+pub fn play<M: CrackerMap, R: Threads + Wait + Sync>(
+    rt: &R,
+    alloc: Global,
+    trial: Trial<'_>,
+    maps: Vec<M>,
+    scripts: &[&[&str]],
+) -> Result<(Record, bool), Refusal>
+    requires few { length trial.rows.now ≤ 1048576 }
+    requires some { 0 < trial.limit }
+    requires most { trial.limit ≤ 1048576 }
+    requires blank { All (λ m. M.held m ≡ blank) maps.items }
+    ensures { IfOk result (λ r. IsLegal r.0) }
+{
+    let schema = Schema::of(alloc, trial.header)?;
+    let rows = numbered(alloc, trial.rows)?;
+    let cuts = parse_cuts(alloc, &schema, trial.cuts)?;
+    let blocks = blocks(alloc, &schema, scripts)?;
+    run_blocks::<Brand, M, R>(
+        rt,
+        alloc,
+        Blank::new(),
+        schema,
+        rows,
+        cuts,
+        trial.limit,
+        maps,
+        blocks.as_slice(),
+    )
+}
+
+/// A row of a reply as text.
+fn shown_row(alloc: Global, row: &ReplyRow) -> Result<String, Fail> {
+    let mut text = format!(in alloc; "{}:", row.key)?;
+    for cell in row.cells.as_slice() {
+        text.push_str(format!(in alloc; " {cell}")?.as_str())?;
+    }
+    text.push_str(", ")?;
+    Ok(text)
+}
+
+/// A reply of rows as text.
+fn shown_rows(alloc: Global, rows: &[ReplyRow]) -> Result<String, Fail> {
+    let mut text = String::new(alloc);
+    for row in rows {
+        text.push_str(shown_row(alloc, row)?.as_str())?;
+    }
+    text.push_str(format!(in alloc; "{} rows", rows.len())?.as_str())?;
+    Ok(text)
+}
+
+/// A reply as text.
+fn shown(alloc: Global, reply: &Reply) -> Result<String, Fail> {
+    match reply {
+        Reply::Rows(rows) => shown_rows(alloc, rows.as_slice()),
+        Reply::Count(n) => Ok(format!(in alloc; "{n}")?),
+        Reply::Sum(sum) => Ok(format!(in alloc; "{sum}")?),
+        Reply::Least(Some(cell)) => Ok(format!(in alloc; "{cell}")?),
+        Reply::Inserted(key) => Ok(format!(in alloc; "key {key}")?),
+        Reply::Least(None) => Ok(format!(in alloc; "none")?),
+        Reply::Full => Ok(format!(in alloc; "full")?),
+        Reply::Removed => Ok(format!(in alloc; "removed")?),
+        Reply::NoSuchKey => Ok(format!(in alloc; "no such key")?),
+    }
+}
+
+/// The replies to a session, in the record's order.
+pub fn told(alloc: Global, record: &Record, session: u64) -> Result<String, Fail> {
+    let mut text = String::new(alloc);
+    for entry in record.entries.as_slice() {
+        if entry.session == session {
+            if let State::Answered(reply) = &entry.state {
+                text.push_str(shown(alloc, reply)?.as_str())?;
+                text.push_str("; ")?;
+            }
+        }
+    }
+    Ok(text)
+}
