@@ -50,12 +50,7 @@ fn inserts(alloc: Global, rows: &[Row]) -> Result<Vec<Update>, Refusal>
 
 impl<M: CrackerMap> Head<M> {
     /// A head over these rows.
-    pub fn new(
-        alloc: Global,
-        attribute: u8,
-        cuts: &[i64],
-        rows: &[Row],
-    ) -> Result<Head<M>, Refusal>
+    pub fn new(alloc: Global, attribute: u8, cuts: &[i64], rows: &[Row]) -> Result<Head<M>, Refusal>
         requires attribute { attribute < 8 }
         requires rising { RiseAbove None cuts.now }
         requires few { length cuts.now ≤ 15 }
@@ -118,6 +113,7 @@ impl<M: CrackerMap> Head<M> {
     /// The plain answer over all rows.
     pub fn scan(&mut self, query: &Query) -> Result<Reply, Refusal>
         requires asks { AsksBelow 8 query.now }
+        requires head { head_in query.now.conds ≡ self.old.attribute }
         ensures same { IsSameHead self.old self.new }
         ensures answered { IfOk result (λ reply. reply ≡ answer (rows_of self.old.updates) query.now) }
         ensures refused { IsOkUnless result NoMemory }

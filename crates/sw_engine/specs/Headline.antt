@@ -19,20 +19,15 @@ use Rattle.sw_spine.specs.Rest.{none_open}
 use Rattle.sw_engine.specs.Desk.{IsNamed}
 
 pub record IsHistoryOfOneThread (columns : List Column) (rows : List Row) (limit : ℕ) (tickets : List (ℕ × List (Call × Reply))) (h : History) : Type 0 where
-
   -- it begins from the attributes, the opening rows and the limit of `open`
   pub columns_are : h.columns ≡ columns
   pub rows_are : h.rows ≡ rows
   pub limit_is : h.limit ≡ limit
-
   -- each reply in it is that of one thread over a plain list of rows, after the calls before it
   pub legal : IsLegal h
-
   -- the answered entries of each session, in the history's order, are the calls that were answered to it
   pub answered : All (λ (t : ℕ × List (Call × Reply)). mine t.0 h.entries ≡ t.1) tickets
-
   -- no other session has entries
   pub others : (s : ℕ) → (is_absent s h.entries ≡ true) ⊎ IsNamed s tickets
-
   -- no entry is open
   pub closed : none_open h.entries ≡ true

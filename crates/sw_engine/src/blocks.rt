@@ -58,8 +58,12 @@ pub fn serve_all<'e, J: Naming + Send + Sync, M: CrackerMap, R: Threads + Wait +
     ensures number { IfOk result (λ v. (i : ℕ) (j : _) (d : _) → i < length jobs.entry.items → (slice_index_or v.items i d).ticket.0 ≡ (slice_index_or jobs.entry.items i j).session.0) }
     ensures calls { IfOk result (λ v. (i : ℕ) (j : _) (d : _) → i < length jobs.entry.items → IsTrue (slice_index_or v.items i d).answered → map (λ c. c.0) (slice_index_or v.items i d).ticket.1 ≡ (slice_index_or jobs.entry.items i j).calls.now) }
 {
-    thread::map_vec(rt, jobs, &|job: Job<'_, J, M>| -> Done<J>
-        requires { (job.session.1 ≡ []) × All (λ c. CallsBelow (length J.columns) c) job.calls.now }
-        ensures { (result.ticket.0 ≡ job.entry.session.0) × (IsTrue result.answered → map (λ c. c.0) result.ticket.1 ≡ job.entry.calls.now) }
-    { serve(rt, job) })
+    thread::map_vec(
+        rt,
+        jobs,
+        &|job: Job<'_, J, M>| -> Done<J>
+            requires { (job.session.1 ≡ []) × All (λ c. CallsBelow (length J.columns) c) job.calls.now }
+            ensures { (result.ticket.0 ≡ job.entry.session.0) × (IsTrue result.answered → map (λ c. c.0) result.ticket.1 ≡ job.entry.calls.now) }
+        { serve(rt, job) },
+    )
 }

@@ -122,7 +122,10 @@ impl<J: Naming> Desk<J> {
         ensures head { result ≡ record { taken = opened J.opening; made = false } }
     {
         let Desk {
-            spine, made, heads, ..
+            spine,
+            made,
+            heads,
+            ..
         } = self;
         let number = *made;
         let share = heads.open(Snapshot::of(spine));
@@ -233,7 +236,9 @@ impl<J: Naming> Desk<J> {
         ensures updates { updates self.new.books ≡ updates self.old.books }
     {
         let Desk {
-            spine, sessions, ..
+            spine,
+            sessions,
+            ..
         } = self;
         sessions.agree(share);
         spine.finish(number, reply);
@@ -249,7 +254,9 @@ impl<J: Naming> Desk<J> {
         ensures updates { updates self.new.books ≡ updates self.old.books }
     {
         let Desk {
-            spine, sessions, ..
+            spine,
+            sessions,
+            ..
         } = self;
         sessions.agree(share);
         spine.void(number);
@@ -272,7 +279,9 @@ impl<J: Naming> Desk<J> {
         ensures refused { IfErr result (λ e. RefusesCall e) }
     {
         let Desk {
-            spine, sessions, ..
+            spine,
+            sessions,
+            ..
         } = self;
         sessions.agree(share);
         let reply = spine.commit(number, call)?;

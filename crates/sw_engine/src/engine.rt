@@ -235,12 +235,7 @@ impl<J: Naming, M: CrackerMap> Engine<J, M> {
         Ok(reply)
     }
 
-    fn commit<R: Wait>(
-        &self,
-        rt: &R,
-        ticket: &mut Ticket<J>,
-        call: Call,
-    ) -> Result<Reply, Refusal>
+    fn commit<R: Wait>(&self, rt: &R, ticket: &mut Ticket<J>, call: Call) -> Result<Reply, Refusal>
         requires { is_select call ≡ false }
         ensures number { ticket.new.0 ≡ ticket.old.0 }
         ensures mine { IfOk result (λ r. ticket.new.1 ≡ ticket.old.1 ++ (call, r) ∷ []) }
@@ -273,7 +268,11 @@ impl<'e, J: Naming, M: CrackerMap> Session<'e, J, M> {
     /// What a query is answered.
     ///
     /// Refused `NoMemory`, or `HistoryFull`; then no row has changed, and the call stands in the history at most as void.
-    pub fn select<R: Threads + Wait + Sync>(&mut self, rt: &R, query: &Query) -> Result<Reply, Refusal>
+    pub fn select<R: Threads + Wait + Sync>(
+        &mut self,
+        rt: &R,
+        query: &Query,
+    ) -> Result<Reply, Refusal>
         requires { AsksBelow (length J.columns) query.now }
         ensures number { self.new.0 ≡ self.old.0 }
         ensures mine { IfOk result (λ r. self.new.1 ≡ self.old.1 ++ (Select query.now, r) ∷ []) }
@@ -290,7 +289,8 @@ impl<'e, J: Naming, M: CrackerMap> Session<'e, J, M> {
         ensures err { OnErr result (self.new.1 ≡ self.old.1) }
         ensures refused { IfErr result (λ e. RefusesCall e) }
     {
-        self.engine.commit(rt, &mut self.ticket, Call::Insert(cells))
+        let call = Call::Insert(cells);
+        self.engine.commit(rt, &mut self.ticket, call)
     }
 
     /// Deletes the row of a key.

@@ -9,6 +9,7 @@ ghost use Rattle.sw_chunks.specs.Shelf.{head_in};
 ghost use Rattle.sw_chunks.specs.Heads.{IsSameHead};
 
 use crate::copies::copied;
+use crate::leading::scan_led;
 use crate::naming::Naming;
 use crate::opening::Opening;
 use std::alloc::Global;
@@ -34,16 +35,18 @@ pub fn head_of(query: &Query) -> usize
 /// The answer of a head. One whose attribute is not that of the query's head scans.
 fn ask<M: CrackerMap, R: Threads + Sync>(
     rt: &R,
+    alloc: Global,
     head: &mut Head<M>,
     query: &Query,
 ) -> Result<Reply, Refusal>
     requires asks { AsksBelow 8 query.now }
+    requires attribute { head.old.attribute < 8 }
     ensures same { IsSameHead head.old head.new }
     ensures answered { IfOk result (λ r. r ≡ answer (rows_of head.old.updates) query.now) }
     ensures refused { IsOkUnless result NoMemory }
 {
-    if head.attribute() as usize != head_of(query) {
-        return head.scan(query);
+    if usize::from(head.attribute()) != head_of(query) {
+        return scan_led(alloc, head, query);
     }
     let (reply, _scans) = head.answer(rt, query)?;
     Ok(reply)
@@ -73,7 +76,7 @@ impl<J: Naming, M: CrackerMap> Model for LatchedHead<J, M> {
 
     ghost view = { λ h. record { taken = received_by J.opening h.head ++ h.inbox.items; made = is_some h.head } };
 
-    ghost invariant = { λ h. (h.share.name ≡ J.heads) × (h.share.number ≡ h.number) × (received_by J.opening h.head ++ h.inbox.items ≡ took h.number h.share.value) × (J.limit ≤ 1048576) × AreUpdates J.limit (received_by J.opening h.head ++ h.inbox.items) × (h.number < length J.columns) × IfSome h.head (λ s. s.attribute ≡ h.number) × All (λ m. M.held m ≡ blank) h.boxes.items };
+    ghost invariant = { λ h. (h.share.name ≡ J.heads) × (h.share.number ≡ h.number) × (received_by J.opening h.head ++ h.inbox.items ≡ took h.number h.share.value) × (J.limit ≤ 1048576) × AreUpdates J.limit (received_by J.opening h.head ++ h.inbox.items) × (h.number < length J.columns) × IfSome h.head (λ s. s.attribute ≡ h.number) × All (λ m. M.held m ≡ blank) h.boxes.items × (h.number < 8) };
 }
 
 impl<J: Naming, M: CrackerMap> LatchedHead<J, M> {
@@ -134,7 +137,12 @@ impl<J: Naming, M: CrackerMap> LatchedHead<J, M> {
     }
 
     /// Takes in what lies in the inbox, and answers.
-    fn serve<R: Threads + Sync>(&mut self, rt: &R, query: &Query) -> Result<Reply, Refusal>
+    fn serve<R: Threads + Sync>(
+        &mut self,
+        rt: &R,
+        alloc: Global,
+        query: &Query,
+    ) -> Result<Reply, Refusal>
         requires made { self.old.made ≡ true }
         requires asks { AsksBelow 8 query.now }
         ensures same { self.new ≡ self.old }
@@ -147,7 +155,7 @@ impl<J: Naming, M: CrackerMap> LatchedHead<J, M> {
         };
         head.receive(inbox.as_slice())?;
         inbox.clear();
-        ask(rt, head, query)
+        ask(rt, alloc, head, query)
     }
 
     /// Takes in what lies in the inbox, and answers twice: one reply is for the caller, one for the history.
@@ -165,7 +173,7 @@ impl<J: Naming, M: CrackerMap> LatchedHead<J, M> {
         ensures answered { IfOk result (λ r. (r.0 ≡ answer (rows_of self.old.taken) query.now) × (r.1 ≡ r.0)) }
         ensures refused { IsOkUnless result NoMemory }
     {
-        let reply = self.serve(rt, query)?;
+        let reply = self.serve(rt, alloc, query)?;
         match copied(alloc, &reply) {
             Ok(kept) => Ok((reply, kept)),
             Err(_) => Err(Refusal::NoMemory),

@@ -6,6 +6,7 @@ mod copies;
 mod desk;
 mod engine;
 mod latch;
+mod leading;
 mod naming;
 mod opening;
 mod runs;

@@ -55,11 +55,7 @@ impl<J: Naming> Opening<J> {
         requires { place < length J.columns }
         ensures { MatchResult result (λ h. (h.attribute ≡ place) × (h.updates ≡ opened J.opening)) (λ e. e ≡ NoMemory) }
     {
-        Head::new(
-            alloc,
-            place as u8,
-            self.cuts.of(place),
-            self.rows.as_slice(),
-        )
+        let cuts = self.cuts.of(place);
+        Head::new(alloc, place as u8, cuts, self.rows.as_slice())
     }
 }

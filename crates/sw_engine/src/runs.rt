@@ -77,6 +77,15 @@ fn end_all<J: Naming, M: CrackerMap>(
     }
 }
 
+/// Whose turn it is, of so many.
+#[tactic(auto, using(crate::proofs::Jobs::turn_below))]
+fn turn(number: usize, many: usize) -> usize
+    requires { 0 < many }
+    ensures { result < many }
+{
+    number % many
+}
+
 /// Deals boxes out: box i, from 0, goes to the head of attribute i mod n, where there are n attributes.
 fn deal<J: Naming, M: CrackerMap, R: Wait>(
     rt: &R,
@@ -88,12 +97,12 @@ fn deal<J: Naming, M: CrackerMap, R: Wait>(
     requires blank { All (λ m. M.held m ≡ blank) maps.items }
     ensures { IsOkUnless result NoMemory }
 {
-    let mut place = 0;
+    let mut dealt = 0usize;
     for it in maps {
-        if engine.supply(rt, place, it).is_err() {
+        if engine.supply(rt, turn(dealt, columns), it).is_err() {
             return Err(Refusal::NoMemory);
         }
-        place = if place + 1 < columns { place + 1 } else { 0 };
+        dealt = dealt.wrapping_add(1);
     }
     Ok(())
 }

@@ -44,32 +44,62 @@ fn maps(alloc: Global, many: usize, cells: u64) -> Result<Vec<PairMap>, Refusal>
 /// Scripts of one session, and what it is told.
 const TOLD: [(&[&str], &str); 6] = [
     (
-        &["select b where a >= 10 and a <= 15", "select b, c where a >= 10 and a <= 15"],
+        &[
+            "select b where a >= 10 and a <= 15",
+            "select b, c where a >= 10 and a <= 15",
+        ],
         "1: 7, 3: 5, 2 rows; 1: 7 1, 3: 5 1, 2 rows; ",
     ),
     (
-        &["insert 1, 9, 0", "count where a < 10", "delete 2", "delete 2", "delete 0", "count"],
+        &[
+            "insert 1, 9, 0",
+            "count where a < 10",
+            "delete 2",
+            "delete 2",
+            "delete 0",
+            "count",
+        ],
         "key 5; 2; removed; no such key; no such key; 4; ",
     ),
     (
-        &["select b where a >= 15 and a <= 10", "sum a", "min b", "max c where a < 0"],
+        &[
+            "select b where a >= 15 and a <= 10",
+            "sum a",
+            "min b",
+            "max c where a < 0",
+        ],
         "0 rows; 47; 2; none; ",
     ),
     (
-        &["select a where a >= 10 and b < 6", "delete 3", "select a where a >= 10 and b < 6"],
+        &[
+            "select a where a >= 10 and b < 6",
+            "delete 3",
+            "select a where a >= 10 and b < 6",
+        ],
         "3: 12, 4: 20, 2 rows; removed; 4: 20, 1 rows; ",
     ),
     (
-        &["count where b >= 6", "insert 0, 6, 0", "count where b >= 6", "count where c = 0"],
+        &[
+            "count where b >= 6",
+            "insert 0, 6, 0",
+            "count where b >= 6",
+            "count where c = 0",
+        ],
         "2; key 5; 3; 3; ",
     ),
     (&[], ""),
 ];
 
 /// Plays each script by one session, with cuts and without, and with maps and without.
-fn told_of<R: Threads + Wait + Sync>(rt: &R, alloc: Global, many: usize, cuts: &str) -> Result<u64, Fail> {
+fn told_of<R: Threads + Wait + Sync>(
+    rt: &R,
+    alloc: Global,
+    many: usize,
+    cuts: &str,
+) -> Result<u64, Fail> {
     let mut right = 0u64;
-    for (lines, expected) in TOLD {
+    for script in TOLD.iter() {
+        let (lines, expected) = *script;
         let trial = Trial {
             header: &HEADER,
             rows: &ROWS,
@@ -139,7 +169,12 @@ fn inserted(alloc: Global, dice: &mut Dice, attributes: u64) -> Result<String, F
 }
 
 /// Lines of calls.
-fn lines(alloc: Global, dice: &mut Dice, attributes: u64, many: usize) -> Result<Vec<String>, Fail> {
+fn lines(
+    alloc: Global,
+    dice: &mut Dice,
+    attributes: u64,
+    many: usize,
+) -> Result<Vec<String>, Fail> {
     let mut lines = Vec::new(alloc);
     for _ in 0..many {
         lines.push(line(alloc, dice, attributes)?)?;
@@ -194,7 +229,12 @@ fn mixed<R: Threads + Wait + Sync>(
     let two = texts(alloc, two.as_slice())?;
     let three = texts(alloc, three.as_slice())?;
     let four = texts(alloc, four.as_slice())?;
-    let scripts = [one.as_slice(), two.as_slice(), three.as_slice(), four.as_slice()];
+    let scripts = [
+        one.as_slice(),
+        two.as_slice(),
+        three.as_slice(),
+        four.as_slice(),
+    ];
     let (record, answered) = play(rt, alloc, trial, maps(alloc, boxes, 640)?, &scripts)?;
     let mut all = answered && record.check().is_ok();
     for session in 1..5 {

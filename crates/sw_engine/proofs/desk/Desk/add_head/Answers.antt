@@ -24,4 +24,5 @@ invariant_of-result g c =
       place,
       tt,
       search rules,
+      less,
     )

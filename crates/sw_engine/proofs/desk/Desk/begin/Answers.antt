@@ -54,6 +54,7 @@ invariant_of-head-2 g c =
       c.head.invariant.5,
       c.head.invariant.6,
       c.head.invariant.7,
+      c.head.invariant.8,
     )
 
 pub returns-clause-mine : goal.returns-clause-mine
