@@ -1,12 +1,13 @@
 //! What lies under a head's latch.
 
-ghost use Rattle.std.specs.Prelude.{ℕ, ◌≡◌, ◌<◌, ◌≤◌, true, length, IfErr, IfOk, IsOkUnless, MatchResult, OnOk};
+ghost use Rattle.std.specs.Prelude.{ℕ, ◌≡◌, ◌++◌, [], ◌<◌, ◌≤◌, true, length, IfErr, IfOk, IsOkUnless, MatchResult, OnErr, OnOk};
 ghost use Rattle.sw_rows.specs.Scan.{AsksBelow, answer};
 ghost use Rattle.sw_rows.specs.Updates.{rows_of};
 ghost use Rattle.sw_rows.specs.declared.refusal.Refusal.TheVariants.{NoMemory};
 ghost use Rattle.sw_map.specs.Held.{blank};
 ghost use Rattle.sw_chunks.specs.Shelf.{head_in};
 ghost use Rattle.sw_chunks.specs.Heads.{IsSameHead};
+ghost use Rattle.sw_chunks.specs.Routing.{MayFollow};
 
 use crate::copies::copied;
 use crate::leading::scan_led;
@@ -50,6 +51,19 @@ fn ask<M: CrackerMap, R: Threads + Sync>(
     }
     let (reply, _scans) = head.answer(rt, query)?;
     Ok(reply)
+}
+
+/// The head receives what waits for it. The one refusal is `NoMemory`, and then both are as they were.
+fn receive_all<M: CrackerMap>(head: &mut Head<M>, inbox: &mut Vec<Update>) -> Result<(), Refusal>
+    requires may { MayFollow head.old.attribute head.old.updates inbox.old.items }
+    ensures attribute { head.new.attribute ≡ head.old.attribute }
+    ensures received { OnOk result ((head.new.updates ≡ head.old.updates ++ inbox.old.items) × (inbox.new.items ≡ [])) }
+    ensures kept { OnErr result ((head.new.updates ≡ head.old.updates) × (inbox.new.items ≡ inbox.old.items)) }
+    ensures refused { IsOkUnless result NoMemory }
+{
+    head.receive(inbox.as_slice())?;
+    inbox.clear();
+    Ok(())
 }
 
 /// A head, once it is made, the boxes that wait for it, and the updates that were taken for it and that it has not received.
@@ -153,8 +167,7 @@ impl<J: Naming, M: CrackerMap> LatchedHead<J, M> {
         let Some(head) = head else {
             unreachable!();
         };
-        head.receive(inbox.as_slice())?;
-        inbox.clear();
+        receive_all(head, inbox)?;
         ask(rt, alloc, head, query)
     }
 

@@ -4,9 +4,9 @@ use Rattle.sw_engine.specs.Desk.{received_by}
 use Rattle.sw_engine.proofs.Heads.{may_follow}
 use Rattle.sw_engine.proofs.latch.LatchedHead.serve.Goals as goal
 
-pub receive-requires : goal.receive-requires
-receive-requires g c =
+pub receive_all-requires-clause-may : goal.receive_all-requires-clause-may
+receive_all-requires-clause-may g c κs within =
     let j = g.J.Naming in
     let h = c.self.inside in
-    let is : c.in-Some.head.updates ++ c.as_slice.result.now ≡ received_by j.opening h.head ++ h.inbox.items = search rules in
-    (c.type_bounds.send-M, may_follow c.in-Some.head.attribute j.limit c.in-Some.head.updates c.as_slice.result.now c.self.invariant.3 (subst (AreUpdates j.limit) (sym is) c.self.invariant.4))
+    let is : c.in-Some.head.updates ++ h.inbox.items ≡ received_by j.opening h.head ++ h.inbox.items = search rules in
+    may_follow c.in-Some.head.attribute j.limit c.in-Some.head.updates h.inbox.items c.self.invariant.3 (subst (AreUpdates j.limit) (sym is) c.self.invariant.4)
