@@ -26,7 +26,7 @@ pub struct Trial<'a> {
 }
 
 /// Rows of these cells, by the keys 1, 2, 3 and so on. Refused `NoMemory` alone.
-#[tactic(auto, using(crate::proofs::Calls::numbered_push))]
+#[tactic(auto, using(crate::proofs::Readings::numbered_push))]
 pub fn numbered(alloc: Global, cells: &[[i64; 8]]) -> Result<Vec<Row>, Refusal>
     requires { length cells.now ≤ 1048576 }
     ensures { IfOk result (λ rows. is_numbered 1 rows.items ≡ true) }

@@ -1,4 +1,4 @@
-use Rattle.sw_trial_engine.proofs.Calls.{fits_below}
+use Rattle.sw_trial_engine.proofs.Readings.{fits_below}
 use Rattle.sw_trial_engine.proofs.running.call_of.Goals as goal
 
 pub returns : goal.returns
