@@ -1,7 +1,7 @@
 //! Cases of texts as data: `stdin` has a case a line, and `stdout` what each has to tell.
 //!
-//! A line is a command, with its arguments after colons, then a blank and a text; README.md has the list. A text has \n,
-//! \r, \t, \\ and \xHH for bytes. An empty line and one that begins with # tell nothing.
+//! A line is a command, with its arguments after colons, then a blank and a text; README.md has the list. A text has
+//! \n, \r, \t, \\ and \xHH for bytes. An empty line and one that begins with # tell nothing.
 #![tactic(auto)]
 
 mod bench;

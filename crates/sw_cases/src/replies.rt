@@ -34,7 +34,7 @@ fn answered(alloc: Global, schema: &Schema, rows: &[Row], call: &Call) -> Result
     }
 }
 
-/// The lines of a reply, as a sink takes them that takes so many bytes at a time and fails at one write; and its failures.
+/// Writes the lines of a reply, and answers the refusal where there is one.
 fn write_to(
     out: &mut Counted<Slow>,
     schema: &Schema,
