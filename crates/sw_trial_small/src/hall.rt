@@ -1,12 +1,12 @@
 //! Two counts under one lock, each tied to a book of its own, and two threads that count.
 ghost use Rattle.std.specs.Prelude.{◌≡◌, ℕ, ◌+◌, ◌^◌, ◌<◌, ◌≤◌, [], ◌∷◌, false};
 
-use crate::{Book, Share};
 use std::marker::{Brand, Model, PhantomData};
 use std::snapshot::Snapshot;
 use std::sync::{Mutex, Wait};
 use std::thread;
 use std::thread::Threads;
+use sw_tie::{Book, Share};
 
 /// Which book it is. The call that makes the book picks its name.
 pub trait Naming {

@@ -1,14 +1,16 @@
+//! Tokens at several types, and two threads whose counts they tie.
+
 ghost use Rattle.std.specs.Prelude.{◌≡◌, ◌≢◌, ◌<◌, ◌^◌, [], ◌∷◌, false};
 
-mod hall;
-
-use super::*;
-use hall::count_both;
+use crate::hall::count_both;
 use std::marker::Brand;
 use std::mem::size_of;
-use std::test::*;
+use std::snapshot::Snapshot;
+use std::test::Fail;
+use std::thread::Threads;
+use sw_tie::{Book, Share};
 
-// Two shares of one book never have one number: once the first is given back, the second still is not.
+/// Two shares of one book never have one number: once the first is given back, the second still is not.
 fn are_apart<T>(book: &mut Book<T>, first: Share<T>, second: &mut Share<T>)
     requires { (first.name ≡ book.old.name) × (second.old.name ≡ book.old.name) }
     ensures name { book.new.name ≡ book.old.name }
@@ -19,7 +21,7 @@ fn are_apart<T>(book: &mut Book<T>, first: Share<T>, second: &mut Share<T>)
     book.agree(second);
 }
 
-// At any type, a share that was set shows what it was set to, and so does its row; the other row stays.
+/// At any type, a share that was set shows what it was set to, and so does its row; the other row stays.
 fn follow<T>(before: &T, after: &T) -> (Book<T>, Share<T>, Share<T>)
     ensures rows { result.0.rows ≡ (after.now, false) ∷ (before.now, false) ∷ [] }
     ensures set { result.1.value ≡ after.now }
@@ -33,7 +35,7 @@ fn follow<T>(before: &T, after: &T) -> (Book<T>, Share<T>, Share<T>)
     (book, first, second)
 }
 
-// Each call once, at a type of its own.
+/// Each call once, at a type of its own.
 fn give_both<T>(before: &T, after: &T) {
     let (mut book, first, mut second) = follow(before, after);
     book.agree(&mut second);
@@ -41,7 +43,7 @@ fn give_both<T>(before: &T, after: &T) {
     book.give(second);
 }
 
-// No token takes a byte, whatever its type.
+/// No token takes a byte, whatever its type.
 fn take_no_bytes<T>() {
     prove!(size_of::<Book<T>>() == 0);
     prove!(size_of::<Share<T>>() == 0);

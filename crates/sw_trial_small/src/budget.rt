@@ -1,7 +1,10 @@
-use super::*;
+//! Leases of a budget, by one seat after the other and by four threads.
+
 use std::test::Fail;
 use std::thread;
 use std::thread::Threads;
+use sw_budget::{Budget, Purse};
+use sw_rows::Refusal;
 
 /// The numbers of a `Short`, if it is one: used, want, capacity.
 fn short(refusal: &Refusal) -> Option<(u64, u64, u64)> {

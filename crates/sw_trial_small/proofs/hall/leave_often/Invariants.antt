@@ -1,5 +1,5 @@
 use Rattle.std.proofs.Common.{◌≡◌}
-use Rattle.sw_tie.proofs.tests.hall.leave_often.Given as goal
+use Rattle.sw_trial_small.proofs.hall.leave_often.Given as goal
 
 -- the thread counted once each turn
 abbrev pub invariant-loop-done : goal.invariant-loop-done
