@@ -50,8 +50,15 @@ pub fn four_rows(alloc: Global) -> Result<Vec<Row>, Refusal>
 }
 
 /// The attributes a, b and c.
-pub fn schema(alloc: Global) -> Result<Schema, Refusal> {
-    Schema::of(alloc, &["a:int", "b:int", "c:int"])
+pub fn schema(alloc: Global) -> Result<Schema, Refusal>
+    ensures { IfOk result (λ schema. length schema ≡ 3) }
+{
+    let schema = Schema::of(alloc, &["a:int", "b:int", "c:int"])?;
+    if schema.len() == 3 {
+        Ok(schema)
+    } else {
+        Err(Refusal::Input)
+    }
 }
 
 /// Opens sessions 1 and 2.
@@ -72,9 +79,6 @@ pub fn opened(alloc: Global, rows: &[Row], limit: u64) -> Result<Spine, Refusal>
     ensures { IfOk result (λ spine. IsAtRest spine rows.now) }
 {
     let schema = schema(alloc)?;
-    if schema.len() != 3 {
-        return Err(Refusal::Input);
-    }
     let Ok(rows) = Vec::from_slice(alloc, rows) else {
         return Err(Refusal::NoMemory);
     };
@@ -272,9 +276,16 @@ fn tell_record(record: &Record, text: &mut Text) -> Result<(), Refusal> {
     tell_count(record.schema.len() as u64, " attributes\n", text)
 }
 
-/// Tells of the spine: how many updates it has, its limit, and its record.
-pub fn tell(spine: Spine, text: &mut Text) -> Result<(), Refusal> {
+/// Tells how many updates a spine has, and its limit.
+fn tell_counts(spine: &Spine, text: &mut Text) -> Result<(), Refusal> {
     tell_count(spine.update_count(), " updates, at most ", text)?;
-    tell_count(spine.limit(), "; ", text)?;
-    tell_record(&spine.into_record(), text)
+    tell_count(spine.limit(), "; ", text)
+}
+
+/// Tells of the spine: its counts, and its record.
+pub fn tell(spine: Spine, text: &mut Text) -> Result<(), Refusal> {
+    match tell_counts(&spine, text) {
+        Ok(()) => tell_record(&spine.into_record(), text),
+        Err(e) => Err(e),
+    }
 }

@@ -94,19 +94,16 @@ fn all_counted(alloc: Global) -> Query
     }
 }
 
-/// A row is deleted, and then session 2 gives up two selects for head 7.
-fn give_up_twice(
-    alloc: Global,
-    spine: &mut Spine,
-    rows: &[Row],
-    inbox: &mut Vec<Update>,
-) -> Result<bool, Refusal>
+/// A row is deleted, and then session 2 gives up two selects for head 7. It is said whether the head was handed the one
+/// update, once.
+fn give_up_twice(alloc: Global, spine: &mut Spine, rows: &[Row]) -> Result<bool, Refusal>
     requires rest { IsAtRest spine.old rows.now }
 {
     let _ = spine.commit(1, Call::Delete(2))?;
-    let first = give_up(spine, rows, all_counted(alloc), inbox)?;
-    let second = give_up(spine, rows, all_counted(alloc), inbox)?;
-    Ok(first && second)
+    let mut inbox = Vec::new(alloc);
+    let first = give_up(spine, rows, all_counted(alloc), &mut inbox)?;
+    let second = give_up(spine, rows, all_counted(alloc), &mut inbox)?;
+    Ok(first && second && matches!(inbox.as_slice(), [Update::Remove(2)]))
 }
 
 /// Says that all updates are published. It is said whether four were before, and five are then.
@@ -125,10 +122,8 @@ fn publish(spine: &mut Spine) -> bool {
 fn takes_once(alloc: Global) -> Result<bool, Refusal> {
     let rows = four_rows(alloc)?;
     let mut spine = opened(alloc, rows.as_slice(), 1048576)?;
-    let mut inbox = Vec::new(alloc);
-    let are_void = give_up_twice(alloc, &mut spine, rows.as_slice(), &mut inbox)?;
-    let is_taken = matches!(inbox.as_slice(), [Update::Remove(2)]);
-    Ok(are_void && is_taken && publish(&mut spine))
+    let is_taken = give_up_twice(alloc, &mut spine, rows.as_slice())?;
+    Ok(is_taken && publish(&mut spine))
 }
 
 /// Whether so many sessions that are opened have the numbers from 1 on.
