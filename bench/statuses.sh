@@ -4,7 +4,6 @@
 set -u
 top=$(cd "$(dirname "$0")/.." && pwd) || exit 3
 program=$top/crates/sideways/out/sideways
-[ "$#" -eq 0 ] || program=$1
 if [ ! -x "$program" ]; then
     "$top/sideways" --help >/dev/null || exit 3
 fi
@@ -96,6 +95,41 @@ head -c 60000000 /dev/zero >large
 case_of 'a history without memory' 3 '' 'sideways: refused 1' within 40000 "$program" check large
 case_of 'a table without memory' 3 '' 'sideways: refused 1' within 40000 "$program" run --table large --script count.txt
 case_of 'a script without memory' 3 '' 'sideways: refused 1' within 40000 "$program" run --table t.csv --script large
+
+# The first 400 allocations of a command refused in turn: the status is 3, and a line tells of it or the reply of the call that
+# was refused does; or all is as ever, where the program did without.
+refused_in_turn() {
+    name=$1 plain=$2
+    shift 2
+    verdict=passed
+    told=0
+    number=1
+    while [ "$number" -le 400 ]; do
+        REFUSED=$number LD_PRELOAD=$work/refusing.so "$@" >out 2>err
+        is=$?
+        if [ "$is" -eq 3 ] && { grep -qx 'sideways: refused 1' err || grep -qx 'refused 1' out; }; then
+            told=$((told + 1))
+        elif [ "$is" -ne "$plain" ]; then
+            verdict=FAILED
+            echo "allocation $number of $name: status $is"
+        fi
+        number=$((number + 1))
+    done
+    [ "$told" -gt 0 ] || verdict=FAILED
+    if [ "$verdict" = passed ]; then passed=$((passed + 1)); else failed=$((failed + 1)); fi
+    printf '%s: %s: %s allocations refused with status 3, else status %s\n' "$verdict" "$name" "$told" "$plain"
+}
+
+printf 'select b where a >= 10\ninsert 1, 2, 3\n---\ncount\n' >calls.txt
+if ${CC:-cc} -O1 -shared -fPIC -o refusing.so "$top/bench/refusing.c" -ldl 2>/dev/null; then
+    refused_in_turn 'a run' 0 "$program" run --table t.csv --script calls.txt --history turn.json
+    refused_in_turn 'a check' 0 "$program" check legal.json
+    refused_in_turn 'a check of what is not legal' 1 "$program" check illegal.json
+    refused_in_turn 'help' 0 "$program" --help
+    refused_in_turn 'an unknown flag' 2 "$program" run --fast
+else
+    echo "no C compiler: allocations were not refused in turn"
+fi
 
 echo "$passed passed, $failed failed"
 [ "$failed" -eq 0 ]
