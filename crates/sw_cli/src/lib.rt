@@ -17,11 +17,4 @@ pub use fault::{status, write_fault};
 pub use noting::Noting;
 pub use running::{Options, run};
 pub use script::{MOST_BLOCKS, MOST_CALLS};
-pub use sw_histories::{check_file, histories_are_read_as_related, read_record, write_record};
-
-#[cfg(test)]
-mod fault_tests;
-#[cfg(test)]
-mod history_tests;
-#[cfg(test)]
-mod run_tests;
+pub use sw_histories::{check_file, read_record, write_record};
