@@ -49,7 +49,8 @@ impl<W: Sink> Sink for Noting<W> {
         ensures moves { IfOk result (λ n. 0 < length buf.now → 0 < n) }
         ensures went { OnOk result (W.failed self.new.sink ≡ W.failed self.old.sink) }
         ensures raised { OnErr result (Raised (W.failed self.old.sink) (W.failed self.new.sink)) }
-        ensures noted { IfOk result (λ n. (later : List ℕ) → tells_then self.new.watch later ≡ tells_then self.old.watch (take n buf.now ++ later)) }
+        ensures noted { IfOk result (λ n. (later : List ℕ) →
+            tells_then self.new.watch later ≡ tells_then self.old.watch (take n buf.now ++ later)) }
         ensures kept { OnErr result (self.new.watch ≡ self.old.watch) }
     {
         let count = self.sink.write_some(buf)?;
