@@ -9,7 +9,7 @@ use Rattle.sw_rows.specs.declared.row.Update.{Update}
 use Rattle.sw_kernel.specs.Replay.{Step}
 use Rattle.sw_map.specs.Held.{Held}
 use Rattle.sw_map.specs.Lawful.{IsLawful}
-use Rattle.sw_set.specs.Shelf.{AreaState, AreApart, IsAreaLawful}
+use Rattle.sw_set.specs.Shelf.{AreaState, AreApart, HasLease, IsAreaLawful}
 use Rattle.sw_set.specs.Prepared.{IsShed}
 use Rattle.sw_set.proofs.Shelves.{area_of, area-with}
 
@@ -72,6 +72,7 @@ area-removed h a f b inb sp tape xs i lt w =
     let lm : i < length (map h xs) = omega (arith, lt, many) in
     area-with a f b inb sp tape (map h xs) (map h (remove xs i))
     (subst (λ (v : List Held). All (IsLawful a tape) v) (sym (map-removed h xs i)) (all-removed (IsLawful a tape) (map h xs) i lm w.boxes))
+    (subst (λ (v : List Held). All HasLease v) (sym (map-removed h xs i)) (all-removed HasLease (map h xs) i lm w.leases))
     (subst AreApart (sym (map-removed h xs i)) (apart-removed (map h xs) i lm w.apart)) w
 
 pub view-removed : {X : Type 0} (h : X → Held) (s : AreaState) (a : ℕ) (f b : Option ℤ) (inb : List Update) (sp : ℕ) (tape : List (Step Row)) (xs : List X) (i : ℕ) → area_of a f b inb sp tape (map h xs) ≡ s → area_of a f b inb sp tape (map h (remove xs i)) ≡ record s { boxes = remove s.boxes i }

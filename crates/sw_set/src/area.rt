@@ -177,14 +177,14 @@ impl<M: CrackerMap> Area<M> {
     }
 
     /// Where the interval of the head's cells begins, if it has a beginning.
-    pub(crate) fn from(&self) -> Option<i64>
+    pub fn from(&self) -> Option<i64>
         ensures { result ≡ self.now.from }
     {
         self.from
     }
 
     /// The value below which the interval of the head's cells ends, if it has an end.
-    pub(crate) fn below(&self) -> Option<i64>
+    pub fn below(&self) -> Option<i64>
         ensures { result ≡ self.now.below }
     {
         self.below
@@ -456,11 +456,14 @@ impl<M: CrackerMap> Area<M> {
         }
     }
 
-    /// Clears the least recently used map, and answers the cells of its lease; 0 where no box has a map. It is never refused.
+    /// Clears the least recently used map, and answers the cells of its lease; 0 just where no box has a map. It is never
+    /// refused.
     pub fn clear_oldest(&mut self) -> u64
         ensures same { IsSameButBoxes self.old self.new }
         ensures cleared { IsOneCleared self.old.boxes self.new.boxes result }
+        ensures none { result ≡ 0 → All (λ m. m.is_blank ≡ true) self.old.boxes }
     {
+        self.known();
         let Some(at) = self.leased(&[]) else {
             return 0;
         };
@@ -605,10 +608,11 @@ impl<M: CrackerMap> Area<M> {
         )
     }
 
-    /// Clears the box at a place and begins a map in it. Refused, it is blank.
+    /// Clears the box at a place and begins a map of some cells in it. Refused, it is blank.
     pub(crate) fn make(&mut self, at: usize, tail: Tail, cells: u64) -> Result<(), Refusal>
         requires within { at < length self.old.boxes }
         requires fresh { IsFreshBut at tail self.old.boxes }
+        requires some { 0 < cells }
         ensures { MatchResult result (λ _. self.new ≡ record self.old { boxes = slice_set self.old.boxes at (begun self.old.attribute tail cells) }) (λ e. (self.new ≡ record self.old { boxes = slice_set self.old.boxes at blank }) × IsBeginRefusal cells e) }
     {
         let attribute = self.attribute;

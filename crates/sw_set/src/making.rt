@@ -21,6 +21,7 @@ fn begin_again<M: CrackerMap>(
 ) -> Result<(), Refusal>
     requires within { at < length area.old.boxes }
     requires fresh { IsFreshBut at tail area.old.boxes }
+    requires some { 0 < cells }
     ensures same { IsSameButBoxes area.old area.new }
     ensures kept { AreNeededKept at tails.now area.old.boxes area.new.boxes }
     ensures ends { MatchResult result (λ _. IsHeld tail cells area.new.boxes) (λ e. IsBeginRefusal cells e) }
@@ -63,6 +64,7 @@ fn ensure_map<M: CrackerMap>(
     cells: u64,
 ) -> Result<(), Refusal>
     requires needed { Contains tails.now tail }
+    requires some { 0 < cells }
     ensures same { IsSameButBoxes area.old area.new }
     ensures ends { MatchResult result (λ _. IsHeld tail cells area.new.boxes × ((u : Tail) → Contains tails.now u → IsHeld u cells area.old.boxes → IsHeld u cells area.new.boxes)) (λ e. IsPrepareRefusal (length area.old.boxes) (length tails.now) cells e) }
 {
@@ -83,6 +85,7 @@ pub(crate) fn make_all<M: CrackerMap>(
     tails: &[Tail],
     cells: u64,
 ) -> Result<(), Refusal>
+    requires some { 0 < cells }
     ensures same { IsSameButBoxes area.old area.new }
     ensures ends { MatchResult result (λ _. All (λ t. IsHeld t cells area.new.boxes) tails.now) (λ e. IsPrepareRefusal (length area.old.boxes) (length tails.now) cells e) }
 {

@@ -10,7 +10,7 @@ ghost use Rattle.sw_map.specs.declared.tail.Tail.{Tail};
 ghost use Rattle.sw_map.specs.declared.tail.Tail.TheVariants.{Key};
 ghost use Rattle.sw_map.specs.Held.{Held};
 ghost use Rattle.sw_set.specs.Needs.{head_in, needed};
-ghost use Rattle.sw_set.specs.Prepared.{IsFoundAt, IsHeld, IsNoBlank, IsNoted, IsNotedFor, IsPartlyNoted, IsPrepareRefusal, IsPrepared, IsPreparedFor, IsReady, IsTold, area_lower, area_upper, cells_for, stands_if};
+ghost use Rattle.sw_set.specs.Prepared.{IsFoundAt, IsHeld, IsNoBlank, IsNoted, IsNotedFor, IsPartlyNoted, IsPrepareRefusal, IsPrepared, IsPreparedFor, IsReady, IsTold, area_lower, area_upper, cells_for, is_touched, stands_if};
 ghost use Rattle.sw_set.specs.Shelf.{IsAtEnd, IsSameArea, logged_rows, rows_in};
 
 use crate::area::Area;
@@ -129,6 +129,15 @@ fn prepare_range<R: Threads + Sync, M: CrackerMap>(
 }
 
 impl<M: CrackerMap> Area<M> {
+    /// Whether a query touches the area: its range over the head meets the area's interval.
+    pub fn touches(&self, query: &Query) -> bool
+        ensures { result ≡ is_touched self.now query.now }
+    {
+        let start = edge(self.from());
+        let end = edge(self.below());
+        touches(start, end, lower_of(&query.conds), upper_of(&query.conds))
+    }
+
     /// Prepares the area for a query over its head. The range is logged where one of its bounds stands in no range of the
     /// tape, after a restart where the tape is full; the maps that the query needs are made and stepped to the tape's end;
     /// and the answer is the range of places that qualify. A query that does not touch the area gets an empty range, and
