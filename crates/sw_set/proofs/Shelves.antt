@@ -1,6 +1,6 @@
 -- What single changes leave of a lawful area.
 use Rattle.std.proofs.Common.{◌≡◌, ◌≢◌, ℕ, zero, suc, ◌<◌, ◌^◌, ℤ, true, false, true≢false, List, [], ◌∷◌, ◌++◌, fold, length, get_or, set, map, take, drop, refl, ap, sym, ◌∙◌, arith, subst, All, Option, Result, Ok, Err, MatchResult, OnOk, OnErr}
-use Rattle.std.proofs.lemmas.List.{length-map, map-set, map-append, length-append}
+use Rattle.std.proofs.lemmas.List.{append-nil, length-map, map-set, map-append, length-append}
 use Rattle.std.proofs.lemmas.List.Elements.{All-set, All-append}
 use Rattle.sw_rows.specs.declared.bound.Bound.{Bound}
 use Rattle.sw_rows.specs.declared.row.Row.{Row}
@@ -8,9 +8,9 @@ use Rattle.sw_rows.specs.declared.row.Update.{Update}
 use Rattle.sw_rows.specs.declared.refusal.Refusal.{Refusal}
 use Rattle.sw_rows.specs.Scan.{cell_of}
 use Rattle.sw_rows.specs.Updates.{rows_then}
-use Rattle.sw_kernel.specs.Arrangement.{Arrangement, last, joined}
-use Rattle.sw_kernel.specs.Replay.{Step, loaded, ranged, step, replay_from}
-use Rattle.sw_kernel.specs.Tapes.{IsTape, brought, brought_by, live_from, live_after}
+use Rattle.sw_kernel.specs.Arrangement.{last}
+use Rattle.sw_kernel.specs.Replay.{Step, loaded, ranged}
+use Rattle.sw_kernel.specs.Tapes.{IsTape, brought, brought_by}
 use Rattle.sw_tape.proofs.Steps.{tape-push}
 use Rattle.sw_map.specs.declared.tail.Tail.{Tail}
 use Rattle.sw_map.specs.Held.{Held, blank, begun, KeysFit}
@@ -22,16 +22,13 @@ use Rattle.sw_set.specs.Shelf.{AreaState, AreApart, AreReceivable, AreSameMaps, 
 use Rattle.sw_set.specs.Prepared.{IsFreshBut}
 use Rattle.sw_set.specs.Merged.{IsBegunAnew, IsSameShell}
 use Rattle.sw_set.proofs.Boxes.{held-all, set-each}
+use Rattle.sw_set.proofs.Longer.{live-more}
 use Rattle.sw_set.proofs.Receiving.{IsBelow, all-one, receivable-append, receivable-less}
 
 abbrev pub area_of : ℕ → Option ℤ → Option ℤ → List Update → ℕ → List (Step Row) → List Held → AreaState
 area_of a f b inb sp tape ms = record { attribute = a; from = f; below = b; inbox = inb; spare = sp; tape = tape; boxes = ms }
 
 -- ---- the rows of a tape with one more range
-live-more : {A : Type 0} (value : A → ℤ) (key : A → ℕ) (es : List (Step A)) (e : Step A) (a : Arrangement A) (rows : List A) → live_from value key a (es ++ e ∷ []) rows ≡ live_after key (joined (replay_from value a es)) e (live_from value key a es rows)
-live-more value key [] e a rows = refl
-live-more value key (x ∷ es) e a rows = live-more value key es e (step value x a) (live_after key (joined a) x rows)
-
 pub logged-ranged : (a : ℕ) (tape : List (Step Row)) (lower upper : Option Bound) → logged_rows a (tape ++ ranged lower upper ∷ []) ≡ logged_rows a tape
 logged-ranged a tape lower upper = live-more (cell_of a) key_of tape (ranged lower upper) (last []) []
 
@@ -145,24 +142,20 @@ pub lawful-of_begun : (a : ℕ) (tape : List (Step Row)) (t : Tail) (n : ℕ) (m
 lawful-of_begun a tape t n m e = subst (IsLawful a tape) (sym e) (lawful-aligned a tape _ (begun-aligned a tape t n))
 
 -- the tape begun anew with rows, all boxes blank
-append-none : (rows : List Row) → rows ++ [] ≡ rows
-append-none [] = refl
-append-none (r ∷ rs) = ap (λ t. r ∷ t) (append-none rs)
-
 pub area-begun : (a : ℕ) (f b : Option ℤ) (inb : List Update) (sp : ℕ) (rows : List Row) (ns : List Held) → a < 8 → All (λ (r : Row). r.key < 2 ^ 63) rows → Rises key_of rows → All (λ (r : Row). lies_within a f b r ≡ true) rows → All (λ m. m ≡ blank) ns → AreReceivable a f b rows rows inb → IsAreaLawful (area_of a f b inb sp (loaded rows ∷ []) ns)
 area-begun a f b inb sp rows ns few fit rise within blanks receivable = record {
   attribute = few;
   tape = tt;
   short = omega arith;
   keys = all-one (λ (e : Step Row). KeysFit e) (loaded rows) fit;
-  brought_rise = subst (Rises key_of) (sym (append-none rows)) rise;
+  brought_rise = subst (Rises key_of) (sym (append-nil rows)) rise;
   rows_rise = rise;
   rows_fit = fit;
   within = within;
   boxes = λ k d lt. lawful-of_blank a (loaded rows ∷ []) _ (blanks k d lt);
   leases = λ k d lt b. blank-not b (blanks k d lt);
   apart = apart-blank ns blanks;
-  receivable = subst (λ (v : List Row). AreReceivable a f b v rows inb) (sym (append-none rows)) receivable;
+  receivable = subst (λ (v : List Row). AreReceivable a f b v rows inb) (sym (append-nil rows)) receivable;
 }
 
 pub begun-shell : {X : Type 0} (h : X → Held) (s : AreaState) (a : ℕ) (f b : Option ℤ) (inb : List Update) (sp : ℕ) (tape new : List (Step Row)) (rows : List Row) (xs ys : List X) → area_of a f b inb sp tape (map h xs) ≡ s → new ≡ loaded rows ∷ [] → length ys ≡ length xs → All (λ (y : X). h y ≡ blank) ys → IsSameShell s (area_of a f b inb sp new (map h ys)) × IsBegunAnew rows (area_of a f b inb sp new (map h ys))

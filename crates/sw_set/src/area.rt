@@ -100,10 +100,10 @@ impl<M: CrackerMap> Area<M> {
         })
     }
 
-    /// Takes a blank box. Refused `NoMemory`, nothing has changed, and the box comes back.
+    /// Takes a blank box. Refused `NoMemory`, nothing has changed, and that box comes back.
     pub fn supply(&mut self, it: M) -> Result<(), (M, Refusal)>
         requires { M.held it ≡ blank }
-        ensures { MatchResult result (λ _. self.new ≡ record self.old { boxes = self.old.boxes ++ blank ∷ [] }) (λ r. (self.new ≡ self.old) × (M.held r.0 ≡ blank) × (r.1 ≡ NoMemory)) }
+        ensures { MatchResult result (λ _. self.new ≡ record self.old { boxes = self.old.boxes ++ blank ∷ [] }) (λ r. (self.new ≡ self.old) × (r.0 ≡ it) × (r.1 ≡ NoMemory)) }
     {
         if self.boxes.reserve(1).is_err() || self.stamps.reserve(1).is_err() {
             return Err((it, Refusal::NoMemory));
@@ -127,9 +127,11 @@ impl<M: CrackerMap> Area<M> {
         self.boxes.len()
     }
 
-    /// How many entries the tape has.
+    /// How many entries the tape has, at most 4,096. What is always true of an area is told beside it.
     pub fn tape_len(&self) -> usize
-        ensures { result ≡ length self.now.tape }
+        ensures many { result ≡ length self.now.tape }
+        ensures few { length self.now.tape ≤ 4096 }
+        ensures lawful { IsAreaLawful self.now }
     {
         self.tape.len()
     }
@@ -492,7 +494,7 @@ impl<M: CrackerMap> Area<M> {
     }
 
     /// Drops up to so many boxes, blank ones first, then by least recent use, and answers how many: as many as that, or all. It
-    /// is never refused.
+    /// is never refused, and the boxes that stay are as they were.
     pub fn shed(&mut self, most: usize) -> usize
         ensures shed { IsShed most self.old self.new result }
         ensures all { result < most → length self.new.boxes ≡ 0 }
