@@ -1,4 +1,4 @@
-//! Tests of the small crates that maps and the engine stand on: the kernel, the tape, the budget, bits, and tokens.
+//! Tests of the small crates that maps and the engine stand on: the kernel, the tape, the budget, bits, slots and tokens.
 #![tactic(auto)]
 
 #[cfg(test)]
@@ -11,6 +11,8 @@ mod budget;
 mod hall;
 #[cfg(test)]
 mod moves;
+#[cfg(test)]
+mod slots;
 #[cfg(test)]
 mod tape;
 #[cfg(test)]

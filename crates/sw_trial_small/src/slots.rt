@@ -1,7 +1,7 @@
 //! Keys put in order by slots, and when that is done.
 
-use crate::slots::sort_dense;
 use std::alloc::{AllocError, Global};
+use sw_slots::sort_dense;
 
 /// The keys 3 to 1002, each at the place of its number less 3, in an order that goes up by 7 and round.
 fn dense(alloc: Global) -> Result<Vec<(u64, usize)>, AllocError> {
