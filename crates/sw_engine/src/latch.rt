@@ -9,7 +9,6 @@ ghost use Rattle.sw_chunks.specs.Shelf.{head_in};
 ghost use Rattle.sw_chunks.specs.Heads.{IsSameHead};
 ghost use Rattle.sw_chunks.specs.Routing.{MayFollow};
 
-use crate::copies::copied;
 use crate::leading::scan_led;
 use crate::naming::Naming;
 use crate::opening::Opening;
@@ -187,7 +186,7 @@ impl<J: Naming, M: CrackerMap> LatchedHead<J, M> {
         ensures refused { IsOkUnless result NoMemory }
     {
         let reply = self.serve(rt, alloc, query)?;
-        match copied(alloc, &reply) {
+        match reply.copied(alloc) {
             Ok(kept) => Ok((reply, kept)),
             Err(_) => Err(Refusal::NoMemory),
         }

@@ -2,7 +2,6 @@
 #![tactic(auto)]
 
 mod blocks;
-mod copies;
 mod desk;
 mod engine;
 mod latch;

@@ -31,11 +31,8 @@ pub use query::{Call, Cond, Conds, Names, Query, Want};
 pub use refusal::{Refusal, Why};
 pub use reply::{Cells, Reply, ReplyRow, ReplyRows};
 pub use row::{Row, Update};
-pub use scan::answer;
+pub use scan::{answer, cell_of, meets_all, projected};
 pub use schema::{Schema, is_name};
 pub use source::{Counted, Sink, Source};
 pub use table::MOST_ROWS;
 pub use updates::{has_key, update, update_all};
-
-#[cfg(test)]
-mod tests;

@@ -16,11 +16,9 @@ mod position;
 mod prepare;
 mod replies;
 mod scanning;
-#[cfg(test)]
-mod slot_tests;
-mod slots;
 mod totals;
 mod window;
 
 pub use area::Area;
+pub use needs::needed_maps;
 pub use prepare::Ready;

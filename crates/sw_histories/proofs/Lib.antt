@@ -1,0 +1,9 @@
+pub mod EntriesLemmas
+pub mod FileCheckLemmas
+pub mod OutlineLemmas
+pub mod RecordBack
+pub mod RecordLaws
+pub mod RecordReadingLemmas
+pub mod RecordTextLemmas
+pub mod TextReading
+pub mod ValueReading
