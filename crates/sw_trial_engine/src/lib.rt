@@ -5,4 +5,4 @@ mod running;
 #[cfg(test)]
 mod tests;
 
-pub use running::{Trial, blocks, calls, numbered, play, told};
+pub use running::{Trial, add_block, add_call, calls, numbered, play, told};

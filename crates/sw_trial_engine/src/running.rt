@@ -12,14 +12,13 @@ use std::test::Fail;
 use std::thread::Threads;
 use sw_engine::{Blank, run_blocks};
 use sw_lang::{parse_cuts, parse_line};
-use sw_map::CrackerMap;
+use sw_map::{CrackerMap, push_blank};
 use sw_rows::{Call, Refusal, Reply, ReplyRow, Row, Schema};
 use sw_spine::{Record, State};
 
-/// A table, its cuts, and the limit of rows.
+/// The rows of a table, its cuts, and the limit of rows.
 #[derive(Clone, Copy)]
 pub struct Trial<'a> {
-    pub header: &'a [&'a str],
     pub rows: &'a [[i64; 8]],
     pub cuts: &'a str,
     pub limit: u64,
@@ -41,39 +40,6 @@ pub fn numbered(alloc: Global, cells: &[[i64; 8]]) -> Result<Vec<Row>, Refusal>
     Ok(rows)
 }
 
-/// The call of each line.
-pub fn calls(alloc: Global, schema: &Schema, lines: &[&str]) -> Result<Vec<Call>, Refusal>
-    ensures { IfOk result (λ v. All (λ c. CallsBelow (length schema.now) c) v.items) }
-{
-    let mut calls = Vec::new(alloc);
-    for line in lines {
-        if let Some(call) = call_of(alloc, schema, line)? {
-            if calls.push(call).is_err() {
-                return Err(Refusal::NoMemory);
-            }
-        }
-    }
-    Ok(calls)
-}
-
-/// The calls of each block.
-pub fn blocks(
-    alloc: Global,
-    schema: &Schema,
-    scripts: &[&[&str]],
-) -> Result<Vec<Vec<Call>>, Refusal>
-    ensures { IfOk result (λ v. All (λ b. All (λ c. CallsBelow (length schema.now) c) b.items) v.items) }
-{
-    let mut blocks = Vec::new(alloc);
-    for lines in scripts {
-        let block = calls(alloc, schema, lines)?;
-        if blocks.push(block).is_err() {
-            return Err(Refusal::NoMemory);
-        }
-    }
-    Ok(blocks)
-}
-
 /// The call of a line, if it has one.
 fn call_of(alloc: Global, schema: &Schema, line: &str) -> Result<Option<Call>, Refusal>
     ensures { IfOk result (λ call. IfSome call (CallsBelow (length schema.now))) }
@@ -81,25 +47,93 @@ fn call_of(alloc: Global, schema: &Schema, line: &str) -> Result<Option<Call>, R
     parse_line(alloc, schema, 1, line)
 }
 
-/// Opens an engine over the table, hands it the boxes, and makes each block's calls by a session on a thread of its own. Tells
-/// the record, and whether all calls were answered.
+/// Puts the call of a line, if it has one, behind calls.
+pub fn add_call(
+    alloc: Global,
+    schema: &Schema,
+    calls: &mut Vec<Call>,
+    line: &str,
+) -> Result<(), Refusal>
+    requires { All (λ c. CallsBelow (length schema.now) c) calls.old.items }
+    ensures { All (λ c. CallsBelow (length schema.now) c) calls.new.items }
+{
+    let Some(call) = call_of(alloc, schema, line)? else {
+        return Ok(());
+    };
+    if calls.reserve(1).is_err() {
+        return Err(Refusal::NoMemory);
+    }
+    calls.push_reserved(call);
+    Ok(())
+}
+
+/// The call of each line.
+pub fn calls(alloc: Global, schema: &Schema, lines: &[&str]) -> Result<Vec<Call>, Refusal>
+    ensures { IfOk result (λ v. All (λ c. CallsBelow (length schema.now) c) v.items) }
+{
+    let mut calls = Vec::new(alloc);
+    for line in lines {
+        add_call(alloc, schema, &mut calls, line)?;
+    }
+    Ok(calls)
+}
+
+/// Puts a block behind blocks.
+pub fn add_block(
+    schema: &Schema,
+    blocks: &mut Vec<Vec<Call>>,
+    block: Vec<Call>,
+) -> Result<(), Refusal>
+    requires all { All (λ b. All (λ c. CallsBelow (length schema.now) c) b.items) blocks.old.items }
+    requires one { All (λ c. CallsBelow (length schema.now) c) block.items }
+    ensures { All (λ b. All (λ c. CallsBelow (length schema.now) c) b.items) blocks.new.items }
+{
+    let _ = schema;
+    if blocks.reserve(1).is_err() {
+        return Err(Refusal::NoMemory);
+    }
+    blocks.push_reserved(block);
+    Ok(())
+}
+
+/// These maps, blank and in the opposite order.
+fn cleared<M: CrackerMap>(alloc: Global, maps: Vec<M>) -> Result<Vec<M>, Refusal>
+    ensures { IfOk result (λ maps. All (λ m. M.held m ≡ blank) maps.items) }
+{
+    let mut from = maps;
+    let mut into: Vec<M> = Vec::new(alloc);
+    for _turn in 0..from.len() {
+        let Some(map) = from.pop() else {
+            return Ok(into);
+        };
+        let mut map = map;
+        map.clear();
+        if push_blank(&mut into, map).is_err() {
+            return Err(Refusal::NoMemory);
+        }
+    }
+    Ok(into)
+}
+
+/// Opens an engine over the table, hands it the boxes, made blank, and makes each block's calls by a session on a thread of its
+/// own. Tells the record, and whether all calls were answered.
 pub fn play<M: CrackerMap, R: Threads + Wait + Sync>(
     rt: &R,
     alloc: Global,
     trial: Trial<'_>,
+    schema: Schema,
     maps: Vec<M>,
-    scripts: &[&[&str]],
+    blocks: &[Vec<Call>],
 ) -> Result<(Record, bool), Refusal>
     requires few { length trial.rows.now ≤ 1048576 }
     requires some { 0 < trial.limit }
     requires most { trial.limit ≤ 1048576 }
-    requires blank { All (λ m. M.held m ≡ blank) maps.items }
+    requires below { All (λ b. All (λ c. CallsBelow (length schema) c) b.items) blocks.now }
     ensures { IfOk result (λ r. IsLegal r.0) }
 {
-    let schema = Schema::of(alloc, trial.header)?;
     let rows = numbered(alloc, trial.rows)?;
     let cuts = parse_cuts(alloc, &schema, trial.cuts)?;
-    let blocks = blocks(alloc, &schema, scripts)?;
+    let maps = cleared(alloc, maps)?;
     run_blocks::<Brand, M, R>(
         rt,
         alloc,
@@ -109,7 +143,7 @@ pub fn play<M: CrackerMap, R: Threads + Wait + Sync>(
         cuts,
         trial.limit,
         maps,
-        blocks.as_slice(),
+        blocks,
     )
 }
 
