@@ -96,8 +96,18 @@ pub fn add_block(
     Ok(())
 }
 
+/// The calls of one session's lines.
+pub fn one_block(alloc: Global, schema: &Schema, lines: &[&str]) -> Result<Vec<Vec<Call>>, Refusal>
+    ensures { IfOk result (λ v. All (λ b. All (λ c. CallsBelow (length schema.now) c) b.items) v.items) }
+{
+    let mut blocks = Vec::new(alloc);
+    let block = calls(alloc, schema, lines)?;
+    add_block(schema, &mut blocks, block)?;
+    Ok(blocks)
+}
+
 /// These maps, blank and in the opposite order.
-fn cleared<M: CrackerMap>(alloc: Global, maps: Vec<M>) -> Result<Vec<M>, Refusal>
+pub fn cleared<M: CrackerMap>(alloc: Global, maps: Vec<M>) -> Result<Vec<M>, Refusal>
     ensures { IfOk result (λ maps. All (λ m. M.held m ≡ blank) maps.items) }
 {
     let mut from = maps;

@@ -3,7 +3,7 @@
 ghost use Rattle.std.specs.Prelude.{◌<◌, ◌≤◌, All, IfOk, length};
 ghost use Rattle.sw_spine.specs.History.{CallsBelow};
 
-use crate::running::{Trial, add_block, add_call, calls, play, told};
+use crate::running::{Trial, add_block, add_call, one_block, play, told};
 use std::alloc::Global;
 use std::sync::Wait;
 use std::test::Fail;
@@ -87,16 +87,6 @@ const TOLD: [(&[&str], &str); 6] = [
     ),
     (&[], ""),
 ];
-
-/// The calls of one session's lines.
-fn one_block(alloc: Global, schema: &Schema, lines: &[&str]) -> Result<Vec<Vec<Call>>, Refusal>
-    ensures { IfOk result (λ v. All (λ b. All (λ c. CallsBelow (length schema.now) c) b.items) v.items) }
-{
-    let mut blocks = Vec::new(alloc);
-    let block = calls(alloc, schema, lines)?;
-    add_block(schema, &mut blocks, block)?;
-    Ok(blocks)
-}
 
 /// Plays a script by one session, and tells what it is told.
 fn told_of<R: Threads + Wait + Sync>(

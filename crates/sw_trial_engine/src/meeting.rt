@@ -1,0 +1,253 @@
+//! Two sessions on threads of their own, of which one calls while the other's call is under way.
+
+ghost use Rattle.std.specs.Prelude.{◌≡◌, ◌<◌, ◌≤◌, ℕ, true, length, All, IfOk};
+ghost use Rattle.sw_lang.specs.Cuts.{AreCuts, cuts_on};
+ghost use Rattle.sw_map.specs.Held.{blank};
+ghost use Rattle.sw_spine.specs.Table.{is_numbered};
+ghost use Rattle.sw_spine.specs.History.{CallsBelow, IsLegal};
+
+use crate::running::{Trial, cleared, numbered};
+use std::alloc::{AllocError, Global};
+use std::marker::Brand;
+use std::sync::atomic::{AtomicBool, Ordering};
+use std::sync::{Arc, Wait};
+use std::thread;
+use std::thread::Threads;
+use sw_engine::{Blank, Done, Engine, Naming, Session, Ticket};
+use sw_lang::{Cuts, parse_cuts};
+use sw_map::CrackerMap;
+use sw_rows::{Call, Refusal, Row, Schema};
+use sw_spine::Record;
+use sw_trial_maps::Gate;
+
+/// How often a flag is looked at before the wait for it is given up.
+pub const TURNS: u64 = 1_000_000_000;
+
+/// What an engine is opened over.
+#[derive(Drop)]
+struct Table {
+    schema: Schema,
+    rows: Vec<Row>,
+    cuts: Cuts,
+    limit: u64,
+}
+
+/// A session, its calls, and whether it waits until the other's call is under way.
+#[derive(Drop)]
+struct Turn<'e, J: Naming, M: CrackerMap> {
+    session: Session<'e, J, M>,
+    calls: &'e [Call],
+    waits: bool,
+}
+
+/// What the sessions tell one another: that a call is under way, and that one was answered meanwhile.
+#[derive(Drop)]
+pub struct Signals {
+    pub begun: Arc<AtomicBool>,
+    pub answered: Arc<AtomicBool>,
+}
+
+/// Makes the calls, first the wait where there is one, and tells that it has ended.
+fn take_turn<J: Naming, M: CrackerMap, R: Threads + Wait + Sync>(
+    rt: &R,
+    turn: Turn<'_, J, M>,
+    signals: &Signals,
+) -> Done<J>
+    requires { All (λ c. CallsBelow (length J.columns) c) turn.calls.now }
+{
+    let Turn {
+        mut session,
+        calls,
+        waits,
+    } = turn;
+    let mut answered = !waits || Gate::wait_for(&signals.begun, TURNS);
+    for call in calls {
+        if session.call(rt, call).is_err() {
+            answered = false;
+        }
+    }
+    if waits {
+        signals.answered.store(true, Ordering::SeqCst);
+    }
+    Done {
+        ticket: session.end(),
+        answered,
+    }
+}
+
+/// The turns of two sessions, of which the second waits. None where there are not two tickets.
+fn two_turns<'e, J: Naming, M: CrackerMap>(
+    alloc: Global,
+    engine: &'e Engine<J, M>,
+    tickets: Vec<Ticket<J>>,
+    first: &'e [Call],
+    second: &'e [Call],
+) -> Result<Vec<Turn<'e, J, M>>, AllocError>
+    requires first { All (λ c. CallsBelow (length J.columns) c) first.now }
+    requires second { All (λ c. CallsBelow (length J.columns) c) second.now }
+    ensures { IfOk result (λ v. All (λ t. All (λ c. CallsBelow (length J.columns) c) t.calls.now) v.items) }
+{
+    let mut tickets = tickets;
+    let mut turns = Vec::new(alloc);
+    let (Some(two), Some(one)) = (tickets.pop(), tickets.pop()) else {
+        return Ok(turns);
+    };
+    turns.push(Turn {
+        session: engine.attach(one),
+        calls: first,
+        waits: false,
+    })?;
+    turns.push(Turn {
+        session: engine.attach(two),
+        calls: second,
+        waits: true,
+    })?;
+    Ok(turns)
+}
+
+/// Gives boxes to a head.
+fn hand<J: Naming, M: CrackerMap, R: Wait>(
+    rt: &R,
+    engine: &Engine<J, M>,
+    head: usize,
+    maps: Vec<M>,
+) -> Result<(), Refusal>
+    requires place { head < length J.columns }
+    requires blank { All (λ m. M.held m ≡ blank) maps.items }
+{
+    for it in maps {
+        if engine.supply(rt, head, it).is_err() {
+            return Err(Refusal::NoMemory);
+        }
+    }
+    Ok(())
+}
+
+/// Takes the turns in threads of their own.
+fn take_turns<'e, J: Naming + Send + Sync, M: CrackerMap, R: Threads + Wait + Sync>(
+    rt: &R,
+    turns: Vec<Turn<'e, J, M>>,
+    signals: &Signals,
+) -> Result<Vec<Done<J>>, AllocError>
+    requires { All (λ t. All (λ c. CallsBelow (length J.columns) c) t.calls.now) turns.items }
+{
+    thread::map_vec(
+        rt,
+        turns,
+        &|turn: Turn<'_, J, M>| -> Done<J>
+            requires { All (λ c. CallsBelow (length J.columns) c) turn.calls.now }
+        { take_turn(rt, turn, signals) },
+    )
+}
+
+/// Ends the engine, and tells whether all calls were answered.
+fn end<J: Naming, M: CrackerMap>(
+    alloc: Global,
+    engine: Engine<J, M>,
+    done: Vec<Done<J>>,
+) -> Result<(Record, bool), Refusal>
+    ensures { IfOk result (λ r. IsLegal r.0) }
+{
+    let mut tickets = Vec::new(alloc);
+    let mut answered = true;
+    for one in done {
+        answered = answered && one.answered;
+        if tickets.push(one.ticket).is_err() {
+            return Err(Refusal::NoMemory);
+        }
+    }
+    match engine.close(tickets) {
+        Ok(record) => Ok((record, answered)),
+        Err(_) => Err(Refusal::NoMemory),
+    }
+}
+
+/// Opens an engine for two sessions, hands boxes to its first two heads, and takes the sessions' turns.
+fn meet_on<J: Naming + Send + Sync, M: CrackerMap, R: Threads + Wait + Sync>(
+    rt: &R,
+    alloc: Global,
+    books: Blank,
+    table: Table,
+    gated: Vec<M>,
+    free: Vec<M>,
+    first: &[Call],
+    second: &[Call],
+    signals: &Signals,
+) -> Result<(Record, bool), Refusal>
+    requires books { (books.sessions.name ≡ J.sessions) × (books.heads.name ≡ J.heads) }
+    requires table { (table.schema ≡ J.columns) × (table.rows.items ≡ J.opening) × (table.limit ≡ J.limit) }
+    requires some { 0 < table.limit }
+    requires most { table.limit ≤ 1048576 }
+    requires numbered { is_numbered 1 table.rows.items ≡ true }
+    requires lists { length table.cuts ≡ length table.schema }
+    requires cuts { (a : ℕ) → a < length table.schema → AreCuts (cuts_on table.cuts a) }
+    requires gated { All (λ m. M.held m ≡ blank) gated.items }
+    requires free { All (λ m. M.held m ≡ blank) free.items }
+    requires first { All (λ c. CallsBelow (length J.columns) c) first.now }
+    requires second { All (λ c. CallsBelow (length J.columns) c) second.now }
+    ensures { IfOk result (λ r. IsLegal r.0) }
+{
+    let Table {
+        schema,
+        rows,
+        cuts,
+        limit,
+    } = table;
+    if schema.len() < 2 {
+        return Err(Refusal::Input);
+    }
+    let (engine, tickets) = Engine::<J, M>::open_for(alloc, books, schema, rows, cuts, limit, 2)?;
+    hand(rt, &engine, 0, gated)?;
+    hand(rt, &engine, 1, free)?;
+    let Ok(turns) = two_turns(alloc, &engine, tickets, first, second) else {
+        return Err(Refusal::NoMemory);
+    };
+    let Ok(done) = take_turns(rt, turns, signals) else {
+        return Err(Refusal::NoMemory);
+    };
+    end(alloc, engine, done)
+}
+
+/// Two sessions over the table, each on a thread of its own: the second makes its calls once `begun` is set, and sets `answered`
+/// behind them. The first head of the engine has the gated boxes, the second the free ones, all made blank. Tells the record,
+/// and whether all calls were answered and `begun` was set in time.
+pub fn meet<M: CrackerMap, R: Threads + Wait + Sync>(
+    rt: &R,
+    alloc: Global,
+    trial: Trial<'_>,
+    schema: Schema,
+    gated: Vec<M>,
+    free: Vec<M>,
+    first: &[Call],
+    second: &[Call],
+    signals: &Signals,
+) -> Result<(Record, bool), Refusal>
+    requires few { length trial.rows.now ≤ 1048576 }
+    requires some { 0 < trial.limit }
+    requires most { trial.limit ≤ 1048576 }
+    requires first { All (λ c. CallsBelow (length schema) c) first.now }
+    requires second { All (λ c. CallsBelow (length schema) c) second.now }
+    ensures { IfOk result (λ r. IsLegal r.0) }
+{
+    let rows = numbered(alloc, trial.rows)?;
+    let cuts = parse_cuts(alloc, &schema, trial.cuts)?;
+    let gated = cleared(alloc, gated)?;
+    let free = cleared(alloc, free)?;
+    let table = Table {
+        schema,
+        rows,
+        cuts,
+        limit: trial.limit,
+    };
+    meet_on::<Brand, M, R>(
+        rt,
+        alloc,
+        Blank::new(),
+        table,
+        gated,
+        free,
+        first,
+        second,
+        signals,
+    )
+}
