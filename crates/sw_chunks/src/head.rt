@@ -1,0 +1,170 @@
+//! A head: the areas of one attribute, by a rising list of cuts.
+
+ghost use Rattle.std.specs.Prelude.{◌≡◌, ◌≤◌, ◌<◌, ◌^◌, ◌++◌, ◌∷◌, [], length, All, IfOk, IsOkUnless, MatchOption, MatchResult, None, Some, get_or, slice_get};
+ghost use Rattle.sw_rows.specs.Scan.{AsksBelow, answer};
+ghost use Rattle.sw_rows.specs.Updates.{rows_of};
+ghost use Rattle.sw_rows.specs.declared.refusal.Refusal.TheVariants.{NoMemory};
+ghost use Rattle.sw_rows.specs.declared.row.Row.{Row};
+ghost use Rattle.sw_map.specs.Held.{blank};
+ghost use Rattle.sw_set.specs.Needs.{head_in};
+ghost use Rattle.sw_set.specs.Shelf.{Rises, key_of};
+ghost use Rattle.sw_chunks.specs.Cuts.{RiseAbove};
+ghost use Rattle.sw_chunks.specs.Heads.{AreEach, AreEvicted, AreUntouchedKept, HasReceived, IsHeadLawful, IsHeadShed, IsRanged, IsSameButSpare, IsSameHead, IsSupplied, boxes_in, opened};
+ghost use Rattle.sw_chunks.specs.Routing.{MayFollow};
+
+use std::alloc::Global;
+use std::marker::Model;
+use std::thread::Threads;
+use sw_map::CrackerMap;
+use sw_rows::{Query, Refusal, Reply, Row, Update};
+use sw_set::Area;
+use sw_tie::Book;
+
+/// The areas of one attribute: below the first cut, from each cut up to below the next, and from the last upwards.
+///
+/// Contracts see its attribute, its cuts and the list of all updates that it was opened with and received: that list stands in a
+/// book that takes no bytes. They also see its areas.
+#[derive(Drop)]
+pub struct Head<M: CrackerMap> {
+    alloc: Global,
+    attribute: u8,
+    cuts: Vec<i64>,
+    areas: Vec<Area<M>>,
+    /// The keys of all rows that ever came, which rise, and beside each the area to which the row went.
+    keys: Vec<u64>,
+    places: Vec<u8>,
+    told: Book<Update>,
+    clock: u64,
+}
+
+impl<M: CrackerMap> Model for Head<M> {
+    ghost use Rattle.std.specs.Prelude.{◌≡◌, map};
+    ghost use Rattle.sw_set.specs.Shelf.{key_of};
+    ghost use Rattle.sw_chunks.specs.Heads.{HeadState, IsHeadLawful, place_of_row};
+    ghost use Rattle.sw_chunks.specs.Routing.{given_by};
+    ghost use Rattle.sw_chunks.specs.Codes.{head_code};
+
+    ghost Value = { HeadState };
+
+    ghost coded = { head_code };
+
+    ghost view = { λ h. record { attribute = h.attribute; cuts = h.cuts.items; updates = map (λ r. r.0) h.told.rows; areas = h.areas.items } };
+
+    ghost invariant = { λ h. IsHeadLawful (record { attribute = h.attribute; cuts = h.cuts.items; updates = map (λ r. r.0) h.told.rows; areas = h.areas.items }) × (h.keys.items ≡ map key_of (given_by (map (λ r. r.0) h.told.rows))) × (h.places.items ≡ map (place_of_row h.attribute h.cuts.items) (given_by (map (λ r. r.0) h.told.rows))) };
+}
+
+impl<M: CrackerMap> Head<M> {
+    /// A head over these rows, which rise by key, with areas by these cuts, which rise. It stands for the rows as insertions.
+    /// Each row goes once to the area in whose interval its cell lies, and no area has boxes. Refused `NoMemory` alone.
+    pub fn new(alloc: Global, attribute: u8, cuts: &[i64], rows: &[Row]) -> Result<Head<M>, Refusal>
+        requires attribute { attribute < 8 }
+        requires rising { RiseAbove None cuts.now }
+        requires few { length cuts.now ≤ 15 }
+        requires keys { All (λ (r : Row). r.key < 2 ^ 63) rows.now }
+        requires rise { Rises key_of rows.now }
+        ensures { MatchResult result (λ h. h ≡ opened attribute cuts.now rows.now) (λ e. e ≡ NoMemory) }
+    {
+        todo!()
+    }
+
+    /// Tells a caller when a head is lawful.
+    pub fn known(&self)
+        ensures { IsHeadLawful self.now }
+    {
+        let _many = self.areas.len();
+    }
+
+    /// The attribute that is the head of the maps.
+    pub fn attribute(&self) -> u8
+        ensures { result ≡ self.now.attribute }
+    {
+        self.attribute
+    }
+
+    /// The values that divide the areas.
+    pub fn cuts(&self) -> &[i64]
+        ensures { result.now ≡ self.now.cuts }
+    {
+        self.cuts.as_slice()
+    }
+
+    /// The areas, from the lowest.
+    pub fn areas(&self) -> &[Area<M>]
+        ensures { result.now ≡ self.now.areas }
+    {
+        self.areas.as_slice()
+    }
+
+    /// Appends updates: an inserted key exceeds all that came before it, and a removed key is live then. Each goes to one area,
+    /// an insertion to that in whose interval its cell lies, a removal to that of its row, and waits there. A refusal changes
+    /// nothing but the room of areas.
+    pub fn receive(&mut self, updates: &[Update]) -> Result<(), Refusal>
+        requires { MayFollow self.old.attribute self.old.updates updates.now }
+        ensures same { IsOkUnless result NoMemory }
+        ensures ends { MatchResult result (λ _. HasReceived updates.now self.old self.new) (λ _. IsSameHead self.old self.new × AreEach IsSameButSpare self.old.areas self.new.areas) }
+    {
+        todo!()
+    }
+
+    /// The answer of a query over all rows: the areas that it touches are merged and asked, from the lowest, and their
+    /// replies put together. Beside it stands how many of these areas scanned. An area that tells `Short` is asked once more
+    /// after maps of the other areas were cleared, by least recent use. The head stands for the same updates, and areas that the
+    /// query does not touch are as they were, but for cleared maps.
+    ///
+    /// The one refusal is `NoMemory`.
+    pub fn answer<R: Threads + Sync>(
+        &mut self,
+        rt: &R,
+        query: &Query,
+    ) -> Result<(Reply, usize), Refusal>
+        requires asks { AsksBelow 8 query.now }
+        requires head { head_in query.now.conds ≡ self.old.attribute }
+        ensures same { IsSameHead self.old self.new }
+        ensures kept { AreUntouchedKept query.now self.old.areas self.new.areas }
+        ensures answered { IfOk result (λ r. r.0 ≡ answer (rows_of self.old.updates) query.now) }
+        ensures ranged { IfOk result (λ r. r.1 ≡ 0 → All (IsRanged query.now) self.new.areas) }
+        ensures few { IfOk result (λ r. r.1 ≤ length self.old.areas) }
+        ensures refused { IsOkUnless result NoMemory }
+    {
+        todo!()
+    }
+
+    /// The plain answer over all rows: the areas that the query touches are merged and scanned. No map is made for it. The one
+    /// refusal is `NoMemory`.
+    pub fn scan(&mut self, query: &Query) -> Result<Reply, Refusal>
+        requires asks { AsksBelow 8 query.now }
+        requires head { head_in query.now.conds ≡ self.old.attribute }
+        ensures same { IsSameHead self.old self.new }
+        ensures kept { AreUntouchedKept query.now self.old.areas self.new.areas }
+        ensures answered { IfOk result (λ reply. reply ≡ answer (rows_of self.old.updates) query.now) }
+        ensures refused { IsOkUnless result NoMemory }
+    {
+        todo!()
+    }
+
+    /// Gives a blank box to the area with the fewest, of several to the lowest. Refused `NoMemory`, nothing has changed, and the
+    /// box comes back.
+    pub fn supply(&mut self, it: M) -> Result<(), (M, Refusal)>
+        requires { M.held it ≡ blank }
+        ensures { MatchResult result (λ _. IsSupplied self.old self.new) (λ r. (self.new ≡ self.old) × (M.held r.0 ≡ blank) × (r.1 ≡ NoMemory)) }
+    {
+        todo!()
+    }
+
+    /// Drops up to so many boxes, those of the lowest areas first, and answers how many: as many as that, or all. It is never
+    /// refused.
+    pub fn shed(&mut self, most: usize) -> usize
+        ensures { IsHeadShed most self.old self.new result }
+    {
+        todo!()
+    }
+
+    /// Clears maps by least recent use, over all areas, until so many cells came back or none is left, and answers how many came
+    /// back, up to the greatest number of the type. It is never refused.
+    pub fn evict(&mut self, cells: u64) -> u64
+        ensures same { IsSameHead self.old self.new }
+        ensures evicted { AreEvicted cells self.old.areas self.new.areas result }
+    {
+        todo!()
+    }
+}
