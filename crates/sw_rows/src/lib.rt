@@ -31,7 +31,7 @@ pub use query::{Call, Cond, Conds, Names, Query, Want};
 pub use refusal::{Refusal, Why};
 pub use reply::{Cells, Reply, ReplyRow, ReplyRows};
 pub use row::{Row, Update};
-pub use scan::answer;
+pub use scan::{answer, cell_of, meets_all, projected};
 pub use schema::{Schema, is_name};
 pub use source::{Counted, Sink, Source};
 pub use table::MOST_ROWS;
