@@ -1,9 +1,8 @@
 -- What a head is, and which rows it stands for.
-use Rattle.std.specs.Prelude.{◌≡◌, ◌∷◌, ◌++◌, ◌<◌, ◌≤◌, ◌+◌, ◌^◌, ◌&&◌, ◌⊎◌, FitsSigned, ℕ, ℤ, Bool, List, [], true, false, get_or, length, map, filter, min, slice_set, sum, None, All}
-use Rattle.std.specs.Int.{w64}
+use Rattle.std.specs.Prelude.{◌≡◌, ◌∷◌, ◌++◌, ◌<◌, ◌≤◌, ◌+◌, ◌^◌, ◌&&◌, ◌⊎◌, ◌≤ℤ◌, neg_ℤ, pos, ℕ, ℤ, Bool, List, [], true, false, get_or, length, map, filter, min, slice_set, sum, None, All}
 use Rattle.sw_rows.specs.declared.row.Row.{Row}
 use Rattle.sw_rows.specs.declared.row.Update.{Update}
-use Rattle.sw_rows.specs.declared.row.Update.TheVariants.{Insert}
+use Rattle.sw_rows.specs.declared.row.Update.TheVariants as update
 use Rattle.sw_rows.specs.declared.query.Query.{Query}
 use Rattle.sw_rows.specs.declared.reply.Reply.{Reply}
 use Rattle.sw_rows.specs.Scan.{answer, cell_of}
@@ -14,7 +13,9 @@ use Rattle.sw_set.specs.Needs.{edge, lower_in, touches, upper_in}
 use Rattle.sw_set.specs.Shelf.{AreaState, Rises, came_in, key_of, lies_within, rows_in}
 use Rattle.sw_set.specs.Prepared.{IsSameButBoxes, area_lower, area_upper, is_touched, stands_if}
 use Rattle.sw_chunks.specs.Routing.{CameHere, given_by}
-use Rattle.sw_chunks.specs.Cuts.{Interval, RiseAbove, intervals, place_in}
+use Rattle.sw_chunks.specs.Cleared.{AreEach}
+use Rattle.sw_chunks.specs.Shelved.{IsFewest}
+use Rattle.sw_chunks.specs.Cuts.{Interval, RiseAbove, intervals}
 
 -- The attribute that is the head, its cuts, the list of all that it was opened with and received, and an area for each interval,
 -- in order.
@@ -45,15 +46,29 @@ pub record AreAreasOf (a : ℕ) (cuts : List ℤ) (xs : List AreaState) : Type 0
   pub attributes : All (λ (x : AreaState). x.attribute ≡ a) xs
   pub intervals_are : map interval_of xs ≡ intervals cuts
 
+-- a cell of 64 bits
+abbrev pub IsCell : ℤ → Type 0
+IsCell z = (neg_ℤ (pos (2 ^ 63)) ≤ℤ z) × (z ≤ℤ pos (2 ^ 63))
+
+-- the cells of a row that comes are of 64 bits
+abbrev pub CellsFit : Update → Type 0
+CellsFit (update.Insert r) = (a : ℕ) → IsCell (cell_of a r)
+CellsFit (update.Remove key) = Unit {0}
+
+-- the updates that a book lists
+abbrev pub told_in : List (Update × Bool) → List Update
+told_in rows = map (λ r. r.0) rows
+
 -- a row whose key and cells are of their types
 pub record RowFits (r : Row) : Type 0 where
   pub key : r.key < 2 ^ 63
-  pub cells : All (FitsSigned w64) r.cells
+  pub cells : (a : ℕ) → IsCell (cell_of a r)
 
 pub record IsHeadLawful (h : HeadState) : Type 0 where
   pub areas_of : AreAreasOf h.attribute h.cuts h.areas
   pub stands : StandsFor h.updates h.attribute h.cuts h.areas
   pub fit : All RowFits (given_by h.updates)
+  pub came_rise : Rises key_of (given_by h.updates)
 
 -- the head, for its callers: it has the same attribute and cuts, and stands for the same updates
 pub record IsSameHead (g h : HeadState) : Type 0 where
@@ -68,7 +83,7 @@ opened_area a rows i = record { attribute = a; from = i.0; below = i.1; inbox = 
 
 -- a head opened with rows: they stand as insertions, and no area has boxes
 abbrev pub opened : ℕ → List ℤ → List Row → HeadState
-opened a cuts rows = record { attribute = a; cuts = cuts; updates = map Insert rows; areas = map (opened_area a rows) (intervals cuts) }
+opened a cuts rows = record { attribute = a; cuts = cuts; updates = map update.Insert rows; areas = map (opened_area a rows) (intervals cuts) }
 
 -- whether a query touches an interval
 abbrev pub meets_interval : Query → Interval → Bool
@@ -94,10 +109,6 @@ pub record IsSameButInbox (x y : AreaState) : Type 0 where
 abbrev pub IsSameButSpare : AreaState → AreaState → Type 0
 IsSameButSpare x y = y ≡ record x { spare = y.spare }
 
--- place by place
-abbrev pub AreEach : (AreaState → AreaState → Type 0) → List AreaState → List AreaState → Type 0
-AreEach P xs ys = (length ys ≡ length xs) × ((k : ℕ) (d e : AreaState) → k < length xs → P (get_or xs k d) (get_or ys k e))
-
 -- The head after it received updates: they stand at the end of its list, and wait in its areas.
 pub record HasReceived (us : List Update) (g h : HeadState) : Type 0 where
   pub attribute : h.attribute ≡ g.attribute
@@ -108,41 +119,5 @@ pub record HasReceived (us : List Update) (g h : HeadState) : Type 0 where
 -- The area with the fewest boxes, of several the lowest, has one blank box more.
 pub record IsSupplied (g h : HeadState) : Type 0 where
   pub at : ℕ
-  pub within : at < length g.areas
-  pub fewest : (k : ℕ) (d e : AreaState) → k < length g.areas → length (get_or g.areas at d).boxes ≤ length (get_or g.areas k e).boxes
-  pub lowest : (k : ℕ) (d e : AreaState) → k < at → length (get_or g.areas at d).boxes < length (get_or g.areas k e).boxes
+  pub fewest : IsFewest at g.areas
   pub supplied : (d : AreaState) → h ≡ record g { areas = slice_set g.areas at (record (get_or g.areas at d) { boxes = (get_or g.areas at d).boxes ++ blank ∷ [] }) }
-
--- how many boxes areas have
-abbrev pub boxes_in : List AreaState → ℕ
-boxes_in xs = sum (map (λ (x : AreaState). length x.boxes) xs)
-
--- The head after boxes were dropped, those of the lowest areas first: at most so many, and all where it has no more.
-pub record IsHeadShed (most : ℕ) (g h : HeadState) (gone : ℕ) : Type 0 where
-  pub same : IsSameHead g h
-  pub many : boxes_in h.areas + gone ≡ boxes_in g.areas
-  pub few : gone ≤ most
-  pub all : gone < most → boxes_in h.areas ≡ 0
-  pub lowest : (j k : ℕ) (d e : AreaState) → j < k → k < length g.areas → 0 < length (get_or h.areas j d).boxes → get_or h.areas k e ≡ get_or g.areas k e
-
--- the cells of the leases that areas hold
-abbrev pub cells_in : List AreaState → ℕ
-cells_in xs = sum (map (λ (x : AreaState). sum (map (λ (m : Held). m.cells) x.boxes)) xs)
-
--- no area has a map
-abbrev pub AreAllBlank : List AreaState → Type 0
-AreAllBlank xs = All (λ (x : AreaState). All (λ (m : Held). m.is_blank ≡ true) x.boxes) xs
-
--- The areas after maps were cleared until so many cells came back or none was left: what came back is told, up to the greatest
--- number of the type.
-pub record AreEvicted (cells : ℕ) (xs ys : List AreaState) (came : ℕ) : Type 0 where
-  pub same : AreEach IsSameButBoxes xs ys
-  pub freed : ℕ
-  pub told : came ≡ min freed 18446744073709551615
-  pub cells_are : cells_in ys + freed ≡ cells_in xs
-  pub enough : (cells ≤ came) ⊎ AreAllBlank ys
-  pub none : cells ≡ 0 → ys ≡ xs
-
--- the number of the interval in which a row lies
-abbrev pub place_of_row : ℕ → List ℤ → Row → ℕ
-place_of_row a cuts r = place_in cuts (cell_of a r)

@@ -9,9 +9,19 @@ ghost use Rattle.sw_map.specs.Held.{blank};
 ghost use Rattle.sw_set.specs.Needs.{head_in};
 ghost use Rattle.sw_set.specs.Shelf.{Rises, key_of};
 ghost use Rattle.sw_chunks.specs.Cuts.{RiseAbove};
-ghost use Rattle.sw_chunks.specs.Heads.{AreEach, AreEvicted, AreUntouchedKept, HasReceived, IsHeadLawful, IsHeadShed, IsRanged, IsSameButSpare, IsSameHead, IsSupplied, boxes_in, opened};
+ghost use Rattle.sw_chunks.specs.Cleared.{AreClearedBut, AreEach};
+ghost use Rattle.sw_chunks.specs.Shelved.{AreShed};
+ghost use Rattle.sw_chunks.specs.Heads.{AreUntouchedKept, HasReceived, IsHeadLawful, IsRanged, IsSameButSpare, IsSameHead, IsSupplied, opened};
 ghost use Rattle.sw_chunks.specs.Routing.{MayFollow};
 
+use crate::answering::answer_areas;
+use crate::clearing::clear_but;
+use crate::dealing::{areas_of, owners_of};
+use crate::places::add_owners;
+use crate::routing::share_all;
+use crate::scanning::scan_areas;
+use crate::shelving::{fewest, shed_all};
+use crate::telling::{tell_all, tell_rows};
 use std::alloc::Global;
 use std::marker::Model;
 use std::thread::Threads;
@@ -30,17 +40,16 @@ pub struct Head<M: CrackerMap> {
     attribute: u8,
     cuts: Vec<i64>,
     areas: Vec<Area<M>>,
-    /// The keys of all rows that ever came, which rise, and beside each the area to which the row went.
-    keys: Vec<u64>,
-    places: Vec<u8>,
+    /// The keys of all rows that ever came, which rise, and beside each the area to which its row went.
+    owners: Vec<(u64, u8)>,
     told: Book<Update>,
     clock: u64,
 }
 
 impl<M: CrackerMap> Model for Head<M> {
-    ghost use Rattle.std.specs.Prelude.{◌≡◌, map};
-    ghost use Rattle.sw_set.specs.Shelf.{key_of};
-    ghost use Rattle.sw_chunks.specs.Heads.{HeadState, IsHeadLawful, place_of_row};
+    ghost use Rattle.std.specs.Prelude.{◌≡◌};
+    ghost use Rattle.sw_chunks.specs.Heads.{HeadState, IsHeadLawful, told_in};
+    ghost use Rattle.sw_chunks.specs.Places.{owners_of};
     ghost use Rattle.sw_chunks.specs.Routing.{given_by};
     ghost use Rattle.sw_chunks.specs.Codes.{head_code};
 
@@ -48,9 +57,9 @@ impl<M: CrackerMap> Model for Head<M> {
 
     ghost coded = { head_code };
 
-    ghost view = { λ h. record { attribute = h.attribute; cuts = h.cuts.items; updates = map (λ r. r.0) h.told.rows; areas = h.areas.items } };
+    ghost view = { λ h. record { attribute = h.attribute; cuts = h.cuts.items; updates = told_in h.told.rows; areas = h.areas.items } };
 
-    ghost invariant = { λ h. IsHeadLawful (record { attribute = h.attribute; cuts = h.cuts.items; updates = map (λ r. r.0) h.told.rows; areas = h.areas.items }) × (h.keys.items ≡ map key_of (given_by (map (λ r. r.0) h.told.rows))) × (h.places.items ≡ map (place_of_row h.attribute h.cuts.items) (given_by (map (λ r. r.0) h.told.rows))) };
+    ghost invariant = { λ h. IsHeadLawful (record { attribute = h.attribute; cuts = h.cuts.items; updates = told_in h.told.rows; areas = h.areas.items }) × (h.owners.items ≡ owners_of h.attribute h.cuts.items (given_by (told_in h.told.rows))) };
 }
 
 impl<M: CrackerMap> Head<M> {
@@ -64,7 +73,20 @@ impl<M: CrackerMap> Head<M> {
         requires rise { Rises key_of rows.now }
         ensures { MatchResult result (λ h. h ≡ opened attribute cuts.now rows.now) (λ e. e ≡ NoMemory) }
     {
-        todo!()
+        let areas = areas_of(alloc, attribute, cuts, rows)?;
+        let owners = owners_of(alloc, attribute, cuts, rows)?;
+        let Ok(cuts) = Vec::from_slice(alloc, cuts) else {
+            return Err(Refusal::NoMemory);
+        };
+        Ok(Head {
+            alloc,
+            attribute,
+            cuts,
+            areas,
+            owners,
+            told: tell_rows(rows),
+            clock: 0,
+        })
     }
 
     /// Tells a caller when a head is lawful.
@@ -103,7 +125,31 @@ impl<M: CrackerMap> Head<M> {
         ensures same { IsOkUnless result NoMemory }
         ensures ends { MatchResult result (λ _. HasReceived updates.now self.old self.new) (λ _. IsSameHead self.old self.new × AreEach IsSameButSpare self.old.areas self.new.areas) }
     {
-        todo!()
+        let before = self.owners.len();
+        add_owners(
+            &mut self.owners,
+            self.attribute,
+            self.cuts.as_slice(),
+            updates,
+        )?;
+        let done = share_all(
+            self.alloc,
+            self.attribute,
+            self.cuts.as_slice(),
+            self.owners.as_slice(),
+            self.areas.as_mut_slice(),
+            updates,
+        );
+        match done {
+            Ok(()) => {
+                tell_all(&mut self.told, updates);
+                Ok(())
+            }
+            Err(e) => {
+                self.owners.truncate(before);
+                Err(e)
+            }
+        }
     }
 
     /// The answer of a query over all rows: the areas that it touches are merged and asked, from the lowest, and their
@@ -126,7 +172,14 @@ impl<M: CrackerMap> Head<M> {
         ensures few { IfOk result (λ r. r.1 ≤ length self.old.areas) }
         ensures refused { IsOkUnless result NoMemory }
     {
-        todo!()
+        self.clock = self.clock.saturating_add(1);
+        answer_areas(
+            rt,
+            self.alloc,
+            self.areas.as_mut_slice(),
+            self.clock,
+            query,
+        )
     }
 
     /// The plain answer over all rows: the areas that the query touches are merged and scanned. No map is made for it. The one
@@ -139,7 +192,7 @@ impl<M: CrackerMap> Head<M> {
         ensures answered { IfOk result (λ reply. reply ≡ answer (rows_of self.old.updates) query.now) }
         ensures refused { IsOkUnless result NoMemory }
     {
-        todo!()
+        scan_areas(self.alloc, self.areas.as_mut_slice(), query)
     }
 
     /// Gives a blank box to the area with the fewest, of several to the lowest. Refused `NoMemory`, nothing has changed, and the
@@ -148,23 +201,26 @@ impl<M: CrackerMap> Head<M> {
         requires { M.held it ≡ blank }
         ensures { MatchResult result (λ _. IsSupplied self.old self.new) (λ r. (self.new ≡ self.old) × (M.held r.0 ≡ blank) × (r.1 ≡ NoMemory)) }
     {
-        todo!()
+        let at = fewest(self.areas.as_slice());
+        self.areas[at].supply(it)
     }
 
     /// Drops up to so many boxes, those of the lowest areas first, and answers how many: as many as that, or all. It is never
     /// refused.
     pub fn shed(&mut self, most: usize) -> usize
-        ensures { IsHeadShed most self.old self.new result }
+        ensures same { IsSameHead self.old self.new }
+        ensures shed { AreShed most self.old.areas self.new.areas result }
     {
-        todo!()
+        shed_all(self.areas.as_mut_slice(), most)
     }
 
     /// Clears maps by least recent use, over all areas, until so many cells came back or none is left, and answers how many came
     /// back, up to the greatest number of the type. It is never refused.
     pub fn evict(&mut self, cells: u64) -> u64
         ensures same { IsSameHead self.old self.new }
-        ensures evicted { AreEvicted cells self.old.areas self.new.areas result }
+        ensures evicted { AreClearedBut (length self.old.areas) cells self.old.areas self.new.areas result }
     {
-        todo!()
+        let none = self.areas.len();
+        clear_but(self.areas.as_mut_slice(), none, cells)
     }
 }
