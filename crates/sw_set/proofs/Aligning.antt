@@ -11,7 +11,7 @@ use Rattle.sw_map.specs.Lawful.{IsAligned, IsLawful}
 use Rattle.sw_map.proofs.Replays.{aligned-lawful}
 use Rattle.sw_set.specs.Shelf.{AreSameMaps, AreaState, IsAreaLawful, IsSameMap}
 use Rattle.sw_set.proofs.Boxes.{boxes-kept, get_or-here, lawful-after, lawful-at, own-aligned, same-refl}
-use Rattle.sw_set.proofs.Shelves.{apart-same, area-with, area_of}
+use Rattle.sw_set.proofs.Shelves.{apart-same, area-with, area_of, leases-same}
 
 module _ {X : Type 0} (h : X → Held) (s : AreaState) (a : ℕ) (f b : Option ℤ) (inb : List Update) (sp : ℕ) (tape : List (Step Row)) (xs : List X) (at : ℕ) (x : X) (is : area_of a f b inb sp tape (map h xs) ≡ s) (within : at < length s.boxes) (here : x ≡ get_or xs at x) where
   boxes-are : map h xs ≡ s.boxes
@@ -44,7 +44,7 @@ module _ {X : Type 0} (h : X → Held) (s : AreaState) (a : ℕ) (f b : Option �
           boxes-kept h a tape at (map h xs) xs x y at-inside w.boxes (same-refl (map h xs)) (lawful-after a tape (h x) (h y) (at-lawful w) at-begun al) (subst (λ (z : X). IsSameMap (h z) (h y)) here same)
 
       pub at-stepped : IsAreaLawful (area_of a f b inb sp tape (map h (set xs at y)))
-      at-stepped = area-with a f b inb sp tape (map h xs) (map h (set xs at y)) kept-maps.0 (apart-same (map h xs) (map h (set xs at y)) w.apart kept-maps.1) w
+      at-stepped = area-with a f b inb sp tape (map h xs) (map h (set xs at y)) kept-maps.0 (leases-same (map h xs) (map h (set xs at y)) w.leases kept-maps.1) (apart-same (map h xs) (map h (set xs at y)) w.apart kept-maps.1) w
 
       pub at-maps : AreSameMaps s.boxes (map h (set xs at y))
       at-maps = subst (λ (ms : List Held). AreSameMaps ms (map h (set xs at y))) boxes-are kept-maps.1

@@ -1,16 +1,17 @@
 -- Boxes that are dropped, and those that are left.
-use Rattle.std.proofs.Common.{◌≡◌, ◌≢◌, ℕ, zero, suc, ℤ, ◌+◌, ◌<◌, ◌≤◌, Bool, true, false, List, [], ◌∷◌, length, get_or, map, take, drop, refl, ap, sym, ◌∙◌, arith, subst, All, Contains, MatchOption, Option, Some, None, nat_lt}
+use Rattle.std.proofs.Common.{◌≡◌, ◌≢◌, ℕ, zero, suc, ℤ, ◌+◌, ◌<◌, ◌≤◌, Bool, true, false, List, [], ◌∷◌, ◌++◌, length, get_or, map, take, drop, refl, ap, sym, ◌∙◌, arith, subst, All, Contains, MatchOption, Option, Some, None, nat_lt}
 use Rattle.std.specs.List.{remove}
-use Rattle.std.proofs.lemmas.List.{length-map, map-append}
+use Rattle.std.proofs.lemmas.List.{length-append, length-map, map-append}
 use Rattle.std.proofs.lemmas.List.Edits.{get_or-remove_above, get_or-remove_below, length-remove}
-use Rattle.std.proofs.lemmas.List.Elements.{Contains-get_or}
+use Rattle.std.proofs.lemmas.List.Sorted.{IsPermutation-more, IsPermutation-refl}
 use Rattle.sw_rows.specs.declared.row.Row.{Row}
 use Rattle.sw_rows.specs.declared.row.Update.{Update}
 use Rattle.sw_kernel.specs.Replay.{Step}
-use Rattle.sw_map.specs.Held.{Held}
+use Rattle.sw_map.specs.Held.{Held, blank}
 use Rattle.sw_map.specs.Lawful.{IsLawful}
-use Rattle.sw_set.specs.Shelf.{AreaState, AreApart, IsAreaLawful}
+use Rattle.sw_set.specs.Shelf.{AreaState, AreApart, HasLease, IsAreaLawful}
 use Rattle.sw_set.specs.Prepared.{IsShed}
+use Rattle.sw_set.proofs.Boxes.{get_or_any}
 use Rattle.sw_set.proofs.Shelves.{area_of, area-with}
 
 -- where an item that is left stood, and that it is another place for another item
@@ -72,6 +73,7 @@ area-removed h a f b inb sp tape xs i lt w =
     let lm : i < length (map h xs) = omega (arith, lt, many) in
     area-with a f b inb sp tape (map h xs) (map h (remove xs i))
     (subst (λ (v : List Held). All (IsLawful a tape) v) (sym (map-removed h xs i)) (all-removed (IsLawful a tape) (map h xs) i lm w.boxes))
+    (subst (λ (v : List Held). All HasLease v) (sym (map-removed h xs i)) (all-removed HasLease (map h xs) i lm w.leases))
     (subst AreApart (sym (map-removed h xs i)) (apart-removed (map h xs) i lm w.apart)) w
 
 pub view-removed : {X : Type 0} (h : X → Held) (s : AreaState) (a : ℕ) (f b : Option ℤ) (inb : List Update) (sp : ℕ) (tape : List (Step Row)) (xs : List X) (i : ℕ) → area_of a f b inb sp tape (map h xs) ≡ s → area_of a f b inb sp tape (map h (remove xs i)) ≡ record s { boxes = remove s.boxes i }
@@ -79,11 +81,8 @@ view-removed h s a f b inb sp tape xs i is =
     ap (area_of a f b inb sp tape) (map-removed h xs i) ∙ ap (λ (v : AreaState). record v { boxes = remove v.boxes i }) is
 
 -- ---- one box after another
-self-contained : {X : Type 0} (xs : List X) → All (λ x. Contains xs x) xs
-self-contained xs k d lt = Contains-get_or xs k d lt
-
 pub shed-none : (most : ℕ) (x : AreaState) → IsShed most x x 0
-shed-none most x = record { attribute = refl; from = refl; below = refl; inbox = refl; spare = refl; tape = refl; many = omega arith; few = omega arith; left = self-contained x.boxes }
+shed-none most x = record { attribute = refl; from = refl; below = refl; inbox = refl; spare = refl; tape = refl; many = omega arith; few = omega arith; went = []; all = refl; parted = IsPermutation-refl x.boxes }
 
 pub shed-more : (most : ℕ) (x y z : AreaState) (gone i : ℕ) → gone < most → i < length y.boxes → z ≡ record y { boxes = remove y.boxes i } → IsShed most x y gone → IsShed most x z (gone + 1)
 shed-more most x y z gone i lt li is w = subst (λ (v : AreaState). IsShed most x v (gone + 1)) (sym is) (record {
@@ -95,7 +94,9 @@ shed-more most x y z gone i lt li is w = subst (λ (v : AreaState). IsShed most 
   tape = w.tape;
   many = let n = length-remove y.boxes i li in let m = w.many in omega (arith, n, m);
   few = omega (arith, lt);
-  left = all-removed (λ m. Contains x.boxes m) y.boxes i li w.left;
+  went = w.went ++ get_or y.boxes i blank ∷ [];
+  all = let n = length-append w.went (get_or y.boxes i blank ∷ []) in let m = w.all in omega (arith, n, m);
+  parted = IsPermutation-more x.boxes w.went y.boxes i (get_or y.boxes i blank) li (get_or_any y.boxes i blank (get_or y.boxes i blank) li) w.parted;
 })
 
 -- ---- which box goes first

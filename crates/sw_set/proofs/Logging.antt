@@ -32,6 +32,7 @@ area-inserted a f b inb sp tape ms r none room may w =
       rows_fit = subst (λ (v : List Row). All (λ (c : Row). c.key < 2 ^ 63) v) (sym same) (All-append (λ (c : Row). c.key < 2 ^ 63) (logged_rows a tape) (r ∷ []) w.rows_fit (all-one (λ (c : Row). c.key < 2 ^ 63) r may.1));
       within = subst (λ (v : List Row). All (λ (c : Row). lies_within a f b c ≡ true) v) (sym same) (All-append (λ (c : Row). lies_within a f b c ≡ true) (logged_rows a tape) (r ∷ []) w.within (all-one (λ (c : Row). lies_within a f b c ≡ true) r may.2));
       boxes = λ k d lt. lawful-longer a tape (inserted r ∷ []) _ (w.boxes k d lt);
+      leases = w.leases;
       apart = w.apart;
       receivable = rw none tt;
     }
@@ -49,6 +50,7 @@ area-removal a f b inb sp tape ms k place none room within own w =
       rows_fit = subst (λ (v : List Row). All (λ (c : Row). c.key < 2 ^ 63) v) (sym same) (all-without (λ (c : Row). c.key < 2 ^ 63) k (logged_rows a tape) w.rows_fit);
       within = subst (λ (v : List Row). All (λ (c : Row). lies_within a f b c ≡ true) v) (sym same) (all-without (λ (c : Row). lies_within a f b c ≡ true) k (logged_rows a tape) w.within);
       boxes = λ j d lt. lawful-longer a tape (removed place ∷ []) _ (w.boxes j d lt);
+      leases = w.leases;
       apart = w.apart;
       receivable = rw none tt;
     }

@@ -24,6 +24,7 @@ use Rattle.sw_set.specs.Shelf.{AreaState, IsAreaLawful, Rises, key_of, lies_with
 use Rattle.sw_set.specs.Prepared.{IsPlace, IsPrepared, IsPreparedFor, IsReady, is_touched}
 use Rattle.sw_set.specs.Choice.{IsRun, meets_first, shown_rows}
 use Rattle.sw_set.proofs.Boxes.{get_or_any}
+use Rattle.sw_set.proofs.Ends.{stands-left, stands-right}
 
 -- ---- each live row once
 above-other : (k : ℕ) (rows : List Row) → AllByRecursion (λ (y : Row). k < key_of y) rows → AllByRecursion (λ (n : ℕ). nat_eq k n ≡ false) (map key_of rows)
@@ -89,14 +90,6 @@ between (Some (Before x)) (Some (After y)) v p q = grind (arith, p, q)
 between (Some (After x)) (Some (Before y)) v p q = grind (arith, p, q)
 between (Some (After x)) (Some (After y)) v p q = grind (arith, p, q)
 
-and-left : (s t : Bool) → s && t ≡ true → s ≡ true
-and-left true t e = refl
-and-left false t e = absurd (true≢false (sym e))
-
-and-right : (s t : Bool) → s && t ≡ true → t ≡ true
-and-right true t e = e
-and-right false t e = absurd (true≢false (sym e))
-
 and-both : (s t : Bool) → s ≡ true → t ≡ true → s && t ≡ true
 and-both s t p q = ap (λ v. v && t) p ∙ q
 
@@ -107,10 +100,10 @@ untouched-none start end lower upper v off w = by (is_within lower upper v) refl
     by : (t : Bool) → is_within lower upper v ≡ t → is_within lower upper v ≡ false
     by false q = q
     by true q =
-        let above = and-left (is_above lower v) (is_below upper v) q in
-        let below = and-right (is_above lower v) (is_below upper v) q in
-        let first = and-left (is_above start v) (is_below end v) w in
-        let last = and-right (is_above start v) (is_below end v) w in
+        let above = stands-left (is_above lower v) (is_below upper v) q in
+        let below = stands-right (is_above lower v) (is_below upper v) q in
+        let first = stands-left (is_above start v) (is_below end v) w in
+        let last = stands-right (is_above start v) (is_below end v) w in
         let yes = and-both _ _ (between lower upper v above below) (and-both _ _ (between lower end v above last) (between start upper v first below)) in
         absurd (true≢false (sym yes ∙ off))
 
@@ -218,8 +211,8 @@ first-clipped x [] r head w = refl
 first-clipped x (c ∷ cs) r head w =
     let v = cell_of x.attribute r in
     ap (λ (n : ℕ). is_within c.lower c.upper (cell_of n r)) head
-    ∙ ap (λ t. t && is_below c.upper v) (sym (clip-lower (edge x.from) c.lower v (and-left _ _ w)))
-    ∙ ap (λ t. is_above (lower_from (edge x.from) c.lower) v && t) (sym (clip-upper (edge x.below) c.upper v (and-right _ _ w)))
+    ∙ ap (λ t. t && is_below c.upper v) (sym (clip-lower (edge x.from) c.lower v (stands-left _ _ w)))
+    ∙ ap (λ t. is_above (lower_from (edge x.from) c.lower) v && t) (sym (clip-upper (edge x.below) c.upper v (stands-right _ _ w)))
 
 -- a run of one test is a run of another that says the same of each item
 run-same : {X : Type 0} (p q : X → Bool) (xs : List X) (from upto : ℕ) → All (λ (x : X). p x ≡ q x) xs → IsRun q xs from upto → IsRun p xs from upto
@@ -236,7 +229,7 @@ pub prepared-run : (x : AreaState) (cs : List Cond) (tails : List Tail) (from up
 prepared-run x cs tails from upto w head touched p =
     let lower = lower_from (edge x.from) (lower_in cs) in
     let upper = upper_upto (edge x.below) (upper_in cs) in
-    let before = clipped-before (edge x.from) (edge x.below) (lower_in cs) (upper_in cs) (and-left _ _ touched) in
+    let before = clipped-before (edge x.from) (edge x.below) (lower_in cs) (upper_in cs) (stands-left _ _ touched) in
     run-same (meets_first cs) (λ (r : Row). is_within lower upper (cell_of x.attribute r)) (shown_rows x.attribute x.tape) from upto
     (λ k d lt. first-clipped x cs (get_or (shown_rows x.attribute x.tape) k d) head (all-within x w k d lt))
     (run-of x.attribute x.tape lower upper from upto w.tape before p.lower_at p.upper_at)

@@ -1,6 +1,6 @@
 -- What single changes leave of a lawful area.
 use Rattle.std.proofs.Common.{◌≡◌, ◌≢◌, ℕ, zero, suc, ◌<◌, ◌^◌, ℤ, true, false, true≢false, List, [], ◌∷◌, ◌++◌, fold, length, get_or, set, map, take, drop, refl, ap, sym, ◌∙◌, arith, subst, All, Option, Result, Ok, Err, MatchResult, OnOk, OnErr}
-use Rattle.std.proofs.lemmas.List.{length-map, map-set, map-append, length-append}
+use Rattle.std.proofs.lemmas.List.{append-nil, length-map, map-set, map-append, length-append}
 use Rattle.std.proofs.lemmas.List.Elements.{All-set, All-append}
 use Rattle.sw_rows.specs.declared.bound.Bound.{Bound}
 use Rattle.sw_rows.specs.declared.row.Row.{Row}
@@ -8,9 +8,9 @@ use Rattle.sw_rows.specs.declared.row.Update.{Update}
 use Rattle.sw_rows.specs.declared.refusal.Refusal.{Refusal}
 use Rattle.sw_rows.specs.Scan.{cell_of}
 use Rattle.sw_rows.specs.Updates.{rows_then}
-use Rattle.sw_kernel.specs.Arrangement.{Arrangement, last, joined}
-use Rattle.sw_kernel.specs.Replay.{Step, loaded, ranged, step, replay_from}
-use Rattle.sw_kernel.specs.Tapes.{IsTape, brought, brought_by, live_from, live_after}
+use Rattle.sw_kernel.specs.Arrangement.{last}
+use Rattle.sw_kernel.specs.Replay.{Step, loaded, ranged}
+use Rattle.sw_kernel.specs.Tapes.{IsTape, brought, brought_by}
 use Rattle.sw_tape.proofs.Steps.{tape-push}
 use Rattle.sw_map.specs.declared.tail.Tail.{Tail}
 use Rattle.sw_map.specs.Held.{Held, blank, begun, KeysFit}
@@ -18,20 +18,17 @@ use Rattle.sw_map.specs.Lawful.{IsLawful}
 use Rattle.sw_map.specs.Refusals.{IsBeginRefusal}
 use Rattle.sw_map.proofs.Replays.{lawful-longer, lawful-blank, lawful-aligned, begun-aligned}
 use Rattle.sw_tape.specs.Restart.{first_rows}
-use Rattle.sw_set.specs.Shelf.{AreaState, AreApart, AreReceivable, AreSameMaps, IsAreaLawful, Rises, came_then, key_of, lies_within, logged_rows}
+use Rattle.sw_set.specs.Shelf.{AreaState, AreApart, AreReceivable, AreSameMaps, HasLease, IsAreaLawful, Rises, came_then, key_of, lies_within, logged_rows}
 use Rattle.sw_set.specs.Prepared.{IsFreshBut}
 use Rattle.sw_set.specs.Merged.{IsBegunAnew, IsSameShell}
 use Rattle.sw_set.proofs.Boxes.{held-all, set-each}
+use Rattle.sw_set.proofs.Longer.{live-more}
 use Rattle.sw_set.proofs.Receiving.{IsBelow, all-one, receivable-append, receivable-less}
 
 abbrev pub area_of : ℕ → Option ℤ → Option ℤ → List Update → ℕ → List (Step Row) → List Held → AreaState
 area_of a f b inb sp tape ms = record { attribute = a; from = f; below = b; inbox = inb; spare = sp; tape = tape; boxes = ms }
 
 -- ---- the rows of a tape with one more range
-live-more : {A : Type 0} (value : A → ℤ) (key : A → ℕ) (es : List (Step A)) (e : Step A) (a : Arrangement A) (rows : List A) → live_from value key a (es ++ e ∷ []) rows ≡ live_after key (joined (replay_from value a es)) e (live_from value key a es rows)
-live-more value key [] e a rows = refl
-live-more value key (x ∷ es) e a rows = live-more value key es e (step value x a) (live_after key (joined a) x rows)
-
 pub logged-ranged : (a : ℕ) (tape : List (Step Row)) (lower upper : Option Bound) → logged_rows a (tape ++ ranged lower upper ∷ []) ≡ logged_rows a tape
 logged-ranged a tape lower upper = live-more (cell_of a) key_of tape (ranged lower upper) (last []) []
 
@@ -56,11 +53,15 @@ area-logged a f b inb sp tape ms lower upper room w =
       rows_fit = subst (λ (v : List Row). All (λ (r : Row). r.key < 2 ^ 63) v) (sym same) w.rows_fit;
       within = subst (λ (v : List Row). All (λ (r : Row). lies_within a f b r ≡ true) v) (sym same) w.within;
       boxes = λ k d lt. lawful-longer a tape (ranged lower upper ∷ []) _ (w.boxes k d lt);
+      leases = w.leases;
       apart = w.apart;
       receivable = rw (brought-ranged tape lower upper, same) w.receivable;
     }
 
 -- ---- boxes
+pub blank-not : {Y : Type 0} {m : Held} → m.is_blank ≡ false → m ≡ blank → Y
+blank-not {Y} {m} b e = let t : true ≡ false = sym (ap (λ (x : Held). x.is_blank) e) ∙ b in absurd (true≢false t)
+
 -- one box changed
 pub apart-set : (ms : List Held) (i : ℕ) (n : Held) → AreApart ms → (n.is_blank ≡ false → IsFreshBut i n.tail ms) → AreApart (set ms i n)
 unfolding AreApart IsFreshBut
@@ -82,6 +83,12 @@ apart-same ms ns apart same = λ i j d e li lj ne bi bj eq.
     let sj = same.each j e e (omega arith) in
     apart i j d e (omega arith) (omega arith) ne (sym si.blank ∙ bi) (sym sj.blank ∙ bj) (sym si.tail ∙ eq ∙ sj.tail)
 
+pub leases-same : (ms ns : List Held) → All HasLease ms → AreSameMaps ms ns → All HasLease ns
+leases-same ms ns leases same = λ k d lt b.
+    let many = same.many in
+    let s = same.each k d d (omega arith) in
+    subst (λ (n : ℕ). 0 < n) (sym s.cells) (leases k d (omega arith) (sym s.blank ∙ b))
+
 -- a box that is not blank stands before one that was added blank
 old-place : (ms : List Held) (m : Held) (i : ℕ) (d : Held) → m.is_blank ≡ true → i < length (ms ++ m ∷ []) → (get_or (ms ++ m ∷ []) i d).is_blank ≡ false → (i < length ms) × (get_or (ms ++ m ∷ []) i d ≡ get_or ms i d)
 old-place [] m zero d b lt nb = absurd (true≢false (sym b ∙ nb))
@@ -97,8 +104,8 @@ apart-more ms m b apart = λ i j d e li lj ne bi bj eq.
     apart i j d e pi.0 pj.0 ne (sym (ap (λ (x : Held). x.is_blank) pi.1) ∙ bi) (sym (ap (λ (x : Held). x.is_blank) pj.1) ∙ bj) (sym (ap (λ (x : Held). x.tail) pi.1) ∙ eq ∙ ap (λ (x : Held). x.tail) pj.1)
 
 -- the same area with other boxes
-pub area-with : (a : ℕ) (f b : Option ℤ) (inb : List Update) (sp : ℕ) (tape : List (Step Row)) (ms ns : List Held) → All (IsLawful a tape) ns → AreApart ns → IsAreaLawful (area_of a f b inb sp tape ms) → IsAreaLawful (area_of a f b inb sp tape ns)
-area-with a f b inb sp tape ms ns law apart w = record {
+pub area-with : (a : ℕ) (f b : Option ℤ) (inb : List Update) (sp : ℕ) (tape : List (Step Row)) (ms ns : List Held) → All (IsLawful a tape) ns → All HasLease ns → AreApart ns → IsAreaLawful (area_of a f b inb sp tape ms) → IsAreaLawful (area_of a f b inb sp tape ns)
+area-with a f b inb sp tape ms ns law leases apart w = record {
   attribute = w.attribute;
   tape = w.tape;
   short = w.short;
@@ -108,14 +115,16 @@ area-with a f b inb sp tape ms ns law apart w = record {
   rows_fit = w.rows_fit;
   within = w.within;
   boxes = law;
+  leases = leases;
   apart = apart;
   receivable = w.receivable;
 }
 
-pub area-set : {X : Type 0} (h : X → Held) (a : ℕ) (f b : Option ℤ) (inb : List Update) (sp : ℕ) (tape : List (Step Row)) (xs : List X) (i : ℕ) (y : X) → IsLawful a tape (h y) → ((h y).is_blank ≡ false → IsFreshBut i (h y).tail (map h xs)) → IsAreaLawful (area_of a f b inb sp tape (map h xs)) → IsAreaLawful (area_of a f b inb sp tape (map h (set xs i y)))
-area-set h a f b inb sp tape xs i y law fresh w =
+pub area-set : {X : Type 0} (h : X → Held) (a : ℕ) (f b : Option ℤ) (inb : List Update) (sp : ℕ) (tape : List (Step Row)) (xs : List X) (i : ℕ) (y : X) → IsLawful a tape (h y) → HasLease (h y) → ((h y).is_blank ≡ false → IsFreshBut i (h y).tail (map h xs)) → IsAreaLawful (area_of a f b inb sp tape (map h xs)) → IsAreaLawful (area_of a f b inb sp tape (map h (set xs i y)))
+area-set h a f b inb sp tape xs i y law lease fresh w =
     area-with a f b inb sp tape (map h xs) (map h (set xs i y))
     (subst (λ (v : List Held). All (IsLawful a tape) v) (sym (map-set h xs i y)) (All-set (IsLawful a tape) (map h xs) i (h y) law w.boxes))
+    (subst (λ (v : List Held). All HasLease v) (sym (map-set h xs i y)) (All-set HasLease (map h xs) i (h y) lease w.leases))
     (subst AreApart (sym (map-set h xs i y)) (apart-set (map h xs) i (h y) w.apart fresh)) w
 
 pub area-more : {X : Type 0} (h : X → Held) (a : ℕ) (f b : Option ℤ) (inb : List Update) (sp : ℕ) (tape : List (Step Row)) (xs : List X) (y : X) → h y ≡ blank → IsAreaLawful (area_of a f b inb sp tape (map h xs)) → IsAreaLawful (area_of a f b inb sp tape (map h (xs ++ y ∷ [])))
@@ -123,6 +132,7 @@ area-more h a f b inb sp tape xs y is w =
     let more : map h (xs ++ y ∷ []) ≡ map h xs ++ blank ∷ [] = map-append h xs (y ∷ []) ∙ ap (λ (m : Held). map h xs ++ m ∷ []) is in
     area-with a f b inb sp tape (map h xs) (map h (xs ++ y ∷ []))
     (subst (λ (v : List Held). All (IsLawful a tape) v) (sym more) (All-append (IsLawful a tape) (map h xs) (blank ∷ []) w.boxes (all-one (IsLawful a tape) blank (lawful-blank a tape))))
+    (subst (λ (v : List Held). All HasLease v) (sym more) (All-append HasLease (map h xs) (blank ∷ []) w.leases (all-one HasLease blank (λ b. absurd (true≢false b)))))
     (subst AreApart (sym more) (apart-more (map h xs) blank refl w.apart)) w
 
 pub lawful-of_blank : (a : ℕ) (tape : List (Step Row)) (m : Held) → m ≡ blank → IsLawful a tape m
@@ -132,23 +142,20 @@ pub lawful-of_begun : (a : ℕ) (tape : List (Step Row)) (t : Tail) (n : ℕ) (m
 lawful-of_begun a tape t n m e = subst (IsLawful a tape) (sym e) (lawful-aligned a tape _ (begun-aligned a tape t n))
 
 -- the tape begun anew with rows, all boxes blank
-append-none : (rows : List Row) → rows ++ [] ≡ rows
-append-none [] = refl
-append-none (r ∷ rs) = ap (λ t. r ∷ t) (append-none rs)
-
 pub area-begun : (a : ℕ) (f b : Option ℤ) (inb : List Update) (sp : ℕ) (rows : List Row) (ns : List Held) → a < 8 → All (λ (r : Row). r.key < 2 ^ 63) rows → Rises key_of rows → All (λ (r : Row). lies_within a f b r ≡ true) rows → All (λ m. m ≡ blank) ns → AreReceivable a f b rows rows inb → IsAreaLawful (area_of a f b inb sp (loaded rows ∷ []) ns)
 area-begun a f b inb sp rows ns few fit rise within blanks receivable = record {
   attribute = few;
   tape = tt;
   short = omega arith;
   keys = all-one (λ (e : Step Row). KeysFit e) (loaded rows) fit;
-  brought_rise = subst (Rises key_of) (sym (append-none rows)) rise;
+  brought_rise = subst (Rises key_of) (sym (append-nil rows)) rise;
   rows_rise = rise;
   rows_fit = fit;
   within = within;
   boxes = λ k d lt. lawful-of_blank a (loaded rows ∷ []) _ (blanks k d lt);
+  leases = λ k d lt b. blank-not b (blanks k d lt);
   apart = apart-blank ns blanks;
-  receivable = subst (λ (v : List Row). AreReceivable a f b v rows inb) (sym (append-none rows)) receivable;
+  receivable = subst (λ (v : List Row). AreReceivable a f b v rows inb) (sym (append-nil rows)) receivable;
 }
 
 pub begun-shell : {X : Type 0} (h : X → Held) (s : AreaState) (a : ℕ) (f b : Option ℤ) (inb : List Update) (sp : ℕ) (tape new : List (Step Row)) (rows : List Row) (xs ys : List X) → area_of a f b inb sp tape (map h xs) ≡ s → new ≡ loaded rows ∷ [] → length ys ≡ length xs → All (λ (y : X). h y ≡ blank) ys → IsSameShell s (area_of a f b inb sp new (map h ys)) × IsBegunAnew rows (area_of a f b inb sp new (map h ys))
@@ -184,6 +191,7 @@ area-waiting a f b inb new sp more tape ms receivable w = record {
   rows_fit = w.rows_fit;
   within = w.within;
   boxes = w.boxes;
+  leases = w.leases;
   apart = w.apart;
   receivable = receivable;
 }
@@ -203,9 +211,6 @@ view-set h s a f b inb sp tape xs i y m is e =
     let boxes : map h (set xs i y) ≡ set (map h xs) i m = map-set h xs i y ∙ ap (set (map h xs) i) e in
     ap (area_of a f b inb sp tape) boxes ∙ ap (λ (v : AreaState). record v { boxes = set v.boxes i m }) is
 
-pub blank-not : {Y : Type 0} {m : Held} → m.is_blank ≡ false → m ≡ blank → Y
-blank-not {Y} {m} b e = let t : true ≡ false = sym (ap (λ (x : Held). x.is_blank) e) ∙ b in absurd (true≢false t)
-
 -- a tape that one more range was pushed on, or that is as it was
 pub pushed : {U E : Type 0} (P : List (Step Row) → Type 0) (r : Result U E) (old new more : List (Step Row)) → OnOk r (new ≡ more) → OnErr r (new ≡ old) → P more → P old → P new
 pushed P (Ok u) old new more ok err pm po = subst P (sym ok) pm
@@ -223,6 +228,10 @@ written n ys xs e = ap (λ k. take k (ys ++ drop (length ys) xs)) e ∙ all ys (
 pub tried-lawful : {U : Type 0} (r : Result U Refusal) (a : ℕ) (tape : List (Step Row)) (t : Tail) (n : ℕ) (m : Held) → MatchResult r (λ _. m ≡ begun a t n) (λ e. (m ≡ blank) × IsBeginRefusal n e) → IsLawful a tape m
 tried-lawful (Ok u) a tape t n m is = lawful-of_begun a tape t n m is
 tried-lawful (Err e) a tape t n m is = lawful-of_blank a tape m is.0
+
+pub tried-leased : {U : Type 0} (r : Result U Refusal) (a : ℕ) (t : Tail) (n : ℕ) (m : Held) → 0 < n → MatchResult r (λ _. m ≡ begun a t n) (λ e. (m ≡ blank) × IsBeginRefusal n e) → HasLease m
+tried-leased (Ok u) a t n m some is b = subst (λ (v : ℕ). 0 < v) (sym (ap (λ (x : Held). x.cells) is)) some
+tried-leased (Err e) a t n m some is b = blank-not b is.0
 
 pub tried-fresh : {U : Type 0} (r : Result U Refusal) (a at : ℕ) (t : Tail) (n : ℕ) (m : Held) (ms : List Held) → MatchResult r (λ _. m ≡ begun a t n) (λ e. (m ≡ blank) × IsBeginRefusal n e) → IsFreshBut at t ms → m.is_blank ≡ false → IsFreshBut at m.tail ms
 tried-fresh (Ok u) a at t n m ms is fresh b = subst (λ (v : Tail). IsFreshBut at v ms) (sym (ap (λ (x : Held). x.tail) is)) fresh

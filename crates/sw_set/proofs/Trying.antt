@@ -159,3 +159,58 @@ held-so-far tails i n t ms ns at before now kept k d lk l = by (eqb k i) refl
       where
         below : k ≢ i → k < i
         below ne = omega (arith, lk, ne)
+
+-- ---- each turn leaves one box more blank
+abbrev pub one_if : Bool → ℕ
+one_if true = 1
+one_if false = 0
+
+abbrev pub blanks : List Held → ℕ
+blanks [] = 0
+blanks (m ∷ ms) = one_if m.is_blank + blanks ms
+
+-- after some turns more boxes than these are blank
+abbrev pub HasCleared : ℕ → List Held → Type 0
+HasCleared turn ms = 0 < turn → turn < blanks ms
+
+one-few : (b : Bool) → one_if b ≤ 1
+one-few true = omega arith
+one-few false = omega arith
+
+blanks-few : (ms : List Held) → blanks ms ≤ length ms
+blanks-few [] = omega arith
+blanks-few (m ∷ ms) = let one = one-few m.is_blank in let rest = blanks-few ms in omega (arith, one, rest)
+
+blanks-set : (ms : List Held) (i : ℕ) → i < length ms → (blanks ms ≤ blanks (set ms i blank)) × (0 < blanks (set ms i blank))
+blanks-set [] i lt = let none : i < 0 = lt in absurd (omega arith)
+blanks-set (m ∷ ms) zero lt = let one = one-few m.is_blank in (omega (arith, one), omega arith)
+blanks-set (m ∷ ms) (suc i) lt = let rest = blanks-set ms i (omega (arith, lt)) in let more = rest.0 in let some = rest.1 in (omega (arith, more), omega (arith, some))
+
+blanks-more : (ms : List Held) (i : ℕ) → i < length ms → ((d : Held) → (get_or ms i d).is_blank ≡ false) → blanks (set ms i blank) ≡ blanks ms + 1
+blanks-more [] i lt begun = let none : i < 0 = lt in absurd (omega arith)
+blanks-more (m ∷ ms) zero lt begun = let e : one_if m.is_blank ≡ 0 = ap one_if (begun m) in omega (arith, e)
+blanks-more (m ∷ ms) (suc i) lt begun = let rest = blanks-more ms i (omega (arith, lt)) begun in omega (arith, rest)
+
+cleared-upto : (turn a b : ℕ) → (0 < turn → turn < a) → a ≤ b → 0 < b → turn < b
+cleared-upto zero a b h le some = some
+cleared-upto (suc t) a b h le some = let l = h (omega arith) in omega (arith, l, le)
+
+pub cleared-none : (ms : List Held) → HasCleared 0 ms
+cleared-none ms = λ some. let none : 0 < 0 = some in absurd (omega (arith, none))
+
+pub cleared-more : (at i turn : ℕ) (x y z : AreaState) → at < length x.boxes → y ≡ record x { boxes = set x.boxes at blank } → z ≡ record y { boxes = set y.boxes i blank } → i < length y.boxes → ((d : Held) → (get_or y.boxes i d).is_blank ≡ false) → HasCleared turn x.boxes → HasCleared (turn + 1) z.boxes
+cleared-more at i turn x y z lt is1 is2 li begun h = λ _.
+    let one = blanks-set x.boxes at lt in
+    let y-are : blanks y.boxes ≡ blanks (set x.boxes at blank) = ap (λ (v : AreaState). blanks v.boxes) is1 in
+    let z-are : blanks z.boxes ≡ blanks (set y.boxes i blank) = ap (λ (v : AreaState). blanks v.boxes) is2 in
+    let more = blanks-more y.boxes i li begun in
+    let upto = cleared-upto turn (blanks x.boxes) (blanks (set x.boxes at blank)) h one.0 one.1 in
+    omega (arith, y-are, z-are, more, upto)
+
+-- so there are fewer turns than boxes
+pub cleared-all : {Y : Type 0} (turn : ℕ) (ms : List Held) → 0 < length ms → length ms ≤ turn → HasCleared turn ms → Y
+cleared-all turn ms some many h =
+    let turns : 0 < turn = omega (arith, some, many) in
+    let l = h turns in
+    let few = blanks-few ms in
+    absurd (omega (arith, l, few, many))

@@ -1,10 +1,10 @@
 -- What `prepare` makes of an area, and why it is refused.
-use Rattle.std.specs.Prelude.{◌≡◌, ◌≢◌, ◌≤◌, ◌<◌, ◌+◌, ◌*◌, ◌/◌, ◌&&◌, ◌⊎◌, ℕ, Bool, true, false, max, List, [], ◌∷◌, ◌++◌, length, slice_index_or, slice_set, Option, Some, None, All, Any, Contains}
+use Rattle.std.specs.Prelude.{◌≡◌, ◌≢◌, ◌≤◌, ◌<◌, ◌+◌, ◌*◌, ◌/◌, ◌&&◌, ◌⊎◌, ℕ, Bool, true, false, max, List, [], ◌∷◌, ◌++◌, length, slice_index_or, slice_set, Option, Some, None, All, Any, Contains, IsPermutation}
 use Rattle.sw_rows.specs.declared.bound.Bound.{Bound}
 use Rattle.sw_rows.specs.declared.row.Row.{Row}
 use Rattle.sw_rows.specs.declared.query.Query.{Query}
 use Rattle.sw_rows.specs.declared.refusal.Refusal.{Refusal}
-use Rattle.sw_rows.specs.declared.refusal.Refusal.TheVariants.{NoBlank}
+use Rattle.sw_rows.specs.declared.refusal.Refusal.TheVariants.{NoBlank, Short}
 use Rattle.sw_kernel.specs.Arrangement.{Arrangement, joined}
 use Rattle.sw_kernel.specs.Replay.{Step, loaded, ranged}
 use Rattle.sw_kernel.specs.Tapes.{is_marked, peak_from}
@@ -66,9 +66,15 @@ pub record IsNotedFor (q : Query) (x : AreaState) (new : List (Step Row)) : Type
   pub touched : is_touched x q ≡ true → IsNoted (area_lower x q) (area_upper x q) (logged_rows x.attribute x.tape) x.tape new
   pub untouched : is_touched x q ≡ false → new ≡ x.tape
 
--- how the tape may stand after a refusal: as before, or noted, or begun anew alone
+-- A full tape lacks the range, and was begun anew with these rows; the range is not logged yet.
+pub record IsBegunFor (lower upper : Option Bound) (rows : List Row) (old new : List (Step Row)) : Type 0 where
+  pub lacked : stands_if lower old && stands_if upper old ≡ false
+  pub full : length old ≡ 4096
+  pub begun : new ≡ loaded rows ∷ []
+
+-- how the tape may stand after a refusal: as before, or noted, or begun anew for the range
 abbrev pub IsPartlyNoted : Query → AreaState → List (Step Row) → Type 0
-IsPartlyNoted q x new = (new ≡ x.tape) ⊎ (IsNotedFor q x new ⊎ (new ≡ loaded (logged_rows x.attribute x.tape) ∷ []))
+IsPartlyNoted q x new = (new ≡ x.tape) ⊎ (IsNotedFor q x new ⊎ IsBegunFor (area_lower x q) (area_upper x q) (logged_rows x.attribute x.tape) x.tape new)
 
 -- the cells for so many pairs: a multiple of 64, and at least 64
 abbrev pub cells_for : ℕ → ℕ
@@ -84,11 +90,35 @@ abbrev pub IsNoBlank : Refusal → Type 0
 IsNoBlank (NoBlank boxes needs) = Unit {0}
 IsNoBlank e = ⊥
 
+-- the refusal says that the budget has too few cells left
+abbrev pub IsShort : Refusal → Type 0
+IsShort (Short used want capacity) = Unit {0}
+IsShort e = ⊥
+
+-- each map is one that the tails need
+abbrev pub AreAllNeeded : List Tail → List Held → Type 0
+AreAllNeeded tails ms = All (λ m. m.is_blank ≡ false → Contains tails m.tail) ms
+
+-- the area has fewer boxes than the query needs maps
+abbrev pub HasTooFew : AreaState → Query → Type 0
+HasTooFew x q = length x.boxes < length (needed x.attribute q)
+
+-- and how that is told
+abbrev pub no_blank : AreaState → Query → Refusal
+no_blank x q = NoBlank (length x.boxes) (length (needed x.attribute q))
+
+-- A refusal comes only where the query touches the area; boxes are counted first; and there are too few cells only where each
+-- map that is left is needed.
+pub record IsHindered (q : Query) (x y : AreaState) (e : Refusal) : Type 0 where
+  pub touched : is_touched x q ≡ true
+  pub counted : HasTooFew x q → e ≡ no_blank x q
+  pub spent : IsShort e → AreAllNeeded (needed x.attribute q) y.boxes
+
 -- What is told beside a reply: nothing where the area stands as `prepare` leaves it; otherwise why it could not be
 -- prepared; and too few boxes have changed nothing.
 abbrev pub IsTold : Query → AreaState → AreaState → Option Refusal → Type 0
 IsTold q x y None = IsNotedFor q x y.tape × ((from : ℕ) × (upto : ℕ) × IsPreparedFor q y from upto)
-IsTold q x y (Some e) = IsPartlyNoted q x y.tape × IsPrepareRefusal (length x.boxes) (length (needed x.attribute q)) (cells_for (peak_from 0 y.tape)) e × (IsNoBlank e → y ≡ x)
+IsTold q x y (Some e) = IsPartlyNoted q x y.tape × IsPrepareRefusal (length x.boxes) (length (needed x.attribute q)) (cells_for (peak_from 0 y.tape)) e × (IsNoBlank e → y ≡ x) × IsHindered q x y e
 
 -- the area but for its boxes
 pub record IsSameButBoxes (x y : AreaState) : Type 0 where
@@ -139,7 +169,8 @@ IsOneCleared ms ns cells =
     (All (λ m. m.is_blank ≡ true) ms × (ns ≡ ms) × (cells ≡ 0)) ⊎
     ((at : ℕ) × (at < length ms) × ((d : Held) → ((slice_index_or ms at d).is_blank ≡ false) × (cells ≡ (slice_index_or ms at d).cells)) × (ns ≡ slice_set ms at blank))
 
--- The area after boxes were dropped: at most so many, and all where it has no more; the boxes that are left were there.
+-- The area after boxes were dropped: at most so many, and all where it has no more. Those that went and those that are left are
+-- the boxes that were there.
 pub record IsShed (most : ℕ) (x y : AreaState) (gone : ℕ) : Type 0 where
   pub attribute : y.attribute ≡ x.attribute
   pub from : y.from ≡ x.from
@@ -149,4 +180,6 @@ pub record IsShed (most : ℕ) (x y : AreaState) (gone : ℕ) : Type 0 where
   pub tape : y.tape ≡ x.tape
   pub many : length y.boxes + gone ≡ length x.boxes
   pub few : gone ≤ most
-  pub left : All (λ m. Contains x.boxes m) y.boxes
+  pub went : List Held
+  pub all : length went ≡ gone
+  pub parted : IsPermutation x.boxes (went ++ y.boxes)

@@ -75,8 +75,12 @@ AreApart ms =
     (i j : ℕ) (d e : Held) → i < length ms → j < length ms → i ≢ j → (slice_index_or ms i d).is_blank ≡ false →
     (slice_index_or ms j e).is_blank ≡ false → (slice_index_or ms i d).tail ≢ (slice_index_or ms j e).tail
 
--- The tape holds rows of the interval, by rising keys; each box is blank or lawful at some cursor of it; and what waits may be
--- received.
+-- a box that is not blank has a lease of some cells
+abbrev pub HasLease : Held → Type 0
+HasLease m = m.is_blank ≡ false → 0 < m.cells
+
+-- The tape holds rows of the interval, by rising keys; each box is blank, or lawful at some cursor of it with a lease; and what
+-- waits may be received.
 pub record IsAreaLawful (x : AreaState) : Type 0 where
   pub attribute : x.attribute < 8
   pub tape : IsTape x.tape
@@ -87,6 +91,7 @@ pub record IsAreaLawful (x : AreaState) : Type 0 where
   pub rows_fit : All (λ (r : Row). r.key < 2 ^ 63) (logged_rows x.attribute x.tape)
   pub within : All (λ (r : Row). lies_within x.attribute x.from x.below r ≡ true) (logged_rows x.attribute x.tape)
   pub boxes : All (IsLawful x.attribute x.tape) x.boxes
+  pub leases : All HasLease x.boxes
   pub apart : AreApart x.boxes
   pub receivable : AreReceivable x.attribute x.from x.below (brought x.tape) (logged_rows x.attribute x.tape) x.inbox
 

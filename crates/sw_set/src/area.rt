@@ -100,10 +100,10 @@ impl<M: CrackerMap> Area<M> {
         })
     }
 
-    /// Takes a blank box. Refused `NoMemory`, nothing has changed, and the box comes back.
+    /// Takes a blank box. Refused `NoMemory`, nothing has changed, and that box comes back.
     pub fn supply(&mut self, it: M) -> Result<(), (M, Refusal)>
         requires { M.held it ≡ blank }
-        ensures { MatchResult result (λ _. self.new ≡ record self.old { boxes = self.old.boxes ++ blank ∷ [] }) (λ r. (self.new ≡ self.old) × (M.held r.0 ≡ blank) × (r.1 ≡ NoMemory)) }
+        ensures { MatchResult result (λ _. self.new ≡ record self.old { boxes = self.old.boxes ++ blank ∷ [] }) (λ r. (self.new ≡ self.old) × (r.0 ≡ it) × (r.1 ≡ NoMemory)) }
     {
         if self.boxes.reserve(1).is_err() || self.stamps.reserve(1).is_err() {
             return Err((it, Refusal::NoMemory));
@@ -127,9 +127,11 @@ impl<M: CrackerMap> Area<M> {
         self.boxes.len()
     }
 
-    /// How many entries the tape has.
+    /// How many entries the tape has, at most 4,096. What is always true of an area is told beside it.
     pub fn tape_len(&self) -> usize
-        ensures { result ≡ length self.now.tape }
+        ensures many { result ≡ length self.now.tape }
+        ensures few { length self.now.tape ≤ 4096 }
+        ensures lawful { IsAreaLawful self.now }
     {
         self.tape.len()
     }
@@ -177,14 +179,14 @@ impl<M: CrackerMap> Area<M> {
     }
 
     /// Where the interval of the head's cells begins, if it has a beginning.
-    pub(crate) fn from(&self) -> Option<i64>
+    pub fn from(&self) -> Option<i64>
         ensures { result ≡ self.now.from }
     {
         self.from
     }
 
     /// The value below which the interval of the head's cells ends, if it has an end.
-    pub(crate) fn below(&self) -> Option<i64>
+    pub fn below(&self) -> Option<i64>
         ensures { result ≡ self.now.below }
     {
         self.below
@@ -456,11 +458,14 @@ impl<M: CrackerMap> Area<M> {
         }
     }
 
-    /// Clears the least recently used map, and answers the cells of its lease; 0 where no box has a map. It is never refused.
+    /// Clears the least recently used map, and answers the cells of its lease; 0 just where no box has a map. It is never
+    /// refused.
     pub fn clear_oldest(&mut self) -> u64
         ensures same { IsSameButBoxes self.old self.new }
         ensures cleared { IsOneCleared self.old.boxes self.new.boxes result }
+        ensures none { result ≡ 0 → All (λ m. m.is_blank ≡ true) self.old.boxes }
     {
+        self.known();
         let Some(at) = self.leased(&[]) else {
             return 0;
         };
@@ -489,7 +494,7 @@ impl<M: CrackerMap> Area<M> {
     }
 
     /// Drops up to so many boxes, blank ones first, then by least recent use, and answers how many: as many as that, or all. It
-    /// is never refused.
+    /// is never refused, and the boxes that stay are as they were.
     pub fn shed(&mut self, most: usize) -> usize
         ensures shed { IsShed most self.old self.new result }
         ensures all { result < most → length self.new.boxes ≡ 0 }
@@ -605,10 +610,11 @@ impl<M: CrackerMap> Area<M> {
         )
     }
 
-    /// Clears the box at a place and begins a map in it. Refused, it is blank.
+    /// Clears the box at a place and begins a map of some cells in it. Refused, it is blank.
     pub(crate) fn make(&mut self, at: usize, tail: Tail, cells: u64) -> Result<(), Refusal>
         requires within { at < length self.old.boxes }
         requires fresh { IsFreshBut at tail self.old.boxes }
+        requires some { 0 < cells }
         ensures { MatchResult result (λ _. self.new ≡ record self.old { boxes = slice_set self.old.boxes at (begun self.old.attribute tail cells) }) (λ e. (self.new ≡ record self.old { boxes = slice_set self.old.boxes at blank }) × IsBeginRefusal cells e) }
     {
         let attribute = self.attribute;

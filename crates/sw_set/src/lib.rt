@@ -23,4 +23,5 @@ mod totals;
 mod window;
 
 pub use area::Area;
+pub use needs::needed_maps;
 pub use prepare::Ready;

@@ -1,17 +1,24 @@
 //! Making the maps that a query needs.
 
-ghost use Rattle.std.specs.Prelude.{◌≡◌, ◌≢◌, ◌<◌, ◌≤◌, false, length, All, Contains, MatchResult, slice_index_or};
+ghost use Rattle.std.specs.Prelude.{◌≡◌, ◌≢◌, ◌<◌, ◌≤◌, ◌↔◌, false, length, All, Contains, IfErr, IsTrue, MatchResult, slice_index_or};
 ghost use Rattle.sw_rows.specs.declared.refusal.Refusal.TheVariants.{NoBlank};
 ghost use Rattle.sw_map.specs.Held.{Held};
 ghost use Rattle.sw_map.specs.Refusals.{IsBeginRefusal};
-ghost use Rattle.sw_set.specs.Prepared.{AreNeededKept, IsFreshBut, IsHeld, IsPrepareRefusal, IsSameButBoxes, IsSpare};
+ghost use Rattle.sw_set.specs.Prepared.{AreAllNeeded, AreNeededKept, IsFreshBut, IsHeld, IsPrepareRefusal, IsSameButBoxes, IsShort, IsSpare};
 
 use crate::area::Area;
 use sw_map::{CrackerMap, Tail};
 use sw_rows::Refusal;
 
+/// Whether a refusal is `Short`.
+fn is_short(e: &Refusal) -> bool
+    ensures { IsTrue result ↔ IsShort e.now }
+{
+    matches!(e, Refusal::Short { .. })
+}
+
 /// Begins a map in a box. On `Short` the least recently used unneeded box with a lease is cleared and it is tried again, until
-/// it succeeds or there is no such box.
+/// it succeeds or there is no such box: each turn leaves one box more blank, so there are fewer turns than boxes.
 fn begin_again<M: CrackerMap>(
     area: &mut Area<M>,
     at: usize,
@@ -21,23 +28,25 @@ fn begin_again<M: CrackerMap>(
 ) -> Result<(), Refusal>
     requires within { at < length area.old.boxes }
     requires fresh { IsFreshBut at tail area.old.boxes }
+    requires some { 0 < cells }
     ensures same { IsSameButBoxes area.old area.new }
     ensures kept { AreNeededKept at tails.now area.old.boxes area.new.boxes }
     ensures ends { MatchResult result (λ _. IsHeld tail cells area.new.boxes) (λ e. IsBeginRefusal cells e) }
+    ensures spent { IfErr result (λ e. IsShort e → AreAllNeeded tails.now area.new.boxes) }
 {
     for _turn in 0..area.boxes() {
         let Err(e) = area.make(at, tail, cells) else {
             return Ok(());
         };
-        let Refusal::Short { .. } = e else {
+        if !is_short(&e) {
             return Err(e);
-        };
+        }
         let Some(i) = area.leased(tails) else {
             return Err(e);
         };
         area.clear_at(i);
     }
-    area.make(at, tail, cells)
+    unreachable!()
 }
 
 /// A box for a map that the area lacks. Refused `NoBlank`, all boxes have needed maps, so there are fewer than are needed.
@@ -63,8 +72,10 @@ fn ensure_map<M: CrackerMap>(
     cells: u64,
 ) -> Result<(), Refusal>
     requires needed { Contains tails.now tail }
+    requires some { 0 < cells }
     ensures same { IsSameButBoxes area.old area.new }
     ensures ends { MatchResult result (λ _. IsHeld tail cells area.new.boxes × ((u : Tail) → Contains tails.now u → IsHeld u cells area.old.boxes → IsHeld u cells area.new.boxes)) (λ e. IsPrepareRefusal (length area.old.boxes) (length tails.now) cells e) }
+    ensures spent { IfErr result (λ e. IsShort e → AreAllNeeded tails.now area.new.boxes) }
 {
     area.known();
     if let Some(at) = area.with_map(tail) {
@@ -83,8 +94,10 @@ pub(crate) fn make_all<M: CrackerMap>(
     tails: &[Tail],
     cells: u64,
 ) -> Result<(), Refusal>
+    requires some { 0 < cells }
     ensures same { IsSameButBoxes area.old area.new }
     ensures ends { MatchResult result (λ _. All (λ t. IsHeld t cells area.new.boxes) tails.now) (λ e. IsPrepareRefusal (length area.old.boxes) (length tails.now) cells e) }
+    ensures spent { IfErr result (λ e. IsShort e → AreAllNeeded tails.now area.new.boxes) }
 {
     for i in 0..tails.len() {
         ensure_map(area, tails, tails[i], cells)?;

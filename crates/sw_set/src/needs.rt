@@ -1,6 +1,6 @@
 //! What a query asks of an area: whether it touches it, with which bounds, and which maps it needs.
 
-ghost use Rattle.std.specs.Prelude.{◌≡◌, ◌==◌, ◌++◌, ◌∷◌, [], filter, map, MatchResult};
+ghost use Rattle.std.specs.Prelude.{◌≡◌, ◌==◌, ◌++◌, ◌∷◌, [], filter, length, map, MatchResult};
 ghost use Rattle.std.specs.List.{list_any};
 ghost use Rattle.sw_rows.specs.declared.refusal.Refusal.TheVariants.{NoMemory};
 ghost use Rattle.sw_map.specs.declared.tail.Tail.TheVariants.{Cell};
@@ -160,4 +160,18 @@ pub(crate) fn needed_tails(alloc: Global, head: u8, query: &Query) -> Result<Tai
         add_tail(&mut tails, head, query, attribute)?;
     }
     Ok(tails)
+}
+
+/// How many maps of this head a query needs: one of keys, and one for each attribute that it tests, shows or aggregates, the
+/// head apart. An area with as many boxes is never refused `NoBlank`.
+pub fn needed_maps(head: u8, query: &Query) -> usize
+    ensures { result ≡ length (needed head query.now) }
+{
+    let mut many = 1;
+    for attribute in 0..8u8 {
+        if needs_cell(head, query, attribute) {
+            many += 1;
+        }
+    }
+    many
 }

@@ -1,7 +1,7 @@
 //! Preparing an area for a query: the range is logged, the maps that are needed are made and aligned, and the places of the
 //! range's bounds are found.
 
-ghost use Rattle.std.specs.Prelude.{◌≡◌, ℕ, ◌<◌, ◌≤◌, ◌^◌, ◌&&◌, ◌⊎◌, ◌∷◌, [], true, length, All, Any, Contains, IfErr, IfOk, IsOkUnless, MatchResult, slice_index_or};
+ghost use Rattle.std.specs.Prelude.{◌≡◌, ℕ, ◌<◌, ◌≤◌, ◌^◌, ◌&&◌, ◌⊎◌, ◌∷◌, [], true, length, false, All, Any, Contains, IfErr, IfOk, IsErr, IsOk, IsOkUnless, MatchResult, slice_index_or};
 ghost use Rattle.sw_rows.specs.Scan.{AsksBelow, answer};
 ghost use Rattle.sw_rows.specs.declared.refusal.Refusal.TheVariants.{NoMemory};
 ghost use Rattle.sw_kernel.specs.Replay.{loaded};
@@ -10,12 +10,14 @@ ghost use Rattle.sw_map.specs.declared.tail.Tail.{Tail};
 ghost use Rattle.sw_map.specs.declared.tail.Tail.TheVariants.{Key};
 ghost use Rattle.sw_map.specs.Held.{Held};
 ghost use Rattle.sw_set.specs.Needs.{head_in, needed};
-ghost use Rattle.sw_set.specs.Prepared.{IsFoundAt, IsHeld, IsNoBlank, IsNoted, IsNotedFor, IsPartlyNoted, IsPrepareRefusal, IsPrepared, IsPreparedFor, IsReady, IsTold, area_lower, area_upper, cells_for, stands_if};
+ghost use Rattle.sw_set.specs.Prepared.{AreAllNeeded, HasTooFew, IsBegunFor, IsFoundAt, IsHeld, IsHindered, IsNoBlank, IsNoted, IsNotedFor, IsPartlyNoted, IsPrepareRefusal, IsPrepared, IsPreparedFor, IsReady, IsShort, IsTold, area_lower, area_upper, cells_for, is_touched, stands_if};
 ghost use Rattle.sw_set.specs.Shelf.{IsAtEnd, IsSameArea, logged_rows, rows_in};
 
 use crate::area::Area;
 use crate::making::make_all;
-use crate::needs::{edge, lower_from, lower_of, needed_tails, touches, upper_of, upper_upto};
+use crate::needs::{
+    edge, lower_from, lower_of, needed_maps, needed_tails, touches, upper_of, upper_upto,
+};
 use std::thread::Threads;
 use sw_map::{CrackerMap, Tail};
 use sw_rows::{Bound, Query, Refusal, Reply};
@@ -36,14 +38,14 @@ fn all_stand<M: CrackerMap>(area: &Area<M>, lower: Option<Bound>, upper: Option<
 }
 
 /// Logs the range exactly where one of its bounds stands in no range of the tape, after a restart where the tape is full.
-/// Refused `NoMemory`, the tape is as it was, or one load of the rows.
+/// Refused `NoMemory`, the tape is as it was, or, where it was full, one load of the rows.
 fn note<M: CrackerMap>(
     area: &mut Area<M>,
     lower: Option<Bound>,
     upper: Option<Bound>,
 ) -> Result<(), Refusal>
     ensures same { IsSameArea area.old area.new }
-    ensures ends { MatchResult result (λ _. IsNoted lower upper (logged_rows area.old.attribute area.old.tape) area.old.tape area.new.tape) (λ e. (e ≡ NoMemory) × ((area.new.tape ≡ area.old.tape) ⊎ (area.new.tape ≡ loaded (logged_rows area.old.attribute area.old.tape) ∷ []))) }
+    ensures ends { MatchResult result (λ _. IsNoted lower upper (logged_rows area.old.attribute area.old.tape) area.old.tape area.new.tape) (λ e. (e ≡ NoMemory) × ((area.new.tape ≡ area.old.tape) ⊎ IsBegunFor lower upper (logged_rows area.old.attribute area.old.tape) area.old.tape area.new.tape)) }
 {
     area.known();
     if all_stand(area, lower, upper) {
@@ -101,7 +103,7 @@ fn range_of<M: CrackerMap>(
     Ready { from, upto }
 }
 
-/// Counts the boxes, logs the range, makes the maps, aligns them and finds the places of the bounds.
+/// Logs the range, makes the maps, aligns them and finds the places of the bounds, where there are boxes enough.
 fn prepare_range<R: Threads + Sync, M: CrackerMap>(
     rt: &R,
     area: &mut Area<M>,
@@ -110,15 +112,12 @@ fn prepare_range<R: Threads + Sync, M: CrackerMap>(
     tails: &[Tail],
 ) -> Result<Ready, Refusal>
     requires key { Contains tails.now Key }
+    requires enough { length tails.now ≤ length area.old.boxes }
     ensures counted { IfErr result (λ e. IsNoBlank e → area.new ≡ area.old) }
+    ensures spent { IfErr result (λ e. IsShort e → AreAllNeeded tails.now area.new.boxes) }
     ensures same { IsSameArea area.old area.new }
-    ensures ends { MatchResult result (λ r. IsNoted lower upper (logged_rows area.old.attribute area.old.tape) area.old.tape area.new.tape × IsPrepared lower upper tails.now area.new r.from r.upto) (λ e. ((area.new.tape ≡ area.old.tape) ⊎ (IsNoted lower upper (logged_rows area.old.attribute area.old.tape) area.old.tape area.new.tape ⊎ (area.new.tape ≡ loaded (logged_rows area.old.attribute area.old.tape) ∷ []))) × IsPrepareRefusal (length area.old.boxes) (length tails.now) (cells_for (peak_from 0 area.new.tape)) e) }
+    ensures ends { MatchResult result (λ r. IsNoted lower upper (logged_rows area.old.attribute area.old.tape) area.old.tape area.new.tape × IsPrepared lower upper tails.now area.new r.from r.upto) (λ e. ((area.new.tape ≡ area.old.tape) ⊎ (IsNoted lower upper (logged_rows area.old.attribute area.old.tape) area.old.tape area.new.tape ⊎ IsBegunFor lower upper (logged_rows area.old.attribute area.old.tape) area.old.tape area.new.tape)) × IsPrepareRefusal (length area.old.boxes) (length tails.now) (cells_for (peak_from 0 area.new.tape)) e) }
 {
-    if area.boxes() < tails.len() {
-        let boxes = area.boxes() as u64;
-        let needed = tails.len() as u64;
-        return Err(Refusal::NoBlank { boxes, needed });
-    }
     area.known();
     note(area, lower, upper)?;
     let cells = cells_for(area.peak());
@@ -129,38 +128,48 @@ fn prepare_range<R: Threads + Sync, M: CrackerMap>(
 }
 
 impl<M: CrackerMap> Area<M> {
+    /// Whether a query touches the area: its range over the head meets the area's interval.
+    pub fn touches(&self, query: &Query) -> bool
+        ensures { result ≡ is_touched self.now query.now }
+    {
+        let start = edge(self.from());
+        let end = edge(self.below());
+        touches(start, end, lower_of(&query.conds), upper_of(&query.conds))
+    }
+
     /// Prepares the area for a query over its head. The range is logged where one of its bounds stands in no range of the
     /// tape, after a restart where the tape is full; the maps that the query needs are made and stepped to the tape's end;
     /// and the answer is the range of places that qualify. A query that does not touch the area gets an empty range, and
-    /// nothing is logged.
+    /// nothing has changed.
     ///
-    /// It is refused `NoMemory`, `Short` or `Contended`, or `NoBlank` where the area has fewer boxes than the query needs, and
-    /// then nothing has changed. Otherwise the area stands for the same rows, and each box is blank or stands lawfully at some cursor.
+    /// Boxes are counted first: where there are fewer than the query needs maps it is refused `NoBlank`, and nothing has
+    /// changed. It may be refused `NoMemory`, `Contended`, or `Short` where all maps that are left are needed; then the area
+    /// stands for the same rows, and each box is blank or stands lawfully at some cursor.
     pub fn prepare<R: Threads + Sync>(&mut self, rt: &R, query: &Query) -> Result<Ready, Refusal>
         requires received { self.old.inbox ≡ [] }
+        ensures untouched { is_touched self.old query.now ≡ false → IsOk result × (self.new ≡ self.old) }
+        ensures fewer { is_touched self.old query.now ≡ true → HasTooFew self.old query.now → IsErr result }
+        ensures hindered { IfErr result (IsHindered query.now self.old self.new) }
         ensures counted { IfErr result (λ e. IsNoBlank e → self.new ≡ self.old) }
         ensures same { IsSameArea self.old self.new }
         ensures ends { MatchResult result (λ r. IsNotedFor query.now self.old self.new.tape × IsPreparedFor query.now self.new r.from r.upto) (λ e. IsPartlyNoted query.now self.old self.new.tape × IsPrepareRefusal (length self.old.boxes) (length (needed self.old.attribute query.now)) (cells_for (peak_from 0 self.new.tape)) e) }
     {
         self.tick();
-        let start = edge(self.from());
-        let end = edge(self.below());
-        let lower = lower_of(&query.conds);
-        let upper = upper_of(&query.conds);
-        if !touches(start, end, lower, upper) {
+        if !self.touches(query) {
             return Ok(Ready { from: 0, upto: 0 });
+        }
+        let boxes = self.boxes() as u64;
+        let needed = needed_maps(self.attribute(), query) as u64;
+        if boxes < needed {
+            return Err(Refusal::NoBlank { boxes, needed });
         }
         let tails = match needed_tails(self.alloc(), self.attribute(), query) {
             Ok(tails) => tails,
             Err(e) => return Err(e),
         };
-        let done = prepare_range(
-            rt,
-            self,
-            lower_from(start, lower),
-            upper_upto(end, upper),
-            tails.as_slice(),
-        );
+        let lower = lower_from(edge(self.from()), lower_of(&query.conds));
+        let upper = upper_upto(edge(self.below()), upper_of(&query.conds));
+        let done = prepare_range(rt, self, lower, upper, tails.as_slice());
         self.stamp(tails.as_slice());
         done
     }
@@ -182,6 +191,7 @@ impl<M: CrackerMap> Area<M> {
         ensures answered { IfOk result (λ r. r.0 ≡ answer (rows_in self.old) query.now) }
         ensures told { IfOk result (λ r. IsTold query.now self.old self.new r.1) }
         ensures refused { IsOkUnless result NoMemory }
+        ensures left { IfErr result (λ _. IsPartlyNoted query.now self.old self.new.tape) }
     {
         match self.prepare(rt, query) {
             Ok(ready) => match self.collect(&ready, query) {

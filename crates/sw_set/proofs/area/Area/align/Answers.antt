@@ -1,6 +1,6 @@
 use Rattle.std.proofs.Common.{◌≡◌, List, map, length, sym, subst, arith, All}
 use Rattle.std.proofs.lemmas.List.{length-map}
-use Rattle.sw_set.proofs.Shelves.{area-with, apart-same, written}
+use Rattle.sw_set.proofs.Shelves.{area-with, apart-same, leases-same, written}
 use Rattle.sw_map.specs.Lawful.{IsLawful}
 use Rattle.sw_set.specs.Shelf.{AreSameMaps, AreaState, HasRoomWhereNeeded}
 use Rattle.sw_set.proofs.Boxes.{all-held}
@@ -16,7 +16,7 @@ invariant_of-self g c =
     let same : AreSameMaps (map g.M.CrackerMap.held s.boxes.items) (map g.M.CrackerMap.held ys) = subst (λ (v : List g.row.M.Denot). AreSameMaps (map g.M.CrackerMap.held v) (map g.M.CrackerMap.held ys)) value c.align_at_once.ensures.same in
     let many = same.many in
     let n : s.boxes.len ≡ length ys = omega arith in
-    (rw (written s.boxes.len ys s.boxes.items n) (area-with s.attribute s.from s.below s.inbox.items _ s.tape (map g.M.CrackerMap.held s.boxes.items) (map g.M.CrackerMap.held ys) c.align_at_once.ensures.lawful (apart-same _ _ c.self.invariant.0.apart same) c.self.invariant.0), c.self.invariant.1, c.self.invariant.2)
+    (rw (written s.boxes.len ys s.boxes.items n) (area-with s.attribute s.from s.below s.inbox.items _ s.tape (map g.M.CrackerMap.held s.boxes.items) (map g.M.CrackerMap.held ys) c.align_at_once.ensures.lawful (leases-same _ _ c.self.invariant.0.leases same) (apart-same _ _ c.self.invariant.0.apart same) c.self.invariant.0), c.self.invariant.1, c.self.invariant.2)
 
 pub align_at_once-requires-clause-lawful : goal.align_at_once-requires-clause-lawful
 align_at_once-requires-clause-lawful g c κs within =

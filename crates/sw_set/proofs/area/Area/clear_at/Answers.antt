@@ -3,7 +3,7 @@ use Rattle.sw_set.proofs.Shelves.{blank-not, area-set, lawful-of_blank, view-set
 use Rattle.sw_set.proofs.area.Area.clear_at.Goals as goal
 
 pub invariant_of-self : goal.invariant_of-self
-invariant_of-self g c = (area-set g.M.CrackerMap.held _ _ _ _ _ _ _ _ _ (lawful-of_blank _ _ _ c.clear_box.ensures) (λ b. blank-not b c.clear_box.ensures) c.self.invariant.0, c.self.invariant.1, c.self.invariant.2)
+invariant_of-self g c = (area-set g.M.CrackerMap.held _ _ _ _ _ _ _ _ _ (lawful-of_blank _ _ _ c.clear_box.ensures) (λ b. blank-not b c.clear_box.ensures) (λ b. blank-not b c.clear_box.ensures) c.self.invariant.0, c.self.invariant.1, c.self.invariant.2)
 
 pub returns : goal.returns
 returns g c =

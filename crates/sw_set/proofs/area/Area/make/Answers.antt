@@ -1,14 +1,14 @@
 use Rattle.std.proofs.Common.{map, sym, subst}
 use Rattle.sw_set.specs.Prepared.{IsFreshBut}
 use Rattle.sw_set.specs.Shelf.{AreaState}
-use Rattle.sw_set.proofs.Shelves.{area-set, tried-lawful, tried-fresh, tried-view}
+use Rattle.sw_set.proofs.Shelves.{area-set, tried-lawful, tried-leased, tried-fresh, tried-view}
 use Rattle.sw_set.proofs.area.Area.make.Goals as goal
 
 pub invariant_of-self : goal.invariant_of-self
 invariant_of-self g c =
     let s = c.self.inside in
     let fresh : IsFreshBut c.args.at c.args.tail (map g.M.CrackerMap.held s.boxes.items) = subst (λ (v : AreaState). IsFreshBut c.args.at c.args.tail v.boxes) (sym c.self.view_is) c.requires.fresh in
-    (area-set g.M.CrackerMap.held _ _ _ _ _ _ _ _ _ (tried-lawful _ _ _ _ _ _ c.begin_box.ensures) (tried-fresh _ _ _ _ _ _ _ c.begin_box.ensures fresh) c.self.invariant.0, c.self.invariant.1, c.self.invariant.2)
+    (area-set g.M.CrackerMap.held _ _ _ _ _ _ _ _ _ (tried-lawful _ _ _ _ _ _ c.begin_box.ensures) (tried-leased _ _ _ _ _ c.requires.some c.begin_box.ensures) (tried-fresh _ _ _ _ _ _ _ c.begin_box.ensures fresh) c.self.invariant.0, c.self.invariant.1, c.self.invariant.2)
 
 pub returns : goal.returns
 returns g c =
