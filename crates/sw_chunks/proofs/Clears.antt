@@ -1,46 +1,55 @@
 -- Maps cleared, one after the other.
-use Rattle.std.proofs.Common.{◌≡◌, ◌≢◌, ◌<◌, ◌≤◌, ◌+◌, ◌⊎◌, inl, inr, nat_eq, ℕ, zero, suc, Bool, true, false, true≢false, cond, List, [], ◌∷◌, length, get_or, map, min, slice_index_or, slice_set, sum, refl, sym, ap, ◌∙◌, arith, subst, All, Any}
+use Rattle.std.proofs.Common.{◌≡◌, ◌≢◌, ◌<◌, ◌≤◌, ◌+◌, ◌⊎◌, inl, inr, nat_eq, ℕ, zero, suc, Bool, true, false, true≢false, cond, List, [], ◌∷◌, length, get_or, min, slice_index_or, slice_set, refl, sym, ap, ◌∙◌, arith, subst, All, Any}
 use Rattle.std.proofs.lemmas.Bool.Decides.{nat_tests}
 use Rattle.sw_map.specs.Held.{Held, blank}
 use Rattle.sw_set.specs.Prepared.{IsOneCleared, IsSameButBoxes}
 use Rattle.sw_set.specs.Shelf.{AreaState}
-use Rattle.sw_chunks.specs.Cleared.{AreBlankBut, AreClearedBut, AreEach, HasMap, cells_in, cells_of}
+use Rattle.sw_chunks.specs.Cleared.{AreBlankBut, AreClearedBut, AreEach, HasMap, cells_in, cells_of, sum_of}
 use Rattle.sw_chunks.proofs.Asking.{get-any, set-many, set-other, set-same}
 use Rattle.sw_chunks.proofs.Steps.{boxes-alike, boxes-both}
 
 -- ---- sums over lists of which one element changes
-sum-set : {A : Type 0} (f : A → ℕ) (xs : List A) (k : ℕ) (v d : A) → k < length xs → sum (map f (slice_set xs k v)) + f (get_or xs k d) ≡ sum (map f xs) + f v
+sum-set : {A : Type 0} (f : A → ℕ) (xs : List A) (k : ℕ) (v d : A) → k < length xs → sum_of f (slice_set xs k v) + f (get_or xs k d) ≡ sum_of f xs + f v
 sum-set f [] k v d lt = absurd (omega (arith, lt))
-sum-set f (x ∷ xs) zero v d lt = omega arith
-sum-set f (x ∷ xs) (suc k) v d lt = let h = sum-set f xs k v d (omega (arith, lt)) in omega (arith, h)
+sum-set f (x ∷ xs) zero v d lt = let e : (f v + sum_of f xs) + f x ≡ (f x + sum_of f xs) + f v = omega arith in e
+sum-set f (x ∷ xs) (suc k) v d lt =
+    let h = sum-set f xs k v d (omega (arith, lt)) in
+    let e : (f x + sum_of f (slice_set xs k v)) + f (get_or xs k d) ≡ (f x + sum_of f xs) + f v = omega (arith, h) in e
 
 -- ---- maps of an area
-one-if : Bool → ℕ
+abbrev pub one-if : Bool → ℕ
 one-if true = 0
 one-if false = 1
 
-pub maps_of : AreaState → ℕ
-maps_of x = sum (map (λ (m : Held). one-if m.is_blank) x.boxes)
+abbrev pub maps_of : AreaState → ℕ
+maps_of x = sum_of (λ (m : Held). one-if m.is_blank) x.boxes
 
-pub maps_in : List AreaState → ℕ
-maps_in xs = sum (map maps_of xs)
+abbrev pub maps_in : List AreaState → ℕ
+maps_in xs = sum_of maps_of xs
 
 record IsLess (x v : AreaState) (cells : ℕ) : Type 0 where
   maps : maps_of v + 1 ≡ maps_of x
   cells_are : cells_of v + cells ≡ cells_of x
 
 less-map : (x v : AreaState) (cells : ℕ) → HasMap x → IsOneCleared x.boxes v.boxes cells → IsLess x v cells
-unfolding maps_of
 less-map x v cells has (inl none) = absurd (true≢false (sym (none.0 has.0 has.1 has.2) ∙ (ap (λ (m : Held). m.is_blank) has.3 ∙ has.4)))
-less-map x v cells has (inr one) =
-    let at : ℕ = one.0 in let d : Held = has.1 in
-    let maps = sum-set (λ (m : Held). one-if m.is_blank) x.boxes at blank d one.1 in
-    let sums = sum-set (λ (m : Held). m.cells) x.boxes at blank d one.1 in
-    let was : one-if (get_or x.boxes at d).is_blank ≡ 1 = ap one-if (one.2 d).0 in
-    let its : cells ≡ (get_or x.boxes at d).cells = (one.2 d).1 in
-    let now_maps : maps_of v ≡ sum (map (λ (m : Held). one-if m.is_blank) (slice_set x.boxes at blank)) = ap (λ l. sum (map (λ (m : Held). one-if m.is_blank) l)) one.3 in
-    let now_sums : cells_of v ≡ sum (map (λ (m : Held). m.cells) (slice_set x.boxes at blank)) = ap (λ l. sum (map (λ (m : Held). m.cells) l)) one.3 in
-    record { maps = now_maps ∙ omega (arith, maps, was) ; cells_are = ap (λ n. n + cells) now_sums ∙ omega (arith, sums, its) }
+less-map x v cells has (inr one) = record { maps = maps; cells_are = cells_are }
+  where
+    was : one-if (get_or x.boxes one.0 has.1).is_blank ≡ 1
+    was = ap one-if (one.2 has.1).0
+
+    maps : maps_of v + 1 ≡ maps_of x
+    maps =
+        let h : sum_of (λ (m : Held). one-if m.is_blank) (slice_set x.boxes one.0 blank) + one-if (get_or x.boxes one.0 has.1).is_blank ≡ maps_of x + 0 = sum-set (λ (m : Held). one-if m.is_blank) x.boxes one.0 blank has.1 one.1 in
+        let e : sum_of (λ (m : Held). one-if m.is_blank) (slice_set x.boxes one.0 blank) + 1 ≡ maps_of x = omega (arith, h, was) in
+        ap (λ l. sum_of (λ (m : Held). one-if m.is_blank) l + 1) one.3 ∙ e
+
+    cells_are : cells_of v + cells ≡ cells_of x
+    cells_are =
+        let h : sum_of (λ (m : Held). m.cells) (slice_set x.boxes one.0 blank) + (get_or x.boxes one.0 has.1).cells ≡ cells_of x + 0 = sum-set (λ (m : Held). m.cells) x.boxes one.0 blank has.1 one.1 in
+        let its : cells ≡ (get_or x.boxes one.0 has.1).cells = (one.2 has.1).1 in
+        let e : sum_of (λ (m : Held). m.cells) (slice_set x.boxes one.0 blank) + cells ≡ cells_of x = omega (arith, h, its) in
+        ap (λ l. sum_of (λ (m : Held). m.cells) l + cells) one.3 ∙ e
 
 -- maps were cleared; whether enough came back is not said
 pub record AreClearing (but cells : ℕ) (xs ys : List AreaState) (came : ℕ) : Type 0 where
@@ -63,7 +72,6 @@ clear-none but cells xs =
     }
 
 pub clear-next : (but cells k : ℕ) (xs ys : List AreaState) (v : AreaState) (came c more : ℕ) → came < cells → k < length ys → k ≢ but → ((d : AreaState) → HasMap (get_or ys k d)) → ((d : AreaState) → IsSameButBoxes (get_or ys k d) v) → ((d : AreaState) → IsOneCleared (get_or ys k d).boxes v.boxes c) → more ≡ min (came + c) 18446744073709551615 → AreClearing but cells xs ys came → AreClearing but cells xs (slice_set ys k v) more × (maps_in (slice_set ys k v) < maps_in ys)
-unfolding maps_in
 clear-next but cells k xs ys v came c more some lt ne has same one is w = (
   record {
     same = (set-many ys k v ∙ w.same.0, each);

@@ -1,5 +1,6 @@
 -- Replies over areas stay within the bits of a reply when they are joined.
-use Rattle.std.proofs.Common.{◌≡◌, ◌<◌, ◌≤◌, ◌+◌, ◌*◌, ◌^◌, ◌+ℤ◌, ◌≤ℤ◌, neg_ℤ, ℕ, zero, suc, ℤ, pos, negsuc, Bool, true, false, ◌&&◌, ◌||◌, List, [], ◌∷◌, ◌++◌, length, map, filter, fold, drop, get_or, refl, sym, ap, ◌∙◌, arith, cond, subst, FitsSigned, w128, All, Option, None, Some}
+use Rattle.std.proofs.Common.{◌≡◌, ◌<◌, ◌≤◌, ◌+◌, ◌*◌, ◌^◌, ◌+ℤ◌, ◌≤ℤ◌, neg_ℤ, ℕ, zero, suc, ℤ, pos, negsuc, Bool, true, false, ◌&&◌, ◌||◌, List, [], ◌∷◌, ◌++◌, length, map, filter, fold, drop, get_or, refl, sym, ap, ◌∙◌, arith, cond, subst, FitsSigned, All, Option, None, Some}
+use Rattle.std.specs.Int.{w128}
 use Rattle.std.specs.List.{AllByRecursion}
 use Rattle.std.proofs.lemmas.Int.{ints}
 use Rattle.std.proofs.lemmas.List.Elements.{All-from_recursion, All-append}
@@ -28,7 +29,7 @@ use Rattle.sw_chunks.proofs.Together.{before, before-apart, before-upto, joined-
 
 -- ---- rows with rising keys below a number are as few as that
 few-from : (rows : List Row) (low n : ℕ) → low ≤ n → Rises key_of rows → ((k : ℕ) (d : Row) → k < length rows → (low ≤ (get_or rows k d).key) × ((get_or rows k d).key < n)) → length rows + low ≤ n
-few-from [] low n le rise in_range = le
+few-from [] low n le rise in_range = let e : 0 + low ≤ n = omega (arith, le) in e
 few-from (r ∷ rows) low n le rise in_range =
     let here = in_range 0 r (omega arith) in let above : All (λ (y : Row). r.key < y.key) rows = All-from_recursion rise.0 in
     let rest = few-from rows (r.key + 1) n (let b = here.1 in omega (arith, b)) rise.1 (λ k d lt. (let a = above k d lt in omega (arith, a), (in_range (suc k) d (omega (arith, lt))).1)) in
@@ -38,14 +39,17 @@ few-rows : (rows : List Row) → Rises key_of rows → All RowFits rows → leng
 few-rows rows rise fit = let h = few-from rows 0 (2 ^ 63) (omega arith) rise (λ k d lt. (omega arith, (fit k d lt).key)) in omega (arith, h)
 
 -- ---- sums
-Within : ℕ → ℤ → Type 0
+abbrev pub Within : ℕ → ℤ → Type 0
 Within n z = (neg_ℤ (pos (2 ^ 63 * n)) ≤ℤ z) × (z ≤ℤ pos (2 ^ 63 * n))
 
 one-more : (n : ℕ) (z y : ℤ) → Within n z → IsCell y → Within (n + 1) (z +ℤ y)
 one-more n z y w c = let a = w.0 in let b = w.1 in let e = c.0 in let f = c.1 in (omega (arith, ints, a, e), omega (arith, ints, b, f))
 
 total-from : (a : ℕ) (rows : List Row) (n : ℕ) (z : ℤ) → Within n z → All RowFits rows → Within (length rows + n) (fold ◌+ℤ◌ z (column a rows))
-total-from a [] n z w fit = w
+total-from a [] n z w fit = subst (λ (m : ℕ). Within m z) (start n) w
+  where
+    start : (n : ℕ) → n ≡ 0 + n
+    start n = omega arith
 total-from a (r ∷ rows) n z w fit =
     subst (λ (m : ℕ). Within m (fold ◌+ℤ◌ (z +ℤ cell_of a r) (column a rows))) (next (length rows) n)
     (total-from a rows (n + 1) (z +ℤ cell_of a r) (one-more n z (cell_of a r) w ((fit 0 r (omega arith)).cells a)) (λ k d lt. fit (suc k) d (omega (arith, lt))))

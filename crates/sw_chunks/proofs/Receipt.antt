@@ -113,7 +113,7 @@ sub-more came live r sub x m = of_side (mem-either live r x m)
 
 -- every place is that of an area
 within : (a : ℕ) (cuts : List ℤ) (came live : List Row) (vs : List Update) → RiseAbove None cuts → AreReceivable a None None came live vs → Rises key_of (fold came_then came vs) → ((r : Row) → Mem r live → Mem r came) → All (λ (p : ℕ). p < length (intervals cuts)) (map (place_by a cuts (owners_of a cuts (fold came_then came vs))) vs)
-within a cuts came live [] rise w all_rise sub k d lt = absurd (omega (arith, lt))
+within a cuts came live [] rise w all_rise sub = λ k d lt. absurd (omega (arith, lt))
 within a cuts came live (update.Insert r ∷ vs) rise w all_rise sub =
     let os : List (ℕ × ℕ) = owners_of a cuts (fold came_then (came ++ r ∷ []) vs) in
     one-more (λ (p : ℕ). p < length (intervals cuts)) (place_of_row a cuts r) (map (place_by a cuts os) vs) (one_interval cuts (cell_of a r) rise).0

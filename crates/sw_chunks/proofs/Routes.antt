@@ -60,19 +60,19 @@ has-part p (x ∷ rows) r rise (inr m) = by (p x) refl (has-part p rows r rise.1
     by true q rest = rw q (rw (other-key-up x.key r.key above) rest)
     by false q rest = rw q rest
 
-live-row : (k : ℕ) (rows : List Row) → has_key k rows ≡ true → (r : Row) × Mem r rows × (r.key ≡ k)
+pub live-row : (k : ℕ) (rows : List Row) → has_key k rows ≡ true → (r : Row) × Mem r rows × (r.key ≡ k)
 live-row k [] h = absurd (true≢false (sym h))
-live-row k (x ∷ rows) h = by (k == x.key) refl
+live-row k (x ∷ rows) h = by (k == x.key) refl (live-row k rows)
   where
     same : (j k : ℕ) → (j == k) ≡ true → k ≡ j
     same j k q = grind (arith, nat_tests, q)
 
-    by : (b : Bool) → (k == x.key) ≡ b → (r : Row) × Mem r (x ∷ rows) × (r.key ≡ k)
-    by true q = (x, inl refl, same k x.key q)
-    by false q = let rest = live-row k rows (sym (ap (λ t. t || has_key k rows) q) ∙ h) in (rest.0, inr rest.1, rest.2)
+    by : (b : Bool) → (k == x.key) ≡ b → (has_key k rows ≡ true → (r : Row) × Mem r rows × (r.key ≡ k)) → (r : Row) × Mem r (x ∷ rows) × (r.key ≡ k)
+    by true q more = (x, inl refl, same k x.key q)
+    by false q more = let rest = more (sym (ap (λ t. t || has_key k rows) q) ∙ h) in (rest.0, inr rest.1, rest.2)
 
 -- ---- rows that came stay among those that came
-came-stays : (came : List Row) (us : List Update) (r : Row) → Mem r came → Mem r (fold came_then came us)
+pub came-stays : (came : List Row) (us : List Update) (r : Row) → Mem r came → Mem r (fold came_then came us)
 came-stays came [] r m = m
 came-stays came (update.Insert x ∷ us) r m = came-stays (came ++ x ∷ []) us r (mem-left came (x ∷ []) r m)
 came-stays came (update.Remove k ∷ us) r m = came-stays came us r m

@@ -139,3 +139,19 @@ sent-next i p ps us u xs ys v lt m at-p at-u within w is spare = record { many =
         by false q =
             subst (λ (y : AreaState). IsPartlySent k (i + 1) ps us (get_or xs k d) y) (sym (set-other ys p k v e (other-place k p q)))
             (passed k p ps (drop (i + 1) ps) us (drop (i + 1) us) u i (get_or xs k d) (get_or ys k e) (λ b. other-place k p q (sym b)) dp du refl refl (w.each k d e l))
+
+-- the area at the next place has room for the next update, and may receive it
+pub next-room : (i p : ℕ) (ps : List ℕ) (us : List Update) (xs ys : List AreaState) (d : AreaState) → i < length ps → get_or ps i 0 ≡ p → p < length xs → ArePartlySent i ps us xs ys → 1 ≤ (get_or ys p d).spare
+next-room i p ps us xs ys d lt at-p within w =
+    let room = (w.each p d d within).room in
+    let counted : count_at p (drop i ps) ≡ 1 + count_at p (drop (i + 1) ps) = ap (count_at p) (drop-at ps i 0 lt ∙ ap (λ n. n ∷ drop (i + 1) ps) at-p) ∙ count-here p p (drop (i + 1) ps) refl in
+    omega (arith, room, counted)
+
+pub next-may : (i p : ℕ) (ps : List ℕ) (us : List Update) (u : Update) (xs ys : List AreaState) (d : AreaState) → i < length us → length ps ≡ length us → get_or ps i 0 ≡ p → get_or us i u ≡ u → p < length xs → ArePartlySent i ps us xs ys → AreReceivable (get_or ys p d).attribute (get_or ys p d).from (get_or ys p d).below (came_in (get_or ys p d)) (rows_in (get_or ys p d)) (u ∷ [])
+next-may i p ps us u xs ys d lt m at-p at-u within w =
+    let y : AreaState = get_or ys p d in
+    let dp : drop i ps ≡ p ∷ drop (i + 1) ps = drop-at ps i 0 (omega (arith, lt, m)) ∙ ap (λ n. n ∷ drop (i + 1) ps) at-p in
+    let du : drop i us ≡ u ∷ drop (i + 1) us = drop-at us i u lt ∙ ap (λ n. n ∷ drop (i + 1) us) at-u in
+    let here : sent p (drop i ps) (drop i us) ≡ u ∷ sent p (drop (i + 1) ps) (drop (i + 1) us) = ap (λ l. sent p l (drop i us)) dp ∙ (ap (sent p (p ∷ drop (i + 1) ps)) du ∙ sent-here p p (drop (i + 1) ps) u (drop (i + 1) us) refl) in
+    let may : AreReceivable y.attribute y.from y.below (came_in y) (rows_in y) (u ∷ sent p (drop (i + 1) ps) (drop (i + 1) us)) = subst (AreReceivable y.attribute y.from y.below (came_in y) (rows_in y)) here (w.each p d d within).may in
+    (may.0, tt)

@@ -1,13 +1,18 @@
 -- One area after the other is asked.
-use Rattle.std.proofs.Common.{◌≡◌, ◌≢◌, ◌<◌, ◌≤◌, ◌+◌, ◌&&◌, nat_eq, ℕ, Bool, true, false, true≢false, List, length, get_or, drop, refl, sym, ap, ◌∙◌, arith, subst, All}
+use Rattle.std.proofs.Common.{◌≡◌, ◌≢◌, ◌<◌, ◌≤◌, ◌+◌, ◌&&◌, nat_eq, ℕ, Bool, true, false, true≢false, List, length, get_or, drop, slice_set, refl, sym, ap, ◌∙◌, arith, subst, fold, All, Result, MatchResult, IfOk}
 use Rattle.std.proofs.lemmas.Bool.Decides.{nat_tests}
 use Rattle.sw_rows.specs.declared.row.Row.{Row}
 use Rattle.sw_rows.specs.declared.query.Query.{Query}
 use Rattle.sw_rows.specs.declared.reply.Reply.{Reply}
+use Rattle.sw_rows.specs.declared.refusal.Refusal.{Refusal}
 use Rattle.sw_rows.specs.Scan.{answer}
+use Rattle.sw_rows.specs.Updates.{rows_then}
+use Rattle.sw_set.specs.declared.prepare.Ready.{Ready}
+use Rattle.sw_set.proofs.Ends.{noted-stand}
+use Rattle.sw_set.proofs.Told.{if-ok}
 use Rattle.sw_set.specs.Merged.{StandsForSame}
-use Rattle.sw_set.specs.Prepared.{IsSameButBoxes, area_lower, area_upper, is_touched, stands_if}
-use Rattle.sw_set.specs.Shelf.{AreaState, came_in, rows_in}
+use Rattle.sw_set.specs.Prepared.{IsNotedFor, IsPreparedFor, IsSameButBoxes, area_lower, area_upper, is_touched, stands_if}
+use Rattle.sw_set.specs.Shelf.{AreaState, IsSameArea, came_in, logged_rows, rows_in}
 use Rattle.sw_chunks.specs.Cleared.{AreClearedBut, AreEach}
 use Rattle.sw_chunks.specs.Heads.{AreUntouchedKept, IsRanged}
 use Rattle.sw_chunks.specs.Asked.{AreAskedBefore, AreaFits, AreasFit, IsOneAsked, with_all, with_area}
@@ -55,6 +60,22 @@ boxes-stand x y w =
   where
     came : came_in y ≡ came_in x
     came = rw (w.tape, w.inbox) refl
+
+-- a range that was noted stands
+pub ranged-of : (q : Query) (x y : AreaState) → length x.tape ≤ 4096 → y.from ≡ x.from → y.below ≡ x.below → IsNotedFor q x y.tape → IsRanged q y
+ranged-of q x y few from below w t = rw (from, below) (noted-stand (area_lower x q) (area_upper x q) (logged_rows x.attribute x.tape) x.tape y.tape few (w.touched (sym same ∙ t)))
+  where
+    same : is_touched y q ≡ is_touched x q
+    same = rw (from, below) refl
+
+pub area-stands : (x y : AreaState) → IsSameArea x y → StandsForSame x y
+area-stands x y w =
+    record { attribute = w.attribute; from = w.from; below = w.below; rows = ap (λ l. fold rows_then l y.inbox) w.logged ∙ ap (fold rows_then (logged_rows x.attribute x.tape)) w.inbox; many = w.many; brings = w.brings }
+
+pub ready-told : (q : Query) (x y : AreaState) (told : Result Ready Refusal) (R : Refusal → Type 0) → length x.tape ≤ 4096 → IsSameArea x y → MatchResult told (λ r. IsNotedFor q x y.tape × IsPreparedFor q y r.from r.upto) R → IfOk told (λ r. IsPreparedFor q y r.from r.upto × IsRanged q y)
+ready-told q x y told R few same w =
+    if-ok (λ r. IsNotedFor q x y.tape × IsPreparedFor q y r.from r.upto) (λ r. IsPreparedFor q y r.from r.upto × IsRanged q y) R told
+    (λ r both. (both.1, ranged-of q x y few same.from same.below both.0)) w
 
 pub touched-same : (q : Query) (x y : AreaState) → StandsForSame x y → is_touched y q ≡ is_touched x q
 touched-same q x y w = rw (w.from, w.below) refl

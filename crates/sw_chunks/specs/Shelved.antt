@@ -1,5 +1,6 @@
 -- The boxes of areas.
-use Rattle.std.specs.Prelude.{◌≡◌, ◌≤◌, ◌<◌, ◌+◌, ℕ, List, get_or, length, map, sum}
+use Rattle.std.specs.Prelude.{◌≡◌, ◌≤◌, ◌<◌, ◌+◌, ℕ, List, get_or, length}
+use Rattle.sw_chunks.specs.Cleared.{sum_of}
 use Rattle.sw_set.specs.Merged.{StandsForSame}
 use Rattle.sw_set.specs.Prepared.{IsSameButBoxes}
 use Rattle.sw_set.specs.Shelf.{AreaState}
@@ -21,7 +22,7 @@ pub record IsSameButShelf (x y : AreaState) : Type 0 where
 
 -- how many boxes areas have
 abbrev pub boxes_in : List AreaState → ℕ
-boxes_in xs = sum (map (λ (x : AreaState). length x.boxes) xs)
+boxes_in xs = sum_of (λ (x : AreaState). length x.boxes) xs
 
 -- Boxes were dropped, those of the lowest areas first: at most so many, and all where there are no more.
 pub record AreShed (most : ℕ) (xs ys : List AreaState) (gone : ℕ) : Type 0 where

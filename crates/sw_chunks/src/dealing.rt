@@ -66,10 +66,10 @@ fn start_of(cuts: &[i64], place: usize) -> Option<i64>
     requires { place ≤ length cuts.now }
     ensures { (i : Interval) → result ≡ (get_or (intervals cuts.now) place i).0 }
 {
-    if place == 0 {
-        None
-    } else {
+    if place > 0 {
         Some(cuts[place - 1])
+    } else {
+        None
     }
 }
 

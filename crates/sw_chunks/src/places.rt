@@ -1,6 +1,6 @@
 //! Into which area a row goes, and into which one it went.
 
-ghost use Rattle.std.specs.Prelude.{◌≡◌, ◌<◌, ◌≤◌, ℕ, fold, length, map, MatchResult};
+ghost use Rattle.std.specs.Prelude.{◌≡◌, ◌≢◌, ◌<◌, ◌≤◌, ℕ, true, false, fold, length, map, MatchResult, slice_index_or};
 ghost use Rattle.sw_rows.specs.declared.refusal.Refusal.TheVariants.{NoMemory};
 ghost use Rattle.sw_set.specs.Shelf.{Rises};
 ghost use Rattle.sw_chunks.specs.Cuts.{place_in};
@@ -24,13 +24,21 @@ pub(crate) fn place_in(cuts: &[i64], cell: i64) -> u8
     place
 }
 
-/// The place that stands beside a key, where keys rise.
+/// Whether the key at a place, if there is such a place, is the one.
+fn stands_at(owners: &[(u64, u8)], place: usize, key: u64) -> bool
+    ensures there { result ≡ true → (place < length owners.now) × ((d : ℕ × ℕ) → (slice_index_or owners.now place d).0 ≡ key) }
+    ensures other { result ≡ false → (d : ℕ × ℕ) → place < length owners.now → (slice_index_or owners.now place d).0 ≢ key }
+{
+    place < owners.len() && owners[place].0 == key
+}
+
+/// The place that stands beside a key, where keys rise. By binary search.
 fn find_place(owners: &[(u64, u8)], key: u64) -> u8
     requires { Rises (λ (o : ℕ × ℕ). o.0) owners.now }
     ensures { result ≡ find_place key owners.now }
 {
     let at = owners.partition_point(|owner| owner.0 < key);
-    if at < owners.len() && owners[at].0 == key {
+    if stands_at(owners, at, key) {
         owners[at].1
     } else {
         0
