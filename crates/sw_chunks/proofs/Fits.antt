@@ -31,7 +31,7 @@ use Rattle.sw_chunks.proofs.Together.{before, before-apart, before-upto, joined-
 few-from : (rows : List Row) (low n : ℕ) → low ≤ n → Rises key_of rows → ((k : ℕ) (d : Row) → k < length rows → (low ≤ (get_or rows k d).key) × ((get_or rows k d).key < n)) → length rows + low ≤ n
 few-from [] low n le rise in_range = let e : 0 + low ≤ n = omega (arith, le) in e
 few-from (r ∷ rows) low n le rise in_range =
-    let here = in_range 0 r (omega arith) in let above : All (λ (y : Row). r.key < y.key) rows = All-from_recursion rise.0 in
+    let here = in_range 0 r (omega arith) in let above : All (λ (y : Row). r.key < y.key) rows = All-from_recursion (λ (y : Row). r.key < y.key) rows rise.0 in
     let rest = few-from rows (r.key + 1) n (let b = here.1 in omega (arith, b)) rise.1 (λ k d lt. (let a = above k d lt in omega (arith, a), (in_range (suc k) d (omega (arith, lt))).1)) in
     let a = here.0 in omega (arith, rest, a)
 
@@ -79,11 +79,11 @@ all-filter P p (r ∷ rows) h = by (p r) (all-filter P p rows (λ k d lt. h (suc
     by false rest = rest
 
 -- ---- two replies that are joined
-count-in : Reply → ℕ
+abbrev pub count-in : Reply → ℕ
 count-in (reply.Count n) = n
 count-in r = 0
 
-sum-in : Reply → ℤ
+abbrev pub sum-in : Reply → ℤ
 sum-in (reply.Sum z) = z
 sum-in r = pos 0
 

@@ -1,5 +1,5 @@
 -- One area after the other is asked.
-use Rattle.std.proofs.Common.{◌≡◌, ◌≢◌, ◌<◌, ◌≤◌, ◌+◌, ◌&&◌, nat_eq, ℕ, Bool, true, false, true≢false, List, length, get_or, drop, slice_set, refl, sym, ap, ◌∙◌, arith, subst, fold, All, Result, MatchResult, IfOk}
+use Rattle.std.proofs.Common.{◌≡◌, ◌≢◌, ◌<◌, ◌≤◌, ◌+◌, ◌&&◌, nat_eq, ℕ, zero, suc, Bool, true, false, true≢false, List, [], ◌∷◌, length, get_or, drop, slice_set, refl, sym, ap, ◌∙◌, arith, subst, fold, All, Result, MatchResult, IfOk}
 use Rattle.std.proofs.lemmas.Bool.Decides.{nat_tests}
 use Rattle.sw_rows.specs.declared.row.Row.{Row}
 use Rattle.sw_rows.specs.declared.query.Query.{Query}
@@ -166,3 +166,30 @@ one-set k ys v lt same =
       here = λ d e. subst (StandsForSame (get_or ys k d)) (sym (set-same ys k v e lt)) (same d);
       others = λ j d e l ne. subst (IsSameButBoxes (get_or ys j d)) (get-any ys j d e l ∙ sym (set-other ys k j v e ne)) (boxes-alike (get_or ys j d));
     }
+
+set-self : (xs : List AreaState) (k : ℕ) (v : AreaState) → get_or xs k v ≡ v → slice_set xs k v ≡ xs
+set-self [] k v e = refl
+set-self (x ∷ xs) zero v e = ap (λ t. t ∷ xs) (sym e)
+set-self (x ∷ xs) (suc k) v e = ap (λ l. x ∷ l) (set-self xs k v e)
+
+-- one area more was scanned
+pub scanned-next : (q : Query) (k : ℕ) (xs ys : List AreaState) (area v : AreaState) → k < length xs → AreAskedBefore q k xs ys 1 → get_or ys k area ≡ area → StandsForSame area v → (is_touched area q ≡ false → v ≡ area) → AreAskedBefore q (k + 1) xs (slice_set ys k v) 1
+scanned-next q k xs ys area v lt w here same kept =
+    asked-next q k xs ys (slice_set ys k v) 1 1 true lt w (one-set k ys v within stands) still (λ f. absurd (true≢false f)) (λ z. absurd (omega (arith, z)))
+  where
+    within : k < length ys
+    within = let m = w.same.0 in omega (arith, lt, m)
+
+    at : (d : AreaState) → get_or ys k d ≡ area
+    at d = get-any ys k d area within ∙ here
+
+    stands : (d : AreaState) → StandsForSame (get_or ys k d) v
+    stands d = subst (λ (t : AreaState). StandsForSame t v) (sym (at d)) same
+
+    still : (d : AreaState) → is_touched (get_or ys k d) q ≡ false → slice_set ys k v ≡ ys
+    still d t = let e : v ≡ area = kept (subst (λ (s : AreaState). is_touched s q ≡ false) (at d) t) in set-self ys k v (at v ∙ sym e)
+
+-- some area, where there is one
+pub an-area : (xs : List AreaState) (k : ℕ) → k < length xs → AreaState
+an-area [] k lt = absurd (omega (arith, lt))
+an-area (x ∷ xs) k lt = x
