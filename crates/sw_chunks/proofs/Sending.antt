@@ -155,3 +155,20 @@ next-may i p ps us u xs ys d lt m at-p at-u within w =
     let here : sent p (drop i ps) (drop i us) ≡ u ∷ sent p (drop (i + 1) ps) (drop (i + 1) us) = ap (λ l. sent p l (drop i us)) dp ∙ (ap (sent p (p ∷ drop (i + 1) ps)) du ∙ sent-here p p (drop (i + 1) ps) u (drop (i + 1) us) refl) in
     let may : AreReceivable y.attribute y.from y.below (came_in y) (rows_in y) (u ∷ sent p (drop (i + 1) ps) (drop (i + 1) us)) = subst (AreReceivable y.attribute y.from y.below (came_in y) (rows_in y)) here (w.each p d d within).may in
     (may.0, tt)
+
+get-any-of : {A : Type 0} (xs : List A) (k : ℕ) (d e : A) → k < length xs → get_or xs k d ≡ get_or xs k e
+get-any-of [] k d e lt = absurd (omega (arith, lt))
+get-any-of (x ∷ xs) zero d e lt = refl
+get-any-of (x ∷ xs) (suc k) d e lt = get-any-of xs k d e (omega (arith, lt))
+
+pub next-may-at : (i p : ℕ) (ps : List ℕ) (us : List Update) (u : Update) (xs ys : List AreaState) (d : AreaState) → i < length us → length ps ≡ length us → get_or ps i 0 ≡ p → p < length xs → ArePartlySent i ps us xs ys → AreReceivable (get_or ys p d).attribute (get_or ys p d).from (get_or ys p d).below (came_in (get_or ys p d)) (rows_in (get_or ys p d)) (get_or us i u ∷ [])
+next-may-at i p ps us u xs ys d lt m at-p within w = next-may i p ps us (get_or us i u) xs ys d lt m at-p (get-any-of us i (get_or us i u) u lt) within w
+
+pub sent-next-at : (i p : ℕ) (ps : List ℕ) (us : List Update) (u : Update) (xs ys : List AreaState) (r v : AreaState) → i < length us → length ps ≡ length us → get_or ps i 0 ≡ p → p < length xs → ArePartlySent i ps us xs ys → v ≡ record (get_or ys p r) { inbox = (get_or ys p r).inbox ++ get_or us i u ∷ []; spare = v.spare } → (get_or ys p r).spare ≤ v.spare + 1 → ArePartlySent (i + 1) ps us xs (slice_set ys p v)
+sent-next-at i p ps us u xs ys r v lt m at-p within w is spare =
+    sent-next i p ps us (get_or us i u) xs ys v lt m (λ d. get-any-of ps i d 0 (omega (arith, lt, m)) ∙ at-p) (λ d. get-any-of us i d u lt) within w
+    (λ d. subst (λ (t : AreaState). v ≡ record t { inbox = t.inbox ++ get_or us i u ∷ []; spare = v.spare }) (get-any ys p r d here) is)
+    (λ d. subst (λ (t : AreaState). t.spare ≤ v.spare + 1) (get-any ys p r d here) spare)
+  where
+    here : p < length ys
+    here = let n = w.many in omega (arith, within, n)

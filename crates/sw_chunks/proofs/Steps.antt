@@ -193,3 +193,32 @@ scanned-next q k xs ys area v lt w here same kept =
 pub an-area : (xs : List AreaState) (k : ℕ) → k < length xs → AreaState
 an-area [] k lt = absurd (omega (arith, lt))
 an-area (x ∷ xs) k lt = x
+
+-- one after the other
+pub one-both : (k : ℕ) (xs ys zs : List AreaState) → IsOneAsked k xs ys → IsOneAsked k ys zs → IsOneAsked k xs zs
+one-both k xs ys zs a b =
+    record {
+      many = b.many ∙ a.many;
+      here = λ d e. stands-both (get_or xs k d) (get_or ys k d) (get_or zs k e) (a.here d d) (b.here d e);
+      others = λ j d e l ne. boxes-both (get_or xs j d) (get_or ys j d) (get_or zs j e) (a.others j d d l ne) (b.others j d e (let m = a.many in omega (arith, l, m)) ne);
+    }
+
+-- maps of the others were cleared
+cleared-one : (k cells came : ℕ) (xs ys : List AreaState) → k < length xs → AreClearedBut k cells xs ys came → IsOneAsked k xs ys
+cleared-one k cells came xs ys lt w =
+    record {
+      many = w.same.0;
+      here = λ d e. subst (StandsForSame (get_or xs k d)) (sym (w.kept d e lt)) (stands-alike (get_or xs k d));
+      others = λ j d e l ne. w.same.1 j d e l;
+    }
+
+pub set-one : (k : ℕ) (xs : List AreaState) (r v : AreaState) → k < length xs → StandsForSame (get_or xs k r) v → IsOneAsked k xs (slice_set xs k v)
+set-one k xs r v lt same = one-set k xs v lt (λ d. subst (λ (t : AreaState). StandsForSame t v) (get-any xs k r d lt) same)
+
+-- an area that was asked, and once more after maps of the others were cleared
+pub asked-again : (k cells came : ℕ) (xs ys : List AreaState) (r v s u : AreaState) → k < length xs → StandsForSame (get_or xs k r) v → AreClearedBut k cells (slice_set xs k v) ys came → StandsForSame (get_or ys k s) u → IsOneAsked k xs (slice_set ys k u)
+asked-again k cells came xs ys r v s u lt first cleared again =
+    let within : k < length (slice_set xs k v) = let m = set-many xs k v in omega (arith, lt, m) in
+    let after : k < length ys = let m = cleared.same.0 in omega (arith, within, m) in
+    one-both k xs (slice_set xs k v) (slice_set ys k u) (set-one k xs r v lt first)
+    (one-both k (slice_set xs k v) ys (slice_set ys k u) (cleared-one k cells came (slice_set xs k v) ys within cleared) (set-one k ys s u after again))
