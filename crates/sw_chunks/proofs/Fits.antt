@@ -130,10 +130,11 @@ fits-from a from [] rows q (x ∷ []) rise keys fit head is parts =
 fits-from a from (c ∷ cs) rows q (x ∷ xs) rise keys fit head is parts =
     let part : rows_in x ≡ part_of a rows (from, Some c) = ap (λ l. get_or l 0 []) parts in
     let here : interval_of x ≡ (from, Some c) = ap (λ l. get_or l 0 (from, Some c)) is in
-    let same : ((r : Row) → upto a (Some c) r ≡ before a from r || lies_within a from (Some c) r) = λ r. upto-cut a from c cs r rise in
-    (area-fits a rows q x (from, Some c) keys fit part same,
+    let same : ((r : Row) → upto a (Some c) r ≡ before a from r || lies_within a from (Some c) r) = λ r. upto-cut a from c cs r rise in (
+      area-fits a rows q x (from, Some c) keys fit part same,
       subst (λ (f : Reply). AreasFit q f xs) (sym (one-area a rows q x (from, Some c) keys head here part same ∙ ap (λ l. answer l q) (before-upto a c rows)))
-      (fits-from a (Some c) cs rows q xs (rises-on from c cs rise) keys fit head (ap (drop 1) is) (ap (drop 1) parts)))
+          (fits-from a (Some c) cs rows q xs (rises-on from c cs rise) keys fit head (ap (drop 1) is) (ap (drop 1) parts)),
+    )
 
 -- ---- live rows are rows that came
 pub live-came : (P : Row → Type 0) (came live : List Row) (us : List Update) → (All P came → All P live) → All P (fold came_then came us) → All P (fold rows_then live us)

@@ -89,10 +89,10 @@ handed k ps rest us more u i x y v dp du np nu w is spare =
       area = is ∙ (ap (λ (t : AreaState). record t { inbox = y.inbox ++ u ∷ []; spare = v.spare }) w.area ∙ ap (λ l. record x { inbox = l; spare = v.spare }) (sym box));
       inbox = ap (λ l. v.inbox ++ l) next ∙ (ap (λ l. l ++ sent k rest more) box ∙ (append_assoc y.inbox (u ∷ []) (sent k rest more) ∙ (ap (λ l. y.inbox ++ l) (sym here) ∙ w.inbox)));
       may =
-        subst (λ (l : List Update). AreReceivable v.attribute v.from v.below (came_in v) (rows_in v) l) (sym next)
-        (subst (λ (t : AreaState). AreReceivable t.attribute t.from t.below (came_in v) (rows_in v) (sent k rest more)) (sym is)
-        (subst (λ l. AreReceivable y.attribute y.from y.below (came_in v) l (sent k rest more)) (sym rows)
-        (subst (λ l. AreReceivable y.attribute y.from y.below l (rows_then (rows_in y) u) (sent k rest more)) (sym came) may.1)));
+          subst (λ (l : List Update). AreReceivable v.attribute v.from v.below (came_in v) (rows_in v) l) (sym next)
+          (subst (λ (t : AreaState). AreReceivable t.attribute t.from t.below (came_in v) (rows_in v) (sent k rest more)) (sym is)
+          (subst (λ l. AreReceivable y.attribute y.from y.below (came_in v) l (sent k rest more)) (sym rows)
+          (subst (λ l. AreReceivable y.attribute y.from y.below l (rows_then (rows_in y) u) (sent k rest more)) (sym came) may.1)));
       room = rw np (let c = counted in omega (arith, room, spare, c));
     }
 
@@ -100,7 +100,7 @@ handed k ps rest us more u i x y v dp du np nu w is spare =
 passed : (k p : ℕ) (ps rest : List ℕ) (us more : List Update) (u : Update) (i : ℕ) (x y : AreaState) → p ≢ k → drop i ps ≡ p ∷ rest → drop i us ≡ u ∷ more → drop (i + 1) ps ≡ rest → drop (i + 1) us ≡ more → IsPartlySent k i ps us x y → IsPartlySent k (i + 1) ps us x y
 passed k p ps rest us more u i x y ne dp du np nu w =
     let same : sent k (drop i ps) (drop i us) ≡ sent k (drop (i + 1) ps) (drop (i + 1) us) =
-        ap (λ l. sent k l (drop i us)) dp ∙ (ap (sent k (p ∷ rest)) du ∙ (sent-other k p rest u more ne ∙ (ap (sent k rest) (sym nu) ∙ ap (λ l. sent k l (drop (i + 1) us)) (sym np)))) in
+    ap (λ l. sent k l (drop i us)) dp ∙ (ap (sent k (p ∷ rest)) du ∙ (sent-other k p rest u more ne ∙ (ap (sent k rest) (sym nu) ∙ ap (λ l. sent k l (drop (i + 1) us)) (sym np)))) in
     let counted : count_at k (drop i ps) ≡ count_at k (drop (i + 1) ps) = ap (count_at k) dp ∙ (count-other k p rest ne ∙ ap (count_at k) (sym np)) in
     record {
       area = w.area;

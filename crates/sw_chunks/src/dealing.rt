@@ -40,12 +40,7 @@ fn push_row(part: &mut Vec<Row>, row: Row) -> Result<(), Refusal>
 }
 
 /// The rows by the intervals in which their cells lie, in one pass. Refused `NoMemory` alone.
-fn deal(
-    alloc: Global,
-    attribute: u8,
-    cuts: &[i64],
-    rows: &[Row],
-) -> Result<Vec<Vec<Row>>, Refusal>
+fn deal(alloc: Global, attribute: u8, cuts: &[i64], rows: &[Row]) -> Result<Vec<Vec<Row>>, Refusal>
     requires attribute { attribute < 8 }
     requires rising { RiseAbove None cuts.now }
     requires few { length cuts.now ≤ 15 }

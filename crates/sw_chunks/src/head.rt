@@ -173,13 +173,7 @@ impl<M: CrackerMap> Head<M> {
         ensures refused { IsOkUnless result NoMemory }
     {
         self.clock = self.clock.saturating_add(1);
-        answer_areas(
-            rt,
-            self.alloc,
-            self.areas.as_mut_slice(),
-            self.clock,
-            query,
-        )
+        answer_areas(rt, self.alloc, self.areas.as_mut_slice(), self.clock, query)
     }
 
     /// The plain answer over all rows: the areas that the query touches are merged and scanned. No map is made for it. The one

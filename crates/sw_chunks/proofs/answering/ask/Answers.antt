@@ -11,8 +11,8 @@ pub returns-clause-same : goal.returns-clause-same
 returns-clause-same g c =
     let lt : c.args.k < length c.args.areas.now = c.requires.within in
     elim c.if-cells-gt0.branch [
-      then-cells-gt0 w ↦ subst (IsOneAsked c.args.k c.args.areas.now) (sym w.areas-is) (asked-again c.args.k _ _ c.args.areas.now w.clear_but.new.areas c.index-areas-k.result c.ready_one.new.area w.index-areas-k-then-cells-gt0.result w.ready_again-told.new.area lt c.ready_one.ensures.same w.clear_but.ensures w.ready_again-told.ensures.same)
-    | else-cells-gt0 w ↦ subst (IsOneAsked c.args.k c.args.areas.now) (sym w.areas-is) (set-one c.args.k c.args.areas.now c.index-areas-k.result c.ready_one.new.area lt c.ready_one.ensures.same)
+      | then-cells-gt0 w ↦ subst (IsOneAsked c.args.k c.args.areas.now) (sym w.areas-is) (asked-again c.args.k _ _ c.args.areas.now w.clear_but.new.areas c.index-areas-k.result c.ready_one.new.area w.index-areas-k-then-cells-gt0.result w.ready_again-told.new.area lt c.ready_one.ensures.same w.clear_but.ensures w.ready_again-told.ensures.same)
+      | else-cells-gt0 w ↦ subst (IsOneAsked c.args.k c.args.areas.now) (sym w.areas-is) (set-one c.args.k c.args.areas.now c.index-areas-k.result c.ready_one.new.area lt c.ready_one.ensures.same)
     ]
 
 pub returns-clause-answered : goal.returns-clause-answered

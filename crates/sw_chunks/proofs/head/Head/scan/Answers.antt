@@ -21,9 +21,11 @@ pub invariant_of-self : goal.invariant_of-self
 invariant_of-self g c =
     let was : HeadState = record { attribute = c.self.inside.attribute; cuts = c.self.inside.cuts.items; updates = told_in c.self.inside.told.rows; areas = c.self.inside.areas.items } in
     let same : AreEach StandsForSame c.self.inside.areas.items c.scan_areas.new.areas = search rules in
-    let many : c.self.inside.areas.len ≡ length c.self.inside.areas.items = search rules in
-    (subst (λ (l : List AreaState). IsHeadLawful (record was { areas = l }))
-    (sym (whole c.self.inside.areas.len c.scan_areas.new.areas c.self.inside.areas.items many same.0)) (lawful-same was c.scan_areas.new.areas same c.self.invariant.0), c.self.invariant.1)
+    let many : c.self.inside.areas.len ≡ length c.self.inside.areas.items = search rules in (
+      subst (λ (l : List AreaState). IsHeadLawful (record was { areas = l }))
+          (sym (whole c.self.inside.areas.len c.scan_areas.new.areas c.self.inside.areas.items many same.0)) (lawful-same was c.scan_areas.new.areas same c.self.invariant.0),
+      c.self.invariant.1,
+    )
 
 pub returns-clause-answered : goal.returns-clause-answered
 returns-clause-answered g c =
