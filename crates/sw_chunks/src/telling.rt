@@ -11,11 +11,27 @@ use std::snapshot::Snapshot;
 use sw_rows::{Row, Update};
 use sw_tie::Book;
 
+/// Tells of a cell that it is of 64 bits.
+fn cell_fits(cell: &i64)
+    ensures { IsCell cell.now }
+{
+    let _value = *cell;
+}
+
+/// Tells of cells that they are of 64 bits.
+fn all_fit(cells: &[i64])
+    ensures { All IsCell cells.now }
+{
+    for cell in cells {
+        cell_fits(cell);
+    }
+}
+
 /// Tells of a row that its cells are of 64 bits.
 fn cells_fit(row: &Row)
     ensures { (a : ℕ) → IsCell (cell_of a row.now) }
 {
-    let [_a, _b, _c, _d, _e, _f, _g, _h] = row.cells;
+    all_fit(row.cells.as_slice());
 }
 
 /// Adds an update at the end of the list.
