@@ -1,4 +1,4 @@
-use Rattle.std.proofs.Common.{◌≡◌, All, subst}
+use Rattle.std.proofs.Common.{All, subst}
 use Rattle.sw_chunks.specs.Heads.{IsCell}
 use Rattle.sw_chunks.proofs.Tells.{cell-at}
 use Rattle.sw_chunks.proofs.telling.cells_fit.Goals as goal

@@ -1,4 +1,3 @@
-use Rattle.std.proofs.Common.{All}
 use Rattle.sw_rows.specs.declared.row.Update.{Update}
 use Rattle.sw_chunks.specs.Heads.{CellsFit, told_in}
 use Rattle.sw_chunks.proofs.Tells.{all-more, told-more}
