@@ -180,20 +180,18 @@ shelf-set at xs r v within is k d e lt = by (nat_eq k at) refl
 abbrev pub with_box : AreaState → AreaState
 with_box x = record x { boxes = x.boxes ++ blank ∷ [] }
 
-pub supply-shelf : {A E : Type 0} (told : Result A E) (x v : AreaState) (R : E → Type 0) → MatchResult told (λ _. v ≡ with_box x) (λ e. (v ≡ x) × R e) → IsSameButShelf x v
-supply-shelf (Ok a) x v R w = subst (IsSameButShelf x) (sym w) (record { attribute = refl; from = refl; below = refl; inbox = refl; spare = refl; tape = refl })
-supply-shelf (Err e) x v R w = subst (IsSameButShelf x) (sym w.0) (shelf-alike x)
+pub supply-shelf : {A E : Type 0} (told : Result A E) (x v : AreaState) (P Q : E → Type 0) → MatchResult told (λ _. v ≡ with_box x) (λ e. (v ≡ x) × P e × Q e) → IsSameButShelf x v
+supply-shelf (Ok a) x v P Q w = subst (IsSameButShelf x) (sym w) (record { attribute = refl; from = refl; below = refl; inbox = refl; spare = refl; tape = refl })
+supply-shelf (Err e) x v P Q w = subst (IsSameButShelf x) (sym w.0) (shelf-alike x)
 
-pub supplied : {A E : Type 0} (told : Result A E) (g : HeadState) (at : ℕ) (r v : AreaState) (R : E → Type 0) → IsFewest at g.areas → MatchResult told (λ _. v ≡ with_box (get_or g.areas at r)) (λ e. (v ≡ get_or g.areas at r) × R e) → MatchResult told (λ _. IsSupplied g (record g { areas = slice_set g.areas at v })) (λ e. (record g { areas = slice_set g.areas at v } ≡ g) × R e)
-supplied (Ok a) g at r v R few w =
+pub supplied : {A E : Type 0} (told : Result A E) (g : HeadState) (at : ℕ) (x v : AreaState) (P Q : E → Type 0) → IsFewest at g.areas → x ≡ get_or g.areas at x → MatchResult told (λ _. v ≡ with_box x) (λ e. (v ≡ x) × P e × Q e) → MatchResult told (λ _. IsSupplied g (record g { areas = slice_set g.areas at v })) (λ e. (record g { areas = slice_set g.areas at v } ≡ g) × P e × Q e)
+supplied (Ok a) g at x v P Q few is w =
     record {
       at = at;
       fewest = few;
-      supplied = λ d.
-          ap (λ (l : List AreaState). record g { areas = l })
-          (ap (slice_set g.areas at) (w ∙ ap with_box (get-any g.areas at r d few.within)));
+      supplied = λ d. ap (λ (l : List AreaState). record g { areas = l }) (ap (slice_set g.areas at) (w ∙ ap with_box (is ∙ get-any g.areas at x d few.within)));
     }
-supplied (Err e) g at r v R few w = (ap (λ (l : List AreaState). record g { areas = l }) (set-self g.areas at v (get-any g.areas at v r few.within ∙ sym w.0)), w.1)
+supplied (Err e) g at x v P Q few is w = (ap (λ (l : List AreaState). record g { areas = l }) (set-self g.areas at v (get-any g.areas at v x few.within ∙ (sym is ∙ sym w.0))), w.1, w.2)
 
 pub not-all : (gone most : ℕ) → gone ≤ most → gone ≢ most → gone < most
 not-all gone most le ne = grind (arith, le, ne)
