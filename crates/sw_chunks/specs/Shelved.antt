@@ -2,8 +2,6 @@
 use Rattle.std.specs.Prelude.{◌≡◌, ◌≤◌, ◌<◌, ◌+◌, ◌++◌, ℕ, List, get_or, length, IsPermutation}
 use Rattle.sw_map.specs.Held.{Held}
 use Rattle.sw_chunks.specs.Cleared.{sum_of}
-use Rattle.sw_set.specs.Merged.{StandsForSame}
-use Rattle.sw_set.specs.Prepared.{IsSameButBoxes}
 use Rattle.sw_set.specs.Shelf.{AreaState}
 
 -- the area at a place has the fewest boxes, and of several it is the lowest

@@ -1,5 +1,3 @@
-use Rattle.std.proofs.Common.{◌≡◌, ℕ}
-use Rattle.sw_set.specs.Shelf.{AreaState}
 use Rattle.sw_chunks.proofs.Rooms.{may-spare, sent-spare}
 use Rattle.sw_chunks.proofs.routing.share_out.Goals as goal
 

@@ -1,4 +1,4 @@
-use Rattle.std.proofs.Common.{rules, ◌≡◌, ◌<◌, ◌≤◌, ◌+◌, ◌-◌, length, refl, arith}
+use Rattle.std.proofs.Common.{◌<◌, ◌≤◌, ◌+◌, length, refl}
 use Rattle.sw_chunks.proofs.Shelves.{not-all, shed-done, shed-next}
 use Rattle.sw_chunks.proofs.shelving.shed_all.Goals as goal
 

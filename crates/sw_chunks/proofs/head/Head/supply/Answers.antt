@@ -1,4 +1,4 @@
-use Rattle.std.proofs.Common.{rules, ◌≡◌, ◌<◌, MatchResult, get_or, length, slice_set, subst, sym, arith, pos}
+use Rattle.std.proofs.Common.{◌≡◌, ◌<◌, MatchResult, get_or, length, slice_set, subst, sym, arith, pos}
 use Rattle.sw_rows.specs.declared.refusal.Refusal.TheVariants.{NoMemory}
 use Rattle.sw_set.specs.Shelf.{AreaState}
 use Rattle.sw_chunks.specs.Heads.{HeadState, IsSupplied, told_in}
