@@ -9,7 +9,7 @@ use Rattle.sw_chunks.proofs.Asking.{get-any, set-many, set-other, set-same}
 use Rattle.sw_chunks.proofs.Steps.{boxes-alike, boxes-both}
 
 -- ---- sums over lists of which one element changes
-sum-set : {A : Type 0} (f : A → ℕ) (xs : List A) (k : ℕ) (v d : A) → k < length xs → sum_of f (slice_set xs k v) + f (get_or xs k d) ≡ sum_of f xs + f v
+pub sum-set : {A : Type 0} (f : A → ℕ) (xs : List A) (k : ℕ) (v d : A) → k < length xs → sum_of f (slice_set xs k v) + f (get_or xs k d) ≡ sum_of f xs + f v
 sum-set f [] k v d lt = absurd (omega (arith, lt))
 sum-set f (x ∷ xs) zero v d lt = let e : (f v + sum_of f xs) + f x ≡ (f x + sum_of f xs) + f v = omega arith in e
 sum-set f (x ∷ xs) (suc k) v d lt =

@@ -167,7 +167,7 @@ one-set k ys v lt same =
       others = λ j d e l ne. subst (IsSameButBoxes (get_or ys j d)) (get-any ys j d e l ∙ sym (set-other ys k j v e ne)) (boxes-alike (get_or ys j d));
     }
 
-set-self : (xs : List AreaState) (k : ℕ) (v : AreaState) → get_or xs k v ≡ v → slice_set xs k v ≡ xs
+pub set-self : (xs : List AreaState) (k : ℕ) (v : AreaState) → get_or xs k v ≡ v → slice_set xs k v ≡ xs
 set-self [] k v e = refl
 set-self (x ∷ xs) zero v e = ap (λ t. t ∷ xs) (sym e)
 set-self (x ∷ xs) (suc k) v e = ap (λ l. x ∷ l) (set-self xs k v e)

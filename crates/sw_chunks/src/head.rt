@@ -193,7 +193,7 @@ impl<M: CrackerMap> Head<M> {
     /// box comes back.
     pub fn supply(&mut self, it: M) -> Result<(), (M, Refusal)>
         requires { M.held it ≡ blank }
-        ensures { MatchResult result (λ _. IsSupplied self.old self.new) (λ r. (self.new ≡ self.old) × (M.held r.0 ≡ blank) × (r.1 ≡ NoMemory)) }
+        ensures { MatchResult result (λ _. IsSupplied self.old self.new) (λ r. (self.new ≡ self.old) × (r.0 ≡ it) × (r.1 ≡ NoMemory)) }
     {
         let at = fewest(self.areas.as_slice());
         self.areas[at].supply(it)

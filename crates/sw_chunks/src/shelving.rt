@@ -27,6 +27,9 @@ pub(crate) fn shed_all<M: CrackerMap>(areas: &mut [Area<M>], most: usize) -> usi
 {
     let mut gone = 0;
     for k in 0..areas.len() {
+        if gone == most {
+            return gone;
+        }
         gone += areas[k].shed(most - gone);
     }
     gone
