@@ -1,5 +1,5 @@
 -- Rows dealt out by their intervals.
-use Rattle.std.proofs.Common.{◌≡◌, ◌≢◌, ◌<◌, ◌≤◌, ◌+◌, ◌==◌, ◌++◌, ℕ, zero, suc, ℤ, pos, Bool, true, false, List, [], ◌∷◌, length, get_or, set, take, filter, map, refl, sym, ap, ◌∙◌, arith, cond, Option, None, Some, Bor, All, ◌⊎◌, inl, inr, subst, get_or-set_same, get_or-set_other, length-set}
+use Rattle.std.proofs.Common.{◌≡◌, ◌≢◌, ◌-◌, ◌<◌, ◌≤◌, ◌+◌, ◌==◌, ◌++◌, ℕ, zero, suc, ℤ, pos, Bool, true, false, List, [], ◌∷◌, length, get_or, set, take, filter, map, refl, sym, ap, ◌∙◌, arith, cond, Option, None, Some, Bor, All, ◌⊎◌, inl, inr, subst, get_or-set_same, get_or-set_other, length-set}
 use Rattle.std.specs.Option.{MatchOption, option_map}
 use Rattle.std.proofs.lemmas.Bool.{cases_eq}
 use Rattle.std.proofs.lemmas.Bool.Decides.{nat_tests}
@@ -12,6 +12,7 @@ use Rattle.sw_set.proofs.KeyOrder.{rises-filter}
 use Rattle.sw_chunks.specs.Cuts.{Interval, RiseAbove, intervals, intervals_from, lies_in, place_in}
 use Rattle.sw_chunks.specs.Heads.{opened_area, part_of}
 use Rattle.sw_chunks.proofs.Cutting.{one_interval}
+use Rattle.sw_chunks.proofs.Found.{ends-at, ends-none, starts-at, starts-none}
 use Rattle.sw_chunks.proofs.Routed.{filter-push}
 
 long-from : (from : Option ℤ) (cuts : List ℤ) → length (intervals_from from cuts) ≡ suc (length cuts)
@@ -75,3 +76,20 @@ opened-more a rows cuts k d xs x lt is at =
     let e = long-intervals cuts in
     ap (λ l. l ++ x ∷ []) is ∙ ap (λ y. map (opened_area a rows) (take k (intervals cuts)) ++ y ∷ []) at
     ∙ sym (map-append (opened_area a rows) (take k (intervals cuts)) (get_or (intervals cuts) k d ∷ [])) ∙ ap (map (opened_area a rows)) (sym (take_more (intervals cuts) k d (omega (arith, e, lt))))
+
+-- ---- the ends of an interval
+-- what stands at a place of the cuts is the end of the interval there
+pub looked-up : (cuts : List ℤ) (k : ℕ) (o : Option (Bor ℤ)) (i : Interval) → k ≤ length cuts → MatchOption o (length cuts ≤ k) (λ x. (k < length cuts) × ((d : ℤ) → x.now ≡ get_or cuts k d)) → option_map (λ (x : Bor ℤ). x.now) o ≡ (get_or (intervals cuts) k i).1
+looked-up cuts k None i le past = sym (ends-none cuts k i (omega (arith, le, past)))
+looked-up cuts k (Some x) i le at = ap Some (at.1 (pos 0)) ∙ sym (ends-at cuts k i at.0)
+
+-- the end of an interval is where the next one starts
+pub starts-next : (cuts : List ℤ) (k : ℕ) (i : Interval) → k + 1 ≤ length cuts → (get_or (intervals cuts) k i).1 ≡ (get_or (intervals cuts) (k + 1) i).0
+starts-next cuts k i le = ends-at cuts k i (omega (arith, le)) ∙ sym (starts-at cuts k i (omega (arith, le)))
+
+pub starts-after : (cuts : List ℤ) (j k : ℕ) (i : Interval) → 1 ≤ k → j ≡ k - 1 → k ≤ length cuts → (get_or (intervals cuts) j i).1 ≡ (get_or (intervals cuts) k i).0
+starts-after cuts j k i one e le = let next : j + 1 ≡ k = omega (arith, one, e) in starts-next cuts j i (omega (arith, next, le)) ∙ ap (λ (n : ℕ). (get_or (intervals cuts) n i).0) next
+
+pub no-start : (cuts : List ℤ) (k : ℕ) (i : Interval) → (1 ≤ k → ⊥) → None ≡ (get_or (intervals cuts) k i).0
+no-start cuts zero i h = sym (starts-none cuts i)
+no-start cuts (suc k) i h = absurd (h (omega arith))
