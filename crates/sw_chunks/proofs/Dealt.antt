@@ -8,6 +8,7 @@ use Rattle.std.proofs.lemmas.List.Elements.{All-filter, filter_passes}
 use Rattle.sw_rows.specs.declared.row.Row.{Row}
 use Rattle.sw_rows.specs.Scan.{cell_of}
 use Rattle.sw_set.specs.Shelf.{AreaState, Rises, key_of, lies_within}
+use Rattle.sw_kernel.specs.Replay.{loaded}
 use Rattle.sw_set.proofs.KeyOrder.{rises-filter}
 use Rattle.sw_chunks.specs.Cuts.{Interval, RiseAbove, intervals, intervals_from, lies_in, place_in}
 use Rattle.sw_chunks.specs.Heads.{opened_area, part_of}
@@ -93,3 +94,16 @@ starts-after cuts j k i one e le = let next : j + 1 ≡ k = omega (arith, one, e
 pub no-start : (cuts : List ℤ) (k : ℕ) (i : Interval) → (1 ≤ k → ⊥) → None ≡ (get_or (intervals cuts) k i).0
 no-start cuts zero i h = sym (starts-none cuts i)
 no-start cuts (suc k) i h = absurd (h (omega arith))
+
+-- ---- an area opened with the rows of an interval
+pub part-ends : (a : ℕ) (rows : List Row) (i : Interval) (from below : Option ℤ) (xs : List Row) → from ≡ i.0 → below ≡ i.1 → xs ≡ part_of a rows i → All (λ (r : Row). lies_within a from below r ≡ true) xs
+part-ends a rows i from below xs f b e =
+    subst (λ (l : List Row). All (λ (r : Row). lies_within a from below r ≡ true) l) (sym e)
+    (subst (λ (v : Option ℤ). All (λ (r : Row). lies_within a v below r ≡ true) (part_of a rows i)) (sym f)
+    (subst (λ (v : Option ℤ). All (λ (r : Row). lies_within a i.0 v r ≡ true) (part_of a rows i)) (sym b) (part-within a rows i)))
+
+abbrev area-with : ℕ → Option ℤ → Option ℤ → List Row → AreaState
+area-with a from below xs = record { attribute = a; from = from; below = below; inbox = []; spare = 0; tape = loaded xs ∷ []; boxes = [] }
+
+pub area-opened : (a : ℕ) (rows : List Row) (i : Interval) (from below : Option ℤ) (xs : List Row) → from ≡ i.0 → below ≡ i.1 → xs ≡ part_of a rows i → area-with a from below xs ≡ opened_area a rows i
+area-opened a rows i from below xs f b e = ap (λ v. area-with a v below xs) f ∙ ap (λ v. area-with a i.0 v xs) b ∙ ap (λ v. area-with a i.0 i.1 v) e

@@ -1,0 +1,4 @@
+use Rattle.sw_chunks.proofs.head.Head.new.Goals as goal
+
+pub invariant_of-result : goal.invariant_of-result
+invariant_of-result g c = ?
