@@ -61,11 +61,7 @@ fn start_of(cuts: &[i64], place: usize) -> Option<i64>
     requires { place ≤ length cuts.now }
     ensures { (i : Interval) → result ≡ (get_or (intervals cuts.now) place i).0 }
 {
-    if place > 0 {
-        Some(cuts[place - 1])
-    } else {
-        None
-    }
+    end_of(cuts, place.checked_sub(1)?)
 }
 
 /// The value below which it ends.
@@ -73,11 +69,7 @@ fn end_of(cuts: &[i64], place: usize) -> Option<i64>
     requires { place ≤ length cuts.now }
     ensures { (i : Interval) → result ≡ (get_or (intervals cuts.now) place i).1 }
 {
-    if place < cuts.len() {
-        Some(cuts[place])
-    } else {
-        None
-    }
+    cuts.get(place).copied()
 }
 
 /// An area of each interval, with the rows whose cells lie there. Refused `NoMemory` alone.
@@ -96,7 +88,7 @@ pub(crate) fn areas_of<M: CrackerMap>(
 {
     let parts = deal(alloc, attribute, cuts, rows)?;
     let mut areas = Vec::new(alloc);
-    for k in 0..=cuts.len() {
+    for k in 0..parts.len() {
         let area = Area::new(
             alloc,
             attribute,
