@@ -50,9 +50,9 @@ place-below cuts x rise = let e = long-intervals cuts in let lt = (one_interval 
 
 -- one row more, at the end of the part of its place
 pub dealt-more : {X : Type 0} (items : X → List Row) (a : ℕ) (cuts : List ℤ) (rows : List Row) (n : ℕ) (r : Row) (xs : List X) (p : ℕ) (x e : X)
-  → RiseAbove None cuts → n < length rows → length xs ≡ length cuts + 1 → p ≡ place_in cuts (cell_of a (get_or rows n r)) → items x ≡ items (get_or xs p e) ++ get_or rows n r ∷ []
-  → ((k : ℕ) (d : X) (i : Interval) → k ≤ length cuts → items (get_or xs k d) ≡ part_of a (take n rows) (get_or (intervals cuts) k i))
-  → (k : ℕ) (d : X) (i : Interval) → k ≤ length cuts → items (get_or (set xs p x) k d) ≡ part_of a (take (n + 1) rows) (get_or (intervals cuts) k i)
+    → RiseAbove None cuts → n < length rows → length xs ≡ length cuts + 1 → p ≡ place_in cuts (cell_of a (get_or rows n r)) → items x ≡ items (get_or xs p e) ++ get_or rows n r ∷ []
+    → ((k : ℕ) (d : X) (i : Interval) → k ≤ length cuts → items (get_or xs k d) ≡ part_of a (take n rows) (get_or (intervals cuts) k i))
+    → (k : ℕ) (d : X) (i : Interval) → k ≤ length cuts → items (get_or (set xs p x) k d) ≡ part_of a (take (n + 1) rows) (get_or (intervals cuts) k i)
 dealt-more items a cuts rows n r xs p x e rise lt long at is h k d i le = by (cases_eq k p)
   where
     by : (k ≡ p) ⊎ (k ≡ p → ⊥) → items (get_or (set xs p x) k d) ≡ part_of a (take (n + 1) rows) (get_or (intervals cuts) k i)

@@ -87,7 +87,7 @@ state-of a cuts us xs = record { attribute = a; cuts = cuts; updates = us; areas
 pub head-opened : (a : ℕ) (cuts : List ℤ) (rows : List Row) (cs : List ℤ) (us : List Update) (xs : List AreaState) (os : List (ℕ × ℕ)) → MayOpen a cuts rows → cs ≡ cuts → us ≡ map update.Insert rows → xs ≡ map (opened_area a rows) (intervals cuts) → os ≡ owners_of a cuts rows → IsHeadLawful (state-of a cs us xs) × (os ≡ owners_of a cs (given_by us))
 head-opened a cuts rows cs us xs os m ec eu ex eo = (
   subst (λ (c : List ℤ). IsHeadLawful (state-of a c us xs)) (sym ec)
-    (subst (λ (u : List Update). IsHeadLawful (state-of a cuts u xs)) (sym eu)
-    (subst (λ (x : List AreaState). IsHeadLawful (state-of a cuts (map update.Insert rows) x)) (sym ex) (lawful-opened a cuts rows m))),
+      (subst (λ (u : List Update). IsHeadLawful (state-of a cuts u xs)) (sym eu)
+      (subst (λ (x : List AreaState). IsHeadLawful (state-of a cuts (map update.Insert rows) x)) (sym ex) (lawful-opened a cuts rows m))),
   eo ∙ ap (λ (c : List ℤ). owners_of a c rows) (sym ec) ∙ ap (λ (l : List Row). owners_of a cs l) (sym (ap given_by eu ∙ given-opened rows)),
 )

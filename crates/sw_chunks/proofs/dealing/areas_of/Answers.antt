@@ -12,7 +12,7 @@ new-requires-clause-keys g c κs within =
     let i : Interval = (None, None) in
     let le : c.loop-k.k ≤ length c.args.cuts.now = search rules in
     let is : c.as_slice.result.now ≡ part_of c.args.attribute c.args.rows.now (get_or (intervals c.args.cuts.now) c.loop-k.k i) =
-        c.as_slice.ensures.value ∙ ap (λ (v : Vec Row Global). v.items) c.index.ensures ∙ c.in_ok-parts.ensures.parts c.loop-k.k c.index.result.now i le in
+    c.as_slice.ensures.value ∙ ap (λ (v : Vec Row Global). v.items) c.index.ensures ∙ c.in_ok-parts.ensures.parts c.loop-k.k c.index.result.now i le in
     subst (λ (l : List Row). All (λ (r : Row). r.key < 2 ^ 63) l) (sym is) (part-keys c.args.attribute c.args.rows.now (get_or (intervals c.args.cuts.now) c.loop-k.k i) (λ (r : Row). r.key < 2 ^ 63) c.requires.keys)
 
 pub new-requires-clause-rise : goal.new-requires-clause-rise
@@ -20,7 +20,7 @@ new-requires-clause-rise g c κs within =
     let i : Interval = (None, None) in
     let le : c.loop-k.k ≤ length c.args.cuts.now = search rules in
     let is : c.as_slice.result.now ≡ part_of c.args.attribute c.args.rows.now (get_or (intervals c.args.cuts.now) c.loop-k.k i) =
-        c.as_slice.ensures.value ∙ ap (λ (v : Vec Row Global). v.items) c.index.ensures ∙ c.in_ok-parts.ensures.parts c.loop-k.k c.index.result.now i le in
+    c.as_slice.ensures.value ∙ ap (λ (v : Vec Row Global). v.items) c.index.ensures ∙ c.in_ok-parts.ensures.parts c.loop-k.k c.index.result.now i le in
     subst (λ (l : List Row). Rises key_of l) (sym is) (part-rises c.args.attribute c.args.rows.now (get_or (intervals c.args.cuts.now) c.loop-k.k i) c.requires.rise)
 
 pub new-requires-clause-within : goal.new-requires-clause-within
@@ -28,7 +28,7 @@ new-requires-clause-within g c κs within =
     let i : Interval = (None, None) in
     let le : c.loop-k.k ≤ length c.args.cuts.now = search rules in
     let is : c.as_slice.result.now ≡ part_of c.args.attribute c.args.rows.now (get_or (intervals c.args.cuts.now) c.loop-k.k i) =
-        c.as_slice.ensures.value ∙ ap (λ (v : Vec Row Global). v.items) c.index.ensures ∙ c.in_ok-parts.ensures.parts c.loop-k.k c.index.result.now i le in
+    c.as_slice.ensures.value ∙ ap (λ (v : Vec Row Global). v.items) c.index.ensures ∙ c.in_ok-parts.ensures.parts c.loop-k.k c.index.result.now i le in
     part-ends c.args.attribute c.args.rows.now (get_or (intervals c.args.cuts.now) c.loop-k.k i) c.start_of.result c.end_of.result c.as_slice.result.now (c.start_of.ensures i) (c.end_of.ensures i) is
 
 pub loop-k-preserved : goal.loop-k-preserved
@@ -36,10 +36,10 @@ loop-k-preserved g c =
     let i : Interval = (None, None) in
     let le : c.loop-k.k ≤ length c.args.cuts.now = search rules in
     let is : c.as_slice.result.now ≡ part_of c.args.attribute c.args.rows.now (get_or (intervals c.args.cuts.now) c.loop-k.k i) =
-        c.as_slice.ensures.value ∙ ap (λ (v : Vec Row Global). v.items) c.index.ensures ∙ c.in_ok-parts.ensures.parts c.loop-k.k c.index.result.now i le in
+    c.as_slice.ensures.value ∙ ap (λ (v : Vec Row Global). v.items) c.index.ensures ∙ c.in_ok-parts.ensures.parts c.loop-k.k c.index.result.now i le in
     let pushed : c.push.new.self.items ≡ c.loop-k.areas.items ++ c.in_ok-area.area ∷ [] = search rules in
     pushed ∙ opened-more c.args.attribute c.args.rows.now c.args.cuts.now c.loop-k.k i c.loop-k.areas.items c.in_ok-area.area (omega (arith, le)) c.loop-k.invariant
-        (c.in_ok-area.ensures ∙ area-opened c.args.attribute c.args.rows.now (get_or (intervals c.args.cuts.now) c.loop-k.k i) c.start_of.result c.end_of.result c.as_slice.result.now (c.start_of.ensures i) (c.end_of.ensures i) is)
+    (c.in_ok-area.ensures ∙ area-opened c.args.attribute c.args.rows.now (get_or (intervals c.args.cuts.now) c.loop-k.k i) c.start_of.result c.end_of.result c.as_slice.result.now (c.start_of.ensures i) (c.end_of.ensures i) is)
 
 pub returns : goal.returns
 returns g c =

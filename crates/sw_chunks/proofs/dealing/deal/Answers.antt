@@ -18,10 +18,11 @@ index_mut-requires c =
 pub loop-row-preserved : goal.loop-row-preserved
 loop-row-preserved c =
     let z : Row = record { key = 0; cells = [] } in
-    let at : c.from-in-loop-row.result ≡ place_in c.args.cuts.now (cell_of c.args.attribute (get_or c.args.rows.now c.loop-row.row-index z)) = search rules in
-    (length-set c.loop-row.parts.items c.from-in-loop-row.result c.push_row.new.part ∙ c.loop-row.invariant.0,
-     dealt-more (λ (v : Vec Row Global). v.items) c.args.attribute c.args.cuts.now c.args.rows.now c.loop-row.row-index z c.loop-row.parts.items c.from-in-loop-row.result c.push_row.new.part c.index_mut.result.now
-        c.requires.rising c.loop-row-test.true c.loop-row.invariant.0 at (c.in_ok-push_row.ensures ∙ ap (λ (v : Vec Row Global). v.items ++ get_or c.args.rows.now c.loop-row.row-index z ∷ []) c.index_mut.ensures.value) c.loop-row.invariant.1)
+    let at : c.from-in-loop-row.result ≡ place_in c.args.cuts.now (cell_of c.args.attribute (get_or c.args.rows.now c.loop-row.row-index z)) = search rules in (
+      length-set c.loop-row.parts.items c.from-in-loop-row.result c.push_row.new.part ∙ c.loop-row.invariant.0,
+      dealt-more (λ (v : Vec Row Global). v.items) c.args.attribute c.args.cuts.now c.args.rows.now c.loop-row.row-index z c.loop-row.parts.items c.from-in-loop-row.result c.push_row.new.part c.index_mut.result.now
+          c.requires.rising c.loop-row-test.true c.loop-row.invariant.0 at (c.in_ok-push_row.ensures ∙ ap (λ (v : Vec Row Global). v.items ++ get_or c.args.rows.now c.loop-row.row-index z ∷ []) c.index_mut.ensures.value) c.loop-row.invariant.1,
+    )
 
 pub returns-clause-parts : goal.returns-clause-parts
 returns-clause-parts c k d i le = c.loop-row.invariant.1 k d i le ∙ ap (λ (l : _). part_of c.args.attribute l (get_or (intervals c.args.cuts.now) k i)) (take_all c.loop-row.row-index c.args.rows.now c.loop-row-test.false)
