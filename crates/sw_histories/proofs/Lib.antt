@@ -5,5 +5,8 @@ pub mod RecordBack
 pub mod RecordLaws
 pub mod RecordReadingLemmas
 pub mod RecordTextLemmas
+pub mod RecordTexts
+pub mod RunRecords
 pub mod TextReading
+pub mod TextUtf8
 pub mod ValueReading
