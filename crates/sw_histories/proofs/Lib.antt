@@ -1,4 +1,5 @@
 pub mod EntriesLemmas
+pub mod ExampleOfRun
 pub mod FileCheckLemmas
 pub mod OutlineLemmas
 pub mod RecordBack
@@ -7,6 +8,7 @@ pub mod RecordReadingLemmas
 pub mod RecordTextLemmas
 pub mod RecordTexts
 pub mod RunRecords
+pub mod TableCells
 pub mod TextReading
 pub mod TextUtf8
 pub mod ValueReading
