@@ -12,3 +12,4 @@ pub mod TableCells
 pub mod TextReading
 pub mod TextUtf8
 pub mod ValueReading
+pub mod WrittenAgain

@@ -4,9 +4,10 @@ ghost use Rattle.std.specs.Prelude.{◌≡◌, ℕ, List, All, Ok};
 ghost use Rattle.sw_rows.specs.Header.{kinds_of};
 ghost use Rattle.sw_rows.specs.Tables.{Table, table_of};
 ghost use Rattle.sw_spine.specs.History.{History};
-ghost use Rattle.sw_histories.specs.ReadBack.{HasCells, RecordsAreReadBack, TextsAreJson};
+ghost use Rattle.sw_histories.specs.ReadBack.{HasCells, RecordsAreReadBack, TextsAreJson, with_lines};
 ghost use Rattle.sw_histories.specs.RecordReading.{record_at};
 ghost use Rattle.sw_histories.specs.RecordRelation.{IsRecord};
+ghost use Rattle.sw_histories.specs.RecordText.{record_text};
 
 /// Reading a file in the order in which faults are looked for finds just the record that the relation relates to its bytes.
 pub fn histories_are_read_as_related()
@@ -27,6 +28,8 @@ pub fn tables_have_cells()
 
 /// The text of a run's record is read back as that record: the attributes, the opening rows, the limit, and each entry with
 /// its session, its call and what has become of it, where a reply stands as the lines that are printed for it.
+/// Written again, that record has the same text.
 pub fn records_are_read_back()
-    ensures { RecordsAreReadBack }
+    ensures read { RecordsAreReadBack }
+    ensures again { (h : History) → record_text (with_lines h) ≡ record_text h }
 {}
