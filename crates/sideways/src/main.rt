@@ -1,89 +1,25 @@
 //! The program `sideways`: a table and a script go in, reply lines come out, and perhaps a history file; or the history of
 //! such a file is checked.
+//!
+//! The exit status is 0 where all was answered, 1 where a history is not legal, 2 where the command line or what is read is
+//! refused, and 3 where a call, the output or memory is.
 #![tactic(auto)]
 
-mod noting;
+mod words;
 
-ghost use Rattle.std.specs.Prelude.{◌<◌, ◌≤◌, IfSome};
+ghost use Rattle.std.specs.Prelude.{◌≡◌, ◌<◌, ◌≤◌, IfSome};
 
-use crate::noting::Noting;
-use clap::{Arg, ArgAction, ArgMatches, Command};
+use crate::words::command;
+use clap::error::ErrorKind;
+use clap::{ArgMatches, Error};
 use std::alloc::Global;
 use std::fs::File;
+use std::io;
 use std::process::ExitCode;
-use std::rt::Files;
-use std::{fs, io};
-use sw_cli::{Options, check_file, run, status, write_fault, write_record};
-use sw_rows::{Counted, Refusal, Sink, Source};
+use std::rt::{Env, Files};
+use sw_cli::{Noting, Options, check_file, run, status, write_fault, write_record};
+use sw_rows::{Counted, Refusal, Sink, Source, read_all};
 use sw_spine::Record;
-
-fn file<'a>(alloc: Global, name: &'a str, help: &'a str) -> Arg<'a> {
-    Arg::new(alloc, name)
-        .long(name)
-        .value_name("FILE")
-        .help(help)
-        .required(true)
-        .action(ArgAction::Set)
-}
-
-fn history<'a>(alloc: Global) -> Arg<'a> {
-    Arg::new(alloc, "history")
-        .long("history")
-        .value_name("FILE")
-        .help(
-            "Where the history is written after the replies: the calls in order, each with its reply",
-        )
-        .action(ArgAction::Set)
-}
-
-fn limit<'a>(alloc: Global) -> Arg<'a> {
-    Arg::new(alloc, "limit")
-        .long("limit")
-        .value_name("ROWS")
-        .help("How many rows are ever inserted at most, those of the table included: 1 to 1048576")
-        .default_value("1048576")
-        .value_parser(clap::value_parser!(u64).range(1..=1_048_576))
-        .action(ArgAction::Set)
-}
-
-fn command<'a>(alloc: Global) -> Result<Command<'a>, clap::Error> {
-    let run = Command::new(alloc, "run")
-        .about("Answers the calls of a script over a table, a reply line each")
-        .arg(file(
-            alloc,
-            "table",
-            "The table: comma-separated values, of which the first record names the attributes",
-        ))?
-        .arg(file(
-            alloc,
-            "script",
-            "The script: a call a line; a line --- divides blocks",
-        ))?
-        .arg(limit(alloc))?
-        .arg(history(alloc))?;
-    let check = Command::new(alloc, "check")
-        .about("Says whether a history is that of one thread over a plain list of rows")
-        .arg(
-            Arg::new(alloc, "file")
-                .value_name("FILE")
-                .help("The history file")
-                .required(true)
-                .action(ArgAction::Set),
-        )?;
-    Ok(
-        Command::new(alloc, "sideways")
-            .about("A column engine whose answers are proved")
-            .subcommand_required(true)
-            .subcommand(run)?
-            .subcommand(check)?,
-    )
-}
-
-/// Tells a refusal on standard error; the exit status is that of the refusal.
-fn refused<E: Sink>(refusal: &Refusal, errors: &mut E) -> ExitCode {
-    let _ = write_fault(refusal, errors);
-    ExitCode::from(status(refusal))
-}
 
 /// Runs a script over a table, of which both are open. Answers the record, and whether a call was refused.
 fn run_open<T: Source, S: Source, W: Sink + Drop>(
@@ -102,6 +38,32 @@ fn run_open<T: Source, S: Source, W: Sink + Drop>(
         Ok(history) => Ok((history, noting.has_refused())),
         Err(refusal) => Err(refusal),
     }
+}
+
+/// Opens the table, then the script, and runs.
+fn run_named<R: Files + Print>(
+    rt: &R,
+    alloc: Global,
+    table: &str,
+    script: &str,
+    limit: u64,
+) -> Result<(Record, bool), Refusal>
+    requires some { 0 < limit }
+    requires most { limit ≤ 1048576 }
+{
+    let Ok(table) = File::open(rt, table) else {
+        return Err(Refusal::Input);
+    };
+    let Ok(script) = File::open(rt, script) else {
+        return Err(Refusal::Input);
+    };
+    run_open(
+        alloc,
+        &mut Counted::new(table),
+        &mut Counted::new(script),
+        Counted::new(io::writer(rt)),
+        limit,
+    )
 }
 
 /// Writes a record to the file of a path, if there is one.
@@ -131,79 +93,101 @@ fn limit_given(given: &ArgMatches) -> Option<u64>
     Some(limit)
 }
 
-/// Opens the table, then the script, runs, and writes the history where it is asked for.
-fn run_files<R: Files + Print, E: Sink>(
-    rt: &R,
-    alloc: Global,
-    given: &ArgMatches,
-    errors: &mut E,
-) -> ExitCode {
-    let (Some(table), Some(script)) = (given.get_str("table"), given.get_str("script")) else {
-        return ExitCode::from(2);
+/// Runs what was named, and writes the history where it is asked for.
+fn run_files<R: Files + Print>(rt: &R, alloc: Global, given: &ArgMatches) -> Result<u8, Refusal> {
+    let (Some(table), Some(script), Some(limit)) = (
+        given.get_str("table"),
+        given.get_str("script"),
+        limit_given(given),
+    ) else {
+        return Ok(2);
     };
-    let Some(limit) = limit_given(given) else {
-        return ExitCode::from(2);
-    };
-    let (Ok(table), Ok(script)) = (File::open(rt, table), File::open(rt, script)) else {
-        return refused(&Refusal::Input, errors);
-    };
-    let ran = run_open(
-        alloc,
-        &mut Counted::new(table),
-        &mut Counted::new(script),
-        Counted::new(io::writer(rt)),
-        limit,
-    );
-    let (history, has_refused) = match ran {
-        Ok(found) => found,
-        Err(refusal) => return refused(&refusal, errors),
-    };
-    match keep(rt, alloc, &history, given.get_str("history")) {
-        Ok(()) if has_refused => ExitCode::from(3),
-        Ok(()) => ExitCode::SUCCESS,
-        Err(refusal) => refused(&refusal, errors),
+    let (history, has_refused) = run_named(rt, alloc, table, script, limit)?;
+    keep(rt, alloc, &history, given.get_str("history"))?;
+    Ok(if has_refused { 3 } else { 0 })
+}
+
+/// Reads a file to its end. What memory refuses is told apart from what the file does.
+fn read_file<R: Files>(rt: &R, alloc: Global, path: &str) -> Result<Vec<u8>, Refusal> {
+    match File::open(rt, path) {
+        Ok(file) => read_all(alloc, &mut Counted::new(file), usize::MAX),
+        Err(_) => Err(Refusal::Input),
     }
 }
 
 /// Reads a history file and writes the verdict on it.
-fn check_path<R: Files + Print + AllocGlobal, E: Sink>(
-    rt: &R,
-    given: &ArgMatches,
-    errors: &mut E,
-) -> ExitCode {
+fn check_path<R: Files + Print>(rt: &R, alloc: Global, given: &ArgMatches) -> Result<u8, Refusal> {
     let Some(path) = given.get_str("file") else {
-        return ExitCode::from(2);
+        return Ok(2);
     };
-    let Ok(bytes) = fs::read(rt, path) else {
-        return refused(&Refusal::Input, errors);
-    };
-    match check_file(
-        rt.alloc(),
-        bytes.as_slice(),
-        &mut Counted::new(io::writer(rt)),
-    ) {
-        Ok(verdict) => ExitCode::from(verdict),
-        Err(refusal) => refused(&refusal, errors),
+    let bytes = read_file(rt, alloc, path)?;
+    check_file(alloc, bytes.as_slice(), &mut Counted::new(io::writer(rt)))
+}
+
+/// Makes what the words ask for.
+fn made<R: Files + Print>(rt: &R, alloc: Global, matches: &ArgMatches) -> Result<u8, Refusal> {
+    match matches.subcommand() {
+        None => Ok(2),
+        Some(("check", given)) => check_path(rt, alloc, given),
+        Some((_, given)) => run_files(rt, alloc, given),
     }
 }
 
-fn main(rt: HostRuntime) -> anyhow::Result<ExitCode> {
-    let alloc = rt.alloc();
-    let words: Vec<String> = std::env::args(&rt)?.collect(alloc)?;
-    let matches = match command(alloc)?.try_get_matches_from(words.as_slice()) {
-        Ok(matches) => matches,
-        Err(error) => {
-            error.print(&rt)?;
-            let is_asked = error.exit_code() == 0;
-            return Ok(ExitCode::from(if is_asked { 0 } else { 2 }));
-        }
-    };
-    let Some((name, given)) = matches.subcommand() else {
-        return Ok(ExitCode::from(2));
-    };
-    let mut errors = Counted::new(rt.stderr());
-    if name == "check" {
-        return Ok(check_path(&rt, given, &mut errors));
+/// Prints what the words are answered with in place of a call: the help, or what is wrong with them.
+fn explained<R: Print + Eprint>(rt: &R, error: &Error) -> Result<u8, Refusal> {
+    if error.kind() == ErrorKind::OutOfMemory {
+        return Err(Refusal::NoMemory);
     }
-    Ok(run_files(&rt, alloc, given, &mut errors))
+    let is_printed = error.print(rt).is_ok();
+    match error.exit_code() {
+        0 if is_printed => Ok(0),
+        0 => Err(Refusal::Output),
+        _ => Ok(2),
+    }
+}
+
+/// Takes the words of the command line.
+fn taken<R: Files + Print + Eprint>(
+    rt: &R,
+    alloc: Global,
+    words: &[String],
+) -> Result<u8, Refusal> {
+    let Ok(command) = command(alloc) else {
+        return Err(Refusal::NoMemory);
+    };
+    match command.try_get_matches_from(words) {
+        Ok(matches) => made(rt, alloc, &matches),
+        Err(error) => explained(rt, &error),
+    }
+}
+
+/// The words of the command line. One that is not UTF-8 cannot be read.
+fn given<R: Env>(rt: &R, alloc: Global) -> Result<Vec<String>, Refusal> {
+    match std::env::args(&(rt, alloc)) {
+        Ok(words) => match words.collect(alloc) {
+            Ok(words) => Ok(words),
+            Err(_) => Err(Refusal::NoMemory),
+        },
+        Err(error) if error.kind() == io::ErrorKind::OutOfMemory => Err(Refusal::NoMemory),
+        Err(_) => Err(Refusal::Input),
+    }
+}
+
+/// Takes the command line and answers the exit status.
+fn asked<R: Env + Files + Print + Eprint>(rt: &R, alloc: Global) -> Result<u8, Refusal> {
+    let words = given(rt, alloc)?;
+    taken(rt, alloc, words.as_slice())
+}
+
+/// Tells a refusal on standard error; the exit status is that of the refusal.
+fn refused<E: Sink>(refusal: &Refusal, errors: &mut E) -> u8 {
+    let _ = write_fault(refusal, errors);
+    status(refusal)
+}
+
+fn main(rt: HostRuntime) -> ExitCode {
+    ExitCode::from(match asked(&rt, rt.alloc()) {
+        Ok(code) => code,
+        Err(refusal) => refused(&refusal, &mut Counted::new(rt.stderr())),
+    })
 }

@@ -4,8 +4,6 @@
 //! it, one after the other, over the places of its range.
 #![tactic(auto)]
 
-#[cfg(test)]
-mod tests;
 mod vector;
 
 pub use vector::Bits;

@@ -13,8 +13,6 @@ ghost use Rattle.sw_budget.specs.Account.{empty, asked, returned, Refused};
 ghost use Rattle.sw_budget.specs.Balance.{EveryRunIsBalanced};
 
 mod seat;
-#[cfg(test)]
-mod tests;
 
 pub use crate::seat::Purse;
 use crate::seat::{Hold, Word};

@@ -9,10 +9,4 @@ pub mod Returns
 pub mod Serving
 pub mod Starts
 pub mod Waiting
-pub mod RecordTextLemmas
-pub mod RecordReadingLemmas
-pub mod FileCheckLemmas
-pub mod RecordLaws
-pub mod ValueReading
-pub mod OutlineLemmas
-pub mod EntriesLemmas
+pub mod RefusedLines

@@ -16,9 +16,9 @@ use Rattle.sw_lang.specs.Reading.{Answers, refused, refusal_of as line_refusal}
 use Rattle.sw_lang.specs.declared.fault.Fault.{Fault as LineFault}
 use Rattle.sw_lang.specs.declared.fault.Fault.TheVariants.{Bad, Excess, Unknown}
 use Rattle.sw_spine.specs.Table.{is_numbered}
-use Rattle.sw_cli.specs.Script.{◌>>=◌}
+use Rattle.sw_histories.specs.Told.{◌>>=◌, TellsText}
 use Rattle.sw_cli.specs.Run.{or_refusal}
-use Rattle.sw_cli.specs.Starts.{RefusedFrom, TellsText}
+use Rattle.sw_cli.specs.Starts.{RefusedFrom}
 
 -- a fault of the table is the refusal of what comes after it too
 pub table_refuses : {A B : Type 0} (I J : Type 0) (e : Refusal) (read : Result A Fault) (f : A → Result B Refusal) → Fails I e read → RefusedFrom {Y = B} (I ⊎ J) e (or_refusal read >>= f)

@@ -13,7 +13,8 @@ use Rattle.sw_lang.specs.Sinks.{Took, TookBeginning}
 use Rattle.sw_spine.specs.History.{History, is_absent, mine}
 use Rattle.sw_spine.specs.Table.{opened, reply_to, updates_then}
 use Rattle.sw_spine.specs.Rest.{none_open}
-use Rattle.sw_cli.specs.Script.{◌>>=◌, blocks_of, calls_in}
+use Rattle.sw_histories.specs.Told.{◌>>=◌}
+use Rattle.sw_cli.specs.Script.{blocks_of, calls_in}
 
 -- ---- what a run starts from
 

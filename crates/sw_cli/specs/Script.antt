@@ -8,14 +8,10 @@ use Rattle.sw_rows.specs.declared.query.Call.{Call}
 use Rattle.sw_rows.specs.declared.refusal.Refusal.{Refusal}
 use Rattle.sw_rows.specs.declared.refusal.Refusal.TheVariants.{BadLine, TooMany}
 use Rattle.sw_rows.specs.declared.refusal.Why.TheVariants as why
-use Rattle.sw_lang.specs.Reading.{Answers, line_at, refused}
+use Rattle.sw_lang.specs.Reading.{line_at, refused}
 use Rattle.sw_lang.specs.Tokens.{is_blank}
 use Rattle.sw_spine.specs.History.{CallsBelow}
-
-infixl 10 ◌>>=◌
-abbrev pub ◌>>=◌ : {A B : Type 0} → Result A Refusal → (A → Result B Refusal) → Result B Refusal
-(Ok x) >>= f = f x
-(Err e) >>= f = Err e
+use Rattle.sw_histories.specs.Told.{◌>>=◌}
 
 -- the lines of a script, each without the LF that ends it and a CR before that
 abbrev pub script_lines : List ℕ → List (List ℕ)
@@ -69,11 +65,6 @@ with_lines columns n p (l ∷ ls) = with_line columns n p l >>= λ q. with_lines
 -- the calls of the blocks of a script, or the first fault in the order of its lines
 abbrev pub blocks_of : List Column → List ℕ → Result (List (List Call)) Refusal
 blocks_of columns text = with_lines columns 1 (so_far [] []) (script_lines text) >>= λ p. Ok (all_blocks p)
-
--- what was answered, seen by view, is what the text says, unless memory ran out
-abbrev pub Reads : {X Y : Type 0} → (X → Y) → Result X Refusal → Result Y Refusal → Type 0
-Reads view (Ok x) said = said ≡ Ok (view x)
-Reads {X} {Y} view (Err e) said = Answers {A = Y} (Err e) said
 
 -- calls name attributes of the first n alone
 abbrev pub AllCallsBelow : ℕ → List Call → Type 0

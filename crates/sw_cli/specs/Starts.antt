@@ -34,14 +34,6 @@ abbrev pub ReadsFrom : {X Y : Type 0} → Type 0 → (X → Y) → Result X Refu
 ReadsFrom I view (Ok x) said = said ≡ Ok (view x)
 ReadsFrom {X} {Y} I view (Err e) said = RefusedFrom {Y = Y} I e said
 
--- a refusal of a text
-abbrev pub TellsText : Refusal → Type 0
-TellsText refusal.NoMemory = Unit {0}
-TellsText (refusal.BadLine line why) = Unit {0}
-TellsText (refusal.UnknownAttribute name) = Unit {0}
-TellsText (refusal.TooMany limit) = Unit {0}
-TellsText e = ⊥
-
 -- a refusal before any call; that of a source only where I holds
 abbrev pub TellsStart : Type 0 → Refusal → Type 0
 TellsStart I refusal.NoMemory = Unit {0}

@@ -3,31 +3,18 @@
 #![tactic(auto)]
 
 mod buffered;
-mod checking;
 mod desk;
 mod fault;
 pub mod fault_examples;
-mod history_law;
-mod outline;
+mod noting;
 mod plain;
-mod reading;
 mod running;
 mod script;
 mod start;
-mod values;
-mod writing;
+mod watching;
 
-pub use checking::check_file;
 pub use fault::{status, write_fault};
-pub use history_law::histories_are_read_as_related;
-pub use reading::read_record;
+pub use noting::Noting;
 pub use running::{Options, run};
 pub use script::{MOST_BLOCKS, MOST_CALLS};
-pub use writing::write_record;
-
-#[cfg(test)]
-mod fault_tests;
-#[cfg(test)]
-mod history_tests;
-#[cfg(test)]
-mod run_tests;
+pub use sw_histories::{check_file, read_record, write_record};

@@ -5,8 +5,8 @@ ghost use Rattle.std.specs.List.{list_all};
 ghost use Rattle.sw_lang.specs.Reading.{Answers};
 ghost use Rattle.sw_lang.specs.Tokens.{is_blank};
 ghost use Rattle.sw_spine.specs.History.{CallsBelow};
-ghost use Rattle.sw_cli.specs.Script.{AreBlocks, AreSound, Reads, all_blocks, blocks_of, call_of_line, calls_in, is_divider, so_far, with_block, with_call, with_line};
-ghost use Rattle.sw_cli.specs.Starts.{TellsText};
+ghost use Rattle.sw_cli.specs.Script.{AreBlocks, AreSound, all_blocks, blocks_of, call_of_line, calls_in, is_divider, so_far, with_block, with_call, with_line};
+ghost use Rattle.sw_histories.specs.Told.{Reads, TellsText};
 
 use bstr::ByteSlice;
 use core::mem::replace;

@@ -11,8 +11,6 @@ mod listing;
 mod mark;
 mod partition;
 mod removal;
-#[cfg(test)]
-mod tests;
 
 pub use insertion::ripple_in;
 pub use laws::{

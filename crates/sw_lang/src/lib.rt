@@ -27,10 +27,3 @@ pub use replies::write_reply;
 pub use sinks::{write_all, write_number};
 pub use term::Term;
 pub use token::Op;
-
-#[cfg(test)]
-mod cut_tests;
-#[cfg(test)]
-mod parse_tests;
-#[cfg(test)]
-mod reply_tests;

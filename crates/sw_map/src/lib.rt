@@ -6,6 +6,7 @@
 #![tactic(auto)]
 
 mod active;
+mod boxes;
 mod crack;
 mod cracker;
 mod home;
@@ -15,6 +16,7 @@ mod pairs;
 mod places;
 mod tail;
 
+pub use boxes::push_blank;
 pub use cracker::CrackerMap;
 pub use laws::{
     begun_maps_are_aligned, longer_tapes_keep_lawful, next_entries_fit, places_part_rows,

@@ -36,6 +36,3 @@ pub use schema::{Schema, is_name};
 pub use source::{Counted, Sink, Source};
 pub use table::MOST_ROWS;
 pub use updates::{has_key, update, update_all};
-
-#[cfg(test)]
-mod tests;

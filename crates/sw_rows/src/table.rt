@@ -6,7 +6,7 @@ ghost use Rattle.sw_rows.specs.Cells.{cell_value};
 ghost use Rattle.sw_rows.specs.Gives.{Gives};
 ghost use Rattle.sw_rows.specs.Header.{kinds_of};
 ghost use Rattle.sw_rows.specs.Records.{IsPlain, records_left};
-ghost use Rattle.sw_rows.specs.Tables.{cells_of, padded, rows_after, shown_table, table_in, then_padded};
+ghost use Rattle.sw_rows.specs.Tables.{cells_of, padded, rows_after, shown_table, table_in, table_of_records, then_padded};
 
 use crate::cell::read_cell_bytes;
 use crate::records;
@@ -76,22 +76,34 @@ fn read_rows(
     }
 }
 
+/// Reads the header and the rows that are left.
+fn read_records(
+    alloc: Global,
+    rdr: &mut Reader<&[u8]>,
+    row: &mut ByteRecord,
+) -> Result<(Schema, Vec<Row>), Refusal>
+    requires { IsPlain rdr.old }
+    ensures { Gives ⊥ shown_table result (table_of_records (records_left rdr.old)) }
+{
+    match records::next(rdr, row) {
+        Ok(true) => {}
+        Ok(false) => return Err(Refusal::BadTable { rec: 0, field: 0 }),
+        Err(_) => return Err(Refusal::NoMemory),
+    }
+    match read_header(alloc, row) {
+        Ok(schema) => match read_rows(alloc, &schema, rdr, row) {
+            Ok(rows) => Ok((schema, rows)),
+            Err(e) => Err(e),
+        },
+        Err(e) => Err(e),
+    }
+}
+
 /// Reads the table that bytes spell.
 pub(crate) fn read_table(alloc: Global, bytes: &[u8]) -> Result<(Schema, Vec<Row>), Refusal>
     ensures { Gives ⊥ shown_table result (table_in bytes.now) }
 {
     let mut rdr = records::open(alloc, bytes);
     let mut row = ByteRecord::new(alloc);
-    match records::next(&mut rdr, &mut row) {
-        Ok(true) => {}
-        Ok(false) => return Err(Refusal::BadTable { rec: 0, field: 0 }),
-        Err(_) => return Err(Refusal::NoMemory),
-    }
-    match read_header(alloc, &row) {
-        Ok(schema) => match read_rows(alloc, &schema, &mut rdr, &mut row) {
-            Ok(rows) => Ok((schema, rows)),
-            Err(e) => Err(e),
-        },
-        Err(e) => Err(e),
-    }
+    read_records(alloc, &mut rdr, &mut row)
 }

@@ -4,7 +4,6 @@ pub mod Answered
 pub mod Blocks
 pub mod Boxes
 pub mod Choosing
-pub mod Dense
 pub mod Dropped
 pub mod Ends
 pub mod Gathered

@@ -4,7 +4,6 @@ pub mod Prepared
 pub mod Codes
 pub mod Choice
 pub mod Live
-pub mod Slots
 pub mod Position
 pub mod Tied
 pub mod Merged

@@ -16,9 +16,6 @@ mod position;
 mod prepare;
 mod replies;
 mod scanning;
-#[cfg(test)]
-mod slot_tests;
-mod slots;
 mod totals;
 mod window;
 

@@ -6,11 +6,11 @@ ghost use Rattle.sw_rows.specs.declared.refusal.Refusal.TheVariants.{NoMemory};
 ghost use Rattle.sw_set.specs.Choice.{IsInside, chosen, column_at, placed, row_in, value_in};
 
 use crate::choice::Choice;
-use crate::slots::sort_dense;
 use crate::window::{Column, Window, value_at};
 use std::alloc::Global;
 use sw_map::CrackerMap;
 use sw_rows::{Cells, Refusal, ReplyRow, ReplyRows};
+use sw_slots::sort_dense;
 
 /// Adds a key and the place of its row.
 fn push_found(found: &mut Vec<(u64, usize)>, key: u64, place: usize) -> Result<(), Refusal>

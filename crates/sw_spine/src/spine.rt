@@ -4,7 +4,8 @@ ghost use Rattle.std.specs.Prelude.{ℕ, ◌≡◌, ◌<◌, ◌≤◌, ◌-◌,
 ghost use Rattle.sw_rows.specs.Scan.{AsksBelow};
 ghost use Rattle.sw_rows.specs.declared.query.Call.TheVariants.{Select, Insert, Delete};
 ghost use Rattle.sw_spine.specs.Table.{inserted, is_numbered, removed, reply_to, updates_then};
-ghost use Rattle.sw_spine.specs.History.{IsLegal, all_given, is_absent, is_select, mine, open_place, settled};
+ghost use Rattle.sw_spine.specs.History.{IsLegal, IsSound, all_given, is_absent, is_select, mine, open_place, settled};
+ghost use Rattle.sw_spine.specs.Receivable.{AreUpdates};
 ghost use Rattle.sw_spine.specs.Rest.{none_open};
 ghost use Rattle.sw_spine.specs.Books.{IsCount, KeepsOtherHeads, KeepsOthers, KeepsTaken, RefusesEntry, RefusesRows, RefusesSession, history_of, is_opened, new_books, reply_now, took, untaken, updates, waits_for, with_answered, with_open, with_published, with_session, with_settled};
 ghost use Rattle.sw_spine.specs.declared.history.State.TheVariants.{Answered, Void};
@@ -113,11 +114,12 @@ impl Spine {
         })
     }
 
-    /// Opens the next session and answers its number, from 1.
+    /// Opens the next session and answers its number, from 1. The session has made no calls and waits for nothing.
     ///
     /// Refused `TooMany` of limit 1,024 where that many were opened, `NoMemory` otherwise; after a refusal nothing has changed.
     pub fn open_session(&mut self) -> Result<u64, Refusal>
-        ensures { MatchResult result (λ n. (n ≡ self.new.sessions) × (self.old.sessions < 1024) × (self.new ≡ with_session self.old)) (λ e. (self.new ≡ self.old) × RefusesSession self.old e) }
+        ensures opened { MatchResult result (λ n. (n ≡ self.new.sessions) × (self.old.sessions < 1024) × (self.new ≡ with_session self.old)) (λ e. (self.new ≡ self.old) × RefusesSession self.old e) }
+        ensures begun { IfOk result (λ n. (mine n self.new.entries ≡ []) × (waits_for n self.new ≡ None)) }
     {
         if self.places.len() == MOST_SESSIONS {
             return Err(Refusal::TooMany {
@@ -145,9 +147,10 @@ impl Spine {
         &self.schema
     }
 
-    /// The history so far, which is legal, with entries of opened sessions alone and no reply as lines.
+    /// The history so far, which is sound and legal, with entries of opened sessions alone and no reply as lines.
     pub fn entries(&self) -> &[Entry]
         ensures entries { result.now ≡ self.now.entries }
+        ensures sound { IsSound (history_of self.now) }
         ensures legal { IsLegal (history_of self.now) }
         ensures given { all_given self.now.entries ≡ true }
         ensures known { (s : ℕ) → is_opened s self.now ≡ false → is_absent s self.now.entries ≡ true }
@@ -156,7 +159,8 @@ impl Spine {
     }
 
     /// A select begins: its place is the end of the history, and the updates that the head has not taken go to the inbox's end
-    /// and count as taken. The opening rows count as taken by every head from the start.
+    /// and count as taken. The opening rows count as taken by every head from the start. All updates of the history are such
+    /// as a table may get: the inserted rows have the next keys, within the limit, and the removed keys are live.
     ///
     /// Refused `HistoryFull` where the history has 1,048,576 entries, `NoMemory` otherwise; after a refusal nothing has
     /// changed. The caller's conditions: the session was opened and has no open entry, the query names attributes of the
@@ -184,6 +188,7 @@ impl Spine {
         ensures updates { updates self.new ≡ updates self.old }
         ensures took { OnOk result (took head self.new ≡ updates self.old) }
         ensures heads { KeepsOtherHeads head self.old self.new }
+        ensures may_come { OnOk result (AreUpdates self.new.limit (updates self.new)) }
     {
         if self.entries.len() == MOST_ENTRIES {
             return Err(Refusal::HistoryFull {
@@ -377,9 +382,10 @@ impl Spine {
         self.published = count;
     }
 
-    /// The record of the history, which is legal. It takes no memory.
+    /// The record of the history, which is sound and legal. It takes no memory.
     pub fn into_record(self) -> Record
         ensures record_is { result ≡ history_of self }
+        ensures sound { IsSound (history_of self) }
         ensures legal { IsLegal (history_of self) }
         ensures given { all_given self.entries ≡ true }
         ensures known { (s : ℕ) → is_opened s self ≡ false → is_absent s self.entries ≡ true }

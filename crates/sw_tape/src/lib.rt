@@ -9,8 +9,6 @@ mod bounds;
 mod entry;
 mod live;
 mod tape;
-#[cfg(test)]
-mod tests;
 
 pub use entry::Entry;
 pub use tape::{MAX_ENTRIES, Tape};

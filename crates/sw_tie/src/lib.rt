@@ -175,6 +175,3 @@ impl<T> Drop for Share<T> {
 unsafe impl<T> Send for Book<T> {}
 
 unsafe impl<T> Send for Share<T> {}
-
-#[cfg(test)]
-mod tests;

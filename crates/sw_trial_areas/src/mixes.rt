@@ -1,344 +1,517 @@
-//! Mixes of queries on many areas, beside the plain answer.
+//! Mixes of updates and queries on many areas, beside the plain answer.
 
-ghost use Rattle.std.specs.Prelude.{◌≡◌, [], All, IfOk};
+ghost use Rattle.std.specs.Prelude.{◌≡◌, All};
 ghost use Rattle.sw_map.specs.Held.{blank};
 
-use crate::moves::shown;
-use crate::{Shape, add, ask, asks_below_eight, numbered, open};
-use std::alloc::Global;
+use crate::dice::Dice;
+use crate::moves::push_reply;
+use crate::scenes::{NO_TROUBLE, Scene, Trouble, play_scene};
+use crate::{Asked, Shape, Trial};
+use std::alloc::{AllocError, Global};
 use std::test::Fail;
 use std::thread::Threads;
-use sw_budget::{Budget, Purse};
-use sw_map::{CrackerMap, PairMap, Tail};
-use sw_rows::{Bound, Cond, Conds, Names, Query, Refusal, Reply, Row, Want, answer};
-use sw_set::Area;
-use sw_trial_maps::{ContendedMap, RefusingMap};
+use sw_map::{CrackerMap, Tail};
+use sw_rows::{Query, Reply, ReplyRow, has_key};
 
-/// A fixed sequence of numbers.
+/// Which refusals have to be told beside the replies of a mix.
+#[derive(Clone, Copy)]
+enum Told {
+    /// Some, or none.
+    Any,
+    /// Some.
+    Some,
+    /// Some where there are no boxes or no cells.
+    WhereAllLack,
+    /// Some where there are no boxes or no cells, and none with five boxes and 4,096 cells.
+    JustWhereSomeLack,
+}
+
+/// What a mix is made of: how many rows come and how many go among ten calls, how many rows there may be at first, how often
+/// something else is done, and how many calls there are.
+#[derive(Clone, Copy)]
+struct Plan {
+    come: u32,
+    go: u32,
+    rows: u32,
+    tends: u32,
+    calls: u64,
+    told: Told,
+}
+
+/// Queries alone.
+const QUERIES: Plan = Plan {
+    come: 0,
+    go: 0,
+    rows: 120,
+    tends: 16,
+    calls: 150,
+    told: Told::Some,
+};
+
+/// Three rows come and two go, beside five queries.
+const MORE_COME: Plan = Plan {
+    come: 3,
+    go: 2,
+    rows: 80,
+    tends: 48,
+    calls: 1000,
+    told: Told::Some,
+};
+
+/// Budgets of no cells, of some maps' cells, and of enough for all.
+const CAPACITIES: &[u64] = &[0, 128, 320, 448, 4096];
+
+/// Maps that find the budget contended at every second begin.
+const CONTENDED: &[Trouble] = &[Trouble {
+    every: 0,
+    contends: true,
+}];
+
+/// Maps that refuse every step, every second, and so on up to every fifth.
+const REFUSING: &[Trouble] = &[
+    Trouble {
+        every: 1,
+        contends: false,
+    },
+    Trouble {
+        every: 2,
+        contends: false,
+    },
+    Trouble {
+        every: 3,
+        contends: false,
+    },
+    Trouble {
+        every: 4,
+        contends: false,
+    },
+    Trouble {
+        every: 5,
+        contends: false,
+    },
+];
+
+/// Mixes of a plan: one for each of these maps, capacities and numbers of boxes, by dice of a seed.
+#[derive(Clone, Copy)]
+struct Group<'t> {
+    seed: u64,
+    plan: Plan,
+    troubles: &'t [Trouble],
+    capacities: &'t [u64],
+    boxes: &'t [usize],
+}
+
+/// 75 areas under queries.
+const OF_QUERIES: &[Group<'static>] = &[
+    Group {
+        seed: 1,
+        plan: Plan {
+            told: Told::JustWhereSomeLack,
+            ..QUERIES
+        },
+        troubles: &[NO_TROUBLE],
+        capacities: CAPACITIES,
+        boxes: &[0, 1, 2, 3, 4, 5],
+    },
+    Group {
+        seed: 2,
+        plan: QUERIES,
+        troubles: REFUSING,
+        capacities: CAPACITIES,
+        boxes: &[5],
+    },
+    Group {
+        seed: 3,
+        plan: QUERIES,
+        troubles: CONTENDED,
+        capacities: CAPACITIES,
+        boxes: &[1, 2, 3, 4],
+    },
+];
+
+/// 35 areas under updates and queries.
+const OF_UPDATES: &[Group<'static>] = &[Group {
+    seed: 11,
+    plan: Plan {
+        told: Told::WhereAllLack,
+        ..MORE_COME
+    },
+    troubles: &[NO_TROUBLE],
+    capacities: CAPACITIES,
+    boxes: &[0, 1, 2, 3, 4, 5, 6],
+}];
+
+/// 25 of which steps are refused.
+const OF_REFUSED_STEPS: &[Group<'static>] = &[Group {
+    seed: 12,
+    plan: MORE_COME,
+    troubles: REFUSING,
+    capacities: CAPACITIES,
+    boxes: &[6],
+}];
+
+/// 20 whose begins find the budget contended.
+const OF_CONTENDED_BEGINS: &[Group<'static>] = &[Group {
+    seed: 13,
+    plan: MORE_COME,
+    troubles: CONTENDED,
+    capacities: CAPACITIES,
+    boxes: &[1, 2, 3, 4],
+}];
+
+/// Three areas whose tapes fill again and again: as many rows go as come.
+const OF_FULL_TAPES: &[Group<'static>] = &[Group {
+    seed: 14,
+    plan: Plan {
+        come: 4,
+        go: 4,
+        rows: 80,
+        tends: 48,
+        calls: 12_000,
+        told: Told::Any,
+    },
+    troubles: &[NO_TROUBLE],
+    capacities: &[1 << 20],
+    boxes: &[1, 2, 3],
+}];
+
+/// A mix that is made: its plan, its dice, the area's shape, and how many refusals were told.
 #[derive(Drop)]
-pub(crate) struct Dice {
-    state: u64,
+pub(crate) struct Mix {
+    plan: Plan,
+    dice: Dice,
+    shape: Shape,
+    told: u64,
 }
 
-impl Dice {
-    /// The sequence of a seed.
-    pub(crate) fn new(seed: u64) -> Dice {
-        Dice {
-            state: seed.wrapping_mul(0x9E37_79B9_7F4A_7C15) | 1,
-        }
-    }
-
-    /// The next number below a limit, or 0.
-    pub(crate) fn roll(&mut self, below: u32) -> u32 {
-        let mut x = self.state;
-        x ^= x << 13;
-        x ^= x >> 7;
-        x ^= x << 17;
-        self.state = x;
-        u32::try_from(x >> 32).unwrap_or(0) % below.max(1)
-    }
-
-    /// Whether one of so many.
-    pub(crate) fn is_one_in(&mut self, many: u32) -> bool {
-        self.roll(many) == 0
-    }
-
-    /// A cell from 0 up to below 24, rarely one of the ends.
-    fn cell(&mut self) -> i64 {
-        match self.roll(40) {
-            0 => i64::MIN,
-            1 => i64::MAX,
-            _ => i64::from(self.roll(24)),
-        }
-    }
-
-    /// A bound, or none.
-    fn bound(&mut self) -> Option<Bound> {
-        if self.is_one_in(4) {
-            return None;
-        }
-        let cell = self.cell();
-        if self.is_one_in(2) {
-            Some(Bound::Before(cell))
-        } else {
-            Some(Bound::After(cell))
-        }
-    }
-
-    /// A condition on an attribute.
-    fn cond(&mut self, attr: usize) -> Cond {
-        let lower = self.bound();
-        let upper = self.bound();
-        Cond { attr, lower, upper }
-    }
-
-    /// The number of one of five attributes.
-    pub(crate) fn number(&mut self) -> u8 {
-        u8::try_from(self.roll(5)).unwrap_or(0)
-    }
-
-    /// One of five attributes.
-    fn attribute(&mut self) -> usize {
-        usize::from(self.number())
-    }
-
-    /// What is wanted.
-    fn want(&mut self, alloc: Global) -> Result<Want, Fail> {
-        let attribute = self.attribute();
-        match self.roll(6) {
-            0 => Ok(Want::Count),
-            1 => Ok(Want::Sum(attribute)),
-            2 => Ok(Want::Min(attribute)),
-            3 => Ok(Want::Max(attribute)),
-            _ => {
-                let mut names = Names::new(alloc);
-                for _ in 0..self.roll(4) {
-                    names.push(self.attribute())?;
-                }
-                names.push(attribute)?;
-                Ok(Want::Rows(names))
-            }
-        }
-    }
-
-    /// A query of a head.
-    pub(crate) fn query(&mut self, alloc: Global, head: usize) -> Result<Query, Fail> {
-        let mut conds = Conds::new(alloc);
-        if head > 0 || !self.is_one_in(6) {
-            conds.push(self.cond(head))?;
-            for attribute in 0..5 {
-                if attribute != head && self.is_one_in(5) {
-                    conds.push(self.cond(attribute))?;
-                }
-            }
-        }
-        let want = self.want(alloc)?;
-        Ok(Query { conds, want })
-    }
-
-    /// The cells of a row, that of a head within an interval.
-    pub(crate) fn cells(&mut self, head: usize, from: Option<i64>, below: Option<i64>) -> [i64; 8] {
-        let mut cells = [0; 8];
-        for attribute in 0..5 {
-            cells[attribute] = self.cell();
-        }
-        if head < 8 {
-            let cell = cells[head];
-            if let Some(least) = from {
-                cells[head] = cells[head].max(least);
-            }
-            if let Some(end) = below {
-                if cell >= end {
-                    cells[head] = end.saturating_sub(1);
-                }
-            }
-        }
-        cells
+/// Receives a row, and tells what is wrong: the key is not the next one, or there is no row of it.
+fn come<M: CrackerMap>(
+    trial: &mut Trial<M>,
+    mix: &mut Mix,
+    text: &mut String,
+) -> Result<(), AllocError> {
+    let shape = mix.shape;
+    let cells = mix
+        .dice
+        .cells(usize::from(shape.attribute), shape.from, shape.below);
+    let before = trial.rows().len();
+    match trial.insert(cells) {
+        Ok(key) if trial.rows().len() == before + 1 && trial.area().holds(key) => Ok(()),
+        Ok(key) => write!(text, "key {key} did not come"),
+        Err(e) => write!(text, "{e}"),
     }
 }
 
-/// The plain answer over rows.
-fn plainly(alloc: Global, rows: &[Row], query: &Query) -> Result<Reply, Refusal> {
-    if !asks_below_eight(query) {
-        return Err(Refusal::Input);
+/// The key of one of the rows that there are, or rarely another.
+fn some_key<M: CrackerMap>(trial: &Trial<M>, dice: &mut Dice) -> u64 {
+    let many = trial.rows().len();
+    let key = u64::from(dice.roll(64));
+    if many == 0 || dice.is_one_in(8) {
+        return key;
     }
-    answer(alloc, rows, query)
+    match usize::try_from(dice.roll(1 << 30)) {
+        Ok(n) => trial.rows()[n % many].key,
+        Err(_) => key,
+    }
 }
 
-/// What became of a mix: the first reply that is not that of the rows, and how many refusals were told.
-#[derive(Drop)]
-pub(crate) struct Outcome {
-    pub(crate) wrong: String,
-    pub(crate) told: u64,
+/// Receives that a row goes, one of those that there are or another, and tells what is wrong: there was one and it was not
+/// found, or the other way round, or it is there still.
+fn go<M: CrackerMap>(
+    trial: &mut Trial<M>,
+    dice: &mut Dice,
+    text: &mut String,
+) -> Result<(), AllocError> {
+    let key = some_key(trial, dice);
+    let there = has_key(trial.rows(), key);
+    let held = trial.area().holds(key);
+    match trial.remove(key) {
+        Ok(gone) if held == there && gone == there && !trial.area().holds(key) => Ok(()),
+        Ok(_) => write!(text, "key {key} did not go"),
+        Err(e) => write!(text, "{e}"),
+    }
 }
 
-/// Asks an area so many queries of a mix.
-fn mixed<R: Threads + Sync, M: CrackerMap>(
+/// Whether two lists of a reply's rows are one.
+fn are_same(one: &[ReplyRow], other: &[ReplyRow]) -> bool {
+    if one.len() != other.len() {
+        return false;
+    }
+    for place in 0..one.len().min(other.len()) {
+        let (left, right) = (&one[place], &other[place]);
+        if left.key != right.key || left.cells.as_slice() != right.cells.as_slice() {
+            return false;
+        }
+    }
+    true
+}
+
+/// Whether two replies to a query are one.
+fn is_same(one: &Reply, other: &Reply) -> bool {
+    match (one, other) {
+        (Reply::Rows(left), Reply::Rows(right)) => are_same(left.as_slice(), right.as_slice()),
+        (Reply::Count(left), Reply::Count(right)) => left == right,
+        (Reply::Sum(left), Reply::Sum(right)) => left == right,
+        (Reply::Least(left), Reply::Least(right)) => left == right,
+        _ => false,
+    }
+}
+
+/// Tells a reply that is not that of the plain rows.
+fn push_unlike(text: &mut String, asked: &Asked) -> Result<(), AllocError> {
+    if is_same(&asked.reply, &asked.plain) {
+        return Ok(());
+    }
+    push_reply(text, &asked.reply)?;
+    text.push_str(" for ")?;
+    push_reply(text, &asked.plain)
+}
+
+/// Asks a query, and tells the reply that is not that of the plain rows. A refusal that is told counts.
+fn ask_to<R: Threads + Sync, M: CrackerMap>(
+    rt: &R,
+    trial: &mut Trial<M>,
+    query: &Query,
+    told: &mut u64,
+    text: &mut String,
+) -> Result<(), AllocError> {
+    match trial.ask(rt, query) {
+        Ok(asked) => {
+            *told = told.saturating_add(u64::from(asked.told.is_some()));
+            push_unlike(text, &asked)
+        }
+        Err(e) => write!(text, "{e}"),
+    }
+}
+
+/// The same of one of the queries of a mix.
+fn ask<R: Threads + Sync, M: CrackerMap>(
     rt: &R,
     alloc: Global,
-    rows: &[Row],
-    area: &mut Area<M>,
-    dice: &mut Dice,
-    calls: u64,
-) -> Result<Outcome, Fail>
-    requires { area.old.inbox ≡ [] }
-{
-    let head = usize::from(area.attribute());
-    let mut told = 0u64;
-    for call in 0..calls {
-        let query = dice.query(alloc, head)?;
-        let (reply, refusal) = ask(rt, area, &query)?;
-        told = told.saturating_add(u64::from(refusal.is_some()));
-        let seen = shown(alloc, &reply)?;
-        let plain = shown(alloc, &plainly(alloc, rows, &query)?)?;
-        if seen.as_str() != plain.as_str() {
-            let wrong = format!(in alloc; "call {call} of head {head}: {seen} for {plain}")?;
-            return Ok(Outcome { wrong, told });
-        }
-        match dice.roll(16) {
-            0 => area.clear(Tail::Cell(dice.number())),
-            1 => area.clear(Tail::Key),
-            2 => {
-                let _cells = area.clear_oldest();
-            }
-            3 => area.set_now(u64::from(dice.roll(4))),
-            _ => {}
-        }
-    }
-    let wrong = String::new(alloc);
-    Ok(Outcome { wrong, told })
+    trial: &mut Trial<M>,
+    mix: &mut Mix,
+    text: &mut String,
+) -> Result<(), AllocError> {
+    let query = mix.dice.query(alloc, usize::from(mix.shape.attribute))?;
+    ask_to(rt, trial, &query, &mut mix.told, text)
 }
 
-/// The cells of up to 120 rows, those of a shape's attribute within its interval.
-fn cells_for(alloc: Global, shape: Shape, dice: &mut Dice) -> Result<Vec<[i64; 8]>, Fail> {
-    let mut cells: Vec<[i64; 8]> = Vec::new(alloc);
-    for _ in 0..dice.roll(120) {
-        cells.push(dice.cells(usize::from(shape.attribute), shape.from, shape.below))?;
+/// Rarely clears a map, sets the number of the next use, makes room, or merges.
+fn tend<M: CrackerMap>(trial: &mut Trial<M>, mix: &mut Mix) -> Result<(), Fail> {
+    match mix.dice.roll(mix.plan.tends) {
+        0 => trial.clear(Tail::Cell(mix.dice.number())),
+        1 => trial.clear(Tail::Key),
+        2 => {
+            let _cells = trial.clear_oldest();
+        }
+        3 => trial.set_now(u64::from(mix.dice.roll(4))),
+        4 => trial.room(usize::from(mix.dice.number()))?,
+        5 => trial.merge()?,
+        _ => {}
     }
-    Ok(cells)
+    Ok(())
 }
 
-/// A mix over an area of its own.
-fn mix<R: Threads + Sync, M: CrackerMap>(
+/// Makes one call of a mix, and tells what is wrong.
+fn call<R: Threads + Sync, M: CrackerMap>(
     rt: &R,
     alloc: Global,
-    maps: Vec<M>,
-    boxes: usize,
-    dice: &mut Dice,
-    calls: u64,
-) -> Result<Outcome, Fail>
-    requires { All (λ m. M.held m ≡ blank) maps.items }
-{
+    trial: &mut Trial<M>,
+    mix: &mut Mix,
+    text: &mut String,
+) -> Result<(), AllocError> {
+    let kind = mix.dice.roll(10);
+    if kind < mix.plan.come {
+        come(trial, mix, text)
+    } else if kind - mix.plan.come < mix.plan.go {
+        go(trial, &mut mix.dice, text)
+    } else {
+        ask(rt, alloc, trial, mix, text)
+    }
+}
+
+/// Makes the calls of a mix, up to the first with which something is wrong.
+fn call_all<R: Threads + Sync, M: CrackerMap>(
+    rt: &R,
+    alloc: Global,
+    trial: &mut Trial<M>,
+    mix: &mut Mix,
+    text: &mut String,
+) -> Result<(), Fail> {
+    for number in 0..mix.plan.calls {
+        call(rt, alloc, trial, mix, text)?;
+        if !text.is_empty() {
+            return Ok(write!(text, " at call {number}")?);
+        }
+        tend(trial, mix)?;
+    }
+    Ok(())
+}
+
+/// A number from some others on, or none.
+fn some_end(dice: &mut Dice, many: u32, from: i64) -> Option<i64> {
+    if dice.is_one_in(2) {
+        Some(i64::from(dice.roll(many)).saturating_add(from))
+    } else {
+        None
+    }
+}
+
+/// A shape of so many boxes, of one of five attributes, with or without ends.
+fn shape_of(boxes: usize, dice: &mut Dice) -> Shape {
     let attribute = dice.number();
-    let from = if dice.is_one_in(2) {
-        Some(i64::from(dice.roll(8)))
-    } else {
-        None
-    };
-    let below = if dice.is_one_in(2) {
-        Some(i64::from(dice.roll(12)) + 12)
-    } else {
-        None
-    };
-    let shape = Shape {
+    let from = some_end(dice, 8, 0);
+    let below = some_end(dice, 12, 12);
+    Shape {
         attribute,
         from,
         below,
         boxes,
-    };
-    let cells = cells_for(alloc, shape, dice)?;
-    let rows = numbered(alloc, cells.as_slice())?;
-    let mut area = open(alloc, shape, rows.as_slice(), maps)?;
-    mixed(rt, alloc, rows.as_slice(), &mut area, dice, calls)
+    }
 }
 
-/// A map that refuses every n-th step, none where n is 0.
-pub(crate) fn refusing(
-    alloc: Global,
-    purse: &mut Purse,
-    every: u64,
-) -> Result<RefusingMap<PairMap>, Refusal>
-    ensures { IfOk result (λ m. ⟦<RefusingMap<PairMap> as CrackerMap>⟧.held m ≡ blank) }
-{
-    let mine = purse.split()?;
-    Ok(RefusingMap::new(PairMap::blank(alloc, mine), every))
+/// The cells of the rows that there are at first.
+fn cells_for(alloc: Global, mix: &mut Mix) -> Result<Vec<[i64; 8]>, AllocError> {
+    let shape = mix.shape;
+    let mut cells: Vec<[i64; 8]> = Vec::new(alloc);
+    for _ in 0..mix.dice.roll(mix.plan.rows) {
+        cells.push(
+            mix.dice
+                .cells(usize::from(shape.attribute), shape.from, shape.below),
+        )?;
+    }
+    Ok(cells)
 }
 
-/// A mix over boxes of which every n-th step is refused.
-fn refused_mix<R: Threads + Sync>(
+/// Makes a mix over these boxes, and tells what is wrong.
+pub(crate) fn mixed<R: Threads + Sync, M: CrackerMap>(
     rt: &R,
     alloc: Global,
-    capacity: u64,
-    boxes: usize,
-    every: u64,
-    dice: &mut Dice,
-    calls: u64,
-) -> Result<Outcome, Fail> {
-    let (_budget, mut purse) = Budget::open(alloc, capacity)?;
-    let one: Box<dyn CrackerMap> = Box::new(alloc, refusing(alloc, &mut purse, every)?)?;
-    let two: Box<dyn CrackerMap> = Box::new(alloc, refusing(alloc, &mut purse, every)?)?;
-    let three: Box<dyn CrackerMap> = Box::new(alloc, refusing(alloc, &mut purse, every)?)?;
-    let four: Box<dyn CrackerMap> = Box::new(alloc, refusing(alloc, &mut purse, every)?)?;
-    let five: Box<dyn CrackerMap> = Box::new(alloc, refusing(alloc, &mut purse, every)?)?;
-    let mut maps: Vec<Box<dyn CrackerMap>> = Vec::new(alloc);
-    add(&mut maps, one)?;
-    add(&mut maps, two)?;
-    add(&mut maps, three)?;
-    add(&mut maps, four)?;
-    add(&mut maps, five)?;
-    mix(rt, alloc, maps, boxes, dice, calls)
-}
-
-/// A map that answers `Contended` at every second begin.
-pub(crate) fn contended(alloc: Global, purse: &mut Purse) -> Result<ContendedMap<PairMap>, Refusal>
-    ensures { IfOk result (λ m. ⟦<ContendedMap<PairMap> as CrackerMap>⟧.held m ≡ blank) }
+    maps: Vec<M>,
+    mix: &mut Mix,
+    text: &mut String,
+) -> Result<(), Fail>
+    requires { All (λ m. M.held m ≡ blank) maps.items }
 {
-    let mine = purse.split()?;
-    Ok(ContendedMap::new(PairMap::blank(alloc, mine)))
+    mix.shape = shape_of(mix.shape.boxes, &mut mix.dice);
+    let cells = cells_for(alloc, mix)?;
+    let mut trial = Trial::open(alloc, mix.shape, cells.as_slice(), maps)?;
+    call_all(rt, alloc, &mut trial, mix, text)
 }
 
-/// A mix over boxes of which every second begin finds the budget contended.
-fn contended_mix<R: Threads + Sync>(
+/// Whether so many refusals may have been told beside the replies of a mix.
+fn may_tell(mix: &Mix, capacity: u64) -> bool {
+    let boxes = mix.shape.boxes;
+    let told = mix.told > 0;
+    match mix.plan.told {
+        Told::Any => true,
+        Told::Some => told,
+        Told::WhereAllLack => told || (boxes > 0 && capacity > 0),
+        Told::JustWhereSomeLack if told => boxes < 5 || capacity < 4096,
+        Told::JustWhereSomeLack => boxes > 0 && capacity > 0,
+    }
+}
+
+/// Makes a mix over boxes of its own, and tells what is wrong.
+fn mix_over<R: Threads + Sync>(
     rt: &R,
     alloc: Global,
+    mix: &mut Mix,
     capacity: u64,
-    boxes: usize,
-    dice: &mut Dice,
-    calls: u64,
-) -> Result<Outcome, Fail> {
-    let (_budget, mut purse) = Budget::open(alloc, capacity)?;
-    let one: Box<dyn CrackerMap> = Box::new(alloc, contended(alloc, &mut purse)?)?;
-    let two: Box<dyn CrackerMap> = Box::new(alloc, contended(alloc, &mut purse)?)?;
-    let three: Box<dyn CrackerMap> = Box::new(alloc, contended(alloc, &mut purse)?)?;
-    let four: Box<dyn CrackerMap> = Box::new(alloc, contended(alloc, &mut purse)?)?;
-    let mut maps: Vec<Box<dyn CrackerMap>> = Vec::new(alloc);
-    add(&mut maps, one)?;
-    add(&mut maps, two)?;
-    add(&mut maps, three)?;
-    add(&mut maps, four)?;
-    mix(rt, alloc, maps, boxes, dice, calls)
+    trouble: Trouble,
+    text: &mut String,
+) -> Result<(), Fail> {
+    let boxes = mix.shape.boxes;
+    mix.told = 0;
+    let mut scene = Scene::Mix(&mut *mix);
+    play_scene(rt, alloc, capacity, boxes, trouble, &mut scene, text)?;
+    if !may_tell(mix, capacity) {
+        write!(text, "{} refusals were told", mix.told)?;
+    }
+    if !text.is_empty() {
+        let every = trouble.every;
+        write!(text, " of {boxes} boxes, {capacity} cells, every {every}")?;
+    }
+    Ok(())
 }
 
-/// Budgets of no cells, of some maps' cells, and of enough for all.
-pub(crate) const CAPACITIES: [u64; 5] = [0, 128, 320, 448, 4096];
+/// Makes the mixes of a group over maps of one kind, up to the first with which something is wrong.
+fn mixes_over<R: Threads + Sync>(
+    rt: &R,
+    alloc: Global,
+    mix: &mut Mix,
+    group: Group<'_>,
+    trouble: Trouble,
+    text: &mut String,
+) -> Result<(), Fail> {
+    for capacity in group.capacities {
+        for boxes in group.boxes {
+            if text.is_empty() {
+                mix.shape.boxes = *boxes;
+                mix_over(rt, alloc, mix, *capacity, trouble, text)?;
+            }
+        }
+    }
+    Ok(())
+}
 
-#[test]
-fn mixes_are_answered_as_the_rows_do(rt: HostRuntime) -> Result<(), Fail> {
-    let mut dice = Dice::new(1);
-    for capacity in CAPACITIES {
-        for boxes in 0..6 {
-            let seen = refused_mix(&rt, rt.alloc(), capacity, boxes, 0, &mut dice, 150)?;
-            assert_eq!(rt; seen.wrong.as_str(), "");
-            // with five boxes and cells for all of them nothing is refused, with none of either everything is
-            assert!(rt; seen.told == 0 || boxes < 5 || capacity < 4096);
-            assert!(rt; seen.told > 0 || (boxes > 0 && capacity > 0));
+/// Makes the mixes of groups, up to the first with which something is wrong.
+fn mix_all<R: Threads + Sync>(
+    rt: &R,
+    alloc: Global,
+    groups: &[Group<'_>],
+    text: &mut String,
+) -> Result<(), Fail> {
+    for group in groups {
+        let mut mix = Mix {
+            plan: group.plan,
+            dice: Dice::new(group.seed),
+            shape: crate::scenes::NO_BOX,
+            told: 0,
+        };
+        for trouble in group.troubles {
+            mixes_over(rt, alloc, &mut mix, *group, *trouble, text)?;
         }
     }
     Ok(())
 }
 
 #[test]
-fn refused_steps_leave_the_replies(rt: HostRuntime) -> Result<(), Fail> {
-    let mut dice = Dice::new(2);
-    for every in 1..6 {
-        for capacity in CAPACITIES {
-            let seen = refused_mix(&rt, rt.alloc(), capacity, 5, every, &mut dice, 150)?;
-            assert_eq!(rt; seen.wrong.as_str(), "");
-            assert!(rt; seen.told > 0);
-        }
-    }
+fn queries_are_answered_as_the_rows_do(rt: HostRuntime) -> Result<(), Fail> {
+    let mut text = String::new(rt.alloc());
+    mix_all(&rt, rt.alloc(), OF_QUERIES, &mut text)?;
+    assert_eq!(rt; text.as_str(), "");
     Ok(())
 }
 
 #[test]
-fn contended_begins_leave_the_replies(rt: HostRuntime) -> Result<(), Fail> {
-    let mut dice = Dice::new(3);
-    for capacity in CAPACITIES {
-        for boxes in 1..5 {
-            let seen = contended_mix(&rt, rt.alloc(), capacity, boxes, &mut dice, 150)?;
-            assert_eq!(rt; seen.wrong.as_str(), "");
-            assert!(rt; seen.told > 0);
-        }
-    }
+fn updates_and_queries_are_answered_as_the_rows_do(rt: HostRuntime) -> Result<(), Fail> {
+    let mut text = String::new(rt.alloc());
+    mix_all(&rt, rt.alloc(), OF_UPDATES, &mut text)?;
+    assert_eq!(rt; text.as_str(), "");
+    Ok(())
+}
+
+#[test]
+fn refused_steps_leave_the_replies_under_updates(rt: HostRuntime) -> Result<(), Fail> {
+    let mut text = String::new(rt.alloc());
+    mix_all(&rt, rt.alloc(), OF_REFUSED_STEPS, &mut text)?;
+    assert_eq!(rt; text.as_str(), "");
+    Ok(())
+}
+
+#[test]
+fn contended_begins_leave_the_replies_under_updates(rt: HostRuntime) -> Result<(), Fail> {
+    let mut text = String::new(rt.alloc());
+    mix_all(&rt, rt.alloc(), OF_CONTENDED_BEGINS, &mut text)?;
+    assert_eq!(rt; text.as_str(), "");
+    Ok(())
+}
+
+#[test]
+fn tapes_that_fill_again_and_again(rt: HostRuntime) -> Result<(), Fail> {
+    let mut text = String::new(rt.alloc());
+    mix_all(&rt, rt.alloc(), OF_FULL_TAPES, &mut text)?;
+    assert_eq!(rt; text.as_str(), "");
     Ok(())
 }

@@ -2,23 +2,24 @@
 
 ghost use Rattle.std.specs.Prelude.{◌≡◌, []};
 
+use crate::acts::taken;
+use crate::scenes::Watch;
 use crate::{ask, ready, scan};
-use std::alloc::Global;
-use std::sync::atomic::{AtomicU64, Ordering};
+use std::alloc::{AllocError, Global};
 use std::test::Fail;
 use std::thread::Threads;
-use sw_budget::Budget;
 use sw_lang::parse_line;
 use sw_map::{CrackerMap, Tail};
 use sw_rows::{Bound, Call, Query, Refusal, Reply, ReplyRow, Schema};
 use sw_set::Area;
-use sw_trial_maps::Counts;
 
 /// What is done to an area, or looked at.
 #[derive(Clone, Copy)]
 pub(crate) enum Move<'t> {
     /// Answers a query: its reply, and the refusal that is told beside it.
     Answer(&'t str),
+    /// Answers counts of a below 1, 2, 3 and so on, up to a number.
+    Ranges(u32),
     /// Scans for a query.
     Scan(&'t str),
     /// Prepares for a query: the range of places, or the refusal.
@@ -47,193 +48,245 @@ pub(crate) enum Move<'t> {
     Used,
 }
 
-/// What is looked at beside the area.
-#[derive(Clone, Copy)]
-pub(crate) struct Watch<'t> {
-    pub budget: &'t Budget,
-    pub counts: &'t Counts,
-}
-
 /// A query as a line of a script, over the attributes a to e.
 pub(crate) fn query(alloc: Global, line: &str) -> Result<Query, Refusal> {
     let schema = Schema::of(alloc, &["a", "b", "c", "d", "e"])?;
-    match parse_line(alloc, &schema, 1, line)? {
-        Some(Call::Select(query)) => Ok(query),
+    match parse_line(alloc, &schema, 1, line) {
+        Ok(Some(Call::Select(query))) => Ok(query),
+        Err(e) => Err(e),
         _ => Err(Refusal::Input),
     }
 }
 
-/// A row of a reply, as it is printed.
-fn shown_row(alloc: Global, row: &ReplyRow) -> Result<String, Fail> {
-    let mut text = format!(in alloc; "{}:", row.key)?;
+/// Tells a row of a reply.
+fn push_row(text: &mut String, row: &ReplyRow) -> Result<(), AllocError> {
+    write!(text, "{}:", row.key)?;
     for cell in row.cells.as_slice() {
-        text.push_str(format!(in alloc; " {cell}")?.as_str())?;
+        write!(text, " {cell}")?;
     }
-    text.push_str(", ")?;
-    Ok(text)
+    text.push_str(", ")
 }
 
-/// A reply as text.
-pub(crate) fn shown(alloc: Global, reply: &Reply) -> Result<String, Fail> {
-    let mut text = String::new(alloc);
+/// Tells the rows of a reply, and how many there are.
+fn push_rows(text: &mut String, rows: &[ReplyRow]) -> Result<(), AllocError> {
+    for row in rows {
+        push_row(text, row)?;
+    }
+    write!(text, "{} rows", rows.len())
+}
+
+/// Tells a reply.
+pub(crate) fn push_reply(text: &mut String, reply: &Reply) -> Result<(), AllocError> {
     match reply {
-        Reply::Rows(rows) => {
-            for row in rows.as_slice() {
-                text.push_str(shown_row(alloc, row)?.as_str())?;
-            }
-            text.push_str(format!(in alloc; "{} rows", rows.as_slice().len())?.as_str())?;
-        }
-        Reply::Count(n) => text.push_str(format!(in alloc; "{n}")?.as_str())?,
-        Reply::Sum(sum) => text.push_str(format!(in alloc; "{sum}")?.as_str())?,
-        Reply::Least(Some(cell)) => text.push_str(format!(in alloc; "{cell}")?.as_str())?,
-        Reply::Least(None) => text.push_str("none")?,
-        _ => text.push_str("another")?,
+        Reply::Rows(rows) => push_rows(text, rows.as_slice()),
+        Reply::Count(n) => write!(text, "{n}"),
+        Reply::Sum(sum) => write!(text, "{sum}"),
+        Reply::Least(Some(cell)) => write!(text, "{cell}"),
+        Reply::Least(None) => text.push_str("none"),
+        _ => text.push_str("another"),
     }
-    Ok(text)
 }
 
-/// A number, or none.
-fn shown_number(alloc: Global, number: Option<u64>) -> Result<String, Fail> {
+/// Tells the refusal beside a reply, if there is one.
+pub(crate) fn push_told(text: &mut String, told: &Option<Refusal>) -> Result<(), AllocError> {
+    match told {
+        Some(e) => write!(text, ", told {e}"),
+        None => Ok(()),
+    }
+}
+
+/// Tells a number, or none.
+fn push_number(text: &mut String, number: Option<u64>) -> Result<(), AllocError> {
     match number {
-        Some(n) => Ok(format!(in alloc; "{n}")?),
-        None => Ok(format!(in alloc; "none")?),
+        Some(n) => write!(text, "{n}"),
+        None => text.push_str("none"),
     }
 }
 
-/// A place or a cursor, or none.
-fn shown_place(alloc: Global, place: Option<usize>) -> Result<String, Fail> {
+/// Tells a place or a cursor, or none.
+pub(crate) fn push_place(text: &mut String, place: Option<usize>) -> Result<(), AllocError> {
     match place {
-        Some(n) => Ok(format!(in alloc; "{n}")?),
-        None => Ok(format!(in alloc; "none")?),
+        Some(n) => write!(text, "{n}"),
+        None => text.push_str("none"),
     }
 }
 
-/// What the map of a tail shows.
-fn shown_tail<M: CrackerMap>(alloc: Global, area: &Area<M>, tail: Tail) -> Result<String, Fail> {
-    let mut text = String::new(alloc);
+/// Tells what the map of a tail shows.
+fn push_tail<M: CrackerMap>(
+    text: &mut String,
+    area: &Area<M>,
+    tail: Tail,
+) -> Result<(), AllocError> {
     for place in 0..64 {
         let Some(value) = area.peek(tail, place) else {
-            return Ok(text);
+            return Ok(());
         };
         if place > 0 {
             text.push_str(" ")?;
         }
-        text.push_str(format!(in alloc; "{value}")?.as_str())?;
+        write!(text, "{value}")?;
     }
-    Ok(text)
+    Ok(())
 }
 
-/// What a counter tells, which is 0 again.
-fn taken(count: &AtomicU64) -> u64 {
-    count.swap(0, Ordering::SeqCst)
+/// Tells the reply of an area, with the refusal that is told beside it.
+fn answer_to<R: Threads + Sync, M: CrackerMap>(
+    rt: &R,
+    area: &mut Area<M>,
+    query: &Query,
+    text: &mut String,
+) -> Result<(), Fail>
+    requires { area.old.inbox ≡ [] }
+    ensures { area.new.inbox ≡ [] }
+{
+    let (reply, told) = ask(rt, area, query)?;
+    push_reply(text, &reply)?;
+    Ok(push_told(text, &told)?)
 }
 
-/// The reply of an area, with the refusal that is told beside it.
+/// The same of a query as a line.
 fn answered<R: Threads + Sync, M: CrackerMap>(
     rt: &R,
     alloc: Global,
     area: &mut Area<M>,
     line: &str,
-) -> Result<String, Fail>
+    text: &mut String,
+) -> Result<(), Fail>
     requires { area.old.inbox ≡ [] }
     ensures { area.new.inbox ≡ [] }
 {
     let query = query(alloc, line)?;
-    let (reply, told) = ask(rt, area, &query)?;
-    let mut text = shown(alloc, &reply)?;
-    if let Some(e) = told {
-        text.push_str(format!(in alloc; ", told {e}")?.as_str())?;
-    }
-    Ok(text)
+    answer_to(rt, area, &query, text)
 }
 
-/// The range of places of a query, or the refusal.
+/// Answers counts of a below 1, 2, 3 and so on, up to a number.
+fn ranged<R: Threads + Sync, M: CrackerMap>(
+    rt: &R,
+    alloc: Global,
+    area: &mut Area<M>,
+    upto: u32,
+    text: &mut String,
+) -> Result<(), Fail>
+    requires { area.old.inbox ≡ [] }
+    ensures { area.new.inbox ≡ [] }
+{
+    for value in 1..upto {
+        let line = format!(in alloc; "count where a < {value}")?;
+        answered(rt, alloc, area, line.as_str(), text)?;
+    }
+    text.clear();
+    Ok(())
+}
+
+/// Tells the range of places of a query, or the refusal.
 fn prepared<R: Threads + Sync, M: CrackerMap>(
     rt: &R,
     alloc: Global,
     area: &mut Area<M>,
     line: &str,
-) -> Result<String, Fail>
+    text: &mut String,
+) -> Result<(), Fail>
     requires { area.old.inbox ≡ [] }
     ensures { area.new.inbox ≡ [] }
 {
     let query = query(alloc, line)?;
     match ready(rt, area, &query) {
-        Ok(range) => Ok(format!(in alloc; "{}..{}", range.from, range.upto)?),
-        Err(e) => Ok(format!(in alloc; "{e}")?),
+        Ok(range) => Ok(write!(text, "{}..{}", range.from, range.upto)?),
+        Err(e) => Ok(write!(text, "{e}")?),
     }
+}
+
+/// Tells the plain answer over an area's rows.
+fn scanned<M: CrackerMap>(
+    alloc: Global,
+    area: &Area<M>,
+    line: &str,
+    text: &mut String,
+) -> Result<(), Fail>
+    requires { area.now.inbox ≡ [] }
+{
+    let query = query(alloc, line)?;
+    let reply = scan(area, &query)?;
+    Ok(push_reply(text, &reply)?)
+}
+
+/// Tells counts, which are 0 again.
+fn push_counts(text: &mut String, watch: Watch<'_>) -> Result<(), AllocError> {
+    write!(
+        text,
+        "{} begins, {} steps, {} tails",
+        taken(&watch.counts.begins),
+        taken(&watch.counts.steps),
+        taken(&watch.counts.tails)
+    )
 }
 
 /// Looks at an area.
 pub(crate) fn look<M: CrackerMap>(
-    alloc: Global,
     area: &Area<M>,
     watch: Watch<'_>,
     step: Move<'_>,
-) -> Result<String, Fail>
-    requires { area.now.inbox ≡ [] }
+    text: &mut String,
+) -> Result<(), AllocError> {
+    match step {
+        Move::Oldest => push_number(text, area.oldest()),
+        Move::Sizes => write!(text, "{} boxes, {} entries", area.boxes(), area.tape_len()),
+        Move::Shown(tail) => push_tail(text, area, tail),
+        Move::Place(bound) => push_place(text, area.place(bound)),
+        Move::Cursor(tail) => push_place(text, area.cursor(tail)),
+        Move::Counts => push_counts(text, watch),
+        Move::Used => write!(text, "{}", watch.budget.used()),
+        _ => Ok(()),
+    }
+}
+
+/// Clears maps, drops boxes or sets the number of the next use, or looks at an area.
+fn tend<M: CrackerMap>(
+    area: &mut Area<M>,
+    watch: Watch<'_>,
+    step: Move<'_>,
+    text: &mut String,
+) -> Result<(), AllocError>
+    requires { area.old.inbox ≡ [] }
+    ensures { area.new.inbox ≡ [] }
 {
     match step {
-        Move::Scan(line) => {
-            let query = query(alloc, line)?;
-            let reply = scan(area, &query)?;
-            shown(alloc, &reply)
+        Move::Clear(tail) => {
+            area.clear(tail);
+            Ok(())
         }
-        Move::Oldest => shown_number(alloc, area.oldest()),
-        Move::Sizes => Ok(format!(in alloc;
-            "{} boxes, {} entries",
-            area.boxes(),
-            area.tape_len()
-        )?),
-        Move::Shown(tail) => shown_tail(alloc, area, tail),
-        Move::Place(bound) => shown_place(alloc, area.place(bound)),
-        Move::Cursor(tail) => shown_place(alloc, area.cursor(tail)),
-        Move::Counts => Ok(format!(in alloc;
-            "{} begins, {} steps, {} tails",
-            taken(&watch.counts.begins),
-            taken(&watch.counts.steps),
-            taken(&watch.counts.tails)
-        )?),
-        Move::Used => Ok(format!(in alloc; "{}", watch.budget.used())?),
-        _ => Ok(String::new(alloc)),
+        Move::ClearOldest => write!(text, "{}", area.clear_oldest()),
+        Move::Shed(most) => write!(text, "{}", area.shed(most)),
+        Move::SetNow(now) => {
+            area.set_now(now);
+            Ok(())
+        }
+        _ => look(area, watch, step, text),
     }
 }
 
 /// Makes a move, and tells what is seen.
-pub(crate) fn make<R: Threads + Sync, M: CrackerMap>(
+fn make<R: Threads + Sync, M: CrackerMap>(
     rt: &R,
     alloc: Global,
     area: &mut Area<M>,
     watch: Watch<'_>,
     step: Move<'_>,
-) -> Result<String, Fail>
+    text: &mut String,
+) -> Result<(), Fail>
     requires { area.old.inbox ≡ [] }
     ensures { area.new.inbox ≡ [] }
 {
     match step {
-        Move::Answer(line) => answered(rt, alloc, area, line),
-        Move::Prepare(line) => prepared(rt, alloc, area, line),
-        Move::Clear(tail) => {
-            area.clear(tail);
-            Ok(String::new(alloc))
-        }
-        Move::ClearOldest => {
-            let cells = area.clear_oldest();
-            Ok(format!(in alloc; "{cells}")?)
-        }
-        Move::Shed(most) => {
-            let gone = area.shed(most);
-            Ok(format!(in alloc; "{gone}")?)
-        }
-        Move::SetNow(now) => {
-            area.set_now(now);
-            Ok(String::new(alloc))
-        }
-        _ => look(alloc, area, watch, step),
+        Move::Answer(line) => answered(rt, alloc, area, line, text),
+        Move::Ranges(upto) => ranged(rt, alloc, area, upto, text),
+        Move::Prepare(line) => prepared(rt, alloc, area, line, text),
+        Move::Scan(line) => scanned(alloc, area, line, text),
+        _ => Ok(tend(area, watch, step, text)?),
     }
 }
 
-/// Makes moves in order. Of the first that does not show what is expected it tells the number, from 0, and what it shows; else
+/// Makes moves in order. Of the first that does not show what is expected it tells what it shows and its number, from 0; else
 /// nothing.
 pub(crate) fn play<R: Threads + Sync, M: CrackerMap>(
     rt: &R,
@@ -241,16 +294,19 @@ pub(crate) fn play<R: Threads + Sync, M: CrackerMap>(
     area: &mut Area<M>,
     watch: Watch<'_>,
     moves: &[(Move<'_>, &str)],
-) -> Result<String, Fail>
+    text: &mut String,
+) -> Result<(), Fail>
     requires { area.old.inbox ≡ [] }
     ensures { area.new.inbox ≡ [] }
 {
     for place in 0..moves.len() {
         let (step, expected) = moves[place];
-        let seen = make(rt, alloc, area, watch, step)?;
-        if seen.as_str() != expected {
-            return Ok(format!(in alloc; "{place}: {seen}")?);
+        text.clear();
+        make(rt, alloc, area, watch, step, text)?;
+        if text.as_str() != expected {
+            return Ok(write!(text, " at {place}")?);
         }
     }
-    Ok(String::new(alloc))
+    text.clear();
+    Ok(())
 }

@@ -3,14 +3,13 @@
 ghost use Rattle.std.specs.Prelude.{◌≡◌, All};
 ghost use Rattle.sw_map.specs.Held.{blank};
 
-use crate::mixes::refusing;
 use crate::moves::query;
-use crate::tests::{FOUR_ROWS, wide};
+use crate::scenes::{FOUR_ROWS, ONE_BOX};
 use crate::{GrowingArea, add, numbered};
 use std::alloc::Global;
 use std::thread::Threads;
 use sw_budget::Budget;
-use sw_map::{CrackerMap, Tail};
+use sw_map::{CrackerMap, PairMap, Tail};
 use sw_rows::{Query, Reply};
 
 /// How often a call is made again.
@@ -140,7 +139,7 @@ fn opened<R: Threads + Sync, M: CrackerMap>(
     let Ok(rows) = numbered(alloc, &FOUR_ROWS) else {
         return None;
     };
-    match GrowingArea::open(alloc, wide(1), rows.as_slice(), maps) {
+    match GrowingArea::open(alloc, ONE_BOX, rows.as_slice(), maps) {
         Ok(mut area) => Some(scene(rt, &mut area, asked)),
         Err(_) => None,
     }
@@ -169,18 +168,11 @@ fn tried<R: Threads + Sync>(rt: &R, alloc: Global) -> Option<&'static str> {
     let Some(asked) = queries(alloc) else {
         return None;
     };
-    let Ok((_budget, mut purse)) = Budget::open(alloc, 1 << 20) else {
+    let Ok((_budget, purse)) = Budget::open(alloc, 1 << 20) else {
         return None;
     };
-    let Ok(map) = refusing(alloc, &mut purse, 0) else {
-        return None;
-    };
-    let one: Box<dyn CrackerMap> = match Box::new(alloc, map) {
-        Ok(one) => one,
-        Err(_) => return None,
-    };
-    let mut maps: Vec<Box<dyn CrackerMap>> = Vec::new(alloc);
-    match add(&mut maps, one) {
+    let mut maps: Vec<PairMap> = Vec::new(alloc);
+    match add(&mut maps, PairMap::blank(alloc, purse)) {
         Ok(()) => opened(rt, alloc, maps, &asked),
         Err(_) => None,
     }

@@ -8,8 +8,6 @@ mod counting;
 mod gated;
 mod refusing;
 mod replaying;
-#[cfg(test)]
-mod tests;
 
 pub use contended::ContendedMap;
 pub use counting::{CountingMap, Counts};

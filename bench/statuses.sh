@@ -1,0 +1,135 @@
+#!/bin/sh
+# Runs the program for each way in which it can end, and compares the exit status, what it prints and what it tells on
+# standard error. The last line says how many cases passed. Status 1 where one did not.
+set -u
+top=$(cd "$(dirname "$0")/.." && pwd) || exit 3
+program=$top/crates/sideways/out/sideways
+if [ ! -x "$program" ]; then
+    "$top/sideways" --help >/dev/null || exit 3
+fi
+work=$(mktemp -d "${TMPDIR:-/tmp}/statuses.XXXXXX") || exit 3
+trap 'rm -rf "$work"' EXIT
+cd "$work" || exit 3
+
+passed=0
+failed=0
+
+# A case: its name, the status, the output, what is told on standard error (its first line; * is any), and the command.
+case_of() {
+    name=$1 status=$2 out=$3 told=$4
+    shift 4
+    "$@" >out 2>err
+    is=$?
+    first=$(sed -n 1p err)
+    verdict=passed
+    [ "$is" -eq "$status" ] || verdict=FAILED
+    [ "$out" = '*' ] || [ "$(cat out)" = "$out" ] || verdict=FAILED
+    [ "$told" = '*' ] || [ "$first" = "$told" ] || verdict=FAILED
+    if [ "$verdict" = passed ]; then passed=$((passed + 1)); else failed=$((failed + 1)); fi
+    printf '%s: %s: status %s, wanted %s; told: %s\n' "$verdict" "$name" "$is" "$status" "$first"
+}
+
+# A command whose output goes to a device that is always full.
+to_full() { "$@" >/dev/full; }
+
+# A command that gets so many KiB of memory at most.
+within() { kib=$1; shift; (ulimit -v "$kib" && exec "$@"); }
+
+printf 'a:int,b:int,c:int\n12,7,1\n3,8,0\n12,5,1\n20,2,0\n' >t.csv
+printf 'count\n' >count.txt
+printf 'count\ncount where d = 1\n' >unknown.txt
+printf 'count\nfetch\n' >word.txt
+printf 'a,b\n1,2\n3\n' >short.csv
+printf '\377\n' >bytes.txt
+front='{"attributes":["a:int","b:int","c:int"],"entries":[{"call":"count","reply":["'
+back='"],"session":1}],"format":1,"limit":1048576,"rows":[[12,7,1],[3,8,0],[12,5,1],[20,2,0]]}'
+printf '%s4%s' "$front" "$back" >legal.json
+printf '%s5%s' "$front" "$back" >illegal.json
+head -c 20 legal.json >cut.json
+mkdir folder
+
+run() { "$program" run --table t.csv --script count.txt "$@"; }
+
+# 0: all was answered
+case_of 'help' 0 '*' '' "$program" --help
+case_of 'help of run' 0 '*' '' "$program" run --help
+case_of 'a run' 0 4 '' run
+case_of 'a run that writes its history' 0 4 '' run --history kept.json
+case_of 'its history' 0 'legal: 1 entries' '' "$program" check kept.json
+case_of 'the history of the formats' 0 'legal: 1 entries' '' "$program" check legal.json
+case_of 'the two are the same bytes' 0 '' '' cmp kept.json legal.json
+
+# 1: a history is not legal, and nothing else
+case_of 'a history that is not legal' 1 'not legal: entry 1' '' "$program" check illegal.json
+
+# 2: the command line, or what is read
+case_of 'no words' 2 '' '*' "$program"
+case_of 'an unknown flag' 2 '' '*' run --fast
+case_of 'an unknown word' 2 '' '*' "$program" walk
+case_of 'no script' 2 '' '*' "$program" run --table t.csv
+case_of 'a limit of 0' 2 '' '*' run --limit 0
+case_of 'a limit too great' 2 '' '*' run --limit 1048577
+case_of 'a word that is not UTF-8' 2 '' 'sideways: refused 12' "$program" check "$(printf '\377')"
+case_of 'no such table' 2 '' 'sideways: refused 12' "$program" run --table none.csv --script count.txt
+case_of 'no such script' 2 '' 'sideways: refused 12' "$program" run --table t.csv --script none.txt
+case_of 'a table that is a folder' 2 '' 'sideways: refused 12' "$program" run --table folder --script count.txt
+case_of 'a short record' 2 '' 'sideways: refused 2 record 2 field 2' "$program" run --table short.csv --script count.txt
+case_of 'a faulty line' 2 '' 'sideways: refused 3 line 2 why Word' "$program" run --table t.csv --script word.txt
+case_of 'bytes that are no text' 2 '' 'sideways: refused 3 line 1 why Encoding' "$program" run --table t.csv --script bytes.txt
+case_of 'an unknown attribute' 2 '' 'sideways: refused 4 name d' "$program" run --table t.csv --script unknown.txt
+case_of 'more rows than the limit' 2 '' 'sideways: refused 5 limit 3' run --limit 3
+case_of 'no such history' 2 '' 'sideways: refused 12' "$program" check none.json
+case_of 'a history that is a folder' 2 '' 'sideways: refused 12' "$program" check folder
+case_of 'a history that is cut' 2 '' 'sideways: refused 3 line 0 why History' "$program" check cut.json
+
+# 3: the output, the history file, or memory
+case_of 'help to a full device' 3 '' 'sideways: refused 13' to_full "$program" --help
+case_of 'a run to a full device' 3 '' 'sideways: refused 13' to_full run
+case_of 'a verdict to a full device' 3 '' 'sideways: refused 13' to_full "$program" check legal.json
+case_of 'a bad verdict to a full device' 3 '' 'sideways: refused 13' to_full "$program" check illegal.json
+case_of 'a history into a folder that is none' 3 4 'sideways: refused 13' run --history none/kept.json
+case_of 'a history to a full device' 3 4 'sideways: refused 13' run --history /dev/full
+
+# A file that is larger than the memory that the program gets.
+head -c 60000000 /dev/zero >large
+case_of 'a history without memory' 3 '' 'sideways: refused 1' within 40000 "$program" check large
+case_of 'a table without memory' 3 '' 'sideways: refused 1' within 40000 "$program" run --table large --script count.txt
+case_of 'a script without memory' 3 '' 'sideways: refused 1' within 40000 "$program" run --table t.csv --script large
+
+# The first 400 allocations of a command refused in turn: the status is 3, and a line tells of it or the reply of the call that
+# was refused does; or all is as ever, where the program did without.
+refused_in_turn() {
+    name=$1 plain=$2
+    shift 2
+    verdict=passed
+    told=0
+    number=1
+    while [ "$number" -le 400 ]; do
+        REFUSED=$number LD_PRELOAD=$work/refusing.so "$@" >out 2>err
+        is=$?
+        if [ "$is" -eq 3 ] && { grep -qx 'sideways: refused 1' err || grep -qx 'refused 1' out; }; then
+            told=$((told + 1))
+        elif [ "$is" -ne "$plain" ]; then
+            verdict=FAILED
+            echo "allocation $number of $name: status $is"
+        fi
+        number=$((number + 1))
+    done
+    [ "$told" -gt 0 ] || verdict=FAILED
+    if [ "$verdict" = passed ]; then passed=$((passed + 1)); else failed=$((failed + 1)); fi
+    printf '%s: %s: %s allocations refused with status 3, else status %s\n' "$verdict" "$name" "$told" "$plain"
+}
+
+printf 'select b where a >= 10\ninsert 1, 2, 3\n---\ncount\n' >calls.txt
+if ${CC:-cc} -O1 -shared -fPIC -o refusing.so "$top/bench/refusing.c" -ldl 2>/dev/null; then
+    refused_in_turn 'a run' 0 "$program" run --table t.csv --script calls.txt --history turn.json
+    refused_in_turn 'a check' 0 "$program" check legal.json
+    refused_in_turn 'a check of what is not legal' 1 "$program" check illegal.json
+    refused_in_turn 'help' 0 "$program" --help
+    refused_in_turn 'an unknown flag' 2 "$program" run --fast
+else
+    echo "no C compiler: allocations were not refused in turn"
+fi
+
+echo "$passed passed, $failed failed"
+[ "$failed" -eq 0 ]

@@ -1,0 +1,21 @@
+-- A query of a schema's attributes is one of attributes below 8.
+use Rattle.std.proofs.Common.{ℕ, List, ◌≤◌, arith, length}
+use Rattle.sw_rows.specs.Header.{Column, IsSchema}
+use Rattle.sw_rows.specs.Scan.{AsksBelow, WantsBelow}
+use Rattle.sw_rows.specs.declared.query.Query.{Query}
+use Rattle.sw_rows.specs.declared.query.Want.{Want}
+use Rattle.sw_rows.specs.declared.query.Want.TheVariants as want
+use Rattle.sw_lang.specs.Fits.{FitsQuery}
+
+wants_below : (n : ℕ) (w : Want) → n ≤ 8 → WantsBelow n w → WantsBelow 8 w
+wants_below n (want.Rows names) le h = λ i d lt. let a = h i d lt in omega arith
+wants_below n want.Count le h = tt
+wants_below n (want.Sum a) le h = omega arith
+wants_below n (want.Min a) le h = omega arith
+wants_below n (want.Max a) le h = omega arith
+
+pub asks_below : (n : ℕ) (q : Query) → n ≤ 8 → AsksBelow n q → AsksBelow 8 q
+asks_below n q le h = record { conds = λ i d lt. let a = h.conds i d lt in omega arith; want = wants_below n q.want le h.want }
+
+pub query_asks : (schema : List Column) (q : Query) → IsSchema schema → FitsQuery schema q → AsksBelow 8 q
+query_asks schema q s f = asks_below (length schema) q s.sound.few f.attrs

@@ -1,0 +1,35 @@
+//! Cases of texts as data: `stdin` has a case a line, and `stdout` what each has to tell.
+//!
+//! A line is a command, with its arguments after colons, then a blank and a text; README.md has the list. A text has
+//! \n, \r, \t, \\ and \xHH for bytes. An empty line and one that begins with # tell nothing.
+#![tactic(auto)]
+
+mod bench;
+mod calls;
+mod refusals;
+mod replies;
+mod sinks;
+mod sources;
+mod tables;
+mod told;
+mod words;
+
+use crate::bench::{Bench, told_of};
+use std::io;
+
+/// Prints what the case of a line tells.
+fn step(rt: &HostRuntime, bench: &mut Bench, line: &str) -> io::Result<()> {
+    let told = told_of(rt.alloc(), bench, line)?;
+    if !told.is_empty() {
+        println!(rt; "{told}")?;
+    }
+    Ok(())
+}
+
+fn main(rt: HostRuntime) -> io::Result<()> {
+    let mut bench = Bench::new(rt.alloc());
+    for line in rt.lines(rt.alloc()) {
+        step(&rt, &mut bench, line?.as_str())?;
+    }
+    Ok(())
+}

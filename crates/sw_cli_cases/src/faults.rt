@@ -1,0 +1,85 @@
+//! Refusals as they are told.
+
+use std::alloc::{AllocError, Global};
+use sw_cli::{status, write_fault};
+use sw_rows::{Counted, Name, Refusal, Why};
+
+/// Refusals by their place, from 0.
+const REFUSALS: [Refusal; 19] = [
+    Refusal::NoMemory,
+    Refusal::BadTable { rec: 2, field: 3 },
+    Refusal::BadLine {
+        line: 4,
+        why: Why::Encoding,
+    },
+    Refusal::BadLine {
+        line: 4,
+        why: Why::Length,
+    },
+    Refusal::BadLine {
+        line: 4,
+        why: Why::Word,
+    },
+    Refusal::BadLine {
+        line: 4,
+        why: Why::End,
+    },
+    Refusal::BadLine {
+        line: 4,
+        why: Why::Value,
+    },
+    Refusal::BadLine {
+        line: 4,
+        why: Why::History,
+    },
+    Refusal::BadLine {
+        line: 4,
+        why: Why::Cuts,
+    },
+    Refusal::TooMany { limit: 8 },
+    Refusal::NoBlank {
+        boxes: 1,
+        needed: 2,
+    },
+    Refusal::Short {
+        used: 128,
+        want: 64,
+        capacity: 128,
+    },
+    Refusal::Contended {
+        seen: 64,
+        found: 128,
+    },
+    Refusal::SharesOut { made: 2, given: 1 },
+    Refusal::HistoryFull { entries: 1_048_576 },
+    Refusal::NotLegal { index: 1 },
+    Refusal::Input,
+    Refusal::Output,
+    Refusal::Ahead { seen: 5, told: 4 },
+];
+
+/// The line of a refusal as it is written, the status, and whether its `Display` says the same.
+fn line_of(alloc: Global, refusal: &Refusal) -> Result<String, AllocError> {
+    let mut out = Counted::new(Vec::new(alloc));
+    let _ = write_fault(refusal, &mut out);
+    let line = String::from_utf8_lossy(alloc, out.inner.as_slice())?;
+    let displayed = format!(in alloc; "sideways: refused {refusal}\n")?;
+    let is_same = displayed.as_str() == line.as_str();
+    format!(in alloc;
+        "{line}status {}, displayed alike {is_same}",
+        status(refusal)
+    )
+}
+
+/// The refusal of a place; of another text that of an attribute with that name.
+pub fn fault(alloc: Global, text: &str) -> Result<String, AllocError> {
+    match text.parse::<usize>() {
+        Ok(place) if place < 19 => line_of(alloc, &REFUSALS[place]),
+        _ => line_of(
+            alloc,
+            &Refusal::UnknownAttribute {
+                name: Name::copied(alloc, text)?,
+            },
+        ),
+    }
+}

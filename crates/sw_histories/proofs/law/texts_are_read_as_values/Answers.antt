@@ -1,0 +1,5 @@
+use Rattle.sw_histories.proofs.RecordBack.{record_read}
+use Rattle.sw_histories.proofs.law.texts_are_read_as_values.Goals as goal
+
+pub returns : goal.returns
+returns c = record_read

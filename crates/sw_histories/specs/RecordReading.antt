@@ -1,0 +1,201 @@
+-- Which text is a record's file, and what is the first fault of another one. Line 0 is what stands outside the entries.
+use Rattle.std.specs.Prelude.{◌≡◌, ◌<◌, ◌≤◌, ◌+◌, ◌++◌, ◌==◌, ◌&&◌, ◌||◌, ℕ, ℤ, pos, Bool, true, false, List, [], ◌∷◌, bytes_eq, codes, length, nat_le, Option, Some, None, Result, Ok, Err, option_and_then, option_map, is_some, if◌then◌else◌}
+use Rattle.std.specs.Ordering.{int_eq}
+use Rattle.std.specs.Result.{result_ok}
+use Rattle.std.specs.Str.{is_utf8}
+use Rattle.serde_json.specs.Data.{Data, Items, array, boolean, item, no_items, null, number, object, string}
+use Rattle.serde_json.specs.Events.{members_len}
+use Rattle.serde_json.specs.Find.{as_array, as_i64, as_number, as_str, as_u64, get}
+use Rattle.serde_json.specs.Read.{read}
+use Rattle.sw_rows.specs.Header.{Column, header_of, kinds_of}
+use Rattle.sw_rows.specs.Tables.{padded, row_of}
+use Rattle.sw_rows.specs.declared.kind.Kind.{Kind}
+use Rattle.sw_rows.specs.declared.kind.Kind.TheVariants as kind
+use Rattle.sw_rows.specs.declared.row.Row.{Row}
+use Rattle.sw_rows.specs.declared.query.Call.{Call}
+use Rattle.sw_rows.specs.declared.refusal.Refusal.{Refusal}
+use Rattle.sw_rows.specs.declared.refusal.Refusal.TheVariants.{BadLine, TooMany}
+use Rattle.sw_rows.specs.declared.refusal.Why.TheVariants as why
+use Rattle.sw_lang.specs.Reading.{line_at, refused}
+use Rattle.sw_spine.specs.Table.{is_numbered}
+use Rattle.sw_spine.specs.History.{History, entry, is_select}
+use Rattle.sw_spine.specs.declared.history.Entry.{Entry}
+use Rattle.sw_spine.specs.declared.history.State.{State}
+use Rattle.sw_spine.specs.declared.history.State.TheVariants as state
+use Rattle.sw_histories.specs.Told.{◌>>=◌}
+
+-- ---- parts of a value
+
+abbrev pub items_list : Items → List Data
+items_list no_items = []
+items_list (item d ds) = d ∷ items_list ds
+
+-- the items of the array that is the member of a name
+abbrev pub array_at : List ℕ → Data → Option (List Data)
+array_at name d = option_map items_list (option_and_then as_array (get name d))
+
+-- the whole number that is the member of a name
+abbrev pub number_at : List ℕ → Data → Option ℕ
+number_at name d = option_and_then as_u64 (option_and_then as_number (get name d))
+
+-- an object has this many members
+abbrev pub has_members : ℕ → Data → Bool
+has_members n null = false
+has_members n (boolean b) = false
+has_members n (number x) = false
+has_members n (string s) = false
+has_members n (array ds) = false
+has_members n (object ms) = members_len ms == n
+
+-- texts, after those that stand before; there is none where an item is no text
+abbrev pub texts_after : List (List ℕ) → List Data → Option (List (List ℕ))
+texts_after done [] = Some done
+texts_after done (d ∷ ds) = option_and_then (λ t. texts_after (done ++ t ∷ []) ds) (as_str d)
+
+-- ---- outside the entries
+
+abbrev pub columns_in : Data → Option (List Column)
+columns_in d = option_and_then (λ ts. result_ok (header_of ts)) (option_and_then (texts_after []) (array_at (codes "attributes") d))
+
+abbrev pub in_range : ℕ → ℕ → ℕ → Option ℕ
+in_range least most n = if nat_le least n && nat_le n most then Some n else None
+
+-- from 1 to 1,048,576
+abbrev pub limit_in : Data → Option ℕ
+limit_in d = option_and_then (in_range 1 1048576) (number_at (codes "limit") d)
+
+-- the number 1
+abbrev pub has_format : Data → Bool
+has_format d = is_some (option_and_then (in_range 1 1) (number_at (codes "format") d))
+
+-- a number is a cell of a kind: of flags 0 or 1
+abbrev pub of_kind : Kind → ℤ → Option ℤ
+of_kind kind.Int z = Some z
+of_kind (kind.Fix places) z = Some z
+of_kind kind.Flag z = if int_eq z (pos 0) || int_eq z (pos 1) then Some z else None
+
+-- a whole number of 64 signed bits that is a cell of the kind
+abbrev pub cell_in : Kind → Data → Option ℤ
+cell_in k d = option_and_then (of_kind k) (option_and_then as_i64 (as_number d))
+
+-- the cells of kinds, after those that stand before
+abbrev pub cells_after : List ℤ → List Kind → List Data → Option (List ℤ)
+cells_after done [] ds = Some done
+cells_after done (k ∷ ks) [] = Some done
+cells_after done (k ∷ ks) (d ∷ ds) = option_and_then (λ z. cells_after (done ++ z ∷ []) ks ds) (cell_in k d)
+
+abbrev pub cells_of : List Kind → List Data → Option (List ℤ)
+cells_of kinds ds = if length ds == length kinds then option_map padded (cells_after [] kinds ds) else None
+
+abbrev pub row_in : List Kind → Data → Option (List ℤ)
+row_in kinds d = option_and_then (λ ds. cells_of kinds (items_list ds)) (as_array d)
+
+-- rows, after those that stand before; their keys are 1, 2, 3 and so on
+abbrev pub rows_after : List Kind → List Row → List Data → Option (List Row)
+rows_after kinds done [] = Some done
+rows_after kinds done (d ∷ ds) = option_and_then (λ cells. rows_after kinds (done ++ row_of (length done + 1) cells ∷ []) ds) (row_in kinds d)
+
+-- at most as many as the limit
+abbrev pub rows_up_to : List Kind → ℕ → List Data → Option (List Row)
+rows_up_to kinds limit ds = if nat_le (length ds) limit then rows_after kinds [] ds else None
+
+abbrev pub rows_in : List Kind → ℕ → Data → Option (List Row)
+rows_in kinds limit d = option_and_then (rows_up_to kinds limit) (array_at (codes "rows") d)
+
+-- the table, the limit, and the entries that are not read yet
+pub record Frame : Type 0 where
+  pub columns : List Column
+  pub limit : ℕ
+  pub rows : List Row
+  pub items : List Data
+
+abbrev pub frame : List Column → ℕ → List Row → List Data → Frame
+frame columns limit rows items = record { columns = columns; limit = limit; rows = rows; items = items }
+
+abbrev pub frame_in : Data → Option Frame
+frame_in d =
+    option_and_then (λ columns. option_and_then (λ limit. option_and_then (λ rows. option_map (λ items. frame columns limit rows items) (array_at (codes "entries") d)) (rows_in (kinds_of columns) limit d)) (limit_in d)) (columns_in d)
+
+-- an object of exactly these five members
+abbrev pub frame_of : Data → Option Frame
+frame_of d = if has_members 5 d && has_format d then frame_in d else None
+
+-- ---- entries
+
+-- the fault of line n
+abbrev pub or_fault : {A : Type 0} → ℕ → Option A → Result A Refusal
+or_fault n None = Err (BadLine n why.History)
+or_fault n (Some x) = Ok x
+
+abbrev pub text_at : List ℕ → Data → Option (List ℕ)
+text_at name d = option_and_then as_str (get name d)
+
+-- an object of just `call`, which is a text, `reply` and `session`
+abbrev pub has_call : Data → Option (List ℕ)
+has_call d = if has_members 3 d then option_and_then (λ r. option_and_then (λ s. text_at (codes "call") d) (get (codes "session") d)) (get (codes "reply") d) else None
+
+-- a line that is no call is no entry's
+abbrev pub call_in : List Column → ℕ → List ℕ → Result Call Refusal
+call_in columns n text = refused n (line_at columns text) >>= or_fault n
+
+-- from 1 to 1,024
+abbrev pub session_in : Data → Option ℕ
+session_in d = option_and_then (in_range 1 1024) (number_at (codes "session") d)
+
+-- the word for a select that is open or void
+abbrev pub word_in : Call → List ℕ → Option State
+word_in c word =
+    if is_select c && bytes_eq word (codes "open") then Some state.Open
+    else if is_select c && bytes_eq word (codes "void") then Some state.Void
+    else None
+
+-- lines, or such a word
+abbrev pub state_of : Call → Data → Option State
+state_of c null = None
+state_of c (boolean b) = None
+state_of c (number x) = None
+state_of c (string s) = word_in c s
+state_of c (array ds) = option_map (λ ls. state.Lines ls) (texts_after [] (items_list ds))
+state_of c (object ms) = None
+
+abbrev pub state_in : Call → Data → Option State
+state_in c d = option_and_then (state_of c) (get (codes "reply") d)
+
+abbrev pub entry_with : Call → Data → Option Entry
+entry_with c d = option_and_then (λ s. option_map (λ st. entry s c st) (state_in c d)) (session_in d)
+
+-- its members, then its call, then its session and its reply
+abbrev pub entry_in : List Column → ℕ → Data → Result Entry Refusal
+entry_in columns n d = or_fault n (has_call d) >>= λ text. (call_in columns n text >>= λ c. or_fault n (entry_with c d))
+
+-- entries, after those that stand before
+abbrev pub entries_after : List Column → List Entry → List Data → Result (List Entry) Refusal
+entries_after columns done [] = Ok done
+entries_after columns done (d ∷ ds) = entry_in columns (length done + 1) d >>= λ e. entries_after columns (done ++ e ∷ []) ds
+
+-- ---- the file
+
+abbrev pub history_with : Frame → List Entry → History
+history_with f es = record { columns = f.columns; rows = f.rows; limit = f.limit; entries = es }
+
+-- the number of entries is looked at before them
+abbrev pub entries_of : Frame → Result History Refusal
+entries_of f = if nat_le (length f.items) 1048576 then (entries_after f.columns [] f.items >>= λ es. Ok (history_with f es)) else Err (TooMany 1048576)
+
+abbrev pub history_of : Data → Result History Refusal
+history_of d = or_fault 0 (frame_of d) >>= entries_of
+
+-- JSON that is UTF-8
+abbrev pub json_of : List ℕ → Option Data
+json_of bytes = if is_utf8 bytes then read bytes else None
+
+-- the record of a text, or its first fault: what stands outside the entries, then their number, then entries in order
+unfoldable pub record_at : List ℕ → Result History Refusal
+record_at bytes = or_fault 0 (json_of bytes) >>= history_of
+
+-- what holds of the part outside the entries
+pub record IsFrame (f : Frame) : Type 0 where
+  pub some : 0 < f.limit
+  pub most : f.limit ≤ 1048576
+  pub few : length f.rows ≤ f.limit
+  pub numbered : is_numbered 1 f.rows ≡ true

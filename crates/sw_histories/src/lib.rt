@@ -1,0 +1,18 @@
+//! History files: a record is written as a JSON text, read back from one, and checked.
+#![tactic(auto)]
+
+mod checking;
+pub mod file_examples;
+mod law;
+mod outline;
+mod reading;
+mod values;
+mod writing;
+
+pub use checking::check_file;
+pub use law::{
+    histories_are_read_as_related, records_are_read_back, tables_have_cells,
+    texts_are_read_as_values,
+};
+pub use reading::read_record;
+pub use writing::write_record;

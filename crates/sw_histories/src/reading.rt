@@ -1,0 +1,468 @@
+//! A record is read from a JSON text.
+
+ghost use Rattle.std.specs.Prelude.{◌≡◌, ◌≤◌, [], Some, None, if◌then◌else◌, length, map, option_and_then, option_map, string_bytes, IfErr, IfOk, IfSome, IsSomeAnd};
+ghost use Rattle.json.specs.Lex.{tokens};
+ghost use Rattle.serde_json.specs.Data.{object};
+ghost use Rattle.serde_json.specs.View.{members_view, view};
+ghost use Rattle.sw_rows.specs.Header.{kinds_of};
+ghost use Rattle.sw_rows.specs.declared.refusal.Refusal.TheVariants.{BadLine};
+ghost use Rattle.sw_rows.specs.declared.refusal.Why.TheVariants as why;
+ghost use Rattle.sw_spine.specs.History.{AllBelow, CallsBelow};
+ghost use Rattle.sw_histories.specs.Outlines.{IsOutlineOf, record_in, values_at, values_in, without_items};
+ghost use Rattle.sw_histories.specs.Told.{Reads};
+ghost use Rattle.sw_histories.specs.Told.{TellsText};
+ghost use Rattle.sw_histories.specs.RecordReading.{array_at, call_in, cell_in, cells_of, columns_in, entries_after, entry_in, frame, frame_of, has_call, has_members, in_range, number_at, of_kind, record_at, row_in, rows_after, rows_in, state_in, text_at, texts_after, word_in};
+
+use crate::outline::{Outline, enter, read_outline};
+use crate::values::{NoValue, read};
+use json::{Reader, Scratch};
+use serde_json::{Map, Value};
+use std::alloc::{AllocError, Global};
+use sw_lang::parse_line;
+use sw_rows::{Call, Kind, Refusal, Row, Schema, Why};
+use sw_spine::{Entry, Lines, MOST_ENTRIES, Record, State};
+
+fn no_history(line: u32) -> Refusal
+    ensures { result ≡ BadLine line why.History }
+{
+    Refusal::BadLine {
+        line,
+        why: Why::History,
+    }
+}
+
+/// Whether a value is an object of so many members.
+fn has_members(value: &Value, count: usize) -> bool
+    ensures { result ≡ has_members count (view value.now) }
+{
+    match value.as_object() {
+        Some(members) => members.len() == count,
+        None => false,
+    }
+}
+
+/// The items of the array that is the member of a name.
+fn array_at<'a>(value: &'a Value, name: &str) -> Option<&'a [Value]>
+    ensures { option_map (λ items. map view items.now) result ≡ array_at name.now (view value.now) }
+{
+    match value.get(name)?.as_array() {
+        Some(items) => Some(items.as_slice()),
+        None => None,
+    }
+}
+
+/// The whole number that is the member of a name, where it is in a range.
+fn number_at(value: &Value, name: &str, least: u64, most: u64) -> Option<u64>
+    ensures { result ≡ option_and_then (in_range least most) (number_at name.now (view value.now)) }
+{
+    let number = value.get(name)?.as_u64()?;
+    if least <= number && number <= most {
+        return Some(number);
+    }
+    None
+}
+
+/// The texts of an array; None where an item is no text.
+fn texts<'a>(alloc: Global, items: &'a [Value]) -> Result<Option<Vec<&'a str>>, AllocError>
+    ensures { IfOk result (λ o. option_map (λ v. map (λ t. t.now) v.items) o ≡ texts_after [] (map view items.now)) }
+{
+    let mut found = Vec::new(alloc);
+    let mut rest = items;
+    while let Some((value, later)) = rest.split_first() {
+        match value.as_str() {
+            Some(text) => found.push(text)?,
+            None => return Ok(None),
+        }
+        rest = later;
+    }
+    Ok(Some(found))
+}
+
+/// The attributes, where they are those of a header.
+fn read_columns(alloc: Global, value: &Value) -> Result<Option<Schema>, AllocError>
+    ensures { IfOk result (λ o. o ≡ columns_in (view value.now)) }
+{
+    let Some(items) = array_at(value, "attributes") else {
+        return Ok(None);
+    };
+    let Some(fields) = texts(alloc, items)? else {
+        return Ok(None);
+    };
+    match Schema::of(alloc, fields.as_slice()) {
+        Ok(schema) => Ok(Some(schema)),
+        Err(Refusal::NoMemory) => Err(AllocError),
+        Err(_) => Ok(None),
+    }
+}
+
+fn of_kind(kind: Kind, number: i64) -> bool
+    ensures { if◌then◌else◌ result (Some number) None ≡ of_kind kind number }
+{
+    match kind {
+        Kind::Int | Kind::Fix(_) => true,
+        Kind::Flag => number == 0 || number == 1,
+    }
+}
+
+/// A cell of a kind.
+fn read_cell(kind: Kind, value: &Value) -> Option<i64>
+    ensures { result ≡ cell_in kind (view value.now) }
+{
+    let number = value.as_i64()?;
+    if of_kind(kind, number) {
+        return Some(number);
+    }
+    None
+}
+
+/// The cells of a row, as many as there are attributes.
+fn read_cells(schema: &Schema, items: &[Value]) -> Option<[i64; 8]>
+    ensures { result ≡ cells_of (kinds_of schema.now) (map view items.now) }
+{
+    let count = schema.len();
+    if items.len() != count {
+        return None;
+    }
+    let mut cells = [0i64; 8];
+    for attr in 0..count {
+        match read_cell(schema.kind(attr), &items[attr]) {
+            Some(cell) => cells[attr] = cell,
+            None => return None,
+        }
+    }
+    Some(cells)
+}
+
+fn read_row(schema: &Schema, value: &Value) -> Option<[i64; 8]>
+    ensures { result ≡ row_in (kinds_of schema.now) (view value.now) }
+{
+    match value.as_array() {
+        Some(items) => read_cells(schema, items.as_slice()),
+        None => None,
+    }
+}
+
+/// Rows whose keys are 1, 2, 3 and so on.
+fn read_all_rows(
+    alloc: Global,
+    schema: &Schema,
+    items: &[Value],
+) -> Result<Option<Vec<Row>>, AllocError>
+    requires { length items.now ≤ 1048576 }
+    ensures { IfOk result (λ o. option_map (λ rows. rows.items) o ≡ rows_after (kinds_of schema.now) [] (map view items.now)) }
+{
+    let mut rows: Vec<Row> = Vec::new(alloc);
+    let mut rest = items;
+    while let Some((value, later)) = rest.split_first() {
+        let Some(cells) = read_row(schema, value) else {
+            return Ok(None);
+        };
+        let key = rows.len() as u64 + 1;
+        rows.push(Row { key, cells })?;
+        rest = later;
+    }
+    Ok(Some(rows))
+}
+
+/// The rows, at most as many as the limit.
+fn read_rows(
+    alloc: Global,
+    schema: &Schema,
+    limit: u64,
+    value: &Value,
+) -> Result<Option<Vec<Row>>, AllocError>
+    requires { limit ≤ 1048576 }
+    ensures { IfOk result (λ o. option_map (λ rows. rows.items) o ≡ rows_in (kinds_of schema.now) limit (view value.now)) }
+{
+    match array_at(value, "rows") {
+        Some(items) if items.len() as u64 <= limit => read_all_rows(alloc, schema, items),
+        _ => Ok(None),
+    }
+}
+
+/// What stands outside the entries of a file.
+#[derive(Drop)]
+struct Outer {
+    schema: Schema,
+    limit: u64,
+    rows: Vec<Row>,
+}
+
+/// The part outside the entries; None where it is none.
+fn read_outer(alloc: Global, value: &Value) -> Result<Option<Outer>, AllocError>
+    ensures { IfOk result (λ o. option_map (λ f. frame f.schema f.limit f.rows.items []) o ≡ option_map without_items (frame_of (view value.now))) }
+{
+    if !has_members(value, 5) || number_at(value, "format", 1, 1).is_none() {
+        return Ok(None);
+    }
+    let Some(schema) = read_columns(alloc, value)? else {
+        return Ok(None);
+    };
+    let Some(limit) = number_at(value, "limit", 1, 1_048_576) else {
+        return Ok(None);
+    };
+    let Some(rows) = read_rows(alloc, &schema, limit, value)? else {
+        return Ok(None);
+    };
+    match array_at(value, "entries") {
+        Some(_) => Ok(Some(Outer {
+            schema,
+            limit,
+            rows,
+        })),
+        None => Ok(None),
+    }
+}
+
+/// The same of an object's members, which are let go.
+fn read_outside(alloc: Global, members: Map<String, Value>) -> Result<Option<Outer>, AllocError>
+    ensures { IfOk result (λ o. option_map (λ f. frame f.schema f.limit f.rows.items []) o ≡ option_map without_items (frame_of (object (members_view members.entries)))) }
+{
+    let value = Value::Object(members);
+    read_outer(alloc, &value)
+}
+
+fn text_at<'a>(value: &'a Value, name: &str) -> Option<&'a str>
+    ensures { option_map (λ t. t.now) result ≡ text_at name.now (view value.now) }
+{
+    value.get(name)?.as_str()
+}
+
+/// The text of an entry's call, where the entry has just the members of one.
+fn text_of_call<'a>(value: &'a Value) -> Option<&'a str>
+    ensures { option_map (λ t. t.now) result ≡ has_call (view value.now) }
+{
+    if !has_members(value, 3) {
+        return None;
+    }
+    if value.get("reply").is_none() {
+        return None;
+    }
+    if value.get("session").is_none() {
+        return None;
+    }
+    text_at(value, "call")
+}
+
+fn read_call(alloc: Global, schema: &Schema, line: u32, text: &str) -> Result<Call, Refusal>
+    ensures answers { Reads (λ call. call) result (call_in schema.now line text.now) }
+    ensures below { IfOk result (CallsBelow (length schema.now)) }
+    ensures why { IfErr result TellsText }
+{
+    match parse_line(alloc, schema, line, text) {
+        Ok(Some(call)) => Ok(call),
+        Ok(None) => Err(no_history(line)),
+        Err(e) => Err(e),
+    }
+}
+
+/// The word for a select that is open or void.
+fn word_of(call: &Call, word: &str) -> Option<State>
+    ensures { result ≡ word_in call.now word.now }
+{
+    let Call::Select(_) = call else {
+        return None;
+    };
+    match word {
+        "open" => Some(State::Open),
+        "void" => Some(State::Void),
+        _ => None,
+    }
+}
+
+fn copies(alloc: Global, texts: &[&str]) -> Result<Vec<String>, AllocError>
+    ensures { IfOk result (λ v. map (λ t. string_bytes t) v.items ≡ map (λ t. t.now) texts.now) }
+{
+    let mut found = Vec::with_capacity(alloc, texts.len())?;
+    for text in texts {
+        found.push(String::from_str(alloc, text)?)?;
+    }
+    Ok(found)
+}
+
+fn read_lines(alloc: Global, items: &[Value]) -> Result<Option<Lines>, AllocError>
+    ensures { IfOk result (λ o. o ≡ texts_after [] (map view items.now)) }
+{
+    match texts(alloc, items)? {
+        Some(found) => Ok(Some(Lines::of(copies(alloc, found.as_slice())?))),
+        None => Ok(None),
+    }
+}
+
+/// What has become of an entry's call.
+fn read_state(alloc: Global, call: &Call, value: &Value) -> Result<Option<State>, AllocError>
+    ensures { IfOk result (λ o. o ≡ state_in call.now (view value.now)) }
+{
+    let Some(reply) = value.get("reply") else {
+        return Ok(None);
+    };
+    if let Some(word) = reply.as_str() {
+        return Ok(word_of(call, word));
+    }
+    let Some(items) = reply.as_array() else {
+        return Ok(None);
+    };
+    match read_lines(alloc, items.as_slice())? {
+        Some(lines) => Ok(Some(State::Lines(lines))),
+        None => Ok(None),
+    }
+}
+
+/// The entry of a line: its members are looked at first, then its call, then its session and its reply.
+fn read_entry(alloc: Global, schema: &Schema, line: u32, value: &Value) -> Result<Entry, Refusal>
+    ensures answers { Reads (λ e. e) result (entry_in schema.now line (view value.now)) }
+    ensures below { IfOk result (λ e. CallsBelow (length schema.now) e.call) }
+    ensures why { IfErr result TellsText }
+{
+    let Some(text) = text_of_call(value) else {
+        return Err(no_history(line));
+    };
+    let call = match read_call(alloc, schema, line, text) {
+        Ok(call) => call,
+        Err(e) => return Err(e),
+    };
+    let Some(session) = number_at(value, "session", 1, 1024) else {
+        return Err(no_history(line));
+    };
+    match read_state(alloc, &call, value) {
+        Ok(Some(state)) => Ok(Entry {
+            session,
+            call,
+            state,
+        }),
+        Ok(None) => Err(no_history(line)),
+        Err(_) => Err(Refusal::NoMemory),
+    }
+}
+
+/// The entry of a line, whose value is let go.
+fn take_entry(alloc: Global, schema: &Schema, line: u32, value: Value) -> Result<Entry, Refusal>
+    ensures answers { Reads (λ e. e) result (entry_in schema.now line (view value)) }
+    ensures below { IfOk result (λ e. CallsBelow (length schema.now) e.call) }
+    ensures why { IfErr result TellsText }
+{
+    read_entry(alloc, schema, line, &value)
+}
+
+/// Entries in order, up to the end of their array; they count from 1.
+fn read_entries(
+    alloc: Global,
+    schema: &Schema,
+    reader: &mut Reader<'_>,
+) -> Result<Vec<Entry>, Refusal>
+    requires { IsSomeAnd (values_in reader.old) (λ ds. length ds ≤ 1048576) }
+    ensures answers { IfSome (values_in reader.old) (λ ds. Reads (λ entries. entries.items) result (entries_after schema.now [] ds)) }
+    ensures below { IfOk result (λ entries. AllBelow (length schema.now) entries.items) }
+    ensures few { IfOk result (λ entries. length entries.items ≤ 1048576) }
+    ensures why { IfErr result TellsText }
+{
+    let mut entries: Vec<Entry> = Vec::new(alloc);
+    'entries: while !reader.take_end_array() {
+        let value = match read(alloc, reader, 125) {
+            Ok(value) => value,
+            Err(NoValue::Memory) => return Err(Refusal::NoMemory),
+            Err(NoValue::Invalid) => unreachable!(),
+        };
+        if entries.reserve(1).is_err() {
+            return Err(Refusal::NoMemory);
+        }
+        let line = entries.len() as u32 + 1;
+        let entry = match take_entry(alloc, schema, line, value) {
+            Ok(entry) => entry,
+            Err(e) => return Err(e),
+        };
+        entries.push_reserved(entry);
+    }
+    Ok(entries)
+}
+
+/// The entries of a text's object, of which the array is the value of the member after so many others.
+fn read_entries_at(
+    alloc: Global,
+    schema: &Schema,
+    text: &str,
+    scratch: &mut Scratch,
+    place: usize,
+) -> Result<Vec<Entry>, Refusal>
+    requires { IsSomeAnd (values_at place (tokens text.now)) (λ ds. length ds ≤ 1048576) }
+    ensures answers { IfSome (values_at place (tokens text.now)) (λ ds. Reads (λ entries. entries.items) result (entries_after schema.now [] ds)) }
+    ensures below { IfOk result (λ entries. AllBelow (length schema.now) entries.items) }
+    ensures few { IfOk result (λ entries. length entries.items ≤ 1048576) }
+    ensures why { IfErr result TellsText }
+{
+    let Ok(mut reader) = Reader::new(text, scratch) else {
+        return Err(Refusal::NoMemory);
+    };
+    match enter(&mut reader, place) {
+        Ok(()) => read_entries(alloc, schema, &mut reader),
+        Err(_) => unreachable!(),
+    }
+}
+
+/// The record of a text whose outline was read. What stands outside the entries is looked at first, then their number, then
+/// entries in order.
+fn read_outlined(
+    alloc: Global,
+    text: &str,
+    scratch: &mut Scratch,
+    outline: Outline,
+) -> Result<Record, Refusal>
+    requires { IsOutlineOf text.now outline }
+    ensures answers { Reads (λ h. h) result (record_in text.now) }
+    ensures why { IfErr result TellsText }
+{
+    let Outline { members, entries } = outline;
+    let Some(entries) = entries else {
+        return Err(no_history(0));
+    };
+    let Ok(read) = read_outside(alloc, members) else {
+        return Err(Refusal::NoMemory);
+    };
+    let Some(outer) = read else {
+        return Err(no_history(0));
+    };
+    if entries.count > MOST_ENTRIES {
+        return Err(Refusal::TooMany {
+            limit: MOST_ENTRIES as u64,
+        });
+    }
+    match read_entries_at(alloc, &outer.schema, text, scratch, entries.place) {
+        Ok(entries) => Ok(Record {
+            schema: outer.schema,
+            rows: outer.rows,
+            limit: outer.limit,
+            entries,
+        }),
+        Err(e) => Err(e),
+    }
+}
+
+/// The record of a text. The text is gone through twice: its entries are read once the attributes are known, and one after
+/// another, so that they never stand beside the record as JSON values.
+fn read_text(alloc: Global, text: &str) -> Result<Record, Refusal>
+    ensures answers { Reads (λ h. h) result (record_in text.now) }
+    ensures why { IfErr result TellsText }
+{
+    let mut scratch = Scratch::new(alloc);
+    match read_outline(alloc, text, &mut scratch) {
+        Ok(outline) => read_outlined(alloc, text, &mut scratch, outline),
+        Err(NoValue::Invalid) => Err(no_history(0)),
+        Err(NoValue::Memory) => Err(Refusal::NoMemory),
+    }
+}
+
+/// The record of a file's bytes.
+///
+/// Refused `BadLine` of line 0 and why `History` where the bytes are no such JSON outside the entries; then `TooMany` of
+/// 1,048,576 where there are more entries; then for the first entry, from 1, that is none `BadLine` with its number: why
+/// `History` for its members, its session and its reply, or what `parse_line` finds in its call, `UnknownAttribute` among
+/// it. `NoMemory` otherwise.
+pub fn read_record(alloc: Global, bytes: &[u8]) -> Result<Record, Refusal>
+    ensures answers { Reads (λ h. h) result (record_at bytes.now) }
+    ensures why { IfErr result TellsText }
+{
+    match std::str::from_utf8(bytes) {
+        Ok(text) => read_text(alloc, text),
+        Err(_) => Err(no_history(0)),
+    }
+}

@@ -1,0 +1,271 @@
+//! A record is written as a JSON text.
+
+ghost use Rattle.std.specs.Prelude.{◌≡◌, ◌≤◌, ◌++◌, codes, decimal, false, map, string_bytes, IfOk, OnOk};
+ghost use Rattle.serde_json.specs.View.{view};
+ghost use Rattle.serde_json.specs.Written.{comma_if, compact_text, has_float};
+ghost use Rattle.sw_lang.specs.PrintedCalls.{call_text};
+ghost use Rattle.sw_rows.specs.Cells.{HasPlaces};
+ghost use Rattle.sw_rows.specs.Spelling.{kind_text};
+ghost use Rattle.sw_histories.specs.RecordText.{attribute_text, cell_data, entry_data, front_text, list_data, record_text, row_data, state_data, texts_data, WritesText};
+
+use serde_json::{Value, json};
+use std::alloc::{AllocError, Global};
+use sw_lang::{write_all, write_call};
+use sw_rows::{Call, Counted, Kind, Refusal, Row, Schema, Sink};
+use sw_spine::{Entry, Lines, Record, State};
+
+/// The bytes of a call. They go to memory, so no memory is the one failure.
+fn call_bytes(alloc: Global, schema: &Schema, call: &Call) -> Result<Vec<u8>, AllocError>
+    ensures { IfOk result (λ text. text.items ≡ call_text schema.now call.now) }
+{
+    let mut out = Counted::new(Vec::new(alloc));
+    match write_call(schema, call, &mut out) {
+        Ok(()) => Ok(out.inner),
+        Err(_) => Err(AllocError),
+    }
+}
+
+/// A call as it is printed.
+fn call_string(alloc: Global, schema: &Schema, call: &Call) -> Result<String, AllocError>
+    ensures { IfOk result (λ text. string_bytes text ≡ call_text schema.now call.now) }
+{
+    let _width = schema.len();
+    let bytes = call_bytes(alloc, schema, call)?;
+    match String::from_utf8(bytes) {
+        Ok(text) => Ok(text),
+        Err(_) => unreachable!(),
+    }
+}
+
+fn kind_name(kind: Kind) -> &'static str
+    requires { HasPlaces kind }
+    ensures { result.now ≡ kind_text kind }
+{
+    match kind {
+        Kind::Int => "int",
+        Kind::Flag => "flag",
+        Kind::Fix(1) => "fix1",
+        Kind::Fix(2) => "fix2",
+        Kind::Fix(3) => "fix3",
+        Kind::Fix(4) => "fix4",
+        Kind::Fix(5) => "fix5",
+        Kind::Fix(_) => "fix6",
+    }
+}
+
+/// A name with its type.
+fn attribute_string(alloc: Global, name: &str, kind: Kind) -> Result<String, AllocError>
+    requires { HasPlaces kind }
+    ensures { IfOk result (λ text. string_bytes text ≡ attribute_text (name.now, kind)) }
+{
+    let mut text = String::from_str(alloc, name)?;
+    text.push_str(":")?;
+    text.push_str(kind_name(kind))?;
+    Ok(text)
+}
+
+fn attributes_value(alloc: Global, schema: &Schema) -> Result<Value, AllocError>
+    ensures { IfOk result (λ v. view v ≡ texts_data (map attribute_text schema.now)) }
+{
+    let mut items = Vec::new(alloc);
+    for attr in 0..schema.len() {
+        let text = attribute_string(alloc, schema.name(attr), schema.kind(attr))?;
+        items.push(Value::String(text))?;
+    }
+    Ok(Value::Array(items))
+}
+
+fn cells_value(alloc: Global, cells: &[i64]) -> Result<Value, AllocError>
+    ensures { IfOk result (λ v. view v ≡ list_data (map cell_data cells.now)) }
+{
+    let mut items = Vec::new(alloc);
+    for cell in cells {
+        items.push(Value::from(*cell))?;
+    }
+    Ok(Value::Array(items))
+}
+
+fn row_value(alloc: Global, width: usize, row: &Row) -> Result<Value, AllocError>
+    requires { width ≤ 8 }
+    ensures { IfOk result (λ v. view v ≡ row_data width row.now) }
+{
+    cells_value(alloc, &row.cells[..width])
+}
+
+fn lines_value(alloc: Global, lines: &[String]) -> Result<Value, AllocError>
+    ensures { IfOk result (λ v. view v ≡ texts_data (map (λ t. string_bytes t) lines.now)) }
+{
+    let mut items = Vec::new(alloc);
+    for line in lines {
+        items.push(Value::String(String::from_str(alloc, line.as_str())?))?;
+    }
+    Ok(Value::Array(items))
+}
+
+fn state_value(
+    alloc: Global,
+    schema: &Schema,
+    call: &Call,
+    state: &State,
+) -> Result<Value, AllocError>
+    ensures { IfOk result (λ v. view v ≡ state_data schema.now call.now state.now) }
+{
+    match state {
+        State::Answered(reply) => {
+            let lines = Lines::of_reply(alloc, schema, call, reply)?;
+            lines_value(alloc, lines.as_slice())
+        }
+        State::Lines(lines) => lines_value(alloc, lines.as_slice()),
+        State::Open => Value::try_from_str(alloc, "open"),
+        State::Void => Value::try_from_str(alloc, "void"),
+    }
+}
+
+fn entry_value(alloc: Global, schema: &Schema, entry: &Entry) -> Result<Value, AllocError>
+    ensures { IfOk result (λ v. view v ≡ entry_data schema.now entry.now) }
+{
+    let call = call_string(alloc, schema, &entry.call)?;
+    let reply = state_value(alloc, schema, &entry.call, &entry.state)?;
+    json!(in alloc; {"call": call, "reply": reply, "session": entry.session})
+}
+
+/// Puts the text of a value after a text.
+fn put_value(alloc: Global, value: &Value, text: &mut Vec<u8>) -> Result<(), AllocError>
+    requires { has_float (view value.now) ≡ false }
+    ensures { OnOk result (text.new.items ≡ text.old.items ++ compact_text (view value.now)) }
+{
+    let bytes = value.to_vec(alloc)?;
+    text.extend_from_slice(bytes.as_slice())?;
+    Ok(())
+}
+
+/// Puts a comma after a text, where an item stands before.
+fn put_comma(is_later: bool, text: &mut Vec<u8>) -> Result<(), AllocError>
+    ensures { OnOk result (text.new.items ≡ text.old.items ++ comma_if is_later) }
+{
+    if is_later {
+        text.push(b',')?;
+    }
+    Ok(())
+}
+
+fn put_entry(
+    alloc: Global,
+    schema: &Schema,
+    entry: &Entry,
+    is_later: bool,
+    text: &mut Vec<u8>,
+) -> Result<(), AllocError>
+    ensures { OnOk result (text.new.items ≡ text.old.items ++ (comma_if is_later ++ compact_text (entry_data schema.now entry.now))) }
+{
+    let value = entry_value(alloc, schema, entry)?;
+    put_comma(is_later, text)?;
+    put_value(alloc, &value, text)
+}
+
+/// Puts entries as an array, one after another, so that only one stands as a JSON value.
+fn put_entries(
+    alloc: Global,
+    schema: &Schema,
+    entries: &[Entry],
+    text: &mut Vec<u8>,
+) -> Result<(), AllocError>
+    ensures { OnOk result (text.new.items ≡ text.old.items ++ compact_text (list_data (map (entry_data schema.now) entries.now))) }
+{
+    text.push(b'[')?;
+    let mut is_later = false;
+    let mut rest = entries;
+    while let Some((entry, later)) = rest.split_first() {
+        put_entry(alloc, schema, entry, is_later, text)?;
+        is_later = true;
+        rest = later;
+    }
+    text.push(b']')?;
+    Ok(())
+}
+
+fn put_row(
+    alloc: Global,
+    width: usize,
+    row: &Row,
+    is_later: bool,
+    text: &mut Vec<u8>,
+) -> Result<(), AllocError>
+    requires { width ≤ 8 }
+    ensures { OnOk result (text.new.items ≡ text.old.items ++ (comma_if is_later ++ compact_text (row_data width row.now))) }
+{
+    let value = row_value(alloc, width, row)?;
+    put_comma(is_later, text)?;
+    put_value(alloc, &value, text)
+}
+
+/// Puts rows as an array.
+fn put_rows(alloc: Global, width: usize, rows: &[Row], text: &mut Vec<u8>) -> Result<(), AllocError>
+    requires { width ≤ 8 }
+    ensures { OnOk result (text.new.items ≡ text.old.items ++ compact_text (list_data (map (row_data width) rows.now))) }
+{
+    text.push(b'[')?;
+    let mut is_later = false;
+    let mut rest = rows;
+    while let Some((row, later)) = rest.split_first() {
+        put_row(alloc, width, row, is_later, text)?;
+        is_later = true;
+        rest = later;
+    }
+    text.push(b']')?;
+    Ok(())
+}
+
+/// Puts the attributes as an array.
+fn put_attributes(alloc: Global, schema: &Schema, text: &mut Vec<u8>) -> Result<(), AllocError>
+    ensures { OnOk result (text.new.items ≡ text.old.items ++ compact_text (texts_data (map attribute_text schema.now))) }
+{
+    let value = attributes_value(alloc, schema)?;
+    put_value(alloc, &value, text)
+}
+
+fn put_limit(alloc: Global, limit: u64, text: &mut Vec<u8>) -> Result<(), AllocError>
+    ensures { OnOk result (text.new.items ≡ text.old.items ++ decimal limit) }
+{
+    let value = Value::from(limit);
+    put_value(alloc, &value, text)
+}
+
+/// Puts what stands before the rows.
+fn put_front(alloc: Global, history: &Record, text: &mut Vec<u8>) -> Result<(), AllocError>
+    ensures { OnOk result (text.new.items ≡ front_text text.old.items history.now) }
+{
+    text.extend_from_slice(b"{\"attributes\":")?;
+    put_attributes(alloc, &history.schema, text)?;
+    text.extend_from_slice(b",\"entries\":")?;
+    put_entries(alloc, &history.schema, history.entries.as_slice(), text)?;
+    text.extend_from_slice(b",\"format\":1,\"limit\":")?;
+    put_limit(alloc, history.limit, text)?;
+    Ok(())
+}
+
+fn record_bytes(alloc: Global, history: &Record) -> Result<Vec<u8>, AllocError>
+    ensures { IfOk result (λ text. text.items ≡ record_text history.now) }
+{
+    let width = history.schema.len();
+    let mut text = Vec::new(alloc);
+    put_front(alloc, history, &mut text)?;
+    text.extend_from_slice(b",\"rows\":")?;
+    put_rows(alloc, width, history.rows.as_slice(), &mut text)?;
+    text.push(b'}')?;
+    Ok(text)
+}
+
+/// Writes the text of a record's file: one JSON object without blanks, in which keys ascend. An answered entry is written
+/// with the lines of its reply.
+///
+/// Refused `NoMemory`, and then nothing was written, or `Output` where the sink fails, and then a beginning of the text
+/// was.
+pub fn write_record<W: Sink>(alloc: Global, history: &Record, out: &mut W) -> Result<(), Refusal>
+    ensures { WritesText (W.taken out.old) (W.taken out.new) (W.failed out.old) (W.failed out.new) result (record_text history.now) }
+{
+    match record_bytes(alloc, history) {
+        Ok(text) => write_all(out, text.as_slice()),
+        Err(_) => Err(Refusal::NoMemory),
+    }
+}

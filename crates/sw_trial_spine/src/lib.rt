@@ -1,0 +1,7 @@
+//! Tests of the spine, as visits of two sessions that texts describe.
+#![tactic(auto)]
+
+#[cfg(test)]
+mod bench;
+#[cfg(test)]
+mod tests;
