@@ -10,7 +10,7 @@
 set -euo pipefail
 repeats=${1:-9}
 here=$(cd "$(dirname "$0")" && pwd)
-kit=${KIT:-/opt/rattle}
+kit=${KIT:-$(dirname "$(rt doc)")}
 . "$here/../proved.sh"
 build library split_c "$here/split.rt.txt" sw_rows sw_kernel
 

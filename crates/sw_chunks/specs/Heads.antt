@@ -1,31 +1,123 @@
--- What a head is.
-use Rattle.std.specs.Prelude.{◌≡◌, ◌≤◌, ◌+◌, ◌++◌, ℕ, ℤ, List, map}
+-- What a head is, and which rows it stands for.
+use Rattle.std.specs.Prelude.{◌≡◌, ◌∷◌, ◌++◌, ◌<◌, ◌≤◌, ◌+◌, ◌^◌, ◌&&◌, ◌⊎◌, ◌≤ℤ◌, neg_ℤ, pos, ℕ, ℤ, Bool, List, [], true, false, get_or, length, map, filter, min, slice_set, sum, None, All}
 use Rattle.sw_rows.specs.declared.row.Row.{Row}
 use Rattle.sw_rows.specs.declared.row.Update.{Update}
-use Rattle.sw_rows.specs.declared.row.Update.TheVariants.{Insert}
+use Rattle.sw_rows.specs.declared.row.Update.TheVariants as update
+use Rattle.sw_rows.specs.declared.query.Query.{Query}
+use Rattle.sw_rows.specs.declared.reply.Reply.{Reply}
+use Rattle.sw_rows.specs.Scan.{answer, cell_of}
+use Rattle.sw_rows.specs.Updates.{rows_of}
+use Rattle.sw_kernel.specs.Replay.{loaded}
+use Rattle.sw_map.specs.Held.{Held, blank}
+use Rattle.sw_set.specs.Needs.{edge, lower_in, touches, upper_in}
+use Rattle.sw_set.specs.Shelf.{AreaState, Rises, came_in, key_of, lies_within, rows_in}
+use Rattle.sw_set.specs.Prepared.{IsSameButBoxes, area_lower, area_upper, is_touched, stands_if}
+use Rattle.sw_chunks.specs.Routing.{CameHere, given_by}
+use Rattle.sw_chunks.specs.Cleared.{AreEach}
+use Rattle.sw_chunks.specs.Shelved.{IsFewest}
+use Rattle.sw_chunks.specs.Cuts.{Interval, RiseAbove, intervals}
 
+-- The attribute that is the head, its cuts, the list of all that it was opened with and received, and an area for each interval,
+-- in order.
 pub record HeadState : Type 0 where
   pub attribute : ℕ
   pub cuts : List ℤ
   pub updates : List Update
-  pub areas : ℕ
+  pub areas : List AreaState
 
-abbrev pub opened : ℕ → List ℤ → List Row → HeadState
-opened a cuts rows = record { attribute = a; cuts = cuts; updates = map Insert rows; areas = 0 }
+abbrev pub interval_of : AreaState → Interval
+interval_of x = (x.from, x.below)
 
+-- the rows that lie in an interval
+abbrev pub part_of : ℕ → List Row → Interval → List Row
+part_of a rows i = filter (lies_within a i.0 i.1) rows
+
+-- Each area has the rows of these updates that lie in its interval, and no row came to it that did not come by them.
+pub record StandsFor (us : List Update) (a : ℕ) (cuts : List ℤ) (xs : List AreaState) : Type 0 where
+  pub rise : Rises key_of (rows_of us)
+  pub parts : map rows_in xs ≡ map (part_of a (rows_of us)) (intervals cuts)
+  pub came : All (λ (x : AreaState). CameHere (given_by us) (came_in x)) xs
+
+-- the areas are those of an attribute, one for each interval of the cuts
+pub record AreAreasOf (a : ℕ) (cuts : List ℤ) (xs : List AreaState) : Type 0 where
+  pub attribute : a < 8
+  pub rising : RiseAbove None cuts
+  pub few : length cuts ≤ 15
+  pub attributes : All (λ (x : AreaState). x.attribute ≡ a) xs
+  pub intervals_are : map interval_of xs ≡ intervals cuts
+
+-- a cell of 64 bits
+abbrev pub IsCell : ℤ → Type 0
+IsCell z = (neg_ℤ (pos (2 ^ 63)) ≤ℤ z) × (z ≤ℤ pos (2 ^ 63))
+
+-- the cells of a row that comes are of 64 bits
+abbrev pub CellsFit : Update → Type 0
+CellsFit (update.Insert r) = (a : ℕ) → IsCell (cell_of a r)
+CellsFit (update.Remove key) = Unit {0}
+
+-- the updates that a book lists
+abbrev pub told_in : List (Update × Bool) → List Update
+told_in rows = map (λ r. r.0) rows
+
+-- a row whose key and cells are of their types
+pub record RowFits (r : Row) : Type 0 where
+  pub key : r.key < 2 ^ 63
+  pub cells : (a : ℕ) → IsCell (cell_of a r)
+
+pub record IsHeadLawful (h : HeadState) : Type 0 where
+  pub areas_of : AreAreasOf h.attribute h.cuts h.areas
+  pub stands : StandsFor h.updates h.attribute h.cuts h.areas
+  pub fit : All RowFits (given_by h.updates)
+  pub came_rise : Rises key_of (given_by h.updates)
+
+-- the head, for its callers: it has the same attribute and cuts, and stands for the same updates
 pub record IsSameHead (g h : HeadState) : Type 0 where
   pub attribute : h.attribute ≡ g.attribute
   pub cuts : h.cuts ≡ g.cuts
   pub updates : h.updates ≡ g.updates
+  pub many : length h.areas ≡ length g.areas
 
+-- an area of these rows that lie in an interval, which nothing came to
+abbrev pub opened_area : ℕ → List Row → Interval → AreaState
+opened_area a rows i = record { attribute = a; from = i.0; below = i.1; inbox = []; spare = 0; tape = loaded (part_of a rows i) ∷ []; boxes = [] }
+
+-- a head opened with rows: they stand as insertions, and no area has boxes
+abbrev pub opened : ℕ → List ℤ → List Row → HeadState
+opened a cuts rows = record { attribute = a; cuts = cuts; updates = map update.Insert rows; areas = map (opened_area a rows) (intervals cuts) }
+
+-- whether a query touches an interval
+abbrev pub meets_interval : Query → Interval → Bool
+meets_interval q i = touches (edge i.0) (edge i.1) (lower_in q.conds) (upper_in q.conds)
+
+-- the query's bounds in an area that it touches stand in ranges of its tape
+abbrev pub IsRanged : Query → AreaState → Type 0
+IsRanged q x = is_touched x q ≡ true → stands_if (area_lower x q) x.tape && stands_if (area_upper x q) x.tape ≡ true
+
+-- the areas that a query does not touch are as they were, but that maps may have been cleared
+abbrev pub AreUntouchedKept : Query → List AreaState → List AreaState → Type 0
+AreUntouchedKept q xs ys = (k : ℕ) (d e : AreaState) → k < length xs → is_touched (get_or xs k d) q ≡ false → IsSameButBoxes (get_or xs k d) (get_or ys k e)
+
+-- the area but for what waits
+pub record IsSameButInbox (x y : AreaState) : Type 0 where
+  pub attribute : y.attribute ≡ x.attribute
+  pub from : y.from ≡ x.from
+  pub below : y.below ≡ x.below
+  pub tape : y.tape ≡ x.tape
+  pub boxes : y.boxes ≡ x.boxes
+
+-- the area but for how many updates more may come before they take memory
+abbrev pub IsSameButSpare : AreaState → AreaState → Type 0
+IsSameButSpare x y = y ≡ record x { spare = y.spare }
+
+-- The head after it received updates: they stand at the end of its list, and wait in its areas.
 pub record HasReceived (us : List Update) (g h : HeadState) : Type 0 where
   pub attribute : h.attribute ≡ g.attribute
   pub cuts : h.cuts ≡ g.cuts
   pub updates : h.updates ≡ g.updates ++ us
+  pub areas : AreEach IsSameButInbox g.areas h.areas
 
+-- The area with the fewest boxes, of several the lowest, has one blank box more.
 pub record IsSupplied (g h : HeadState) : Type 0 where
-  pub supplied : h ≡ record g { areas = g.areas + 1 }
-
-pub record IsHeadShed (most : ℕ) (g h : HeadState) (gone : ℕ) : Type 0 where
-  pub same : IsSameHead g h
-  pub few : gone ≤ most
+  pub at : ℕ
+  pub fewest : IsFewest at g.areas
+  pub supplied : (d : AreaState) → h ≡ record g { areas = slice_set g.areas at (record (get_or g.areas at d) { boxes = (get_or g.areas at d).boxes ++ blank ∷ [] }) }

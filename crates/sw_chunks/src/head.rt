@@ -1,55 +1,70 @@
-//! A stand-in for a column's head: the updates that it received.
+//! A head: the areas of one attribute, by a rising list of cuts.
 
-ghost use Rattle.std.specs.Prelude.{◌≡◌, ◌≤◌, ◌<◌, ◌^◌, ◌++◌, ◌∷◌, [], length, All, IfOk, IsOkUnless, MatchResult, None};
+ghost use Rattle.std.specs.Prelude.{◌≡◌, ◌≤◌, ◌<◌, ◌^◌, ◌++◌, ◌∷◌, [], length, All, IfOk, IsOkUnless, MatchOption, MatchResult, None, Some, get_or, slice_get};
 ghost use Rattle.sw_rows.specs.Scan.{AsksBelow, answer};
 ghost use Rattle.sw_rows.specs.Updates.{rows_of};
 ghost use Rattle.sw_rows.specs.declared.refusal.Refusal.TheVariants.{NoMemory};
 ghost use Rattle.sw_rows.specs.declared.row.Row.{Row};
 ghost use Rattle.sw_map.specs.Held.{blank};
-ghost use Rattle.sw_chunks.specs.Shelf.{Rises, head_in, key_of};
+ghost use Rattle.sw_set.specs.Needs.{head_in};
+ghost use Rattle.sw_set.specs.Shelf.{Rises, key_of};
 ghost use Rattle.sw_chunks.specs.Cuts.{RiseAbove};
-ghost use Rattle.sw_chunks.specs.Heads.{HasReceived, IsHeadShed, IsSameHead, IsSupplied, opened};
+ghost use Rattle.sw_chunks.specs.Cleared.{AreClearedBut, AreEach};
+ghost use Rattle.sw_chunks.specs.Shelved.{AreShed};
+ghost use Rattle.sw_chunks.specs.Heads.{AreUntouchedKept, HasReceived, IsHeadLawful, IsRanged, IsSameButSpare, IsSameHead, IsSupplied, opened};
 ghost use Rattle.sw_chunks.specs.Routing.{MayFollow};
 
+use crate::answering::answer_areas;
+use crate::clearing::clear_but;
+use crate::dealing::{areas_of, owners_of};
+use crate::places::add_owners;
+use crate::routing::share_all;
+use crate::scanning::scan_areas;
+use crate::shelving::{fewest, shed_all};
+use crate::telling::{tell_all, tell_rows};
 use std::alloc::Global;
 use std::marker::Model;
 use std::thread::Threads;
 use sw_map::CrackerMap;
-use sw_rows::{Query, Refusal, Reply, Row, Update, answer, update_all};
+use sw_rows::{Query, Refusal, Reply, Row, Update};
+use sw_set::Area;
+use sw_tie::Book;
 
-/// The opening rows as inserts, and then the updates that it received.
+/// The areas of one attribute: below the first cut, from each cut up to below the next, and from the last upwards.
+///
+/// Contracts see its attribute, its cuts and the list of all updates that it was opened with and received: that list stands in a
+/// book that takes no bytes. They also see its areas.
 #[derive(Drop)]
 pub struct Head<M: CrackerMap> {
     alloc: Global,
     attribute: u8,
     cuts: Vec<i64>,
-    updates: Vec<Update>,
-    boxes: Vec<M>,
+    areas: Vec<Area<M>>,
+    /// The keys of all rows that ever came, which rise, and beside each the area to which its row went.
+    owners: Vec<(u64, u8)>,
+    told: Book<Update>,
+    clock: u64,
 }
 
 impl<M: CrackerMap> Model for Head<M> {
-    ghost use Rattle.std.specs.Prelude.{vec_len};
-    ghost use Rattle.sw_chunks.specs.Heads.{HeadState};
+    ghost use Rattle.std.specs.Prelude.{◌≡◌};
+    ghost use Rattle.sw_chunks.specs.Heads.{HeadState, IsHeadLawful, told_in};
+    ghost use Rattle.sw_chunks.specs.Places.{owners_of};
+    ghost use Rattle.sw_chunks.specs.Routing.{given_by};
+    ghost use Rattle.sw_chunks.specs.Codes.{head_code};
 
     ghost Value = { HeadState };
 
-    ghost view = { λ h. record { attribute = h.attribute; cuts = h.cuts.items; updates = h.updates.items; areas = vec_len h.boxes } };
-}
+    ghost coded = { head_code };
 
-fn inserts(alloc: Global, rows: &[Row]) -> Result<Vec<Update>, Refusal>
-    ensures { MatchResult result (λ us. us.items ≡ (opened 0 [] rows.now).updates) (λ e. e ≡ NoMemory) }
-{
-    let mut updates = Vec::new(alloc);
-    for row in rows {
-        if updates.push(Update::Insert(*row)).is_err() {
-            return Err(Refusal::NoMemory);
-        }
-    }
-    Ok(updates)
+    ghost view = { λ h. record { attribute = h.attribute; cuts = h.cuts.items; updates = told_in h.told.rows; areas = h.areas.items } };
+
+    ghost invariant = { λ h. IsHeadLawful (record { attribute = h.attribute; cuts = h.cuts.items; updates = told_in h.told.rows; areas = h.areas.items }) × (h.owners.items ≡ owners_of h.attribute h.cuts.items (given_by (told_in h.told.rows))) };
 }
 
 impl<M: CrackerMap> Head<M> {
-    /// A head over these rows.
+    /// A head over these rows, which rise by key, with areas by these cuts, which rise. It stands for the rows as insertions.
+    /// Each row goes once to the area in whose interval its cell lies, and no area has boxes. Refused `NoMemory` alone.
     pub fn new(alloc: Global, attribute: u8, cuts: &[i64], rows: &[Row]) -> Result<Head<M>, Refusal>
         requires attribute { attribute < 8 }
         requires rising { RiseAbove None cuts.now }
@@ -58,18 +73,27 @@ impl<M: CrackerMap> Head<M> {
         requires rise { Rises key_of rows.now }
         ensures { MatchResult result (λ h. h ≡ opened attribute cuts.now rows.now) (λ e. e ≡ NoMemory) }
     {
-        let mut kept = Vec::new(alloc);
-        if kept.extend_from_slice(cuts).is_err() {
+        let areas = areas_of(alloc, attribute, cuts, rows)?;
+        let owners = owners_of(alloc, attribute, cuts, rows)?;
+        let Ok(cuts) = Vec::from_slice(alloc, cuts) else {
             return Err(Refusal::NoMemory);
-        }
-        let updates = inserts(alloc, rows)?;
+        };
         Ok(Head {
             alloc,
             attribute,
-            cuts: kept,
-            updates,
-            boxes: Vec::new(alloc),
+            cuts,
+            areas,
+            owners,
+            told: tell_rows(rows),
+            clock: 0,
         })
+    }
+
+    /// Tells a caller when a head is lawful.
+    pub fn known(&self)
+        ensures { IsHeadLawful self.now }
+    {
+        let _many = self.areas.len();
     }
 
     /// The attribute that is the head of the maps.
@@ -79,19 +103,61 @@ impl<M: CrackerMap> Head<M> {
         self.attribute
     }
 
-    /// Appends updates.
+    /// The values that divide the areas.
+    pub fn cuts(&self) -> &[i64]
+        ensures { result.now ≡ self.now.cuts }
+    {
+        self.cuts.as_slice()
+    }
+
+    /// The areas, from the lowest.
+    pub fn areas(&self) -> &[Area<M>]
+        ensures { result.now ≡ self.now.areas }
+    {
+        self.areas.as_slice()
+    }
+
+    /// Appends updates: an inserted key exceeds all that came before it, and a removed key is live then. Each goes to one area,
+    /// an insertion to that in whose interval its cell lies, a removal to that of its row, and waits there. A refusal changes
+    /// nothing but the room of areas.
     pub fn receive(&mut self, updates: &[Update]) -> Result<(), Refusal>
         requires { MayFollow self.old.attribute self.old.updates updates.now }
         ensures same { IsOkUnless result NoMemory }
-        ensures ends { MatchResult result (λ _. HasReceived updates.now self.old self.new) (λ _. IsSameHead self.old self.new) }
+        ensures ends { MatchResult result (λ _. HasReceived updates.now self.old self.new) (λ _. IsSameHead self.old self.new × AreEach IsSameButSpare self.old.areas self.new.areas) }
     {
-        match self.updates.extend_from_slice(updates) {
-            Ok(()) => Ok(()),
-            Err(_) => Err(Refusal::NoMemory),
+        let before = self.owners.len();
+        add_owners(
+            &mut self.owners,
+            self.attribute,
+            self.cuts.as_slice(),
+            updates,
+        )?;
+        let done = share_all(
+            self.alloc,
+            self.attribute,
+            self.cuts.as_slice(),
+            self.owners.as_slice(),
+            self.areas.as_mut_slice(),
+            updates,
+        );
+        match done {
+            Ok(()) => {
+                tell_all(&mut self.told, updates);
+                Ok(())
+            }
+            Err(e) => {
+                self.owners.truncate(before);
+                Err(e)
+            }
         }
     }
 
-    /// The answer of a query over all rows.
+    /// The answer of a query over all rows: the areas that it touches are merged and asked, from the lowest, and their
+    /// replies put together. Beside it stands how many of these areas scanned. An area that tells `Short` is asked once more
+    /// after maps of the other areas were cleared, by least recent use. The head stands for the same updates, and areas that the
+    /// query does not touch are as they were, but for cleared maps.
+    ///
+    /// The one refusal is `NoMemory`.
     pub fn answer<R: Threads + Sync>(
         &mut self,
         rt: &R,
@@ -100,53 +166,55 @@ impl<M: CrackerMap> Head<M> {
         requires asks { AsksBelow 8 query.now }
         requires head { head_in query.now.conds ≡ self.old.attribute }
         ensures same { IsSameHead self.old self.new }
+        ensures kept { AreUntouchedKept query.now self.old.areas self.new.areas }
         ensures answered { IfOk result (λ r. r.0 ≡ answer (rows_of self.old.updates) query.now) }
+        ensures ranged { IfOk result (λ r. r.1 ≡ 0 → All (IsRanged query.now) self.new.areas) }
+        ensures few { IfOk result (λ r. r.1 ≤ length self.old.areas) }
         ensures refused { IsOkUnless result NoMemory }
     {
-        let _ = rt;
-        match self.scan(query) {
-            Ok(reply) => Ok((reply, 0)),
-            Err(_) => Err(Refusal::NoMemory),
-        }
+        self.clock = self.clock.saturating_add(1);
+        answer_areas(rt, self.alloc, self.areas.as_mut_slice(), self.clock, query)
     }
 
-    /// The plain answer over all rows.
+    /// The plain answer over all rows: the areas that the query touches are merged and scanned. No map is made for it. The one
+    /// refusal is `NoMemory`.
     pub fn scan(&mut self, query: &Query) -> Result<Reply, Refusal>
         requires asks { AsksBelow 8 query.now }
         requires head { head_in query.now.conds ≡ self.old.attribute }
         ensures same { IsSameHead self.old self.new }
+        ensures kept { AreUntouchedKept query.now self.old.areas self.new.areas }
         ensures answered { IfOk result (λ reply. reply ≡ answer (rows_of self.old.updates) query.now) }
         ensures refused { IsOkUnless result NoMemory }
     {
-        let mut rows = Vec::new(self.alloc);
-        if update_all(&mut rows, self.updates.as_slice()).is_err() {
-            return Err(Refusal::NoMemory);
-        }
-        match answer(self.alloc, rows.as_slice(), query) {
-            Ok(reply) => Ok(reply),
-            Err(_) => Err(Refusal::NoMemory),
-        }
+        scan_areas(self.alloc, self.areas.as_mut_slice(), query)
     }
 
-    /// Takes a blank box.
+    /// Gives a blank box to the area with the fewest, of several to the lowest. Refused `NoMemory`, nothing has changed, and the
+    /// box comes back.
     pub fn supply(&mut self, it: M) -> Result<(), (M, Refusal)>
         requires { M.held it ≡ blank }
-        ensures { MatchResult result (λ _. IsSupplied self.old self.new) (λ r. (self.new ≡ self.old) × (M.held r.0 ≡ blank) × (r.1 ≡ NoMemory)) }
+        ensures { MatchResult result (λ _. IsSupplied self.old self.new) (λ r. (self.new ≡ self.old) × (r.0 ≡ it) × (r.1 ≡ NoMemory)) }
     {
-        if self.boxes.reserve(1).is_err() {
-            return Err((it, Refusal::NoMemory));
-        }
-        self.boxes.push_reserved(it);
-        Ok(())
+        let at = fewest(self.areas.as_slice());
+        self.areas[at].supply(it)
     }
 
-    /// Drops up to so many boxes.
+    /// Drops up to so many boxes, those of the lowest areas first, and answers how many: as many as that, or all. It is never
+    /// refused.
     pub fn shed(&mut self, most: usize) -> usize
-        ensures { IsHeadShed most self.old self.new result }
+        ensures same { IsSameHead self.old self.new }
+        ensures shed { AreShed most self.old.areas self.new.areas result }
     {
-        let had = self.boxes.len();
-        let gone = if most < had { most } else { had };
-        self.boxes.truncate(had - gone);
-        gone
+        shed_all(self.areas.as_mut_slice(), most)
+    }
+
+    /// Clears maps by least recent use, over all areas, until so many cells came back or none is left, and answers how many came
+    /// back, up to the greatest number of the type. It is never refused.
+    pub fn evict(&mut self, cells: u64) -> u64
+        ensures same { IsSameHead self.old self.new }
+        ensures evicted { AreClearedBut (length self.old.areas) cells self.old.areas self.new.areas result }
+    {
+        let none = self.areas.len();
+        clear_but(self.areas.as_mut_slice(), none, cells)
     }
 }

@@ -1,6 +1,20 @@
-//! A stand-in for the crate of heads, with its contract.
+//! Heads: the areas of one attribute, by a rising list of cuts.
 #![tactic(auto)]
 
+mod answering;
+mod clearing;
+mod dealing;
 mod head;
+mod joining;
+mod laws;
+mod places;
+mod routing;
+mod scanning;
+mod shelving;
+mod telling;
 
 pub use head::Head;
+pub use laws::{
+    areas_answer, areas_receive, handed_stands, joined_is_both, may_be_handed, none_untouched,
+    one_interval, same_stand, together_is_all,
+};

@@ -12,8 +12,9 @@ use Rattle.sw_spine.specs.Receivable.{AreUpdates, MayComeAll, given_then}
 use Rattle.sw_spine.specs.Table.{is_numbered}
 use Rattle.sw_spine.proofs.Receivables.{may_come_first, may_come_rest}
 use Rattle.sw_chunks.specs.Cuts.{RiseAbove}
-use Rattle.sw_chunks.specs.Shelf.{AreReceivable, Rises, came_then, key_of}
+use Rattle.sw_set.specs.Shelf.{AreReceivable, AreaState, Rises, came_then, key_of}
 use Rattle.sw_chunks.specs.Routing.{MayFollow}
+use Rattle.sw_chunks.specs.Heads.{HeadState, IsSupplied}
 
 -- ---- updates of a history
 
@@ -75,3 +76,15 @@ above_from v (c ∷ cs) h =
 pub cuts_rise : (cs : List ℤ) → rises cs ≡ true → RiseAbove None cs
 cuts_rise [] h = tt
 cuts_rise (c ∷ cs) h = above_from c cs h
+
+-- ---- boxes
+
+any_area : AreaState
+any_area = record { attribute = 0; from = None; below = None; inbox = []; spare = 0; tape = []; boxes = [] }
+
+-- a head with one box more stands for the same updates
+pub supplied_updates : (g h : HeadState) → IsSupplied g h → h.updates ≡ g.updates
+supplied_updates g h s = ap (λ (x : HeadState). x.updates) (s.supplied any_area)
+
+pub supplied_attribute : (g h : HeadState) → IsSupplied g h → h.attribute ≡ g.attribute
+supplied_attribute g h s = ap (λ (x : HeadState). x.attribute) (s.supplied any_area)

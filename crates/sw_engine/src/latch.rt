@@ -5,7 +5,7 @@ ghost use Rattle.sw_rows.specs.Scan.{AsksBelow, answer};
 ghost use Rattle.sw_rows.specs.Updates.{rows_of};
 ghost use Rattle.sw_rows.specs.declared.refusal.Refusal.TheVariants.{NoMemory};
 ghost use Rattle.sw_map.specs.Held.{blank};
-ghost use Rattle.sw_chunks.specs.Shelf.{head_in};
+ghost use Rattle.sw_set.specs.Needs.{head_in};
 ghost use Rattle.sw_chunks.specs.Heads.{IsSameHead};
 ghost use Rattle.sw_chunks.specs.Routing.{MayFollow};
 
@@ -129,6 +129,7 @@ impl<J: Naming, M: CrackerMap> LatchedHead<J, M> {
         Ok(())
     }
 
+    #[tactic(auto, using(crate::proofs::Heads::supplied_updates, crate::proofs::Heads::supplied_attribute))]
     fn hand_one(&mut self) -> Result<(), Refusal>
         ensures same { self.new ≡ self.old }
         ensures refused { IsOkUnless result NoMemory }

@@ -1,9 +1,15 @@
 pub mod EntriesLemmas
+pub mod ExampleOfRun
 pub mod FileCheckLemmas
 pub mod OutlineLemmas
 pub mod RecordBack
 pub mod RecordLaws
 pub mod RecordReadingLemmas
 pub mod RecordTextLemmas
+pub mod RecordTexts
+pub mod RunRecords
+pub mod TableCells
 pub mod TextReading
+pub mod TextUtf8
 pub mod ValueReading
+pub mod WrittenAgain

@@ -1,9 +1,9 @@
 -- The text of a record is read as the value that it is the text of.
-use Rattle.std.proofs.Common.{◌≡◌, refl, ℕ, ℤ, pos, negsuc, ◌<◌, ◌≤◌, ◌^◌, List, [], ◌∷◌, arith, map, take, zero, suc, length, Some, max}
-use Rattle.std.specs.Prelude.{⊤, All, codes}
+use Rattle.std.proofs.Common.{refl, ℕ, ℤ, pos, negsuc, ◌<◌, ◌≤◌, ◌^◌, List, [], ◌∷◌, arith, map, take, zero, suc, length, max}
+use Rattle.std.specs.Prelude.{All}
 use Rattle.std.proofs.Math.Nat.{max-le}
 use Rattle.std.proofs.lemmas.List.Elements.{All-head, All-tail}
-use Rattle.serde_json.specs.Data.{Data, Items, depth, items_depth, array, string}
+use Rattle.serde_json.specs.Data.{depth, items_depth, string}
 use Rattle.serde_json.specs.Find.{of_integer}
 use Rattle.serde_json.specs.View.{items_of}
 use Rattle.sw_rows.specs.Header.{Column}
@@ -16,7 +16,7 @@ use Rattle.sw_spine.specs.declared.history.State.TheVariants as state
 use Rattle.sw_lang.specs.Replies.{reply_lines}
 use Rattle.sw_histories.specs.RecordText.{attribute_text, cell_data, entry_data, list_data, record_data, record_text, row_data, state_data, texts_data}
 use Rattle.sw_histories.specs.ReadBack.{HasWords, IsWord, TextsAreJson}
-use Rattle.sw_histories.proofs.TextReading.{ArePlain, IsPlain, IsWhole, text_read_back}
+use Rattle.sw_histories.proofs.TextReading.{IsPlain, IsWhole, text_read_back}
 
 texts_plain : (ts : List (List ℕ)) → IsPlain (texts_data ts)
 texts_plain [] = tt

@@ -49,7 +49,7 @@ bytes_shown (b ∷ w) h =
     let later : list_all is_name_byte w ≡ true = grind (arith, h) in
     both (is_printed b) (shown w) (name_byte_shown b here) (bytes_shown w later)
 
-name_shown : (w : List ℕ) → is_name w ≡ true → shown w ≡ true
+pub name_shown : (w : List ℕ) → is_name w ≡ true → shown w ≡ true
 name_shown w h = bytes_shown w (grind (arith, h))
 
 front_of : (a b : Bool) → (a && b) ≡ true → a ≡ true

@@ -1,5 +1,5 @@
 -- A JSON value without floats, its numbers in range and its keys in order, is read back from its compact text.
-use Rattle.std.proofs.Common.{◌≡◌, ◌∙◌, sym, ap, ap₂, refl, ℕ, ℤ, pos, negsuc, suc, max, ◌<◌, ◌≤◌, ◌^◌, List, [], ◌∷◌, ◌++◌, append-nil, append_assoc, arith, decimal, subst, Option, Some}
+use Rattle.std.proofs.Common.{◌≡◌, ◌∙◌, sym, ap, ap₂, refl, pos, negsuc, suc, max, ◌<◌, ◌≤◌, ◌^◌, List, [], ◌∷◌, ◌++◌, append-nil, append_assoc, arith, subst, Option, Some}
 use Rattle.std.specs.Prelude.{⊤, option_and_then, option_map}
 use Rattle.json.specs.Token.{Token}
 use Rattle.json.specs.Json as json

@@ -1,7 +1,18 @@
 -- Records whose text is read again.
-use Rattle.std.specs.Prelude.{◌≡◌, ◌<◌, ◌^◌, ℤ, pos, negsuc, All, Some}
+use Rattle.std.specs.Prelude.{◌≡◌, ◌<◌, ◌≤◌, ◌^◌, IsUtf8, ℕ, ℤ, pos, negsuc, true, List, [], ◌∷◌, All, map, Some, Ok}
 use Rattle.serde_json.specs.Read.{read}
-use Rattle.sw_spine.specs.History.{History}
+use Rattle.sw_rows.specs.Header.{Column, IsSchema, kinds_of}
+use Rattle.sw_rows.specs.Tables.{padded}
+use Rattle.sw_rows.specs.declared.kind.Kind.{Kind}
+use Rattle.sw_rows.specs.declared.row.Row.{Row}
+use Rattle.sw_rows.specs.declared.query.Call.{Call}
+use Rattle.sw_lang.specs.Grammar.{IsLine}
+use Rattle.sw_lang.specs.Replies.{reply_lines}
+use Rattle.sw_spine.specs.History.{History, IsSound, entry, is_select}
+use Rattle.sw_spine.specs.declared.history.Entry.{Entry}
+use Rattle.sw_spine.specs.declared.history.State.{State}
+use Rattle.sw_spine.specs.declared.history.State.TheVariants as state
+use Rattle.sw_histories.specs.RecordReading.{of_kind, record_at}
 use Rattle.sw_histories.specs.RecordText.{record_data, record_text}
 
 -- a number of 64 signed bits
@@ -18,3 +29,56 @@ pub record HasWords (h : History) : Type 0 where
 -- serde_json reads the text of a record as the value that it is the text of
 abbrev pub TextsAreJson : Type 0
 TextsAreJson = (h : History) → HasWords h → read (record_text h) ≡ Some (record_data h)
+
+-- ---- records of runs
+
+-- numbers of 64 bits, one for each kind, of flags 0 or 1
+abbrev pub AreCells : List Kind → List ℤ → Type 0
+AreCells [] [] = Unit {0}
+AreCells [] (z ∷ zs) = ⊥
+AreCells (k ∷ ks) [] = ⊥
+AreCells (k ∷ ks) (z ∷ zs) = (IsWord z × (of_kind k z ≡ Some z)) × AreCells ks zs
+
+-- a cell for each attribute, and 0 after the last one
+abbrev pub HasCells : List Kind → Row → Type 0
+HasCells kinds r = (cells : List ℤ) × AreCells kinds cells × (r.cells ≡ padded cells)
+
+-- selects alone are open or void; lines that stand for a reply are texts
+abbrev pub IsStateOf : Call → State → Type 0
+IsStateOf c (state.Answered r) = Unit {0}
+IsStateOf c (state.Lines ls) = All (λ l. IsUtf8 l) ls
+IsStateOf c state.Open = is_select c ≡ true
+IsStateOf c state.Void = is_select c ≡ true
+
+-- a session's call, which some line gave
+pub record IsCalled (columns : List Column) (e : Entry) : Type 0 where
+  pub line : List ℕ
+  pub call : IsLine columns line (Some e.call)
+  pub first : 0 < e.session
+  pub last : e.session ≤ 1024
+  pub state : IsStateOf e.call e.state
+
+-- what holds of the record of a run: it is sound, of a table that was read, and its calls are those of lines
+pub record IsOfRun (h : History) : Type 0 where
+  pub sound : IsSound h
+  pub schema : IsSchema h.columns
+  pub cells : All (HasCells (kinds_of h.columns)) h.rows
+  pub calls : All (IsCalled h.columns) h.entries
+
+-- a reply as the lines that are printed for it
+abbrev pub in_lines : List Column → Call → State → State
+in_lines columns c (state.Answered r) = state.Lines (reply_lines columns c r)
+in_lines columns c (state.Lines ls) = state.Lines ls
+in_lines columns c state.Open = state.Open
+in_lines columns c state.Void = state.Void
+
+abbrev pub entry_in_lines : List Column → Entry → Entry
+entry_in_lines columns e = entry e.session e.call (in_lines columns e.call e.state)
+
+-- the record with lines for replies
+abbrev pub with_lines : History → History
+with_lines h = record h { entries = map (entry_in_lines h.columns) h.entries }
+
+-- the text of a run's record is read as that record, with lines for replies
+abbrev pub RecordsAreReadBack : Type 0
+RecordsAreReadBack = (h : History) → IsOfRun h → record_at (record_text h) ≡ Ok (with_lines h)

@@ -5,6 +5,7 @@
 
 ghost use Rattle.std.specs.Prelude.{◌≡◌, ◌∷◌, [], codes, Ok};
 ghost use Rattle.sw_histories.specs.FileExamples.{counted, counted_file};
+ghost use Rattle.sw_histories.specs.ReadBack.{IsOfRun};
 ghost use Rattle.sw_histories.specs.RecordReading.{record_at};
 ghost use Rattle.sw_histories.specs.RecordText.{record_text};
 
@@ -15,5 +16,6 @@ use sw_spine::State;
 pub fn one_count()
     ensures written { record_text (counted (State.Answered (Reply.Count 4))) ≡ counted_file }
     ensures again { record_text (counted (State.Lines (codes "4" ∷ []))) ≡ counted_file }
+    ensures of_run { IsOfRun (counted (State.Answered (Reply.Count 4))) }
     ensures read { record_at counted_file ≡ Ok (counted (State.Lines (codes "4" ∷ []))) }
 {}

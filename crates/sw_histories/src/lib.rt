@@ -10,6 +10,9 @@ mod values;
 mod writing;
 
 pub use checking::check_file;
-pub use law::{histories_are_read_as_related, texts_are_read_as_values};
+pub use law::{
+    histories_are_read_as_related, records_are_read_back, tables_have_cells,
+    texts_are_read_as_values,
+};
 pub use reading::read_record;
 pub use writing::write_record;

@@ -2,7 +2,7 @@ use Rattle.std.proofs.Common.{rules, ◌≡◌, ◌<◌, ◌≤◌, ◌^◌, Lis
 use Rattle.sw_rows.specs.declared.row.Row.{Row}
 use Rattle.sw_lang.specs.Cuts.{cuts_on}
 use Rattle.sw_chunks.specs.Cuts.{RiseAbove}
-use Rattle.sw_chunks.specs.Shelf.{Rises, key_of}
+use Rattle.sw_set.specs.Shelf.{Rises, key_of}
 use Rattle.sw_engine.proofs.Heads.{cuts_rise, keys_fit, numbered_rise}
 use Rattle.sw_engine.proofs.opening.Opening.head.Goals as goal
 

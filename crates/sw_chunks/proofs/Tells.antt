@@ -1,0 +1,54 @@
+-- Rows that come, told one after the other.
+use Rattle.std.proofs.Common.{◌≡◌, ◌<◌, ◌≤◌, ◌+◌, ◌++◌, ℕ, ℤ, zero, suc, pos, List, [], ◌∷◌, length, get_or, take, refl, sym, ap, ◌∙◌, arith, subst, All}
+use Rattle.std.proofs.lemmas.Int.{ints}
+use Rattle.std.proofs.lemmas.List.{append_assoc}
+use Rattle.sw_chunks.specs.Heads.{IsCell}
+
+next-is : (n : ℕ) → suc n ≡ n + 1
+next-is n = omega arith
+
+-- the elements before the next place
+taken-suc : {A : Type 0} (xs : List A) (n : ℕ) (e : A) → n < length xs → take (suc n) xs ≡ take n xs ++ get_or xs n e ∷ []
+taken-suc [] n e lt = absurd (omega (arith, lt))
+taken-suc (x ∷ xs) zero e lt = refl
+taken-suc (x ∷ xs) (suc n) e lt = ap (λ l. x ∷ l) (taken-suc xs n e (omega (arith, lt)))
+
+pub taken-more : {A : Type 0} (xs : List A) (n : ℕ) (e : A) → n < length xs → take (n + 1) xs ≡ take n xs ++ get_or xs n e ∷ []
+taken-more xs n e lt = subst (λ (m : ℕ). take m xs ≡ take n xs ++ get_or xs n e ∷ []) (next-is n) (taken-suc xs n e lt)
+
+pub taken-all : {A : Type 0} (xs : List A) (n : ℕ) → length xs ≤ n → take n xs ≡ xs
+taken-all [] zero le = refl
+taken-all [] (suc n) le = refl
+taken-all (x ∷ xs) zero le = absurd (omega (arith, le))
+taken-all (x ∷ xs) (suc n) le = ap (λ l. x ∷ l) (taken-all xs n (omega (arith, le)))
+
+-- what holds of them
+all-suc : {A : Type 0} (P : A → Type 0) (xs : List A) (n : ℕ) (e : A) → n < length xs → All P (take n xs) → P (get_or xs n e) → All P (take (suc n) xs)
+all-suc P [] n e lt h p = absurd (omega (arith, lt))
+all-suc P (x ∷ xs) zero e lt h p = λ k d le. first k d le
+  where
+    first : (k : ℕ) (d : _) → k < length (x ∷ []) → P (get_or (x ∷ []) k d)
+    first zero d le = p
+    first (suc k) d le = absurd (omega (arith, le))
+all-suc P (x ∷ xs) (suc n) e lt h p = λ k d le. by k d le (all-suc P xs n e (omega (arith, lt)) (λ j f less. h (suc j) f (omega (arith, less))) p)
+  where
+    by : (k : ℕ) (d : _) → k < length (x ∷ take (suc n) xs) → All P (take (suc n) xs) → P (get_or (x ∷ take (suc n) xs) k d)
+    by zero d le rest = h 0 d (omega arith)
+    by (suc k) d le rest = rest k d (omega (arith, le))
+
+pub all-more : {A : Type 0} (P : A → Type 0) (xs : List A) (n : ℕ) (e : A) → n < length xs → All P (take n xs) → P (get_or xs n e) → All P (take (n + 1) xs)
+all-more P xs n e lt h p = subst (λ (m : ℕ). All P (take m xs)) (next-is n) (all-suc P xs n e lt h p)
+
+pub all-taken : {A : Type 0} (P : A → Type 0) (xs : List A) (n : ℕ) → length xs ≤ n → All P (take n xs) → All P xs
+all-taken P xs n le h = subst (All P) (taken-all xs n le) h
+
+-- a list with one element more
+pub told-more : {A : Type 0} (was now old xs : List A) (n : ℕ) (e : A) → n < length xs → was ≡ old ++ take n xs → now ≡ was ++ get_or xs n e ∷ [] → now ≡ old ++ take (n + 1) xs
+told-more was now old xs n e lt h is =
+    is ∙ (ap (λ l. l ++ get_or xs n e ∷ []) h ∙ (append_assoc old (take n xs) (get_or xs n e ∷ []) ∙ ap (λ l. old ++ l) (sym (taken-more xs n e lt))))
+
+-- cells of 64 bits, and past them nothing
+pub cell-at : (cells : List ℤ) → All IsCell cells → (a : ℕ) → IsCell (get_or cells a (pos 0))
+cell-at [] h a = (omega (arith, ints), omega (arith, ints))
+cell-at (x ∷ cells) h zero = h 0 x (omega arith)
+cell-at (x ∷ cells) h (suc a) = cell-at cells (λ k d lt. h (suc k) d (omega (arith, lt))) a

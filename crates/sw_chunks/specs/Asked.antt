@@ -1,0 +1,76 @@
+-- The areas of a head, asked one after the other.
+use Rattle.std.specs.Prelude.{◌≡◌, ◌≢◌, ◌<◌, ◌≤◌, ◌&&◌, ◌*◌, ℕ, ℤ, List, Result, Err, min, [], ◌∷◌, if◌then◌else◌, true, false, filter, fold, get_or, length, map}
+use Rattle.sw_rows.specs.declared.query.Query.{Query}
+use Rattle.sw_rows.specs.declared.reply.Reply.{Reply}
+use Rattle.sw_rows.specs.declared.row.Row.{Row}
+use Rattle.sw_rows.specs.declared.row.Update.{Update}
+use Rattle.sw_rows.specs.Scan.{answer, answer_over}
+use Rattle.sw_rows.specs.Updates.{rows_of}
+use Rattle.sw_rows.specs.declared.refusal.Refusal.{Refusal}
+use Rattle.sw_rows.specs.declared.refusal.Refusal.TheVariants.{Short}
+use Rattle.sw_set.specs.declared.prepare.Ready.{Ready}
+use Rattle.sw_set.specs.Needs.{head_in, needed}
+use Rattle.sw_set.specs.Merged.{StandsForSame}
+use Rattle.sw_set.specs.Prepared.{IsPreparedFor, IsSameButBoxes, is_touched}
+use Rattle.sw_set.specs.Shelf.{AreaState, rows_in}
+use Rattle.sw_chunks.specs.Cleared.{AreEach}
+use Rattle.sw_chunks.specs.Cuts.{Interval}
+use Rattle.sw_chunks.specs.Heads.{AreAreasOf, AreUntouchedKept, IsRanged, StandsFor, meets_interval, part_of}
+use Rattle.sw_chunks.specs.Joined.{JoinFits, joined}
+
+-- the replies over the parts that a query touches, from the lowest
+abbrev pub part_replies : ℕ → List Row → Query → List Interval → List Reply
+part_replies a rows q is = map (λ i. answer (part_of a rows i) q) (filter (meets_interval q) is)
+
+-- the replies of the areas that a query touches, from the lowest
+abbrev pub area_replies : Query → List AreaState → List Reply
+area_replies q xs = map (λ x. answer (rows_in x) q) (filter (λ x. is_touched x q) xs)
+
+-- a reply, with that of one area more if the query touches it
+abbrev pub with_area : Query → Reply → AreaState → Reply
+with_area q first x = if is_touched x q then joined q.want first (answer (rows_in x) q) else first
+
+-- the two fit, where the query touches the area
+abbrev pub AreaFits : Query → Reply → AreaState → Type 0
+AreaFits q first x = is_touched x q ≡ true → JoinFits q.want first (answer (rows_in x) q)
+
+-- one area after the other
+abbrev pub AreasFit : Query → Reply → List AreaState → Type 0
+AreasFit q first [] = Unit {0}
+AreasFit q first (x ∷ xs) = AreaFits q first x × AreasFit q (with_area q first x) xs
+
+-- a reply, with those of areas more
+abbrev pub with_all : Query → Reply → List AreaState → Reply
+with_all q first [] = first
+with_all q first (x ∷ xs) = with_all q (with_area q first x) xs
+
+-- the area at a place stands for the same rows, and of the others maps may have been cleared
+pub record IsOneAsked (k : ℕ) (xs ys : List AreaState) : Type 0 where
+  pub many : length ys ≡ length xs
+  pub here : (d e : AreaState) → StandsForSame (get_or xs k d) (get_or ys k e)
+  pub others : (j : ℕ) (d e : AreaState) → j < length xs → j ≢ k → IsSameButBoxes (get_or xs j d) (get_or ys j e)
+
+-- The areas before a place were asked, so that their bounds stand in ranges where none scanned; of the others maps may have
+-- been cleared.
+pub record AreAskedBefore (q : Query) (k : ℕ) (xs ys : List AreaState) (scans : ℕ) : Type 0 where
+  pub same : AreEach StandsForSame xs ys
+  pub kept : AreUntouchedKept q xs ys
+  pub left : (j : ℕ) (d e : AreaState) → k ≤ j → j < length xs → IsSameButBoxes (get_or xs j d) (get_or ys j e)
+  pub ranged : scans ≡ 0 → (j : ℕ) (e : AreaState) → j < k → j < length xs → IsRanged q (get_or ys j e)
+
+-- the areas of a head, asked one after the other, give the answer over all rows that its updates leave
+abbrev pub AreasAnswer : Type 0
+AreasAnswer =
+    (us : List Update) (a : ℕ) (cuts : List ℤ) (xs : List AreaState) (q : Query) → AreAreasOf a cuts xs → StandsFor us a cuts xs → head_in q.conds ≡ a
+    → with_all q (answer_over [] q.want) xs ≡ answer (rows_of us) q
+
+-- areas that stand for the same rows stand for the same updates
+abbrev pub SameStand : Type 0
+SameStand =
+    (us : List Update) (a : ℕ) (cuts : List ℤ) (xs ys : List AreaState) → AreEach StandsForSame xs ys → AreAreasOf a cuts xs → StandsFor us a cuts xs
+    → AreAreasOf a cuts ys × StandsFor us a cuts ys
+
+-- the cells that other areas are asked for where an area is short: what was wanted, for each map that the query needs
+abbrev pub cells_short : Result Ready Refusal → ℕ → Query → ℕ
+cells_short (Err (Short used want capacity)) a q = min (want * length (needed a q)) 18446744073709551615
+cells_short told a q = 0

@@ -1,0 +1,53 @@
+-- Into which area an update goes.
+use Rattle.std.specs.Prelude.{◌≡◌, ◌==◌, ◌+◌, ◌++◌, if◌then◌else◌, ℕ, ℤ, List, [], ◌∷◌, map}
+use Rattle.sw_rows.specs.declared.row.Row.{Row}
+use Rattle.sw_rows.specs.declared.row.Update.{Update}
+use Rattle.sw_rows.specs.declared.row.Update.TheVariants as update
+use Rattle.sw_rows.specs.Scan.{cell_of}
+use Rattle.sw_set.specs.Shelf.{AreReceivable, AreaState, came_in, rows_in}
+use Rattle.sw_chunks.specs.Cuts.{place_in}
+
+-- the number of the interval in which a row lies
+abbrev pub place_of_row : ℕ → List ℤ → Row → ℕ
+place_of_row a cuts r = place_in cuts (cell_of a r)
+
+-- a row's key, and the area to which it goes
+abbrev pub owner_of : ℕ → List ℤ → Row → ℕ × ℕ
+owner_of a cuts r = (r.key, place_of_row a cuts r)
+
+-- the place beside a key
+abbrev pub find_place : ℕ → List (ℕ × ℕ) → ℕ
+find_place key [] = 0
+find_place key (o ∷ os) = if o.0 == key then o.1 else find_place key os
+
+-- an insertion goes where its row's cell lies, a removal to the area of its row
+abbrev pub place_by : ℕ → List ℤ → List (ℕ × ℕ) → Update → ℕ
+place_by a cuts owners (update.Insert r) = place_of_row a cuts r
+place_by a cuts owners (update.Remove key) = find_place key owners
+
+-- how many of these places are the one
+abbrev pub count_at : ℕ → List ℕ → ℕ
+count_at place [] = 0
+count_at place (p ∷ ps) = if p == place then 1 + count_at place ps else count_at place ps
+
+abbrev pub owners_of : ℕ → List ℤ → List Row → List (ℕ × ℕ)
+owners_of a cuts rs = map (owner_of a cuts) rs
+
+-- the updates whose place is the one
+abbrev pub sent : ℕ → List ℕ → List Update → List Update
+sent place [] us = []
+sent place (p ∷ ps) [] = []
+sent place (p ∷ ps) (u ∷ us) = if p == place then u ∷ sent place ps us else sent place ps us
+
+-- an area may receive what is sent to its place
+abbrev pub MayBeSent : ℕ → List ℕ → List Update → AreaState → Type 0
+MayBeSent place ps us x = AreReceivable x.attribute x.from x.below (came_in x) (rows_in x) (sent place ps us)
+
+-- and it waits there
+abbrev pub IsSent : ℕ → List ℕ → List Update → AreaState → AreaState → Type 0
+IsSent place ps us x y = y ≡ record x { inbox = x.inbox ++ sent place ps us; spare = y.spare }
+
+-- the rows and their areas, with one more if the update is a row that comes
+abbrev pub owners_then : ℕ → List ℤ → List (ℕ × ℕ) → Update → List (ℕ × ℕ)
+owners_then a cuts os (update.Insert r) = os ++ owner_of a cuts r ∷ []
+owners_then a cuts os (update.Remove key) = os

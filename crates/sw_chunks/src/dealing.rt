@@ -1,0 +1,125 @@
+//! Areas made of rows.
+
+ghost use Rattle.std.specs.Prelude.{◌≡◌, ◌≤◌, ◌<◌, ◌^◌, ◌+◌, ◌++◌, ◌∷◌, [], ℕ, get_or, length, map, All, IfOk, IsOkUnless, MatchResult, vec_len};
+ghost use Rattle.sw_rows.specs.declared.refusal.Refusal.TheVariants.{NoMemory};
+ghost use Rattle.sw_rows.specs.declared.row.Row.{Row};
+ghost use Rattle.sw_set.specs.Shelf.{Rises, key_of};
+ghost use Rattle.sw_chunks.specs.Cuts.{Interval, RiseAbove, intervals};
+ghost use Rattle.sw_chunks.specs.Heads.{opened_area, part_of};
+ghost use Rattle.sw_chunks.specs.Places.{owners_of};
+
+use crate::places::place_in;
+use std::alloc::Global;
+use sw_map::CrackerMap;
+use sw_rows::{Refusal, Row};
+use sw_set::Area;
+
+/// As many empty parts as that. Refused `NoMemory` alone.
+fn empty_parts(alloc: Global, many: usize) -> Result<Vec<Vec<Row>>, Refusal>
+    ensures many { IfOk result (λ parts. length parts.items ≡ many) }
+    ensures empty { IfOk result (λ parts. (k : ℕ) (d : _) → k < many → (get_or parts.items k d).items ≡ []) }
+    ensures refused { IsOkUnless result NoMemory }
+{
+    let mut parts = Vec::new(alloc);
+    for _ in 0..many {
+        if parts.push(Vec::new(alloc)).is_err() {
+            return Err(Refusal::NoMemory);
+        }
+    }
+    Ok(parts)
+}
+
+/// Adds a row to a part. Refused `NoMemory` alone.
+fn push_row(part: &mut Vec<Row>, row: Row) -> Result<(), Refusal>
+    ensures { MatchResult result (λ _. part.new.items ≡ part.old.items ++ row ∷ []) (λ e. e ≡ NoMemory) }
+{
+    match part.push(row) {
+        Ok(()) => Ok(()),
+        Err(_) => Err(Refusal::NoMemory),
+    }
+}
+
+/// The rows by the intervals in which their cells lie, in one pass. Refused `NoMemory` alone.
+fn deal(alloc: Global, attribute: u8, cuts: &[i64], rows: &[Row]) -> Result<Vec<Vec<Row>>, Refusal>
+    requires attribute { attribute < 8 }
+    requires rising { RiseAbove None cuts.now }
+    requires few { length cuts.now ≤ 15 }
+    ensures many { IfOk result (λ parts. length parts.items ≡ length cuts.now + 1) }
+    ensures parts { IfOk result (λ parts. (k : ℕ) (d : _) (i : Interval) → k ≤ length cuts.now → (get_or parts.items k d).items ≡ part_of attribute rows.now (get_or (intervals cuts.now) k i)) }
+    ensures refused { IsOkUnless result NoMemory }
+{
+    let mut parts = empty_parts(alloc, cuts.len() + 1)?;
+    for row in rows {
+        let place = place_in(cuts, row.cells[usize::from(attribute)]);
+        push_row(&mut parts[usize::from(place)], *row)?;
+    }
+    Ok(parts)
+}
+
+/// Where the interval at a place begins.
+fn start_of(cuts: &[i64], place: usize) -> Option<i64>
+    requires { place ≤ length cuts.now }
+    ensures { (i : Interval) → result ≡ (get_or (intervals cuts.now) place i).0 }
+{
+    end_of(cuts, place.checked_sub(1)?)
+}
+
+/// The value below which it ends.
+fn end_of(cuts: &[i64], place: usize) -> Option<i64>
+    requires { place ≤ length cuts.now }
+    ensures { (i : Interval) → result ≡ (get_or (intervals cuts.now) place i).1 }
+{
+    cuts.get(place).copied()
+}
+
+/// An area of each interval, with the rows whose cells lie there. Refused `NoMemory` alone.
+pub(crate) fn areas_of<M: CrackerMap>(
+    alloc: Global,
+    attribute: u8,
+    cuts: &[i64],
+    rows: &[Row],
+) -> Result<Vec<Area<M>>, Refusal>
+    requires attribute { attribute < 8 }
+    requires rising { RiseAbove None cuts.now }
+    requires few { length cuts.now ≤ 15 }
+    requires keys { All (λ (r : Row). r.key < 2 ^ 63) rows.now }
+    requires rise { Rises key_of rows.now }
+    ensures { MatchResult result (λ areas. areas.items ≡ map (opened_area attribute rows.now) (intervals cuts.now)) (λ e. e ≡ NoMemory) }
+{
+    let parts = deal(alloc, attribute, cuts, rows)?;
+    let mut areas = Vec::new(alloc);
+    for k in 0..parts.len() {
+        let area = Area::new(
+            alloc,
+            attribute,
+            start_of(cuts, k),
+            end_of(cuts, k),
+            parts[k].as_slice(),
+        )?;
+        if areas.push(area).is_err() {
+            return Err(Refusal::NoMemory);
+        }
+    }
+    Ok(areas)
+}
+
+/// The keys of rows, and beside each the area to which its row goes. Refused `NoMemory` alone.
+pub(crate) fn owners_of(
+    alloc: Global,
+    attribute: u8,
+    cuts: &[i64],
+    rows: &[Row],
+) -> Result<Vec<(u64, u8)>, Refusal>
+    requires attribute { attribute < 8 }
+    requires few { length cuts.now ≤ 15 }
+    ensures { MatchResult result (λ owners. owners.items ≡ owners_of attribute cuts.now rows.now) (λ e. e ≡ NoMemory) }
+{
+    let mut owners = Vec::new(alloc);
+    for row in rows {
+        let place = place_in(cuts, row.cells[usize::from(attribute)]);
+        if owners.push((row.key, place)).is_err() {
+            return Err(Refusal::NoMemory);
+        }
+    }
+    Ok(owners)
+}

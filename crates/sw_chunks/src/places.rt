@@ -1,0 +1,118 @@
+//! Into which area a row goes, and into which one it went.
+
+ghost use Rattle.std.specs.Prelude.{◌≡◌, ◌≢◌, ◌<◌, ◌≤◌, ℕ, true, false, fold, length, map, MatchResult, slice_index_or};
+ghost use Rattle.sw_rows.specs.declared.refusal.Refusal.TheVariants.{NoMemory};
+ghost use Rattle.sw_set.specs.Shelf.{Rises};
+ghost use Rattle.sw_chunks.specs.Cuts.{place_in};
+ghost use Rattle.sw_chunks.specs.Places.{count_at, find_place, owners_then, place_by};
+
+use std::alloc::Global;
+use sw_rows::{Refusal, Update};
+
+/// The number of the interval in which a cell lies: how many cuts, from the first on, it is not below.
+pub(crate) fn place_in(cuts: &[i64], cell: i64) -> u8
+    requires { length cuts.now ≤ 15 }
+    ensures { result ≡ place_in cuts.now cell }
+{
+    let mut place = 0;
+    for cut in cuts {
+        if cell < *cut {
+            return place;
+        }
+        place += 1;
+    }
+    place
+}
+
+/// Whether the key at a place, if there is such a place, is the one.
+fn stands_at(owners: &[(u64, u8)], place: usize, key: u64) -> bool
+    ensures there { result ≡ true → (place < length owners.now) × ((d : ℕ × ℕ) → (slice_index_or owners.now place d).0 ≡ key) }
+    ensures other { result ≡ false → (d : ℕ × ℕ) → place < length owners.now → (slice_index_or owners.now place d).0 ≢ key }
+{
+    place < owners.len() && owners[place].0 == key
+}
+
+/// The place that stands beside a key, where keys rise. By binary search.
+fn find_place(owners: &[(u64, u8)], key: u64) -> u8
+    requires { Rises (λ (o : ℕ × ℕ). o.0) owners.now }
+    ensures { result ≡ find_place key owners.now }
+{
+    let at = owners.partition_point(|owner| owner.0 < key);
+    if stands_at(owners, at, key) {
+        owners[at].1
+    } else {
+        0
+    }
+}
+
+/// The area to which an update goes: that in whose interval its row's cell lies, or that of the row that goes.
+fn place_by(attribute: u8, cuts: &[i64], owners: &[(u64, u8)], update: &Update) -> u8
+    requires attribute { attribute < 8 }
+    requires few { length cuts.now ≤ 15 }
+    requires rise { Rises (λ (o : ℕ × ℕ). o.0) owners.now }
+    ensures { result ≡ place_by attribute cuts.now owners.now update.now }
+{
+    match update {
+        Update::Insert(row) => place_in(cuts, row.cells[usize::from(attribute)]),
+        Update::Remove(key) => find_place(owners, *key),
+    }
+}
+
+/// The areas to which updates go. Refused `NoMemory` alone.
+pub(crate) fn places_by(
+    alloc: Global,
+    attribute: u8,
+    cuts: &[i64],
+    owners: &[(u64, u8)],
+    updates: &[Update],
+) -> Result<Vec<u8>, Refusal>
+    requires attribute { attribute < 8 }
+    requires few { length cuts.now ≤ 15 }
+    requires rise { Rises (λ (o : ℕ × ℕ). o.0) owners.now }
+    ensures { MatchResult result (λ places. places.items ≡ map (place_by attribute cuts.now owners.now) updates.now) (λ e. e ≡ NoMemory) }
+{
+    let mut places = Vec::new(alloc);
+    for update in updates {
+        let place = place_by(attribute, cuts, owners, update);
+        if places.push(place).is_err() {
+            return Err(Refusal::NoMemory);
+        }
+    }
+    Ok(places)
+}
+
+/// How many of these places are the one.
+pub(crate) fn count_at(places: &[u8], place: usize) -> usize
+    ensures { result ≡ count_at place places.now }
+{
+    let mut many = 0;
+    for at in places {
+        if usize::from(*at) == place {
+            many += 1;
+        }
+    }
+    many
+}
+
+/// Adds the rows that come, and the areas to which they go. Refused `NoMemory`, nothing has changed.
+pub(crate) fn add_owners(
+    owners: &mut Vec<(u64, u8)>,
+    attribute: u8,
+    cuts: &[i64],
+    updates: &[Update],
+) -> Result<(), Refusal>
+    requires attribute { attribute < 8 }
+    requires few { length cuts.now ≤ 15 }
+    ensures { MatchResult result (λ _. owners.new.items ≡ fold (owners_then attribute cuts.now) owners.old.items updates.now) (λ e. (owners.new.items ≡ owners.old.items) × (e ≡ NoMemory)) }
+{
+    if owners.reserve(updates.len()).is_err() {
+        return Err(Refusal::NoMemory);
+    }
+    for update in updates {
+        if let Update::Insert(row) = update {
+            let place = place_in(cuts, row.cells[usize::from(attribute)]);
+            owners.push_reserved((row.key, place));
+        }
+    }
+    Ok(())
+}

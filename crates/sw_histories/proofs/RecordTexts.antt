@@ -1,0 +1,113 @@
+-- The text of a run's record is UTF-8.
+use Rattle.std.proofs.Common.{◌≡◌, refl, ℕ, ℤ, ◌+◌, true, List, [], ◌∷◌, ◌++◌, arith, codes, length, map, take, All, IsUtf8}
+use Rattle.std.specs.List.{list_all}
+use Rattle.std.proofs.lemmas.Bool.{and_parts}
+use Rattle.std.proofs.lemmas.Bool.Decides.{nat_tests}
+use Rattle.std.proofs.lemmas.List.Elements.{All-head, All-tail}
+use Rattle.json.proofs.Printed.Utf8.{IsUtf8-are_ascii}
+use Rattle.serde_json.specs.Data.{string}
+use Rattle.serde_json.specs.View.{items_of}
+use Rattle.sw_rows.specs.Cells.{HasPlaces}
+use Rattle.sw_rows.specs.Header.{Column, IsSchema, is_name}
+use Rattle.sw_rows.specs.Spelling.{kind_text}
+use Rattle.sw_rows.specs.declared.kind.Kind.{Kind}
+use Rattle.sw_rows.specs.declared.kind.Kind.TheVariants as kind
+use Rattle.sw_rows.specs.declared.row.Row.{Row}
+use Rattle.sw_rows.specs.declared.query.Call.{Call}
+use Rattle.sw_lang.specs.Replies.{reply_lines}
+use Rattle.sw_spine.specs.History.{History}
+use Rattle.sw_spine.specs.Printed.{all_printed, is_printed}
+use Rattle.sw_spine.specs.declared.history.Entry.{Entry}
+use Rattle.sw_spine.specs.declared.history.State.{State}
+use Rattle.sw_spine.specs.declared.history.State.TheVariants as state
+use Rattle.sw_spine.proofs.PrintedLemmas.{both, joined, reply_printed, shown}
+use Rattle.sw_histories.specs.RecordText.{attribute_text, cell_data, entry_data, record_data, record_text, row_data, state_data}
+use Rattle.sw_histories.specs.ReadBack.{IsCalled, IsOfRun, IsStateOf}
+use Rattle.sw_histories.proofs.RecordTextLemmas.{call_utf8, name_shown}
+use Rattle.sw_histories.proofs.TextUtf8.{HasTexts, HaveTexts, shown_utf8, text_utf8}
+
+-- ---- attributes
+
+kind_shown : (k : Kind) → HasPlaces k → shown (kind_text k) ≡ true
+kind_shown kind.Int h = refl
+kind_shown (kind.Fix places) h =
+    let digit : is_printed (48 + places) ≡ true = grind (arith, nat_tests, h.0, h.1) in
+    joined (codes "fix") ((48 + places) ∷ []) refl (both (is_printed (48 + places)) true digit refl)
+kind_shown kind.Flag h = refl
+
+attributes_texts : (cs : List Column) → list_all (λ c. is_name c.0) cs ≡ true → All (λ c. HasPlaces c.1) cs → HaveTexts (items_of (map (λ t. string t) (map attribute_text cs)))
+attributes_texts [] h p = tt
+attributes_texts (c ∷ cs) h p =
+    let parts = and_parts (is_name c.0) (list_all (λ d. is_name d.0) cs) h in
+    let ends = joined (codes ":") (kind_text c.1) refl (kind_shown c.1 (All-head (λ d. HasPlaces d.1) c cs p)) in
+    let here = joined c.0 (codes ":" ++ kind_text c.1) (name_shown c.0 parts.0) ends in
+    (shown_utf8 (attribute_text c) here, attributes_texts cs parts.1 (All-tail (λ d. HasPlaces d.1) c cs p))
+
+-- ---- rows
+
+cells_texts : (zs : List ℤ) → HaveTexts (items_of (map cell_data zs))
+cells_texts [] = tt
+cells_texts (z ∷ zs) = (tt, cells_texts zs)
+
+rows_texts : (n : ℕ) (rs : List Row) → HaveTexts (items_of (map (row_data n) rs))
+rows_texts n [] = tt
+rows_texts n (r ∷ rs) = (cells_texts (take n r.cells), rows_texts n rs)
+
+-- ---- entries
+
+lines_texts : (ls : List (List ℕ)) → all_printed ls ≡ true → HaveTexts (items_of (map (λ t. string t) ls))
+lines_texts [] h = tt
+lines_texts (l ∷ ls) h =
+    let parts = and_parts (shown l) (all_printed ls) h in
+    (shown_utf8 l parts.0, lines_texts ls parts.1)
+
+kept_texts : (ls : List (List ℕ)) → All (λ l. IsUtf8 l) ls → HaveTexts (items_of (map (λ t. string t) ls))
+kept_texts [] h = tt
+kept_texts (l ∷ ls) h = (All-head (λ m. IsUtf8 m) l ls h, kept_texts ls (All-tail (λ m. IsUtf8 m) l ls h))
+
+state_texts : (columns : List Column) (c : Call) (st : State) → IsStateOf c st → HasTexts (state_data columns c st)
+state_texts columns c (state.Answered r) h = lines_texts (reply_lines columns c r) (reply_printed columns c r)
+state_texts columns c (state.Lines ls) h = kept_texts ls h
+state_texts columns c state.Open h = IsUtf8-are_ascii (codes "open") refl
+state_texts columns c state.Void h = IsUtf8-are_ascii (codes "void") refl
+
+entry_texts : (columns : List Column) (e : Entry) → IsSchema columns → IsCalled columns e → HasTexts (entry_data columns e)
+entry_texts columns e ok i = (
+  IsUtf8-are_ascii (codes "call") refl,
+  call_utf8 columns e.call ok,
+  (
+    IsUtf8-are_ascii (codes "reply") refl,
+    state_texts columns e.call e.state i.state,
+    (IsUtf8-are_ascii (codes "session") refl, tt, tt),
+  ),
+)
+
+entries_texts : (columns : List Column) (es : List Entry) → IsSchema columns → All (IsCalled columns) es → HaveTexts (items_of (map (entry_data columns) es))
+entries_texts columns [] ok h = tt
+entries_texts columns (e ∷ es) ok h =
+    (entry_texts columns e ok (All-head (IsCalled columns) e es h), entries_texts columns es ok (All-tail (IsCalled columns) e es h))
+
+-- ---- the record
+
+record_texts : (h : History) → IsOfRun h → HasTexts (record_data h)
+record_texts h r = (
+  IsUtf8-are_ascii (codes "attributes") refl,
+  attributes_texts h.columns r.schema.sound.names r.schema.sound.places,
+  (
+    IsUtf8-are_ascii (codes "entries") refl,
+    entries_texts h.columns h.entries r.schema r.calls,
+    (
+      IsUtf8-are_ascii (codes "format") refl,
+      tt,
+      (
+        IsUtf8-are_ascii (codes "limit") refl,
+        tt,
+        (IsUtf8-are_ascii (codes "rows") refl, rows_texts (length h.columns) h.rows, tt),
+      ),
+    ),
+  ),
+)
+
+pub record_utf8 : (h : History) → IsOfRun h → IsUtf8 (record_text h)
+unfolding record_text
+record_utf8 h r = text_utf8 (record_data h) (record_texts h r)
