@@ -65,6 +65,18 @@ fn receive_all<M: CrackerMap>(head: &mut Head<M>, inbox: &mut Vec<Update>) -> Re
     Ok(())
 }
 
+/// The head takes one blank box, or gives a blank box back. The one refusal is `NoMemory`.
+#[tactic(auto, using(crate::proofs::Heads::supplied_updates, crate::proofs::Heads::supplied_attribute))]
+fn supply_one<M: CrackerMap>(head: &mut Head<M>, it: M) -> Result<(), (M, Refusal)>
+    requires blank { M.held it ≡ blank }
+    ensures updates { head.new.updates ≡ head.old.updates }
+    ensures attribute { head.new.attribute ≡ head.old.attribute }
+    ensures back { IfErr result (λ r. M.held r.0 ≡ blank) }
+    ensures refused { IfErr result (λ r. r.1 ≡ NoMemory) }
+{
+    head.supply(it)
+}
+
 /// A head, once it is made, the boxes that wait for it, and the updates that were taken for it and that it has not received.
 ///
 /// Contracts see all that was taken for it, the opening rows first, and whether the head is made.
@@ -129,7 +141,6 @@ impl<J: Naming, M: CrackerMap> LatchedHead<J, M> {
         Ok(())
     }
 
-    #[tactic(auto, using(crate::proofs::Heads::supplied_updates, crate::proofs::Heads::supplied_attribute))]
     fn hand_one(&mut self) -> Result<(), Refusal>
         ensures same { self.new ≡ self.old }
         ensures refused { IsOkUnless result NoMemory }
@@ -141,7 +152,7 @@ impl<J: Naming, M: CrackerMap> LatchedHead<J, M> {
         let Some(it) = boxes.pop() else {
             return Ok(());
         };
-        match head.supply(it) {
+        match supply_one(head, it) {
             Ok(()) => Ok(()),
             Err((it, refused)) => {
                 boxes.push_reserved(it);
