@@ -34,16 +34,21 @@ fn term_at<'a>(
     Ok((Term { attr, op, value }, rest))
 }
 
-fn terms_at(alloc: Global, schema: &Schema, text: &[u8]) -> Result<Conds, ParseError>
-    ensures { Gives (λ c. c) result (terms_at schema.now [] (tokens text.now)) }
+// Adds the conditions of terms with "and" between, up to the end.
+fn add_terms(
+    alloc: Global,
+    schema: &Schema,
+    text: &[u8],
+    conds: &mut Conds,
+) -> Result<(), ParseError>
+    ensures { Gives (λ _. conds.new) result (terms_at schema.now conds.old (tokens text.now)) }
 {
-    let mut conds = Conds::new(alloc);
     let mut rest = text;
     loop {
         let (term, after) = term_at(alloc, schema, rest)?;
-        add_term(&mut conds, term)?;
+        add_term(conds, term)?;
         let Some((token, next)) = next_token(after) else {
-            return Ok(conds);
+            return Ok(());
         };
         if !is_word(token, b"and") {
             return Err(bad(Why::Word));
@@ -62,27 +67,30 @@ fn where_at(alloc: Global, schema: &Schema, text: &[u8]) -> Result<Conds, ParseE
     if !is_word(token, b"where") {
         return Err(bad(Why::Word));
     }
-    terms_at(alloc, schema, rest)
+    let mut conds = Conds::new(alloc);
+    add_terms(alloc, schema, rest, &mut conds)?;
+    Ok(conds)
 }
 
-fn names_at<'a>(
+// Adds the names with commas between, and answers the bytes after them.
+fn add_names<'a>(
     alloc: Global,
     schema: &Schema,
     text: &'a [u8],
-) -> Result<(Names, &'a [u8]), ParseError>
-    ensures { Gives (λ p. (p.0, tokens p.1.now)) result (names_at schema.now [] (tokens text.now)) }
+    names: &mut Names,
+) -> Result<&'a [u8], ParseError>
+    ensures { Gives (λ rest. (names.new, tokens rest.now)) result (names_at schema.now names.old (tokens text.now)) }
 {
-    let mut names = Names::new(alloc);
     let mut rest = text;
     loop {
         let (name, after) = name_at(alloc, schema, rest)?;
         let has_room = names.len() < 7;
         names.push(name)?;
         let Some((token, next)) = next_token(after) else {
-            return Ok((names, after));
+            return Ok(after);
         };
         if !is_comma(token) {
-            return Ok((names, after));
+            return Ok(after);
         }
         if !has_room {
             return Err(bad(Why::Word));
@@ -102,7 +110,8 @@ fn asked(alloc: Global, schema: &Schema, want: Want, text: &[u8]) -> Result<Call
 fn select_at(alloc: Global, schema: &Schema, text: &[u8]) -> Result<Call, ParseError>
     ensures { Gives (λ c. c) result (select_at schema.now (tokens text.now)) }
 {
-    let (names, rest) = names_at(alloc, schema, text)?;
+    let mut names = Names::new(alloc);
+    let rest = add_names(alloc, schema, text, &mut names)?;
     let call = asked(alloc, schema, Want::Rows(names), rest)?;
     Ok(call)
 }
