@@ -7,7 +7,8 @@ use Rattle.serde_json.specs.Data.{Data, Members, array, boolean, member, no_item
 use Rattle.serde_json.specs.Find.{as_array, as_object, get_member}
 use Rattle.serde_json.specs.Read.{converted, of_items, of_members, read}
 use Rattle.serde_json.specs.View.{members_view}
-use Rattle.sw_histories.specs.RecordReading.{Frame, frame, history_of, items_list, or_fault}
+use Rattle.sw_histories.specs.RecordReading.{Frame, columns_in, frame, history_of, items_list, or_fault, rows_in}
+use Rattle.sw_rows.specs.Header.{kinds_of}
 use Rattle.sw_rows.specs.declared.refusal.Refusal.{Refusal}
 use Rattle.sw_spine.specs.History.{History}
 use Rattle.sw_histories.specs.Told.{◌>>=◌}
@@ -132,6 +133,10 @@ pub record IsOutlineOf (text : List ℕ) (o : Outline) : Type 0 where
 -- the part outside the entries alone
 abbrev pub without_items : Frame → Frame
 without_items f = frame f.columns f.limit f.rows []
+
+-- that part, where the limit was read
+abbrev pub framed_by : Data → ℕ → Option Frame
+framed_by d limit = option_and_then (λ columns. option_map (λ rows. frame columns limit rows []) (rows_in (kinds_of columns) limit d)) (columns_in d)
 
 -- the record of a text, or its first fault
 abbrev pub record_in : List ℕ → Result History Refusal

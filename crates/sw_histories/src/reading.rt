@@ -8,7 +8,7 @@ ghost use Rattle.sw_rows.specs.Header.{kinds_of};
 ghost use Rattle.sw_rows.specs.declared.refusal.Refusal.TheVariants.{BadLine};
 ghost use Rattle.sw_rows.specs.declared.refusal.Why.TheVariants as why;
 ghost use Rattle.sw_spine.specs.History.{AllBelow, CallsBelow};
-ghost use Rattle.sw_histories.specs.Outlines.{IsOutlineOf, record_in, values_at, values_in, without_items};
+ghost use Rattle.sw_histories.specs.Outlines.{IsOutlineOf, framed_by, record_in, values_at, values_in, without_items};
 ghost use Rattle.sw_histories.specs.Told.{Reads};
 ghost use Rattle.sw_histories.specs.Told.{TellsText};
 ghost use Rattle.sw_histories.specs.RecordReading.{array_at, call_in, cell_in, cells_of, columns_in, entries_after, entry_in, frame, frame_of, has_call, has_members, in_range, number_at, of_kind, record_at, row_in, rows_after, rows_in, state_in, text_at, texts_after, word_in};
@@ -188,29 +188,38 @@ struct Outer {
     rows: Vec<Row>,
 }
 
+/// The limit, where the members, the format and the place of the entries are a history's.
+fn read_limit(value: &Value) -> Option<u64>
+    ensures framed { option_map without_items (frame_of (view value.now)) ≡ option_and_then (framed_by (view value.now)) result }
+    ensures most { IfSome result (λ limit. limit ≤ 1048576) }
+{
+    if !has_members(value, 5) || number_at(value, "format", 1, 1).is_none() {
+        return None;
+    }
+    match array_at(value, "entries") {
+        Some(_) => number_at(value, "limit", 1, 1_048_576),
+        None => None,
+    }
+}
+
 /// The part outside the entries; None where it is none.
 fn read_outer(alloc: Global, value: &Value) -> Result<Option<Outer>, AllocError>
     ensures { IfOk result (λ o. option_map (λ f. frame f.schema f.limit f.rows.items []) o ≡ option_map without_items (frame_of (view value.now))) }
 {
-    if !has_members(value, 5) || number_at(value, "format", 1, 1).is_none() {
+    let Some(limit) = read_limit(value) else {
         return Ok(None);
-    }
+    };
     let Some(schema) = read_columns(alloc, value)? else {
         return Ok(None);
     };
-    let Some(limit) = number_at(value, "limit", 1, 1_048_576) else {
-        return Ok(None);
-    };
-    let Some(rows) = read_rows(alloc, &schema, limit, value)? else {
-        return Ok(None);
-    };
-    match array_at(value, "entries") {
-        Some(_) => Ok(Some(Outer {
+    match read_rows(alloc, &schema, limit, value) {
+        Ok(Some(rows)) => Ok(Some(Outer {
             schema,
             limit,
             rows,
         })),
-        None => Ok(None),
+        Ok(None) => Ok(None),
+        Err(e) => Err(e),
     }
 }
 
