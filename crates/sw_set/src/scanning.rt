@@ -8,29 +8,7 @@ ghost use Rattle.sw_set.specs.Live.{Standing, live_among};
 
 use crate::live::LiveRows;
 use std::alloc::Global;
-use sw_rows::{Cells, Cond, Query, Refusal, Reply, ReplyRow, ReplyRows, Row, Want, is_within};
-
-/// A row's cell of an attribute.
-fn cell(row: &Row, attr: usize) -> i64
-    requires { attr < 8 }
-    ensures { result ≡ cell_of attr row.now }
-{
-    row.cells[attr]
-}
-
-/// Whether a row meets each condition.
-#[tactic(auto, using(std::proofs::lemmas::List::Folds::list_all_more, std::proofs::lemmas::List::Folds::list_all_at))]
-fn meets_all(row: &Row, conds: &[Cond]) -> bool
-    requires { CondsBelow 8 conds.now }
-    ensures { result ≡ meets_all conds.now row.now }
-{
-    for cond in conds {
-        if !is_within(cond.lower, cond.upper, cell(row, cond.attr)) {
-            return false;
-        }
-    }
-    true
-}
+use sw_rows::{Cond, Query, Refusal, Reply, ReplyRows, Row, Want, cell_of, meets_all, projected};
 
 /// Whether the row at a place is live and meets each condition.
 fn is_found(live: &LiveRows, load: &[Row], conds: &[Cond], place: usize) -> bool
@@ -67,7 +45,7 @@ fn sum(live: &LiveRows, load: &[Row], conds: &[Cond], attr: usize) -> i128
     let mut sum: i128 = 0;
     for place in 0..live.places() {
         if is_found(live, load, conds, place) {
-            sum += i128::from(cell(live.row(load, place), attr));
+            sum += i128::from(cell_of(live.row(load, place), attr));
         }
     }
     sum
@@ -83,7 +61,7 @@ fn min(live: &LiveRows, load: &[Row], conds: &[Cond], attr: usize) -> Option<i64
     let mut found: Option<i64> = None;
     for place in 0..live.places() {
         if is_found(live, load, conds, place) {
-            let here = cell(live.row(load, place), attr);
+            let here = cell_of(live.row(load, place), attr);
             found = match found {
                 Some(low) => Some(low.min(here)),
                 None => Some(here),
@@ -103,7 +81,7 @@ fn max(live: &LiveRows, load: &[Row], conds: &[Cond], attr: usize) -> Option<i64
     let mut found: Option<i64> = None;
     for place in 0..live.places() {
         if is_found(live, load, conds, place) {
-            let here = cell(live.row(load, place), attr);
+            let here = cell_of(live.row(load, place), attr);
             found = match found {
                 Some(high) => Some(high.max(here)),
                 None => Some(here),
@@ -111,20 +89,6 @@ fn max(live: &LiveRows, load: &[Row], conds: &[Cond], attr: usize) -> Option<i64
         }
     }
     found
-}
-
-/// A row's cells of some attributes.
-fn projection(alloc: Global, row: &Row, names: &[usize]) -> Result<Cells, Refusal>
-    requires { All (λ (a : ℕ). a < 8) names.now }
-    ensures { MatchResult result (λ cells. cells ≡ map (λ a. cell_of a row.now) names.now) (λ e. e ≡ NoMemory) }
-{
-    let mut cells = Cells::new(alloc);
-    for name in names {
-        if cells.push(cell(row, *name)).is_err() {
-            return Err(Refusal::NoMemory);
-        }
-    }
-    Ok(cells)
 }
 
 /// Adds a row's key and its cells of some attributes.
@@ -137,11 +101,10 @@ fn push_shown(
     requires { All (λ (a : ℕ). a < 8) names.now }
     ensures { MatchResult result (λ _. shown.new ≡ shown.old ++ projected names.now row.now ∷ []) (λ e. e ≡ NoMemory) }
 {
-    let cells = projection(alloc, row, names)?;
-    match shown.push(ReplyRow {
-        key: row.key,
-        cells,
-    }) {
+    let Ok(row) = projected(alloc, row, names) else {
+        return Err(Refusal::NoMemory);
+    };
+    match shown.push(row) {
         Ok(()) => Ok(()),
         Err(_) => Err(Refusal::NoMemory),
     }

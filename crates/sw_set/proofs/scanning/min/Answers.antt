@@ -20,10 +20,10 @@ loop-place-preserved c =
     let a = c.args.attr in
     elim c.if-is_found.branch [
       | then-is_found+in-Some w ↦
-          let step = least-yes cs fs xs i none lt (sym (c.is_found.ensures none) ∙ w.if-is_found.true) a c.loop-place.found w.cell-here.result (w.cell-here.ensures ∙ ap (cell_of a) (w.row.ensures none)) so_far in
+          let step = least-yes cs fs xs i none lt (sym (c.is_found.ensures none) ∙ w.if-is_found.true) a c.loop-place.found w.cell_of-here.result (w.cell_of-here.ensures ∙ ap (cell_of a) (w.row.ensures none)) so_far in
           grind (arith, common_steps, step)
       | then-is_found+in-None w ↦
-          let step = least-yes cs fs xs i none lt (sym (c.is_found.ensures none) ∙ w.if-is_found.true) a c.loop-place.found w.cell-here.result (w.cell-here.ensures ∙ ap (cell_of a) (w.row.ensures none)) so_far in
+          let step = least-yes cs fs xs i none lt (sym (c.is_found.ensures none) ∙ w.if-is_found.true) a c.loop-place.found w.cell_of-here.result (w.cell_of-here.ensures ∙ ap (cell_of a) (w.row.ensures none)) so_far in
           grind (arith, common_steps, step)
       | else-is_found w ↦ w.found-is ∙ so_far ∙ sym (ap (λ v. least (column a v)) (found-no cs fs xs i none lt (sym (c.is_found.ensures none) ∙ w.if-is_found.false)))
     ]

@@ -21,7 +21,7 @@ loop-place-preserved c =
     let a = c.args.attr in
     elim c.if-is_found.branch [
       | then-is_found w ↦
-          let step = total-yes cs fs xs i none lt (sym (c.is_found.ensures none) ∙ w.if-is_found.true) a c.loop-place.sum w.cell.result (w.cell.ensures ∙ ap (cell_of a) (w.row.ensures none)) (sym c.loop-place.sum-is ∙ so_far.0) in
+          let step = total-yes cs fs xs i none lt (sym (c.is_found.ensures none) ∙ w.if-is_found.true) a c.loop-place.sum w.cell_of.result (w.cell_of.ensures ∙ ap (cell_of a) (w.row.ensures none)) (sym c.loop-place.sum-is ∙ so_far.0) in
           (grind (arith, common_steps, to_z-of_z, step), omega (arith, ints), omega (arith, ints))
       | else-is_found w ↦
           let step = ap (λ v. total (column a v)) (found-no cs fs xs i none lt (sym (c.is_found.ensures none) ∙ w.if-is_found.false)) in
