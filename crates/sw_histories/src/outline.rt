@@ -117,7 +117,7 @@ fn read_member(
 
 /// Where the entries stand: in the array that is the value of the member after so many others; and how many they are, a
 /// count that stops above the most entries of a history.
-#[derive(Clone, Copy, Debug, Drop, PartialEq, Eq)]
+#[derive(Clone, Copy, Drop)]
 pub(crate) struct Entries {
     pub(crate) place: usize,
     pub(crate) count: usize,

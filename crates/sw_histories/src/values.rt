@@ -13,7 +13,7 @@ use serde_json::{Map, Number, Value};
 use std::alloc::{AllocError, AllocFailed, Global};
 
 /// Why no value was read.
-#[derive(Clone, Copy, Debug, Drop, PartialEq, Eq)]
+#[derive(Clone, Copy, Drop)]
 pub(crate) enum NoValue {
     /// There is none.
     Invalid,

@@ -11,14 +11,14 @@ use sw_map::CrackerMap;
 const BLOCK: usize = 256;
 
 /// The half of a map's pairs in which a column stands.
-#[derive(Clone, Copy, Debug, PartialEq, Eq)]
+#[derive(Clone, Copy)]
 pub(crate) enum Side {
     Head,
     Tail,
 }
 
 /// Where a column stands: in which box, and in which half of its pairs.
-#[derive(Clone, Copy, Debug)]
+#[derive(Clone, Copy)]
 pub(crate) struct Column {
     pub at: usize,
     pub side: Side,
