@@ -1,7 +1,7 @@
 //! Preparing an area for a query: the range is logged, the maps that are needed are made and aligned, and the places of the
 //! range's bounds are found.
 
-ghost use Rattle.std.specs.Prelude.{◌≡◌, ℕ, ◌<◌, ◌≤◌, ◌^◌, ◌&&◌, ◌⊎◌, ◌∷◌, [], true, length, false, All, Any, Contains, IfErr, IfOk, IsErr, IsOk, IsOkUnless, MatchOption, MatchResult, slice_index_or};
+ghost use Rattle.std.specs.Prelude.{◌≡◌, ℕ, ◌<◌, ◌≤◌, ◌^◌, ◌&&◌, ◌⊎◌, ◌∷◌, [], true, length, false, All, Any, Contains, IfErr, IfOk, IsErr, IsOk, IsOkUnless, MatchResult, slice_index_or};
 ghost use Rattle.sw_rows.specs.Scan.{AsksBelow, answer};
 ghost use Rattle.sw_rows.specs.declared.refusal.Refusal.TheVariants.{NoMemory};
 ghost use Rattle.sw_kernel.specs.Replay.{loaded};
@@ -10,7 +10,7 @@ ghost use Rattle.sw_map.specs.declared.tail.Tail.{Tail};
 ghost use Rattle.sw_map.specs.declared.tail.Tail.TheVariants.{Key};
 ghost use Rattle.sw_map.specs.Held.{Held};
 ghost use Rattle.sw_set.specs.Needs.{head_in, needed};
-ghost use Rattle.sw_set.specs.Prepared.{AreAllNeeded, HasTooFew, IsBegunFor, IsFoundAt, IsHeld, IsHindered, IsNoBlank, IsNoted, IsNotedFor, IsPartlyNoted, IsPrepareRefusal, IsPrepared, IsPreparedFor, IsReady, IsShort, IsTold, area_lower, area_upper, cells_for, is_touched, no_blank, stands_if};
+ghost use Rattle.sw_set.specs.Prepared.{AreAllNeeded, HasTooFew, IsBegunFor, IsFoundAt, IsHeld, IsHindered, IsNoBlank, IsNoted, IsNotedFor, IsPartlyNoted, IsPrepareRefusal, IsPrepared, IsPreparedFor, IsReady, IsShort, IsTold, area_lower, area_upper, cells_for, is_touched, stands_if};
 ghost use Rattle.sw_set.specs.Shelf.{IsAtEnd, IsSameArea, logged_rows, rows_in};
 
 use crate::area::Area;
@@ -137,18 +137,6 @@ impl<M: CrackerMap> Area<M> {
         touches(start, end, lower_of(&query.conds), upper_of(&query.conds))
     }
 
-    /// The refusal of a query that needs more maps than there are boxes.
-    fn lacks_boxes(&self, query: &Query) -> Option<Refusal>
-        ensures { MatchOption result (length (needed self.now.attribute query.now) ≤ length self.now.boxes) (λ e. HasTooFew self.now query.now × (e ≡ no_blank self.now query.now)) }
-    {
-        let boxes = self.boxes() as u64;
-        let needed = needed_maps(self.attribute(), query) as u64;
-        if boxes < needed {
-            return Some(Refusal::NoBlank { boxes, needed });
-        }
-        None
-    }
-
     /// Prepares the area for a query over its head. The range is logged where one of its bounds stands in no range of the
     /// tape, after a restart where the tape is full; the maps that the query needs are made and stepped to the tape's end;
     /// and the answer is the range of places that qualify. A query that does not touch the area gets an empty range, and
@@ -170,8 +158,10 @@ impl<M: CrackerMap> Area<M> {
         if !self.touches(query) {
             return Ok(Ready { from: 0, upto: 0 });
         }
-        if let Some(refusal) = self.lacks_boxes(query) {
-            return Err(refusal);
+        let boxes = self.boxes() as u64;
+        let needed = needed_maps(self.attribute(), query) as u64;
+        if boxes < needed {
+            return Err(Refusal::NoBlank { boxes, needed });
         }
         let tails = match needed_tails(self.alloc(), self.attribute(), query) {
             Ok(tails) => tails,
