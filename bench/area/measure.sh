@@ -1,13 +1,13 @@
 #!/usr/bin/env bash
-# One area of a table's rows beside a C++ peer that cracks the same maps, over the same calls.
+# A head without cuts, which is one area of a table's rows, beside a C++ peer that cracks the same maps, over the same calls.
 #
 #     bench/area/measure.sh [ROWS [ROUNDS [CALLS]]]
 #
-# Copies the crates up to sw_set with a program of its own into a folder under TMPDIR, proves and builds them there, makes a
+# Copies the crates up to sw_chunks with a program of its own into a folder under TMPDIR, proves and builds them there, makes a
 # table of random ints of three attributes and scripts of CALLS (by default 1,000) random calls at width one thousandth:
 # counts, sums, selects of two tails, and sums with a second condition. It runs the program and bench/peers/peer.cpp in
 # crack mode by turns ROUNDS times (by default 5) over each script, compares both outputs, and prints the medians of the
-# seconds that the calls took, texts of replies included, with their ratio, and how much of it the area took.
+# seconds that the calls took, texts of replies included, with their ratio, and how much of it the head took.
 # Maps are aligned in threads, which on a busy machine wait for a processor: RUN='chrt -f 10' (as root) runs both sides at
 # real-time priority, so that a started thread gets one as it would on a quiet machine.
 # It needs rt, g++ and python3. Nothing of the repository is written.
@@ -17,8 +17,6 @@ rounds=${2:-5}
 calls=${3:-1000}
 here=$(cd "$(dirname "$0")" && pwd)
 . "$here/../proved.sh"
-mkdir -p "$work/crates/replies/proofs/answer_all"
-cp "$here/answer_all.antt.txt" "$work/crates/replies/proofs/answer_all/Invariants.antt"
 area replies "$here/replies.rt.txt"
 program=$work/crates/replies/out/replies
 
@@ -43,5 +41,5 @@ for mix in ("count", "sum", "select", "multi"):
         assert told[5] == "0", told
         ours.append(int(told[1]) / 1e9); areas.append(int(told[3]) / 1e9); peers.append(float(peer_told[1]))
     a, b, c = statistics.median(ours), statistics.median(peers), statistics.median(areas)
-    print(f"{mix:>6}: sideways {a:.3f} s (the area alone {c:.3f}), peer {b:.3f} s, ratio {a / b:.2f}, of the least {min(ours) / min(peers):.2f}")
+    print(f"{mix:>6}: sideways {a:.3f} s (the head alone {c:.3f}), peer {b:.3f} s, ratio {a / b:.2f}, of the least {min(ours) / min(peers):.2f}")
 END

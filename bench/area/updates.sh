@@ -1,13 +1,13 @@
 #!/usr/bin/env bash
-# One area of a table's rows under updates beside a C++ peer that merges them into the same maps, over the same calls.
+# A head without cuts, which is one area of a table's rows, under updates beside a C++ peer that merges them into the same maps, over the same calls.
 #
 #     bench/area/updates.sh [ROWS [ROUNDS [CALLS]]]
 #
-# Copies the crates up to sw_set with a program of its own into a folder under TMPDIR, proves and builds them there, makes a
+# Copies the crates up to sw_chunks with a program of its own into a folder under TMPDIR, proves and builds them there, makes a
 # table of random ints of three attributes and two scripts: CALLS (by default 1,000) and ten times as many, of ten calls each 3
 # inserts, 2 removals and 5 sums at width one thousandth. It runs the program and bench/peers/peer.cpp in crack mode by turns
 # ROUNDS times (by default 5) over each script, compares both outputs, and prints the medians of the seconds that the calls took,
-# texts of replies included, with their ratio, how much of it the area took, and what ten times the calls cost.
+# texts of replies included, with their ratio, how much of it the head took, and what ten times the calls cost.
 # Maps are aligned in threads, which on a busy machine wait for a processor: RUN='chrt -f 10' (as root) runs both sides at
 # real-time priority, so that a started thread gets one as it would on a quiet machine.
 # It needs rt, g++ and python3. Nothing of the repository is written.

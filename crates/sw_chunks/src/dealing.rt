@@ -10,6 +10,7 @@ ghost use Rattle.sw_chunks.specs.Places.{owners_of};
 
 use crate::places::place_in;
 use std::alloc::Global;
+use std::mem;
 use sw_map::CrackerMap;
 use sw_rows::{Refusal, Row};
 use sw_set::Area;
@@ -86,16 +87,11 @@ pub(crate) fn areas_of<M: CrackerMap>(
     requires rise { Rises key_of rows.now }
     ensures { MatchResult result (λ areas. areas.items ≡ map (opened_area attribute rows.now) (intervals cuts.now)) (λ e. e ≡ NoMemory) }
 {
-    let parts = deal(alloc, attribute, cuts, rows)?;
+    let mut parts = deal(alloc, attribute, cuts, rows)?;
     let mut areas = Vec::new(alloc);
     for k in 0..parts.len() {
-        let area = Area::new(
-            alloc,
-            attribute,
-            start_of(cuts, k),
-            end_of(cuts, k),
-            parts[k].as_slice(),
-        )?;
+        let part = mem::replace(&mut parts[k], Vec::new(alloc));
+        let area = Area::of(alloc, attribute, start_of(cuts, k), end_of(cuts, k), part)?;
         if areas.push(area).is_err() {
             return Err(Refusal::NoMemory);
         }

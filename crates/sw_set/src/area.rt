@@ -83,8 +83,28 @@ impl<M: CrackerMap> Area<M> {
         requires within { All (λ (r : Row). lies_within attribute from below r ≡ true) rows.now }
         ensures { MatchResult result (λ a. a ≡ record { attribute = attribute; from = from; below = below; inbox = []; spare = 0; tape = loaded rows.now ∷ []; boxes = [] }) (λ e. e ≡ NoMemory) }
     {
-        let tape = Tape::new(alloc, rows)?;
+        match Vec::from_slice(alloc, rows) {
+            Ok(copy) => Area::of(alloc, attribute, from, below, copy),
+            Err(_) => Err(Refusal::NoMemory),
+        }
+    }
+
+    /// The same of rows that are taken over and not copied.
+    pub fn of(
+        alloc: Global,
+        attribute: u8,
+        from: Option<i64>,
+        below: Option<i64>,
+        rows: Vec<Row>,
+    ) -> Result<Area<M>, Refusal>
+        requires attribute { attribute < 8 }
+        requires keys { All (λ (r : Row). r.key < 2 ^ 63) rows.items }
+        requires rise { Rises key_of rows.items }
+        requires within { All (λ (r : Row). lies_within attribute from below r ≡ true) rows.items }
+        ensures { MatchResult result (λ a. a ≡ record { attribute = attribute; from = from; below = below; inbox = []; spare = 0; tape = loaded rows.items ∷ []; boxes = [] }) (λ e. e ≡ NoMemory) }
+    {
         let live = LiveRows::all(alloc, rows.len())?;
+        let tape = Tape::of(alloc, rows)?;
         Ok(Area {
             alloc,
             attribute,

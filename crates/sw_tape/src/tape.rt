@@ -98,16 +98,26 @@ impl Tape {
     pub fn new(alloc: Global, rows: &[Row]) -> Result<Tape, Refusal>
         ensures { MatchResult result (λ tape. tape ≡ loaded rows.now ∷ []) (λ e. e ≡ NoMemory) }
     {
-        let load = load_of(alloc, rows)?;
+        match Vec::from_slice(alloc, rows) {
+            Ok(copy) => Tape::of(alloc, copy),
+            Err(_) => Err(Refusal::NoMemory),
+        }
+    }
+
+    /// A tape of one load of these rows, which are taken over and not copied. It is refused `NoMemory` alone.
+    pub fn of(alloc: Global, rows: Vec<Row>) -> Result<Tape, Refusal>
+        ensures { MatchResult result (λ tape. tape ≡ loaded rows.items ∷ []) (λ e. e ≡ NoMemory) }
+    {
+        let many = rows.len();
         let mut entries = Vec::new(alloc);
-        if entries.push(load).is_err() {
+        if entries.push(Entry::Load(rows)).is_err() {
             return Err(Refusal::NoMemory);
         }
         Ok(Tape {
             entries,
             bounds: Vec::new(alloc),
-            pairs: rows.len(),
-            peak: rows.len(),
+            pairs: many,
+            peak: many,
         })
     }
 

@@ -1,4 +1,3 @@
 pub mod Numbering
 pub mod Computed
 pub mod Merging
-pub mod Updates

@@ -50,3 +50,7 @@ pub numbered-fit : (cs : List (List ℤ)) → All (λ (r : Row). r.key < 2 ^ 63)
 numbered-fit cs =
     let long : length (take (2 ^ 20) cs) ≡ min (2 ^ 20) (length cs) = length-take (2 ^ 20) cs in
     All-from_recursion (λ (r : Row). r.key < 2 ^ 63) _ (few 1 (2 ^ 63) (take (2 ^ 20) cs) (omega (arith, long)))
+
+-- their keys are at most as many as they are
+pub numbered-below : (cs : List (List ℤ)) → All (λ (r : Row). r.key < 1 + length cs) (numbered cs)
+numbered-below cs = All-from_recursion (λ (r : Row). r.key < 1 + length cs) _ (few 1 (1 + length cs) cs (omega arith))

@@ -1,4 +1,3 @@
 pub mod Examples
 pub mod Opening
-pub mod Updating
 pub mod Asking

@@ -7,7 +7,7 @@ use crate::acts::push_pairs;
 use crate::add;
 use crate::moves::{Move, push_place};
 use crate::scenes::{
-    FOUR_ROWS, Play, Scene, Script, THREE_BOXES, Watch, counting, play_over, tell_used,
+    FOUR_ROWS, Play, Script, THREE_BOXES, Watch, counting, play_script, tell_used,
 };
 use std::alloc::{AllocError, Global};
 use std::sync::Arc;
@@ -147,11 +147,11 @@ fn play_gated<R: Threads + Sync>(
         budget: &budget,
         counts: &counts.key,
     };
-    let mut scene = Scene::Script(Play {
+    let play = Play {
         shape: THREE_BOXES,
         script: Script::Moves(&FOUR_ROWS, AT_ONCE),
-    });
-    play_over(rt, alloc, maps, watch, &mut scene, text)
+    };
+    play_script(rt, alloc, play, maps, watch, text)
 }
 
 #[test]

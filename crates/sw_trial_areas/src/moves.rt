@@ -3,8 +3,8 @@
 ghost use Rattle.std.specs.Prelude.{◌≡◌, []};
 
 use crate::acts::taken;
+use crate::may_ask;
 use crate::scenes::Watch;
-use crate::{ask, ready, scan};
 use std::alloc::{AllocError, Global};
 use std::test::Fail;
 use std::thread::Threads;
@@ -49,7 +49,7 @@ pub(crate) enum Move<'t> {
 }
 
 /// A query as a line of a script, over the attributes a to e.
-pub(crate) fn query(alloc: Global, line: &str) -> Result<Query, Refusal> {
+fn query(alloc: Global, line: &str) -> Result<Query, Refusal> {
     let schema = Schema::of(alloc, &["a", "b", "c", "d", "e"])?;
     match parse_line(alloc, &schema, 1, line) {
         Ok(Some(Call::Select(query))) => Ok(query),
@@ -76,7 +76,7 @@ fn push_rows(text: &mut String, rows: &[ReplyRow]) -> Result<(), AllocError> {
 }
 
 /// Tells a reply.
-pub(crate) fn push_reply(text: &mut String, reply: &Reply) -> Result<(), AllocError> {
+fn push_reply(text: &mut String, reply: &Reply) -> Result<(), AllocError> {
     match reply {
         Reply::Rows(rows) => push_rows(text, rows.as_slice()),
         Reply::Count(n) => write!(text, "{n}"),
@@ -88,7 +88,7 @@ pub(crate) fn push_reply(text: &mut String, reply: &Reply) -> Result<(), AllocEr
 }
 
 /// Tells the refusal beside a reply, if there is one.
-pub(crate) fn push_told(text: &mut String, told: &Option<Refusal>) -> Result<(), AllocError> {
+fn push_told(text: &mut String, told: &Option<Refusal>) -> Result<(), AllocError> {
     match told {
         Some(e) => write!(text, ", told {e}"),
         None => Ok(()),
@@ -139,7 +139,10 @@ fn answer_to<R: Threads + Sync, M: CrackerMap>(
     requires { area.old.inbox ≡ [] }
     ensures { area.new.inbox ≡ [] }
 {
-    let (reply, told) = ask(rt, area, query)?;
+    if !may_ask(area.attribute(), query) {
+        return Ok(text.push_str("not of this area")?);
+    }
+    let (reply, told) = area.answer(rt, query)?;
     push_reply(text, &reply)?;
     Ok(push_told(text, &told)?)
 }
@@ -190,7 +193,10 @@ fn prepared<R: Threads + Sync, M: CrackerMap>(
     ensures { area.new.inbox ≡ [] }
 {
     let query = query(alloc, line)?;
-    match ready(rt, area, &query) {
+    if !may_ask(area.attribute(), &query) {
+        return Ok(text.push_str("not of this area")?);
+    }
+    match area.prepare(rt, &query) {
         Ok(range) => Ok(write!(text, "{}..{}", range.from, range.upto)?),
         Err(e) => Ok(write!(text, "{e}")?),
     }
@@ -206,7 +212,10 @@ fn scanned<M: CrackerMap>(
     requires { area.now.inbox ≡ [] }
 {
     let query = query(alloc, line)?;
-    let reply = scan(area, &query)?;
+    if !may_ask(area.attribute(), &query) {
+        return Ok(text.push_str("not of this area")?);
+    }
+    let reply = area.scan(&query)?;
     Ok(push_reply(text, &reply)?)
 }
 
@@ -222,7 +231,7 @@ fn push_counts(text: &mut String, watch: Watch<'_>) -> Result<(), AllocError> {
 }
 
 /// Looks at an area.
-pub(crate) fn look<M: CrackerMap>(
+fn look<M: CrackerMap>(
     area: &Area<M>,
     watch: Watch<'_>,
     step: Move<'_>,

@@ -65,7 +65,7 @@ fn edge(value: Option<i64>) -> Option<Bound>
 }
 
 /// Whether a row's cell lies in the interval.
-pub(crate) fn lies_within(row: &Row, attribute: u8, from: Option<i64>, below: Option<i64>) -> bool
+fn lies_within(row: &Row, attribute: u8, from: Option<i64>, below: Option<i64>) -> bool
     requires { attribute < 8 }
     ensures { result ≡ lies_within attribute from below row.now }
 {

@@ -4,10 +4,8 @@ ghost use Rattle.std.specs.Prelude.{◌≡◌, All, IfOk};
 ghost use Rattle.sw_map.specs.Held.{blank};
 
 use crate::acts::{Act, act_out};
-use crate::mixes::{Mix, mixed};
 use crate::moves::{Move, play};
-use crate::steps::{Step, take_all};
-use crate::{Shape, Trial, add, numbered, open};
+use crate::{Shape, add, numbered, open};
 use std::alloc::{AllocError, Global};
 use std::sync::Arc;
 use std::test::Fail;
@@ -31,14 +29,6 @@ pub(crate) const ONE_BOX: Shape = Shape {
     from: None,
     below: None,
     boxes: 1,
-};
-
-/// The same with two boxes.
-pub(crate) const TWO_BOXES: Shape = Shape {
-    attribute: 0,
-    from: None,
-    below: None,
-    boxes: 2,
 };
 
 /// The same with three boxes.
@@ -91,8 +81,6 @@ pub(crate) const NO_TROUBLE: Trouble = Trouble {
 pub(crate) enum Script<'t> {
     /// Queries of an area of rows.
     Moves(&'t [[i64; 8]], &'t [(Move<'t>, &'t str)]),
-    /// Updates and queries of an area of rows.
-    Steps(&'t [[i64; 8]], &'t [(Step<'t>, &'t str)]),
     /// Calls of the maps themselves, by their numbers from 0.
     Acts(&'t [(usize, Act<'t>, &'t str)]),
 }
@@ -114,15 +102,6 @@ pub(crate) struct Play<'t> {
     pub script: Script<'t>,
 }
 
-/// What is played over boxes.
-#[derive(Drop)]
-pub(crate) enum Scene<'t> {
-    /// A script.
-    Script(Play<'t>),
-    /// A mix of updates and queries.
-    Mix(&'t mut Mix),
-}
-
 /// Plays a script on an area over these boxes.
 fn moved<R: Threads + Sync, M: CrackerMap>(
     rt: &R,
@@ -141,25 +120,8 @@ fn moved<R: Threads + Sync, M: CrackerMap>(
     play(rt, alloc, &mut area, watch, moves, text)
 }
 
-/// Plays a script on an area under updates over these boxes.
-fn updated<R: Threads + Sync, M: CrackerMap>(
-    rt: &R,
-    alloc: Global,
-    shape: Shape,
-    cells: &[[i64; 8]],
-    maps: Vec<M>,
-    watch: Watch<'_>,
-    steps: &[(Step<'_>, &str)],
-    text: &mut String,
-) -> Result<(), Fail>
-    requires { All (λ m. M.held m ≡ blank) maps.items }
-{
-    let mut trial = Trial::open(alloc, shape, cells, maps)?;
-    take_all(rt, alloc, &mut trial, watch, steps, text)
-}
-
 /// Plays a script over boxes. Of the first step that does not show what is expected it tells what it shows; else nothing.
-fn play_script<R: Threads + Sync, M: CrackerMap>(
+pub(crate) fn play_script<R: Threads + Sync, M: CrackerMap>(
     rt: &R,
     alloc: Global,
     play: Play<'_>,
@@ -172,30 +134,10 @@ fn play_script<R: Threads + Sync, M: CrackerMap>(
     let shape = play.shape;
     match play.script {
         Script::Moves(cells, moves) => { moved(rt, alloc, shape, cells, maps, watch, moves, text) }
-        Script::Steps(cells, steps) => {
-            updated(rt, alloc, shape, cells, maps, watch, steps, text)
-        }
         Script::Acts(acts) => {
             let mut maps = maps;
             Ok(act_out(alloc, &mut maps, watch, acts, text)?)
         }
-    }
-}
-
-/// Plays a scene over boxes, and tells what is wrong.
-pub(crate) fn play_over<R: Threads + Sync, M: CrackerMap>(
-    rt: &R,
-    alloc: Global,
-    maps: Vec<M>,
-    watch: Watch<'_>,
-    scene: &mut Scene<'_>,
-    text: &mut String,
-) -> Result<(), Fail>
-    requires { All (λ m. M.held m ≡ blank) maps.items }
-{
-    match scene {
-        Scene::Script(play) => play_script(rt, alloc, *play, maps, watch, text),
-        Scene::Mix(mix) => mixed(rt, alloc, maps, mix, text),
     }
 }
 
@@ -250,7 +192,7 @@ fn cleared<M: CrackerMap>(alloc: Global, maps: Vec<M>) -> Result<Vec<M>, Refusal
     Ok(into)
 }
 
-/// So many boxes are made, and a scene is played over them.
+/// So many boxes are made, and a script is played over them.
 fn play_boxed<R: Threads + Sync>(
     rt: &R,
     alloc: Global,
@@ -259,7 +201,7 @@ fn play_boxed<R: Threads + Sync>(
     many: usize,
     trouble: Trouble,
     watch: Watch<'_>,
-    scene: &mut Scene<'_>,
+    play: Play<'_>,
     text: &mut String,
 ) -> Result<(), Fail> {
     let mut maps: Vec<Box<dyn CrackerMap>> = Vec::new(alloc);
@@ -272,17 +214,17 @@ fn play_boxed<R: Threads + Sync>(
         maps.push(one)?;
     }
     let maps = cleared(alloc, maps)?;
-    play_over(rt, alloc, maps, watch, scene, text)
+    play_script(rt, alloc, play, maps, watch, text)
 }
 
-/// Plays a scene over so many boxes of a budget of its own, all of whose cells have to be there again in the end.
-pub(crate) fn play_scene<R: Threads + Sync>(
+/// Plays a script over so many boxes of a budget of its own, all of whose cells have to be there again in the end.
+pub(crate) fn play_with<R: Threads + Sync>(
     rt: &R,
     alloc: Global,
     capacity: u64,
     many: usize,
     trouble: Trouble,
-    scene: &mut Scene<'_>,
+    play: Play<'_>,
     text: &mut String,
 ) -> Result<(), Fail> {
     let counts = Arc::new(alloc, Counts::none())?;
@@ -292,7 +234,7 @@ pub(crate) fn play_scene<R: Threads + Sync>(
         counts: &counts,
     };
     play_boxed(
-        rt, alloc, &mut purse, &counts, many, trouble, watch, scene, text,
+        rt, alloc, &mut purse, &counts, many, trouble, watch, play, text,
     )?;
     Ok(tell_used(&budget, text)?)
 }
@@ -321,17 +263,17 @@ pub(crate) fn play_cases<R: Threads + Sync>(
     text: &mut String,
 ) -> Result<(), Fail> {
     for case in cases {
-        let mut scene = Scene::Script(Play {
+        let play = Play {
             shape: case.shape,
             script: case.script,
-        });
-        play_scene(
+        };
+        play_with(
             rt,
             alloc,
             case.capacity,
             boxes_of(case),
             case.trouble,
-            &mut scene,
+            play,
             text,
         )?;
         if !text.is_empty() {

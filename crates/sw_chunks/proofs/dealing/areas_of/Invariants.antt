@@ -1,7 +1,11 @@
-use Rattle.std.proofs.Common.{◌≡◌, map, take}
-use Rattle.sw_chunks.specs.Cuts.{intervals}
-use Rattle.sw_chunks.specs.Heads.{opened_area}
+use Rattle.std.proofs.Common.{◌≡◌, ◌≤◌, ◌+◌, ℕ, get_or, length, map, take}
+use Rattle.sw_chunks.specs.Cuts.{Interval, intervals}
+use Rattle.sw_chunks.specs.Heads.{opened_area, part_of}
 use Rattle.sw_chunks.proofs.dealing.areas_of.Given as goal
 
+-- areas of the parts before this one, and the other parts as they were dealt
 abbrev pub invariant-loop-k : goal.invariant-loop-k
-invariant-loop-k g l = l.areas.items ≡ map (opened_area l.attribute l.rows) (take l.k (intervals l.cuts))
+invariant-loop-k g l =
+    (l.areas.items ≡ map (opened_area l.attribute l.rows) (take l.k (intervals l.cuts)))
+    × (length l.parts.items ≡ length l.cuts + 1)
+    × ((j : ℕ) (d : _) (i : Interval) → l.k ≤ j → j ≤ length l.cuts → (get_or l.parts.items j d).items ≡ part_of l.attribute l.rows (get_or (intervals l.cuts) j i))

@@ -1,0 +1,399 @@
+//! Mixes of updates and queries on many heads, beside the plain answer.
+
+use crate::dice::{Dice, NAMES};
+use crate::scenes::{Boxes, Scene, Trouble, play};
+use crate::steps::merge;
+use crate::trials::{Shape, Trial, open, supply, tell};
+use std::alloc::{AllocError, Global};
+use std::test::Fail;
+use std::thread::Threads;
+use sw_map::CrackerMap;
+
+/// How many areas have to be scanned in a mix.
+#[derive(Clone, Copy)]
+enum Scanned {
+    /// Some, or none.
+    Any,
+    /// Some.
+    Some,
+    /// Some where there are no boxes or no cells.
+    WhereAllLack,
+    /// Some where there are no boxes or no cells, and none with five boxes and 4,096 cells.
+    JustWhereSomeLack,
+}
+
+/// What a mix is made of: how many rows come and how many go among ten calls, how many rows there may be at first, whether boxes
+/// come and go, and how many calls there are.
+#[derive(Clone, Copy)]
+struct Plan {
+    come: u32,
+    go: u32,
+    rows: u32,
+    boxes_go: bool,
+    calls: u64,
+    scanned: Scanned,
+}
+
+/// Queries alone.
+const QUERIES: Plan = Plan {
+    come: 0,
+    go: 0,
+    rows: 120,
+    boxes_go: false,
+    calls: 150,
+    scanned: Scanned::Some,
+};
+
+/// Three rows come and two go, beside five queries.
+const MORE_COME: Plan = Plan {
+    come: 3,
+    go: 2,
+    rows: 80,
+    boxes_go: true,
+    calls: 1000,
+    scanned: Scanned::Some,
+};
+
+/// Budgets of no cells, of some maps' cells, and of enough for all maps of one area.
+const CAPACITIES: &[u64] = &[0, 128, 320, 448, 4096];
+
+/// Boxes that refuse no step.
+const NO_TROUBLE: &[Trouble] = &[Trouble::Every(0)];
+
+/// Boxes that refuse every step, every second, and so on up to every fifth.
+const REFUSING: &[Trouble] = &[
+    Trouble::Every(1),
+    Trouble::Every(2),
+    Trouble::Every(3),
+    Trouble::Every(4),
+    Trouble::Every(5),
+];
+
+/// Mixes of a plan: one for each of these troubles, capacities and numbers of boxes, with up to so many cuts, by dice of a seed.
+#[derive(Clone, Copy)]
+struct Group<'t> {
+    seed: u64,
+    plan: Plan,
+    cuts: u32,
+    troubles: &'t [Trouble],
+    capacities: &'t [u64],
+    boxes: &'t [usize],
+}
+
+/// Heads without cuts under queries, then with cuts; the same under updates.
+const OF_CALLS: &[Group<'static>] = &[
+    Group {
+        seed: 1,
+        plan: Plan {
+            scanned: Scanned::JustWhereSomeLack,
+            ..QUERIES
+        },
+        cuts: 0,
+        troubles: NO_TROUBLE,
+        capacities: CAPACITIES,
+        boxes: &[0, 1, 2, 3, 4, 5],
+    },
+    Group {
+        seed: 2,
+        plan: Plan {
+            scanned: Scanned::WhereAllLack,
+            ..QUERIES
+        },
+        cuts: 15,
+        troubles: NO_TROUBLE,
+        capacities: CAPACITIES,
+        boxes: &[0, 5, 20, 80],
+    },
+    Group {
+        seed: 11,
+        plan: Plan {
+            scanned: Scanned::WhereAllLack,
+            ..MORE_COME
+        },
+        cuts: 0,
+        troubles: NO_TROUBLE,
+        capacities: CAPACITIES,
+        boxes: &[0, 1, 2, 3, 4, 5, 6],
+    },
+    Group {
+        seed: 12,
+        plan: Plan {
+            scanned: Scanned::WhereAllLack,
+            ..MORE_COME
+        },
+        cuts: 15,
+        troubles: NO_TROUBLE,
+        capacities: CAPACITIES,
+        boxes: &[0, 5, 20, 80],
+    },
+];
+
+/// Heads of which steps are refused, and of which begins find the budget contended.
+const OF_REFUSED_CALLS: &[Group<'static>] = &[
+    Group {
+        seed: 21,
+        plan: QUERIES,
+        cuts: 15,
+        troubles: REFUSING,
+        capacities: CAPACITIES,
+        boxes: &[5],
+    },
+    Group {
+        seed: 22,
+        plan: MORE_COME,
+        cuts: 0,
+        troubles: REFUSING,
+        capacities: CAPACITIES,
+        boxes: &[6],
+    },
+    Group {
+        seed: 23,
+        plan: MORE_COME,
+        cuts: 15,
+        troubles: REFUSING,
+        capacities: CAPACITIES,
+        boxes: &[40],
+    },
+    Group {
+        seed: 24,
+        plan: MORE_COME,
+        cuts: 15,
+        troubles: &[Trouble::Contends],
+        capacities: CAPACITIES,
+        boxes: &[1, 4, 40],
+    },
+];
+
+/// Heads whose tapes fill again and again: as many rows go as come.
+const OF_FULL_TAPES: &[Group<'static>] = &[Group {
+    seed: 31,
+    plan: Plan {
+        come: 4,
+        go: 4,
+        rows: 80,
+        boxes_go: false,
+        calls: 12_000,
+        scanned: Scanned::Any,
+    },
+    cuts: 1,
+    troubles: NO_TROUBLE,
+    capacities: &[1 << 20],
+    boxes: &[1, 2, 6],
+}];
+
+/// A mix that is made: its plan, its dice, up to how many cuts there are, and how many areas were scanned.
+#[derive(Drop)]
+pub(crate) struct Mix {
+    plan: Plan,
+    dice: Dice,
+    cuts: u32,
+    scans: usize,
+}
+
+/// The key of one of the rows that there are, or rarely another.
+fn some_key<M: CrackerMap>(trial: &Trial<M>, dice: &mut Dice) -> u64 {
+    let many = trial.rows.len();
+    let key = u64::from(dice.roll(64));
+    if many == 0 || dice.is_one_in(8) {
+        return key;
+    }
+    trial.rows[dice.roll(1 << 30) as usize % many].key
+}
+
+/// A call of a mix.
+fn push_call<M: CrackerMap>(
+    trial: &Trial<M>,
+    mix: &mut Mix,
+    head: usize,
+    line: &mut String,
+) -> Result<(), AllocError> {
+    let kind = mix.dice.roll(10);
+    if kind < mix.plan.come {
+        mix.dice.push_row(line)
+    } else if kind - mix.plan.come < mix.plan.go {
+        write!(line, "delete {}", some_key(trial, &mut mix.dice))
+    } else {
+        mix.dice.push_query(head, line)
+    }
+}
+
+/// Rarely clears maps, merges, or lets boxes come and go.
+fn tend<M: CrackerMap>(
+    alloc: Global,
+    trial: &mut Trial<M>,
+    mix: &mut Mix,
+    head: usize,
+) -> Result<(), Fail> {
+    match mix.dice.roll(24) {
+        0 => {
+            let _cells = trial.head.evict(u64::from(mix.dice.roll(400)));
+        }
+        1 => {
+            let mut line = String::new(alloc);
+            mix.dice.push_query(head, &mut line)?;
+            merge(alloc, trial, line.as_str())?;
+        }
+        2 if mix.plan.boxes_go => {
+            let _gone = trial.head.shed(mix.dice.roll(3) as usize);
+        }
+        3 if mix.plan.boxes_go => supply(trial)?,
+        _ => {}
+    }
+    Ok(())
+}
+
+/// Makes the calls of a mix, up to the first with which something is wrong.
+fn call_all<R: Threads + Sync, M: CrackerMap>(
+    rt: &R,
+    alloc: Global,
+    trial: &mut Trial<M>,
+    mix: &mut Mix,
+    head: usize,
+    text: &mut String,
+) -> Result<(), Fail> {
+    let mut line = String::new(alloc);
+    for number in 0..mix.plan.calls {
+        line.clear();
+        push_call(trial, mix, head, &mut line)?;
+        if !tell(rt, alloc, trial, line.as_str(), text)? {
+            return Ok(write!(text, " to {} at call {number}", line.as_str())?);
+        }
+        text.clear();
+        tend(alloc, trial, mix, head)?;
+    }
+    Ok(())
+}
+
+/// The cells of the rows that there are at first.
+fn cells_for(alloc: Global, mix: &mut Mix) -> Result<Vec<[i64; 8]>, AllocError> {
+    let mut cells = Vec::new(alloc);
+    for _turn in 0..mix.dice.roll(mix.plan.rows) {
+        cells.push(mix.dice.cells())?;
+    }
+    Ok(cells)
+}
+
+/// Makes a mix over these boxes, and tells what is wrong.
+pub(crate) fn mixed<R: Threads + Sync, M: CrackerMap>(
+    rt: &R,
+    alloc: Global,
+    maps: Vec<M>,
+    first: usize,
+    mix: &mut Mix,
+    text: &mut String,
+) -> Result<(), Fail> {
+    let cells = cells_for(alloc, mix)?;
+    let cuts = mix.dice.cuts(alloc, mix.cuts)?;
+    let head = mix.dice.roll(5);
+    let shape = Shape {
+        header: &NAMES,
+        attribute: u8::try_from(head).unwrap_or(0),
+        cuts: cuts.as_slice(),
+        cells: cells.as_slice(),
+    };
+    let mut trial = open(alloc, shape, maps, first)?;
+    call_all(rt, alloc, &mut trial, mix, head as usize, text)?;
+    mix.scans = trial.scans;
+    Ok(())
+}
+
+/// Whether so many areas may have been scanned in a mix.
+fn may_scan(mix: &Mix, boxes: usize, capacity: u64) -> bool {
+    let some = mix.scans > 0;
+    match mix.plan.scanned {
+        Scanned::Any => true,
+        Scanned::Some => some,
+        Scanned::WhereAllLack => some || (boxes > 0 && capacity > 0),
+        Scanned::JustWhereSomeLack if some => boxes < 5 || capacity < 4096,
+        Scanned::JustWhereSomeLack => boxes > 0 && capacity > 0,
+    }
+}
+
+/// Makes a mix over boxes of its own, and tells what is wrong.
+fn mix_over<R: Threads + Sync>(
+    rt: &R,
+    alloc: Global,
+    mix: &mut Mix,
+    boxes: Boxes,
+    text: &mut String,
+) -> Result<(), Fail> {
+    let mut scene = Scene::Mix(&mut *mix);
+    play(rt, alloc, boxes, &mut scene, text)?;
+    if !may_scan(mix, boxes.first, boxes.capacity) {
+        write!(text, "{} areas were scanned", mix.scans)?;
+    }
+    if !text.is_empty() {
+        write!(text, " of {} boxes, {} cells", boxes.first, boxes.capacity)?;
+    }
+    Ok(())
+}
+
+/// Makes the mixes of a group over boxes of one kind, up to the first with which something is wrong.
+fn mixes_over<R: Threads + Sync>(
+    rt: &R,
+    alloc: Global,
+    mix: &mut Mix,
+    group: Group<'_>,
+    trouble: Trouble,
+    text: &mut String,
+) -> Result<(), Fail> {
+    for capacity in group.capacities {
+        for first in group.boxes {
+            if text.is_empty() {
+                let boxes = Boxes {
+                    first: *first,
+                    later: 8,
+                    capacity: *capacity,
+                    trouble,
+                };
+                mix_over(rt, alloc, mix, boxes, text)?;
+            }
+        }
+    }
+    Ok(())
+}
+
+/// Makes the mixes of groups, up to the first with which something is wrong.
+fn mix_all<R: Threads + Sync>(
+    rt: &R,
+    alloc: Global,
+    groups: &[Group<'_>],
+    text: &mut String,
+) -> Result<(), Fail> {
+    for group in groups {
+        let mut mix = Mix {
+            plan: group.plan,
+            dice: Dice::new(group.seed),
+            cuts: group.cuts,
+            scans: 0,
+        };
+        for trouble in group.troubles {
+            mixes_over(rt, alloc, &mut mix, *group, *trouble, text)?;
+        }
+    }
+    Ok(())
+}
+
+#[test]
+fn calls_are_answered_as_the_rows_do(rt: HostRuntime) -> Result<(), Fail> {
+    let mut text = String::new(rt.alloc());
+    mix_all(&rt, rt.alloc(), OF_CALLS, &mut text)?;
+    assert_eq!(rt; text.as_str(), "");
+    Ok(())
+}
+
+#[test]
+fn refused_steps_and_begins_leave_the_replies(rt: HostRuntime) -> Result<(), Fail> {
+    let mut text = String::new(rt.alloc());
+    mix_all(&rt, rt.alloc(), OF_REFUSED_CALLS, &mut text)?;
+    assert_eq!(rt; text.as_str(), "");
+    Ok(())
+}
+
+#[test]
+fn tapes_that_fill_again_and_again(rt: HostRuntime) -> Result<(), Fail> {
+    let mut text = String::new(rt.alloc());
+    mix_all(&rt, rt.alloc(), OF_FULL_TAPES, &mut text)?;
+    assert_eq!(rt; text.as_str(), "");
+    Ok(())
+}
