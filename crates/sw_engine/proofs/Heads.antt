@@ -1,10 +1,10 @@
 -- What heads are made from, and what they may receive.
-use Rattle.std.proofs.Common.{◌≡◌, ◌<◌, ◌≤◌, ◌+◌, ◌^◌, ◌++◌, ◌<ℤ◌, ℕ, ℤ, Bool, true, false, List, [], ◌∷◌, length, length-append, fold, map, get_or, refl, sym, ap, ◌∙◌, arith, subst, All, zero, suc, Option, Some, None, rules}
+use Rattle.std.proofs.Common.{◌≡◌, ◌<◌, ◌≤◌, ◌+◌, ◌^◌, ◌++◌, ◌<ℤ◌, ℕ, ℤ, true, false, List, [], ◌∷◌, length, length-append, fold, map, get_or, refl, ap, ◌∙◌, arith, All, zero, suc, Option, Some, None}
 use Rattle.std.specs.Prelude.{Result, Ok, Err, IfOk, MatchResult, is_some, slice_set}
 use Rattle.std.proofs.lemmas.Bool.Decides.{nat_tests}
 use Rattle.std.proofs.lemmas.List.Elements.{All-push}
-use Rattle.std.specs.List.{AllByRecursion, list_all}
-use Rattle.sw_rows.specs.Updates.{has_key, rows_of, rows_then}
+use Rattle.std.specs.List.{AllByRecursion}
+use Rattle.sw_rows.specs.Updates.{rows_of, rows_then}
 use Rattle.sw_rows.specs.declared.row.Row.{Row}
 use Rattle.sw_rows.specs.declared.row.Update.{Update}
 use Rattle.sw_rows.specs.declared.row.Update.TheVariants as update

@@ -1,4 +1,4 @@
-use Rattle.std.proofs.Common.{rules, ◌≡◌, ◌<◌, ◌≤◌, ◌^◌, List, ℤ, None, length, sym, subst, arith, All}
+use Rattle.std.proofs.Common.{rules, ◌<◌, ◌^◌, List, ℤ, None, sym, subst, arith, All}
 use Rattle.sw_rows.specs.declared.row.Row.{Row}
 use Rattle.sw_lang.specs.Cuts.{cuts_on}
 use Rattle.sw_chunks.specs.Cuts.{RiseAbove}
