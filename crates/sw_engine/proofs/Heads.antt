@@ -1,20 +1,28 @@
 -- What heads are made from, and what they may receive.
-use Rattle.std.proofs.Common.{◌≡◌, ◌<◌, ◌≤◌, ◌+◌, ◌^◌, ◌++◌, ◌<ℤ◌, ℕ, ℤ, Bool, true, false, List, [], ◌∷◌, length, fold, refl, sym, ap, ◌∙◌, arith, subst, All, zero, suc, Option, Some, None, rules}
+use Rattle.std.proofs.Common.{◌≡◌, ◌<◌, ◌≤◌, ◌+◌, ◌^◌, ◌++◌, ◌<ℤ◌, ℕ, ℤ, true, false, List, [], ◌∷◌, length, length-append, fold, map, get_or, refl, ap, ◌∙◌, arith, All, zero, suc, Option, Some, None}
+use Rattle.std.specs.Prelude.{Result, Ok, Err, IfOk, MatchResult, is_some, slice_set}
 use Rattle.std.proofs.lemmas.Bool.Decides.{nat_tests}
 use Rattle.std.proofs.lemmas.List.Elements.{All-push}
-use Rattle.std.specs.List.{AllByRecursion, list_all}
-use Rattle.sw_rows.specs.Updates.{has_key, rows_of, rows_then}
+use Rattle.std.specs.List.{AllByRecursion}
+use Rattle.sw_rows.specs.Updates.{rows_of, rows_then}
 use Rattle.sw_rows.specs.declared.row.Row.{Row}
 use Rattle.sw_rows.specs.declared.row.Update.{Update}
 use Rattle.sw_rows.specs.declared.row.Update.TheVariants as update
 use Rattle.sw_lang.specs.Cuts.{rises}
 use Rattle.sw_spine.specs.Receivable.{AreUpdates, MayComeAll, given_then}
 use Rattle.sw_spine.specs.Table.{is_numbered}
+use Rattle.sw_spine.specs.Table as table
 use Rattle.sw_spine.proofs.Receivables.{may_come_first, may_come_rest}
-use Rattle.sw_chunks.specs.Cuts.{RiseAbove}
+use Rattle.sw_rows.specs.declared.refusal.Refusal.{Refusal}
+use Rattle.sw_rows.specs.declared.refusal.Refusal.TheVariants.{NoMemory}
+use Rattle.sw_map.specs.Held.{Held, blank}
+use Rattle.sw_chunks.specs.Cuts.{Interval, RiseAbove, intervals}
 use Rattle.sw_set.specs.Shelf.{AreReceivable, AreaState, Rises, came_then, key_of}
 use Rattle.sw_chunks.specs.Routing.{MayFollow}
-use Rattle.sw_chunks.specs.Heads.{HeadState, IsSupplied}
+use Rattle.sw_chunks.specs.Heads.{HeadState, IsSupplied, opened, opened_area}
+use Rattle.sw_chunks.specs.Shelved.{boxes_in}
+use Rattle.sw_chunks.proofs.Clears.{sum-set}
+use Rattle.sw_engine.specs.Desk.{IsNewHead, latched}
 
 -- ---- updates of a history
 
@@ -88,3 +96,38 @@ supplied_updates g h s = ap (λ (x : HeadState). x.updates) (s.supplied any_area
 
 pub supplied_attribute : (g h : HeadState) → IsSupplied g h → h.attribute ≡ g.attribute
 supplied_attribute g h s = ap (λ (x : HeadState). x.attribute) (s.supplied any_area)
+
+pub supplied_boxes : (g h : HeadState) → IsSupplied g h → boxes_in h.areas ≡ boxes_in g.areas + 1
+supplied_boxes g h s =
+    let was : List Held = (get_or g.areas s.at any_area).boxes in
+    let now : AreaState = record (get_or g.areas s.at any_area) { boxes = was ++ blank ∷ [] } in
+    let whole : boxes_in (slice_set g.areas s.at now) + length was ≡ boxes_in g.areas + length (was ++ blank ∷ []) = sum-set (λ (x : AreaState). length x.boxes) g.areas s.at now any_area s.fewest.within in
+    let more : length (was ++ blank ∷ []) ≡ length was + 1 = length-append was (blank ∷ []) in
+    let is : boxes_in h.areas ≡ boxes_in (slice_set g.areas s.at now) = ap (λ (x : HeadState). boxes_in x.areas) (s.supplied any_area) in
+    omega (arith, whole, more, is)
+
+-- ---- heads that are made
+
+opened_boxes : (a : ℕ) (rows : List Row) (is : List Interval) → boxes_in (map (opened_area a rows) is) ≡ 0
+opened_boxes a rows [] = refl
+opened_boxes a rows (i ∷ is) = let rest = opened_boxes a rows is in omega (arith, rest)
+
+new_head : (a p : ℕ) (cuts : List ℤ) (rows opening : List Row) (h : HeadState) → a ≡ p → rows ≡ opening → h ≡ opened a cuts rows → IsNewHead p opening h
+new_head a p cuts rows opening h same is made = record {
+  attribute_is = ap (λ (x : HeadState). x.attribute) made ∙ same;
+  updates_are = ap (λ (x : HeadState). x.updates) made ∙ ap table.opened is;
+  no_boxes = ap (λ (x : HeadState). boxes_in x.areas) made ∙ opened_boxes a rows (intervals cuts);
+}
+
+pub if_new_head : (a p : ℕ) (cuts : List ℤ) (rows opening : List Row) (r : Result HeadState Refusal) → a ≡ p → rows ≡ opening → MatchResult r (λ h. h ≡ opened a cuts rows) (λ e. e ≡ NoMemory) → IfOk r (IsNewHead p opening)
+if_new_head a p cuts rows opening (Ok h) same is made = new_head a p cuts rows opening h same is made
+if_new_head a p cuts rows opening (Err e) same is made = tt
+
+-- a head that is made has no box yet, and all that was taken for it stays
+pub made_latch : (p : ℕ) (opening : List Row) (o : Option HeadState) (h : HeadState) (inbox : List Update) (w : ℕ) → is_some o ≡ false → IsNewHead p opening h → latched opening (Some h) inbox w ≡ record (latched opening o inbox w) { made = true }
+made_latch p opening None h inbox w none new = λ i. record { taken = new.updates_are i ++ inbox; made = true; waiting = w; held = new.no_boxes i }
+made_latch p opening (Some x) h inbox w none new = absurd cc
+
+pub same_latch : (opening : List Row) (o : Option HeadState) (inbox : List Update) (w : ℕ) → is_some o ≡ true → latched opening o inbox w ≡ record (latched opening o inbox w) { made = true }
+same_latch opening None inbox w some = absurd cc
+same_latch opening (Some x) inbox w some = refl

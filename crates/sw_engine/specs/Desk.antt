@@ -1,15 +1,24 @@
 -- What ties the books of the sessions and of the heads to the spine.
-use Rattle.std.specs.Prelude.{ℕ, ◌≡◌, ◌<◌, ◌≤◌, ◌+◌, ◌⊎◌, List, [], ◌∷◌, length, set, Bool, true, false, Option, Some, None, slice_get}
+use Rattle.std.specs.Prelude.{ℕ, ◌≡◌, ◌≢◌, ◌<◌, ◌≤◌, ◌+◌, ◌⊎◌, ◌++◌, List, [], ◌∷◌, length, map, set, Bool, true, false, Option, Some, None, is_some, slice_get, slice_index_or, IfSome, IsTrue}
 use Rattle.sw_rows.specs.Header.{Column}
 use Rattle.sw_rows.specs.declared.row.Row.{Row}
 use Rattle.sw_rows.specs.declared.row.Update.{Update}
+use Rattle.sw_rows.specs.declared.query.Query.{Query}
+use Rattle.sw_rows.specs.declared.query.Call.{Call}
+use Rattle.sw_rows.specs.declared.query.Call.TheVariants as call
+use Rattle.sw_rows.specs.declared.reply.Reply.{Reply}
 use Rattle.sw_rows.specs.declared.refusal.Refusal.{Refusal}
 use Rattle.sw_rows.specs.declared.refusal.Refusal.TheVariants as refusal
 use Rattle.sw_lang.specs.Cuts.{AreCuts, CutLists, cuts_on}
 use Rattle.sw_chunks.specs.Heads.{HeadState}
+use Rattle.sw_chunks.specs.Shelved.{boxes_in}
 use Rattle.sw_spine.specs.Table.{is_numbered, opened}
-use Rattle.sw_spine.specs.History.{mine}
+use Rattle.sw_spine.specs.History.{entry, mine}
 use Rattle.sw_spine.specs.Books.{Books, new_books, took, waits_for}
+use Rattle.sw_spine.specs.Receivable.{AreUpdates}
+use Rattle.sw_spine.specs.declared.history.Entry.{Entry}
+use Rattle.sw_spine.specs.declared.history.State.TheVariants as state
+use Rattle.sw_tie.specs.declared.Book.{Book}
 use Rattle.sw_tie.specs.declared.Share.{Share}
 
 -- what a desk shows: the spine, whether each session's ticket came back, and how many heads have a share
@@ -17,6 +26,9 @@ pub record DeskState : Type 0 where
   pub books : Books
   pub given : List Bool
   pub heads : ℕ
+
+abbrev pub desk : Books → List (Books × Bool) → List (Books × Bool) → DeskState
+desk books sessions heads = record { books = books; given = map (λ r. r.1) sessions; heads = length heads }
 
 abbrev pub new_desk : List Column → List Row → ℕ → DeskState
 new_desk columns rows limit = record { books = new_books columns rows limit; given = []; heads = 0 }
@@ -45,6 +57,14 @@ pub record IsOf (columns : List Column) (rows : List Row) (limit : ℕ) (s : Boo
   pub rows_are : s.rows ≡ rows
   pub limit_is : s.limit ≡ limit
 
+-- the books have these names, one row was opened for each session, and both are tied to the spine, which began from this table
+pub record IsDesk (sessions_name heads_name : ℕ) (columns : List Column) (rows : List Row) (limit : ℕ) (s : Books) (many : ℕ) (sessions heads : Book Books) : Type 0 where
+  pub sessions_named : sessions.name ≡ sessions_name
+  pub heads_named : heads.name ≡ heads_name
+  pub many_are : many ≡ length sessions.rows
+  pub of : IsOf columns rows limit s
+  pub tied : IsTied s sessions.rows heads.rows
+
 -- the share of a session
 abbrev pub IsShareOf : ℕ → ℕ → Share Books → Type 0
 IsShareOf name session share = (share.name ≡ name) × (session ≡ share.number + 1)
@@ -58,19 +78,67 @@ abbrev pub received_by : List Row → Option HeadState → List Update
 received_by rows None = opened rows
 received_by rows (Some h) = h.updates
 
--- what a latch shows: all updates that were taken for its head, the opening rows first, and whether the head is made
+-- how many boxes a head has: none, before it is made
+abbrev pub held_by : Option HeadState → ℕ
+held_by None = 0
+held_by (Some h) = boxes_in h.areas
+
+-- What a latch shows: all updates that were taken for its head, the opening rows first; whether the head is made; how many
+-- blank boxes wait for it; and how many it has.
 pub record LatchState : Type 0 where
   pub taken : List Update
   pub made : Bool
+  pub waiting : ℕ
+  pub held : ℕ
 
--- what heads are made from: the rows and cuts of the table
-pub record IsGround (columns : List Column) (opening rows : List Row) (cuts : CutLists) : Type 0 where
-  pub rows_are : rows ≡ opening
-  pub numbered : is_numbered 1 rows ≡ true
-  pub within : length rows ≤ 1048576
+abbrev pub latched : List Row → Option HeadState → List Update → ℕ → LatchState
+latched opening head inbox waiting = record { taken = received_by opening head ++ inbox; made = is_some head; waiting = waiting; held = held_by head }
+
+-- What was taken for a head of this number is what its share shows; the head, once it is made, is of that attribute, and may
+-- receive what waits.
+pub record IsLatched (heads_name limit : ℕ) (columns : List Column) (opening : List Row) (number : ℕ) (head : Option HeadState) (inbox : List Update) (share : Share Books) : Type 0 where
+  pub named : share.name ≡ heads_name
+  pub number_is : share.number ≡ number
+  pub taken : received_by opening head ++ inbox ≡ took number share.value
+  pub most : limit ≤ 1048576
+  pub may_come : AreUpdates limit (received_by opening head ++ inbox)
+  pub place : number < length columns
+  pub attribute : IfSome head (λ h. h.attribute ≡ number)
+  pub few : number < 8
+
+-- no box is lost: each of those that waited or were held still waits, or is held
+abbrev pub KeepsBoxes : LatchState → LatchState → Type 0
+KeepsBoxes old new = new.waiting + new.held ≡ old.waiting + old.held
+
+-- but for its boxes, the same
+abbrev pub IsSameButBoxes : LatchState → LatchState → Type 0
+IsSameButBoxes old new = new ≡ record old { waiting = new.waiting; held = new.held }
+
+-- what heads are made with: the opening rows are in order, and there is a list of cuts for each attribute
+pub record IsGround (columns : List Column) (opening : List Row) (cuts : CutLists) : Type 0 where
+  pub numbered : is_numbered 1 opening ≡ true
+  pub within : length opening ≤ 1048576
   pub few : length columns ≤ 8
   pub lists : length cuts ≡ length columns
   pub lawful : (a : ℕ) → a < length columns → AreCuts (cuts_on cuts a)
+
+-- a head that was just made: it stands for the opening rows, and has no box
+pub record IsNewHead (attribute : ℕ) (opening : List Row) (h : HeadState) : Type 0 where
+  pub attribute_is : h.attribute ≡ attribute
+  pub updates_are : h.updates ≡ opened opening
+  pub no_boxes : boxes_in h.areas ≡ 0
+
+-- a session's answered calls are longer by just this call and this reply
+abbrev pub IsTold : ℕ → Call → Reply → Books → Books → Type 0
+IsTold session c reply old new = mine session new.entries ≡ mine session old.entries ++ (c, reply) ∷ []
+
+-- the same, where the call is the query that the session waits for
+abbrev pub IsAnswered : ℕ → Reply → Books → Books → Type 0
+IsAnswered session reply old new = IfSome (waits_for session old) (λ w. IsTold session w.0 reply old new)
+
+-- the history has one open entry more, at its end
+abbrev pub IsBegun : ℕ → Query → Books → Books → Type 0
+IsBegun session q old new = new.entries ≡ old.entries ++ entry session (call.Select q) state.Open ∷ []
 
 -- why a call is refused
 abbrev pub RefusesCall : Refusal → Type 0
@@ -103,6 +171,22 @@ InOrder n (t ∷ ts) = (t.0 ≡ n) × (t.1 ≡ []) × InOrder (n + 1) ts
 abbrev pub AreCounted : ℕ → List ℕ → Type 0
 AreCounted n [] = Unit {0}
 AreCounted n (k ∷ ks) = (k ≡ n) × AreCounted (n + 1) ks
+
+-- place by place
+abbrev pub Each : {X Y : Type 0} → (X → Y → Type 0) → List X → List Y → Type 0
+Each {X} {Y} P xs ys = (length ys ≡ length xs) × ((i : ℕ) (x : X) (y : Y) → i < length xs → P (slice_index_or xs i x) (slice_index_or ys i y))
+
+-- where all calls were answered, they are these
+abbrev pub IsServed : List Call → ℕ × List (Call × Reply) → Bool → Type 0
+IsServed calls ticket answered = IsTrue answered → map (λ c. c.0) ticket.1 ≡ calls
+
+-- the calls of block i, counted from 0, were answered to session i + 1, in order
+abbrev pub AreMade : List (List Call) → List Entry → Type 0
+AreMade blocks entries = (i : ℕ) → i < length blocks → map (λ c. c.0) (mine (i + 1) entries) ≡ slice_index_or blocks i []
+
+-- why an engine is not closed: as many tickets as came back, and another number of sessions
+abbrev pub RefusesClose : {X : Type 0} → List X → List X → Refusal → Type 0
+RefusesClose given back e = (back ≡ given) × (made : ℕ) × (e ≡ refusal.SharesOut made (length given)) × (made ≢ length given)
 
 -- why tickets are refused to so many sessions
 abbrev pub RefusesMany : ℕ → Refusal → Type 0

@@ -1,6 +1,5 @@
 -- A query with another attribute as its head.
 use Rattle.std.specs.Prelude.{ℕ, ◌∷◌, None}
-use Rattle.sw_rows.specs.declared.query.Cond.{Cond}
 use Rattle.sw_rows.specs.declared.query.Query.{Query}
 
 -- one condition more, put first, which every row meets

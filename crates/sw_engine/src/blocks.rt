@@ -1,7 +1,8 @@
 //! Blocks of calls, each made by a session in a thread of its own.
 
-ghost use Rattle.std.specs.Prelude.{◌≡◌, ◌<◌, ℕ, [], map, length, slice_index_or, All, IfOk, IsTrue};
+ghost use Rattle.std.specs.Prelude.{◌≡◌, [], map, length, All, IfOk, IsTrue};
 ghost use Rattle.sw_spine.specs.History.{CallsBelow};
+ghost use Rattle.sw_engine.specs.Desk.{Each, IsServed};
 
 use crate::desk::Ticket;
 use crate::engine::Session;
@@ -54,16 +55,16 @@ pub fn serve_all<'e, J: Naming + Send + Sync, M: CrackerMap, R: Threads + Wait +
 ) -> Result<Vec<Done<J>>, AllocError>
     requires new { All (λ j. j.session.1 ≡ []) jobs.items }
     requires below { All (λ j. All (λ c. CallsBelow (length J.columns) c) j.calls.now) jobs.items }
-    ensures len { IfOk result (λ v. length v.items ≡ length jobs.entry.items) }
-    ensures number { IfOk result (λ v. (i : ℕ) (j : _) (d : _) → i < length jobs.entry.items → (slice_index_or v.items i d).ticket.0 ≡ (slice_index_or jobs.entry.items i j).session.0) }
-    ensures calls { IfOk result (λ v. (i : ℕ) (j : _) (d : _) → i < length jobs.entry.items → IsTrue (slice_index_or v.items i d).answered → map (λ c. c.0) (slice_index_or v.items i d).ticket.1 ≡ (slice_index_or jobs.entry.items i j).calls.now) }
+    ensures numbers { IfOk result (λ v. Each (λ j d. d.ticket.0 ≡ j.session.0) jobs.entry.items v.items) }
+    ensures ran { IfOk result (λ v. Each (λ j d. IsServed j.calls.now d.ticket d.answered) jobs.entry.items v.items) }
 {
     thread::map_vec(
         rt,
         jobs,
         &|job: Job<'_, J, M>| -> Done<J>
             requires { (job.session.1 ≡ []) × All (λ c. CallsBelow (length J.columns) c) job.calls.now }
-            ensures { (result.ticket.0 ≡ job.entry.session.0) × (IsTrue result.answered → map (λ c. c.0) result.ticket.1 ≡ job.entry.calls.now) }
+            ensures number { result.ticket.0 ≡ job.entry.session.0 }
+            ensures ran { IsServed job.entry.calls.now result.ticket result.answered }
         { serve(rt, job) },
     )
 }

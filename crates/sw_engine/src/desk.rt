@@ -1,15 +1,17 @@
 //! What lies under the lock.
 
-ghost use Rattle.std.specs.Prelude.{◌≡◌, ℕ, List, [], ◌∷◌, ◌++◌, ◌<◌, ◌+◌, ◌≤◌, length, true, false, Some, None, All, IfErr, IfOk, IfSome, IsSome, IsSomeAnd, OnErr, OnOk, MatchResult};
+ghost use Rattle.std.specs.Prelude.{◌≡◌, ℕ, List, [], ◌∷◌, ◌++◌, ◌<◌, ◌+◌, ◌≤◌, length, true, false, Some, None, All, IfErr, IfOk, IsSome, IsSomeAnd, OnErr, OnOk};
 ghost use Rattle.sw_rows.specs.Scan.{AsksBelow};
 ghost use Rattle.sw_rows.specs.declared.query.Call.TheVariants.{Select};
 ghost use Rattle.sw_spine.specs.Table.{is_numbered, opened, reply_to, updates_then};
 ghost use Rattle.sw_spine.specs.History.{is_select, mine};
-ghost use Rattle.sw_spine.specs.Books.{RefusesRows, RefusesSession, new_books, updates, waits_for, with_session};
-ghost use Rattle.sw_engine.specs.Desk.{AreGiven, IsAtRest, IsOf, InOrder, IsShareOf, RefusesCall, RefusesMany, new_desk};
+ghost use Rattle.sw_spine.specs.Books.{RefusesRows, RefusesSession, new_books, updates, waits_for, with_answered, with_session, with_settled};
+ghost use Rattle.sw_spine.specs.declared.history.State.TheVariants.{Answered, Void};
+ghost use Rattle.sw_engine.specs.Desk.{AreGiven, InOrder, IsAnswered, IsAtRest, IsBegun, IsOf, IsShareOf, IsTold, RefusesCall, RefusesMany, latched, new_desk};
 
 use crate::latch::LatchedHead;
 use crate::naming::Naming;
+use crate::waiting::Waiting;
 use std::alloc::Global;
 use std::marker::{Model, PhantomData};
 use std::snapshot::Snapshot;
@@ -62,22 +64,20 @@ impl<J: Naming> Model for Ticket<J> {
 #[derive(Drop)]
 pub struct Desk<J: Naming> {
     spine: Spine,
-    made: usize,
-    opened: u64,
+    many: u64,
     sessions: Book<Spine>,
     heads: Book<Spine>,
     of: PhantomData<J>,
 }
 
 impl<J: Naming> Model for Desk<J> {
-    ghost use Rattle.std.specs.Prelude.{◌≡◌, length, map};
-    ghost use Rattle.sw_engine.specs.Desk.{DeskState, IsOf, IsTied};
+    ghost use Rattle.sw_engine.specs.Desk.{DeskState, IsDesk, desk};
 
     ghost Value = { DeskState };
 
-    ghost view = { λ d. record { books = d.spine; given = map (λ r. r.1) d.sessions.rows; heads = d.made } };
+    ghost view = { λ d. desk d.spine d.sessions.rows d.heads.rows };
 
-    ghost invariant = { λ d. (d.sessions.name ≡ J.sessions) × (d.heads.name ≡ J.heads) × (d.made ≡ length d.heads.rows) × (d.opened ≡ length d.sessions.rows) × IsOf J.columns J.opening J.limit d.spine × IsTied d.spine d.sessions.rows d.heads.rows };
+    ghost invariant = { λ d. IsDesk J.sessions J.heads J.columns J.opening J.limit d.spine d.many d.sessions d.heads };
 }
 
 impl<J: Naming> Desk<J> {
@@ -94,24 +94,26 @@ impl<J: Naming> Desk<J> {
         requires some { 0 < limit }
         requires most { limit ≤ 1048576 }
         requires numbered { is_numbered 1 rows.items ≡ true }
-        ensures { MatchResult result (λ d. (length rows.items ≤ limit) × (d ≡ new_desk J.columns J.opening J.limit)) (RefusesRows limit rows.items) }
+        ensures few { OnOk result (length rows.items ≤ limit) }
+        ensures opened { IfOk result (λ d. d ≡ new_desk J.columns J.opening J.limit) }
+        ensures refused { IfErr result (RefusesRows limit rows.items) }
     {
         let Blank { sessions, heads } = books;
         let spine = Spine::new(alloc, schema, rows, limit)?;
         Ok(Desk {
             spine,
-            made: 0,
-            opened: 0,
+            many: 0,
             sessions,
             heads,
             of: PhantomData,
         })
     }
 
-    /// The share of the next head, which has taken the opening rows.
-    pub fn add_head<M: CrackerMap>(&mut self, alloc: Global) -> LatchedHead<J, M>
+    /// What lies under the latch of the next head, whose number this is: it has taken the opening rows, and is not made.
+    pub fn add_head<M: CrackerMap>(&mut self, alloc: Global, number: usize) -> LatchedHead<J, M>
         requires few { length J.columns ≤ 8 }
-        requires place { self.old.heads < length J.columns }
+        requires number { number ≡ self.old.heads }
+        requires place { number < length J.columns }
         requires begun { self.old.books ≡ new_books J.columns J.opening J.limit }
         requires numbered { is_numbered 1 J.opening ≡ true }
         requires within { length J.opening ≤ J.limit }
@@ -119,22 +121,15 @@ impl<J: Naming> Desk<J> {
         ensures books { self.new.books ≡ self.old.books }
         ensures given { self.new.given ≡ self.old.given }
         ensures heads { self.new.heads ≡ self.old.heads + 1 }
-        ensures head { result ≡ record { taken = opened J.opening; made = false } }
+        ensures head { result ≡ latched J.opening None [] 0 }
     {
-        let Desk {
-            spine,
-            made,
-            heads,
-            ..
-        } = self;
-        let number = *made;
+        let Desk { spine, heads, .. } = self;
         let share = heads.open(Snapshot::of(spine));
-        *made += 1;
         LatchedHead {
             number,
             head: None,
             inbox: Vec::new(alloc),
-            boxes: Vec::new(alloc),
+            boxes: Waiting::new(alloc),
             share,
             of: PhantomData,
         }
@@ -145,18 +140,19 @@ impl<J: Naming> Desk<J> {
     /// Refused `TooMany` of limit 1,024 where that many were opened, `NoMemory` otherwise; a refused one opened none.
     pub fn enrol(&mut self) -> Result<Ticket<J>, Refusal>
         ensures ticket { IfOk result (λ t. (t.0 ≡ self.new.books.sessions) × (t.1 ≡ [])) }
-        ensures made { IfOk result (λ t. (self.new.books ≡ with_session self.old.books) × (self.new.given ≡ self.old.given ++ false ∷ [])) }
+        ensures made { OnOk result (self.new.books ≡ with_session self.old.books) }
+        ensures given { OnOk result (self.new.given ≡ self.old.given ++ false ∷ []) }
         ensures refused { IfErr result (λ e. (self.new ≡ self.old) × RefusesSession self.old.books e) }
     {
         let Desk {
             spine,
-            opened,
+            many,
             sessions,
             ..
         } = self;
         let number = spine.open_session()?;
         let share = sessions.open(Snapshot::of(spine));
-        *opened += 1;
+        *many += 1;
         Ok(Ticket {
             number,
             share,
@@ -185,11 +181,18 @@ impl<J: Naming> Desk<J> {
     pub fn sessions(&self) -> u64
         ensures { result ≡ length self.now.given }
     {
-        self.opened
+        self.many
     }
 
-    /// A select begins: its place is the end of the history, and the head takes the updates that it lacks. So it has all
-    /// updates before that place.
+    /// The opening rows.
+    pub fn opening_rows(&self) -> &[Row]
+        ensures { result.now ≡ J.opening }
+    {
+        self.spine.opening_rows()
+    }
+
+    /// A select begins: its entry stands open at the end of the history, and the head takes the updates that it lacks. So it
+    /// has all updates before that place. Refused, the history is as it was.
     pub fn begin<M: CrackerMap>(
         &mut self,
         number: u64,
@@ -203,8 +206,10 @@ impl<J: Naming> Desk<J> {
         ensures mine { mine number share.new.value.entries ≡ mine number share.old.value.entries }
         ensures waits { OnOk result (waits_for number share.new.value ≡ Some (Select query, head.new.taken)) }
         ensures rest { OnErr result (waits_for number share.new.value ≡ None) }
+        ensures begun { OnOk result (IsBegun number query self.old.books self.new.books) }
+        ensures kept { OnErr result (self.new.books ≡ self.old.books) }
         ensures updates { updates self.new.books ≡ updates self.old.books }
-        ensures made { head.new.made ≡ head.old.made }
+        ensures same { head.new ≡ record head.old { taken = head.new.taken } }
         ensures refused { IfErr result (λ e. RefusesCall e) }
     {
         let Desk {
@@ -227,12 +232,13 @@ impl<J: Naming> Desk<J> {
         Ok(())
     }
 
-    /// The session's open select is answered.
+    /// The session's open select is answered. Nothing else of the history changes.
     pub fn finish(&mut self, number: u64, share: &mut Share<Spine>, reply: Reply)
         requires share { IsShareOf J.sessions number share.old }
         requires reply { IsSomeAnd (waits_for number share.old.value) (λ w. reply ≡ reply_to J.limit w.1 w.0) }
         ensures rest { IsAtRest J.sessions number share.new }
-        ensures mine { IfSome (waits_for number share.old.value) (λ w. mine number share.new.value.entries ≡ mine number share.old.value.entries ++ (w.0, reply) ∷ []) }
+        ensures mine { IsAnswered number reply share.old.value share.new.value }
+        ensures finished { self.new.books ≡ with_settled number (Answered reply) self.old.books }
         ensures updates { updates self.new.books ≡ updates self.old.books }
     {
         let Desk {
@@ -245,12 +251,13 @@ impl<J: Naming> Desk<J> {
         sessions.set(share, Snapshot::of(spine));
     }
 
-    /// The session's open select is given up.
+    /// The session's open select is given up, and its entry is void. Nothing else of the history changes.
     pub fn void(&mut self, number: u64, share: &mut Share<Spine>)
         requires share { IsShareOf J.sessions number share.old }
         requires waits { IsSome (waits_for number share.old.value) }
         ensures rest { IsAtRest J.sessions number share.new }
         ensures mine { mine number share.new.value.entries ≡ mine number share.old.value.entries }
+        ensures voided { self.new.books ≡ with_settled number Void self.old.books }
         ensures updates { updates self.new.books ≡ updates self.old.books }
     {
         let Desk {
@@ -263,7 +270,7 @@ impl<J: Naming> Desk<J> {
         sessions.set(share, Snapshot::of(spine));
     }
 
-    /// An insert or a delete is answered at the end of the history.
+    /// An insert or a delete is answered at the end of the history. Refused, the history is as it was.
     pub fn commit(
         &mut self,
         number: u64,
@@ -273,9 +280,11 @@ impl<J: Naming> Desk<J> {
         requires rest { IsAtRest J.sessions number share.old }
         requires changes { is_select call ≡ false }
         ensures rest { IsAtRest J.sessions number share.new }
-        ensures mine { IfOk result (λ reply. mine number share.new.value.entries ≡ mine number share.old.value.entries ++ (call, reply) ∷ []) }
+        ensures mine { IfOk result (λ reply. IsTold number call reply share.old.value share.new.value) }
         ensures err { OnErr result (mine number share.new.value.entries ≡ mine number share.old.value.entries) }
-        ensures updates { MatchResult result (λ _. updates self.new.books ≡ updates_then J.limit (updates self.old.books) call) (λ _. updates self.new.books ≡ updates self.old.books) }
+        ensures answered { OnOk result (self.new.books ≡ with_answered number call self.old.books) }
+        ensures kept { OnErr result (self.new.books ≡ self.old.books) }
+        ensures updates { OnOk result (updates self.new.books ≡ updates_then J.limit (updates self.old.books) call) }
         ensures refused { IfErr result (λ e. RefusesCall e) }
     {
         let Desk {

@@ -1,15 +1,15 @@
 //! Heads under their latches, the history under its lock, and the sessions.
 
-ghost use Rattle.std.specs.Prelude.{◌≡◌, ◌≢◌, ◌⊎◌, ◌<◌, ◌≤◌, ◌++◌, ◌∷◌, [], ℕ, true, length, vec_len, All, IfErr, IfOk, OnErr, false};
+ghost use Rattle.std.specs.Prelude.{◌≡◌, ◌<◌, ◌≤◌, ◌++◌, ◌∷◌, [], ℕ, true, length, vec_len, IfErr, IfOk, IsOkUnless, OnErr, OnOk, false};
 ghost use Rattle.sw_rows.specs.Scan.{AsksBelow};
 ghost use Rattle.sw_rows.specs.declared.query.Call.TheVariants.{Select, Insert, Delete};
-ghost use Rattle.sw_rows.specs.declared.refusal.Refusal.TheVariants.{NoMemory, SharesOut};
+ghost use Rattle.sw_rows.specs.declared.refusal.Refusal.TheVariants.{NoMemory};
 ghost use Rattle.sw_lang.specs.Cuts.{AreCuts, cuts_on};
 ghost use Rattle.sw_map.specs.Held.{blank};
 ghost use Rattle.sw_spine.specs.Table.{is_numbered};
 ghost use Rattle.sw_spine.specs.History.{CallsBelow, is_select};
 ghost use Rattle.sw_spine.specs.Books.{RefusesRows};
-ghost use Rattle.sw_engine.specs.Desk.{InOrder, RefusesCall, RefusesOpening, TooManySessions, new_desk};
+ghost use Rattle.sw_engine.specs.Desk.{InOrder, KeepsBoxes, RefusesCall, RefusesClose, RefusesOpening, TooManySessions, new_desk};
 ghost use Rattle.sw_engine.specs.Headline.{IsHistoryOfOneThread};
 
 use crate::desk::{Blank, Desk, Ticket};
@@ -42,8 +42,8 @@ fn all_latches<J: Naming, M: CrackerMap>(
     ensures many { IfOk result (λ v. vec_len v ≡ columns) }
 {
     let mut latches = Vec::new(alloc);
-    for _ in 0..columns {
-        latches.push(Mutex::new(desk.add_head(alloc)))?;
+    for place in 0..columns {
+        latches.push(Mutex::new(desk.add_head(alloc, place)))?;
     }
     Ok(latches)
 }
@@ -115,10 +115,7 @@ impl<J: Naming, M: CrackerMap> Engine<J, M> {
             return Err(Refusal::TooMany { limit });
         }
         let columns = schema.len();
-        let Ok(kept) = rows.clone() else {
-            return Err(Refusal::NoMemory);
-        };
-        let opening = Opening::new(kept, cuts);
+        let opening = Opening::new(cuts);
         let mut desk = Desk::open(alloc, books, schema, rows, limit)?;
         let Ok(latches) = all_latches(alloc, &mut desk, columns) else {
             return Err(Refusal::NoMemory);
@@ -165,7 +162,7 @@ impl<J: Naming, M: CrackerMap> Engine<J, M> {
         tickets: Vec<Ticket<J>>,
     ) -> Result<Record, (Engine<J, M>, Vec<Ticket<J>>, Refusal)>
         ensures headline { IfOk result (λ r. IsHistoryOfOneThread J.columns J.opening J.limit tickets.items r) }
-        ensures refused { IfErr result (λ e. (e.1.items ≡ tickets.items) × (made : ℕ) × (e.2 ≡ SharesOut made (length tickets.items)) × (made ≢ length tickets.items)) }
+        ensures refused { IfErr result (λ e. RefusesClose tickets.items e.1.items e.2) }
     {
         let Engine {
             alloc,
@@ -189,11 +186,12 @@ impl<J: Naming, M: CrackerMap> Engine<J, M> {
         Ok(desk.into_spine().into_record())
     }
 
-    /// Gives a blank box to a head. One that is not made yet gets it when it is. Refused `NoMemory`, and the box comes back.
+    /// Gives a blank box to a head, which has it from its next select on. Until then it waits under the latch. Refused
+    /// `NoMemory`, and that very box comes back.
     pub fn supply<R: Wait>(&self, rt: &R, head: usize, it: M) -> Result<(), (M, Refusal)>
         requires place { head < length J.columns }
         requires blank { M.held it ≡ blank }
-        ensures { IfErr result (λ r. (M.held r.0 ≡ blank) × (r.1 ≡ NoMemory)) }
+        ensures { IfErr result (λ r. (r.0 ≡ it) × (r.1 ≡ NoMemory)) }
     {
         self.latches[head].lock(rt).supply(it)
     }
@@ -204,6 +202,22 @@ impl<J: Naming, M: CrackerMap> Engine<J, M> {
         ensures { result ≤ most }
     {
         self.latches[head].lock(rt).shed(most)
+    }
+
+    /// Makes a head that was never asked, in one visit of the lock, where the opening rows lie; and gives it the boxes that wait
+    /// for it.
+    fn ready<R: Wait>(&self, rt: &R, head: &mut LatchedHead<J, M>) -> Result<(), Refusal>
+        ensures taken { head.new.taken ≡ head.old.taken }
+        ensures made { OnOk result (head.new.made ≡ true) }
+        ensures boxes { KeepsBoxes head.old head.new }
+        ensures handed { OnOk result (head.new.waiting ≡ 0) }
+        ensures refused { IsOkUnless result NoMemory }
+    {
+        if !head.is_made() {
+            let desk = self.desk.lock(rt);
+            head.make(self.alloc, &self.opening, desk.opening_rows())?;
+        }
+        head.hand_over()
     }
 
     fn select<R: Threads + Wait + Sync>(
@@ -223,7 +237,7 @@ impl<J: Naming, M: CrackerMap> Engine<J, M> {
         };
         let Ticket { number, share, .. } = ticket;
         let mut head = self.latches[head_of(query)].lock(rt);
-        if head.ready(self.alloc, &self.opening).is_err() {
+        if self.ready(rt, &mut *head).is_err() {
             return Err(Refusal::NoMemory);
         }
         self.desk.lock(rt).begin(*number, share, &mut *head, asked)?;

@@ -1,6 +1,6 @@
 //! What lies under a head's latch.
 
-ghost use Rattle.std.specs.Prelude.{ℕ, ◌≡◌, ◌++◌, [], ◌<◌, ◌≤◌, true, length, IfErr, IfOk, IsOkUnless, MatchResult, OnErr, OnOk};
+ghost use Rattle.std.specs.Prelude.{ℕ, ◌≡◌, ◌+◌, ◌++◌, [], ◌<◌, ◌≤◌, true, IfErr, IfOk, IsOkUnless, OnErr, OnOk};
 ghost use Rattle.sw_rows.specs.Scan.{AsksBelow, answer};
 ghost use Rattle.sw_rows.specs.Updates.{rows_of};
 ghost use Rattle.sw_rows.specs.declared.refusal.Refusal.TheVariants.{NoMemory};
@@ -8,16 +8,18 @@ ghost use Rattle.sw_map.specs.Held.{blank};
 ghost use Rattle.sw_set.specs.Needs.{head_in};
 ghost use Rattle.sw_chunks.specs.Heads.{IsSameHead};
 ghost use Rattle.sw_chunks.specs.Routing.{MayFollow};
+ghost use Rattle.sw_engine.specs.Desk.{IsSameButBoxes, KeepsBoxes};
 
 use crate::leading::scan_led;
 use crate::naming::Naming;
 use crate::opening::Opening;
+use crate::waiting::Waiting;
 use std::alloc::Global;
 use std::marker::{Model, PhantomData};
 use std::thread::Threads;
 use sw_chunks::Head;
 use sw_map::CrackerMap;
-use sw_rows::{Query, Refusal, Reply, Update};
+use sw_rows::{Query, Refusal, Reply, Row, Update};
 use sw_spine::Spine;
 use sw_tie::Share;
 
@@ -56,7 +58,8 @@ fn ask<M: CrackerMap, R: Threads + Sync>(
 fn receive_all<M: CrackerMap>(head: &mut Head<M>, inbox: &mut Vec<Update>) -> Result<(), Refusal>
     requires may { MayFollow head.old.attribute head.old.updates inbox.old.items }
     ensures attribute { head.new.attribute ≡ head.old.attribute }
-    ensures received { OnOk result ((head.new.updates ≡ head.old.updates ++ inbox.old.items) × (inbox.new.items ≡ [])) }
+    ensures received { OnOk result (head.new.updates ≡ head.old.updates ++ inbox.old.items) }
+    ensures emptied { OnOk result (inbox.new.items ≡ []) }
     ensures kept { OnErr result ((head.new.updates ≡ head.old.updates) × (inbox.new.items ≡ inbox.old.items)) }
     ensures refused { IsOkUnless result NoMemory }
 {
@@ -65,100 +68,70 @@ fn receive_all<M: CrackerMap>(head: &mut Head<M>, inbox: &mut Vec<Update>) -> Re
     Ok(())
 }
 
-/// The head takes one blank box, or gives a blank box back. The one refusal is `NoMemory`.
-#[tactic(auto, using(crate::proofs::Heads::supplied_updates, crate::proofs::Heads::supplied_attribute))]
-fn supply_one<M: CrackerMap>(head: &mut Head<M>, it: M) -> Result<(), (M, Refusal)>
-    requires blank { M.held it ≡ blank }
-    ensures updates { head.new.updates ≡ head.old.updates }
-    ensures attribute { head.new.attribute ≡ head.old.attribute }
-    ensures back { IfErr result (λ r. M.held r.0 ≡ blank) }
-    ensures refused { IfErr result (λ r. r.1 ≡ NoMemory) }
-{
-    head.supply(it)
-}
-
-/// A head, once it is made, the boxes that wait for it, and the updates that were taken for it and that it has not received.
+/// A head, once it is made, the boxes that wait for it, and the updates that were taken for it and that it has not
+/// received.
 ///
-/// Contracts see all that was taken for it, the opening rows first, and whether the head is made.
+/// Contracts see all that was taken for it, the opening rows first, whether the head is made, and how many boxes wait for it and
+/// how many it has.
 #[derive(Drop)]
 pub struct LatchedHead<J: Naming, M: CrackerMap> {
     pub(crate) number: usize,
     pub(crate) head: Option<Head<M>>,
     pub(crate) inbox: Vec<Update>,
-    pub(crate) boxes: Vec<M>,
+    pub(crate) boxes: Waiting<M>,
     pub(crate) share: Share<Spine>,
     pub(crate) of: PhantomData<J>,
 }
 
 impl<J: Naming, M: CrackerMap> Model for LatchedHead<J, M> {
-    ghost use Rattle.std.specs.Prelude.{◌≡◌, ◌≤◌, ◌<◌, ◌++◌, length, All, IfSome, is_some};
-    ghost use Rattle.sw_map.specs.Held.{blank};
-    ghost use Rattle.sw_spine.specs.Books.{took};
-    ghost use Rattle.sw_spine.specs.Receivable.{AreUpdates};
-    ghost use Rattle.sw_engine.specs.Desk.{LatchState, received_by};
+    ghost use Rattle.sw_engine.specs.Desk.{IsLatched, LatchState, latched};
 
     ghost Value = { LatchState };
 
-    ghost view = { λ h. record { taken = received_by J.opening h.head ++ h.inbox.items; made = is_some h.head } };
+    ghost view = { λ h. latched J.opening h.head h.inbox.items h.boxes };
 
-    ghost invariant = { λ h. (h.share.name ≡ J.heads) × (h.share.number ≡ h.number) × (received_by J.opening h.head ++ h.inbox.items ≡ took h.number h.share.value) × (J.limit ≤ 1048576) × AreUpdates J.limit (received_by J.opening h.head ++ h.inbox.items) × (h.number < length J.columns) × IfSome h.head (λ s. s.attribute ≡ h.number) × All (λ m. M.held m ≡ blank) h.boxes.items × (h.number < 8) };
+    ghost invariant = { λ h. IsLatched J.heads J.limit J.columns J.opening h.number h.head h.inbox.items h.share };
 }
 
 impl<J: Naming, M: CrackerMap> LatchedHead<J, M> {
-    /// Makes the head, if it was never asked, and gives it the boxes that wait for it.
-    ///
-    /// Refused `NoMemory` alone; whatever comes, what was taken for it stays.
-    pub fn ready(&mut self, alloc: Global, opening: &Opening<J>) -> Result<(), Refusal>
-        ensures taken { self.new.taken ≡ self.old.taken }
-        ensures made { OnOk result (self.new.made ≡ true) }
-        ensures refused { IsOkUnless result NoMemory }
+    /// Whether the head is made.
+    pub fn is_made(&self) -> bool
+        ensures { result ≡ self.now.made }
     {
-        self.make(alloc, opening)?;
-        self.hand_over()
+        self.head.is_some()
     }
 
-    fn make(&mut self, alloc: Global, opening: &Opening<J>) -> Result<(), Refusal>
-        ensures taken { self.new.taken ≡ self.old.taken }
-        ensures made { OnOk result (self.new.made ≡ true) }
+    /// Makes the head from the opening rows, if it was never asked. Refused `NoMemory` alone, and then nothing has
+    /// changed.
+    #[tactic(auto, using(crate::proofs::Heads::made_latch, crate::proofs::Heads::same_latch))]
+    pub fn make(&mut self, alloc: Global, opening: &Opening<J>, rows: &[Row]) -> Result<(), Refusal>
+        requires { rows.now ≡ J.opening }
+        ensures made { OnOk result (self.new ≡ record self.old { made = true }) }
+        ensures kept { OnErr result (self.new ≡ self.old) }
         ensures refused { IsOkUnless result NoMemory }
     {
         let LatchedHead { number, head, .. } = self;
         if head.is_none() {
-            let made = opening.head(alloc, *number)?;
+            let made = opening.head(alloc, *number, rows)?;
             *head = Some(made);
         }
         Ok(())
     }
 
-    /// Gives the head the boxes that wait for it, those first that came first.
-    fn hand_over(&mut self) -> Result<(), Refusal>
-        ensures same { self.new ≡ self.old }
-        ensures refused { IsOkUnless result NoMemory }
-    {
-        for _ in 0..self.boxes.len() {
-            self.hand_one()?;
-        }
-        Ok(())
-    }
-
-    fn hand_one(&mut self) -> Result<(), Refusal>
-        ensures same { self.new ≡ self.old }
+    /// Gives the head the boxes that wait for it, those first that came first. Refused `NoMemory` alone, the rest wait on: none
+    /// is lost.
+    pub fn hand_over(&mut self) -> Result<(), Refusal>
+        requires { self.old.made ≡ true }
+        ensures same { IsSameButBoxes self.old self.new }
+        ensures boxes { KeepsBoxes self.old self.new }
+        ensures handed { OnOk result (self.new.waiting ≡ 0) }
         ensures refused { IsOkUnless result NoMemory }
     {
         let LatchedHead { head, boxes, .. } = self;
         let Some(head) = head else {
-            return Ok(());
+            unreachable!();
         };
-        let Some(it) = boxes.pop() else {
-            return Ok(());
-        };
-        match supply_one(head, it) {
-            Ok(()) => Ok(()),
-            Err((it, refused)) => {
-                boxes.push_reserved(it);
-                Err(refused)
-            }
-        }
+        boxes.hand_all(head)
     }
 
     /// Takes in what lies in the inbox, and answers.
@@ -170,7 +143,7 @@ impl<J: Naming, M: CrackerMap> LatchedHead<J, M> {
     ) -> Result<Reply, Refusal>
         requires made { self.old.made ≡ true }
         requires asks { AsksBelow 8 query.now }
-        ensures same { self.new ≡ self.old }
+        ensures same { self.new ≡ record self.old { held = self.new.held } }
         ensures answered { IfOk result (λ r. r ≡ answer (rows_of self.old.taken) query.now) }
         ensures refused { IsOkUnless result NoMemory }
     {
@@ -193,7 +166,7 @@ impl<J: Naming, M: CrackerMap> LatchedHead<J, M> {
     ) -> Result<(Reply, Reply), Refusal>
         requires made { self.old.made ≡ true }
         requires asks { AsksBelow 8 query.now }
-        ensures same { self.new ≡ self.old }
+        ensures same { self.new ≡ record self.old { held = self.new.held } }
         ensures answered { IfOk result (λ r. (r.0 ≡ answer (rows_of self.old.taken) query.now) × (r.1 ≡ r.0)) }
         ensures refused { IsOkUnless result NoMemory }
     {
@@ -204,28 +177,25 @@ impl<J: Naming, M: CrackerMap> LatchedHead<J, M> {
         }
     }
 
-    /// Takes a blank box. Refused `NoMemory`, nothing has changed, and the box comes back.
+    /// Takes a blank box, which waits until the head is asked. Refused `NoMemory`, nothing has changed, and that very box comes
+    /// back.
     pub fn supply(&mut self, it: M) -> Result<(), (M, Refusal)>
         requires { M.held it ≡ blank }
-        ensures same { self.new ≡ self.old }
-        ensures refused { IfErr result (λ r. (M.held r.0 ≡ blank) × (r.1 ≡ NoMemory)) }
+        ensures kept { OnOk result (self.new ≡ record self.old { waiting = self.old.waiting + 1 }) }
+        ensures refused { IfErr result (λ r. (self.new ≡ self.old) × (r.0 ≡ it) × (r.1 ≡ NoMemory)) }
     {
-        let LatchedHead { boxes, .. } = self;
-        match boxes.insert(0, it) {
-            Ok(()) => Ok(()),
-            Err(back) => Err((back.value, Refusal::NoMemory)),
-        }
+        self.boxes.add(it)
     }
 
-    /// Drops up to so many boxes, blank ones first, and answers how many.
+    /// Drops up to so many boxes, those that wait first, and answers how many: as many as that, or all.
     pub fn shed(&mut self, most: usize) -> usize
-        ensures same { self.new ≡ self.old }
+        ensures same { IsSameButBoxes self.old self.new }
+        ensures left { self.new.waiting + self.new.held + result ≡ self.old.waiting + self.old.held }
         ensures few { result ≤ most }
+        ensures all { result < most → self.new.waiting + self.new.held ≡ 0 }
     {
         let LatchedHead { head, boxes, .. } = self;
-        let waiting = boxes.len();
-        let gone = if most < waiting { most } else { waiting };
-        boxes.truncate(waiting - gone);
+        let gone = boxes.shed(most);
         match head {
             Some(head) => gone + head.shed(most - gone),
             None => gone,

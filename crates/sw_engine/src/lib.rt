@@ -9,11 +9,10 @@ mod leading;
 mod naming;
 mod opening;
 mod runs;
+mod waiting;
 
 pub use blocks::{Done, Job, serve_all};
-pub use desk::{Blank, Desk, Ticket};
+pub use desk::{Blank, Ticket};
 pub use engine::{Engine, Session};
-pub use latch::LatchedHead;
 pub use naming::Naming;
-pub use opening::Opening;
 pub use runs::run_blocks;

@@ -1,9 +1,10 @@
-//! What heads are made from.
+//! What heads are made with.
 
-ghost use Rattle.std.specs.Prelude.{◌≡◌, ◌<◌, ◌≤◌, ℕ, true, length, All, IfOk, MatchResult};
+ghost use Rattle.std.specs.Prelude.{◌≡◌, ◌<◌, ◌≤◌, ℕ, true, length, IfOk, IsOkUnless};
 ghost use Rattle.sw_rows.specs.declared.refusal.Refusal.TheVariants.{NoMemory};
 ghost use Rattle.sw_lang.specs.Cuts.{AreCuts, cuts_on};
-ghost use Rattle.sw_spine.specs.Table.{is_numbered, opened};
+ghost use Rattle.sw_spine.specs.Table.{is_numbered};
+ghost use Rattle.sw_engine.specs.Desk.{IsNewHead};
 
 use crate::naming::Naming;
 use std::alloc::Global;
@@ -13,49 +14,54 @@ use sw_lang::Cuts;
 use sw_map::CrackerMap;
 use sw_rows::{Refusal, Row};
 
-/// The opening rows, and the cuts of each head. No lock lies over them, since they never change.
+/// The cuts of each head. No lock lies over them, since they never change. The opening rows, over which heads are made, lie with
+/// the spine.
 #[derive(Drop)]
 pub struct Opening<J: Naming> {
-    rows: Vec<Row>,
     cuts: Cuts,
     of: PhantomData<J>,
 }
 
 impl<J: Naming> Model for Opening<J> {
-    ghost use Rattle.std.specs.Prelude.{List};
-    ghost use Rattle.sw_rows.specs.declared.row.Row.{Row};
+    ghost use Rattle.sw_lang.specs.Cuts.{CutLists};
     ghost use Rattle.sw_engine.specs.Desk.{IsGround};
 
-    ghost Value = { List Row };
+    ghost Value = { CutLists };
 
-    ghost view = { λ o. o.rows.items };
+    ghost view = { λ o. o.cuts };
 
-    ghost invariant = { λ o. IsGround J.columns J.opening o.rows.items o.cuts };
+    ghost invariant = { λ o. IsGround J.columns J.opening o.cuts };
 }
 
 impl<J: Naming> Opening<J> {
-    /// The opening rows and the cuts.
-    pub fn new(rows: Vec<Row>, cuts: Cuts) -> Opening<J>
-        requires rows { rows.items ≡ J.opening }
-        requires numbered { is_numbered 1 rows.items ≡ true }
-        requires within { length rows.items ≤ 1048576 }
+    /// The cuts of a table's heads.
+    pub fn new(cuts: Cuts) -> Opening<J>
+        requires numbered { is_numbered 1 J.opening ≡ true }
+        requires within { length J.opening ≤ 1048576 }
         requires few { length J.columns ≤ 8 }
         requires lists { length cuts ≡ length J.columns }
         requires cuts { (a : ℕ) → a < length J.columns → AreCuts (cuts_on cuts a) }
+        ensures { result ≡ cuts }
     {
         Opening {
-            rows,
             cuts,
             of: PhantomData,
         }
     }
 
     /// A head over the opening rows. Refused `NoMemory` alone.
-    pub fn head<M: CrackerMap>(&self, alloc: Global, place: usize) -> Result<Head<M>, Refusal>
-        requires { place < length J.columns }
-        ensures { MatchResult result (λ h. (h.attribute ≡ place) × (h.updates ≡ opened J.opening)) (λ e. e ≡ NoMemory) }
+    pub fn head<M: CrackerMap>(
+        &self,
+        alloc: Global,
+        place: usize,
+        rows: &[Row],
+    ) -> Result<Head<M>, Refusal>
+        requires place { place < length J.columns }
+        requires rows { rows.now ≡ J.opening }
+        ensures made { IfOk result (IsNewHead place J.opening) }
+        ensures refused { IsOkUnless result NoMemory }
     {
         let cuts = self.cuts.of(place);
-        Head::new(alloc, place as u8, cuts, self.rows.as_slice())
+        Head::new(alloc, place as u8, cuts, rows)
     }
 }

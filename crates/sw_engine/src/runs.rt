@@ -1,12 +1,12 @@
 //! Blocks of calls on an engine of their own.
 
-ghost use Rattle.std.specs.Prelude.{◌≡◌, ◌+◌, ◌<◌, ◌≤◌, ℕ, true, [], map, length, slice_index_or, All, IfOk, IsOkUnless, IsTrue};
+ghost use Rattle.std.specs.Prelude.{◌≡◌, ◌<◌, ◌≤◌, ℕ, true, [], map, length, All, IfOk, IsOkUnless, IsTrue};
 ghost use Rattle.sw_rows.specs.declared.refusal.Refusal.TheVariants.{NoMemory};
 ghost use Rattle.sw_lang.specs.Cuts.{AreCuts, cuts_on};
 ghost use Rattle.sw_map.specs.Held.{blank};
 ghost use Rattle.sw_spine.specs.Table.{is_numbered};
 ghost use Rattle.sw_spine.specs.History.{CallsBelow, IsLegal, mine};
-ghost use Rattle.sw_engine.specs.Desk.{AreCounted, InOrder};
+ghost use Rattle.sw_engine.specs.Desk.{AreCounted, AreMade, InOrder};
 
 use crate::blocks::{Done, Job, serve_all};
 use crate::desk::{Blank, Ticket};
@@ -130,7 +130,7 @@ pub fn run_blocks<J: Naming + Send + Sync, M: CrackerMap, R: Threads + Wait + Sy
     requires blank { All (λ m. M.held m ≡ blank) maps.items }
     requires below { All (λ b. All (λ c. CallsBelow (length J.columns) c) b.items) blocks.now }
     ensures legal { IfOk result (λ r. IsLegal r.0) }
-    ensures blocks { IfOk result (λ r. IsTrue r.1 → (i : ℕ) (b : _) → i < length blocks.now → map (λ c. c.0) (mine (i + 1) r.0.entries) ≡ (slice_index_or blocks.now i b).items) }
+    ensures blocks { IfOk result (λ r. IsTrue r.1 → AreMade (map (λ b. b.items) blocks.now) r.0.entries) }
 {
     let columns = schema.len();
     let (engine, tickets) = Engine::<J, M>::open_for(

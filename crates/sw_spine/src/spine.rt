@@ -147,6 +147,13 @@ impl Spine {
         &self.schema
     }
 
+    /// The opening rows.
+    pub fn opening_rows(&self) -> &[Row]
+        ensures { result.now ≡ self.now.rows }
+    {
+        self.store.rows()
+    }
+
     /// The history so far, which is sound and legal, with entries of opened sessions alone and no reply as lines.
     pub fn entries(&self) -> &[Entry]
         ensures entries { result.now ≡ self.now.entries }

@@ -1,12 +1,16 @@
 //! Trials of engines: scripts of several sessions, each on a thread of its own.
 #![tactic(auto)]
 
+mod insisting;
 #[cfg(test)]
 mod map_tests;
 mod meeting;
+#[cfg(test)]
+mod refusal_tests;
 mod running;
 #[cfg(test)]
 mod tests;
 
-pub use meeting::{Signals, TURNS, meet};
+pub use insisting::{Tally, insist_all};
+pub use meeting::{Signals, TURNS, Table, hand, meet};
 pub use running::{Trial, add_block, add_call, calls, cleared, numbered, one_block, play, told};

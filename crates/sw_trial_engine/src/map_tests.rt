@@ -111,7 +111,7 @@ fn gated(
 }
 
 /// Signals of which neither or both are given.
-fn signals(alloc: Global, given: bool) -> Result<Signals, AllocError> {
+pub(crate) fn signals(alloc: Global, given: bool) -> Result<Signals, AllocError> {
     Ok(Signals {
         begun: Arc::new(alloc, AtomicBool::new(given))?,
         answered: Arc::new(alloc, AtomicBool::new(given))?,
@@ -147,6 +147,7 @@ fn met<R: Threads + Wait + Sync>(rt: &R, alloc: Global) -> Result<String, Fail> 
         schema,
         at_a,
         at_b,
+        Vec::new(alloc),
         first.as_slice(),
         second.as_slice(),
         &given,

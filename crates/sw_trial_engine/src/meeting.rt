@@ -25,19 +25,20 @@ pub const TURNS: u64 = 1_000_000_000;
 
 /// What an engine is opened over.
 #[derive(Drop)]
-struct Table {
-    schema: Schema,
-    rows: Vec<Row>,
-    cuts: Cuts,
-    limit: u64,
+pub struct Table {
+    pub schema: Schema,
+    pub rows: Vec<Row>,
+    pub cuts: Cuts,
+    pub limit: u64,
 }
 
-/// A session, its calls, and whether it waits until the other's call is under way.
+/// A session, its calls, whether it waits until the other's call is under way, and boxes that come and go.
 #[derive(Drop)]
 struct Turn<'e, J: Naming, M: CrackerMap> {
     session: Session<'e, J, M>,
     calls: &'e [Call],
     waits: bool,
+    later: Vec<M>,
 }
 
 /// What the sessions tell one another: that a call is under way, and that one was answered meanwhile.
@@ -47,19 +48,37 @@ pub struct Signals {
     pub answered: Arc<AtomicBool>,
 }
 
+/// Gives boxes, made blank, to the second head, and takes one back from the first or the second after each.
+fn keep<J: Naming, M: CrackerMap, R: Wait>(rt: &R, engine: &Engine<J, M>, maps: Vec<M>)
+    requires { 1 < length J.columns }
+{
+    let mut place = 0usize;
+    for it in maps {
+        let mut it = it;
+        it.clear();
+        let _ = engine.supply(rt, 1, it);
+        let _ = engine.shed(rt, place % 2, 1);
+        place = place.wrapping_add(1);
+    }
+}
+
 /// Makes the calls, first the wait where there is one, and tells that it has ended.
 fn take_turn<J: Naming, M: CrackerMap, R: Threads + Wait + Sync>(
     rt: &R,
+    engine: &Engine<J, M>,
     turn: Turn<'_, J, M>,
     signals: &Signals,
 ) -> Done<J>
-    requires { All (λ c. CallsBelow (length J.columns) c) turn.calls.now }
+    requires place { 1 < length J.columns }
+    requires calls { All (λ c. CallsBelow (length J.columns) c) turn.calls.now }
 {
     let Turn {
         mut session,
         calls,
         waits,
+        later,
     } = turn;
+    keep(rt, engine, later);
     let mut answered = !waits || Gate::wait_for(&signals.begun, TURNS);
     for call in calls {
         if session.call(rt, call).is_err() {
@@ -75,13 +94,15 @@ fn take_turn<J: Naming, M: CrackerMap, R: Threads + Wait + Sync>(
     }
 }
 
-/// The turns of two sessions, of which the second waits. None where there are not two tickets.
-fn two_turns<'e, J: Naming, M: CrackerMap>(
+/// The turns of two sessions, of which the second waits, and of a third that has boxes and makes no call. None where there are
+/// not three tickets.
+fn all_turns<'e, J: Naming, M: CrackerMap>(
     alloc: Global,
     engine: &'e Engine<J, M>,
     tickets: Vec<Ticket<J>>,
     first: &'e [Call],
     second: &'e [Call],
+    later: Vec<M>,
 ) -> Result<Vec<Turn<'e, J, M>>, AllocError>
     requires first { All (λ c. CallsBelow (length J.columns) c) first.now }
     requires second { All (λ c. CallsBelow (length J.columns) c) second.now }
@@ -89,24 +110,32 @@ fn two_turns<'e, J: Naming, M: CrackerMap>(
 {
     let mut tickets = tickets;
     let mut turns = Vec::new(alloc);
-    let (Some(two), Some(one)) = (tickets.pop(), tickets.pop()) else {
+    let (Some(three), Some(two), Some(one)) = (tickets.pop(), tickets.pop(), tickets.pop()) else {
         return Ok(turns);
     };
     turns.push(Turn {
         session: engine.attach(one),
         calls: first,
         waits: false,
+        later: Vec::new(alloc),
     })?;
     turns.push(Turn {
         session: engine.attach(two),
         calls: second,
         waits: true,
+        later: Vec::new(alloc),
+    })?;
+    turns.push(Turn {
+        session: engine.attach(three),
+        calls: &[],
+        waits: false,
+        later,
     })?;
     Ok(turns)
 }
 
 /// Gives boxes to a head.
-fn hand<J: Naming, M: CrackerMap, R: Wait>(
+pub fn hand<J: Naming, M: CrackerMap, R: Wait>(
     rt: &R,
     engine: &Engine<J, M>,
     head: usize,
@@ -126,17 +155,19 @@ fn hand<J: Naming, M: CrackerMap, R: Wait>(
 /// Takes the turns in threads of their own.
 fn take_turns<'e, J: Naming + Send + Sync, M: CrackerMap, R: Threads + Wait + Sync>(
     rt: &R,
+    engine: &Engine<J, M>,
     turns: Vec<Turn<'e, J, M>>,
     signals: &Signals,
 ) -> Result<Vec<Done<J>>, AllocError>
-    requires { All (λ t. All (λ c. CallsBelow (length J.columns) c) t.calls.now) turns.items }
+    requires place { 1 < length J.columns }
+    requires calls { All (λ t. All (λ c. CallsBelow (length J.columns) c) t.calls.now) turns.items }
 {
     thread::map_vec(
         rt,
         turns,
         &|turn: Turn<'_, J, M>| -> Done<J>
-            requires { All (λ c. CallsBelow (length J.columns) c) turn.calls.now }
-        { take_turn(rt, turn, signals) },
+            requires { (1 < length J.columns) × All (λ c. CallsBelow (length J.columns) c) turn.calls.now }
+        { take_turn(rt, engine, turn, signals) },
     )
 }
 
@@ -162,7 +193,7 @@ fn end<J: Naming, M: CrackerMap>(
     }
 }
 
-/// Opens an engine for two sessions, hands boxes to its first two heads, and takes the sessions' turns.
+/// Opens an engine for three sessions, hands boxes to its first two heads, and takes the sessions' turns.
 fn meet_on<J: Naming + Send + Sync, M: CrackerMap, R: Threads + Wait + Sync>(
     rt: &R,
     alloc: Global,
@@ -170,6 +201,7 @@ fn meet_on<J: Naming + Send + Sync, M: CrackerMap, R: Threads + Wait + Sync>(
     table: Table,
     gated: Vec<M>,
     free: Vec<M>,
+    later: Vec<M>,
     first: &[Call],
     second: &[Call],
     signals: &Signals,
@@ -196,21 +228,22 @@ fn meet_on<J: Naming + Send + Sync, M: CrackerMap, R: Threads + Wait + Sync>(
     if schema.len() < 2 {
         return Err(Refusal::Input);
     }
-    let (engine, tickets) = Engine::<J, M>::open_for(alloc, books, schema, rows, cuts, limit, 2)?;
+    let (engine, tickets) = Engine::<J, M>::open_for(alloc, books, schema, rows, cuts, limit, 3)?;
     hand(rt, &engine, 0, gated)?;
     hand(rt, &engine, 1, free)?;
-    let Ok(turns) = two_turns(alloc, &engine, tickets, first, second) else {
+    let Ok(turns) = all_turns(alloc, &engine, tickets, first, second, later) else {
         return Err(Refusal::NoMemory);
     };
-    let Ok(done) = take_turns(rt, turns, signals) else {
+    let Ok(done) = take_turns(rt, &engine, turns, signals) else {
         return Err(Refusal::NoMemory);
     };
     end(alloc, engine, done)
 }
 
-/// Two sessions over the table, each on a thread of its own: the second makes its calls once `begun` is set, and sets `answered`
-/// behind them. The first head of the engine has the gated boxes, the second the free ones, all made blank. Tells the record,
-/// and whether all calls were answered and `begun` was set in time.
+/// Two sessions over the table, each on a thread of its own: the second makes its calls once `begun` is set, and sets
+/// `answered` behind them. The first head of the engine has the gated boxes, the second the free ones, and the later ones come
+/// and go in a third session's thread; all are made blank. Tells the record, and whether all calls were answered and `begun` was set in
+/// time.
 pub fn meet<M: CrackerMap, R: Threads + Wait + Sync>(
     rt: &R,
     alloc: Global,
@@ -218,6 +251,7 @@ pub fn meet<M: CrackerMap, R: Threads + Wait + Sync>(
     schema: Schema,
     gated: Vec<M>,
     free: Vec<M>,
+    later: Vec<M>,
     first: &[Call],
     second: &[Call],
     signals: &Signals,
@@ -246,6 +280,7 @@ pub fn meet<M: CrackerMap, R: Threads + Wait + Sync>(
         table,
         gated,
         free,
+        later,
         first,
         second,
         signals,

@@ -5,10 +5,9 @@ ghost use Rattle.sw_map.specs.Held.{blank};
 ghost use Rattle.sw_spine.specs.Table.{is_numbered};
 ghost use Rattle.sw_spine.specs.History.{CallsBelow, IsLegal};
 
-use std::alloc::Global;
+use std::alloc::{AllocError, Global};
 use std::marker::Brand;
 use std::sync::Wait;
-use std::test::Fail;
 use std::thread::Threads;
 use sw_engine::{Blank, run_blocks};
 use sw_lang::{parse_cuts, parse_line};
@@ -158,7 +157,7 @@ pub fn play<M: CrackerMap, R: Threads + Wait + Sync>(
 }
 
 /// A row of a reply as text.
-fn shown_row(alloc: Global, row: &ReplyRow) -> Result<String, Fail> {
+fn shown_row(alloc: Global, row: &ReplyRow) -> Result<String, AllocError> {
     let mut text = format!(in alloc; "{}:", row.key)?;
     for cell in row.cells.as_slice() {
         text.push_str(format!(in alloc; " {cell}")?.as_str())?;
@@ -168,7 +167,7 @@ fn shown_row(alloc: Global, row: &ReplyRow) -> Result<String, Fail> {
 }
 
 /// A reply of rows as text.
-fn shown_rows(alloc: Global, rows: &[ReplyRow]) -> Result<String, Fail> {
+fn shown_rows(alloc: Global, rows: &[ReplyRow]) -> Result<String, AllocError> {
     let mut text = String::new(alloc);
     for row in rows {
         text.push_str(shown_row(alloc, row)?.as_str())?;
@@ -178,7 +177,7 @@ fn shown_rows(alloc: Global, rows: &[ReplyRow]) -> Result<String, Fail> {
 }
 
 /// A reply as text.
-fn shown(alloc: Global, reply: &Reply) -> Result<String, Fail> {
+fn shown(alloc: Global, reply: &Reply) -> Result<String, AllocError> {
     match reply {
         Reply::Rows(rows) => shown_rows(alloc, rows.as_slice()),
         Reply::Count(n) => Ok(format!(in alloc; "{n}")?),
@@ -193,7 +192,7 @@ fn shown(alloc: Global, reply: &Reply) -> Result<String, Fail> {
 }
 
 /// The replies to a session, in the record's order.
-pub fn told(alloc: Global, record: &Record, session: u64) -> Result<String, Fail> {
+pub fn told(alloc: Global, record: &Record, session: u64) -> Result<String, AllocError> {
     let mut text = String::new(alloc);
     for entry in record.entries.as_slice() {
         if entry.session == session {

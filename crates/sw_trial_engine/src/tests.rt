@@ -3,6 +3,8 @@
 ghost use Rattle.std.specs.Prelude.{◌<◌, ◌≤◌, All, IfOk, length};
 ghost use Rattle.sw_spine.specs.History.{CallsBelow};
 
+use crate::map_tests::signals;
+use crate::meeting::meet;
 use crate::running::{Trial, add_block, add_call, one_block, play, told};
 use std::alloc::Global;
 use std::sync::Wait;
@@ -12,27 +14,37 @@ use sw_budget::Budget;
 use sw_map::PairMap;
 use sw_rows::{Call, Refusal, Schema};
 use sw_spine::Record;
+use sw_trial_maps::RefusingMap;
 
 /// How many calls a session makes.
 const CALLS: usize = 60;
 
 /// Four rows of the attributes a, b and c.
-const ROWS: [[i64; 8]; 4] = [
+pub(crate) const ROWS: [[i64; 8]; 4] = [
     [12, 7, 1, 0, 0, 0, 0, 0],
     [3, 8, 0, 0, 0, 0, 0, 0],
     [12, 5, 1, 0, 0, 0, 0, 0],
     [20, 2, 0, 0, 0, 0, 0, 0],
 ];
 
-const HEADER: [&str; 3] = ["a:int", "b:int", "c:int"];
+pub(crate) const HEADER: [&str; 3] = ["a:int", "b:int", "c:int"];
 
-/// Maps over purses of one budget.
-fn maps(alloc: Global, many: usize, cells: u64) -> Result<Vec<PairMap>, Refusal> {
+/// A map that refuses every n-th step.
+pub(crate) type Refusing = RefusingMap<PairMap>;
+
+/// Maps over purses of one budget, of which each refuses every n-th step, none where n is 0.
+pub(crate) fn maps(
+    alloc: Global,
+    many: usize,
+    cells: u64,
+    every: u64,
+) -> Result<Vec<Refusing>, Refusal> {
     let (_budget, mut purse) = Budget::open(alloc, cells)?;
     let mut maps = Vec::new(alloc);
     for _ in 0..many {
         let mine = purse.split()?;
-        if maps.push(PairMap::blank(alloc, mine)).is_err() {
+        let map = RefusingMap::new(PairMap::blank(alloc, mine), every);
+        if maps.push(map).is_err() {
             return Err(Refusal::NoMemory);
         }
     }
@@ -103,12 +115,12 @@ fn told_of<R: Threads + Wait + Sync>(
     };
     let schema = Schema::of(alloc, &HEADER)?;
     let blocks = one_block(alloc, &schema, lines)?;
-    let maps = maps(alloc, many, 1 << 20)?;
+    let maps = maps(alloc, many, 1 << 20, 0)?;
     let (record, answered) = play(rt, alloc, trial, schema, maps, blocks.as_slice())?;
     if !answered || record.check().is_err() {
         return Ok(String::from_str(alloc, "unanswered or not legal")?);
     }
-    told(alloc, &record, 1)
+    Ok(told(alloc, &record, 1)?)
 }
 
 /// Plays each script, and tells of the first that is told something else, and what.
@@ -218,63 +230,134 @@ fn random_blocks(
     Ok(blocks)
 }
 
-/// How many entries of a record are a session's.
-fn entries_of(record: &Record, session: u64) -> usize {
-    let mut many = 0usize;
+/// Whether two calls are the same, by what is shown of them.
+fn is_same(alloc: Global, one: &Call, other: &Call) -> Result<bool, Fail> {
+    let shown = format!(in alloc; "{one:?}")?;
+    Ok(shown.as_str() == format!(in alloc; "{other:?}")?.as_str())
+}
+
+/// Whether a session's entries are these calls, in order.
+fn are_made(alloc: Global, record: &Record, session: u64, calls: &[Call]) -> Result<bool, Fail> {
+    let mut rest = calls;
     for entry in record.entries.as_slice() {
         if entry.session == session {
-            many = many.wrapping_add(1);
+            let Some((call, later)) = rest.split_first() else {
+                return Ok(false);
+            };
+            if !is_same(alloc, &entry.call, call)? {
+                return Ok(false);
+            }
+            rest = later;
         }
     }
-    many
+    Ok(rest.is_empty())
 }
 
-/// Whether a record is legal, and each of four sessions has its entries.
-fn is_full(record: &Record) -> bool {
+/// Whether a record is legal, and the entries of each session are the calls of its block.
+fn is_full(alloc: Global, record: &Record, blocks: &[Vec<Call>]) -> Result<bool, Fail> {
     let mut all = record.check().is_ok();
-    for session in 1..5 {
-        all = all && entries_of(record, session) == CALLS;
+    let mut session = 1u64;
+    for block in blocks {
+        all = all && are_made(alloc, record, session, block.as_slice())?;
+        session = session.wrapping_add(1);
     }
-    all
+    Ok(all)
 }
 
-/// Four sessions make random calls at once. Whether all were answered, the record is legal and each session has its entries.
-fn mixed<R: Threads + Wait + Sync>(
-    rt: &R,
-    alloc: Global,
-    header: &[&str],
-    limit: u64,
-    boxes: usize,
-) -> Result<bool, Fail>
-    requires some { 0 < limit }
-    requires most { limit ≤ 1048576 }
-{
-    let trial = Trial {
-        rows: &ROWS,
-        cuts: "a=6;b=12",
-        limit,
-    };
-    let mut dice = Dice { state: limit | 1 };
-    let schema = Schema::of(alloc, header)?;
-    let blocks = random_blocks(alloc, &schema, &mut dice, header.len() as u64)?;
-    let maps = maps(alloc, boxes, 640)?;
-    let (record, answered) = play(rt, alloc, trial, schema, maps, blocks.as_slice())?;
-    Ok(answered && is_full(&record))
-}
+/// How many attributes, the limit of rows, the boxes, the cells of the budget, and which step of a map is refused.
+type Mix = (usize, u64, usize, u64, u64);
 
-const TWO: [&str; 2] = ["a:int", "b:int"];
-
-const FOUR_NAMES: [&str; 4] = ["a:int", "b:int", "c:int", "d:int"];
+/// No boxes; a small budget; the budgets of no cell, of one map and of all; maps that refuse steps.
+const MIXES: [Mix; 12] = [
+    (2, 50, 0, 640, 0),
+    (4, 100, 8, 640, 0),
+    (8, 1000, 64, 640, 0),
+    (2, 200, 16, 0, 0),
+    (4, 200, 16, 64, 0),
+    (8, 200, 32, 640, 0),
+    (4, 200, 16, 1 << 20, 0),
+    (2, 200, 16, 1 << 20, 1),
+    (4, 200, 16, 1 << 20, 2),
+    (8, 200, 32, 1 << 20, 3),
+    (4, 200, 16, 1 << 20, 4),
+    (4, 200, 16, 640, 5),
+];
 
 const EIGHT: [&str; 8] = [
     "a:int", "b:int", "c:int", "d:int", "e:int", "f:int", "g:int", "h:int",
 ];
 
+/// Four sessions make random calls at once. Whether all were answered, the record is legal, and the entries of each session
+/// are its calls.
+fn mixed<R: Threads + Wait + Sync>(rt: &R, alloc: Global, mix: Mix) -> Result<bool, Fail> {
+    let (attributes, limit, boxes, cells, every) = mix;
+    let trial = Trial {
+        rows: &ROWS,
+        cuts: "a=6;b=12",
+        limit: limit.clamp(4, 1000),
+    };
+    let mut dice = Dice {
+        state: limit ^ (cells << 8) ^ (every << 40) | 1,
+    };
+    let schema = Schema::of(alloc, &EIGHT[..attributes.min(8)])?;
+    let blocks = random_blocks(alloc, &schema, &mut dice, attributes as u64)?;
+    let maps = maps(alloc, boxes, cells, every)?;
+    let (record, answered) = play(rt, alloc, trial, schema, maps, blocks.as_slice())?;
+    Ok(answered && is_full(alloc, &record, blocks.as_slice())?)
+}
+
 #[test]
 fn four_sessions_at_once(rt: HostRuntime) -> Result<(), Fail> {
     let alloc = rt.alloc();
-    assert_eq!(rt; mixed(&rt, alloc, &TWO, 50, 0)?, true);
-    assert_eq!(rt; mixed(&rt, alloc, &FOUR_NAMES, 100, 8)?, true);
-    assert_eq!(rt; mixed(&rt, alloc, &EIGHT, 1000, 64)?, true);
+    for k in 0..MIXES.len() {
+        assert_eq!(rt; mixed(&rt, alloc, MIXES[k])?, true, "mix {k}");
+    }
+    Ok(())
+}
+
+/// Two sessions make random calls at once, while boxes come and go on a third thread. Whether all were answered, the record is
+/// legal, and the entries of each session are its calls.
+fn among<R: Threads + Wait + Sync>(
+    rt: &R,
+    alloc: Global,
+    cells: u64,
+    every: u64,
+) -> Result<bool, Fail> {
+    let trial = Trial {
+        rows: &ROWS,
+        cuts: "a=6",
+        limit: 200,
+    };
+    let mut dice = Dice { state: cells | 1 };
+    let schema = Schema::of(alloc, &EIGHT[..2])?;
+    let one = random_block(alloc, &schema, &mut dice, 2)?;
+    let two = random_block(alloc, &schema, &mut dice, 2)?;
+    let first = maps(alloc, 4, cells, every)?;
+    let second = maps(alloc, 4, cells, every)?;
+    let later = maps(alloc, 200, cells, every)?;
+    let given = signals(alloc, true)?;
+    let (record, answered) = meet(
+        rt,
+        alloc,
+        trial,
+        schema,
+        first,
+        second,
+        later,
+        one.as_slice(),
+        two.as_slice(),
+        &given,
+    )?;
+    let both = are_made(alloc, &record, 1, one.as_slice())?
+        && are_made(alloc, &record, 2, two.as_slice())?;
+    Ok(answered && both && record.check().is_ok())
+}
+
+#[test]
+fn boxes_come_and_go_meanwhile(rt: HostRuntime) -> Result<(), Fail> {
+    let alloc = rt.alloc();
+    assert_eq!(rt; among(&rt, alloc, 0, 0)?, true);
+    assert_eq!(rt; among(&rt, alloc, 640, 3)?, true);
+    assert_eq!(rt; among(&rt, alloc, 1 << 20, 0)?, true);
     Ok(())
 }

@@ -12,13 +12,13 @@ pub begin-requires-clause-rest : goal.begin-requires-clause-rest
 begin-requires-clause-rest g c =
     let s = c.self.inside in
     let h = c.args.share.now in
-    waits_is s.spine s.sessions.rows s.heads.rows h.number c.args.number h.value None c.self.invariant.5 c.agree.ensures.value c.requires.rest.1 c.requires.rest.2
+    waits_is s.spine s.sessions.rows s.heads.rows h.number c.args.number h.value None c.self.invariant.tied c.agree.ensures.value c.requires.rest.1 c.requires.rest.2
 
 pub begin-requires-clause-head : goal.begin-requires-clause-head
 begin-requires-clause-head g c =
     let s = c.self.inside in
     let m = c.head.inside.share in
-    head_below s.spine m.value s.sessions.rows s.heads.rows m.number c.head.inside.number c.self.invariant.5 c.agree-2.ensures.value c.head.invariant.1
+    head_below s.spine m.value s.sessions.rows s.heads.rows m.number c.head.inside.number c.self.invariant.tied c.agree-2.ensures.value c.head.invariant.number_is
 
 pub invariant_of-self-2 : goal.invariant_of-self-2
 invariant_of-self-2 g c =
@@ -30,44 +30,42 @@ invariant_of-self-2 g c =
     let x = c.begin.new.self in
     let done = c.in_ok-begin.ensures.begun in
     let rows : c.set.new.self.rows ≡ set s.sessions.rows h.number (c.of.result.value, false) = c.set.ensures.rows ∙ (λ i. set (same.0 i).rows (same.1 i).number (c.of.result.value, false)) in
-    let heads : c.set-2.new.self.rows ≡ set s.heads.rows m.number (c.of-2.result.value, false) = c.set-2.ensures.rows ∙ (λ i. set (alike.0 i).rows (alike.1 i).number (c.of-2.result.value, false)) in (
-      c.set.ensures.name.0 ∙ ap (λ b. b.name) same.0 ∙ c.self.invariant.0,
-      c.set-2.ensures.name.0 ∙ ap (λ b. b.name) alike.0 ∙ c.self.invariant.1,
-      c.self.invariant.2 ∙ sym (ap length heads ∙ length_set s.heads.rows m.number (c.of-2.result.value, false)),
-      c.self.invariant.3 ∙ sym (ap length rows ∙ length_set s.sessions.rows h.number (c.of.result.value, false)),
-      is_of_same g.J.Naming.columns g.J.Naming.opening g.J.Naming.limit s.spine x c.self.invariant.4 (ap (λ (b : Books). b.columns) done) (ap (λ (b : Books). b.rows) done) (ap (λ (b : Books). b.limit) done),
-      begin_tied s.spine x s.sessions.rows c.set.new.self.rows s.heads.rows c.set-2.new.self.rows h.number c.args.number m.number c.head.inside.number c.of.result.value c.of-2.result.value c.self.invariant.5 c.requires.rest.1 c.head.invariant.1 c.begin.ensures.others c.begin.ensures.heads (ap (λ (b : Books). b.sessions) done) c.of.ensures c.of-2.ensures rows heads,
-    )
+    let heads : c.set-2.new.self.rows ≡ set s.heads.rows m.number (c.of-2.result.value, false) = c.set-2.ensures.rows ∙ (λ i. set (alike.0 i).rows (alike.1 i).number (c.of-2.result.value, false)) in record {
+      sessions_named = c.set.ensures.name.0 ∙ ap (λ b. b.name) same.0 ∙ c.self.invariant.sessions_named;
+      heads_named = c.set-2.ensures.name.0 ∙ ap (λ b. b.name) alike.0 ∙ c.self.invariant.heads_named;
+      many_are = c.self.invariant.many_are ∙ sym (ap length rows ∙ length_set s.sessions.rows h.number (c.of.result.value, false));
+      of = is_of_same g.J.Naming.columns g.J.Naming.opening g.J.Naming.limit s.spine x c.self.invariant.of (ap (λ (b : Books). b.columns) done) (ap (λ (b : Books). b.rows) done) (ap (λ (b : Books). b.limit) done);
+      tied = begin_tied s.spine x s.sessions.rows c.set.new.self.rows s.heads.rows c.set-2.new.self.rows h.number c.args.number m.number c.head.inside.number c.of.result.value c.of-2.result.value c.self.invariant.tied c.requires.rest.1 c.head.invariant.number_is c.begin.ensures.others c.begin.ensures.heads (ap (λ (b : Books). b.sessions) done) c.of.ensures c.of-2.ensures rows heads;
+    }
 
 pub invariant_of-head-2 : goal.invariant_of-head-2
 invariant_of-head-2 g c =
     let s = c.self.inside in
     let m = c.head.inside.share in
     let alike = c.agree-2.ensures.same in
-    let all = all_taken s.spine m.value s.sessions.rows s.heads.rows m.number c.head.inside.number (received_by g.J.Naming.opening c.head.inside.head) c.head.inside.inbox.items c.begin.new.inbox.items c.self.invariant.5 c.agree-2.ensures.value c.head.invariant.1 c.head.invariant.2 c.in_ok-begin.ensures.inbox in
-    let limit : c.begin.new.self.limit ≡ g.J.Naming.limit = ap (λ (b : Books). b.limit) c.in_ok-begin.ensures.begun ∙ c.self.invariant.4.limit_is in (
-      c.set-2.ensures.name.1 ∙ ap (λ b. b.name) alike.1 ∙ c.head.invariant.0,
-      c.set-2.ensures.number ∙ ap (λ b. b.number) alike.1 ∙ c.head.invariant.1,
-      all ∙ (sym c.in_ok-begin.ensures.took ∙ ap (took c.head.inside.number) (sym (c.set-2.ensures.value ∙ c.of-2.ensures))),
-      c.head.invariant.3,
-      subst (λ (l : ℕ). AreUpdates l (received_by g.J.Naming.opening c.head.inside.head ++ c.begin.new.inbox.items)) limit (subst (AreUpdates c.begin.new.self.limit) (c.begin.ensures.updates ∙ sym all) c.in_ok-begin.ensures.may_come),
-      c.head.invariant.5,
-      c.head.invariant.6,
-      c.head.invariant.7,
-      c.head.invariant.8,
-    )
+    let all = all_taken s.spine m.value s.sessions.rows s.heads.rows m.number c.head.inside.number (received_by g.J.Naming.opening c.head.inside.head) c.head.inside.inbox.items c.begin.new.inbox.items c.self.invariant.tied c.agree-2.ensures.value c.head.invariant.number_is c.head.invariant.taken c.in_ok-begin.ensures.inbox in
+    let limit : c.begin.new.self.limit ≡ g.J.Naming.limit = ap (λ (b : Books). b.limit) c.in_ok-begin.ensures.begun ∙ c.self.invariant.of.limit_is in record {
+      named = c.set-2.ensures.name.1 ∙ ap (λ b. b.name) alike.1 ∙ c.head.invariant.named;
+      number_is = c.set-2.ensures.number ∙ ap (λ b. b.number) alike.1 ∙ c.head.invariant.number_is;
+      taken = all ∙ (sym c.in_ok-begin.ensures.took ∙ ap (took c.head.inside.number) (sym (c.set-2.ensures.value ∙ c.of-2.ensures)));
+      most = c.head.invariant.most;
+      may_come = subst (λ (l : ℕ). AreUpdates l (received_by g.J.Naming.opening c.head.inside.head ++ c.begin.new.inbox.items)) limit (subst (AreUpdates c.begin.new.self.limit) (c.begin.ensures.updates ∙ sym all) c.in_ok-begin.ensures.may_come);
+      place = c.head.invariant.place;
+      attribute = c.head.invariant.attribute;
+      few = c.head.invariant.few;
+    }
 
 pub returns-clause-mine : goal.returns-clause-mine
 returns-clause-mine g c =
     let s = c.self.inside in
     let h = c.args.share.now in
     let n = c.args.number in
-    ap (λ (v : Books). mine n v.entries) (c.set.ensures.value ∙ c.of.ensures) ∙ (c.begin.ensures.mine ∙ mine_is s.spine s.sessions.rows s.heads.rows h.number n h.value c.self.invariant.5 c.agree.ensures.value c.requires.rest.1)
+    ap (λ (v : Books). mine n v.entries) (c.set.ensures.value ∙ c.of.ensures) ∙ (c.begin.ensures.mine ∙ mine_is s.spine s.sessions.rows s.heads.rows h.number n h.value c.self.invariant.tied c.agree.ensures.value c.requires.rest.1)
 
 pub returns-clause-waits : goal.returns-clause-waits
 returns-clause-waits g c =
     let s = c.self.inside in
     let m = c.head.inside.share in
     let n = c.args.number in
-    let all = all_taken s.spine m.value s.sessions.rows s.heads.rows m.number c.head.inside.number (received_by g.J.Naming.opening c.head.inside.head) c.head.inside.inbox.items c.begin.new.inbox.items c.self.invariant.5 c.agree-2.ensures.value c.head.invariant.1 c.head.invariant.2 c.in_ok-begin.ensures.inbox in
+    let all = all_taken s.spine m.value s.sessions.rows s.heads.rows m.number c.head.inside.number (received_by g.J.Naming.opening c.head.inside.head) c.head.inside.inbox.items c.begin.new.inbox.items c.self.invariant.tied c.agree-2.ensures.value c.head.invariant.number_is c.head.invariant.taken c.in_ok-begin.ensures.inbox in
     ap (waits_for n) (c.set.ensures.value ∙ c.of.ensures) ∙ (c.in_ok-begin.ensures.waits ∙ ap (λ (us : List Update). Some (Select c.args.query, us)) (sym all))

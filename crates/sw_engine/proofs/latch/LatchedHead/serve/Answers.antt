@@ -9,4 +9,4 @@ receive_all-requires-clause-may g c κs within =
     let j = g.J.Naming in
     let h = c.self.inside in
     let is : c.in-Some.head.updates ++ h.inbox.items ≡ received_by j.opening h.head ++ h.inbox.items = search rules in
-    may_follow c.in-Some.head.attribute j.limit c.in-Some.head.updates h.inbox.items c.self.invariant.3 (subst (AreUpdates j.limit) (sym is) c.self.invariant.4)
+    may_follow c.in-Some.head.attribute j.limit c.in-Some.head.updates h.inbox.items c.self.invariant.most (subst (AreUpdates j.limit) (sym is) c.self.invariant.may_come)

@@ -1,24 +1,25 @@
-use Rattle.std.proofs.Common.{rules, ◌≡◌, ◌<◌, ◌≤◌, ◌^◌, List, ℤ, None, length, sym, subst, arith, All}
+use Rattle.std.proofs.Common.{rules, ◌<◌, ◌^◌, List, ℤ, None, sym, subst, arith, All}
 use Rattle.sw_rows.specs.declared.row.Row.{Row}
 use Rattle.sw_lang.specs.Cuts.{cuts_on}
 use Rattle.sw_chunks.specs.Cuts.{RiseAbove}
 use Rattle.sw_set.specs.Shelf.{Rises, key_of}
-use Rattle.sw_engine.proofs.Heads.{cuts_rise, keys_fit, numbered_rise}
+use Rattle.sw_engine.proofs.Heads.{cuts_rise, if_new_head, keys_fit, numbered_rise}
 use Rattle.sw_engine.proofs.opening.Opening.head.Goals as goal
 
 pub overflow_cast-place : goal.overflow_cast-place
-overflow_cast-place g c = omega (arith, c.requires, c.self.invariant.few)
+overflow_cast-place g c = omega (arith, c.requires.place, c.self.invariant.few)
 
 pub new-requires-clause-rising : goal.new-requires-clause-rising
 new-requires-clause-rising g c κs within =
-    subst (λ (zs : List ℤ). RiseAbove None zs) (sym c.of-cuts.ensures) (cuts_rise (cuts_on c.self.inside.cuts c.args.place) (c.self.invariant.lawful c.args.place c.requires).rise)
+    subst (λ (zs : List ℤ). RiseAbove None zs) (sym c.of-cuts.ensures) (cuts_rise (cuts_on c.self.inside.cuts c.args.place) (c.self.invariant.lawful c.args.place c.requires.place).rise)
 
 pub new-requires-clause-keys : goal.new-requires-clause-keys
 new-requires-clause-keys g c κs within =
-    let is : c.as_slice.result.now ≡ c.self.inside.rows.items = search rules in
-    subst (λ (rs : List Row). All (λ (r : Row). r.key < 2 ^ 63) rs) (sym is) (keys_fit c.self.inside.rows.items c.self.invariant.numbered c.self.invariant.within)
+    subst (λ (rs : List Row). All (λ (r : Row). r.key < 2 ^ 63) rs) (sym c.requires.rows) (keys_fit g.J.Naming.opening c.self.invariant.numbered c.self.invariant.within)
 
 pub new-requires-clause-rise : goal.new-requires-clause-rise
 new-requires-clause-rise g c κs within =
-    let is : c.as_slice.result.now ≡ c.self.inside.rows.items = search rules in
-    subst (λ (rs : List Row). Rises key_of rs) (sym is) (numbered_rise 1 c.self.inside.rows.items c.self.invariant.numbered)
+    subst (λ (rs : List Row). Rises key_of rs) (sym c.requires.rows) (numbered_rise 1 g.J.Naming.opening c.self.invariant.numbered)
+
+pub returns-clause-made : goal.returns-clause-made
+returns-clause-made g c = if_new_head _ c.args.place _ c.args.rows.now g.J.Naming.opening c.new.result (search rules) c.requires.rows c.new.ensures
