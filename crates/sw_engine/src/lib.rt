@@ -16,4 +16,4 @@ pub use engine::{Engine, Session};
 pub use latch::LatchedHead;
 pub use naming::Naming;
 pub use opening::Opening;
-pub use runs::run_blocks;
+pub use runs::{deal, run_blocks};
