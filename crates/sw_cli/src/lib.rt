@@ -2,6 +2,7 @@
 //! refusals are told on standard error.
 #![tactic(auto)]
 
+mod boxes;
 mod buffered;
 mod fault;
 pub mod fault_examples;
@@ -13,6 +14,7 @@ mod start;
 mod telling;
 mod watching;
 
+pub use boxes::blank_boxes;
 pub use fault::{status, write_fault};
 pub use noting::Noting;
 pub use running::{Options, run, run_with};
