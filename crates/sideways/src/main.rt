@@ -20,7 +20,9 @@ use std::process::ExitCode;
 use std::rt::{Env, Files};
 use std::sync::Wait;
 use std::thread::Threads;
-use sw_cli::{Noting, Options, blank_boxes, check_file, run_with, status, write_fault, write_record};
+use sw_cli::{
+    Noting, Options, blank_boxes, check_file, run_with, status, write_fault, write_record,
+};
 use sw_map::{CrackerMap, PairMap};
 use sw_rows::{Counted, Refusal, Sink, Source, read_all};
 use sw_spine::Record;
@@ -52,7 +54,8 @@ fn run_named<R: Files + Print + Threads + Wait + Sync>(
     alloc: Global,
     table: &str,
     script: &str,
-    told: &Told<'_>,
+    cuts: &str,
+    told: &Told,
 ) -> Result<(Record, bool), Refusal> {
     let Ok(table) = File::open(rt, table) else {
         return Err(Refusal::Input);
@@ -63,7 +66,7 @@ fn run_named<R: Files + Print + Threads + Wait + Sync>(
     let maps = blank_boxes(alloc, told.budget, told.maps)?;
     let options = Options {
         limit: told.limit,
-        cuts: told.cuts,
+        cuts,
         threads: told.threads,
     };
     run_open(
@@ -95,11 +98,10 @@ fn keep<R: Files>(
 
 /// What a run is told on the command line besides its files.
 #[derive(Drop)]
-struct Told<'a> {
+struct Told {
     limit: u64,
     budget: u64,
     maps: u64,
-    cuts: &'a str,
     threads: bool,
     ghost some: { 0 < limit },
     ghost most: { limit ≤ 1048576 },
@@ -116,14 +118,12 @@ fn limit_given(given: &ArgMatches) -> Option<u64>
     Some(limit)
 }
 
-/// What a run is told.
-fn told_given<'a>(given: &'a ArgMatches) -> Option<Told<'a>> {
-    let limit = limit_given(given)?;
+/// What a run is told in numbers and flags.
+fn told_given(given: &ArgMatches) -> Option<Told> {
     Some(Told {
-        limit,
+        limit: limit_given(given)?,
         budget: given.get_one::<u64>("budget")?,
         maps: given.get_one::<u64>("maps")?,
-        cuts: given.get_str("cuts")?,
         threads: given.get_flag("threads"),
     })
 }
@@ -134,14 +134,15 @@ fn run_files<R: Files + Print + Threads + Wait + Sync>(
     alloc: Global,
     given: &ArgMatches,
 ) -> Result<u8, Refusal> {
-    let (Some(table), Some(script), Some(told)) = (
+    let (Some(table), Some(script), Some(cuts), Some(told)) = (
         given.get_str("table"),
         given.get_str("script"),
+        given.get_str("cuts"),
         told_given(given),
     ) else {
         return Ok(2);
     };
-    let (history, has_refused) = run_named(rt, alloc, table, script, &told)?;
+    let (history, has_refused) = run_named(rt, alloc, table, script, cuts, &told)?;
     keep(rt, alloc, &history, given.get_str("history"))?;
     Ok(if has_refused { 3 } else { 0 })
 }
