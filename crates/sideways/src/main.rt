@@ -7,7 +7,8 @@
 
 mod words;
 
-ghost use Rattle.std.specs.Prelude.{◌≡◌, ◌<◌, ◌≤◌, IfSome};
+ghost use Rattle.std.specs.Prelude.{◌≡◌, ◌<◌, ◌≤◌, All, IfSome};
+ghost use Rattle.sw_map.specs.Held.{blank};
 
 use crate::words::command;
 use clap::error::ErrorKind;
@@ -17,52 +18,65 @@ use std::fs::File;
 use std::io;
 use std::process::ExitCode;
 use std::rt::{Env, Files};
-use sw_cli::{Noting, Options, check_file, run, status, write_fault, write_record};
+use std::sync::Wait;
+use std::thread::Threads;
+use sw_cli::{
+    Noting, Options, blank_boxes, check_file, run_with, status, write_fault, write_record,
+};
+use sw_map::{CrackerMap, PairMap};
 use sw_rows::{Counted, Refusal, Sink, Source, read_all};
 use sw_spine::Record;
 
 /// Runs a script over a table, of which both are open. Answers the record, and whether a call was refused.
-fn run_open<T: Source, S: Source, W: Sink + Drop>(
+fn run_open<R: Threads + Wait + Sync, T: Source, S: Source, W: Sink + Drop>(
+    rt: &R,
     alloc: Global,
     table: &mut T,
     script: &mut S,
     out: W,
-    limit: u64,
+    options: &Options<'_>,
+    maps: Vec<PairMap>,
 ) -> Result<(Record, bool), Refusal>
-    requires some { 0 < limit }
-    requires most { limit ≤ 1048576 }
+    requires some { 0 < options.now.limit }
+    requires most { options.now.limit ≤ 1048576 }
+    requires blank { All (λ m. ⟦<PairMap as CrackerMap>⟧.held m ≡ blank) maps.items }
 {
-    let options = Options { limit };
     let mut noting = Noting::new(out);
-    match run(alloc, table, script, &mut noting, &options) {
+    match run_with(rt, alloc, table, script, &mut noting, options, maps) {
         Ok(history) => Ok((history, noting.has_refused())),
         Err(refusal) => Err(refusal),
     }
 }
 
-/// Opens the table, then the script, and runs.
-fn run_named<R: Files + Print>(
+/// Opens the table, then the script, makes the boxes, and runs.
+fn run_named<R: Files + Print + Threads + Wait + Sync>(
     rt: &R,
     alloc: Global,
     table: &str,
     script: &str,
-    limit: u64,
-) -> Result<(Record, bool), Refusal>
-    requires some { 0 < limit }
-    requires most { limit ≤ 1048576 }
-{
+    cuts: &str,
+    told: &Told,
+) -> Result<(Record, bool), Refusal> {
     let Ok(table) = File::open(rt, table) else {
         return Err(Refusal::Input);
     };
     let Ok(script) = File::open(rt, script) else {
         return Err(Refusal::Input);
     };
+    let maps = blank_boxes(alloc, told.budget, told.maps)?;
+    let options = Options {
+        limit: told.limit,
+        cuts,
+        threads: told.threads,
+    };
     run_open(
+        rt,
         alloc,
         &mut Counted::new(table),
         &mut Counted::new(script),
         Counted::new(io::writer(rt)),
-        limit,
+        &options,
+        maps,
     )
 }
 
@@ -82,6 +96,17 @@ fn keep<R: Files>(
     }
 }
 
+/// What a run is told on the command line besides its files.
+#[derive(Drop)]
+struct Told {
+    limit: u64,
+    budget: u64,
+    maps: u64,
+    threads: bool,
+    ghost some: { 0 < limit },
+    ghost most: { limit ≤ 1048576 },
+}
+
 /// The limit of rows that was given.
 fn limit_given(given: &ArgMatches) -> Option<u64>
     ensures { IfSome result (λ limit. (0 < limit) × (limit ≤ 1048576)) }
@@ -93,16 +118,31 @@ fn limit_given(given: &ArgMatches) -> Option<u64>
     Some(limit)
 }
 
+/// What a run is told in numbers and flags.
+fn told_given(given: &ArgMatches) -> Option<Told> {
+    Some(Told {
+        limit: limit_given(given)?,
+        budget: given.get_one::<u64>("budget")?,
+        maps: given.get_one::<u64>("maps")?,
+        threads: given.get_flag("threads"),
+    })
+}
+
 /// Runs what was named, and writes the history where it is asked for.
-fn run_files<R: Files + Print>(rt: &R, alloc: Global, given: &ArgMatches) -> Result<u8, Refusal> {
-    let (Some(table), Some(script), Some(limit)) = (
+fn run_files<R: Files + Print + Threads + Wait + Sync>(
+    rt: &R,
+    alloc: Global,
+    given: &ArgMatches,
+) -> Result<u8, Refusal> {
+    let (Some(table), Some(script), Some(cuts), Some(told)) = (
         given.get_str("table"),
         given.get_str("script"),
-        limit_given(given),
+        given.get_str("cuts"),
+        told_given(given),
     ) else {
         return Ok(2);
     };
-    let (history, has_refused) = run_named(rt, alloc, table, script, limit)?;
+    let (history, has_refused) = run_named(rt, alloc, table, script, cuts, &told)?;
     keep(rt, alloc, &history, given.get_str("history"))?;
     Ok(if has_refused { 3 } else { 0 })
 }
@@ -125,7 +165,11 @@ fn check_path<R: Files + Print>(rt: &R, alloc: Global, given: &ArgMatches) -> Re
 }
 
 /// Makes what the words ask for.
-fn made<R: Files + Print>(rt: &R, alloc: Global, matches: &ArgMatches) -> Result<u8, Refusal> {
+fn made<R: Files + Print + Threads + Wait + Sync>(
+    rt: &R,
+    alloc: Global,
+    matches: &ArgMatches,
+) -> Result<u8, Refusal> {
     match matches.subcommand() {
         None => Ok(2),
         Some(("check", given)) => check_path(rt, alloc, given),
@@ -147,7 +191,7 @@ fn explained<R: Print + Eprint>(rt: &R, error: &Error) -> Result<u8, Refusal> {
 }
 
 /// Takes the words of the command line.
-fn taken<R: Files + Print + Eprint>(
+fn taken<R: Files + Print + Eprint + Threads + Wait + Sync>(
     rt: &R,
     alloc: Global,
     words: &[String],
@@ -174,7 +218,10 @@ fn given<R: Env>(rt: &R, alloc: Global) -> Result<Vec<String>, Refusal> {
 }
 
 /// Takes the command line and answers the exit status.
-fn asked<R: Env + Files + Print + Eprint>(rt: &R, alloc: Global) -> Result<u8, Refusal> {
+fn asked<R: Env + Files + Print + Eprint + Threads + Wait + Sync>(
+    rt: &R,
+    alloc: Global,
+) -> Result<u8, Refusal> {
     let words = given(rt, alloc)?;
     taken(rt, alloc, words.as_slice())
 }

@@ -22,21 +22,70 @@ fn history<'a>(alloc: Global) -> Arg<'a> {
         .action(ArgAction::Set)
 }
 
-fn limit<'a>(alloc: Global) -> Arg<'a> {
-    Arg::new(alloc, "limit")
-        .long("limit")
-        .value_name("ROWS")
-        .help("How many rows are ever inserted at most, those of the table included: 1 to 1048576")
-        .default_value("1048576")
-        .value_parser(clap::value_parser!(u64).range(1..=1_048_576))
+fn number<'a>(alloc: Global, name: &'a str, of: &'a str, help: &'a str, usual: &'a str) -> Arg<'a> {
+    Arg::new(alloc, name)
+        .long(name)
+        .value_name(of)
+        .help(help)
+        .default_value(usual)
         .action(ArgAction::Set)
 }
 
-fn run_command<'a>(alloc: Global) -> Result<Command<'a>, AllocError> {
-    let command = Command::new(alloc, "run").about(
-        "Answers the calls of a script over a table, a reply line each",
-    );
-    command
+fn limit<'a>(alloc: Global) -> Arg<'a> {
+    number(
+        alloc,
+        "limit",
+        "ROWS",
+        "How many rows are ever inserted at most, those of the table included: 1 to 1048576",
+        "1048576",
+    )
+    .value_parser(clap::value_parser!(u64).range(1..=1_048_576))
+}
+
+fn budget<'a>(alloc: Global) -> Arg<'a> {
+    number(
+        alloc,
+        "budget",
+        "CELLS",
+        "How many pairs of cells all maps together may hold, a pair for each row of a map: 0 to 1099511627776; with 0 every query scans",
+        "16777216",
+    )
+    .value_parser(clap::value_parser!(u64).range(0..=1_099_511_627_776))
+}
+
+fn maps<'a>(alloc: Global) -> Arg<'a> {
+    number(
+        alloc,
+        "maps",
+        "MAPS",
+        "How many maps there may be at a time, dealt out to the attributes in turn: 0 to 4096; with 0 every query scans",
+        "64",
+    )
+    .value_parser(clap::value_parser!(u64).range(0..=4096))
+}
+
+fn cuts<'a>(alloc: Global) -> Arg<'a> {
+    number(
+        alloc,
+        "cuts",
+        "TEXT",
+        "Where attributes are cut into areas that are kept apart, as name=value;name=value with rising values, at most 15 of an attribute",
+        "",
+    )
+}
+
+fn threads<'a>(alloc: Global) -> Arg<'a> {
+    Arg::new(alloc, "threads")
+        .long("threads")
+        .help(
+            "Gives each block of the script a thread of its own; the replies still come in the order of the script",
+        )
+        .action(ArgAction::SetTrue)
+}
+
+fn files<'a>(alloc: Global) -> Result<Command<'a>, AllocError> {
+    Command::new(alloc, "run")
+        .about("Answers the calls of a script over a table, a reply line each")
         .arg(file(
             alloc,
             "table",
@@ -46,8 +95,16 @@ fn run_command<'a>(alloc: Global) -> Result<Command<'a>, AllocError> {
             alloc,
             "script",
             "The script: a call a line; a line --- divides blocks",
-        ))?
+        ))
+}
+
+fn run_command<'a>(alloc: Global) -> Result<Command<'a>, AllocError> {
+    files(alloc)?
+        .arg(budget(alloc))?
+        .arg(maps(alloc))?
+        .arg(cuts(alloc))?
         .arg(limit(alloc))?
+        .arg(threads(alloc))?
         .arg(history(alloc))
 }
 

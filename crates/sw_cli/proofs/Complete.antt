@@ -1,142 +1,100 @@
--- Where all calls are answered, what was written is the lines of the table's replies.
-use Rattle.std.proofs.Common.{◌≡◌, ◌∙◌, sym, ap, subst, refl, ℕ, ◌+◌, ◌<◌, ◌≤◌, Bool, true, false, suc, List, [], ◌∷◌, ◌++◌, length, length-append, Option, Some, None, Result, Ok, Err, IfOk, fold, get_or, arith, append_assoc}
+-- Where each call was answered, the lines are those of the replies in the record; and of one block, those of the plain table.
+use Rattle.std.proofs.Common.{◌≡◌, ◌∙◌, sym, ap, refl, ℕ, zero, suc, ◌+◌, ◌<◌, ◌≤◌, ◌==◌, ◌&&◌, Bool, true, false, not, List, [], ◌∷◌, ◌++◌, arith, get_or, length, map, Ok, Err}
 use Rattle.std.proofs.lemmas.List.{append-nil}
+use Rattle.std.proofs.lemmas.Bool.Decides.{nat_tests}
 use Rattle.sw_rows.specs.Header.{Column}
 use Rattle.sw_rows.specs.declared.query.Call.{Call}
+use Rattle.sw_rows.specs.declared.query.Call.TheVariants as call
 use Rattle.sw_rows.specs.declared.reply.Reply.{Reply}
 use Rattle.sw_rows.specs.declared.row.Update.{Update}
-use Rattle.sw_rows.specs.declared.refusal.Refusal.{Refusal}
 use Rattle.sw_lang.specs.Replies.{reply_bytes}
-use Rattle.sw_lang.specs.Sinks.{Took}
-use Rattle.sw_spine.specs.History.{History}
-use Rattle.sw_spine.specs.Table.{opened, reply_to}
-use Rattle.sw_cli.specs.Run.{Done, Ended, Leaves, Start, block_done, block_then, blocks_bytes, blocks_made, calls_made, divider, done_then, line_before, nothing_done, nothing_ended, out_of, replies_bytes, start_of, updates_through}
-use Rattle.sw_cli.specs.Starts.{AllAnswered, Goes, IfBoth, WritesAll}
+use Rattle.sw_spine.specs.History.{Agrees, AllAgree, History, all_given, is_absent, is_given, is_open, is_select, mine, with_answer}
+use Rattle.sw_spine.specs.Rest.{none_open}
+use Rattle.sw_spine.specs.Table.{reply_to, updates_then}
+use Rattle.sw_spine.specs.declared.history.Entry.{Entry}
+use Rattle.sw_spine.specs.declared.history.State.{State}
+use Rattle.sw_spine.specs.declared.history.State.TheVariants as state
+use Rattle.sw_cli.specs.Outcomes.{Outcome, all_answered, answered, block_bytes, calls_of, sessions_from}
+use Rattle.sw_cli.specs.Run.{is_session, replies_bytes}
 
 -- no more are answered than are made
-few_answered : (columns : List Column) (limit : ℕ) (d : Done) (made : List (Call × Bool)) → length (fold (done_then columns limit) d made).answered ≤ length d.answered + length made
-few_answered columns limit d [] = omega arith
-few_answered columns limit d ((c, true) ∷ ms) =
-    let more = few_answered columns limit (done_then columns limit d (c, true)) ms in
-    let one = length-append d.answered ((c, reply_to limit d.updates c) ∷ []) in
-    omega arith
-few_answered columns limit d ((c, false) ∷ ms) =
-    let more = few_answered columns limit (done_then columns limit d (c, false)) ms in omega arith
+few_answered : (os : List Outcome) → length (answered os) ≤ length os
+few_answered [] = omega arith
+few_answered ((c, Ok r) ∷ os) = let h = few_answered os in omega (arith, h)
+few_answered ((c, Err e) ∷ os) = let h = few_answered os in omega (arith, h)
 
--- where all are answered, all replies are written
-all_answered : (columns : List Column) (limit : ℕ) (d : Done) (made : List (Call × Bool)) → length (fold (done_then columns limit) d made).answered ≡ length d.answered + length made
-    → (fold (done_then columns limit) d made).text ≡ d.text ++ replies_bytes columns limit d.updates (calls_made made)
-all_answered columns limit d [] h = sym (append-nil d.text)
-all_answered columns limit d ((c, true) ∷ ms) h =
-    let one = length-append d.answered ((c, reply_to limit d.updates c) ∷ []) in
-    let next = done_then columns limit d (c, true) in
-    all_answered columns limit next ms (omega arith)
-    ∙ append_assoc d.text (reply_bytes columns c (reply_to limit d.updates c)) (replies_bytes columns limit next.updates (calls_made ms))
-all_answered columns limit d ((c, false) ∷ ms) h =
-    let more = few_answered columns limit (done_then columns limit d (c, false)) ms in absurd (omega arith)
+-- where as many are answered as are made, each is
+pub each_answered : (os : List Outcome) → length (answered os) ≡ length os → os ≡ all_answered (answered os)
+each_answered [] h = refl
+each_answered ((c, Ok r) ∷ os) h = ap (λ (l : List Outcome). (c, Ok r) ∷ l) (each_answered os (omega (arith, h)))
+each_answered ((c, Err e) ∷ os) h = let few = few_answered os in absurd (omega (arith, h, few))
 
--- and the updates are those of the calls
-all_updates : (columns : List Column) (limit : ℕ) (d : Done) (made : List (Call × Bool)) → length (fold (done_then columns limit) d made).answered ≡ length d.answered + length made
-    → (fold (done_then columns limit) d made).updates ≡ updates_through limit d.updates (calls_made made)
-all_updates columns limit d [] h = refl
-all_updates columns limit d ((c, true) ∷ ms) h =
-    let one = length-append d.answered ((c, reply_to limit d.updates c) ∷ []) in
-    all_updates columns limit (done_then columns limit d (c, true)) ms (omega arith)
-all_updates columns limit d ((c, false) ∷ ms) h =
-    let more = few_answered columns limit (done_then columns limit d (c, false)) ms in absurd (omega arith)
+pub calls_answered : (ms : List (Call × Reply)) → calls_of (all_answered ms) ≡ map (λ m. m.0) ms
+calls_answered [] = refl
+calls_answered (m ∷ ms) = ap (λ (l : List Call). m.0 ∷ l) (calls_answered ms)
 
-length-calls : (made : List (Call × Bool)) → length (calls_made made) ≡ length made
-length-calls [] = omega arith
-length-calls (m ∷ ms) = ap suc (length-calls ms)
+length_calls : (os : List Outcome) → length (calls_of os) ≡ length os
+length_calls [] = refl
+length_calls (o ∷ os) = ap suc (length_calls os)
 
-length-blocks : (made : List (List (Call × Bool))) → length (blocks_made made) ≡ length made
-length-blocks [] = refl
-length-blocks (m ∷ ms) = ap suc (length-blocks ms)
+-- a block whose session has as many answered calls as it has calls
+pub block_answered : (os : List Outcome) (calls : List Call) (mine_are : List (Call × Reply)) → calls_of os ≡ calls → mine_are ≡ answered os → length mine_are ≡ length calls → os ≡ all_answered mine_are
+block_answered os calls ms ec em many =
+    let k = length_calls os in
+    let l : length (answered os) ≡ length os = sym (ap length em) ∙ many ∙ sym (ap length ec) ∙ k in
+    each_answered os l ∙ ap all_answered (sym em)
 
--- ---- blocks of which each call is answered
+-- the outcomes of blocks, block by block
+pub blocks_answered : (k : ℕ) (told : List (List Outcome)) (h : History) → ((i : ℕ) → i < length told → get_or told i [] ≡ all_answered (mine (i + k) h.entries)) → told ≡ map all_answered (sessions_from k (length told) h)
+blocks_answered k [] h each = refl
+blocks_answered k (b ∷ bs) h each =
+    let here : b ≡ all_answered (mine k h.entries) = each 0 (omega arith) ∙ ap (λ (n : ℕ). all_answered (mine n h.entries)) (let e : 0 + k ≡ k = omega arith in e) in
+    let rest : bs ≡ map all_answered (sessions_from (k + 1) (length bs) h) =
+    blocks_answered (k + 1) bs h (λ i less. each (suc i) (omega (arith, less)) ∙ ap (λ (n : ℕ). all_answered (mine n h.entries)) (let e : suc i + k ≡ i + (k + 1) = omega arith in e)) in
+    ap (λ (x : List Outcome). x ∷ bs) here ∙ ap (λ (l : List (List Outcome)). all_answered (mine k h.entries) ∷ l) rest
 
-abbrev AreFull : List Column → ℕ → List Update → List (List (Call × Bool)) → Type 0
-AreFull columns limit us [] = Unit {0}
-AreFull columns limit us (b ∷ bs) = (length (block_done columns limit us b).answered ≡ length b) × AreFull columns limit (block_done columns limit us b).updates bs
+-- ---- one session
 
-block_text : (columns : List Column) (limit : ℕ) (us : List Update) (b : List (Call × Bool)) → length (block_done columns limit us b).answered ≡ length b → (block_done columns limit us b).text ≡ replies_bytes columns limit us (calls_made b)
-block_text columns limit us b h = all_answered columns limit (nothing_done us) b (omega (arith, h))
+and-right : (a b : Bool) → (a && b) ≡ true → b ≡ true
+and-right true b h = h
+and-right false b h = absurd cc
 
-block_updates : (columns : List Column) (limit : ℕ) (us : List Update) (b : List (Call × Bool)) → length (block_done columns limit us b).answered ≡ length b → (block_done columns limit us b).updates ≡ updates_through limit us (calls_made b)
-block_updates columns limit us b h = all_updates columns limit (nothing_done us) b (omega (arith, h))
+and-left : (a b : Bool) → (a && b) ≡ true → a ≡ true
+and-left true b h = refl
+and-left false b h = absurd cc
 
--- blocks that come after others
-later_text : (columns : List Column) (limit n : ℕ) (e : Ended) (b : List (Call × Bool)) (bs : List (List (Call × Bool))) → length e.answered ≡ suc n → AreFull columns limit e.updates (b ∷ bs)
-    → (fold (block_then columns limit) e (b ∷ bs)).text ≡ e.text ++ (divider ++ blocks_bytes columns limit e.updates (blocks_made (b ∷ bs)))
-later_text columns limit n e b [] h full =
-    ap (λ (k : ℕ). e.text ++ (line_before k ++ (block_done columns limit e.updates b).text)) h ∙ ap (λ (t : List ℕ). e.text ++ (divider ++ t)) (block_text columns limit e.updates b full.0)
-later_text columns limit n e b (c ∷ cs) h full =
-    let next = block_then columns limit e b in
-    let bytes = replies_bytes columns limit e.updates (calls_made b) in
-    let one = length-append e.answered ((block_done columns limit e.updates b).answered ∷ []) in
-    let more = λ (us : List Update). blocks_bytes columns limit us (blocks_made (c ∷ cs)) in
-    later_text columns limit (suc n) next c cs (one ∙ omega (arith, h)) full.1
-    ∙ ap (λ (k : ℕ). (e.text ++ (line_before k ++ (block_done columns limit e.updates b).text)) ++ (divider ++ more next.updates)) h
-    ∙ ap (λ (t : List ℕ). (e.text ++ (divider ++ t)) ++ (divider ++ more next.updates)) (block_text columns limit e.updates b full.0)
-    ∙ ap (λ (us : List Update). (e.text ++ (divider ++ bytes)) ++ (divider ++ more us)) (block_updates columns limit e.updates b full.0)
-    ∙ append_assoc e.text (divider ++ bytes) (divider ++ more (updates_through limit e.updates (calls_made b)))
-    ∙ ap (λ (t : List ℕ). e.text ++ t) (append_assoc divider bytes (divider ++ more (updates_through limit e.updates (calls_made b))))
+-- the only session that has entries is session 1
+abbrev pub IsAlone : List Entry → Type 0
+IsAlone es = (session : ℕ) → is_session 1 session ≡ false → is_absent session es ≡ true
 
--- all blocks
-blocks_text : (columns : List Column) (limit : ℕ) (us : List Update) (made : List (List (Call × Bool))) → AreFull columns limit us made → (fold (block_then columns limit) (nothing_ended us) made).text ≡ blocks_bytes columns limit us (blocks_made made)
-blocks_text columns limit us [] full = refl
-blocks_text columns limit us (b ∷ []) full = block_text columns limit us b full.0
-blocks_text columns limit us (b ∷ c ∷ cs) full =
-    let first = block_then columns limit (nothing_ended us) b in
-    let more = λ (vs : List Update). blocks_bytes columns limit vs (blocks_made (c ∷ cs)) in
-    later_text columns limit 0 first c cs refl full.1
-    ∙ ap (λ (t : List ℕ). t ++ (divider ++ more first.updates)) (block_text columns limit us b full.0)
-    ∙ ap (λ (vs : List Update). replies_bytes columns limit us (calls_made b) ++ (divider ++ more vs)) (block_updates columns limit us b full.0)
+alone_rest : (e : Entry) (es : List Entry) → IsAlone (e ∷ es) → IsAlone es
+alone_rest e es h session other = and-right (not (e.session == session)) (is_absent session es) (h session other)
 
--- the answered calls of each block
-abbrev answers : List Column → ℕ → List Update → List (List (Call × Bool)) → List (List (Call × Reply))
-answers columns limit us [] = []
-answers columns limit us (b ∷ bs) = (block_done columns limit us b).answered ∷ answers columns limit (block_done columns limit us b).updates bs
+first_one : (n : ℕ) → (is_session 1 n ≡ false → not (n == n) ≡ true) → (n == 1) ≡ true
+first_one zero h = let k = h refl in absurd (grind (arith, nat_tests, k))
+first_one (suc zero) h = refl
+first_one (suc (suc n)) h = let other : is_session 1 (suc (suc n)) ≡ false = grind (arith, nat_tests) in let k = h other in absurd (grind (arith, nat_tests, k))
 
-answers_are : (columns : List Column) (limit : ℕ) (e : Ended) (made : List (List (Call × Bool))) → (fold (block_then columns limit) e made).answered ≡ e.answered ++ answers columns limit e.updates made
-answers_are columns limit e [] = sym (append-nil e.answered)
-answers_are columns limit e (b ∷ bs) =
-    let next = block_then columns limit e b in
-    answers_are columns limit next bs ∙ append_assoc e.answered ((block_done columns limit e.updates b).answered ∷ []) (answers columns limit next.updates bs)
+alone_first : (e : Entry) (es : List Entry) → IsAlone (e ∷ es) → (e.session == 1) ≡ true
+alone_first e es h = first_one e.session (λ other. and-left (not (e.session == e.session)) (is_absent e.session es) (h e.session other))
 
-full_from : (columns : List Column) (limit : ℕ) (us : List Update) (made : List (List (Call × Bool))) → ((i : ℕ) → i < length made → length (get_or (answers columns limit us made) i []) ≡ length (get_or (blocks_made made) i []))
-    → AreFull columns limit us made
-full_from columns limit us [] h = tt
-full_from columns limit us (b ∷ bs) h =
-    let next = (block_done columns limit us b).updates in
-    (h 0 (omega arith) ∙ length-calls b, full_from columns limit next bs (λ i less. h (suc i) (omega (arith, less))))
+select_keeps : (limit : ℕ) (us : List Update) (c : Call) → is_select c ≡ true → updates_then limit us c ≡ us
+select_keeps limit us (call.Select q) h = append-nil us
+select_keeps limit us (call.Insert cells) h = absurd cc
+select_keeps limit us (call.Delete key) h = absurd cc
 
--- what a run of these calls wrote, where each has its reply
-pub all_out : (limit : ℕ) (s : Start) (made : List (List (Call × Bool))) (old new : Option (List ℕ)) (h : History) → Leaves limit s made old new h → AllAnswered s.blocks h → Took old new (out_of limit s)
-all_out limit s made old new h l all =
-    let us = opened s.rows in
-    let are = answers_are s.columns limit (nothing_ended us) made in
-    let count = length-blocks made in
-    let full = full_from s.columns limit us made (λ i less.
-    ap (λ (given : List (List (Call × Reply))). length (get_or given i [])) (sym are)
-    ∙ sym (ap (λ (cs : List (Call × Reply)). length cs) (l.answered i))
-    ∙ all i (subst (λ (bs : List (List Call)). i < length bs) l.calls (omega (arith, less, count)))
-    ∙ sym (ap (λ (bs : List (List Call)). length (get_or bs i [])) l.calls)) in
-    subst (λ (w : List ℕ). Took old new w) (blocks_text s.columns limit us made full ∙ ap (blocks_bytes s.columns limit us) l.calls) l.wrote
+step : (columns : List Column) (limit : ℕ) (us : List Update) (c : Call) (st : State) (rest : List (Call × Reply)) → Agrees columns limit us c st → is_given st ≡ true → not (is_open st) ≡ true
+    → block_bytes columns (all_answered rest) ≡ replies_bytes columns limit (updates_then limit us c) (map (λ m. m.0) rest)
+    → block_bytes columns (all_answered (with_answer c st rest)) ≡ replies_bytes columns limit us (map (λ m. m.0) (with_answer c st rest))
+step columns limit us c (state.Answered r) rest agrees given closed more = ap (λ (x : Reply). reply_bytes columns c x ++ block_bytes columns (all_answered rest)) agrees ∙ ap (λ (l : List ℕ). reply_bytes columns c (reply_to limit us c) ++ l) more
+step columns limit us c (state.Lines ls) rest agrees given closed more = absurd cc
+step columns limit us c state.Open rest agrees given closed more = absurd cc
+step columns limit us c state.Void rest agrees given closed more = more ∙ ap (λ (vs : List Update). replies_bytes columns limit vs (map (λ m. m.0) rest)) (select_keeps limit us c agrees)
 
-same_start : (s t : Start) → ◌≡◌ {A = Result Start Refusal} (Ok s) (Ok t) → s ≡ t
-same_start s t h = cc
-
--- the same of what a run answers
-pub writes_all : (limit : ℕ) (s : Start) (table script : List ℕ) (old new : Option (List ℕ)) (f g : ℕ) (result : Result History Refusal) → start_of limit table script ≡ Ok s → Goes limit s old new f g result → IfOk result (WritesAll limit table script old new)
-writes_all limit s table script old new f g (Err e) is h = tt
-writes_all limit s table script old new f g (Ok h) is k =
-    λ t at long. let same : s ≡ t = same_start s t (sym is ∙ at) in
-    subst (λ (x : Start). Took old new (out_of limit x)) same (all_out limit s k.1.0 old new h k.1.1 (subst (λ (x : Start). AllAnswered x.blocks h) (sym same) long))
-
--- the same over sources that may not tell their bytes
-pub both_write : (limit : ℕ) (s : Start) (a b : Option (List ℕ)) (old new : Option (List ℕ)) (f g : ℕ) (result : Result History Refusal) → IfBoth a b (λ table script. start_of limit table script ≡ Ok s) → Goes limit s old new f g result
-    → IfBoth a b (λ table script. IfOk result (WritesAll limit table script old new))
-both_write limit s None b old new f g result h k = tt
-both_write limit s (Some table) None old new f g result h k = tt
-both_write limit s (Some table) (Some script) old new f g result h k = writes_all limit s table script old new f g result h k
+-- of a legal history of one session, the lines of its replies are those of the plain table's
+pub one_session : (columns : List Column) (limit : ℕ) (us : List Update) (es : List Entry) → IsAlone es → AllAgree columns limit us es → all_given es ≡ true → none_open es ≡ true
+    → block_bytes columns (all_answered (mine 1 es)) ≡ replies_bytes columns limit us (map (λ m. m.0) (mine 1 es))
+one_session columns limit us [] alone agree given closed = refl
+one_session columns limit us (e ∷ es) alone agree given closed =
+    let more = one_session columns limit (updates_then limit us e.call) es (alone_rest e es alone) agree.1 (and-right (is_given e.state) (all_given es) given) (and-right (not (is_open e.state)) (none_open es) closed) in
+    rw (alone_first e es alone) (step columns limit us e.call e.state (mine 1 es) agree.0 (and-left (is_given e.state) (all_given es) given) (and-left (not (is_open e.state)) (none_open es) closed) more)

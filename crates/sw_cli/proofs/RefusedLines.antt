@@ -1,9 +1,9 @@
 -- Lines of refused calls, in bytes that come in pieces.
-use Rattle.std.proofs.Common.{◌≡◌, ◌∙◌, sym, ap, refl, ℕ, zero, suc, ◌+◌, ◌<◌, ◌==◌, ◌&&◌, ◌||◌, Bool, true, false, List, [], ◌∷◌, ◌++◌, drop, get_or, arith, subst}
+use Rattle.std.proofs.Common.{◌≡◌, ◌∙◌, sym, ap, refl, ℕ, zero, suc, ◌+◌, ◌<◌, ◌==◌, ◌&&◌, ◌||◌, true, false, List, [], ◌∷◌, drop, get_or, arith}
 use Rattle.std.specs.Prelude.{nat_lt}
 use Rattle.std.proofs.lemmas.Bool.Decides.{nat_tests}
 use Rattle.std.proofs.lemmas.List.{drop_more}
-use Rattle.sw_cli.specs.RefusedLines.{begins, comes, refused_word, tells_from, tells_refusal, tells_then}
+use Rattle.sw_cli.specs.RefusedLines.{begins, comes, refused_word, tells_from, tells_then}
 use Rattle.sw_cli.specs.declared.watching.Place.{Place}
 use Rattle.sw_cli.specs.declared.watching.Place.TheVariants.{Beginning, Further}
 use Rattle.sw_cli.specs.declared.watching.Watch.{Watch}

@@ -1,27 +1,32 @@
--- What is known of what a run starts from, and why it is refused.
-use Rattle.std.specs.Prelude.{◌≡◌, ◌<◌, ◌≤◌, ◌+◌, ℕ, Bool, true, List, [], length, slice_index_or, Option, Some, None, Result, Ok, Err}
+-- What is known of what a run starts from, what it answers, and why it is refused.
+use Rattle.std.specs.Prelude.{◌≡◌, ◌<◌, ◌≤◌, ◌∷◌, ℕ, true, List, [], length, Option, Some, None, Result, Ok, Err}
 use Rattle.std.specs.Io.KnownBytes.{Keeps}
+use Rattle.sw_lang.specs.Cuts.{AreCuts, cuts_on}
 use Rattle.sw_lang.specs.Sinks.{Took}
 use Rattle.sw_rows.specs.Gives.{Raised}
 use Rattle.sw_rows.specs.declared.query.Call.{Call}
 use Rattle.sw_rows.specs.declared.refusal.Refusal.{Refusal}
 use Rattle.sw_rows.specs.declared.refusal.Refusal.TheVariants as refusal
-use Rattle.sw_spine.specs.History.{History, IsLegal, mine}
+use Rattle.sw_spine.specs.History.{History}
 use Rattle.sw_spine.specs.Table.{is_numbered}
-use Rattle.sw_cli.specs.Run.{Began, Leaves, Start, out_of, start_of}
+use Rattle.sw_cli.specs.Outcomes.{Outcome}
+use Rattle.sw_cli.specs.Run.{AllAnswered, Began, Leaves, Start, TellsAll, out_of, start_of}
 use Rattle.sw_cli.specs.Script.{AreBlocks}
 use Rattle.sw_cli.specs.declared.start.Opened.{Opened}
 
 abbrev pub start_seen : Opened → Start
-start_seen o = record { columns = o.schema; rows = o.rows.items; blocks = o.blocks.items }
+start_seen o = record { columns = o.schema; rows = o.rows.items; blocks = o.blocks.items; cuts = o.cuts }
 
--- rows within the limit with the keys 1, 2, 3 and so on, and blocks of calls on the attributes of the table, which are not
--- too many
+-- one to eight attributes, rows within the limit with the keys 1, 2, 3 and so on, blocks of calls on the attributes of the
+-- table, which are not too many, and cuts that rise, at most 15 of an attribute
 pub record IsStart (limit : ℕ) (s : Start) : Type 0 where
   pub wide : length s.columns ≤ 8
+  pub some : 0 < length s.columns
   pub numbered : is_numbered 1 s.rows ≡ true
   pub few : length s.rows ≤ limit
   pub blocks : AreBlocks (length s.columns) s.blocks
+  pub lists : length s.cuts ≡ length s.columns
+  pub cuts : (a : ℕ) → a < length s.columns → AreCuts (cuts_on s.cuts a)
 
 -- a refusal is the one that was said; or it tells of memory, or of a source, where I holds
 abbrev pub RefusedFrom : {Y : Type 0} → Type 0 → Refusal → Result Y Refusal → Type 0
@@ -44,34 +49,35 @@ TellsStart I (refusal.TooMany limit) = Unit {0}
 TellsStart I refusal.Input = I
 TellsStart I e = ⊥
 
--- each session has an answered call for each call of its block
-abbrev pub AllAnswered : List (List Call) → History → Type 0
-AllAnswered blocks h = (i : ℕ) → i < length blocks → length (mine (i + 1) h.entries) ≡ length (slice_index_or blocks i [])
-
--- where a record has an answered call for each call of the script, the sink took the lines of the table's replies to
--- them, block after block with a line `---` between two, and nothing else
-abbrev pub WritesAll : ℕ → List ℕ → List ℕ → Option (List ℕ) → Option (List ℕ) → History → Type 0
-WritesAll limit table script old new h = (s : Start) → start_of limit table script ≡ Ok s → AllAnswered s.blocks h → Took old new (out_of limit s)
-
 -- a refusal of a run; that of a source only where I holds, and that of the sink only where O does
 abbrev pub TellsRun : Type 0 → Type 0 → Refusal → Type 0
 TellsRun I O refusal.Output = O
 TellsRun I O e = TellsStart I e
 
--- what calls leave that were begun from a start, and the count of failures of the sink: a record of them, or nothing
--- for want of memory, or a refusal of the sink, which took a beginning of what they write
+-- what calls leave that were begun from a start, and the count of failures of the sink: a record of their outcomes, whose
+-- lines it took; or nothing, for want of memory; or a refusal of the sink, which took a beginning of such lines
 abbrev pub Goes : ℕ → Start → Option (List ℕ) → Option (List ℕ) → ℕ → ℕ → Result History Refusal → Type 0
-Goes limit s old new f g (Ok h) = IsLegal h × ((made : List (List (Call × Bool))) × Leaves limit s made old new h) × (g ≡ f)
+Goes limit s old new f g (Ok h) = ((told : List (List Outcome)) × Leaves limit s told old new h) × (g ≡ f)
 Goes limit s old new f g (Err refusal.NoMemory) = Keeps old new × (g ≡ f)
-Goes limit s old new f g (Err refusal.Output) = Began limit s old new × Raised f g
+Goes limit s old new f g (Err refusal.Output) = Began s old new × Raised f g
 Goes limit s old new f g (Err e) = ⊥
 
--- what a run answers: a record of the calls that the bytes spell, each answered or refused, with what they wrote; or
--- a refusal of the sink, which took a beginning of that; or a refusal before any call
-abbrev pub Ran : Type 0 → ℕ → List ℕ → List ℕ → Option (List ℕ) → Option (List ℕ) → Result History Refusal → Type 0
-Ran I limit table script old new (Ok h) = (s : Start) × (start_of limit table script ≡ Ok s) × ((made : List (List (Call × Bool))) × Leaves limit s made old new h)
-Ran I limit table script old new (Err refusal.Output) = (s : Start) × (start_of limit table script ≡ Ok s) × Began limit s old new
-Ran I limit table script old new (Err e) = RefusedFrom I e (start_of limit table script)
+-- What a run answers: a record of the calls that the bytes spell, each with its outcome, whose lines the sink took; or a
+-- refusal of the sink, which took a beginning of such lines; or, before any call, the refusal of what the bytes spell.
+abbrev pub Ran : Type 0 → ℕ → List ℕ → List ℕ → List ℕ → Option (List ℕ) → Option (List ℕ) → Result History Refusal → Type 0
+Ran I limit cuts table script old new (Ok h) = (s : Start) × (start_of limit cuts table script ≡ Ok s) × ((told : List (List Outcome)) × Leaves limit s told old new h)
+Ran I limit cuts table script old new (Err refusal.Output) = (s : Start) × (start_of limit cuts table script ≡ Ok s) × Began s old new
+Ran I limit cuts table script old new (Err e) = RefusedFrom I e (start_of limit cuts table script)
+
+-- where each session has an answered call for each call of its block, the record has the calls of the blocks, and the sink
+-- took the lines of their replies
+abbrev pub TellsWhere : ℕ → List ℕ → List ℕ → List ℕ → Option (List ℕ) → Option (List ℕ) → History → Type 0
+TellsWhere limit cuts table script old new h = (s : Start) → start_of limit cuts table script ≡ Ok s → AllAnswered s.blocks h → TellsAll s old new h
+
+-- and where the script has one block, the lines are those of the plain table's replies, and nothing else
+abbrev pub WritesOut : ℕ → List ℕ → List ℕ → List ℕ → Option (List ℕ) → Option (List ℕ) → History → Type 0
+WritesOut limit cuts table script old new h =
+    (s : Start) (calls : List Call) → start_of limit cuts table script ≡ Ok s → s.blocks ≡ calls ∷ [] → AllAnswered s.blocks h → Took old new (out_of limit s calls)
 
 -- a fact of two lists of bytes, where both are known
 abbrev pub IfBoth : Option (List ℕ) → Option (List ℕ) → (List ℕ → List ℕ → Type 0) → Type 0

@@ -2,19 +2,21 @@
 //! refusals are told on standard error.
 #![tactic(auto)]
 
+mod boxes;
 mod buffered;
-mod desk;
 mod fault;
 pub mod fault_examples;
 mod noting;
-mod plain;
 mod running;
 mod script;
+mod serving;
 mod start;
+mod telling;
 mod watching;
 
+pub use boxes::blank_boxes;
 pub use fault::{status, write_fault};
 pub use noting::Noting;
-pub use running::{Options, run};
+pub use running::{Options, run, run_with};
 pub use script::{MOST_BLOCKS, MOST_CALLS};
 pub use sw_histories::{check_file, read_record, write_record};

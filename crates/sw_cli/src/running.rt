@@ -1,113 +1,94 @@
 //! A run, from two sources to a sink.
 
-ghost use Rattle.std.specs.Prelude.{◌≡◌, ◌<◌, ◌≤◌, ◌⊎◌, ℕ, Bool, List, true, length, IfErr, IfOk, OnOk};
+ghost use Rattle.std.specs.Prelude.{◌≡◌, ◌<◌, ◌≤◌, ◌⊎◌, List, [], true, length, All, IfErr, IfOk, IsOkUnless, map, vec_capacity};
 ghost use Rattle.std.specs.Io.KnownBytes.{Keeps};
+ghost use Rattle.sw_lang.specs.Sinks.{Writes};
+ghost use Rattle.sw_map.specs.Held.{blank};
 ghost use Rattle.sw_rows.specs.Gives.{Raised};
-ghost use Rattle.sw_rows.specs.declared.query.Call.{Call};
-ghost use Rattle.sw_spine.specs.Books.{new_books};
+ghost use Rattle.sw_rows.specs.declared.refusal.Refusal.TheVariants.{NoMemory};
 ghost use Rattle.sw_spine.specs.History.{IsLegal};
-ghost use Rattle.sw_spine.specs.Table.{is_numbered};
-ghost use Rattle.sw_cli.specs.Desks.{IsServed, Served, ended_from, with_sessions};
-ghost use Rattle.sw_cli.specs.Jobs.{IsJob};
-ghost use Rattle.sw_cli.specs.Plain.{listed};
-ghost use Rattle.sw_cli.specs.Run.{blocks_made};
-ghost use Rattle.sw_cli.specs.Starts.{Goes, IfBoth, IsStart, Ran, TellsRun, WritesAll, start_seen};
+ghost use Rattle.sw_cli.specs.Outcomes.{AreTold, blocks_told, text_of};
+ghost use Rattle.sw_cli.specs.Run.{IsRecordOf, Start};
+ghost use Rattle.sw_cli.specs.Served.{Served};
+ghost use Rattle.sw_cli.specs.Starts.{Goes, IfBoth, IsStart, Ran, TellsRun, TellsWhere, WritesOut, start_seen};
 
 use crate::buffered::{Base, Buffered, block};
-use crate::desk::make_blocks;
-use crate::plain::Plain;
 use crate::script::Block;
+use crate::serving::serve;
 use crate::start::{Opened, read_start};
+use crate::telling::{BlockTold, write_blocks};
 use core::mem::replace_with;
 use std::alloc::Global;
 use std::marker::Brand;
-use sw_rows::{Refusal, Row, Schema, Sink, Source};
-use sw_spine::{Record, Spine};
+use std::sync::Wait;
+use std::thread::Threads;
+use sw_engine::{Blank, Engine, Naming, deal};
+use sw_map::CrackerMap;
+use sw_rows::{Refusal, Sink, Source};
+use sw_spine::Record;
 
 /// What a run is told besides its files.
-#[derive(Clone, Copy, Debug, PartialEq, Eq)]
-pub struct Options {
+#[derive(Clone, Copy, Debug)]
+pub struct Options<'a> {
     /// How many rows are ever inserted at most, those of the table included: 1 to 1,048,576.
     pub limit: u64,
+    /// Where heads are cut into areas: nothing, or a list of `name=value` divided by `;`.
+    pub cuts: &'a str,
+    /// Whether each block of the script has a thread of its own.
+    pub threads: bool,
 }
 
-/// Opens so many sessions of a spine that has none.
-fn open_sessions(spine: &mut Spine, count: usize) -> Result<(), Refusal>
-    requires none { spine.old.sessions ≡ 0 }
-    requires few { count ≤ 1024 }
-    ensures opened { OnOk result (spine.new ≡ with_sessions count spine.old) }
-    ensures refused { IfErr result (λ e. e ≡ Refusal.NoMemory) }
-{
-    for _ in 0..count {
-        match spine.open_session() {
-            Ok(_) => {}
-            Err(_) => return Err(Refusal::NoMemory),
-        }
+/// What came of the blocks of a script, and the record of it.
+#[derive(Drop)]
+struct Ended {
+    blocks: Vec<Block>,
+    told: Vec<BlockTold>,
+    history: Record,
+    ghost all: { AreTold blocks.items told.items },
+}
+
+impl Ended {
+    /// Writes the lines of what came of the blocks.
+    fn write<W: Sink>(&self, out: &mut W) -> Result<(), Refusal>
+        ensures { Writes (W.taken out.old) (W.taken out.new) (W.failed out.old) (W.failed out.new) result
+            (text_of self.now.history.columns (blocks_told self.now.blocks.items self.now.told.items)) }
+    {
+        write_blocks(
+            &self.history.schema,
+            self.blocks.as_slice(),
+            self.told.as_slice(),
+            out,
+        )
     }
-    Ok(())
-}
 
-/// A spine of these rows with so many sessions, and a plain list of them.
-fn open_desk(
-    alloc: Global,
-    schema: Schema,
-    rows: Vec<Row>,
-    limit: u64,
-    sessions: usize,
-) -> Result<(Spine, Plain), Refusal>
-    requires some { 0 < limit }
-    requires most { limit ≤ 1048576 }
-    requires numbered { is_numbered 1 rows.items ≡ true }
-    requires few { length rows.items ≤ limit }
-    requires sessions { sessions ≤ 1024 }
-    ensures desk { IfOk result (λ d. (d.0 ≡ with_sessions sessions (new_books schema rows.items limit)) × (d.1 ≡ listed rows.items)) }
-    ensures refused { IfErr result (λ e. e ≡ Refusal.NoMemory) }
-{
-    let Ok(copy) = Vec::from_slice(alloc, rows.as_slice()) else {
-        return Err(Refusal::NoMemory);
-    };
-    let Ok(mut spine) = Spine::new(alloc, schema, rows, limit) else {
-        return Err(Refusal::NoMemory);
-    };
-    match open_sessions(&mut spine, sessions) {
-        Ok(()) => Ok((spine, Plain::new(alloc, copy))),
-        Err(e) => Err(e),
+    /// The record.
+    fn into_history(self) -> Record
+        ensures { result ≡ self.history }
+    {
+        let Ended { history, .. } = self;
+        history
     }
 }
 
-/// The blocks of a script with what answers their calls, and the memory of a block of bytes.
+/// What is to be written, and the memory of a block of bytes.
 #[derive(Drop)]
 struct Job {
-    alloc: Global,
     memory: Vec<u8>,
-    spine: Spine,
-    plain: Plain,
-    blocks: Vec<Block>,
+    ended: Ended,
+    ghost empty: { memory.items ≡ [] },
+    ghost room: { 65536 ≤ vec_capacity memory },
 }
 
-/// Makes the blocks of a script through a block of bytes before a sink, and hands the sink back.
-fn serve_since<J: Base, W: Sink>(sink: W, job: Job) -> (W, Result<Record, Refusal>)
-    requires base { J.base ≡ W.taken sink }
-    requires job { IsJob job }
-    ensures { (made : List (List (Call × Bool))) × (blocks_made made ≡ job.blocks.items) × Served (W.taken sink) (W.taken result.0) (W.failed sink) (W.failed result.0) result.1 (ended_from job.spine made).text × IfOk result.1 (IsServed made job.spine) }
+/// Writes the lines of what came of blocks through a block of bytes before a sink, and hands the sink back.
+fn write_since<B: Base, W: Sink>(sink: W, job: Job) -> (W, Result<Record, Refusal>)
+    requires { B.base ≡ W.taken sink }
+    ensures { Served (W.taken sink) (W.taken result.0) (W.failed sink) (W.failed result.0) result.1 (text_of job.ended.history.columns (blocks_told job.ended.blocks.items job.ended.told.items)) × IfOk result.1 (λ h. h ≡ job.ended.history) }
 {
-    let Job {
-        alloc,
-        memory,
-        mut spine,
-        mut plain,
-        blocks,
-    } = job;
-    let mut buffered: Buffered<J, W> = Buffered::new(memory, sink);
-    match make_blocks(
-        alloc,
-        &mut spine,
-        &mut plain,
-        blocks.as_slice(),
-        &mut buffered,
-    ) {
+    let Job { memory, ended } = job;
+    let mut buffered: Buffered<B, W> = Buffered::new(memory, sink);
+    match ended.write(&mut buffered) {
         Ok(()) => match buffered.send() {
-            Ok(()) => (buffered.into_sink(), Ok(spine.into_record())),
+            Ok(()) => (buffered.into_sink(), Ok(ended.into_history())),
             Err(_) => (buffered.into_sink(), Err(Refusal::Output)),
         },
         Err(e) => (buffered.into_sink(), Err(e)),
@@ -115,68 +96,140 @@ fn serve_since<J: Base, W: Sink>(sink: W, job: Job) -> (W, Result<Record, Refusa
 }
 
 /// The same from what the sink has taken now.
-fn serve<W: Sink>(sink: W, job: Job) -> (W, Result<Record, Refusal>)
-    requires { IsJob job }
-    ensures { (made : List (List (Call × Bool))) × (blocks_made made ≡ job.blocks.items) × Served (W.taken sink) (W.taken result.0) (W.failed sink) (W.failed result.0) result.1 (ended_from job.spine made).text × IfOk result.1 (IsServed made job.spine) }
+fn write_job<W: Sink>(sink: W, job: Job) -> (W, Result<Record, Refusal>)
+    ensures { Served (W.taken sink) (W.taken result.0) (W.failed sink) (W.failed result.0) result.1 (text_of job.ended.history.columns (blocks_told job.ended.blocks.items job.ended.told.items)) × IfOk result.1 (λ h. h ≡ job.ended.history) }
 {
-    serve_since::<Brand, W>(sink, job)
+    write_since::<Brand, W>(sink, job)
 }
 
-/// Makes the blocks of a run that was opened.
-fn begin<W: Sink>(alloc: Global, opened: Opened, limit: u64, out: &mut W) -> Result<Record, Refusal>
-    requires some { 0 < limit }
-    requires most { limit ≤ 1048576 }
-    requires sound { IsStart limit (start_seen opened) }
-    ensures { Goes limit (start_seen opened) (W.taken out.old) (W.taken out.new) (W.failed out.old) (W.failed out.new) result }
+/// Makes the blocks of a run that was opened, by an engine of these names. The one refusal is `NoMemory`.
+fn make<J: Naming + Send + Sync, M: CrackerMap, R: Threads + Wait + Sync>(
+    rt: &R,
+    alloc: Global,
+    books: Blank,
+    opened: Opened,
+    options: &Options<'_>,
+    maps: Vec<M>,
+) -> Result<Job, Refusal>
+    requires books { (books.sessions.name ≡ J.sessions) × (books.heads.name ≡ J.heads) }
+    requires table { (opened.schema ≡ J.columns) × (opened.rows.items ≡ J.opening) × (options.now.limit ≡ J.limit) }
+    requires some { 0 < options.now.limit }
+    requires most { options.now.limit ≤ 1048576 }
+    requires sound { IsStart options.now.limit (start_seen opened) }
+    requires blank { All (λ m. M.held m ≡ blank) maps.items }
+    ensures blocks { IfOk result (λ j. j.ended.blocks.items ≡ opened.blocks.items) }
+    ensures record_is { IfOk result (λ j. IsRecordOf J.columns J.opening J.limit (blocks_told j.ended.blocks.items j.ended.told.items) j.ended.history) }
+    ensures refused { IsOkUnless result NoMemory }
 {
     let Opened {
         schema,
         rows,
         blocks,
+        cuts,
     } = opened;
     let Ok(memory) = block(alloc) else {
         return Err(Refusal::NoMemory);
     };
-    match open_desk(alloc, schema, rows, limit, blocks.len()) {
-        Ok((spine, plain)) => {
-            let job = Job {
-                alloc,
-                memory,
-                spine,
-                plain,
-                blocks,
-            };
-            replace_with(out, job, serve)
-        }
+    let columns = schema.len();
+    let limit = options.limit;
+    let sessions = blocks.len();
+    let Ok((engine, tickets)) = Engine::<J, M>::open_for(
+        alloc, books, schema, rows, cuts, limit, sessions,
+    ) else {
+        return Err(Refusal::NoMemory);
+    };
+    deal(rt, &engine, columns, maps)?;
+    let (history, told) = serve(
+        rt,
+        alloc,
+        options.threads,
+        engine,
+        tickets,
+        blocks.as_slice(),
+    )?;
+    let ended = Ended {
+        blocks,
+        told,
+        history,
+    };
+    Ok(Job { memory, ended })
+}
+
+/// Makes the blocks of a run that was opened, and writes what came of them.
+fn begin<M: CrackerMap, R: Threads + Wait + Sync, W: Sink>(
+    rt: &R,
+    alloc: Global,
+    opened: Opened,
+    options: &Options<'_>,
+    maps: Vec<M>,
+    out: &mut W,
+) -> Result<Record, Refusal>
+    requires some { 0 < options.now.limit }
+    requires most { options.now.limit ≤ 1048576 }
+    requires sound { IsStart options.now.limit (start_seen opened) }
+    requires blank { All (λ m. M.held m ≡ blank) maps.items }
+    ensures { Goes options.now.limit (start_seen opened) (W.taken out.old) (W.taken out.new) (W.failed out.old) (W.failed out.new) result }
+{
+    match make::<Brand, M, R>(rt, alloc, Blank::new(), opened, options, maps) {
+        Ok(job) => replace_with(out, job, write_job),
         Err(e) => Err(e),
     }
 }
 
-/// Reads a table and a script, makes the calls of the script's blocks one block after another, block i as session i, and
-/// writes the lines of their replies, with a line `---` between two blocks.
+/// Reads a table, a script and cuts, makes the calls of the script's blocks, block i as session i, and writes the lines of
+/// what came of them, with a line `---` between two blocks. The maps are boxes: box i, from 0, is dealt to the head of
+/// attribute i mod n, where there are n attributes.
 ///
-/// The table is read first, then the script; then the rows are held against the limit. The first fault in that order
-/// refuses the run before any call: `BadTable`, `BadLine`, `UnknownAttribute`, `TooMany`, `Input` where a source failed, or
-/// `NoMemory`; nothing was written then. A call that is refused for want of memory writes `refused 1`, changes no row, and
-/// the calls after it are made. `Output` comes only where the sink failed. The caller's condition: the limit is 1 to
-/// 1,048,576.
-pub fn run<T: Source, S: Source, W: Sink>(
+/// The table is read first, then the script, then the cuts; then the rows are held against the limit. The first fault in that
+/// order refuses the run before any call: `BadTable`, `BadLine`, `UnknownAttribute`, `TooMany`, `Input` where a source
+/// failed, or `NoMemory`; nothing was written then. Blocks run one after another, or each in a thread of its own; their lines
+/// go out in the order of the script when all have ended. A call that is refused writes `refused` and the refusal's number,
+/// changes no row, and the calls after it are made. `Output` comes only where the sink failed. The caller's conditions: the
+/// limit is 1 to 1,048,576, and the boxes are blank.
+pub fn run_with<M: CrackerMap, R: Threads + Wait + Sync, T: Source, S: Source, W: Sink>(
+    rt: &R,
     alloc: Global,
     table: &mut T,
     script: &mut S,
     out: &mut W,
-    options: &Options,
+    options: &Options<'_>,
+    maps: Vec<M>,
 ) -> Result<Record, Refusal>
     requires some { 0 < options.now.limit }
     requires most { options.now.limit ≤ 1048576 }
-    ensures ran { IfBoth (T.left table.old) (S.left script.old) (λ t s. Ran (Raised (T.failed table.old) (T.failed table.new) ⊎ Raised (S.failed script.old) (S.failed script.new)) options.now.limit t s (W.taken out.old) (W.taken out.new) result) }
-    ensures out { IfBoth (T.left table.old) (S.left script.old) (λ t s. IfOk result (WritesAll options.now.limit t s (W.taken out.old) (W.taken out.new))) }
+    requires blank { All (λ m. M.held m ≡ blank) maps.items }
+    ensures ran { IfBoth (T.left table.old) (S.left script.old) (λ t s. Ran (Raised (T.failed table.old) (T.failed table.new) ⊎ Raised (S.failed script.old) (S.failed script.new)) options.now.limit options.now.cuts.now t s (W.taken out.old) (W.taken out.new) result) }
+    ensures tells { IfBoth (T.left table.old) (S.left script.old) (λ t s. IfOk result (TellsWhere options.now.limit options.now.cuts.now t s (W.taken out.old) (W.taken out.new))) }
+    ensures out { IfBoth (T.left table.old) (S.left script.old) (λ t s. IfOk result (WritesOut options.now.limit options.now.cuts.now t s (W.taken out.old) (W.taken out.new))) }
     ensures legal { IfOk result IsLegal }
     ensures quiet { IfErr result (λ e. (e ≡ Refusal.Output → ⊥) → Keeps (W.taken out.old) (W.taken out.new) × (W.failed out.new ≡ W.failed out.old)) }
     ensures told { IfErr result (TellsRun (Raised (T.failed table.old) (T.failed table.new) ⊎ Raised (S.failed script.old) (S.failed script.new)) (Raised (W.failed out.old) (W.failed out.new))) }
 {
-    match read_start(alloc, table, script, options.limit) {
-        Ok(opened) => begin(alloc, opened, options.limit, out),
+    match read_start(alloc, table, script, options.cuts, options.limit) {
+        Ok(opened) => begin(rt, alloc, opened, options, maps, out),
         Err(e) => Err(e),
     }
+}
+
+/// The same over boxes of any kinds.
+pub fn run<R: Threads + Wait + Sync, T: Source, S: Source, W: Sink>(
+    rt: &R,
+    alloc: Global,
+    table: &mut T,
+    script: &mut S,
+    out: &mut W,
+    options: &Options<'_>,
+    maps: Vec<Box<dyn CrackerMap>>,
+) -> Result<Record, Refusal>
+    requires some { 0 < options.now.limit }
+    requires most { options.now.limit ≤ 1048576 }
+    requires blank { All (λ m. (CrackerMap-box m).held m.value ≡ blank) maps.items }
+    ensures ran { IfBoth (T.left table.old) (S.left script.old) (λ t s. Ran (Raised (T.failed table.old) (T.failed table.new) ⊎ Raised (S.failed script.old) (S.failed script.new)) options.now.limit options.now.cuts.now t s (W.taken out.old) (W.taken out.new) result) }
+    ensures tells { IfBoth (T.left table.old) (S.left script.old) (λ t s. IfOk result (TellsWhere options.now.limit options.now.cuts.now t s (W.taken out.old) (W.taken out.new))) }
+    ensures out { IfBoth (T.left table.old) (S.left script.old) (λ t s. IfOk result (WritesOut options.now.limit options.now.cuts.now t s (W.taken out.old) (W.taken out.new))) }
+    ensures legal { IfOk result IsLegal }
+    ensures quiet { IfErr result (λ e. (e ≡ Refusal.Output → ⊥) → Keeps (W.taken out.old) (W.taken out.new) × (W.failed out.new ≡ W.failed out.old)) }
+    ensures told { IfErr result (TellsRun (Raised (T.failed table.old) (T.failed table.new) ⊎ Raised (S.failed script.old) (S.failed script.new)) (Raised (W.failed out.old) (W.failed out.new))) }
+{
+    run_with(rt, alloc, table, script, out, options, maps)
 }

@@ -1,21 +1,25 @@
-//! What a run starts from: a table and a script, read to their ends.
+//! What a run starts from: a table, a script and cuts, read to their ends.
 
 ghost use Rattle.std.specs.Prelude.{◌≡◌, ◌⊎◌, length, IfErr, IfOk, IfSome};
+ghost use Rattle.sw_lang.specs.Cuts.{FitCuts};
 ghost use Rattle.sw_rows.specs.Gives.{Raised};
-ghost use Rattle.sw_cli.specs.Run.{script_of, start_of};
+ghost use Rattle.sw_histories.specs.Told.{Reads, TellsText};
+ghost use Rattle.sw_cli.specs.Run.{cuts_of, script_of, start_of};
 ghost use Rattle.sw_cli.specs.Script.{AreBlocks};
 ghost use Rattle.sw_cli.specs.Starts.{IfBoth, IsStart, ReadsFrom, TellsStart, start_seen};
 
 use crate::script::{Block, read_blocks};
 use std::alloc::Global;
+use sw_lang::{Cuts, parse_cuts};
 use sw_rows::{MOST_BYTES, Refusal, Row, Schema, Source, load, read_all};
 
-/// A table and a script that were read.
+/// A table, a script and cuts that were read.
 #[derive(Drop)]
 pub(crate) struct Opened {
     pub(crate) schema: Schema,
     pub(crate) rows: Vec<Row>,
     pub(crate) blocks: Vec<Block>,
+    pub(crate) cuts: Cuts,
 }
 
 /// Reads a script from its source.
@@ -37,14 +41,24 @@ fn read_script<S: Source>(
     }
 }
 
-/// Reads a table, then a script, and holds the rows against the limit.
+/// Reads the text of the cuts.
+fn read_cuts(alloc: Global, schema: &Schema, text: &str) -> Result<Cuts, Refusal>
+    ensures answers { Reads (λ cuts. cuts) result (cuts_of schema.now text.now) }
+    ensures fits { IfOk result (FitCuts schema.now) }
+    ensures why { IfErr result TellsText }
+{
+    parse_cuts(alloc, schema, text)
+}
+
+/// Reads a table, then a script, then the text of the cuts, and holds the rows against the limit.
 pub(crate) fn read_start<T: Source, S: Source>(
     alloc: Global,
     table: &mut T,
     script: &mut S,
+    cuts: &str,
     limit: u64,
 ) -> Result<Opened, Refusal>
-    ensures spelled { IfBoth (T.left table.old) (S.left script.old) (λ t s. ReadsFrom (Raised (T.failed table.old) (T.failed table.new) ⊎ Raised (S.failed script.old) (S.failed script.new)) start_seen result (start_of limit t s)) }
+    ensures spelled { IfBoth (T.left table.old) (S.left script.old) (λ t s. ReadsFrom (Raised (T.failed table.old) (T.failed table.new) ⊎ Raised (S.failed script.old) (S.failed script.new)) start_seen result (start_of limit cuts.now t s)) }
     ensures sound { IfOk result (λ o. IsStart limit (start_seen o)) }
     ensures told { IfErr result (TellsStart (Raised (T.failed table.old) (T.failed table.new) ⊎ Raised (S.failed script.old) (S.failed script.new))) }
 {
@@ -56,6 +70,10 @@ pub(crate) fn read_start<T: Source, S: Source>(
         Ok(blocks) => blocks,
         Err(e) => return Err(e),
     };
+    let cuts = match read_cuts(alloc, &schema, cuts) {
+        Ok(cuts) => cuts,
+        Err(e) => return Err(e),
+    };
     if rows.len() as u64 > limit {
         return Err(Refusal::TooMany { limit });
     }
@@ -63,5 +81,6 @@ pub(crate) fn read_start<T: Source, S: Source>(
         schema,
         rows,
         blocks,
+        cuts,
     })
 }

@@ -7,8 +7,11 @@ use crate::files::{checked, cuts, file};
 use crate::sinks::{Failing, noted};
 use crate::text::unescaped;
 use std::alloc::{AllocError, Global};
-use sw_cli::{Options, run, write_record};
+use std::sync::Wait;
+use std::thread::Threads;
+use sw_cli::{Options, blank_boxes, run_with, write_record};
 use sw_rows::{Counted, Refusal, Sink};
+use sw_spine::Record;
 
 /// A limit of rows.
 #[derive(Clone, Copy)]
@@ -35,41 +38,119 @@ fn told(alloc: Global, wrote: &[u8], refusal: Option<Refusal>) -> Result<String,
     Ok(text)
 }
 
+/// What a run is told besides its files and its limit.
+#[derive(Clone, Copy)]
+struct Way<'a> {
+    budget: u64,
+    boxes: u64,
+    cuts: &'a str,
+    threads: bool,
+}
+
+/// Ample boxes and cells, one area, blocks in turn.
+const AMPLE: Way<'static> = Way {
+    budget: 1 << 20,
+    boxes: 64,
+    cuts: "",
+    threads: false,
+};
+
+/// Ways that change no reply: no box; no cell; an area below 12 and one from there, of an attribute a that has one; and each
+/// block in a thread of its own.
+const OTHERS: [Way<'static>; 4] = [
+    Way { boxes: 0, ..AMPLE },
+    Way { budget: 0, ..AMPLE },
+    Way {
+        cuts: "a=12",
+        ..AMPLE
+    },
+    Way {
+        threads: true,
+        ..AMPLE
+    },
+];
+
 /// Runs a script over a table into a sink.
-fn run_into<W: Sink>(
+fn run_into<R: Threads + Wait + Sync, W: Sink>(
+    rt: &R,
     alloc: Global,
     table: &[u8],
     script: &[u8],
     limit: Limit,
+    way: Way<'_>,
     out: &mut W,
-) -> Option<Refusal> {
-    let options = Options { limit: limit.rows };
-    run(
+) -> Result<Record, Refusal> {
+    let options = Options {
+        limit: limit.rows,
+        cuts: way.cuts,
+        threads: way.threads,
+    };
+    let maps = blank_boxes(alloc, way.budget, way.boxes)?;
+    run_with(
+        rt,
         alloc,
         &mut Counted::new(table),
         &mut Counted::new(script),
         out,
         &options,
+        maps,
     )
-    .err()
 }
 
 /// What a run writes, and then its refusal.
-fn ran(alloc: Global, table: &[u8], script: &[u8], limit: Limit) -> Result<String, AllocError> {
+fn ran_so<R: Threads + Wait + Sync>(
+    rt: &R,
+    alloc: Global,
+    table: &[u8],
+    script: &[u8],
+    limit: Limit,
+    way: Way<'_>,
+) -> Result<String, AllocError> {
     let mut out = Counted::new(Vec::new(alloc));
-    let refusal = run_into(alloc, table, script, limit, &mut out);
+    let refusal = run_into(rt, alloc, table, script, limit, way, &mut out).err();
     told(alloc, out.inner.as_slice(), refusal)
 }
 
+/// Whether a way can be gone: cuts need an attribute a that comes first, and blocks in threads come in no order.
+fn may_go(table: &[u8], script: &[u8], way: Way<'_>) -> bool {
+    if way.threads {
+        return !script.windows(3).any(|part| part == b"---".as_slice());
+    }
+    way.cuts.is_empty() || table.starts_with(b"a:int") || table.starts_with(b"a\n")
+}
+
+/// What a run writes, and then its refusal; and that another way gives something else, if one does.
+fn ran<R: Threads + Wait + Sync>(
+    rt: &R,
+    alloc: Global,
+    table: &[u8],
+    script: &[u8],
+    limit: Limit,
+) -> Result<String, AllocError> {
+    let mut text = ran_so(rt, alloc, table, script, limit, AMPLE)?;
+    for way in &OTHERS {
+        if !may_go(table, script, *way) {
+            continue;
+        }
+        let other = ran_so(rt, alloc, table, script, limit, *way)?;
+        if other.as_str() != text.as_str() {
+            text.push_str("another way: ")?;
+            text.push_str(other.as_str())?;
+        }
+    }
+    Ok(text)
+}
+
 /// How many bytes a run writes, and then its refusal.
-fn measured(
+fn measured<R: Threads + Wait + Sync>(
+    rt: &R,
     alloc: Global,
     table: &[u8],
     script: &[u8],
     limit: Limit,
 ) -> Result<String, AllocError> {
     let mut out = Counted::new(Vec::new(alloc));
-    let refusal = run_into(alloc, table, script, limit, &mut out);
+    let refusal = run_into(rt, alloc, table, script, limit, AMPLE, &mut out).err();
     let count = format!(in alloc; "{} bytes", out.inner.len())?;
     told(alloc, count.as_bytes(), refusal)
 }
@@ -93,7 +174,8 @@ fn repeated(alloc: Global, text: &[u8], times: usize) -> Result<Vec<u8>, AllocEr
 }
 
 /// What a sink took that fails at its write of this number, and then the refusal.
-fn cut_short(
+fn cut_short<R: Threads + Wait + Sync>(
+    rt: &R,
     alloc: Global,
     table: &[u8],
     script: &[u8],
@@ -101,22 +183,21 @@ fn cut_short(
     limit: Limit,
 ) -> Result<String, AllocError> {
     let mut out = Counted::new(Failing::new(alloc, left));
-    let refusal = run_into(alloc, table, script, limit, &mut out);
+    let refusal = run_into(rt, alloc, table, script, limit, AMPLE, &mut out).err();
     told(alloc, out.inner.bytes(), refusal)
 }
 
 /// The history file of a script, or the refusal.
-fn history(alloc: Global, table: &[u8], script: &[u8], limit: Limit) -> Result<String, AllocError> {
+fn history<R: Threads + Wait + Sync>(
+    rt: &R,
+    alloc: Global,
+    table: &[u8],
+    script: &[u8],
+    limit: Limit,
+) -> Result<String, AllocError> {
     let mut kept = Counted::new(Vec::new(alloc));
-    let options = Options { limit: limit.rows };
-    let ran = run(
-        alloc,
-        &mut Counted::new(table),
-        &mut Counted::new(script),
-        &mut Counted::new(Vec::new(alloc)),
-        &options,
-    );
-    let refusal = match ran {
+    let mut out = Counted::new(Vec::new(alloc));
+    let refusal = match run_into(rt, alloc, table, script, limit, AMPLE, &mut out) {
         Ok(record) => write_record(alloc, &record, &mut kept).err(),
         Err(e) => Some(e),
     };
@@ -145,22 +226,34 @@ impl Bench {
     }
 
     /// Makes the case of a script that comes after a number.
-    fn take_numbered(&self, alloc: Global, word: &str, text: &str) -> Result<String, AllocError> {
+    fn take_numbered<R: Threads + Wait + Sync>(
+        &self,
+        rt: &R,
+        alloc: Global,
+        word: &str,
+        text: &str,
+    ) -> Result<String, AllocError> {
         let (number, rest) = numbered(text);
         let bytes = unescaped(alloc, rest)?;
         if word == "failing" {
-            return cut_short(alloc, &self.table, &bytes, number, self.limit);
+            return cut_short(rt, alloc, &self.table, &bytes, number, self.limit);
         }
         let script = repeated(alloc, &bytes, number.min(1_048_577) as usize)?;
-        measured(alloc, &self.table, &script, self.limit)
+        measured(rt, alloc, &self.table, &script, self.limit)
     }
 
     /// Makes the case of a text.
-    fn take_text(&mut self, alloc: Global, word: &str, text: &str) -> Result<String, AllocError> {
+    fn take_text<R: Threads + Wait + Sync>(
+        &mut self,
+        rt: &R,
+        alloc: Global,
+        word: &str,
+        text: &str,
+    ) -> Result<String, AllocError> {
         let bytes = unescaped(alloc, text)?;
         match word {
-            "run" => ran(alloc, &self.table, &bytes, self.limit),
-            "history" => history(alloc, &self.table, &bytes, self.limit),
+            "run" => ran(rt, alloc, &self.table, &bytes, self.limit),
+            "history" => history(rt, alloc, &self.table, &bytes, self.limit),
             "check" => checked(alloc, &bytes),
             "entries" => checked(alloc, &file(alloc, &bytes)?),
             "cuts" => cuts(alloc, &file(alloc, &bytes)?),
@@ -174,7 +267,12 @@ impl Bench {
     }
 
     /// Makes the case of a line, and says what came of it.
-    pub fn take(&mut self, alloc: Global, line: &str) -> Result<String, AllocError> {
+    pub fn take<R: Threads + Wait + Sync>(
+        &mut self,
+        rt: &R,
+        alloc: Global,
+        line: &str,
+    ) -> Result<String, AllocError> {
         let (word, text) = line.split_once(' ').unwrap_or((line, ""));
         match word {
             "limit" => {
@@ -182,8 +280,8 @@ impl Bench {
                 Ok(String::new(alloc))
             }
             "fault" => fault(alloc, text),
-            "many" | "failing" => self.take_numbered(alloc, word, text),
-            _ => self.take_text(alloc, word, text),
+            "many" | "failing" => self.take_numbered(rt, alloc, word, text),
+            _ => self.take_text(rt, alloc, word, text),
         }
     }
 }

@@ -3,7 +3,8 @@
 //! A line is a word and a TEXT, in which \n, \r, \t, \\ and \xHH stand for bytes. One that begins with # is skipped.
 //!
 //! - `table TEXT`, `limit NUMBER`: the table and the limit of the runs that come
-//! - `run TEXT`: what a script over the table writes, and its refusal
+//! - `run TEXT`: what a script over the table writes, and its refusal; and what it writes without boxes, without cells, with the
+//!   cut a=12 and with a thread for each block, where that is something else
 //! - `many NUMBER TEXT`: how many bytes the script writes that has the first line of TEXT so many times and then the rest
 //! - `failing NUMBER TEXT`: what a sink took that takes three bytes a time and fails at its write of this number
 //! - `history TEXT`: the history file of a script over the table
@@ -27,7 +28,7 @@ fn main(rt: HostRuntime) -> io::Result<()> {
     let alloc = rt.alloc();
     let mut bench = Bench::new(alloc);
     for line in rt.lines(alloc) {
-        let told = bench.take(alloc, line?.as_str())?;
+        let told = bench.take(&rt, alloc, line?.as_str())?;
         if !told.is_empty() {
             println!(rt; "{told}")?;
         }

@@ -14,7 +14,7 @@ use Rattle.sw_rows.specs.Header.{Column}
 use Rattle.sw_rows.specs.declared.row.Row.{Row}
 use Rattle.sw_rows.specs.declared.query.Call.{Call}
 use Rattle.sw_rows.specs.declared.reply.Reply.{Reply}
-use Rattle.sw_spine.specs.History.{History, IsLegal, is_absent, mine}
+use Rattle.sw_spine.specs.History.{History, IsLegal, all_given, is_absent, mine}
 use Rattle.sw_spine.specs.Rest.{none_open}
 use Rattle.sw_engine.specs.Desk.{IsNamed}
 
@@ -25,6 +25,8 @@ pub record IsHistoryOfOneThread (columns : List Column) (rows : List Row) (limit
   pub limit_is : h.limit ≡ limit
   -- each reply in it is that of one thread over a plain list of rows, after the calls before it
   pub legal : IsLegal h
+  -- a reply stands in it as it was given
+  pub given : all_given h.entries ≡ true
   -- the answered entries of each session, in the history's order, are the calls that were answered to it
   pub answered : All (λ (t : ℕ × List (Call × Reply)). mine t.0 h.entries ≡ t.1) tickets
   -- no other session has entries

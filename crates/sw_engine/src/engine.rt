@@ -323,6 +323,7 @@ impl<'e, J: Naming, M: CrackerMap> Session<'e, J, M> {
         ensures number { self.new.0 ≡ self.old.0 }
         ensures mine { IfOk result (λ r. self.new.1 ≡ self.old.1 ++ (call.now, r) ∷ []) }
         ensures err { OnErr result (self.new.1 ≡ self.old.1) }
+        ensures refused { IfErr result (λ e. RefusesCall e) }
     {
         match call {
             Call::Select(query) => self.select(rt, query),

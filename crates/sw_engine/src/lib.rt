@@ -15,4 +15,4 @@ pub use blocks::{Done, Job, serve_all};
 pub use desk::{Blank, Ticket};
 pub use engine::{Engine, Session};
 pub use naming::Naming;
-pub use runs::run_blocks;
+pub use runs::{deal, run_blocks};

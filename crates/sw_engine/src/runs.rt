@@ -86,8 +86,9 @@ fn turn(number: usize, many: usize) -> usize
     number % many
 }
 
-/// Deals boxes out: box i, from 0, goes to the head of attribute i mod n, where there are n attributes.
-fn deal<J: Naming, M: CrackerMap, R: Wait>(
+/// Deals boxes out: box i, from 0, goes to the head of attribute i mod n, where there are n attributes. Refused `NoMemory`
+/// alone; the boxes that were dealt before stay.
+pub fn deal<J: Naming, M: CrackerMap, R: Wait>(
     rt: &R,
     engine: &Engine<J, M>,
     columns: usize,

@@ -11,6 +11,9 @@ returns-clause-sound g c =
     record {
       wide = (table-schema t.0 (shown_table c.in-Ok.found) t.1).sound.few;
       numbered = table_numbered t.0 (shown_table c.in-Ok.found) t.1;
+      some = (table-schema t.0 (shown_table c.in-Ok.found) t.1).some;
       few = grind (arith, common_steps);
       blocks = c.in-Ok-read_script.ensures.sound;
+      lists = c.in-Ok-read_cuts.ensures.fits.lists;
+      cuts = c.in-Ok-read_cuts.ensures.fits.lawful;
     }

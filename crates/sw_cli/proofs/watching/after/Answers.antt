@@ -1,4 +1,4 @@
-use Rattle.std.proofs.Common.{◌≡◌, ◌∙◌, sym, ap, subst, ◌∷◌, ◌==◌, ℕ, List, arith, refl}
+use Rattle.std.proofs.Common.{◌≡◌, ◌∙◌, sym, ap, subst, ◌∷◌, ◌==◌, arith, refl}
 use Rattle.sw_cli.specs.RefusedLines.{comes, tells_from}
 use Rattle.sw_cli.specs.declared.watching.Place.{Place}
 use Rattle.sw_cli.proofs.RefusedLines.{goes_on, line_ends, line_goes_on, stops}

@@ -1,5 +1,5 @@
 use Rattle.std.proofs.Common.{rules, ◌≡◌, length, get_or, sym, ap, ◌∙◌, subst, ⊎_elim, inl, inr}
-use Rattle.sw_spine.specs.History.{History, IsLegal, is_absent, mine}
+use Rattle.sw_spine.specs.History.{History, IsLegal, all_given, is_absent, mine}
 use Rattle.sw_spine.specs.Books.{Books, waits_for}
 use Rattle.sw_spine.specs.Rest.{none_open}
 use Rattle.sw_engine.proofs.Ties.{absent_or_named, given_length, opened_rests}
@@ -20,6 +20,7 @@ returns-clause-headline g c =
       rows_are = ap (λ (h : History). h.rows) is ∙ (ap (λ (x : Books). x.rows) spine ∙ of.rows_are);
       limit_is = ap (λ (h : History). h.limit) is ∙ (ap (λ (x : Books). x.limit) spine ∙ of.limit_is);
       legal = subst IsLegal (sym is) c.into_record.ensures.legal;
+      given = ap (λ (h : History). all_given h.entries) is ∙ c.into_record.ensures.given;
       answered = λ i t lt. ap (λ (h : History). mine (get_or ts i t).0 h.entries) is ∙ (ap (λ (x : Books). mine (get_or ts i t).0 x.entries) same ∙ c.give_all.ensures.mine i t lt);
       others = λ s. ⊎_elim
           (λ gone. inl (ap (λ (h : History). is_absent s h.entries) is ∙ gone))

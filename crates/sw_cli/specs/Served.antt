@@ -1,0 +1,33 @@
+-- What goes out of a text through a block of bytes, and which sessions were answered what.
+use Rattle.std.specs.Prelude.{◌≡◌, ◌≤◌, ◌+◌, ◌∷◌, ℕ, List, [], length, Option, Result, OnOk, IfErr}
+use Rattle.sw_rows.specs.Gives.{Raised}
+use Rattle.sw_rows.specs.declared.query.Call.{Call}
+use Rattle.sw_rows.specs.declared.reply.Reply.{Reply}
+use Rattle.sw_rows.specs.declared.refusal.Refusal.{Refusal}
+use Rattle.sw_rows.specs.declared.refusal.Refusal.TheVariants as refusal
+use Rattle.sw_lang.specs.Sinks.{Took, TookBeginning}
+use Rattle.sw_cli.specs.Outcomes.{Outcome, Told, answered, outcomes_of}
+
+-- tickets with the numbers n, n + 1, n + 2 and so on, to each of which the answered calls of a block's outcomes were answered
+abbrev pub AreAnswered : ℕ → List (List Outcome) → List (ℕ × List (Call × Reply)) → Type 0
+AreAnswered n [] [] = Unit {0}
+AreAnswered n [] (t ∷ ts) = ⊥
+AreAnswered n (b ∷ bs) [] = ⊥
+AreAnswered n (b ∷ bs) (t ∷ ts) = (t.0 ≡ n) × (t.1 ≡ answered b) × AreAnswered (n + 1) bs ts
+
+-- a session that has made no call, and the calls that it is to make, with room for what comes of them
+pub record IsFresh (made : List (Call × Reply)) (told : List Told) (room : ℕ) (calls : List Call) : Type 0 where
+  pub none : made ≡ []
+  pub empty : told ≡ []
+  pub fits : length calls ≤ room
+
+-- the session of this number made these calls: something came of each, and those that were answered are its ticket's
+pub record IsDone (session : ℕ) (calls : List Call) (ticket : ℕ × List (Call × Reply)) (told : List Told) : Type 0 where
+  pub number : ticket.0 ≡ session
+  pub all : length told ≡ length calls
+  pub made : ticket.1 ≡ answered (outcomes_of calls told)
+
+-- the sink took all of a text; or it failed, and took a beginning
+pub record Served {A : Type 0} (old new : Option (List ℕ)) (f g : ℕ) (result : Result A Refusal) (text : List ℕ) : Type 0 where
+  pub whole : OnOk result (Took old new text × (g ≡ f))
+  pub part : IfErr result (λ e. (e ≡ refusal.Output) × TookBeginning old new text × Raised f g)

@@ -1,0 +1,191 @@
+//! Blocks of calls, made one after another or each in a thread of its own.
+
+ghost use Rattle.std.specs.Prelude.{◌≡◌, ◌<◌, ℕ, length, map, slice_index_or, All, IfOk, IsOkUnless, vec_capacity};
+ghost use Rattle.sw_rows.specs.declared.refusal.Refusal.TheVariants.{NoMemory};
+ghost use Rattle.sw_engine.specs.Desk.{AreCounted, InOrder};
+ghost use Rattle.sw_cli.specs.Outcomes.{AreTold, blocks_told};
+ghost use Rattle.sw_cli.specs.Run.{IsRecordOf};
+ghost use Rattle.sw_cli.specs.Script.{AllCallsBelow, AreBlocks};
+ghost use Rattle.sw_cli.specs.Served.{IsDone, IsFresh};
+
+use crate::script::Block;
+use crate::telling::BlockTold;
+use std::alloc::{AllocError, Global};
+use std::sync::Wait;
+use std::thread;
+use std::thread::Threads;
+use sw_engine::{Engine, Naming, Session, Ticket};
+use sw_map::CrackerMap;
+use sw_rows::{Call, Refusal, Reply};
+use sw_spine::Record;
+
+/// A session that has made no call, the calls that it is to make, and room for what comes of them.
+#[derive(Drop)]
+pub(crate) struct Job<'e, J: Naming, M: CrackerMap> {
+    session: Session<'e, J, M>,
+    calls: &'e [Call],
+    told: Vec<Result<Reply, Refusal>>,
+}
+
+/// The session's ticket, and what came of each of its calls.
+#[derive(Drop)]
+pub(crate) struct Done<J: Naming> {
+    ticket: Ticket<J>,
+    told: BlockTold,
+}
+
+/// Makes the calls of a job, one after another.
+fn make_block<J: Naming, M: CrackerMap, R: Threads + Wait + Sync>(
+    rt: &R,
+    job: Job<'_, J, M>,
+) -> Done<J>
+    requires fresh { IsFresh job.session.1 job.told.items (vec_capacity job.told) job.calls.now }
+    requires below { AllCallsBelow (length J.columns) job.calls.now }
+    ensures { IsDone job.entry.session.0 job.entry.calls.now result.ticket result.told }
+{
+    let Job {
+        mut session,
+        calls,
+        mut told,
+    } = job;
+    for call in calls {
+        told.push_reserved(session.call(rt, call));
+    }
+    Done {
+        ticket: session.end(),
+        told: BlockTold { told },
+    }
+}
+
+/// The session of each ticket gets the calls of the block at its place.
+fn jobs<'e, J: Naming, M: CrackerMap>(
+    alloc: Global,
+    engine: &'e Engine<J, M>,
+    tickets: Vec<Ticket<J>>,
+    blocks: &'e [Block],
+) -> Result<Vec<Job<'e, J, M>>, AllocError>
+    requires order { InOrder 1 tickets.items }
+    requires many { length tickets.items ≡ length blocks.now }
+    ensures fresh { IfOk result (λ v. All (λ j. IsFresh j.session.1 j.told.items (vec_capacity j.told) j.calls.now) v.items) }
+    ensures numbers { IfOk result (λ v. AreCounted 1 (map (λ j. j.session.0) v.items)) }
+    ensures calls { IfOk result (λ v. map (λ j. j.calls.now) v.items ≡ blocks.now) }
+{
+    let mut jobs = Vec::new(alloc);
+    for ticket in tickets {
+        let calls = blocks[jobs.len()].calls();
+        let told = Vec::with_capacity(alloc, calls.len())?;
+        jobs.push(Job {
+            session: engine.attach(ticket),
+            calls,
+            told,
+        })?;
+    }
+    Ok(jobs)
+}
+
+/// Makes the calls of the jobs one job after another.
+fn make_in_turn<'e, J: Naming, M: CrackerMap, R: Threads + Wait + Sync>(
+    rt: &R,
+    alloc: Global,
+    jobs: Vec<Job<'e, J, M>>,
+) -> Result<Vec<Done<J>>, AllocError>
+    requires fresh { All (λ j. IsFresh j.session.1 j.told.items (vec_capacity j.told) j.calls.now) jobs.items }
+    requires below { All (λ j. AllCallsBelow (length J.columns) j.calls.now) jobs.items }
+    ensures len { IfOk result (λ v. length v.items ≡ length jobs.entry.items) }
+    ensures done { IfOk result (λ v. (i : ℕ) (j : _) (d : _) → i < length jobs.entry.items → IsDone (slice_index_or jobs.entry.items i j).session.0 (slice_index_or jobs.entry.items i j).calls.now (slice_index_or v.items i d).ticket (slice_index_or v.items i d).told) }
+{
+    let mut done = Vec::new(alloc);
+    for job in jobs {
+        done.push(make_block(rt, job))?;
+    }
+    Ok(done)
+}
+
+/// Makes the calls of each job in a thread of its own; where no thread starts, on the calling one.
+fn make_at_once<'e, J: Naming + Send + Sync, M: CrackerMap, R: Threads + Wait + Sync>(
+    rt: &R,
+    jobs: Vec<Job<'e, J, M>>,
+) -> Result<Vec<Done<J>>, AllocError>
+    requires fresh { All (λ j. IsFresh j.session.1 j.told.items (vec_capacity j.told) j.calls.now) jobs.items }
+    requires below { All (λ j. AllCallsBelow (length J.columns) j.calls.now) jobs.items }
+    ensures len { IfOk result (λ v. length v.items ≡ length jobs.entry.items) }
+    ensures done { IfOk result (λ v. (i : ℕ) (j : _) (d : _) → i < length jobs.entry.items → IsDone (slice_index_or jobs.entry.items i j).session.0 (slice_index_or jobs.entry.items i j).calls.now (slice_index_or v.items i d).ticket (slice_index_or v.items i d).told) }
+{
+    thread::map_vec(
+        rt,
+        jobs,
+        &|job: Job<'_, J, M>| -> Done<J>
+            requires { IsFresh job.session.1 job.told.items (vec_capacity job.told) job.calls.now × AllCallsBelow (length J.columns) job.calls.now }
+            ensures { IsDone job.entry.session.0 job.entry.calls.now result.ticket result.told }
+        { make_block(rt, job) },
+    )
+}
+
+/// Makes the calls of the jobs: at once, or one job after another.
+fn make_all<'e, J: Naming + Send + Sync, M: CrackerMap, R: Threads + Wait + Sync>(
+    rt: &R,
+    alloc: Global,
+    at_once: bool,
+    jobs: Vec<Job<'e, J, M>>,
+) -> Result<Vec<Done<J>>, AllocError>
+    requires fresh { All (λ j. IsFresh j.session.1 j.told.items (vec_capacity j.told) j.calls.now) jobs.items }
+    requires below { All (λ j. AllCallsBelow (length J.columns) j.calls.now) jobs.items }
+    ensures len { IfOk result (λ v. length v.items ≡ length jobs.entry.items) }
+    ensures done { IfOk result (λ v. (i : ℕ) (j : _) (d : _) → i < length jobs.entry.items → IsDone (slice_index_or jobs.entry.items i j).session.0 (slice_index_or jobs.entry.items i j).calls.now (slice_index_or v.items i d).ticket (slice_index_or v.items i d).told) }
+{
+    if at_once {
+        make_at_once(rt, jobs)
+    } else {
+        make_in_turn(rt, alloc, jobs)
+    }
+}
+
+/// The tickets of what was done, and what came of the calls.
+fn parted<J: Naming>(
+    alloc: Global,
+    done: Vec<Done<J>>,
+) -> Result<(Vec<Ticket<J>>, Vec<BlockTold>), AllocError>
+    ensures tickets { IfOk result (λ r. r.0.items ≡ map (λ d. d.ticket) done.items) }
+    ensures told { IfOk result (λ r. r.1.items ≡ map (λ d. d.told) done.items) }
+{
+    let mut tickets = Vec::new(alloc);
+    let mut all_told = Vec::new(alloc);
+    for one in done {
+        let Done { ticket, told } = one;
+        tickets.push(ticket)?;
+        all_told.push(told)?;
+    }
+    Ok((tickets, all_told))
+}
+
+/// Makes the calls of each block by the session of the ticket at its place, and tells the record and what came of the calls.
+/// The one refusal is `NoMemory`.
+pub(crate) fn serve<J: Naming + Send + Sync, M: CrackerMap, R: Threads + Wait + Sync>(
+    rt: &R,
+    alloc: Global,
+    at_once: bool,
+    engine: Engine<J, M>,
+    tickets: Vec<Ticket<J>>,
+    blocks: &[Block],
+) -> Result<(Record, Vec<BlockTold>), Refusal>
+    requires order { InOrder 1 tickets.items }
+    requires many { length tickets.items ≡ length blocks.now }
+    requires blocks { AreBlocks (length J.columns) blocks.now }
+    ensures told { IfOk result (λ r. AreTold blocks.now r.1.items) }
+    ensures record_is { IfOk result (λ r. IsRecordOf J.columns J.opening J.limit (blocks_told blocks.now r.1.items) r.0) }
+    ensures refused { IsOkUnless result NoMemory }
+{
+    let Ok(work) = jobs(alloc, &engine, tickets, blocks) else {
+        return Err(Refusal::NoMemory);
+    };
+    let Ok(done) = make_all(rt, alloc, at_once, work) else {
+        return Err(Refusal::NoMemory);
+    };
+    let Ok((ended, told)) = parted(alloc, done) else {
+        return Err(Refusal::NoMemory);
+    };
+    match engine.close(ended) {
+        Ok(record) => Ok((record, told)),
+        Err(_) => Err(Refusal::NoMemory),
+    }
+}
