@@ -6,6 +6,8 @@ mod insisting;
 mod map_tests;
 mod meeting;
 #[cfg(test)]
+mod program_tests;
+#[cfg(test)]
 mod refusal_tests;
 mod running;
 #[cfg(test)]

@@ -30,7 +30,7 @@ const TABLE: Trial<'static> = Trial {
 };
 
 /// Maps that count their calls together, over purses of one budget.
-fn counting(
+pub fn counting(
     alloc: Global,
     many: usize,
     counts: &Arc<Counts>,
