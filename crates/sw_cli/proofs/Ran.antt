@@ -10,7 +10,7 @@ use Rattle.sw_spine.specs.History.{AllAgree, History, mine}
 use Rattle.sw_spine.specs.Table.{opened}
 use Rattle.sw_cli.specs.Outcomes.{Outcome, all_answered, block_bytes, calls_of, sessions_from, text_of}
 use Rattle.sw_cli.specs.Run.{AllAnswered, Leaves, Start, TellsAll, is_session, out_of, replies_bytes, start_of}
-use Rattle.sw_cli.specs.Starts.{Goes, IfBoth, TellsWhere, WritesOut}
+use Rattle.sw_cli.specs.Starts.{Goes, IfBoth, LeavesSome, TellsWhere, WritesOut}
 use Rattle.sw_cli.proofs.Complete.{block_answered, blocks_answered, calls_answered, one_session}
 
 length_calls : (told : List (List Outcome)) → length (map calls_of told) ≡ length told
@@ -78,3 +78,8 @@ both_out limit cuts s (Some t) (Some c) old new f g (Err e) said goes = tt
 both_out limit cuts s (Some t) (Some c) old new f g (Ok h) said goes = λ other calls is one all.
     let same : s ≡ other = same_start s other (sym said ∙ is) in
     subst (λ (x : Start). Took old new (out_of limit x calls)) same (tells_out limit s calls goes.0.0 old new h goes.0.1 (ap (λ (x : Start). x.blocks) same ∙ one) (subst (λ (x : Start). AllAnswered x.blocks h) (sym same) all))
+
+-- whatever the sources are, a run that ended left outcomes of the calls that it read
+pub goes_left : (limit : ℕ) (s : Start) (old new : Option (List ℕ)) (f g : ℕ) (result : Result History Refusal) → Goes limit s old new f g result → IfOk result (λ h. (s : Start) × LeavesSome limit s old new h)
+goes_left limit s old new f g (Ok h) goes = (s, goes.0)
+goes_left limit s old new f g (Err e) goes = tt

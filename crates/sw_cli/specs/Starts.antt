@@ -54,10 +54,14 @@ abbrev pub TellsRun : Type 0 → Type 0 → Refusal → Type 0
 TellsRun I O refusal.Output = O
 TellsRun I O e = TellsStart I e
 
+-- some outcomes of the calls of a start, of which the record is, and whose lines the sink took
+abbrev pub LeavesSome : ℕ → Start → Option (List ℕ) → Option (List ℕ) → History → Type 0
+LeavesSome limit s old new h = (told : List (List Outcome)) × Leaves limit s told old new h
+
 -- what calls leave that were begun from a start, and the count of failures of the sink: a record of their outcomes, whose
 -- lines it took; or nothing, for want of memory; or a refusal of the sink, which took a beginning of such lines
 abbrev pub Goes : ℕ → Start → Option (List ℕ) → Option (List ℕ) → ℕ → ℕ → Result History Refusal → Type 0
-Goes limit s old new f g (Ok h) = ((told : List (List Outcome)) × Leaves limit s told old new h) × (g ≡ f)
+Goes limit s old new f g (Ok h) = LeavesSome limit s old new h × (g ≡ f)
 Goes limit s old new f g (Err refusal.NoMemory) = Keeps old new × (g ≡ f)
 Goes limit s old new f g (Err refusal.Output) = Began s old new × Raised f g
 Goes limit s old new f g (Err e) = ⊥
@@ -65,7 +69,7 @@ Goes limit s old new f g (Err e) = ⊥
 -- What a run answers: a record of the calls that the bytes spell, each with its outcome, whose lines the sink took; or a
 -- refusal of the sink, which took a beginning of such lines; or, before any call, the refusal of what the bytes spell.
 abbrev pub Ran : Type 0 → ℕ → List ℕ → List ℕ → List ℕ → Option (List ℕ) → Option (List ℕ) → Result History Refusal → Type 0
-Ran I limit cuts table script old new (Ok h) = (s : Start) × (start_of limit cuts table script ≡ Ok s) × ((told : List (List Outcome)) × Leaves limit s told old new h)
+Ran I limit cuts table script old new (Ok h) = (s : Start) × (start_of limit cuts table script ≡ Ok s) × LeavesSome limit s old new h
 Ran I limit cuts table script old new (Err refusal.Output) = (s : Start) × (start_of limit cuts table script ≡ Ok s) × Began s old new
 Ran I limit cuts table script old new (Err e) = RefusedFrom I e (start_of limit cuts table script)
 

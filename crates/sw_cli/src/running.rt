@@ -1,6 +1,6 @@
 //! A run, from two sources to a sink.
 
-ghost use Rattle.std.specs.Prelude.{◌≡◌, ◌<◌, ◌≤◌, ◌⊎◌, List, [], true, length, All, IfErr, IfOk, IsOkUnless, map, vec_capacity};
+ghost use Rattle.std.specs.Prelude.{◌≡◌, ◌<◌, ◌≤◌, ◌⊎◌, [], All, IfErr, IfOk, IsOkUnless, OnOk, vec_capacity};
 ghost use Rattle.std.specs.Io.KnownBytes.{Keeps};
 ghost use Rattle.sw_lang.specs.Sinks.{Writes};
 ghost use Rattle.sw_map.specs.Held.{blank};
@@ -10,7 +10,7 @@ ghost use Rattle.sw_spine.specs.History.{IsLegal};
 ghost use Rattle.sw_cli.specs.Outcomes.{AreTold, blocks_told, text_of};
 ghost use Rattle.sw_cli.specs.Run.{IsRecordOf, Start};
 ghost use Rattle.sw_cli.specs.Served.{Served};
-ghost use Rattle.sw_cli.specs.Starts.{Goes, IfBoth, IsStart, Ran, TellsRun, TellsWhere, WritesOut, start_seen};
+ghost use Rattle.sw_cli.specs.Starts.{Goes, IfBoth, IsStart, LeavesSome, Ran, TellsRun, TellsWhere, WritesOut, start_seen};
 
 use crate::buffered::{Base, Buffered, block};
 use crate::script::Block;
@@ -201,6 +201,8 @@ pub fn run_with<M: CrackerMap, R: Threads + Wait + Sync, T: Source, S: Source, W
     ensures ran { IfBoth (T.left table.old) (S.left script.old) (λ t s. Ran (Raised (T.failed table.old) (T.failed table.new) ⊎ Raised (S.failed script.old) (S.failed script.new)) options.now.limit options.now.cuts.now t s (W.taken out.old) (W.taken out.new) result) }
     ensures tells { IfBoth (T.left table.old) (S.left script.old) (λ t s. IfOk result (TellsWhere options.now.limit options.now.cuts.now t s (W.taken out.old) (W.taken out.new))) }
     ensures out { IfBoth (T.left table.old) (S.left script.old) (λ t s. IfOk result (WritesOut options.now.limit options.now.cuts.now t s (W.taken out.old) (W.taken out.new))) }
+    ensures left { IfOk result (λ h. (s : Start) × LeavesSome options.now.limit s (W.taken out.old) (W.taken out.new) h) }
+    ensures steady { OnOk result ((T.failed table.new ≡ T.failed table.old) × (S.failed script.new ≡ S.failed script.old) × (W.failed out.new ≡ W.failed out.old)) }
     ensures legal { IfOk result IsLegal }
     ensures quiet { IfErr result (λ e. (e ≡ Refusal.Output → ⊥) → Keeps (W.taken out.old) (W.taken out.new) × (W.failed out.new ≡ W.failed out.old)) }
     ensures told { IfErr result (TellsRun (Raised (T.failed table.old) (T.failed table.new) ⊎ Raised (S.failed script.old) (S.failed script.new)) (Raised (W.failed out.old) (W.failed out.new))) }
@@ -227,6 +229,8 @@ pub fn run<R: Threads + Wait + Sync, T: Source, S: Source, W: Sink>(
     ensures ran { IfBoth (T.left table.old) (S.left script.old) (λ t s. Ran (Raised (T.failed table.old) (T.failed table.new) ⊎ Raised (S.failed script.old) (S.failed script.new)) options.now.limit options.now.cuts.now t s (W.taken out.old) (W.taken out.new) result) }
     ensures tells { IfBoth (T.left table.old) (S.left script.old) (λ t s. IfOk result (TellsWhere options.now.limit options.now.cuts.now t s (W.taken out.old) (W.taken out.new))) }
     ensures out { IfBoth (T.left table.old) (S.left script.old) (λ t s. IfOk result (WritesOut options.now.limit options.now.cuts.now t s (W.taken out.old) (W.taken out.new))) }
+    ensures left { IfOk result (λ h. (s : Start) × LeavesSome options.now.limit s (W.taken out.old) (W.taken out.new) h) }
+    ensures steady { OnOk result ((T.failed table.new ≡ T.failed table.old) × (S.failed script.new ≡ S.failed script.old) × (W.failed out.new ≡ W.failed out.old)) }
     ensures legal { IfOk result IsLegal }
     ensures quiet { IfErr result (λ e. (e ≡ Refusal.Output → ⊥) → Keeps (W.taken out.old) (W.taken out.new) × (W.failed out.new ≡ W.failed out.old)) }
     ensures told { IfErr result (TellsRun (Raised (T.failed table.old) (T.failed table.new) ⊎ Raised (S.failed script.old) (S.failed script.new)) (Raised (W.failed out.old) (W.failed out.new))) }

@@ -1,6 +1,6 @@
 //! What a run starts from: a table, a script and cuts, read to their ends.
 
-ghost use Rattle.std.specs.Prelude.{◌≡◌, ◌⊎◌, length, IfErr, IfOk, IfSome};
+ghost use Rattle.std.specs.Prelude.{◌≡◌, ◌⊎◌, length, IfErr, IfOk, IfSome, OnOk};
 ghost use Rattle.sw_lang.specs.Cuts.{FitCuts};
 ghost use Rattle.sw_rows.specs.Gives.{Raised};
 ghost use Rattle.sw_histories.specs.Told.{Reads, TellsText};
@@ -31,6 +31,7 @@ fn read_script<S: Source>(
     ensures spelled { IfSome (S.left script.old) (λ bytes. ReadsFrom (Raised (S.failed script.old) (S.failed script.new)) (λ blocks. blocks.items) result (script_of schema.now bytes)) }
     ensures sound { IfOk result (λ blocks. AreBlocks (length schema.now) blocks.items) }
     ensures told { IfErr result (TellsStart (Raised (S.failed script.old) (S.failed script.new))) }
+    ensures steady { OnOk result (S.failed script.new ≡ S.failed script.old) }
 {
     match read_all(alloc, script, MOST_BYTES) {
         Ok(text) => match read_blocks(alloc, schema, &text) {
@@ -61,6 +62,7 @@ pub(crate) fn read_start<T: Source, S: Source>(
     ensures spelled { IfBoth (T.left table.old) (S.left script.old) (λ t s. ReadsFrom (Raised (T.failed table.old) (T.failed table.new) ⊎ Raised (S.failed script.old) (S.failed script.new)) start_seen result (start_of limit cuts.now t s)) }
     ensures sound { IfOk result (λ o. IsStart limit (start_seen o)) }
     ensures told { IfErr result (TellsStart (Raised (T.failed table.old) (T.failed table.new) ⊎ Raised (S.failed script.old) (S.failed script.new))) }
+    ensures steady { OnOk result ((T.failed table.new ≡ T.failed table.old) × (S.failed script.new ≡ S.failed script.old)) }
 {
     let (schema, rows) = match load(alloc, table) {
         Ok(found) => found,
