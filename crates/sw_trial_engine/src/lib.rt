@@ -1,6 +1,7 @@
 //! Trials of engines: scripts of several sessions, each on a thread of its own.
 #![tactic(auto)]
 
+mod closing;
 mod insisting;
 #[cfg(test)]
 mod map_tests;
@@ -13,6 +14,7 @@ mod running;
 #[cfg(test)]
 mod tests;
 
+pub use closing::closed;
 pub use insisting::{Tally, insist_all};
 pub use meeting::{Signals, TURNS, Table, hand, meet};
 pub use running::{Trial, add_block, add_call, calls, cleared, numbered, one_block, play, told};

@@ -1,5 +1,6 @@
 //! What sessions make of the maps of heads: how often those are stepped, and that nobody waits for another head's maps.
 
+use crate::closing::closed;
 use crate::meeting::{Signals, TURNS, meet};
 use crate::running::{Trial, calls, one_block, play, told};
 use std::alloc::{AllocError, Global};
@@ -159,5 +160,16 @@ fn met<R: Threads + Wait + Sync>(rt: &R, alloc: Global) -> Result<String, Fail> 
 fn a_session_is_answered_while_another_heads_map_is_stepped(rt: HostRuntime) -> Result<(), Fail> {
     let alloc = rt.alloc();
     assert_eq!(rt; met(&rt, alloc)?.as_str(), "3; 2; 2 entries");
+    Ok(())
+}
+
+#[test]
+fn boxes_go_and_every_ticket_comes_back(rt: HostRuntime) -> Result<(), Fail> {
+    let alloc = rt.alloc();
+    let counts = Arc::new(alloc, Counts::none())?;
+    let maps = counting(alloc, 2, &counts)?;
+    let schema = Schema::of(alloc, &HEADER)?;
+    let told = closed(&rt, alloc, TABLE, schema, maps)?;
+    assert_eq!(rt; told.as_str(), "2 boxes; 9 made 2 given 1; 2 entries");
     Ok(())
 }

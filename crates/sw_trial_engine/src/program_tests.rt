@@ -105,7 +105,7 @@ fn boxes_go_to_the_heads_in_turn_and_cuts_make_areas(rt: HostRuntime) -> Result<
         "3\n2\n2\n3"
     );
     let one = b"count where a >= 3\n";
-    assert_eq!(rt; begun(&rt, alloc, 6, "", one.as_slice())?.as_str(), "4\n1");
+    assert_eq!(rt; begun(&rt, alloc, 1, "", one.as_slice())?.as_str(), "4\n1");
     assert_eq!(rt;
         begun(&rt, alloc, 6, "a=12", one.as_slice())?.as_str(),
         "4\n2"
