@@ -46,6 +46,7 @@ back='"],"session":1}],"format":1,"limit":1048576,"rows":[[12,7,1],[3,8,0],[12,5
 printf '%s4%s' "$front" "$back" >legal.json
 printf '%s5%s' "$front" "$back" >illegal.json
 head -c 20 legal.json >cut.json
+printf 'count where a >= 10\n---\ncount where b >= 6\n' >blocks.txt
 mkdir folder
 
 run() { "$program" run --table t.csv --script count.txt "$@"; }
@@ -58,6 +59,9 @@ case_of 'a run that writes its history' 0 4 '' run --history kept.json
 case_of 'its history' 0 'legal: 1 entries' '' "$program" check kept.json
 case_of 'the history of the formats' 0 'legal: 1 entries' '' "$program" check legal.json
 case_of 'the two are the same bytes' 0 '' '' cmp kept.json legal.json
+case_of 'blocks in threads' 0 "$(printf '3\n---\n2')" '' "$program" run --table t.csv --script blocks.txt --threads --cuts 'a=12;b=7'
+case_of 'a run without cells' 0 4 '' run --budget 0
+case_of 'a run without maps' 0 4 '' run --maps 0
 
 # 1: a history is not legal, and nothing else
 case_of 'a history that is not legal' 1 'not legal: entry 1' '' "$program" check illegal.json
@@ -78,6 +82,13 @@ case_of 'a faulty line' 2 '' 'sideways: refused 3 line 2 why Word' "$program" ru
 case_of 'bytes that are no text' 2 '' 'sideways: refused 3 line 1 why Encoding' "$program" run --table t.csv --script bytes.txt
 case_of 'an unknown attribute' 2 '' 'sideways: refused 4 name d' "$program" run --table t.csv --script unknown.txt
 case_of 'more rows than the limit' 2 '' 'sideways: refused 5 limit 3' run --limit 3
+case_of 'cuts of an unknown attribute' 2 '' 'sideways: refused 4 name d' run --cuts d=1
+case_of 'cuts that fall' 2 '' 'sideways: refused 3 line 0 why Cuts' run --cuts 'a=2;a=1'
+case_of 'a cut too many' 2 '' 'sideways: refused 5 limit 15' run --cuts "$(seq -s ';' -f 'a=%g' 16)"
+case_of 'a fault of the table before one of the cuts' 2 '' 'sideways: refused 2 record 2 field 2' "$program" run --table short.csv --script folder --cuts d=1
+case_of 'cuts before the limit' 2 '' 'sideways: refused 4 name d' run --cuts d=1 --limit 3
+case_of 'a budget too great' 2 '' '*' run --budget 1099511627777
+case_of 'maps too many' 2 '' '*' run --maps 4097
 case_of 'no such history' 2 '' 'sideways: refused 12' "$program" check none.json
 case_of 'a history that is a folder' 2 '' 'sideways: refused 12' "$program" check folder
 case_of 'a history that is cut' 2 '' 'sideways: refused 3 line 0 why History' "$program" check cut.json
