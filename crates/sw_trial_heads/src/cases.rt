@@ -84,7 +84,7 @@ const AN_AREA_THAT_IS_SHORT_AGAIN: &[(Step<'static>, &str)] = &[
         Step::Call("select b, c where a >= 12"),
         "1: 7, 1\n3: 5, 1\n4: 2, 0\n(3 rows)\n1 scanned",
     ),
-    // three boxes were begun, of which one was refused, and none for the scan; the count's map had its step
+    // beside the count's map the key map and that of b: what the first try began is kept for the second
     (Step::Counts, "3 begins, 1 steps, 0 tails"),
     (Step::At(0, KEY), "none"),
     (Step::Used, "128"),

@@ -24,8 +24,7 @@ loop-k-preserved g c =
     let within : c.loop-k.k < length c.loop-k.areas = let m = w.same.0 in omega (arith, lt, m) in
     let next = scanned-next c.args.query.now c.loop-k.k c.args.areas.now c.loop-k.areas area c.add_scan.new.area lt w (get-any c.loop-k.areas c.loop-k.k area c.index-areas-k.result within) c.add_scan.ensures.same c.add_scan.ensures.kept in
     let is : c.in_ok-reply.reply ≡ with_area c.args.query.now c.loop-k.reply area = c.in_ok-reply.ensures.answered in
-    let both = reply-next c.args.query.now c.loop-k.k c.args.areas.now c.loop-k.areas c.loop-k.reply c.in_ok-reply.reply (with_all c.args.query.now (answer_over [] c.args.query.now.want) c.args.areas.now) 1 lt w (λ d. is ∙ ap (with_area c.args.query.now c.loop-k.reply) (get-any c.loop-k.areas c.loop-k.k c.index-areas-k.result d within)) c.loop-k.invariant.1 c.loop-k.invariant.2 area in
-    (
+    let both = reply-next c.args.query.now c.loop-k.k c.args.areas.now c.loop-k.areas c.loop-k.reply c.in_ok-reply.reply (with_all c.args.query.now (answer_over [] c.args.query.now.want) c.args.areas.now) 1 lt w (λ d. is ∙ ap (with_area c.args.query.now c.loop-k.reply) (get-any c.loop-k.areas c.loop-k.k c.index-areas-k.result d within)) c.loop-k.invariant.1 c.loop-k.invariant.2 area in (
       next,
       both.0,
       both.1,
