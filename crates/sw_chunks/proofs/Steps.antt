@@ -14,7 +14,7 @@ use Rattle.sw_set.specs.Merged.{StandsForSame}
 use Rattle.sw_set.specs.Prepared.{IsNotedFor, IsPreparedFor, IsSameButBoxes, area_lower, area_upper, is_touched, stands_if}
 use Rattle.sw_set.specs.Shelf.{AreaState, IsSameArea, came_in, logged_rows, rows_in}
 use Rattle.sw_chunks.specs.Cleared.{AreClearedBut, AreEach}
-use Rattle.sw_chunks.specs.Heads.{AreUntouchedKept, IsRanged}
+use Rattle.sw_chunks.specs.Heads.{AreUntouchedKept, AreUntouchedSame, IsRanged}
 use Rattle.sw_chunks.specs.Asked.{AreAskedBefore, AreaFits, AreasFit, IsOneAsked, with_all, with_area}
 use Rattle.sw_chunks.proofs.Asking.{get-any, next-fits, rest-all, rest-fits, set-many, set-other, set-same}
 
@@ -188,6 +188,29 @@ scanned-next q k xs ys area v lt w here same kept =
 
     still : (d : AreaState) → is_touched (get_or ys k d) q ≡ false → slice_set ys k v ≡ ys
     still d t = let e : v ≡ area = kept (subst (λ (s : AreaState). is_touched s q ≡ false) (at d) t) in set-self ys k v (at v ∙ sym e)
+
+-- an area that is not touched is what it was
+pub untouched-next : (q : Query) (k : ℕ) (xs ys : List AreaState) (area v : AreaState) → k < length xs → AreAskedBefore q k xs ys 1 → get_or ys k area ≡ area → (is_touched area q ≡ false → v ≡ area) → AreUntouchedSame q xs ys → AreUntouchedSame q xs (slice_set ys k v)
+untouched-next q k xs ys area v lt w here kept same j d e l t = by (nat_eq j k) refl
+  where
+    within : k < length ys
+    within = let m = w.same.0 in omega (arith, lt, m)
+
+    at : (d : AreaState) → get_or ys k d ≡ area
+    at d = get-any ys k d area within ∙ here
+
+    was : get_or ys j area ≡ get_or xs j d
+    was = same j d area l t
+
+    by : (b : Bool) → nat_eq j k ≡ b → get_or (slice_set ys k v) j e ≡ get_or xs j d
+    by true p =
+        let i : j ≡ k = same-place j k p in
+        let its : get_or xs j d ≡ area = sym was ∙ (ap (λ n. get_or ys n area) i ∙ at area) in
+        ap (λ n. get_or (slice_set ys k v) n e) i ∙ (set-same ys k v e within ∙ (kept (ap (λ (x : AreaState). is_touched x q) (sym its) ∙ t) ∙ sym its))
+    by false p = set-other ys k j v e (other-place j k p) ∙ same j d e l t
+
+pub untouched-none : (q : Query) (xs : List AreaState) → AreUntouchedSame q xs xs
+untouched-none q xs k d e lt t = get-any xs k e d lt
 
 -- some area, where there is one
 pub an-area : (xs : List AreaState) (k : ℕ) → k < length xs → AreaState

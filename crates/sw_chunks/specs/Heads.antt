@@ -32,7 +32,7 @@ interval_of x = (x.from, x.below)
 abbrev pub part_of : ℕ → List Row → Interval → List Row
 part_of a rows i = filter (lies_within a i.0 i.1) rows
 
--- Each area has the rows of these updates that lie in its interval, and no row came to it that did not come by them.
+-- Each area has the rows of these updates that lie in its interval, and no key that came to it exceeds all that came by them.
 pub record StandsFor (us : List Update) (a : ℕ) (cuts : List ℤ) (xs : List AreaState) : Type 0 where
   pub rise : Rises key_of (rows_of us)
   pub parts : map rows_in xs ≡ map (part_of a (rows_of us)) (intervals cuts)
@@ -96,6 +96,14 @@ IsRanged q x = is_touched x q ≡ true → stands_if (area_lower x q) x.tape && 
 -- the areas that a query does not touch are as they were, but that maps may have been cleared
 abbrev pub AreUntouchedKept : Query → List AreaState → List AreaState → Type 0
 AreUntouchedKept q xs ys = (k : ℕ) (d e : AreaState) → k < length xs → is_touched (get_or xs k d) q ≡ false → IsSameButBoxes (get_or xs k d) (get_or ys k e)
+
+-- they are what they were
+abbrev pub AreUntouchedSame : Query → List AreaState → List AreaState → Type 0
+AreUntouchedSame q xs ys = (k : ℕ) (d e : AreaState) → k < length xs → is_touched (get_or xs k d) q ≡ false → get_or ys k e ≡ get_or xs k d
+
+-- the areas that a query touches
+abbrev pub touched_of : Query → List AreaState → List AreaState
+touched_of q xs = filter (λ (x : AreaState). is_touched x q) xs
 
 -- the area but for what waits
 pub record IsSameButInbox (x y : AreaState) : Type 0 where

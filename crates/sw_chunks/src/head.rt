@@ -6,12 +6,13 @@ ghost use Rattle.sw_rows.specs.Updates.{rows_of};
 ghost use Rattle.sw_rows.specs.declared.refusal.Refusal.TheVariants.{NoMemory};
 ghost use Rattle.sw_rows.specs.declared.row.Row.{Row};
 ghost use Rattle.sw_map.specs.Held.{blank};
+ghost use Rattle.sw_set.specs.Merged.{StandsForSame};
 ghost use Rattle.sw_set.specs.Needs.{head_in};
 ghost use Rattle.sw_set.specs.Shelf.{Rises, key_of};
 ghost use Rattle.sw_chunks.specs.Cuts.{RiseAbove};
 ghost use Rattle.sw_chunks.specs.Cleared.{AreClearedBut, AreEach};
 ghost use Rattle.sw_chunks.specs.Shelved.{AreShed};
-ghost use Rattle.sw_chunks.specs.Heads.{AreUntouchedKept, HasReceived, IsHeadLawful, IsRanged, IsSameButSpare, IsSameHead, IsSupplied, opened};
+ghost use Rattle.sw_chunks.specs.Heads.{AreUntouchedKept, AreUntouchedSame, HasReceived, IsHeadLawful, IsRanged, IsSameButSpare, IsSameHead, IsSupplied, opened, touched_of};
 ghost use Rattle.sw_chunks.specs.Routing.{MayFollow};
 
 use crate::answering::answer_areas;
@@ -154,8 +155,8 @@ impl<M: CrackerMap> Head<M> {
 
     /// The answer of a query over all rows: the areas that it touches are merged and asked, from the lowest, and their
     /// replies put together. Beside it stands how many of these areas scanned. An area that tells `Short` is asked once more
-    /// after maps of the other areas were cleared, by least recent use. The head stands for the same updates, and areas that the
-    /// query does not touch are as they were, but for cleared maps.
+    /// after maps of the other areas were cleared, by least recent use. The head stands for the same updates, each area for the
+    /// same rows with as many boxes, and areas that the query does not touch are as they were, but for what their boxes hold.
     ///
     /// The one refusal is `NoMemory`.
     pub fn answer<R: Threads + Sync>(
@@ -166,23 +167,25 @@ impl<M: CrackerMap> Head<M> {
         requires asks { AsksBelow 8 query.now }
         requires head { head_in query.now.conds ≡ self.old.attribute }
         ensures same { IsSameHead self.old self.new }
+        ensures areas { AreEach StandsForSame self.old.areas self.new.areas }
         ensures kept { AreUntouchedKept query.now self.old.areas self.new.areas }
         ensures answered { IfOk result (λ r. r.0 ≡ answer (rows_of self.old.updates) query.now) }
         ensures ranged { IfOk result (λ r. r.1 ≡ 0 → All (IsRanged query.now) self.new.areas) }
-        ensures few { IfOk result (λ r. r.1 ≤ length self.old.areas) }
+        ensures few { IfOk result (λ r. r.1 ≤ length (touched_of query.now self.old.areas)) }
         ensures refused { IsOkUnless result NoMemory }
     {
         self.clock = self.clock.saturating_add(1);
         answer_areas(rt, self.alloc, self.areas.as_mut_slice(), self.clock, query)
     }
 
-    /// The plain answer over all rows: the areas that the query touches are merged and scanned. No map is made for it. The one
-    /// refusal is `NoMemory`.
+    /// The plain answer over all rows: the areas that the query touches are merged and scanned. No map is made for it, and areas
+    /// that the query does not touch are what they were. The one refusal is `NoMemory`.
     pub fn scan(&mut self, query: &Query) -> Result<Reply, Refusal>
         requires asks { AsksBelow 8 query.now }
         requires head { head_in query.now.conds ≡ self.old.attribute }
         ensures same { IsSameHead self.old self.new }
-        ensures kept { AreUntouchedKept query.now self.old.areas self.new.areas }
+        ensures areas { AreEach StandsForSame self.old.areas self.new.areas }
+        ensures kept { AreUntouchedSame query.now self.old.areas self.new.areas }
         ensures answered { IfOk result (λ reply. reply ≡ answer (rows_of self.old.updates) query.now) }
         ensures refused { IsOkUnless result NoMemory }
     {

@@ -7,7 +7,7 @@ ghost use Rattle.sw_set.specs.Merged.{StandsForSame};
 ghost use Rattle.sw_set.specs.Prepared.{is_touched};
 ghost use Rattle.sw_set.specs.Shelf.{rows_in};
 ghost use Rattle.sw_chunks.specs.Cleared.{AreEach};
-ghost use Rattle.sw_chunks.specs.Heads.{AreUntouchedKept};
+ghost use Rattle.sw_chunks.specs.Heads.{AreUntouchedSame};
 ghost use Rattle.sw_chunks.specs.Asked.{AreaFits, AreasFit, with_all, with_area};
 
 use crate::joining::{join, nothing};
@@ -57,7 +57,7 @@ pub(crate) fn scan_areas<M: CrackerMap>(
     requires asks { AsksBelow 8 query.now }
     requires fits { AreasFit query.now (answer_over [] query.now.want) areas.old }
     ensures same { AreEach StandsForSame areas.old areas.new }
-    ensures kept { AreUntouchedKept query.now areas.old areas.new }
+    ensures kept { AreUntouchedSame query.now areas.old areas.new }
     ensures answered { IfOk result (λ r. r ≡ with_all query.now (answer_over [] query.now.want) areas.old) }
     ensures refused { IsOkUnless result NoMemory }
 {

@@ -84,12 +84,27 @@ const AN_AREA_THAT_IS_SHORT_AGAIN: &[(Step<'static>, &str)] = &[
         Step::Call("select b, c where a >= 12"),
         "1: 7, 1\n3: 5, 1\n4: 2, 0\n(3 rows)\n1 scanned",
     ),
+    // beside the count's map the key map and that of b: what the first try began is kept for the second
+    (Step::Counts, "3 begins, 1 steps, 0 tails"),
     (Step::At(0, KEY), "none"),
     (Step::Used, "128"),
     (
         Step::Call("select b, c where a <= 12"),
         "1: 7, 1\n2: 8, 0\n3: 5, 1\n(3 rows)\n2 scanned",
     ),
+];
+
+/// Where the budget is contended an area is scanned, and nothing is tried again: the area is not asked a second time, which would
+/// find the budget free, and no map of the other is cleared.
+const AN_AREA_WHOSE_BUDGET_IS_CONTENDED: &[(Step<'static>, &str)] = &[
+    (Step::Call("count where a < 12"), "1\n"),
+    (Step::Call("count where a >= 12"), "3\n"),
+    (Step::Evict(1), "64"),
+    (Step::Call("count where a < 12"), "1\n1 scanned"),
+    (Step::At(0, KEY), "none"),
+    (Step::At(1, KEY), "1"),
+    (Step::Call("count where a < 12"), "1\n"),
+    (Step::At(0, KEY), "1"),
 ];
 
 /// An area that is not touched keeps what waits there.
@@ -357,6 +372,16 @@ const AREAS: &[Case<'static>] = &[
             ..AMPLE
         },
         steps: AN_AREA_THAT_IS_SHORT_AGAIN,
+    },
+    Case {
+        name: "an_area_whose_budget_is_contended",
+        shape: TWO_AREAS,
+        boxes: Boxes {
+            first: 2,
+            trouble: Trouble::Contends,
+            ..AMPLE
+        },
+        steps: AN_AREA_WHOSE_BUDGET_IS_CONTENDED,
     },
     Case {
         name: "an_area_that_is_not_touched",
