@@ -1,5 +1,5 @@
 -- The areas of a head, asked one after the other.
-use Rattle.std.specs.Prelude.{◌≡◌, ◌≢◌, ◌<◌, ◌≤◌, ◌&&◌, ◌*◌, ℕ, ℤ, List, Result, Err, min, [], ◌∷◌, if◌then◌else◌, true, false, filter, fold, get_or, length, map}
+use Rattle.std.specs.Prelude.{◌≡◌, ◌≢◌, ◌<◌, ◌≤◌, ◌&&◌, ◌*◌, ℕ, ℤ, Bool, List, Result, Err, min, [], ◌∷◌, if◌then◌else◌, true, false, filter, fold, get_or, length, map}
 use Rattle.sw_rows.specs.declared.query.Query.{Query}
 use Rattle.sw_rows.specs.declared.reply.Reply.{Reply}
 use Rattle.sw_rows.specs.declared.row.Row.{Row}
@@ -43,6 +43,14 @@ AreasFit q first (x ∷ xs) = AreaFits q first x × AreasFit q (with_area q firs
 abbrev pub with_all : Query → Reply → List AreaState → Reply
 with_all q first [] = first
 with_all q first (x ∷ xs) = with_all q (with_area q first x) xs
+
+-- an area that a query does not touch does not scan
+abbrev pub ScansIfTouched : Query → AreaState → Bool → Type 0
+ScansIfTouched q x scanned = is_touched x q ≡ false → scanned ≡ false
+
+-- an area is prepared for a query, and the query's bounds stand in ranges of its tape
+abbrev pub IsReadyFor : Query → AreaState → Ready → Type 0
+IsReadyFor q x r = IsPreparedFor q x r.from r.upto × IsRanged q x
 
 -- the area at a place stands for the same rows, and of the others maps may have been cleared
 pub record IsOneAsked (k : ℕ) (xs ys : List AreaState) : Type 0 where

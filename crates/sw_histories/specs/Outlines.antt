@@ -7,13 +7,14 @@ use Rattle.serde_json.specs.Data.{Data, Members, array, boolean, member, no_item
 use Rattle.serde_json.specs.Find.{as_array, as_object, get_member}
 use Rattle.serde_json.specs.Read.{converted, of_items, of_members, read}
 use Rattle.serde_json.specs.View.{members_view}
-use Rattle.sw_histories.specs.RecordReading.{Frame, columns_in, frame, history_of, items_list, or_fault, rows_in}
+use Rattle.sw_histories.specs.RecordReading.{Frame, columns_in, frame, frame_of, history_of, items_list, or_fault, rows_in}
 use Rattle.sw_rows.specs.Header.{kinds_of}
 use Rattle.sw_rows.specs.declared.refusal.Refusal.{Refusal}
 use Rattle.sw_spine.specs.History.{History}
 use Rattle.sw_histories.specs.Told.{◌>>=◌}
 use Rattle.sw_histories.specs.declared.outline.Entries.{Entries}
 use Rattle.sw_histories.specs.declared.outline.Outline.{Outline}
+use Rattle.sw_histories.specs.declared.reading.Outer.{Outer}
 
 -- an array without its items; any other value as it is
 abbrev pub emptied : Data → Data
@@ -133,6 +134,14 @@ pub record IsOutlineOf (text : List ℕ) (o : Outline) : Type 0 where
 -- the part outside the entries alone
 abbrev pub without_items : Frame → Frame
 without_items f = frame f.columns f.limit f.rows []
+
+-- that part of a value, if it is a history's
+abbrev pub outside_of : Data → Option Frame
+outside_of d = option_map without_items (frame_of d)
+
+-- what was read of that part
+abbrev pub read_as : Outer → Frame
+read_as o = frame o.schema o.limit o.rows.items []
 
 -- that part, where the limit was read
 abbrev pub framed_by : Data → ℕ → Option Frame

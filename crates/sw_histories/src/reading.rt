@@ -8,10 +8,10 @@ ghost use Rattle.sw_rows.specs.Header.{kinds_of};
 ghost use Rattle.sw_rows.specs.declared.refusal.Refusal.TheVariants.{BadLine};
 ghost use Rattle.sw_rows.specs.declared.refusal.Why.TheVariants as why;
 ghost use Rattle.sw_spine.specs.History.{AllBelow, CallsBelow};
-ghost use Rattle.sw_histories.specs.Outlines.{IsOutlineOf, framed_by, record_in, values_at, values_in, without_items};
+ghost use Rattle.sw_histories.specs.Outlines.{IsOutlineOf, framed_by, outside_of, read_as, record_in, values_at, values_in};
 ghost use Rattle.sw_histories.specs.Told.{Reads};
 ghost use Rattle.sw_histories.specs.Told.{TellsText};
-ghost use Rattle.sw_histories.specs.RecordReading.{array_at, call_in, cell_in, cells_of, columns_in, entries_after, entry_in, frame, frame_of, has_call, has_members, in_range, number_at, of_kind, record_at, row_in, rows_after, rows_in, state_in, text_at, texts_after, word_in};
+ghost use Rattle.sw_histories.specs.RecordReading.{array_at, call_in, cell_in, cells_of, columns_in, entries_after, entry_in, has_call, has_members, in_range, number_at, of_kind, record_at, row_in, rows_after, rows_in, state_in, text_at, texts_after, word_in};
 
 use crate::outline::{Outline, enter, read_outline};
 use crate::values::{NoValue, read};
@@ -190,7 +190,7 @@ struct Outer {
 
 /// The limit, where the members, the format and the place of the entries are a history's.
 fn read_limit(value: &Value) -> Option<u64>
-    ensures framed { option_map without_items (frame_of (view value.now)) ≡ option_and_then (framed_by (view value.now)) result }
+    ensures framed { outside_of (view value.now) ≡ option_and_then (framed_by (view value.now)) result }
     ensures most { IfSome result (λ limit. limit ≤ 1048576) }
 {
     if !has_members(value, 5) || number_at(value, "format", 1, 1).is_none() {
@@ -204,7 +204,7 @@ fn read_limit(value: &Value) -> Option<u64>
 
 /// The part outside the entries; None where it is none.
 fn read_outer(alloc: Global, value: &Value) -> Result<Option<Outer>, AllocError>
-    ensures { IfOk result (λ o. option_map (λ f. frame f.schema f.limit f.rows.items []) o ≡ option_map without_items (frame_of (view value.now))) }
+    ensures { IfOk result (λ o. option_map read_as o ≡ outside_of (view value.now)) }
 {
     let Some(limit) = read_limit(value) else {
         return Ok(None);
@@ -225,7 +225,7 @@ fn read_outer(alloc: Global, value: &Value) -> Result<Option<Outer>, AllocError>
 
 /// The same of an object's members, which are let go.
 fn read_outside(alloc: Global, members: Map<String, Value>) -> Result<Option<Outer>, AllocError>
-    ensures { IfOk result (λ o. option_map (λ f. frame f.schema f.limit f.rows.items []) o ≡ option_map without_items (frame_of (object (members_view members.entries)))) }
+    ensures { IfOk result (λ o. option_map read_as o ≡ outside_of (object (members_view members.entries))) }
 {
     let value = Value::Object(members);
     read_outer(alloc, &value)
