@@ -7,10 +7,9 @@ use Rattle.sw_rows.specs.declared.query.Query.{Query}
 use Rattle.sw_rows.specs.declared.reply.Reply.{Reply}
 use Rattle.sw_rows.specs.Scan.{answer, cell_of}
 use Rattle.sw_rows.specs.Updates.{rows_of}
-use Rattle.sw_kernel.specs.Replay.{loaded}
 use Rattle.sw_map.specs.Held.{Held, blank}
 use Rattle.sw_set.specs.Needs.{edge, lower_in, touches, upper_in}
-use Rattle.sw_set.specs.Shelf.{AreaState, Rises, came_in, key_of, lies_within, rows_in}
+use Rattle.sw_set.specs.Shelf.{AreaState, Rises, came_in, key_of, lies_within, loaded_area, rows_in}
 use Rattle.sw_set.specs.Prepared.{IsSameButBoxes, area_lower, area_upper, is_touched, stands_if}
 use Rattle.sw_chunks.specs.Routing.{CameHere, given_by}
 use Rattle.sw_chunks.specs.Cleared.{AreEach}
@@ -79,7 +78,7 @@ pub record IsSameHead (g h : HeadState) : Type 0 where
 
 -- an area of these rows that lie in an interval, which nothing came to
 abbrev pub opened_area : ℕ → List Row → Interval → AreaState
-opened_area a rows i = record { attribute = a; from = i.0; below = i.1; inbox = []; spare = 0; tape = loaded (part_of a rows i) ∷ []; boxes = [] }
+opened_area a rows i = loaded_area a i.0 i.1 (part_of a rows i)
 
 -- a head opened with rows: they stand as insertions, and no area has boxes
 abbrev pub opened : ℕ → List ℤ → List Row → HeadState

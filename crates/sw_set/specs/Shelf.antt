@@ -7,7 +7,7 @@ use Rattle.sw_rows.specs.declared.row.Update.TheVariants as update
 use Rattle.sw_rows.specs.Bounds.{is_within}
 use Rattle.sw_rows.specs.Scan.{cell_of}
 use Rattle.sw_rows.specs.Updates.{has_key, rows_then}
-use Rattle.sw_kernel.specs.Replay.{Step}
+use Rattle.sw_kernel.specs.Replay.{Step, loaded}
 use Rattle.sw_kernel.specs.Tapes.{IsTape, live_rows, brought, peak_from}
 use Rattle.sw_map.specs.declared.tail.Tail.{Tail}
 use Rattle.sw_map.specs.Held.{Held, KeysFit}
@@ -24,6 +24,10 @@ pub record AreaState : Type 0 where
   pub spare : ℕ
   pub tape : List (Step Row)
   pub boxes : List Held
+
+-- an area that is opened with rows: its tape is one load of them, and it has no boxes
+abbrev pub loaded_area : ℕ → Option ℤ → Option ℤ → List Row → AreaState
+loaded_area attribute from below rows = record { attribute = attribute; from = from; below = below; inbox = []; spare = 0; tape = loaded rows ∷ []; boxes = [] }
 
 abbrev pub key_of : Row → ℕ
 key_of r = r.key

@@ -17,7 +17,7 @@ ghost use Rattle.sw_set.specs.Live.{live_among};
 ghost use Rattle.sw_set.specs.Merged.{IsBegunAnew, IsSameShell};
 ghost use Rattle.sw_set.specs.Prepared.{IsCleared, IsFreshBut, IsOneCleared, IsPreparedFor, IsReady, IsSameButBoxes, IsShed, IsSpare, stands_if};
 ghost use Rattle.sw_tape.specs.Restart.{first_rows};
-ghost use Rattle.sw_set.specs.Shelf.{AreReceivable, AreSameMaps, AreaState, HasRoomWhereNeeded, IsAreaLawful, IsAtEnd, IsSameArea, MayReceive, Rises, came_in, key_of, lies_within, logged_rows, rows_in};
+ghost use Rattle.sw_set.specs.Shelf.{AreReceivable, AreSameMaps, AreaState, HasRoomWhereNeeded, IsAreaLawful, IsAtEnd, IsSameArea, MayReceive, Rises, came_in, key_of, lies_within, loaded_area, logged_rows, rows_in};
 ghost use Rattle.sw_set.specs.Needs.{head_in};
 
 use crate::align::{align_map, is_needed};
@@ -81,7 +81,7 @@ impl<M: CrackerMap> Area<M> {
         requires keys { All (λ (r : Row). r.key < 2 ^ 63) rows.now }
         requires rise { Rises key_of rows.now }
         requires within { All (λ (r : Row). lies_within attribute from below r ≡ true) rows.now }
-        ensures { MatchResult result (λ a. a ≡ record { attribute = attribute; from = from; below = below; inbox = []; spare = 0; tape = loaded rows.now ∷ []; boxes = [] }) (λ e. e ≡ NoMemory) }
+        ensures { MatchResult result (λ a. a ≡ loaded_area attribute from below rows.now) (λ e. e ≡ NoMemory) }
     {
         match Vec::from_slice(alloc, rows) {
             Ok(copy) => Area::of(alloc, attribute, from, below, copy),
@@ -101,7 +101,7 @@ impl<M: CrackerMap> Area<M> {
         requires keys { All (λ (r : Row). r.key < 2 ^ 63) rows.items }
         requires rise { Rises key_of rows.items }
         requires within { All (λ (r : Row). lies_within attribute from below r ≡ true) rows.items }
-        ensures { MatchResult result (λ a. a ≡ record { attribute = attribute; from = from; below = below; inbox = []; spare = 0; tape = loaded rows.items ∷ []; boxes = [] }) (λ e. e ≡ NoMemory) }
+        ensures { MatchResult result (λ a. a ≡ loaded_area attribute from below rows.items) (λ e. e ≡ NoMemory) }
     {
         let live = LiveRows::all(alloc, rows.len())?;
         let tape = Tape::of(alloc, rows)?;
