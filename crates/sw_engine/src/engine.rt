@@ -1,6 +1,6 @@
 //! Heads under their latches, the history under its lock, and the sessions.
 
-ghost use Rattle.std.specs.Prelude.{◌≡◌, ◌<◌, ◌≤◌, ◌++◌, ◌∷◌, [], ℕ, true, length, vec_len, IfErr, IfOk, IsOkUnless, OnErr, OnOk, false};
+ghost use Rattle.std.specs.Prelude.{◌≡◌, ◌<◌, ◌≤◌, ◌++◌, ◌∷◌, [], ℕ, true, length, vec_len, IfErr, IfOk, IsOkUnless, MatchResult, OnErr, OnOk, false};
 ghost use Rattle.sw_rows.specs.Scan.{AsksBelow};
 ghost use Rattle.sw_rows.specs.declared.query.Call.TheVariants.{Select, Insert, Delete};
 ghost use Rattle.sw_rows.specs.declared.refusal.Refusal.TheVariants.{NoMemory};
@@ -204,7 +204,18 @@ impl<J: Naming, M: CrackerMap> Engine<J, M> {
         self.latches[head].lock(rt).shed(most)
     }
 
-    /// Makes a head that was never asked, in one visit of the lock, where the opening rows lie; and gives it the boxes that wait
+    /// A copy of the opening rows, made in one visit of the lock, where they lie. Refused `NoMemory` alone.
+    fn opening_rows<R: Wait>(&self, rt: &R) -> Result<Vec<Row>, Refusal>
+        ensures { MatchResult result (λ rows. rows.items ≡ J.opening) (λ e. e ≡ NoMemory) }
+    {
+        let desk = self.desk.lock(rt);
+        match Vec::from_slice(self.alloc, desk.opening_rows()) {
+            Ok(rows) => Ok(rows),
+            Err(_) => Err(Refusal::NoMemory),
+        }
+    }
+
+    /// Makes a head that was never asked, of a copy of the opening rows, outside the lock; and gives it the boxes that wait
     /// for it.
     fn ready<R: Wait>(&self, rt: &R, head: &mut LatchedHead<J, M>) -> Result<(), Refusal>
         ensures taken { head.new.taken ≡ head.old.taken }
@@ -214,8 +225,8 @@ impl<J: Naming, M: CrackerMap> Engine<J, M> {
         ensures refused { IsOkUnless result NoMemory }
     {
         if !head.is_made() {
-            let desk = self.desk.lock(rt);
-            head.make(self.alloc, &self.opening, desk.opening_rows())?;
+            let rows = self.opening_rows(rt)?;
+            head.make(self.alloc, &self.opening, rows)?;
         }
         head.hand_over()
     }
