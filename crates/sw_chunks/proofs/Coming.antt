@@ -1,18 +1,23 @@
 -- A head takes what it receives.
-use Rattle.std.proofs.Common.{◌≡◌, ◌<◌, ◌++◌, ℕ, ℤ, List, map, length, get_or, fold, take, refl, sym, ap, ◌∙◌, subst, All}
+use Rattle.std.proofs.Common.{◌≡◌, ◌<◌, ◌++◌, ℕ, ℤ, List, map, length, get_or, take, refl, sym, ap, ◌∙◌, subst, All}
 use Rattle.sw_rows.specs.declared.row.Update.{Update}
 use Rattle.sw_set.specs.Merged.{StandsForSame}
 use Rattle.sw_set.specs.Shelf.{AreaState, Rises}
 use Rattle.sw_chunks.specs.Cleared.{AreEach}
 use Rattle.sw_chunks.specs.Heads.{CellsFit, HeadState, IsHeadLawful, IsSameButSpare}
-use Rattle.sw_chunks.specs.Places.{IsSent, MayBeSent, owners_of, owners_then, place_by}
+use Rattle.sw_chunks.specs.Places.{IsSent, MayBeSent, owners_added, owners_kept, owners_of, place_by}
 use Rattle.sw_chunks.specs.Routing.{MayFollow, given_by}
-use Rattle.sw_chunks.proofs.Receipt.{all-within, fit-more, given-more, given-rise, may-be-sent, owners-before, owners-more, owners-rise, received}
+use Rattle.sw_chunks.proofs.Receipt.{all-within, fit-more, given-more, given-rise, may-be-sent, received}
+use Rattle.sw_chunks.proofs.Kept.{kept-before, kept-more, kept-places, kept-rise}
 use Rattle.sw_chunks.proofs.Standing.{lawful-same}
 
 -- the rows of all updates, and beside each its area
 abbrev pub owners_after : HeadState → List Update → List (ℕ × ℕ)
 owners_after h vs = owners_of h.attribute h.cuts (given_by (h.updates ++ vs))
+
+-- what is kept of them
+abbrev pub kept_after : HeadState → List Update → List (ℕ × ℕ)
+kept_after h vs = owners_kept h.attribute h.cuts (given_by (h.updates ++ vs))
 
 -- where updates go
 abbrev pub places_after : HeadState → List Update → List ℕ
@@ -22,22 +27,22 @@ places_after h vs = map (place_by h.attribute h.cuts (owners_after h vs)) vs
 abbrev pub AreSent : List ℕ → List Update → List AreaState → List AreaState → Type 0
 AreSent ps vs xs ys = (k : ℕ) (d e : AreaState) → k < length xs → IsSent k ps vs (get_or xs k d) (get_or ys k e)
 
-pub owners-are : (h : HeadState) (vs : List Update) (cs : List ℤ) (os now : List (ℕ × ℕ)) → os ≡ owners_of h.attribute h.cuts (given_by h.updates) → cs ≡ h.cuts → now ≡ fold (owners_then h.attribute cs) os vs → now ≡ owners_after h vs
+pub owners-are : (h : HeadState) (vs : List Update) (cs : List ℤ) (os now : List (ℕ × ℕ)) → os ≡ owners_kept h.attribute h.cuts (given_by h.updates) → cs ≡ h.cuts → now ≡ owners_added h.attribute cs os vs → now ≡ kept_after h vs
 owners-are h vs cs os now was same is =
-    is ∙ (ap (λ l. fold (owners_then h.attribute l) os vs) same
-    ∙ (ap (λ l. fold (owners_then h.attribute h.cuts) l vs) was
-    ∙ (owners-more h.attribute h.cuts (given_by h.updates) vs ∙ ap (owners_of h.attribute h.cuts) (sym (given-more h.updates vs)))))
+    is ∙ (ap (λ l. owners_added h.attribute l os vs) same
+    ∙ (ap (λ l. owners_added h.attribute h.cuts l vs) was
+    ∙ (kept-more h.attribute h.cuts (given_by h.updates) vs ∙ ap (owners_kept h.attribute h.cuts) (sym (given-more h.updates vs)))))
 
 -- the owners that were there before
-pub owners-left : (h : HeadState) (vs : List Update) (cs : List ℤ) (os now left : List (ℕ × ℕ)) (n : ℕ) → os ≡ owners_of h.attribute h.cuts (given_by h.updates) → now ≡ fold (owners_then h.attribute cs) os vs → n ≡ length os → left ≡ take n now → left ≡ owners_of h.attribute h.cuts (given_by h.updates)
-owners-left h vs cs os now left n was is many cut = cut ∙ (ap (λ m. take m now) many ∙ (ap (take (length os)) is ∙ (owners-before h.attribute cs os vs ∙ was)))
+pub owners-left : (h : HeadState) (vs : List Update) (cs : List ℤ) (os now left : List (ℕ × ℕ)) (n : ℕ) → os ≡ owners_kept h.attribute h.cuts (given_by h.updates) → now ≡ owners_added h.attribute cs os vs → n ≡ length os → left ≡ take n now → left ≡ owners_kept h.attribute h.cuts (given_by h.updates)
+owners-left h vs cs os now left n was is many cut = cut ∙ (ap (λ m. take m now) many ∙ (ap (take (length os)) is ∙ (kept-before h.attribute cs os vs ∙ was)))
 
-pub owners-rising : (h : HeadState) (vs : List Update) (now : List (ℕ × ℕ)) → IsHeadLawful h → MayFollow h.attribute h.updates vs → now ≡ owners_after h vs → Rises (λ (o : ℕ × ℕ). o.0) now
-owners-rising h vs now w may e = subst (Rises (λ (o : ℕ × ℕ). o.0)) (sym e) (owners-rise h.attribute h.cuts (given_by (h.updates ++ vs)) (given-rise h.updates vs h.attribute may w.came_rise))
+pub owners-rising : (h : HeadState) (vs : List Update) (now : List (ℕ × ℕ)) → IsHeadLawful h → MayFollow h.attribute h.updates vs → now ≡ kept_after h vs → Rises (λ (o : ℕ × ℕ). o.0) now
+owners-rising h vs now w may e = subst (Rises (λ (o : ℕ × ℕ). o.0)) (sym e) (kept-rise h.attribute h.cuts (given_by (h.updates ++ vs)) (given-rise h.updates vs h.attribute may w.came_rise))
 
 -- the places, as a call sees them
-pub places-are : (h : HeadState) (vs : List Update) (cs : List ℤ) (os : List (ℕ × ℕ)) → cs ≡ h.cuts → os ≡ owners_after h vs → map (place_by h.attribute cs os) vs ≡ places_after h vs
-places-are h vs cs os same is = ap (λ l. map (place_by h.attribute l os) vs) same ∙ ap (λ l. map (place_by h.attribute h.cuts l) vs) is
+pub places-are : (h : HeadState) (vs : List Update) (cs : List ℤ) (os : List (ℕ × ℕ)) → cs ≡ h.cuts → os ≡ kept_after h vs → map (place_by h.attribute cs os) vs ≡ places_after h vs
+places-are h vs cs os same is = ap (λ l. map (place_by h.attribute l os) vs) same ∙ (ap (λ l. map (place_by h.attribute h.cuts l) vs) is ∙ kept-places h.attribute h.cuts (given_by (h.updates ++ vs)) vs)
 
 pub places-within : (h : HeadState) (vs : List Update) (ps : List ℕ) (xs : List AreaState) → IsHeadLawful h → MayFollow h.attribute h.updates vs → ps ≡ places_after h vs → xs ≡ h.areas → All (λ (p : ℕ). p < length xs) ps
 places-within h vs ps xs w may e same =

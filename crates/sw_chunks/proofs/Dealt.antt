@@ -44,6 +44,17 @@ part-there a cuts rows n d k i rise lt le at = sym (part-more a rows n d (get_or
 part-elsewhere : (a : ℕ) (cuts : List ℤ) (rows : List Row) (n : ℕ) (d : Row) (k : ℕ) (i : Interval) → RiseAbove None cuts → n < length rows → k ≤ length cuts → k ≢ place_in cuts (cell_of a (get_or rows n d)) → part_of a (take n rows) (get_or (intervals cuts) k i) ≡ part_of a (take (n + 1) rows) (get_or (intervals cuts) k i)
 part-elsewhere a cuts rows n d k i rise lt le ne = sym (part-more a rows n d (get_or (intervals cuts) k i) lt ∙ ap (λ b. part_of a (take n rows) (get_or (intervals cuts) k i) ++ cond b (get_or rows n d ∷ []) []) (lies-at a cuts (get_or rows n d) k i rise le ∙ other-number k (place_in cuts (cell_of a (get_or rows n d))) ne) ∙ append-nil (part_of a (take n rows) (get_or (intervals cuts) k i)))
 
+-- without ends it has all rows
+whole-part : (a : ℕ) (rows : List Row) → part_of a rows (None, None) ≡ rows
+whole-part a [] = refl
+whole-part a (r ∷ rows) = ap (λ l. r ∷ l) (whole-part a rows)
+
+-- so all rows are the one part where there are no cuts
+pub one-part : {X : Type 0} (items : X → List Row) (a : ℕ) (cuts : List ℤ) (x : X) (k : ℕ) (d : X) (i : Interval) → length cuts ≡ 0 → k ≤ length cuts → items (get_or (x ∷ []) k d) ≡ part_of a (items x) (get_or (intervals cuts) k i)
+one-part items a [] x zero d i e le = sym (whole-part a (items x))
+one-part items a [] x (suc k) d i e le = absurd (omega (arith, le))
+one-part items a (c ∷ cs) x k d i e le = absurd (omega (arith, e))
+
 -- the place of a row is one of the parts
 pub place-below : (cuts : List ℤ) (x : ℤ) → RiseAbove None cuts → place_in cuts x < length cuts + 1
 place-below cuts x rise = let e = long-intervals cuts in let lt = (one_interval cuts x rise).0 in omega (arith, e, lt)

@@ -9,7 +9,7 @@ use Rattle.sw_rows.specs.Updates.{rows_of, rows_then}
 use Rattle.sw_set.specs.Shelf.{AreaState, Rises, came_in, came_then, key_of, rows_in}
 use Rattle.sw_chunks.specs.Cuts.{Interval, RiseAbove, intervals}
 use Rattle.sw_chunks.specs.Heads.{AreAreasOf, HeadState, IsCell, IsHeadLawful, RowFits, StandsFor, interval_of, opened, opened_area, part_of}
-use Rattle.sw_chunks.specs.Places.{owners_of}
+use Rattle.sw_chunks.specs.Places.{owners_kept}
 use Rattle.sw_chunks.specs.Routing.{CameHere, given_by}
 use Rattle.sw_chunks.proofs.Dealt.{part-keys}
 
@@ -84,10 +84,10 @@ abbrev state-of : ℕ → List ℤ → List Update → List AreaState → HeadSt
 state-of a cuts us xs = record { attribute = a; cuts = cuts; updates = us; areas = xs }
 
 -- such a head, by its parts
-pub head-opened : (a : ℕ) (cuts : List ℤ) (rows : List Row) (cs : List ℤ) (us : List Update) (xs : List AreaState) (os : List (ℕ × ℕ)) → MayOpen a cuts rows → cs ≡ cuts → us ≡ map update.Insert rows → xs ≡ map (opened_area a rows) (intervals cuts) → os ≡ owners_of a cuts rows → IsHeadLawful (state-of a cs us xs) × (os ≡ owners_of a cs (given_by us))
+pub head-opened : (a : ℕ) (cuts : List ℤ) (rows : List Row) (cs : List ℤ) (us : List Update) (xs : List AreaState) (os : List (ℕ × ℕ)) → MayOpen a cuts rows → cs ≡ cuts → us ≡ map update.Insert rows → xs ≡ map (opened_area a rows) (intervals cuts) → os ≡ owners_kept a cuts rows → IsHeadLawful (state-of a cs us xs) × (os ≡ owners_kept a cs (given_by us))
 head-opened a cuts rows cs us xs os m ec eu ex eo = (
   subst (λ (c : List ℤ). IsHeadLawful (state-of a c us xs)) (sym ec)
       (subst (λ (u : List Update). IsHeadLawful (state-of a cuts u xs)) (sym eu)
       (subst (λ (x : List AreaState). IsHeadLawful (state-of a cuts (map update.Insert rows) x)) (sym ex) (lawful-opened a cuts rows m))),
-  eo ∙ ap (λ (c : List ℤ). owners_of a c rows) (sym ec) ∙ ap (λ (l : List Row). owners_of a cs l) (sym (ap given_by eu ∙ given-opened rows)),
+  eo ∙ ap (λ (c : List ℤ). owners_kept a c rows) (sym ec) ∙ ap (λ (l : List Row). owners_kept a cs l) (sym (ap given_by eu ∙ given-opened rows)),
 )

@@ -1,5 +1,5 @@
 -- Into which area an update goes.
-use Rattle.std.specs.Prelude.{◌≡◌, ◌==◌, ◌+◌, ◌++◌, if◌then◌else◌, ℕ, ℤ, List, [], ◌∷◌, map}
+use Rattle.std.specs.Prelude.{◌≡◌, ◌==◌, ◌+◌, ◌++◌, if◌then◌else◌, ℕ, ℤ, List, [], ◌∷◌, fold, map}
 use Rattle.sw_rows.specs.declared.row.Row.{Row}
 use Rattle.sw_rows.specs.declared.row.Update.{Update}
 use Rattle.sw_rows.specs.declared.row.Update.TheVariants as update
@@ -33,6 +33,11 @@ count_at place (p ∷ ps) = if p == place then 1 + count_at place ps else count_
 abbrev pub owners_of : ℕ → List ℤ → List Row → List (ℕ × ℕ)
 owners_of a cuts rs = map (owner_of a cuts) rs
 
+-- what a head keeps of them: nothing without cuts, since then all rows lie in the one area
+abbrev pub owners_kept : ℕ → List ℤ → List Row → List (ℕ × ℕ)
+owners_kept a [] rs = []
+owners_kept a (c ∷ cs) rs = owners_of a (c ∷ cs) rs
+
 -- the updates whose place is the one
 abbrev pub sent : ℕ → List ℕ → List Update → List Update
 sent place [] us = []
@@ -51,3 +56,8 @@ IsSent place ps us x y = y ≡ record x { inbox = x.inbox ++ sent place ps us; s
 abbrev pub owners_then : ℕ → List ℤ → List (ℕ × ℕ) → Update → List (ℕ × ℕ)
 owners_then a cuts os (update.Insert r) = os ++ owner_of a cuts r ∷ []
 owners_then a cuts os (update.Remove key) = os
+
+-- what a head keeps, after updates
+abbrev pub owners_added : ℕ → List ℤ → List (ℕ × ℕ) → List Update → List (ℕ × ℕ)
+owners_added a [] os us = os
+owners_added a (c ∷ cs) os us = fold (owners_then a (c ∷ cs)) os us

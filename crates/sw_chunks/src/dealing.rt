@@ -6,7 +6,7 @@ ghost use Rattle.sw_rows.specs.declared.row.Row.{Row};
 ghost use Rattle.sw_set.specs.Shelf.{Rises, key_of};
 ghost use Rattle.sw_chunks.specs.Cuts.{Interval, RiseAbove, intervals};
 ghost use Rattle.sw_chunks.specs.Heads.{opened_area, part_of};
-ghost use Rattle.sw_chunks.specs.Places.{owners_of};
+ghost use Rattle.sw_chunks.specs.Places.{owners_kept, owners_of};
 
 use crate::places::place_in;
 use std::alloc::Global;
@@ -40,7 +40,7 @@ fn push_row(part: &mut Vec<Row>, row: Row) -> Result<(), Refusal>
     }
 }
 
-/// The rows by the intervals in which their cells lie, in one pass. Refused `NoMemory` alone.
+/// The rows by the intervals in which their cells lie, copied in one pass. Refused `NoMemory` alone.
 fn deal(alloc: Global, attribute: u8, cuts: &[i64], rows: &[Row]) -> Result<Vec<Vec<Row>>, Refusal>
     requires attribute { attribute < 8 }
     requires rising { RiseAbove None cuts.now }
@@ -55,6 +55,30 @@ fn deal(alloc: Global, attribute: u8, cuts: &[i64], rows: &[Row]) -> Result<Vec<
         push_row(&mut parts[usize::from(place)], *row)?;
     }
     Ok(parts)
+}
+
+/// The same of rows that are taken over: without cuts they are the one part, and are not copied.
+fn parts_of(
+    alloc: Global,
+    attribute: u8,
+    cuts: &[i64],
+    rows: Vec<Row>,
+) -> Result<Vec<Vec<Row>>, Refusal>
+    requires attribute { attribute < 8 }
+    requires rising { RiseAbove None cuts.now }
+    requires few { length cuts.now ≤ 15 }
+    ensures many { IfOk result (λ parts. length parts.items ≡ length cuts.now + 1) }
+    ensures parts { IfOk result (λ parts. (k : ℕ) (d : _) (i : Interval) → k ≤ length cuts.now → (get_or parts.items k d).items ≡ part_of attribute rows.items (get_or (intervals cuts.now) k i)) }
+    ensures refused { IsOkUnless result NoMemory }
+{
+    if !cuts.is_empty() {
+        return deal(alloc, attribute, cuts, rows.as_slice());
+    }
+    let mut parts = Vec::new(alloc);
+    match parts.push(rows) {
+        Ok(()) => Ok(parts),
+        Err(_) => Err(Refusal::NoMemory),
+    }
 }
 
 /// Where the interval at a place begins.
@@ -73,21 +97,21 @@ fn end_of(cuts: &[i64], place: usize) -> Option<i64>
     cuts.get(place).copied()
 }
 
-/// An area of each interval, with the rows whose cells lie there. Refused `NoMemory` alone.
+/// An area of each interval, with the rows whose cells lie there. Without cuts they are not copied. Refused `NoMemory` alone.
 pub(crate) fn areas_of<M: CrackerMap>(
     alloc: Global,
     attribute: u8,
     cuts: &[i64],
-    rows: &[Row],
+    rows: Vec<Row>,
 ) -> Result<Vec<Area<M>>, Refusal>
     requires attribute { attribute < 8 }
     requires rising { RiseAbove None cuts.now }
     requires few { length cuts.now ≤ 15 }
-    requires keys { All (λ (r : Row). r.key < 2 ^ 63) rows.now }
-    requires rise { Rises key_of rows.now }
-    ensures { MatchResult result (λ areas. areas.items ≡ map (opened_area attribute rows.now) (intervals cuts.now)) (λ e. e ≡ NoMemory) }
+    requires keys { All (λ (r : Row). r.key < 2 ^ 63) rows.items }
+    requires rise { Rises key_of rows.items }
+    ensures { MatchResult result (λ areas. areas.items ≡ map (opened_area attribute rows.items) (intervals cuts.now)) (λ e. e ≡ NoMemory) }
 {
-    let mut parts = deal(alloc, attribute, cuts, rows)?;
+    let mut parts = parts_of(alloc, attribute, cuts, rows)?;
     let mut areas = Vec::new(alloc);
     for k in 0..parts.len() {
         let part = mem::replace(&mut parts[k], Vec::new(alloc));
@@ -100,7 +124,7 @@ pub(crate) fn areas_of<M: CrackerMap>(
 }
 
 /// The keys of rows, and beside each the area to which its row goes. Refused `NoMemory` alone.
-pub(crate) fn owners_of(
+fn owners_of(
     alloc: Global,
     attribute: u8,
     cuts: &[i64],
@@ -110,7 +134,9 @@ pub(crate) fn owners_of(
     requires few { length cuts.now ≤ 15 }
     ensures { MatchResult result (λ owners. owners.items ≡ owners_of attribute cuts.now rows.now) (λ e. e ≡ NoMemory) }
 {
-    let mut owners = Vec::new(alloc);
+    let Ok(mut owners) = Vec::with_capacity(alloc, rows.len()) else {
+        return Err(Refusal::NoMemory);
+    };
     for row in rows {
         let place = place_in(cuts, row.cells[usize::from(attribute)]);
         if owners.push((row.key, place)).is_err() {
@@ -118,4 +144,22 @@ pub(crate) fn owners_of(
         }
     }
     Ok(owners)
+}
+
+/// What a head keeps of them: nothing without cuts. Refused `NoMemory` alone.
+#[tactic(auto, using(crate::proofs::Kept::kept_none, crate::proofs::Kept::kept_some))]
+pub(crate) fn owners_kept(
+    alloc: Global,
+    attribute: u8,
+    cuts: &[i64],
+    rows: &[Row],
+) -> Result<Vec<(u64, u8)>, Refusal>
+    requires attribute { attribute < 8 }
+    requires few { length cuts.now ≤ 15 }
+    ensures { MatchResult result (λ owners. owners.items ≡ owners_kept attribute cuts.now rows.now) (λ e. e ≡ NoMemory) }
+{
+    if cuts.is_empty() {
+        return Ok(Vec::new(alloc));
+    }
+    owners_of(alloc, attribute, cuts, rows)
 }

@@ -17,7 +17,7 @@ ghost use Rattle.sw_chunks.specs.Routing.{MayFollow};
 
 use crate::answering::answer_areas;
 use crate::clearing::clear_but;
-use crate::dealing::{areas_of, owners_of};
+use crate::dealing::{areas_of, owners_kept};
 use crate::places::add_owners;
 use crate::routing::share_all;
 use crate::scanning::scan_areas;
@@ -41,7 +41,7 @@ pub struct Head<M: CrackerMap> {
     attribute: u8,
     cuts: Vec<i64>,
     areas: Vec<Area<M>>,
-    /// The keys of all rows that ever came, which rise, and beside each the area to which its row went.
+    /// The keys of all rows that ever came, which rise, and beside each the area to which its row went. Without cuts it is empty.
     owners: Vec<(u64, u8)>,
     told: Book<Update>,
     clock: u64,
@@ -50,7 +50,7 @@ pub struct Head<M: CrackerMap> {
 impl<M: CrackerMap> Model for Head<M> {
     ghost use Rattle.std.specs.Prelude.{◌≡◌};
     ghost use Rattle.sw_chunks.specs.Heads.{HeadState, IsHeadLawful, told_in};
-    ghost use Rattle.sw_chunks.specs.Places.{owners_of};
+    ghost use Rattle.sw_chunks.specs.Places.{owners_kept};
     ghost use Rattle.sw_chunks.specs.Routing.{given_by};
     ghost use Rattle.sw_chunks.specs.Codes.{head_code};
 
@@ -60,7 +60,7 @@ impl<M: CrackerMap> Model for Head<M> {
 
     ghost view = { λ h. record { attribute = h.attribute; cuts = h.cuts.items; updates = told_in h.told.rows; areas = h.areas.items } };
 
-    ghost invariant = { λ h. IsHeadLawful (record { attribute = h.attribute; cuts = h.cuts.items; updates = told_in h.told.rows; areas = h.areas.items }) × (h.owners.items ≡ owners_of h.attribute h.cuts.items (given_by (told_in h.told.rows))) };
+    ghost invariant = { λ h. IsHeadLawful (record { attribute = h.attribute; cuts = h.cuts.items; updates = told_in h.told.rows; areas = h.areas.items }) × (h.owners.items ≡ owners_kept h.attribute h.cuts.items (given_by (told_in h.told.rows))) };
 }
 
 impl<M: CrackerMap> Head<M> {
@@ -74,8 +74,29 @@ impl<M: CrackerMap> Head<M> {
         requires rise { Rises key_of rows.now }
         ensures { MatchResult result (λ h. h ≡ opened attribute cuts.now rows.now) (λ e. e ≡ NoMemory) }
     {
+        match Vec::from_slice(alloc, rows) {
+            Ok(copy) => Head::of(alloc, attribute, cuts, copy),
+            Err(_) => Err(Refusal::NoMemory),
+        }
+    }
+
+    /// The same of rows that are taken over: without cuts they are not copied.
+    pub fn of(
+        alloc: Global,
+        attribute: u8,
+        cuts: &[i64],
+        rows: Vec<Row>,
+    ) -> Result<Head<M>, Refusal>
+        requires attribute { attribute < 8 }
+        requires rising { RiseAbove None cuts.now }
+        requires few { length cuts.now ≤ 15 }
+        requires keys { All (λ (r : Row). r.key < 2 ^ 63) rows.items }
+        requires rise { Rises key_of rows.items }
+        ensures { MatchResult result (λ h. h ≡ opened attribute cuts.now rows.items) (λ e. e ≡ NoMemory) }
+    {
+        let told = tell_rows(rows.as_slice());
+        let owners = owners_kept(alloc, attribute, cuts, rows.as_slice())?;
         let areas = areas_of(alloc, attribute, cuts, rows)?;
-        let owners = owners_of(alloc, attribute, cuts, rows)?;
         let Ok(cuts) = Vec::from_slice(alloc, cuts) else {
             return Err(Refusal::NoMemory);
         };
@@ -85,7 +106,7 @@ impl<M: CrackerMap> Head<M> {
             cuts,
             areas,
             owners,
-            told: tell_rows(rows),
+            told,
             clock: 0,
         })
     }

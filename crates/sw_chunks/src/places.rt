@@ -4,7 +4,7 @@ ghost use Rattle.std.specs.Prelude.{◌≡◌, ◌≢◌, ◌<◌, ◌≤◌, �
 ghost use Rattle.sw_rows.specs.declared.refusal.Refusal.TheVariants.{NoMemory};
 ghost use Rattle.sw_set.specs.Shelf.{Rises};
 ghost use Rattle.sw_chunks.specs.Cuts.{place_in};
-ghost use Rattle.sw_chunks.specs.Places.{count_at, find_place, owners_then, place_by};
+ghost use Rattle.sw_chunks.specs.Places.{count_at, find_place, owners_added, owners_then, place_by};
 
 use std::alloc::Global;
 use sw_rows::{Refusal, Update};
@@ -95,7 +95,7 @@ pub(crate) fn count_at(places: &[u8], place: usize) -> usize
 }
 
 /// Adds the rows that come, and the areas to which they go. Refused `NoMemory`, nothing has changed.
-pub(crate) fn add_owners(
+fn add_each(
     owners: &mut Vec<(u64, u8)>,
     attribute: u8,
     cuts: &[i64],
@@ -115,4 +115,22 @@ pub(crate) fn add_owners(
         }
     }
     Ok(())
+}
+
+/// The same where there are cuts; without them nothing is kept. Refused `NoMemory`, nothing has changed.
+#[tactic(auto, using(crate::proofs::Kept::added_none, crate::proofs::Kept::added_some))]
+pub(crate) fn add_owners(
+    owners: &mut Vec<(u64, u8)>,
+    attribute: u8,
+    cuts: &[i64],
+    updates: &[Update],
+) -> Result<(), Refusal>
+    requires attribute { attribute < 8 }
+    requires few { length cuts.now ≤ 15 }
+    ensures { MatchResult result (λ _. owners.new.items ≡ owners_added attribute cuts.now owners.old.items updates.now) (λ e. (owners.new.items ≡ owners.old.items) × (e ≡ NoMemory)) }
+{
+    if cuts.is_empty() {
+        return Ok(());
+    }
+    add_each(owners, attribute, cuts, updates)
 }

@@ -1,6 +1,6 @@
 //! Heads under their latches, the history under its lock, and the sessions.
 
-ghost use Rattle.std.specs.Prelude.{◌≡◌, ◌<◌, ◌≤◌, ◌++◌, ◌∷◌, [], ℕ, true, length, vec_len, IfErr, IfOk, IsOkUnless, OnErr, OnOk, false};
+ghost use Rattle.std.specs.Prelude.{◌≡◌, ◌<◌, ◌≤◌, ◌++◌, ◌∷◌, [], ℕ, true, length, vec_len, IfErr, IfOk, IsOkUnless, MatchResult, OnErr, OnOk, false};
 ghost use Rattle.sw_rows.specs.Scan.{AsksBelow};
 ghost use Rattle.sw_rows.specs.declared.query.Call.TheVariants.{Select, Insert, Delete};
 ghost use Rattle.sw_rows.specs.declared.refusal.Refusal.TheVariants.{NoMemory};
@@ -17,13 +17,25 @@ use crate::latch::{LatchedHead, head_of};
 use crate::naming::Naming;
 use crate::opening::Opening;
 use std::alloc::{AllocError, Global};
+use std::hint::spin_loop;
 use std::marker::Model;
-use std::sync::{Mutex, Wait};
+use std::sync::{Mutex, MutexGuard, Wait};
 use std::thread::Threads;
 use sw_lang::Cuts;
 use sw_map::CrackerMap;
 use sw_rows::{Call, Query, Refusal, Reply, Row, Schema};
 use sw_spine::Record;
+
+/// How often the lock is tried before a thread sleeps for it, and how long it pauses between two tries.
+const TRIES: usize = 100;
+
+const PAUSES: usize = 64;
+
+fn pause() {
+    for _ in 0..PAUSES {
+        spin_loop();
+    }
+}
 
 /// A latch for each attribute's head.
 fn all_latches<J: Naming, M: CrackerMap>(
@@ -145,7 +157,7 @@ impl<J: Naming, M: CrackerMap> Engine<J, M> {
         ensures new { IfOk result (λ s. s.1 ≡ []) }
         ensures refused { IfErr result (λ e. TooManySessions e) }
     {
-        let ticket = self.desk.lock(rt).enrol()?;
+        let ticket = self.visit(rt).enrol()?;
         Ok(Session {
             engine: self,
             ticket,
@@ -204,7 +216,36 @@ impl<J: Naming, M: CrackerMap> Engine<J, M> {
         self.latches[head].lock(rt).shed(most)
     }
 
-    /// Makes a head that was never asked, in one visit of the lock, where the opening rows lie; and gives it the boxes that wait
+    /// The history, for one visit. It is tried for before the thread sleeps for it, since most visits are shorter than a sleep.
+    fn visit<R: Wait>(&self, rt: &R) -> MutexGuard<'_, Desk<J>> {
+        for _ in 0..TRIES {
+            if let Some(desk) = self.desk.try_lock() {
+                return desk;
+            }
+            pause();
+        }
+        self.desk.lock(rt)
+    }
+
+    /// A copy of the opening rows. Its memory is taken and written before the visit, which then copies and does no more.
+    /// Refused `NoMemory` alone.
+    fn opening_rows<R: Wait>(&self, rt: &R) -> Result<Vec<Row>, Refusal>
+        ensures { MatchResult result (λ rows. rows.items ≡ J.opening) (λ e. e ≡ NoMemory) }
+    {
+        let many = self.visit(rt).opening_rows().len();
+        let blank = Row {
+            key: 0,
+            cells: [0; 8],
+        };
+        let Ok(mut rows) = vec![in self.alloc; blank; many] else {
+            return Err(Refusal::NoMemory);
+        };
+        let desk = self.visit(rt);
+        rows.as_mut_slice().copy_from_slice(desk.opening_rows());
+        Ok(rows)
+    }
+
+    /// Makes a head that was never asked, of a copy of the opening rows, outside the lock; and gives it the boxes that wait
     /// for it.
     fn ready<R: Wait>(&self, rt: &R, head: &mut LatchedHead<J, M>) -> Result<(), Refusal>
         ensures taken { head.new.taken ≡ head.old.taken }
@@ -214,8 +255,8 @@ impl<J: Naming, M: CrackerMap> Engine<J, M> {
         ensures refused { IsOkUnless result NoMemory }
     {
         if !head.is_made() {
-            let desk = self.desk.lock(rt);
-            head.make(self.alloc, &self.opening, desk.opening_rows())?;
+            let rows = self.opening_rows(rt)?;
+            head.make(self.alloc, &self.opening, rows)?;
         }
         head.hand_over()
     }
@@ -240,12 +281,12 @@ impl<J: Naming, M: CrackerMap> Engine<J, M> {
         if self.ready(rt, &mut *head).is_err() {
             return Err(Refusal::NoMemory);
         }
-        self.desk.lock(rt).begin(*number, share, &mut *head, asked)?;
+        self.visit(rt).begin(*number, share, &mut *head, asked)?;
         let Ok((reply, kept)) = head.answer(rt, self.alloc, query) else {
-            self.desk.lock(rt).void(*number, share);
+            self.visit(rt).void(*number, share);
             return Err(Refusal::NoMemory);
         };
-        self.desk.lock(rt).finish(*number, share, kept);
+        self.visit(rt).finish(*number, share, kept);
         Ok(reply)
     }
 
@@ -257,7 +298,7 @@ impl<J: Naming, M: CrackerMap> Engine<J, M> {
         ensures refused { IfErr result (λ e. RefusesCall e) }
     {
         let Ticket { number, share, .. } = ticket;
-        self.desk.lock(rt).commit(*number, share, call)
+        self.visit(rt).commit(*number, share, call)
     }
 }
 

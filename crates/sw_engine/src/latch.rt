@@ -101,11 +101,16 @@ impl<J: Naming, M: CrackerMap> LatchedHead<J, M> {
         self.head.is_some()
     }
 
-    /// Makes the head from the opening rows, if it was never asked. Refused `NoMemory` alone, and then nothing has
-    /// changed.
+    /// Makes the head from the opening rows, a copy of which it takes over, if it was never asked. Refused `NoMemory` alone, and
+    /// then nothing has changed.
     #[tactic(auto, using(crate::proofs::Heads::made_latch, crate::proofs::Heads::same_latch))]
-    pub fn make(&mut self, alloc: Global, opening: &Opening<J>, rows: &[Row]) -> Result<(), Refusal>
-        requires { rows.now ≡ J.opening }
+    pub fn make(
+        &mut self,
+        alloc: Global,
+        opening: &Opening<J>,
+        rows: Vec<Row>,
+    ) -> Result<(), Refusal>
+        requires { rows.items ≡ J.opening }
         ensures made { OnOk result (self.new ≡ record self.old { made = true }) }
         ensures kept { OnErr result (self.new ≡ self.old) }
         ensures refused { IsOkUnless result NoMemory }

@@ -49,19 +49,19 @@ impl<J: Naming> Opening<J> {
         }
     }
 
-    /// A head over the opening rows. Refused `NoMemory` alone.
+    /// A head over the opening rows, a copy of which it takes over. Refused `NoMemory` alone.
     pub fn head<M: CrackerMap>(
         &self,
         alloc: Global,
         place: usize,
-        rows: &[Row],
+        rows: Vec<Row>,
     ) -> Result<Head<M>, Refusal>
         requires place { place < length J.columns }
-        requires rows { rows.now ≡ J.opening }
+        requires rows { rows.items ≡ J.opening }
         ensures made { IfOk result (IsNewHead place J.opening) }
         ensures refused { IsOkUnless result NoMemory }
     {
         let cuts = self.cuts.of(place);
-        Head::new(alloc, place as u8, cuts, rows)
+        Head::of(alloc, place as u8, cuts, rows)
     }
 }

@@ -3,7 +3,7 @@ use Rattle.sw_rows.specs.declared.row.Update.{Update}
 use Rattle.sw_set.specs.Shelf.{AreaState}
 use Rattle.sw_chunks.specs.Cleared.{AreEach}
 use Rattle.sw_chunks.specs.Heads.{HeadState, IsHeadLawful, IsSameButSpare, told_in}
-use Rattle.sw_chunks.specs.Places.{owners_of}
+use Rattle.sw_chunks.specs.Places.{owners_kept}
 use Rattle.sw_chunks.specs.Routing.{MayFollow, given_by}
 use Rattle.sw_chunks.proofs.Coming.{lawful-room, lawful-then, may-go, owners-are, owners-left, owners-rising, owners_after, places-are, places-within, places_after, sent-are}
 use Rattle.sw_chunks.proofs.Standing.{whole}
@@ -41,7 +41,7 @@ invariant_of-self-in-Ok g c =
     let sent = sent-are h c.args.updates.now _ c.as_mut_slice.result.now c.share_all-done.new.areas places c.as_mut_slice.ensures.value c.in-Ok.ensures.ends in (
       subst (λ (l : List AreaState). IsHeadLawful (record h { updates = told_in c.tell_all.new.told.rows; areas = l })) (sym (whole c.self.inside.areas.len c.share_all-done.new.areas c.self.inside.areas.items len many))
           (lawful-then h c.args.updates.now (told_in c.tell_all.new.told.rows) c.share_all-done.new.areas c.self.invariant.0 may c.tell_all.ensures.fit c.tell_all.ensures.told many sent),
-      now ∙ ap (λ l. owners_of h.attribute h.cuts (given_by l)) (sym c.tell_all.ensures.told),
+      now ∙ ap (λ l. owners_kept h.attribute h.cuts (given_by l)) (sym c.tell_all.ensures.told),
     )
 
 pub invariant_of-self-in-Err : goal.invariant_of-self-in-Err

@@ -9,17 +9,17 @@ use Rattle.sw_engine.proofs.opening.Opening.head.Goals as goal
 pub overflow_cast-place : goal.overflow_cast-place
 overflow_cast-place g c = omega (arith, c.requires.place, c.self.invariant.few)
 
-pub new-requires-clause-rising : goal.new-requires-clause-rising
-new-requires-clause-rising g c κs within =
+pub of-requires-clause-rising : goal.of-requires-clause-rising
+of-requires-clause-rising g c κs within =
     subst (λ (zs : List ℤ). RiseAbove None zs) (sym c.of-cuts.ensures) (cuts_rise (cuts_on c.self.inside.cuts c.args.place) (c.self.invariant.lawful c.args.place c.requires.place).rise)
 
-pub new-requires-clause-keys : goal.new-requires-clause-keys
-new-requires-clause-keys g c κs within =
+pub of-requires-clause-keys : goal.of-requires-clause-keys
+of-requires-clause-keys g c κs within =
     subst (λ (rs : List Row). All (λ (r : Row). r.key < 2 ^ 63) rs) (sym c.requires.rows) (keys_fit g.J.Naming.opening c.self.invariant.numbered c.self.invariant.within)
 
-pub new-requires-clause-rise : goal.new-requires-clause-rise
-new-requires-clause-rise g c κs within =
+pub of-requires-clause-rise : goal.of-requires-clause-rise
+of-requires-clause-rise g c κs within =
     subst (λ (rs : List Row). Rises key_of rs) (sym c.requires.rows) (numbered_rise 1 g.J.Naming.opening c.self.invariant.numbered)
 
 pub returns-clause-made : goal.returns-clause-made
-returns-clause-made g c = if_new_head _ c.args.place _ c.args.rows.now g.J.Naming.opening c.new.result (search rules) c.requires.rows c.new.ensures
+returns-clause-made g c = if_new_head _ c.args.place _ c.args.rows.items g.J.Naming.opening c.of.result (search rules) c.requires.rows c.of.ensures

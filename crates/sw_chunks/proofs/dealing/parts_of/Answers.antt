@@ -1,0 +1,10 @@
+use Rattle.std.proofs.Common.{rules, ◌≡◌, ◌∷◌, [], get_or, length, ap, ◌∙◌, Vec, Global}
+use Rattle.sw_rows.specs.declared.row.Row.{Row}
+use Rattle.sw_chunks.proofs.Dealt.{one-part}
+use Rattle.sw_chunks.proofs.dealing.parts_of.Goals as goal
+
+pub returns-in-Ok-clause-parts : goal.returns-in-Ok-clause-parts
+returns-in-Ok-clause-parts c k d i le =
+    let none : length c.args.cuts.now ≡ 0 = search rules in
+    let is : c.push.new.self.items ≡ c.args.rows ∷ [] = search rules in
+    ap (λ l. (get_or l k d).items) is ∙ one-part (λ (v : Vec Row Global). v.items) c.args.attribute c.args.cuts.now c.args.rows k d i none le
