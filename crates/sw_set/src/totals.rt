@@ -2,15 +2,53 @@
 
 ghost use Rattle.std.specs.Prelude.{◌≡◌, List, ℤ, length};
 ghost use Rattle.sw_rows.specs.Scan.{total, least, greatest};
-ghost use Rattle.sw_set.specs.Choice.{chosen, lesser_with, larger_with};
+ghost use Rattle.sw_set.specs.Choice.{chosen, lesser_with, larger_with, IsSumOf};
 
 use crate::choice::Choice;
-use crate::window::Window;
+use crate::window::{BLOCK, Window};
 use sw_map::CrackerMap;
 
+/// The sum of values.
+fn sum_of(values: &[i64]) -> i128
+    ensures total { result ≡ total values.now }
+    ensures within { IsSumOf (length values.now) result }
+{
+    let mut sum: i128 = 0;
+    for value in values {
+        sum += i128::from(*value);
+    }
+    sum
+}
+
+/// The sum of all values of a column, 0 for none.
+fn sum_all<M: CrackerMap>(window: &Window<'_, M>) -> i128
+    ensures { result ≡ total window.now }
+{
+    let mut block = [0; BLOCK];
+    let mut sum: i128 = 0;
+    let mut place = 0;
+    while place < window.len() {
+        let many = (window.len() - place).min(BLOCK);
+        window.read(place, &mut block[..many]);
+        sum += sum_of(&block[..many]);
+        place += many;
+    }
+    sum
+}
+
 /// The sum of the chosen values, 0 for none.
-#[tactic(auto, using(crate::proofs::Choosing::chosen_nil, crate::proofs::Choosing::total_yes, crate::proofs::Choosing::total_no))]
 pub(crate) fn sum<M: CrackerMap>(window: &mut Window<'_, M>, choice: &Choice) -> i128
+    ensures { result ≡ total (chosen choice.now.bits window.old) }
+{
+    match &choice.bits {
+        None => sum_all(window),
+        Some(_) => sum_chosen(window, choice),
+    }
+}
+
+/// The sum of the values that are chosen one by one.
+#[tactic(auto, using(crate::proofs::Choosing::chosen_nil, crate::proofs::Choosing::total_yes, crate::proofs::Choosing::total_no))]
+fn sum_chosen<M: CrackerMap>(window: &mut Window<'_, M>, choice: &Choice) -> i128
     ensures { result ≡ total (chosen choice.now.bits window.old) }
 {
     let mut sum: i128 = 0;
