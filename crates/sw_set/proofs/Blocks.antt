@@ -46,3 +46,8 @@ sum-of-both p m s z a b = (omega (arith, ints, a.0, b.0), omega (arith, ints, a.
 pub total-block : (xs : List ℤ) (p m : ℕ) (s z : ℤ) → s ≡ total (take p xs) → z ≡ total (slice_range xs p (p + m)) → s +ℤ z ≡ total (take (p + m) xs)
 total-block xs p m s z so_far is =
     ap₂ (λ (a b : ℤ). a +ℤ b) so_far is ∙ sym (total-from (total (take p xs)) (slice_range xs p (p + m))) ∙ sym (fold-append ◌+ℤ◌ (pos 0) (take p xs) (slice_range xs p (p + m))) ∙ ap total (sym (one-block xs p m))
+
+-- what is gathered of the items up to a place, and of one more block
+pub fold-block : {A B : Type 0} (f : B → A → B) (b s z : B) (xs : List A) (p m : ℕ) → s ≡ fold f b (take p xs) → z ≡ fold f s (slice_range xs p (p + m)) → z ≡ fold f b (take (p + m) xs)
+fold-block f b s z xs p m so_far is =
+    is ∙ ap (λ v. fold f v (slice_range xs p (p + m))) so_far ∙ sym (fold-append f b (take p xs) (slice_range xs p (p + m))) ∙ ap (fold f b) (sym (one-block xs p m))
