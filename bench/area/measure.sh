@@ -5,7 +5,8 @@
 #
 # Copies the crates up to sw_chunks with a program of its own into a folder under TMPDIR, proves and builds them there, makes a
 # table of random ints of three attributes and scripts of CALLS (by default 1,000) random calls at width one thousandth:
-# counts, sums, selects of two tails, and sums with a second condition. It runs the program and bench/peers/peer.cpp in
+# counts, sums, selects of two tails, and sums with a second condition; a fifth as many sums over half of the rows (`wide`); and
+# sums over ranges that stand side by side, from left to right (`moving`). It runs the program and bench/peers/peer.cpp in
 # crack mode by turns ROUNDS times (by default 5) over each script, compares both outputs, and prints the medians of the
 # seconds that the calls took, texts of replies included, with their ratio, and how much of it the head took.
 # Maps are aligned in threads, which on a busy machine wait for a processor: RUN='chrt -f 10' (as root) runs both sides at
@@ -20,9 +21,13 @@ here=$(cd "$(dirname "$0")" && pwd)
 area replies "$here/replies.rt.txt"
 program=$work/crates/replies/out/replies
 
-for mix in count sum select multi; do
-  python3 "$top/bench/peers/gen.py" "$work/$mix" --rows "$rows" --attrs 3 --calls "$calls" --mix "$mix" --width 0.001
+made() {
+  python3 "$top/bench/peers/gen.py" "$work/$1" --rows "$rows" --attrs 3 --mix "$2" --calls "$3" --width "$4"
+}
+for mix in count sum select multi moving; do
+  made "$mix" "$mix" "$calls" 0.001
 done
+made wide sum "$((calls / 5))" 0.5
 python3 - "$work" "$program" "$rounds" <<'END'
 import os, statistics, subprocess, sys
 before = os.environ.get("RUN", "").split()
@@ -31,7 +36,7 @@ def ran(words):
     done = subprocess.run(before + words, capture_output=True)
     assert done.returncode == 0, (words, done.returncode, done.stderr)
     return done.stdout, done.stderr.decode().split()
-for mix in ("count", "sum", "select", "multi"):
+for mix in ("count", "sum", "select", "multi", "wide", "moving"):
     files = [f"{work}/{mix}/t.csv", f"{work}/{mix}/s.txt"]
     ours, areas, peers = [], [], []
     for _ in range(rounds):

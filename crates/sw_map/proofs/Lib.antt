@@ -3,3 +3,4 @@ pub mod Layouts
 pub mod Finding
 pub mod Cracking
 pub mod Tables
+pub mod Parts

@@ -1,5 +1,5 @@
 -- What a map holds, and what beginning, an entry of the tape and clearing make of it.
-use Rattle.std.specs.Prelude.{◌≡◌, ◌<◌, ◌+◌, ◌^◌, ℕ, ℤ, pos, Bool, true, false, cond, Option, None, Some, [], length, All}
+use Rattle.std.specs.Prelude.{◌≡◌, ◌<◌, ◌+◌, ◌^◌, ℕ, ℤ, pos, Bool, true, false, cond, Option, None, Some, List, [], length, map, All}
 use Rattle.sw_rows.specs.declared.bound.Bound.{Bound}
 use Rattle.sw_rows.specs.declared.row.Row.{Row}
 use Rattle.sw_rows.specs.Bounds.{same_bound}
@@ -44,6 +44,10 @@ after e m = record m { cursor = m.cursor + 1; pairs = step head_of (shown_step (
 -- how many pairs it has
 abbrev pub pairs_in : Held → ℕ
 pairs_in m = length (joined m.pairs)
+
+-- the tails of its pairs, in order
+abbrev pub tails_in : Held → List ℤ
+tails_in m = map (λ p. p.1) (joined m.pairs)
 
 -- how many items stand before a bound, if it is one of those between the pieces, where i stand before the first piece
 abbrev pub place_from : {A : Type 0} → ℕ → Bound → Arrangement A → Option ℕ

@@ -1,10 +1,10 @@
 //! The trait of maps, and a box of any map.
 
-ghost use Rattle.std.specs.Prelude.{◌≡◌, ℕ, ◌+◌, ◌<◌, ◌≤◌, pos, true, false, MatchResult, slice_index_or};
+ghost use Rattle.std.specs.Prelude.{◌≡◌, ℕ, ◌+◌, ◌<◌, ◌≤◌, pos, length, true, false, MatchResult, slice_index_or, slice_range};
 ghost use Rattle.sw_rows.specs.declared.refusal.Refusal.TheVariants.{NoMemory};
 ghost use Rattle.sw_kernel.specs.Arrangement.{joined};
 ghost use Rattle.sw_tape.specs.Entries.{step_of};
-ghost use Rattle.sw_map.specs.Held.{Held, blank, begun, after, pairs_in, place_of, MayReplay, KeysFit};
+ghost use Rattle.sw_map.specs.Held.{Held, blank, begun, after, pairs_in, place_of, tails_in, MayReplay, KeysFit};
 ghost use Rattle.sw_map.specs.Refusals.{IsBeginRefusal};
 
 use crate::tail::Tail;
@@ -55,6 +55,19 @@ pub trait CrackerMap: Send + Drop {
     fn tail_at(&self, place: usize) -> i64
         requires { place < pairs_in (held self.now) }
         ensures { result ≡ (slice_index_or (joined (held self.now).pairs) place (pos 0, pos 0)).1 };
+
+    /// Reads the tails from a place on into a slice, as many as it has. A map that keeps its tails in a row copies them; by
+    /// default it is asked for one after the other.
+    fn read_tails(&self, place: usize, tails: &mut [i64])
+        requires { place + length tails.old ≤ pairs_in (held self.now) }
+        ensures { tails.new ≡ slice_range (tails_in (held self.now)) place (place + length tails.old) }
+    {
+        // that there are so few pairs is for the proof
+        let _pairs = self.len();
+        for at in 0..tails.len() {
+            tails[at] = self.tail_at(place + at);
+        }
+    }
 
     /// Begins a blank map of this head and tail, with a lease of so many cells: cursor 0, and no pairs. It is refused
     /// `NoMemory`, `Short` or `Contended`, and is then blank.
@@ -114,6 +127,10 @@ impl CrackerMap for Box<dyn CrackerMap> {
 
     fn tail_at(&self, place: usize) -> i64 {
         (**self).tail_at(place)
+    }
+
+    fn read_tails(&self, place: usize, tails: &mut [i64]) {
+        (**self).read_tails(place, tails);
     }
 
     fn begin(&mut self, head: u8, tail: Tail, cells: u64) -> Result<(), Refusal> {

@@ -108,6 +108,14 @@ impl CrackerMap for PairMap {
         }
     }
 
+    /// It copies them.
+    fn read_tails(&self, place: usize, tails: &mut [i64]) {
+        match &self.home {
+            Home::Blank(_) => {}
+            Home::Active(active) => active.pairs.read_tails(place, tails),
+        }
+    }
+
     /// Its lists have room for just as many pairs as the lease has cells. Where it is refused it has its purse again, and no
     /// memory.
     fn begin(&mut self, head: u8, tail: Tail, cells: u64) -> Result<(), Refusal>

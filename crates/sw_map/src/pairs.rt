@@ -1,6 +1,6 @@
 //! Pairs of head and tail as two flat lists and marks.
 
-ghost use Rattle.std.specs.Prelude.{◌≡◌, ◌+◌, ◌++◌, ◌<◌, ◌≤◌, ◌^◌, All, IsOk, MatchResult, length, map, pos, slice_index_or, vec_capacity, vec_len, []};
+ghost use Rattle.std.specs.Prelude.{◌≡◌, ◌+◌, ◌++◌, ◌<◌, ◌≤◌, ◌^◌, All, IsOk, MatchResult, length, map, pos, slice_index_or, slice_range, vec_capacity, vec_len, []};
 ghost use Rattle.sw_rows.specs.declared.refusal.Refusal.TheVariants.{NoMemory};
 ghost use Rattle.sw_rows.specs.declared.row.Row.{Row};
 ghost use Rattle.sw_rows.specs.Scan.{cell_of};
@@ -68,6 +68,15 @@ fn value_at(values: &[i64], place: usize) -> i64
     values[place]
 }
 
+/// Copies the values from a place on into a slice, as many as it has.
+fn copy_part(values: &[i64], place: usize, part: &mut [i64])
+    requires { place + length part.old ≤ length values.now }
+    ensures { part.new ≡ slice_range values.now place (place + length part.old) }
+{
+    let end = place + part.len();
+    part.copy_from_slice(&values[place..end]);
+}
+
 /// Puts the cells of rows at the end of head and tail, for which there is room.
 fn append(heads: &mut Vec<i64>, tails: &mut Vec<i64>, head: u8, tail: Tail, rows: &[Row])
     requires room { (vec_len heads.old + length rows.now ≤ vec_capacity heads.old) × (vec_len tails.old + length rows.now ≤ vec_capacity tails.old) }
@@ -128,6 +137,14 @@ impl Pairs {
         ensures { result ≡ (slice_index_or (joined self.now.pieces) place (pos 0, pos 0)).1 }
     {
         value_at(&self.tail, place)
+    }
+
+    /// Copies the tails from a place on into a slice, as many as it has.
+    pub(crate) fn read_tails(&self, place: usize, tails: &mut [i64])
+        requires { place + length tails.old ≤ length (joined self.now.pieces) }
+        ensures { tails.new ≡ slice_range (map (λ p. p.1) (joined self.now.pieces)) place (place + length tails.old) }
+    {
+        copy_part(&self.tail, place, tails);
     }
 
     /// How many pairs stand before the bound, if it is one of those between the pieces.

@@ -35,6 +35,9 @@ total-if zs false z = ap total (append-nil zs)
 pub total_more : (o : Option (List Bool)) (xs : List ℤ) (i : ℕ) (d : ℤ) → i < length xs → total (chosen o (take (i + 1) xs)) ≡ cond (is_chosen o i) (total (chosen o (take i xs)) +ℤ get_or xs i d) (total (chosen o (take i xs)))
 total_more o xs i d lt = ap total (chosen-more o xs i d lt) ∙ total-if (chosen o (take i xs)) (is_chosen o i) (get_or xs i d)
 
+pub total_next : (xs : List ℤ) (i : ℕ) (d : ℤ) → i < length xs → total (take (i + 1) xs) ≡ total (take i xs) +ℤ get_or xs i d
+total_next xs i d lt = total_more None xs i d lt
+
 least-end : (zs : List ℤ) (z : ℤ) → least (zs ++ z ∷ []) ≡ Some (lesser_with (least zs) z)
 least-end [] z = refl
 least-end (y ∷ zs) z = ap Some (fold-end int_min y zs z)

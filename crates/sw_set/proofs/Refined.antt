@@ -1,6 +1,11 @@
 -- Places refined one after the other.
-use Rattle.std.proofs.Common.{◌≡◌, ◌≢◌, ℕ, ◌+◌, ◌<◌, ◌≤◌, ◌&&◌, Bool, false, List, length, get_or, set, ◌⊎◌, inl, inr, ap, sym, ◌∙◌, arith, get_or-set_same, get_or-set_other}
-use Rattle.sw_set.proofs.Blocks.{equal-or-not}
+use Rattle.std.proofs.Common.{◌≡◌, ◌≢◌, ℕ, zero, suc, ◌+◌, ◌<◌, ◌≤◌, ◌&&◌, Bool, false, List, length, get_or, set, ◌⊎◌, inl, inr, refl, ap, sym, ◌∙◌, arith, get_or-set_same, get_or-set_other}
+
+equal-or-not : (m n : ℕ) → (m ≡ n) ⊎ (m ≢ n)
+equal-or-not zero zero = inl refl
+equal-or-not zero (suc n) = inr (λ e. omega arith)
+equal-or-not (suc m) zero = inr (λ e. omega arith)
+equal-or-not (suc m) (suc n) = elim (equal-or-not m n) [ inl e ↦ inl (ap suc e) | inr d ↦ inr (λ e. d (omega arith)) ]
 
 module _ (old bits : List Bool) (place : ℕ) (x : Bool) (p : ℕ → Bool) (is : x ≡ p place) (lt : place < length bits) (so_far : (k : ℕ) → k < place → get_or bits k false ≡ (get_or old k false && p k)) (rest : (k : ℕ) → place ≤ k → get_or bits k false ≡ get_or old k false) where
   first-at : (k : ℕ) → k < place + 1 → (k ≡ place) ⊎ (k ≢ place) → get_or (set bits place (get_or bits place false && x)) k false ≡ (get_or old k false && p k)

@@ -1,5 +1,5 @@
 -- Columns of maps, the range of places that qualifies, and what truth values choose of it.
-use Rattle.std.specs.Prelude.{◌≡◌, ◌≢◌, ◌≤◌, ◌<◌, ◌+◌, ◌-◌, ℕ, suc, ℤ, pos, Bool, true, false, List, [], ◌∷◌, length, map, take, drop, get_or, slice_range, count_by, unsigned_abs, Option, None, Some, All, Any, IsPermutation}
+use Rattle.std.specs.Prelude.{◌≡◌, ◌≢◌, ◌≤◌, ◌<◌, ◌+◌, ◌-◌, ◌*◌, ◌^◌, ◌≤ℤ◌, ℕ, suc, ℤ, pos, neg_ℤ, Bool, true, false, List, [], ◌∷◌, length, map, take, drop, get_or, slice_range, count_by, unsigned_abs, Option, None, Some, All, Any, IsPermutation}
 use Rattle.std.specs.Int.{int_min, int_max}
 use Rattle.std.specs.List.Sorted.{IsNonDecreasingBy}
 use Rattle.sw_rows.specs.declared.query.Cond.{Cond}
@@ -14,7 +14,7 @@ use Rattle.sw_kernel.specs.Arrangement.{joined}
 use Rattle.sw_kernel.specs.Replay.{Step}
 use Rattle.sw_tape.specs.Restart.{kept}
 use Rattle.sw_map.specs.declared.tail.Tail.TheVariants.{Key, Cell}
-use Rattle.sw_map.specs.Held.{Held, blank, pairs_in}
+use Rattle.sw_map.specs.Held.{Held, blank, pairs_in, tails_in}
 use Rattle.sw_map.specs.Lawful.{IsLawful, rows_by}
 use Rattle.sw_set.specs.Prepared.{IsReady}
 use Rattle.sw_set.specs.declared.window.Side.{Side}
@@ -46,7 +46,7 @@ further (c ∷ cs) = cs
 -- the heads of a map's pairs, in order, or the tails
 abbrev pub side_in : Side → Held → List ℤ
 side_in Head m = map (λ p. p.0) (joined m.pairs)
-side_in Tail m = map (λ p. p.1) (joined m.pairs)
+side_in Tail m = tails_in m
 
 -- the rows that maps of a head show at a tape's end, in order
 abbrev pub shown_rows : ℕ → List (Step Row) → List Row
@@ -123,6 +123,10 @@ AreOf q xs (Some bs) = bs ≡ map q xs
 abbrev pub placed : ℕ → List ℤ → List (ℕ × ℕ)
 placed i [] = []
 placed i (k ∷ ks) = (unsigned_abs k, i) ∷ placed (suc i) ks
+
+-- a number that so many cells may sum to
+abbrev pub IsSumOf : ℕ → ℤ → Type 0
+IsSumOf n z = (neg_ℤ (pos (2 ^ 63 * n)) ≤ℤ z) × (z ≤ℤ pos (2 ^ 63 * n))
 
 -- the lesser of what was found, if anything was, and a value
 abbrev pub lesser_with : Option ℤ → ℤ → ℤ

@@ -1,16 +1,55 @@
 //! The sum, the least and the greatest of what is chosen of a column.
 
-ghost use Rattle.std.specs.Prelude.{◌≡◌, List, ℤ, length};
+ghost use Rattle.std.specs.Prelude.{◌≡◌, List, ℤ, fold, length};
+ghost use Rattle.std.specs.Int.{int_max, int_min};
 ghost use Rattle.sw_rows.specs.Scan.{total, least, greatest};
-ghost use Rattle.sw_set.specs.Choice.{chosen, lesser_with, larger_with};
+ghost use Rattle.sw_set.specs.Choice.{chosen, lesser_with, larger_with, IsSumOf};
 
 use crate::choice::Choice;
-use crate::window::Window;
+use crate::window::{BLOCK, Window};
 use sw_map::CrackerMap;
 
+/// The sum of values.
+fn sum_of(values: &[i64]) -> i128
+    ensures total { result ≡ total values.now }
+    ensures within { IsSumOf (length values.now) result }
+{
+    let mut sum: i128 = 0;
+    for value in values {
+        sum += i128::from(*value);
+    }
+    sum
+}
+
+/// The sum of all values of a column, 0 for none.
+fn sum_all<M: CrackerMap>(window: &Window<'_, M>) -> i128
+    ensures { result ≡ total window.now }
+{
+    let mut block = [0; BLOCK];
+    let mut sum: i128 = 0;
+    let mut place = 0;
+    while place < window.len() {
+        let many = (window.len() - place).min(BLOCK);
+        window.read(place, &mut block[..many]);
+        sum += sum_of(&block[..many]);
+        place += many;
+    }
+    sum
+}
+
 /// The sum of the chosen values, 0 for none.
-#[tactic(auto, using(crate::proofs::Choosing::chosen_nil, crate::proofs::Choosing::total_yes, crate::proofs::Choosing::total_no))]
 pub(crate) fn sum<M: CrackerMap>(window: &mut Window<'_, M>, choice: &Choice) -> i128
+    ensures { result ≡ total (chosen choice.now.bits window.old) }
+{
+    match &choice.bits {
+        None => sum_all(window),
+        Some(_) => sum_chosen(window, choice),
+    }
+}
+
+/// The sum of the values that are chosen one by one.
+#[tactic(auto, using(crate::proofs::Choosing::chosen_nil, crate::proofs::Choosing::total_yes, crate::proofs::Choosing::total_no))]
+fn sum_chosen<M: CrackerMap>(window: &mut Window<'_, M>, choice: &Choice) -> i128
     ensures { result ≡ total (chosen choice.now.bits window.old) }
 {
     let mut sum: i128 = 0;
@@ -42,9 +81,49 @@ fn larger(found: Option<i64>, here: i64) -> i64
     }
 }
 
+/// The least of values and of one more, that was found.
+fn least_of(found: i64, values: &[i64]) -> i64
+    ensures { result ≡ fold int_min found values.now }
+{
+    let mut found = found;
+    for value in values {
+        found = found.min(*value);
+    }
+    found
+}
+
+/// The least of all values of a column, if there are any.
+fn min_all<M: CrackerMap>(window: &mut Window<'_, M>) -> Option<i64>
+    ensures { result ≡ least window.old }
+{
+    if window.len() == 0 {
+        return None;
+    }
+    let mut block = [0; BLOCK];
+    let mut found = window.at(0);
+    let mut place = 0;
+    while place < window.len() {
+        let many = (window.len() - place).min(BLOCK);
+        window.read(place, &mut block[..many]);
+        found = least_of(found, &block[..many]);
+        place += many;
+    }
+    Some(found)
+}
+
 /// The least of the chosen values, if there are any.
-#[tactic(auto, using(crate::proofs::Choosing::chosen_nil, crate::proofs::Choosing::least_yes, crate::proofs::Choosing::least_no))]
 pub(crate) fn min<M: CrackerMap>(window: &mut Window<'_, M>, choice: &Choice) -> Option<i64>
+    ensures { result ≡ least (chosen choice.now.bits window.old) }
+{
+    match &choice.bits {
+        None => min_all(window),
+        Some(_) => min_chosen(window, choice),
+    }
+}
+
+/// The least of the values that are chosen one by one, if there are any.
+#[tactic(auto, using(crate::proofs::Choosing::chosen_nil, crate::proofs::Choosing::least_yes, crate::proofs::Choosing::least_no))]
+fn min_chosen<M: CrackerMap>(window: &mut Window<'_, M>, choice: &Choice) -> Option<i64>
     ensures { result ≡ least (chosen choice.now.bits window.old) }
 {
     let mut found: Option<i64> = None;
@@ -56,9 +135,49 @@ pub(crate) fn min<M: CrackerMap>(window: &mut Window<'_, M>, choice: &Choice) ->
     found
 }
 
+/// The greatest of values and of one more, that was found.
+fn greatest_of(found: i64, values: &[i64]) -> i64
+    ensures { result ≡ fold int_max found values.now }
+{
+    let mut found = found;
+    for value in values {
+        found = found.max(*value);
+    }
+    found
+}
+
+/// The greatest of all values of a column, if there are any.
+fn max_all<M: CrackerMap>(window: &mut Window<'_, M>) -> Option<i64>
+    ensures { result ≡ greatest window.old }
+{
+    if window.len() == 0 {
+        return None;
+    }
+    let mut block = [0; BLOCK];
+    let mut found = window.at(0);
+    let mut place = 0;
+    while place < window.len() {
+        let many = (window.len() - place).min(BLOCK);
+        window.read(place, &mut block[..many]);
+        found = greatest_of(found, &block[..many]);
+        place += many;
+    }
+    Some(found)
+}
+
 /// The greatest of the chosen values, if there are any.
-#[tactic(auto, using(crate::proofs::Choosing::chosen_nil, crate::proofs::Choosing::greatest_yes, crate::proofs::Choosing::greatest_no))]
 pub(crate) fn max<M: CrackerMap>(window: &mut Window<'_, M>, choice: &Choice) -> Option<i64>
+    ensures { result ≡ greatest (chosen choice.now.bits window.old) }
+{
+    match &choice.bits {
+        None => max_all(window),
+        Some(_) => max_chosen(window, choice),
+    }
+}
+
+/// The greatest of the values that are chosen one by one, if there are any.
+#[tactic(auto, using(crate::proofs::Choosing::chosen_nil, crate::proofs::Choosing::greatest_yes, crate::proofs::Choosing::greatest_no))]
+fn max_chosen<M: CrackerMap>(window: &mut Window<'_, M>, choice: &Choice) -> Option<i64>
     ensures { result ≡ greatest (chosen choice.now.bits window.old) }
 {
     let mut found: Option<i64> = None;

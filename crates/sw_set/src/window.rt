@@ -3,12 +3,13 @@
 ghost use Rattle.std.specs.Prelude.{◌≡◌, ℕ, ◌+◌, ◌-◌, ◌<◌, ◌≤◌, ℤ, pos, List, length, slice_range, slice_index_or};
 ghost use Rattle.sw_map.specs.Held.{Held, pairs_in};
 ghost use Rattle.sw_set.specs.Choice.{side_in, IsBlock};
+ghost use Rattle.sw_set.specs.declared.window.Side.TheVariants.{Head};
 
 use std::marker::Model;
 use sw_map::CrackerMap;
 
 /// How many cells a window asks for at a time.
-const BLOCK: usize = 256;
+pub(crate) const BLOCK: usize = 256;
 
 /// The half of a map's pairs in which a column stands.
 #[derive(Clone, Copy)]
@@ -36,20 +37,26 @@ pub(crate) fn value_at<M: CrackerMap>(map: &M, side: Side, place: usize) -> i64
     }
 }
 
-/// Reads a column from one place up to below another, at most a block apart.
-fn read_block<M: CrackerMap>(
-    map: &M,
-    side: Side,
-    from: usize,
-    upto: usize,
-    block: &mut [i64; BLOCK],
-)
-    requires within { upto ≤ pairs_in (M.held map.now) }
-    requires short { upto ≤ from + 256 }
-    ensures { (k : ℕ) → from ≤ k → k < upto → slice_index_or block.new (k - from) (pos 0) ≡ slice_index_or (side_in side (M.held map.now)) k (pos 0) }
+/// Reads the heads from a place on into a slice, as many as it has.
+fn read_heads<M: CrackerMap>(map: &M, place: usize, part: &mut [i64])
+    requires { place + length part.old ≤ pairs_in (M.held map.now) }
+    ensures { part.new ≡ slice_range (side_in Head (M.held map.now)) place (place + length part.old) }
 {
-    for place in from..upto {
-        block[place - from] = value_at(map, side, place);
+    // that there are so few pairs is for the proof
+    let _pairs = map.len();
+    for at in 0..part.len() {
+        part[at] = map.head_at(place + at);
+    }
+}
+
+/// Reads a column from a place on into a slice, as many values as it has.
+fn read_column<M: CrackerMap>(map: &M, side: Side, place: usize, part: &mut [i64])
+    requires { place + length part.old ≤ pairs_in (M.held map.now) }
+    ensures { part.new ≡ slice_range (side_in side (M.held map.now)) place (place + length part.old) }
+{
+    match side {
+        Side::Head => read_heads(map, place, part),
+        Side::Tail => map.read_tails(place, part),
     }
 }
 
@@ -103,22 +110,25 @@ impl<'a, M: CrackerMap> Window<'a, M> {
         self.len
     }
 
+    /// Reads the values from a place on into a slice, as many as it has.
+    pub fn read(&self, place: usize, part: &mut [i64])
+        requires { place + length part.old ≤ length self.now }
+        ensures { part.new ≡ slice_range self.now place (place + length part.old) }
+    {
+        read_column(self.map, self.side, self.from + place, part);
+    }
+
     /// Reads the values from a place on, and answers that at the place.
     fn refill(&mut self, place: usize) -> i64
         requires { place < length self.old }
         ensures value { result ≡ slice_index_or self.old place (pos 0) }
         ensures same { self.new ≡ self.old }
     {
-        let end = place + (self.len - place).min(BLOCK);
-        read_block(
-            self.map,
-            self.side,
-            self.from + place,
-            self.from + end,
-            &mut self.block,
-        );
+        let many = (self.len - place).min(BLOCK);
+        let at = self.from + place;
+        read_column(self.map, self.side, at, &mut self.block[..many]);
         self.start = place;
-        self.end = end;
+        self.end = place + many;
         self.block[0]
     }
 

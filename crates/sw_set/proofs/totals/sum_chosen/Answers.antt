@@ -2,8 +2,8 @@ use Rattle.std.proofs.Common.{arith, ◌∙◌}
 use Rattle.std.proofs.lemmas.Int.{ints, to_z-of_z}
 use Rattle.std.proofs.lemmas.Grind.{common_steps}
 use Rattle.sw_set.proofs.Choosing.{total_yes, total_no}
-use Rattle.sw_set.proofs.totals.sum.Goals as goal
-use Rattle.sw_set.proofs.totals.sum.Goals.{then-has, else-has}
+use Rattle.sw_set.proofs.totals.sum_chosen.Goals as goal
+use Rattle.sw_set.proofs.totals.sum_chosen.Goals.{then-has, else-has}
 
 pub loop-place-preserved : goal.loop-place-preserved
 loop-place-preserved g c =
