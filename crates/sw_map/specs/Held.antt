@@ -41,6 +41,11 @@ begun head tail cells = record { is_blank = false; head = head; tail = tail; cel
 abbrev pub after : Step Row → Held → Held
 after e m = record m { cursor = m.cursor + 1; pairs = step head_of (shown_step (pair_in m.head m.tail) e) m.pairs }
 
+-- a map whose lease was to grow to so many cells, and whether it did: all but the cells is as it was
+abbrev pub grown_if : Bool → ℕ → Held → Held
+grown_if true cells m = record m { cells = cells }
+grown_if false cells m = m
+
 -- how many pairs it has
 abbrev pub pairs_in : Held → ℕ
 pairs_in m = length (joined m.pairs)

@@ -1,16 +1,21 @@
 -- What a map's box has: a purse while it is blank, a lease and pairs while it is in use.
-use Rattle.std.specs.Prelude.{◌≡◌, ◌+◌, ◌≤◌, ℕ, Bool, true, false}
+use Rattle.std.specs.Prelude.{◌≡◌, ◌+◌, ◌≤◌, ℕ, Bool, true, false, Result, MatchResult}
 use Rattle.sw_rows.specs.declared.refusal.Refusal.{Refusal}
 use Rattle.sw_rows.specs.declared.refusal.Refusal.TheVariants.{NoMemory}
 use Rattle.sw_budget.specs.Account.{Account, Refused, asked, returned}
 use Rattle.sw_map.specs.declared.home.Home.{Home}
 use Rattle.sw_map.specs.declared.home.Home.TheVariants.{Blank, Active}
+use Rattle.sw_map.specs.declared.home.Kept.{Kept}
 use Rattle.sw_map.specs.Held.{Held, blank}
 
 -- what it holds; its cells are those that its lease holds
 abbrev pub held_by : Home → Held
 held_by (Blank purse) = blank
 held_by (Active a) = record { is_blank = false; head = a.head; tail = a.tail; cells = a.lease.held; cursor = a.cursor; pairs = a.pairs.pieces }
+
+-- what it holds with what it kept and a lease of so many cells
+abbrev pub held_with : Kept → ℕ → Held
+held_with k cells = record { is_blank = false; head = k.head; tail = k.tail; cells = cells; cursor = k.cursor; pairs = k.pairs.pieces }
 
 -- its seat at the budget
 abbrev pub seat_of : Home → Account
@@ -31,3 +36,7 @@ HasReturned a cells b e = Refused a cells b e
 abbrev pub cleared : Account → Bool → Account
 cleared a true = a
 cleared a false = returned a
+
+-- the seat after its lease was given back and so many cells were asked for: as after a clear and a begin
+abbrev pub HasLeasedAnew : Result Bool Refusal → Account → ℕ → Account → Type 0
+HasLeasedAnew r a cells b = MatchResult r (λ _. HasLeased (returned a) cells b) (λ e. HasReturned (returned a) cells b e)

@@ -5,7 +5,7 @@ ghost use Rattle.sw_rows.specs.declared.refusal.Refusal.TheVariants.{NoMemory};
 ghost use Rattle.sw_kernel.specs.Arrangement.{joined};
 ghost use Rattle.sw_tape.specs.Entries.{step_of};
 ghost use Rattle.sw_map.specs.Held.{Held, blank, begun, after, pairs_in, place_of, tails_in, MayReplay, KeysFit};
-ghost use Rattle.sw_map.specs.Refusals.{IsBeginRefusal};
+ghost use Rattle.sw_map.specs.Refusals.{HasGrownOr, IsBeginRefusal};
 
 use crate::tail::Tail;
 use sw_rows::{Bound, Refusal};
@@ -14,7 +14,7 @@ use sw_tape::Entry;
 /// A two-column table that replays the tape of an area. Contracts see what it holds.
 ///
 /// A blank map has no head, no pairs and no lease. `begin` gives it a lease and a head and tail, each `step` replays the
-/// next entry of the tape, and `clear` makes it blank again.
+/// next entry of the tape, `grow` may give it more cells in place, and `clear` makes it blank again.
 pub trait CrackerMap: Send + Drop {
     ghost held: { Self → Held };
 
@@ -74,6 +74,16 @@ pub trait CrackerMap: Send + Drop {
     fn begin(&mut self, head: u8, tail: Tail, cells: u64) -> Result<(), Refusal>
         requires { held self.old ≡ blank }
         ensures { MatchResult result (λ _. held self.new ≡ begun head tail cells) (λ e. (held self.new ≡ blank) × IsBeginRefusal cells e) };
+
+    /// Grows the lease of a map in use to so many cells, more than it has, and answers whether it grew; all else is as it was
+    /// then and otherwise. A map that does not grow in place answers `false`. It is refused what `begin` is, and is then blank.
+    fn grow(&mut self, cells: u64) -> Result<bool, Refusal>
+        requires begun { (held self.old).is_blank ≡ false }
+        requires more { (held self.old).cells < cells }
+        ensures { HasGrownOr result cells (held self.old) (held self.new) }
+    {
+        Ok(false)
+    }
 
     /// Replays the next entry of the tape, and the cursor rises by one. It is refused `NoMemory` alone, and then nothing
     /// has changed.
@@ -135,6 +145,10 @@ impl CrackerMap for Box<dyn CrackerMap> {
 
     fn begin(&mut self, head: u8, tail: Tail, cells: u64) -> Result<(), Refusal> {
         (**self).begin(head, tail, cells)
+    }
+
+    fn grow(&mut self, cells: u64) -> Result<bool, Refusal> {
+        (**self).grow(cells)
     }
 
     fn step(&mut self, entry: &Entry) -> Result<(), Refusal> {

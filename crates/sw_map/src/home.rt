@@ -1,10 +1,10 @@
 //! What a map's box has of its budget, and its pairs.
 
-ghost use Rattle.std.specs.Prelude.{◌≡◌, IfErr, IfOk, MatchResult, false, true};
+ghost use Rattle.std.specs.Prelude.{◌≡◌, ◌<◌, ◌≤◌, IfErr, IfOk, MatchResult, false, true};
 ghost use Rattle.sw_map.specs.Held.{begun, blank};
-ghost use Rattle.sw_map.specs.Refusals.{IsBeginRefusal};
+ghost use Rattle.sw_map.specs.Refusals.{HasGrownOr, IsBeginRefusal};
 ghost use Rattle.sw_rows.specs.declared.refusal.Refusal.TheVariants.{NoMemory};
-ghost use Rattle.sw_map.specs.States.{HasLeased, HasReturned, cleared, held_by, seat_of};
+ghost use Rattle.sw_map.specs.States.{HasLeased, HasLeasedAnew, HasReturned, cleared, held_by, held_with, seat_of};
 ghost use Rattle.sw_budget.specs.Account.{returned};
 
 use crate::active::Active;
@@ -51,6 +51,44 @@ fn furnish(lease: Lease, plan: Plan) -> (Home, Result<(), Refusal>)
     }
 }
 
+/// What a map keeps while its lease grows.
+#[derive(Drop)]
+struct Kept {
+    head: u8,
+    tail: Tail,
+    cursor: usize,
+    pairs: Pairs,
+}
+
+/// Gives a lease the pairs that the map had, with room for its cells; where that finds no memory, the lease is given back.
+fn refurnish(lease: Lease, kept: Kept, cells: u64) -> (Home, Result<bool, Refusal>)
+    requires held { lease.held ≡ cells }
+    requires more { kept.pairs.room ≤ cells }
+    ensures grew { IfOk result.1 (λ grew. grew ≡ true) }
+    ensures ok { IfOk result.1 (λ _. (held_by result.0 ≡ held_with kept cells) × (seat_of result.0 ≡ lease)) }
+    ensures err { IfErr result.1 (λ e. (held_by result.0 ≡ blank) × (seat_of result.0 ≡ returned lease) × (e ≡ NoMemory)) }
+{
+    let Kept {
+        head,
+        tail,
+        cursor,
+        pairs,
+    } = kept;
+    match pairs.grown(cells as usize) {
+        Ok(pairs) => {
+            let active = Active {
+                lease,
+                head,
+                tail,
+                cursor,
+                pairs,
+            };
+            (Home::Active(active), Ok(true))
+        }
+        Err(refusal) => (Home::Blank(lease.give_back()), Err(refusal)),
+    }
+}
+
 impl Home {
     /// Begins a blank map. Where it is refused it is blank, with its purse.
     pub(crate) fn begin(self, plan: Plan) -> (Home, Result<(), Refusal>)
@@ -64,6 +102,40 @@ impl Home {
                 Err((purse, refusal)) => (Home::Blank(purse), Err(refusal)),
             },
             Home::Active(_) => unreachable!(),
+        }
+    }
+
+    /// Gives the lease back and takes one of more cells, and keeps all that the map has. Where it is refused it is blank, with its
+    /// purse.
+    pub(crate) fn grow(self, cells: u64) -> (Home, Result<bool, Refusal>)
+        requires begun { (held_by self).is_blank ≡ false }
+        requires more { (held_by self).cells < cells }
+        ensures held { HasGrownOr result.1 cells (held_by self) (held_by result.0) }
+        ensures grew { IfOk result.1 (λ grew. grew ≡ true) }
+        ensures seat { HasLeasedAnew result.1 (seat_of self) cells (seat_of result.0) }
+    {
+        match self {
+            Home::Blank(_) => unreachable!(),
+            Home::Active(active) => {
+                let Active {
+                    lease,
+                    head,
+                    tail,
+                    cursor,
+                    pairs,
+                    ..
+                } = active;
+                let kept = Kept {
+                    head,
+                    tail,
+                    cursor,
+                    pairs,
+                };
+                match lease.give_back().lease(cells) {
+                    Ok(lease) => refurnish(lease, kept, cells),
+                    Err((purse, refusal)) => (Home::Blank(purse), Err(refusal)),
+                }
+            }
         }
     }
 

@@ -14,7 +14,7 @@ use sw_rows::{Bound, Refusal};
 use sw_tape::Entry;
 
 /// A map of two flat lists and marks. It has a purse while it is blank and a lease while it is in use; its drop gives the
-/// lease back. It takes memory in `begin` and in a step of a range alone.
+/// lease back. It takes memory in `begin`, in `grow` and in a step of a range alone.
 #[derive(Drop)]
 pub struct PairMap {
     alloc: Global,
@@ -35,13 +35,13 @@ impl PairMap {
 }
 
 impl CrackerMap for PairMap {
-    ghost use Rattle.std.specs.Prelude.{◌≡◌, ◌<◌, ◌≤◌, IsOk, MatchResult, false};
+    ghost use Rattle.std.specs.Prelude.{◌≡◌, ◌<◌, ◌≤◌, IfOk, IsOk, MatchResult, false, true};
     ghost use Rattle.sw_rows.specs.declared.refusal.Refusal.TheVariants.{NoMemory};
     ghost use Rattle.sw_tape.specs.Entries.{step_of};
     ghost use Rattle.sw_map.specs.Held.{KeysFit, MayReplay, after, begun, blank, pairs_in};
     ghost use Rattle.sw_map.specs.Pieces.{TakesNoMemory};
-    ghost use Rattle.sw_map.specs.Refusals.{IsBeginRefusal};
-    ghost use Rattle.sw_map.specs.States.{HasLeased, HasReturned, cleared, held_by, seat_of};
+    ghost use Rattle.sw_map.specs.Refusals.{HasGrownOr, IsBeginRefusal};
+    ghost use Rattle.sw_map.specs.States.{HasLeased, HasLeasedAnew, HasReturned, cleared, held_by, seat_of};
 
     ghost held = { λ m. held_by m.home };
 
@@ -130,6 +130,18 @@ impl CrackerMap for PairMap {
             cells,
         };
         replace_with(&mut self.home, plan, Home::begin)
+    }
+
+    /// Its lease is given back and one of so many cells taken; its lists get room for just as many pairs by the allocator's own
+    /// reallocation, and pairs, marks and cursor stay. Where it is refused it has its purse again, and no memory.
+    fn grow(&mut self, cells: u64) -> Result<bool, Refusal>
+        requires begun { (held_by self.old.home).is_blank ≡ false }
+        requires more { (held_by self.old.home).cells < cells }
+        ensures held { HasGrownOr result cells (held_by self.old.home) (held_by self.new.home) }
+        ensures grew { IfOk result (λ grew. grew ≡ true) }
+        ensures seat { HasLeasedAnew result (seat_of self.old.home) cells (seat_of self.new.home) }
+    {
+        replace_with(&mut self.home, cells, Home::grow)
     }
 
     /// It is never refused but at a range, and its lease stays as it was.

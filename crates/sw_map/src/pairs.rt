@@ -91,6 +91,20 @@ fn append(heads: &mut Vec<i64>, tails: &mut Vec<i64>, head: u8, tail: Tail, rows
     }
 }
 
+/// Makes room for so many values in all, by the allocator's own reallocation. It is refused `NoMemory` alone, and then nothing
+/// has changed.
+fn make_room(values: &mut Vec<i64>, room: usize) -> Result<(), Refusal>
+    requires { vec_capacity values.old ≤ room }
+    ensures items { values.new.items ≡ values.old.items }
+    ensures len { vec_len values.new ≡ vec_len values.old }
+    ensures ends { MatchResult result (λ _. vec_capacity values.new ≡ room) (λ e. e ≡ NoMemory) }
+{
+    match values.reserve_exact(room - values.len()) {
+        Ok(()) => Ok(()),
+        Err(_) => Err(Refusal::NoMemory),
+    }
+}
+
 impl Pairs {
     /// No pairs, and room for so many in head and tail. It is refused `NoMemory` alone, and then keeps no memory.
     pub(crate) fn with_room(alloc: Global, room: usize) -> Result<Pairs, Refusal>
@@ -107,6 +121,21 @@ impl Pairs {
             tail,
             marks: Vec::new(alloc),
         })
+    }
+
+    /// The same pairs with room for so many. It is refused `NoMemory` alone, and then keeps no pairs and no memory.
+    pub(crate) fn grown(self, room: usize) -> Result<Pairs, Refusal>
+        requires { self.room ≤ room }
+        ensures { MatchResult result (λ p. p ≡ record self { room = room }) (λ e. e ≡ NoMemory) }
+    {
+        let Pairs {
+            mut head,
+            mut tail,
+            marks,
+        } = self;
+        make_room(&mut head, room)?;
+        make_room(&mut tail, room)?;
+        Ok(Pairs { head, tail, marks })
     }
 
     /// The number of pairs.

@@ -7,6 +7,7 @@ pub mod Choosing
 pub mod Dropped
 pub mod Ends
 pub mod Gathered
+pub mod Grown
 pub mod KeyOrder
 pub mod LiveFinds
 pub mod LiveFlags

@@ -9,7 +9,7 @@ use Rattle.sw_map.specs.declared.tail.Tail.{Tail}
 use Rattle.sw_map.specs.Held.{Held, blank, begun}
 use Rattle.sw_map.specs.Refusals.{IsBeginRefusal}
 use Rattle.sw_set.specs.Shelf.{AreaState, AreApart}
-use Rattle.sw_set.specs.Prepared.{IsHeld, IsFreshBut, IsSameButBoxes, AreNeededKept, IsPrepareRefusal}
+use Rattle.sw_set.specs.Prepared.{IsHeld, IsMapOf, IsFreshBut, IsSameButBoxes, AreNeededKept, IsPrepareRefusal}
 use Rattle.sw_set.proofs.Boxes.{set-each, get_or_any}
 
 -- an injection of the places of one list into those of another
@@ -94,9 +94,18 @@ get_or-set_here [] i y d lt = let no : i < 0 = lt in absurd (omega arith)
 get_or-set_here (x ∷ xs) zero y d lt = refl
 get_or-set_here (x ∷ xs) (suc i) y d lt = get_or-set_here xs i y d (omega arith)
 
+-- a map that was put at a place is held
+pub held-set : (ms : List Held) (at : ℕ) (t : Tail) (n : ℕ) (m : Held) → at < length ms → IsMapOf t n m → IsHeld t n (set ms at m)
+held-set ms at t n m lt own = let many = length-set ms at m in (at, m, omega arith, get_or-set_here ms at m m lt, own)
+
 -- the map that was begun is held
 pub held-begun : (a : ℕ) (ms : List Held) (at : ℕ) (t : Tail) (n : ℕ) → at < length ms → IsHeld t n (set ms at (begun a t n))
-held-begun a ms at t n lt = let many = length-set ms at (begun a t n) in (at, begun a t n, omega arith, get_or-set_here ms at (begun a t n) (begun a t n) lt, record { begun = refl; tail = refl; cells = omega arith })
+held-begun a ms at t n lt = held-set ms at t n (begun a t n) lt (record { begun = refl; tail = refl; cells = omega arith })
+
+-- boxes that are kept once and once more
+pub kept-trans : (at : ℕ) (tails : List Tail) (ms ns ls : List Held) → length ns ≡ length ms → AreNeededKept at tails ms ns → AreNeededKept at tails ns ls → AreNeededKept at tails ms ls
+unfolding AreNeededKept
+kept-trans at tails ms ns ls many p q = λ k d l ne c. let e = p k d l ne c in q k d (omega (arith, l, many)) ne (subst (λ (v : Held). Contains tails v.tail) (sym e) c) ∙ e
 
 -- a needed map that was held is held after a box was taken for the tail
 pub held-kept : (at : ℕ) (tails : List Tail) (t : Tail) (n : ℕ) (ms ns : List Held) → length ns ≡ length ms → AreNeededKept at tails ms ns → IsHeld t n ns → ((d : Held) → (get_or ms at d).is_blank ≡ false → Contains tails (get_or ms at d).tail → (get_or ms at d).tail ≡ t) → (u : Tail) → Contains tails u → IsHeld u n ms → IsHeld u n ns

@@ -1,5 +1,5 @@
 -- What `prepare` makes of an area, and why it is refused.
-use Rattle.std.specs.Prelude.{◌≡◌, ◌≢◌, ◌≤◌, ◌<◌, ◌+◌, ◌*◌, ◌/◌, ◌&&◌, ◌⊎◌, ℕ, Bool, true, false, max, List, [], ◌∷◌, ◌++◌, length, slice_index_or, slice_set, Option, Some, None, All, Any, Contains, IsPermutation}
+use Rattle.std.specs.Prelude.{◌≡◌, ◌≢◌, ◌≤◌, ◌<◌, ◌+◌, ◌*◌, ◌/◌, ◌&&◌, ◌⊎◌, ℕ, Bool, true, false, max, List, [], ◌∷◌, ◌++◌, length, slice_index_or, slice_set, Result, Option, Some, None, All, Any, Contains, IsPermutation}
 use Rattle.sw_rows.specs.declared.bound.Bound.{Bound}
 use Rattle.sw_rows.specs.declared.row.Row.{Row}
 use Rattle.sw_rows.specs.declared.query.Query.{Query}
@@ -11,7 +11,7 @@ use Rattle.sw_kernel.specs.Tapes.{is_marked, peak_from}
 use Rattle.sw_map.specs.declared.tail.Tail.{Tail}
 use Rattle.sw_map.specs.Held.{Held, blank, place_of}
 use Rattle.sw_map.specs.Lawful.{rows_by}
-use Rattle.sw_map.specs.Refusals.{IsBeginRefusal}
+use Rattle.sw_map.specs.Refusals.{HasGrownOr, IsBeginRefusal}
 use Rattle.sw_set.specs.Needs.{edge, touches, lower_in, upper_in, lower_from, upper_upto, needed}
 use Rattle.sw_set.specs.Shelf.{AreaState, logged_rows}
 
@@ -129,6 +129,10 @@ pub record IsSameButBoxes (x y : AreaState) : Type 0 where
   pub spare : y.spare ≡ x.spare
   pub tape : y.tape ≡ x.tape
   pub many : length y.boxes ≡ length x.boxes
+
+-- the area after the map in the box at a place was to grow to so many cells
+abbrev pub HasGrownAt : Result Bool Refusal → ℕ → ℕ → AreaState → AreaState → Type 0
+HasGrownAt r at cells x y = (m : Held) × HasGrownOr r cells (slice_index_or x.boxes at blank) m × (y ≡ record x { boxes = slice_set x.boxes at m })
 
 -- the box may be taken for a map that the tails lack
 abbrev pub IsSpare : List Tail → Held → Type 0

@@ -12,10 +12,10 @@ ghost use Rattle.sw_map.specs.declared.tail.Tail.TheVariants.{Key};
 ghost use Rattle.sw_kernel.specs.Tapes.{brought, peak_from};
 ghost use Rattle.sw_map.specs.Held.{Held, blank, begun, pairs_in, place_of};
 ghost use Rattle.sw_map.specs.Lawful.{rows_by};
-ghost use Rattle.sw_map.specs.Refusals.{IsBeginRefusal};
+ghost use Rattle.sw_map.specs.Refusals.{HasGrownOr, IsBeginRefusal};
 ghost use Rattle.sw_set.specs.Live.{live_among};
 ghost use Rattle.sw_set.specs.Merged.{IsBegunAnew, IsSameShell};
-ghost use Rattle.sw_set.specs.Prepared.{IsCleared, IsFreshBut, IsOneCleared, IsPreparedFor, IsReady, IsSameButBoxes, IsShed, IsSpare, stands_if};
+ghost use Rattle.sw_set.specs.Prepared.{HasGrownAt, IsCleared, IsFreshBut, IsOneCleared, IsPreparedFor, IsReady, IsSameButBoxes, IsShed, IsSpare, stands_if};
 ghost use Rattle.sw_tape.specs.Restart.{first_rows};
 ghost use Rattle.sw_set.specs.Shelf.{AreReceivable, AreSameMaps, AreaState, HasRoomWhereNeeded, IsAreaLawful, IsAtEnd, IsSameArea, MayReceive, Rises, came_in, key_of, lies_within, loaded_area, logged_rows, rows_in};
 ghost use Rattle.sw_set.specs.Needs.{head_in};
@@ -630,6 +630,16 @@ impl<M: CrackerMap> Area<M> {
         )
     }
 
+    /// Grows the lease of the map in the box at a place to so many cells, and answers whether it grew. Refused, the box is blank.
+    pub(crate) fn grow_at(&mut self, at: usize, cells: u64) -> Result<bool, Refusal>
+        requires within { at < length self.old.boxes }
+        requires begun { (d : Held) → (slice_index_or self.old.boxes at d).is_blank ≡ false }
+        requires more { (d : Held) → (slice_index_or self.old.boxes at d).cells < cells }
+        ensures { HasGrownAt result at cells self.old self.new }
+    {
+        grow_box(&mut self.boxes[at], cells)
+    }
+
     /// Clears the box at a place and begins a map of some cells in it. Refused, it is blank.
     pub(crate) fn make(&mut self, at: usize, tail: Tail, cells: u64) -> Result<(), Refusal>
         requires within { at < length self.old.boxes }
@@ -703,6 +713,14 @@ fn begin_box<M: CrackerMap>(
 {
     it.clear();
     it.begin(attribute, tail, cells)
+}
+
+fn grow_box<M: CrackerMap>(it: &mut M, cells: u64) -> Result<bool, Refusal>
+    requires begun { (M.held it.old).is_blank ≡ false }
+    requires more { (M.held it.old).cells < cells }
+    ensures { HasGrownOr result cells (M.held it.old) (M.held it.new) }
+{
+    it.grow(cells)
 }
 
 /// Sets the stamps of the boxes whose maps are needed.

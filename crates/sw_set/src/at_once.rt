@@ -1,6 +1,6 @@
 //! Alignment of several maps at once.
 
-ghost use Rattle.std.specs.Prelude.{◌≡◌, ℕ, ◌<◌, ◌≤◌, false, true, length, map, All, Contains, MatchOption, MatchResult, slice_index_or};
+ghost use Rattle.std.specs.Prelude.{◌≡◌, ℕ, ◌<◌, ◌≤◌, false, true, length, map, All, Contains, MatchOption, MatchResult, IfSome, slice_index_or};
 ghost use Rattle.sw_rows.specs.declared.row.Row.{Row};
 ghost use Rattle.sw_rows.specs.declared.refusal.Refusal.TheVariants.{NoMemory};
 ghost use Rattle.sw_kernel.specs.Replay.{Step};
@@ -9,14 +9,14 @@ ghost use Rattle.sw_map.specs.Lawful.{IsLawful};
 ghost use Rattle.sw_set.specs.Shelf.{HasRoomWhereNeeded, IsAtEnd, IsSameMap, AreSameMaps};
 
 use crate::align::{align_box, is_needed};
+use crate::lacking::lacks_much;
 use std::thread;
 use std::thread::Threads;
 use sw_map::{CrackerMap, Tail};
 use sw_rows::Refusal;
 use sw_tape::Tape;
 
-/// Steps the first boxes at once, each towards the tape's end; a single one is stepped by the caller. A box whose step is
-/// refused stops at the cursor that it reached, and the others go on.
+/// Steps the first boxes at once, each towards the tape's end, after the others one by one; a single one is stepped by the caller. A box whose step is refused stops at the cursor that it reached, and the others go on.
 fn step_first<R: Threads + Sync, M: CrackerMap>(
     rt: &R,
     attribute: u8,
@@ -33,21 +33,15 @@ fn step_first<R: Threads + Sync, M: CrackerMap>(
     ensures many { length boxes.new ≡ length boxes.old }
     ensures same { (k : ℕ) (d : M) → k < length boxes.old → IsSameMap (M.held (slice_index_or boxes.old k d)) (M.held (slice_index_or boxes.new k d)) }
 {
-    if many == 0 {
-        return;
-    }
-    let (front, _) = boxes.split_at_mut(many);
-    thread::for_each_mut(
-        rt,
-        front,
-        many,
-        &|_, it: &mut M|
-            requires { IsLawful attribute tape.now (M.held it.now) × All (λ (e : Step Row). KeysFit e) tape.now × HasRoomWhereNeeded tails.now tape.now (M.held it.now) }
-            ensures { IsLawful attribute tape.entry.now (M.held it.exit.now) × IsSameMap (M.held it.entry.now) (M.held it.exit.now) }
-        {
-            let _ = align_box(attribute, it, tails, tape);
-        },
-    );
+    let (front, rest) = boxes.split_at_mut(many);
+    let step = |_: usize, it: &mut M|
+        requires { IsLawful attribute tape.now (M.held it.now) × All (λ (e : Step Row). KeysFit e) tape.now × HasRoomWhereNeeded tails.now tape.now (M.held it.now) }
+        ensures { IsLawful attribute tape.entry.now (M.held it.exit.now) × IsSameMap (M.held it.entry.now) (M.held it.exit.now) }
+    {
+        let _ = align_box(attribute, it, tails, tape);
+    };
+    thread::for_each_mut(rt, rest, 1, &step);
+    thread::for_each_mut(rt, front, many.max(1), &step);
 }
 
 /// Whether a box has a needed map that lacks entries of a tape of this length.
@@ -74,8 +68,20 @@ fn find_lacking<M: CrackerMap>(
     None
 }
 
-/// Brings the boxes that lack entries to the front, from the place `done` on, steps all that are there at once, and puts each
-/// back at its place.
+/// The first box, from a place on, whose needed map lacks so much that a thread is worth its start.
+fn find_much<M: CrackerMap>(boxes: &[M], from: usize, tails: &[Tail], tape: &Tape) -> Option<usize>
+    ensures { IfSome result (λ at. (from ≤ at) × (at < length boxes.now)) }
+{
+    for at in from..boxes.len() {
+        if lacks(&boxes[at], tails, tape.len()) && lacks_much(&boxes[at], tape) {
+            return Some(at);
+        }
+    }
+    None
+}
+
+/// Brings the boxes that lack much to the front, from the place `done` on, steps all that are there at once and the others one after
+/// the other, and puts each back at its place.
 fn step_lacking<R: Threads + Sync, M: CrackerMap>(
     rt: &R,
     attribute: u8,
@@ -94,7 +100,7 @@ fn step_lacking<R: Threads + Sync, M: CrackerMap>(
     ensures many { length boxes.new ≡ length boxes.old }
     ensures same { (k : ℕ) (d : M) → k < length boxes.old → IsSameMap (M.held (slice_index_or boxes.old k d)) (M.held (slice_index_or boxes.new k d)) }
 {
-    match find_lacking(boxes, from, tails, tape.len()) {
+    match find_much(boxes, from, tails, tape) {
         None => step_first(rt, attribute, boxes, done, tails, tape),
         Some(at) => {
             boxes.swap(done, at);
@@ -104,7 +110,7 @@ fn step_lacking<R: Threads + Sync, M: CrackerMap>(
     }
 }
 
-/// Steps every box that has a needed map to the tape's end, those that lack entries at once. Refused `NoMemory`, a box whose
+/// Steps every box that has a needed map to the tape's end, those that lack much at once. Refused `NoMemory`, a box whose
 /// step was refused stands at the cursor that it reached, and all others at the end.
 pub(crate) fn align_at_once<R: Threads + Sync, M: CrackerMap>(
     rt: &R,

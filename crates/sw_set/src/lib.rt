@@ -7,6 +7,7 @@ mod at_once;
 mod choice;
 mod collect;
 mod finding;
+mod lacking;
 mod live;
 mod making;
 mod merging;

@@ -49,6 +49,31 @@ fn begin_again<M: CrackerMap>(
     unreachable!()
 }
 
+/// Gives the map in a box so many cells, more than it has: its lease grows in place, or, where it does not or is refused, it is
+/// begun again.
+fn widen<M: CrackerMap>(
+    area: &mut Area<M>,
+    at: usize,
+    tails: &[Tail],
+    tail: Tail,
+    cells: u64,
+) -> Result<(), Refusal>
+    requires within { at < length area.old.boxes }
+    requires fresh { IsFreshBut at tail area.old.boxes }
+    requires begun { (d : Held) → (slice_index_or area.old.boxes at d).is_blank ≡ false }
+    requires tail { (d : Held) → (slice_index_or area.old.boxes at d).tail ≡ tail }
+    requires more { (d : Held) → (slice_index_or area.old.boxes at d).cells < cells }
+    ensures same { IsSameButBoxes area.old area.new }
+    ensures kept { AreNeededKept at tails.now area.old.boxes area.new.boxes }
+    ensures ends { MatchResult result (λ _. IsHeld tail cells area.new.boxes) (λ e. IsBeginRefusal cells e) }
+    ensures spent { IfErr result (λ e. IsShort e → AreAllNeeded tails.now area.new.boxes) }
+{
+    if let Ok(true) = area.grow_at(at, cells) {
+        return Ok(());
+    }
+    begin_again(area, at, tails, tail, cells)
+}
+
 /// A box for a map that the area lacks. Refused `NoBlank`, all boxes have needed maps, so there are fewer than are needed.
 fn take<M: CrackerMap>(area: &Area<M>, tails: &[Tail], tail: Tail) -> Result<usize, Refusal>
     requires needed { Contains tails.now tail }
@@ -82,7 +107,7 @@ fn ensure_map<M: CrackerMap>(
         if area.cells_at(at) >= cells {
             return Ok(());
         }
-        return begin_again(area, at, tails, tail, cells);
+        return widen(area, at, tails, tail, cells);
     }
     let at = take(area, tails, tail)?;
     begin_again(area, at, tails, tail, cells)

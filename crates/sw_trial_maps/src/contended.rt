@@ -1,4 +1,4 @@
-//! A map that finds the budget contended at every second begin.
+//! A map that finds the budget contended at every second begin and at every second growth.
 
 ghost use Rattle.std.specs.Prelude.{◌≡◌};
 
@@ -6,21 +6,24 @@ use sw_map::{CrackerMap, Tail};
 use sw_rows::{Bound, Refusal};
 use sw_tape::Entry;
 
-/// A map whose `begin` is passed on at the first, third and each further odd call, and answers `Contended` at the others.
+/// A map whose `begin` is passed on at the first, third and each further odd call, and answers `Contended` at the others; and so is
+/// its `grow`, whose calls are counted apart.
 #[derive(Drop)]
 pub struct ContendedMap<M: CrackerMap> {
     pub inner: M,
-    is_due: bool,
+    begin_is_due: bool,
+    grow_is_due: bool,
 }
 
 impl<M: CrackerMap> ContendedMap<M> {
-    /// Lets a map answer `Contended` at every second begin.
+    /// Lets a map answer `Contended` at every second begin and at every second growth.
     pub fn new(inner: M) -> ContendedMap<M>
         ensures { result.inner ≡ inner }
     {
         ContendedMap {
             inner,
-            is_due: false,
+            begin_is_due: false,
+            grow_is_due: false,
         }
     }
 }
@@ -65,12 +68,22 @@ impl<M: CrackerMap> CrackerMap for ContendedMap<M> {
     }
 
     fn begin(&mut self, head: u8, tail: Tail, cells: u64) -> Result<(), Refusal> {
-        let is_due = self.is_due;
-        self.is_due = !is_due;
+        let is_due = self.begin_is_due;
+        self.begin_is_due = !is_due;
         if is_due {
             return Err(Refusal::Contended { seen: 0, found: 1 });
         }
         self.inner.begin(head, tail, cells)
+    }
+
+    fn grow(&mut self, cells: u64) -> Result<bool, Refusal> {
+        let is_due = self.grow_is_due;
+        self.grow_is_due = !is_due;
+        if is_due {
+            self.inner.clear();
+            return Err(Refusal::Contended { seen: 0, found: 1 });
+        }
+        self.inner.grow(cells)
     }
 
     fn step(&mut self, entry: &Entry) -> Result<(), Refusal> {

@@ -43,7 +43,7 @@ fn add_one(count: &AtomicU64) {
     let _before = count.fetch_add(1, Ordering::SeqCst);
 }
 
-/// A map whose calls are counted. The counts are shared, so that a test reads them while the map is in a box.
+/// A map whose calls are counted. It never grows in place, so that it is begun wherever it gets more cells. The counts are shared, so that a test reads them while the map is in a box.
 #[derive(Drop)]
 pub struct CountingMap<M: CrackerMap> {
     pub inner: M,

@@ -38,7 +38,7 @@ impl Gate {
     }
 }
 
-/// A map that passes its gate before each step.
+/// A map that passes its gate before each step. It never grows in place.
 #[derive(Drop)]
 pub struct GatedMap<M: CrackerMap> {
     pub inner: M,

@@ -1,4 +1,4 @@
-//! A map that refuses some of its steps.
+//! A map that refuses some of its steps and growths.
 
 ghost use Rattle.std.specs.Prelude.{◌≡◌};
 
@@ -21,7 +21,8 @@ impl Turns {
     }
 }
 
-/// A map that refuses every n-th call of `step` with `NoMemory`, and then does not change. With n 0 it refuses none.
+/// A map that refuses every n-th call of `step` or `grow` with `NoMemory`: it does not change then, or is blank. With n 0 it refuses
+/// none.
 #[derive(Drop)]
 pub struct RefusingMap<M: CrackerMap> {
     pub inner: M,
@@ -29,7 +30,7 @@ pub struct RefusingMap<M: CrackerMap> {
 }
 
 impl<M: CrackerMap> RefusingMap<M> {
-    /// Lets a map refuse every n-th step.
+    /// Lets a map refuse every n-th step or growth.
     pub fn new(inner: M, every: u64) -> RefusingMap<M>
         ensures { result.inner ≡ inner }
     {
@@ -81,6 +82,14 @@ impl<M: CrackerMap> CrackerMap for RefusingMap<M> {
 
     fn begin(&mut self, head: u8, tail: Tail, cells: u64) -> Result<(), Refusal> {
         self.inner.begin(head, tail, cells)
+    }
+
+    fn grow(&mut self, cells: u64) -> Result<bool, Refusal> {
+        if self.turns.is_due() {
+            self.inner.clear();
+            return Err(Refusal::NoMemory);
+        }
+        self.inner.grow(cells)
     }
 
     fn step(&mut self, entry: &Entry) -> Result<(), Refusal> {

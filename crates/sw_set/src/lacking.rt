@@ -1,0 +1,96 @@
+//! How much work a map lacks. No contract speaks of it: it decides alone whether a thread is started.
+
+use sw_map::CrackerMap;
+use sw_rows::Bound;
+use sw_tape::{Entry, Tape};
+
+/// A thread is worth its start where more pairs than this are to be parted.
+const WORTH: usize = 50_000;
+
+/// How many of the tape's bounds in a row are looked for in a map that may lack them.
+const NEAR: usize = 2;
+
+/// The nearest bound of the tape below a bound.
+fn below(tape: &Tape, bound: Bound) -> Option<Bound> {
+    match bound {
+        Bound::Before(value) => tape.around(value.saturating_sub(1)).0,
+        Bound::After(value) => tape.around(value).0,
+    }
+}
+
+/// The nearest bound of the tape above a bound.
+fn above(tape: &Tape, bound: Bound) -> Option<Bound> {
+    match bound {
+        Bound::Before(value) => tape.around(value).1,
+        Bound::After(value) => tape.around(value.saturating_add(1)).1,
+    }
+}
+
+/// Where the piece begins that a bound falls into: at one of the nearest bounds below that the map has cracked at, or at 0.
+fn start_of<M: CrackerMap>(it: &M, tape: &Tape, bound: Bound) -> usize {
+    let mut last = bound;
+    for _turn in 0..NEAR {
+        let Some(next) = below(tape, last) else {
+            return 0;
+        };
+        if let Some(place) = it.find(next) {
+            return place;
+        }
+        last = next;
+    }
+    0
+}
+
+/// Where it ends: at one of the nearest bounds above that the map has cracked at, or at its last pair.
+fn end_of<M: CrackerMap>(it: &M, tape: &Tape, bound: Bound) -> usize {
+    let mut last = bound;
+    for _turn in 0..NEAR {
+        let Some(next) = above(tape, last) else {
+            return it.len();
+        };
+        if let Some(place) = it.find(next) {
+            return place;
+        }
+        last = next;
+    }
+    it.len()
+}
+
+/// How many pairs a crack parts: those of the piece that the bound falls into.
+fn parted_at<M: CrackerMap>(it: &M, tape: &Tape, bound: Option<Bound>) -> usize {
+    let Some(bound) = bound else {
+        return 0;
+    };
+    if it.find(bound).is_some() {
+        return 0;
+    }
+    end_of(it, tape, bound).saturating_sub(start_of(it, tape, bound))
+}
+
+/// How many pairs an entry parts; a load is more than any number.
+fn parted_by<M: CrackerMap>(it: &M, tape: &Tape, entry: &Entry) -> usize {
+    match entry {
+        Entry::Load(_) => usize::MAX,
+        Entry::Range(lower, upper) => {
+            parted_at(it, tape, *lower).saturating_add(parted_at(it, tape, *upper))
+        }
+        _ => 0,
+    }
+}
+
+/// Whether a map lacks so much of the tape that a thread is worth its start: it has yet to load, or its cracks part many pairs. An entry
+/// counts besides as many pairs as the tape has entries, since it may move one for each mark; so few entries are looked at.
+pub(crate) fn lacks_much<M: CrackerMap>(it: &M, tape: &Tape) -> bool {
+    let each = tape.len();
+    let mut work: usize = 0;
+    for i in it.cursor()..tape.len() {
+        if let Some(entry) = tape.get(i) {
+            work = work.saturating_add(each);
+            work = work.saturating_add(parted_by(it, tape, entry));
+        }
+        if work > WORTH {
+            return true;
+        }
+    }
+    false
+}
