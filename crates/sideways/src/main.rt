@@ -55,7 +55,7 @@ fn run_named<R: Files + Print + Threads + Wait + Sync>(
     table: &str,
     script: &str,
     cuts: &str,
-    told: &Told,
+    settings: &Settings,
 ) -> Result<(Record, bool), Refusal> {
     let Ok(table) = File::open(rt, table) else {
         return Err(Refusal::Input);
@@ -63,11 +63,11 @@ fn run_named<R: Files + Print + Threads + Wait + Sync>(
     let Ok(script) = File::open(rt, script) else {
         return Err(Refusal::Input);
     };
-    let maps = blank_boxes(alloc, told.budget, told.maps)?;
+    let maps = blank_boxes(alloc, settings.budget, settings.maps)?;
     let options = Options {
-        limit: told.limit,
+        limit: settings.limit,
         cuts,
-        threads: told.threads,
+        threads: settings.threads,
     };
     run_open(
         rt,
@@ -98,7 +98,7 @@ fn keep<R: Files>(
 
 /// What a run is told on the command line besides its files.
 #[derive(Drop)]
-struct Told {
+struct Settings {
     limit: u64,
     budget: u64,
     maps: u64,
@@ -119,8 +119,8 @@ fn limit_given(given: &ArgMatches) -> Option<u64>
 }
 
 /// What a run is told in numbers and flags.
-fn told_given(given: &ArgMatches) -> Option<Told> {
-    Some(Told {
+fn settings_given(given: &ArgMatches) -> Option<Settings> {
+    Some(Settings {
         limit: limit_given(given)?,
         budget: given.get_one::<u64>("budget")?,
         maps: given.get_one::<u64>("maps")?,
@@ -134,15 +134,15 @@ fn run_files<R: Files + Print + Threads + Wait + Sync>(
     alloc: Global,
     given: &ArgMatches,
 ) -> Result<u8, Refusal> {
-    let (Some(table), Some(script), Some(cuts), Some(told)) = (
+    let (Some(table), Some(script), Some(cuts), Some(settings)) = (
         given.get_str("table"),
         given.get_str("script"),
         given.get_str("cuts"),
-        told_given(given),
+        settings_given(given),
     ) else {
         return Ok(2);
     };
-    let (history, has_refused) = run_named(rt, alloc, table, script, cuts, &told)?;
+    let (history, has_refused) = run_named(rt, alloc, table, script, cuts, &settings)?;
     keep(rt, alloc, &history, given.get_str("history"))?;
     Ok(if has_refused { 3 } else { 0 })
 }

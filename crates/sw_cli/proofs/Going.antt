@@ -9,10 +9,11 @@ use Rattle.sw_rows.specs.declared.refusal.Refusal.{Refusal}
 use Rattle.sw_rows.specs.declared.refusal.Refusal.TheVariants as refusal
 use Rattle.sw_lang.specs.Sinks.{Took, TookBeginning, Writes}
 use Rattle.sw_spine.specs.History.{History}
-use Rattle.sw_cli.specs.Outcomes.{AreTold, Told, blocks_told, text_of}
+use Rattle.sw_cli.specs.Outcomes.{AllSayWhy, AreTold, Told, blocks_told, text_of}
 use Rattle.sw_cli.specs.Run.{IsRecordOf, Start}
 use Rattle.sw_cli.specs.Sent.{extends}
 use Rattle.sw_cli.specs.Served.{Served}
+use Rattle.sw_cli.specs.Sides.{SinkSeen}
 use Rattle.sw_cli.specs.Starts.{Goes}
 use Rattle.sw_cli.proofs.Outcomes.{blocks_calls}
 use Rattle.sw_cli.proofs.Waiting.{all_sent, begins_alone, from_start, kept_on}
@@ -65,14 +66,15 @@ writes_less old new f g e text more whole is w =
     }
 
 -- what a run leaves whose lines went out
-pub goes : (limit : ℕ) (s : Start) (blocks : List (List Call)) (tells : List (List Told)) (record_was : History) (old new : Option (List ℕ)) (f g : ℕ) (result : Result History Refusal)
-    → blocks ≡ s.blocks → AreTold blocks tells → IsRecordOf s.columns s.rows limit (blocks_told blocks tells) record_was
-    → Served old new f g result (text_of record_was.columns (blocks_told blocks tells)) → IfOk result (λ h. h ≡ record_was) → Goes limit s old new f g result
-goes limit s blocks tells record_was old new f g (Ok h) is all of served same =
+pub goes : (limit : ℕ) (s : Start) (blocks : List (List Call)) (tells : List (List Told)) (record_was : History) (w : SinkSeen) (result : Result History Refusal)
+    → blocks ≡ s.blocks → AreTold blocks tells → AllSayWhy (blocks_told blocks tells) → IsRecordOf s.columns s.rows limit (blocks_told blocks tells) record_was
+    → Served w.taken_before w.taken_after w.failed_before w.failed_after result (text_of record_was.columns (blocks_told blocks tells)) → IfOk result (λ h. h ≡ record_was) → Goes limit s w result
+goes limit s blocks tells record_was w (Ok h) is all why of served same =
     let told = blocks_told blocks tells in
-    ((told, record { calls = blocks_calls blocks tells all ∙ is; record_is = subst (λ (x : History). IsRecordOf s.columns s.rows limit told x) (sym same) of; wrote = subst (λ (cs : List Column). Took old new (text_of cs told)) of.columns_are served.whole.0 }), served.whole.1)
-goes limit s blocks tells record_was old new f g (Err e) is all of served same =
+    let wrote = subst (λ (cs : List Column). Took w.taken_before w.taken_after (text_of cs told)) of.columns_are served.whole.0 in
+    ((told, record { calls = blocks_calls blocks tells all ∙ is; why = why; record_is = subst (λ (x : History). IsRecordOf s.columns s.rows limit told x) (sym same) of; wrote = wrote }), served.whole.1)
+goes limit s blocks tells record_was w (Err e) is all why of served same =
     let told = blocks_told blocks tells in
     let p = served.part in
-    let wrote = subst (λ (cs : List Column). TookBeginning old new (text_of cs told)) of.columns_are p.1 in
-    subst (λ (d : Refusal). Goes limit s old new f g (Err d)) (sym p.0) (record { told = told; calls = blocks_calls blocks tells all ∙ is; wrote = wrote }, p.2)
+    let wrote = subst (λ (cs : List Column). TookBeginning w.taken_before w.taken_after (text_of cs told)) of.columns_are p.1 in
+    subst (λ (d : Refusal). Goes limit s w (Err d)) (sym p.0) (record { told = told; history = record_was; calls = blocks_calls blocks tells all ∙ is; why = why; record_is = of; wrote = wrote }, p.2)

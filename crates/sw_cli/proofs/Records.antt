@@ -1,5 +1,6 @@
 -- The record of blocks that were made, each by a session of its own.
-use Rattle.std.proofs.Common.{◌≡◌, ◌∙◌, ap, refl, ℕ, zero, suc, ◌+◌, ◌<◌, ◌≤◌, inl, inr, List, [], ◌∷◌, arith, get_or, length, map, ⊎_elim}
+use Rattle.std.proofs.Common.{◌≡◌, ◌∙◌, ap, refl, ℕ, zero, suc, ◌+◌, ◌<◌, ◌≤◌, inl, inr, List, [], ◌∷◌, arith, get_or, length, map, All, ⊎_elim}
+use Rattle.std.proofs.lemmas.List.Elements.{All-cons, All-head, All-nil, All-tail}
 use Rattle.std.proofs.lemmas.Bool.Decides.{nat_tests}
 use Rattle.sw_rows.specs.Header.{Column}
 use Rattle.sw_rows.specs.declared.row.Row.{Row}
@@ -8,7 +9,7 @@ use Rattle.sw_rows.specs.declared.reply.Reply.{Reply}
 use Rattle.sw_spine.specs.History.{History, mine}
 use Rattle.sw_engine.specs.Desk.{IsNamed}
 use Rattle.sw_engine.specs.Headline.{IsHistoryOfOneThread}
-use Rattle.sw_cli.specs.Outcomes.{AreTold, Outcome, Told, answered, blocks_told, outcomes_of}
+use Rattle.sw_cli.specs.Outcomes.{AllSayWhy, AreTold, Outcome, SaysWhy, Told, answered, blocks_told, outcomes_of}
 use Rattle.sw_cli.specs.Run.{IsRecordOf}
 use Rattle.sw_cli.specs.Served.{AreAnswered}
 
@@ -60,3 +61,17 @@ record_of columns rows limit told tickets h are is = record {
   alone = λ session other. ⊎_elim (λ absent. absent) (λ named. let w = named_within 1 told tickets session are named in let x = w.0 in let y = w.1 in absurd (grind (arith, nat_tests, other, x, y))) (is.others session);
   closed = is.closed;
 }
+
+-- ---- why calls were refused
+
+call_why : (cs : List Call) (ts : List Told) → All SaysWhy ts → All (λ (o : Outcome). SaysWhy o.1) (outcomes_of cs ts)
+call_why [] ts h = All-nil (λ (o : Outcome). SaysWhy o.1)
+call_why (c ∷ cs) [] h = All-nil (λ (o : Outcome). SaysWhy o.1)
+call_why (c ∷ cs) (t ∷ ts) h = All-cons (λ (o : Outcome). SaysWhy o.1) (c, t) (outcomes_of cs ts) (All-head SaysWhy t ts h) (call_why cs ts (All-tail SaysWhy t ts h))
+
+pub blocks_why : (bs : List (List Call)) (ts : List (List Told)) → All (λ (t : List Told). All SaysWhy t) ts → AllSayWhy (blocks_told bs ts)
+blocks_why [] ts h = All-nil (λ (b : List Outcome). All (λ (o : Outcome). SaysWhy o.1) b)
+blocks_why (b ∷ bs) [] h = All-nil (λ (b : List Outcome). All (λ (o : Outcome). SaysWhy o.1) b)
+blocks_why (b ∷ bs) (t ∷ ts) h =
+    All-cons (λ (b : List Outcome). All (λ (o : Outcome). SaysWhy o.1) b) (outcomes_of b t) (blocks_told bs ts)
+    (call_why b t (All-head (λ (t : List Told). All SaysWhy t) t ts h)) (blocks_why bs ts (All-tail (λ (t : List Told). All SaysWhy t) t ts h))

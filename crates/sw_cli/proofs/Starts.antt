@@ -54,11 +54,11 @@ bytes_refuse I refusal.Input read f h = h
 bytes_refuse I refusal.Output read f h = absurd h
 bytes_refuse I (refusal.Ahead seen told) read f h = absurd h
 
--- a refusal of the script is that of what comes after it too
-pub script_refuses : {A B : Type 0} (I J : Type 0) (e : Refusal) (said : Result A Refusal) (f : A → Result B Refusal) → RefusedFrom {Y = A} J e said → RefusedFrom {Y = B} (I ⊎ J) e (said >>= f)
-script_refuses I J refusal.NoMemory said f h = tt
-script_refuses I J refusal.Input said f h = inr h
-script_refuses {A} I J e said f h = ap (λ (r : Result A Refusal). r >>= f) h
+-- a refusal of the script is that of what comes after it too, where something holds that is told of the script
+pub script_refuses : {A B : Type 0} (I J K : Type 0) (e : Refusal) (said : Result A Refusal) (f : A → Result B Refusal) → K → RefusedFrom {Y = A} J e said → RefusedFrom {Y = B} (I ⊎ (K × J)) e (said >>= f)
+script_refuses I J K refusal.NoMemory said f k h = tt
+script_refuses I J K refusal.Input said f k h = inr (k, h)
+script_refuses {A} I J K e said f k h = ap (λ (r : Result A Refusal). r >>= f) h
 
 -- a text's refusal is that of its source
 pub text_refuses : {A : Type 0} (I : Type 0) (e : Refusal) (said : Result A Refusal) → TellsText e → Answers {A = A} (Err e) said → RefusedFrom {Y = A} I e said

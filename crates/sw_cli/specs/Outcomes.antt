@@ -1,11 +1,12 @@
 -- What the calls of a script came to, and the text of it.
-use Rattle.std.specs.Prelude.{◌≡◌, ℕ, zero, suc, ◌+◌, ◌++◌, List, [], ◌∷◌, codes, length, map, Result, Ok, Err}
+use Rattle.std.specs.Prelude.{◌≡◌, ℕ, zero, suc, ◌+◌, ◌++◌, List, [], ◌∷◌, codes, length, map, All, IfErr, Result, Ok, Err}
 use Rattle.sw_rows.specs.Header.{Column}
 use Rattle.sw_rows.specs.declared.query.Call.{Call}
 use Rattle.sw_rows.specs.declared.reply.Reply.{Reply}
 use Rattle.sw_rows.specs.declared.refusal.Refusal.{Refusal}
 use Rattle.sw_rows.specs.declared.refusal.Refusal.TheVariants as refusal
 use Rattle.sw_lang.specs.Replies.{reply_bytes}
+use Rattle.sw_engine.specs.Desk.{RefusesCall}
 use Rattle.sw_spine.specs.History.{History, mine}
 
 -- what came of a call: its reply, or why it was refused
@@ -34,6 +35,14 @@ blocks_told (b ∷ bs) (t ∷ ts) = outcomes_of b t ∷ blocks_told bs ts
 -- something came of each call of each block
 abbrev pub AreTold : List (List Call) → List (List Told) → Type 0
 AreTold bs ts = map (λ t. length t) ts ≡ map (λ b. length b) bs
+
+-- where a call was refused, memory or the history's room was wanting
+abbrev pub SaysWhy : Told → Type 0
+SaysWhy t = IfErr t RefusesCall
+
+-- the same of each call of each block
+abbrev pub AllSayWhy : List (List Outcome) → Type 0
+AllSayWhy told = All (λ (b : List Outcome). All (λ (o : Outcome). SaysWhy o.1) b) told
 
 -- the answered calls, each with its reply
 abbrev pub answered : List Outcome → List (Call × Reply)

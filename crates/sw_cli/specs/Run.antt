@@ -16,7 +16,7 @@ use Rattle.sw_spine.specs.History.{History, IsLegal, all_given, is_absent, mine}
 use Rattle.sw_spine.specs.Rest.{none_open}
 use Rattle.sw_spine.specs.Table.{opened, reply_to, updates_then}
 use Rattle.sw_histories.specs.Told.{◌>>=◌}
-use Rattle.sw_cli.specs.Outcomes.{Outcome, all_answered, answered, calls_of, sessions_from, text_of}
+use Rattle.sw_cli.specs.Outcomes.{AllSayWhy, Outcome, all_answered, answered, calls_of, sessions_from, text_of}
 use Rattle.sw_cli.specs.Script.{blocks_of}
 
 -- ---- what a run starts from
@@ -78,17 +78,21 @@ pub record IsRecordOf (columns : List Column) (rows : List Row) (limit : ℕ) (t
   pub alone : (session : ℕ) → is_session (length told) session ≡ false → is_absent session h.entries ≡ true
   pub closed : none_open h.entries ≡ true
 
--- A run from a start that ended: each call of each block has an outcome, the record is of these outcomes, and the sink took
--- their lines.
+-- A run from a start that ended: each call of each block has an outcome, a refused one was refused for want of memory or for a
+-- full history, the record is of these outcomes, and the sink took their lines.
 pub record Leaves (limit : ℕ) (s : Start) (told : List (List Outcome)) (old new : Option (List ℕ)) (h : History) : Type 0 where
   pub calls : map calls_of told ≡ s.blocks
+  pub why : AllSayWhy told
   pub record_is : IsRecordOf s.columns s.rows limit told h
   pub wrote : Took old new (text_of s.columns told)
 
--- the sink took a beginning of the lines of some outcomes of the calls
-pub record Began (s : Start) (old new : Option (List ℕ)) : Type 0 where
+-- the sink took a beginning of the lines of some outcomes of the calls, of which there was a record
+pub record Began (limit : ℕ) (s : Start) (old new : Option (List ℕ)) : Type 0 where
   pub told : List (List Outcome)
+  pub history : History
   pub calls : map calls_of told ≡ s.blocks
+  pub why : AllSayWhy told
+  pub record_is : IsRecordOf s.columns s.rows limit told history
   pub wrote : TookBeginning old new (text_of s.columns told)
 
 -- ---- where each call was answered

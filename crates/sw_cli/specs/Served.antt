@@ -1,12 +1,15 @@
 -- What goes out of a text through a block of bytes, and which sessions were answered what.
-use Rattle.std.specs.Prelude.{◌≡◌, ◌≤◌, ◌+◌, ◌∷◌, ℕ, List, [], length, Option, Result, OnOk, IfErr}
+use Rattle.std.specs.Prelude.{◌≡◌, ◌≤◌, ◌+◌, ◌∷◌, ℕ, List, [], length, All, Option, Result, OnOk, IfErr, IfOk}
 use Rattle.sw_rows.specs.Gives.{Raised}
 use Rattle.sw_rows.specs.declared.query.Call.{Call}
 use Rattle.sw_rows.specs.declared.reply.Reply.{Reply}
 use Rattle.sw_rows.specs.declared.refusal.Refusal.{Refusal}
 use Rattle.sw_rows.specs.declared.refusal.Refusal.TheVariants as refusal
 use Rattle.sw_lang.specs.Sinks.{Took, TookBeginning}
-use Rattle.sw_cli.specs.Outcomes.{Outcome, Told, answered, outcomes_of}
+use Rattle.sw_spine.specs.History.{History}
+use Rattle.sw_cli.specs.Outcomes.{Outcome, SaysWhy, Told, answered, blocks_told, outcomes_of, text_of}
+use Rattle.sw_cli.specs.Sides.{SinkSeen}
+use Rattle.sw_cli.specs.declared.ended.Ended.{Ended}
 
 -- tickets with the numbers n, n + 1, n + 2 and so on, to each of which the answered calls of a block's outcomes were answered
 abbrev pub AreAnswered : ℕ → List (List Outcome) → List (ℕ × List (Call × Reply)) → Type 0
@@ -21,13 +24,24 @@ pub record IsFresh (made : List (Call × Reply)) (told : List Told) (room : ℕ)
   pub empty : told ≡ []
   pub fits : length calls ≤ room
 
--- the session of this number made these calls: something came of each, and those that were answered are its ticket's
+-- the session of this number made these calls: something came of each, those that were answered are its ticket's, and the
+-- others say why
 pub record IsDone (session : ℕ) (calls : List Call) (ticket : ℕ × List (Call × Reply)) (told : List Told) : Type 0 where
   pub number : ticket.0 ≡ session
   pub all : length told ≡ length calls
   pub made : ticket.1 ≡ answered (outcomes_of calls told)
+  pub why : All SaysWhy told
 
 -- the sink took all of a text; or it failed, and took a beginning
 pub record Served {A : Type 0} (old new : Option (List ℕ)) (f g : ℕ) (result : Result A Refusal) (text : List ℕ) : Type 0 where
   pub whole : OnOk result (Took old new text × (g ≡ f))
   pub part : IfErr result (λ e. (e ≡ refusal.Output) × TookBeginning old new text × Raised f g)
+
+-- what came of the blocks of a run
+abbrev pub told_in : Ended → List (List Outcome)
+told_in e = blocks_told e.blocks.items e.told.items
+
+-- the sink took the lines of what came of the blocks, and the record is answered; or it failed, and took a beginning
+abbrev pub SendsLines : SinkSeen → Ended → Result History Refusal → Type 0
+SendsLines w e result =
+    Served w.taken_before w.taken_after w.failed_before w.failed_after result (text_of e.history.columns (told_in e)) × IfOk result (λ h. h ≡ e.history)

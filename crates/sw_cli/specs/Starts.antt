@@ -1,17 +1,17 @@
 -- What is known of what a run starts from, what it answers, and why it is refused.
-use Rattle.std.specs.Prelude.{◌≡◌, ◌<◌, ◌≤◌, ◌∷◌, ℕ, true, List, [], length, Option, Some, None, Result, Ok, Err}
-use Rattle.std.specs.Io.KnownBytes.{Keeps}
+use Rattle.std.specs.Prelude.{◌≡◌, ◌<◌, ◌≤◌, ◌∷◌, ℕ, true, List, [], length, Option, Some, None, IfSome, Result, Ok, Err}
 use Rattle.sw_lang.specs.Cuts.{AreCuts, cuts_on}
 use Rattle.sw_lang.specs.Sinks.{Took}
-use Rattle.sw_rows.specs.Gives.{Raised}
+use Rattle.sw_rows.specs.Header.{Column}
 use Rattle.sw_rows.specs.declared.query.Call.{Call}
 use Rattle.sw_rows.specs.declared.refusal.Refusal.{Refusal}
 use Rattle.sw_rows.specs.declared.refusal.Refusal.TheVariants as refusal
 use Rattle.sw_spine.specs.History.{History}
 use Rattle.sw_spine.specs.Table.{is_numbered}
 use Rattle.sw_cli.specs.Outcomes.{Outcome}
-use Rattle.sw_cli.specs.Run.{AllAnswered, Began, Leaves, Start, TellsAll, out_of, start_of}
+use Rattle.sw_cli.specs.Run.{AllAnswered, Began, Leaves, Start, TellsAll, out_of, script_of, start_of}
 use Rattle.sw_cli.specs.Script.{AreBlocks}
+use Rattle.sw_cli.specs.Sides.{FailedInTurn, IsUntouched, SinkFailed, SinkHeld, SinkSeen, SourceFailed, SourceSeen}
 use Rattle.sw_cli.specs.declared.start.Opened.{Opened}
 
 abbrev pub start_seen : Opened → Start
@@ -39,6 +39,21 @@ abbrev pub ReadsFrom : {X Y : Type 0} → Type 0 → (X → Y) → Result X Refu
 ReadsFrom I view (Ok x) said = said ≡ Ok (view x)
 ReadsFrom {X} {Y} I view (Err e) said = RefusedFrom {Y = Y} I e said
 
+-- a fact of two lists of bytes, where both are known
+abbrev pub IfBoth : Option (List ℕ) → Option (List ℕ) → (List ℕ → List ℕ → Type 0) → Type 0
+IfBoth (Some a) (Some b) P = P a b
+IfBoth (Some a) None P = Unit {0}
+IfBoth None b P = Unit {0}
+
+-- what is answered of the script of a source, seen by view: the blocks of the calls that its bytes spell
+abbrev pub ReadsScript : {X : Type 0} → List Column → SourceSeen → (X → List (List Call)) → Result X Refusal → Type 0
+ReadsScript columns s view result = IfSome s.left (λ bytes. ReadsFrom (SourceFailed s) view result (script_of columns bytes))
+
+-- what is answered of the sources of table and script: the start that their bytes spell
+abbrev pub ReadsStart : ℕ → List ℕ → SourceSeen → SourceSeen → Result Opened Refusal → Type 0
+ReadsStart limit cuts t s result =
+    IfBoth t.left s.left (λ table script. ReadsFrom (FailedInTurn t s table) start_seen result (start_of limit cuts table script))
+
 -- a refusal before any call; that of a source only where I holds
 abbrev pub TellsStart : Type 0 → Refusal → Type 0
 TellsStart I refusal.NoMemory = Unit {0}
@@ -58,19 +73,19 @@ TellsRun I O e = TellsStart I e
 abbrev pub LeavesSome : ℕ → Start → Option (List ℕ) → Option (List ℕ) → History → Type 0
 LeavesSome limit s old new h = (told : List (List Outcome)) × Leaves limit s told old new h
 
--- what calls leave that were begun from a start, and the count of failures of the sink: a record of their outcomes, whose
--- lines it took; or nothing, for want of memory; or a refusal of the sink, which took a beginning of such lines
-abbrev pub Goes : ℕ → Start → Option (List ℕ) → Option (List ℕ) → ℕ → ℕ → Result History Refusal → Type 0
-Goes limit s old new f g (Ok h) = LeavesSome limit s old new h × (g ≡ f)
-Goes limit s old new f g (Err refusal.NoMemory) = Keeps old new × (g ≡ f)
-Goes limit s old new f g (Err refusal.Output) = Began s old new × Raised f g
-Goes limit s old new f g (Err e) = ⊥
+-- what calls leave that were begun from a start: a record of their outcomes, whose lines the sink took; or nothing, for want of
+-- memory; or a refusal of the sink, which took a beginning of such lines
+abbrev pub Goes : ℕ → Start → SinkSeen → Result History Refusal → Type 0
+Goes limit s w (Ok h) = LeavesSome limit s w.taken_before w.taken_after h × SinkHeld w
+Goes limit s w (Err refusal.NoMemory) = IsUntouched w
+Goes limit s w (Err refusal.Output) = Began limit s w.taken_before w.taken_after × SinkFailed w
+Goes limit s w (Err e) = ⊥
 
 -- What a run answers: a record of the calls that the bytes spell, each with its outcome, whose lines the sink took; or a
 -- refusal of the sink, which took a beginning of such lines; or, before any call, the refusal of what the bytes spell.
 abbrev pub Ran : Type 0 → ℕ → List ℕ → List ℕ → List ℕ → Option (List ℕ) → Option (List ℕ) → Result History Refusal → Type 0
 Ran I limit cuts table script old new (Ok h) = (s : Start) × (start_of limit cuts table script ≡ Ok s) × LeavesSome limit s old new h
-Ran I limit cuts table script old new (Err refusal.Output) = (s : Start) × (start_of limit cuts table script ≡ Ok s) × Began s old new
+Ran I limit cuts table script old new (Err refusal.Output) = (s : Start) × (start_of limit cuts table script ≡ Ok s) × Began limit s old new
 Ran I limit cuts table script old new (Err e) = RefusedFrom I e (start_of limit cuts table script)
 
 -- where each session has an answered call for each call of its block, the record has the calls of the blocks, and the sink
@@ -82,9 +97,3 @@ TellsWhere limit cuts table script old new h = (s : Start) → start_of limit cu
 abbrev pub WritesOut : ℕ → List ℕ → List ℕ → List ℕ → Option (List ℕ) → Option (List ℕ) → History → Type 0
 WritesOut limit cuts table script old new h =
     (s : Start) (calls : List Call) → start_of limit cuts table script ≡ Ok s → s.blocks ≡ calls ∷ [] → AllAnswered s.blocks h → Took old new (out_of limit s calls)
-
--- a fact of two lists of bytes, where both are known
-abbrev pub IfBoth : Option (List ℕ) → Option (List ℕ) → (List ℕ → List ℕ → Type 0) → Type 0
-IfBoth (Some a) (Some b) P = P a b
-IfBoth (Some a) None P = Unit {0}
-IfBoth None b P = Unit {0}

@@ -1,9 +1,9 @@
 //! A sink that is written by the block.
 
-ghost use Rattle.std.specs.Prelude.{◌≡◌, ◌≤◌, IfOk, [], ◌∷◌, List, ℕ, Option, None, drop, OnOk, OnErr, true, vec_capacity, vec_len};
+ghost use Rattle.std.specs.Prelude.{◌≡◌, ◌≤◌, IfOk, [], ◌∷◌, List, ℕ, Option, None, OnOk, OnErr, true, vec_capacity, vec_len};
 ghost use Rattle.std.specs.Io.KnownBytes.{Keeps, append_known};
 ghost use Rattle.sw_rows.specs.Gives.{Raised};
-ghost use Rattle.sw_cli.specs.Sent.{extends};
+ghost use Rattle.sw_cli.specs.Sent.{extends, with_waiting};
 
 use std::alloc::{AllocError, Global};
 use std::io;
@@ -30,8 +30,8 @@ impl Base for Brand {
     ghost base = { None };
 }
 
-/// A sink behind a block of 64 KiB, which it is given when the block is full and at `send`. What the sink took since the
-/// block was put before it comes after what it had taken then.
+/// A sink behind a block of 64 KiB, which it is given when the block is full and at `send`. What the sink took since
+/// the block was put before it comes after what it had taken then.
 #[derive(Drop)]
 pub(crate) struct Buffered<J: Base, W: Sink> {
     sink: W,
@@ -50,7 +50,8 @@ impl<J: Base, W: Sink> Buffered<J, W> {
         requires base { J.base ≡ W.taken sink }
         requires empty { block.items ≡ [] }
         requires room { 65536 ≤ vec_capacity block }
-        ensures taken { append_known (W.taken result.sink) (drop result.sent result.block.items) ≡ append_known (W.taken sink) [] }
+        ensures taken { with_waiting (W.taken result.sink) result.sent result.block.items
+            ≡ append_known (W.taken sink) [] }
         ensures failed { W.failed result.sink ≡ W.failed sink }
     {
         Buffered {
@@ -72,7 +73,8 @@ impl<J: Base, W: Sink> Buffered<J, W> {
 
     /// Gives the sink all that waits. After an error what it has not taken still waits.
     pub(crate) fn send(&mut self) -> io::Result<()>
-        ensures kept { Keeps (append_known (W.taken self.old.sink) (drop self.old.sent self.old.block.items)) (append_known (W.taken self.new.sink) (drop self.new.sent self.new.block.items)) }
+        ensures kept { Keeps (with_waiting (W.taken self.old.sink) self.old.sent self.old.block.items)
+            (with_waiting (W.taken self.new.sink) self.new.sent self.new.block.items) }
         ensures sent { OnOk result (self.new.block.items ≡ []) }
         ensures went { OnOk result (W.failed self.new.sink ≡ W.failed self.old.sink) }
         ensures raised { OnErr result (Raised (W.failed self.old.sink) (W.failed self.new.sink)) }
@@ -88,7 +90,7 @@ impl<J: Base, W: Sink> Buffered<J, W> {
 }
 
 impl<J: Base, W: Sink> Sink for Buffered<J, W> {
-    ghost taken = { λ s. append_known (W.taken s.sink) (drop s.sent s.block.items) };
+    ghost taken = { λ s. with_waiting (W.taken s.sink) s.sent s.block.items };
 
     ghost failed = { λ s. W.failed s.sink };
 

@@ -87,7 +87,8 @@ fn write_unknown<W: Sink>(name: &[u8], out: &mut W) -> Result<(), Refusal>
 
 fn write_short<W: Sink>(used: u64, want: u64, capacity: u64, out: &mut W) -> Result<(), Refusal>
     ensures { Writes (W.taken out.old) (W.taken out.new) (W.failed out.old) (W.failed out.new) result
-        (labelled (codes "7 used ") used ++ (labelled (codes " want ") want ++ labelled (codes " capacity ") capacity)) }
+        (labelled (codes "7 used ") used
+        ++ (labelled (codes " want ") want ++ labelled (codes " capacity ") capacity)) }
 {
     write_labelled(b"7 used ", used, out)?;
     write_pair(b" want ", want, b" capacity ", capacity, out)

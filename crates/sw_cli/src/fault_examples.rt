@@ -19,7 +19,8 @@ pub fn faults_of_texts()
 pub fn faults_of_calls()
     ensures memory { fault_line Refusal.NoMemory ≡ codes "sideways: refused 1\n" }
     ensures blank { fault_line (Refusal.NoBlank 1 2) ≡ codes "sideways: refused 6 boxes 1 needed 2\n" }
-    ensures short { fault_line (Refusal.Short 128 64 128) ≡ codes "sideways: refused 7 used 128 want 64 capacity 128\n" }
+    ensures short { fault_line (Refusal.Short 128 64 128)
+        ≡ codes "sideways: refused 7 used 128 want 64 capacity 128\n" }
     ensures contended { fault_line (Refusal.Contended 64 128) ≡ codes "sideways: refused 8 seen 64 found 128\n" }
     ensures shares { fault_line (Refusal.SharesOut 2 1) ≡ codes "sideways: refused 9 made 2 given 1\n" }
     ensures full { fault_line (Refusal.HistoryFull 1048576) ≡ codes "sideways: refused 10 entries 1048576\n" }

@@ -1,9 +1,9 @@
 //! Blocks of calls, made one after another or each in a thread of its own.
 
-ghost use Rattle.std.specs.Prelude.{◌≡◌, ◌<◌, ℕ, length, map, slice_index_or, All, IfOk, IsOkUnless, vec_capacity};
+ghost use Rattle.std.specs.Prelude.{◌≡◌, length, map, All, IfOk, IsOkUnless, vec_capacity};
 ghost use Rattle.sw_rows.specs.declared.refusal.Refusal.TheVariants.{NoMemory};
-ghost use Rattle.sw_engine.specs.Desk.{AreCounted, InOrder};
-ghost use Rattle.sw_cli.specs.Outcomes.{AreTold, blocks_told};
+ghost use Rattle.sw_engine.specs.Desk.{AreCounted, Each, InOrder};
+ghost use Rattle.sw_cli.specs.Outcomes.{AllSayWhy, AreTold, blocks_told};
 ghost use Rattle.sw_cli.specs.Run.{IsRecordOf};
 ghost use Rattle.sw_cli.specs.Script.{AllCallsBelow, AreBlocks};
 ghost use Rattle.sw_cli.specs.Served.{IsDone, IsFresh};
@@ -66,7 +66,8 @@ fn jobs<'e, J: Naming, M: CrackerMap>(
 ) -> Result<Vec<Job<'e, J, M>>, AllocError>
     requires order { InOrder 1 tickets.items }
     requires many { length tickets.items ≡ length blocks.now }
-    ensures fresh { IfOk result (λ v. All (λ j. IsFresh j.session.1 j.told.items (vec_capacity j.told) j.calls.now) v.items) }
+    ensures fresh { IfOk result
+        (λ v. All (λ j. IsFresh j.session.1 j.told.items (vec_capacity j.told) j.calls.now) v.items) }
     ensures numbers { IfOk result (λ v. AreCounted 1 (map (λ j. j.session.0) v.items)) }
     ensures calls { IfOk result (λ v. map (λ j. j.calls.now) v.items ≡ blocks.now) }
 {
@@ -91,8 +92,7 @@ fn make_in_turn<'e, J: Naming, M: CrackerMap, R: Threads + Wait + Sync>(
 ) -> Result<Vec<Done<J>>, AllocError>
     requires fresh { All (λ j. IsFresh j.session.1 j.told.items (vec_capacity j.told) j.calls.now) jobs.items }
     requires below { All (λ j. AllCallsBelow (length J.columns) j.calls.now) jobs.items }
-    ensures len { IfOk result (λ v. length v.items ≡ length jobs.entry.items) }
-    ensures done { IfOk result (λ v. (i : ℕ) (j : _) (d : _) → i < length jobs.entry.items → IsDone (slice_index_or jobs.entry.items i j).session.0 (slice_index_or jobs.entry.items i j).calls.now (slice_index_or v.items i d).ticket (slice_index_or v.items i d).told) }
+    ensures { IfOk result (λ v. Each (λ j d. IsDone j.session.0 j.calls.now d.ticket d.told) jobs.entry.items v.items) }
 {
     let mut done = Vec::new(alloc);
     for job in jobs {
@@ -108,14 +108,14 @@ fn make_at_once<'e, J: Naming + Send + Sync, M: CrackerMap, R: Threads + Wait + 
 ) -> Result<Vec<Done<J>>, AllocError>
     requires fresh { All (λ j. IsFresh j.session.1 j.told.items (vec_capacity j.told) j.calls.now) jobs.items }
     requires below { All (λ j. AllCallsBelow (length J.columns) j.calls.now) jobs.items }
-    ensures len { IfOk result (λ v. length v.items ≡ length jobs.entry.items) }
-    ensures done { IfOk result (λ v. (i : ℕ) (j : _) (d : _) → i < length jobs.entry.items → IsDone (slice_index_or jobs.entry.items i j).session.0 (slice_index_or jobs.entry.items i j).calls.now (slice_index_or v.items i d).ticket (slice_index_or v.items i d).told) }
+    ensures { IfOk result (λ v. Each (λ j d. IsDone j.session.0 j.calls.now d.ticket d.told) jobs.entry.items v.items) }
 {
     thread::map_vec(
         rt,
         jobs,
         &|job: Job<'_, J, M>| -> Done<J>
-            requires { IsFresh job.session.1 job.told.items (vec_capacity job.told) job.calls.now × AllCallsBelow (length J.columns) job.calls.now }
+            requires fresh { IsFresh job.session.1 job.told.items (vec_capacity job.told) job.calls.now }
+            requires below { AllCallsBelow (length J.columns) job.calls.now }
             ensures { IsDone job.entry.session.0 job.entry.calls.now result.ticket result.told }
         { make_block(rt, job) },
     )
@@ -130,8 +130,7 @@ fn make_all<'e, J: Naming + Send + Sync, M: CrackerMap, R: Threads + Wait + Sync
 ) -> Result<Vec<Done<J>>, AllocError>
     requires fresh { All (λ j. IsFresh j.session.1 j.told.items (vec_capacity j.told) j.calls.now) jobs.items }
     requires below { All (λ j. AllCallsBelow (length J.columns) j.calls.now) jobs.items }
-    ensures len { IfOk result (λ v. length v.items ≡ length jobs.entry.items) }
-    ensures done { IfOk result (λ v. (i : ℕ) (j : _) (d : _) → i < length jobs.entry.items → IsDone (slice_index_or jobs.entry.items i j).session.0 (slice_index_or jobs.entry.items i j).calls.now (slice_index_or v.items i d).ticket (slice_index_or v.items i d).told) }
+    ensures { IfOk result (λ v. Each (λ j d. IsDone j.session.0 j.calls.now d.ticket d.told) jobs.entry.items v.items) }
 {
     if at_once {
         make_at_once(rt, jobs)
@@ -158,8 +157,8 @@ fn parted<J: Naming>(
     Ok((tickets, all_told))
 }
 
-/// Makes the calls of each block by the session of the ticket at its place, and tells the record and what came of the calls.
-/// The one refusal is `NoMemory`.
+/// Makes the calls of each block by the session of the ticket at its place, and tells the record and what came of the
+/// calls. The one refusal is `NoMemory`.
 pub(crate) fn serve<J: Naming + Send + Sync, M: CrackerMap, R: Threads + Wait + Sync>(
     rt: &R,
     alloc: Global,
@@ -172,7 +171,9 @@ pub(crate) fn serve<J: Naming + Send + Sync, M: CrackerMap, R: Threads + Wait + 
     requires many { length tickets.items ≡ length blocks.now }
     requires blocks { AreBlocks (length J.columns) blocks.now }
     ensures told { IfOk result (λ r. AreTold blocks.now r.1.items) }
-    ensures record_is { IfOk result (λ r. IsRecordOf J.columns J.opening J.limit (blocks_told blocks.now r.1.items) r.0) }
+    ensures why { IfOk result (λ r. AllSayWhy (blocks_told blocks.now r.1.items)) }
+    ensures record_is { IfOk result
+        (λ r. IsRecordOf J.columns J.opening J.limit (blocks_told blocks.now r.1.items) r.0) }
     ensures refused { IsOkUnless result NoMemory }
 {
     let Ok(work) = jobs(alloc, &engine, tickets, blocks) else {

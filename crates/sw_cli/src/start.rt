@@ -1,12 +1,13 @@
 //! What a run starts from: a table, a script and cuts, read to their ends.
 
-ghost use Rattle.std.specs.Prelude.{◌≡◌, ◌⊎◌, length, IfErr, IfOk, IfSome, OnOk};
+ghost use Rattle.std.specs.Prelude.{◌≡◌, length, IfErr, IfOk, OnOk};
 ghost use Rattle.sw_lang.specs.Cuts.{FitCuts};
 ghost use Rattle.sw_rows.specs.Gives.{Raised};
 ghost use Rattle.sw_histories.specs.Told.{Reads, TellsText};
-ghost use Rattle.sw_cli.specs.Run.{cuts_of, script_of, start_of};
+ghost use Rattle.sw_cli.specs.Run.{cuts_of};
 ghost use Rattle.sw_cli.specs.Script.{AreBlocks};
-ghost use Rattle.sw_cli.specs.Starts.{IfBoth, IsStart, ReadsFrom, TellsStart, start_seen};
+ghost use Rattle.sw_cli.specs.Sides.{EitherFailed, SourcesHeld, source_seen};
+ghost use Rattle.sw_cli.specs.Starts.{IsStart, ReadsScript, ReadsStart, TellsStart, start_seen};
 
 use crate::script::{Block, read_blocks};
 use std::alloc::Global;
@@ -28,7 +29,8 @@ fn read_script<S: Source>(
     schema: &Schema,
     script: &mut S,
 ) -> Result<Vec<Block>, Refusal>
-    ensures spelled { IfSome (S.left script.old) (λ bytes. ReadsFrom (Raised (S.failed script.old) (S.failed script.new)) (λ blocks. blocks.items) result (script_of schema.now bytes)) }
+    ensures spelled { ReadsScript schema.now
+        (source_seen (S.left script.old) (S.failed script.old) (S.failed script.new)) (λ blocks. blocks.items) result }
     ensures sound { IfOk result (λ blocks. AreBlocks (length schema.now) blocks.items) }
     ensures told { IfErr result (TellsStart (Raised (S.failed script.old) (S.failed script.new))) }
     ensures steady { OnOk result (S.failed script.new ≡ S.failed script.old) }
@@ -59,10 +61,16 @@ pub(crate) fn read_start<T: Source, S: Source>(
     cuts: &str,
     limit: u64,
 ) -> Result<Opened, Refusal>
-    ensures spelled { IfBoth (T.left table.old) (S.left script.old) (λ t s. ReadsFrom (Raised (T.failed table.old) (T.failed table.new) ⊎ Raised (S.failed script.old) (S.failed script.new)) start_seen result (start_of limit cuts.now t s)) }
+    ensures spelled { ReadsStart limit cuts.now
+        (source_seen (T.left table.old) (T.failed table.old) (T.failed table.new))
+        (source_seen (S.left script.old) (S.failed script.old) (S.failed script.new)) result }
     ensures sound { IfOk result (λ o. IsStart limit (start_seen o)) }
-    ensures told { IfErr result (TellsStart (Raised (T.failed table.old) (T.failed table.new) ⊎ Raised (S.failed script.old) (S.failed script.new))) }
-    ensures steady { OnOk result ((T.failed table.new ≡ T.failed table.old) × (S.failed script.new ≡ S.failed script.old)) }
+    ensures told { IfErr result (TellsStart (EitherFailed
+        (source_seen (T.left table.old) (T.failed table.old) (T.failed table.new))
+        (source_seen (S.left script.old) (S.failed script.old) (S.failed script.new)))) }
+    ensures steady { OnOk result (SourcesHeld
+        (source_seen (T.left table.old) (T.failed table.old) (T.failed table.new))
+        (source_seen (S.left script.old) (S.failed script.old) (S.failed script.new))) }
 {
     let (schema, rows) = match load(alloc, table) {
         Ok(found) => found,

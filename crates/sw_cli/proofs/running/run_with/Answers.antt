@@ -1,17 +1,15 @@
+use Rattle.std.proofs.Common.{refl}
+use Rattle.sw_cli.specs.Sides.{sink_seen, source_seen}
 use Rattle.sw_cli.specs.Starts.{start_seen}
-use Rattle.sw_cli.proofs.Ran.{both_out, both_tell, goes_left}
+use Rattle.sw_cli.proofs.Ran.{begun_answers, keeps_same, refused_answers}
 use Rattle.sw_cli.proofs.running.run_with.Goals as goal
 
-pub returns-in-Ok-clause-tells : goal.returns-in-Ok-clause-tells
-returns-in-Ok-clause-tells g c =
-    both_tell c.args.options.now.limit c.args.options.now.cuts.now (start_seen c.in-Ok.opened) (g.T.Source.left c.args.table.now) (g.S.Source.left c.args.script.now) (g.W.Sink.taken c.args.out.now) (g.W.Sink.taken c.begin.new.out)
-    (g.W.Sink.failed c.args.out.now) (g.W.Sink.failed c.begin.new.out) c.begin.result c.in-Ok.ensures.spelled c.begin.ensures
+pub returns-in-Ok : goal.returns-in-Ok
+returns-in-Ok g c =
+    begun_answers c.args.options.now.limit c.args.options.now.cuts.now (start_seen c.in-Ok.opened) (source_seen (g.T.Source.left c.args.table.now) _ _) (source_seen (g.S.Source.left c.args.script.now) _ _) (sink_seen _ _ _ _) c.begin.result
+    c.in-Ok.ensures.spelled c.in-Ok.ensures.steady c.begin.ensures
 
-pub returns-in-Ok-clause-out : goal.returns-in-Ok-clause-out
-returns-in-Ok-clause-out g c =
-    both_out c.args.options.now.limit c.args.options.now.cuts.now (start_seen c.in-Ok.opened) (g.T.Source.left c.args.table.now) (g.S.Source.left c.args.script.now) (g.W.Sink.taken c.args.out.now) (g.W.Sink.taken c.begin.new.out)
-    (g.W.Sink.failed c.args.out.now) (g.W.Sink.failed c.begin.new.out) c.begin.result c.in-Ok.ensures.spelled c.begin.ensures
-
-pub returns-in-Ok-clause-left : goal.returns-in-Ok-clause-left
-returns-in-Ok-clause-left g c =
-    goes_left c.args.options.now.limit (start_seen c.in-Ok.opened) (g.W.Sink.taken c.args.out.now) (g.W.Sink.taken c.begin.new.out) (g.W.Sink.failed c.args.out.now) (g.W.Sink.failed c.begin.new.out) c.begin.result c.begin.ensures
+pub returns-in-Err : goal.returns-in-Err
+returns-in-Err g c =
+    refused_answers c.args.options.now.limit c.args.options.now.cuts.now (source_seen (g.T.Source.left c.args.table.now) _ _) (source_seen (g.S.Source.left c.args.script.now) _ _) (sink_seen (g.W.Sink.taken c.args.out.now) _ _ _) c.in-Err.e
+    c.in-Err.ensures.spelled c.in-Err.ensures.told (keeps_same (g.W.Sink.taken c.args.out.now)) refl

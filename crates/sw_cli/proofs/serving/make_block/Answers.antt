@@ -1,6 +1,7 @@
 use Rattle.std.proofs.Common.{rules, ◌≡◌, ◌∙◌, ◌<◌, ◌+◌, ◌++◌, ◌∷◌, [], sym, ap, arith, length, take}
 use Rattle.std.proofs.lemmas.List.{take_more}
-use Rattle.sw_cli.specs.Outcomes.{answered, outcomes_of}
+use Rattle.std.proofs.lemmas.List.Elements.{All-push}
+use Rattle.sw_cli.specs.Outcomes.{SaysWhy, answered, outcomes_of}
 use Rattle.sw_cli.proofs.Outcomes.{answered_push, length_take, outcomes_push}
 use Rattle.sw_cli.proofs.serving.make_block.Goals as goal
 
@@ -20,5 +21,6 @@ loop-call-preserved g c =
       number = c.call.ensures.number ∙ i.number;
       all = omega (arith, i.all);
       made = rw pushed (more ∙ ap answered (sym (outcomes_push (take n calls) told one t (i.all ∙ sym (length_take n calls here))) ∙ ap (λ cs. outcomes_of cs (told ++ t ∷ [])) (sym front)));
+      why = rw pushed (All-push SaysWhy told t i.why c.call.ensures.refused);
       room = search rules;
     }

@@ -18,9 +18,9 @@ loop-job-preserved g c =
       all = append_assoc xs (one ∷ []) c.next.new.self.rest.items ∙ (ap (λ l. xs ++ l) (sym c.in-Some.ensures.steps.0) ∙ i.all);
     }
 
-pub returns-clause-done : goal.returns-clause-done
-returns-clause-done g c =
+pub returns : goal.returns
+returns g c =
     let left = c.loop-job.job-iterator.rest in
     let gone : left.items ≡ [] = none_at left.items (let o = left.ok.0 in let z = c.in-None.ensures.steps.0 in omega (arith, o, z)) in
     let whole : c.loop-job.yielded ≡ c.args.jobs.items = sym (append-nil c.loop-job.yielded) ∙ (ap (λ xs. c.loop-job.yielded ++ xs) (sym gone) ∙ c.loop-job.invariant.all) in
-    rw (sym whole) c.loop-job.invariant.done
+    (rw (sym whole) c.loop-job.invariant.len, rw (sym whole) c.loop-job.invariant.done)

@@ -1,12 +1,12 @@
-use Rattle.std.proofs.Common.{◌≡◌, ◌∙◌, ◌+◌, ◌<◌, ℕ, List, [], length, map, get_or, sym, ap, arith}
+use Rattle.std.proofs.Common.{◌≡◌, ◌∙◌, ◌+◌, ◌<◌, ℕ, List, [], length, map, get_or, sym, ap, arith, All}
 use Rattle.std.proofs.lemmas.List.{get_or-map}
 use Rattle.sw_rows.specs.declared.query.Call.{Call}
 use Rattle.sw_rows.specs.declared.reply.Reply.{Reply}
-use Rattle.sw_cli.specs.Outcomes.{AreTold, Told, blocks_told}
+use Rattle.sw_cli.specs.Outcomes.{AreTold, SaysWhy, Told, blocks_told}
 use Rattle.sw_cli.specs.Served.{AreAnswered}
 use Rattle.sw_cli.specs.Script.{AllCallsBelow}
 use Rattle.sw_cli.proofs.Lists.{all_map, at_place, counted_at, length_map}
-use Rattle.sw_cli.proofs.Records.{collected, record_of}
+use Rattle.sw_cli.proofs.Records.{blocks_why, collected, record_of}
 use Rattle.sw_cli.proofs.serving.serve.Given.{Over}
 use Rattle.sw_cli.proofs.serving.serve.Goals as goal
 
@@ -23,7 +23,7 @@ all_made g c =
     let tells = c.in-Ok-parted.told.items in
     let tickets = c.in-Ok-parted.ended.items in
     let many : length w ≡ length blocks = sym (length_map (λ j. j.calls.now) w) ∙ ap length c.in-Ok.ensures.calls in
-    let dones : length done ≡ length w = c.in-Ok-make_all.ensures.len in
+    let dones : length done ≡ length w = c.in-Ok-make_all.ensures.0 in
     let et : length tells ≡ length blocks = ap length c.in-Ok-parted.ensures.told ∙ (length_map (λ d. d.told) done ∙ (dones ∙ many)) in
     let ev : length tickets ≡ length blocks = ap length c.in-Ok-parted.ensures.tickets ∙ (length_map (λ d. d.ticket) done ∙ (dones ∙ many)) in
     collected 1 blocks tells tickets et ev (λ i less.
@@ -31,7 +31,7 @@ all_made g c =
     let ltd : i < length done = omega (arith, ltw, dones) in
     let j = (at_place w i ltw).0 in
     let d = (at_place done i ltd).0 in
-    let made = c.in-Ok-make_all.ensures.done i j d ltw in
+    let made = c.in-Ok-make_all.ensures.1 i j d ltw in
     let ticket : get_or tickets i (0, []) ≡ (get_or done i d).ticket = ap (λ (l : List (ℕ × List (Call × Reply))). get_or l i (0, [])) c.in-Ok-parted.ensures.tickets ∙ get_or-map (λ d. d.ticket) done i d (0, []) ltd in
     let told : get_or tells i [] ≡ (get_or done i d).told = ap (λ (l : List (List Told)). get_or l i []) c.in-Ok-parted.ensures.told ∙ get_or-map (λ d. d.told) done i d [] ltd in
     let calls : get_or blocks i [] ≡ (get_or w i j).calls.now = ap (λ (l : List (List Call)). get_or l i []) (sym c.in-Ok.ensures.calls) ∙ get_or-map (λ j. j.calls.now) w i j [] ltw in
@@ -41,6 +41,24 @@ all_made g c =
 
 pub returns-in-Ok-close-clause-told : goal.returns-in-Ok-close-clause-told
 returns-in-Ok-close-clause-told g c = (all_made g c).0
+
+-- why calls were refused
+said_why : (g : Over) (c : goal.In-Ok-close g) → All (λ (t : List Told). All SaysWhy t) c.in-Ok-parted.told.items
+said_why g c = λ i e less.
+    let w = c.in-Ok.work.items in
+    let done = c.in-Ok-make_all.done.items in
+    let tells = c.in-Ok-parted.told.items in
+    let many : length tells ≡ length done = ap length c.in-Ok-parted.ensures.told ∙ length_map (λ d. d.told) done in
+    let dones : length done ≡ length w = c.in-Ok-make_all.ensures.0 in
+    let ltd : i < length done = omega (arith, less, many) in
+    let ltw : i < length w = omega (arith, ltd, dones) in
+    let j = (at_place w i ltw).0 in
+    let d = (at_place done i ltd).0 in
+    let told : get_or tells i e ≡ (get_or done i d).told = ap (λ (l : List (List Told)). get_or l i e) c.in-Ok-parted.ensures.told ∙ get_or-map (λ d. d.told) done i d e ltd in
+    rw told (c.in-Ok-make_all.ensures.1 i j d ltw).why
+
+pub returns-in-Ok-close-clause-why : goal.returns-in-Ok-close-clause-why
+returns-in-Ok-close-clause-why g c = blocks_why c.args.blocks.now c.in-Ok-parted.told.items (said_why g c)
 
 pub returns-in-Ok-close-clause-record_is : goal.returns-in-Ok-close-clause-record_is
 returns-in-Ok-close-clause-record_is g c =

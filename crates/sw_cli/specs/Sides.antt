@@ -1,0 +1,57 @@
+-- What is known of a run's two sources and of its sink: their bytes, where these are told, and their counts of failures.
+use Rattle.std.specs.Prelude.{◌≡◌, ◌⊎◌, ℕ, List, Option, Ok}
+use Rattle.std.specs.Io.KnownBytes.{Keeps}
+use Rattle.sw_rows.specs.Gives.{Raised}
+use Rattle.sw_rows.specs.Tables.{Table, table_of}
+
+-- a source: the bytes that it had left, and its failures before and after
+pub record SourceSeen : Type 0 where
+  pub left : Option (List ℕ)
+  pub failed_before : ℕ
+  pub failed_after : ℕ
+
+abbrev pub source_seen : Option (List ℕ) → ℕ → ℕ → SourceSeen
+source_seen left before after = record { left = left; failed_before = before; failed_after = after }
+
+-- a sink: the bytes that it had taken before and after, and its failures before and after
+pub record SinkSeen : Type 0 where
+  pub taken_before : Option (List ℕ)
+  pub taken_after : Option (List ℕ)
+  pub failed_before : ℕ
+  pub failed_after : ℕ
+
+abbrev pub sink_seen : Option (List ℕ) → Option (List ℕ) → ℕ → ℕ → SinkSeen
+sink_seen taken_before taken_after before after =
+    record { taken_before = taken_before; taken_after = taken_after; failed_before = before; failed_after = after }
+
+-- the source failed
+abbrev pub SourceFailed : SourceSeen → Type 0
+SourceFailed s = Raised s.failed_before s.failed_after
+
+-- one of the sources of table and script failed
+abbrev pub EitherFailed : SourceSeen → SourceSeen → Type 0
+EitherFailed t s = SourceFailed t ⊎ SourceFailed s
+
+-- these bytes spell a table
+abbrev pub SpellTable : List ℕ → Type 0
+SpellTable bytes = (t : Table) × (table_of bytes ≡ Ok t)
+
+-- The source of a table of these bytes failed; or that of the script did, which is read only after a table without fault.
+abbrev pub FailedInTurn : SourceSeen → SourceSeen → List ℕ → Type 0
+FailedInTurn t s bytes = SourceFailed t ⊎ (SpellTable bytes × SourceFailed s)
+
+-- no source failed
+abbrev pub SourcesHeld : SourceSeen → SourceSeen → Type 0
+SourcesHeld t s = (t.failed_after ≡ t.failed_before) × (s.failed_after ≡ s.failed_before)
+
+-- the sink failed
+abbrev pub SinkFailed : SinkSeen → Type 0
+SinkFailed w = Raised w.failed_before w.failed_after
+
+-- the sink did not fail
+abbrev pub SinkHeld : SinkSeen → Type 0
+SinkHeld w = w.failed_after ≡ w.failed_before
+
+-- the sink took nothing and did not fail
+abbrev pub IsUntouched : SinkSeen → Type 0
+IsUntouched w = Keeps w.taken_before w.taken_after × SinkHeld w
