@@ -35,7 +35,8 @@ diff "$work/listed" "$work/tabled" >"$work/diff" || {
     sed -n 's/^< /crates.txt has: /p; s/^> /the table has: /p' "$work/diff"
 }
 for name in $(cut -d ' ' -f 1 "$work/listed"); do
-    lines=$(wc -l <"crates/$name/README.md" 2>/dev/null || echo 0)
+    lines=0
+    [ -f "crates/$name/README.md" ] && lines=$(wc -l <"crates/$name/README.md")
     if [ "$lines" -eq 0 ] || [ "$lines" -gt 60 ]; then
         differs=yes
         echo "crates/$name/README.md has $lines lines"
