@@ -1,3 +1,3 @@
 pub mod Ties
 pub mod Heads
-pub mod Jobs
+pub mod Turns

@@ -26,15 +26,30 @@ use sw_map::CrackerMap;
 use sw_rows::{Call, Query, Refusal, Reply, Row, Schema};
 use sw_spine::Record;
 
-/// How often the lock is tried before a thread sleeps for it, and how long it pauses between two tries.
+/// How often a lock or a latch is tried before a thread sleeps for it.
 const TRIES: usize = 100;
 
-const PAUSES: usize = 64;
+/// How long a thread pauses between two tries: about as long as some visits to the history take, or as a select does.
+const VISIT: usize = 64;
 
-fn pause() {
-    for _ in 0..PAUSES {
+const SELECT: usize = 512;
+
+fn pause(long: usize) {
+    for _ in 0..long {
         spin_loop();
     }
+}
+
+/// What lies under a lock. It is tried for a while before the thread sleeps for it, since most others hold it for less time than
+/// a sleep takes.
+fn take<'l, T, R: Wait>(rt: &R, lock: &'l Mutex<T>, long: usize) -> MutexGuard<'l, T> {
+    for _ in 0..TRIES {
+        if let Some(guard) = lock.try_lock() {
+            return guard;
+        }
+        pause(long);
+    }
+    lock.lock(rt)
 }
 
 /// A latch for each attribute's head.
@@ -216,15 +231,9 @@ impl<J: Naming, M: CrackerMap> Engine<J, M> {
         self.latches[head].lock(rt).shed(most)
     }
 
-    /// The history, for one visit. It is tried for before the thread sleeps for it, since most visits are shorter than a sleep.
+    /// The history, for one visit.
     fn visit<R: Wait>(&self, rt: &R) -> MutexGuard<'_, Desk<J>> {
-        for _ in 0..TRIES {
-            if let Some(desk) = self.desk.try_lock() {
-                return desk;
-            }
-            pause();
-        }
-        self.desk.lock(rt)
+        take(rt, &self.desk, VISIT)
     }
 
     /// A copy of the opening rows. Its memory is taken and written before the visit, which then copies and does no more.
@@ -277,7 +286,7 @@ impl<J: Naming, M: CrackerMap> Engine<J, M> {
             return Err(Refusal::NoMemory);
         };
         let Ticket { number, share, .. } = ticket;
-        let mut head = self.latches[head_of(query)].lock(rt);
+        let mut head = take(rt, &self.latches[head_of(query)], SELECT);
         if self.ready(rt, &mut *head).is_err() {
             return Err(Refusal::NoMemory);
         }
