@@ -1,3 +1,4 @@
 pub mod Ties
 pub mod Heads
 pub mod Turns
+pub mod Parts
