@@ -1,3 +1,4 @@
 pub mod Ties
 pub mod Heads
-pub mod Jobs
+pub mod Turns
+pub mod Parts

@@ -1,5 +1,5 @@
 -- What ties the books of the sessions and of the heads to the spine.
-use Rattle.std.specs.Prelude.{ℕ, ◌≡◌, ◌≢◌, ◌<◌, ◌≤◌, ◌+◌, ◌⊎◌, ◌++◌, List, [], ◌∷◌, length, map, set, Bool, true, false, Option, Some, None, is_some, slice_get, slice_index_or, IfSome, IsTrue}
+use Rattle.std.specs.Prelude.{ℕ, ◌≡◌, ◌≢◌, ◌<◌, ◌≤◌, ◌+◌, ◌⊎◌, ◌++◌, List, [], ◌∷◌, length, map, set, Bool, true, false, Option, Some, None, is_some, slice_get, IfSome}
 use Rattle.sw_rows.specs.Header.{Column}
 use Rattle.sw_rows.specs.declared.row.Row.{Row}
 use Rattle.sw_rows.specs.declared.row.Update.{Update}
@@ -16,7 +16,6 @@ use Rattle.sw_spine.specs.Table.{is_numbered, opened}
 use Rattle.sw_spine.specs.History.{entry, mine}
 use Rattle.sw_spine.specs.Books.{Books, new_books, took, waits_for}
 use Rattle.sw_spine.specs.Receivable.{AreUpdates}
-use Rattle.sw_spine.specs.declared.history.Entry.{Entry}
 use Rattle.sw_spine.specs.declared.history.State.TheVariants as state
 use Rattle.sw_tie.specs.declared.Book.{Book}
 use Rattle.sw_tie.specs.declared.Share.{Share}
@@ -171,18 +170,6 @@ InOrder n (t ∷ ts) = (t.0 ≡ n) × (t.1 ≡ []) × InOrder (n + 1) ts
 abbrev pub AreCounted : ℕ → List ℕ → Type 0
 AreCounted n [] = Unit {0}
 AreCounted n (k ∷ ks) = (k ≡ n) × AreCounted (n + 1) ks
-
--- place by place
-abbrev pub Each : {X Y : Type 0} → (X → Y → Type 0) → List X → List Y → Type 0
-Each {X} {Y} P xs ys = (length ys ≡ length xs) × ((i : ℕ) (x : X) (y : Y) → i < length xs → P (slice_index_or xs i x) (slice_index_or ys i y))
-
--- where all calls were answered, they are these
-abbrev pub IsServed : List Call → ℕ × List (Call × Reply) → Bool → Type 0
-IsServed calls ticket answered = IsTrue answered → map (λ c. c.0) ticket.1 ≡ calls
-
--- the calls of block i, counted from 0, were answered to session i + 1, in order
-abbrev pub AreMade : List (List Call) → List Entry → Type 0
-AreMade blocks entries = (i : ℕ) → i < length blocks → map (λ c. c.0) (mine (i + 1) entries) ≡ slice_index_or blocks i []
 
 -- why an engine is not closed: as many tickets as came back, and another number of sessions
 abbrev pub RefusesClose : {X : Type 0} → List X → List X → Refusal → Type 0

@@ -1,6 +1,6 @@
 //! Heads under their latches, the history under its lock, and the sessions.
 
-ghost use Rattle.std.specs.Prelude.{◌≡◌, ◌<◌, ◌≤◌, ◌++◌, ◌∷◌, [], ℕ, true, length, vec_len, IfErr, IfOk, IsOkUnless, MatchResult, OnErr, OnOk, false};
+ghost use Rattle.std.specs.Prelude.{◌≡◌, ◌<◌, ◌≤◌, ◌+◌, ◌++◌, ◌∷◌, [], ℕ, true, drop, length, take, vec_len, IfErr, IfOk, IsOkUnless, MatchResult, OnErr, OnOk, false};
 ghost use Rattle.sw_rows.specs.Scan.{AsksBelow};
 ghost use Rattle.sw_rows.specs.declared.query.Call.TheVariants.{Select, Insert, Delete};
 ghost use Rattle.sw_rows.specs.declared.refusal.Refusal.TheVariants.{NoMemory};
@@ -26,15 +26,33 @@ use sw_map::CrackerMap;
 use sw_rows::{Call, Query, Refusal, Reply, Row, Schema};
 use sw_spine::Record;
 
-/// How often the lock is tried before a thread sleeps for it, and how long it pauses between two tries.
+/// How often a lock or a latch is tried before a thread sleeps for it.
 const TRIES: usize = 100;
 
-const PAUSES: usize = 64;
+/// How long a thread pauses between two tries: about as long as some visits to the history take, or as a select does.
+const VISIT: usize = 64;
 
-fn pause() {
-    for _ in 0..PAUSES {
+const SELECT: usize = 512;
+
+/// How many opening rows are copied in one visit, but for the last.
+const PART: usize = 1024;
+
+fn pause(long: usize) {
+    for _ in 0..long {
         spin_loop();
     }
+}
+
+/// What lies under a lock. It is tried for a while before the thread sleeps for it, since most others hold it for less time than
+/// a sleep takes.
+fn take<'l, T, R: Wait>(rt: &R, lock: &'l Mutex<T>, long: usize) -> MutexGuard<'l, T> {
+    for _ in 0..TRIES {
+        if let Some(guard) = lock.try_lock() {
+            return guard;
+        }
+        pause(long);
+    }
+    lock.lock(rt)
 }
 
 /// A latch for each attribute's head.
@@ -216,32 +234,51 @@ impl<J: Naming, M: CrackerMap> Engine<J, M> {
         self.latches[head].lock(rt).shed(most)
     }
 
-    /// The history, for one visit. It is tried for before the thread sleeps for it, since most visits are shorter than a sleep.
+    /// The history, for one visit.
     fn visit<R: Wait>(&self, rt: &R) -> MutexGuard<'_, Desk<J>> {
-        for _ in 0..TRIES {
-            if let Some(desk) = self.desk.try_lock() {
-                return desk;
-            }
-            pause();
-        }
-        self.desk.lock(rt)
+        take(rt, &self.desk, VISIT)
     }
 
-    /// A copy of the opening rows. Its memory is taken and written before the visit, which then copies and does no more.
-    /// Refused `NoMemory` alone.
+    /// Copies of up to so many opening rows from a place on, made in one visit.
+
+    fn some_rows<R: Wait>(&self, rt: &R, from: usize, most: usize) -> Result<Vec<Row>, AllocError>
+        requires { from ≤ length J.opening }
+        ensures { IfOk result (λ rows. rows.items ≡ take most (drop from J.opening)) }
+    {
+        let desk = self.visit(rt);
+        let rest = &desk.opening_rows()[from..];
+        Vec::from_slice(self.alloc, &rest[..most.min(rest.len())])
+    }
+
+    /// Adds copies of the next opening rows, up to so many, in one visit. Refused `NoMemory` alone.
+    #[tactic(auto, using(crate::proofs::Parts::taken_within, crate::proofs::Parts::taken_more))]
+    fn add_rows<R: Wait>(&self, rt: &R, rows: &mut Vec<Row>, most: usize) -> Result<(), Refusal>
+        requires { rows.old.items ≡ take (length rows.old.items) J.opening }
+        ensures { MatchResult result (λ _. rows.new.items ≡ take (length rows.old.items + most) J.opening) (λ e. e ≡ NoMemory) }
+    {
+        let Ok(next) = self.some_rows(rt, rows.len(), most) else {
+            return Err(Refusal::NoMemory);
+        };
+        match rows.extend_from_slice(next.as_slice()) {
+            Ok(()) => Ok(()),
+            Err(_) => Err(Refusal::NoMemory),
+        }
+    }
+
+    /// A copy of the opening rows, made in visits of `PART` rows, so that others visit between them and memory that is written for
+    /// the first time is not written under the lock. Refused `NoMemory` alone.
+    #[tactic(auto, using(crate::proofs::Parts::taken_whole, crate::proofs::Parts::taken_again))]
     fn opening_rows<R: Wait>(&self, rt: &R) -> Result<Vec<Row>, Refusal>
         ensures { MatchResult result (λ rows. rows.items ≡ J.opening) (λ e. e ≡ NoMemory) }
     {
         let many = self.visit(rt).opening_rows().len();
-        let blank = Row {
-            key: 0,
-            cells: [0; 8],
-        };
-        let Ok(mut rows) = vec![in self.alloc; blank; many] else {
+        let Ok(mut rows) = Vec::with_capacity(self.alloc, many) else {
             return Err(Refusal::NoMemory);
         };
-        let desk = self.visit(rt);
-        rows.as_mut_slice().copy_from_slice(desk.opening_rows());
+        for _ in 0..many / PART {
+            self.add_rows(rt, &mut rows, PART)?;
+        }
+        self.add_rows(rt, &mut rows, many)?;
         Ok(rows)
     }
 
@@ -277,7 +314,7 @@ impl<J: Naming, M: CrackerMap> Engine<J, M> {
             return Err(Refusal::NoMemory);
         };
         let Ticket { number, share, .. } = ticket;
-        let mut head = self.latches[head_of(query)].lock(rt);
+        let mut head = take(rt, &self.latches[head_of(query)], SELECT);
         if self.ready(rt, &mut *head).is_err() {
             return Err(Refusal::NoMemory);
         }

@@ -16,5 +16,5 @@ mod tests;
 
 pub use closing::closed;
 pub use insisting::{Tally, insist_all};
-pub use meeting::{Signals, TURNS, Table, hand, meet};
-pub use running::{Trial, add_block, add_call, calls, cleared, numbered, one_block, play, told};
+pub use meeting::{Signals, TURNS, Table, hand, meet, play};
+pub use running::{Trial, add_block, add_call, calls, cleared, numbered, one_block, told};

@@ -1,9 +1,9 @@
 //! What sessions make of the maps of heads: how often those are stepped, and that nobody waits for another head's maps.
 
 use crate::closing::closed;
-use crate::meeting::{Signals, TURNS, meet};
-use crate::running::{Trial, calls, one_block, play, told};
-use std::alloc::{AllocError, Global};
+use crate::meeting::{Signals, TURNS, meet, play};
+use crate::running::{Trial, calls, one_block, told};
+use std::alloc::Global;
 use std::sync::atomic::{AtomicBool, Ordering};
 use std::sync::{Arc, Wait};
 use std::test::Fail;
@@ -111,14 +111,6 @@ fn gated(
     Ok(maps)
 }
 
-/// Signals of which neither or both are given.
-pub(crate) fn signals(alloc: Global, given: bool) -> Result<Signals, AllocError> {
-    Ok(Signals {
-        begun: Arc::new(alloc, AtomicBool::new(given))?,
-        answered: Arc::new(alloc, AtomicBool::new(given))?,
-    })
-}
-
 /// What both sessions are told, and how many entries the record has, or that it is not as it should be.
 fn both_told(alloc: Global, record: &Record, is_right: bool) -> Result<String, Fail> {
     if !is_right || record.check().is_err() {
@@ -135,9 +127,9 @@ fn both_told(alloc: Global, record: &Record, is_right: bool) -> Result<String, F
 fn met<R: Threads + Wait + Sync>(rt: &R, alloc: Global) -> Result<String, Fail> {
     let (_budget, mut purse) = Budget::open(alloc, 1 << 20)?;
     let overran = Arc::new(alloc, AtomicBool::new(false))?;
-    let given = signals(alloc, false)?;
+    let given = Signals::new(alloc, false)?;
     let at_a = gated(alloc, &mut purse, &given, &overran)?;
-    let at_b = gated(alloc, &mut purse, &signals(alloc, true)?, &overran)?;
+    let at_b = gated(alloc, &mut purse, &Signals::new(alloc, true)?, &overran)?;
     let schema = Schema::of(alloc, &HEADER)?;
     let first = calls(alloc, &schema, &["count where a >= 10"])?;
     let second = calls(alloc, &schema, &["count where b >= 6"])?;

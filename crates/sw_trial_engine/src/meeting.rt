@@ -1,4 +1,4 @@
-//! Two sessions on threads of their own, of which one calls while the other's call is under way.
+//! Sessions on threads of their own: one for each block of calls, or two of which one calls while the other's call is under way.
 
 ghost use Rattle.std.specs.Prelude.{◌≡◌, ◌<◌, ◌≤◌, ℕ, true, length, All, IfOk};
 ghost use Rattle.sw_lang.specs.Cuts.{AreCuts, cuts_on};
@@ -13,7 +13,7 @@ use std::sync::atomic::{AtomicBool, Ordering};
 use std::sync::{Arc, Wait};
 use std::thread;
 use std::thread::Threads;
-use sw_engine::{Blank, Done, Engine, Naming, Session, Ticket};
+use sw_engine::{Blank, Engine, Naming, Session, Ticket, deal};
 use sw_lang::{Cuts, parse_cuts};
 use sw_map::CrackerMap;
 use sw_rows::{Call, Refusal, Row, Schema};
@@ -41,11 +41,28 @@ struct Turn<'e, J: Naming, M: CrackerMap> {
     later: Vec<M>,
 }
 
+/// The session's ticket, and whether all its calls were answered, the wait included.
+#[derive(Drop)]
+struct Done<J: Naming> {
+    ticket: Ticket<J>,
+    answered: bool,
+}
+
 /// What the sessions tell one another: that a call is under way, and that one was answered meanwhile.
 #[derive(Drop)]
 pub struct Signals {
     pub begun: Arc<AtomicBool>,
     pub answered: Arc<AtomicBool>,
+}
+
+impl Signals {
+    /// Signals of which neither or both are given.
+    pub fn new(alloc: Global, given: bool) -> Result<Signals, AllocError> {
+        Ok(Signals {
+            begun: Arc::new(alloc, AtomicBool::new(given))?,
+            answered: Arc::new(alloc, AtomicBool::new(given))?,
+        })
+    }
 }
 
 /// Gives boxes, made blank, to the second head, and takes one back from the first or the second after each.
@@ -238,6 +255,110 @@ fn meet_on<J: Naming + Send + Sync, M: CrackerMap, R: Threads + Wait + Sync>(
         return Err(Refusal::NoMemory);
     };
     end(alloc, engine, done)
+}
+
+/// A turn for each block, by the session at its place. `Input` where there are fewer blocks than tickets.
+fn block_turns<'e, J: Naming, M: CrackerMap>(
+    alloc: Global,
+    engine: &'e Engine<J, M>,
+    tickets: Vec<Ticket<J>>,
+    blocks: &'e [Vec<Call>],
+) -> Result<Vec<Turn<'e, J, M>>, Refusal>
+    requires { All (λ b. All (λ c. CallsBelow (length J.columns) c) b.items) blocks.now }
+    ensures { IfOk result (λ v. All (λ t. All (λ c. CallsBelow (length J.columns) c) t.calls.now) v.items) }
+{
+    let mut turns = Vec::new(alloc);
+    for ticket in tickets {
+        let place = turns.len();
+        if place >= blocks.len() {
+            return Err(Refusal::Input);
+        }
+        if turns.reserve(1).is_err() {
+            return Err(Refusal::NoMemory);
+        }
+        turns.push_reserved(Turn {
+            session: engine.attach(ticket),
+            calls: blocks[place].as_slice(),
+            waits: false,
+            later: Vec::new(alloc),
+        });
+    }
+    Ok(turns)
+}
+
+/// Opens an engine for a session of each block, deals boxes out, and takes the sessions' turns. `Input` where there are fewer than
+/// two attributes.
+fn play_on<J: Naming + Send + Sync, M: CrackerMap, R: Threads + Wait + Sync>(
+    rt: &R,
+    alloc: Global,
+    books: Blank,
+    table: Table,
+    maps: Vec<M>,
+    blocks: &[Vec<Call>],
+    signals: &Signals,
+) -> Result<(Record, bool), Refusal>
+    requires books { (books.sessions.name ≡ J.sessions) × (books.heads.name ≡ J.heads) }
+    requires table { (table.schema ≡ J.columns) × (table.rows.items ≡ J.opening) × (table.limit ≡ J.limit) }
+    requires some { 0 < table.limit }
+    requires most { table.limit ≤ 1048576 }
+    requires numbered { is_numbered 1 table.rows.items ≡ true }
+    requires lists { length table.cuts ≡ length table.schema }
+    requires cuts { (a : ℕ) → a < length table.schema → AreCuts (cuts_on table.cuts a) }
+    requires blank { All (λ m. M.held m ≡ blank) maps.items }
+    requires below { All (λ b. All (λ c. CallsBelow (length J.columns) c) b.items) blocks.now }
+    ensures { IfOk result (λ r. IsLegal r.0) }
+{
+    let Table {
+        schema,
+        rows,
+        cuts,
+        limit,
+    } = table;
+    let columns = schema.len();
+    if columns < 2 {
+        return Err(Refusal::Input);
+    }
+    let many = blocks.len();
+    let (engine, tickets) = Engine::<J, M>::open_for(
+        alloc, books, schema, rows, cuts, limit, many,
+    )?;
+    deal(rt, &engine, columns, maps)?;
+    let turns = block_turns(alloc, &engine, tickets, blocks)?;
+    let Ok(done) = take_turns(rt, &engine, turns, signals) else {
+        return Err(Refusal::NoMemory);
+    };
+    end(alloc, engine, done)
+}
+
+/// Opens an engine over the table, hands it the boxes, made blank, and makes each block's calls by a session on a thread of its
+/// own. Tells the record, and whether all calls were answered.
+pub fn play<M: CrackerMap, R: Threads + Wait + Sync>(
+    rt: &R,
+    alloc: Global,
+    trial: Trial<'_>,
+    schema: Schema,
+    maps: Vec<M>,
+    blocks: &[Vec<Call>],
+) -> Result<(Record, bool), Refusal>
+    requires few { length trial.rows.now ≤ 1048576 }
+    requires some { 0 < trial.limit }
+    requires most { trial.limit ≤ 1048576 }
+    requires below { All (λ b. All (λ c. CallsBelow (length schema) c) b.items) blocks.now }
+    ensures { IfOk result (λ r. IsLegal r.0) }
+{
+    let rows = numbered(alloc, trial.rows)?;
+    let cuts = parse_cuts(alloc, &schema, trial.cuts)?;
+    let maps = cleared(alloc, maps)?;
+    let table = Table {
+        schema,
+        rows,
+        cuts,
+        limit: trial.limit,
+    };
+    let Ok(signals) = Signals::new(alloc, false) else {
+        return Err(Refusal::NoMemory);
+    };
+    play_on::<Brand, M, R>(rt, alloc, Blank::new(), table, maps, blocks, &signals)
 }
 
 /// Two sessions over the table, each on a thread of its own: the second makes its calls once `begun` is set, and sets

@@ -1,16 +1,12 @@
 //! Runs of scripts on an engine, and what its record tells.
 
-ghost use Rattle.std.specs.Prelude.{◌≡◌, ◌<◌, ◌≤◌, true, length, All, IfOk, IfSome};
+ghost use Rattle.std.specs.Prelude.{◌≡◌, ◌≤◌, true, length, All, IfOk, IfSome};
 ghost use Rattle.sw_map.specs.Held.{blank};
 ghost use Rattle.sw_spine.specs.Table.{is_numbered};
-ghost use Rattle.sw_spine.specs.History.{CallsBelow, IsLegal};
+ghost use Rattle.sw_spine.specs.History.{CallsBelow};
 
 use std::alloc::{AllocError, Global};
-use std::marker::Brand;
-use std::sync::Wait;
-use std::thread::Threads;
-use sw_engine::{Blank, run_blocks};
-use sw_lang::{parse_cuts, parse_line};
+use sw_lang::parse_line;
 use sw_map::{CrackerMap, push_blank};
 use sw_rows::{Call, Refusal, Reply, ReplyRow, Row, Schema};
 use sw_spine::{Record, State};
@@ -122,38 +118,6 @@ pub fn cleared<M: CrackerMap>(alloc: Global, maps: Vec<M>) -> Result<Vec<M>, Ref
         }
     }
     Ok(into)
-}
-
-/// Opens an engine over the table, hands it the boxes, made blank, and makes each block's calls by a session on a thread of its
-/// own. Tells the record, and whether all calls were answered.
-pub fn play<M: CrackerMap, R: Threads + Wait + Sync>(
-    rt: &R,
-    alloc: Global,
-    trial: Trial<'_>,
-    schema: Schema,
-    maps: Vec<M>,
-    blocks: &[Vec<Call>],
-) -> Result<(Record, bool), Refusal>
-    requires few { length trial.rows.now ≤ 1048576 }
-    requires some { 0 < trial.limit }
-    requires most { trial.limit ≤ 1048576 }
-    requires below { All (λ b. All (λ c. CallsBelow (length schema) c) b.items) blocks.now }
-    ensures { IfOk result (λ r. IsLegal r.0) }
-{
-    let rows = numbered(alloc, trial.rows)?;
-    let cuts = parse_cuts(alloc, &schema, trial.cuts)?;
-    let maps = cleared(alloc, maps)?;
-    run_blocks::<Brand, M, R>(
-        rt,
-        alloc,
-        Blank::new(),
-        schema,
-        rows,
-        cuts,
-        trial.limit,
-        maps,
-        blocks,
-    )
 }
 
 /// A row of a reply as text.

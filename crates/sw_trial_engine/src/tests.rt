@@ -3,9 +3,8 @@
 ghost use Rattle.std.specs.Prelude.{◌<◌, ◌≤◌, All, IfOk, length};
 ghost use Rattle.sw_spine.specs.History.{CallsBelow};
 
-use crate::map_tests::signals;
-use crate::meeting::meet;
-use crate::running::{Trial, add_block, add_call, one_block, play, told};
+use crate::meeting::{Signals, meet, play};
+use crate::running::{Trial, add_block, add_call, one_block, told};
 use std::alloc::Global;
 use std::sync::Wait;
 use std::test::Fail;
@@ -335,7 +334,7 @@ fn among<R: Threads + Wait + Sync>(
     let first = maps(alloc, 4, cells, every)?;
     let second = maps(alloc, 4, cells, every)?;
     let later = maps(alloc, 200, cells, every)?;
-    let given = signals(alloc, true)?;
+    let given = Signals::new(alloc, true)?;
     let (record, answered) = meet(
         rt,
         alloc,

@@ -1,0 +1,35 @@
+-- A list taken in parts.
+use Rattle.std.proofs.Common.{◌≡◌, ◌≤◌, ◌+◌, ◌++◌, ℕ, zero, suc, List, [], ◌∷◌, drop, length, take, refl, sym, ap, ◌∙◌, arith}
+use Rattle.std.proofs.lemmas.List.{take_all}
+
+taken_next : {A : Type 0} (n m k : ℕ) (xs : List A) → k ≡ n + m → take n xs ++ take m (drop n xs) ≡ take k xs
+taken_next zero m k xs is = ap (λ j. take j xs) (omega (arith, is))
+taken_next (suc n) m k [] is = take_all m [] (omega arith) ∙ sym (take_all k [] (omega arith))
+taken_next (suc n) m zero (x ∷ xs) is = absurd (omega (arith, is))
+taken_next (suc n) m (suc k) (x ∷ xs) is = ap (λ l. x ∷ l) (taken_next n m k xs (omega (arith, is)))
+
+taken_length : {A : Type 0} (m : ℕ) (xs : List A) → take (length (take m xs)) xs ≡ take m xs
+taken_length zero xs = refl
+taken_length (suc m) [] = refl
+taken_length (suc m) (x ∷ xs) = ap (λ l. x ∷ l) (taken_length m xs)
+
+taken_short : {A : Type 0} (n : ℕ) (xs : List A) → length (take n xs) ≤ length xs
+taken_short zero xs = omega arith
+taken_short (suc n) [] = omega arith
+taken_short (suc n) (x ∷ xs) = let rest = taken_short n xs in omega (arith, rest)
+
+-- a beginning is no longer
+pub taken_within : {A : Type 0} (ys xs : List A) → ys ≡ take (length ys) xs → length ys ≤ length xs
+taken_within ys xs is = let short = taken_short (length ys) xs in let e = ap length is in omega (arith, short, e)
+
+-- a beginning, and so many more
+pub taken_more : {A : Type 0} (ys zs new xs : List A) (m : ℕ) → ys ≡ take (length ys) xs → zs ≡ take m (drop (length ys) xs) → new ≡ ys ++ zs → new ≡ take (length ys + m) xs
+taken_more ys zs new xs m is next e = e ∙ (ap (λ l. ys ++ l) next ∙ (ap (λ l. l ++ take m (drop (length ys) xs)) is ∙ taken_next (length ys) m (length ys + m) xs refl))
+
+-- it is a beginning again
+pub taken_again : {A : Type 0} (new xs : List A) (n : ℕ) → new ≡ take n xs → new ≡ take (length new) xs
+taken_again new xs n is = is ∙ (sym (taken_length n xs) ∙ ap (λ l. take (length l) xs) (sym is))
+
+-- the whole
+pub taken_whole : {A : Type 0} (new xs : List A) (n m : ℕ) → new ≡ take (n + m) xs → m ≡ length xs → new ≡ xs
+taken_whole new xs n m is all = is ∙ take_all (n + m) xs (omega (arith, all))
