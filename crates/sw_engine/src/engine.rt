@@ -12,6 +12,7 @@ ghost use Rattle.sw_spine.specs.Books.{RefusesRows};
 ghost use Rattle.sw_engine.specs.Desk.{InOrder, KeepsBoxes, RefusesCall, RefusesClose, RefusesOpening, TooManySessions, new_desk};
 ghost use Rattle.sw_engine.specs.Headline.{IsHistoryOfOneThread};
 
+use crate::counting::HeadStats;
 use crate::desk::{Blank, Desk, Ticket};
 use crate::latch::{LatchedHead, head_of};
 use crate::naming::Naming;
@@ -202,6 +203,20 @@ impl<J: Naming, M: CrackerMap> Engine<J, M> {
         ensures { result ≤ most }
     {
         self.latches[head].lock(rt).shed(most)
+    }
+
+    /// How many heads there are, one for each attribute.
+    pub fn heads(&self) -> usize
+        ensures { result ≡ length J.columns }
+    {
+        self.latches.len()
+    }
+
+    /// What a head tells of itself in numbers, under its latch.
+    pub fn stats<R: Wait>(&self, rt: &R, head: usize) -> HeadStats
+        requires { head < length J.columns }
+    {
+        self.latches[head].lock(rt).stats()
     }
 
     /// Makes a head that was never asked, in one visit of the lock, where the opening rows lie; and gives it the boxes that wait

@@ -2,6 +2,7 @@
 #![tactic(auto)]
 
 mod blocks;
+mod counting;
 mod desk;
 mod engine;
 mod latch;
@@ -12,6 +13,7 @@ mod runs;
 mod waiting;
 
 pub use blocks::{Done, Job, serve_all};
+pub use counting::HeadStats;
 pub use desk::{Blank, Ticket};
 pub use engine::{Engine, Session};
 pub use naming::Naming;
