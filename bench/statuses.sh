@@ -32,6 +32,9 @@ case_of() {
 # A command whose output goes to a device that is always full.
 to_full() { "$@" >/dev/full; }
 
+# A command that tells on a device that is always full.
+to_full_errors() { "$@" 2>/dev/full; }
+
 # A command that gets so many KiB of memory at most.
 within() { kib=$1; shift; (ulimit -v "$kib" && exec "$@"); }
 
@@ -62,6 +65,19 @@ case_of 'the two are the same bytes' 0 '' '' cmp kept.json legal.json
 case_of 'blocks in threads' 0 "$(printf '3\n---\n2')" '' "$program" run --table t.csv --script blocks.txt --threads --cuts 'a=12;b=7'
 case_of 'a run without cells' 0 4 '' run --budget 0
 case_of 'a run without maps' 0 4 '' run --maps 0
+
+
+# What the heads tell of themselves: the table is on standard error alone; asked the same ranges again a head has no piece and
+# no entry more; without maps it scans; a head that was not asked has no area.
+ranges='count where a >= 10 and a < 13\nselect c where a < 13\nsum b where b > 5\n'
+printf "$ranges" >once.txt
+printf "$ranges$ranges" >twice.txt
+stats() { script=$1; shift; "$program" run --table t.csv --script "$script" --stats "$@" 2>&1 >/dev/null; }
+case_of 'stats change no output' 0 4 'head queries areas pieces entries restarts maps cells scans' run --stats
+case_of 'ranges asked once' 0 "$(printf 'head queries areas pieces entries restarts maps cells scans\na 2 1 3 2 0 2 128 0\nb 1 1 2 2 0 1 64 0\nc 0 0 0 0 0 0 0 0')" '' stats once.txt
+case_of 'ranges asked twice' 0 "$(printf 'head queries areas pieces entries restarts maps cells scans\na 4 1 3 2 0 2 128 0\nb 2 1 2 2 0 1 64 0\nc 0 0 0 0 0 0 0 0')" '' stats twice.txt
+case_of 'ranges without maps' 0 "$(printf 'head queries areas pieces entries restarts maps cells scans\na 4 1 1 1 0 0 0 4\nb 2 1 1 1 0 0 0 2\nc 0 0 0 0 0 0 0 0')" '' stats twice.txt --maps 0
+case_of 'stats to a full device' 3 4 '' to_full_errors run --stats
 
 # 1: a history is not legal, and nothing else
 case_of 'a history that is not legal' 1 'not legal: entry 1' '' "$program" check illegal.json

@@ -1,8 +1,8 @@
-//! The program `sideways`: a table and a script go in, reply lines come out, and perhaps a history file; or the history of
-//! such a file is checked.
+//! The program `sideways`: a table and a script go in, reply lines come out, and perhaps a history file; or the history
+//! of such a file is checked.
 //!
-//! The exit status is 0 where all was answered, 1 where a history is not legal, 2 where the command line or what is read is
-//! refused, and 3 where a call, the output or memory is.
+//! The exit status is 0 where all was answered, 1 where a history is not legal, 2 where the command line or what is
+//! read is refused, and 3 where a call, the output or memory is.
 #![tactic(auto)]
 
 mod words;
@@ -21,13 +21,22 @@ use std::rt::{Env, Files};
 use std::sync::Wait;
 use std::thread::Threads;
 use sw_cli::{
-    Noting, Options, blank_boxes, check_file, run_with, status, write_fault, write_record,
+    HeadStats, Noting, Options, blank_boxes, check_file, run_told, status, write_fault,
+    write_record, write_stats_line, write_stats_title,
 };
 use sw_map::{CrackerMap, PairMap};
 use sw_rows::{Counted, Refusal, Sink, Source, read_all};
 use sw_spine::Record;
 
-/// Runs a script over a table, of which both are open. Answers the record, and whether a call was refused.
+/// What is known after a run: the record, whether a call was refused, and what each head tells of itself.
+#[derive(Drop)]
+struct Ended {
+    history: Record,
+    has_refused: bool,
+    stats: Vec<HeadStats>,
+}
+
+/// Runs a script over a table, of which both are open.
 fn run_open<R: Threads + Wait + Sync, T: Source, S: Source, W: Sink + Drop>(
     rt: &R,
     alloc: Global,
@@ -36,16 +45,28 @@ fn run_open<R: Threads + Wait + Sync, T: Source, S: Source, W: Sink + Drop>(
     out: W,
     options: &Options<'_>,
     maps: Vec<PairMap>,
-) -> Result<(Record, bool), Refusal>
+) -> Result<Ended, Refusal>
     requires some { 0 < options.now.limit }
     requires most { options.now.limit ≤ 1048576 }
     requires blank { All (λ m. ⟦<PairMap as CrackerMap>⟧.held m ≡ blank) maps.items }
 {
     let mut noting = Noting::new(out);
-    match run_with(rt, alloc, table, script, &mut noting, options, maps) {
-        Ok(history) => Ok((history, noting.has_refused())),
-        Err(refusal) => Err(refusal),
-    }
+    let mut stats = Vec::new(alloc);
+    let history = run_told(
+        rt,
+        alloc,
+        table,
+        script,
+        &mut noting,
+        options,
+        maps,
+        &mut stats,
+    )?;
+    Ok(Ended {
+        history,
+        has_refused: noting.has_refused(),
+        stats,
+    })
 }
 
 /// Opens the table, then the script, makes the boxes, and runs.
@@ -56,7 +77,7 @@ fn run_named<R: Files + Print + Threads + Wait + Sync>(
     script: &str,
     cuts: &str,
     settings: &Settings,
-) -> Result<(Record, bool), Refusal> {
+) -> Result<Ended, Refusal> {
     let Ok(table) = File::open(rt, table) else {
         return Err(Refusal::Input);
     };
@@ -96,6 +117,17 @@ fn keep<R: Files>(
     }
 }
 
+/// Writes what each head tells of itself, on standard error.
+fn tell<E: Sink>(ended: &Ended, errors: &mut E) -> Result<(), Refusal> {
+    let schema = &ended.history.schema;
+    write_stats_title(errors)?;
+    for head in 0..schema.len().min(ended.stats.len()) {
+        let name = schema.name(head).as_bytes();
+        write_stats_line(name, &ended.stats[head], errors)?;
+    }
+    Ok(())
+}
+
 /// What a run is told on the command line besides its files.
 #[derive(Drop)]
 struct Settings {
@@ -128,11 +160,12 @@ fn settings_given(given: &ArgMatches) -> Option<Settings> {
     })
 }
 
-/// Runs what was named, and writes the history where it is asked for.
-fn run_files<R: Files + Print + Threads + Wait + Sync>(
+/// Runs what was named, and writes the history and what the heads tell where they are asked for.
+fn run_files<R: Files + Print + Threads + Wait + Sync, E: Sink>(
     rt: &R,
     alloc: Global,
     given: &ArgMatches,
+    errors: &mut E,
 ) -> Result<u8, Refusal> {
     let (Some(table), Some(script), Some(cuts), Some(settings)) = (
         given.get_str("table"),
@@ -142,9 +175,12 @@ fn run_files<R: Files + Print + Threads + Wait + Sync>(
     ) else {
         return Ok(2);
     };
-    let (history, has_refused) = run_named(rt, alloc, table, script, cuts, &settings)?;
-    keep(rt, alloc, &history, given.get_str("history"))?;
-    Ok(if has_refused { 3 } else { 0 })
+    let ended = run_named(rt, alloc, table, script, cuts, &settings)?;
+    keep(rt, alloc, &ended.history, given.get_str("history"))?;
+    if given.get_flag("stats") {
+        tell(&ended, errors)?;
+    }
+    Ok(if ended.has_refused { 3 } else { 0 })
 }
 
 /// Reads a file to its end. What memory refuses is told apart from what the file does.
@@ -165,15 +201,16 @@ fn check_path<R: Files + Print>(rt: &R, alloc: Global, given: &ArgMatches) -> Re
 }
 
 /// Makes what the words ask for.
-fn made<R: Files + Print + Threads + Wait + Sync>(
+fn made<R: Files + Print + Threads + Wait + Sync, E: Sink>(
     rt: &R,
     alloc: Global,
     matches: &ArgMatches,
+    errors: &mut E,
 ) -> Result<u8, Refusal> {
     match matches.subcommand() {
         None => Ok(2),
         Some(("check", given)) => check_path(rt, alloc, given),
-        Some((_, given)) => run_files(rt, alloc, given),
+        Some((_, given)) => run_files(rt, alloc, given, errors),
     }
 }
 
@@ -191,16 +228,17 @@ fn explained<R: Print + Eprint>(rt: &R, error: &Error) -> Result<u8, Refusal> {
 }
 
 /// Takes the words of the command line.
-fn taken<R: Files + Print + Eprint + Threads + Wait + Sync>(
+fn taken<R: Files + Print + Eprint + Threads + Wait + Sync, E: Sink>(
     rt: &R,
     alloc: Global,
     words: &[String],
+    errors: &mut E,
 ) -> Result<u8, Refusal> {
     let Ok(command) = command(alloc) else {
         return Err(Refusal::NoMemory);
     };
     match command.try_get_matches_from(words) {
-        Ok(matches) => made(rt, alloc, &matches),
+        Ok(matches) => made(rt, alloc, &matches, errors),
         Err(error) => explained(rt, &error),
     }
 }
@@ -218,12 +256,13 @@ fn given<R: Env>(rt: &R, alloc: Global) -> Result<Vec<String>, Refusal> {
 }
 
 /// Takes the command line and answers the exit status.
-fn asked<R: Env + Files + Print + Eprint + Threads + Wait + Sync>(
+fn asked<R: Env + Files + Print + Eprint + Threads + Wait + Sync, E: Sink>(
     rt: &R,
     alloc: Global,
+    errors: &mut E,
 ) -> Result<u8, Refusal> {
     let words = given(rt, alloc)?;
-    taken(rt, alloc, words.as_slice())
+    taken(rt, alloc, words.as_slice(), errors)
 }
 
 /// Tells a refusal on standard error; the exit status is that of the refusal.
@@ -233,8 +272,9 @@ fn refused<E: Sink>(refusal: &Refusal, errors: &mut E) -> u8 {
 }
 
 fn main(rt: HostRuntime) -> ExitCode {
-    ExitCode::from(match asked(&rt, rt.alloc()) {
+    let mut errors = Counted::new(rt.stderr());
+    ExitCode::from(match asked(&rt, rt.alloc(), &mut errors) {
         Ok(code) => code,
-        Err(refusal) => refused(&refusal, &mut Counted::new(rt.stderr())),
+        Err(refusal) => refused(&refusal, &mut errors),
     })
 }

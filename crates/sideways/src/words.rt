@@ -83,6 +83,15 @@ fn threads<'a>(alloc: Global) -> Arg<'a> {
         .action(ArgAction::SetTrue)
 }
 
+fn stats<'a>(alloc: Global) -> Arg<'a> {
+    Arg::new(alloc, "stats")
+        .long("stats")
+        .help(
+            "Writes a table to standard error after the run, a line for each attribute: its queries, areas, pieces, tape entries, restarts, maps, cells and scans; without it nothing",
+        )
+        .action(ArgAction::SetTrue)
+}
+
 fn files<'a>(alloc: Global) -> Result<Command<'a>, AllocError> {
     Command::new(alloc, "run")
         .about("Answers the calls of a script over a table, a reply line each")
@@ -105,6 +114,7 @@ fn run_command<'a>(alloc: Global) -> Result<Command<'a>, AllocError> {
         .arg(cuts(alloc))?
         .arg(limit(alloc))?
         .arg(threads(alloc))?
+        .arg(stats(alloc))?
         .arg(history(alloc))
 }
 

@@ -13,11 +13,14 @@ ghost use Rattle.sw_chunks.specs.Cuts.{RiseAbove};
 ghost use Rattle.sw_chunks.specs.Cleared.{AreClearedBut, AreEach};
 ghost use Rattle.sw_chunks.specs.Shelved.{AreShed};
 ghost use Rattle.sw_chunks.specs.Heads.{AreUntouchedKept, AreUntouchedSame, HasReceived, IsHeadLawful, IsRanged, IsSameButSpare, IsSameHead, IsSupplied, opened, touched_of};
+ghost use Rattle.sw_chunks.specs.Figures.{HavePieces, areas_cells, areas_entries, areas_maps};
 ghost use Rattle.sw_chunks.specs.Routing.{MayFollow};
+ghost use Rattle.sw_set.specs.Figures.{capped};
 
 use crate::answering::answer_areas;
 use crate::clearing::clear_but;
 use crate::dealing::{areas_of, owners_kept};
+use crate::figures::{Figures, figures_of};
 use crate::places::add_owners;
 use crate::routing::share_all;
 use crate::scanning::scan_areas;
@@ -137,6 +140,17 @@ impl<M: CrackerMap> Head<M> {
         ensures { result.now ≡ self.now.areas }
     {
         self.areas.as_slice()
+    }
+
+    /// What the areas tell in numbers.
+    pub fn figures(&self) -> Figures
+        ensures areas { result.areas ≡ length self.now.areas }
+        ensures pieces { HavePieces self.now.areas result.pieces }
+        ensures entries { result.entries ≡ capped (areas_entries self.now.areas) }
+        ensures maps { result.maps ≡ capped (areas_maps self.now.areas) }
+        ensures cells { result.cells ≡ capped (areas_cells self.now.areas) }
+    {
+        figures_of(self.areas.as_slice())
     }
 
     /// Appends updates: an inserted key exceeds all that came before it, and a removed key is live then. Each goes to one area,

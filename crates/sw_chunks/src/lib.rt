@@ -4,6 +4,7 @@
 mod answering;
 mod clearing;
 mod dealing;
+mod figures;
 mod head;
 mod joining;
 mod laws;
@@ -13,6 +14,7 @@ mod scanning;
 mod shelving;
 mod telling;
 
+pub use figures::Figures;
 pub use head::Head;
 pub use laws::{
     areas_answer, areas_receive, handed_stands, joined_is_both, may_be_handed, none_untouched,

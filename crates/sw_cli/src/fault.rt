@@ -33,7 +33,7 @@ fn write_labelled<W: Sink>(label: &[u8], number: u64, out: &mut W) -> Result<(),
 }
 
 // Two numbers, each after its label.
-fn write_pair<W: Sink>(
+pub(crate) fn write_pair<W: Sink>(
     label: &[u8],
     number: u64,
     next_label: &[u8],

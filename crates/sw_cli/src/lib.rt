@@ -12,12 +12,15 @@ mod running;
 mod script;
 mod serving;
 mod start;
+mod stats;
 mod telling;
 mod watching;
 
 pub use boxes::blank_boxes;
 pub use fault::{status, write_fault};
 pub use noting::Noting;
-pub use running::{Options, run, run_with};
+pub use running::{Options, run, run_told, run_with};
 pub use script::{MOST_BLOCKS, MOST_CALLS};
+pub use stats::{write_stats_line, write_stats_title};
+pub use sw_engine::HeadStats;
 pub use sw_histories::{check_file, read_record, write_record};

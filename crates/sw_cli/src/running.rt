@@ -19,7 +19,7 @@ use std::alloc::Global;
 use std::marker::Brand;
 use std::sync::Wait;
 use std::thread::Threads;
-use sw_engine::{Blank, Engine, Naming, deal};
+use sw_engine::{Blank, Engine, HeadStats, Naming, deal};
 use sw_map::CrackerMap;
 use sw_rows::{Refusal, Sink, Source};
 use sw_spine::Record;
@@ -77,6 +77,7 @@ fn make<J: Naming + Send + Sync, M: CrackerMap, R: Threads + Wait + Sync>(
     opened: Opened,
     options: &Options<'_>,
     maps: Vec<M>,
+    stats: &mut Vec<HeadStats>,
 ) -> Result<Outgoing, Refusal>
     requires books { (books.sessions.name ≡ J.sessions) × (books.heads.name ≡ J.heads) }
     requires table { (opened.schema ≡ J.columns) × (opened.rows.items ≡ J.opening) × (options.now.limit ≡ J.limit) }
@@ -114,6 +115,7 @@ fn make<J: Naming + Send + Sync, M: CrackerMap, R: Threads + Wait + Sync>(
         engine,
         tickets,
         blocks.as_slice(),
+        stats,
     )?;
     let ended = Ended {
         blocks,
@@ -131,6 +133,7 @@ fn begin<M: CrackerMap, R: Threads + Wait + Sync, W: Sink>(
     options: &Options<'_>,
     maps: Vec<M>,
     out: &mut W,
+    stats: &mut Vec<HeadStats>,
 ) -> Result<Record, Refusal>
     requires some { 0 < options.now.limit }
     requires most { options.now.limit ≤ 1048576 }
@@ -139,7 +142,7 @@ fn begin<M: CrackerMap, R: Threads + Wait + Sync, W: Sink>(
     ensures { Goes options.now.limit (start_seen opened)
         (sink_seen (W.taken out.old) (W.taken out.new) (W.failed out.old) (W.failed out.new)) result }
 {
-    match make::<Brand, M, R>(rt, alloc, Blank::new(), opened, options, maps) {
+    match make::<Brand, M, R>(rt, alloc, Blank::new(), opened, options, maps, stats) {
         Ok(outgoing) => replace_with(out, outgoing, write_outgoing),
         Err(e) => Err(e),
     }
@@ -172,8 +175,31 @@ pub fn run_with<M: CrackerMap, R: Threads + Wait + Sync, T: Source, S: Source, W
         (source_seen (S.left script.old) (S.failed script.old) (S.failed script.new))
         (sink_seen (W.taken out.old) (W.taken out.new) (W.failed out.old) (W.failed out.new)) result }
 {
+    let mut stats = Vec::new(alloc);
+    run_told(rt, alloc, table, script, out, options, maps, &mut stats)
+}
+
+/// The same, and adds what each head tells of itself when all calls were made.
+pub fn run_told<M: CrackerMap, R: Threads + Wait + Sync, T: Source, S: Source, W: Sink>(
+    rt: &R,
+    alloc: Global,
+    table: &mut T,
+    script: &mut S,
+    out: &mut W,
+    options: &Options<'_>,
+    maps: Vec<M>,
+    stats: &mut Vec<HeadStats>,
+) -> Result<Record, Refusal>
+    requires some { 0 < options.now.limit }
+    requires most { options.now.limit ≤ 1048576 }
+    requires blank { All (λ m. M.held m ≡ blank) maps.items }
+    ensures { RunAnswers options.now.limit options.now.cuts.now
+        (source_seen (T.left table.old) (T.failed table.old) (T.failed table.new))
+        (source_seen (S.left script.old) (S.failed script.old) (S.failed script.new))
+        (sink_seen (W.taken out.old) (W.taken out.new) (W.failed out.old) (W.failed out.new)) result }
+{
     match read_start(alloc, table, script, options.cuts, options.limit) {
-        Ok(opened) => begin(rt, alloc, opened, options, maps, out),
+        Ok(opened) => begin(rt, alloc, opened, options, maps, out, stats),
         Err(e) => Err(e),
     }
 }

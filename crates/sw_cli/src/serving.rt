@@ -14,7 +14,7 @@ use std::alloc::{AllocError, Global};
 use std::sync::Wait;
 use std::thread;
 use std::thread::Threads;
-use sw_engine::{Engine, Naming, Session, Ticket};
+use sw_engine::{Engine, HeadStats, Naming, Session, Ticket};
 use sw_map::CrackerMap;
 use sw_rows::{Call, Refusal, Reply};
 use sw_spine::Record;
@@ -157,8 +157,20 @@ fn parted<J: Naming>(
     Ok((tickets, all_told))
 }
 
+/// Adds what each head of an engine tells of itself.
+fn tell_heads<J: Naming, M: CrackerMap, R: Wait>(
+    rt: &R,
+    engine: &Engine<J, M>,
+    stats: &mut Vec<HeadStats>,
+) -> Result<(), AllocError> {
+    for head in 0..engine.heads() {
+        stats.push(engine.stats(rt, head))?;
+    }
+    Ok(())
+}
+
 /// Makes the calls of each block by the session of the ticket at its place, and tells the record and what came of the
-/// calls. The one refusal is `NoMemory`.
+/// calls, and adds what each head tells of itself. The one refusal is `NoMemory`.
 pub(crate) fn serve<J: Naming + Send + Sync, M: CrackerMap, R: Threads + Wait + Sync>(
     rt: &R,
     alloc: Global,
@@ -166,6 +178,7 @@ pub(crate) fn serve<J: Naming + Send + Sync, M: CrackerMap, R: Threads + Wait + 
     engine: Engine<J, M>,
     tickets: Vec<Ticket<J>>,
     blocks: &[Block],
+    stats: &mut Vec<HeadStats>,
 ) -> Result<(Record, Vec<BlockTold>), Refusal>
     requires order { InOrder 1 tickets.items }
     requires many { length tickets.items ≡ length blocks.now }
@@ -185,6 +198,9 @@ pub(crate) fn serve<J: Naming + Send + Sync, M: CrackerMap, R: Threads + Wait + 
     let Ok((ended, told)) = parted(alloc, done) else {
         return Err(Refusal::NoMemory);
     };
+    if tell_heads(rt, &engine, stats).is_err() {
+        return Err(Refusal::NoMemory);
+    }
     match engine.close(ended) {
         Ok(record) => Ok((record, told)),
         Err(_) => Err(Refusal::NoMemory),

@@ -9,6 +9,7 @@ ghost use Rattle.sw_spine.specs.Books.{RefusesRows, RefusesSession, new_books, u
 ghost use Rattle.sw_spine.specs.declared.history.State.TheVariants.{Answered, Void};
 ghost use Rattle.sw_engine.specs.Desk.{AreGiven, InOrder, IsAnswered, IsAtRest, IsBegun, IsOf, IsShareOf, IsTold, RefusesCall, RefusesMany, latched, new_desk};
 
+use crate::counting::Counters;
 use crate::latch::LatchedHead;
 use crate::naming::Naming;
 use crate::waiting::Waiting;
@@ -131,6 +132,7 @@ impl<J: Naming> Desk<J> {
             inbox: Vec::new(alloc),
             boxes: Waiting::new(alloc),
             share,
+            counters: Counters::new(),
             of: PhantomData,
         }
     }

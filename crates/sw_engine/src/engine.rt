@@ -12,6 +12,7 @@ ghost use Rattle.sw_spine.specs.Books.{RefusesRows};
 ghost use Rattle.sw_engine.specs.Desk.{InOrder, KeepsBoxes, RefusesCall, RefusesClose, RefusesOpening, TooManySessions, new_desk};
 ghost use Rattle.sw_engine.specs.Headline.{IsHistoryOfOneThread};
 
+use crate::counting::HeadStats;
 use crate::desk::{Blank, Desk, Ticket};
 use crate::latch::{LatchedHead, head_of};
 use crate::naming::Naming;
@@ -234,13 +235,26 @@ impl<J: Naming, M: CrackerMap> Engine<J, M> {
         self.latches[head].lock(rt).shed(most)
     }
 
+    /// How many heads there are, one for each attribute.
+    pub fn heads(&self) -> usize
+        ensures { result ≡ length J.columns }
+    {
+        self.latches.len()
+    }
+
+    /// What a head tells of itself in numbers, under its latch.
+    pub fn stats<R: Wait>(&self, rt: &R, head: usize) -> HeadStats
+        requires { head < length J.columns }
+    {
+        self.latches[head].lock(rt).stats()
+    }
+
     /// The history, for one visit.
     fn visit<R: Wait>(&self, rt: &R) -> MutexGuard<'_, Desk<J>> {
         take(rt, &self.desk, VISIT)
     }
 
     /// Copies of up to so many opening rows from a place on, made in one visit.
-
     fn some_rows<R: Wait>(&self, rt: &R, from: usize, most: usize) -> Result<Vec<Row>, AllocError>
         requires { from ≤ length J.opening }
         ensures { IfOk result (λ rows. rows.items ≡ take most (drop from J.opening)) }

@@ -1,6 +1,6 @@
 //! What lies under a head's latch.
 
-ghost use Rattle.std.specs.Prelude.{ℕ, ◌≡◌, ◌+◌, ◌++◌, [], ◌<◌, ◌≤◌, true, IfErr, IfOk, IsOkUnless, OnErr, OnOk};
+ghost use Rattle.std.specs.Prelude.{ℕ, ◌≡◌, ◌+◌, ◌++◌, [], ◌<◌, ◌≤◌, true, false, IfErr, IfOk, IsOkUnless, OnErr, OnOk};
 ghost use Rattle.sw_rows.specs.Scan.{AsksBelow, answer};
 ghost use Rattle.sw_rows.specs.Updates.{rows_of};
 ghost use Rattle.sw_rows.specs.declared.refusal.Refusal.TheVariants.{NoMemory};
@@ -10,6 +10,7 @@ ghost use Rattle.sw_chunks.specs.Heads.{IsSameHead};
 ghost use Rattle.sw_chunks.specs.Routing.{MayFollow};
 ghost use Rattle.sw_engine.specs.Desk.{IsSameButBoxes, KeepsBoxes};
 
+use crate::counting::{Counters, HeadStats, no_figures};
 use crate::leading::scan_led;
 use crate::naming::Naming;
 use crate::opening::Opening;
@@ -34,24 +35,24 @@ pub fn head_of(query: &Query) -> usize
     }
 }
 
-/// The answer of a head. One whose attribute is not that of the query's head scans.
+/// The answer of a head, and how many areas scanned for it. A head whose attribute is not that of the query's scans.
 fn ask<M: CrackerMap, R: Threads + Sync>(
     rt: &R,
     alloc: Global,
     head: &mut Head<M>,
     query: &Query,
-) -> Result<Reply, Refusal>
+) -> Result<(Reply, usize), Refusal>
     requires asks { AsksBelow 8 query.now }
     requires attribute { head.old.attribute < 8 }
     ensures same { IsSameHead head.old head.new }
-    ensures answered { IfOk result (λ r. r ≡ answer (rows_of head.old.updates) query.now) }
+    ensures answered { IfOk result (λ r. r.0 ≡ answer (rows_of head.old.updates) query.now) }
     ensures refused { IsOkUnless result NoMemory }
 {
     if usize::from(head.attribute()) != head_of(query) {
-        return scan_led(alloc, head, query);
+        let reply = scan_led(alloc, head, query)?;
+        return Ok((reply, head.areas().len()));
     }
-    let (reply, _scans) = head.answer(rt, query)?;
-    Ok(reply)
+    head.answer(rt, query)
 }
 
 /// The head receives what waits for it. The one refusal is `NoMemory`, and then both are as they were.
@@ -80,6 +81,7 @@ pub struct LatchedHead<J: Naming, M: CrackerMap> {
     pub(crate) inbox: Vec<Update>,
     pub(crate) boxes: Waiting<M>,
     pub(crate) share: Share<Spine>,
+    pub(crate) counters: Counters,
     pub(crate) of: PhantomData<J>,
 }
 
@@ -152,12 +154,19 @@ impl<J: Naming, M: CrackerMap> LatchedHead<J, M> {
         ensures answered { IfOk result (λ r. r ≡ answer (rows_of self.old.taken) query.now) }
         ensures refused { IsOkUnless result NoMemory }
     {
-        let LatchedHead { head, inbox, .. } = self;
+        let LatchedHead {
+            head,
+            inbox,
+            counters,
+            ..
+        } = self;
         let Some(head) = head else {
             unreachable!();
         };
         receive_all(head, inbox)?;
-        ask(rt, alloc, head, query)
+        let (reply, scans) = ask(rt, alloc, head, query)?;
+        counters.count(scans);
+        Ok(reply)
     }
 
     /// Takes in what lies in the inbox, and answers twice: one reply is for the caller, one for the history.
@@ -179,6 +188,16 @@ impl<J: Naming, M: CrackerMap> LatchedHead<J, M> {
         match reply.copied(alloc) {
             Ok(kept) => Ok((reply, kept)),
             Err(_) => Err(Refusal::NoMemory),
+        }
+    }
+
+    /// What the head tells of itself in numbers: no area before it is made.
+    pub fn stats(&self) -> HeadStats
+        ensures { self.now.made ≡ false → result.figures.areas ≡ 0 }
+    {
+        match &self.head {
+            Some(head) => self.counters.beside(head.figures()),
+            None => self.counters.beside(no_figures()),
         }
     }
 

@@ -1,6 +1,7 @@
 //! The engine: one history under a lock, heads under their latches, and sessions on threads.
 #![tactic(auto)]
 
+mod counting;
 mod dealing;
 mod desk;
 mod engine;
@@ -10,6 +11,7 @@ mod naming;
 mod opening;
 mod waiting;
 
+pub use counting::HeadStats;
 pub use dealing::deal;
 pub use desk::{Blank, Ticket};
 pub use engine::{Engine, Session};

@@ -37,3 +37,4 @@ pub mod Ties
 pub mod Told
 pub mod Trying
 pub mod Views
+pub mod Sums

@@ -3,6 +3,7 @@ pub mod Shelf
 pub mod Prepared
 pub mod Codes
 pub mod Choice
+pub mod Figures
 pub mod Live
 pub mod Position
 pub mod Tied

@@ -16,13 +16,16 @@ ghost use Rattle.sw_map.specs.Refusals.{HasGrownOr, IsBeginRefusal};
 ghost use Rattle.sw_set.specs.Live.{live_among};
 ghost use Rattle.sw_set.specs.Merged.{IsBegunAnew, IsSameShell};
 ghost use Rattle.sw_set.specs.Prepared.{HasGrownAt, IsCleared, IsFreshBut, IsOneCleared, IsPreparedFor, IsReady, IsSameButBoxes, IsShed, IsSpare, stands_if};
+ghost use Rattle.sw_tape.specs.Bounds.{HasPieces};
 ghost use Rattle.sw_tape.specs.Restart.{first_rows};
+ghost use Rattle.sw_set.specs.Figures.{capped, cells_among, maps_among};
 ghost use Rattle.sw_set.specs.Shelf.{AreReceivable, AreSameMaps, AreaState, HasRoomWhereNeeded, IsAreaLawful, IsAtEnd, IsSameArea, MayReceive, Rises, came_in, key_of, lies_within, loaded_area, logged_rows, rows_in};
 ghost use Rattle.sw_set.specs.Needs.{head_in};
 
 use crate::align::{align_map, is_needed};
 use crate::at_once::align_at_once;
 use crate::collect::collect_from;
+use crate::figures::{cells_among, maps_among};
 use crate::live::LiveRows;
 use crate::pick::{find_blank, find_leased, find_map, find_unneeded};
 use crate::position::place_of_row;
@@ -50,6 +53,7 @@ pub struct Area<M: CrackerMap> {
     stamps: Vec<u64>,
     clock: u64,
     counts: bool,
+    restarts: u64,
 }
 
 impl<M: CrackerMap> Model for Area<M> {
@@ -117,6 +121,7 @@ impl<M: CrackerMap> Area<M> {
             stamps: Vec::new(alloc),
             clock: 0,
             counts: true,
+            restarts: 0,
         })
     }
 
@@ -154,6 +159,32 @@ impl<M: CrackerMap> Area<M> {
         ensures lawful { IsAreaLawful self.now }
     {
         self.tape.len()
+    }
+
+    /// How many pieces the maps are cracked into that stand at the tape's end.
+    pub fn pieces(&self) -> usize
+        ensures { HasPieces result self.now.tape }
+    {
+        self.tape.pieces()
+    }
+
+    /// How many boxes have maps, up to the greatest number of the type.
+    pub fn maps(&self) -> u64
+        ensures { result ≡ capped (maps_among self.now.boxes) }
+    {
+        maps_among(self.boxes.as_slice())
+    }
+
+    /// How many cells their leases have, up to the greatest number of the type.
+    pub fn cells(&self) -> u64
+        ensures { result ≡ capped (cells_among self.now.boxes) }
+    {
+        cells_among(self.boxes.as_slice())
+    }
+
+    /// How often the area was begun anew, up to the greatest number of the type. No clause speaks of it.
+    pub fn restarts(&self) -> u64 {
+        self.restarts
     }
 
     /// The number by which uses of maps are stamped from now on. Until it is first set, the area counts its own queries.
@@ -273,6 +304,7 @@ impl<M: CrackerMap> Area<M> {
         self.tape.restart_live(live.later(), live.flags())?;
         clear_all(self.boxes.as_mut_slice());
         self.live = all;
+        self.restarts = self.restarts.saturating_add(1);
         Ok(())
     }
 

@@ -6,6 +6,7 @@ mod area;
 mod at_once;
 mod choice;
 mod collect;
+mod figures;
 mod finding;
 mod lacking;
 mod live;

@@ -1,6 +1,9 @@
 -- Where a bound's place is in a rising list of bounds, and which of them are nearest around a value.
-use Rattle.std.specs.Prelude.{◌≡◌, ℕ, ℤ, Bool, true, false, ◌||◌, zero, suc, List, [], ◌∷◌, Option, None, Some}
+use Rattle.std.specs.Prelude.{◌≡◌, ℕ, ℤ, Bool, true, false, ◌||◌, zero, suc, List, [], ◌∷◌, length, ◌+◌, Option, None, Some}
 use Rattle.sw_rows.specs.declared.bound.Bound.{Bound}
+use Rattle.sw_rows.specs.declared.row.Row.{Row}
+use Rattle.sw_kernel.specs.Replay.{Step}
+use Rattle.sw_kernel.specs.Tapes.{IsRising, is_marked}
 use Rattle.sw_rows.specs.Bounds.{bound_below, is_left, same_bound}
 
 -- whether a bound is among these
@@ -36,3 +39,7 @@ IsNearestBelow there v (Some c) = (there c ≡ true) × (is_left c v ≡ false) 
 abbrev pub IsNearestAbove : (Bound → Bool) → ℤ → Option Bound → Type 0
 IsNearestAbove there v None = (b : Bound) → there b ≡ true → is_left b v ≡ false
 IsNearestAbove there v (Some c) = (there c ≡ true) × (is_left c v ≡ true) × ((b : Bound) → there b ≡ true → is_left b v ≡ true → bound_below b c ≡ false)
+
+-- so many pieces: one more than the bounds that stand in ranges of a tape, which a rising list has each once
+abbrev pub HasPieces : ℕ → List (Step Row) → Type 0
+HasPieces n tape = (bs : List Bound) × IsRising bs × ((b : Bound) → is_among b bs ≡ is_marked b tape) × (n ≡ length bs + 1)

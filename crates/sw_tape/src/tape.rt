@@ -6,7 +6,7 @@ ghost use Rattle.sw_rows.specs.declared.row.Row.{Row};
 ghost use Rattle.sw_rows.specs.declared.refusal.Refusal.TheVariants.{NoMemory, TooMany};
 ghost use Rattle.sw_kernel.specs.Replay.{Step, loaded};
 ghost use Rattle.sw_kernel.specs.Tapes.{IsRising, IsTape, MayFollow, count_from, is_marked, peak_from, ranges_at};
-ghost use Rattle.sw_tape.specs.Bounds.{IsNearestAbove, IsNearestBelow, is_among};
+ghost use Rattle.sw_tape.specs.Bounds.{HasPieces, IsNearestAbove, IsNearestBelow, is_among};
 ghost use Rattle.sw_tape.specs.declared.entry.Entry.TheVariants.{Remove};
 ghost use Rattle.sw_tape.specs.Entries.{IsKept, step_of};
 ghost use Rattle.sw_tape.specs.Restart.{first_rows, kept};
@@ -193,6 +193,13 @@ impl Tape {
         ensures { result ≡ peak_from 0 self.now }
     {
         self.peak
+    }
+
+    /// How many pieces a map has that replayed the tape: one more than bounds stand in its ranges.
+    pub fn pieces(&self) -> usize
+        ensures { HasPieces result self.now }
+    {
+        self.bounds.len() + 1
     }
 
     /// Whether the bound stands in a range of the tape, by binary search.

@@ -2,7 +2,7 @@ use Rattle.std.proofs.Common.{refl}
 use Rattle.sw_cli.specs.Sides.{sink_seen, source_seen}
 use Rattle.sw_cli.specs.Starts.{start_seen}
 use Rattle.sw_cli.proofs.Ran.{begun_answers, keeps_same, refused_answers}
-use Rattle.sw_cli.proofs.running.run_with.Goals as goal
+use Rattle.sw_cli.proofs.running.run_told.Goals as goal
 
 pub returns-in-Ok : goal.returns-in-Ok
 returns-in-Ok g c =
