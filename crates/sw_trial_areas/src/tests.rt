@@ -135,6 +135,73 @@ const FURTHER_CONDITIONS_AND_AGGREGATES: &[(Move<'static>, &str)] = &[
     (Move::Sizes, "3 boxes, 2 entries"),
 ];
 
+/// The greatest and the least value, of which a few already exceed 64 bits, beside a head that all rows share.
+const EXTREMES: [i64; 8] = [7, i64::MAX, i64::MIN, -1, 0, 0, 0, 0];
+
+/// 255 rows of extremes, where values are read 256 at a time.
+const A_PLACE_LESS_THAN_A_BLOCK: &[(Move<'static>, &str)] = &[
+    (Move::Answer("sum b where a = 7"), "2351959869397967830785"),
+    (Move::Answer("sum c"), "-2351959869397967831040"),
+    (Move::Answer("sum d where a > 6"), "-255"),
+    (Move::Answer("sum a"), "1785"),
+    (Move::Answer("min c"), "-9223372036854775808"),
+    (Move::Answer("max b"), "9223372036854775807"),
+    (
+        Move::Answer("sum b where a = 7 and d < 0"),
+        "2351959869397967830785",
+    ),
+    (Move::Answer("sum b where a > 7"), "0"),
+    (Move::Answer("min b where a > 7"), "none"),
+];
+
+/// 256 rows of extremes, where values are read 256 at a time.
+const A_BLOCK_OF_EXTREMES: &[(Move<'static>, &str)] = &[
+    (Move::Answer("sum b where a = 7"), "2361183241434822606592"),
+    (Move::Answer("sum c"), "-2361183241434822606848"),
+    (Move::Answer("sum d where a > 6"), "-256"),
+    (Move::Answer("sum a"), "1792"),
+    (Move::Answer("min c"), "-9223372036854775808"),
+    (Move::Answer("max b"), "9223372036854775807"),
+    (
+        Move::Answer("sum b where a = 7 and d < 0"),
+        "2361183241434822606592",
+    ),
+    (Move::Answer("sum b where a > 7"), "0"),
+    (Move::Answer("min b where a > 7"), "none"),
+];
+
+/// 257 rows of extremes, where values are read 256 at a time.
+const A_PLACE_MORE_THAN_A_BLOCK: &[(Move<'static>, &str)] = &[
+    (Move::Answer("sum b where a = 7"), "2370406613471677382399"),
+    (Move::Answer("sum c"), "-2370406613471677382656"),
+    (Move::Answer("sum d where a > 6"), "-257"),
+    (Move::Answer("sum a"), "1799"),
+    (Move::Answer("min c"), "-9223372036854775808"),
+    (Move::Answer("max b"), "9223372036854775807"),
+    (
+        Move::Answer("sum b where a = 7 and d < 0"),
+        "2370406613471677382399",
+    ),
+    (Move::Answer("sum b where a > 7"), "0"),
+    (Move::Answer("min b where a > 7"), "none"),
+];
+
+/// 513 rows of extremes, where values are read 256 at a time.
+const TWO_BLOCKS_AND_A_PLACE: &[(Move<'static>, &str)] = &[
+    (Move::Answer("sum b where a = 7"), "4731589854906499988991"),
+    (Move::Answer("sum c"), "-4731589854906499989504"),
+    (Move::Answer("sum d where a > 6"), "-513"),
+    (Move::Answer("sum a"), "3591"),
+    (Move::Answer("min c"), "-9223372036854775808"),
+    (Move::Answer("max b"), "9223372036854775807"),
+    (
+        Move::Answer("sum b where a = 7 and d < 0"),
+        "4731589854906499988991",
+    ),
+    (Move::Answer("sum b where a > 7"), "0"),
+    (Move::Answer("min b where a > 7"), "none"),
+];
+
 /// An area of the values from 12 up to below 21.
 const AN_INTERVAL_OF_THE_VALUES: &[(Move<'static>, &str)] = &[
     (Move::Answer("select b where a < 12"), "0 rows"),
@@ -383,6 +450,34 @@ const REPLIES: &[Case<'static>] = &[
         capacity: 1 << 20,
         trouble: NO_TROUBLE,
         script: Script::Moves(&FOUR_ROWS, FURTHER_CONDITIONS_AND_AGGREGATES),
+    },
+    Case {
+        name: "a_place_less_than_a_block",
+        shape: FOUR_BOXES,
+        capacity: 1 << 20,
+        trouble: NO_TROUBLE,
+        script: Script::Moves(&[EXTREMES; 255], A_PLACE_LESS_THAN_A_BLOCK),
+    },
+    Case {
+        name: "a_block_of_extremes",
+        shape: FOUR_BOXES,
+        capacity: 1 << 20,
+        trouble: NO_TROUBLE,
+        script: Script::Moves(&[EXTREMES; 256], A_BLOCK_OF_EXTREMES),
+    },
+    Case {
+        name: "a_place_more_than_a_block",
+        shape: FOUR_BOXES,
+        capacity: 1 << 20,
+        trouble: NO_TROUBLE,
+        script: Script::Moves(&[EXTREMES; 257], A_PLACE_MORE_THAN_A_BLOCK),
+    },
+    Case {
+        name: "two_blocks_and_a_place",
+        shape: FOUR_BOXES,
+        capacity: 1 << 20,
+        trouble: NO_TROUBLE,
+        script: Script::Moves(&[EXTREMES; 513], TWO_BLOCKS_AND_A_PLACE),
     },
 ];
 
