@@ -14,6 +14,8 @@ use sw_trial_maps::{Counts, replay};
 pub(crate) enum Act<'t> {
     /// Begins the map anew, of a head and a tail, with so many cells.
     Begin(u8, Tail, u64),
+    /// Grows the lease to so many cells, if the map is in use and has fewer, and tells whether it grew.
+    Grow(u64),
     /// Replays the load of rows, if the map may.
     Load(&'t [Row]),
     /// Replays an insertion, if the map may.
@@ -44,6 +46,17 @@ pub(crate) enum Act<'t> {
 fn push_answer(text: &mut String, answer: Result<(), Refusal>) -> Result<(), AllocError> {
     match answer {
         Ok(()) => Ok(()),
+        Err(e) => write!(text, "{e}"),
+    }
+}
+
+/// Grows the lease of a map, if it may.
+fn grow<M: CrackerMap>(map: &mut M, cells: u64, text: &mut String) -> Result<(), AllocError> {
+    if map.is_blank() || map.cells() >= cells {
+        return text.push_str("may not grow");
+    }
+    match map.grow(cells) {
+        Ok(grew) => write!(text, "{grew}"),
         Err(e) => write!(text, "{e}"),
     }
 }
@@ -122,6 +135,7 @@ fn act_on<M: CrackerMap>(
             map.clear();
             push_answer(text, map.begin(head, tail, cells))
         }
+        Act::Grow(cells) => grow(map, cells, text),
         Act::Load(rows) => load(alloc, map, rows, text),
         Act::Insert(row) => push_answer(text, replay(map, &Entry::Insert(row))),
         Act::Remove(place) => push_answer(text, replay(map, &Entry::Remove(place))),

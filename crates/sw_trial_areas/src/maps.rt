@@ -247,6 +247,60 @@ const REFUSED_CALLS_CHANGE_NOTHING: &[(usize, Act<'static>, &str)] = &[
     (0, RANGE, "12"),
 ];
 
+/// A lease grows, with all that the map has; a growth that is refused leaves the map blank and its cells at the budget.
+const LEASES_GROW: &[(usize, Act<'static>, &str)] = &[
+    (0, Act::Begin(0, B, 64), ""),
+    (0, FOUR, ""),
+    (0, RANGE, ""),
+    (0, Act::Grow(100), "true"),
+    (0, Act::Used, "100"),
+    (0, Act::Is(0, B, 100), "true"),
+    (0, Act::Cursor, "2"),
+    (0, Act::Shown, "3:8 12:7 12:5 20:2"),
+    (0, Act::Place(TEN), "1"),
+    (0, Act::Place(FIFTEEN), "3"),
+    (0, THIRTEEN_AND_NINE, ""),
+    (0, Act::Shown, "3:8 12:7 12:5 13:9 20:2"),
+    (0, Act::Grow(100), "may not grow"),
+    // contended
+    (0, Act::Grow(128), "8 seen 0 found 1"),
+    (0, Act::Blank, "true"),
+    (0, Act::Used, "0"),
+    (0, Act::Grow(128), "may not grow"),
+    // without cells enough beside those of another map
+    (1, Act::Begin(0, Tail::Key, 64), ""),
+    (0, Act::Begin(0, B, 64), "8 seen 0 found 1"),
+    (0, Act::Begin(0, B, 64), ""),
+    (0, FOUR, ""),
+    (
+        0,
+        Act::Grow(u64::MAX),
+        "7 used 64 want 18446744073709551615 capacity 18446744073709551614",
+    ),
+    (0, Act::Blank, "true"),
+    (0, Act::Used, "64"),
+    // without memory
+    (1, Act::Grow(1 << 62), "1"),
+    (1, Act::Blank, "true"),
+    (1, Act::Used, "0"),
+];
+
+/// A map that counts its calls does not grow.
+const A_COUNTING_MAP_DOES_NOT_GROW: &[(usize, Act<'static>, &str)] = &[
+    (0, Act::Begin(0, B, 64), ""),
+    (0, FOUR, ""),
+    (0, Act::Grow(128), "false"),
+    (0, Act::Is(0, B, 64), "true"),
+    (0, Act::Cursor, "1"),
+    (0, Act::Used, "64"),
+];
+
+/// Maps that find the budget contended at every second begin and growth.
+const CONTENDED: Trouble = Trouble {
+    every: 0,
+    contends: true,
+};
+
 /// Maps that refuse every second step and every second begin.
 const EVERY_SECOND: Trouble = Trouble {
     every: 2,
@@ -295,6 +349,20 @@ const CASES: &[Case<'static>] = &[
         capacity: u64::MAX,
         trouble: NO_TROUBLE,
         script: Script::Acts(REFUSED_MEMORY_GIVES_THE_LEASE_BACK),
+    },
+    Case {
+        name: "leases_grow",
+        shape: NO_BOX,
+        capacity: u64::MAX - 1,
+        trouble: CONTENDED,
+        script: Script::Acts(LEASES_GROW),
+    },
+    Case {
+        name: "a_counting_map_does_not_grow",
+        shape: NO_BOX,
+        capacity: 128,
+        trouble: NO_TROUBLE,
+        script: Script::Acts(A_COUNTING_MAP_DOES_NOT_GROW),
     },
     Case {
         name: "calls_are_counted",

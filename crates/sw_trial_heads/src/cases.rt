@@ -288,7 +288,7 @@ const ROWS_OF_ONE_VALUE: &[(Step<'static>, &str)] = &[
     (Step::At(0, View::Place(Bound::After(5))), "4"),
 ];
 
-/// A lease that is too small is asked for again.
+/// A lease that is too small grows; of a map that counts its calls it is asked for again, and the tape replayed from its load.
 const A_LEASE_TOO_SMALL_IS_ASKED_FOR_AGAIN: &[(Step<'static>, &str)] = &[
     (Step::Call("count where a >= 10"), "3\n"),
     (Step::Used, "64"),
@@ -299,6 +299,15 @@ const A_LEASE_TOO_SMALL_IS_ASKED_FOR_AGAIN: &[(Step<'static>, &str)] = &[
     (Step::Call("count where a < 10"), "62\n"),
     (Step::Used, "128"),
     (Step::At(0, View::Sizes), "1 boxes, 63 entries"),
+];
+
+/// That asking, counted: a begin, a load and a range; then a begin and all 63 entries.
+const A_LEASE_ASKED_FOR_AGAIN_IS_COUNTED: &[(Step<'static>, &str)] = &[
+    (Step::Call("count where a >= 10"), "3\n"),
+    (Step::Counts, "1 begins, 2 steps, 0 tails"),
+    (Step::Calls(61, "insert 1, 0, 0"), "key 65\n"),
+    (Step::Call("count where a < 10"), "62\n"),
+    (Step::Counts, "1 begins, 63 steps, 0 tails"),
 ];
 
 /// A removal finds the key map without room for the 65th pair.
@@ -442,6 +451,21 @@ const MERGES: &[Case<'static>] = &[
         name: "a_lease_too_small_is_asked_for_again",
         shape: ONE_AREA,
         boxes: ONE_BOX,
+        steps: A_LEASE_TOO_SMALL_IS_ASKED_FOR_AGAIN,
+    },
+    Case {
+        name: "a_lease_asked_for_again_is_counted",
+        shape: ONE_AREA,
+        boxes: ONE_BOX,
+        steps: A_LEASE_ASKED_FOR_AGAIN_IS_COUNTED,
+    },
+    Case {
+        name: "a_lease_too_small_grows",
+        shape: ONE_AREA,
+        boxes: Boxes {
+            trouble: Trouble::Grows(0),
+            ..ONE_BOX
+        },
         steps: A_LEASE_TOO_SMALL_IS_ASKED_FOR_AGAIN,
     },
     Case {

@@ -54,6 +54,16 @@ const MORE_COME: Plan = Plan {
     scanned: Scanned::Some,
 };
 
+/// Rows come and none goes, so that leases grow again and again.
+const ROWS_COME: Plan = Plan {
+    come: 5,
+    go: 0,
+    rows: 60,
+    boxes_go: false,
+    calls: 400,
+    scanned: Scanned::Any,
+};
+
 /// Budgets of no cells, of some maps' cells, and of enough for all maps of one area.
 const CAPACITIES: &[u64] = &[0, 128, 320, 448, 4096];
 
@@ -67,6 +77,14 @@ const REFUSING: &[Trouble] = &[
     Trouble::Every(3),
     Trouble::Every(4),
     Trouble::Every(5),
+];
+
+/// Boxes that grow: never refused but for cells, refused memory at every third step or growth and at every seventh, and contended.
+const GROWING: &[Trouble] = &[
+    Trouble::Grows(0),
+    Trouble::Grows(3),
+    Trouble::Grows(7),
+    Trouble::Contends,
 ];
 
 /// Mixes of a plan: one for each of these troubles, capacities and numbers of boxes, with up to so many cuts, by dice of a seed.
@@ -128,7 +146,7 @@ const OF_CALLS: &[Group<'static>] = &[
     },
 ];
 
-/// Heads of which steps are refused, and of which begins find the budget contended.
+/// Heads of which steps are refused, of which begins find the budget contended, and of which leases grow.
 const OF_REFUSED_CALLS: &[Group<'static>] = &[
     Group {
         seed: 21,
@@ -161,6 +179,14 @@ const OF_REFUSED_CALLS: &[Group<'static>] = &[
         troubles: &[Trouble::Contends],
         capacities: CAPACITIES,
         boxes: &[1, 4, 40],
+    },
+    Group {
+        seed: 25,
+        plan: ROWS_COME,
+        cuts: 1,
+        troubles: GROWING,
+        capacities: &[448, 1024, 4096],
+        boxes: &[4, 12],
     },
 ];
 

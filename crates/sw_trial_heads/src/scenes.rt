@@ -43,11 +43,12 @@ pub(crate) struct Watch<'t> {
     pub counts: &'t Counts,
 }
 
-/// What boxes do besides: they refuse every n-th step, none where n is 0, and count their calls, or find the budget contended at
-/// every second begin.
+/// What boxes do besides: they refuse every n-th step, none where n is 0, and count their calls, and never grow in place; or they grow,
+/// and refuse every n-th step or growth; or they grow, and find the budget contended at every second begin and growth.
 #[derive(Clone, Copy)]
 pub(crate) enum Trouble {
     Every(u64),
+    Grows(u64),
     Contends,
 }
 
@@ -118,7 +119,22 @@ fn counting(
     Ok(maps)
 }
 
-/// Maps that find the budget contended at every second begin, over purses of one budget.
+/// Maps that refuse every n-th step or growth, over purses of one budget.
+fn growing(
+    alloc: Global,
+    purse: &mut Purse,
+    many: usize,
+    every: u64,
+) -> Result<Vec<RefusingMap<PairMap>>, Fail> {
+    let mut maps = Vec::new(alloc);
+    for _turn in 0..many {
+        let mine = purse.split()?;
+        maps.push(RefusingMap::new(PairMap::blank(alloc, mine), every))?;
+    }
+    Ok(maps)
+}
+
+/// Maps that find the budget contended at every second begin and growth, over purses of one budget.
 fn contended(
     alloc: Global,
     purse: &mut Purse,
@@ -150,6 +166,10 @@ pub(crate) fn play<R: Threads + Sync>(
     match boxes.trouble {
         Trouble::Contends => {
             let maps = contended(alloc, &mut purse, many)?;
+            play_over(rt, alloc, maps, boxes.first, watch, scene, text)?;
+        }
+        Trouble::Grows(every) => {
+            let maps = growing(alloc, &mut purse, many, every)?;
             play_over(rt, alloc, maps, boxes.first, watch, scene, text)?;
         }
         Trouble::Every(every) => {
