@@ -1,6 +1,7 @@
 -- What is chosen of a list, with one more item looked at, and where the truth values are those of a test.
 use Rattle.std.proofs.Common.{◌≡◌, ◌∙◌, ap, sym, refl, ℕ, zero, suc, ◌+◌, ◌<◌, Bool, true, false, cond, List, [], ◌∷◌, ◌++◌, fold, length, get_or, take, ℤ, pos, ◌+ℤ◌, Option, Some, None, append-nil, arith}
 use Rattle.std.proofs.lemmas.List.{take_more}
+use Rattle.std.proofs.lemmas.Int.{ints}
 use Rattle.std.specs.Int.{int_min, int_max}
 use Rattle.sw_rows.specs.Scan.{total, least, greatest}
 use Rattle.sw_tape.specs.Restart.{kept}
@@ -74,6 +75,10 @@ module _ (o : Option (List Bool)) (xs : List ℤ) (i : ℕ) (lt : i < length xs)
 
   pub total_no : (s : ℤ) → is_chosen o i ≡ false → s ≡ total (chosen o (take i xs)) → s ≡ total (chosen o (take (i + 1) xs))
   total_no s is_out so_far = so_far ∙ sym (total_more o xs i (pos 0) lt ∙ picks (is_chosen o i) false _ _ is_out)
+
+  pub total_masked : (s z v : ℤ) (b : Bool) → is_chosen o i ≡ b → v ≡ cond b z (pos 0) → z ≡ get_or xs i (pos 0) → s ≡ total (chosen o (take i xs)) → s +ℤ v ≡ total (chosen o (take (i + 1) xs))
+  total_masked s z v true is_in e is so_far = total_yes s v is_in (e ∙ is) so_far
+  total_masked s z v false is_out e is so_far = ap (λ w. s +ℤ w) e ∙ (let none : s +ℤ pos 0 ≡ s = omega (arith, ints) in none) ∙ total_no s is_out so_far
 
   pub least_yes : (f : Option ℤ) (z : ℤ) → is_chosen o i ≡ true → z ≡ get_or xs i (pos 0) → f ≡ least (chosen o (take i xs)) → Some (lesser_with f z) ≡ least (chosen o (take (i + 1) xs))
   least_yes f z is_in is so_far = ap (λ v. Some (lesser_with v z)) so_far ∙ ap (λ v. Some (lesser_with (least (chosen o (take i xs))) v)) is ∙ sym (least_more o xs i (pos 0) lt ∙ picks (is_chosen o i) true _ _ is_in)

@@ -1,6 +1,6 @@
 //! The sum, the least and the greatest of what is chosen of a column.
 
-ghost use Rattle.std.specs.Prelude.{◌≡◌, List, ℤ, fold, length};
+ghost use Rattle.std.specs.Prelude.{◌≡◌, List, ℤ, cond, fold, length, pos};
 ghost use Rattle.std.specs.Int.{int_max, int_min};
 ghost use Rattle.sw_rows.specs.Scan.{total, least, greatest};
 ghost use Rattle.sw_set.specs.Choice.{chosen, lesser_with, larger_with, IsSumOf};
@@ -9,7 +9,7 @@ use crate::choice::Choice;
 use crate::window::{BLOCK, Window};
 use sw_map::CrackerMap;
 
-/// The sum of values.
+/// The sum of values. That it is no greater than so many cells may make it is for the proof: sums of blocks are added.
 fn sum_of(values: &[i64]) -> i128
     ensures total { result ≡ total values.now }
     ensures within { IsSumOf (length values.now) result }
@@ -47,16 +47,23 @@ pub(crate) fn sum<M: CrackerMap>(window: &mut Window<'_, M>, choice: &Choice) ->
     }
 }
 
-/// The sum of the values that are chosen one by one.
-#[tactic(auto, using(crate::proofs::Choosing::chosen_nil, crate::proofs::Choosing::total_yes, crate::proofs::Choosing::total_no))]
+/// A value, or 0 where it is not chosen.
+#[inline]
+fn value_if(is_chosen: bool, value: i64) -> i64
+    ensures { result ≡ cond is_chosen value (pos 0) }
+{
+    if is_chosen { value } else { 0 }
+}
+
+/// The sum of the values that are chosen one by one. Each is read, and none is guessed about.
+#[tactic(auto, using(crate::proofs::Choosing::chosen_nil))]
 fn sum_chosen<M: CrackerMap>(window: &mut Window<'_, M>, choice: &Choice) -> i128
     ensures { result ≡ total (chosen choice.now.bits window.old) }
 {
     let mut sum: i128 = 0;
     for place in 0..window.len() {
-        if choice.has(place) {
-            sum += i128::from(window.at(place));
-        }
+        let value = window.at(place);
+        sum += i128::from(value_if(choice.has(place), value));
     }
     sum
 }
