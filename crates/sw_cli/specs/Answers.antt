@@ -7,14 +7,18 @@ use Rattle.sw_cli.specs.Run.{Start}
 use Rattle.sw_cli.specs.Sides.{EitherFailed, FailedInTurn, IsUntouched, SinkFailed, SinkHeld, SinkSeen, SourceSeen, SourcesHeld}
 use Rattle.sw_cli.specs.Starts.{IfBoth, LeavesSome, Ran, TellsRun, TellsWhere, WritesOut}
 
+-- a record of the history, or why there is none
+abbrev pub Answer : Type 0
+Answer = Result History Refusal
+
 -- A run of this limit and these cuts, over the sources of a table t and a script s, to a sink w.
-pub record RunAnswers (limit : ℕ) (cuts : List ℕ) (t s : SourceSeen) (w : SinkSeen) (result : Result History Refusal) : Type 0 where
+pub record RunAnswers (limit : ℕ) (cuts : List ℕ) (t s : SourceSeen) (w : SinkSeen) (result : Answer) : Type 0 where
   -- where the bytes of the sources are known, the answer is that of what they spell
-  pub ran : IfBoth t.left s.left (λ table script. Ran (FailedInTurn t s table) limit cuts table script w.taken_before w.taken_after result)
+  pub ran : IfBoth t.left s.left (λ a b. Ran (FailedInTurn t s a) limit cuts a b w.taken_before w.taken_after result)
   -- where each call was answered, the record has the blocks' calls, and the sink took the lines of their replies
-  pub tells : IfBoth t.left s.left (λ table script. IfOk result (TellsWhere limit cuts table script w.taken_before w.taken_after))
+  pub tells : IfBoth t.left s.left (λ a b. IfOk result (TellsWhere limit cuts a b w.taken_before w.taken_after))
   -- and of a script of one block these are the lines of the plain table's replies
-  pub out : IfBoth t.left s.left (λ table script. IfOk result (WritesOut limit cuts table script w.taken_before w.taken_after))
+  pub out : IfBoth t.left s.left (λ a b. IfOk result (WritesOut limit cuts a b w.taken_before w.taken_after))
   -- whatever the sources are, the record is of outcomes of the calls that were read
   pub left : IfOk result (λ h. (start : Start) × LeavesSome limit start w.taken_before w.taken_after h)
   -- with a record, neither a source nor the sink has failed

@@ -78,8 +78,8 @@ pub record IsRecordOf (columns : List Column) (rows : List Row) (limit : ℕ) (t
   pub alone : (session : ℕ) → is_session (length told) session ≡ false → is_absent session h.entries ≡ true
   pub closed : none_open h.entries ≡ true
 
--- A run from a start that ended: each call of each block has an outcome, a refused one was refused for want of memory or for a
--- full history, the record is of these outcomes, and the sink took their lines.
+-- A run from a start that ended: each call of each block has an outcome, a refused one was refused for want of memory or
+-- for a full history, the record is of these outcomes, and the sink took their lines.
 pub record Leaves (limit : ℕ) (s : Start) (told : List (List Outcome)) (old new : Option (List ℕ)) (h : History) : Type 0 where
   pub calls : map calls_of told ≡ s.blocks
   pub why : AllSayWhy told

@@ -24,8 +24,8 @@ pub record IsFresh (made : List (Call × Reply)) (told : List Told) (room : ℕ)
   pub empty : told ≡ []
   pub fits : length calls ≤ room
 
--- the session of this number made these calls: something came of each, those that were answered are its ticket's, and the
--- others say why
+-- the session of this number made these calls: something came of each, those that were answered are its ticket's, and
+-- the others say why
 pub record IsDone (session : ℕ) (calls : List Call) (ticket : ℕ × List (Call × Reply)) (told : List Told) : Type 0 where
   pub number : ticket.0 ≡ session
   pub all : length told ≡ length calls
@@ -44,4 +44,5 @@ told_in e = blocks_told e.blocks.items e.told.items
 -- the sink took the lines of what came of the blocks, and the record is answered; or it failed, and took a beginning
 abbrev pub SendsLines : SinkSeen → Ended → Result History Refusal → Type 0
 SendsLines w e result =
-    Served w.taken_before w.taken_after w.failed_before w.failed_after result (text_of e.history.columns (told_in e)) × IfOk result (λ h. h ≡ e.history)
+    Served w.taken_before w.taken_after w.failed_before w.failed_after result (text_of e.history.columns (told_in e)) ×
+    IfOk result (λ h. h ≡ e.history)

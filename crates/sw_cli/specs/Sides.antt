@@ -1,4 +1,4 @@
--- What is known of a run's two sources and of its sink: their bytes, where these are told, and their counts of failures.
+-- What is known of a run's two sources and of its sink: their bytes, where these are told, and counts of failures.
 use Rattle.std.specs.Prelude.{◌≡◌, ◌⊎◌, ℕ, List, Option, Ok}
 use Rattle.std.specs.Io.KnownBytes.{Keeps}
 use Rattle.sw_rows.specs.Gives.{Raised}
@@ -36,7 +36,7 @@ EitherFailed t s = SourceFailed t ⊎ SourceFailed s
 abbrev pub SpellTable : List ℕ → Type 0
 SpellTable bytes = (t : Table) × (table_of bytes ≡ Ok t)
 
--- The source of a table of these bytes failed; or that of the script did, which is read only after a table without fault.
+-- The source of a table of these bytes failed; or that of the script did, which is read only after a sound table.
 abbrev pub FailedInTurn : SourceSeen → SourceSeen → List ℕ → Type 0
 FailedInTurn t s bytes = SourceFailed t ⊎ (SpellTable bytes × SourceFailed s)
 

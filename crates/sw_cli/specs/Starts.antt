@@ -47,12 +47,13 @@ IfBoth None b P = Unit {0}
 
 -- what is answered of the script of a source, seen by view: the blocks of the calls that its bytes spell
 abbrev pub ReadsScript : {X : Type 0} → List Column → SourceSeen → (X → List (List Call)) → Result X Refusal → Type 0
-ReadsScript columns s view result = IfSome s.left (λ bytes. ReadsFrom (SourceFailed s) view result (script_of columns bytes))
+ReadsScript columns s view result =
+    IfSome s.left (λ bytes. ReadsFrom (SourceFailed s) view result (script_of columns bytes))
 
 -- what is answered of the sources of table and script: the start that their bytes spell
 abbrev pub ReadsStart : ℕ → List ℕ → SourceSeen → SourceSeen → Result Opened Refusal → Type 0
 ReadsStart limit cuts t s result =
-    IfBoth t.left s.left (λ table script. ReadsFrom (FailedInTurn t s table) start_seen result (start_of limit cuts table script))
+    IfBoth t.left s.left (λ a b. ReadsFrom (FailedInTurn t s a) start_seen result (start_of limit cuts a b))
 
 -- a refusal before any call; that of a source only where I holds
 abbrev pub TellsStart : Type 0 → Refusal → Type 0
@@ -73,8 +74,8 @@ TellsRun I O e = TellsStart I e
 abbrev pub LeavesSome : ℕ → Start → Option (List ℕ) → Option (List ℕ) → History → Type 0
 LeavesSome limit s old new h = (told : List (List Outcome)) × Leaves limit s told old new h
 
--- what calls leave that were begun from a start: a record of their outcomes, whose lines the sink took; or nothing, for want of
--- memory; or a refusal of the sink, which took a beginning of such lines
+-- what calls leave that were begun from a start: a record of their outcomes, whose lines the sink took; or nothing, for
+-- want of memory; or a refusal of the sink, which took a beginning of such lines
 abbrev pub Goes : ℕ → Start → SinkSeen → Result History Refusal → Type 0
 Goes limit s w (Ok h) = LeavesSome limit s w.taken_before w.taken_after h × SinkHeld w
 Goes limit s w (Err refusal.NoMemory) = IsUntouched w

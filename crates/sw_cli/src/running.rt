@@ -179,7 +179,7 @@ pub fn run_with<M: CrackerMap, R: Threads + Wait + Sync, T: Source, S: Source, W
     run_told(rt, alloc, table, script, out, options, maps, &mut stats)
 }
 
-/// The same, and adds what each head tells of itself when all calls were made.
+/// `run_with` that also adds what each head tells of itself when all calls were made. No clause speaks of that list.
 pub fn run_told<M: CrackerMap, R: Threads + Wait + Sync, T: Source, S: Source, W: Sink>(
     rt: &R,
     alloc: Global,
@@ -204,7 +204,7 @@ pub fn run_told<M: CrackerMap, R: Threads + Wait + Sync, T: Source, S: Source, W
     }
 }
 
-/// The same over boxes of any kinds.
+/// `run_with` over boxes of any kinds.
 pub fn run<R: Threads + Wait + Sync, T: Source, S: Source, W: Sink>(
     rt: &R,
     alloc: Global,
