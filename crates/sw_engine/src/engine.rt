@@ -240,7 +240,6 @@ impl<J: Naming, M: CrackerMap> Engine<J, M> {
     }
 
     /// Copies of up to so many opening rows from a place on, made in one visit.
-
     fn some_rows<R: Wait>(&self, rt: &R, from: usize, most: usize) -> Result<Vec<Row>, AllocError>
         requires { from ≤ length J.opening }
         ensures { IfOk result (λ rows. rows.items ≡ take most (drop from J.opening)) }
