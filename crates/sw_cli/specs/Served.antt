@@ -1,5 +1,5 @@
 -- What goes out of a text through a block of bytes, and which sessions were answered what.
-use Rattle.std.specs.Prelude.{◌≡◌, ◌≤◌, ◌+◌, ◌∷◌, ℕ, List, [], length, All, Option, Result, OnOk, IfErr, IfOk}
+use Rattle.std.specs.Prelude.{◌≡◌, ◌<◌, ◌≤◌, ◌+◌, ◌∷◌, ℕ, List, [], length, slice_index_or, All, Option, Result, OnOk, IfErr, IfOk}
 use Rattle.sw_rows.specs.Gives.{Raised}
 use Rattle.sw_rows.specs.declared.query.Call.{Call}
 use Rattle.sw_rows.specs.declared.reply.Reply.{Reply}
@@ -17,6 +17,11 @@ AreAnswered n [] [] = Unit {0}
 AreAnswered n [] (t ∷ ts) = ⊥
 AreAnswered n (b ∷ bs) [] = ⊥
 AreAnswered n (b ∷ bs) (t ∷ ts) = (t.0 ≡ n) × (t.1 ≡ answered b) × AreAnswered (n + 1) bs ts
+
+-- place by place
+abbrev pub Each : {X Y : Type 0} → (X → Y → Type 0) → List X → List Y → Type 0
+Each {X} {Y} P xs ys =
+    (length ys ≡ length xs) × ((i : ℕ) (x : X) (y : Y) → i < length xs → P (slice_index_or xs i x) (slice_index_or ys i y))
 
 -- a session that has made no call, and the calls that it is to make, with room for what comes of them
 pub record IsFresh (made : List (Call × Reply)) (told : List Told) (room : ℕ) (calls : List Call) : Type 0 where

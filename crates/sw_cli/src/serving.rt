@@ -2,11 +2,11 @@
 
 ghost use Rattle.std.specs.Prelude.{◌≡◌, length, map, All, IfOk, IsOkUnless, vec_capacity};
 ghost use Rattle.sw_rows.specs.declared.refusal.Refusal.TheVariants.{NoMemory};
-ghost use Rattle.sw_engine.specs.Desk.{AreCounted, Each, InOrder};
+ghost use Rattle.sw_engine.specs.Desk.{AreCounted, InOrder};
 ghost use Rattle.sw_cli.specs.Outcomes.{AllSayWhy, AreTold, blocks_told};
 ghost use Rattle.sw_cli.specs.Run.{IsRecordOf};
 ghost use Rattle.sw_cli.specs.Script.{AllCallsBelow, AreBlocks};
-ghost use Rattle.sw_cli.specs.Served.{IsDone, IsFresh};
+ghost use Rattle.sw_cli.specs.Served.{Each, IsDone, IsFresh};
 
 use crate::script::Block;
 use crate::telling::BlockTold;
