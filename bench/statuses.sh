@@ -68,16 +68,46 @@ case_of 'a run without maps' 0 4 '' run --maps 0
 
 
 # What the heads tell of themselves: the table is on standard error alone; asked the same ranges again a head has no piece and
-# no entry more; without maps it scans; a head that was not asked has no area.
+# no entry more; without maps it scans; a head that was not asked has no area. The last column is the clock's, so it is a number
+# and is not compared.
 ranges='count where a >= 10 and a < 13\nselect c where a < 13\nsum b where b > 5\n'
 printf "$ranges" >once.txt
 printf "$ranges$ranges" >twice.txt
-stats() { script=$1; shift; "$program" run --table t.csv --script "$script" --stats "$@" 2>&1 >/dev/null; }
-case_of 'stats change no output' 0 4 'head queries areas pieces entries restarts maps cells scans' run --stats
+stats() {
+    script=$1
+    shift
+    "$program" run --table t.csv --script "$script" --stats "$@" 2>heads >/dev/null
+    is=$?
+    cut -d ' ' -f 1-9 heads
+    return "$is"
+}
+timed_heads() { "$program" run --table t.csv --script twice.txt --stats 2>&1 >/dev/null | grep -cE '^[abc]( [0-9]+){9}$'; }
+case_of 'stats change no output' 0 4 'head queries areas pieces entries restarts maps cells scans ms' run --stats
+case_of 'each head has its milliseconds' 0 3 '' timed_heads
 case_of 'ranges asked once' 0 "$(printf 'head queries areas pieces entries restarts maps cells scans\na 2 1 3 2 0 2 128 0\nb 1 1 2 2 0 1 64 0\nc 0 0 0 0 0 0 0 0')" '' stats once.txt
 case_of 'ranges asked twice' 0 "$(printf 'head queries areas pieces entries restarts maps cells scans\na 4 1 3 2 0 2 128 0\nb 2 1 2 2 0 1 64 0\nc 0 0 0 0 0 0 0 0')" '' stats twice.txt
 case_of 'ranges without maps' 0 "$(printf 'head queries areas pieces entries restarts maps cells scans\na 4 1 1 1 0 0 0 4\nb 2 1 1 1 0 0 0 2\nc 0 0 0 0 0 0 0 0')" '' stats twice.txt --maps 0
 case_of 'stats to a full device' 3 4 '' to_full_errors run --stats
+
+# How far a run is: a script, and then a table, come after more than a second through a pipe. Where standard error is a terminal a
+# line tells of the calls that were made, or of the table's lines that were read; with --quiet none does, nor where it is no terminal.
+mkfifo slow
+slow_script() { (sleep 1.5; echo count) >slow & }
+slow_table() { (head -n 2 t.csv; sleep 1.5; tail -n 3 t.csv) >slow & }
+waiting() { slow_script; "$program" run --table t.csv --script slow; }
+on_terminal() { script -qec "'$program' run $*" /dev/null </dev/null | tr -d '\r' | sed -n 1p; }
+calls_told() { slow_script; on_terminal --table t.csv --script slow "$@"; }
+lines_told() { slow_table; on_terminal --table slow --script count.txt "$@"; }
+case_of 'a quiet run' 0 4 '' run --quiet
+case_of 'a slow run, and no terminal' 0 4 '' waiting
+if command -v script >/dev/null; then
+    case_of 'a slow script on a terminal' 0 'sideways: 1 calls made' '' calls_told
+    case_of 'a slow table on a terminal' 0 'sideways: 5 lines of the table read' '' lines_told
+    case_of 'a slow script on a terminal, and quiet' 0 4 '' calls_told --quiet
+    case_of 'a slow table on a terminal, and quiet' 0 4 '' lines_told --quiet
+else
+    echo 'no command script: no run was made on a terminal'
+fi
 
 # 1: a history is not legal, and nothing else
 case_of 'a history that is not legal' 1 'not legal: entry 1' '' "$program" check illegal.json

@@ -5,28 +5,38 @@
 //! read is refused, and 3 where a call, the output or memory is.
 #![tactic(auto)]
 
+mod seeing;
 mod words;
 
 ghost use Rattle.std.specs.Prelude.{◌≡◌, ◌<◌, ◌≤◌, All, IfSome};
 ghost use Rattle.sw_map.specs.Held.{blank};
 
+use crate::seeing::{Lines, Seen};
 use crate::words::command;
 use clap::error::ErrorKind;
 use clap::{ArgMatches, Error};
 use std::alloc::Global;
 use std::fs::File;
 use std::io;
+use std::io::IsTerminal;
 use std::process::ExitCode;
-use std::rt::{Env, Files};
+use std::rt::{Clock, Env, Files};
 use std::sync::Wait;
 use std::thread::Threads;
 use sw_cli::{
-    HeadStats, Noting, Options, blank_boxes, check_file, run_told, status, write_fault,
+    HeadStats, Noting, Onlooker, Options, blank_boxes, check_file, run_told, status, write_fault,
     write_record, write_stats_line, write_stats_title,
 };
 use sw_map::{CrackerMap, PairMap};
 use sw_rows::{Counted, Refusal, Sink, Source, read_all};
 use sw_spine::Record;
+
+/// Standard error: the sink to it, and whether it is a terminal.
+#[derive(Drop)]
+struct Errors<E: Sink + Drop> {
+    sink: E,
+    is_terminal: bool,
+}
 
 /// What is known after a run: the record, whether a call was refused, and what each head tells of itself.
 #[derive(Drop)]
@@ -37,7 +47,7 @@ struct Ended {
 }
 
 /// Runs a script over a table, of which both are open.
-fn run_open<R: Threads + Wait + Sync, T: Source, S: Source, W: Sink + Drop>(
+fn run_open<R: Threads + Wait + Sync, O: Onlooker, T: Source, S: Source, W: Sink + Drop>(
     rt: &R,
     alloc: Global,
     table: &mut T,
@@ -45,6 +55,7 @@ fn run_open<R: Threads + Wait + Sync, T: Source, S: Source, W: Sink + Drop>(
     out: W,
     options: &Options<'_>,
     maps: Vec<PairMap>,
+    onlooker: &O,
 ) -> Result<Ended, Refusal>
     requires some { 0 < options.now.limit }
     requires most { options.now.limit ≤ 1048576 }
@@ -61,6 +72,7 @@ fn run_open<R: Threads + Wait + Sync, T: Source, S: Source, W: Sink + Drop>(
         options,
         maps,
         &mut stats,
+        onlooker,
     )?;
     Ok(Ended {
         history,
@@ -70,13 +82,14 @@ fn run_open<R: Threads + Wait + Sync, T: Source, S: Source, W: Sink + Drop>(
 }
 
 /// Opens the table, then the script, makes the boxes, and runs.
-fn run_named<R: Files + Print + Threads + Wait + Sync>(
+fn run_named<R: Files + Clock + Print + Eprint + Threads + Wait + Sync>(
     rt: &R,
     alloc: Global,
     table: &str,
     script: &str,
     cuts: &str,
     settings: &Settings,
+    seen: &Seen<'_, R>,
 ) -> Result<Ended, Refusal> {
     let Ok(table) = File::open(rt, table) else {
         return Err(Refusal::Input);
@@ -93,11 +106,12 @@ fn run_named<R: Files + Print + Threads + Wait + Sync>(
     run_open(
         rt,
         alloc,
-        &mut Counted::new(table),
+        &mut Lines::new(Counted::new(table), seen),
         &mut Counted::new(script),
         Counted::new(io::writer(rt)),
         &options,
         maps,
+        seen,
     )
 }
 
@@ -118,12 +132,16 @@ fn keep<R: Files>(
 }
 
 /// Writes what each head tells of itself, on standard error.
-fn tell<E: Sink>(ended: &Ended, errors: &mut E) -> Result<(), Refusal> {
+fn tell<R: Clock + Eprint, E: Sink>(
+    ended: &Ended,
+    seen: &Seen<'_, R>,
+    errors: &mut E,
+) -> Result<(), Refusal> {
     let schema = &ended.history.schema;
     write_stats_title(errors)?;
     for head in 0..schema.len().min(ended.stats.len()) {
         let name = schema.name(head).as_bytes();
-        write_stats_line(name, &ended.stats[head], errors)?;
+        write_stats_line(name, &ended.stats[head], seen.millis(head), errors)?;
     }
     Ok(())
 }
@@ -161,11 +179,11 @@ fn settings_given(given: &ArgMatches) -> Option<Settings> {
 }
 
 /// Runs what was named, and writes the history and what the heads tell where they are asked for.
-fn run_files<R: Files + Print + Threads + Wait + Sync, E: Sink>(
+fn run_files<R: Files + Clock + Print + Eprint + Threads + Wait + Sync, E: Sink + Drop>(
     rt: &R,
     alloc: Global,
     given: &ArgMatches,
-    errors: &mut E,
+    errors: &mut Errors<E>,
 ) -> Result<u8, Refusal> {
     let (Some(table), Some(script), Some(cuts), Some(settings)) = (
         given.get_str("table"),
@@ -175,10 +193,11 @@ fn run_files<R: Files + Print + Threads + Wait + Sync, E: Sink>(
     ) else {
         return Ok(2);
     };
-    let ended = run_named(rt, alloc, table, script, cuts, &settings)?;
+    let seen = Seen::new(rt, errors.is_terminal && !given.get_flag("quiet"));
+    let ended = run_named(rt, alloc, table, script, cuts, &settings, &seen)?;
     keep(rt, alloc, &ended.history, given.get_str("history"))?;
     if given.get_flag("stats") {
-        tell(&ended, errors)?;
+        tell(&ended, &seen, &mut errors.sink)?;
     }
     Ok(if ended.has_refused { 3 } else { 0 })
 }
@@ -201,11 +220,11 @@ fn check_path<R: Files + Print>(rt: &R, alloc: Global, given: &ArgMatches) -> Re
 }
 
 /// Makes what the words ask for.
-fn made<R: Files + Print + Threads + Wait + Sync, E: Sink>(
+fn made<R: Files + Clock + Print + Eprint + Threads + Wait + Sync, E: Sink + Drop>(
     rt: &R,
     alloc: Global,
     matches: &ArgMatches,
-    errors: &mut E,
+    errors: &mut Errors<E>,
 ) -> Result<u8, Refusal> {
     match matches.subcommand() {
         None => Ok(2),
@@ -228,11 +247,11 @@ fn explained<R: Print + Eprint>(rt: &R, error: &Error) -> Result<u8, Refusal> {
 }
 
 /// Takes the words of the command line.
-fn taken<R: Files + Print + Eprint + Threads + Wait + Sync, E: Sink>(
+fn taken<R: Files + Clock + Print + Eprint + Threads + Wait + Sync, E: Sink + Drop>(
     rt: &R,
     alloc: Global,
     words: &[String],
-    errors: &mut E,
+    errors: &mut Errors<E>,
 ) -> Result<u8, Refusal> {
     let Ok(command) = command(alloc) else {
         return Err(Refusal::NoMemory);
@@ -256,10 +275,10 @@ fn given<R: Env>(rt: &R, alloc: Global) -> Result<Vec<String>, Refusal> {
 }
 
 /// Takes the command line and answers the exit status.
-fn asked<R: Env + Files + Print + Eprint + Threads + Wait + Sync, E: Sink>(
+fn asked<R: Env + Files + Clock + Print + Eprint + Threads + Wait + Sync, E: Sink + Drop>(
     rt: &R,
     alloc: Global,
-    errors: &mut E,
+    errors: &mut Errors<E>,
 ) -> Result<u8, Refusal> {
     let words = given(rt, alloc)?;
     taken(rt, alloc, words.as_slice(), errors)
@@ -272,9 +291,12 @@ fn refused<E: Sink>(refusal: &Refusal, errors: &mut E) -> u8 {
 }
 
 fn main(rt: HostRuntime) -> ExitCode {
-    let mut errors = Counted::new(rt.stderr());
+    let mut errors = Errors {
+        sink: Counted::new(rt.stderr()),
+        is_terminal: rt.stderr().is_terminal(),
+    };
     ExitCode::from(match asked(&rt, rt.alloc(), &mut errors) {
         Ok(code) => code,
-        Err(refusal) => refused(&refusal, &mut errors),
+        Err(refusal) => refused(&refusal, &mut errors.sink),
     })
 }

@@ -87,7 +87,16 @@ fn stats<'a>(alloc: Global) -> Arg<'a> {
     Arg::new(alloc, "stats")
         .long("stats")
         .help(
-            "Writes a table to standard error after the run, a line for each attribute: its queries, areas, pieces, tape entries, restarts, maps, cells and scans; without it nothing",
+            "Writes a table to standard error after the run, a line for each attribute: its queries, areas, pieces, tape entries, restarts, maps, cells and scans, and the milliseconds that its queries took; without it nothing",
+        )
+        .action(ArgAction::SetTrue)
+}
+
+fn quiet<'a>(alloc: Global) -> Arg<'a> {
+    Arg::new(alloc, "quiet")
+        .long("quiet")
+        .help(
+            "Leaves out the lines that tell how far a run is: after its first second one a second, on standard error, where that is a terminal",
         )
         .action(ArgAction::SetTrue)
 }
@@ -115,6 +124,7 @@ fn run_command<'a>(alloc: Global) -> Result<Command<'a>, AllocError> {
         .arg(limit(alloc))?
         .arg(threads(alloc))?
         .arg(stats(alloc))?
+        .arg(quiet(alloc))?
         .arg(history(alloc))
 }
 

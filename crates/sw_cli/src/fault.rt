@@ -24,7 +24,7 @@ pub fn status(refusal: &Refusal) -> u8
 }
 
 // A number after its label.
-fn write_labelled<W: Sink>(label: &[u8], number: u64, out: &mut W) -> Result<(), Refusal>
+pub(crate) fn write_labelled<W: Sink>(label: &[u8], number: u64, out: &mut W) -> Result<(), Refusal>
     ensures { Writes (W.taken out.old) (W.taken out.new) (W.failed out.old) (W.failed out.new) result
         (labelled label.now number) }
 {

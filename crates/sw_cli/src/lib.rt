@@ -7,6 +7,7 @@ mod buffered;
 mod ended;
 mod fault;
 pub mod fault_examples;
+mod looking_on;
 mod noting;
 mod running;
 mod script;
@@ -18,6 +19,7 @@ mod watching;
 
 pub use boxes::blank_boxes;
 pub use fault::{status, write_fault};
+pub use looking_on::{Nobody, Onlooker};
 pub use noting::Noting;
 pub use running::{Options, run, run_told, run_with};
 pub use script::{MOST_BLOCKS, MOST_CALLS};

@@ -12,6 +12,7 @@ ghost use Rattle.sw_cli.specs.Starts.{Goes, IsStart, start_seen};
 
 use crate::buffered::{Base, Buffered, block};
 use crate::ended::Ended;
+use crate::looking_on::{Nobody, Onlooker};
 use crate::serving::serve;
 use crate::start::{Opened, read_start};
 use core::mem::replace_with;
@@ -70,7 +71,7 @@ fn write_outgoing<W: Sink>(sink: W, outgoing: Outgoing) -> (W, Result<Record, Re
 }
 
 /// Makes the blocks of a run that was opened, by an engine of these names. The one refusal is `NoMemory`.
-fn make<J: Naming + Send + Sync, M: CrackerMap, R: Threads + Wait + Sync>(
+fn make<J: Naming + Send + Sync, M: CrackerMap, O: Onlooker, R: Threads + Wait + Sync>(
     rt: &R,
     alloc: Global,
     books: Blank,
@@ -78,6 +79,7 @@ fn make<J: Naming + Send + Sync, M: CrackerMap, R: Threads + Wait + Sync>(
     options: &Options<'_>,
     maps: Vec<M>,
     stats: &mut Vec<HeadStats>,
+    onlooker: &O,
 ) -> Result<Outgoing, Refusal>
     requires books { (books.sessions.name ≡ J.sessions) × (books.heads.name ≡ J.heads) }
     requires table { (opened.schema ≡ J.columns) × (opened.rows.items ≡ J.opening) × (options.now.limit ≡ J.limit) }
@@ -116,6 +118,7 @@ fn make<J: Naming + Send + Sync, M: CrackerMap, R: Threads + Wait + Sync>(
         tickets,
         blocks.as_slice(),
         stats,
+        onlooker,
     )?;
     let ended = Ended {
         blocks,
@@ -126,7 +129,7 @@ fn make<J: Naming + Send + Sync, M: CrackerMap, R: Threads + Wait + Sync>(
 }
 
 /// Makes the blocks of a run that was opened, and writes what came of them.
-fn begin<M: CrackerMap, R: Threads + Wait + Sync, W: Sink>(
+fn begin<M: CrackerMap, O: Onlooker, R: Threads + Wait + Sync, W: Sink>(
     rt: &R,
     alloc: Global,
     opened: Opened,
@@ -134,6 +137,7 @@ fn begin<M: CrackerMap, R: Threads + Wait + Sync, W: Sink>(
     maps: Vec<M>,
     out: &mut W,
     stats: &mut Vec<HeadStats>,
+    onlooker: &O,
 ) -> Result<Record, Refusal>
     requires some { 0 < options.now.limit }
     requires most { options.now.limit ≤ 1048576 }
@@ -142,7 +146,16 @@ fn begin<M: CrackerMap, R: Threads + Wait + Sync, W: Sink>(
     ensures { Goes options.now.limit (start_seen opened)
         (sink_seen (W.taken out.old) (W.taken out.new) (W.failed out.old) (W.failed out.new)) result }
 {
-    match make::<Brand, M, R>(rt, alloc, Blank::new(), opened, options, maps, stats) {
+    match make::<Brand, M, O, R>(
+        rt,
+        alloc,
+        Blank::new(),
+        opened,
+        options,
+        maps,
+        stats,
+        onlooker,
+    ) {
         Ok(outgoing) => replace_with(out, outgoing, write_outgoing),
         Err(e) => Err(e),
     }
@@ -176,11 +189,21 @@ pub fn run_with<M: CrackerMap, R: Threads + Wait + Sync, T: Source, S: Source, W
         (sink_seen (W.taken out.old) (W.taken out.new) (W.failed out.old) (W.failed out.new)) result }
 {
     let mut stats = Vec::new(alloc);
-    run_told(rt, alloc, table, script, out, options, maps, &mut stats)
+    run_told(
+        rt, alloc, table, script, out, options, maps, &mut stats, &Nobody,
+    )
 }
 
-/// `run_with` that also adds what each head tells of itself when all calls were made. No clause speaks of that list.
-pub fn run_told<M: CrackerMap, R: Threads + Wait + Sync, T: Source, S: Source, W: Sink>(
+/// `run_with` that also adds what each head tells of itself when all calls were made, and lets somebody look on. No clause
+/// speaks of that list, nor of what the onlooker sees.
+pub fn run_told<
+    M: CrackerMap,
+    O: Onlooker,
+    R: Threads + Wait + Sync,
+    T: Source,
+    S: Source,
+    W: Sink,
+>(
     rt: &R,
     alloc: Global,
     table: &mut T,
@@ -189,6 +212,7 @@ pub fn run_told<M: CrackerMap, R: Threads + Wait + Sync, T: Source, S: Source, W
     options: &Options<'_>,
     maps: Vec<M>,
     stats: &mut Vec<HeadStats>,
+    onlooker: &O,
 ) -> Result<Record, Refusal>
     requires some { 0 < options.now.limit }
     requires most { options.now.limit ≤ 1048576 }
@@ -199,7 +223,7 @@ pub fn run_told<M: CrackerMap, R: Threads + Wait + Sync, T: Source, S: Source, W
         (sink_seen (W.taken out.old) (W.taken out.new) (W.failed out.old) (W.failed out.new)) result }
 {
     match read_start(alloc, table, script, options.cuts, options.limit) {
-        Ok(opened) => begin(rt, alloc, opened, options, maps, out, stats),
+        Ok(opened) => begin(rt, alloc, opened, options, maps, out, stats, onlooker),
         Err(e) => Err(e),
     }
 }

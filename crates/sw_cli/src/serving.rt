@@ -8,6 +8,7 @@ ghost use Rattle.sw_cli.specs.Run.{IsRecordOf};
 ghost use Rattle.sw_cli.specs.Script.{AllCallsBelow, AreBlocks};
 ghost use Rattle.sw_cli.specs.Served.{Each, IsDone, IsFresh};
 
+use crate::looking_on::Onlooker;
 use crate::script::Block;
 use crate::telling::BlockTold;
 use std::alloc::{AllocError, Global};
@@ -35,9 +36,10 @@ pub(crate) struct Done<J: Naming> {
 }
 
 /// Makes the calls of a job, one after another.
-fn make_block<J: Naming, M: CrackerMap, R: Threads + Wait + Sync>(
+fn make_block<J: Naming, M: CrackerMap, O: Onlooker, R: Threads + Wait + Sync>(
     rt: &R,
     job: Job<'_, J, M>,
+    onlooker: &O,
 ) -> Done<J>
     requires fresh { IsFresh job.session.1 job.told.items (vec_capacity job.told) job.calls.now }
     requires below { AllCallsBelow (length J.columns) job.calls.now }
@@ -49,7 +51,10 @@ fn make_block<J: Naming, M: CrackerMap, R: Threads + Wait + Sync>(
         mut told,
     } = job;
     for call in calls {
-        told.push_reserved(session.call(rt, call));
+        let begun = onlooker.begins(call);
+        let answer = session.call(rt, call);
+        onlooker.ended(call, begun);
+        told.push_reserved(answer);
     }
     Done {
         ticket: session.end(),
@@ -85,10 +90,11 @@ fn jobs<'e, J: Naming, M: CrackerMap>(
 }
 
 /// Makes the calls of the jobs one job after another.
-fn make_in_turn<'e, J: Naming, M: CrackerMap, R: Threads + Wait + Sync>(
+fn make_in_turn<'e, J: Naming, M: CrackerMap, O: Onlooker, R: Threads + Wait + Sync>(
     rt: &R,
     alloc: Global,
     jobs: Vec<Job<'e, J, M>>,
+    onlooker: &O,
 ) -> Result<Vec<Done<J>>, AllocError>
     requires fresh { All (λ j. IsFresh j.session.1 j.told.items (vec_capacity j.told) j.calls.now) jobs.items }
     requires below { All (λ j. AllCallsBelow (length J.columns) j.calls.now) jobs.items }
@@ -96,15 +102,16 @@ fn make_in_turn<'e, J: Naming, M: CrackerMap, R: Threads + Wait + Sync>(
 {
     let mut done = Vec::new(alloc);
     for job in jobs {
-        done.push(make_block(rt, job))?;
+        done.push(make_block(rt, job, onlooker))?;
     }
     Ok(done)
 }
 
 /// Makes the calls of each job in a thread of its own; where no thread starts, on the calling one.
-fn make_at_once<'e, J: Naming + Send + Sync, M: CrackerMap, R: Threads + Wait + Sync>(
+fn make_at_once<'e, J: Naming + Send + Sync, M: CrackerMap, O: Onlooker, R: Threads + Wait + Sync>(
     rt: &R,
     jobs: Vec<Job<'e, J, M>>,
+    onlooker: &O,
 ) -> Result<Vec<Done<J>>, AllocError>
     requires fresh { All (λ j. IsFresh j.session.1 j.told.items (vec_capacity j.told) j.calls.now) jobs.items }
     requires below { All (λ j. AllCallsBelow (length J.columns) j.calls.now) jobs.items }
@@ -117,25 +124,26 @@ fn make_at_once<'e, J: Naming + Send + Sync, M: CrackerMap, R: Threads + Wait + 
             requires fresh { IsFresh job.session.1 job.told.items (vec_capacity job.told) job.calls.now }
             requires below { AllCallsBelow (length J.columns) job.calls.now }
             ensures { IsDone job.entry.session.0 job.entry.calls.now result.ticket result.told }
-        { make_block(rt, job) },
+        { make_block(rt, job, onlooker) },
     )
 }
 
 /// Makes the calls of the jobs: at once, or one job after another.
-fn make_all<'e, J: Naming + Send + Sync, M: CrackerMap, R: Threads + Wait + Sync>(
+fn make_all<'e, J: Naming + Send + Sync, M: CrackerMap, O: Onlooker, R: Threads + Wait + Sync>(
     rt: &R,
     alloc: Global,
     at_once: bool,
     jobs: Vec<Job<'e, J, M>>,
+    onlooker: &O,
 ) -> Result<Vec<Done<J>>, AllocError>
     requires fresh { All (λ j. IsFresh j.session.1 j.told.items (vec_capacity j.told) j.calls.now) jobs.items }
     requires below { All (λ j. AllCallsBelow (length J.columns) j.calls.now) jobs.items }
     ensures { IfOk result (λ v. Each (λ j d. IsDone j.session.0 j.calls.now d.ticket d.told) jobs.entry.items v.items) }
 {
     if at_once {
-        make_at_once(rt, jobs)
+        make_at_once(rt, jobs, onlooker)
     } else {
-        make_in_turn(rt, alloc, jobs)
+        make_in_turn(rt, alloc, jobs, onlooker)
     }
 }
 
@@ -171,7 +179,7 @@ fn tell_heads<J: Naming, M: CrackerMap, R: Wait>(
 
 /// Makes the calls of each block by the session of the ticket at its place, and tells the record and what came of the
 /// calls, and adds what each head tells of itself. The one refusal is `NoMemory`.
-pub(crate) fn serve<J: Naming + Send + Sync, M: CrackerMap, R: Threads + Wait + Sync>(
+pub(crate) fn serve<J: Naming + Send + Sync, M: CrackerMap, O: Onlooker, R: Threads + Wait + Sync>(
     rt: &R,
     alloc: Global,
     at_once: bool,
@@ -179,6 +187,7 @@ pub(crate) fn serve<J: Naming + Send + Sync, M: CrackerMap, R: Threads + Wait + 
     tickets: Vec<Ticket<J>>,
     blocks: &[Block],
     stats: &mut Vec<HeadStats>,
+    onlooker: &O,
 ) -> Result<(Record, Vec<BlockTold>), Refusal>
     requires order { InOrder 1 tickets.items }
     requires many { length tickets.items ≡ length blocks.now }
@@ -192,7 +201,7 @@ pub(crate) fn serve<J: Naming + Send + Sync, M: CrackerMap, R: Threads + Wait + 
     let Ok(work) = jobs(alloc, &engine, tickets, blocks) else {
         return Err(Refusal::NoMemory);
     };
-    let Ok(done) = make_all(rt, alloc, at_once, work) else {
+    let Ok(done) = make_all(rt, alloc, at_once, work, onlooker) else {
         return Err(Refusal::NoMemory);
     };
     let Ok((ended, told)) = parted(alloc, done) else {

@@ -13,14 +13,14 @@ loop-call-preserved g c =
     let told = c.loop-call.told.items in
     let here : n < length calls = omega arith in
     let one = c.call-item.result in
-    let t = c.call.result in
+    let t = c.call-answer.result in
     let front : take (n + 1) calls ≡ take n calls ++ one ∷ [] = take_more calls n one here ∙ ap (λ x. take n calls ++ x ∷ []) (sym c.call-item.is) in
-    let more = answered_push (outcomes_of (take n calls) told) one t c.loop-call.session.1 c.call.new.self.1 i.made c.call.ensures.mine c.call.ensures.err in
+    let more = answered_push (outcomes_of (take n calls) told) one t c.loop-call.session.1 c.call-answer.new.self.1 i.made c.call-answer.ensures.mine c.call-answer.ensures.err in
     let pushed : c.push_reserved.new.self.items ≡ told ++ t ∷ [] = search rules in
     record {
-      number = c.call.ensures.number ∙ i.number;
+      number = c.call-answer.ensures.number ∙ i.number;
       all = omega (arith, i.all);
       made = rw pushed (more ∙ ap answered (sym (outcomes_push (take n calls) told one t (i.all ∙ sym (length_take n calls here))) ∙ ap (λ cs. outcomes_of cs (told ++ t ∷ [])) (sym front)));
-      why = rw pushed (All-push SaysWhy told t i.why c.call.ensures.refused);
+      why = rw pushed (All-push SaysWhy told t i.why c.call-answer.ensures.refused);
       room = search rules;
     }

@@ -1,0 +1,163 @@
+//! What is seen of a run while it goes: the time in the selects of each head, and how far the run is.
+
+use std::io;
+use std::rt::Clock;
+use std::sync::atomic::{AtomicU64, Ordering};
+use std::time::{Duration, Instant};
+use sw_cli::Onlooker;
+use sw_rows::{Call, Query, Source};
+
+/// The nanoseconds of a second.
+const SECOND: u64 = 1_000_000_000;
+
+/// The nanoseconds of a millisecond.
+const MILLISECOND: u64 = 1_000_000;
+
+/// The nanoseconds of a time; the greatest number where they are more.
+fn nanos_of(time: Duration) -> u64 {
+    time.as_secs()
+        .saturating_mul(SECOND)
+        .saturating_add(u64::from(time.subsec_nanos()))
+}
+
+/// The attribute whose head answers a query: that of its first condition, or the first attribute.
+fn head_of(query: &Query) -> usize {
+    match query.conds.as_slice().first() {
+        Some(cond) => cond.attr,
+        None => 0,
+    }
+}
+
+/// What was seen so far, shared by the threads of a run. A clock that cannot be read stands at 0.
+#[derive(Drop)]
+pub struct Seen<'r, R: Clock + Eprint> {
+    rt: &'r R,
+    began: Option<Instant>,
+    is_telling: bool,
+    due: AtomicU64,
+    calls: AtomicU64,
+    nanos: [AtomicU64; 8],
+}
+
+impl<'r, R: Clock + Eprint> Seen<'r, R> {
+    /// A run begins; perhaps standard error is told how far it is, from a second after now on, once a second.
+    pub fn new(rt: &'r R, is_telling: bool) -> Seen<'r, R> {
+        Seen {
+            rt,
+            began: Instant::now(rt).ok(),
+            is_telling,
+            due: AtomicU64::new(SECOND),
+            calls: AtomicU64::new(0),
+            nanos: [
+                AtomicU64::new(0),
+                AtomicU64::new(0),
+                AtomicU64::new(0),
+                AtomicU64::new(0),
+                AtomicU64::new(0),
+                AtomicU64::new(0),
+                AtomicU64::new(0),
+                AtomicU64::new(0),
+            ],
+        }
+    }
+
+    /// The nanoseconds since the run began.
+    fn now(&self) -> u64 {
+        let Some(began) = self.began else {
+            return 0;
+        };
+        match began.elapsed(self.rt) {
+            Ok(time) => nanos_of(time),
+            Err(_) => 0,
+        }
+    }
+
+    /// Tells how far the run is, where that is due. Of threads that come at once one tells.
+    fn tell(&self, now: u64, number: u64, what: &str) {
+        let due = self.due.load(Ordering::SeqCst);
+        if !self.is_telling || now < due {
+            return;
+        }
+        let next = now.saturating_add(SECOND);
+        let taken = self
+            .due
+            .compare_exchange(due, next, Ordering::SeqCst, Ordering::SeqCst);
+        if taken.is_ok() {
+            let _ = eprintln!(self.rt; "sideways: {number} {what}");
+        }
+    }
+
+    /// The milliseconds that selects of a head took, those of all threads together.
+    pub fn millis(&self, head: usize) -> u64 {
+        match self.nanos.get(head) {
+            Some(nanos) => nanos.load(Ordering::SeqCst) / MILLISECOND,
+            None => 0,
+        }
+    }
+}
+
+impl<R: Clock + Eprint + Sync> Onlooker for Seen<'_, R> {
+    fn begins(&self, _call: &Call) -> u64 {
+        self.now()
+    }
+
+    fn ended(&self, call: &Call, begun: u64) {
+        let now = self.now();
+        if let Call::Select(query) = call {
+            if let Some(nanos) = self.nanos.get(head_of(query)) {
+                let _before = nanos.fetch_add(now.saturating_sub(begun), Ordering::SeqCst);
+            }
+        }
+        let before = self.calls.fetch_add(1, Ordering::SeqCst);
+        self.tell(now, before.saturating_add(1), "calls made");
+    }
+}
+
+/// How many lines end in some bytes.
+fn ends_in(bytes: &[u8]) -> u64 {
+    let mut ends = 0u64;
+    for byte in bytes {
+        if *byte == b'\n' {
+            ends = ends.saturating_add(1);
+        }
+    }
+    ends
+}
+
+/// A source of a table before another, which tells how many lines went by.
+#[derive(Drop)]
+pub struct Lines<'s, 'r, S: Source, R: Clock + Eprint> {
+    source: S,
+    read: u64,
+    seen: &'s Seen<'r, R>,
+}
+
+impl<'s, 'r, S: Source, R: Clock + Eprint> Lines<'s, 'r, S, R> {
+    /// A source of which no line went by.
+    pub fn new(source: S, seen: &'s Seen<'r, R>) -> Lines<'s, 'r, S, R> {
+        Lines {
+            source,
+            read: 0,
+            seen,
+        }
+    }
+}
+
+impl<S: Source, R: Clock + Eprint> Source for Lines<'_, '_, S, R> {
+    ghost left = { λ s. S.left s.source };
+
+    ghost failed = { λ s. S.failed s.source };
+
+    fn read_some(&mut self, buf: &mut [u8]) -> io::Result<usize> {
+        let count = self.source.read_some(buf)?;
+        let (given, _) = buf.split_at(count);
+        self.read = self.read.saturating_add(ends_in(given));
+        self.seen
+            .tell(self.seen.now(), self.read, "lines of the table read");
+        Ok(count)
+    }
+
+    fn failures(&self) -> u64 {
+        self.source.failures()
+    }
+}
