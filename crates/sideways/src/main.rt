@@ -193,10 +193,12 @@ fn run_files<R: Files + Clock + Print + Eprint + Threads + Wait + Sync, E: Sink 
     ) else {
         return Ok(2);
     };
-    let seen = Seen::new(rt, errors.is_terminal && !given.get_flag("quiet"));
+    let is_timing = given.get_flag("stats");
+    let is_telling = errors.is_terminal && !given.get_flag("quiet");
+    let seen = Seen::new(rt, is_timing, is_telling);
     let ended = run_named(rt, alloc, table, script, cuts, &settings, &seen)?;
     keep(rt, alloc, &ended.history, given.get_str("history"))?;
-    if given.get_flag("stats") {
+    if is_timing {
         tell(&ended, &seen, &mut errors.sink)?;
     }
     Ok(if ended.has_refused { 3 } else { 0 })

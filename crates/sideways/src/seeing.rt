@@ -4,8 +4,8 @@ use std::io;
 use std::rt::Clock;
 use std::sync::atomic::{AtomicU64, Ordering};
 use std::time::{Duration, Instant};
-use sw_cli::Onlooker;
-use sw_rows::{Call, Query, Source};
+use sw_cli::{Onlooker, head_of};
+use sw_rows::{Call, Source};
 
 /// The nanoseconds of a second.
 const SECOND: u64 = 1_000_000_000;
@@ -20,15 +20,8 @@ fn nanos_of(time: Duration) -> u64 {
         .saturating_add(u64::from(time.subsec_nanos()))
 }
 
-/// The attribute whose head answers a query: that of its first condition, or the first attribute.
-fn head_of(query: &Query) -> usize {
-    match query.conds.as_slice().first() {
-        Some(cond) => cond.attr,
-        None => 0,
-    }
-}
-
-/// What was seen so far, shared by the threads of a run. A clock that cannot be read stands at 0.
+/// What was seen so far, shared by the threads of a run. Where nobody asks for it there is no beginning, and nothing is
+/// seen; a clock that cannot be read later stands at 0.
 #[derive(Drop)]
 pub struct Seen<'r, R: Clock + Eprint> {
     rt: &'r R,
@@ -40,11 +33,17 @@ pub struct Seen<'r, R: Clock + Eprint> {
 }
 
 impl<'r, R: Clock + Eprint> Seen<'r, R> {
-    /// A run begins; perhaps standard error is told how far it is, from a second after now on, once a second.
-    pub fn new(rt: &'r R, is_telling: bool) -> Seen<'r, R> {
+    /// A run begins. Perhaps its selects are timed; perhaps standard error is told how far it is, from a second after now
+    /// on, once a second.
+    pub fn new(rt: &'r R, is_timing: bool, is_telling: bool) -> Seen<'r, R> {
+        let began = if is_timing || is_telling {
+            Instant::now(rt).ok()
+        } else {
+            None
+        };
         Seen {
             rt,
-            began: Instant::now(rt).ok(),
+            began,
             is_telling,
             due: AtomicU64::new(SECOND),
             calls: AtomicU64::new(0),
@@ -102,6 +101,9 @@ impl<R: Clock + Eprint + Sync> Onlooker for Seen<'_, R> {
     }
 
     fn ended(&self, call: &Call, begun: u64) {
+        if self.began.is_none() {
+            return;
+        }
         let now = self.now();
         if let Call::Select(query) = call {
             if let Some(nanos) = self.nanos.get(head_of(query)) {

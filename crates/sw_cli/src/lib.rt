@@ -24,5 +24,5 @@ pub use noting::Noting;
 pub use running::{Options, run, run_told, run_with};
 pub use script::{MOST_BLOCKS, MOST_CALLS};
 pub use stats::{write_stats_line, write_stats_title};
-pub use sw_engine::HeadStats;
+pub use sw_engine::{HeadStats, head_of};
 pub use sw_histories::{check_file, read_record, write_record};

@@ -24,7 +24,7 @@ use sw_rows::{Query, Refusal, Reply, Row, Update};
 use sw_spine::Spine;
 use sw_tie::Share;
 
-/// The attribute of the first condition, or the first attribute.
+/// The attribute whose head is asked: that of the first condition, or the first attribute.
 pub fn head_of(query: &Query) -> usize
     ensures is { result ≡ head_in query.now.conds }
     ensures below { (n : ℕ) → 0 < n → AsksBelow n query.now → result < n }

@@ -15,4 +15,5 @@ pub use counting::HeadStats;
 pub use dealing::deal;
 pub use desk::{Blank, Ticket};
 pub use engine::{Engine, Session};
+pub use latch::head_of;
 pub use naming::Naming;
