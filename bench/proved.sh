@@ -1,8 +1,16 @@
 # What the drivers below this folder share; they source it. It sets `top`, the repository, and `work`, a folder under TMPDIR that goes
-# when the driver ends (with WORK=FOLDER it is that one, and stays, with what was built there), and it has `build` and `area`.
+# when the driver ends (with WORK=FOLDER it is that one, and stays, with what was built there), and it has `sizes`, `build` and `area`.
 top=$(cd "$(dirname "${BASH_SOURCE[0]}")/.." && pwd)
 work=${WORK:-$(mktemp -d "${TMPDIR:-/tmp}/bench.XXXXXX")}
 [ -n "${WORK:-}" ] || trap 'rm -rf "$work"' EXIT
+
+# sizes [ROWS [ROUNDS [CALLS]]]
+# Sets `rows`, `rounds` and `calls`.
+sizes() {
+  rows=${1:-1000000}
+  rounds=${2:-5}
+  calls=${3:-1000}
+}
 
 # build KIND NAME SOURCE LIBRARY..
 # Proves and builds SOURCE in the work folder over copies of the repository's crates among the libraries, which are listed lowest

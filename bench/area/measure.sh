@@ -13,11 +13,9 @@
 # real-time priority, so that a started thread gets one as it would on a quiet machine.
 # It needs rt, g++ and python3. Nothing of the repository is written.
 set -euo pipefail
-rows=${1:-1000000}
-rounds=${2:-5}
-calls=${3:-1000}
 here=$(cd "$(dirname "$0")" && pwd)
 . "$here/../proved.sh"
+sizes "$@"
 area replies "$here/replies.rt.txt"
 program=$work/crates/replies/out/replies
 

@@ -17,11 +17,9 @@
 # Four threads need four processors: on a busy machine RUN='chrt -f 10' (as root) runs all sides at real-time priority.
 # It needs rt, g++, python3 and /usr/bin/time. Nothing of the repository is written.
 set -euo pipefail
-rows=${1:-1000000}
-rounds=${2:-5}
-calls=${3:-1000}
 here=$(cd "$(dirname "$0")" && pwd)
 . "$here/../proved.sh"
+sizes "$@"
 proofs=$work/crates/engine/proofs
 mkdir -p "$proofs"
 echo "pub mod Lemmas" > "$proofs/Lib.antt"

@@ -15,11 +15,9 @@
 # real-time priority, so that a started thread gets one as it would on a quiet machine.
 # It needs rt and python3. Nothing of the repository is written.
 set -euo pipefail
-rows=${1:-1000000}
-rounds=${2:-5}
-calls=${3:-1000}
 here=$(cd "$(dirname "$0")" && pwd)
 . "$here/../proved.sh"
+sizes "$@"
 proofs=$work/crates/heads/proofs
 mkdir -p "$proofs/rows_of" "$proofs/known"
 echo "pub mod Lemmas" > "$proofs/Lib.antt"

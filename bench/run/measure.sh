@@ -7,19 +7,13 @@ rows=${1:-1000000}
 rounds=${2:-9}
 peer
 python3 "$top/bench/peers/gen.py" "$work" --rows "$rows" --attrs 3 --calls 1 --mix count
-python3 - "$program" "$work" "$rounds" <<'PY'
-import os, resource, statistics, subprocess, sys, time
+PYTHONPATH=$top/bench PYTHONDONTWRITEBYTECODE=1 python3 - "$program" "$work" "$rounds" <<'PY'
+import statistics, sys
+from timed import timed
 program, work, rounds = sys.argv[1], sys.argv[2], int(sys.argv[3])
 table, script = work + "/t.csv", work + "/s.txt"
 ours = [program, "run", "--table", table, "--script", script]
 peer = [work + "/peer", "scan", table, script]
-def timed(words):
-    start = time.perf_counter()
-    child = subprocess.Popen(words, stdout=subprocess.PIPE, stderr=subprocess.DEVNULL)
-    text = child.stdout.read()
-    _, status, usage = os.wait4(child.pid, 0)
-    assert status == 0, status
-    return time.perf_counter() - start, usage.ru_maxrss, text
 times, peers, memory = [], [], 0
 for _ in range(rounds):
     a, kilobytes, mine = timed(ours)

@@ -9,8 +9,9 @@ rows=${1:-1000000}
 calls=${2:-100000}
 rounds=${3:-9}
 peer
-python3 - "$program" "$work" "$rows" "$calls" "$rounds" <<'PY'
-import os, random, statistics, subprocess, sys, time
+PYTHONPATH=$top/bench PYTHONDONTWRITEBYTECODE=1 python3 - "$program" "$work" "$rows" "$calls" "$rounds" <<'PY'
+import random, statistics, sys
+from timed import timed
 program, work = sys.argv[1], sys.argv[2]
 rows, calls, rounds = int(sys.argv[3]), int(sys.argv[4]), int(sys.argv[5])
 bound, most = 1 << 30, 1048576
@@ -32,13 +33,6 @@ def script(name, rows, calls):
                 out.write("delete %d\n" % draw.randint(1, made))
         out.write("count\n")
     assert made <= most, "more rows than a table may have"
-def timed(words):
-    start = time.perf_counter()
-    child = subprocess.Popen(words, stdout=subprocess.PIPE, stderr=subprocess.DEVNULL)
-    text = child.stdout.read()
-    _, status, usage = os.wait4(child.pid, 0)
-    assert status == 0, status
-    return time.perf_counter() - start, usage.ru_maxrss, text
 def ours(table, script):
     return timed([program, "run", "--table", work + "/" + table, "--script", work + "/" + script])
 table("t.csv", rows)

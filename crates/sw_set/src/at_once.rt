@@ -16,7 +16,8 @@ use sw_map::{CrackerMap, Tail};
 use sw_rows::Refusal;
 use sw_tape::Tape;
 
-/// Steps the first boxes at once, each towards the tape's end, after the others one by one; a single one is stepped by the caller. A box whose step is refused stops at the cursor that it reached, and the others go on.
+/// Steps the first boxes at once, each towards the tape's end, after the others one by one; a single one is stepped by the caller.
+/// A box whose step is refused stops at the cursor that it reached, and the others go on.
 fn step_first<R: Threads + Sync, M: CrackerMap>(
     rt: &R,
     attribute: u8,
