@@ -126,7 +126,7 @@ fn ends_in(bytes: &[u8]) -> u64 {
     ends
 }
 
-/// A source of a table before another, which tells how many lines went by.
+/// A source of a table before another, which tells how many lines went by. It counts them only where they are told.
 #[derive(Drop)]
 pub struct Lines<'s, 'r, S: Source, R: Clock + Eprint> {
     source: S,
@@ -152,10 +152,12 @@ impl<S: Source, R: Clock + Eprint> Source for Lines<'_, '_, S, R> {
 
     fn read_some(&mut self, buf: &mut [u8]) -> io::Result<usize> {
         let count = self.source.read_some(buf)?;
-        let (given, _) = buf.split_at(count);
-        self.read = self.read.saturating_add(ends_in(given));
-        self.seen
-            .tell(self.seen.now(), self.read, "lines of the table read");
+        if self.seen.is_telling {
+            let (given, _) = buf.split_at(count);
+            self.read = self.read.saturating_add(ends_in(given));
+            self.seen
+                .tell(self.seen.now(), self.read, "lines of the table read");
+        }
         Ok(count)
     }
 

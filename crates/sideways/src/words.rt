@@ -96,7 +96,7 @@ fn quiet<'a>(alloc: Global) -> Arg<'a> {
     Arg::new(alloc, "quiet")
         .long("quiet")
         .help(
-            "Leaves out the lines that tell how far a run is: after its first second one a second, on standard error, where that is a terminal",
+            "Leaves out the lines that tell on standard error, where that is a terminal, how far the run is: one a second, after the first second",
         )
         .action(ArgAction::SetTrue)
 }
