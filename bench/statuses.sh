@@ -52,11 +52,20 @@ head -c 20 legal.json >cut.json
 printf 'count where a >= 10\n---\ncount where b >= 6\n' >blocks.txt
 mkdir folder
 
+# How many refusals are explained, each beginning with its number.
+explained() { "$program" explain | grep -c '^refused [0-9]'; }
+
+# The first line of what is said of a refusal.
+explained_first() { "$program" explain "$1" | sed -n 1p; }
+
 run() { "$program" run --table t.csv --script count.txt "$@"; }
 
 # 0: all was answered
 case_of 'help' 0 '*' '' "$program" --help
 case_of 'help of run' 0 '*' '' "$program" run --help
+case_of 'a refusal explained' 0 'refused 4 name N: the table has no attribute of this name.' '' explained_first 4
+case_of 'all refusals explained' 0 14 '' explained
+case_of 'a number that no refusal has' 2 '' '*' "$program" explain 15
 case_of 'a run' 0 4 '' run
 case_of 'a run that writes its history' 0 4 '' run --history kept.json
 case_of 'its history' 0 'legal: 1 entries' '' "$program" check kept.json
@@ -144,6 +153,7 @@ case_of 'a history that is a folder' 2 '' 'sideways: refused 12' "$program" chec
 case_of 'a history that is cut' 2 '' 'sideways: refused 3 line 0 why History' "$program" check cut.json
 
 # 3: the output, the history file, or memory
+case_of 'an explanation to a full device' 3 '' 'sideways: refused 13' to_full "$program" explain
 case_of 'help to a full device' 3 '' 'sideways: refused 13' to_full "$program" --help
 case_of 'a run to a full device' 3 '' 'sideways: refused 13' to_full run
 case_of 'a verdict to a full device' 3 '' 'sideways: refused 13' to_full "$program" check legal.json

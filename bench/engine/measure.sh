@@ -13,7 +13,7 @@
 #   bench/peers/peer.cpp in crack mode, as processes side by side;
 #   counts a second of two sessions on one head, ten times CALLS each, to those of one that makes all of them;
 #   inserts and deletes a second of four sessions to those of one, over half the rows, a thousand times CALLS in all;
-#   the greatest memory of one session with CALLS counts on one head, beside the opening rows of 72 bytes.
+#   the greatest memory of one session with CALLS counts on one head, beside rows of 72 bytes, and beside the opening rows, packed.
 # Four threads need four processors: on a busy machine RUN='chrt -f 10' (as root) runs all sides at real-time priority.
 # It needs rt, g++, python3 and /usr/bin/time. Nothing of the repository is written.
 set -euo pipefail
@@ -34,7 +34,7 @@ for proof in "$here"/*.antt.txt; do
   cp "$proof" "$proofs/$name/$file.antt"
 done
 build program engine "$here/engine.rt.txt" \
-  sw_rows sw_lang sw_kernel sw_tape sw_budget sw_map sw_bits sw_slots sw_set sw_spine sw_tie sw_chunks sw_engine anyhow
+  sw_table sw_rows sw_lang sw_kernel sw_tape sw_budget sw_map sw_bits sw_slots sw_set sw_spine sw_tie sw_chunks sw_engine anyhow
 g++ -O3 -march=native -o "$work/peer" "$top/bench/peers/peer.cpp"
 
 python3 - "$work" "$rows" "$rounds" "$calls" "${RUN:-}" <<'END'
@@ -121,6 +121,7 @@ def memory():
     done = subprocess.run(["/usr/bin/time", "-f", "%M", program, "engine", "count", str(rows), str(calls), "1", "1"], capture_output=True)
     return int(done.stderr.split()[-1]) * 1024
 
-most, table = median([memory() for _ in range(3)]), 72 * rows
-print(f"greatest memory {most / 1e6:.1f} MB, the opening rows {table / 1e6:.1f} MB: {most / table:.2f} times")
+most, table, packed = median([memory() for _ in range(3)]), 72 * rows, 32 * rows
+print(f"greatest memory {most / 1e6:.1f} MB, rows of 72 bytes {table / 1e6:.1f} MB: {most / table:.2f} times; the opening rows, packed, "
+      f"{packed / 1e6:.1f} MB: {most / packed:.2f} times")
 END

@@ -37,7 +37,8 @@ static uint64_t next(void) {
 int main(int count, char **words) {
   if (count != 5) return 2;
   size_t n = strtoull(words[1], 0, 0), piece = strtoull(words[4], 0, 0);
-  int repeats = atoi(words[2]), percent = atoi(words[3]), wrong = 0;
+  int repeats = atoi(words[2]), wrong = 0;
+  double percent = atof(words[3]);
   if (piece > n) piece = n;
   n -= n % piece;
   size_t bytes = n * sizeof(int64_t);
@@ -46,7 +47,7 @@ int main(int count, char **words) {
     head[i] = (int64_t)(next() >> 1) - (1ll << 62);
     tail[i] = (int64_t)i;
   }
-  int64_t pivot = (int64_t)((double)percent / 100.0 * 9.223372036854775807e18 - 4.611686018427387904e18);
+  int64_t pivot = (int64_t)(percent / 100.0 * 9.223372036854775807e18 - 4.611686018427387904e18);
   double *times = calloc((size_t)(COUNT * repeats), sizeof *times);
   memcpy(want_h, head, bytes);
   memcpy(want_t, tail, bytes);
@@ -68,7 +69,7 @@ int main(int count, char **words) {
   }
   for (int q = 0; q < COUNT; q++) {
     qsort(times + q * repeats, repeats, sizeof *times, by_value);
-    printf("%zu %zu %d %s %.4f %.4f\n", n, piece, percent, all[q].name, times[q * repeats], times[q * repeats + repeats / 2]);
+    printf("%zu %zu %g %s %.4f %.4f\n", n, piece, percent, all[q].name, times[q * repeats], times[q * repeats + repeats / 2]);
   }
   return wrong;
 }

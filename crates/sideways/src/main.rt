@@ -1,16 +1,18 @@
 //! The program `sideways`: a table and a script go in, reply lines come out, and perhaps a history file; or the history
-//! of such a file is checked.
+//! of such a file is checked; or a refusal is explained.
 //!
 //! The exit status is 0 where all was answered, 1 where a history is not legal, 2 where the command line or what is
 //! read is refused, and 3 where a call, the output or memory is.
 #![tactic(auto)]
 
+mod explaining;
 mod seeing;
 mod words;
 
 ghost use Rattle.std.specs.Prelude.{◌≡◌, ◌<◌, ◌≤◌, All, IfSome};
 ghost use Rattle.sw_map.specs.Held.{blank};
 
+use crate::explaining::write_explanations;
 use crate::seeing::{Lines, Seen};
 use crate::words::command;
 use clap::error::ErrorKind;
@@ -221,6 +223,15 @@ fn check_path<R: Files + Print>(rt: &R, alloc: Global, given: &ArgMatches) -> Re
     check_file(alloc, bytes.as_slice(), &mut Counted::new(io::writer(rt)))
 }
 
+/// Writes what the refusals mean, or the one whose number is given.
+fn explain<R: Print>(rt: &R, given: &ArgMatches) -> Result<u8, Refusal> {
+    write_explanations(
+        given.get_one::<u64>("number"),
+        &mut Counted::new(io::writer(rt)),
+    )?;
+    Ok(0)
+}
+
 /// Makes what the words ask for.
 fn made<R: Files + Clock + Print + Eprint + Threads + Wait + Sync, E: Sink + Drop>(
     rt: &R,
@@ -231,6 +242,7 @@ fn made<R: Files + Clock + Print + Eprint + Threads + Wait + Sync, E: Sink + Dro
     match matches.subcommand() {
         None => Ok(2),
         Some(("check", given)) => check_path(rt, alloc, given),
+        Some(("explain", given)) => explain(rt, given),
         Some((_, given)) => run_files(rt, alloc, given, errors),
     }
 }

@@ -140,12 +140,25 @@ fn check_command<'a>(alloc: Global) -> Result<Command<'a>, AllocError> {
         )
 }
 
-/// The command lines that are taken: `run` with its files and flags, and `check` with its file.
+fn explain_command<'a>(alloc: Global) -> Result<Command<'a>, AllocError> {
+    Command::new(alloc, "explain")
+        .about("Says what the number after `refused` means, and what to do about it")
+        .arg(
+            Arg::new(alloc, "number")
+                .value_name("N")
+                .help("The number: 1 to 14; all of them where it is left out")
+                .value_parser(clap::value_parser!(u64).range(1..=14))
+                .action(ArgAction::Set),
+        )
+}
+
+/// The command lines that are taken: `run` with its files and flags, `check` with its file, and `explain` with a number.
 pub fn command<'a>(alloc: Global) -> Result<Command<'a>, AllocError> {
     let run = run_command(alloc)?;
     Command::new(alloc, "sideways")
         .about("A column engine whose answers are proved")
         .subcommand_required(true)
         .subcommand(run)?
-        .subcommand(check_command(alloc)?)
+        .subcommand(check_command(alloc)?)?
+        .subcommand(explain_command(alloc)?)
 }

@@ -5,7 +5,7 @@ use crate::words::{number, place, push_unescaped, split};
 use crate::{calls, refusals, replies, sinks, tables};
 use std::alloc::{AllocError, Global};
 use sw_lang::parse_line;
-use sw_rows::{Call, Counted, Refusal, Row, Schema, Update, has_key, load, update, update_all};
+use sw_rows::{Call, Counted, Refusal, Row, Schema, Update, has_key, update, update_all};
 
 /// A table, and the updates that were made of it.
 #[derive(Drop)]
@@ -32,7 +32,7 @@ impl Bench {
 }
 
 fn load_table(alloc: Global, text: &[u8]) -> Result<Table, Refusal> {
-    let (schema, rows) = load(alloc, &mut Counted::new(text))?;
+    let (schema, rows) = tables::load_plain(alloc, &mut Counted::new(text))?;
     Ok(Table {
         schema,
         rows,

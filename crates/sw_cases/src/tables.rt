@@ -38,9 +38,16 @@ pub fn shown(alloc: Global, schema: &Schema, rows: &[Row]) -> Result<String, All
     Ok(text)
 }
 
-/// The table that a source gives.
-fn load_shown<R: Source>(alloc: Global, source: &mut R) -> Result<String, Refusal> {
+/// The table that a source gives, its rows as a plain list.
+pub fn load_plain<R: Source>(alloc: Global, source: &mut R) -> Result<(Schema, Vec<Row>), Refusal> {
     let (schema, rows) = load(alloc, source)?;
+    let rows = held(rows.to_rows(alloc))?;
+    Ok((schema, rows))
+}
+
+/// The same, shown.
+fn load_shown<R: Source>(alloc: Global, source: &mut R) -> Result<String, Refusal> {
+    let (schema, rows) = load_plain(alloc, source)?;
     held(shown(alloc, &schema, rows.as_slice()))
 }
 

@@ -1,6 +1,6 @@
 -- A head takes what it receives.
 use Rattle.std.proofs.Common.{◌≡◌, ◌<◌, ◌++◌, ℕ, ℤ, List, map, length, get_or, take, refl, sym, ap, ◌∙◌, subst, All}
-use Rattle.sw_rows.specs.declared.row.Update.{Update}
+use Rattle.sw_table.specs.declared.row.Update.{Update}
 use Rattle.sw_set.specs.Merged.{StandsForSame}
 use Rattle.sw_set.specs.Shelf.{AreaState, Rises}
 use Rattle.sw_chunks.specs.Cleared.{AreEach}

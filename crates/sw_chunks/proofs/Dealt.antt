@@ -1,17 +1,18 @@
 -- Rows dealt out by their intervals.
-use Rattle.std.proofs.Common.{◌≡◌, ◌≢◌, ◌-◌, ◌<◌, ◌≤◌, ◌+◌, ◌==◌, ◌++◌, ℕ, zero, suc, ℤ, pos, Bool, true, false, List, [], ◌∷◌, length, get_or, set, take, filter, map, refl, sym, ap, ◌∙◌, arith, cond, Option, None, Some, Bor, All, ◌⊎◌, inl, inr, subst, get_or-set_same, get_or-set_other, length-set}
+use Rattle.std.proofs.Common.{◌≡◌, ◌≢◌, ◌-◌, ◌<◌, ◌≤◌, ◌+◌, ◌==◌, ◌++◌, ℕ, zero, suc, ℤ, pos, true, false, List, [], ◌∷◌, length, get_or, set, take, map, refl, sym, ap, ◌∙◌, arith, cond, Option, None, Some, Bor, All, ◌⊎◌, inl, inr, subst, get_or-set_same, get_or-set_other}
 use Rattle.std.specs.Option.{MatchOption, option_map}
 use Rattle.std.proofs.lemmas.Bool.{cases_eq}
 use Rattle.std.proofs.lemmas.Bool.Decides.{nat_tests}
 use Rattle.std.proofs.lemmas.List.{append-nil, take_more, map-append}
 use Rattle.std.proofs.lemmas.List.Elements.{All-filter, filter_passes}
-use Rattle.sw_rows.specs.declared.row.Row.{Row}
+use Rattle.sw_table.specs.declared.row.Row.{Row}
 use Rattle.sw_rows.specs.Scan.{cell_of}
 use Rattle.sw_set.specs.Shelf.{AreaState, Rises, key_of, lies_within}
 use Rattle.sw_kernel.specs.Replay.{loaded}
 use Rattle.sw_set.proofs.KeyOrder.{rises-filter}
 use Rattle.sw_chunks.specs.Cuts.{Interval, RiseAbove, intervals, intervals_from, lies_in, place_in}
 use Rattle.sw_chunks.specs.Heads.{opened_area, part_of}
+use Rattle.sw_chunks.specs.Places.{owner_of, owners_of}
 use Rattle.sw_chunks.proofs.Cutting.{one_interval}
 use Rattle.sw_chunks.proofs.Found.{ends-at, ends-none, starts-at, starts-none}
 use Rattle.sw_chunks.proofs.Routed.{filter-push}
@@ -71,6 +72,12 @@ dealt-more items a cuts rows n r xs p x e rise lt long at is h k d i le = by (ca
         ap (λ j. items (get_or (set xs p x) j d)) same ∙ ap items (get_or-set_same xs p x d (omega (arith, long, le, same))) ∙ is
         ∙ ap (λ j. items (get_or xs j e) ++ get_or rows n r ∷ []) (sym same) ∙ ap (λ l. l ++ get_or rows n r ∷ []) (h k e i le) ∙ part-there a cuts rows n r k i rise lt le (same ∙ at)
     by (inr other) = ap items (get_or-set_other xs p k x d other) ∙ h k d i le ∙ part-elsewhere a cuts rows n r k i rise lt le (λ q. other (q ∙ sym at))
+
+-- the owners of the rows before a place, and one more
+pub owners-next : (a : ℕ) (cuts : List ℤ) (rows : List Row) (n : ℕ) (d : Row) (os : List (ℕ × ℕ)) (o : ℕ × ℕ) → n < length rows → os ≡ owners_of a cuts (take n rows) → o ≡ owner_of a cuts (get_or rows n d) → os ++ o ∷ [] ≡ owners_of a cuts (take (n + 1) rows)
+owners-next a cuts rows n d os o lt is at =
+    ap (λ l. l ++ o ∷ []) is ∙ ap (λ x. owners_of a cuts (take n rows) ++ x ∷ []) at
+    ∙ sym (map-append (owner_of a cuts) (take n rows) (get_or rows n d ∷ [])) ∙ ap (map (owner_of a cuts)) (sym (take_more rows n d lt))
 
 -- ---- areas of the parts
 pub part-keys : (a : ℕ) (rows : List Row) (i : Interval) (P : Row → Type 0) → All P rows → All P (part_of a rows i)

@@ -1,9 +1,9 @@
 -- What a head keeps of the areas of its rows: nothing without cuts.
 use Rattle.std.proofs.Common.{◌≡◌, ◌≢◌, ◌++◌, ◌<◌, ◌==◌, cond, Bool, true, false, ℕ, ℤ, List, [], ◌∷◌, fold, map, length, take, refl, sym, ap, ap₂, ◌∙◌, subst, arith}
 use Rattle.std.proofs.lemmas.List.{take_all}
-use Rattle.sw_rows.specs.declared.row.Row.{Row}
-use Rattle.sw_rows.specs.declared.row.Update.{Update}
-use Rattle.sw_rows.specs.declared.row.Update.TheVariants as update
+use Rattle.sw_table.specs.declared.row.Row.{Row}
+use Rattle.sw_table.specs.declared.row.Update.{Update}
+use Rattle.sw_table.specs.declared.row.Update.TheVariants as update
 use Rattle.sw_set.specs.Shelf.{Rises, came_then, key_of}
 use Rattle.sw_chunks.specs.Places.{find_place, owners_added, owners_kept, owners_of, owners_then, place_by}
 use Rattle.sw_chunks.proofs.Receipt.{owners-before, owners-more, owners-rise}

@@ -3,11 +3,11 @@ use Rattle.std.proofs.Common.{◌≡◌, ◌≢◌, ◌<◌, ◌≤◌, ◌+◌,
 use Rattle.std.specs.List.{AllByRecursion}
 use Rattle.std.proofs.lemmas.Bool.Decides.{nat_tests}
 use Rattle.std.proofs.lemmas.List.{append-nil}
-use Rattle.sw_rows.specs.declared.row.Row.{Row}
-use Rattle.sw_rows.specs.declared.row.Update.{Update}
-use Rattle.sw_rows.specs.declared.row.Update.TheVariants as update
+use Rattle.sw_table.specs.declared.row.Row.{Row}
+use Rattle.sw_table.specs.declared.row.Update.{Update}
+use Rattle.sw_table.specs.declared.row.Update.TheVariants as update
 use Rattle.sw_rows.specs.Scan.{cell_of}
-use Rattle.sw_rows.specs.Updates.{has_key, rows_then, without}
+use Rattle.sw_table.specs.Updates.{has_key, rows_then, without}
 use Rattle.sw_kernel.proofs.Members.{Mem, all-mem, mem-either, mem-filtered, mem-last, mem-left}
 use Rattle.sw_set.specs.Shelf.{AreReceivable, Rises, came_then, key_of, lies_within}
 use Rattle.sw_set.proofs.Longer.{rises-last, rises-without}

@@ -2,8 +2,8 @@
 use Rattle.std.proofs.Common.{◌≡◌, ◌≢◌, ◌<◌, ◌≤◌, ◌+◌, ◌++◌, ◌==◌, nat_eq, ℕ, zero, suc, Bool, true, false, cond, List, [], ◌∷◌, drop, fold, length, get_or, slice_set, refl, sym, ap, ◌∙◌, arith, subst, All}
 use Rattle.std.proofs.lemmas.Bool.Decides.{nat_tests}
 use Rattle.std.proofs.lemmas.List.{append-nil, append_assoc}
-use Rattle.sw_rows.specs.declared.row.Update.{Update}
-use Rattle.sw_rows.specs.Updates.{rows_then}
+use Rattle.sw_table.specs.declared.row.Update.{Update}
+use Rattle.sw_table.specs.Updates.{rows_then}
 use Rattle.sw_kernel.specs.Tapes.{brought}
 use Rattle.sw_set.specs.Shelf.{AreReceivable, AreaState, came_in, came_then, logged_rows, rows_in}
 use Rattle.sw_chunks.specs.Places.{IsSent, MayBeSent, count_at, sent}

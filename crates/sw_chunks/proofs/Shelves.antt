@@ -2,7 +2,7 @@
 use Rattle.std.proofs.Common.{◌≡◌, ◌≢◌, ◌<◌, ◌≤◌, ◌+◌, ◌-◌, ◌++◌, nat_eq, ℕ, suc, Bool, true, false, List, [], ◌∷◌, length, get_or, slice_set, refl, sym, ap, ◌∙◌, arith, subst, Result, Ok, Err, MatchResult}
 use Rattle.std.proofs.lemmas.List.Sorted.{IsPermutation-refl}
 use Rattle.sw_map.specs.Held.{blank}
-use Rattle.sw_rows.specs.declared.row.Row.{Row}
+use Rattle.sw_table.specs.declared.row.Row.{Row}
 use Rattle.sw_set.specs.Prepared.{IsShed}
 use Rattle.sw_set.specs.Shelf.{AreaState, came_in, rows_in}
 use Rattle.sw_chunks.specs.Heads.{AreAreasOf, HeadState, IsHeadLawful, IsSupplied, StandsFor, interval_of}

@@ -1,7 +1,10 @@
 -- Rows that come, told one after the other.
-use Rattle.std.proofs.Common.{◌≡◌, ◌<◌, ◌≤◌, ◌+◌, ◌++◌, ℕ, ℤ, zero, suc, pos, List, [], ◌∷◌, length, get_or, take, refl, sym, ap, ◌∙◌, arith, subst, All}
+use Rattle.std.proofs.Common.{◌≡◌, ◌<◌, ◌≤◌, ◌+◌, ◌++◌, ℕ, ℤ, zero, suc, pos, List, [], ◌∷◌, length, get_or, map, take, refl, sym, ap, ◌∙◌, arith, subst, All}
 use Rattle.std.proofs.lemmas.Int.{ints}
-use Rattle.std.proofs.lemmas.List.{append_assoc}
+use Rattle.std.proofs.lemmas.List.{append_assoc, map-append}
+use Rattle.sw_table.specs.declared.row.Row.{Row}
+use Rattle.sw_table.specs.declared.row.Update.{Update}
+use Rattle.sw_table.specs.declared.row.Update.TheVariants.{Insert}
 use Rattle.sw_chunks.specs.Heads.{IsCell}
 
 next-is : (n : ℕ) → suc n ≡ n + 1
@@ -46,6 +49,12 @@ all-taken P xs n le h = subst (All P) (taken-all xs n le) h
 pub told-more : {A : Type 0} (was now old xs : List A) (n : ℕ) (e : A) → n < length xs → was ≡ old ++ take n xs → now ≡ was ++ get_or xs n e ∷ [] → now ≡ old ++ take (n + 1) xs
 told-more was now old xs n e lt h is =
     is ∙ (ap (λ l. l ++ get_or xs n e ∷ []) h ∙ (append_assoc old (take n xs) (get_or xs n e ∷ []) ∙ ap (λ l. old ++ l) (sym (taken-more xs n e lt))))
+
+-- rows told as insertions, and one row more
+pub inserted-more : (rows : List Row) (n : ℕ) (d : Row) (was now : List Update) (r : Row) → n < length rows → was ≡ map Insert (take n rows) → r ≡ get_or rows n d → now ≡ was ++ Insert r ∷ [] → now ≡ map Insert (take (n + 1) rows)
+inserted-more rows n d was now r lt is at more =
+    more ∙ ap (λ l. l ++ Insert r ∷ []) is ∙ ap (λ (x : Row). map Insert (take n rows) ++ Insert x ∷ []) at
+    ∙ sym (map-append Insert (take n rows) (get_or rows n d ∷ [])) ∙ ap (map Insert) (sym (taken-more rows n d lt))
 
 -- cells of 64 bits, and past them nothing
 pub cell-at : (cells : List ℤ) → All IsCell cells → (a : ℕ) → IsCell (get_or cells a (pos 0))

@@ -1,11 +1,11 @@
 -- The areas of a head, asked one after the other.
-use Rattle.std.specs.Prelude.{◌≡◌, ◌≢◌, ◌<◌, ◌≤◌, ◌&&◌, ◌*◌, ℕ, ℤ, Bool, List, Result, Err, min, [], ◌∷◌, if◌then◌else◌, true, false, filter, fold, get_or, length, map}
+use Rattle.std.specs.Prelude.{◌≡◌, ◌≢◌, ◌<◌, ◌≤◌, ◌*◌, ℕ, ℤ, Bool, List, Result, Err, min, [], ◌∷◌, if◌then◌else◌, true, false, filter, get_or, length, map}
 use Rattle.sw_rows.specs.declared.query.Query.{Query}
 use Rattle.sw_rows.specs.declared.reply.Reply.{Reply}
-use Rattle.sw_rows.specs.declared.row.Row.{Row}
-use Rattle.sw_rows.specs.declared.row.Update.{Update}
+use Rattle.sw_table.specs.declared.row.Row.{Row}
+use Rattle.sw_table.specs.declared.row.Update.{Update}
 use Rattle.sw_rows.specs.Scan.{answer, answer_over}
-use Rattle.sw_rows.specs.Updates.{rows_of}
+use Rattle.sw_table.specs.Updates.{rows_of}
 use Rattle.sw_rows.specs.declared.refusal.Refusal.{Refusal}
 use Rattle.sw_rows.specs.declared.refusal.Refusal.TheVariants.{Short}
 use Rattle.sw_set.specs.declared.prepare.Ready.{Ready}
@@ -69,13 +69,15 @@ pub record AreAskedBefore (q : Query) (k : ℕ) (xs ys : List AreaState) (scans 
 -- the areas of a head, asked one after the other, give the answer over all rows that its updates leave
 abbrev pub AreasAnswer : Type 0
 AreasAnswer =
-    (us : List Update) (a : ℕ) (cuts : List ℤ) (xs : List AreaState) (q : Query) → AreAreasOf a cuts xs → StandsFor us a cuts xs → head_in q.conds ≡ a
+    (us : List Update) (a : ℕ) (cuts : List ℤ) (xs : List AreaState) (q : Query)
+    → AreAreasOf a cuts xs → StandsFor us a cuts xs → head_in q.conds ≡ a
     → with_all q (answer_over [] q.want) xs ≡ answer (rows_of us) q
 
 -- areas that stand for the same rows stand for the same updates
 abbrev pub SameStand : Type 0
 SameStand =
-    (us : List Update) (a : ℕ) (cuts : List ℤ) (xs ys : List AreaState) → AreEach StandsForSame xs ys → AreAreasOf a cuts xs → StandsFor us a cuts xs
+    (us : List Update) (a : ℕ) (cuts : List ℤ) (xs ys : List AreaState)
+    → AreEach StandsForSame xs ys → AreAreasOf a cuts xs → StandsFor us a cuts xs
     → AreAreasOf a cuts ys × StandsFor us a cuts ys
 
 -- the cells that other areas are asked for where an area is short: what was wanted, for each map that the query needs

@@ -4,9 +4,13 @@ use Rattle.sw_map.specs.Held.{Held}
 use Rattle.sw_set.specs.Shelf.{AreaState}
 use Rattle.sw_set.specs.Prepared.{IsSameButBoxes}
 
--- place by place
+-- what holds of each area and of that at its place in the other list
+abbrev pub HoldsOfEach : (AreaState → AreaState → Type 0) → List AreaState → List AreaState → Type 0
+HoldsOfEach P xs ys = (k : ℕ) (d e : AreaState) → k < length xs → P (get_or xs k d) (get_or ys k e)
+
+-- place by place, in lists that are as long as each other
 abbrev pub AreEach : (AreaState → AreaState → Type 0) → List AreaState → List AreaState → Type 0
-AreEach P xs ys = (length ys ≡ length xs) × ((k : ℕ) (d e : AreaState) → k < length xs → P (get_or xs k d) (get_or ys k e))
+AreEach P xs ys = (length ys ≡ length xs) × HoldsOfEach P xs ys
 
 -- a sum over a list
 abbrev pub sum_of : {A : Type 0} → (A → ℕ) → List A → ℕ
@@ -30,6 +34,10 @@ IsAllBlank x = All (λ (m : Held). m.is_blank ≡ true) x.boxes
 -- no area has a map, but perhaps the one at a place
 abbrev pub AreBlankBut : ℕ → List AreaState → Type 0
 AreBlankBut but xs = (k : ℕ) (d : AreaState) → k < length xs → k ≢ but → IsAllBlank (get_or xs k d)
+
+-- the area at a place, which is not the one, has a map
+abbrev pub IsMappedBut : ℕ → List AreaState → ℕ → Type 0
+IsMappedBut but xs k = (k < length xs) × (k ≢ but) × ((d : AreaState) → HasMap (get_or xs k d))
 
 -- The areas after maps were cleared in all but the one at a place, until so many cells came back or none was left: what came
 -- back is told, up to the greatest number of the type.

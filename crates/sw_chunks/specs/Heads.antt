@@ -1,18 +1,21 @@
 -- What a head is, and which rows it stands for.
-use Rattle.std.specs.Prelude.{◌≡◌, ◌∷◌, ◌++◌, ◌<◌, ◌≤◌, ◌+◌, ◌^◌, ◌&&◌, ◌⊎◌, ◌≤ℤ◌, neg_ℤ, pos, ℕ, ℤ, Bool, List, [], true, false, get_or, length, map, filter, min, slice_set, sum, None, All}
-use Rattle.sw_rows.specs.declared.row.Row.{Row}
-use Rattle.sw_rows.specs.declared.row.Update.{Update}
-use Rattle.sw_rows.specs.declared.row.Update.TheVariants as update
+use Rattle.std.specs.Prelude.{◌≡◌, ◌∷◌, ◌++◌, ◌<◌, ◌≤◌, ◌^◌, ◌&&◌, ◌≤ℤ◌, neg_ℤ, pos, ℕ, ℤ, Bool, List, [], true, false, get_or, length, map, filter, slice_set, None, All}
+use Rattle.sw_table.specs.declared.row.Row.{Row}
+use Rattle.sw_table.specs.declared.row.Update.{Update}
+use Rattle.sw_table.specs.declared.row.Update.TheVariants as update
 use Rattle.sw_rows.specs.declared.query.Query.{Query}
-use Rattle.sw_rows.specs.declared.reply.Reply.{Reply}
-use Rattle.sw_rows.specs.Scan.{answer, cell_of}
-use Rattle.sw_rows.specs.Updates.{rows_of}
-use Rattle.sw_map.specs.Held.{Held, blank}
+use Rattle.sw_rows.specs.declared.refusal.Refusal.{Refusal}
+use Rattle.sw_rows.specs.declared.refusal.Refusal.TheVariants.{NoMemory}
+use Rattle.sw_rows.specs.Scan.{cell_of}
+use Rattle.sw_table.specs.Packed.{Packed}
+use Rattle.sw_table.specs.Updates.{rows_of}
+use Rattle.sw_map.specs.Held.{blank}
 use Rattle.sw_set.specs.Needs.{edge, lower_in, touches, upper_in}
 use Rattle.sw_set.specs.Shelf.{AreaState, Rises, came_in, key_of, lies_within, loaded_area, rows_in}
 use Rattle.sw_set.specs.Prepared.{IsSameButBoxes, area_lower, area_upper, is_touched, stands_if}
 use Rattle.sw_chunks.specs.Routing.{CameHere, given_by}
-use Rattle.sw_chunks.specs.Cleared.{AreEach}
+use Rattle.sw_chunks.specs.Places.{owners_kept}
+use Rattle.sw_chunks.specs.Cleared.{AreEach, HoldsOfEach}
 use Rattle.sw_chunks.specs.Shelved.{IsFewest}
 use Rattle.sw_chunks.specs.Cuts.{Interval, RiseAbove, intervals}
 
@@ -30,6 +33,12 @@ interval_of x = (x.from, x.below)
 -- the rows that lie in an interval
 abbrev pub part_of : ℕ → List Row → Interval → List Row
 part_of a rows i = filter (lies_within a i.0 i.1) rows
+
+-- parts of rows, one for each interval of the cuts: each has the rows that lie there
+abbrev pub ArePartsOf : ℕ → List ℤ → List Row → List Packed → Type 0
+ArePartsOf a cuts rows parts =
+    (k : ℕ) (d : Packed) (i : Interval) → k ≤ length cuts
+    → (get_or parts k d).items ≡ part_of a rows (get_or (intervals cuts) k i)
 
 -- Each area has the rows of these updates that lie in its interval, and no key that came to it exceeds all that came by them.
 pub record StandsFor (us : List Update) (a : ℕ) (cuts : List ℤ) (xs : List AreaState) : Type 0 where
@@ -69,6 +78,14 @@ pub record IsHeadLawful (h : HeadState) : Type 0 where
   pub fit : All RowFits (given_by h.updates)
   pub came_rise : Rises key_of (given_by h.updates)
 
+-- the head of these parts
+abbrev pub head_of : ℕ → List ℤ → List (Update × Bool) → List AreaState → HeadState
+head_of a cuts told xs = record { attribute = a; cuts = cuts; updates = told_in told; areas = xs }
+
+-- the head is lawful, and these are the owners that it keeps
+abbrev pub IsKeptBy : List (ℕ × ℕ) → HeadState → Type 0
+IsKeptBy owners h = IsHeadLawful h × (owners ≡ owners_kept h.attribute h.cuts (given_by h.updates))
+
 -- the head, for its callers: it has the same attribute and cuts, and stands for the same updates
 pub record IsSameHead (g h : HeadState) : Type 0 where
   pub attribute : h.attribute ≡ g.attribute
@@ -80,9 +97,14 @@ pub record IsSameHead (g h : HeadState) : Type 0 where
 abbrev pub opened_area : ℕ → List Row → Interval → AreaState
 opened_area a rows i = loaded_area a i.0 i.1 (part_of a rows i)
 
+-- one of each interval
+abbrev pub opened_areas : ℕ → List ℤ → List Row → List AreaState
+opened_areas a cuts rows = map (opened_area a rows) (intervals cuts)
+
 -- a head opened with rows: they stand as insertions, and no area has boxes
 abbrev pub opened : ℕ → List ℤ → List Row → HeadState
-opened a cuts rows = record { attribute = a; cuts = cuts; updates = map update.Insert rows; areas = map (opened_area a rows) (intervals cuts) }
+opened a cuts rows =
+    record { attribute = a; cuts = cuts; updates = map update.Insert rows; areas = opened_areas a cuts rows }
 
 -- whether a query touches an interval
 abbrev pub meets_interval : Query → Interval → Bool
@@ -94,11 +116,11 @@ IsRanged q x = is_touched x q ≡ true → stands_if (area_lower x q) x.tape && 
 
 -- the areas that a query does not touch are as they were, but that maps may have been cleared
 abbrev pub AreUntouchedKept : Query → List AreaState → List AreaState → Type 0
-AreUntouchedKept q xs ys = (k : ℕ) (d e : AreaState) → k < length xs → is_touched (get_or xs k d) q ≡ false → IsSameButBoxes (get_or xs k d) (get_or ys k e)
+AreUntouchedKept q xs ys = HoldsOfEach (λ x y. is_touched x q ≡ false → IsSameButBoxes x y) xs ys
 
 -- they are what they were
 abbrev pub AreUntouchedSame : Query → List AreaState → List AreaState → Type 0
-AreUntouchedSame q xs ys = (k : ℕ) (d e : AreaState) → k < length xs → is_touched (get_or xs k d) q ≡ false → get_or ys k e ≡ get_or xs k d
+AreUntouchedSame q xs ys = HoldsOfEach (λ x y. is_touched x q ≡ false → y ≡ x) xs ys
 
 -- the areas that a query touches
 abbrev pub touched_of : Query → List AreaState → List AreaState
@@ -123,8 +145,21 @@ pub record HasReceived (us : List Update) (g h : HeadState) : Type 0 where
   pub updates : h.updates ≡ g.updates ++ us
   pub areas : AreEach IsSameButInbox g.areas h.areas
 
+-- The head after it refused updates: it is what it was, but for the room of its areas.
+pub record IsSameButRoom (g h : HeadState) : Type 0 where
+  pub same : IsSameHead g h
+  pub areas : AreEach IsSameButSpare g.areas h.areas
+
+-- an area with one blank box more
+abbrev pub with_blank : AreaState → AreaState
+with_blank x = record x { boxes = x.boxes ++ blank ∷ [] }
+
 -- The area with the fewest boxes, of several the lowest, has one blank box more.
 pub record IsSupplied (g h : HeadState) : Type 0 where
   pub at : ℕ
   pub fewest : IsFewest at g.areas
-  pub supplied : (d : AreaState) → h ≡ record g { areas = slice_set g.areas at (record (get_or g.areas at d) { boxes = (get_or g.areas at d).boxes ++ blank ∷ [] }) }
+  pub supplied : (d : AreaState) → h ≡ record g { areas = slice_set g.areas at (with_blank (get_or g.areas at d)) }
+
+-- for want of memory nothing has changed, and what was handed in comes back
+abbrev pub ComesBack : {X Y : Type 0} → X → X → Y → Y × Refusal → Type 0
+ComesBack was now it r = (now ≡ was) × (r.0 ≡ it) × (r.1 ≡ NoMemory)

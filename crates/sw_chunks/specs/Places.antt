@@ -1,8 +1,8 @@
 -- Into which area an update goes.
-use Rattle.std.specs.Prelude.{◌≡◌, ◌==◌, ◌+◌, ◌++◌, if◌then◌else◌, ℕ, ℤ, List, [], ◌∷◌, fold, map}
-use Rattle.sw_rows.specs.declared.row.Row.{Row}
-use Rattle.sw_rows.specs.declared.row.Update.{Update}
-use Rattle.sw_rows.specs.declared.row.Update.TheVariants as update
+use Rattle.std.specs.Prelude.{◌≡◌, ◌≢◌, ◌<◌, ◌≤◌, ◌==◌, ◌+◌, ◌++◌, if◌then◌else◌, ℕ, ℤ, List, [], ◌∷◌, fold, get_or, length, map, slice_index_or}
+use Rattle.sw_table.specs.declared.row.Row.{Row}
+use Rattle.sw_table.specs.declared.row.Update.{Update}
+use Rattle.sw_table.specs.declared.row.Update.TheVariants as update
 use Rattle.sw_rows.specs.Scan.{cell_of}
 use Rattle.sw_set.specs.Shelf.{AreReceivable, AreaState, came_in, rows_in}
 use Rattle.sw_chunks.specs.Cuts.{place_in}
@@ -25,6 +25,18 @@ abbrev pub place_by : ℕ → List ℤ → List (ℕ × ℕ) → Update → ℕ
 place_by a cuts owners (update.Insert r) = place_of_row a cuts r
 place_by a cuts owners (update.Remove key) = find_place key owners
 
+-- the places of updates
+abbrev pub places_of : ℕ → List ℤ → List (ℕ × ℕ) → List Update → List ℕ
+places_of a cuts owners us = map (place_by a cuts owners) us
+
+-- the key stands at a place
+abbrev pub StandsAt : List (ℕ × ℕ) → ℕ → ℕ → Type 0
+StandsAt owners place key = (place < length owners) × ((d : ℕ × ℕ) → (slice_index_or owners place d).0 ≡ key)
+
+-- another stands there, or none
+abbrev pub IsNotAt : List (ℕ × ℕ) → ℕ → ℕ → Type 0
+IsNotAt owners place key = (d : ℕ × ℕ) → place < length owners → (slice_index_or owners place d).0 ≢ key
+
 -- how many of these places are the one
 abbrev pub count_at : ℕ → List ℕ → ℕ
 count_at place [] = 0
@@ -44,20 +56,44 @@ sent place [] us = []
 sent place (p ∷ ps) [] = []
 sent place (p ∷ ps) (u ∷ us) = if p == place then u ∷ sent place ps us else sent place ps us
 
--- an area may receive what is sent to its place
-abbrev pub MayBeSent : ℕ → List ℕ → List Update → AreaState → Type 0
-MayBeSent place ps us x = AreReceivable x.attribute x.from x.below (came_in x) (rows_in x) (sent place ps us)
+-- an area may receive updates
+abbrev pub MayCome : AreaState → List Update → Type 0
+MayCome x us = AreReceivable x.attribute x.from x.below (came_in x) (rows_in x) us
 
--- and it waits there
+-- it may receive what is sent to its place
+abbrev pub MayBeSent : ℕ → List ℕ → List Update → AreaState → Type 0
+MayBeSent place ps us x = MayCome x (sent place ps us)
+
+-- and so may each
+abbrev pub MayEachBeSent : List ℕ → List Update → List AreaState → Type 0
+MayEachBeSent ps us xs = (k : ℕ) (d : AreaState) → k < length xs → MayBeSent k ps us (get_or xs k d)
+
+-- each has room for as many as go there
+abbrev pub HaveRoom : List ℕ → List AreaState → Type 0
+HaveRoom ps xs = (k : ℕ) (d : AreaState) → k < length xs → count_at k ps ≤ (get_or xs k d).spare
+
+-- what is sent to an area's place waits there
 abbrev pub IsSent : ℕ → List ℕ → List Update → AreaState → AreaState → Type 0
 IsSent place ps us x y = y ≡ record x { inbox = x.inbox ++ sent place ps us; spare = y.spare }
+
+-- and so at each place
+abbrev pub AreSent : List ℕ → List Update → List AreaState → List AreaState → Type 0
+AreSent ps us xs ys = (k : ℕ) (d e : AreaState) → k < length xs → IsSent k ps us (get_or xs k d) (get_or ys k e)
+
+-- updates were shared out: what goes to each area by these owners waits there
+abbrev pub AreShared : ℕ → List ℤ → List (ℕ × ℕ) → List Update → List AreaState → List AreaState → Type 0
+AreShared a cuts owners us xs ys = AreSent (places_of a cuts owners us) us xs ys
 
 -- the rows and their areas, with one more if the update is a row that comes
 abbrev pub owners_then : ℕ → List ℤ → List (ℕ × ℕ) → Update → List (ℕ × ℕ)
 owners_then a cuts os (update.Insert r) = os ++ owner_of a cuts r ∷ []
 owners_then a cuts os (update.Remove key) = os
 
+-- and after updates
+abbrev pub owners_with : ℕ → List ℤ → List (ℕ × ℕ) → List Update → List (ℕ × ℕ)
+owners_with a cuts os us = fold (owners_then a cuts) os us
+
 -- what a head keeps, after updates
 abbrev pub owners_added : ℕ → List ℤ → List (ℕ × ℕ) → List Update → List (ℕ × ℕ)
 owners_added a [] os us = os
-owners_added a (c ∷ cs) os us = fold (owners_then a (c ∷ cs)) os us
+owners_added a (c ∷ cs) os us = owners_with a (c ∷ cs) os us

@@ -27,6 +27,9 @@ boxes_in xs = sum_of (λ (x : AreaState). length x.boxes) xs
 abbrev pub HasParted : AreaState → AreaState → Type 0
 HasParted x y = (went : List Held) × IsPermutation x.boxes (went ++ y.boxes)
 
+abbrev pub HasBox : AreaState → Type 0
+HasBox x = 0 < length x.boxes
+
 -- Boxes were dropped, those of the lowest areas first: at most so many, and all where there are no more. Each area's are those
 -- that it had, but for what went.
 pub record AreShed (most : ℕ) (xs ys : List AreaState) (gone : ℕ) : Type 0 where
@@ -36,4 +39,5 @@ pub record AreShed (most : ℕ) (xs ys : List AreaState) (gone : ℕ) : Type 0 w
   pub boxes : boxes_in ys + gone ≡ boxes_in xs
   pub few : gone ≤ most
   pub all : gone < most → boxes_in ys ≡ 0
-  pub lowest : (j k : ℕ) (d e : AreaState) → j < k → k < length xs → 0 < length (get_or ys j d).boxes → get_or ys k e ≡ get_or xs k e
+  pub lowest : (j k : ℕ) (d e : AreaState) → j < k → k < length xs
+      → HasBox (get_or ys j d) → get_or ys k e ≡ get_or xs k e

@@ -1,8 +1,7 @@
 //! Maps of a head's areas, cleared by least recent use.
 
-ghost use Rattle.std.specs.Prelude.{◌≡◌, ◌≢◌, ◌<◌, ◌⊎◌, ◌+◌, length, min, true, false, Any, MatchOption, Some, get_or};
-ghost use Rattle.sw_set.specs.Shelf.{AreaState};
-ghost use Rattle.sw_chunks.specs.Cleared.{AreClearedBut, AreBlankBut, HasMap};
+ghost use Rattle.std.specs.Prelude.{◌≡◌, ◌⊎◌, ◌+◌, min, MatchOption, Some};
+ghost use Rattle.sw_chunks.specs.Cleared.{AreBlankBut, AreClearedBut, IsMappedBut};
 
 use sw_map::CrackerMap;
 use sw_set::Area;
@@ -22,7 +21,7 @@ fn older(best: Option<(usize, u64)>, at: usize, stamp: u64) -> (usize, u64)
 
 /// The area, but for one, that has the least recently used map; of several the lowest.
 fn oldest_but<M: CrackerMap>(areas: &[Area<M>], but: usize) -> Option<usize>
-    ensures { MatchOption result (AreBlankBut but areas.now) (λ k. (k < length areas.now) × (k ≢ but) × ((d : AreaState) → HasMap (get_or areas.now k d))) }
+    ensures { MatchOption result (AreBlankBut but areas.now) (IsMappedBut but areas.now) }
 {
     let mut best = None;
     for k in 0..areas.len() {

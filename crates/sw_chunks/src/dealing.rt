@@ -1,29 +1,31 @@
 //! Areas made of rows.
 
-ghost use Rattle.std.specs.Prelude.{◌≡◌, ◌≤◌, ◌<◌, ◌^◌, ◌+◌, ◌++◌, ◌∷◌, [], ℕ, get_or, length, map, All, IfOk, IsOkUnless, MatchResult, vec_len};
+ghost use Rattle.std.specs.Prelude.{◌≡◌, ◌≤◌, ◌<◌, ◌^◌, ◌+◌, ◌++◌, ◌∷◌, [], ℕ, get_or, length, All, IfOk, IsOkUnless, OnOk, vec_len};
 ghost use Rattle.sw_rows.specs.declared.refusal.Refusal.TheVariants.{NoMemory};
-ghost use Rattle.sw_rows.specs.declared.row.Row.{Row};
+ghost use Rattle.sw_table.specs.declared.row.Row.{Row};
 ghost use Rattle.sw_set.specs.Shelf.{Rises, key_of};
 ghost use Rattle.sw_chunks.specs.Cuts.{Interval, RiseAbove, intervals};
-ghost use Rattle.sw_chunks.specs.Heads.{opened_area, part_of};
+ghost use Rattle.sw_chunks.specs.Heads.{ArePartsOf, opened_areas};
 ghost use Rattle.sw_chunks.specs.Places.{owners_kept, owners_of};
 
 use crate::places::place_in;
 use std::alloc::Global;
 use std::mem;
 use sw_map::CrackerMap;
-use sw_rows::{Refusal, Row};
+use sw_rows::{PackedRows, Refusal, Row};
 use sw_set::Area;
 
-/// As many empty parts as that. Refused `NoMemory` alone.
-fn empty_parts(alloc: Global, many: usize) -> Result<Vec<Vec<Row>>, Refusal>
+/// As many empty parts as that, of rows of so many cells. Refused `NoMemory` alone.
+fn empty_parts(alloc: Global, width: usize, many: usize) -> Result<Vec<PackedRows>, Refusal>
+    requires some { 1 ≤ width }
+    requires most { width ≤ 8 }
     ensures many { IfOk result (λ parts. length parts.items ≡ many) }
     ensures empty { IfOk result (λ parts. (k : ℕ) (d : _) → k < many → (get_or parts.items k d).items ≡ []) }
     ensures refused { IsOkUnless result NoMemory }
 {
     let mut parts = Vec::new(alloc);
     for _ in 0..many {
-        if parts.push(Vec::new(alloc)).is_err() {
+        if parts.push(PackedRows::new(alloc, width)).is_err() {
             return Err(Refusal::NoMemory);
         }
     }
@@ -31,28 +33,35 @@ fn empty_parts(alloc: Global, many: usize) -> Result<Vec<Vec<Row>>, Refusal>
 }
 
 /// Adds a row to a part. Refused `NoMemory` alone.
-fn push_row(part: &mut Vec<Row>, row: Row) -> Result<(), Refusal>
-    ensures { MatchResult result (λ _. part.new.items ≡ part.old.items ++ row ∷ []) (λ e. e ≡ NoMemory) }
+fn push_row(part: &mut PackedRows, row: &Row) -> Result<(), Refusal>
+    ensures pushed { OnOk result (part.new.items ≡ part.old.items ++ row.now ∷ []) }
+    ensures refused { IsOkUnless result NoMemory }
 {
-    match part.push(row) {
+    match part.add(row) {
         Ok(()) => Ok(()),
         Err(_) => Err(Refusal::NoMemory),
     }
 }
 
 /// The rows by the intervals in which their cells lie, copied in one pass. Refused `NoMemory` alone.
-fn deal(alloc: Global, attribute: u8, cuts: &[i64], rows: &[Row]) -> Result<Vec<Vec<Row>>, Refusal>
+fn deal(
+    alloc: Global,
+    attribute: u8,
+    cuts: &[i64],
+    rows: &PackedRows,
+) -> Result<Vec<PackedRows>, Refusal>
     requires attribute { attribute < 8 }
     requires rising { RiseAbove None cuts.now }
     requires few { length cuts.now ≤ 15 }
     ensures many { IfOk result (λ parts. length parts.items ≡ length cuts.now + 1) }
-    ensures parts { IfOk result (λ parts. (k : ℕ) (d : _) (i : Interval) → k ≤ length cuts.now → (get_or parts.items k d).items ≡ part_of attribute rows.now (get_or (intervals cuts.now) k i)) }
+    ensures parts { IfOk result (λ parts. ArePartsOf attribute cuts.now rows.now.items parts.items) }
     ensures refused { IsOkUnless result NoMemory }
 {
-    let mut parts = empty_parts(alloc, cuts.len() + 1)?;
-    for row in rows {
+    let mut parts = empty_parts(alloc, rows.width(), cuts.len() + 1)?;
+    for at in 0..rows.len() {
+        let row = rows.get(at);
         let place = place_in(cuts, row.cells[usize::from(attribute)]);
-        push_row(&mut parts[usize::from(place)], *row)?;
+        push_row(&mut parts[usize::from(place)], &row)?;
     }
     Ok(parts)
 }
@@ -62,17 +71,17 @@ fn parts_of(
     alloc: Global,
     attribute: u8,
     cuts: &[i64],
-    rows: Vec<Row>,
-) -> Result<Vec<Vec<Row>>, Refusal>
+    rows: PackedRows,
+) -> Result<Vec<PackedRows>, Refusal>
     requires attribute { attribute < 8 }
     requires rising { RiseAbove None cuts.now }
     requires few { length cuts.now ≤ 15 }
     ensures many { IfOk result (λ parts. length parts.items ≡ length cuts.now + 1) }
-    ensures parts { IfOk result (λ parts. (k : ℕ) (d : _) (i : Interval) → k ≤ length cuts.now → (get_or parts.items k d).items ≡ part_of attribute rows.items (get_or (intervals cuts.now) k i)) }
+    ensures parts { IfOk result (λ parts. ArePartsOf attribute cuts.now rows.items parts.items) }
     ensures refused { IsOkUnless result NoMemory }
 {
     if !cuts.is_empty() {
-        return deal(alloc, attribute, cuts, rows.as_slice());
+        return deal(alloc, attribute, cuts, &rows);
     }
     let mut parts = Vec::new(alloc);
     match parts.push(rows) {
@@ -102,19 +111,20 @@ pub(crate) fn areas_of<M: CrackerMap>(
     alloc: Global,
     attribute: u8,
     cuts: &[i64],
-    rows: Vec<Row>,
+    rows: PackedRows,
 ) -> Result<Vec<Area<M>>, Refusal>
     requires attribute { attribute < 8 }
     requires rising { RiseAbove None cuts.now }
     requires few { length cuts.now ≤ 15 }
     requires keys { All (λ (r : Row). r.key < 2 ^ 63) rows.items }
     requires rise { Rises key_of rows.items }
-    ensures { MatchResult result (λ areas. areas.items ≡ map (opened_area attribute rows.items) (intervals cuts.now)) (λ e. e ≡ NoMemory) }
+    ensures areas { IfOk result (λ areas. areas.items ≡ opened_areas attribute cuts.now rows.items) }
+    ensures refused { IsOkUnless result NoMemory }
 {
     let mut parts = parts_of(alloc, attribute, cuts, rows)?;
     let mut areas = Vec::new(alloc);
     for k in 0..parts.len() {
-        let part = mem::replace(&mut parts[k], Vec::new(alloc));
+        let part = mem::replace(&mut parts[k], PackedRows::new(alloc, 1));
         let area = Area::of(alloc, attribute, start_of(cuts, k), end_of(cuts, k), part)?;
         if areas.push(area).is_err() {
             return Err(Refusal::NoMemory);
@@ -128,18 +138,19 @@ fn owners_of(
     alloc: Global,
     attribute: u8,
     cuts: &[i64],
-    rows: &[Row],
+    rows: &PackedRows,
 ) -> Result<Vec<(u64, u8)>, Refusal>
     requires attribute { attribute < 8 }
     requires few { length cuts.now ≤ 15 }
-    ensures { MatchResult result (λ owners. owners.items ≡ owners_of attribute cuts.now rows.now) (λ e. e ≡ NoMemory) }
+    ensures owners { IfOk result (λ owners. owners.items ≡ owners_of attribute cuts.now rows.now.items) }
+    ensures refused { IsOkUnless result NoMemory }
 {
     let Ok(mut owners) = Vec::with_capacity(alloc, rows.len()) else {
         return Err(Refusal::NoMemory);
     };
-    for row in rows {
-        let place = place_in(cuts, row.cells[usize::from(attribute)]);
-        if owners.push((row.key, place)).is_err() {
+    for at in 0..rows.len() {
+        let place = place_in(cuts, rows.cell(at, usize::from(attribute)));
+        if owners.push((rows.key(at), place)).is_err() {
             return Err(Refusal::NoMemory);
         }
     }
@@ -152,11 +163,12 @@ pub(crate) fn owners_kept(
     alloc: Global,
     attribute: u8,
     cuts: &[i64],
-    rows: &[Row],
+    rows: &PackedRows,
 ) -> Result<Vec<(u64, u8)>, Refusal>
     requires attribute { attribute < 8 }
     requires few { length cuts.now ≤ 15 }
-    ensures { MatchResult result (λ owners. owners.items ≡ owners_kept attribute cuts.now rows.now) (λ e. e ≡ NoMemory) }
+    ensures owners { IfOk result (λ owners. owners.items ≡ owners_kept attribute cuts.now rows.now.items) }
+    ensures refused { IsOkUnless result NoMemory }
 {
     if cuts.is_empty() {
         return Ok(Vec::new(alloc));

@@ -1,10 +1,10 @@
 //! A head: the areas of one attribute, by a rising list of cuts.
 
-ghost use Rattle.std.specs.Prelude.{◌≡◌, ◌≤◌, ◌<◌, ◌^◌, ◌++◌, ◌∷◌, [], length, All, IfOk, IsOkUnless, MatchOption, MatchResult, None, Some, get_or, slice_get};
+ghost use Rattle.std.specs.Prelude.{◌≡◌, ◌≤◌, ◌<◌, ◌^◌, ◌++◌, ◌∷◌, [], length, All, IfOk, IsOkUnless, MatchOption, MatchResult, None, OnErr, OnOk, Some, get_or, slice_get};
 ghost use Rattle.sw_rows.specs.Scan.{AsksBelow, answer};
-ghost use Rattle.sw_rows.specs.Updates.{rows_of};
+ghost use Rattle.sw_table.specs.Updates.{rows_of};
 ghost use Rattle.sw_rows.specs.declared.refusal.Refusal.TheVariants.{NoMemory};
-ghost use Rattle.sw_rows.specs.declared.row.Row.{Row};
+ghost use Rattle.sw_table.specs.declared.row.Row.{Row};
 ghost use Rattle.sw_map.specs.Held.{blank};
 ghost use Rattle.sw_set.specs.Merged.{StandsForSame};
 ghost use Rattle.sw_set.specs.Needs.{head_in};
@@ -12,7 +12,7 @@ ghost use Rattle.sw_set.specs.Shelf.{Rises, key_of};
 ghost use Rattle.sw_chunks.specs.Cuts.{RiseAbove};
 ghost use Rattle.sw_chunks.specs.Cleared.{AreClearedBut, AreEach};
 ghost use Rattle.sw_chunks.specs.Shelved.{AreShed};
-ghost use Rattle.sw_chunks.specs.Heads.{AreUntouchedKept, AreUntouchedSame, HasReceived, IsHeadLawful, IsRanged, IsSameButSpare, IsSameHead, IsSupplied, opened, touched_of};
+ghost use Rattle.sw_chunks.specs.Heads.{AreUntouchedKept, AreUntouchedSame, ComesBack, HasReceived, IsHeadLawful, IsRanged, IsSameButRoom, IsSameHead, IsSupplied, opened, touched_of};
 ghost use Rattle.sw_chunks.specs.Figures.{HavePieces, areas_cells, areas_entries, areas_maps};
 ghost use Rattle.sw_chunks.specs.Routing.{MayFollow};
 ghost use Rattle.sw_set.specs.Figures.{capped};
@@ -30,7 +30,7 @@ use std::alloc::Global;
 use std::marker::Model;
 use std::thread::Threads;
 use sw_map::CrackerMap;
-use sw_rows::{Query, Refusal, Reply, Row, Update};
+use sw_rows::{PackedRows, Query, Refusal, Reply, Row, Update};
 use sw_set::Area;
 use sw_tie::Book;
 
@@ -51,19 +51,16 @@ pub struct Head<M: CrackerMap> {
 }
 
 impl<M: CrackerMap> Model for Head<M> {
-    ghost use Rattle.std.specs.Prelude.{◌≡◌};
-    ghost use Rattle.sw_chunks.specs.Heads.{HeadState, IsHeadLawful, told_in};
-    ghost use Rattle.sw_chunks.specs.Places.{owners_kept};
-    ghost use Rattle.sw_chunks.specs.Routing.{given_by};
+    ghost use Rattle.sw_chunks.specs.Heads.{HeadState, IsKeptBy, head_of};
     ghost use Rattle.sw_chunks.specs.Codes.{head_code};
 
     ghost Value = { HeadState };
 
     ghost coded = { head_code };
 
-    ghost view = { λ h. record { attribute = h.attribute; cuts = h.cuts.items; updates = told_in h.told.rows; areas = h.areas.items } };
+    ghost view = { λ h. head_of h.attribute h.cuts.items h.told.rows h.areas.items };
 
-    ghost invariant = { λ h. IsHeadLawful (record { attribute = h.attribute; cuts = h.cuts.items; updates = told_in h.told.rows; areas = h.areas.items }) × (h.owners.items ≡ owners_kept h.attribute h.cuts.items (given_by (told_in h.told.rows))) };
+    ghost invariant = { λ h. IsKeptBy h.owners.items (head_of h.attribute h.cuts.items h.told.rows h.areas.items) };
 }
 
 impl<M: CrackerMap> Head<M> {
@@ -77,18 +74,18 @@ impl<M: CrackerMap> Head<M> {
         requires rise { Rises key_of rows.now }
         ensures { MatchResult result (λ h. h ≡ opened attribute cuts.now rows.now) (λ e. e ≡ NoMemory) }
     {
-        match Vec::from_slice(alloc, rows) {
+        match PackedRows::of(alloc, rows) {
             Ok(copy) => Head::of(alloc, attribute, cuts, copy),
             Err(_) => Err(Refusal::NoMemory),
         }
     }
 
-    /// The same of rows that are taken over: without cuts they are not copied.
+    /// The same of rows that are taken over: without cuts they are not copied, and an area has no wider rows than they.
     pub fn of(
         alloc: Global,
         attribute: u8,
         cuts: &[i64],
-        rows: Vec<Row>,
+        rows: PackedRows,
     ) -> Result<Head<M>, Refusal>
         requires attribute { attribute < 8 }
         requires rising { RiseAbove None cuts.now }
@@ -97,8 +94,8 @@ impl<M: CrackerMap> Head<M> {
         requires rise { Rises key_of rows.items }
         ensures { MatchResult result (λ h. h ≡ opened attribute cuts.now rows.items) (λ e. e ≡ NoMemory) }
     {
-        let told = tell_rows(rows.as_slice());
-        let owners = owners_kept(alloc, attribute, cuts, rows.as_slice())?;
+        let told = tell_rows(&rows);
+        let owners = owners_kept(alloc, attribute, cuts, &rows)?;
         let areas = areas_of(alloc, attribute, cuts, rows)?;
         let Ok(cuts) = Vec::from_slice(alloc, cuts) else {
             return Err(Refusal::NoMemory);
@@ -158,8 +155,9 @@ impl<M: CrackerMap> Head<M> {
     /// nothing but the room of areas.
     pub fn receive(&mut self, updates: &[Update]) -> Result<(), Refusal>
         requires { MayFollow self.old.attribute self.old.updates updates.now }
-        ensures same { IsOkUnless result NoMemory }
-        ensures ends { MatchResult result (λ _. HasReceived updates.now self.old self.new) (λ _. IsSameHead self.old self.new × AreEach IsSameButSpare self.old.areas self.new.areas) }
+        ensures received { OnOk result (HasReceived updates.now self.old self.new) }
+        ensures left { OnErr result (IsSameButRoom self.old self.new) }
+        ensures refused { IsOkUnless result NoMemory }
     {
         let before = self.owners.len();
         add_owners(
@@ -231,7 +229,7 @@ impl<M: CrackerMap> Head<M> {
     /// box comes back.
     pub fn supply(&mut self, it: M) -> Result<(), (M, Refusal)>
         requires { M.held it ≡ blank }
-        ensures { MatchResult result (λ _. IsSupplied self.old self.new) (λ r. (self.new ≡ self.old) × (r.0 ≡ it) × (r.1 ≡ NoMemory)) }
+        ensures { MatchResult result (λ _. IsSupplied self.old self.new) (ComesBack self.old self.new it) }
     {
         let at = fewest(self.areas.as_slice());
         self.areas[at].supply(it)

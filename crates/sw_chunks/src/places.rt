@@ -1,10 +1,10 @@
 //! Into which area a row goes, and into which one it went.
 
-ghost use Rattle.std.specs.Prelude.{◌≡◌, ◌≢◌, ◌<◌, ◌≤◌, ℕ, true, false, fold, length, map, MatchResult, slice_index_or};
+ghost use Rattle.std.specs.Prelude.{◌≡◌, ◌<◌, ◌≤◌, ℕ, true, false, length, IfOk, IsOkUnless, OnErr, OnOk};
 ghost use Rattle.sw_rows.specs.declared.refusal.Refusal.TheVariants.{NoMemory};
 ghost use Rattle.sw_set.specs.Shelf.{Rises};
 ghost use Rattle.sw_chunks.specs.Cuts.{place_in};
-ghost use Rattle.sw_chunks.specs.Places.{count_at, find_place, owners_added, owners_then, place_by};
+ghost use Rattle.sw_chunks.specs.Places.{IsNotAt, StandsAt, count_at, find_place, owners_added, owners_with, place_by, places_of};
 
 use std::alloc::Global;
 use sw_rows::{Refusal, Update};
@@ -26,8 +26,8 @@ pub(crate) fn place_in(cuts: &[i64], cell: i64) -> u8
 
 /// Whether the key at a place, if there is such a place, is the one.
 fn stands_at(owners: &[(u64, u8)], place: usize, key: u64) -> bool
-    ensures there { result ≡ true → (place < length owners.now) × ((d : ℕ × ℕ) → (slice_index_or owners.now place d).0 ≡ key) }
-    ensures other { result ≡ false → (d : ℕ × ℕ) → place < length owners.now → (slice_index_or owners.now place d).0 ≢ key }
+    ensures there { result ≡ true → StandsAt owners.now place key }
+    ensures other { result ≡ false → IsNotAt owners.now place key }
 {
     place < owners.len() && owners[place].0 == key
 }
@@ -69,7 +69,8 @@ pub(crate) fn places_by(
     requires attribute { attribute < 8 }
     requires few { length cuts.now ≤ 15 }
     requires rise { Rises (λ (o : ℕ × ℕ). o.0) owners.now }
-    ensures { MatchResult result (λ places. places.items ≡ map (place_by attribute cuts.now owners.now) updates.now) (λ e. e ≡ NoMemory) }
+    ensures places { IfOk result (λ places. places.items ≡ places_of attribute cuts.now owners.now updates.now) }
+    ensures refused { IsOkUnless result NoMemory }
 {
     let mut places = Vec::new(alloc);
     for update in updates {
@@ -103,7 +104,9 @@ fn add_each(
 ) -> Result<(), Refusal>
     requires attribute { attribute < 8 }
     requires few { length cuts.now ≤ 15 }
-    ensures { MatchResult result (λ _. owners.new.items ≡ fold (owners_then attribute cuts.now) owners.old.items updates.now) (λ e. (owners.new.items ≡ owners.old.items) × (e ≡ NoMemory)) }
+    ensures added { OnOk result (owners.new.items ≡ owners_with attribute cuts.now owners.old.items updates.now) }
+    ensures left { OnErr result (owners.new.items ≡ owners.old.items) }
+    ensures refused { IsOkUnless result NoMemory }
 {
     if owners.reserve(updates.len()).is_err() {
         return Err(Refusal::NoMemory);
@@ -127,7 +130,9 @@ pub(crate) fn add_owners(
 ) -> Result<(), Refusal>
     requires attribute { attribute < 8 }
     requires few { length cuts.now ≤ 15 }
-    ensures { MatchResult result (λ _. owners.new.items ≡ owners_added attribute cuts.now owners.old.items updates.now) (λ e. (owners.new.items ≡ owners.old.items) × (e ≡ NoMemory)) }
+    ensures added { OnOk result (owners.new.items ≡ owners_added attribute cuts.now owners.old.items updates.now) }
+    ensures left { OnErr result (owners.new.items ≡ owners.old.items) }
+    ensures refused { IsOkUnless result NoMemory }
 {
     if cuts.is_empty() {
         return Ok(());

@@ -1,14 +1,14 @@
 //! The list of all updates that came, which contracts alone see.
 
 ghost use Rattle.std.specs.Prelude.{◌≡◌, ◌++◌, ◌∷◌, [], ℕ, map, All};
-ghost use Rattle.sw_rows.specs.declared.row.Row.{Row};
-ghost use Rattle.sw_rows.specs.declared.row.Update.{Update};
-ghost use Rattle.sw_rows.specs.declared.row.Update.TheVariants.{Insert};
+ghost use Rattle.sw_table.specs.declared.row.Row.{Row};
+ghost use Rattle.sw_table.specs.declared.row.Update.{Update};
+ghost use Rattle.sw_table.specs.declared.row.Update.TheVariants.{Insert};
 ghost use Rattle.sw_rows.specs.Scan.{cell_of};
 ghost use Rattle.sw_chunks.specs.Heads.{CellsFit, IsCell, told_in};
 
 use std::snapshot::Snapshot;
-use sw_rows::{Row, Update};
+use sw_rows::{PackedRows, Row, Update};
 use sw_tie::Book;
 
 /// Tells of a cell that it is of 64 bits.
@@ -42,14 +42,15 @@ fn tell(told: &mut Book<Update>, update: &Update)
 }
 
 /// A list of these rows as insertions.
-pub(crate) fn tell_rows(rows: &[Row]) -> Book<Update>
-    ensures told { told_in result.rows ≡ map Insert rows.now }
-    ensures fit { All (λ (r : Row). (a : ℕ) → IsCell (cell_of a r)) rows.now }
+pub(crate) fn tell_rows(rows: &PackedRows) -> Book<Update>
+    ensures told { told_in result.rows ≡ map Insert rows.now.items }
+    ensures fit { All (λ (r : Row). (a : ℕ) → IsCell (cell_of a r)) rows.now.items }
 {
     let mut told = Book::new();
-    for row in rows {
-        cells_fit(row);
-        tell(&mut told, &Update::Insert(*row));
+    for at in 0..rows.len() {
+        let row = rows.get(at);
+        cells_fit(&row);
+        tell(&mut told, &Update::Insert(row));
     }
     told
 }

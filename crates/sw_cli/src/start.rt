@@ -12,13 +12,13 @@ ghost use Rattle.sw_cli.specs.Starts.{IsStart, ReadsScript, ReadsStart, TellsSta
 use crate::script::{Block, read_blocks};
 use std::alloc::Global;
 use sw_lang::{Cuts, parse_cuts};
-use sw_rows::{MOST_BYTES, Refusal, Row, Schema, Source, load, read_all};
+use sw_rows::{MOST_BYTES, PackedRows, Refusal, Schema, Source, load, read_all};
 
 /// A table, a script and cuts that were read.
 #[derive(Drop)]
 pub(crate) struct Opened {
     pub(crate) schema: Schema,
-    pub(crate) rows: Vec<Row>,
+    pub(crate) rows: PackedRows,
     pub(crate) blocks: Vec<Block>,
     pub(crate) cuts: Cuts,
 }

@@ -4,10 +4,10 @@ use Rattle.std.specs.Prelude.{Result, Ok, Err, IfOk, MatchResult, is_some, slice
 use Rattle.std.proofs.lemmas.Bool.Decides.{nat_tests}
 use Rattle.std.proofs.lemmas.List.Elements.{All-push}
 use Rattle.std.specs.List.{AllByRecursion}
-use Rattle.sw_rows.specs.Updates.{rows_of, rows_then}
-use Rattle.sw_rows.specs.declared.row.Row.{Row}
-use Rattle.sw_rows.specs.declared.row.Update.{Update}
-use Rattle.sw_rows.specs.declared.row.Update.TheVariants as update
+use Rattle.sw_table.specs.Updates.{rows_of, rows_then}
+use Rattle.sw_table.specs.declared.row.Row.{Row}
+use Rattle.sw_table.specs.declared.row.Update.{Update}
+use Rattle.sw_table.specs.declared.row.Update.TheVariants as update
 use Rattle.sw_lang.specs.Cuts.{rises}
 use Rattle.sw_spine.specs.Receivable.{AreUpdates, MayComeAll, given_then}
 use Rattle.sw_spine.specs.Table.{is_numbered}

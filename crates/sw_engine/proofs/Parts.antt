@@ -23,8 +23,8 @@ pub taken_within : {A : Type 0} (ys xs : List A) → ys ≡ take (length ys) xs 
 taken_within ys xs is = let short = taken_short (length ys) xs in let e = ap length is in omega (arith, short, e)
 
 -- a beginning, and so many more
-pub taken_more : {A : Type 0} (ys zs new xs : List A) (m : ℕ) → ys ≡ take (length ys) xs → zs ≡ take m (drop (length ys) xs) → new ≡ ys ++ zs → new ≡ take (length ys + m) xs
-taken_more ys zs new xs m is next e = e ∙ (ap (λ l. ys ++ l) next ∙ (ap (λ l. l ++ take m (drop (length ys) xs)) is ∙ taken_next (length ys) m (length ys + m) xs refl))
+pub taken_more : {A : Type 0} (ys zs new xs : List A) (n m : ℕ) → ys ≡ take (length ys) xs → zs ≡ take m (drop (length ys) xs) → n ≡ length zs → new ≡ ys ++ take n (drop 0 zs) → new ≡ take (length ys + m) xs
+taken_more ys zs new xs n m is next all e = e ∙ (ap (λ l. ys ++ l) (take_all n zs (omega (arith, all)) ∙ next) ∙ (ap (λ l. l ++ take m (drop (length ys) xs)) is ∙ taken_next (length ys) m (length ys + m) xs refl))
 
 -- it is a beginning again
 pub taken_again : {A : Type 0} (new xs : List A) (n : ℕ) → new ≡ take n xs → new ≡ take (length new) xs

@@ -17,7 +17,7 @@ use std::alloc::Global;
 use std::marker::{Model, PhantomData};
 use std::snapshot::Snapshot;
 use sw_map::CrackerMap;
-use sw_rows::{Call, Query, Refusal, Reply, Row, Schema};
+use sw_rows::{Call, PackedRows, Query, Refusal, Reply, Schema};
 use sw_spine::Spine;
 use sw_tie::{Book, Share};
 
@@ -87,7 +87,7 @@ impl<J: Naming> Desk<J> {
         alloc: Global,
         books: Blank,
         schema: Schema,
-        rows: Vec<Row>,
+        rows: PackedRows,
         limit: u64,
     ) -> Result<Desk<J>, Refusal>
         requires books { (books.sessions.name ≡ J.sessions) × (books.heads.name ≡ J.heads) }
@@ -187,8 +187,8 @@ impl<J: Naming> Desk<J> {
     }
 
     /// The opening rows.
-    pub fn opening_rows(&self) -> &[Row]
-        ensures { result.now ≡ J.opening }
+    pub fn opening_rows(&self) -> &PackedRows
+        ensures { result.now.items ≡ J.opening }
     {
         self.spine.opening_rows()
     }

@@ -24,7 +24,7 @@ use std::sync::{Mutex, MutexGuard, Wait};
 use std::thread::Threads;
 use sw_lang::Cuts;
 use sw_map::CrackerMap;
-use sw_rows::{Call, Query, Refusal, Reply, Row, Schema};
+use sw_rows::{Call, PackedRows, Query, Refusal, Reply, Schema};
 use sw_spine::Record;
 
 /// How often a lock or a latch is tried before a thread sleeps for it.
@@ -103,7 +103,7 @@ impl<J: Naming, M: CrackerMap> Engine<J, M> {
         alloc: Global,
         books: Blank,
         schema: Schema,
-        rows: Vec<Row>,
+        rows: PackedRows,
         cuts: Cuts,
         limit: u64,
     ) -> Result<Engine<J, M>, Refusal>
@@ -127,7 +127,7 @@ impl<J: Naming, M: CrackerMap> Engine<J, M> {
         alloc: Global,
         books: Blank,
         schema: Schema,
-        rows: Vec<Row>,
+        rows: PackedRows,
         cuts: Cuts,
         limit: u64,
         sessions: usize,
@@ -254,26 +254,40 @@ impl<J: Naming, M: CrackerMap> Engine<J, M> {
         take(rt, &self.desk, VISIT)
     }
 
+    /// How wide the opening rows are packed, and how many there are.
+    fn opening_size<R: Wait>(&self, rt: &R) -> (usize, usize)
+        ensures some { 1 ≤ result.0 }
+        ensures most { result.0 ≤ 8 }
+        ensures many { result.1 ≡ length J.opening }
+    {
+        let desk = self.visit(rt);
+        let rows = desk.opening_rows();
+        (rows.width(), rows.len())
+    }
+
     /// Copies of up to so many opening rows from a place on, made in one visit.
-    fn some_rows<R: Wait>(&self, rt: &R, from: usize, most: usize) -> Result<Vec<Row>, AllocError>
+    fn some_rows<R: Wait>(&self, rt: &R, from: usize, most: usize) -> Result<PackedRows, AllocError>
         requires { from ≤ length J.opening }
         ensures { IfOk result (λ rows. rows.items ≡ take most (drop from J.opening)) }
     {
         let desk = self.visit(rt);
-        let rest = &desk.opening_rows()[from..];
-        Vec::from_slice(self.alloc, &rest[..most.min(rest.len())])
+        let rows = desk.opening_rows();
+        let many = most.min(rows.len() - from);
+        let mut some = PackedRows::with_capacity(self.alloc, rows.width(), many)?;
+        some.extend_from(rows, from, most)?;
+        Ok(some)
     }
 
     /// Adds copies of the next opening rows, up to so many, in one visit. Refused `NoMemory` alone.
     #[tactic(auto, using(crate::proofs::Parts::taken_within, crate::proofs::Parts::taken_more))]
-    fn add_rows<R: Wait>(&self, rt: &R, rows: &mut Vec<Row>, most: usize) -> Result<(), Refusal>
+    fn add_rows<R: Wait>(&self, rt: &R, rows: &mut PackedRows, most: usize) -> Result<(), Refusal>
         requires { rows.old.items ≡ take (length rows.old.items) J.opening }
         ensures { MatchResult result (λ _. rows.new.items ≡ take (length rows.old.items + most) J.opening) (λ e. e ≡ NoMemory) }
     {
         let Ok(next) = self.some_rows(rt, rows.len(), most) else {
             return Err(Refusal::NoMemory);
         };
-        match rows.extend_from_slice(next.as_slice()) {
+        match rows.extend_from(&next, 0, next.len()) {
             Ok(()) => Ok(()),
             Err(_) => Err(Refusal::NoMemory),
         }
@@ -282,11 +296,11 @@ impl<J: Naming, M: CrackerMap> Engine<J, M> {
     /// A copy of the opening rows, made in visits of `PART` rows, so that others visit between them and memory that is written for
     /// the first time is not written under the lock. Refused `NoMemory` alone.
     #[tactic(auto, using(crate::proofs::Parts::taken_whole, crate::proofs::Parts::taken_again))]
-    fn opening_rows<R: Wait>(&self, rt: &R) -> Result<Vec<Row>, Refusal>
+    fn opening_rows<R: Wait>(&self, rt: &R) -> Result<PackedRows, Refusal>
         ensures { MatchResult result (λ rows. rows.items ≡ J.opening) (λ e. e ≡ NoMemory) }
     {
-        let many = self.visit(rt).opening_rows().len();
-        let Ok(mut rows) = Vec::with_capacity(self.alloc, many) else {
+        let (width, many) = self.opening_size(rt);
+        let Ok(mut rows) = PackedRows::with_capacity(self.alloc, width, many) else {
             return Err(Refusal::NoMemory);
         };
         for _ in 0..many / PART {

@@ -2,7 +2,7 @@
 
 ghost use Rattle.std.specs.Prelude.{ℕ, ◌≡◌, ◌+◌, ◌++◌, [], ◌<◌, ◌≤◌, true, false, IfErr, IfOk, IsOkUnless, OnErr, OnOk};
 ghost use Rattle.sw_rows.specs.Scan.{AsksBelow, answer};
-ghost use Rattle.sw_rows.specs.Updates.{rows_of};
+ghost use Rattle.sw_table.specs.Updates.{rows_of};
 ghost use Rattle.sw_rows.specs.declared.refusal.Refusal.TheVariants.{NoMemory};
 ghost use Rattle.sw_map.specs.Held.{blank};
 ghost use Rattle.sw_set.specs.Needs.{head_in};
@@ -20,7 +20,7 @@ use std::marker::{Model, PhantomData};
 use std::thread::Threads;
 use sw_chunks::Head;
 use sw_map::CrackerMap;
-use sw_rows::{Query, Refusal, Reply, Row, Update};
+use sw_rows::{PackedRows, Query, Refusal, Reply, Update};
 use sw_spine::Spine;
 use sw_tie::Share;
 
@@ -110,7 +110,7 @@ impl<J: Naming, M: CrackerMap> LatchedHead<J, M> {
         &mut self,
         alloc: Global,
         opening: &Opening<J>,
-        rows: Vec<Row>,
+        rows: PackedRows,
     ) -> Result<(), Refusal>
         requires { rows.items ≡ J.opening }
         ensures made { OnOk result (self.new ≡ record self.old { made = true }) }

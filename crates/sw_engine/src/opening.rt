@@ -12,7 +12,7 @@ use std::marker::{Model, PhantomData};
 use sw_chunks::Head;
 use sw_lang::Cuts;
 use sw_map::CrackerMap;
-use sw_rows::{Refusal, Row};
+use sw_rows::{PackedRows, Refusal};
 
 /// The cuts of each head. No lock lies over them, since they never change. The opening rows, over which heads are made, lie with
 /// the spine.
@@ -54,7 +54,7 @@ impl<J: Naming> Opening<J> {
         &self,
         alloc: Global,
         place: usize,
-        rows: Vec<Row>,
+        rows: PackedRows,
     ) -> Result<Head<M>, Refusal>
         requires place { place < length J.columns }
         requires rows { rows.items ≡ J.opening }

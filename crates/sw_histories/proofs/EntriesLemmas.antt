@@ -14,7 +14,7 @@ use Rattle.serde_json.specs.Find.{as_array, as_number, as_object, as_u64, get_me
 use Rattle.serde_json.specs.Read.{converted, of_items, of_json, read}
 use Rattle.sw_rows.specs.Header.{Column, header_of, kinds_of}
 use Rattle.std.specs.Result.{result_ok}
-use Rattle.sw_rows.specs.declared.row.Row.{Row}
+use Rattle.sw_table.specs.declared.row.Row.{Row}
 use Rattle.sw_rows.specs.declared.refusal.Refusal.{Refusal}
 use Rattle.sw_rows.specs.declared.refusal.Refusal.TheVariants as refusal
 use Rattle.sw_rows.specs.declared.refusal.Refusal.TheVariants.{BadLine, TooMany}

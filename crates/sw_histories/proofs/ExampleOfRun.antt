@@ -5,7 +5,7 @@ use Rattle.sw_rows.specs.Header.{IsSchema, kinds_of}
 use Rattle.sw_rows.specs.declared.query.Cond.{Cond}
 use Rattle.sw_rows.specs.declared.query.Want.TheVariants as want
 use Rattle.sw_rows.specs.declared.reply.Reply.TheVariants as reply
-use Rattle.sw_rows.specs.declared.row.Row.{Row}
+use Rattle.sw_table.specs.declared.row.Row.{Row}
 use Rattle.sw_rows.proofs.SchemaLaws.{header-schema}
 use Rattle.sw_lang.specs.Grammar.{IsLine}
 use Rattle.sw_lang.specs.PrintedExamples.{abc, asking}

@@ -7,7 +7,7 @@ use Rattle.serde_json.specs.Data.{depth, items_depth, string}
 use Rattle.serde_json.specs.Find.{of_integer}
 use Rattle.serde_json.specs.View.{items_of}
 use Rattle.sw_rows.specs.Header.{Column}
-use Rattle.sw_rows.specs.declared.row.Row.{Row}
+use Rattle.sw_table.specs.declared.row.Row.{Row}
 use Rattle.sw_rows.specs.declared.query.Call.{Call}
 use Rattle.sw_spine.specs.History.{History}
 use Rattle.sw_spine.specs.declared.history.Entry.{Entry}

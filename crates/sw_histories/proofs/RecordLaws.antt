@@ -14,7 +14,7 @@ use Rattle.sw_rows.specs.Header.{Column, Fault as TableFault, IsSchema, header_o
 use Rattle.sw_rows.proofs.SchemaLaws.{header-schema}
 use Rattle.sw_rows.specs.declared.refusal.Refusal.TheVariants.{TooMany}
 use Rattle.sw_lang.proofs.Lines.{line_found, line_read}
-use Rattle.sw_rows.specs.declared.row.Row.{Row}
+use Rattle.sw_table.specs.declared.row.Row.{Row}
 use Rattle.sw_rows.specs.declared.query.Call.{Call}
 use Rattle.sw_rows.specs.declared.refusal.Refusal.{Refusal}
 use Rattle.sw_rows.proofs.Options.{if_some, then_some}

@@ -15,7 +15,7 @@ use Rattle.serde_json.specs.declared.value.Value.{Value}
 use Rattle.serde_json.proofs.Views.{Entry as Pair, members_len-members_view}
 use Rattle.sw_rows.specs.Tables.{padded, row_of}
 use Rattle.sw_rows.specs.declared.kind.Kind.{Kind}
-use Rattle.sw_rows.specs.declared.row.Row.{Row}
+use Rattle.sw_table.specs.declared.row.Row.{Row}
 use Rattle.sw_rows.specs.declared.query.Call.{Call}
 use Rattle.sw_rows.specs.Header.{Column, kinds_of}
 use Rattle.sw_rows.specs.declared.refusal.Refusal.{Refusal}

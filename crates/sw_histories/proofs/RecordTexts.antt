@@ -12,7 +12,7 @@ use Rattle.sw_rows.specs.Header.{Column, IsSchema, is_name}
 use Rattle.sw_rows.specs.Spelling.{kind_text}
 use Rattle.sw_rows.specs.declared.kind.Kind.{Kind}
 use Rattle.sw_rows.specs.declared.kind.Kind.TheVariants as kind
-use Rattle.sw_rows.specs.declared.row.Row.{Row}
+use Rattle.sw_table.specs.declared.row.Row.{Row}
 use Rattle.sw_rows.specs.declared.query.Call.{Call}
 use Rattle.sw_lang.specs.Replies.{reply_lines}
 use Rattle.sw_spine.specs.History.{History}

@@ -14,7 +14,7 @@ use Rattle.sw_rows.specs.Header.{Column, IsSchema, header_of, is_name, kinds_of}
 use Rattle.sw_rows.specs.Spelling.{WriteColumns}
 use Rattle.sw_rows.specs.Tables.{padded, row_of}
 use Rattle.sw_rows.specs.declared.kind.Kind.{Kind}
-use Rattle.sw_rows.specs.declared.row.Row.{Row}
+use Rattle.sw_table.specs.declared.row.Row.{Row}
 use Rattle.sw_rows.specs.declared.query.Call.{Call}
 use Rattle.sw_rows.proofs.HeaderSpelling.{header_read_back}
 use Rattle.sw_lang.specs.Grammar.{IsLine}

@@ -7,7 +7,7 @@ use Rattle.sw_rows.specs.Spelling.{WriteCells, WriteRows, WritesCell}
 use Rattle.sw_rows.specs.Tables.{Table, table_of}
 use Rattle.sw_rows.specs.declared.kind.Kind.{Kind}
 use Rattle.sw_rows.specs.declared.kind.Kind.TheVariants as kind
-use Rattle.sw_rows.specs.declared.row.Row.{Row}
+use Rattle.sw_table.specs.declared.row.Row.{Row}
 use Rattle.sw_rows.proofs.TableSpelling.{table_spelled}
 use Rattle.sw_histories.specs.RecordReading.{of_kind}
 use Rattle.sw_histories.specs.ReadBack.{AreCells, HasCells, IsWord}

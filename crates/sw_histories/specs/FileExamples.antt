@@ -1,7 +1,7 @@
 -- The file of a table of three attributes and four rows after one count.
 use Rattle.std.specs.Prelude.{ℕ, ℤ, pos, List, [], ◌∷◌, codes}
 use Rattle.sw_rows.specs.Tables.{padded, row_of}
-use Rattle.sw_rows.specs.declared.row.Row.{Row}
+use Rattle.sw_table.specs.declared.row.Row.{Row}
 use Rattle.sw_rows.specs.declared.query.Want.TheVariants as want
 use Rattle.sw_lang.specs.PrintedExamples.{abc, asking}
 use Rattle.sw_spine.specs.History.{History, entry}

@@ -4,7 +4,7 @@ use Rattle.serde_json.specs.Read.{read}
 use Rattle.sw_rows.specs.Header.{Column, IsSchema, kinds_of}
 use Rattle.sw_rows.specs.Tables.{padded}
 use Rattle.sw_rows.specs.declared.kind.Kind.{Kind}
-use Rattle.sw_rows.specs.declared.row.Row.{Row}
+use Rattle.sw_table.specs.declared.row.Row.{Row}
 use Rattle.sw_rows.specs.declared.query.Call.{Call}
 use Rattle.sw_lang.specs.Grammar.{IsLine}
 use Rattle.sw_lang.specs.Replies.{reply_lines}

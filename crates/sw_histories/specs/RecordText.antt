@@ -6,7 +6,7 @@ use Rattle.serde_json.specs.View.{items_of}
 use Rattle.serde_json.specs.Written.{compact_text}
 use Rattle.sw_rows.specs.Header.{Column}
 use Rattle.sw_rows.specs.Spelling.{kind_text}
-use Rattle.sw_rows.specs.declared.row.Row.{Row}
+use Rattle.sw_table.specs.declared.row.Row.{Row}
 use Rattle.sw_rows.specs.declared.query.Call.{Call}
 use Rattle.sw_rows.specs.Gives.{Raised}
 use Rattle.sw_rows.specs.declared.refusal.Refusal.{Refusal}

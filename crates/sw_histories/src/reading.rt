@@ -19,7 +19,7 @@ use json::{Reader, Scratch};
 use serde_json::{Map, Value};
 use std::alloc::{AllocError, Global};
 use sw_lang::parse_line;
-use sw_rows::{Call, Kind, Refusal, Row, Schema, Why};
+use sw_rows::{Call, Kind, PackedRows, Refusal, Row, Schema, Why};
 use sw_spine::{Entry, Lines, MOST_ENTRIES, Record, State};
 
 fn no_history(line: u32) -> Refusal
@@ -147,18 +147,19 @@ fn read_all_rows(
     alloc: Global,
     schema: &Schema,
     items: &[Value],
-) -> Result<Option<Vec<Row>>, AllocError>
+) -> Result<Option<PackedRows>, AllocError>
     requires { length items.now ≤ 1048576 }
     ensures { IfOk result (λ o. option_map (λ rows. rows.items) o ≡ rows_after (kinds_of schema.now) [] (map view items.now)) }
 {
-    let mut rows: Vec<Row> = Vec::new(alloc);
+    let mut rows = PackedRows::new(alloc, schema.len());
+    rows.reserve(items.len())?;
     let mut rest = items;
     while let Some((value, later)) = rest.split_first() {
         let Some(cells) = read_row(schema, value) else {
             return Ok(None);
         };
         let key = rows.len() as u64 + 1;
-        rows.push(Row { key, cells })?;
+        rows.add(&Row { key, cells })?;
         rest = later;
     }
     Ok(Some(rows))
@@ -170,7 +171,7 @@ fn read_rows(
     schema: &Schema,
     limit: u64,
     value: &Value,
-) -> Result<Option<Vec<Row>>, AllocError>
+) -> Result<Option<PackedRows>, AllocError>
     requires { limit ≤ 1048576 }
     ensures { IfOk result (λ o. option_map (λ rows. rows.items) o ≡ rows_in (kinds_of schema.now) limit (view value.now)) }
 {
@@ -185,7 +186,7 @@ fn read_rows(
 struct Outer {
     schema: Schema,
     limit: u64,
-    rows: Vec<Row>,
+    rows: PackedRows,
 }
 
 /// The limit, where the members, the format and the place of the entries are a history's.

@@ -11,7 +11,7 @@ ghost use Rattle.sw_histories.specs.RecordText.{attribute_text, cell_data, entry
 use serde_json::{Value, json};
 use std::alloc::{AllocError, Global};
 use sw_lang::{write_all, write_call};
-use sw_rows::{Call, Counted, Kind, Refusal, Row, Schema, Sink};
+use sw_rows::{Call, Counted, Kind, PackedRows, Refusal, Row, Schema, Sink};
 use sw_spine::{Entry, Lines, Record, State};
 
 /// The bytes of a call. They go to memory, so no memory is the one failure.
@@ -200,17 +200,20 @@ fn put_row(
 }
 
 /// Puts rows as an array.
-fn put_rows(alloc: Global, width: usize, rows: &[Row], text: &mut Vec<u8>) -> Result<(), AllocError>
+fn put_rows(
+    alloc: Global,
+    width: usize,
+    rows: &PackedRows,
+    text: &mut Vec<u8>,
+) -> Result<(), AllocError>
     requires { width ≤ 8 }
-    ensures { OnOk result (text.new.items ≡ text.old.items ++ compact_text (list_data (map (row_data width) rows.now))) }
+    ensures { OnOk result (text.new.items ≡ text.old.items ++ compact_text (list_data (map (row_data width) rows.now.items))) }
 {
     text.push(b'[')?;
     let mut is_later = false;
-    let mut rest = rows;
-    while let Some((row, later)) = rest.split_first() {
-        put_row(alloc, width, row, is_later, text)?;
+    for place in 0..rows.len() {
+        put_row(alloc, width, &rows.get(place), is_later, text)?;
         is_later = true;
-        rest = later;
     }
     text.push(b']')?;
     Ok(())
@@ -251,7 +254,7 @@ fn record_bytes(alloc: Global, history: &Record) -> Result<Vec<u8>, AllocError>
     let mut text = Vec::new(alloc);
     put_front(alloc, history, &mut text)?;
     text.extend_from_slice(b",\"rows\":")?;
-    put_rows(alloc, width, history.rows.as_slice(), &mut text)?;
+    put_rows(alloc, width, &history.rows, &mut text)?;
     text.push(b'}')?;
     Ok(text)
 }

@@ -10,6 +10,7 @@ mod laws;
 mod listing;
 mod mark;
 mod partition;
+mod passing;
 mod removal;
 
 pub use insertion::ripple_in;

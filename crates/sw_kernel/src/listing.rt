@@ -1,7 +1,7 @@
 //! Lists of misplaced places within a block, made without a branch.
 
-ghost use Rattle.std.specs.Prelude.{◌≡◌, ◌+◌, ◌-◌, ◌<◌, ◌≤◌, ℕ, Bool, length};
-ghost use Rattle.sw_kernel.specs.Blocks.{Listed, goes_up, goes_down};
+ghost use Rattle.std.specs.Prelude.{◌≡◌, ◌+◌, ◌-◌, ◌<◌, ◌≤◌, ℕ, Bool, true, false, length};
+ghost use Rattle.sw_kernel.specs.Blocks.{LieOn, Listed, goes_up, goes_down};
 
 use sw_rows::Bound;
 
@@ -149,7 +149,9 @@ pub(crate) fn list_down(
 #[inline(always)]
 pub(crate) fn count_left(head: &[i64], from: usize, upto: usize, bound: Bound) -> usize
     requires { (from ≤ upto) × (upto ≤ length head.now) }
-    ensures { result ≤ upto - from }
+    ensures within { result ≤ upto - from }
+    ensures none { result ≡ 0 → LieOn bound false head.now from upto }
+    ensures all { result ≡ upto - from → LieOn bound true head.now from upto }
 {
     let mut n = 0usize;
     for k in 0..upto - from {

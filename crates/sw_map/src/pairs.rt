@@ -2,12 +2,13 @@
 
 ghost use Rattle.std.specs.Prelude.{◌≡◌, ◌+◌, ◌++◌, ◌<◌, ◌≤◌, ◌^◌, All, IsOk, MatchResult, length, map, pos, slice_index_or, slice_range, vec_capacity, vec_len, []};
 ghost use Rattle.sw_rows.specs.declared.refusal.Refusal.TheVariants.{NoMemory};
-ghost use Rattle.sw_rows.specs.declared.row.Row.{Row};
+ghost use Rattle.sw_table.specs.declared.row.Row.{Row};
 ghost use Rattle.sw_rows.specs.Scan.{cell_of};
 ghost use Rattle.sw_kernel.specs.Arrangement.{joined, last};
 ghost use Rattle.sw_kernel.specs.Partition.{head_of};
 ghost use Rattle.sw_kernel.specs.Replay.{inserted, loaded, ranged, removed, shown_step};
 ghost use Rattle.sw_tape.specs.Entries.{step_of};
+ghost use Rattle.sw_map.specs.declared.tail.Tail.TheVariants.{Key};
 ghost use Rattle.sw_map.specs.Held.{KeysFit, pair_in, place_of, tail_value};
 ghost use Rattle.sw_map.specs.Pieces.{HasPlace, TakesNoMemory, stepped};
 
@@ -18,6 +19,7 @@ use std::alloc::Global;
 use std::marker::Model;
 use sw_kernel::{Mark, ripple_in, ripple_out};
 use sw_rows::{Bound, Refusal, Row};
+use sw_table::PackedRows;
 use sw_tape::Entry;
 
 /// Pairs of head and tail in pieces between bounds. Contracts see the pieces, and for how many pairs there is room.
@@ -77,17 +79,56 @@ fn copy_part(values: &[i64], place: usize, part: &mut [i64])
     part.copy_from_slice(&values[place..end]);
 }
 
-/// Puts the cells of rows at the end of head and tail, for which there is room.
-fn append(heads: &mut Vec<i64>, tails: &mut Vec<i64>, head: u8, tail: Tail, rows: &[Row])
-    requires room { (vec_len heads.old + length rows.now ≤ vec_capacity heads.old) × (vec_len tails.old + length rows.now ≤ vec_capacity tails.old) }
-    requires keys { All (λ (r : Row). r.key < 2 ^ 63) rows.now }
-    ensures items { (heads.new.items ≡ heads.old.items ++ map (cell_of head) rows.now) × (tails.new.items ≡ tails.old.items ++ map (tail_value tail) rows.now) }
-    ensures lengths { (vec_len heads.new ≡ vec_len heads.old + length rows.now) × (vec_len tails.new ≡ vec_len tails.old + length rows.now) }
-    ensures capacity { (vec_capacity heads.new ≡ vec_capacity heads.old) × (vec_capacity tails.new ≡ vec_capacity tails.old) }
+/// A cell of the row at a place; 0 past the last attribute.
+#[inline]
+fn cell_at(rows: &PackedRows, place: usize, attribute: u8) -> i64
+    requires { place < length rows.now.items }
+    ensures { (d : Row) → result ≡ cell_of attribute (slice_index_or rows.now.items place d) }
 {
-    for row in rows {
-        heads.push_reserved(cell_of(row, head));
-        tails.push_reserved(shown_by(tail, row));
+    let at = attribute as usize;
+    if at < 8 {
+        rows.cell(place, at)
+    } else {
+        cell_of(&rows.get(place), attribute)
+    }
+}
+
+/// Puts a cell of each row at the end of values, for which there is room.
+fn append_cells(values: &mut Vec<i64>, attribute: u8, rows: &PackedRows)
+    requires room { vec_len values.old + length rows.now.items ≤ vec_capacity values.old }
+    ensures items { values.new.items ≡ values.old.items ++ map (cell_of attribute) rows.now.items }
+    ensures len { vec_len values.new ≡ vec_len values.old + length rows.now.items }
+    ensures capacity { vec_capacity values.new ≡ vec_capacity values.old }
+{
+    for place in 0..rows.len() {
+        values.push_reserved(cell_at(rows, place, attribute));
+    }
+}
+
+/// Puts the key of each row at the end of values, for which there is room.
+fn append_keys(values: &mut Vec<i64>, rows: &PackedRows)
+    requires room { vec_len values.old + length rows.now.items ≤ vec_capacity values.old }
+    requires keys { All (λ (r : Row). r.key < 2 ^ 63) rows.now.items }
+    ensures items { values.new.items ≡ values.old.items ++ map (tail_value Key) rows.now.items }
+    ensures len { vec_len values.new ≡ vec_len values.old + length rows.now.items }
+    ensures capacity { vec_capacity values.new ≡ vec_capacity values.old }
+{
+    for place in 0..rows.len() {
+        values.push_reserved(rows.key(place) as i64);
+    }
+}
+
+/// Puts what a tail shows of each row at the end of values, for which there is room.
+fn append_tails(values: &mut Vec<i64>, tail: Tail, rows: &PackedRows)
+    requires room { vec_len values.old + length rows.now.items ≤ vec_capacity values.old }
+    requires keys { All (λ (r : Row). r.key < 2 ^ 63) rows.now.items }
+    ensures items { values.new.items ≡ values.old.items ++ map (tail_value tail) rows.now.items }
+    ensures len { vec_len values.new ≡ vec_len values.old + length rows.now.items }
+    ensures capacity { vec_capacity values.new ≡ vec_capacity values.old }
+{
+    match tail {
+        Tail::Key => append_keys(values, rows),
+        Tail::Cell(attribute) => append_cells(values, attribute, rows),
     }
 }
 
@@ -184,12 +225,13 @@ impl Pairs {
     }
 
     /// Puts the pairs of rows at the end of the last piece. It takes no memory.
-    pub(crate) fn load(&mut self, head: u8, tail: Tail, rows: &[Row])
-        requires room { length (joined self.old.pieces) + length rows.now ≤ self.old.room }
-        requires keys { All (λ (r : Row). r.key < 2 ^ 63) rows.now }
-        ensures { self.new ≡ stepped (loaded (map (pair_in head tail) rows.now)) self.old }
+    pub(crate) fn load(&mut self, head: u8, tail: Tail, rows: &PackedRows)
+        requires room { length (joined self.old.pieces) + length rows.now.items ≤ self.old.room }
+        requires keys { All (λ (r : Row). r.key < 2 ^ 63) rows.now.items }
+        ensures { self.new ≡ stepped (loaded (map (pair_in head tail) rows.now.items)) self.old }
     {
-        append(&mut self.head, &mut self.tail, head, tail, rows);
+        append_cells(&mut self.head, head, rows);
+        append_tails(&mut self.tail, tail, rows);
     }
 
     /// Puts a pair at the end of its piece. It takes no memory.

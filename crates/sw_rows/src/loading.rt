@@ -3,14 +3,14 @@
 ghost use Rattle.std.specs.Prelude.{◌≡◌, ◌≤◌, ◌⊎◌, ℕ, List, length, IfOk, IfSome, IfErr, OnOk, OnErr};
 ghost use Rattle.std.specs.Io.KnownBytes.{IsAtEnd};
 ghost use Rattle.sw_rows.specs.Gives.{Gives, Raised, TellsSource};
-ghost use Rattle.sw_rows.specs.Tables.{bytes_within, shown_table, table_of};
+ghost use Rattle.sw_rows.specs.Tables.{bytes_within, shown_packed, table_of};
 
 use crate::refusal::Refusal;
-use crate::row::Row;
 use crate::schema::Schema;
 use crate::source::Source;
 use crate::table::read_table;
 use std::alloc::Global;
+use sw_table::PackedRows;
 
 /// How many bytes a table or a script has at most.
 pub const MOST_BYTES: usize = 268_435_456;
@@ -46,17 +46,18 @@ pub fn read_all<R: Source>(alloc: Global, source: &mut R, limit: usize) -> Resul
 }
 
 /// Reads a table from a source, to the source's end: the attributes of its header, and its rows with the keys 1, 2, 3 and
-/// so on.
+/// so on, packed to as many cells a row as there are attributes.
 ///
 /// The first fault refuses it: `TooMany` of 268,435,456 bytes, before anything is split; `BadTable` of record 0, field 0
 /// where there is no header; `TooMany` of 8 attributes; `BadTable` at the first field of the header that is none; then record
 /// by record `TooMany` of 1,048,576 rows, `BadTable` at the first field that is missing or too many, `BadTable` at the first
 /// cell that is none of its kind. What is answered is the table of some bytes, also where the source does not tell its own.
 /// `Input` comes only where the source failed in this call.
-pub fn load<R: Source>(alloc: Global, source: &mut R) -> Result<(Schema, Vec<Row>), Refusal>
-    ensures spelled { IfSome (R.left source.old) (λ bytes. Gives (Raised (R.failed source.old) (R.failed source.new)) shown_table result (table_of bytes)) }
+pub fn load<R: Source>(alloc: Global, source: &mut R) -> Result<(Schema, PackedRows), Refusal>
+    ensures spelled { IfSome (R.left source.old) (λ bytes. Gives (Raised (R.failed source.old) (R.failed source.new)) shown_packed result (table_of bytes)) }
     ensures steady { OnOk result (R.failed source.new ≡ R.failed source.old) }
-    ensures table { IfOk result (λ t. (bytes : List ℕ) × (table_of bytes ≡ Ok (shown_table t))) }
+    ensures table { IfOk result (λ t. (bytes : List ℕ) × (table_of bytes ≡ Ok (shown_packed t))) }
+    ensures width { IfOk result (λ t. t.1.width ≡ length t.0) }
     ensures told { IfErr result (TellsSource (Raised (R.failed source.old) (R.failed source.new))) }
     ensures ended { OnOk result (IsAtEnd (R.left source.new)) }
 {

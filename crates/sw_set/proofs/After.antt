@@ -1,10 +1,10 @@
 -- What holds of the rows that came, and of the live ones, after updates that may be received.
 use Rattle.std.proofs.Common.{◌≡◌, ℕ, zero, suc, ℤ, ◌<◌, ◌^◌, true, List, [], ◌∷◌, ◌++◌, fold, take, All, Option}
 use Rattle.std.proofs.lemmas.List.Elements.{All-append}
-use Rattle.sw_rows.specs.declared.row.Row.{Row}
-use Rattle.sw_rows.specs.declared.row.Update.{Update}
-use Rattle.sw_rows.specs.declared.row.Update.TheVariants.{Insert, Remove}
-use Rattle.sw_rows.specs.Updates.{rows_then}
+use Rattle.sw_table.specs.declared.row.Row.{Row}
+use Rattle.sw_table.specs.declared.row.Update.{Update}
+use Rattle.sw_table.specs.declared.row.Update.TheVariants.{Insert, Remove}
+use Rattle.sw_table.specs.Updates.{rows_then}
 use Rattle.sw_set.specs.Shelf.{AreReceivable, Rises, came_then, key_of, lies_within}
 use Rattle.sw_set.proofs.Longer.{all-without, rises-last, rises-without}
 use Rattle.sw_set.proofs.Receiving.{IsBelow, all-one, less-then}

@@ -13,12 +13,12 @@ use Rattle.sw_rows.specs.declared.query.Want.TheVariants as want
 use Rattle.sw_rows.specs.declared.reply.Reply.{Reply}
 use Rattle.sw_rows.specs.declared.reply.Reply.TheVariants as reply
 use Rattle.sw_rows.specs.declared.reply.ReplyRow.{ReplyRow}
-use Rattle.sw_rows.specs.declared.row.Row.{Row}
+use Rattle.sw_table.specs.declared.row.Row.{Row}
 use Rattle.sw_rows.specs.Scan.{answer_over, cell_of, matching, meets, meets_all, projected}
 use Rattle.sw_kernel.specs.Tapes.{HoldsOnce}
 use Rattle.sw_kernel.proofs.Members.{Mem, mem-filter, mem-filtered, mem-permutation}
 use Rattle.sw_set.specs.Shelf.{Rises, key_of}
-use Rattle.sw_tape.specs.Restart.{kept}
+use Rattle.sw_table.specs.Kept.{kept}
 use Rattle.sw_set.specs.Choice.{AreInKeyOrder, AreOf, IsReplyOver, IsRun, chosen, further, meets_first}
 use Rattle.sw_set.proofs.Gathered.{Apart, Same, same-once, apart-distinct}
 use Rattle.sw_set.proofs.KeyOrder.{apart-filter, count-same, greatest-same, least-same, rises-filter, rises-sorted, rising-unique, total-same}

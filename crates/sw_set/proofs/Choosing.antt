@@ -4,7 +4,7 @@ use Rattle.std.proofs.lemmas.List.{take_more}
 use Rattle.std.proofs.lemmas.Int.{ints}
 use Rattle.std.specs.Int.{int_min, int_max}
 use Rattle.sw_rows.specs.Scan.{total, least, greatest}
-use Rattle.sw_tape.specs.Restart.{kept}
+use Rattle.sw_table.specs.Kept.{kept}
 use Rattle.sw_set.specs.Choice.{chosen, is_chosen, lesser_with, larger_with}
 
 kept-nil : {X : Type 0} (bs : List Bool) → kept bs (let e : List X = [] in e) ≡ []

@@ -4,8 +4,8 @@ use Rattle.std.specs.List.{remove}
 use Rattle.std.proofs.lemmas.List.{length-append, length-map, map-append}
 use Rattle.std.proofs.lemmas.List.Edits.{get_or-remove_above, get_or-remove_below, length-remove}
 use Rattle.std.proofs.lemmas.List.Sorted.{IsPermutation-more, IsPermutation-refl}
-use Rattle.sw_rows.specs.declared.row.Row.{Row}
-use Rattle.sw_rows.specs.declared.row.Update.{Update}
+use Rattle.sw_table.specs.declared.row.Row.{Row}
+use Rattle.sw_table.specs.declared.row.Update.{Update}
 use Rattle.sw_kernel.specs.Replay.{Step}
 use Rattle.sw_map.specs.Held.{Held, blank}
 use Rattle.sw_map.specs.Lawful.{IsLawful}

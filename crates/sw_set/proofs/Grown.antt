@@ -1,8 +1,8 @@
 -- One box of an area, whose map was to grow.
 use Rattle.std.proofs.Common.{◌≡◌, ℕ, ◌<◌, ℤ, Bool, true, false, refl, List, length, get_or, set, map, ap, sym, ◌∙◌, subst, arith, Option, Result, Ok, Err}
 use Rattle.std.proofs.lemmas.List.{get_or-map, length-map}
-use Rattle.sw_rows.specs.declared.row.Update.{Update}
-use Rattle.sw_rows.specs.declared.row.Row.{Row}
+use Rattle.sw_table.specs.declared.row.Update.{Update}
+use Rattle.sw_table.specs.declared.row.Row.{Row}
 use Rattle.sw_rows.specs.declared.refusal.Refusal.{Refusal}
 use Rattle.sw_kernel.specs.Replay.{Step}
 use Rattle.sw_map.specs.declared.tail.Tail.{Tail}

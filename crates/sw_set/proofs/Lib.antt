@@ -10,9 +10,6 @@ pub mod Gathered
 pub mod Grown
 pub mod KeyOrder
 pub mod LiveFinds
-pub mod LiveFlags
-pub mod LiveLaws
-pub mod LiveScans
 pub mod LiveStandings
 pub mod Logging
 pub mod Longer

@@ -1,15 +1,15 @@
 -- What is live after one step: all of a load, one row more, one less, and a step taken back.
 use Rattle.std.proofs.Common.{◌≡◌, ◌≢◌, ◌∙◌, ◌-◌, ◌+◌, ◌<◌, ap, sym, refl, subst, fold, drop, ℕ, Bool, true, false, List, [], ◌∷◌, ◌++◌, length, take, get_or, slice_set, All, append-nil, append_assoc, length-set, arith}
 use Rattle.std.proofs.lemmas.List.{length_push, nil_from_length, take_at}
-use Rattle.sw_rows.specs.declared.row.Row.{Row}
-use Rattle.sw_rows.specs.declared.row.Update.{Update}
-use Rattle.sw_rows.specs.declared.row.Update.TheVariants.{Insert, Remove}
-use Rattle.sw_rows.specs.Updates.{without}
+use Rattle.sw_table.specs.declared.row.Row.{Row}
+use Rattle.sw_table.specs.declared.row.Update.{Update}
+use Rattle.sw_table.specs.declared.row.Update.TheVariants.{Insert, Remove}
+use Rattle.sw_table.specs.Updates.{without}
 use Rattle.sw_set.specs.Live.{IsNextStanding, IsStanding, Standing, live_among}
 use Rattle.sw_set.specs.Shelf.{Rises, came_then, key_of}
 use Rattle.std.proofs.lemmas.List.Sums.{fold-append}
 use Rattle.sw_set.proofs.LiveFinds.{rises-front}
-use Rattle.sw_set.proofs.LiveLaws.{kept-all, kept-more, kept-removed, without-lacks}
+use Rattle.sw_table.proofs.LiveLaws.{kept-all, kept-more, kept-removed, without-lacks}
 use Rattle.sw_set.proofs.Merges.{split-at}
 
 -- one live row more

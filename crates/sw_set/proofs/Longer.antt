@@ -3,9 +3,9 @@ use Rattle.std.proofs.Common.{◌≡◌, ℕ, zero, suc, ◌<◌, ◌^◌, ℤ, 
 use Rattle.std.specs.List.{AllByRecursion}
 use Rattle.std.proofs.lemmas.List.{append-nil, append_assoc}
 use Rattle.std.proofs.lemmas.List.Elements.{All-from_recursion, All-append}
-use Rattle.sw_rows.specs.declared.row.Row.{Row}
+use Rattle.sw_table.specs.declared.row.Row.{Row}
 use Rattle.sw_rows.specs.Scan.{cell_of}
-use Rattle.sw_rows.specs.Updates.{without}
+use Rattle.sw_table.specs.Updates.{without}
 use Rattle.sw_kernel.specs.Arrangement.{Arrangement, last, joined}
 use Rattle.sw_kernel.specs.Replay.{Step, loaded, inserted, removed, ranged, step, replay_from}
 use Rattle.sw_kernel.specs.Tapes.{IsTape, brought, brought_by, count_from, live_from, live_after, without_place}

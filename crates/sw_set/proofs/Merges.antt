@@ -3,10 +3,10 @@ use Rattle.std.proofs.Common.{◌≡◌, ◌≢◌, ℕ, zero, suc, ◌+◌, ◌
 use Rattle.std.proofs.lemmas.List.{append-nil, drop_all, drop_more, take_all, take_more}
 use Rattle.std.proofs.lemmas.List.Elements.{All-append}
 use Rattle.std.proofs.lemmas.List.Sums.{fold-append}
-use Rattle.sw_rows.specs.declared.row.Row.{Row}
-use Rattle.sw_rows.specs.declared.row.Update.{Update}
-use Rattle.sw_rows.specs.declared.row.Update.TheVariants.{Insert, Remove}
-use Rattle.sw_rows.specs.Updates.{rows_then, without}
+use Rattle.sw_table.specs.declared.row.Row.{Row}
+use Rattle.sw_table.specs.declared.row.Update.{Update}
+use Rattle.sw_table.specs.declared.row.Update.TheVariants.{Insert, Remove}
+use Rattle.sw_table.specs.Updates.{rows_then, without}
 use Rattle.sw_kernel.specs.Replay.{Step, loaded, inserted, removed}
 use Rattle.sw_kernel.specs.Tapes.{brought, peak_from}
 use Rattle.sw_map.specs.declared.tail.Tail.TheVariants.{Key}

@@ -8,7 +8,7 @@ use Rattle.sw_rows.specs.declared.query.Want.TheVariants as want
 use Rattle.sw_rows.specs.declared.query.Query.{Query}
 use Rattle.sw_rows.specs.Scan.{CondsBelow, WantsBelow}
 use Rattle.sw_kernel.specs.Replay.{Step}
-use Rattle.sw_rows.specs.declared.row.Row.{Row}
+use Rattle.sw_table.specs.declared.row.Row.{Row}
 use Rattle.sw_kernel.proofs.Members.{Mem, mem-filter, contains-from_mem}
 use Rattle.sw_map.specs.declared.tail.Tail.{Tail}
 use Rattle.sw_map.specs.declared.tail.Tail.TheVariants.{Key, Cell}

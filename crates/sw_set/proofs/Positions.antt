@@ -3,7 +3,7 @@ use Rattle.std.proofs.Common.{◌≡◌, ◌≢◌, ◌&&◌, ℕ, ◌+◌, ◌-
 use Rattle.std.specs.List.{slice_range}
 use Rattle.std.proofs.lemmas.List.{get_or-map, length-take}
 use Rattle.sw_rows.specs.declared.bound.Bound.{Bound}
-use Rattle.sw_rows.specs.declared.row.Row.{Row}
+use Rattle.sw_table.specs.declared.row.Row.{Row}
 use Rattle.sw_rows.specs.Bounds.{is_above, is_below, is_within}
 use Rattle.sw_rows.specs.Scan.{cell_of}
 use Rattle.sw_kernel.specs.Replay.{Step}

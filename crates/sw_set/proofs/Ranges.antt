@@ -8,9 +8,9 @@ use Rattle.sw_rows.specs.declared.bound.Bound.{Bound}
 use Rattle.sw_rows.specs.declared.bound.Bound.TheVariants.{Before, After}
 use Rattle.sw_rows.specs.declared.query.Cond.{Cond}
 use Rattle.sw_rows.specs.declared.query.Query.{Query}
-use Rattle.sw_rows.specs.declared.row.Row.{Row}
-use Rattle.sw_rows.specs.declared.row.Update.{Update}
-use Rattle.sw_rows.specs.Updates.{rows_then}
+use Rattle.sw_table.specs.declared.row.Row.{Row}
+use Rattle.sw_table.specs.declared.row.Update.{Update}
+use Rattle.sw_table.specs.Updates.{rows_then}
 use Rattle.sw_rows.specs.Bounds.{bound_below, is_above, is_below, is_left, is_within}
 use Rattle.sw_rows.specs.Scan.{cell_of}
 use Rattle.sw_kernel.specs.Replay.{Step}

@@ -2,10 +2,10 @@
 use Rattle.std.proofs.Common.{◌≡◌, ℕ, zero, suc, ℤ, ◌<◌, ◌==◌, ◌||◌, ◌&&◌, not, Bool, true, false, List, [], ◌∷◌, ◌++◌, fold, refl, ap, sym, ◌∙◌, arith, subst, All, Option}
 use Rattle.std.proofs.lemmas.Bool.Decides.{nat_tests}
 use Rattle.std.proofs.lemmas.List.Elements.{All-append}
-use Rattle.sw_rows.specs.declared.row.Row.{Row}
-use Rattle.sw_rows.specs.declared.row.Update.{Update}
-use Rattle.sw_rows.specs.declared.row.Update.TheVariants.{Insert, Remove}
-use Rattle.sw_rows.specs.Updates.{has_key, rows_then, without}
+use Rattle.sw_table.specs.declared.row.Row.{Row}
+use Rattle.sw_table.specs.declared.row.Update.{Update}
+use Rattle.sw_table.specs.declared.row.Update.TheVariants.{Insert, Remove}
+use Rattle.sw_table.specs.Updates.{has_key, rows_then, without}
 use Rattle.sw_kernel.specs.Tapes.{brought}
 use Rattle.sw_set.specs.Shelf.{AreReceivable, AreaState, BringsNoMore, came_then}
 

@@ -5,11 +5,11 @@ use Rattle.std.proofs.lemmas.List.{length-map, get_or-map}
 use Rattle.std.proofs.lemmas.List.Elements.{Contains-get_or}
 use Rattle.std.proofs.lemmas.List.Sorted.{IsPermutation-map, IsPermutation-sym}
 use Rattle.sw_rows.specs.declared.reply.ReplyRow.{ReplyRow}
-use Rattle.sw_rows.specs.declared.row.Row.{Row}
+use Rattle.sw_table.specs.declared.row.Row.{Row}
 use Rattle.sw_rows.specs.Scan.{cell_of, column, projected}
 use Rattle.sw_kernel.proofs.Members.{Mem, mem-from_contains, mem-permutation}
 use Rattle.sw_map.specs.Held.{Held, blank}
-use Rattle.sw_tape.specs.Restart.{kept}
+use Rattle.sw_table.specs.Kept.{kept}
 use Rattle.sw_set.specs.Choice.{AreInKeyOrder, IsColumn, IsInside, chosen, column_at, placed, row_in, value_in}
 use Rattle.sw_set.specs.declared.window.Column.{Column}
 use Rattle.sw_set.proofs.Stock.{side-long}

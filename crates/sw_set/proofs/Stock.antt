@@ -2,7 +2,7 @@
 use Rattle.std.proofs.Common.{◌≡◌, ℕ, zero, suc, ◌-◌, ◌<◌, ℤ, List, [], ◌∷◌, ◌++◌, length, map, get_or, take, drop, slice_range, false, inl, inr, refl, ap, sym, ◌∙◌, arith, subst, Any}
 use Rattle.std.proofs.Math.Seq.{take-length}
 use Rattle.std.proofs.lemmas.List.{length-map, get_or-map, map-append}
-use Rattle.sw_rows.specs.declared.row.Row.{Row}
+use Rattle.sw_table.specs.declared.row.Row.{Row}
 use Rattle.sw_rows.specs.Scan.{cell_of, column}
 use Rattle.sw_kernel.specs.Arrangement.{Arrangement, last, piece, joined}
 use Rattle.sw_kernel.specs.Replay.{Step, shown}

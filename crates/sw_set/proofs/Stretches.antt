@@ -1,12 +1,12 @@
 -- A stretch of updates that an area is begun anew with: it is left as if they were merged one after the other.
 use Rattle.std.proofs.Common.{◌≡◌, ℕ, zero, suc, ◌+◌, ◌-◌, ◌<◌, ◌≤◌, inl, inr, List, [], ◌∷◌, ◌++◌, fold, length, get_or, take, drop, refl, ap, sym, ◌∙◌, arith, subst, All, Bool, true, false, true≢false, Result, Ok, Err, MatchResult}
 use Rattle.std.proofs.lemmas.List.{drop_more, get_or_default, length-append}
-use Rattle.sw_rows.specs.declared.row.Row.{Row}
-use Rattle.sw_rows.specs.declared.row.Update.{Update}
-use Rattle.sw_rows.specs.declared.row.Update.TheVariants.{Insert, Remove}
+use Rattle.sw_table.specs.declared.row.Row.{Row}
+use Rattle.sw_table.specs.declared.row.Update.{Update}
+use Rattle.sw_table.specs.declared.row.Update.TheVariants.{Insert, Remove}
 use Rattle.sw_rows.specs.declared.refusal.Refusal.{Refusal}
 use Rattle.sw_rows.specs.declared.refusal.Refusal.TheVariants.{NoMemory}
-use Rattle.sw_rows.specs.Updates.{rows_then, without}
+use Rattle.sw_table.specs.Updates.{rows_then, without}
 use Rattle.sw_kernel.specs.Replay.{Step, loaded, inserted}
 use Rattle.sw_map.specs.Held.{Held, blank}
 use Rattle.sw_set.specs.Merged.{GoesOn, IsBegunAnew, IsLogged, IsLoggedOrNot, IsMerged, IsMergedUpTo, IsRemoval, IsSameShell, IsSameTape, IsStretch, LacksKeys, MustBegin}

@@ -3,19 +3,20 @@ use Rattle.std.proofs.Common.{◌≡◌, ◌≢◌, ℕ, zero, suc, ◌<◌, ℤ
 use Rattle.std.proofs.lemmas.List.{append-nil, append_assoc, length-append}
 use Rattle.std.proofs.Math.ListN.{length-set}
 use Rattle.sw_rows.specs.declared.bound.Bound.{Bound}
-use Rattle.sw_rows.specs.declared.row.Row.{Row}
+use Rattle.sw_table.specs.declared.row.Row.{Row}
 use Rattle.sw_rows.specs.Scan.{cell_of}
-use Rattle.sw_rows.specs.declared.row.Update.{Update}
-use Rattle.sw_rows.specs.Updates.{has_key, rows_then, without}
+use Rattle.sw_table.specs.declared.row.Update.{Update}
+use Rattle.sw_table.specs.Updates.{has_key, rows_then, without}
 use Rattle.sw_kernel.specs.Arrangement.{joined}
 use Rattle.sw_kernel.specs.Replay.{Step, loaded, inserted, removed, ranged}
 use Rattle.sw_kernel.specs.Tapes.{IsTape, brought}
 use Rattle.sw_map.specs.Lawful.{rows_by}
-use Rattle.sw_tape.specs.Restart.{first_rows, kept}
+use Rattle.sw_table.specs.Kept.{kept}
+use Rattle.sw_tape.specs.Restart.{first_rows}
 use Rattle.sw_set.specs.Live.{IsStanding, Standing, live_among}
 use Rattle.sw_set.specs.Shelf.{Rises, key_of, logged_rows}
 use Rattle.sw_set.specs.Tied.{IsTied}
-use Rattle.sw_set.proofs.LiveLaws.{kept-fresh, kept-has, kept-lacks, kept-more, kept-removed}
+use Rattle.sw_table.proofs.LiveLaws.{kept-fresh, kept-has, kept-lacks, kept-more, kept-removed}
 use Rattle.sw_set.proofs.Longer.{brought-inserted, brought-removed, logged-inserted, logged-removed}
 use Rattle.sw_set.proofs.Shelves.{brought-ranged, first-ranged, logged-ranged}
 
@@ -107,10 +108,11 @@ kept-any P (true ∷ fs) (x ∷ xs) (suc p) d many lt on px = let r = kept-any P
 kept-any P (false ∷ fs) (x ∷ xs) (suc p) d many lt on px = kept-any P fs xs p d (omega (arith, many)) (omega (arith, lt)) on px
 
 -- the row of a live key, with its cell
-pub tied-row : (a : ℕ) (tape : List (Step Row)) (s : Standing) (load : List Row) (k p : ℕ) (row : Row) (v : ℤ) → load ≡ first_rows tape → Rises key_of (brought tape) → IsTied a tape s → has_key k (logged_rows a tape) ≡ true → p < length (load ++ s.later) → ((d : Row) → (get_or (load ++ s.later) p d).key ≡ k) → ((d : Row) → row ≡ get_or (load ++ s.later) p d) → v ≡ cell_of a row → Any (λ (r : Row). (r.key ≡ k) × (cell_of a r ≡ v)) (logged_rows a tape)
-tied-row a tape s load k p row v is rise w live lt has own cell =
+pub tied-row : (a : ℕ) (tape : List (Step Row)) (s : Standing) (load : List Row) (k p : ℕ) (v : ℤ) → load ≡ first_rows tape → Rises key_of (brought tape) → IsTied a tape s → has_key k (logged_rows a tape) ≡ true → p < length (load ++ s.later) → ((d : Row) → (get_or (load ++ s.later) p d).key ≡ k) → ((d : Row) → v ≡ cell_of a (get_or (load ++ s.later) p d)) → Any (λ (r : Row). (r.key ≡ k) × (cell_of a r ≡ v)) (logged_rows a tape)
+tied-row a tape s load k p v is rise w live lt has cell =
+    let none : Row = record { key = 0; cells = [] } in
     let stands = tied-standing a tape s load is rise w in
     let all = tied-live a tape s load is w in
-    let on : get_or s.flags p false ≡ true = sym (kept-has k row s.flags (load ++ s.later) p stands.many stands.rise lt (has row)) ∙ ap (has_key k) all ∙ live in
+    let on : get_or s.flags p false ≡ true = sym (kept-has k none s.flags (load ++ s.later) p stands.many stands.rise lt (has none)) ∙ ap (has_key k) all ∙ live in
     subst (Any (λ (r : Row). (r.key ≡ k) × (cell_of a r ≡ v))) all
-    (kept-any (λ (r : Row). (r.key ≡ k) × (cell_of a r ≡ v)) s.flags (load ++ s.later) p row stands.many lt on (has row, ap (cell_of a) (sym (own row)) ∙ sym cell))
+    (kept-any (λ (r : Row). (r.key ≡ k) × (cell_of a r ≡ v)) s.flags (load ++ s.later) p none stands.many lt on (has none, sym (cell none)))

@@ -4,10 +4,10 @@ use Rattle.std.proofs.lemmas.List.{length-map, get_or-map, get_or-drop, length-d
 use Rattle.std.proofs.lemmas.List.Sums.{sum_by-append}
 use Rattle.std.proofs.lemmas.List.Folds.{list_all_more}
 use Rattle.sw_rows.specs.declared.query.Cond.{Cond}
-use Rattle.sw_rows.specs.declared.row.Row.{Row}
+use Rattle.sw_table.specs.declared.row.Row.{Row}
 use Rattle.sw_rows.specs.Bounds.{is_within}
 use Rattle.sw_rows.specs.Scan.{cell_of, column, meets, meets_all}
-use Rattle.sw_tape.specs.Restart.{kept}
+use Rattle.sw_table.specs.Kept.{kept}
 use Rattle.sw_set.specs.Choice.{chosen, count_chosen, further, AreFor, AreOf}
 
 kept-map : {A B : Type 0} (f : A → B) (bs : List Bool) (xs : List A) → kept bs (map f xs) ≡ map f (kept bs xs)

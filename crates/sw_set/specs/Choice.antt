@@ -8,11 +8,11 @@ use Rattle.sw_rows.specs.declared.query.Want.TheVariants as want
 use Rattle.sw_rows.specs.declared.reply.Reply.{Reply}
 use Rattle.sw_rows.specs.declared.reply.Reply.TheVariants as reply
 use Rattle.sw_rows.specs.declared.reply.ReplyRow.{ReplyRow}
-use Rattle.sw_rows.specs.declared.row.Row.{Row}
+use Rattle.sw_table.specs.declared.row.Row.{Row}
 use Rattle.sw_rows.specs.Scan.{meets, projected, answer_over}
 use Rattle.sw_kernel.specs.Arrangement.{joined}
 use Rattle.sw_kernel.specs.Replay.{Step}
-use Rattle.sw_tape.specs.Restart.{kept}
+use Rattle.sw_table.specs.Kept.{kept}
 use Rattle.sw_map.specs.declared.tail.Tail.TheVariants.{Key, Cell}
 use Rattle.sw_map.specs.Held.{Held, blank, pairs_in, tails_in}
 use Rattle.sw_map.specs.Lawful.{IsLawful, rows_by}

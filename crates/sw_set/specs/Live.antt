@@ -1,9 +1,9 @@
 -- Which of the rows that a tape brought are live.
 use Rattle.std.specs.Prelude.{◌≡◌, ◌++◌, Bool, List, length}
-use Rattle.sw_rows.specs.declared.row.Row.{Row}
-use Rattle.sw_rows.specs.declared.row.Update.{Update}
-use Rattle.sw_rows.specs.Updates.{rows_then}
-use Rattle.sw_tape.specs.Restart.{kept}
+use Rattle.sw_table.specs.declared.row.Row.{Row}
+use Rattle.sw_table.specs.declared.row.Update.{Update}
+use Rattle.sw_table.specs.Updates.{rows_then}
+use Rattle.sw_table.specs.Kept.{kept}
 use Rattle.sw_set.specs.Shelf.{Rises, came_then, key_of}
 
 -- The rows that came after a tape's load, and a flag for each row of the load and then for each later one: whether it is live.

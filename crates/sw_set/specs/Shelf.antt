@@ -1,12 +1,12 @@
 -- What an area is, which rows it stands for, and when it is lawful.
 use Rattle.std.specs.Prelude.{◌≡◌, ◌≢◌, ◌≤◌, ◌<◌, ◌^◌, ℕ, ℤ, Bool, true, false, List, [], ◌∷◌, ◌++◌, fold, length, slice_index_or, Option, All, Contains}
-use Rattle.std.specs.List.{AllByRecursion}
-use Rattle.sw_rows.specs.declared.row.Row.{Row}
-use Rattle.sw_rows.specs.declared.row.Update.{Update}
-use Rattle.sw_rows.specs.declared.row.Update.TheVariants as update
+use Rattle.sw_table.specs.declared.row.Row.{Row}
+use Rattle.sw_table.specs.declared.row.Update.{Update}
+use Rattle.sw_table.specs.declared.row.Update.TheVariants as update
+pub use Rattle.sw_table.specs.Live.{Rises, key_of}
 use Rattle.sw_rows.specs.Bounds.{is_within}
 use Rattle.sw_rows.specs.Scan.{cell_of}
-use Rattle.sw_rows.specs.Updates.{has_key, rows_then}
+use Rattle.sw_table.specs.Updates.{has_key, rows_then}
 use Rattle.sw_kernel.specs.Replay.{Step, loaded}
 use Rattle.sw_kernel.specs.Tapes.{IsTape, live_rows, brought, peak_from}
 use Rattle.sw_map.specs.declared.tail.Tail.{Tail}
@@ -28,9 +28,6 @@ pub record AreaState : Type 0 where
 -- an area that is opened with rows: its tape is one load of them, and it has no boxes
 abbrev pub loaded_area : ℕ → Option ℤ → Option ℤ → List Row → AreaState
 loaded_area attribute from below rows = record { attribute = attribute; from = from; below = below; inbox = []; spare = 0; tape = loaded rows ∷ []; boxes = [] }
-
-abbrev pub key_of : Row → ℕ
-key_of r = r.key
 
 -- the live rows of the tape
 abbrev pub logged_rows : ℕ → List (Step Row) → List Row
@@ -67,11 +64,6 @@ MayReceive a from below came live (update.Remove key) = has_key key live ≡ tru
 abbrev pub AreReceivable : ℕ → Option ℤ → Option ℤ → List Row → List Row → List Update → Type 0
 AreReceivable a from below came live [] = Unit {0}
 AreReceivable a from below came live (u ∷ us) = MayReceive a from below came live u × AreReceivable a from below (came_then came u) (rows_then live u) us
-
--- strictly rising by a number
-abbrev pub Rises : {X : Type 0} → (X → ℕ) → List X → Type 0
-Rises k [] = Unit {0}
-Rises k (x ∷ xs) = AllByRecursion (λ y. k x < k y) xs × Rises k xs
 
 -- no two boxes that are not blank have maps of the same tail
 unfoldable pub AreApart : List Held → Type 0

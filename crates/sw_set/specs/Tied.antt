@@ -1,9 +1,10 @@
 -- How the list of the live rows of a tape stands to it.
 use Rattle.std.specs.Prelude.{◌≡◌, ◌++◌, ℕ, List, length}
-use Rattle.sw_rows.specs.declared.row.Row.{Row}
+use Rattle.sw_table.specs.declared.row.Row.{Row}
 use Rattle.sw_kernel.specs.Replay.{Step}
 use Rattle.sw_kernel.specs.Tapes.{brought}
-use Rattle.sw_tape.specs.Restart.{first_rows, kept}
+use Rattle.sw_table.specs.Kept.{kept}
+use Rattle.sw_tape.specs.Restart.{first_rows}
 use Rattle.sw_set.specs.Live.{Standing}
 use Rattle.sw_set.specs.Shelf.{logged_rows}
 

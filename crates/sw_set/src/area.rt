@@ -1,10 +1,10 @@
 //! An area, and its single changes.
 
 ghost use Rattle.std.specs.Prelude.{◌≡◌, ◌≢◌, ◌<◌, ◌≤◌, ◌+◌, ◌-◌, ◌^◌, ◌∷◌, ◌++◌, [], true, false, List, fold, length, map, pos, All, Any, Contains, IfOk, IsOk, IsOkUnless, MatchOption, MatchResult, None, Some, remove, slice_index_or, slice_set, vec_capacity, vec_len};
-ghost use Rattle.sw_rows.specs.declared.row.Row.{Row};
-ghost use Rattle.sw_rows.specs.declared.row.Update.TheVariants.{Insert, Remove};
+ghost use Rattle.sw_table.specs.declared.row.Row.{Row};
+ghost use Rattle.sw_table.specs.declared.row.Update.TheVariants.{Insert, Remove};
 ghost use Rattle.sw_rows.specs.declared.refusal.Refusal.TheVariants.{NoMemory};
-ghost use Rattle.sw_rows.specs.Updates.{has_key, rows_then};
+ghost use Rattle.sw_table.specs.Updates.{has_key, rows_then};
 ghost use Rattle.sw_rows.specs.Scan.{AsksBelow, TakesMemory, answer};
 ghost use Rattle.sw_kernel.specs.Arrangement.{joined};
 ghost use Rattle.sw_kernel.specs.Replay.{inserted, loaded, ranged, removed};
@@ -35,7 +35,7 @@ use std::marker::Model;
 use std::mem;
 use std::thread::Threads;
 use sw_map::{CrackerMap, Tail};
-use sw_rows::{Bound, Query, Refusal, Reply, Row, Update};
+use sw_rows::{Bound, PackedRows, Query, Refusal, Reply, Row, Update};
 use sw_tape::{Entry, Tape};
 
 /// The rows whose cells of one attribute lie in an interval, the tape that reorganised them, and the boxes whose maps
@@ -87,7 +87,7 @@ impl<M: CrackerMap> Area<M> {
         requires within { All (λ (r : Row). lies_within attribute from below r ≡ true) rows.now }
         ensures { MatchResult result (λ a. a ≡ loaded_area attribute from below rows.now) (λ e. e ≡ NoMemory) }
     {
-        match Vec::from_slice(alloc, rows) {
+        match PackedRows::of(alloc, rows) {
             Ok(copy) => Area::of(alloc, attribute, from, below, copy),
             Err(_) => Err(Refusal::NoMemory),
         }
@@ -99,7 +99,7 @@ impl<M: CrackerMap> Area<M> {
         attribute: u8,
         from: Option<i64>,
         below: Option<i64>,
-        rows: Vec<Row>,
+        rows: PackedRows,
     ) -> Result<Area<M>, Refusal>
         requires attribute { attribute < 8 }
         requires keys { All (λ (r : Row). r.key < 2 ^ 63) rows.items }
@@ -107,7 +107,7 @@ impl<M: CrackerMap> Area<M> {
         requires within { All (λ (r : Row). lies_within attribute from below r ≡ true) rows.items }
         ensures { MatchResult result (λ a. a ≡ loaded_area attribute from below rows.items) (λ e. e ≡ NoMemory) }
     {
-        let live = LiveRows::all(alloc, rows.len())?;
+        let live = LiveRows::all(alloc, rows.width(), rows.len())?;
         let tape = Tape::of(alloc, rows)?;
         Ok(Area {
             alloc,
@@ -300,7 +300,8 @@ impl<M: CrackerMap> Area<M> {
         requires receivable { AreReceivable self.old.attribute self.old.from self.old.below (live_among (first_rows self.old.tape) live) (live_among (first_rows self.old.tape) live) self.old.inbox }
         ensures { MatchResult result (λ _. IsSameShell self.old self.new × IsBegunAnew (live_among (first_rows self.old.tape) live) self.new) (λ e. (self.new ≡ self.old) × (e ≡ NoMemory)) }
     {
-        let all = LiveRows::all(self.alloc, live.count())?;
+        let width = load_of(&self.tape).width();
+        let all = LiveRows::all(self.alloc, width, live.count())?;
         self.tape.restart_live(live.later(), live.flags())?;
         clear_all(self.boxes.as_mut_slice());
         self.live = all;
@@ -352,7 +353,7 @@ impl<M: CrackerMap> Area<M> {
         let Some(row) = self.live.find(load, key) else {
             unreachable!()
         };
-        let value = self.live.row(load, row).cells[usize::from(self.attribute)];
+        let value = self.live.cell(load, row, usize::from(self.attribute));
         place_of_row(&self.boxes[at], &self.tape, value, key)
     }
 
@@ -685,12 +686,12 @@ impl<M: CrackerMap> Area<M> {
 }
 
 /// The rows of a tape's load.
-fn load_of(tape: &Tape) -> &[Row]
-    ensures { result.now ≡ first_rows tape.now }
+fn load_of(tape: &Tape) -> &PackedRows
+    ensures { result.now.items ≡ first_rows tape.now }
 {
     let _many = tape.len();
     match tape.get(0) {
-        Some(Entry::Load(rows)) => rows.as_slice(),
+        Some(Entry::Load(rows)) => rows,
         _ => unreachable!(),
     }
 }

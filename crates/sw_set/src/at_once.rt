@@ -1,7 +1,7 @@
 //! Alignment of several maps at once.
 
 ghost use Rattle.std.specs.Prelude.{◌≡◌, ℕ, ◌<◌, ◌≤◌, false, true, length, map, All, Contains, MatchOption, MatchResult, IfSome, slice_index_or};
-ghost use Rattle.sw_rows.specs.declared.row.Row.{Row};
+ghost use Rattle.sw_table.specs.declared.row.Row.{Row};
 ghost use Rattle.sw_rows.specs.declared.refusal.Refusal.TheVariants.{NoMemory};
 ghost use Rattle.sw_kernel.specs.Replay.{Step};
 ghost use Rattle.sw_map.specs.Held.{KeysFit};

@@ -2,7 +2,7 @@
 
 ghost use Rattle.std.specs.Prelude.{◌≡◌, ◌<◌, ◌≤◌, List, [], map, length, slice_range, All, Any, Contains, IfOk, IsOk, IsOkUnless, MatchResult};
 ghost use Rattle.sw_rows.specs.declared.refusal.Refusal.TheVariants.{NoMemory};
-ghost use Rattle.sw_rows.specs.declared.row.Row.{Row};
+ghost use Rattle.sw_table.specs.declared.row.Row.{Row};
 ghost use Rattle.sw_rows.specs.Scan.{AsksBelow, CondsBelow, WantsBelow, TakesMemory, answer, answer_over, meets_all, projected};
 ghost use Rattle.sw_kernel.specs.Tapes.{HoldsOnce};
 ghost use Rattle.sw_map.specs.declared.tail.Tail.{Tail};

@@ -4,8 +4,9 @@ use sw_map::CrackerMap;
 use sw_rows::Bound;
 use sw_tape::{Entry, Tape};
 
-/// A thread is worth its start where more pairs than this are to be parted.
-const WORTH: usize = 50_000;
+/// A thread is worth its start where more pairs than this are to be parted: that takes some 4 ms, and a processor that idles, or has
+/// other work, takes up to as long to come (measured by bench/area/wake.sh).
+const WORTH: usize = 2_000_000;
 
 /// How many of the tape's bounds in a row are looked for in a map that may lack them.
 const NEAR: usize = 2;

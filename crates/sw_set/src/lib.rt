@@ -17,7 +17,6 @@ mod pick;
 mod position;
 mod prepare;
 mod replies;
-mod scanning;
 mod totals;
 mod window;
 

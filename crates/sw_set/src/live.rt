@@ -1,44 +1,31 @@
 //! Which rows of a tape are live.
 
-ghost use Rattle.std.specs.Prelude.{◌≡◌, ◌≢◌, ◌-◌, ◌<◌, ◌++◌, ◌∷◌, ◌+◌, [], true, false, not, length, filter, fold, take, replicate, slice_index_or, slice_set, All, Bool, Decides, IfOk, IsOk, IsOkUnless, MatchOption, MatchResult};
-ghost use Rattle.sw_rows.specs.declared.row.Row.{Row};
+ghost use Rattle.std.specs.Prelude.{◌≡◌, ◌≢◌, ◌-◌, ◌<◌, ◌≤◌, ◌++◌, ◌∷◌, ◌+◌, [], true, false, not, length, filter, fold, take, replicate, slice_index_or, slice_set, All, Bool, Decides, IfOk, IsOk, IsOkUnless, MatchOption, MatchResult};
+ghost use Rattle.sw_table.specs.declared.row.Row.{Row};
 ghost use Rattle.sw_rows.specs.declared.refusal.Refusal.TheVariants.{NoMemory};
-ghost use Rattle.sw_rows.specs.Scan.{AsksBelow, TakesMemory, answer};
-ghost use Rattle.sw_rows.specs.Updates.{has_key, rows_then};
+ghost use Rattle.sw_rows.specs.Scan.{AsksBelow, TakesMemory, answer, cell_of};
+ghost use Rattle.sw_table.specs.Updates.{has_key, rows_then};
 ghost use Rattle.sw_set.specs.Live.{IsNextStanding, IsStanding, Standing, live_among};
 ghost use Rattle.sw_set.specs.Shelf.{Rises, came_then, key_of};
 
-use crate::scanning::scan_live;
-use std::alloc::Global;
+use std::alloc::{AllocError, Global};
 use std::marker::Model;
-use sw_rows::{Query, Refusal, Reply, Row, Update, answer};
+use sw_rows::{PackedRows, Places, Query, Refusal, Reply, Row, Update, scan};
 
-/// Whether the row at a place, if there is one, has the key.
-fn stands_at(rows: &[Row], place: usize, key: u64) -> bool
-    ensures there { result ≡ true → (place < length rows.now) × ((d : Row) → (slice_index_or rows.now place d).key ≡ key) }
-    ensures other { result ≡ false → (d : Row) → place < length rows.now → (slice_index_or rows.now place d).key ≢ key }
+/// A copy of rows. The one error is that there is no memory for it.
+fn copy_of(alloc: Global, rows: &PackedRows) -> Result<PackedRows, AllocError>
+    ensures { IfOk result (λ copy. copy.items ≡ rows.now.items) }
 {
-    place < rows.len() && rows[place].key == key
-}
-
-/// The place of a key among rows that rise by key, by binary search.
-fn find_key(rows: &[Row], key: u64) -> Option<usize>
-    requires { Rises key_of rows.now }
-    ensures { MatchOption result (All (λ (r : Row). r.key ≢ key) rows.now) (λ p. (p < length rows.now) × ((d : Row) → (slice_index_or rows.now p d).key ≡ key)) }
-{
-    let place = rows.partition_point(|row| row.key < key);
-    if stands_at(rows, place, key) {
-        Some(place)
-    } else {
-        None
-    }
+    let mut copy = PackedRows::new(alloc, rows.width());
+    copy.extend_from(rows, 0, rows.len())?;
+    Ok(copy)
 }
 
 /// Which of the rows that a tape brought are live: of those in its load, and of those that came later. Each has a place: those
 /// of the load first, then the later ones, in the order in which they came.
 #[derive(Drop)]
 pub(crate) struct LiveRows {
-    later: Vec<Row>,
+    later: PackedRows,
     flags: Vec<bool>,
     /// How many flags are false.
     gone: usize,
@@ -56,13 +43,15 @@ impl Model for LiveRows {
 }
 
 impl LiveRows {
-    /// As many rows as that, all of them of the load, and all live. Refused `NoMemory` alone.
-    pub(crate) fn all(alloc: Global, many: usize) -> Result<LiveRows, Refusal>
+    /// As many rows as that, all of them of a load that keeps so many cells of a row, and all live. Refused `NoMemory` alone.
+    pub(crate) fn all(alloc: Global, width: usize, many: usize) -> Result<LiveRows, Refusal>
+        requires some { 1 ≤ width }
+        requires most { width ≤ 8 }
         ensures { MatchResult result (λ live. live ≡ record { later = []; flags = replicate many true }) (λ e. e ≡ NoMemory) }
     {
         match vec![in alloc; true; many] {
             Ok(flags) => Ok(LiveRows {
-                later: Vec::new(alloc),
+                later: PackedRows::new(alloc, width),
                 flags,
                 gone: 0,
             }),
@@ -87,36 +76,61 @@ impl LiveRows {
     }
 
     /// The row at a place.
-    #[inline]
-    pub(crate) fn row<'a>(&'a self, load: &'a [Row], place: usize) -> &'a Row
-        requires { place < length (load.now ++ self.now.later) }
-        ensures { (d : Row) → result.now ≡ slice_index_or (load.now ++ self.now.later) place d }
+    fn row(&self, load: &PackedRows, place: usize) -> Row
+        requires { place < length (load.now.items ++ self.now.later) }
+        ensures { (d : Row) → result ≡ slice_index_or (load.now.items ++ self.now.later) place d }
     {
         if place < load.len() {
-            &load[place]
+            load.get(place)
         } else {
-            &self.later[place - load.len()]
+            self.later.get(place - load.len())
+        }
+    }
+
+    /// The key of the row at a place.
+    fn key(&self, load: &PackedRows, place: usize) -> u64
+        requires { place < length (load.now.items ++ self.now.later) }
+        ensures { (d : Row) → result ≡ (slice_index_or (load.now.items ++ self.now.later) place d).key }
+    {
+        if place < load.len() {
+            load.key(place)
+        } else {
+            self.later.key(place - load.len())
+        }
+    }
+
+    /// A cell of the row at a place.
+    #[inline]
+    pub(crate) fn cell(&self, load: &PackedRows, place: usize, attr: usize) -> i64
+        requires place { place < length (load.now.items ++ self.now.later) }
+        requires attr { attr < 8 }
+        ensures { (d : Row) → result ≡ cell_of attr (slice_index_or (load.now.items ++ self.now.later) place d) }
+    {
+        if place < load.len() {
+            load.cell(place, attr)
+        } else {
+            self.later.cell(place - load.len(), attr)
         }
     }
 
     /// The place of a key, whether or not its row is live. By binary search.
-    pub(crate) fn find(&self, load: &[Row], key: u64) -> Option<usize>
-        requires { IsStanding load.now self.now }
-        ensures { MatchOption result (All (λ (r : Row). r.key ≢ key) (load.now ++ self.now.later)) (λ p. (p < length (load.now ++ self.now.later)) × ((d : Row) → (slice_index_or (load.now ++ self.now.later) p d).key ≡ key)) }
+    pub(crate) fn find(&self, load: &PackedRows, key: u64) -> Option<usize>
+        requires { IsStanding load.now.items self.now }
+        ensures { MatchOption result (All (λ (r : Row). r.key ≢ key) (load.now.items ++ self.now.later)) (λ p. (p < length (load.now.items ++ self.now.later)) × ((d : Row) → (slice_index_or (load.now.items ++ self.now.later) p d).key ≡ key)) }
     {
-        if let Some(place) = find_key(load, key) {
+        if let Some(place) = load.find(key) {
             return Some(place);
         }
-        match find_key(self.later.as_slice(), key) {
+        match self.later.find(key) {
             Some(place) => Some(load.len() + place),
             None => None,
         }
     }
 
     /// Whether a live row has the key. By binary search.
-    pub(crate) fn holds(&self, load: &[Row], key: u64) -> bool
-        requires { IsStanding load.now self.now }
-        ensures { result ≡ has_key key (live_among load.now self.now) }
+    pub(crate) fn holds(&self, load: &PackedRows, key: u64) -> bool
+        requires { IsStanding load.now.items self.now }
+        ensures { result ≡ has_key key (live_among load.now.items self.now) }
     {
         match self.find(load, key) {
             Some(place) => self.is_live(place),
@@ -128,10 +142,9 @@ impl LiveRows {
     pub(crate) fn push(&mut self, row: Row) -> Result<(), Refusal>
         ensures { MatchResult result (λ _. self.new ≡ record { later = self.old.later ++ row ∷ []; flags = self.old.flags ++ true ∷ [] }) (λ e. (self.new ≡ self.old) × (e ≡ NoMemory)) }
     {
-        if self.later.reserve(1).is_err() || self.flags.reserve(1).is_err() {
+        if self.flags.reserve(1).is_err() || self.later.add(&row).is_err() {
             return Err(Refusal::NoMemory);
         }
-        self.later.push_reserved(row);
         self.flags.push_reserved(true);
         Ok(())
     }
@@ -142,7 +155,7 @@ impl LiveRows {
         requires flags { 0 < length self.old.flags }
         ensures { self.new ≡ record { later = take (length self.old.later - 1) self.old.later; flags = take (length self.old.flags - 1) self.old.flags } }
     {
-        let _row = self.later.pop();
+        self.later.truncate(self.later.len() - 1);
         if self.flags.pop() == Some(false) {
             self.gone -= 1;
         }
@@ -163,7 +176,7 @@ impl LiveRows {
     fn is_load(&self) -> bool
         ensures { Decides result ((length self.now.later ≡ 0) × All (λ (b : Bool). b ≡ true) self.now.flags) }
     {
-        self.gone == 0 && self.later.is_empty()
+        self.gone == 0 && self.later.len() == 0
     }
 
     /// How many rows are live.
@@ -174,10 +187,10 @@ impl LiveRows {
     }
 
     /// The rows that came after the load.
-    pub(crate) fn later(&self) -> &[Row]
-        ensures { result.now ≡ self.now.later }
+    pub(crate) fn later(&self) -> &PackedRows
+        ensures { result.now.items ≡ self.now.later }
     {
-        self.later.as_slice()
+        &self.later
     }
 
     /// The flags of the rows.
@@ -191,7 +204,7 @@ impl LiveRows {
     fn copied(&self, alloc: Global) -> Result<LiveRows, Refusal>
         ensures { MatchResult result (λ live. live ≡ self.now) (λ e. e ≡ NoMemory) }
     {
-        let Ok(later) = Vec::from_slice(alloc, self.later.as_slice()) else {
+        let Ok(later) = copy_of(alloc, &self.later) else {
             return Err(Refusal::NoMemory);
         };
         let Ok(flags) = Vec::from_slice(alloc, self.flags.as_slice()) else {
@@ -205,10 +218,10 @@ impl LiveRows {
     }
 
     /// A row comes, or that of a key goes, if it is there. Refused `NoMemory` alone, and then nothing is said of these rows.
-    fn take(&mut self, load: &[Row], update: &Update) -> Result<(), Refusal>
-        requires standing { IsStanding load.now self.old }
-        requires rise { Rises key_of (came_then (load.now ++ self.old.later) update.now) }
-        ensures { MatchResult result (λ _. IsNextStanding load.now update.now self.old self.new) (λ e. e ≡ NoMemory) }
+    fn take(&mut self, load: &PackedRows, update: &Update) -> Result<(), Refusal>
+        requires standing { IsStanding load.now.items self.old }
+        requires rise { Rises key_of (came_then (load.now.items ++ self.old.later) update.now) }
+        ensures { MatchResult result (λ _. IsNextStanding load.now.items update.now self.old self.new) (λ e. e ≡ NoMemory) }
     {
         match update {
             Update::Insert(row) => self.push(*row),
@@ -225,12 +238,12 @@ impl LiveRows {
     pub(crate) fn after(
         &self,
         alloc: Global,
-        load: &[Row],
+        load: &PackedRows,
         updates: &[Update],
     ) -> Result<LiveRows, Refusal>
-        requires many { length self.now.flags ≡ length (load.now ++ self.now.later) }
-        requires rise { Rises key_of (fold came_then (load.now ++ self.now.later) updates.now) }
-        ensures { MatchResult result (λ live. (length live.flags ≡ length (load.now ++ live.later)) × (live_among load.now live ≡ fold rows_then (live_among load.now self.now) updates.now)) (λ e. e ≡ NoMemory) }
+        requires many { length self.now.flags ≡ length (load.now.items ++ self.now.later) }
+        requires rise { Rises key_of (fold came_then (load.now.items ++ self.now.later) updates.now) }
+        ensures { MatchResult result (λ live. (length live.flags ≡ length (load.now.items ++ live.later)) × (live_among load.now.items live ≡ fold rows_then (live_among load.now.items self.now) updates.now)) (λ e. e ≡ NoMemory) }
     {
         let mut live = self.copied(alloc)?;
         for update in updates {
@@ -241,16 +254,58 @@ impl LiveRows {
 
     /// What a query is answered over the rows that are live. It takes memory only where rows are asked for, and then it may be
     /// refused, `NoMemory` alone. The caller's condition: attributes are below 8.
-    pub(crate) fn scan(&self, alloc: Global, load: &[Row], query: &Query) -> Result<Reply, Refusal>
+    pub(crate) fn scan(
+        &self,
+        alloc: Global,
+        load: &PackedRows,
+        query: &Query,
+    ) -> Result<Reply, Refusal>
         requires asks { AsksBelow 8 query.now }
-        requires many { length self.now.flags ≡ length (load.now ++ self.now.later) }
-        ensures answered { IfOk result (λ reply. reply ≡ answer (live_among load.now self.now) query.now) }
+        requires many { length self.now.flags ≡ length (load.now.items ++ self.now.later) }
+        ensures answered { IfOk result (λ reply. reply ≡ answer (live_among load.now.items self.now) query.now) }
         ensures refused { IsOkUnless result NoMemory }
         ensures scalars { (TakesMemory query.now.want → ⊥) → IsOk result }
     {
         if self.is_load() {
-            return answer(alloc, load, query);
+            return scan(alloc, load, query);
         }
-        scan_live(alloc, self, load, query)
+        scan(alloc, &Spread { load, live: self }, query)
+    }
+}
+
+/// The rows of a load and those that came later by place, with their flags.
+#[derive(Clone, Copy)]
+struct Spread<'a> {
+    load: &'a PackedRows,
+    live: &'a LiveRows,
+}
+
+impl Places for Spread<'_> {
+    ghost rows = { λ s. s.load.now.items ++ s.live.now.later };
+
+    ghost flags = { λ s. s.live.now.flags };
+
+    #[inline]
+    fn places(&self) -> usize {
+        self.load.len() + self.live.later().len()
+    }
+
+    #[inline]
+    fn is_live(&self, place: usize) -> bool {
+        place < self.live.places() && self.live.is_live(place)
+    }
+
+    #[inline]
+    fn cell(&self, place: usize, attr: usize) -> i64 {
+        self.live.cell(self.load, place, attr)
+    }
+
+    #[inline]
+    fn key(&self, place: usize) -> u64 {
+        self.live.key(self.load, place)
+    }
+
+    fn row(&self, place: usize) -> Row {
+        self.live.row(self.load, place)
     }
 }

@@ -1,9 +1,9 @@
 //! Merging: the updates that wait are logged in the tape one after the other, or taken up by a load with which the area begins anew.
 
 ghost use Rattle.std.specs.Prelude.{◌≡◌, ◌<◌, ◌≤◌, ◌+◌, ◌-◌, [], true, false, fold, length, take, drop, MatchOption, MatchResult, slice_index_or, vec_capacity, vec_len};
-ghost use Rattle.sw_rows.specs.declared.row.Update.TheVariants.{Insert, Remove};
+ghost use Rattle.sw_table.specs.declared.row.Update.TheVariants.{Insert, Remove};
 ghost use Rattle.sw_rows.specs.declared.refusal.Refusal.TheVariants.{NoMemory};
-ghost use Rattle.sw_rows.specs.Updates.{has_key, rows_then};
+ghost use Rattle.sw_table.specs.Updates.{has_key, rows_then};
 ghost use Rattle.sw_kernel.specs.Tapes.{brought};
 ghost use Rattle.sw_map.specs.declared.tail.Tail.TheVariants.{Key};
 ghost use Rattle.sw_map.specs.Held.{Held};

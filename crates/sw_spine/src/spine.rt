@@ -14,7 +14,7 @@ use crate::history::{Entry, Record, State};
 use crate::store::Store;
 use std::alloc::{AllocError, Global};
 use std::marker::Model;
-use sw_rows::{Call, Query, Refusal, Reply, Row, Schema, Update};
+use sw_rows::{Call, PackedRows, Query, Refusal, Reply, Schema, Update};
 
 /// The greatest number of entries of a history.
 pub const MOST_ENTRIES: usize = 1048576;
@@ -90,7 +90,12 @@ impl Spine {
     ///
     /// Refused `TooMany` of the limit where there are more rows, `NoMemory` otherwise. The caller's conditions: the limit is
     /// 1 to 1,048,576, and the rows have the keys 1, 2, 3 and so on.
-    pub fn new(alloc: Global, schema: Schema, rows: Vec<Row>, limit: u64) -> Result<Spine, Refusal>
+    pub fn new(
+        alloc: Global,
+        schema: Schema,
+        rows: PackedRows,
+        limit: u64,
+    ) -> Result<Spine, Refusal>
         requires some { 0 < limit }
         requires most { limit ≤ 1048576 }
         requires numbered { is_numbered 1 rows.items ≡ true }
@@ -148,8 +153,8 @@ impl Spine {
     }
 
     /// The opening rows.
-    pub fn opening_rows(&self) -> &[Row]
-        ensures { result.now ≡ self.now.rows }
+    pub fn opening_rows(&self) -> &PackedRows
+        ensures { result.now.items ≡ self.now.rows }
     {
         self.store.rows()
     }

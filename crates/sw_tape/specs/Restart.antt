@@ -1,13 +1,12 @@
 -- What a tape is begun anew with.
-use Rattle.std.specs.Prelude.{Bool, List, [], ◌∷◌, cond}
-use Rattle.sw_rows.specs.declared.row.Row.{Row}
+use Rattle.std.specs.Prelude.{Bool, List, [], ◌∷◌}
+use Rattle.sw_table.specs.Kept as table
+use Rattle.sw_table.specs.declared.row.Row.{Row}
 use Rattle.sw_kernel.specs.Replay.{Step, loaded, inserted, removed, ranged}
 
 -- the items whose flags are true, in their order: live rows, or what truth values choose
 abbrev pub kept : {X : Type 0} → List Bool → List X → List X
-kept [] xs = []
-kept (b ∷ bs) [] = []
-kept (b ∷ bs) (x ∷ xs) = cond b (x ∷ kept bs xs) (kept bs xs)
+kept bs xs = table.kept bs xs
 
 -- the rows that an entry loads
 abbrev pub first_rows_of : Step Row → List Row

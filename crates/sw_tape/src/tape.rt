@@ -2,7 +2,7 @@
 
 ghost use Rattle.std.specs.Prelude.{◌≡◌, ◌<◌, ◌≤◌, ◌+◌, ◌^◌, ◌++◌, ◌∷◌, ◌||◌, [], List, length, map, vec_len, vec_capacity, MatchOption, MatchResult, OnErr, OnOk, IfErr, IfOk, slice_get, slice_set, Some};
 ghost use Rattle.sw_rows.specs.declared.bound.Bound.{Bound};
-ghost use Rattle.sw_rows.specs.declared.row.Row.{Row};
+ghost use Rattle.sw_table.specs.declared.row.Row.{Row};
 ghost use Rattle.sw_rows.specs.declared.refusal.Refusal.TheVariants.{NoMemory, TooMany};
 ghost use Rattle.sw_kernel.specs.Replay.{Step, loaded};
 ghost use Rattle.sw_kernel.specs.Tapes.{IsRising, IsTape, MayFollow, count_from, is_marked, peak_from, ranges_at};
@@ -18,6 +18,7 @@ use std::alloc::Global;
 use std::marker::Model;
 use std::mem;
 use sw_rows::{Bound, Refusal, Row};
+use sw_table::PackedRows;
 
 /// How many entries a tape has at most.
 pub const MAX_ENTRIES: usize = 4096;
@@ -43,14 +44,14 @@ impl Model for Tape {
 fn load_of(alloc: Global, rows: &[Row]) -> Result<Entry, Refusal>
     ensures { MatchResult result (λ e. step_of e ≡ loaded rows.now) (λ e. e ≡ NoMemory) }
 {
-    match Vec::from_slice(alloc, rows) {
+    match PackedRows::of(alloc, rows) {
         Ok(copy) => Ok(Entry::Load(copy)),
         Err(_) => Err(Refusal::NoMemory),
     }
 }
 
 /// Takes the rows of the load out that entries begin with; another entry stands in its place.
-fn take_load(entries: &mut Vec<Entry>) -> Vec<Row>
+fn take_load(entries: &mut Vec<Entry>) -> PackedRows
     requires { IsTape (map step_of entries.old.items) }
     ensures rows { result.items ≡ first_rows (map step_of entries.old.items) }
     ensures rest { entries.new.items ≡ slice_set entries.old.items 0 (Remove 0) }
@@ -63,11 +64,11 @@ fn take_load(entries: &mut Vec<Entry>) -> Vec<Row>
 
 /// Makes entries that begin with a load one load of those rows that are live, and answers how many these are. Refused
 /// `NoMemory`, the entries say what they said.
-fn keep_in(entries: &mut Vec<Entry>, later: &[Row], live: &[bool]) -> Result<usize, Refusal>
+fn keep_in(entries: &mut Vec<Entry>, later: &PackedRows, live: &[bool]) -> Result<usize, Refusal>
     requires tape { IsTape (map step_of entries.old.items) }
-    requires many { length live.now ≡ length (first_rows (map step_of entries.old.items) ++ later.now) }
-    ensures kept { MatchResult result (λ many. map step_of entries.new.items ≡ loaded (kept live.now (first_rows (map step_of entries.old.items) ++ later.now)) ∷ []) (λ e. (map step_of entries.new.items ≡ map step_of entries.old.items) × (e ≡ NoMemory)) }
-    ensures many { IfOk result (λ many. (many ≡ length (kept live.now (first_rows (map step_of entries.old.items) ++ later.now))) × (many < 2 ^ 63)) }
+    requires many { length live.now ≡ length (first_rows (map step_of entries.old.items) ++ later.now.items) }
+    ensures kept { MatchResult result (λ many. map step_of entries.new.items ≡ loaded (kept live.now (first_rows (map step_of entries.old.items) ++ later.now.items)) ∷ []) (λ e. (map step_of entries.new.items ≡ map step_of entries.old.items) × (e ≡ NoMemory)) }
+    ensures many { IfOk result (λ many. (many ≡ length (kept live.now (first_rows (map step_of entries.old.items) ++ later.now.items))) × (many < 2 ^ 63)) }
 {
     let mut rows = take_load(entries);
     if let Err(e) = keep_live(&mut rows, later, live) {
@@ -98,14 +99,14 @@ impl Tape {
     pub fn new(alloc: Global, rows: &[Row]) -> Result<Tape, Refusal>
         ensures { MatchResult result (λ tape. tape ≡ loaded rows.now ∷ []) (λ e. e ≡ NoMemory) }
     {
-        match Vec::from_slice(alloc, rows) {
+        match PackedRows::of(alloc, rows) {
             Ok(copy) => Tape::of(alloc, copy),
             Err(_) => Err(Refusal::NoMemory),
         }
     }
 
     /// A tape of one load of these rows, which are taken over and not copied. It is refused `NoMemory` alone.
-    pub fn of(alloc: Global, rows: Vec<Row>) -> Result<Tape, Refusal>
+    pub fn of(alloc: Global, rows: PackedRows) -> Result<Tape, Refusal>
         ensures { MatchResult result (λ tape. tape ≡ loaded rows.items ∷ []) (λ e. e ≡ NoMemory) }
     {
         let many = rows.len();
@@ -137,9 +138,9 @@ impl Tape {
 
     /// Makes the tape one load of those rows that are live: of the rows of its load, and then of the later ones, each has a flag.
     /// They are kept in place. It is refused `NoMemory` alone, and then the tape is as it was.
-    pub fn restart_live(&mut self, later: &[Row], live: &[bool]) -> Result<(), Refusal>
-        requires many { length live.now ≡ length (first_rows self.old ++ later.now) }
-        ensures { MatchResult result (λ _. self.new ≡ loaded (kept live.now (first_rows self.old ++ later.now)) ∷ []) (λ e. (self.new ≡ self.old) × (e ≡ NoMemory)) }
+    pub fn restart_live(&mut self, later: &PackedRows, live: &[bool]) -> Result<(), Refusal>
+        requires many { length live.now ≡ length (first_rows self.old ++ later.now.items) }
+        ensures { MatchResult result (λ _. self.new ≡ loaded (kept live.now (first_rows self.old ++ later.now.items)) ∷ []) (λ e. (self.new ≡ self.old) × (e ≡ NoMemory)) }
     {
         let many = keep_in(&mut self.entries, later, live)?;
         // the memory of the bounds goes back, as that of the entries' rows did

@@ -1,8 +1,8 @@
 -- What merging makes of areas that are written out.
 use Rattle.std.proofs.Common.{◌≡◌, ◌<◌, ◌∷◌, ◌++◌, [], List, ℕ, zero, suc, length, get_or, pos, true≢false, None, refl, ap, sym, subst, inl, inr, arith, All}
 use Rattle.std.proofs.lemmas.List.Elements.{All-from_recursion}
-use Rattle.sw_rows.specs.declared.row.Row.{Row}
-use Rattle.sw_rows.specs.declared.row.Update.TheVariants.{Insert, Remove}
+use Rattle.sw_table.specs.declared.row.Row.{Row}
+use Rattle.sw_table.specs.declared.row.Update.TheVariants.{Insert, Remove}
 use Rattle.sw_rows.specs.Examples.{four_rows, row_with}
 use Rattle.sw_kernel.specs.Arrangement.{joined}
 use Rattle.sw_kernel.specs.Partition.{left_part, right_part}

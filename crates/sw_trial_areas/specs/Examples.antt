@@ -4,8 +4,8 @@ use Rattle.sw_rows.specs.declared.bound.Bound.{Bound}
 use Rattle.sw_rows.specs.declared.bound.Bound.TheVariants.{Before, After}
 use Rattle.sw_rows.specs.declared.query.Query.{Query}
 use Rattle.sw_rows.specs.declared.query.Want.TheVariants as want
-use Rattle.sw_rows.specs.declared.row.Row.{Row}
-use Rattle.sw_rows.specs.declared.row.Update.{Update}
+use Rattle.sw_table.specs.declared.row.Row.{Row}
+use Rattle.sw_table.specs.declared.row.Update.{Update}
 use Rattle.sw_rows.specs.Examples.{asking, four_rows, on, row_of_one, row_with}
 use Rattle.sw_kernel.specs.Arrangement.{Arrangement, joined, last, piece}
 use Rattle.sw_kernel.specs.Replay.{Step, loaded, inserted, removed, ranged}

@@ -1,7 +1,7 @@
 -- Rows by their numbers, and the area that is opened over rows.
 use Rattle.std.specs.Prelude.{◌&&◌, ℕ, ℤ, Bool, nat_lt, List, [], ◌∷◌, map, min, replicate}
 use Rattle.std.specs.List.{enumerate_from, list_all}
-use Rattle.sw_rows.specs.declared.row.Row.{Row}
+use Rattle.sw_table.specs.declared.row.Row.{Row}
 use Rattle.sw_kernel.specs.Replay.{loaded}
 use Rattle.sw_map.specs.Held.{blank}
 use Rattle.sw_set.specs.Shelf.{AreaState, lies_within}

@@ -5,7 +5,7 @@ use crate::scenes::Watch;
 use std::alloc::{AllocError, Global};
 use std::sync::atomic::{AtomicU64, Ordering};
 use sw_map::{CrackerMap, Tail};
-use sw_rows::{Bound, Refusal, Row};
+use sw_rows::{Bound, PackedRows, Refusal, Row};
 use sw_tape::Entry;
 use sw_trial_maps::{Counts, replay};
 
@@ -68,7 +68,7 @@ fn load<M: CrackerMap>(
     rows: &[Row],
     text: &mut String,
 ) -> Result<(), AllocError> {
-    let entry = Entry::Load(Vec::from_slice(alloc, rows)?);
+    let entry = Entry::Load(PackedRows::of(alloc, rows)?);
     push_answer(text, replay(map, &entry))
 }
 

@@ -17,7 +17,7 @@ use std::thread;
 use std::thread::Threads;
 use sw_budget::{Budget, Purse};
 use sw_map::{CrackerMap, PairMap, Tail};
-use sw_rows::{Bound, Refusal, Row};
+use sw_rows::{Bound, PackedRows, Refusal, Row};
 use sw_tape::Entry;
 use sw_trial_maps::{CountingMap, Counts, Gate, GatedMap, replay_all};
 
@@ -168,11 +168,11 @@ fn maps_are_aligned_at_once(rt: HostRuntime) -> Result<(), Fail> {
 
 /// The load of the four rows.
 fn four_rows(alloc: Global) -> Result<Entry, AllocError> {
-    let mut rows: Vec<Row> = Vec::new(alloc);
+    let mut rows = PackedRows::new(alloc, 3);
     for place in 0..FOUR_ROWS.len() {
         let cells = FOUR_ROWS[place];
         let key = place as u64 + 1;
-        rows.push(Row { key, cells })?;
+        rows.add(&Row { key, cells })?;
     }
     Ok(Entry::Load(rows))
 }

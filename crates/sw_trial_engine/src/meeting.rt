@@ -16,7 +16,7 @@ use std::thread::Threads;
 use sw_engine::{Blank, Engine, Naming, Session, Ticket, deal};
 use sw_lang::{Cuts, parse_cuts};
 use sw_map::CrackerMap;
-use sw_rows::{Call, Refusal, Row, Schema};
+use sw_rows::{Call, PackedRows, Refusal, Schema};
 use sw_spine::Record;
 use sw_trial_maps::Gate;
 
@@ -27,7 +27,7 @@ pub const TURNS: u64 = 1_000_000_000;
 #[derive(Drop)]
 pub struct Table {
     pub schema: Schema,
-    pub rows: Vec<Row>,
+    pub rows: PackedRows,
     pub cuts: Cuts,
     pub limit: u64,
 }

@@ -8,7 +8,7 @@ ghost use Rattle.sw_spine.specs.History.{CallsBelow};
 use std::alloc::{AllocError, Global};
 use sw_lang::parse_line;
 use sw_map::{CrackerMap, push_blank};
-use sw_rows::{Call, Refusal, Reply, ReplyRow, Row, Schema};
+use sw_rows::{Call, PackedRows, Refusal, Reply, ReplyRow, Row, Schema};
 use sw_spine::{Record, State};
 
 /// The rows of a table, its cuts, and the limit of rows.
@@ -19,9 +19,9 @@ pub struct Trial<'a> {
     pub limit: u64,
 }
 
-/// Rows of these cells, by the keys 1, 2, 3 and so on. Refused `NoMemory` alone.
+/// Rows of these cells in a list, by the keys 1, 2, 3 and so on. Refused `NoMemory` alone.
 #[tactic(auto, using(crate::proofs::Readings::numbered_push))]
-pub fn numbered(alloc: Global, cells: &[[i64; 8]]) -> Result<Vec<Row>, Refusal>
+fn listed(alloc: Global, cells: &[[i64; 8]]) -> Result<Vec<Row>, Refusal>
     requires { length cells.now ≤ 1048576 }
     ensures { IfOk result (λ rows. is_numbered 1 rows.items ≡ true) }
 {
@@ -33,6 +33,18 @@ pub fn numbered(alloc: Global, cells: &[[i64; 8]]) -> Result<Vec<Row>, Refusal>
         }
     }
     Ok(rows)
+}
+
+/// The same, packed. Refused `NoMemory` alone.
+pub fn numbered(alloc: Global, cells: &[[i64; 8]]) -> Result<PackedRows, Refusal>
+    requires { length cells.now ≤ 1048576 }
+    ensures { IfOk result (λ rows. is_numbered 1 rows.items ≡ true) }
+{
+    let rows = listed(alloc, cells)?;
+    match PackedRows::of(alloc, rows.as_slice()) {
+        Ok(packed) => Ok(packed),
+        Err(_) => Err(Refusal::NoMemory),
+    }
 }
 
 /// The call of a line, if it has one.

@@ -2,10 +2,10 @@
 use Rattle.std.specs.Prelude.{◌≡◌, ◌<◌, ◌^◌, ◌⊎◌, ◌∷◌, [], ℕ, ℤ, Bool, false, List, cond, get_or, length, take, All}
 use Rattle.sw_rows.specs.declared.refusal.Refusal.{Refusal}
 use Rattle.sw_rows.specs.declared.refusal.Refusal.TheVariants.{Input, NoMemory}
-use Rattle.sw_rows.specs.declared.row.Row.{Row}
-use Rattle.sw_rows.specs.declared.row.Update.{Update}
-use Rattle.sw_rows.specs.declared.row.Update.TheVariants.{Insert, Remove}
-use Rattle.sw_rows.specs.Updates.{has_key, rows_of}
+use Rattle.sw_table.specs.declared.row.Row.{Row}
+use Rattle.sw_table.specs.declared.row.Update.{Update}
+use Rattle.sw_table.specs.declared.row.Update.TheVariants.{Insert, Remove}
+use Rattle.sw_table.specs.Updates.{has_key, rows_of}
 use Rattle.sw_chunks.specs.Heads.{HasReceived, HeadState, opened}
 use Rattle.sw_chunks.specs.Routing.{given_by}
 use Rattle.sw_trial_areas.specs.Opening.{numbered, row_of}

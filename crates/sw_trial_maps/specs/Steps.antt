@@ -1,6 +1,6 @@
 -- When a map may replay an entry.
 use Rattle.std.specs.Prelude.{◌≡◌, ◌<◌, ◌≤◌, false}
-use Rattle.sw_rows.specs.declared.row.Row.{Row}
+use Rattle.sw_table.specs.declared.row.Row.{Row}
 use Rattle.sw_kernel.specs.Replay.{Step}
 use Rattle.sw_map.specs.Held.{Held, KeysFit, MayReplay, after, pairs_in}
 

@@ -1,21 +1,22 @@
 //! Steps whose conditions are tested when they run.
 
 ghost use Rattle.std.specs.Prelude.{◌≡◌, ◌<◌, ◌^◌, All, OnOk, true};
-ghost use Rattle.sw_rows.specs.declared.row.Row.{Row};
+ghost use Rattle.sw_table.specs.declared.row.Row.{Row};
 ghost use Rattle.sw_tape.specs.Entries.{step_of};
 ghost use Rattle.sw_map.specs.Held.{after};
 ghost use Rattle.sw_trial_maps.specs.Steps.{CanReplay};
 
 use sw_map::CrackerMap;
-use sw_rows::{Refusal, Row};
+use sw_rows::Refusal;
+use sw_table::PackedRows;
 use sw_tape::Entry;
 
 /// Whether the keys of all these rows fit a cell.
-fn keys_fit(rows: &[Row]) -> bool
-    ensures { result ≡ true → All (λ (r : Row). r.key < 2 ^ 63) rows.now }
+fn keys_fit(rows: &PackedRows) -> bool
+    ensures { result ≡ true → All (λ (r : Row). r.key < 2 ^ 63) rows.now.items }
 {
-    for row in rows {
-        if row.key >= 1 << 63 {
+    for place in 0..rows.len() {
+        if rows.key(place) >= 1 << 63 {
             return false;
         }
     }

@@ -5,7 +5,7 @@ ghost use Rattle.sw_kernel.specs.Tapes.{MayFollow, count_from};
 ghost use Rattle.sw_tape.specs.Entries.{step_of};
 
 use std::alloc::Global;
-use sw_rows::{Bound, Refusal, Row};
+use sw_rows::{Bound, PackedRows, Refusal, Row};
 use sw_tape::{Entry, MAX_ENTRIES, Tape};
 
 /// A row of a key and one cell.
@@ -148,18 +148,37 @@ fn nearest_are_around(alloc: Global) -> Result<bool, Refusal> {
     Ok(none && near)
 }
 
+/// Whether rows have these keys, in their order.
+fn have_keys(rows: &PackedRows, keys: &[u64]) -> bool {
+    if rows.len() != keys.len() {
+        return false;
+    }
+    for place in 0..keys.len() {
+        if rows.key(place) != keys[place] {
+            return false;
+        }
+    }
+    true
+}
+
 /// Whether the tape is one load of rows with these keys.
 fn loads(tape: &Tape, keys: &[u64]) -> bool {
     let Some(Entry::Load(rows)) = tape.get(0) else {
         return false;
     };
-    tape.len() == 1
-        && rows.len() == keys.len()
-        && rows.iter().zip(keys).all(|(row, key)| row.key == *key)
+    tape.len() == 1 && have_keys(rows, keys)
+}
+
+/// These rows, packed.
+fn packed(alloc: Global, rows: &[Row]) -> Result<PackedRows, Refusal> {
+    match PackedRows::of(alloc, rows) {
+        Ok(packed) => Ok(packed),
+        Err(_) => Err(Refusal::NoMemory),
+    }
 }
 
 /// Begins the tape anew with the live rows, where there is a flag for each.
-fn restart(tape: &mut Tape, later: &[Row], live: &[bool]) -> Result<(), Refusal> {
+fn restart(tape: &mut Tape, later: &PackedRows, live: &[bool]) -> Result<(), Refusal> {
     let Some(Entry::Load(rows)) = tape.get(0) else {
         return Err(Refusal::TooMany { limit: 0 });
     };
@@ -170,22 +189,26 @@ fn restart(tape: &mut Tape, later: &[Row], live: &[bool]) -> Result<(), Refusal>
 }
 
 /// Whether the live rows of the load and of later ones are kept, and nothing else.
-fn live_are_kept(tape: &mut Tape) -> Result<bool, Refusal> {
+fn live_are_kept(alloc: Global, tape: &mut Tape) -> Result<bool, Refusal> {
     add_ranges(tape, RANGES)?;
     let later = [row(5, 7), row(6, 8)];
     insert_all(tape, &later)?;
-    restart(tape, &later, &[true, false, true, true, false, true])?;
+    restart(
+        tape,
+        &packed(alloc, &later)?,
+        &[true, false, true, true, false, true],
+    )?;
     let four = loads(tape, &[1, 3, 4, 6]) && tape.peak() == 4 && !tape.marked(Bound::Before(10));
     Ok(four)
 }
 
 /// Whether rows are kept beside one more, and then none are.
-fn kept_again(tape: &mut Tape) -> Result<bool, Refusal> {
+fn kept_again(alloc: Global, tape: &mut Tape) -> Result<bool, Refusal> {
     insert_all(tape, &[row(7, 9)])?;
     let grown = tape.peak() == 5 && tape.len() == 2;
-    restart(tape, &[row(7, 9)], &[true; 5])?;
+    restart(tape, &packed(alloc, &[row(7, 9)])?, &[true; 5])?;
     let five = loads(tape, &[1, 3, 4, 6, 7]);
-    restart(tape, &[], &[false; 5])?;
+    restart(tape, &packed(alloc, &[])?, &[false; 5])?;
     Ok(grown && five && loads(tape, &[]) && tape.peak() == 0)
 }
 
@@ -202,7 +225,7 @@ fn entries_of_a_tape(rt: HostRuntime) -> Result<(), Refusal> {
     assert!(rt; entries_come_back(&mut worked_tape(rt.alloc())?)?);
     assert!(rt; peak_is_kept(&mut worked_tape(rt.alloc())?)?);
     let mut tape = worked_tape(rt.alloc())?;
-    assert!(rt; live_are_kept(&mut tape)?);
-    assert!(rt; kept_again(&mut tape)?);
+    assert!(rt; live_are_kept(rt.alloc(), &mut tape)?);
+    assert!(rt; kept_again(rt.alloc(), &mut tape)?);
     Ok(())
 }

@@ -1,9 +1,9 @@
 -- What fits a table asks for its attributes alone; and a select that began waits for its reply.
 use Rattle.std.proofs.Common.{◌≡◌, ◌≢◌, List, Some, length, fold, sym, ◌∙◌, ap, arith, take-append-drop}
 use Rattle.std.specs.List.{slice_index}
-use Rattle.sw_rows.specs.Updates.{rows_of, rows_then}
-use Rattle.sw_rows.specs.declared.row.Row.{Row}
-use Rattle.sw_rows.specs.declared.row.Update.{Update}
+use Rattle.sw_table.specs.Updates.{rows_of, rows_then}
+use Rattle.sw_table.specs.declared.row.Row.{Row}
+use Rattle.sw_table.specs.declared.row.Update.{Update}
 use Rattle.sw_rows.specs.Scan.{answer}
 use Rattle.sw_rows.specs.declared.query.Query.{Query}
 use Rattle.sw_rows.specs.declared.reply.Reply.{Reply}

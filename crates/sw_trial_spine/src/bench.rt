@@ -9,7 +9,9 @@ ghost use Rattle.sw_trial_spine.specs.Benches.{IsAsked, IsAtRest};
 
 use std::alloc::Global;
 use sw_lang::{parse_line, write_all, write_number, write_reply};
-use sw_rows::{Call, Counted, Query, Refusal, Reply, Row, Schema, Update, answer, update_all};
+use sw_rows::{
+    Call, Counted, PackedRows, Query, Refusal, Reply, Row, Schema, Update, answer, update_all,
+};
 use sw_spine::{Entry, Record, Spine, State};
 
 /// What was told so far.
@@ -79,7 +81,7 @@ pub fn opened(alloc: Global, rows: &[Row], limit: u64) -> Result<Spine, Refusal>
     ensures { IfOk result (λ spine. IsAtRest spine rows.now) }
 {
     let schema = schema(alloc)?;
-    let Ok(rows) = Vec::from_slice(alloc, rows) else {
+    let Ok(rows) = PackedRows::of(alloc, rows) else {
         return Err(Refusal::NoMemory);
     };
     let mut spine = Spine::new(alloc, schema, rows, limit)?;

@@ -5,7 +5,7 @@ ghost use Rattle.sw_trial_spine.specs.Benches.{IsAtRest};
 
 use crate::bench::{Step, Text, four_rows, give_up, make_all, opened, schema, tell};
 use std::alloc::{AllocError, Global};
-use sw_rows::{Call, Conds, Counted, Query, Refusal, Row, Update, Want};
+use sw_rows::{Call, Conds, Counted, PackedRows, Query, Refusal, Row, Update, Want};
 use sw_spine::{
     Lines, Spine, keys_are_given_once, rows_in_order_are_numbered, updates_may_come,
     visits_keep_books,
@@ -138,7 +138,7 @@ fn are_numbered(spine: &mut Spine, count: u64) -> Result<bool, Refusal> {
 
 /// Whether 1,024 sessions are opened, and no further one.
 fn are_limited(alloc: Global) -> Result<bool, Refusal> {
-    let mut spine = Spine::new(alloc, schema(alloc)?, Vec::new(alloc), 1)?;
+    let mut spine = Spine::new(alloc, schema(alloc)?, PackedRows::new(alloc, 3), 1)?;
     let are_numbered = are_numbered(&mut spine, 1024)?;
     let refused = spine.open_session();
     let is_refused = matches!(refused, Err(Refusal::TooMany { limit: 1024 }));
@@ -148,6 +148,9 @@ fn are_limited(alloc: Global) -> Result<bool, Refusal> {
 /// Whether four rows are refused under a limit of three.
 fn are_refused(alloc: Global) -> Result<bool, Refusal> {
     let rows = four_rows(alloc)?;
+    let Ok(rows) = PackedRows::of(alloc, rows.as_slice()) else {
+        return Err(Refusal::NoMemory);
+    };
     let made = Spine::new(alloc, schema(alloc)?, rows, 3);
     Ok(matches!(made, Err(Refusal::TooMany { limit: 3 })))
 }

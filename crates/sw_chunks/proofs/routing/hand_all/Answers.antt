@@ -1,5 +1,5 @@
 use Rattle.std.proofs.Common.{rules, ◌≡◌, ◌<◌, ◌≤◌, ◌+◌, ◌++◌, ◌∷◌, ℕ, [], length, get_or, subst, sym, ap, ◌∙◌, arith, refl}
-use Rattle.sw_rows.specs.declared.row.Update.{Update}
+use Rattle.sw_table.specs.declared.row.Update.{Update}
 use Rattle.sw_set.specs.Shelf.{AreaState}
 use Rattle.sw_chunks.proofs.Asking.{get-any}
 use Rattle.sw_chunks.proofs.Sending.{next-may-at, next-room, sent-next-at}

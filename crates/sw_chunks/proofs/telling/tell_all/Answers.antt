@@ -1,4 +1,4 @@
-use Rattle.sw_rows.specs.declared.row.Update.{Update}
+use Rattle.sw_table.specs.declared.row.Update.{Update}
 use Rattle.sw_chunks.specs.Heads.{CellsFit, told_in}
 use Rattle.sw_chunks.proofs.Tells.{all-more, told-more}
 use Rattle.sw_chunks.proofs.telling.tell_all.Goals as goal

@@ -1,5 +1,5 @@
 use Rattle.std.proofs.Common.{◌≡◌, ◌++◌, take, All}
-use Rattle.sw_rows.specs.declared.row.Update.{Update}
+use Rattle.sw_table.specs.declared.row.Update.{Update}
 use Rattle.sw_chunks.specs.Heads.{CellsFit, told_in}
 use Rattle.sw_chunks.proofs.telling.tell_all.Given as goal
 

@@ -1,4 +1,4 @@
-use Rattle.sw_rows.specs.declared.row.Row.{Row}
+use Rattle.sw_table.specs.declared.row.Row.{Row}
 use Rattle.sw_kernel.specs.Arrangement.{joined}
 use Rattle.sw_kernel.specs.Replay.{replay}
 use Rattle.sw_kernel.specs.Tapes.{live_rows}

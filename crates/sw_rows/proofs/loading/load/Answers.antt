@@ -4,4 +4,4 @@ use Rattle.sw_rows.proofs.loading.load.Goals as goal
 
 pub returns-in-Ok-read_table-clause-table : goal.returns-in-Ok-read_table-clause-table
 returns-in-Ok-read_table-clause-table g c =
-    (c.in-Ok.bytes.items, table_of_few c.in-Ok.bytes.items c.in-Ok.ensures.short ∙ (rw c.deref.ensures.value at c.in-Ok-read_table.ensures))
+    (c.in-Ok.bytes.items, table_of_few c.in-Ok.bytes.items c.in-Ok.ensures.short ∙ (rw c.deref.ensures.value at c.in-Ok-read_table.ensures.gives))

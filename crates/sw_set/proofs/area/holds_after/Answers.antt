@@ -1,6 +1,6 @@
 use Rattle.std.proofs.Common.{◌==◌, ◌&&◌, not, Bool, ap, sym, ◌∙◌}
-use Rattle.sw_rows.specs.declared.row.Update.{Update}
-use Rattle.sw_rows.specs.Updates.{has_key, rows_then}
+use Rattle.sw_table.specs.declared.row.Update.{Update}
+use Rattle.sw_table.specs.Updates.{has_key, rows_then}
 use Rattle.sw_set.proofs.Receiving.{has-without}
 use Rattle.sw_set.proofs.area.holds_after.Goals as goal
 

@@ -1,5 +1,5 @@
-use Rattle.sw_rows.specs.declared.row.Update.{Update}
-use Rattle.sw_rows.specs.declared.row.Update.TheVariants.{Insert}
+use Rattle.sw_table.specs.declared.row.Update.{Update}
+use Rattle.sw_table.specs.declared.row.Update.TheVariants.{Insert}
 use Rattle.std.proofs.Common.{[], get_or}
 use Rattle.sw_set.proofs.Boxes.{get_or_any}
 use Rattle.sw_set.proofs.Stretches.{goes-begun, goes-one, told-logged, told-not}

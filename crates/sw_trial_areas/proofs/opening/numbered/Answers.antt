@@ -1,6 +1,6 @@
 use Rattle.std.proofs.Common.{◌≡◌, ℕ, ℤ, ◌+◌, ◌≤◌, ◌<◌, ◌^◌, ◌++◌, ◌∷◌, [], All, ap, arith, get_or, length, List, min, subst, sym, take, ◌∙◌}
 use Rattle.std.proofs.lemmas.List.{take_min}
-use Rattle.sw_rows.specs.declared.row.Row.{Row}
+use Rattle.sw_table.specs.declared.row.Row.{Row}
 use Rattle.sw_set.specs.Shelf.{Rises, key_of}
 use Rattle.sw_trial_areas.specs.Opening.{numbered, row_of}
 use Rattle.sw_trial_areas.proofs.Numbering.{numbered-fit, numbered-more, numbered-rise}

@@ -1,6 +1,6 @@
-use Rattle.std.proofs.Common.{rules, ◌≡◌, ◌-◌, ◌<◌, ◌≤◌, ◌^◌, All, ℕ, List, length, true, nat_lt, arith, sym, ◌∙◌, subst}
+use Rattle.std.proofs.Common.{◌≡◌, ◌-◌, ◌<◌, ◌≤◌, ◌^◌, ℕ, List, length, true, nat_lt, arith, sym, ◌∙◌, subst}
 use Rattle.std.proofs.lemmas.Bool.Decides.{nat_tests}
-use Rattle.sw_rows.specs.declared.row.Row.{Row}
+use Rattle.sw_table.specs.declared.row.Row.{Row}
 use Rattle.sw_tape.specs.declared.entry.Entry.{Entry}
 use Rattle.sw_tape.specs.Entries.{step_of}
 use Rattle.sw_map.specs.Held.{Held, pairs_in}
@@ -19,9 +19,8 @@ returns-else-len-cells-2 g c =
     let fit : IsFit m = record { begun = sym c.is_blank.ensures ∙ c.if-is_blank.false; early = early; room = room } in
     let rows : List Row = c.in-Load.rows.items in
     let first : m.cursor ≡ 0 = omega (arith, c.cursor-in-Load.ensures, c.if-cursor-gt0.false) in
-    let many : length rows ≡ c.in-Load.rows.len = search rules in
-    let fits : length rows ≤ m.cells - pairs_in m = omega (arith, many, c.len.ensures, c.if-len-cells-2.false, c.len-len.ensures, c.cells-cells.ensures) in
-    λ t. subst (λ (e : Entry). CanReplay (step_of e) m) (sym c.in-Load.is) (can-load m rows fit first fits (subst (λ (l : List Row). All (λ (r : Row). r.key < 2 ^ 63) l) c.deref.ensures.value (c.keys_fit.ensures t)))
+    let fits : length rows ≤ m.cells - pairs_in m = omega (arith, c.len.ensures.many, c.if-len-cells-2.false, c.len-len.ensures, c.cells-cells.ensures) in
+    λ t. subst (λ (e : Entry). CanReplay (step_of e) m) (sym c.in-Load.is) (can-load m rows fit first fits (c.keys_fit.ensures t))
 
 pub returns-else-row : goal.returns-else-row
 returns-else-row g c =

@@ -1,6 +1,6 @@
 use Rattle.std.proofs.Common.{rules, ◌≡◌, List, [], length, subst, sym, ap, refl, ◌∙◌}
 use Rattle.sw_rows.specs.Scan.{answer, answer_over}
-use Rattle.sw_rows.specs.Updates.{rows_of}
+use Rattle.sw_table.specs.Updates.{rows_of}
 use Rattle.sw_set.specs.Merged.{StandsForSame}
 use Rattle.sw_set.specs.Shelf.{AreaState}
 use Rattle.sw_chunks.specs.Asked.{AreasFit, with_all}

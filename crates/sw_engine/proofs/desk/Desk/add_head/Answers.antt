@@ -1,6 +1,6 @@
 use Rattle.std.proofs.Common.{rules, ◌≡◌, ◌<◌, List, ◌++◌, sym, ap, ◌∙◌, subst, arith}
 use Rattle.std.proofs.lemmas.List.{append-nil}
-use Rattle.sw_rows.specs.declared.row.Update.{Update}
+use Rattle.sw_table.specs.declared.row.Update.{Update}
 use Rattle.sw_spine.specs.Table.{opened}
 use Rattle.sw_spine.specs.Books.{new_books, took}
 use Rattle.sw_spine.specs.Receivable.{AreUpdates}

@@ -1,5 +1,5 @@
 use Rattle.std.proofs.Common.{◌≡◌, ℕ, List, ◌++◌, length, set, false, Some, None, sym, ap, ◌∙◌, subst}
-use Rattle.sw_rows.specs.declared.row.Update.{Update}
+use Rattle.sw_table.specs.declared.row.Update.{Update}
 use Rattle.sw_rows.specs.declared.query.Call.TheVariants.{Select}
 use Rattle.sw_spine.specs.History.{mine}
 use Rattle.sw_spine.specs.Books.{Books, took, waits_for}

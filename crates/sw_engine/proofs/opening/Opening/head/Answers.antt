@@ -1,5 +1,5 @@
 use Rattle.std.proofs.Common.{rules, ◌<◌, ◌^◌, List, ℤ, None, sym, subst, arith, All}
-use Rattle.sw_rows.specs.declared.row.Row.{Row}
+use Rattle.sw_table.specs.declared.row.Row.{Row}
 use Rattle.sw_lang.specs.Cuts.{cuts_on}
 use Rattle.sw_chunks.specs.Cuts.{RiseAbove}
 use Rattle.sw_set.specs.Shelf.{Rises, key_of}

@@ -1,6 +1,6 @@
-use Rattle.std.proofs.Common.{rules, ◌≡◌, ◌≤◌, List, length, map, arith, ap, ◌∙◌, subst}
+use Rattle.std.proofs.Common.{◌≡◌, ◌≤◌, List, length, map, arith, ap, ◌∙◌, subst}
 use Rattle.std.proofs.lemmas.List.{length-append, length-map}
-use Rattle.sw_rows.specs.declared.row.Row.{Row}
+use Rattle.sw_table.specs.declared.row.Row.{Row}
 use Rattle.sw_kernel.specs.Arrangement.{joined}
 use Rattle.sw_kernel.specs.Partition.{head_of}
 use Rattle.sw_kernel.specs.Replay.{inserted, shown_step}
@@ -19,8 +19,7 @@ load-requires-clause-room c =
     let room = subst (λ (e : Entry). length (joined (stepped (shown_step f (step_of e)) t).pieces) ≤ t.room) c.in-Load.is c.requires.room in
     let long = ap length (load-joined (map f rows) t.pieces) ∙ length-append (joined t.pieces) (map f rows) in
     let many = length-map rows f in
-    let same : length c.deref.result.now ≡ length rows = search rules in
-    omega (arith, room, long, many, same)
+    omega (arith, room, long, many)
 
 pub insert_row-requires-clause-room : goal.insert_row-requires-clause-room
 insert_row-requires-clause-room c =

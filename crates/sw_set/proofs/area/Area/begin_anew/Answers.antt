@@ -1,12 +1,12 @@
 use Rattle.std.proofs.Common.{◌≡◌, ◌<◌, ◌^◌, ◌++◌, ◌∷◌, [], true, map, length, ap, sym, ◌∙◌, subst, arith, All}
-use Rattle.sw_rows.specs.declared.row.Row.{Row}
+use Rattle.sw_table.specs.declared.row.Row.{Row}
 use Rattle.sw_kernel.specs.Replay.{loaded}
 use Rattle.sw_map.specs.Held.{Held, blank}
 use Rattle.sw_tape.specs.Restart.{first_rows}
 use Rattle.sw_set.specs.Live.{live_among}
 use Rattle.sw_set.specs.Shelf.{AreReceivable, AreaState, Rises, key_of, lies_within}
 use Rattle.sw_set.proofs.Boxes.{held-all}
-use Rattle.sw_set.proofs.LiveLaws.{kept-long}
+use Rattle.sw_table.proofs.LiveLaws.{kept-long}
 use Rattle.sw_set.proofs.Shelves.{area-begun, begun-shell, written}
 use Rattle.sw_set.proofs.Ties.{tied-loaded}
 use Rattle.sw_set.proofs.area.Area.begin_anew.Goals as goal

@@ -1,5 +1,5 @@
 use Rattle.std.proofs.Common.{◌≡◌, fold, take}
-use Rattle.sw_rows.specs.Updates.{has_key, rows_then}
+use Rattle.sw_table.specs.Updates.{has_key, rows_then}
 use Rattle.sw_set.specs.Shelf.{logged_rows}
 use Rattle.sw_set.proofs.area.Area.holds.Given as goal
 

@@ -1,5 +1,5 @@
 use Rattle.std.proofs.Common.{◌<◌, ◌-◌, length, map, sym, subst, List, vec_capacity, vec_len}
-use Rattle.sw_rows.specs.declared.row.Row.{Row}
+use Rattle.sw_table.specs.declared.row.Row.{Row}
 use Rattle.sw_kernel.specs.Replay.{Step}
 use Rattle.sw_set.specs.Shelf.{AreaState, IsAreaLawful}
 use Rattle.sw_set.specs.Tied.{IsTied}

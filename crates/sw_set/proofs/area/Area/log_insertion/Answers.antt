@@ -1,5 +1,5 @@
 use Rattle.std.proofs.Common.{◌≡◌, ◌<◌, [], length, map, ap, sym, ◌∙◌, subst}
-use Rattle.sw_rows.specs.declared.row.Update.TheVariants.{Insert}
+use Rattle.sw_table.specs.declared.row.Update.TheVariants.{Insert}
 use Rattle.sw_kernel.specs.Tapes.{brought}
 use Rattle.sw_set.specs.Shelf.{AreaState, MayReceive, logged_rows}
 use Rattle.sw_set.proofs.Logging.{area-inserted}

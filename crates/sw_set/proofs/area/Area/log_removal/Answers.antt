@@ -1,6 +1,6 @@
 use Rattle.std.proofs.Common.{◌≡◌, ◌<◌, [], true, length, get_or, map, ap, sym, ◌∙◌, subst}
-use Rattle.sw_rows.specs.declared.row.Row.{Row}
-use Rattle.sw_rows.specs.Updates.{has_key}
+use Rattle.sw_table.specs.declared.row.Row.{Row}
+use Rattle.sw_table.specs.Updates.{has_key}
 use Rattle.sw_kernel.specs.Arrangement.{joined}
 use Rattle.sw_map.specs.Lawful.{rows_by}
 use Rattle.sw_set.specs.Shelf.{AreaState, logged_rows}

@@ -1,7 +1,8 @@
-use Rattle.std.proofs.Common.{◌≡◌, ◌<◌, ℕ, true, length, get_or, pos, ap, sym, ◌∙◌, subst, rules, w64}
+use Rattle.std.proofs.Common.{◌≡◌, ◌<◌, ◌++◌, ℕ, true, length, get_or, ap, sym, ◌∙◌, subst, rules, w64}
 use Rattle.std.proofs.lemmas.Int.{to_z-of_z}
-use Rattle.sw_rows.specs.declared.row.Row.{Row}
-use Rattle.sw_rows.specs.Updates.{has_key}
+use Rattle.sw_table.specs.declared.row.Row.{Row}
+use Rattle.sw_table.specs.Rows.{cell_of}
+use Rattle.sw_table.specs.Updates.{has_key}
 use Rattle.sw_kernel.specs.Arrangement.{joined}
 use Rattle.sw_map.specs.declared.tail.Tail.TheVariants.{Key}
 use Rattle.sw_map.specs.Lawful.{rows_by}
@@ -31,7 +32,8 @@ pub place_of_row-requires-clause-live : goal.place_of_row-requires-clause-live
 place_of_row-requires-clause-live g c κs within =
     let s = c.self.inside in
     let head = at-head g.M.CrackerMap.held _ _ _ _ _ _ _ _ _ _ c.self.view_is c.requires.within c.index.ensures (λ d. (c.requires.ready d).begun) c.self.invariant.0 in
-    rw head (tied-row s.attribute s.tape s.live _ c.args.key c.in-Some.row c.row.result.now _ c.load_of-load.ensures c.self.invariant.0.brought_rise c.self.invariant.2 (subst (λ (v : AreaState). has_key c.args.key (logged_rows v.attribute v.tape) ≡ true) (sym c.self.view_is) c.requires.live) c.in-Some.ensures.0 c.in-Some.ensures.1 c.row.ensures (to_z-of_z w64 _ (search rules) ∙ ap (λ (n : ℕ). get_or c.row.result.now.cells n (pos 0)) c.from.ensures))
+    let cell : (d : Row) → c.cell-value.result ≡ cell_of s.attribute (get_or (c.load_of-load.result.now.items ++ s.live.later) c.in-Some.row d) = λ d. c.cell-value.ensures d ∙ ap (λ (n : ℕ). cell_of n (get_or (c.load_of-load.result.now.items ++ s.live.later) c.in-Some.row d)) c.from.ensures in
+    rw head (tied-row s.attribute s.tape s.live _ c.args.key c.in-Some.row _ c.load_of-load.ensures c.self.invariant.0.brought_rise c.self.invariant.2 (subst (λ (v : AreaState). has_key c.args.key (logged_rows v.attribute v.tape) ≡ true) (sym c.self.view_is) c.requires.live) c.in-Some.ensures.0 c.in-Some.ensures.1 (λ d. to_z-of_z w64 _ (search rules) ∙ cell d))
 
 pub returns-clause-within : goal.returns-clause-within
 returns-clause-within g c =

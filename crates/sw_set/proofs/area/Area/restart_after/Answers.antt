@@ -1,5 +1,5 @@
 use Rattle.std.proofs.Common.{◌≡◌, ◌<◌, ◌^◌, true, fold, sym, subst, List, All}
-use Rattle.sw_rows.specs.declared.row.Row.{Row}
+use Rattle.sw_table.specs.declared.row.Row.{Row}
 use Rattle.sw_kernel.specs.Tapes.{brought}
 use Rattle.sw_tape.specs.Restart.{first_rows}
 use Rattle.sw_set.specs.Live.{live_among}

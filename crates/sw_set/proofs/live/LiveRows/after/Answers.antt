@@ -1,9 +1,9 @@
 use Rattle.std.proofs.Common.{◌≡◌, ◌∙◌, ◌+◌, ◌++◌, ◌∷◌, [], ap, sym, subst, fold, get_or, take, List}
 use Rattle.std.proofs.lemmas.List.{take_more}
 use Rattle.std.proofs.lemmas.List.Sums.{fold-append}
-use Rattle.sw_rows.specs.declared.row.Row.{Row}
-use Rattle.sw_rows.specs.declared.row.Update.{Update}
-use Rattle.sw_rows.specs.declared.row.Update.TheVariants.{Insert}
+use Rattle.sw_table.specs.declared.row.Row.{Row}
+use Rattle.sw_table.specs.declared.row.Update.{Update}
+use Rattle.sw_table.specs.declared.row.Update.TheVariants.{Insert}
 use Rattle.sw_set.specs.Live.{IsStanding, Standing, live_among}
 use Rattle.sw_set.specs.Shelf.{Rises, came_then, key_of}
 use Rattle.sw_set.proofs.LiveStandings.{rises-came, rises-part}
@@ -11,7 +11,7 @@ use Rattle.sw_set.proofs.live.LiveRows.after.Goals as goal
 
 pub loop-update-init : goal.loop-update-init
 loop-update-init c =
-    let load = c.args.load.now in
+    let load = c.args.load.now.items in
     let s = c.args.self.now in
     let standing : IsStanding load s = record { many = c.requires.many; rise = rises-came (load ++ s.later) c.args.updates.now c.requires.rise } in (
       subst (IsStanding load) (sym c.in_ok-live.ensures) standing,
@@ -21,7 +21,7 @@ loop-update-init c =
 
 pub take-requires-clause-rise : goal.take-requires-clause-rise
 take-requires-clause-rise c =
-    let load = c.args.load.now in
+    let load = c.args.load.now.items in
     let s = c.args.self.now in
     let us = c.args.updates.now in
     let i = c.loop-update.update-index in

@@ -1,5 +1,5 @@
 use Rattle.std.proofs.Common.{◌≡◌, ◌∙◌, ap, sym, true, replicate}
-use Rattle.sw_set.proofs.LiveFlags.{false-fresh, false_in}
+use Rattle.sw_table.proofs.LiveFlags.{false-fresh, false_in}
 use Rattle.sw_set.proofs.live.LiveRows.all.Goals as goal
 
 pub invariant_of-result : goal.invariant_of-result

@@ -1,6 +1,6 @@
 use Rattle.std.proofs.Common.{rules, ◌≡◌, ◌-◌, ◌+◌, filter, not, length, subst, arith}
 use Rattle.sw_set.specs.Live.{Standing}
-use Rattle.sw_set.proofs.LiveFlags.{false-few, false_in}
+use Rattle.sw_table.proofs.LiveFlags.{false-few, false_in}
 use Rattle.sw_set.proofs.live.LiveRows.count.Goals as goal
 
 pub overflow_sub-result : goal.overflow_sub-result

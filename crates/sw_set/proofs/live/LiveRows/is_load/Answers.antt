@@ -2,7 +2,7 @@ use Rattle.std.proofs.Common.{◌≡◌, ◌∙◌, ap, subst, sym, Bool, true, 
 use Rattle.std.proofs.lemmas.Bool.Decides.{nat_tests}
 use Rattle.std.proofs.lemmas.Grind.{common_steps}
 use Rattle.sw_set.specs.Live.{Standing}
-use Rattle.sw_set.proofs.LiveFlags.{false-none, false-nowhere}
+use Rattle.sw_table.proofs.LiveFlags.{false-none, false-nowhere}
 use Rattle.sw_set.proofs.live.LiveRows.is_load.Goals as goal
 
 pub returns-then-self-eq0 : goal.returns-then-self-eq0

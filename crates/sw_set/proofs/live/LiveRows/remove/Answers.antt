@@ -1,6 +1,6 @@
 use Rattle.std.proofs.Common.{rules, ◌≡◌, ◌∙◌, ◌+◌, ◌<◌, ◌^◌, ap, sym, List, Bool, true, false, length, length-set, get_or, slice_set, arith}
 use Rattle.sw_set.specs.Live.{Standing}
-use Rattle.sw_set.proofs.LiveFlags.{false-few, false-removed, false_in, set-same}
+use Rattle.sw_table.proofs.LiveFlags.{false-few, false-removed, false_in, set-same}
 use Rattle.sw_set.proofs.live.LiveRows.remove.Goals as goal
 
 pub overflow_add-self : goal.overflow_add-self

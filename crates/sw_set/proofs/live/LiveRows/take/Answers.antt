@@ -1,7 +1,7 @@
 use Rattle.std.proofs.Common.{◌≡◌, ◌∙◌, ◌++◌, ◌∷◌, [], sym, subst, Ok, Err, List, MatchResult, Result}
-use Rattle.sw_rows.specs.declared.row.Row.{Row}
-use Rattle.sw_rows.specs.declared.row.Update.{Update}
-use Rattle.sw_rows.specs.declared.row.Update.TheVariants.{Insert, Remove}
+use Rattle.sw_table.specs.declared.row.Row.{Row}
+use Rattle.sw_table.specs.declared.row.Update.{Update}
+use Rattle.sw_table.specs.declared.row.Update.TheVariants.{Insert, Remove}
 use Rattle.sw_rows.specs.declared.refusal.Refusal.{Refusal}
 use Rattle.sw_rows.specs.declared.refusal.Refusal.TheVariants.{NoMemory}
 use Rattle.sw_set.specs.Live.{IsNextStanding, IsStanding, Standing}
@@ -18,16 +18,16 @@ pushed-or-not (Err e) load s t row w rise is = is.1
 pub returns-in-Insert : goal.returns-in-Insert
 returns-in-Insert c =
     let s = c.args.self.now in
-    let rise : Rises key_of ((c.args.load.now ++ s.later) ++ c.in-Insert.row ∷ []) = subst (λ (u : Update). Rises key_of (came_then (c.args.load.now ++ s.later) u)) c.in-Insert.is c.requires.rise in
-    subst (λ (u : Update). MatchResult c.push.result (λ _. IsNextStanding c.args.load.now u s c.push.new.self) (λ e. e ≡ NoMemory)) (sym c.in-Insert.is)
-    (pushed-or-not c.push.result c.args.load.now s c.push.new.self c.in-Insert.row c.requires.standing rise c.push.ensures)
+    let rise : Rises key_of ((c.args.load.now.items ++ s.later) ++ c.in-Insert.row ∷ []) = subst (λ (u : Update). Rises key_of (came_then (c.args.load.now.items ++ s.later) u)) c.in-Insert.is c.requires.rise in
+    subst (λ (u : Update). MatchResult c.push.result (λ _. IsNextStanding c.args.load.now.items u s c.push.new.self) (λ e. e ≡ NoMemory)) (sym c.in-Insert.is)
+    (pushed-or-not c.push.result c.args.load.now.items s c.push.new.self c.in-Insert.row c.requires.standing rise c.push.ensures)
 
 pub returns-after-find : goal.returns-after-find
 returns-after-find c =
     let s = c.args.self.now in
     let none : Row = record { key = 0; cells = [] } in
-    subst (λ (u : Update). IsNextStanding c.args.load.now u s c.match-find.self) (sym c.in-Remove.is)
+    subst (λ (u : Update). IsNextStanding c.args.load.now.items u s c.match-find.self) (sym c.in-Remove.is)
     (elim c.match-find.branch [
-      | in-Some w ↦ subst (IsNextStanding c.args.load.now (Remove c.in-Remove.key) s) (sym (w.self-is ∙ w.remove.ensures)) (next-removed c.args.load.now s c.requires.standing c.in-Remove.key w.in-Some.place none w.in-Some.ensures.0 (w.in-Some.ensures.1 none))
-      | in_default w ↦ subst (IsNextStanding c.args.load.now (Remove c.in-Remove.key) s) (sym w.self-is) (next-absent c.args.load.now s c.requires.standing c.in-Remove.key w.in_default.ensures)
+      | in-Some w ↦ subst (IsNextStanding c.args.load.now.items (Remove c.in-Remove.key) s) (sym (w.self-is ∙ w.remove.ensures)) (next-removed c.args.load.now.items s c.requires.standing c.in-Remove.key w.in-Some.place none w.in-Some.ensures.0 (w.in-Some.ensures.1 none))
+      | in_default w ↦ subst (IsNextStanding c.args.load.now.items (Remove c.in-Remove.key) s) (sym w.self-is) (next-absent c.args.load.now.items s c.requires.standing c.in-Remove.key w.in_default.ensures)
     ])

@@ -1,5 +1,5 @@
 use Rattle.std.proofs.Common.{List, ap, sym, subst}
-use Rattle.sw_rows.specs.declared.row.Update.{Update}
+use Rattle.sw_table.specs.declared.row.Update.{Update}
 use Rattle.sw_chunks.specs.Heads.{HeadState}
 use Rattle.sw_trial_heads.specs.Growing.{AreLive}
 use Rattle.sw_trial_heads.proofs.Live.{supplied-same}

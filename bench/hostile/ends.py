@@ -1,0 +1,186 @@
+#!/usr/bin/env python3
+"""Ends that fail: pipes that are closed, disks that are full after each number of bytes, files that cannot be opened or read,
+sources that give few bytes at a time, and standard streams that are closed. Each run must end with its status and its line,
+what went out must be a beginning of what was to go out, and no file but the named one may change.
+Ends with 1 and the first case that is wrong."""
+import fcntl, os, resource, struct, subprocess, tempfile, termios, threading, time
+from pathlib import Path
+from histories import check
+from model import run
+from running import ended, options, told, wrong
+
+TABLE = b"a:int,b:int,c:int\n12,7,1\n3,8,0\n12,5,1\n20,2,0\n"
+SCRIPT = b"count\nselect b, c where a >= 10\ninsert 1, 2, 3\n---\nsum a\nmin b where c = 0\ndelete 2\nselect a\n"
+STATUS, OUT, _, HISTORY = run(TABLE, SCRIPT)
+RUN = ["run", "--table", "t.csv", "--script", "s.txt"]
+NO_INPUT, NO_OUTPUT = (2, "", "sideways: refused 12\n"), "sideways: refused 13\n"
+MANY = b"a\n" + b"".join(b"%d\n" % number for number in range(1000))
+
+
+class Ends:
+    def __init__(self, program):
+        self.program, self.made = program, 0
+        self.home = tempfile.TemporaryDirectory()
+        self.folder = Path(self.home.name)
+        self.put("t.csv", TABLE)
+        self.put("s.txt", SCRIPT)
+        self.put("h.json", HISTORY)
+
+    def put(self, name, data):
+        (self.folder / name).write_bytes(data)
+
+    def held(self, name, words, expected, got):
+        self.made += 1
+        if got != expected:
+            wrong(name, {}, words, expected, got)
+
+    def hold(self, name, words, expected, **more):
+        self.held(name, words, expected, told(self.program, words, self.folder, **more))
+
+    def streams(self, words, **more):
+        """A run with streams of its own; its status and what it told."""
+        done = subprocess.run([self.program] + words, cwd=self.folder, stdin=subprocess.DEVNULL, timeout=60, **more)
+        return done.returncode, None if done.stderr is None else done.stderr.decode()
+
+    # Pipes
+
+    def closed_pipes(self):
+        """A pipe whose reader went away: before the run, or after one line of much output."""
+        self.put("many.csv", MANY)
+        self.put("many.txt", b"select a\n" * 500)
+        many = ["run", "--table", "many.csv", "--script", "many.txt"]
+        for words in (RUN, many, ["check", "h.json"], ["--help"], many + ["--threads"]):
+            reader, writer = os.pipe()
+            os.close(reader)
+            self.held("a pipe without a reader", words, (3, NO_OUTPUT), self.streams(words, stdout=writer, stderr=subprocess.PIPE))
+            self.held("two pipes without a reader", words, (3, None), self.streams(words, stdout=writer, stderr=writer))
+            os.close(writer)
+        child = subprocess.Popen([self.program] + many, cwd=self.folder, stdout=subprocess.PIPE, stderr=subprocess.PIPE)
+        line = child.stdout.readline()
+        child.stdout.close()
+        self.held("one line read, then closed", many, (b"1: 0\n", NO_OUTPUT.encode(), 3), (line, child.stderr.read(), child.wait(60)))
+        reader, writer = os.pipe()
+        os.set_blocking(writer, False)
+        self.held("a full pipe that does not wait", many, (3, NO_OUTPUT), self.streams(many, stdout=writer, stderr=subprocess.PIPE))
+        os.close(writer)
+        with open(reader, "rb") as pipe:
+            self.held("what went into the full pipe", many, True, run(MANY, b"select a\n" * 500)[1].encode().startswith(pipe.read()))
+
+    # Full disks
+
+    def full_disks(self):
+        """A file that takes so many bytes and no more, as output and as history. Then the device that is always full."""
+        def few(bytes_left):
+            return lambda: resource.setrlimit(resource.RLIMIT_FSIZE, (bytes_left, resource.RLIM_INFINITY))
+        for most in range(len(OUT) + 2):
+            with open(self.folder / "out", "wb") as out:
+                got = self.streams(RUN, stdout=out, stderr=subprocess.PIPE, preexec_fn=few(most), restore_signals=False)
+            went = (self.folder / "out").read_bytes()
+            expected = (3, NO_OUTPUT) if most < len(OUT) else (0, "")
+            self.held("an output of at most %d bytes" % most, RUN, (expected, OUT.encode()[:most]), (got, went))
+        words = RUN + ["--history", "kept.json"]
+        for most in range(len(HISTORY) + 2):
+            expected = (3, OUT, NO_OUTPUT) if most < len(HISTORY) else (0, OUT, "")
+            self.hold("a history of at most %d bytes" % most, words, expected, preexec_fn=few(most), restore_signals=False)
+            kept = (self.folder / "kept.json").read_bytes()
+            self.held("the history of at most %d bytes" % most, words, HISTORY[:most], kept)
+            self.hold("its check", ["check", "kept.json"], check(kept))
+        with open("/dev/full", "wb") as full:
+            for words in (RUN, ["check", "h.json"], ["--help"], RUN + ["--stats"]):
+                self.held("an output to a full device", words, (3, NO_OUTPUT), self.streams(words, stdout=full, stderr=subprocess.PIPE))
+                self.held("all to a full device", words, (3, None), self.streams(words, stdout=full, stderr=full))
+        self.hold("a history to a full device", RUN + ["--history", "/dev/full"], (3, OUT, NO_OUTPUT))
+
+    # Files
+
+    def files(self):
+        """Files that cannot be opened, read or written."""
+        (self.folder / "folder").mkdir()
+        (self.folder / "loop").symlink_to("loop")
+        self.put("closed", b"a\n1\n")
+        (self.folder / "closed").chmod(0)
+        names = ["none", "none/t.csv", "t.csv/x", "folder", "loop", "x" * 5000, "", "/proc/self/mem"]
+        for name in names:
+            self.hold("a table %.20r" % name, ["run", "--table", name, "--script", "s.txt"], NO_INPUT)
+            self.hold("a script %.20r" % name, ["run", "--table", "t.csv", "--script", name], NO_INPUT)
+            self.hold("a check of %.20r" % name, ["check", name], NO_INPUT)
+            self.hold("a history %.20r" % name, RUN + ["--history", name], (0, OUT, "") if name == "none" else (3, OUT, NO_OUTPUT))
+            if name == "none":
+                (self.folder / name).unlink()
+        self.held("the table after all this", [], TABLE, (self.folder / "t.csv").read_bytes())
+        if os.getuid() == 0:
+            os.chmod(self.folder, 0o755)
+            nobody = {"user": 65534, "group": 65534, "extra_groups": []}
+            if told(self.program, ["--help"], "/", **nobody)[0] == 0:
+                self.hold("a table that may not be read", ["run", "--table", "closed", "--script", "s.txt"], NO_INPUT, **nobody)
+                self.hold("a history that may not be written", RUN + ["--history", "closed"], (3, OUT, NO_OUTPUT), **nobody)
+        else:
+            self.hold("a table that may not be read", ["run", "--table", "closed", "--script", "s.txt"], NO_INPUT)
+        self.hold("nothing as a table", ["run", "--table", "/dev/null", "--script", "s.txt"], (2, "", "sideways: refused 2 record 0 field 0\n"))
+        self.hold("nothing as a script", ["run", "--table", "t.csv", "--script", "/dev/null"], (0, "", ""))
+        self.hold("nothing as a history", ["check", "/dev/null"], (2, "", "sideways: refused 3 line 0 why History\n"))
+        self.put("same.csv", TABLE)
+        self.hold("a history over the table", ["run", "--table", "same.csv", "--script", "s.txt", "--history", "same.csv"], (0, OUT, ""))
+        self.held("the history over the table", [], HISTORY, (self.folder / "same.csv").read_bytes())
+
+    # Sources
+
+    def feed(self, path, data, size):
+        """Writes so many bytes at a time into a pipe, each when those before it are gone."""
+        def write():
+            with open(path, "wb", buffering=0) as pipe:
+                for at in range(0, len(data), size):
+                    pipe.write(data[at:at + size])
+                    while struct.unpack("i", fcntl.ioctl(pipe, termios.FIONREAD, b"\0" * 4))[0]:
+                        time.sleep(0)
+        thread = threading.Thread(target=write, daemon=True)
+        thread.start()
+        return thread
+
+    def sources(self):
+        """Pipes that give few bytes at a time, as table, script, history and standard input."""
+        for name in ("t.pipe", "s.pipe", "h.pipe"):
+            os.mkfifo(self.folder / name)
+        for size in list(range(1, 40)) + [64, 1000]:
+            threads = [self.feed(self.folder / "t.pipe", TABLE, size), self.feed(self.folder / "s.pipe", SCRIPT, size)]
+            self.hold("%d bytes at a time" % size, ["run", "--table", "t.pipe", "--script", "s.pipe"], (0, OUT, ""))
+            threads.append(self.feed(self.folder / "h.pipe", HISTORY, size))
+            self.hold("a history, %d bytes at a time" % size, ["check", "h.pipe"], check(HISTORY))
+            for thread in threads:
+                thread.join(10)
+        with open(self.folder / "t.csv", "rb") as table:
+            words = ["run", "--table", "/dev/stdin", "--script", "s.txt"]
+            done = subprocess.run([self.program] + words, cwd=self.folder, stdin=table, capture_output=True, timeout=60)
+            self.held("a table from standard input", words, (0, OUT.encode(), b""), (done.returncode, done.stdout, done.stderr))
+        threads = [threading.Thread(target=lambda: os.close(os.open(self.folder / "h.pipe", os.O_RDONLY)), daemon=True)]
+        threads[0].start()
+        self.put("calls.txt", b"insert 1, 2, 3\n" * 30000)
+        words = ["run", "--table", "t.csv", "--script", "calls.txt", "--history", "h.pipe"]
+        status, _, fault = told(self.program, words, self.folder)
+        self.held("a history into a pipe whose reader goes", words, (3, NO_OUTPUT), (status, fault))
+
+    def closed_streams(self):
+        """Standard streams that are closed when the program begins: that is told, and no file is written in their place."""
+        words = RUN + ["--history", "closed.json", "--stats"]
+        for streams in ((0,), (1,), (2,), (0, 1), (0, 2), (1, 2), (0, 1, 2)):
+            done = subprocess.run([self.program] + words, cwd=self.folder, capture_output=True, timeout=60,
+                                  preexec_fn=lambda: [os.close(stream) for stream in streams])
+            kept = self.folder / "closed.json"
+            expected = (3 if 1 in streams or 2 in streams else 0, b"" if 1 in streams else OUT.encode(), None if 1 in streams else HISTORY)
+            got = done.returncode, done.stdout, kept.read_bytes() if kept.exists() else None
+            self.held("closed streams %r" % (streams,), words, expected, got)
+            self.held("the table with closed streams %r" % (streams,), words, TABLE, (self.folder / "t.csv").read_bytes())
+            kept.unlink(missing_ok=True)
+
+
+def main():
+    given = options(__doc__)
+    ends = Ends(given.program)
+    for what in (ends.closed_pipes, ends.full_disks, ends.files, ends.sources, ends.closed_streams):
+        before, began = ends.made, time.time()
+        what()
+        print("%s: %d as expected, %.0f s" % (what.__name__.replace("_", " "), ends.made - before, time.time() - began), flush=True)
+
+
+if __name__ == "__main__":
+    ended(main)

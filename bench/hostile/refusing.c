@@ -1,0 +1,44 @@
+// Loaded before the C library (LD_PRELOAD), it refuses allocations: after the first AFTER of them one of SHARE, chosen by SEED.
+#define _GNU_SOURCE
+#include <dlfcn.h>
+#include <errno.h>
+#include <stddef.h>
+#include <stdlib.h>
+
+static unsigned long made;
+
+static unsigned long number(const char *name) {
+    const char *text = getenv(name);
+    return text ? strtoul(text, NULL, 10) : 0;
+}
+
+static int refuses(void) {
+    unsigned long at = __atomic_add_fetch(&made, 1, __ATOMIC_RELAXED), share = number("SHARE");
+    if (share == 0 || at <= number("AFTER")) return 0;
+    unsigned long mixed = (at + number("SEED")) * 0x9e3779b97f4a7c15ul;
+    return (mixed ^ mixed >> 31) % share == 0;
+}
+
+void *malloc(size_t size) {
+    static void *(*next)(size_t);
+    if (!next) next = (void *(*)(size_t))dlsym(RTLD_NEXT, "malloc");
+    return refuses() ? NULL : next(size);
+}
+
+void *realloc(void *old, size_t size) {
+    static void *(*next)(void *, size_t);
+    if (!next) next = (void *(*)(void *, size_t))dlsym(RTLD_NEXT, "realloc");
+    return refuses() ? NULL : next(old, size);
+}
+
+void *aligned_alloc(size_t align, size_t size) {
+    static void *(*next)(size_t, size_t);
+    if (!next) next = (void *(*)(size_t, size_t))dlsym(RTLD_NEXT, "aligned_alloc");
+    return refuses() ? NULL : next(align, size);
+}
+
+int posix_memalign(void **out, size_t align, size_t size) {
+    static int (*next)(void **, size_t, size_t);
+    if (!next) next = (int (*)(void **, size_t, size_t))dlsym(RTLD_NEXT, "posix_memalign");
+    return refuses() ? ENOMEM : next(out, align, size);
+}

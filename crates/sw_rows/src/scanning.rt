@@ -1,0 +1,255 @@
+//! The plain scan.
+
+ghost use Rattle.std.specs.Prelude.{◌≡◌, ◌<◌, ◌&&◌, length, map, slice_index_or, false, All, IfOk, IsOk, IsOkUnless};
+ghost use Rattle.sw_rows.specs.Scan.{meets, meets_all, cell_of, answer, column, greatest, least, matching, projected, total, AsksBelow, CondsBelow, TakesMemory};
+ghost use Rattle.sw_table.specs.Kept.{kept};
+ghost use Rattle.sw_table.specs.declared.row.Row.{Row};
+
+use crate::bound::is_within;
+use crate::places::{AllLive, Places};
+use crate::query::{Cond, Query, Want};
+use crate::refusal::Refusal;
+use crate::reply::{Cells, Reply, ReplyRow, ReplyRows};
+use std::alloc::{AllocError, Global};
+use sw_table::Row;
+
+/// A row's cell of an attribute. The caller's condition: it is one of the row's eight.
+pub fn cell_of(row: &Row, attr: usize) -> i64
+    requires { attr < 8 }
+    ensures { result ≡ cell_of attr row.now }
+{
+    row.cells[attr]
+}
+
+/// Whether a row meets a condition.
+fn row_meets(row: &Row, cond: Cond) -> bool
+    requires { cond.attr < 8 }
+    ensures { result ≡ meets row.now cond }
+{
+    is_within(cond.lower, cond.upper, cell_of(row, cond.attr))
+}
+
+/// Whether a row meets each condition. The caller's condition: their attributes are below 8.
+#[tactic(auto, using(std::proofs::lemmas::List::Folds::list_all_more, std::proofs::lemmas::List::Folds::list_all_at))]
+pub fn meets_all(row: &Row, conds: &[Cond]) -> bool
+    requires { CondsBelow 8 conds.now }
+    ensures { result ≡ meets_all conds.now row.now }
+{
+    for cond in conds {
+        if !row_meets(row, *cond) {
+            return false;
+        }
+    }
+    true
+}
+
+/// A row's cells of some attributes, in their order.
+fn projection(alloc: Global, row: &Row, names: &[usize]) -> Result<Cells, AllocError>
+    requires { All (λ a. a < 8) names.now }
+    ensures cells { IfOk result (λ cells. cells ≡ map (λ a. cell_of a row.now) names.now) }
+{
+    let mut cells = Cells::new(alloc);
+    for name in names {
+        cells.push(cell_of(row, *name))?;
+    }
+    Ok(cells)
+}
+
+/// What a reply shows of a row: its key, and its cells of some attributes in their order.
+///
+/// The one error is that there is no memory for it. The caller's condition: the attributes are below 8.
+pub fn projected(alloc: Global, row: &Row, names: &[usize]) -> Result<ReplyRow, AllocError>
+    requires { All (λ a. a < 8) names.now }
+    ensures { IfOk result (λ shown. shown ≡ projected names.now row.now) }
+{
+    let cells = projection(alloc, row, names)?;
+    Ok(ReplyRow {
+        key: row.key,
+        cells,
+    })
+}
+
+/// Whether the row at a place meets each condition.
+#[inline]
+#[tactic(auto, using(std::proofs::lemmas::List::Folds::list_all_more, std::proofs::lemmas::List::Folds::list_all_at))]
+fn meets_at<P: Places>(rows: &P, place: usize, conds: &[Cond]) -> bool
+    requires place { place < length (P.rows rows.now) }
+    requires conds { CondsBelow 8 conds.now }
+    ensures { (d : Row) → result ≡ meets_all conds.now (slice_index_or (P.rows rows.now) place d) }
+{
+    for cond in conds {
+        if !is_within(cond.lower, cond.upper, rows.cell(place, cond.attr)) {
+            return false;
+        }
+    }
+    true
+}
+
+/// Whether the row at a place is live and meets each condition.
+#[inline]
+fn is_found<P: Places>(rows: &P, conds: &[Cond], place: usize) -> bool
+    requires place { place < length (P.rows rows.now) }
+    requires conds { CondsBelow 8 conds.now }
+    ensures { (d : Row) → result ≡ (slice_index_or (P.flags rows.now) place false && meets_all conds.now (slice_index_or (P.rows rows.now) place d)) }
+{
+    rows.is_live(place) && meets_at(rows, place, conds)
+}
+
+/// How many live rows meet each condition.
+fn count<P: Places>(rows: &P, conds: &[Cond]) -> u64
+    requires { CondsBelow 8 conds.now }
+    ensures { result ≡ length (matching conds.now (kept (P.flags rows.now) (P.rows rows.now))) }
+{
+    let mut found: u64 = 0;
+    for place in 0..rows.places() {
+        if is_found(rows, conds, place) {
+            found += 1;
+        }
+    }
+    found
+}
+
+/// The sum of an attribute's cells of the live rows that meet each condition, 0 for none.
+fn sum<P: Places>(rows: &P, conds: &[Cond], attr: usize) -> i128
+    requires conds { CondsBelow 8 conds.now }
+    requires attr { attr < 8 }
+    ensures { result ≡ total (column attr (matching conds.now (kept (P.flags rows.now) (P.rows rows.now)))) }
+{
+    let mut sum: i128 = 0;
+    for place in 0..rows.places() {
+        if is_found(rows, conds, place) {
+            sum += i128::from(rows.cell(place, attr));
+        }
+    }
+    sum
+}
+
+/// The least of an attribute's cells of the live rows that meet each condition, if there are any.
+fn min<P: Places>(rows: &P, conds: &[Cond], attr: usize) -> Option<i64>
+    requires conds { CondsBelow 8 conds.now }
+    requires attr { attr < 8 }
+    ensures { result ≡ least (column attr (matching conds.now (kept (P.flags rows.now) (P.rows rows.now)))) }
+{
+    let mut found: Option<i64> = None;
+    for place in 0..rows.places() {
+        if is_found(rows, conds, place) {
+            let here = rows.cell(place, attr);
+            found = match found {
+                Some(low) => Some(low.min(here)),
+                None => Some(here),
+            };
+        }
+    }
+    found
+}
+
+/// The greatest of an attribute's cells of the live rows that meet each condition, if there are any.
+fn max<P: Places>(rows: &P, conds: &[Cond], attr: usize) -> Option<i64>
+    requires conds { CondsBelow 8 conds.now }
+    requires attr { attr < 8 }
+    ensures { result ≡ greatest (column attr (matching conds.now (kept (P.flags rows.now) (P.rows rows.now)))) }
+{
+    let mut found: Option<i64> = None;
+    for place in 0..rows.places() {
+        if is_found(rows, conds, place) {
+            let here = rows.cell(place, attr);
+            found = match found {
+                Some(high) => Some(high.max(here)),
+                None => Some(here),
+            };
+        }
+    }
+    found
+}
+
+/// The cells of some attributes of the row at a place, in their order.
+fn cells_at<P: Places>(
+    alloc: Global,
+    rows: &P,
+    place: usize,
+    names: &[usize],
+) -> Result<Cells, AllocError>
+    requires place { place < length (P.rows rows.now) }
+    requires names { All (λ a. a < 8) names.now }
+    ensures { IfOk result (λ cells. (d : Row) → cells ≡ map (λ a. cell_of a (slice_index_or (P.rows rows.now) place d)) names.now) }
+{
+    let mut cells = Cells::new(alloc);
+    for name in names {
+        cells.push(rows.cell(place, *name))?;
+    }
+    Ok(cells)
+}
+
+/// What a reply shows of the row at a place.
+fn shown_at<P: Places>(
+    alloc: Global,
+    rows: &P,
+    place: usize,
+    names: &[usize],
+) -> Result<ReplyRow, AllocError>
+    requires place { place < length (P.rows rows.now) }
+    requires names { All (λ a. a < 8) names.now }
+    ensures { IfOk result (λ shown. (d : Row) → shown ≡ projected names.now (slice_index_or (P.rows rows.now) place d)) }
+{
+    let cells = cells_at(alloc, rows, place, names)?;
+    Ok(ReplyRow {
+        key: rows.key(place),
+        cells,
+    })
+}
+
+/// The live rows that meet each condition, each as its key and its cells of some attributes.
+fn select<P: Places>(
+    alloc: Global,
+    rows: &P,
+    conds: &[Cond],
+    names: &[usize],
+) -> Result<ReplyRows, AllocError>
+    requires conds { CondsBelow 8 conds.now }
+    requires names { All (λ a. a < 8) names.now }
+    ensures { IfOk result (λ found. found ≡ map (projected names.now) (matching conds.now (kept (P.flags rows.now) (P.rows rows.now)))) }
+{
+    let mut found = ReplyRows::new(alloc);
+    for place in 0..rows.places() {
+        if is_found(rows, conds, place) {
+            found.push(shown_at(alloc, rows, place, names)?)?;
+        }
+    }
+    Ok(found)
+}
+
+/// What a query is answered over the live rows, by a pass over all places: those that meet all its conditions, in the order of
+/// their places, as their keys and the cells asked for; or their number; or the sum, the least or the greatest of one attribute.
+///
+/// The one refusal is `NoMemory`, and only where rows are asked for. The caller's condition: attributes are below 8.
+pub fn scan<P: Places>(alloc: Global, rows: &P, query: &Query) -> Result<Reply, Refusal>
+    requires { AsksBelow 8 query.now }
+    ensures answered { IfOk result (λ reply. reply ≡ answer (kept (P.flags rows.now) (P.rows rows.now)) query.now) }
+    ensures refused { IsOkUnless result Refusal.NoMemory }
+    ensures scalars { (TakesMemory query.now.want → ⊥) → IsOk result }
+{
+    let conds = query.conds.as_slice();
+    match &query.want {
+        Want::Rows(names) => match select(alloc, rows, conds, names.as_slice()) {
+            Ok(found) => Ok(Reply::Rows(found)),
+            Err(_) => Err(Refusal::NoMemory),
+        },
+        Want::Count => Ok(Reply::Count(count(rows, conds))),
+        Want::Sum(attr) => Ok(Reply::Sum(sum(rows, conds, *attr))),
+        Want::Min(attr) => Ok(Reply::Least(min(rows, conds, *attr))),
+        Want::Max(attr) => Ok(Reply::Least(max(rows, conds, *attr))),
+    }
+}
+
+/// What a query is answered over a list of rows: those that meet all its conditions, in the list's order, as their keys and
+/// the cells asked for; or their number; or the sum, the least or the greatest of one attribute.
+///
+/// The one refusal is `NoMemory`, and only where rows are asked for. The caller's condition: attributes are below 8.
+pub fn answer(alloc: Global, rows: &[Row], query: &Query) -> Result<Reply, Refusal>
+    requires { AsksBelow 8 query.now }
+    ensures answered { IfOk result (λ reply. reply ≡ answer rows.now query.now) }
+    ensures refused { IsOkUnless result Refusal.NoMemory }
+    ensures scalars { (TakesMemory query.now.want → ⊥) → IsOk result }
+{
+    scan(alloc, &AllLive { rows }, query)
+}

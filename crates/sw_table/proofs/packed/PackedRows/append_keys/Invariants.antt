@@ -1,0 +1,9 @@
+use Rattle.std.proofs.Common.{◌≡◌, ◌≤◌, ◌+◌, ◌-◌, ◌++◌, length, map, pos, take, vec_capacity, vec_len}
+use Rattle.sw_table.proofs.packed.PackedRows.append_keys.Given as goal
+
+abbrev pub invariant-loop-place : goal.invariant-loop-place
+invariant-loop-place l = record {
+  items : l.out.items ≡ l.initial.out.items ++ map (λ r. pos r.key) (take l.place l.self.items);
+  room : vec_len l.out + (length l.self.items - l.place) ≤ vec_capacity l.out;
+  there : vec_len l.initial.out + length l.self.items ≤ vec_capacity l.initial.out → vec_capacity l.out ≡ vec_capacity l.initial.out;
+}

@@ -1,0 +1,6 @@
+pub mod Keys
+pub mod Kept
+pub mod Live
+pub mod Packed
+pub mod Rows
+pub mod Updates

@@ -1,0 +1,30 @@
+-- Rows as one flat list of cells.
+use Rattle.std.specs.Prelude.{◌≡◌, ◌≤◌, ◌*◌, ◌++◌, ◌∷◌, [], ℕ, ℤ, pos, List, length, take, drop, replicate}
+use Rattle.sw_table.specs.declared.row.Row.{Row}
+
+abbrev pub zeros : List ℤ
+zeros = replicate 8 (pos 0)
+
+-- the first n cells of a list, and 0 after them
+abbrev pub row_of : ℕ → ℕ → List ℤ → Row
+row_of n key cells = record { key = key; cells = take n cells ++ drop n zeros }
+
+-- the rows of some keys, where each has n cells of a list
+abbrev pub rows_in : ℕ → List ℕ → List ℤ → List Row
+rows_in n [] cells = []
+rows_in n (key ∷ keys) cells = row_of n key cells ∷ rows_in n keys (drop n cells)
+
+-- rows whose cells from the width on are 0
+pub record Packed : Type 0 where
+  pub width : ℕ
+  pub items : List Row
+
+-- all cells of a row from the n-th on are 0
+abbrev pub IsWithin : ℕ → Row → Type 0
+IsWithin n r = drop n r.cells ≡ drop n zeros
+
+-- each row has its cells
+pub record IsWhole (width : ℕ) (keys : List ℕ) (cells : List ℤ) : Type 0 where
+  pub some : 1 ≤ width
+  pub most : width ≤ 8
+  pub whole : length cells ≡ length keys * width

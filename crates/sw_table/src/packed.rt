@@ -1,0 +1,434 @@
+//! Rows as one flat list of cells.
+
+ghost use Rattle.std.specs.Prelude.{◌≡◌, ◌≢◌, ◌≤◌, ◌<◌, ◌*◌, ◌+◌, ◌^◌, ◌-◌, ◌++◌, ◌∷◌, [], ℤ, pos, List, length, map, take, drop, slice_index_or, vec_len, vec_capacity, All, Decides, IfOk, IsOk, MatchOption, OnOk, OnErr};
+ghost use Rattle.sw_table.specs.declared.row.Row.{Row};
+ghost use Rattle.sw_table.specs.Rows.{cell_of};
+ghost use Rattle.sw_table.specs.Kept.{kept};
+ghost use Rattle.sw_table.specs.Live.{Rises, key_of};
+ghost use Rattle.sw_table.specs.Packed.{IsWithin, Packed, zeros};
+
+use crate::keeping::keep_cells;
+use crate::keys::Keys;
+use crate::row::Row;
+use std::alloc::{AllocError, Global};
+use std::marker::Model;
+
+/// The cells of one row of a flat list.
+#[inline]
+fn stretch(cells: &[i64], width: usize, place: usize) -> &[i64]
+    requires { place * width + width ≤ length cells.now }
+    ensures { result.now ≡ take width (drop (place * width) cells.now) }
+{
+    let start = place * width;
+    &cells[start..start + width]
+}
+
+/// The cells of so many rows of a flat list, from a place on.
+fn stretches(cells: &[i64], width: usize, start: usize, many: usize) -> &[i64]
+    requires { start * width + many * width ≤ length cells.now }
+    ensures { result.now ≡ take (many * width) (drop (start * width) cells.now) }
+{
+    let at = start * width;
+    &cells[at..at + many * width]
+}
+
+/// A cell of one row of a flat list.
+#[inline]
+fn cell_of(cells: &[i64], width: usize, place: usize, attr: usize) -> i64
+    requires { place * width + attr < length cells.now }
+    ensures { (d : ℤ) → result ≡ slice_index_or cells.now (place * width + attr) d }
+{
+    cells[place * width + attr]
+}
+
+/// A row's cells, and 0 after them.
+#[inline]
+fn padded(cells: &[i64]) -> [i64; 8]
+    requires { length cells.now ≤ 8 }
+    ensures { result ≡ cells.now ++ drop (length cells.now) zeros }
+{
+    let mut all = [0; 8];
+    all[..cells.len()].copy_from_slice(cells);
+    all
+}
+
+/// How many cells of a row are used, one at least, as far as eight.
+fn used(row: &Row) -> usize
+    ensures some { 1 ≤ result }
+    ensures most { result ≤ 8 }
+{
+    let mut used = 1;
+    for attr in 0..8 {
+        if row.cells[attr] != 0 {
+            used = attr + 1;
+        }
+    }
+    used
+}
+
+/// How many cells are used of each of some rows at most.
+pub fn most_used(rows: &[Row]) -> usize
+    ensures some { 1 ≤ result }
+    ensures most { result ≤ 8 }
+{
+    let mut most = 1;
+    for row in rows {
+        most = most.max(used(row));
+    }
+    most
+}
+
+/// Makes room for so many more cells, if it is not there; the cells stay.
+fn make_room(out: &mut Vec<i64>, more: usize) -> Result<(), AllocError>
+    ensures items { out.new.items ≡ out.old.items }
+    ensures len { vec_len out.new ≡ vec_len out.old }
+    ensures ok { OnOk result (vec_len out.new + more ≤ vec_capacity out.new) }
+    ensures there { vec_len out.old + more ≤ vec_capacity out.old → IsOk result × (vec_capacity out.new ≡ vec_capacity out.old) }
+{
+    if out.capacity() - out.len() < more {
+        out.reserve(more)?;
+    }
+    Ok(())
+}
+
+/// A list of rows of as many attributes as its width: no more cells than those are kept of a row, one row after another.
+#[derive(Debug, Drop)]
+pub struct PackedRows {
+    width: usize,
+    keys: Keys,
+    cells: Vec<i64>,
+}
+
+impl Model for PackedRows {
+    ghost use Rattle.sw_table.specs.Packed.{IsWhole, Packed, rows_in};
+
+    ghost Value = { Packed };
+
+    ghost view = { λ p. record { width = p.width; items = rows_in p.width p.keys p.cells.items } };
+
+    ghost invariant = { λ p. IsWhole p.width p.keys p.cells.items };
+}
+
+impl PackedRows {
+    /// No rows yet.
+    pub fn new(alloc: Global, width: usize) -> PackedRows
+        requires some { 1 ≤ width }
+        requires most { width ≤ 8 }
+        ensures { result ≡ record { width = width; items = [] } }
+    {
+        PackedRows {
+            width,
+            keys: Keys::new(),
+            cells: Vec::new(alloc),
+        }
+    }
+
+    /// These rows. The one error is that there is no memory for them.
+    pub fn from_rows(alloc: Global, width: usize, rows: &[Row]) -> Result<PackedRows, AllocError>
+        requires some { 1 ≤ width }
+        requires most { width ≤ 8 }
+        requires within { All (IsWithin width) rows.now }
+        ensures { IfOk result (λ p. p ≡ record { width = width; items = rows.now }) }
+    {
+        let mut packed = PackedRows::new(alloc, width);
+        packed.reserve(rows.len())?;
+        for row in rows {
+            packed.push(row)?;
+        }
+        Ok(packed)
+    }
+
+    /// No rows yet, with room for so many. The one error is that there is no memory for it.
+    pub fn with_capacity(alloc: Global, width: usize, many: usize) -> Result<PackedRows, AllocError>
+        requires some { 1 ≤ width }
+        requires most { width ≤ 8 }
+        ensures { IfOk result (λ p. p ≡ record { width = width; items = [] }) }
+    {
+        let mut packed = PackedRows::new(alloc, width);
+        packed.reserve(many)?;
+        Ok(packed)
+    }
+
+    /// How many cells are kept of a row.
+    #[inline]
+    pub fn width(&self) -> usize
+        ensures value { result ≡ self.now.width }
+        ensures some { 1 ≤ self.now.width }
+        ensures most { self.now.width ≤ 8 }
+    {
+        self.width
+    }
+
+    /// How many rows there are.
+    #[inline]
+    pub fn len(&self) -> usize
+        ensures many { result ≡ length self.now.items }
+        ensures few { result < 2 ^ 63 }
+    {
+        self.keys.len()
+    }
+
+    /// Whether a row has no cells past the width but 0.
+    pub fn fits(&self, row: &Row) -> bool
+        ensures fits { Decides result (IsWithin self.now.width row.now) }
+        ensures all { IsWithin 8 row.now }
+    {
+        row.cells[self.width..] == [0; 8][self.width..]
+    }
+
+    /// The row at a place.
+    pub fn get(&self, place: usize) -> Row
+        requires { place < length self.now.items }
+        ensures { (d : Row) → result ≡ slice_index_or self.now.items place d }
+    {
+        Row {
+            key: self.keys.at(place),
+            cells: padded(stretch(&self.cells, self.width, place)),
+        }
+    }
+
+    /// The key of the row at a place.
+    #[inline]
+    pub fn key(&self, place: usize) -> u64
+        requires { place < length self.now.items }
+        ensures { (d : Row) → result ≡ (slice_index_or self.now.items place d).key }
+    {
+        self.keys.at(place)
+    }
+
+    /// A cell of the row at a place.
+    #[inline]
+    pub fn cell(&self, place: usize, attr: usize) -> i64
+        requires place { place < length self.now.items }
+        requires attr { attr < 8 }
+        ensures { (d : Row) → result ≡ cell_of attr (slice_index_or self.now.items place d) }
+    {
+        if self.width <= attr {
+            return 0;
+        }
+        cell_of(&self.cells, self.width, place, attr)
+    }
+
+    /// Adds each row's cell of an attribute at the end of a list; after an error the list is as it was.
+    pub fn append_column(&self, attr: usize, out: &mut Vec<i64>) -> Result<(), AllocError>
+        requires { attr < 8 }
+        ensures ok { OnOk result (out.new.items ≡ out.old.items ++ map (cell_of attr) self.now.items) }
+        ensures err { OnErr result (out.new.items ≡ out.old.items) }
+        ensures room { vec_len out.old + length self.now.items ≤ vec_capacity out.old → IsOk result × (vec_capacity out.new ≡ vec_capacity out.old) }
+    {
+        make_room(out, self.len())?;
+        for place in 0..self.len() {
+            out.push_reserved(self.cell(place, attr));
+        }
+        Ok(())
+    }
+
+    /// Adds each row's key, which fits a cell, at the end of a list; after an error the list is as it was.
+    pub fn append_keys(&self, out: &mut Vec<i64>) -> Result<(), AllocError>
+        requires { All (λ (r : Row). r.key < 2 ^ 63) self.now.items }
+        ensures ok { OnOk result (out.new.items ≡ out.old.items ++ map (λ (r : Row). pos r.key) self.now.items) }
+        ensures err { OnErr result (out.new.items ≡ out.old.items) }
+        ensures room { vec_len out.old + length self.now.items ≤ vec_capacity out.old → IsOk result × (vec_capacity out.new ≡ vec_capacity out.old) }
+    {
+        make_room(out, self.len())?;
+        for place in 0..self.len() {
+            out.push_reserved(self.key(place) as i64);
+        }
+        Ok(())
+    }
+
+    /// The rows as a list. The one error is that there is no memory for it.
+    pub fn to_rows(&self, alloc: Global) -> Result<Vec<Row>, AllocError>
+        ensures { IfOk result (λ rows. rows.items ≡ self.now.items) }
+    {
+        let mut rows = Vec::with_capacity(alloc, self.len())?;
+        for place in 0..self.len() {
+            rows.push(self.get(place))?;
+        }
+        Ok(rows)
+    }
+
+    /// Makes room for so many more rows; the rows stay.
+    pub fn reserve(&mut self, more: usize) -> Result<(), AllocError>
+        ensures { self.new ≡ self.old }
+    {
+        self.keys.reserve(more)?;
+        self.cells.reserve_exact(more.saturating_mul(self.width))
+    }
+
+    /// Adds a row at the end; after an error nothing has changed.
+    pub fn push(&mut self, row: &Row) -> Result<(), AllocError>
+        requires { IsWithin self.old.width row.now }
+        ensures ok { OnOk result (self.new ≡ record self.old { items = self.old.items ++ row.now ∷ [] }) }
+        ensures err { OnErr result (self.new ≡ self.old) }
+    {
+        let alloc = *self.cells.allocator();
+        let before = self.cells.len();
+        self.cells.extend_from_slice(&row.cells[..self.width])?;
+        match self.keys.push(alloc, row.key) {
+            Ok(()) => Ok(()),
+            Err(e) => {
+                self.cells.truncate(before);
+                Err(e)
+            }
+        }
+    }
+
+    /// The place of the row of a key, by a sum where the keys are 1, 2, 3 and so on, else by binary search.
+    pub fn find(&self, key: u64) -> Option<usize>
+        requires { Rises key_of self.now.items }
+        ensures { MatchOption result (All (λ (r : Row). r.key ≢ key) self.now.items) (λ p. (p < length self.now.items) × ((d : Row) → (slice_index_or self.now.items p d).key ≡ key)) }
+    {
+        self.keys.find(key)
+    }
+
+    /// Takes the rows out whose flags are false, in place; the others move up, in their order. After an error nothing has
+    /// changed.
+    pub fn keep(&mut self, live: &[bool]) -> Result<(), AllocError>
+        requires { length live.now ≡ length self.old.items }
+        ensures ok { OnOk result (self.new ≡ record self.old { items = kept live.now self.old.items }) }
+        ensures err { OnErr result (self.new ≡ self.old) }
+    {
+        let alloc = *self.cells.allocator();
+        self.keys.keep(alloc, live)?;
+        keep_cells(&mut self.cells, self.width, live);
+        Ok(())
+    }
+
+    /// The same rows, with all eight cells kept. The one error is that there is no memory for them.
+    fn widened(&self) -> Result<PackedRows, AllocError>
+        ensures { IfOk result (λ p. p ≡ record { width = 8; items = self.now.items }) }
+    {
+        let mut wide = PackedRows::new(*self.cells.allocator(), 8);
+        wide.reserve(self.len())?;
+        for place in 0..self.len() {
+            wide.push(&self.get(place))?;
+        }
+        Ok(wide)
+    }
+
+    /// Makes the rows wide enough for one more; the rows stay, and after an error nothing has changed.
+    pub fn widen(&mut self, row: &Row) -> Result<(), AllocError>
+        ensures rows { self.new.items ≡ self.old.items }
+        ensures ok { OnOk result (IsWithin self.new.width row.now) }
+        ensures err { OnErr result (self.new ≡ self.old) }
+    {
+        if !self.fits(row) {
+            let wide = self.widened()?;
+            *self = wide;
+        }
+        Ok(())
+    }
+
+    /// Adds a row at the end, whatever its cells; after an error the rows are as they were.
+    pub fn add(&mut self, row: &Row) -> Result<(), AllocError>
+        ensures ok { OnOk result (self.new.items ≡ self.old.items ++ row.now ∷ []) }
+        ensures err { OnErr result (self.new.items ≡ self.old.items) }
+    {
+        self.widen(row)?;
+        self.push(row)
+    }
+
+    /// Keeps so many rows at most, the first ones.
+    pub fn truncate(&mut self, many: usize)
+        ensures { self.new ≡ record self.old { items = take many self.old.items } }
+    {
+        if many < self.keys.len() {
+            self.keys.truncate(many);
+            self.cells.truncate(many * self.width);
+        }
+    }
+
+    /// Adds rows at the end, whatever their cells; after an error the rows are as they were.
+    pub fn extend_from_slice(&mut self, rows: &[Row]) -> Result<(), AllocError>
+        ensures ok { OnOk result (self.new.items ≡ self.old.items ++ rows.now) }
+        ensures err { OnErr result (self.new.items ≡ self.old.items) }
+    {
+        let before = self.len();
+        for row in rows {
+            if let Err(e) = self.add(row) {
+                self.truncate(before);
+                return Err(e);
+            }
+        }
+        Ok(())
+    }
+
+    /// Adds so many rows of a list of the same width, from a place on, all cells at once; after an error nothing has changed.
+    fn extend_flat(
+        &mut self,
+        rows: &PackedRows,
+        start: usize,
+        many: usize,
+    ) -> Result<(), AllocError>
+        requires width { rows.now.width ≡ self.old.width }
+        requires within { start + many ≤ length rows.now.items }
+        ensures ok { OnOk result (self.new ≡ record self.old { items = self.old.items ++ take many (drop start rows.now.items) }) }
+        ensures err { OnErr result (self.new ≡ self.old) }
+    {
+        let alloc = *self.cells.allocator();
+        let before = self.cells.len();
+        self.cells
+            .extend_from_slice(stretches(&rows.cells, rows.width, start, many))?;
+        match self.keys.extend_from(alloc, &rows.keys, start, many) {
+            Ok(()) => Ok(()),
+            Err(e) => {
+                self.cells.truncate(before);
+                Err(e)
+            }
+        }
+    }
+
+    /// Adds so many rows of a list, from a place on, one by one; after an error the rows are as they were.
+    fn extend_each(
+        &mut self,
+        rows: &PackedRows,
+        start: usize,
+        many: usize,
+    ) -> Result<(), AllocError>
+        requires within { start + many ≤ length rows.now.items }
+        ensures ok { OnOk result (self.new.items ≡ self.old.items ++ take many (drop start rows.now.items)) }
+        ensures err { OnErr result (self.new.items ≡ self.old.items) }
+    {
+        let before = self.len();
+        let _all = rows.len();
+        for done in 0..many {
+            if let Err(e) = self.add(&rows.get(start + done)) {
+                self.truncate(before);
+                return Err(e);
+            }
+        }
+        Ok(())
+    }
+
+    /// Adds the rows of another list from a place on, so many at most; after an error the rows are as they were. Lists of the same
+    /// width are copied as they lie.
+    pub fn extend_from(
+        &mut self,
+        rows: &PackedRows,
+        from: usize,
+        most: usize,
+    ) -> Result<(), AllocError>
+        ensures ok { OnOk result (self.new.items ≡ self.old.items ++ take most (drop from rows.now.items)) }
+        ensures err { OnErr result (self.new.items ≡ self.old.items) }
+    {
+        let start = from.min(rows.len());
+        let many = most.min(rows.len() - start);
+        if rows.width() == self.width() {
+            self.extend_flat(rows, start, many)
+        } else {
+            self.extend_each(rows, start, many)
+        }
+    }
+
+    /// These rows, whatever their cells: no more are kept of each than the most that one uses. The one error is that there is no
+    /// memory for them.
+    pub fn of(alloc: Global, rows: &[Row]) -> Result<PackedRows, AllocError>
+        ensures { IfOk result (λ p. p.items ≡ rows.now) }
+    {
+        let mut packed = PackedRows::new(alloc, most_used(rows));
+        packed.reserve(rows.len())?;
+        packed.extend_from_slice(rows)?;
+        Ok(packed)
+    }
+}
