@@ -1,18 +1,27 @@
-// Loaded before the C library (LD_PRELOAD), it refuses the allocation whose number, from 1, REFUSED gives.
+// Loaded before the C library (LD_PRELOAD), it refuses allocations, by what the environment says: the one whose number,
+// from 1, REFUSED gives; and after the first AFTER of them one of SHARE, chosen by SEED (with a SHARE of 1 each).
 #define _GNU_SOURCE
 #include <dlfcn.h>
 #include <errno.h>
 #include <stddef.h>
 #include <stdlib.h>
 
-static long made, refused = -1;
+static unsigned long made;
+
+static unsigned long number(const char *name) {
+    const char *text = getenv(name);
+    return text ? strtoul(text, NULL, 10) : 0;
+}
+
+static int is_of_share(unsigned long at, unsigned long share) {
+    if (share == 0 || at <= number("AFTER")) return 0;
+    unsigned long mixed = (at + number("SEED")) * 0x9e3779b97f4a7c15ul;
+    return (mixed ^ mixed >> 31) % share == 0;
+}
 
 static int refuses(void) {
-    if (refused < 0) {
-        const char *number = getenv("REFUSED");
-        refused = number ? atol(number) : 0;
-    }
-    return ++made == refused;
+    unsigned long at = __atomic_add_fetch(&made, 1, __ATOMIC_RELAXED);
+    return at == number("REFUSED") || is_of_share(at, number("SHARE"));
 }
 
 void *malloc(size_t size) {

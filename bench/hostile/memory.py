@@ -130,7 +130,7 @@ def under_limits(rng, begin, table, script, step, count):
 def preload(work):
     """The library that refuses allocations."""
     library = os.path.join(work, "refusing.so")
-    source = str(TOP / "bench" / "hostile" / "refusing.c")
+    source = str(TOP / "bench" / "refusing.c")
     subprocess.run(["cc", "-O1", "-shared", "-fPIC", "-o", library, source, "-ldl"], check=True)
     return library
 
