@@ -17,7 +17,7 @@ returns c =
     let front : c.put_front.new.text.items ≡ front_text [] h = c.in_ok-put_front.ensures ∙ ap (λ t. front_text t h) c.new-text.ensures.items in
     let named : c.extend_from_slice.new.self.items ≡ front_text [] h ++ codes ",\"rows\":" = c.in_ok-extend_from_slice.ensures.items ∙ ap (λ t. t ++ codes ",\"rows\":") front in
     let grown = c.in_ok-put_rows.ensures
-        ∙ ap (λ t. t ++ rows c.len-width.result inside) named
-        ∙ ap (λ n. (front_text [] h ++ codes ",\"rows\":") ++ rows n inside) wide
-        ∙ ap (λ rs. (front_text [] h ++ codes ",\"rows\":") ++ rows (length h.columns) rs) same in
+    ∙ ap (λ t. t ++ rows c.len-width.result inside) named
+    ∙ ap (λ n. (front_text [] h ++ codes ",\"rows\":") ++ rows n inside) wide
+    ∙ ap (λ rs. (front_text [] h ++ codes ",\"rows\":") ++ rows (length h.columns) rs) same in
     c.in_ok-push.ensures.items ∙ ap (λ t. t ++ 125 ∷ []) grown ∙ record_parts h
