@@ -62,7 +62,8 @@ refused 4 name N: the table has no attribute of this name.
 const TOO_MANY: &str = "\
 refused 5 limit L: there is more of something than L, the most that is taken.
   268435456: bytes of the table or of the script. 8: attributes of a table. 1024: blocks of a script. 15: cuts of an
-  attribute. 1048576: rows of the table, or calls of the script. Another number: rows of the table, by --limit.
+  attribute. 1048576: rows of the table, calls of the script, or entries of a history. Another number: rows of the table, by
+  --limit.
   What to do: take less of it, or give a greater --limit where that was it.
 ";
 
@@ -120,7 +121,7 @@ refused 14 seen S told T: a viewer has seen more updates than those published.
 /// Writes what the refusal of a number means, or of all numbers in their order where none is given.
 ///
 /// Refused `Output` where the sink fails; then a beginning went out. A number that no refusal has writes nothing.
-pub fn write_explanations<W: Sink>(only: Option<u64>, out: &mut W) -> Result<(), Refusal> {
+pub(crate) fn write_explanations<W: Sink>(only: Option<u64>, out: &mut W) -> Result<(), Refusal> {
     let (first, last) = match only {
         Some(number) => (number, number),
         None => (1, REFUSALS),

@@ -23,7 +23,7 @@ fn nanos_of(time: Duration) -> u64 {
 /// What was seen so far, shared by the threads of a run. Where nobody asks for it there is no beginning, and nothing is
 /// seen; a clock that cannot be read later stands at 0.
 #[derive(Drop)]
-pub struct Seen<'r, R: Clock + Eprint> {
+pub(crate) struct Seen<'r, R: Clock + Eprint> {
     rt: &'r R,
     began: Option<Instant>,
     is_telling: bool,
@@ -35,7 +35,7 @@ pub struct Seen<'r, R: Clock + Eprint> {
 impl<'r, R: Clock + Eprint> Seen<'r, R> {
     /// A run begins. Perhaps its selects are timed; perhaps standard error is told how far it is, from a second after now
     /// on, once a second.
-    pub fn new(rt: &'r R, is_timing: bool, is_telling: bool) -> Seen<'r, R> {
+    pub(crate) fn new(rt: &'r R, is_timing: bool, is_telling: bool) -> Seen<'r, R> {
         let began = if is_timing || is_telling {
             Instant::now(rt).ok()
         } else {
@@ -87,7 +87,7 @@ impl<'r, R: Clock + Eprint> Seen<'r, R> {
     }
 
     /// The milliseconds that selects of a head took, those of all threads together.
-    pub fn millis(&self, head: usize) -> u64 {
+    pub(crate) fn millis(&self, head: usize) -> u64 {
         match self.nanos.get(head) {
             Some(nanos) => nanos.load(Ordering::SeqCst) / MILLISECOND,
             None => 0,
@@ -128,7 +128,7 @@ fn ends_in(bytes: &[u8]) -> u64 {
 
 /// A source of a table before another, which tells how many lines went by. It counts them only where they are told.
 #[derive(Drop)]
-pub struct Lines<'s, 'r, S: Source, R: Clock + Eprint> {
+pub(crate) struct Lines<'s, 'r, S: Source, R: Clock + Eprint> {
     source: S,
     read: u64,
     seen: &'s Seen<'r, R>,
@@ -136,7 +136,7 @@ pub struct Lines<'s, 'r, S: Source, R: Clock + Eprint> {
 
 impl<'s, 'r, S: Source, R: Clock + Eprint> Lines<'s, 'r, S, R> {
     /// A source of which no line went by.
-    pub fn new(source: S, seen: &'s Seen<'r, R>) -> Lines<'s, 'r, S, R> {
+    pub(crate) fn new(source: S, seen: &'s Seen<'r, R>) -> Lines<'s, 'r, S, R> {
         Lines {
             source,
             read: 0,

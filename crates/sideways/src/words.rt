@@ -153,7 +153,7 @@ fn explain_command<'a>(alloc: Global) -> Result<Command<'a>, AllocError> {
 }
 
 /// The command lines that are taken: `run` with its files and flags, `check` with its file, and `explain` with a number.
-pub fn command<'a>(alloc: Global) -> Result<Command<'a>, AllocError> {
+pub(crate) fn command<'a>(alloc: Global) -> Result<Command<'a>, AllocError> {
     let run = run_command(alloc)?;
     Command::new(alloc, "sideways")
         .about("A column engine whose answers are proved")

@@ -17,13 +17,13 @@ struct Table {
 
 /// What the cases before left: a table, and bytes that the next text begins with.
 #[derive(Drop)]
-pub struct Bench {
+pub(crate) struct Bench {
     table: Option<Table>,
     before: Vec<u8>,
 }
 
 impl Bench {
-    pub fn new(alloc: Global) -> Self {
+    pub(crate) fn new(alloc: Global) -> Self {
         Bench {
             table: None,
             before: Vec::new(alloc),
@@ -205,7 +205,7 @@ fn take(alloc: Global, bench: &mut Bench, line: &str) -> Result<String, Refusal>
 }
 
 /// Makes the case of a line, and says what it tells.
-pub fn told_of(alloc: Global, bench: &mut Bench, line: &str) -> Result<String, AllocError> {
+pub(crate) fn told_of(alloc: Global, bench: &mut Bench, line: &str) -> Result<String, AllocError> {
     if line.is_empty() || line.starts_with('#') {
         return Ok(String::new(alloc));
     }

@@ -55,7 +55,7 @@ fn call_parts(alloc: Global, call: &Call) -> Result<String, AllocError> {
 }
 
 /// The call of line 7, in its parts.
-pub fn parts(alloc: Global, schema: &Schema, text: &str) -> Result<String, Refusal> {
+pub(crate) fn parts(alloc: Global, schema: &Schema, text: &str) -> Result<String, Refusal> {
     match parse_line(alloc, schema, 7, text)? {
         Some(call) => held(call_parts(alloc, &call)),
         None => held(String::from_str(alloc, "none")),
@@ -70,7 +70,7 @@ fn print_call(alloc: Global, schema: &Schema, call: &Call) -> Result<String, Ref
 }
 
 /// The call of a line, printed.
-pub fn printed(alloc: Global, schema: &Schema, text: &str) -> Result<String, Refusal> {
+pub(crate) fn printed(alloc: Global, schema: &Schema, text: &str) -> Result<String, Refusal> {
     match parse_line(alloc, schema, 7, text)? {
         Some(call) => print_call(alloc, schema, &call),
         None => Ok(String::new(alloc)),
@@ -86,7 +86,12 @@ fn conds_of(alloc: Global, schema: &Schema, text: &str) -> Result<Conds, Refusal
 }
 
 /// The place of the first condition on an attribute.
-pub fn place_of(alloc: Global, schema: &Schema, attr: &str, text: &str) -> Result<String, Refusal> {
+pub(crate) fn place_of(
+    alloc: Global,
+    schema: &Schema,
+    attr: &str,
+    text: &str,
+) -> Result<String, Refusal> {
     let conds = conds_of(alloc, schema, text)?;
     held(format!(in alloc; "{:?}", conds.place_of(place(attr))))
 }
@@ -111,7 +116,7 @@ fn seventh(alloc: Global, conds: &Conds) -> Result<String, AllocError> {
 }
 
 /// The conditions once the first of them is exchanged for one without bounds on attribute 7, and the place of that.
-pub fn exchanged(alloc: Global, schema: &Schema, text: &str) -> Result<String, Refusal> {
+pub(crate) fn exchanged(alloc: Global, schema: &Schema, text: &str) -> Result<String, Refusal> {
     let mut conds = conds_of(alloc, schema, text)?;
     exchange_first(&mut conds);
     held(seventh(alloc, &conds))
@@ -127,7 +132,7 @@ fn cuts_parts(alloc: Global, cuts: &Cuts) -> Result<String, AllocError> {
 }
 
 /// The cuts of a text, a list for each attribute.
-pub fn cuts(alloc: Global, schema: &Schema, text: &str) -> Result<String, Refusal> {
+pub(crate) fn cuts(alloc: Global, schema: &Schema, text: &str) -> Result<String, Refusal> {
     let cuts = parse_cuts(alloc, schema, text)?;
     held(cuts_parts(alloc, &cuts))
 }

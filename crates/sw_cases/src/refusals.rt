@@ -55,7 +55,7 @@ fn of_number(of: u64, a: u64, b: u64, c: u64) -> Refusal {
 }
 
 /// A refusal by its number and its values, printed.
-pub fn printed(alloc: Global, args: &str) -> Result<String, Refusal> {
+pub(crate) fn printed(alloc: Global, args: &str) -> Result<String, Refusal> {
     let (of, values) = split(args, ':');
     let (a, values) = split(values, ':');
     let (b, c) = split(values, ':');
@@ -64,7 +64,7 @@ pub fn printed(alloc: Global, args: &str) -> Result<String, Refusal> {
 }
 
 /// The refusal of an unknown name, printed.
-pub fn unknown(alloc: Global, name: &str) -> Result<String, Refusal> {
+pub(crate) fn unknown(alloc: Global, name: &str) -> Result<String, Refusal> {
     let name = held(Name::copied(alloc, name))?;
     held(format!(in alloc; "{}", Refusal::UnknownAttribute { name }))
 }

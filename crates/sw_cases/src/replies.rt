@@ -66,7 +66,12 @@ fn copied_lines(
 }
 
 /// What a select is answered over the rows of a table.
-pub fn asked(alloc: Global, schema: &Schema, rows: &[Row], text: &str) -> Result<String, Refusal> {
+pub(crate) fn asked(
+    alloc: Global,
+    schema: &Schema,
+    rows: &[Row],
+    text: &str,
+) -> Result<String, Refusal> {
     let call = call_of(alloc, schema, text)?;
     let reply = answered(alloc, schema, rows, &call)?;
     copied_lines(alloc, schema, &call, &reply)
@@ -107,7 +112,7 @@ fn sent(
 }
 
 /// What becomes of the lines of a select's reply where a sink fails at its first writes.
-pub fn failing(
+pub(crate) fn failing(
     alloc: Global,
     schema: &Schema,
     rows: &[Row],
@@ -138,7 +143,12 @@ fn update_call(word: &str) -> Call {
 }
 
 /// The lines of the reply to an insert or a delete.
-pub fn of_update(alloc: Global, schema: &Schema, word: &str, key: &str) -> Result<String, Refusal> {
+pub(crate) fn of_update(
+    alloc: Global,
+    schema: &Schema,
+    word: &str,
+    key: &str,
+) -> Result<String, Refusal> {
     let call = update_call(word);
     let reply = update_reply(word, number(key));
     lines(alloc, schema, &call, &reply)
@@ -173,7 +183,12 @@ fn one_row(alloc: Global, key: u64, cells: Cells) -> Result<ReplyRows, AllocErro
 }
 
 /// The lines of a reply of one row, of this key and these cells of all attributes.
-pub fn of_row(alloc: Global, schema: &Schema, key: &str, cells: &str) -> Result<String, Refusal> {
+pub(crate) fn of_row(
+    alloc: Global,
+    schema: &Schema,
+    key: &str,
+    cells: &str,
+) -> Result<String, Refusal> {
     let cells = held(cells_of(alloc, cells))?;
     let rows = held(one_row(alloc, number(key), cells))?;
     let call = held(all_of(alloc, schema))?;

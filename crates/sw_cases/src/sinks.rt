@@ -10,7 +10,7 @@ use sw_rows::{Counted, Refusal, Sink};
 
 /// A writer that takes at most so many bytes at a time, and fails at one of its writes, counted from 1.
 #[derive(Drop)]
-pub struct Slow {
+pub(crate) struct Slow {
     pub bytes: Vec<u8>,
     most: usize,
     writes: u64,
@@ -18,7 +18,7 @@ pub struct Slow {
 }
 
 impl Slow {
-    pub fn counted(alloc: Global, most: usize, fails_at: u64) -> Counted<Slow> {
+    pub(crate) fn counted(alloc: Global, most: usize, fails_at: u64) -> Counted<Slow> {
         Counted::new(Slow {
             bytes: Vec::new(alloc),
             most,
@@ -44,7 +44,7 @@ impl Write for Slow {
 }
 
 /// What one write of a text answers from a sink that takes so many bytes, its failures, and what it took.
-pub fn one_write(alloc: Global, most: usize, text: &[u8]) -> Result<String, Refusal> {
+pub(crate) fn one_write(alloc: Global, most: usize, text: &[u8]) -> Result<String, Refusal> {
     let mut out = Slow::counted(alloc, most, 0);
     let answer = match out.write_some(text) {
         Ok(count) => Some(count),
@@ -55,7 +55,7 @@ pub fn one_write(alloc: Global, most: usize, text: &[u8]) -> Result<String, Refu
 }
 
 /// A text and two numbers after it, as a sink takes them that takes two bytes at a time.
-pub fn written(alloc: Global, numbers: &str, text: &[u8]) -> Result<String, Refusal> {
+pub(crate) fn written(alloc: Global, numbers: &str, text: &[u8]) -> Result<String, Refusal> {
     let (first, second) = split(numbers, ':');
     let mut out = Slow::counted(alloc, 2, 0);
     write_all(&mut out, text)?;

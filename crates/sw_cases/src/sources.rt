@@ -5,7 +5,7 @@ use std::io::Read;
 
 /// A reader that gives at most so many bytes at a time, and fails at one of its reads, counted from 1.
 #[derive(Drop)]
-pub struct Faltering<'a> {
+pub(crate) struct Faltering<'a> {
     left: &'a [u8],
     most: usize,
     reads: u64,
@@ -13,7 +13,7 @@ pub struct Faltering<'a> {
 }
 
 impl<'a> Faltering<'a> {
-    pub fn new(left: &'a [u8], most: usize, fails_at: u64) -> Self {
+    pub(crate) fn new(left: &'a [u8], most: usize, fails_at: u64) -> Self {
         Faltering {
             left,
             most,

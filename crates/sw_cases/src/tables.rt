@@ -30,7 +30,7 @@ fn push_row(alloc: Global, text: &mut String, row: &Row, count: usize) -> Result
 }
 
 /// The attributes of a table, then its rows.
-pub fn shown(alloc: Global, schema: &Schema, rows: &[Row]) -> Result<String, AllocError> {
+pub(crate) fn shown(alloc: Global, schema: &Schema, rows: &[Row]) -> Result<String, AllocError> {
     let mut text = header(alloc, schema)?;
     for row in rows {
         push_row(alloc, &mut text, row, schema.len())?;
@@ -39,7 +39,10 @@ pub fn shown(alloc: Global, schema: &Schema, rows: &[Row]) -> Result<String, All
 }
 
 /// The table that a source gives, its rows as a plain list.
-pub fn load_plain<R: Source>(alloc: Global, source: &mut R) -> Result<(Schema, Vec<Row>), Refusal> {
+pub(crate) fn load_plain<R: Source>(
+    alloc: Global,
+    source: &mut R,
+) -> Result<(Schema, Vec<Row>), Refusal> {
     let (schema, rows) = load(alloc, source)?;
     let rows = held(rows.to_rows(alloc))?;
     Ok((schema, rows))
@@ -58,7 +61,7 @@ fn load_text(alloc: Global, text: &[u8]) -> Result<String, AllocError> {
 }
 
 /// The tables of a text's beginnings, a line each.
-pub fn beginnings(alloc: Global, text: &[u8]) -> Result<String, AllocError> {
+pub(crate) fn beginnings(alloc: Global, text: &[u8]) -> Result<String, AllocError> {
     let mut told = String::new(alloc);
     for kept in 0..text.len() {
         let table = load_text(alloc, &text[..kept])?;
@@ -69,14 +72,14 @@ pub fn beginnings(alloc: Global, text: &[u8]) -> Result<String, AllocError> {
 }
 
 /// How many rows the table of a text has.
-pub fn count(alloc: Global, text: &[u8]) -> Result<String, Refusal> {
+pub(crate) fn count(alloc: Global, text: &[u8]) -> Result<String, Refusal> {
     let mut source = Counted::new(text);
     let (_, rows) = load(alloc, &mut source)?;
     held(format!(in alloc; "{}", rows.len()))
 }
 
 /// How many bytes of a text are read under a limit.
-pub fn within(alloc: Global, limit: &str, text: &[u8]) -> Result<String, Refusal> {
+pub(crate) fn within(alloc: Global, limit: &str, text: &[u8]) -> Result<String, Refusal> {
     let mut source = Counted::new(text);
     let bytes = read_all(alloc, &mut source, place(limit))?;
     held(format!(in alloc; "{}", bytes.len()))
@@ -95,14 +98,14 @@ fn load_faltering(
 }
 
 /// The same for one read that fails, with the number of failures.
-pub fn faltering(alloc: Global, args: &str, text: &[u8]) -> Result<String, AllocError> {
+pub(crate) fn faltering(alloc: Global, args: &str, text: &[u8]) -> Result<String, AllocError> {
     let (most, fails_at) = split(args, ':');
     let (told, failures) = load_faltering(alloc, place(most), number(fails_at), text)?;
     format!(in alloc; "{failures} failures:{told}")
 }
 
 /// The same from a source that gives a byte at a time, for each read that fails and one more, a line each.
-pub fn failing(alloc: Global, text: &[u8]) -> Result<String, AllocError> {
+pub(crate) fn failing(alloc: Global, text: &[u8]) -> Result<String, AllocError> {
     let mut told = String::new(alloc);
     for before in 0..text.len() as u64 + 2 {
         let (table, failures) = load_faltering(alloc, 1, before + 1, text)?;
@@ -113,7 +116,7 @@ pub fn failing(alloc: Global, text: &[u8]) -> Result<String, AllocError> {
 }
 
 /// A text as a cell of a kind.
-pub fn cell(alloc: Global, kind: &str, text: &str) -> Result<String, Refusal> {
+pub(crate) fn cell(alloc: Global, kind: &str, text: &str) -> Result<String, Refusal> {
     let field = held(format!(in alloc; "x:{kind}"))?;
     let schema = Schema::of(alloc, &[field.as_str()])?;
     let found = read_cell(schema.kind(0), text);
@@ -126,7 +129,7 @@ fn push_field<'a>(fields: &mut Vec<&'a str>, field: &'a str) -> Result<(), Alloc
 }
 
 /// The attributes of a header whose fields stand with blanks between.
-pub fn fields(alloc: Global, text: &str) -> Result<String, Refusal> {
+pub(crate) fn fields(alloc: Global, text: &str) -> Result<String, Refusal> {
     let mut fields = Vec::new(alloc);
     for field in text.split_whitespace() {
         held(push_field(&mut fields, field))?;
@@ -136,6 +139,6 @@ pub fn fields(alloc: Global, text: &str) -> Result<String, Refusal> {
 }
 
 /// The place of a name among a table's attributes.
-pub fn find(alloc: Global, schema: &Schema, name: &str) -> Result<String, AllocError> {
+pub(crate) fn find(alloc: Global, schema: &Schema, name: &str) -> Result<String, AllocError> {
     format!(in alloc; "{:?}", schema.find(name))
 }

@@ -3,7 +3,7 @@
 use std::alloc::{AllocError, Global};
 
 /// What stands before the first of a mark, and what stands after it; all of a text without one, and nothing.
-pub fn split(text: &str, mark: char) -> (&str, &str) {
+pub(crate) fn split(text: &str, mark: char) -> (&str, &str) {
     match text.split_once(mark) {
         Some(parts) => parts,
         None => (text, ""),
@@ -11,7 +11,7 @@ pub fn split(text: &str, mark: char) -> (&str, &str) {
 }
 
 /// A word as a number, 0 where it is none.
-pub fn number(word: &str) -> u64 {
+pub(crate) fn number(word: &str) -> u64 {
     match word.parse::<u64>() {
         Ok(n) => n,
         Err(_) => 0,
@@ -19,7 +19,7 @@ pub fn number(word: &str) -> u64 {
 }
 
 /// A word as a cell, 0 where it is none.
-pub fn cell(word: &str) -> i64 {
+pub(crate) fn cell(word: &str) -> i64 {
     match word.parse::<i64>() {
         Ok(n) => n,
         Err(_) => 0,
@@ -27,7 +27,7 @@ pub fn cell(word: &str) -> i64 {
 }
 
 /// A word as a count, 0 where it is none.
-pub fn place(word: &str) -> usize {
+pub(crate) fn place(word: &str) -> usize {
     match word.parse::<usize>() {
         Ok(n) => n,
         Err(_) => 0,
@@ -63,7 +63,7 @@ enum At {
 }
 
 /// Adds the bytes of a text in which \n, \r, \t, \\ and \xHH are escaped.
-pub fn push_unescaped(bytes: &mut Vec<u8>, text: &str) -> Result<(), AllocError> {
+pub(crate) fn push_unescaped(bytes: &mut Vec<u8>, text: &str) -> Result<(), AllocError> {
     let mut at = At::Outside;
     for &byte in text.as_bytes() {
         let (after, made) = match (at, byte) {

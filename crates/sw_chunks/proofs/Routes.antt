@@ -15,7 +15,8 @@ use Rattle.sw_chunks.specs.Cuts.{Interval, RiseAbove, intervals, place_in}
 use Rattle.sw_chunks.specs.Places.{find_place, owners_of, place_by, place_of_row, sent}
 use Rattle.sw_chunks.specs.Routing.{routed}
 use Rattle.sw_chunks.proofs.Cutting.{one_interval}
-use Rattle.sw_chunks.proofs.Routed.{filter-push, filter-without, without-none}
+use Rattle.sw_table.proofs.LiveLaws.{without-none}
+use Rattle.sw_chunks.proofs.Routed.{filter-push, filter-without}
 
 -- ---- the place beside a row's key
 same-key : (j k : ℕ) → j ≡ k → (j == k) ≡ true

@@ -212,13 +212,13 @@ fn numbered(text: &str) -> (u64, &str) {
 
 /// The table and the limit of the cases that come.
 #[derive(Drop)]
-pub struct Bench {
+pub(crate) struct Bench {
     table: Vec<u8>,
     limit: Limit,
 }
 
 impl Bench {
-    pub fn new(alloc: Global) -> Self {
+    pub(crate) fn new(alloc: Global) -> Self {
         Bench {
             table: Vec::new(alloc),
             limit: Limit { rows: 1_048_576 },
@@ -267,7 +267,7 @@ impl Bench {
     }
 
     /// Makes the case of a line, and says what came of it.
-    pub fn take<R: Threads + Wait + Sync>(
+    pub(crate) fn take<R: Threads + Wait + Sync>(
         &mut self,
         rt: &R,
         alloc: Global,

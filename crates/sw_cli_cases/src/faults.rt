@@ -72,7 +72,7 @@ fn line_of(alloc: Global, refusal: &Refusal) -> Result<String, AllocError> {
 }
 
 /// The refusal of a place; of another text that of an attribute with that name.
-pub fn fault(alloc: Global, text: &str) -> Result<String, AllocError> {
+pub(crate) fn fault(alloc: Global, text: &str) -> Result<String, AllocError> {
     match text.parse::<usize>() {
         Ok(place) if place < 19 => line_of(alloc, &REFUSALS[place]),
         _ => line_of(

@@ -11,7 +11,7 @@ const BACK: &[u8] =
     b"],\"format\":1,\"limit\":1048576,\"rows\":[[12,7,1],[3,8,0],[12,5,1],[20,2,0]]}";
 
 /// A file of the examples' table with these entries.
-pub fn file(alloc: Global, entries: &[u8]) -> Result<Vec<u8>, AllocError> {
+pub(crate) fn file(alloc: Global, entries: &[u8]) -> Result<Vec<u8>, AllocError> {
     let mut text = Vec::new(alloc);
     text.extend_from_slice(FRONT)?;
     text.extend_from_slice(entries)?;
@@ -20,7 +20,7 @@ pub fn file(alloc: Global, entries: &[u8]) -> Result<Vec<u8>, AllocError> {
 }
 
 /// What the check of a file writes and answers, or its refusal.
-pub fn checked(alloc: Global, text: &[u8]) -> Result<String, AllocError> {
+pub(crate) fn checked(alloc: Global, text: &[u8]) -> Result<String, AllocError> {
     let mut out = Counted::new(Vec::new(alloc));
     match check_file(alloc, text, &mut out) {
         Ok(status) => {
@@ -40,7 +40,7 @@ fn refusal(alloc: Global, text: &[u8]) -> Result<String, AllocError> {
 }
 
 /// The refusals of a file that is cut after each of its bytes; one that is the last one's again is not said again.
-pub fn cuts(alloc: Global, text: &[u8]) -> Result<String, AllocError> {
+pub(crate) fn cuts(alloc: Global, text: &[u8]) -> Result<String, AllocError> {
     let mut all = String::new(alloc);
     let mut last = String::new(alloc);
     for size in 0..text.len() {

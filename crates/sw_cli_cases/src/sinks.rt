@@ -7,13 +7,13 @@ use sw_rows::{Counted, Sink};
 
 /// A sink that takes three bytes a time, and fails at its write of a number, from 1.
 #[derive(Drop)]
-pub struct Failing {
+pub(crate) struct Failing {
     bytes: Vec<u8>,
     left: u64,
 }
 
 impl Failing {
-    pub fn new(alloc: Global, left: u64) -> Failing {
+    pub(crate) fn new(alloc: Global, left: u64) -> Failing {
         Failing {
             bytes: Vec::new(alloc),
             left,
@@ -21,7 +21,7 @@ impl Failing {
     }
 
     /// The bytes that were taken.
-    pub fn bytes(&self) -> &[u8] {
+    pub(crate) fn bytes(&self) -> &[u8] {
         self.bytes.as_slice()
     }
 }
@@ -43,7 +43,7 @@ impl io::Write for Failing {
 }
 
 /// Whether the line of a refused call went out, where the bytes are written in pieces that are divided by |.
-pub fn noted(alloc: Global, bytes: &[u8]) -> Result<String, AllocError> {
+pub(crate) fn noted(alloc: Global, bytes: &[u8]) -> Result<String, AllocError> {
     let mut noting = Noting::new(Counted::new(Vec::new(alloc)));
     for piece in bytes.split(|byte: &u8| *byte == b'|') {
         let _ = noting.write_some(piece);

@@ -79,20 +79,6 @@ fn copy_part(values: &[i64], place: usize, part: &mut [i64])
     part.copy_from_slice(&values[place..end]);
 }
 
-/// A cell of the row at a place; 0 past the last attribute.
-#[inline]
-fn cell_at(rows: &PackedRows, place: usize, attribute: u8) -> i64
-    requires { place < length rows.now.items }
-    ensures { (d : Row) → result ≡ cell_of attribute (slice_index_or rows.now.items place d) }
-{
-    let at = attribute as usize;
-    if at < 8 {
-        rows.cell(place, at)
-    } else {
-        cell_of(&rows.get(place), attribute)
-    }
-}
-
 /// Puts a cell of each row at the end of values, for which there is room.
 fn append_cells(values: &mut Vec<i64>, attribute: u8, rows: &PackedRows)
     requires room { vec_len values.old + length rows.now.items ≤ vec_capacity values.old }
@@ -100,21 +86,9 @@ fn append_cells(values: &mut Vec<i64>, attribute: u8, rows: &PackedRows)
     ensures len { vec_len values.new ≡ vec_len values.old + length rows.now.items }
     ensures capacity { vec_capacity values.new ≡ vec_capacity values.old }
 {
-    for place in 0..rows.len() {
-        values.push_reserved(cell_at(rows, place, attribute));
-    }
-}
-
-/// Puts the key of each row at the end of values, for which there is room.
-fn append_keys(values: &mut Vec<i64>, rows: &PackedRows)
-    requires room { vec_len values.old + length rows.now.items ≤ vec_capacity values.old }
-    requires keys { All (λ (r : Row). r.key < 2 ^ 63) rows.now.items }
-    ensures items { values.new.items ≡ values.old.items ++ map (tail_value Key) rows.now.items }
-    ensures len { vec_len values.new ≡ vec_len values.old + length rows.now.items }
-    ensures capacity { vec_capacity values.new ≡ vec_capacity values.old }
-{
-    for place in 0..rows.len() {
-        values.push_reserved(rows.key(place) as i64);
+    match rows.append_column(attribute as usize, values) {
+        Ok(()) => {}
+        Err(_) => unreachable!(),
     }
 }
 
@@ -127,7 +101,10 @@ fn append_tails(values: &mut Vec<i64>, tail: Tail, rows: &PackedRows)
     ensures capacity { vec_capacity values.new ≡ vec_capacity values.old }
 {
     match tail {
-        Tail::Key => append_keys(values, rows),
+        Tail::Key => match rows.append_keys(values) {
+            Ok(()) => {}
+            Err(_) => unreachable!(),
+        },
         Tail::Cell(attribute) => append_cells(values, attribute, rows),
     }
 }

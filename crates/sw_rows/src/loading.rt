@@ -1,26 +1,36 @@
 //! A table from a source.
 
-ghost use Rattle.std.specs.Prelude.{◌≡◌, ◌≤◌, ◌⊎◌, ℕ, List, length, IfOk, IfSome, IfErr, OnOk, OnErr};
+ghost use Rattle.std.specs.Prelude.{◌≡◌, ◌≤◌, ◌⊎◌, ℕ, List, length, IfOk, IfSome, IfErr, OnOk, OnErr, vec_len};
 ghost use Rattle.std.specs.Io.KnownBytes.{IsAtEnd};
-ghost use Rattle.sw_rows.specs.Gives.{Gives, Raised, TellsSource};
-ghost use Rattle.sw_rows.specs.Tables.{bytes_within, shown_packed, table_of};
+ghost use Rattle.sw_rows.specs.Gives.{Raised, TellsSource};
+ghost use Rattle.sw_rows.specs.Tables.{IsAllRead, IsLoaded, shown_packed, table_of};
 
 use crate::refusal::Refusal;
 use crate::schema::Schema;
 use crate::source::Source;
 use crate::table::read_table;
-use std::alloc::Global;
+use std::alloc::{AllocError, Global};
 use sw_table::PackedRows;
 
 /// How many bytes a table or a script has at most.
 pub const MOST_BYTES: usize = 268_435_456;
+
+/// How many bytes are read at once.
+const BLOCK: usize = 65536;
+
+/// So many bytes of 0. The one error is that there is no memory for them.
+fn zeros(alloc: Global, many: usize) -> Result<Vec<u8>, AllocError>
+    ensures { IfOk result (λ bytes. vec_len bytes ≡ many) }
+{
+    vec![in alloc; 0u8; many]
+}
 
 /// Reads a source to its end.
 ///
 /// Refused `TooMany` of `limit` where it gives more bytes than that, `Input` where it failed in this call, and `NoMemory`.
 /// What it gave before a refusal is lost.
 pub fn read_all<R: Source>(alloc: Global, source: &mut R, limit: usize) -> Result<Vec<u8>, Refusal>
-    ensures spelled { IfSome (R.left source.old) (λ bytes. Gives (Raised (R.failed source.old) (R.failed source.new)) (λ v. v.items) result (bytes_within limit bytes)) }
+    ensures spelled { IfSome (R.left source.old) (IsAllRead limit (R.failed source.old) (R.failed source.new) result) }
     ensures short { IfOk result (λ bytes. length bytes.items ≤ limit) }
     ensures steady { OnOk result (R.failed source.new ≡ R.failed source.old) }
     ensures told { IfErr result (TellsSource (Raised (R.failed source.old) (R.failed source.new))) }
@@ -28,9 +38,11 @@ pub fn read_all<R: Source>(alloc: Global, source: &mut R, limit: usize) -> Resul
     ensures refused { OnErr result ((result ≡ Err Refusal.NoMemory) ⊎ (result ≡ Err Refusal.Input) ⊎ (result ≡ Err (Refusal.TooMany limit))) }
 {
     let mut bytes: Vec<u8> = Vec::new(alloc);
-    let mut block = [0u8; 65536];
+    let Ok(mut block) = zeros(alloc, BLOCK) else {
+        return Err(Refusal::NoMemory);
+    };
     while bytes.len() <= limit {
-        match source.read_some(&mut block) {
+        match source.read_some(block.as_mut_slice()) {
             Ok(0) => return Ok(bytes),
             Ok(n) => {
                 if bytes.extend_from_slice(&block[..n]).is_err() {
@@ -54,7 +66,7 @@ pub fn read_all<R: Source>(alloc: Global, source: &mut R, limit: usize) -> Resul
 /// cell that is none of its kind. What is answered is the table of some bytes, also where the source does not tell its own.
 /// `Input` comes only where the source failed in this call.
 pub fn load<R: Source>(alloc: Global, source: &mut R) -> Result<(Schema, PackedRows), Refusal>
-    ensures spelled { IfSome (R.left source.old) (λ bytes. Gives (Raised (R.failed source.old) (R.failed source.new)) shown_packed result (table_of bytes)) }
+    ensures spelled { IfSome (R.left source.old) (IsLoaded (R.failed source.old) (R.failed source.new) result) }
     ensures steady { OnOk result (R.failed source.new ≡ R.failed source.old) }
     ensures table { IfOk result (λ t. (bytes : List ℕ) × (table_of bytes ≡ Ok (shown_packed t))) }
     ensures width { IfOk result (λ t. t.1.width ≡ length t.0) }

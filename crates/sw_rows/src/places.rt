@@ -29,24 +29,16 @@ pub trait Places {
         requires attr { attr < 8 }
         ensures { (d : Row) → result ≡ cell_of attr (slice_index_or (rows self.now) place d) };
 
-    /// The row at a place.
-    fn row(&self, place: usize) -> Row
-        requires { place < length (rows self.now) }
-        ensures { (d : Row) → result ≡ slice_index_or (rows self.now) place d };
-
     /// The key of the row at a place.
     fn key(&self, place: usize) -> u64
         requires { place < length (rows self.now) }
-        ensures { (d : Row) → result ≡ (slice_index_or (rows self.now) place d).key }
-    {
-        self.row(place).key
-    }
+        ensures { (d : Row) → result ≡ (slice_index_or (rows self.now) place d).key };
 }
 
 /// A plain list of rows, all of them live.
 #[derive(Clone, Copy)]
-pub struct AllLive<'a> {
-    pub rows: &'a [Row],
+pub(crate) struct AllLive<'a> {
+    pub(crate) rows: &'a [Row],
 }
 
 impl<'a> Places for AllLive<'a> {
@@ -67,11 +59,6 @@ impl<'a> Places for AllLive<'a> {
     #[inline]
     fn cell(&self, place: usize, attr: usize) -> i64 {
         self.rows[place].cells[attr]
-    }
-
-    #[inline]
-    fn row(&self, place: usize) -> Row {
-        self.rows[place]
     }
 
     #[inline]
@@ -102,11 +89,6 @@ impl Places for PackedRows {
     }
 
     #[inline]
-    fn row(&self, place: usize) -> Row {
-        self.get(place)
-    }
-
-    #[inline]
     fn key(&self, place: usize) -> u64 {
         PackedRows::key(self, place)
     }
@@ -131,11 +113,6 @@ impl Places for LiveTable {
     #[inline]
     fn cell(&self, place: usize, attr: usize) -> i64 {
         self.came().cell(place, attr)
-    }
-
-    #[inline]
-    fn row(&self, place: usize) -> Row {
-        self.came().get(place)
     }
 
     #[inline]

@@ -1,7 +1,7 @@
 //! The plain scan.
 
-ghost use Rattle.std.specs.Prelude.{◌≡◌, ◌<◌, ◌&&◌, length, map, slice_index_or, false, All, IfOk, IsOk, IsOkUnless};
-ghost use Rattle.sw_rows.specs.Scan.{meets, meets_all, cell_of, answer, column, greatest, least, matching, projected, total, AsksBelow, CondsBelow, TakesMemory};
+ghost use Rattle.std.specs.Prelude.{◌≡◌, ◌<◌, length, slice_index_or, All, IfOk, IsOk, IsOkUnless};
+ghost use Rattle.sw_rows.specs.Scan.{meets_all, answer, column, greatest, is_match, least, matching, selected, total, AsksBelow, CondsBelow, ShowsCells, ShowsRow, TakesMemory};
 ghost use Rattle.sw_table.specs.Kept.{kept};
 ghost use Rattle.sw_table.specs.declared.row.Row.{Row};
 
@@ -12,62 +12,6 @@ use crate::refusal::Refusal;
 use crate::reply::{Cells, Reply, ReplyRow, ReplyRows};
 use std::alloc::{AllocError, Global};
 use sw_table::Row;
-
-/// A row's cell of an attribute. The caller's condition: it is one of the row's eight.
-pub fn cell_of(row: &Row, attr: usize) -> i64
-    requires { attr < 8 }
-    ensures { result ≡ cell_of attr row.now }
-{
-    row.cells[attr]
-}
-
-/// Whether a row meets a condition.
-fn row_meets(row: &Row, cond: Cond) -> bool
-    requires { cond.attr < 8 }
-    ensures { result ≡ meets row.now cond }
-{
-    is_within(cond.lower, cond.upper, cell_of(row, cond.attr))
-}
-
-/// Whether a row meets each condition. The caller's condition: their attributes are below 8.
-#[tactic(auto, using(std::proofs::lemmas::List::Folds::list_all_more, std::proofs::lemmas::List::Folds::list_all_at))]
-pub fn meets_all(row: &Row, conds: &[Cond]) -> bool
-    requires { CondsBelow 8 conds.now }
-    ensures { result ≡ meets_all conds.now row.now }
-{
-    for cond in conds {
-        if !row_meets(row, *cond) {
-            return false;
-        }
-    }
-    true
-}
-
-/// A row's cells of some attributes, in their order.
-fn projection(alloc: Global, row: &Row, names: &[usize]) -> Result<Cells, AllocError>
-    requires { All (λ a. a < 8) names.now }
-    ensures cells { IfOk result (λ cells. cells ≡ map (λ a. cell_of a row.now) names.now) }
-{
-    let mut cells = Cells::new(alloc);
-    for name in names {
-        cells.push(cell_of(row, *name))?;
-    }
-    Ok(cells)
-}
-
-/// What a reply shows of a row: its key, and its cells of some attributes in their order.
-///
-/// The one error is that there is no memory for it. The caller's condition: the attributes are below 8.
-pub fn projected(alloc: Global, row: &Row, names: &[usize]) -> Result<ReplyRow, AllocError>
-    requires { All (λ a. a < 8) names.now }
-    ensures { IfOk result (λ shown. shown ≡ projected names.now row.now) }
-{
-    let cells = projection(alloc, row, names)?;
-    Ok(ReplyRow {
-        key: row.key,
-        cells,
-    })
-}
 
 /// Whether the row at a place meets each condition.
 #[inline]
@@ -90,7 +34,7 @@ fn meets_at<P: Places>(rows: &P, place: usize, conds: &[Cond]) -> bool
 fn is_found<P: Places>(rows: &P, conds: &[Cond], place: usize) -> bool
     requires place { place < length (P.rows rows.now) }
     requires conds { CondsBelow 8 conds.now }
-    ensures { (d : Row) → result ≡ (slice_index_or (P.flags rows.now) place false && meets_all conds.now (slice_index_or (P.rows rows.now) place d)) }
+    ensures { (d : Row) → result ≡ is_match conds.now (P.flags rows.now) (P.rows rows.now) place d }
 {
     rows.is_live(place) && meets_at(rows, place, conds)
 }
@@ -171,7 +115,7 @@ fn cells_at<P: Places>(
 ) -> Result<Cells, AllocError>
     requires place { place < length (P.rows rows.now) }
     requires names { All (λ a. a < 8) names.now }
-    ensures { IfOk result (λ cells. (d : Row) → cells ≡ map (λ a. cell_of a (slice_index_or (P.rows rows.now) place d)) names.now) }
+    ensures { IfOk result (ShowsCells names.now (P.rows rows.now) place) }
 {
     let mut cells = Cells::new(alloc);
     for name in names {
@@ -189,7 +133,7 @@ fn shown_at<P: Places>(
 ) -> Result<ReplyRow, AllocError>
     requires place { place < length (P.rows rows.now) }
     requires names { All (λ a. a < 8) names.now }
-    ensures { IfOk result (λ shown. (d : Row) → shown ≡ projected names.now (slice_index_or (P.rows rows.now) place d)) }
+    ensures { IfOk result (ShowsRow names.now (P.rows rows.now) place) }
 {
     let cells = cells_at(alloc, rows, place, names)?;
     Ok(ReplyRow {
@@ -207,7 +151,7 @@ fn select<P: Places>(
 ) -> Result<ReplyRows, AllocError>
     requires conds { CondsBelow 8 conds.now }
     requires names { All (λ a. a < 8) names.now }
-    ensures { IfOk result (λ found. found ≡ map (projected names.now) (matching conds.now (kept (P.flags rows.now) (P.rows rows.now)))) }
+    ensures { IfOk result (λ found. found ≡ selected conds.now names.now (kept (P.flags rows.now) (P.rows rows.now))) }
 {
     let mut found = ReplyRows::new(alloc);
     for place in 0..rows.places() {

@@ -1,36 +1,21 @@
 -- What is chosen of a list, with one more item looked at, and where the truth values are those of a test.
 use Rattle.std.proofs.Common.{◌≡◌, ◌∙◌, ap, sym, refl, ℕ, zero, suc, ◌+◌, ◌<◌, Bool, true, false, cond, List, [], ◌∷◌, ◌++◌, fold, length, get_or, take, ℤ, pos, ◌+ℤ◌, Option, Some, None, append-nil, arith}
 use Rattle.std.proofs.lemmas.List.{take_more}
+use Rattle.std.proofs.lemmas.List.Sums.{fold-append}
 use Rattle.std.proofs.lemmas.Int.{ints}
-use Rattle.std.specs.Int.{int_min, int_max}
-use Rattle.sw_rows.specs.Scan.{total, least, greatest}
-use Rattle.sw_table.specs.Kept.{kept}
-use Rattle.sw_set.specs.Choice.{chosen, is_chosen, lesser_with, larger_with}
-
-kept-nil : {X : Type 0} (bs : List Bool) → kept bs (let e : List X = [] in e) ≡ []
-kept-nil [] = refl
-kept-nil (b ∷ bs) = refl
-
-kept-suc : {X : Type 0} (bs : List Bool) (xs : List X) (i : ℕ) (d : X) → i < length xs → kept bs (take (suc i) xs) ≡ kept bs (take i xs) ++ cond (get_or bs i false) (get_or xs i d ∷ []) []
-kept-suc [] xs i d lt = refl
-kept-suc (b ∷ bs) [] i d lt = let no : i < 0 = lt in absurd (omega arith)
-kept-suc (true ∷ bs) (x ∷ xs) zero d lt = ap (λ v. x ∷ v) (kept-nil bs)
-kept-suc (false ∷ bs) (x ∷ xs) zero d lt = kept-nil bs
-kept-suc (true ∷ bs) (x ∷ xs) (suc i) d lt = ap (λ v. x ∷ v) (kept-suc bs xs i d (omega arith))
-kept-suc (false ∷ bs) (x ∷ xs) (suc i) d lt = kept-suc bs xs i d (omega arith)
+use Rattle.sw_rows.specs.Scan.{total, least, lesser_with, greatest, larger_with}
+use Rattle.sw_table.proofs.LiveLaws.{kept-nil, kept-step}
+use Rattle.sw_rows.proofs.ScanLemmas.{greatest-of, least-of}
+use Rattle.sw_set.specs.Choice.{chosen, is_chosen}
 
 pub chosen-more : {X : Type 0} (o : Option (List Bool)) (xs : List X) (i : ℕ) (d : X) → i < length xs → chosen o (take (i + 1) xs) ≡ chosen o (take i xs) ++ cond (is_chosen o i) (get_or xs i d ∷ []) []
 chosen-more None xs i d lt = take_more xs i d lt
-chosen-more (Some bs) xs i d lt = ap (λ k. kept bs (take k xs)) (let e : i + 1 ≡ suc i = omega arith in e) ∙ kept-suc bs xs i d lt
+chosen-more (Some bs) xs i d lt = kept-step bs xs i d lt
 
 -- ---- one more value of a sum, of the least, of the greatest
 
-fold-end : {A B : Type 0} (f : B → A → B) (b : B) (xs : List A) (y : A) → fold f b (xs ++ y ∷ []) ≡ f (fold f b xs) y
-fold-end f b [] y = refl
-fold-end f b (x ∷ xs) y = fold-end f (f b x) xs y
-
 total-if : (zs : List ℤ) (b : Bool) (z : ℤ) → total (zs ++ cond b (z ∷ []) []) ≡ cond b (total zs +ℤ z) (total zs)
-total-if zs true z = fold-end ◌+ℤ◌ (pos 0) zs z
+total-if zs true z = fold-append ◌+ℤ◌ (pos 0) zs (z ∷ [])
 total-if zs false z = ap total (append-nil zs)
 
 pub total_more : (o : Option (List Bool)) (xs : List ℤ) (i : ℕ) (d : ℤ) → i < length xs → total (chosen o (take (i + 1) xs)) ≡ cond (is_chosen o i) (total (chosen o (take i xs)) +ℤ get_or xs i d) (total (chosen o (take i xs)))
@@ -39,20 +24,12 @@ total_more o xs i d lt = ap total (chosen-more o xs i d lt) ∙ total-if (chosen
 pub total_next : (xs : List ℤ) (i : ℕ) (d : ℤ) → i < length xs → total (take (i + 1) xs) ≡ total (take i xs) +ℤ get_or xs i d
 total_next xs i d lt = total_more None xs i d lt
 
-least-end : (zs : List ℤ) (z : ℤ) → least (zs ++ z ∷ []) ≡ Some (lesser_with (least zs) z)
-least-end [] z = refl
-least-end (y ∷ zs) z = ap Some (fold-end int_min y zs z)
-
-greatest-end : (zs : List ℤ) (z : ℤ) → greatest (zs ++ z ∷ []) ≡ Some (larger_with (greatest zs) z)
-greatest-end [] z = refl
-greatest-end (y ∷ zs) z = ap Some (fold-end int_max y zs z)
-
 least-if : (zs : List ℤ) (b : Bool) (z : ℤ) → least (zs ++ cond b (z ∷ []) []) ≡ cond b (Some (lesser_with (least zs) z)) (least zs)
-least-if zs true z = least-end zs z
+least-if zs true z = least-of zs z
 least-if zs false z = ap least (append-nil zs)
 
 greatest-if : (zs : List ℤ) (b : Bool) (z : ℤ) → greatest (zs ++ cond b (z ∷ []) []) ≡ cond b (Some (larger_with (greatest zs) z)) (greatest zs)
-greatest-if zs true z = greatest-end zs z
+greatest-if zs true z = greatest-of zs z
 greatest-if zs false z = ap greatest (append-nil zs)
 
 pub least_more : (o : Option (List Bool)) (xs : List ℤ) (i : ℕ) (d : ℤ) → i < length xs → least (chosen o (take (i + 1) xs)) ≡ cond (is_chosen o i) (Some (lesser_with (least (chosen o (take i xs))) (get_or xs i d))) (least (chosen o (take i xs)))

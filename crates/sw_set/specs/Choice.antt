@@ -1,6 +1,5 @@
 -- Columns of maps, the range of places that qualifies, and what truth values choose of it.
 use Rattle.std.specs.Prelude.{◌≡◌, ◌≢◌, ◌≤◌, ◌<◌, ◌+◌, ◌-◌, ◌*◌, ◌^◌, ◌≤ℤ◌, ℕ, suc, ℤ, pos, neg_ℤ, Bool, true, false, List, [], ◌∷◌, length, map, take, drop, get_or, slice_range, count_by, unsigned_abs, Option, None, Some, All, Any, IsPermutation}
-use Rattle.std.specs.Int.{int_min, int_max}
 use Rattle.std.specs.List.Sorted.{IsNonDecreasingBy}
 use Rattle.sw_rows.specs.declared.query.Cond.{Cond}
 use Rattle.sw_rows.specs.declared.query.Want.{Want}
@@ -127,16 +126,6 @@ placed i (k ∷ ks) = (unsigned_abs k, i) ∷ placed (suc i) ks
 -- a number that so many cells may sum to
 abbrev pub IsSumOf : ℕ → ℤ → Type 0
 IsSumOf n z = (neg_ℤ (pos (2 ^ 63 * n)) ≤ℤ z) × (z ≤ℤ pos (2 ^ 63 * n))
-
--- the lesser of what was found, if anything was, and a value
-abbrev pub lesser_with : Option ℤ → ℤ → ℤ
-lesser_with None z = z
-lesser_with (Some l) z = int_min l z
-
--- the greater of them
-abbrev pub larger_with : Option ℤ → ℤ → ℤ
-larger_with None z = z
-larger_with (Some l) z = int_max l z
 
 -- ---- replies
 

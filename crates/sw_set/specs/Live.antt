@@ -1,5 +1,5 @@
 -- Which of the rows that a tape brought are live.
-use Rattle.std.specs.Prelude.{◌≡◌, ◌++◌, Bool, List, length}
+use Rattle.std.specs.Prelude.{◌≡◌, ◌++◌, ◌∷◌, [], Bool, true, List, fold, length}
 use Rattle.sw_table.specs.declared.row.Row.{Row}
 use Rattle.sw_table.specs.declared.row.Update.{Update}
 use Rattle.sw_table.specs.Updates.{rows_then}
@@ -11,17 +11,30 @@ pub record Standing : Type 0 where
   pub later : List Row
   pub flags : List Bool
 
+-- all of them by place: those of the load, then the later ones
+abbrev pub came_to : List Row → Standing → List Row
+came_to load s = load ++ s.later
+
 -- the rows that are live, in the order in which they came
 abbrev pub live_among : List Row → Standing → List Row
-live_among load s = kept s.flags (load ++ s.later)
+live_among load s = kept s.flags (came_to load s)
 
 -- there is a flag for each row, and the rows came by rising keys
 pub record IsStanding (load : List Row) (s : Standing) : Type 0 where
-  pub many : length s.flags ≡ length (load ++ s.later)
-  pub rise : Rises key_of (load ++ s.later)
+  pub many : length s.flags ≡ length (came_to load s)
+  pub rise : Rises key_of (came_to load s)
+
+-- after one more row, which is live
+abbrev pub came_later : Row → Standing → Standing
+came_later r s = record { later = s.later ++ r ∷ []; flags = s.flags ++ true ∷ [] }
+
+-- each row has a flag, and the live ones are those of before after some updates
+abbrev pub IsStandingAfter : List Row → List Update → Standing → Standing → Type 0
+IsStandingAfter load us s t =
+    (length t.flags ≡ length (came_to load t)) × (live_among load t ≡ fold rows_then (live_among load s) us)
 
 -- the rows after one update more, and which of them are live
 pub record IsNextStanding (load : List Row) (u : Update) (s t : Standing) : Type 0 where
   pub standing : IsStanding load t
-  pub came : load ++ t.later ≡ came_then (load ++ s.later) u
+  pub came : came_to load t ≡ came_then (came_to load s) u
   pub live : live_among load t ≡ rows_then (live_among load s) u

@@ -1,11 +1,13 @@
 //! Which rows of a tape are live.
 
-ghost use Rattle.std.specs.Prelude.{◌≡◌, ◌≢◌, ◌-◌, ◌<◌, ◌≤◌, ◌++◌, ◌∷◌, ◌+◌, [], true, false, not, length, filter, fold, take, replicate, slice_index_or, slice_set, All, Bool, Decides, IfOk, IsOk, IsOkUnless, MatchOption, MatchResult};
+ghost use Rattle.std.specs.Prelude.{◌≡◌, ◌-◌, ◌<◌, ◌≤◌, ◌++◌, ◌+◌, [], true, false, not, length, filter, fold, take, replicate, slice_index_or, slice_set, All, Bool, Decides, IfOk, IsOk, IsOkUnless, MatchOption, MatchResult};
 ghost use Rattle.sw_table.specs.declared.row.Row.{Row};
 ghost use Rattle.sw_rows.specs.declared.refusal.Refusal.TheVariants.{NoMemory};
+ghost use Rattle.sw_rows.specs.Gives.{IsRefused};
 ghost use Rattle.sw_rows.specs.Scan.{AsksBelow, TakesMemory, answer, cell_of};
+ghost use Rattle.sw_table.specs.Rows.{HasNoRow, IsRowAt};
 ghost use Rattle.sw_table.specs.Updates.{has_key, rows_then};
-ghost use Rattle.sw_set.specs.Live.{IsNextStanding, IsStanding, Standing, live_among};
+ghost use Rattle.sw_set.specs.Live.{IsNextStanding, IsStanding, Standing, IsStandingAfter, came_later, came_to, live_among};
 ghost use Rattle.sw_set.specs.Shelf.{Rises, came_then, key_of};
 
 use std::alloc::{AllocError, Global};
@@ -75,22 +77,10 @@ impl LiveRows {
         self.flags[place]
     }
 
-    /// The row at a place.
-    fn row(&self, load: &PackedRows, place: usize) -> Row
-        requires { place < length (load.now.items ++ self.now.later) }
-        ensures { (d : Row) → result ≡ slice_index_or (load.now.items ++ self.now.later) place d }
-    {
-        if place < load.len() {
-            load.get(place)
-        } else {
-            self.later.get(place - load.len())
-        }
-    }
-
     /// The key of the row at a place.
     fn key(&self, load: &PackedRows, place: usize) -> u64
-        requires { place < length (load.now.items ++ self.now.later) }
-        ensures { (d : Row) → result ≡ (slice_index_or (load.now.items ++ self.now.later) place d).key }
+        requires { place < length (came_to load.now.items self.now) }
+        ensures { (d : Row) → result ≡ (slice_index_or (came_to load.now.items self.now) place d).key }
     {
         if place < load.len() {
             load.key(place)
@@ -102,9 +92,8 @@ impl LiveRows {
     /// A cell of the row at a place.
     #[inline]
     pub(crate) fn cell(&self, load: &PackedRows, place: usize, attr: usize) -> i64
-        requires place { place < length (load.now.items ++ self.now.later) }
-        requires attr { attr < 8 }
-        ensures { (d : Row) → result ≡ cell_of attr (slice_index_or (load.now.items ++ self.now.later) place d) }
+        requires { place < length (came_to load.now.items self.now) }
+        ensures { (d : Row) → result ≡ cell_of attr (slice_index_or (came_to load.now.items self.now) place d) }
     {
         if place < load.len() {
             load.cell(place, attr)
@@ -116,7 +105,7 @@ impl LiveRows {
     /// The place of a key, whether or not its row is live. By binary search.
     pub(crate) fn find(&self, load: &PackedRows, key: u64) -> Option<usize>
         requires { IsStanding load.now.items self.now }
-        ensures { MatchOption result (All (λ (r : Row). r.key ≢ key) (load.now.items ++ self.now.later)) (λ p. (p < length (load.now.items ++ self.now.later)) × ((d : Row) → (slice_index_or (load.now.items ++ self.now.later) p d).key ≡ key)) }
+        ensures { MatchOption result (HasNoRow key (came_to load.now.items self.now)) (IsRowAt key (came_to load.now.items self.now)) }
     {
         if let Some(place) = load.find(key) {
             return Some(place);
@@ -140,7 +129,7 @@ impl LiveRows {
 
     /// A row comes, and it is live. Refused `NoMemory` alone, and then nothing has changed.
     pub(crate) fn push(&mut self, row: Row) -> Result<(), Refusal>
-        ensures { MatchResult result (λ _. self.new ≡ record { later = self.old.later ++ row ∷ []; flags = self.old.flags ++ true ∷ [] }) (λ e. (self.new ≡ self.old) × (e ≡ NoMemory)) }
+        ensures { MatchResult result (λ _. self.new ≡ came_later row self.old) (IsRefused self.old self.new) }
     {
         if self.flags.reserve(1).is_err() || self.later.add(&row).is_err() {
             return Err(Refusal::NoMemory);
@@ -220,7 +209,7 @@ impl LiveRows {
     /// A row comes, or that of a key goes, if it is there. Refused `NoMemory` alone, and then nothing is said of these rows.
     fn take(&mut self, load: &PackedRows, update: &Update) -> Result<(), Refusal>
         requires standing { IsStanding load.now.items self.old }
-        requires rise { Rises key_of (came_then (load.now.items ++ self.old.later) update.now) }
+        requires rise { Rises key_of (came_then (came_to load.now.items self.old) update.now) }
         ensures { MatchResult result (λ _. IsNextStanding load.now.items update.now self.old self.new) (λ e. e ≡ NoMemory) }
     {
         match update {
@@ -241,9 +230,9 @@ impl LiveRows {
         load: &PackedRows,
         updates: &[Update],
     ) -> Result<LiveRows, Refusal>
-        requires many { length self.now.flags ≡ length (load.now.items ++ self.now.later) }
-        requires rise { Rises key_of (fold came_then (load.now.items ++ self.now.later) updates.now) }
-        ensures { MatchResult result (λ live. (length live.flags ≡ length (load.now.items ++ live.later)) × (live_among load.now.items live ≡ fold rows_then (live_among load.now.items self.now) updates.now)) (λ e. e ≡ NoMemory) }
+        requires many { length self.now.flags ≡ length (came_to load.now.items self.now) }
+        requires rise { Rises key_of (fold came_then (came_to load.now.items self.now) updates.now) }
+        ensures { MatchResult result (IsStandingAfter load.now.items updates.now self.now) (λ e. e ≡ NoMemory) }
     {
         let mut live = self.copied(alloc)?;
         for update in updates {
@@ -261,7 +250,7 @@ impl LiveRows {
         query: &Query,
     ) -> Result<Reply, Refusal>
         requires asks { AsksBelow 8 query.now }
-        requires many { length self.now.flags ≡ length (load.now.items ++ self.now.later) }
+        requires many { length self.now.flags ≡ length (came_to load.now.items self.now) }
         ensures answered { IfOk result (λ reply. reply ≡ answer (live_among load.now.items self.now) query.now) }
         ensures refused { IsOkUnless result NoMemory }
         ensures scalars { (TakesMemory query.now.want → ⊥) → IsOk result }
@@ -303,9 +292,5 @@ impl Places for Spread<'_> {
     #[inline]
     fn key(&self, place: usize) -> u64 {
         self.live.key(self.load, place)
-    }
-
-    fn row(&self, place: usize) -> Row {
-        self.live.row(self.load, place)
     }
 }

@@ -2,8 +2,8 @@
 
 ghost use Rattle.std.specs.Prelude.{◌≡◌, List, ℤ, cond, fold, length, pos};
 ghost use Rattle.std.specs.Int.{int_max, int_min};
-ghost use Rattle.sw_rows.specs.Scan.{total, least, greatest};
-ghost use Rattle.sw_set.specs.Choice.{chosen, lesser_with, larger_with, IsSumOf};
+ghost use Rattle.sw_rows.specs.Scan.{total, least, lesser_with, greatest, larger_with};
+ghost use Rattle.sw_set.specs.Choice.{chosen, IsSumOf};
 
 use crate::choice::Choice;
 use crate::window::{BLOCK, Window};

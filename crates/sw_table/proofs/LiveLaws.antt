@@ -1,11 +1,12 @@
 -- Rows with a flag each: one more comes, one goes, one is asked for.
-use Rattle.std.proofs.Common.{◌≡◌, ◌≢◌, ◌==◌, ◌+◌, ◌<◌, filter, not, ap, sym, refl, ℕ, zero, suc, Bool, true, false, List, [], ◌∷◌, ◌++◌, length, get_or, replicate, slice_set, All, arith}
+use Rattle.std.proofs.Common.{◌≡◌, ◌≢◌, ◌==◌, ◌+◌, ◌<◌, filter, not, ap, sym, refl, ℕ, zero, suc, Bool, true, false, cond, List, [], ◌∷◌, ◌++◌, ◌∙◌, length, get_or, replicate, slice_set, take, All, arith}
 use Rattle.std.specs.List.{AllByRecursion}
 use Rattle.std.proofs.lemmas.Bool.Decides.{nat_tests}
 use Rattle.sw_table.specs.declared.row.Row.{Row}
 use Rattle.sw_table.specs.Updates.{has_key, without}
 use Rattle.sw_table.specs.Kept.{kept}
 use Rattle.sw_table.specs.Live.{Rises, key_of}
+use Rattle.sw_table.proofs.KeyFinds.{above-at}
 
 -- ---- more rows
 
@@ -13,7 +14,19 @@ pub kept-nil : {X : Type 0} (fs : List Bool) → kept fs (let e : List X = [] in
 kept-nil [] = refl
 kept-nil (b ∷ fs) = refl
 
-pub kept-appended : {X : Type 0} (fs gs : List Bool) (xs ys : List X) → length fs ≡ length xs → kept (fs ++ gs) (xs ++ ys) ≡ kept fs xs ++ kept gs ys
+kept-suc : {X : Type 0} (fs : List Bool) (xs : List X) (i : ℕ) (d : X) → i < length xs → kept fs (take (suc i) xs) ≡ kept fs (take i xs) ++ cond (get_or fs i false) (get_or xs i d ∷ []) []
+kept-suc [] xs i d lt = refl
+kept-suc (b ∷ fs) [] i d lt = let no : i < 0 = lt in absurd (omega arith)
+kept-suc (true ∷ fs) (x ∷ xs) zero d lt = ap (λ v. x ∷ v) (kept-nil fs)
+kept-suc (false ∷ fs) (x ∷ xs) zero d lt = kept-nil fs
+kept-suc (true ∷ fs) (x ∷ xs) (suc i) d lt = ap (λ v. x ∷ v) (kept-suc fs xs i d (omega arith))
+kept-suc (false ∷ fs) (x ∷ xs) (suc i) d lt = kept-suc fs xs i d (omega arith)
+
+-- one more place is looked at
+pub kept-step : {X : Type 0} (fs : List Bool) (xs : List X) (i : ℕ) (d : X) → i < length xs → kept fs (take (i + 1) xs) ≡ kept fs (take i xs) ++ cond (get_or fs i false) (get_or xs i d ∷ []) []
+kept-step fs xs i d lt = ap (λ k. kept fs (take k xs)) (let e : i + 1 ≡ suc i = omega arith in e) ∙ kept-suc fs xs i d lt
+
+kept-appended : {X : Type 0} (fs gs : List Bool) (xs ys : List X) → length fs ≡ length xs → kept (fs ++ gs) (xs ++ ys) ≡ kept fs xs ++ kept gs ys
 kept-appended [] gs [] ys e = refl
 kept-appended [] gs (x ∷ xs) ys e = absurd (omega (arith, e))
 kept-appended (b ∷ fs) gs [] ys e = absurd (omega (arith, e))
@@ -76,6 +89,10 @@ lacks-without : (k : ℕ) (xs : List Row) → Lacks k xs → without k xs ≡ xs
 lacks-without k [] a = refl
 lacks-without k (x ∷ xs) a = rw (not-same x.key k a.0) (ap (λ v. x ∷ v) (lacks-without k xs a.1))
 
+pub without-none : (k : ℕ) (xs : List Row) → has_key k xs ≡ false → without k xs ≡ xs
+without-none k [] h = refl
+without-none k (x ∷ xs) h = grind (arith, nat_tests, h, without-none k xs)
+
 lacks-key : (k : ℕ) (xs : List Row) → Lacks k xs → has_key k xs ≡ false
 lacks-key k [] a = refl
 lacks-key k (x ∷ xs) a = rw (not-same k x.key (λ e. a.0 (sym e))) (lacks-key k xs a.1)
@@ -87,14 +104,9 @@ kept-lacks k fs xs a = lacks-key k (kept fs xs) (lacks-kept k fs xs (lacks-all k
 pub without-lacks : (k : ℕ) (fs : List Bool) (xs : List Row) → All (λ (r : Row). r.key ≢ k) xs → without k (kept fs xs) ≡ kept fs xs
 without-lacks k fs xs a = lacks-without k (kept fs xs) (lacks-kept k fs xs (lacks-all k xs a))
 
-pub above-at : (n : ℕ) (xs : List Row) (p : ℕ) (d : Row) → AllByRecursion (λ (r : Row). n < key_of r) xs → p < length xs → n < (get_or xs p d).key
-above-at n [] p d a lt = absurd (omega (arith, lt))
-above-at n (x ∷ xs) zero d a lt = a.0
-above-at n (x ∷ xs) (suc p) d a lt = above-at n xs p d a.1 (omega (arith, lt))
-
 -- the row before the one of the key has another
 head-other : (k : ℕ) (x : Row) (xs : List Row) (p : ℕ) (d : Row) → Rises key_of (x ∷ xs) → p < length xs → (get_or xs p d).key ≡ k → x.key ≢ k
-head-other k x xs p d r lt is = let h = above-at x.key xs p d r.0 lt in λ (e : x.key ≡ k). absurd (omega (arith, h, e, is))
+head-other k x xs p d r lt is = let h = above-at key_of x.key xs p d r.0 lt in λ (e : x.key ≡ k). absurd (omega (arith, h, e, is))
 
 module _ (k : ℕ) (d : Row) where
   -- the row of the key goes: its flag turns false

@@ -36,7 +36,7 @@ row-within n r is =
     ap (λ (v : List ℤ). let x : Row = record { key = r.key; cells = v } in x) e
 
 -- a cell below the width, and one past it
-pub cell-below : (n k : ℕ) (cs : List ℤ) (a : ℕ) → n ≤ length cs → a < n → cell_of a (row_of n k cs) ≡ get_or cs a (pos 0)
+cell-below : (n k : ℕ) (cs : List ℤ) (a : ℕ) → n ≤ length cs → a < n → cell_of a (row_of n k cs) ≡ get_or cs a (pos 0)
 cell-below n k cs a le lt =
     let long = length-take-le n cs le in
     get_or_append_left (take n cs) (drop n zeros) (pos 0) a (omega (arith, long, lt)) ∙ get_or-take n cs a (pos 0) lt
@@ -52,7 +52,7 @@ zero-at n a = get_or-drop n zeros a (pos 0) ∙ at (n + a)
     at : (i : ℕ) → get_or zeros i (pos 0) ≡ pos 0
     at i = all-zero 8 i
 
-pub cell-past : (n k : ℕ) (cs : List ℤ) (a : ℕ) → n ≤ length cs → n ≤ a → cell_of a (row_of n k cs) ≡ pos 0
+cell-past : (n k : ℕ) (cs : List ℤ) (a : ℕ) → n ≤ length cs → n ≤ a → cell_of a (row_of n k cs) ≡ pos 0
 cell-past n k cs a le past = get_or-append_right (take n cs) (drop n zeros) n a (pos 0) (length-take-le n cs le) past ∙ zero-at n _
 
 -- ---- places
@@ -152,7 +152,7 @@ rows-cut n (suc m) (k ∷ ks) cs long le =
     let head : take n (take (n + m * n) cs) ≡ take n cs = take-take n (n + m * n) cs (omega arith) in
     rw (size, head, more) (ap (λ v. row_of n k cs ∷ v) (rows-cut n m ks (drop n cs) rest (omega (arith, le))))
 
-pub cut-whole : (n m : ℕ) (ks : List ℕ) (cs : List ℤ) → m ≤ length ks → IsWhole n ks cs → IsWhole n (take m ks) (take (m * n) cs)
+cut-whole : (n m : ℕ) (ks : List ℕ) (cs : List ℤ) → m ≤ length ks → IsWhole n ks cs → IsWhole n (take m ks) (take (m * n) cs)
 cut-whole n m ks cs le whole =
     let short = length-take-le m ks le in
     let within = mul-le m n (length ks) n le (omega arith) in

@@ -1,5 +1,5 @@
 -- A table of rows that come at its end, by rising keys, and go by their keys.
-use Rattle.std.specs.Prelude.{◌≡◌, ◌≤◌, ◌<◌, ℕ, Bool, List, [], ◌∷◌, filter, length, not}
+use Rattle.std.specs.Prelude.{◌≡◌, ◌≤◌, ◌<◌, ◌++◌, ℕ, Bool, true, List, [], ◌∷◌, filter, length, not, replicate}
 use Rattle.std.specs.List.{AllByRecursion}
 use Rattle.sw_table.specs.Kept.{kept}
 use Rattle.sw_table.specs.declared.row.Row.{Row}
@@ -38,3 +38,11 @@ RisesFrom n (r ∷ rs) = (n < r.key) × RisesFrom r.key rs
 abbrev pub last_key : ℕ → List Row → ℕ
 last_key n [] = n
 last_key n (r ∷ rs) = last_key r.key rs
+
+-- the table of these rows, all of them live
+abbrev pub all_live : List Row → Living
+all_live rows = record { top = last_key 0 rows; came = rows; live = replicate (length rows) true }
+
+-- the table after one more row, which is live
+abbrev pub came_with : Row → Living → Living
+came_with r t = record { top = r.key; came = t.came ++ r ∷ []; live = t.live ++ true ∷ [] }

@@ -1,5 +1,6 @@
 -- Rows as one flat list of cells.
-use Rattle.std.specs.Prelude.{◌≡◌, ◌≤◌, ◌*◌, ◌++◌, ◌∷◌, [], ℕ, ℤ, pos, List, length, take, drop, replicate}
+use Rattle.std.specs.Prelude.{◌≡◌, ◌≤◌, ◌*◌, ◌+◌, ◌++◌, ◌∷◌, [], ℕ, ℤ, pos, List, length, take, drop, replicate, vec_len, vec_capacity}
+use Rattle.std.specs.Global.{Vec}
 use Rattle.sw_table.specs.declared.row.Row.{Row}
 
 abbrev pub zeros : List ℤ
@@ -28,3 +29,15 @@ pub record IsWhole (width : ℕ) (keys : List ℕ) (cells : List ℤ) : Type 0 w
   pub some : 1 ≤ width
   pub most : width ≤ 8
   pub whole : length cells ≡ length keys * width
+
+-- so many items of a list at most, from a place on
+abbrev pub stretch : {X : Type 0} → ℕ → ℕ → List X → List X
+stretch start many xs = take many (drop start xs)
+
+-- a vector has room for so many items more
+abbrev pub HasRoomFor : ℕ → Vec ℤ → Type 0
+HasRoomFor more v = vec_len v + more ≤ vec_capacity v
+
+-- a vector's room is what it was
+abbrev pub IsSameRoom : Vec ℤ → Vec ℤ → Type 0
+IsSameRoom old new = vec_capacity new ≡ vec_capacity old

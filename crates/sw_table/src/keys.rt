@@ -1,9 +1,11 @@
 //! The keys of a list of rows.
 
-ghost use Rattle.std.specs.Prelude.{◌≡◌, ◌≢◌, ◌≤◌, ◌<◌, ◌+◌, ◌-◌, ◌++◌, ◌∷◌, [], true, ℕ, length, slice_index_or, take, drop, All, IfOk, MatchOption, OnOk, OnErr};
+ghost use Rattle.std.specs.Prelude.{◌≡◌, ◌≤◌, ◌<◌, ◌+◌, ◌-◌, ◌++◌, ◌∷◌, [], true, ℕ, length, slice_index_or, take, IfOk, MatchOption, OnOk, OnErr};
 ghost use Rattle.std.specs.List.{range_with_len};
 ghost use Rattle.sw_table.specs.Kept.{kept};
+ghost use Rattle.sw_table.specs.Keys.{HasNo, IsKeyAt};
 ghost use Rattle.sw_table.specs.Live.{Rises};
+ghost use Rattle.sw_table.specs.Packed.{stretch};
 
 use crate::finding::{find_key, find_number};
 use crate::keeping::keep_keys;
@@ -40,7 +42,7 @@ fn listed(alloc: Global, many: usize) -> Result<Vec<u64>, AllocError>
     Ok(keys)
 }
 
-/// The keys of rows in their order. They take memory only where they are not 1, 2, 3 and so on.
+/// The keys of rows in their order. They take no memory while they came as 1, 2, 3 and so on and `keep` took none out.
 #[derive(Debug, Drop)]
 pub(crate) struct Keys {
     form: Form,
@@ -147,7 +149,7 @@ impl Keys {
         many: usize,
     ) -> Result<(), AllocError>
         requires { start + many ≤ length keys.now }
-        ensures ok { OnOk result (self.new ≡ self.old ++ take many (drop start keys.now)) }
+        ensures ok { OnOk result (self.new ≡ self.old ++ stretch start many keys.now) }
         ensures err { OnErr result (self.new ≡ self.old) }
     {
         let before = self.len();
@@ -170,7 +172,7 @@ impl Keys {
         many: usize,
     ) -> Result<(), AllocError>
         requires { start + many ≤ length keys.now }
-        ensures ok { OnOk result (self.new ≡ self.old ++ take many (drop start keys.now)) }
+        ensures ok { OnOk result (self.new ≡ self.old ++ stretch start many keys.now) }
         ensures err { OnErr result (self.new ≡ self.old) }
     {
         let _all = keys.len();
@@ -198,7 +200,7 @@ impl Keys {
     /// The place of a key, by a sum or by binary search.
     pub(crate) fn find(&self, key: u64) -> Option<usize>
         requires { Rises (λ (k : ℕ). k) self.now }
-        ensures { MatchOption result (All (λ (k : ℕ). k ≢ key) self.now) (λ p. (p < length self.now) × ((d : ℕ) → slice_index_or self.now p d ≡ key)) }
+        ensures { MatchOption result (HasNo key self.now) (IsKeyAt key self.now) }
     {
         match &self.form {
             Form::Numbered(many) => find_number(*many, key),

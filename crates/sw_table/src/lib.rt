@@ -10,6 +10,6 @@ mod row;
 mod updates;
 
 pub use live::LiveTable;
-pub use packed::{PackedRows, most_used};
+pub use packed::PackedRows;
 pub use row::{Row, Update};
 pub use updates::{has_key, update, update_all};

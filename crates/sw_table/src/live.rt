@@ -1,7 +1,7 @@
 //! A table of rows that come at its end and go by their keys.
 
-ghost use Rattle.std.specs.Prelude.{◌≡◌, ◌≤◌, ◌<◌, ◌++◌, ◌∷◌, [], true, length, replicate, IfOk, OnOk, OnErr};
-ghost use Rattle.sw_table.specs.Live.{Living, Rises, RisesFrom, key_of, last_key, live_rows};
+ghost use Rattle.std.specs.Prelude.{◌≡◌, ◌≤◌, ◌<◌, [], true, length, replicate, IfOk, OnOk, OnErr};
+ghost use Rattle.sw_table.specs.Live.{Living, Rises, RisesFrom, all_live, came_with, key_of, live_rows};
 ghost use Rattle.sw_table.specs.Updates.{has_key, without};
 
 use crate::packed::PackedRows;
@@ -47,17 +47,15 @@ impl LiveTable {
         }
     }
 
-    /// These rows, whose keys rise from above 0. The one error is that there is no memory for them.
-    pub fn from_rows(alloc: Global, width: usize, rows: &[Row]) -> Result<LiveTable, AllocError>
-        requires some { 1 ≤ width }
-        requires most { width ≤ 8 }
-        requires rise { RisesFrom 0 rows.now }
-        ensures { IfOk result (λ t. t ≡ record { top = last_key 0 rows.now; came = rows.now; live = replicate (length rows.now) true }) }
+    /// These rows, whose keys rise from above 0, all of them live. The one error is that there is no memory for them.
+    pub fn from_rows(alloc: Global, rows: &PackedRows) -> Result<LiveTable, AllocError>
+        requires { RisesFrom 0 rows.now.items }
+        ensures { IfOk result (λ t. t ≡ all_live rows.now.items) }
     {
-        let mut table = LiveTable::new(alloc, width);
+        let mut table = LiveTable::new(alloc, rows.width());
         table.reserve(rows.len())?;
-        for row in rows {
-            table.insert(row)?;
+        for place in 0..rows.len() {
+            table.insert(&rows.get(place))?;
         }
         Ok(table)
     }
@@ -94,7 +92,7 @@ impl LiveTable {
         &self.live
     }
 
-    /// Makes room for so many more rows; the rows stay.
+    /// Makes room for so many more rows; the rows stay. No clause tells of the room.
     pub fn reserve(&mut self, more: usize) -> Result<(), AllocError>
         ensures { self.new ≡ self.old }
     {
@@ -105,7 +103,7 @@ impl LiveTable {
     /// A row comes, with a greater key than any before it; after an error nothing has changed.
     pub fn insert(&mut self, row: &Row) -> Result<(), AllocError>
         requires { self.old.top < row.now.key }
-        ensures ok { OnOk result (self.new ≡ record { top = row.now.key; came = self.old.came ++ row.now ∷ []; live = self.old.live ++ true ∷ [] }) }
+        ensures ok { OnOk result (self.new ≡ came_with row.now self.old) }
         ensures err { OnErr result (self.new ≡ self.old) }
     {
         self.live.reserve(1)?;
@@ -114,16 +112,6 @@ impl LiveTable {
         self.live.push_reserved(true);
         self.top = row.key;
         Ok(())
-    }
-
-    /// Whether a row has the key.
-    pub fn holds(&self, key: u64) -> bool
-        ensures { result ≡ has_key key (live_rows self.now) }
-    {
-        match self.came.find(key) {
-            Some(place) => self.live[place],
-            None => false,
-        }
     }
 
     /// The row of a key goes, if there is one: whether there was.

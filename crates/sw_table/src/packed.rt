@@ -1,11 +1,11 @@
 //! Rows as one flat list of cells.
 
-ghost use Rattle.std.specs.Prelude.{◌≡◌, ◌≢◌, ◌≤◌, ◌<◌, ◌*◌, ◌+◌, ◌^◌, ◌-◌, ◌++◌, ◌∷◌, [], ℤ, pos, List, length, map, take, drop, slice_index_or, vec_len, vec_capacity, All, Decides, IfOk, IsOk, MatchOption, OnOk, OnErr};
+ghost use Rattle.std.specs.Prelude.{◌≡◌, ◌≤◌, ◌<◌, ◌*◌, ◌+◌, ◌^◌, ◌-◌, ◌++◌, ◌∷◌, [], ℤ, pos, List, length, map, take, drop, slice_index_or, vec_len, All, Decides, IfOk, IsOk, MatchOption, OnOk, OnErr};
 ghost use Rattle.sw_table.specs.declared.row.Row.{Row};
-ghost use Rattle.sw_table.specs.Rows.{cell_of};
+ghost use Rattle.sw_table.specs.Rows.{HasNoRow, IsRowAt, cell_of};
 ghost use Rattle.sw_table.specs.Kept.{kept};
 ghost use Rattle.sw_table.specs.Live.{Rises, key_of};
-ghost use Rattle.sw_table.specs.Packed.{IsWithin, Packed, zeros};
+ghost use Rattle.sw_table.specs.Packed.{HasRoomFor, IsSameRoom, IsWithin, Packed, stretch, zeros};
 
 use crate::keeping::keep_cells;
 use crate::keys::Keys;
@@ -17,7 +17,7 @@ use std::marker::Model;
 #[inline]
 fn stretch(cells: &[i64], width: usize, place: usize) -> &[i64]
     requires { place * width + width ≤ length cells.now }
-    ensures { result.now ≡ take width (drop (place * width) cells.now) }
+    ensures { result.now ≡ stretch (place * width) width cells.now }
 {
     let start = place * width;
     &cells[start..start + width]
@@ -26,7 +26,7 @@ fn stretch(cells: &[i64], width: usize, place: usize) -> &[i64]
 /// The cells of so many rows of a flat list, from a place on.
 fn stretches(cells: &[i64], width: usize, start: usize, many: usize) -> &[i64]
     requires { start * width + many * width ≤ length cells.now }
-    ensures { result.now ≡ take (many * width) (drop (start * width) cells.now) }
+    ensures { result.now ≡ stretch (start * width) (many * width) cells.now }
 {
     let at = start * width;
     &cells[at..at + many * width]
@@ -67,7 +67,7 @@ fn used(row: &Row) -> usize
 }
 
 /// How many cells are used of each of some rows at most.
-pub fn most_used(rows: &[Row]) -> usize
+fn most_used(rows: &[Row]) -> usize
     ensures some { 1 ≤ result }
     ensures most { result ≤ 8 }
 {
@@ -82,8 +82,8 @@ pub fn most_used(rows: &[Row]) -> usize
 fn make_room(out: &mut Vec<i64>, more: usize) -> Result<(), AllocError>
     ensures items { out.new.items ≡ out.old.items }
     ensures len { vec_len out.new ≡ vec_len out.old }
-    ensures ok { OnOk result (vec_len out.new + more ≤ vec_capacity out.new) }
-    ensures there { vec_len out.old + more ≤ vec_capacity out.old → IsOk result × (vec_capacity out.new ≡ vec_capacity out.old) }
+    ensures ok { OnOk result (HasRoomFor more out.new) }
+    ensures there { HasRoomFor more out.old → IsOk result × IsSameRoom out.old out.new }
 {
     if out.capacity() - out.len() < more {
         out.reserve(more)?;
@@ -123,21 +123,6 @@ impl PackedRows {
         }
     }
 
-    /// These rows. The one error is that there is no memory for them.
-    pub fn from_rows(alloc: Global, width: usize, rows: &[Row]) -> Result<PackedRows, AllocError>
-        requires some { 1 ≤ width }
-        requires most { width ≤ 8 }
-        requires within { All (IsWithin width) rows.now }
-        ensures { IfOk result (λ p. p ≡ record { width = width; items = rows.now }) }
-    {
-        let mut packed = PackedRows::new(alloc, width);
-        packed.reserve(rows.len())?;
-        for row in rows {
-            packed.push(row)?;
-        }
-        Ok(packed)
-    }
-
     /// No rows yet, with room for so many. The one error is that there is no memory for it.
     pub fn with_capacity(alloc: Global, width: usize, many: usize) -> Result<PackedRows, AllocError>
         requires some { 1 ≤ width }
@@ -169,7 +154,7 @@ impl PackedRows {
     }
 
     /// Whether a row has no cells past the width but 0.
-    pub fn fits(&self, row: &Row) -> bool
+    fn fits(&self, row: &Row) -> bool
         ensures fits { Decides result (IsWithin self.now.width row.now) }
         ensures all { IsWithin 8 row.now }
     {
@@ -196,11 +181,10 @@ impl PackedRows {
         self.keys.at(place)
     }
 
-    /// A cell of the row at a place.
+    /// A cell of the row at a place, 0 past its cells.
     #[inline]
     pub fn cell(&self, place: usize, attr: usize) -> i64
         requires place { place < length self.now.items }
-        requires attr { attr < 8 }
         ensures { (d : Row) → result ≡ cell_of attr (slice_index_or self.now.items place d) }
     {
         if self.width <= attr {
@@ -211,10 +195,9 @@ impl PackedRows {
 
     /// Adds each row's cell of an attribute at the end of a list; after an error the list is as it was.
     pub fn append_column(&self, attr: usize, out: &mut Vec<i64>) -> Result<(), AllocError>
-        requires { attr < 8 }
         ensures ok { OnOk result (out.new.items ≡ out.old.items ++ map (cell_of attr) self.now.items) }
         ensures err { OnErr result (out.new.items ≡ out.old.items) }
-        ensures room { vec_len out.old + length self.now.items ≤ vec_capacity out.old → IsOk result × (vec_capacity out.new ≡ vec_capacity out.old) }
+        ensures room { HasRoomFor (length self.now.items) out.old → IsOk result × IsSameRoom out.old out.new }
     {
         make_room(out, self.len())?;
         for place in 0..self.len() {
@@ -228,7 +211,7 @@ impl PackedRows {
         requires { All (λ (r : Row). r.key < 2 ^ 63) self.now.items }
         ensures ok { OnOk result (out.new.items ≡ out.old.items ++ map (λ (r : Row). pos r.key) self.now.items) }
         ensures err { OnErr result (out.new.items ≡ out.old.items) }
-        ensures room { vec_len out.old + length self.now.items ≤ vec_capacity out.old → IsOk result × (vec_capacity out.new ≡ vec_capacity out.old) }
+        ensures room { HasRoomFor (length self.now.items) out.old → IsOk result × IsSameRoom out.old out.new }
     {
         make_room(out, self.len())?;
         for place in 0..self.len() {
@@ -248,7 +231,7 @@ impl PackedRows {
         Ok(rows)
     }
 
-    /// Makes room for so many more rows; the rows stay.
+    /// Makes room for so many more rows; the rows stay. No clause tells of the room.
     pub fn reserve(&mut self, more: usize) -> Result<(), AllocError>
         ensures { self.new ≡ self.old }
     {
@@ -277,7 +260,7 @@ impl PackedRows {
     /// The place of the row of a key, by a sum where the keys are 1, 2, 3 and so on, else by binary search.
     pub fn find(&self, key: u64) -> Option<usize>
         requires { Rises key_of self.now.items }
-        ensures { MatchOption result (All (λ (r : Row). r.key ≢ key) self.now.items) (λ p. (p < length self.now.items) × ((d : Row) → (slice_index_or self.now.items p d).key ≡ key)) }
+        ensures { MatchOption result (HasNoRow key self.now.items) (IsRowAt key self.now.items) }
     {
         self.keys.find(key)
     }
@@ -307,9 +290,10 @@ impl PackedRows {
         Ok(wide)
     }
 
-    /// Makes the rows wide enough for one more; the rows stay, and after an error nothing has changed.
-    pub fn widen(&mut self, row: &Row) -> Result<(), AllocError>
+    /// Makes the rows wide enough for one more, where they are not; the rows stay, and after an error nothing has changed.
+    pub(crate) fn widen(&mut self, row: &Row) -> Result<(), AllocError>
         ensures rows { self.new.items ≡ self.old.items }
+        ensures fitting { IsWithin self.old.width row.now → self.new ≡ self.old }
         ensures ok { OnOk result (IsWithin self.new.width row.now) }
         ensures err { OnErr result (self.new ≡ self.old) }
     {
@@ -320,8 +304,10 @@ impl PackedRows {
         Ok(())
     }
 
-    /// Adds a row at the end, whatever its cells; after an error the rows are as they were.
+    /// Adds a row at the end, whatever its cells: one that does not fit the width widens it to eight. After an error the rows are
+    /// as they were.
     pub fn add(&mut self, row: &Row) -> Result<(), AllocError>
+        ensures width { IsWithin self.old.width row.now → self.new.width ≡ self.old.width }
         ensures ok { OnOk result (self.new.items ≡ self.old.items ++ row.now ∷ []) }
         ensures err { OnErr result (self.new.items ≡ self.old.items) }
     {
@@ -340,7 +326,7 @@ impl PackedRows {
     }
 
     /// Adds rows at the end, whatever their cells; after an error the rows are as they were.
-    pub fn extend_from_slice(&mut self, rows: &[Row]) -> Result<(), AllocError>
+    fn extend_from_slice(&mut self, rows: &[Row]) -> Result<(), AllocError>
         ensures ok { OnOk result (self.new.items ≡ self.old.items ++ rows.now) }
         ensures err { OnErr result (self.new.items ≡ self.old.items) }
     {
@@ -363,7 +349,7 @@ impl PackedRows {
     ) -> Result<(), AllocError>
         requires width { rows.now.width ≡ self.old.width }
         requires within { start + many ≤ length rows.now.items }
-        ensures ok { OnOk result (self.new ≡ record self.old { items = self.old.items ++ take many (drop start rows.now.items) }) }
+        ensures ok { OnOk result (self.new ≡ record self.old { items = self.old.items ++ stretch start many rows.now.items }) }
         ensures err { OnErr result (self.new ≡ self.old) }
     {
         let alloc = *self.cells.allocator();
@@ -387,7 +373,7 @@ impl PackedRows {
         many: usize,
     ) -> Result<(), AllocError>
         requires within { start + many ≤ length rows.now.items }
-        ensures ok { OnOk result (self.new.items ≡ self.old.items ++ take many (drop start rows.now.items)) }
+        ensures ok { OnOk result (self.new.items ≡ self.old.items ++ stretch start many rows.now.items) }
         ensures err { OnErr result (self.new.items ≡ self.old.items) }
     {
         let before = self.len();
@@ -409,7 +395,7 @@ impl PackedRows {
         from: usize,
         most: usize,
     ) -> Result<(), AllocError>
-        ensures ok { OnOk result (self.new.items ≡ self.old.items ++ take most (drop from rows.now.items)) }
+        ensures ok { OnOk result (self.new.items ≡ self.old.items ++ stretch from most rows.now.items) }
         ensures err { OnErr result (self.new.items ≡ self.old.items) }
     {
         let start = from.min(rows.len());
@@ -421,8 +407,8 @@ impl PackedRows {
         }
     }
 
-    /// These rows, whatever their cells: no more are kept of each than the most that one uses. The one error is that there is no
-    /// memory for them.
+    /// These rows, whatever their cells. The width is the most that one of them uses, of which no clause tells. The one error is
+    /// that there is no memory for them.
     pub fn of(alloc: Global, rows: &[Row]) -> Result<PackedRows, AllocError>
         ensures { IfOk result (λ p. p.items ≡ rows.now) }
     {

@@ -1,7 +1,7 @@
 //! Rows of which some are live.
 
-ghost use Rattle.std.specs.Prelude.{◌≡◌, ◌++◌, length, MatchResult};
-ghost use Rattle.sw_rows.specs.declared.refusal.Refusal.TheVariants.{NoMemory};
+ghost use Rattle.std.specs.Prelude.{◌≡◌, ◌++◌, length, IfErr, OnOk};
+ghost use Rattle.sw_rows.specs.Gives.{IsRefused};
 ghost use Rattle.sw_tape.specs.Restart.{kept};
 
 use sw_rows::Refusal;
@@ -15,7 +15,8 @@ pub(crate) fn keep_live(
     live: &[bool],
 ) -> Result<(), Refusal>
     requires { length live.now ≡ length (rows.old.items ++ later.now.items) }
-    ensures { MatchResult result (λ _. rows.new.items ≡ kept live.now (rows.old.items ++ later.now.items)) (λ e. (rows.new.items ≡ rows.old.items) × (e ≡ NoMemory)) }
+    ensures ok { OnOk result (rows.new.items ≡ kept live.now (rows.old.items ++ later.now.items)) }
+    ensures err { IfErr result (IsRefused rows.old.items rows.new.items) }
 {
     let before = rows.len();
     if rows.extend_from(later, 0, later.len()).is_err() {

@@ -1,6 +1,7 @@
 //! The tape.
 
 ghost use Rattle.std.specs.Prelude.{◌≡◌, ◌<◌, ◌≤◌, ◌+◌, ◌^◌, ◌++◌, ◌∷◌, ◌||◌, [], List, length, map, vec_len, vec_capacity, MatchOption, MatchResult, OnErr, OnOk, IfErr, IfOk, slice_get, slice_set, Some};
+ghost use Rattle.sw_rows.specs.Gives.{IsRefused};
 ghost use Rattle.sw_rows.specs.declared.bound.Bound.{Bound};
 ghost use Rattle.sw_table.specs.declared.row.Row.{Row};
 ghost use Rattle.sw_rows.specs.declared.refusal.Refusal.TheVariants.{NoMemory, TooMany};
@@ -9,7 +10,7 @@ ghost use Rattle.sw_kernel.specs.Tapes.{IsRising, IsTape, MayFollow, count_from,
 ghost use Rattle.sw_tape.specs.Bounds.{HasPieces, IsNearestAbove, IsNearestBelow, is_among};
 ghost use Rattle.sw_tape.specs.declared.entry.Entry.TheVariants.{Remove};
 ghost use Rattle.sw_tape.specs.Entries.{IsKept, step_of};
-ghost use Rattle.sw_tape.specs.Restart.{first_rows, kept};
+ghost use Rattle.sw_tape.specs.Restart.{AreOneLoad, IsCountOf, first_rows, live_load};
 
 use crate::bounds::{add_some, around, is_among};
 use crate::entry::{Entry, pairs_after};
@@ -67,8 +68,9 @@ fn take_load(entries: &mut Vec<Entry>) -> PackedRows
 fn keep_in(entries: &mut Vec<Entry>, later: &PackedRows, live: &[bool]) -> Result<usize, Refusal>
     requires tape { IsTape (map step_of entries.old.items) }
     requires many { length live.now ≡ length (first_rows (map step_of entries.old.items) ++ later.now.items) }
-    ensures kept { MatchResult result (λ many. map step_of entries.new.items ≡ loaded (kept live.now (first_rows (map step_of entries.old.items) ++ later.now.items)) ∷ []) (λ e. (map step_of entries.new.items ≡ map step_of entries.old.items) × (e ≡ NoMemory)) }
-    ensures many { IfOk result (λ many. (many ≡ length (kept live.now (first_rows (map step_of entries.old.items) ++ later.now.items))) × (many < 2 ^ 63)) }
+    ensures kept { OnOk result (AreOneLoad live.now later.now.items entries.old.items entries.new.items) }
+    ensures many { IfOk result (IsCountOf (live_load live.now (map step_of entries.old.items) later.now.items)) }
+    ensures err { IfErr result (IsRefused (map step_of entries.old.items) (map step_of entries.new.items)) }
 {
     let mut rows = take_load(entries);
     if let Err(e) = keep_live(&mut rows, later, live) {
@@ -125,7 +127,7 @@ impl Tape {
     /// Makes the tape one load of these rows. It is refused `NoMemory` alone, and then the tape is as it was.
     pub fn restart(&mut self, rows: &[Row]) -> Result<(), Refusal>
         ensures ok { OnOk result (self.new ≡ loaded rows.now ∷ []) }
-        ensures err { IfErr result (λ e. (self.new ≡ self.old) × (e ≡ NoMemory)) }
+        ensures err { IfErr result (IsRefused self.old self.new) }
     {
         let load = load_of(*self.entries.allocator(), rows)?;
         self.entries.clear();
@@ -140,7 +142,8 @@ impl Tape {
     /// They are kept in place. It is refused `NoMemory` alone, and then the tape is as it was.
     pub fn restart_live(&mut self, later: &PackedRows, live: &[bool]) -> Result<(), Refusal>
         requires many { length live.now ≡ length (first_rows self.old ++ later.now.items) }
-        ensures { MatchResult result (λ _. self.new ≡ loaded (kept live.now (first_rows self.old ++ later.now.items)) ∷ []) (λ e. (self.new ≡ self.old) × (e ≡ NoMemory)) }
+        ensures ok { OnOk result (self.new ≡ loaded (live_load live.now self.old later.now.items) ∷ []) }
+        ensures err { IfErr result (IsRefused self.old self.new) }
     {
         let many = keep_in(&mut self.entries, later, live)?;
         // the memory of the bounds goes back, as that of the entries' rows did

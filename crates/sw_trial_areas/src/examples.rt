@@ -18,7 +18,7 @@ ghost use Rattle.sw_set.specs.Shelf.{AreReceivable, logged_rows, rows_in};
 ghost use Rattle.sw_trial_areas.specs.Examples.{after, before, begun_area, begun_tape, cleared_area, count_all, cracked_pieces, cracked_tape, fifth_row, fives_tape, greatest_bound, keys_by, least_bound, longer_tape, mapped_area, mixed_tape, places_by, second_map, select_a_by_b, select_b, select_b_and_c, shorter_tape, sum_b_by_c, three_rows, waiting_area, whole_tape};
 
 /// Which intervals a range touches: the ends are those of bounds, and a range whose ends are turned touches none.
-pub fn intervals_that_are_touched()
+pub(crate) fn intervals_that_are_touched()
     ensures turned { touches None None (before 15) (after 10) ≡ false }
     ensures empty { touches None None (before 5) (before 5) ≡ false }
     ensures whole { touches None None (Some least_bound) (Some greatest_bound) ≡ true }
@@ -32,7 +32,7 @@ pub fn intervals_that_are_touched()
 {}
 
 /// Bounds at the ends of an interval, or beyond them, count as absent.
-pub fn bounds_in_an_interval()
+pub(crate) fn bounds_in_an_interval()
     ensures at_the_end { upper_upto (edge (Some (pos 12))) (before 12) ≡ None }
     ensures past_the_end { upper_upto (edge (Some (pos 12))) (after 12) ≡ None }
     ensures inside { upper_upto (edge (Some (pos 12))) (after 11) ≡ after 11 }
@@ -44,7 +44,7 @@ pub fn bounds_in_an_interval()
 {}
 
 /// The head of a query, and the maps that it needs.
-pub fn maps_that_are_needed()
+pub(crate) fn maps_that_are_needed()
     ensures one_tail { needed 0 select_b ≡ Key ∷ Cell 1 ∷ [] }
     ensures two_tails { needed 0 select_b_and_c ≡ Key ∷ Cell 1 ∷ Cell 2 ∷ [] }
     ensures head_shown { needed 0 select_a_by_b ≡ Key ∷ Cell 1 ∷ [] }
@@ -55,7 +55,7 @@ pub fn maps_that_are_needed()
 {}
 
 /// Cells come in blocks of 64.
-pub fn cells_of_a_map()
+pub(crate) fn cells_of_a_map()
     ensures none { cells_for 0 ≡ 64 }
     ensures one { cells_for 1 ≡ 64 }
     ensures a_block { cells_for 64 ≡ 64 }
@@ -65,7 +65,7 @@ pub fn cells_of_a_map()
 {}
 
 /// Which bounds stand in a tape.
-pub fn bounds_that_stand()
+pub(crate) fn bounds_that_stand()
     ensures lower { stands_if (before 5) fives_tape ≡ true }
     ensures upper { stands_if (after 5) fives_tape ≡ true }
     ensures absent { stands_if None fives_tape ≡ true }
@@ -75,7 +75,7 @@ pub fn bounds_that_stand()
 
 /// Four rows that a range has cracked: their order, the places of its bounds, and a map of their second cells.
 #[tactic(auto, using(crate::proofs::Computed::cracked, crate::proofs::Computed::mapped))]
-pub fn a_range_cracks_the_rows()
+pub(crate) fn a_range_cracks_the_rows()
     ensures pieces { rows_by 0 cracked_tape ≡ cracked_pieces }
     ensures order { keys_by cracked_tape ≡ 2 ∷ 1 ∷ 3 ∷ 4 ∷ [] }
     ensures first { place_of (Before (pos 10)) (rows_by 0 cracked_tape) ≡ Some 1 }
@@ -87,7 +87,7 @@ pub fn a_range_cracks_the_rows()
 
 /// The same rows when one more comes, when one goes, and when the tape begins anew without it.
 #[tactic(auto, using(crate::proofs::Computed::lengthened, crate::proofs::Computed::lengthened_places, crate::proofs::Computed::shortened, crate::proofs::Computed::shortened_places, crate::proofs::Computed::shortened_rows, crate::proofs::Computed::begun_anew))]
-pub fn rows_come_and_go()
+pub(crate) fn rows_come_and_go()
     ensures comes { keys_by longer_tape ≡ 2 ∷ 5 ∷ 3 ∷ 1 ∷ 4 ∷ [] }
     ensures its_places { places_by longer_tape (Before (pos 10)) (After (pos 15)) ≡ (Some 2, Some 4) }
     ensures goes { keys_by shorter_tape ≡ 3 ∷ 1 ∷ 4 ∷ [] }
@@ -100,7 +100,7 @@ pub fn rows_come_and_go()
 /// What merging makes of an area: a row that comes is logged; a row that goes is logged at the place of its pair, and at no
 /// other, where the key map stands at the tape's end; without a key map the area is begun anew, and with one it is not.
 #[tactic(auto, using(crate::proofs::Merging::comes_merged, crate::proofs::Merging::goes_merged, crate::proofs::Merging::another_place_refused, crate::proofs::Merging::restarts_merged, crate::proofs::Merging::restart_refused))]
-pub fn updates_that_are_merged()
+pub(crate) fn updates_that_are_merged()
     ensures comes { IsMerged (Insert fifth_row) mapped_area (record mapped_area { tape = longer_tape }) }
     ensures goes { IsMerged (Remove 2) mapped_area (record mapped_area { tape = shorter_tape }) }
     ensures at_its_place { IsMerged (Remove 2) mapped_area (record mapped_area { tape = cracked_tape ++ removed 1 ∷ [] }) → ⊥ }
@@ -110,7 +110,7 @@ pub fn updates_that_are_merged()
 
 /// Which updates an area of four rows may receive: a removed key is that of a live row, and an inserted one exceeds all that came.
 #[tactic(auto, using(crate::proofs::Merging::removal_received, crate::proofs::Merging::removed_twice, crate::proofs::Merging::insertion_received, crate::proofs::Merging::old_key_refused))]
-pub fn updates_that_may_be_received()
+pub(crate) fn updates_that_may_be_received()
     ensures removal { AreReceivable 0 None None four_rows four_rows (Remove 2 ∷ []) }
     ensures twice { AreReceivable 0 None None four_rows four_rows (Remove 2 ∷ Remove 2 ∷ []) → ⊥ }
     ensures insertion { AreReceivable 0 None None four_rows four_rows (Insert fifth_row ∷ Remove 5 ∷ []) }
@@ -119,7 +119,7 @@ pub fn updates_that_may_be_received()
 
 /// A range at the ends of all values, and rows of one value.
 #[tactic(auto, using(crate::proofs::Computed::wholly, crate::proofs::Computed::wholly_places, crate::proofs::Computed::fived, crate::proofs::Computed::fived_places, crate::proofs::Computed::mixed, crate::proofs::Computed::mixed_places))]
-pub fn ends_and_equal_cells()
+pub(crate) fn ends_and_equal_cells()
     ensures whole { keys_by whole_tape ≡ 1 ∷ 2 ∷ 3 ∷ 4 ∷ [] }
     ensures its_places { places_by whole_tape least_bound greatest_bound ≡ (Some 0, Some 4) }
     ensures equal { keys_by fives_tape ≡ 1 ∷ 2 ∷ 3 ∷ [] }

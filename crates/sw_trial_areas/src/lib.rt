@@ -4,7 +4,7 @@
 #[cfg(test)]
 mod acts;
 mod asking;
-pub mod examples;
+mod examples;
 #[cfg(test)]
 mod gates;
 #[cfg(test)]
@@ -18,4 +18,4 @@ mod scenes;
 mod tests;
 
 pub use asking::may_ask;
-pub use opening::{Shape, add, numbered, open};
+pub use opening::numbered;

@@ -47,7 +47,7 @@ pub fn numbered(alloc: Global, cells: &[[i64; 8]]) -> Result<Vec<Row>, Refusal>
 
 /// The attribute that is the head of an area's maps, the interval of its rows' cells there, and how many boxes it takes.
 #[derive(Clone, Copy, Debug, PartialEq, Eq)]
-pub struct Shape {
+pub(crate) struct Shape {
     pub attribute: u8,
     pub from: Option<i64>,
     pub below: Option<i64>,
@@ -93,7 +93,7 @@ fn may_open(shape: Shape, rows: &[Row]) -> bool
 }
 
 /// Adds a blank box. Refused `NoMemory` alone; the boxes are as they were then, and this one is dropped.
-pub fn add<M: CrackerMap>(maps: &mut Vec<M>, map: M) -> Result<(), Refusal>
+pub(crate) fn add<M: CrackerMap>(maps: &mut Vec<M>, map: M) -> Result<(), Refusal>
     requires all { All (λ m. M.held m ≡ blank) maps.old.items }
     requires one { M.held map ≡ blank }
     ensures added { MatchResult result (λ _. maps.new.items ≡ maps.old.items ++ map ∷ []) (λ e. (maps.new.items ≡ maps.old.items) × (e ≡ NoMemory)) }
@@ -118,7 +118,7 @@ fn take_last<M: CrackerMap>(maps: &mut Vec<M>) -> Option<M>
 
 /// An area of these rows, supplied with as many of these boxes as it takes, from the last on. `Input` where the attribute is
 /// not below 8 or a row lies outside the interval, and otherwise refused `NoMemory` alone.
-pub fn open<M: CrackerMap>(
+pub(crate) fn open<M: CrackerMap>(
     alloc: Global,
     shape: Shape,
     rows: &[Row],

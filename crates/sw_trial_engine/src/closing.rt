@@ -88,7 +88,7 @@ fn close_on<J: Naming, M: CrackerMap, R: Threads + Wait + Sync>(
 }
 
 /// The same over a table and maps, which are made blank.
-pub fn closed<M: CrackerMap, R: Threads + Wait + Sync>(
+pub(crate) fn closed<M: CrackerMap, R: Threads + Wait + Sync>(
     rt: &R,
     alloc: Global,
     trial: Trial<'_>,

@@ -23,7 +23,7 @@ const TURNS: usize = 3;
 
 /// How many calls were answered, and how many times one was refused.
 #[derive(Clone, Copy)]
-pub struct Tally {
+pub(crate) struct Tally {
     pub answered: usize,
     pub refused: usize,
 }
@@ -99,7 +99,7 @@ fn insist_on<J: Naming, M: CrackerMap, R: Threads + Wait + Sync>(
 
 /// One session over the table, whose calls are made again where they are refused. The boxes, made blank, are those of the first
 /// head. Tells the record and the tally.
-pub fn insist_all<M: CrackerMap, R: Threads + Wait + Sync>(
+pub(crate) fn insist_all<M: CrackerMap, R: Threads + Wait + Sync>(
     rt: &R,
     alloc: Global,
     trial: Trial<'_>,

@@ -1,20 +1,19 @@
 //! Trials of engines: scripts of several sessions, each on a thread of its own.
 #![tactic(auto)]
 
+#[cfg(test)]
 mod closing;
+#[cfg(test)]
 mod insisting;
 #[cfg(test)]
 mod map_tests;
+#[cfg(test)]
 mod meeting;
 #[cfg(test)]
 mod program_tests;
 #[cfg(test)]
 mod refusal_tests;
+#[cfg(test)]
 mod running;
 #[cfg(test)]
 mod tests;
-
-pub use closing::closed;
-pub use insisting::{Tally, insist_all};
-pub use meeting::{Signals, TURNS, Table, hand, meet, play};
-pub use running::{Trial, add_block, add_call, calls, cleared, numbered, one_block, told};

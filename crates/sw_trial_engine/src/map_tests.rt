@@ -31,7 +31,7 @@ const TABLE: Trial<'static> = Trial {
 };
 
 /// Maps that count their calls together, over purses of one budget.
-pub fn counting(
+pub(crate) fn counting(
     alloc: Global,
     many: usize,
     counts: &Arc<Counts>,

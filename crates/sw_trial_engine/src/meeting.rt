@@ -21,11 +21,11 @@ use sw_spine::Record;
 use sw_trial_maps::Gate;
 
 /// How often a flag is looked at before the wait for it is given up.
-pub const TURNS: u64 = 1_000_000_000;
+pub(crate) const TURNS: u64 = 1_000_000_000;
 
 /// What an engine is opened over.
 #[derive(Drop)]
-pub struct Table {
+pub(crate) struct Table {
     pub schema: Schema,
     pub rows: PackedRows,
     pub cuts: Cuts,
@@ -50,14 +50,14 @@ struct Done<J: Naming> {
 
 /// What the sessions tell one another: that a call is under way, and that one was answered meanwhile.
 #[derive(Drop)]
-pub struct Signals {
+pub(crate) struct Signals {
     pub begun: Arc<AtomicBool>,
     pub answered: Arc<AtomicBool>,
 }
 
 impl Signals {
     /// Signals of which neither or both are given.
-    pub fn new(alloc: Global, given: bool) -> Result<Signals, AllocError> {
+    pub(crate) fn new(alloc: Global, given: bool) -> Result<Signals, AllocError> {
         Ok(Signals {
             begun: Arc::new(alloc, AtomicBool::new(given))?,
             answered: Arc::new(alloc, AtomicBool::new(given))?,
@@ -152,7 +152,7 @@ fn all_turns<'e, J: Naming, M: CrackerMap>(
 }
 
 /// Gives boxes to a head.
-pub fn hand<J: Naming, M: CrackerMap, R: Wait>(
+pub(crate) fn hand<J: Naming, M: CrackerMap, R: Wait>(
     rt: &R,
     engine: &Engine<J, M>,
     head: usize,
@@ -332,7 +332,7 @@ fn play_on<J: Naming + Send + Sync, M: CrackerMap, R: Threads + Wait + Sync>(
 
 /// Opens an engine over the table, hands it the boxes, made blank, and makes each block's calls by a session on a thread of its
 /// own. Tells the record, and whether all calls were answered.
-pub fn play<M: CrackerMap, R: Threads + Wait + Sync>(
+pub(crate) fn play<M: CrackerMap, R: Threads + Wait + Sync>(
     rt: &R,
     alloc: Global,
     trial: Trial<'_>,
@@ -365,7 +365,7 @@ pub fn play<M: CrackerMap, R: Threads + Wait + Sync>(
 /// `answered` behind them. The first head of the engine has the gated boxes, the second the free ones, and the later ones come
 /// and go in a third session's thread; all are made blank. Tells the record, and whether all calls were answered and `begun` was set in
 /// time.
-pub fn meet<M: CrackerMap, R: Threads + Wait + Sync>(
+pub(crate) fn meet<M: CrackerMap, R: Threads + Wait + Sync>(
     rt: &R,
     alloc: Global,
     trial: Trial<'_>,

@@ -13,7 +13,7 @@ use sw_spine::{Record, State};
 
 /// The rows of a table, its cuts, and the limit of rows.
 #[derive(Clone, Copy)]
-pub struct Trial<'a> {
+pub(crate) struct Trial<'a> {
     pub rows: &'a [[i64; 8]],
     pub cuts: &'a str,
     pub limit: u64,
@@ -36,7 +36,7 @@ fn listed(alloc: Global, cells: &[[i64; 8]]) -> Result<Vec<Row>, Refusal>
 }
 
 /// The same, packed. Refused `NoMemory` alone.
-pub fn numbered(alloc: Global, cells: &[[i64; 8]]) -> Result<PackedRows, Refusal>
+pub(crate) fn numbered(alloc: Global, cells: &[[i64; 8]]) -> Result<PackedRows, Refusal>
     requires { length cells.now ≤ 1048576 }
     ensures { IfOk result (λ rows. is_numbered 1 rows.items ≡ true) }
 {
@@ -55,7 +55,7 @@ fn call_of(alloc: Global, schema: &Schema, line: &str) -> Result<Option<Call>, R
 }
 
 /// Puts the call of a line, if it has one, behind calls.
-pub fn add_call(
+pub(crate) fn add_call(
     alloc: Global,
     schema: &Schema,
     calls: &mut Vec<Call>,
@@ -75,7 +75,7 @@ pub fn add_call(
 }
 
 /// The call of each line.
-pub fn calls(alloc: Global, schema: &Schema, lines: &[&str]) -> Result<Vec<Call>, Refusal>
+pub(crate) fn calls(alloc: Global, schema: &Schema, lines: &[&str]) -> Result<Vec<Call>, Refusal>
     ensures { IfOk result (λ v. All (λ c. CallsBelow (length schema.now) c) v.items) }
 {
     let mut calls = Vec::new(alloc);
@@ -86,7 +86,7 @@ pub fn calls(alloc: Global, schema: &Schema, lines: &[&str]) -> Result<Vec<Call>
 }
 
 /// Puts a block behind blocks.
-pub fn add_block(
+pub(crate) fn add_block(
     schema: &Schema,
     blocks: &mut Vec<Vec<Call>>,
     block: Vec<Call>,
@@ -104,7 +104,11 @@ pub fn add_block(
 }
 
 /// The calls of one session's lines.
-pub fn one_block(alloc: Global, schema: &Schema, lines: &[&str]) -> Result<Vec<Vec<Call>>, Refusal>
+pub(crate) fn one_block(
+    alloc: Global,
+    schema: &Schema,
+    lines: &[&str],
+) -> Result<Vec<Vec<Call>>, Refusal>
     ensures { IfOk result (λ v. All (λ b. All (λ c. CallsBelow (length schema.now) c) b.items) v.items) }
 {
     let mut blocks = Vec::new(alloc);
@@ -114,7 +118,7 @@ pub fn one_block(alloc: Global, schema: &Schema, lines: &[&str]) -> Result<Vec<V
 }
 
 /// These maps, blank and in the opposite order.
-pub fn cleared<M: CrackerMap>(alloc: Global, maps: Vec<M>) -> Result<Vec<M>, Refusal>
+pub(crate) fn cleared<M: CrackerMap>(alloc: Global, maps: Vec<M>) -> Result<Vec<M>, Refusal>
     ensures { IfOk result (λ maps. All (λ m. M.held m ≡ blank) maps.items) }
 {
     let mut from = maps;
@@ -168,7 +172,7 @@ fn shown(alloc: Global, reply: &Reply) -> Result<String, AllocError> {
 }
 
 /// The replies to a session, in the record's order.
-pub fn told(alloc: Global, record: &Record, session: u64) -> Result<String, AllocError> {
+pub(crate) fn told(alloc: Global, record: &Record, session: u64) -> Result<String, AllocError> {
     let mut text = String::new(alloc);
     for entry in record.entries.as_slice() {
         if entry.session == session {

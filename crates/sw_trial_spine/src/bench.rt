@@ -15,10 +15,10 @@ use sw_rows::{
 use sw_spine::{Entry, Record, Spine, State};
 
 /// What was told so far.
-pub type Text = Counted<Vec<u8>>;
+pub(crate) type Text = Counted<Vec<u8>>;
 
 /// What is done with the spine.
-pub enum Step {
+pub(crate) enum Step {
     /// Session 1 makes the change of this line.
     Change(&'static str),
     /// Session 2 asks for head 0, and session 1 makes a change before the answer.
@@ -36,7 +36,7 @@ fn row(key: u64, a: i64, b: i64, c: i64) -> Row
 }
 
 /// The rows 12,7,1 and 3,8,0 and 12,5,1 and 20,2,0.
-pub fn four_rows(alloc: Global) -> Result<Vec<Row>, Refusal>
+pub(crate) fn four_rows(alloc: Global) -> Result<Vec<Row>, Refusal>
     ensures { IfOk result (λ rows. (length rows.items ≡ 4) × (is_numbered 1 rows.items ≡ true)) }
 {
     let rows = [
@@ -52,7 +52,7 @@ pub fn four_rows(alloc: Global) -> Result<Vec<Row>, Refusal>
 }
 
 /// The attributes a, b and c.
-pub fn schema(alloc: Global) -> Result<Schema, Refusal>
+pub(crate) fn schema(alloc: Global) -> Result<Schema, Refusal>
     ensures { IfOk result (λ schema. length schema ≡ 3) }
 {
     let schema = Schema::of(alloc, &["a:int", "b:int", "c:int"])?;
@@ -73,7 +73,7 @@ fn open_two(spine: &mut Spine) -> Result<(), Refusal>
 }
 
 /// A spine of so many rows at most, with two sessions, over the rows that head 0 begins from.
-pub fn opened(alloc: Global, rows: &[Row], limit: u64) -> Result<Spine, Refusal>
+pub(crate) fn opened(alloc: Global, rows: &[Row], limit: u64) -> Result<Spine, Refusal>
     requires some { 0 < limit }
     requires few { length rows.now ≤ limit }
     requires most { limit ≤ 1048576 }
@@ -212,7 +212,7 @@ fn make(
 }
 
 /// Does what steps say, one after the other.
-pub fn make_all(
+pub(crate) fn make_all(
     alloc: Global,
     spine: &mut Spine,
     rows: &mut Vec<Row>,
@@ -228,7 +228,7 @@ pub fn make_all(
 }
 
 /// Session 2 begins to count for head 7 and gives it up. It is said whether the select was open, and then void.
-pub fn give_up(
+pub(crate) fn give_up(
     spine: &mut Spine,
     rows: &[Row],
     query: Query,
@@ -285,7 +285,7 @@ fn tell_counts(spine: &Spine, text: &mut Text) -> Result<(), Refusal> {
 }
 
 /// Tells of the spine: its counts, and its record.
-pub fn tell(spine: Spine, text: &mut Text) -> Result<(), Refusal> {
+pub(crate) fn tell(spine: Spine, text: &mut Text) -> Result<(), Refusal> {
     match tell_counts(&spine, text) {
         Ok(()) => tell_record(&spine.into_record(), text),
         Err(e) => Err(e),

@@ -24,7 +24,7 @@ invariant_of-self-2 g c =
     let long = kept-long live.flags (first_rows s.tape ++ live.later) flags in
     let counted = c.count.ensures in
     let count : c.count.result ≡ length rows = omega (arith, long, counted) in
-    let tape : c.restart_live.new.self ≡ loaded rows ∷ [] = rw (c.later.ensures, c.flags.ensures) at c.in_ok-restart_live.ensures in
+    let tape : c.restart_live.new.self ≡ loaded rows ∷ [] = rw (c.later.ensures, c.flags.ensures) at c.in_ok-restart_live.ensures.ok in
     let keys : All (λ (r : Row). r.key < 2 ^ 63) rows = subst (λ (v : AreaState). All (λ (r : Row). r.key < 2 ^ 63) (live_among (first_rows v.tape) live)) (sym c.self.view_is) c.requires.keys in
     let rise : Rises key_of rows = subst (λ (v : AreaState). Rises key_of (live_among (first_rows v.tape) live)) (sym c.self.view_is) c.requires.rise in
     let within : All (λ (r : Row). lies_within s.attribute s.from s.below r ≡ true) rows = subst (λ (v : AreaState). All (λ (r : Row). lies_within v.attribute v.from v.below r ≡ true) (live_among (first_rows v.tape) live)) (sym c.self.view_is) c.requires.within in
@@ -43,6 +43,6 @@ returns g c =
     let many = c.clear_all.ensures.many in
     let n : s.boxes.len ≡ length ys = omega arith in
     let rows = live_among (first_rows c.args.self.now.tape) live in
-    let tape : c.restart_live.new.self ≡ loaded (live_among (first_rows s.tape) live) ∷ [] = rw (c.later.ensures, c.flags.ensures) at c.in_ok-restart_live.ensures in
+    let tape : c.restart_live.new.self ≡ loaded (live_among (first_rows s.tape) live) ∷ [] = rw (c.later.ensures, c.flags.ensures) at c.in_ok-restart_live.ensures.ok in
     let loads : c.restart_live.new.self ≡ loaded rows ∷ [] = tape ∙ ap (λ (v : AreaState). loaded (live_among (first_rows v.tape) live) ∷ []) c.self.view_is in
     rw (written s.boxes.len ys s.boxes.items n) (begun-shell g.M.CrackerMap.held _ _ _ _ _ _ _ _ rows s.boxes.items ys c.self.view_is loads (omega arith) c.clear_all.ensures.blank)
