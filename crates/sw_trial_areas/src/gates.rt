@@ -4,8 +4,8 @@ ghost use Rattle.std.specs.Prelude.{◌≡◌, IfOk};
 ghost use Rattle.sw_map.specs.Held.{blank};
 
 use crate::acts::push_pairs;
-use crate::add;
 use crate::moves::{Move, push_place};
+use crate::opening::add;
 use crate::scenes::{
     FOUR_ROWS, Play, Script, THREE_BOXES, Watch, counting, play_script, tell_used,
 };

@@ -5,7 +5,7 @@ ghost use Rattle.sw_map.specs.Held.{blank};
 
 use crate::acts::{Act, act_out};
 use crate::moves::{Move, play};
-use crate::{Shape, add, numbered, open};
+use crate::opening::{Shape, add, numbered, open};
 use std::alloc::{AllocError, Global};
 use std::sync::Arc;
 use std::test::Fail;

@@ -1,7 +1,7 @@
 //! What an area does with a query, over boxes of maps that count.
 
-use crate::Shape;
 use crate::moves::Move;
+use crate::opening::Shape;
 use crate::scenes::{
     Case, FOUR_BOXES, FOUR_ROWS, NO_BOX, NO_TROUBLE, ONE_BOX, Script, THREE_BOXES, play_cases,
 };
