@@ -99,8 +99,7 @@ def limited(kib):
 
 
 def least(program, folder):
-    """The KiB at which a small run has room for its stack, 64 KiB of which are one block of bytes. Below it the system ends the
-    program by a signal where the stack cannot grow: no allocation is refused, so there is nothing that it could tell."""
+    """The KiB at which a small run ends with status 0."""
     (folder / "t.csv").write_bytes(b"a\n1\n")
     kib, words = 1024, ["run", "--table", "t.csv", "--script", "/dev/null", "--history", "h.json"]
     while told(program, words, folder, **limited(kib))[0] != 0:
@@ -163,7 +162,7 @@ def main():
     given = options(__doc__)
     runs, rng, times = Runs(given.program), random.Random(given.seed), given.times
     begin = least(given.program, Path(runs.folder.name))
-    print("the least address space in which a small run has its stack: %d KiB" % begin, flush=True)
+    print("the least address space in which a small run ends with 0: %d KiB" % begin, flush=True)
     small = inputs(rng, 30, 60, 0.05)
     large = inputs(rng, 4000, 60, 0.05)
     runs.hold("small runs under limits", under_limits(rng, begin, *small, 16, 150 * times))

@@ -31,7 +31,8 @@ fn explanation(number: u64) -> Option<&'static str> {
 
 const NO_MEMORY: &str = "\
 refused 1: memory was wanted and the system gave none.
-  As a reply line: that call changed no row, and the calls after it are made. As the fault of a run: nothing was answered.
+  As a reply line: that call changed no row, and the calls after it are made. As the fault of a run:
+  nothing was answered, or, where replies stand before it, the history was not written.
   What to do: give the program more memory (see ulimit -v, or the container's limit), ask for fewer rows at a time, or
   leave the maps a smaller --budget. The exit status is 3.
 ";
@@ -86,9 +87,9 @@ refused 8 seen S found F: another thread took or gave cells of the budget at the
 ";
 
 const SHARES_OUT: &str = "\
-refused 9 made M given G: an engine was to be closed with G shares, while M sessions were made.
-  The program does not come to it. A caller of the crates gets the engine and the shares back.
-  What to do: end each session, and close with the share of each.
+refused 9 made M given G: an engine was to be closed with G tickets, while M sessions were made.
+  The program does not come to it. A caller of the crates gets the engine and the tickets back.
+  What to do: end each session, and close with the ticket of each.
 ";
 
 const HISTORY_FULL: &str = "\
