@@ -1,10 +1,12 @@
 // Loaded before the C library (LD_PRELOAD), it refuses allocations, by what the environment says: the one whose number,
-// from 1, REFUSED gives; and after the first AFTER of them one of SHARE, chosen by SEED (with a SHARE of 1 each).
+// from 1, REFUSED gives; and after the first AFTER of them one of SHARE, chosen by SEED (with a SHARE of 1 each). With TOLD set, a
+// line on standard error tells that the one by its number was refused.
 #define _GNU_SOURCE
 #include <dlfcn.h>
 #include <errno.h>
 #include <stddef.h>
 #include <stdlib.h>
+#include <unistd.h>
 
 static unsigned long made;
 
@@ -19,9 +21,16 @@ static int is_of_share(unsigned long at, unsigned long share) {
     return (mixed ^ mixed >> 31) % share == 0;
 }
 
+static int is_by_number(unsigned long at) {
+    static const char line[] = "allocation refused\n";
+    if (at != number("REFUSED")) return 0;
+    if (getenv("TOLD") && write(2, line, sizeof line - 1) < 0) abort();
+    return 1;
+}
+
 static int refuses(void) {
     unsigned long at = __atomic_add_fetch(&made, 1, __ATOMIC_RELAXED);
-    return at == number("REFUSED") || is_of_share(at, number("SHARE"));
+    return is_by_number(at) || is_of_share(at, number("SHARE"));
 }
 
 void *malloc(size_t size) {

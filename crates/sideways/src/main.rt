@@ -13,7 +13,7 @@ ghost use Rattle.std.specs.Prelude.{◌≡◌, ◌<◌, ◌≤◌, All, IfSome};
 ghost use Rattle.sw_map.specs.Held.{blank};
 
 use crate::explaining::write_explanations;
-use crate::seeing::{Lines, Seen};
+use crate::seeing::{Lines, Seen, Sights};
 use crate::words::command;
 use clap::error::ErrorKind;
 use clap::{ArgMatches, Error};
@@ -195,12 +195,15 @@ fn run_files<R: Files + Clock + Print + Eprint + Threads + Wait + Sync, E: Sink 
     ) else {
         return Ok(2);
     };
-    let is_timing = given.get_flag("stats");
-    let is_telling = errors.is_terminal && !given.get_flag("quiet");
-    let seen = Seen::new(rt, is_timing, is_telling);
+    let sights = Sights {
+        heads: given.get_flag("stats"),
+        progress: errors.is_terminal && !given.get_flag("quiet"),
+        calls: given.get_flag("times"),
+    };
+    let seen = Seen::new(rt, sights);
     let ended = run_named(rt, alloc, table, script, cuts, &settings, &seen)?;
     keep(rt, alloc, &ended.history, given.get_str("history"))?;
-    if is_timing {
+    if sights.heads {
         tell(&ended, &seen, &mut errors.sink)?;
     }
     Ok(if ended.has_refused { 3 } else { 0 })

@@ -1,4 +1,4 @@
-//! What is seen of a run while it goes: the time in the selects of each head, and how far the run is.
+//! What is seen of a run while it goes: the time in the selects of each head, the time of each call, and how far the run is.
 
 use std::io;
 use std::rt::Clock;
@@ -20,23 +20,33 @@ fn nanos_of(time: Duration) -> u64 {
         .saturating_add(u64::from(time.subsec_nanos()))
 }
 
+/// What is asked to be seen of a run.
+#[derive(Clone, Copy)]
+pub(crate) struct Sights {
+    /// The time in the selects of each head.
+    pub(crate) heads: bool,
+    /// How far the run is: standard error is told of it, from a second after its beginning on, once a second.
+    pub(crate) progress: bool,
+    /// The time of each call: standard error is told of it when the call has ended.
+    pub(crate) calls: bool,
+}
+
 /// What was seen so far, shared by the threads of a run. Where nobody asks for it there is no beginning, and nothing is
 /// seen; a clock that cannot be read later stands at 0.
 #[derive(Drop)]
 pub(crate) struct Seen<'r, R: Clock + Eprint> {
     rt: &'r R,
     began: Option<Instant>,
-    is_telling: bool,
+    sights: Sights,
     due: AtomicU64,
     calls: AtomicU64,
     nanos: [AtomicU64; 8],
 }
 
 impl<'r, R: Clock + Eprint> Seen<'r, R> {
-    /// A run begins. Perhaps its selects are timed; perhaps standard error is told how far it is, from a second after now
-    /// on, once a second.
-    pub(crate) fn new(rt: &'r R, is_timing: bool, is_telling: bool) -> Seen<'r, R> {
-        let began = if is_timing || is_telling {
+    /// A run begins.
+    pub(crate) fn new(rt: &'r R, sights: Sights) -> Seen<'r, R> {
+        let began = if sights.heads || sights.progress || sights.calls {
             Instant::now(rt).ok()
         } else {
             None
@@ -44,7 +54,7 @@ impl<'r, R: Clock + Eprint> Seen<'r, R> {
         Seen {
             rt,
             began,
-            is_telling,
+            sights,
             due: AtomicU64::new(SECOND),
             calls: AtomicU64::new(0),
             nanos: [
@@ -74,7 +84,7 @@ impl<'r, R: Clock + Eprint> Seen<'r, R> {
     /// Tells how far the run is, where that is due. Of threads that come at once one tells.
     fn tell(&self, now: u64, number: u64, what: &str) {
         let due = self.due.load(Ordering::SeqCst);
-        if !self.is_telling || now < due {
+        if !self.sights.progress || now < due {
             return;
         }
         let next = now.saturating_add(SECOND);
@@ -83,6 +93,13 @@ impl<'r, R: Clock + Eprint> Seen<'r, R> {
             .compare_exchange(due, next, Ordering::SeqCst, Ordering::SeqCst);
         if taken.is_ok() {
             let _ = eprintln!(self.rt; "sideways: {number} {what}");
+        }
+    }
+
+    /// Tells what a call took, where that is asked: its number among those that have ended, and its nanoseconds.
+    fn list(&self, number: u64, nanos: u64) {
+        if self.sights.calls {
+            let _ = eprintln!(self.rt; "{number} {nanos}");
         }
     }
 
@@ -105,13 +122,15 @@ impl<R: Clock + Eprint + Sync> Onlooker for Seen<'_, R> {
             return;
         }
         let now = self.now();
+        let took = now.saturating_sub(begun);
         if let Call::Select(query) = call {
             if let Some(nanos) = self.nanos.get(head_of(query)) {
-                let _before = nanos.fetch_add(now.saturating_sub(begun), Ordering::SeqCst);
+                let _before = nanos.fetch_add(took, Ordering::SeqCst);
             }
         }
-        let before = self.calls.fetch_add(1, Ordering::SeqCst);
-        self.tell(now, before.saturating_add(1), "calls made");
+        let number = self.calls.fetch_add(1, Ordering::SeqCst).saturating_add(1);
+        self.list(number, took);
+        self.tell(now, number, "calls made");
     }
 }
 
@@ -152,7 +171,7 @@ impl<S: Source, R: Clock + Eprint> Source for Lines<'_, '_, S, R> {
 
     fn read_some(&mut self, buf: &mut [u8]) -> io::Result<usize> {
         let count = self.source.read_some(buf)?;
-        if self.seen.is_telling {
+        if self.seen.sights.progress {
             let (given, _) = buf.split_at(count);
             self.read = self.read.saturating_add(ends_in(given));
             self.seen

@@ -92,6 +92,15 @@ fn stats<'a>(alloc: Global) -> Arg<'a> {
         .action(ArgAction::SetTrue)
 }
 
+fn times<'a>(alloc: Global) -> Arg<'a> {
+    Arg::new(alloc, "times")
+        .long("times")
+        .help(
+            "Writes a line to standard error for each call when it has ended: its number among those that have ended, and the nanoseconds that it took",
+        )
+        .action(ArgAction::SetTrue)
+}
+
 fn quiet<'a>(alloc: Global) -> Arg<'a> {
     Arg::new(alloc, "quiet")
         .long("quiet")
@@ -124,6 +133,7 @@ fn run_command<'a>(alloc: Global) -> Result<Command<'a>, AllocError> {
         .arg(limit(alloc))?
         .arg(threads(alloc))?
         .arg(stats(alloc))?
+        .arg(times(alloc))?
         .arg(quiet(alloc))?
         .arg(history(alloc))
 }

@@ -9,8 +9,8 @@ use crate::words::{cell, number};
 use std::alloc::{AllocError, Global};
 use sw_lang::{parse_line, write_reply};
 use sw_rows::{
-    Call, Cells, Conds, Counted, Names, Query, Refusal, Reply, ReplyRow, ReplyRows, Row, Schema,
-    Sink, Want, answer,
+    Call, Cells, Conds, Counted, Names, Query, Refusal, Reply, ReplyRows, Row, Schema, Sink, Want,
+    answer,
 };
 
 /// The call of a line; of a line without one the deletion of key 0.
@@ -175,11 +175,11 @@ fn all_of(alloc: Global, schema: &Schema) -> Result<Call, AllocError> {
     }))
 }
 
-/// The rows of a reply of one row, put into a list, taken out and put together again.
-fn one_row(alloc: Global, key: u64, cells: Cells) -> Result<ReplyRows, AllocError> {
+/// The rows of a reply of one row.
+fn one_row(alloc: Global, key: u64, cells: &Cells) -> Result<ReplyRows, AllocError> {
     let mut rows = ReplyRows::new(alloc);
-    rows.push(ReplyRow { key, cells })?;
-    Ok(ReplyRows::of(rows.into_rows()))
+    rows.push(key, cells.as_slice())?;
+    Ok(rows)
 }
 
 /// The lines of a reply of one row, of this key and these cells of all attributes.
@@ -190,7 +190,7 @@ pub(crate) fn of_row(
     cells: &str,
 ) -> Result<String, Refusal> {
     let cells = held(cells_of(alloc, cells))?;
-    let rows = held(one_row(alloc, number(key), cells))?;
+    let rows = held(one_row(alloc, number(key), &cells))?;
     let call = held(all_of(alloc, schema))?;
     lines(alloc, schema, &call, &Reply::Rows(rows))
 }

@@ -8,6 +8,8 @@ use Rattle.sw_rows.specs.declared.query.Call.{Call}
 use Rattle.sw_rows.specs.declared.refusal.Refusal.{Refusal}
 use Rattle.sw_rows.specs.declared.refusal.Refusal.TheVariants.{BadLine, TooMany}
 use Rattle.sw_rows.specs.declared.refusal.Why.TheVariants as why
+use Rattle.sw_cli.specs.declared.script.TheConstants.{MOST_BLOCKS, MOST_CALLS}
+use Rattle.sw_lang.specs.declared.parse.TheConstants.{MOST_LINE}
 use Rattle.sw_lang.specs.Reading.{line_at, refused}
 use Rattle.sw_lang.specs.Tokens.{is_blank}
 use Rattle.sw_spine.specs.History.{CallsBelow}
@@ -19,12 +21,12 @@ script_lines text = map without_terminator (lines_of text)
 
 -- whether a line divides blocks: it has at most 4,096 bytes, `---` and then spaces and tabs alone
 abbrev pub is_divider : List ℕ → Bool
-is_divider line = nat_le (length line) 4096 && (bytes_eq (take 3 line) (codes "---") && list_all is_blank (drop 3 line))
+is_divider line = nat_le (length line) MOST_LINE && (bytes_eq (take 3 line) (codes "---") && list_all is_blank (drop 3 line))
 
 -- the call of line n, if it has one; its length is looked at first, and then whether it is UTF-8
 abbrev pub call_of_line : List Column → ℕ → List ℕ → Result (Option Call) Refusal
 call_of_line columns n line =
-    if nat_lt 4096 (length line) then Err (BadLine n why.Length)
+    if nat_lt MOST_LINE (length line) then Err (BadLine n why.Length)
     else if is_utf8 line then refused n (line_at columns line)
     else Err (BadLine n why.Encoding)
 
@@ -46,12 +48,16 @@ all_blocks p = p.closed ++ p.last ∷ []
 
 -- one more block begins; block 1,025 is too many
 abbrev pub with_block : SoFar → Result SoFar Refusal
-with_block p = if nat_lt (length (all_blocks p)) 1024 then Ok (so_far (all_blocks p) []) else Err (TooMany 1024)
+with_block p =
+    if nat_lt (length (all_blocks p)) MOST_BLOCKS then Ok (so_far (all_blocks p) []) else Err (TooMany MOST_BLOCKS)
 
 -- one more line's call, if it has one; call 1,048,577 of the script is too many
 abbrev pub with_call : SoFar → Option Call → Result SoFar Refusal
 with_call p None = Ok p
-with_call p (Some c) = if nat_lt (calls_in p.closed + length p.last) 1048576 then Ok (so_far p.closed (p.last ++ c ∷ [])) else Err (TooMany 1048576)
+with_call p (Some c) =
+    if nat_lt (calls_in p.closed + length p.last) MOST_CALLS
+    then Ok (so_far p.closed (p.last ++ c ∷ []))
+    else Err (TooMany MOST_CALLS)
 
 -- one more line, which is line n
 abbrev pub with_line : List Column → ℕ → SoFar → List ℕ → Result SoFar Refusal
@@ -74,11 +80,11 @@ AllCallsBelow n cs = All (CallsBelow n) cs
 pub record AreSound (n : ℕ) (p : SoFar) : Type 0 where
   pub below : All (AllCallsBelow n) p.closed
   pub below_last : AllCallsBelow n p.last
-  pub few : length p.closed < 1024
-  pub short : calls_in p.closed + length p.last ≤ 1048576
+  pub few : length p.closed < MOST_BLOCKS
+  pub short : calls_in p.closed + length p.last ≤ MOST_CALLS
 
 -- and of all blocks
 pub record AreBlocks (n : ℕ) (bs : List (List Call)) : Type 0 where
   pub below : All (AllCallsBelow n) bs
-  pub few : length bs ≤ 1024
-  pub short : calls_in bs ≤ 1048576
+  pub few : length bs ≤ MOST_BLOCKS
+  pub short : calls_in bs ≤ MOST_CALLS

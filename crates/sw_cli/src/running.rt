@@ -3,6 +3,8 @@
 ghost use Rattle.std.specs.Prelude.{◌≡◌, ◌<◌, ◌≤◌, [], All, IfOk, IsOkUnless, vec_capacity};
 ghost use Rattle.sw_map.specs.Held.{blank};
 ghost use Rattle.sw_rows.specs.declared.refusal.Refusal.TheVariants.{NoMemory};
+ghost use Rattle.sw_rows.specs.declared.table.TheConstants.{MOST_ROWS};
+ghost use Rattle.sw_versions.specs.Pending.{IsPlain};
 ghost use Rattle.sw_cli.specs.Answers.{RunAnswers};
 ghost use Rattle.sw_cli.specs.Outcomes.{AllSayWhy};
 ghost use Rattle.sw_cli.specs.Run.{IsRecordOf};
@@ -16,14 +18,16 @@ use crate::looking_on::{Nobody, Onlooker};
 use crate::serving::serve;
 use crate::start::{Opened, read_start};
 use core::mem::replace_with;
+use left_right::Absorb;
 use std::alloc::Global;
 use std::marker::Brand;
 use std::sync::Wait;
 use std::thread::Threads;
 use sw_engine::{Blank, Engine, HeadStats, Naming, deal};
 use sw_map::CrackerMap;
-use sw_rows::{Refusal, Sink, Source};
+use sw_rows::{Refusal, Sink, Source, Update};
 use sw_spine::Record;
+use sw_versions::{Live, Op};
 
 /// What a run is told besides its files.
 #[derive(Clone, Copy, Debug)]
@@ -71,7 +75,7 @@ fn write_outgoing<W: Sink>(sink: W, outgoing: Outgoing) -> (W, Result<Record, Re
 }
 
 /// Makes the blocks of a run that was opened, by an engine of these names. The one refusal is `NoMemory`.
-fn make<J: Naming + Send + Sync, M: CrackerMap, O: Onlooker, R: Threads + Wait + Sync>(
+fn make_with<J: Naming + Send + Sync, M: CrackerMap, O: Onlooker, R: Threads + Wait + Sync>(
     rt: &R,
     alloc: Global,
     books: Blank,
@@ -81,10 +85,14 @@ fn make<J: Naming + Send + Sync, M: CrackerMap, O: Onlooker, R: Threads + Wait +
     stats: &mut Vec<HeadStats>,
     onlooker: &O,
 ) -> Result<Outgoing, Refusal>
+where
+    Live<J>: Absorb<Op<J>, State = [Update; 0]> + Send + Sync,
     requires books { (books.sessions.name ≡ J.sessions) × (books.heads.name ≡ J.heads) }
+    requires list { books.list.seen.book ≡ J.book }
+    requires plain { IsPlain ⟦<Live<J> as Absorb<Op<J>>>⟧.state ⟦<Live<J> as Absorb<Op<J>>>⟧.applied }
     requires table { (opened.schema ≡ J.columns) × (opened.rows.items ≡ J.opening) × (options.now.limit ≡ J.limit) }
     requires some { 0 < options.now.limit }
-    requires most { options.now.limit ≤ 1048576 }
+    requires most { options.now.limit ≤ MOST_ROWS }
     requires sound { IsStart options.now.limit (start_seen opened) }
     requires blank { All (λ m. M.held m ≡ blank) maps.items }
     ensures blocks { IfOk result (λ j. j.ended.blocks.items ≡ opened.blocks.items) }
@@ -128,6 +136,32 @@ fn make<J: Naming + Send + Sync, M: CrackerMap, O: Onlooker, R: Threads + Wait +
     Ok(Outgoing { memory, ended })
 }
 
+/// The same where the names are picked: what a copy of the rows makes of an update is known here, as it is not under a bound.
+fn make<J: Naming + Send + Sync, M: CrackerMap, O: Onlooker, R: Threads + Wait + Sync>(
+    rt: &R,
+    alloc: Global,
+    books: Blank,
+    opened: Opened,
+    options: &Options<'_>,
+    maps: Vec<M>,
+    stats: &mut Vec<HeadStats>,
+    onlooker: &O,
+) -> Result<Outgoing, Refusal>
+    requires books { (books.sessions.name ≡ J.sessions) × (books.heads.name ≡ J.heads) }
+    requires list { books.list.seen.book ≡ J.book }
+    requires table { (opened.schema ≡ J.columns) × (opened.rows.items ≡ J.opening) × (options.now.limit ≡ J.limit) }
+    requires some { 0 < options.now.limit }
+    requires most { options.now.limit ≤ MOST_ROWS }
+    requires sound { IsStart options.now.limit (start_seen opened) }
+    requires blank { All (λ m. M.held m ≡ blank) maps.items }
+    ensures blocks { IfOk result (λ j. j.ended.blocks.items ≡ opened.blocks.items) }
+    ensures why { IfOk result (λ j. AllSayWhy (told_in j.ended)) }
+    ensures record_is { IfOk result (λ j. IsRecordOf J.columns J.opening J.limit (told_in j.ended) j.ended.history) }
+    ensures refused { IsOkUnless result NoMemory }
+{
+    make_with::<J, M, O, R>(rt, alloc, books, opened, options, maps, stats, onlooker)
+}
+
 /// Makes the blocks of a run that was opened, and writes what came of them.
 fn begin<M: CrackerMap, O: Onlooker, R: Threads + Wait + Sync, W: Sink>(
     rt: &R,
@@ -140,7 +174,7 @@ fn begin<M: CrackerMap, O: Onlooker, R: Threads + Wait + Sync, W: Sink>(
     onlooker: &O,
 ) -> Result<Record, Refusal>
     requires some { 0 < options.now.limit }
-    requires most { options.now.limit ≤ 1048576 }
+    requires most { options.now.limit ≤ MOST_ROWS }
     requires sound { IsStart options.now.limit (start_seen opened) }
     requires blank { All (λ m. M.held m ≡ blank) maps.items }
     ensures { Goes options.now.limit (start_seen opened)
@@ -181,7 +215,7 @@ pub fn run_with<M: CrackerMap, R: Threads + Wait + Sync, T: Source, S: Source, W
     maps: Vec<M>,
 ) -> Result<Record, Refusal>
     requires some { 0 < options.now.limit }
-    requires most { options.now.limit ≤ 1048576 }
+    requires most { options.now.limit ≤ MOST_ROWS }
     requires blank { All (λ m. M.held m ≡ blank) maps.items }
     ensures { RunAnswers options.now.limit options.now.cuts.now
         (source_seen (T.left table.old) (T.failed table.old) (T.failed table.new))
@@ -215,14 +249,14 @@ pub fn run_told<
     onlooker: &O,
 ) -> Result<Record, Refusal>
     requires some { 0 < options.now.limit }
-    requires most { options.now.limit ≤ 1048576 }
+    requires most { options.now.limit ≤ MOST_ROWS }
     requires blank { All (λ m. M.held m ≡ blank) maps.items }
     ensures { RunAnswers options.now.limit options.now.cuts.now
         (source_seen (T.left table.old) (T.failed table.old) (T.failed table.new))
         (source_seen (S.left script.old) (S.failed script.old) (S.failed script.new))
         (sink_seen (W.taken out.old) (W.taken out.new) (W.failed out.old) (W.failed out.new)) result }
 {
-    match read_start(alloc, table, script, options.cuts, options.limit) {
+    match read_start(rt, alloc, table, script, options.cuts, options.limit) {
         Ok(opened) => begin(rt, alloc, opened, options, maps, out, stats, onlooker),
         Err(e) => Err(e),
     }
@@ -239,7 +273,7 @@ pub fn run<R: Threads + Wait + Sync, T: Source, S: Source, W: Sink>(
     maps: Vec<Box<dyn CrackerMap>>,
 ) -> Result<Record, Refusal>
     requires some { 0 < options.now.limit }
-    requires most { options.now.limit ≤ 1048576 }
+    requires most { options.now.limit ≤ MOST_ROWS }
     requires blank { All (λ m. (CrackerMap-box m).held m.value ≡ blank) maps.items }
     ensures { RunAnswers options.now.limit options.now.cuts.now
         (source_seen (T.left table.old) (T.failed table.old) (T.failed table.new))

@@ -5,6 +5,7 @@ ghost use Rattle.std.specs.List.{list_all};
 ghost use Rattle.sw_lang.specs.Reading.{Answers};
 ghost use Rattle.sw_lang.specs.Tokens.{is_blank};
 ghost use Rattle.sw_spine.specs.History.{CallsBelow};
+ghost use Rattle.sw_cli.specs.declared.script.TheConstants.{MOST_CALLS};
 ghost use Rattle.sw_cli.specs.Script.{AreBlocks, AreSound, all_blocks, blocks_of, call_of_line, calls_in, is_divider, so_far, with_block, with_call, with_line};
 ghost use Rattle.sw_histories.specs.Told.{Reads, TellsText};
 
@@ -121,7 +122,7 @@ impl Blocks {
 
     /// Begins a block.
     fn divide(&mut self, alloc: Global) -> Result<(), Refusal>
-        requires { calls_in self.old.closed + length self.old.last ≤ 1048576 }
+        requires { calls_in self.old.closed + length self.old.last ≤ MOST_CALLS }
         ensures answers { Reads (λ _. self.new) result (with_block self.old) }
         ensures sound { (n : ℕ) → AreSound n self.old → OnOk result (AreSound n self.new) }
         ensures why { IfErr result TellsText }
@@ -141,7 +142,7 @@ impl Blocks {
 
     /// Adds a line's call, if it has one.
     fn add(&mut self, call: Option<Call>) -> Result<(), Refusal>
-        requires { calls_in self.old.closed + length self.old.last ≤ 1048576 }
+        requires { calls_in self.old.closed + length self.old.last ≤ MOST_CALLS }
         ensures answers { Reads (λ _. self.new) result (with_call self.old call) }
         ensures sound { (n : ℕ) → IfSome call (CallsBelow n) → AreSound n self.old → OnOk result (AreSound n self.new) }
         ensures why { IfErr result TellsText }

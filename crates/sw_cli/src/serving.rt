@@ -11,18 +11,23 @@ ghost use Rattle.sw_cli.specs.Served.{Each, IsDone, IsFresh};
 use crate::looking_on::Onlooker;
 use crate::script::Block;
 use crate::telling::BlockTold;
+use left_right::Absorb;
 use std::alloc::{AllocError, Global};
 use std::sync::Wait;
 use std::thread;
 use std::thread::Threads;
 use sw_engine::{Engine, HeadStats, Naming, Session, Ticket};
 use sw_map::CrackerMap;
-use sw_rows::{Call, Refusal, Reply};
+use sw_rows::{Call, Refusal, Reply, Update};
 use sw_spine::Record;
+use sw_versions::{Live, Op};
 
 /// A session that has made no call, the calls that it is to make, and room for what comes of them.
 #[derive(Drop)]
-pub(crate) struct Job<'e, J: Naming, M: CrackerMap> {
+pub(crate) struct Job<'e, J: Naming, M: CrackerMap>
+where
+    Live<J>: Absorb<Op<J>, State = [Update; 0]>,
+{
     session: Session<'e, J, M>,
     calls: &'e [Call],
     told: Vec<Result<Reply, Refusal>>,
@@ -41,6 +46,8 @@ fn make_block<J: Naming, M: CrackerMap, O: Onlooker, R: Threads + Wait + Sync>(
     job: Job<'_, J, M>,
     onlooker: &O,
 ) -> Done<J>
+where
+    Live<J>: Absorb<Op<J>, State = [Update; 0]>,
     requires fresh { IsFresh job.session.1 job.told.items (vec_capacity job.told) job.calls.now }
     requires below { AllCallsBelow (length J.columns) job.calls.now }
     ensures { IsDone job.entry.session.0 job.entry.calls.now result.ticket result.told }
@@ -69,6 +76,8 @@ fn jobs<'e, J: Naming, M: CrackerMap>(
     tickets: Vec<Ticket<J>>,
     blocks: &'e [Block],
 ) -> Result<Vec<Job<'e, J, M>>, AllocError>
+where
+    Live<J>: Absorb<Op<J>, State = [Update; 0]>,
     requires order { InOrder 1 tickets.items }
     requires many { length tickets.items ≡ length blocks.now }
     ensures fresh { IfOk result
@@ -96,6 +105,8 @@ fn make_in_turn<'e, J: Naming, M: CrackerMap, O: Onlooker, R: Threads + Wait + S
     jobs: Vec<Job<'e, J, M>>,
     onlooker: &O,
 ) -> Result<Vec<Done<J>>, AllocError>
+where
+    Live<J>: Absorb<Op<J>, State = [Update; 0]>,
     requires fresh { All (λ j. IsFresh j.session.1 j.told.items (vec_capacity j.told) j.calls.now) jobs.items }
     requires below { All (λ j. AllCallsBelow (length J.columns) j.calls.now) jobs.items }
     ensures { IfOk result (λ v. Each (λ j d. IsDone j.session.0 j.calls.now d.ticket d.told) jobs.entry.items v.items) }
@@ -113,6 +124,8 @@ fn make_at_once<'e, J: Naming + Send + Sync, M: CrackerMap, O: Onlooker, R: Thre
     jobs: Vec<Job<'e, J, M>>,
     onlooker: &O,
 ) -> Result<Vec<Done<J>>, AllocError>
+where
+    Live<J>: Absorb<Op<J>, State = [Update; 0]> + Send + Sync,
     requires fresh { All (λ j. IsFresh j.session.1 j.told.items (vec_capacity j.told) j.calls.now) jobs.items }
     requires below { All (λ j. AllCallsBelow (length J.columns) j.calls.now) jobs.items }
     ensures { IfOk result (λ v. Each (λ j d. IsDone j.session.0 j.calls.now d.ticket d.told) jobs.entry.items v.items) }
@@ -136,6 +149,8 @@ fn make_all<'e, J: Naming + Send + Sync, M: CrackerMap, O: Onlooker, R: Threads 
     jobs: Vec<Job<'e, J, M>>,
     onlooker: &O,
 ) -> Result<Vec<Done<J>>, AllocError>
+where
+    Live<J>: Absorb<Op<J>, State = [Update; 0]> + Send + Sync,
     requires fresh { All (λ j. IsFresh j.session.1 j.told.items (vec_capacity j.told) j.calls.now) jobs.items }
     requires below { All (λ j. AllCallsBelow (length J.columns) j.calls.now) jobs.items }
     ensures { IfOk result (λ v. Each (λ j d. IsDone j.session.0 j.calls.now d.ticket d.told) jobs.entry.items v.items) }
@@ -170,7 +185,10 @@ fn tell_heads<J: Naming, M: CrackerMap, R: Wait>(
     rt: &R,
     engine: &Engine<J, M>,
     stats: &mut Vec<HeadStats>,
-) -> Result<(), AllocError> {
+) -> Result<(), AllocError>
+where
+    Live<J>: Absorb<Op<J>, State = [Update; 0]>,
+{
     for head in 0..engine.heads() {
         stats.push(engine.stats(rt, head))?;
     }
@@ -189,6 +207,8 @@ pub(crate) fn serve<J: Naming + Send + Sync, M: CrackerMap, O: Onlooker, R: Thre
     stats: &mut Vec<HeadStats>,
     onlooker: &O,
 ) -> Result<(Record, Vec<BlockTold>), Refusal>
+where
+    Live<J>: Absorb<Op<J>, State = [Update; 0]> + Send + Sync,
     requires order { InOrder 1 tickets.items }
     requires many { length tickets.items ≡ length blocks.now }
     requires blocks { AreBlocks (length J.columns) blocks.now }
@@ -210,7 +230,7 @@ pub(crate) fn serve<J: Naming + Send + Sync, M: CrackerMap, O: Onlooker, R: Thre
     if tell_heads(rt, &engine, stats).is_err() {
         return Err(Refusal::NoMemory);
     }
-    match engine.close(ended) {
+    match engine.close(rt, ended) {
         Ok(record) => Ok((record, told)),
         Err(_) => Err(Refusal::NoMemory),
     }

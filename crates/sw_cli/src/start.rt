@@ -11,8 +11,9 @@ ghost use Rattle.sw_cli.specs.Starts.{IsStart, ReadsScript, ReadsStart, TellsSta
 
 use crate::script::{Block, read_blocks};
 use std::alloc::Global;
+use std::thread::Threads;
 use sw_lang::{Cuts, parse_cuts};
-use sw_rows::{MOST_BYTES, PackedRows, Refusal, Schema, Source, load, read_all};
+use sw_rows::{MOST_BYTES, PackedRows, Refusal, Schema, Source, load_in_parts, read_all};
 
 /// A table, a script and cuts that were read.
 #[derive(Drop)]
@@ -53,8 +54,9 @@ fn read_cuts(alloc: Global, schema: &Schema, text: &str) -> Result<Cuts, Refusal
     parse_cuts(alloc, schema, text)
 }
 
-/// Reads a table, then a script, then the text of the cuts, and holds the rows against the limit.
-pub(crate) fn read_start<T: Source, S: Source>(
+/// Reads a table, a long one by threads, then a script, then the text of the cuts, and holds the rows against the limit.
+pub(crate) fn read_start<R: Threads + Sync, T: Source, S: Source>(
+    rt: &R,
     alloc: Global,
     table: &mut T,
     script: &mut S,
@@ -72,7 +74,7 @@ pub(crate) fn read_start<T: Source, S: Source>(
         (source_seen (T.left table.old) (T.failed table.old) (T.failed table.new))
         (source_seen (S.left script.old) (S.failed script.old) (S.failed script.new))) }
 {
-    let (schema, rows) = match load(alloc, table) {
+    let (schema, rows) = match load_in_parts(rt, alloc, table) {
         Ok(found) => found,
         Err(e) => return Err(e),
     };

@@ -2,3 +2,4 @@ pub mod Ties
 pub mod Heads
 pub mod Turns
 pub mod Parts
+pub mod Published

@@ -1,3 +1,5 @@
+pub mod Published
 pub mod Desk
+pub mod Locked
 pub mod Headline
 pub mod Leading

@@ -5,27 +5,30 @@ ghost use Rattle.sw_rows.specs.Scan.{AsksBelow};
 ghost use Rattle.sw_rows.specs.declared.query.Call.TheVariants.{Select};
 ghost use Rattle.sw_spine.specs.Table.{is_numbered, opened, reply_to, updates_then};
 ghost use Rattle.sw_spine.specs.History.{is_select, mine};
-ghost use Rattle.sw_spine.specs.Books.{RefusesRows, RefusesSession, new_books, updates, waits_for, with_answered, with_session, with_settled};
+ghost use Rattle.sw_spine.specs.Books.{RefusesRows, RefusesSession, new_books, updates, waits_for, with_answered, with_published, with_session, with_settled};
 ghost use Rattle.sw_spine.specs.declared.history.State.TheVariants.{Answered, Void};
-ghost use Rattle.sw_engine.specs.Desk.{AreGiven, InOrder, IsAnswered, IsAtRest, IsBegun, IsOf, IsShareOf, IsTold, RefusesCall, RefusesMany, latched, new_desk};
+ghost use mathlib.Core.List.{IsPrefix};
+ghost use Rattle.sw_engine.specs.Published.{IsHeld, IsNewShare, later, published_of};
+ghost use Rattle.sw_engine.specs.Desk.{AreGiven, IsAnswered, IsAtRest, IsBegun, IsOf, IsShareOf, IsTold, RefusesCall, latched, new_desk};
 
 use crate::counting::Counters;
 use crate::latch::LatchedHead;
-use crate::naming::Naming;
 use crate::waiting::Waiting;
 use std::alloc::Global;
 use std::marker::{Model, PhantomData};
 use std::snapshot::Snapshot;
 use sw_map::CrackerMap;
-use sw_rows::{Call, PackedRows, Query, Refusal, Reply, Schema};
+use sw_rows::{Call, PackedRows, Query, Refusal, Reply, Schema, Update};
 use sw_spine::Spine;
 use sw_tie::{Book, Share};
+use sw_versions::{Front, Naming, Opened};
 
 /// Books that no engine has yet.
 #[derive(Drop)]
 pub struct Blank {
-    sessions: Book<Spine>,
-    heads: Book<Spine>,
+    pub(crate) sessions: Book<Spine>,
+    pub(crate) heads: Book<Spine>,
+    pub(crate) list: Opened,
     pub ghost no_session: { sessions.rows ≡ [] },
     pub ghost no_head: { heads.rows ≡ [] },
 }
@@ -35,6 +38,7 @@ impl Blank {
         Blank {
             sessions: Book::new(),
             heads: Book::new(),
+            list: Opened::new(),
         }
     }
 }
@@ -44,7 +48,7 @@ impl Blank {
 pub struct Ticket<J: Naming> {
     pub(crate) number: u64,
     pub(crate) share: Share<Spine>,
-    pub(crate) of: PhantomData<J>,
+    pub(crate) receipt: Front<J>,
 }
 
 impl<J: Naming> Model for Ticket<J> {
@@ -52,13 +56,26 @@ impl<J: Naming> Model for Ticket<J> {
     ghost use Rattle.sw_rows.specs.declared.query.Call.{Call};
     ghost use Rattle.sw_rows.specs.declared.reply.Reply.{Reply};
     ghost use Rattle.sw_spine.specs.History.{mine};
-    ghost use Rattle.sw_engine.specs.Desk.{IsAtRest};
+    ghost use Rattle.sw_engine.specs.Published.{IsHeld};
 
     ghost Value = { ℕ × List (Call × Reply) };
 
     ghost view = { λ t. (t.number, mine t.number t.share.value.entries) };
 
-    ghost invariant = { λ t. IsAtRest J.sessions t.number t.share };
+    ghost invariant = { λ t. IsHeld J.sessions J.opening t.number t.share t.receipt };
+}
+
+impl<J: Naming> Ticket<J> {
+    pub(crate) fn new(number: u64, share: Share<Spine>, receipt: Front<J>) -> Ticket<J>
+        requires { IsHeld J.sessions J.opening number share receipt }
+        ensures { result ≡ (number, mine number share.value.entries) }
+    {
+        Ticket {
+            number,
+            share,
+            receipt,
+        }
+    }
 }
 
 /// The spine, with the books of the sessions and of the heads.
@@ -85,12 +102,14 @@ impl<J: Naming> Desk<J> {
     /// A desk over opening rows, with no session and no head.
     pub fn open(
         alloc: Global,
-        books: Blank,
+        sessions: Book<Spine>,
+        heads: Book<Spine>,
         schema: Schema,
         rows: PackedRows,
         limit: u64,
     ) -> Result<Desk<J>, Refusal>
-        requires books { (books.sessions.name ≡ J.sessions) × (books.heads.name ≡ J.heads) }
+        requires books { (sessions.name ≡ J.sessions) × (heads.name ≡ J.heads) }
+        requires none { (sessions.rows ≡ []) × (heads.rows ≡ []) }
         requires table { (schema ≡ J.columns) × (rows.items ≡ J.opening) × (limit ≡ J.limit) }
         requires some { 0 < limit }
         requires most { limit ≤ 1048576 }
@@ -99,7 +118,6 @@ impl<J: Naming> Desk<J> {
         ensures opened { IfOk result (λ d. d ≡ new_desk J.columns J.opening J.limit) }
         ensures refused { IfErr result (RefusesRows limit rows.items) }
     {
-        let Blank { sessions, heads } = books;
         let spine = Spine::new(alloc, schema, rows, limit)?;
         Ok(Desk {
             spine,
@@ -137,11 +155,11 @@ impl<J: Naming> Desk<J> {
         }
     }
 
-    /// The next session's ticket.
+    /// The next session's number and share.
     ///
     /// Refused `TooMany` of limit 1,024 where that many were opened, `NoMemory` otherwise; a refused one opened none.
-    pub fn enrol(&mut self) -> Result<Ticket<J>, Refusal>
-        ensures ticket { IfOk result (λ t. (t.0 ≡ self.new.books.sessions) × (t.1 ≡ [])) }
+    pub fn enrol(&mut self) -> Result<(u64, Share<Spine>), Refusal>
+        ensures share { IfOk result (λ t. IsNewShare J.sessions self.new.books t.0 t.1) }
         ensures made { OnOk result (self.new.books ≡ with_session self.old.books) }
         ensures given { OnOk result (self.new.given ≡ self.old.given ++ false ∷ []) }
         ensures refused { IfErr result (λ e. (self.new ≡ self.old) × RefusesSession self.old.books e) }
@@ -155,28 +173,7 @@ impl<J: Naming> Desk<J> {
         let number = spine.open_session()?;
         let share = sessions.open(Snapshot::of(spine));
         *many += 1;
-        Ok(Ticket {
-            number,
-            share,
-            of: PhantomData,
-        })
-    }
-
-    /// The tickets of the first sessions, in order.
-    #[tactic(auto, using(crate::proofs::Ties::in_order_push, crate::proofs::Ties::length_push))]
-    pub fn enrol_all(&mut self, alloc: Global, many: usize) -> Result<Vec<Ticket<J>>, Refusal>
-        requires { self.old.books.sessions ≡ 0 }
-        ensures all { IfOk result (λ v. (length v.items ≡ many) × InOrder 1 v.items) }
-        ensures refused { IfErr result (λ e. RefusesMany many e) }
-    {
-        let mut tickets = Vec::new(alloc);
-        for _ in 0..many {
-            let ticket = self.enrol()?;
-            if tickets.push(ticket).is_err() {
-                return Err(Refusal::NoMemory);
-            }
-        }
-        Ok(tickets)
+        Ok((number, share))
     }
 
     /// How many sessions were opened.
@@ -211,6 +208,8 @@ impl<J: Naming> Desk<J> {
         ensures begun { OnOk result (IsBegun number query self.old.books self.new.books) }
         ensures kept { OnErr result (self.new.books ≡ self.old.books) }
         ensures updates { updates self.new.books ≡ updates self.old.books }
+        ensures published { self.new.books.published ≡ self.old.books.published }
+        ensures grows { IsPrefix (published_of J.opening share.old.value) (published_of J.opening share.new.value) }
         ensures same { head.new ≡ record head.old { taken = head.new.taken } }
         ensures refused { IfErr result (λ e. RefusesCall e) }
     {
@@ -242,6 +241,7 @@ impl<J: Naming> Desk<J> {
         ensures mine { IsAnswered number reply share.old.value share.new.value }
         ensures finished { self.new.books ≡ with_settled number (Answered reply) self.old.books }
         ensures updates { updates self.new.books ≡ updates self.old.books }
+        ensures grows { IsPrefix (published_of J.opening share.old.value) (published_of J.opening share.new.value) }
     {
         let Desk {
             spine,
@@ -261,6 +261,7 @@ impl<J: Naming> Desk<J> {
         ensures mine { mine number share.new.value.entries ≡ mine number share.old.value.entries }
         ensures voided { self.new.books ≡ with_settled number Void self.old.books }
         ensures updates { updates self.new.books ≡ updates self.old.books }
+        ensures grows { IsPrefix (published_of J.opening share.old.value) (published_of J.opening share.new.value) }
     {
         let Desk {
             spine,
@@ -287,6 +288,7 @@ impl<J: Naming> Desk<J> {
         ensures answered { OnOk result (self.new.books ≡ with_answered number call self.old.books) }
         ensures kept { OnErr result (self.new.books ≡ self.old.books) }
         ensures updates { OnOk result (updates self.new.books ≡ updates_then J.limit (updates self.old.books) call) }
+        ensures grows { IsPrefix (published_of J.opening share.old.value) (published_of J.opening share.new.value) }
         ensures refused { IfErr result (λ e. RefusesCall e) }
     {
         let Desk {
@@ -295,9 +297,49 @@ impl<J: Naming> Desk<J> {
             ..
         } = self;
         sessions.agree(share);
+        let _count = spine.published();
         let reply = spine.commit(number, call)?;
         sessions.set(share, Snapshot::of(spine));
         Ok(reply)
+    }
+
+    /// So many of the updates are published, the opening rows counted, and the session's share shows it. Nothing else changes.
+    pub fn publish(&mut self, number: u64, share: &mut Share<Spine>, count: u64)
+        requires rest { IsAtRest J.sessions number share.old }
+        requires low { self.old.books.published ≤ count }
+        requires high { count ≤ length (updates self.old.books) }
+        ensures rest { IsAtRest J.sessions number share.new }
+        ensures mine { mine number share.new.value.entries ≡ mine number share.old.value.entries }
+        ensures published { self.new.books ≡ with_published count self.old.books }
+        ensures shown { share.new.value ≡ self.new.books }
+        ensures grows { IsPrefix (published_of J.opening share.old.value) (published_of J.opening share.new.value) }
+    {
+        let Desk {
+            spine,
+            sessions,
+            ..
+        } = self;
+        sessions.agree(share);
+        spine.set_published(count);
+        sessions.set(share, Snapshot::of(spine));
+    }
+
+    /// How many of the updates are published, the opening rows counted.
+    pub fn published(&self) -> u64
+        ensures value { result ≡ self.now.books.published }
+        ensures high { result ≤ length (updates self.now.books) }
+    {
+        self.spine.published()
+    }
+
+    /// The updates after the opening rows.
+    pub fn later(&self) -> &[Update]
+        ensures later { result.now ≡ later J.opening self.now.books }
+        ensures opening { length J.opening ≤ length (updates self.now.books) }
+    {
+        let _count = self.spine.published();
+        let opening = self.spine.opening_rows().len() as u64;
+        self.spine.updates_from(opening)
     }
 
     /// A session's ticket comes back. The history has just its answered calls, and it waits for nothing.

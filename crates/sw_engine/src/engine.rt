@@ -7,25 +7,34 @@ ghost use Rattle.sw_rows.specs.declared.refusal.Refusal.TheVariants.{NoMemory};
 ghost use Rattle.sw_lang.specs.Cuts.{AreCuts, cuts_on};
 ghost use Rattle.sw_map.specs.Held.{blank};
 ghost use Rattle.sw_spine.specs.Table.{is_numbered};
-ghost use Rattle.sw_spine.specs.History.{CallsBelow, is_select};
+ghost use Rattle.sw_spine.specs.History.{CallsBelow, is_select, mine};
 ghost use Rattle.sw_spine.specs.Books.{RefusesRows};
-ghost use Rattle.sw_engine.specs.Desk.{InOrder, KeepsBoxes, RefusesCall, RefusesClose, RefusesOpening, TooManySessions, new_desk};
+ghost use Rattle.sw_engine.specs.Desk.{InOrder, IsAtRest, IsTold, KeepsBoxes, RefusesCall, RefusesClose, RefusesOpening, TooManySessions, new_desk};
+ghost use mathlib.Core.List.{IsPrefix};
+ghost use Rattle.sw_versions.specs.Lists.{IsLonger};
+ghost use Rattle.sw_versions.specs.Pending.{IsPlain};
+ghost use Rattle.sw_versions.specs.Refused.{IsAhead};
+ghost use Rattle.sw_engine.specs.Published.{CallGives, GivesReceipt, RefusesViewing, published_of};
 ghost use Rattle.sw_engine.specs.Headline.{IsHistoryOfOneThread};
 
 use crate::counting::HeadStats;
 use crate::desk::{Blank, Desk, Ticket};
 use crate::latch::{LatchedHead, head_of};
-use crate::naming::Naming;
+use crate::locked::LockedDesk;
 use crate::opening::Opening;
+use crate::viewing::{Receipt, Viewer};
+use left_right::Absorb;
 use std::alloc::{AllocError, Global};
 use std::hint::spin_loop;
-use std::marker::Model;
+use std::marker::{Model, PhantomData};
 use std::sync::{Mutex, MutexGuard, Wait};
 use std::thread::Threads;
 use sw_lang::Cuts;
 use sw_map::CrackerMap;
-use sw_rows::{Call, PackedRows, Query, Refusal, Reply, Schema};
-use sw_spine::Record;
+use sw_rows::{Call, PackedRows, Query, Refusal, Reply, Schema, Update};
+use sw_spine::{Record, Spine};
+use sw_tie::Share;
+use sw_versions::{Live, Naming, Op};
 
 /// How often a lock or a latch is tried before a thread sleeps for it.
 const TRIES: usize = 100;
@@ -83,17 +92,23 @@ fn all_latches<J: Naming, M: CrackerMap>(
 ///
 /// A latch is taken before the lock, and never after it.
 #[derive(Drop)]
-pub struct Engine<J: Naming, M: CrackerMap> {
+pub struct Engine<J: Naming, M: CrackerMap>
+where
+    Live<J>: Absorb<Op<J>, State = [Update; 0]>,
+{
     alloc: Global,
     opening: Opening<J>,
     latches: Vec<Mutex<LatchedHead<J, M>>>,
-    desk: Mutex<Desk<J>>,
+    desk: Mutex<LockedDesk<J>>,
     ghost as_many: { vec_len latches ≡ length J.columns },
     ghost some: { 0 < length J.columns },
     ghost few: { length J.columns ≤ 8 },
 }
 
-impl<J: Naming, M: CrackerMap> Engine<J, M> {
+impl<J: Naming, M: CrackerMap> Engine<J, M>
+where
+    Live<J>: Absorb<Op<J>, State = [Update; 0]>,
+{
     /// An engine over opening rows, with no session. No head is made.
     ///
     /// Refused `TooMany` of the limit where there are more rows, `NoMemory` otherwise. The caller's conditions: the limit is
@@ -108,6 +123,8 @@ impl<J: Naming, M: CrackerMap> Engine<J, M> {
         limit: u64,
     ) -> Result<Engine<J, M>, Refusal>
         requires books { (books.sessions.name ≡ J.sessions) × (books.heads.name ≡ J.heads) }
+        requires list { books.list.seen.book ≡ J.book }
+        requires plain { IsPlain ⟦<Live<J> as Absorb<Op<J>>>⟧.state ⟦<Live<J> as Absorb<Op<J>>>⟧.applied }
         requires table { (schema ≡ J.columns) × (rows.items ≡ J.opening) × (limit ≡ J.limit) }
         requires some { 0 < limit }
         requires most { limit ≤ 1048576 }
@@ -133,6 +150,8 @@ impl<J: Naming, M: CrackerMap> Engine<J, M> {
         sessions: usize,
     ) -> Result<(Engine<J, M>, Vec<Ticket<J>>), Refusal>
         requires books { (books.sessions.name ≡ J.sessions) × (books.heads.name ≡ J.heads) }
+        requires list { books.list.seen.book ≡ J.book }
+        requires plain { IsPlain ⟦<Live<J> as Absorb<Op<J>>>⟧.state ⟦<Live<J> as Absorb<Op<J>>>⟧.applied }
         requires table { (schema ≡ J.columns) × (rows.items ≡ J.opening) × (limit ≡ J.limit) }
         requires some { 0 < limit }
         requires most { limit ≤ 1048576 }
@@ -147,10 +166,17 @@ impl<J: Naming, M: CrackerMap> Engine<J, M> {
         }
         let columns = schema.len();
         let opening = Opening::new(cuts);
-        let mut desk = Desk::open(alloc, books, schema, rows, limit)?;
+        let Blank {
+            sessions: given,
+            heads,
+            list,
+            ..
+        } = books;
+        let mut desk = Desk::open(alloc, given, heads, schema, rows, limit)?;
         let Ok(latches) = all_latches(alloc, &mut desk, columns) else {
             return Err(Refusal::NoMemory);
         };
+        let mut desk = LockedDesk::new(alloc, desk, list);
         let tickets = desk.enrol_all(alloc, sessions)?;
         let engine = Engine {
             alloc,
@@ -163,33 +189,61 @@ impl<J: Naming, M: CrackerMap> Engine<J, M> {
 
     /// A ticket's session.
     pub fn attach(&self, ticket: Ticket<J>) -> Session<'_, J, M>
-        ensures { result ≡ ticket }
+        ensures { (result.0 ≡ ticket.0) × (result.1 ≡ ticket.1) }
     {
+        let Ticket {
+            number,
+            share,
+            receipt,
+        } = ticket;
         Session {
             engine: self,
-            ticket,
+            number,
+            share,
+            receipt,
         }
     }
 
-    /// The next session.
+    /// The next session, with the receipt of what is published.
+    #[tactic(auto, using(crate::proofs::Published::prefix_same))]
     pub fn session<R: Wait>(&self, rt: &R) -> Result<Session<'_, J, M>, Refusal>
         ensures new { IfOk result (λ s. s.1 ≡ []) }
+        ensures receipt { IfOk result (λ s. s.2.given ≡ s.2.published) }
         ensures refused { IfErr result (λ e. TooManySessions e) }
     {
-        let ticket = self.visit(rt).enrol()?;
+        let (number, share, receipt) = self.visit(rt).enrol()?;
         Ok(Session {
             engine: self,
-            ticket,
+            number,
+            share,
+            receipt,
+        })
+    }
+
+    /// A viewer, which has learnt what is published. Until the first one there are no copies of the rows for viewers, and calls do
+    /// no work for them.
+    ///
+    /// Refused `NoMemory`, or `TooMany` of limit 16, where that many were ever opened or no place for a reader was got; a refused
+    /// one opened none.
+    pub fn viewer<R: Wait>(&self, rt: &R) -> Result<Viewer<'_, J>, Refusal>
+        ensures opened { IfOk result (λ v. v.seen ≡ v.told) }
+        ensures refused { IfErr result RefusesViewing }
+    {
+        let reader = self.visit(rt).viewer()?;
+        Ok(Viewer {
+            reader,
+            of: PhantomData,
         })
     }
 
     /// Ends the engine where as many tickets come back as sessions were made: the record is the history of one thread over a
     /// plain list of rows, and each session's answered entries are the calls that were answered to it.
     ///
-    /// Refused `SharesOut` with both numbers otherwise; then the engine and the tickets come back. It waits for nobody and takes
-    /// no memory.
-    pub fn close(
+    /// Refused `SharesOut` with both numbers otherwise; then the engine and the tickets come back, and it has waited for nobody.
+    /// It takes no memory. Where it is not refused it waits for viewers that are answering.
+    pub fn close<R: Wait>(
         self,
+        rt: &R,
         tickets: Vec<Ticket<J>>,
     ) -> Result<Record, (Engine<J, M>, Vec<Ticket<J>>, Refusal)>
         ensures headline { IfOk result (λ r. IsHistoryOfOneThread J.columns J.opening J.limit tickets.items r) }
@@ -201,7 +255,7 @@ impl<J: Naming, M: CrackerMap> Engine<J, M> {
             latches,
             desk,
         } = self;
-        let mut desk = desk.into_inner();
+        let desk = desk.into_inner();
         let made = desk.sessions();
         let given = tickets.len() as u64;
         if made != given {
@@ -213,6 +267,7 @@ impl<J: Naming, M: CrackerMap> Engine<J, M> {
             };
             return Err((engine, tickets, Refusal::SharesOut { made, given }));
         }
+        let mut desk = desk.end(rt);
         desk.give_all(tickets);
         Ok(desk.into_spine().into_record())
     }
@@ -250,7 +305,7 @@ impl<J: Naming, M: CrackerMap> Engine<J, M> {
     }
 
     /// The history, for one visit.
-    fn visit<R: Wait>(&self, rt: &R) -> MutexGuard<'_, Desk<J>> {
+    fn visit<R: Wait>(&self, rt: &R) -> MutexGuard<'_, LockedDesk<J>> {
         take(rt, &self.desk, VISIT)
     }
 
@@ -329,62 +384,116 @@ impl<J: Naming, M: CrackerMap> Engine<J, M> {
     fn select<R: Threads + Wait + Sync>(
         &self,
         rt: &R,
-        ticket: &mut Ticket<J>,
+        number: u64,
+        share: &mut Share<Spine>,
         query: &Query,
     ) -> Result<Reply, Refusal>
-        requires { AsksBelow (length J.columns) query.now }
-        ensures number { ticket.new.0 ≡ ticket.old.0 }
-        ensures mine { IfOk result (λ r. ticket.new.1 ≡ ticket.old.1 ++ (Select query.now, r) ∷ []) }
-        ensures err { OnErr result (ticket.new.1 ≡ ticket.old.1) }
+        requires rest { IsAtRest J.sessions number share.old }
+        requires asks { AsksBelow (length J.columns) query.now }
+        ensures rest { IsAtRest J.sessions number share.new }
+        ensures mine { IfOk result (λ r. IsTold number (Select query.now) r share.old.value share.new.value) }
+        ensures err { OnErr result (mine number share.new.value.entries ≡ mine number share.old.value.entries) }
+        ensures grows { IsPrefix (published_of J.opening share.old.value) (published_of J.opening share.new.value) }
         ensures refused { IfErr result (λ e. RefusesCall e) }
     {
         let Ok(asked) = query.copied(self.alloc) else {
             return Err(Refusal::NoMemory);
         };
-        let Ticket { number, share, .. } = ticket;
         let mut head = take(rt, &self.latches[head_of(query)], SELECT);
         if self.ready(rt, &mut *head).is_err() {
             return Err(Refusal::NoMemory);
         }
-        self.visit(rt).begin(*number, share, &mut *head, asked)?;
+        self.visit(rt).begin(number, share, &mut *head, asked)?;
         let Ok((reply, kept)) = head.answer(rt, self.alloc, query) else {
-            self.visit(rt).void(*number, share);
+            self.visit(rt).void(number, share);
             return Err(Refusal::NoMemory);
         };
-        self.visit(rt).finish(*number, share, kept);
+        self.visit(rt).finish(number, share, kept);
         Ok(reply)
     }
 
-    fn commit<R: Wait>(&self, rt: &R, ticket: &mut Ticket<J>, call: Call) -> Result<Reply, Refusal>
-        requires { is_select call ≡ false }
-        ensures number { ticket.new.0 ≡ ticket.old.0 }
-        ensures mine { IfOk result (λ r. ticket.new.1 ≡ ticket.old.1 ++ (call, r) ∷ []) }
-        ensures err { OnErr result (ticket.new.1 ≡ ticket.old.1) }
+    fn meet<R: Wait>(
+        &self,
+        rt: &R,
+        number: u64,
+        share: &mut Share<Spine>,
+        reader: &mut sw_versions::Viewer<J>,
+    ) -> Result<Receipt<J>, Refusal>
+        requires rest { IsAtRest J.sessions number share.old }
+        ensures rest { IsAtRest J.sessions number share.new }
+        ensures mine { mine number share.new.value.entries ≡ mine number share.old.value.entries }
+        ensures grows { IsPrefix (published_of J.opening share.old.value) (published_of J.opening share.new.value) }
+        ensures receipt { IfOk result (λ r. r ≡ published_of J.opening share.new.value) }
+        ensures met { IfOk result (λ r. IsPrefix reader.old.seen r × IsLonger reader.old.told r reader.new.told) }
+        ensures seen { reader.new.seen ≡ reader.old.seen }
+        ensures kept { OnErr result (reader.new ≡ reader.old) }
+        ensures refused { IfErr result (IsAhead J.opening reader.old.seen (published_of J.opening share.new.value)) }
+    {
+        self.visit(rt).meet(number, share, reader)
+    }
+
+    fn commit<R: Wait>(
+        &self,
+        rt: &R,
+        number: u64,
+        share: &mut Share<Spine>,
+        receipt: &mut Receipt<J>,
+        call: Call,
+    ) -> Result<Reply, Refusal>
+        requires rest { IsAtRest J.sessions number share.old }
+        requires changes { is_select call ≡ false }
+        ensures rest { IsAtRest J.sessions number share.new }
+        ensures mine { IfOk result (λ r. IsTold number call r share.old.value share.new.value) }
+        ensures err { OnErr result (mine number share.new.value.entries ≡ mine number share.old.value.entries) }
+        ensures grows { IsPrefix (published_of J.opening share.old.value) (published_of J.opening share.new.value) }
+        ensures receipt { OnOk result (receipt.new ≡ published_of J.opening share.new.value) }
+        ensures kept { OnErr result (receipt.new ≡ receipt.old) }
         ensures refused { IfErr result (λ e. RefusesCall e) }
     {
-        let Ticket { number, share, .. } = ticket;
-        self.visit(rt).commit(*number, share, call)
+        let (reply, published) = self.visit(rt).commit(rt, number, share, call)?;
+        *receipt = published;
+        Ok(reply)
     }
 }
 
-/// A session. Contracts see its number, and the calls that were answered to it.
+/// A session. Contracts see its number, the calls that were answered to it, and the list of updates that it has the receipt of,
+/// beside the one that its share shows as published.
 #[derive(Drop)]
-pub struct Session<'e, J: Naming, M: CrackerMap> {
+pub struct Session<'e, J: Naming, M: CrackerMap>
+where
+    Live<J>: Absorb<Op<J>, State = [Update; 0]>,
+{
     engine: &'e Engine<J, M>,
-    ticket: Ticket<J>,
+    number: u64,
+    share: Share<Spine>,
+    receipt: Receipt<J>,
 }
 
-impl<'e, J: Naming, M: CrackerMap> Model for Session<'e, J, M> {
+impl<'e, J: Naming, M: CrackerMap> Model for Session<'e, J, M>
+where
+    Live<J>: Absorb<Op<J>, State = [Update; 0]>,
+{
     ghost use Rattle.std.specs.Prelude.{ℕ, List};
     ghost use Rattle.sw_rows.specs.declared.query.Call.{Call};
     ghost use Rattle.sw_rows.specs.declared.reply.Reply.{Reply};
+    ghost use Rattle.sw_spine.specs.History.{mine};
+    ghost use Rattle.sw_engine.specs.Published.{IsHeld, Receipted, published_of};
 
-    ghost Value = { ℕ × List (Call × Reply) };
+    ghost Value = { ℕ × List (Call × Reply) × Receipted };
 
-    ghost view = { λ s. s.ticket };
+    ghost view = { λ s. (
+      s.number,
+      mine s.number s.share.value.entries,
+      record { given = s.receipt; published = published_of J.opening s.share.value },
+    ) };
+
+    ghost invariant = { λ s. IsHeld J.sessions J.opening s.number s.share s.receipt };
 }
 
-impl<'e, J: Naming, M: CrackerMap> Session<'e, J, M> {
+impl<'e, J: Naming, M: CrackerMap> Session<'e, J, M>
+where
+    Live<J>: Absorb<Op<J>, State = [Update; 0]>,
+{
     /// What a query is answered.
     ///
     /// Refused `NoMemory`, or `HistoryFull`; then no row has changed, and the call stands in the history at most as void.
@@ -397,9 +506,10 @@ impl<'e, J: Naming, M: CrackerMap> Session<'e, J, M> {
         ensures number { self.new.0 ≡ self.old.0 }
         ensures mine { IfOk result (λ r. self.new.1 ≡ self.old.1 ++ (Select query.now, r) ∷ []) }
         ensures err { OnErr result (self.new.1 ≡ self.old.1) }
+        ensures receipt { self.new.2.given ≡ self.old.2.given }
         ensures refused { IfErr result (λ e. RefusesCall e) }
     {
-        self.engine.select(rt, &mut self.ticket, query)
+        self.engine.select(rt, self.number, &mut self.share, query)
     }
 
     /// Inserts a row.
@@ -407,10 +517,16 @@ impl<'e, J: Naming, M: CrackerMap> Session<'e, J, M> {
         ensures number { self.new.0 ≡ self.old.0 }
         ensures mine { IfOk result (λ r. self.new.1 ≡ self.old.1 ++ (Insert cells, r) ∷ []) }
         ensures err { OnErr result (self.new.1 ≡ self.old.1) }
+        ensures receipt { GivesReceipt result self.old.2 self.new.2 }
         ensures refused { IfErr result (λ e. RefusesCall e) }
     {
-        let call = Call::Insert(cells);
-        self.engine.commit(rt, &mut self.ticket, call)
+        let Session {
+            engine,
+            number,
+            share,
+            receipt,
+        } = self;
+        engine.commit(rt, *number, share, receipt, Call::Insert(cells))
     }
 
     /// Deletes the row of a key.
@@ -418,9 +534,16 @@ impl<'e, J: Naming, M: CrackerMap> Session<'e, J, M> {
         ensures number { self.new.0 ≡ self.old.0 }
         ensures mine { IfOk result (λ r. self.new.1 ≡ self.old.1 ++ (Delete key, r) ∷ []) }
         ensures err { OnErr result (self.new.1 ≡ self.old.1) }
+        ensures receipt { GivesReceipt result self.old.2 self.new.2 }
         ensures refused { IfErr result (λ e. RefusesCall e) }
     {
-        self.engine.commit(rt, &mut self.ticket, Call::Delete(key))
+        let Session {
+            engine,
+            number,
+            share,
+            receipt,
+        } = self;
+        engine.commit(rt, *number, share, receipt, Call::Delete(key))
     }
 
     /// Makes a call.
@@ -429,6 +552,7 @@ impl<'e, J: Naming, M: CrackerMap> Session<'e, J, M> {
         ensures number { self.new.0 ≡ self.old.0 }
         ensures mine { IfOk result (λ r. self.new.1 ≡ self.old.1 ++ (call.now, r) ∷ []) }
         ensures err { OnErr result (self.new.1 ≡ self.old.1) }
+        ensures receipt { CallGives call.now result self.old.2 self.new.2 }
         ensures refused { IfErr result (λ e. RefusesCall e) }
     {
         match call {
@@ -438,11 +562,53 @@ impl<'e, J: Naming, M: CrackerMap> Session<'e, J, M> {
         }
     }
 
+    /// The receipt of the list that was published when the session was opened, or at its last insert, delete or meeting that was
+    /// answered. Each begins with the one before. It takes no memory, and waits for nobody.
+    pub fn receipt(&self) -> Receipt<J>
+        ensures { result ≡ self.now.2.given }
+    {
+        self.receipt.again()
+    }
+
+    /// A viewer learns what is published, and the session has the receipt of it. It takes no memory.
+    ///
+    /// Refused `Ahead` where the viewer has seen more updates than are published, both counted with the opening rows; then nothing
+    /// has changed.
+    pub fn meet<R: Wait>(
+        &mut self,
+        rt: &R,
+        viewer: &mut Viewer<'_, J>,
+    ) -> Result<Receipt<J>, Refusal>
+        ensures number { self.new.0 ≡ self.old.0 }
+        ensures mine { self.new.1 ≡ self.old.1 }
+        ensures receipt { GivesReceipt result self.old.2 self.new.2 }
+        ensures told { IfOk result (λ r. r ≡ self.new.2.given) }
+        ensures met { IfOk result (λ r. IsPrefix viewer.old.seen r × IsLonger viewer.old.told r viewer.new.told) }
+        ensures seen { viewer.new.seen ≡ viewer.old.seen }
+        ensures kept { OnErr result (viewer.new ≡ viewer.old) }
+        ensures refused { IfErr result (IsAhead J.opening viewer.old.seen self.new.2.published) }
+    {
+        let Session {
+            engine,
+            number,
+            share,
+            receipt,
+        } = self;
+        let published = engine.meet(rt, *number, share, &mut viewer.reader)?;
+        *receipt = published.again();
+        Ok(published)
+    }
+
     /// The session's ticket, which cannot be copied.
     pub fn end(self) -> Ticket<J>
-        ensures { result ≡ self.entry }
+        ensures { (result.0 ≡ self.entry.0) × (result.1 ≡ self.entry.1) }
     {
-        let Session { ticket, .. } = self;
-        ticket
+        let Session {
+            number,
+            share,
+            receipt,
+            ..
+        } = self;
+        Ticket::new(number, share, receipt)
     }
 }

@@ -12,7 +12,6 @@ ghost use Rattle.sw_engine.specs.Desk.{IsSameButBoxes, KeepsBoxes};
 
 use crate::counting::{Counters, HeadStats, no_figures};
 use crate::leading::scan_led;
-use crate::naming::Naming;
 use crate::opening::Opening;
 use crate::waiting::Waiting;
 use std::alloc::Global;
@@ -23,6 +22,7 @@ use sw_map::CrackerMap;
 use sw_rows::{PackedRows, Query, Refusal, Reply, Update};
 use sw_spine::Spine;
 use sw_tie::Share;
+use sw_versions::Naming;
 
 /// The attribute whose head is asked: that of the first condition, or the first attribute.
 pub fn head_of(query: &Query) -> usize

@@ -7,8 +7,9 @@ mod desk;
 mod engine;
 mod latch;
 mod leading;
-mod naming;
+mod locked;
 mod opening;
+mod viewing;
 mod waiting;
 
 pub use counting::HeadStats;
@@ -16,4 +17,5 @@ pub use dealing::deal;
 pub use desk::{Blank, Ticket};
 pub use engine::{Engine, Session};
 pub use latch::head_of;
-pub use naming::Naming;
+pub use sw_versions::Naming;
+pub use viewing::{Receipt, Viewer};

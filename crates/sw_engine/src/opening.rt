@@ -6,13 +6,13 @@ ghost use Rattle.sw_lang.specs.Cuts.{AreCuts, cuts_on};
 ghost use Rattle.sw_spine.specs.Table.{is_numbered};
 ghost use Rattle.sw_engine.specs.Desk.{IsNewHead};
 
-use crate::naming::Naming;
 use std::alloc::Global;
 use std::marker::{Model, PhantomData};
 use sw_chunks::Head;
 use sw_lang::Cuts;
 use sw_map::CrackerMap;
 use sw_rows::{PackedRows, Refusal};
+use sw_versions::Naming;
 
 /// The cuts of each head. No lock lies over them, since they never change. The opening rows, over which heads are made, lie with
 /// the spine.

@@ -1,5 +1,5 @@
--- A file's object without its entries, and where they stand.
-use Rattle.std.proofs.Common.{◌≡◌, ◌∙◌, sym, ap, refl, subst, ℕ, zero, suc, ◌+◌, ◌<◌, ◌≤◌, Bool, true, false, cond, List, [], ◌∷◌, ◌++◌, length, arith, Option, Some, None, length-append, codes, bytes_eq, true≢false}
+-- A file's object without its entries and its rows, and where they stand.
+use Rattle.std.proofs.Common.{◌≡◌, ◌∙◌, sym, ap, refl, subst, ℕ, zero, suc, ◌+◌, ◌<◌, ◌≤◌, Bool, true, false, cond, List, [], ◌∷◌, ◌++◌, length, arith, Option, Some, None, length-append, bytes_eq, true≢false}
 use Rattle.std.specs.Prelude.{option_and_then, option_map}
 use Rattle.std.specs.Cmp.Lexicographic.{slice_cmp}
 use Rattle.std.specs.Ordering.{match_ordering}
@@ -21,9 +21,11 @@ use Rattle.json.proofs.Grammar.{value_is}
 use Rattle.serde_json.specs.Data.{Num}
 use Rattle.serde_json.specs.Read.{converted, number_of, of_items, of_json, of_members, read}
 use Rattle.sw_rows.proofs.Options.{then_some}
-use Rattle.sw_histories.specs.RecordReading.{items_list}
-use Rattle.sw_histories.specs.Outlines.{Counts, IsCount, NoObject, Stands, after_brace, after_bracket, after_key, after_member, after_members, emptied, outline_at, outline_of, standing, values_in}
-use Rattle.sw_histories.specs.declared.outline.Entries.{Entries}
+use Rattle.sw_spine.specs.declared.spine.TheConstants.{MOST_ENTRIES}
+use Rattle.sw_histories.specs.FromTokens.{IsCount}
+use Rattle.sw_histories.specs.RecordReading.{array_at, items_list}
+use Rattle.sw_histories.specs.Outlines.{Counts, NoObject, Stands, after_brace, after_bracket, after_key, after_member, after_members, counted_at, emptied, outline_at, outline_of, standing, values_in}
+use Rattle.sw_histories.specs.declared.outline.ItemsAt.{ItemsAt}
 use Rattle.sw_histories.proofs.ValueReading.{converted-array, converted-object, converted_some, whole}
 
 -- ---- counts
@@ -32,15 +34,15 @@ pub list_long : (vs : List Value) → length (items_list (items_view vs)) ≡ le
 list_long [] = refl
 list_long (v ∷ vs) = ap suc (list_long vs)
 
-pub count_more : (count : ℕ) (vs : List Value) (v : Value) → IsCount count (length vs) → count ≤ 1048576 → IsCount (count + 1) (length (vs ++ v ∷ []))
+pub count_more : (count : ℕ) (vs : List Value) (v : Value) → IsCount count (length vs) → count ≤ MOST_ENTRIES → IsCount (count + 1) (length (vs ++ v ∷ []))
 count_more count vs v h few =
     let same : count ≡ length vs = h.0 few in
     let long : length (vs ++ v ∷ []) ≡ length vs + 1 = length-append vs (v ∷ []) in
     (λ g. omega (arith, same, long), λ g. omega (arith, same, long, g))
 
-pub count_kept : (count : ℕ) (vs : List Value) (v : Value) → IsCount count (length vs) → 1048576 < count → IsCount count (length (vs ++ v ∷ []))
+pub count_kept : (count : ℕ) (vs : List Value) (v : Value) → IsCount count (length vs) → MOST_ENTRIES < count → IsCount count (length (vs ++ v ∷ []))
 count_kept count vs v h many =
-    let most : 1048576 < length vs = h.1 many in
+    let most : MOST_ENTRIES < length vs = h.1 many in
     let long : length (vs ++ v ∷ []) ≡ length vs + 1 = length-append vs (v ∷ []) in
     (λ g. absurd (omega (arith, many, g)), λ g. omega (arith, most, long))
 
@@ -125,7 +127,7 @@ kept (string s) none = refl
 kept (array ds) none = absurd cc
 kept (object ms) none = refl
 
--- ---- where the entries stand
+-- ---- where items stand
 
 abbrev pub here : List Token → List ℕ → List Token → Type 0
 here us k s = read_key us ≡ Some (Some k, s)
@@ -147,32 +149,42 @@ members_passed (suc n) ts us r is more =
     let grown : suc n + 1 ≡ suc (n + 1) = omega arith in
     ap (λ m. after_members m ts) grown ∙ ap (option_and_then (after_members (n + 1))) first.1 ∙ members_passed n first.0 us r first.2 more
 
-entries_put : (name : List ℕ) (d : Data) (ms : Members) → name ≡ codes "entries" → get_member (codes "entries") (put name d ms) ≡ Some d
-entries_put name d ms is = ap (λ k. get_member k (put name d ms)) (sym is) ∙ get_member-put name d ms
+array_put : (sought name : List ℕ) (d : Data) (ms : Members) → name ≡ sought → array_at sought (object (put name d ms)) ≡ option_map items_list (as_array d)
+array_put sought name d ms is =
+    ap (λ o. option_map items_list (option_and_then as_array o)) (ap (λ k. get_member k (put name d ms)) (sym is) ∙ get_member-put name d ms)
 
-stands_here : (name : List ℕ) (counted : Option ℕ) (place : ℕ) (d : Data) (ms : Members) (ts us s : List Token) → after_members place ts ≡ Some us → here us name s → name ≡ codes "entries" → Counts counted d s
-    → Stands (option_map (λ n. record { place = place; count = n }) counted) (put name d ms) ts
-stands_here name None place d ms ts us s passed key is counts = ap (option_and_then as_array) (entries_put name d ms is) ∙ counts
-stands_here name (Some n) place d ms ts us s passed key is counts =
-    let put_in = ap (λ o. option_map items_list (option_and_then as_array o)) (entries_put name d ms is) in
-    let at = ap (λ o. option_and_then values_in (option_and_then after_bracket (option_and_then after_key o))) passed ∙ ap (λ o. option_and_then values_in (option_and_then after_bracket o)) (key_passed us s name key) in
-    (counts.0, put_in ∙ counts.1, at ∙ counts.2, counts.3)
+stands_here : (sought name : List ℕ) (counted : Option ℕ) (place : ℕ) (d : Data) (ms : Members) (ts us s : List Token)
+    → after_members place ts ≡ Some us → here us name s → name ≡ sought → Counts counted d s
+    → Stands sought (counted_at place counted) (put name d ms) ts
+stands_here sought name None place d ms ts us s passed key is counts = array_put sought name d ms is ∙ ap (option_map items_list) counts
+stands_here sought name (Some n) place d ms ts us s passed key is counts =
+    let at =
+    ap (λ o. option_and_then values_in (option_and_then after_bracket (option_and_then after_key o))) passed
+    ∙ ap (λ o. option_and_then values_in (option_and_then after_bracket o)) (key_passed us s name key) in
+    (counts.0, array_put sought name d ms is ∙ counts.1, at ∙ counts.2, counts.3)
 
-stands_else : (before : Option Entries) (name : List ℕ) (d : Data) (ms : Members) (ts : List Token) → (codes "entries" ≡ name → ⊥) → Stands before ms ts → Stands before (put name d ms) ts
-stands_else None name d ms ts other stands = ap (option_and_then as_array) (get_member-put_other (codes "entries") name d ms other) ∙ stands
-stands_else (Some e) name d ms ts other stands = (stands.0, ap (λ o. option_map items_list (option_and_then as_array o)) (get_member-put_other (codes "entries") name d ms other) ∙ stands.1, stands.2, stands.3)
+array_kept : (sought name : List ℕ) (d : Data) (ms : Members) → (sought ≡ name → ⊥) → array_at sought (object (put name d ms)) ≡ array_at sought (object ms)
+array_kept sought name d ms other = ap (λ o. option_map items_list (option_and_then as_array o)) (get_member-put_other sought name d ms other)
 
-stands_at : (b : Bool) (before : Option Entries) (name : List ℕ) (counted : Option ℕ) (place : ℕ) (d : Data) (ms : Members) (ts us s : List Token) → bytes_eq name (codes "entries") ≡ b → after_members place ts ≡ Some us → here us name s
-    → (name ≡ codes "entries" → Counts counted d s) → Stands before ms ts → Stands (cond b (option_map (λ n. record { place = place; count = n }) counted) before) (put name d ms) ts
-stands_at true before name counted place d ms ts us s is passed key counts stands =
-    let same : name ≡ codes "entries" = (bytes_eq-Decides name (codes "entries")).0 is in
-    stands_here name counted place d ms ts us s passed key same (counts same)
-stands_at false before name counted place d ms ts us s is passed key counts stands =
-    stands_else before name d ms ts (λ same. true≢false (sym ((bytes_eq-Decides name (codes "entries")).1 (sym same)) ∙ is)) stands
+stands_else : (sought : List ℕ) (before : Option ItemsAt) (name : List ℕ) (d : Data) (ms : Members) (ts : List Token)
+    → (sought ≡ name → ⊥) → Stands sought before ms ts → Stands sought before (put name d ms) ts
+stands_else sought None name d ms ts other stands = array_kept sought name d ms other ∙ stands
+stands_else sought (Some i) name d ms ts other stands = (stands.0, array_kept sought name d ms other ∙ stands.1, stands.2, stands.3)
 
-pub stands_more : (before : Option Entries) (name : List ℕ) (counted : Option ℕ) (place : ℕ) (d : Data) (ms : Members) (ts us s : List Token) → after_members place ts ≡ Some us → here us name s
-    → (name ≡ codes "entries" → Counts counted d s) → Stands before ms ts → Stands (standing before name place counted) (put name d ms) ts
-stands_more before name counted place d ms ts us s passed key counts stands = stands_at (bytes_eq name (codes "entries")) before name counted place d ms ts us s refl passed key counts stands
+stands_at : (b : Bool) (sought : List ℕ) (before : Option ItemsAt) (name : List ℕ) (counted : Option ℕ) (place : ℕ) (d : Data) (ms : Members) (ts us s : List Token)
+    → bytes_eq name sought ≡ b → after_members place ts ≡ Some us → here us name s → (name ≡ sought → Counts counted d s)
+    → Stands sought before ms ts → Stands sought (cond b (counted_at place counted) before) (put name d ms) ts
+stands_at true sought before name counted place d ms ts us s is passed key counts stands =
+    let same : name ≡ sought = (bytes_eq-Decides name sought).0 is in
+    stands_here sought name counted place d ms ts us s passed key same (counts same)
+stands_at false sought before name counted place d ms ts us s is passed key counts stands =
+    stands_else sought before name d ms ts (λ same. true≢false (sym ((bytes_eq-Decides name sought).1 (sym same)) ∙ is)) stands
+
+pub stands_more : (sought : List ℕ) (before : Option ItemsAt) (name : List ℕ) (counted : Option ℕ) (place : ℕ) (d : Data) (ms : Members) (ts us s : List Token)
+    → after_members place ts ≡ Some us → here us name s → (name ≡ sought → Counts counted d s)
+    → Stands sought before ms ts → Stands sought (standing sought before name place counted) (put name d ms) ts
+stands_more sought before name counted place d ms ts us s passed key counts stands =
+    stands_at (bytes_eq name sought) sought before name counted place d ms ts us s refl passed key counts stands
 
 -- a value that begins with no brace is no object
 pub not_object : (depth : ℕ) (t : Token) (ts r : List Token) (d : Data) → after_brace (t ∷ ts) ≡ None → converted of_json (value (suc depth) (t ∷ ts)) ≡ Some (d, r) → as_object d ≡ None

@@ -23,8 +23,9 @@ use Rattle.sw_lang.specs.declared.fault.Fault.{Fault}
 use Rattle.sw_spine.specs.History.{History, entry}
 use Rattle.sw_spine.specs.declared.history.Entry.{Entry}
 use Rattle.sw_spine.specs.declared.history.State.{State}
+use Rattle.sw_spine.specs.declared.spine.TheConstants.{MOST_ENTRIES, MOST_SESSIONS}
 use Rattle.sw_histories.specs.Told.{◌>>=◌}
-use Rattle.sw_histories.specs.RecordReading.{Frame, array_at, call_in, columns_in, entries_after, entries_of, entry_in, entry_with, frame, frame_in, frame_of, has_call, has_format, has_members, history_of, history_with, in_range, json_of, limit_in, number_at, or_fault, record_at, rows_in, session_in, state_in, state_of, text_at, texts_after}
+use Rattle.sw_histories.specs.RecordReading.{Frame, array_at, call_in, columns_in, entries_after, entries_of, entry_in, entry_with, frame, frame_by, frame_in, frame_of, frame_with, frame_within, has_call, has_format, has_members, history_of, history_with, in_range, json_of, limit_in, number_at, or_fault, record_at, rows_in, session_in, state_in, state_of, text_at, texts_after}
 use Rattle.sw_histories.specs.RecordRelation.{AreEntries, IsEntry, IsRecord}
 use Rattle.sw_histories.proofs.RecordReadingLemmas.{map_some, record_ok}
 
@@ -82,7 +83,7 @@ number_there name d least most n h =
 
 pub entry_only : (columns : List Column) (n : ℕ) (d : Data) (e : Entry) → IsSchema columns → IsEntry columns d e → entry_in columns n d ≡ Ok e
 entry_only columns n d e ok i =
-    let s = number_there (codes "session") d 1 1024 e.session i.session in
+    let s = number_there (codes "session") d 1 MOST_SESSIONS e.session i.session in
     let r = then_some {A = Data} {B = State} (state_of e.call) (get (codes "reply") d) e.state i.state in
     let has : has_call d ≡ Some i.text =
     ap (λ b. cond b (option_and_then (λ r. option_and_then (λ s. text_at (codes "call") d) (get (codes "session") d)) (get (codes "reply") d)) None) i.members
@@ -135,9 +136,9 @@ outer_found : (d : Data) (f : Frame) → frame_of d ≡ Some f → IsOuter d f
 outer_found d f h =
     let inside = if_some {A = Frame} (has_members 5 d && has_format d) (frame_in d) f h in
     let both = and_parts (has_members 5 d) (has_format d) inside.0 in
-    let a = then_some {A = List Column} {B = Frame} (λ columns. option_and_then (λ limit. option_and_then (λ rows. option_map (λ items. frame columns limit rows items) (array_at (codes "entries") d)) (rows_in (kinds_of columns) limit d)) (limit_in d)) (columns_in d) f inside.1 in
-    let b = then_some {A = ℕ} {B = Frame} (λ limit. option_and_then (λ rows. option_map (λ items. frame a.0 limit rows items) (array_at (codes "entries") d)) (rows_in (kinds_of a.0) limit d)) (limit_in d) f a.2 in
-    let r = then_some {A = List Row} {B = Frame} (λ rows. option_map (λ items. frame a.0 b.0 rows items) (array_at (codes "entries") d)) (rows_in (kinds_of a.0) b.0 d) f b.2 in
+    let a = then_some {A = List Column} {B = Frame} (frame_by d) (columns_in d) f inside.1 in
+    let b = then_some {A = ℕ} {B = Frame} (frame_within d a.0) (limit_in d) f a.2 in
+    let r = then_some {A = List Row} {B = Frame} (frame_with d a.0 b.0) (rows_in (kinds_of a.0) b.0 d) f b.2 in
     let e = map_some {A = List Data} {B = Frame} (λ items. frame a.0 b.0 r.0 items) (array_at (codes "entries") d) f r.2 in
     subst (IsOuter d) e.2 (record { members = both.0; format = both.1; columns = a.1; limit = b.1; rows = r.1; items = e.1 })
 
@@ -145,9 +146,9 @@ outer_only : (d : Data) (f : Frame) → IsOuter d f → frame_of d ≡ Some f
 outer_only d f o =
     ap (λ b. cond (b && has_format d) (frame_in d) None) o.members
     ∙ ap (λ b. cond b (frame_in d) None) o.format
-    ∙ ap (option_and_then (λ columns. option_and_then (λ limit. option_and_then (λ rows. option_map (λ items. frame columns limit rows items) (array_at (codes "entries") d)) (rows_in (kinds_of columns) limit d)) (limit_in d))) o.columns
-    ∙ ap (option_and_then (λ limit. option_and_then (λ rows. option_map (λ items. frame f.columns limit rows items) (array_at (codes "entries") d)) (rows_in (kinds_of f.columns) limit d))) o.limit
-    ∙ ap (option_and_then (λ rows. option_map (λ items. frame f.columns f.limit rows items) (array_at (codes "entries") d))) o.rows
+    ∙ ap (option_and_then (frame_by d)) o.columns
+    ∙ ap (option_and_then (frame_within d f.columns)) o.limit
+    ∙ ap (option_and_then (frame_with d f.columns f.limit)) o.rows
     ∙ ap (option_map (λ items. frame f.columns f.limit f.rows items)) o.items
 
 columns_schema : (d : Data) (columns : List Column) → columns_in d ≡ Some columns → IsSchema columns
@@ -171,14 +172,14 @@ ok_same x y h = cc
 err_ok : (e : Refusal) (y : History) → ◌≡◌ {A = Result History Refusal} (Err e) (Ok y) → ⊥
 err_ok e y h = cc
 
-items_found : (f : Frame) (h : History) → entries_of f ≡ Ok h → (length f.items ≤ 1048576) × ((es : List Entry) × (entries_after f.columns [] f.items ≡ Ok es) × (history_with f es ≡ h))
-items_found f h e = at (nat_le (length f.items) 1048576) refl e
+items_found : (f : Frame) (h : History) → entries_of f ≡ Ok h → (length f.items ≤ MOST_ENTRIES) × ((es : List Entry) × (entries_after f.columns [] f.items ≡ Ok es) × (history_with f es ≡ h))
+items_found f h e = at (nat_le (length f.items) MOST_ENTRIES) refl e
   where
-    at : (b : Bool) → nat_le (length f.items) 1048576 ≡ b → cond b (entries_after f.columns [] f.items >>= λ es. Ok (history_with f es)) (Err (TooMany 1048576)) ≡ Ok h → (length f.items ≤ 1048576) × ((es : List Entry) × (entries_after f.columns [] f.items ≡ Ok es) × (history_with f es ≡ h))
+    at : (b : Bool) → nat_le (length f.items) MOST_ENTRIES ≡ b → cond b (entries_after f.columns [] f.items >>= λ es. Ok (history_with f es)) (Err (TooMany MOST_ENTRIES)) ≡ Ok h → (length f.items ≤ MOST_ENTRIES) × ((es : List Entry) × (entries_after f.columns [] f.items ≡ Ok es) × (history_with f es ≡ h))
     at true few g =
         let a = then_ok {A = List Entry} {B = History} (entries_after f.columns [] f.items) (λ es. Ok (history_with f es)) h g in
-        (leb-true (length f.items) 1048576 few, (a.0, a.1, ok_same (history_with f a.0) h a.2))
-    at false many g = absurd (err_ok (TooMany 1048576) h g)
+        (leb-true (length f.items) MOST_ENTRIES few, (a.0, a.1, ok_same (history_with f a.0) h a.2))
+    at false many g = absurd (err_ok (TooMany MOST_ENTRIES) h g)
 
 pub record_found : (bytes : List ℕ) (h : History) → record_at bytes ≡ Ok h → IsRecord bytes h
 unfolding record_at
@@ -208,9 +209,9 @@ pub record_only : (bytes : List ℕ) (h : History) → IsRecord bytes h → reco
 record_only bytes h r =
     let f : Frame = frame h.columns h.limit h.rows r.items in
     let outer : frame_of r.value ≡ Some f = outer_only r.value f (record { members = r.members; format = r.format; columns = r.columns; limit = r.limit; rows = r.rows; items = r.items_are }) in
-    let few : nat_le (length r.items) 1048576 ≡ true = le-leb (length r.items) 1048576 r.few in
+    let few : nat_le (length r.items) MOST_ENTRIES ≡ true = le-leb (length r.items) MOST_ENTRIES r.few in
     let all : entries_after h.columns [] r.items ≡ Ok h.entries = entries_only h.columns [] r.items h.entries (columns_schema r.value h.columns r.columns) r.entries in
     sym (record_ok bytes r.value r.utf8 r.json)
     ∙ ap (λ o. or_fault 0 o >>= entries_of) outer
-    ∙ ap (λ b. cond b (entries_after h.columns [] r.items >>= λ es. Ok (history_with f es)) (Err (TooMany 1048576))) few
+    ∙ ap (λ b. cond b (entries_after h.columns [] r.items >>= λ es. Ok (history_with f es)) (Err (TooMany MOST_ENTRIES))) few
     ∙ ap (λ (o : Result (List Entry) Refusal). o >>= λ es. Ok (history_with f es)) all

@@ -21,12 +21,13 @@ use Rattle.sw_rows.specs.Header.{Column, kinds_of}
 use Rattle.sw_rows.specs.declared.refusal.Refusal.{Refusal}
 use Rattle.sw_rows.specs.declared.refusal.Refusal.TheVariants.{BadLine}
 use Rattle.sw_rows.specs.declared.refusal.Why.TheVariants as why
+use Rattle.sw_rows.specs.declared.table.TheConstants.{MOST_ROWS}
 use Rattle.sw_rows.proofs.Options.{if_some, then_some}
 use Rattle.sw_spine.specs.Table.{is_numbered}
 use Rattle.sw_spine.specs.declared.history.Entry.{Entry}
 use Rattle.sw_spine.specs.declared.history.State.TheVariants as state
 use Rattle.sw_histories.specs.Told.{◌>>=◌}
-use Rattle.sw_histories.specs.RecordReading.{Frame, IsFrame, array_at, cell_in, cells_after, cells_of, columns_in, entries_after, entry_in, frame, frame_in, frame_of, has_format, has_members, history_of, in_range, limit_in, items_list, number_at, or_fault, record_at, row_in, rows_after, rows_in, rows_up_to, state_in, state_of, texts_after}
+use Rattle.sw_histories.specs.RecordReading.{Frame, IsFrame, array_at, cell_in, cells_after, cells_of, columns_in, entries_after, entry_in, frame, frame_by, frame_in, frame_of, frame_with, frame_within, has_format, has_members, history_of, in_range, items_list, limit_in, number_at, or_fault, record_at, row_in, rows_after, rows_in, rows_up_to, state_in, state_of, texts_after, with_row}
 
 pub list_items : (ds : List Data) → items_list (items_of ds) ≡ ds
 list_items [] = refl
@@ -131,7 +132,7 @@ rows_sound kinds done rs [] h all =
     let same : done ≡ rs = same_Some done rs h in
     record { numbered = subst (λ l. is_numbered 1 l ≡ true) same all; count = ap (λ l. length l) (sym same) ∙ omega arith }
 rows_sound kinds done rs (d ∷ ds) h all =
-    let parts = then_some {A = List ℤ} {B = List Row} (λ cells. rows_after kinds (done ++ row_of (length done + 1) cells ∷ []) ds) (row_in kinds d) rs h in
+    let parts = then_some {A = List ℤ} {B = List Row} (λ cells. rows_after kinds (with_row done cells) ds) (row_in kinds d) rs h in
     let r = row_of (length done + 1) parts.0 in
     let more : is_numbered 1 (done ++ r ∷ []) ≡ true = numbered_push 1 done r all (omega arith) in
     let rest = rows_sound kinds (done ++ r ∷ []) rs ds parts.2 more in
@@ -154,10 +155,10 @@ pub map_some : {A B : Type 0} (g : A → B) (o : Option A) (y : B) → option_ma
 map_some g None y h = absurd (none-some y h)
 map_some g (Some x) y h = (x, refl, same_Some (g x) y h)
 
-limit_sound : (d : Data) (limit : ℕ) → limit_in d ≡ Some limit → (1 ≤ limit) × (limit ≤ 1048576)
+limit_sound : (d : Data) (limit : ℕ) → limit_in d ≡ Some limit → (1 ≤ limit) × (limit ≤ MOST_ROWS)
 limit_sound d limit h =
-    let parts = then_some {A = ℕ} {B = ℕ} (in_range 1 1048576) (number_at (codes "limit") d) limit h in
-    range_bounds 1 1048576 parts.0 limit parts.2
+    let parts = then_some {A = ℕ} {B = ℕ} (in_range 1 MOST_ROWS) (number_at (codes "limit") d) limit h in
+    range_bounds 1 MOST_ROWS parts.0 limit parts.2
 
 record FitRows (limit : ℕ) (rs : List Row) : Type 0 where
   numbered : is_numbered 1 rs ≡ true
@@ -179,13 +180,25 @@ rows_in_sound kinds limit d rs h =
 pub frame_sound : (d : Data) (f : Frame) → frame_of d ≡ Some f → IsFrame f
 frame_sound d f h =
     let inside = if_some {A = Frame} (has_members 5 d && has_format d) (frame_in d) f h in
-    let a = then_some {A = List Column} {B = Frame} (λ columns. option_and_then (λ limit. option_and_then (λ rows. option_map (λ items. frame columns limit rows items) (array_at (codes "entries") d)) (rows_in (kinds_of columns) limit d)) (limit_in d)) (columns_in d) f inside.1 in
-    let b = then_some {A = ℕ} {B = Frame} (λ limit. option_and_then (λ rows. option_map (λ items. frame a.0 limit rows items) (array_at (codes "entries") d)) (rows_in (kinds_of a.0) limit d)) (limit_in d) f a.2 in
-    let r = then_some {A = List Row} {B = Frame} (λ rows. option_map (λ items. frame a.0 b.0 rows items) (array_at (codes "entries") d)) (rows_in (kinds_of a.0) b.0 d) f b.2 in
+    let a = then_some {A = List Column} {B = Frame} (frame_by d) (columns_in d) f inside.1 in
+    let b = then_some {A = ℕ} {B = Frame} (frame_within d a.0) (limit_in d) f a.2 in
+    let r = then_some {A = List Row} {B = Frame} (frame_with d a.0 b.0) (rows_in (kinds_of a.0) b.0 d) f b.2 in
     let e = map_some {A = List Data} {B = Frame} (λ items. frame a.0 b.0 r.0 items) (array_at (codes "entries") d) f r.2 in
     let limit = limit_sound d b.0 b.1 in
     let rows = rows_in_sound (kinds_of a.0) b.0 d r.0 r.1 in
     subst IsFrame e.2 (record { some = limit.0; most = limit.1; few = rows.few; numbered = rows.numbered })
+
+-- ---- rows
+
+pub row_none : (kinds : List Kind) (rs : List Row) (d : Data) (ds : List Data) (all : Option (List Row)) → all ≡ rows_after kinds rs (d ∷ ds) → None ≡ row_in kinds d → None ≡ all
+row_none kinds rs d ds all before none = sym (before ∙ ap (option_and_then (λ cells. rows_after kinds (with_row rs cells) ds)) (sym none))
+
+pub rows_step : (kinds : List Kind) (rs more : List Row) (d : Data) (ds : List Data) (cells : List ℤ) (n : ℕ) (all : Option (List Row)) → all ≡ rows_after kinds rs (d ∷ ds) → n ≡ length rs + 1 → Some cells ≡ row_in kinds d → more ≡ rs ++ row_of n cells ∷ [] → all ≡ rows_after kinds more ds
+rows_step kinds rs more d ds cells n all before place is grown =
+    before
+    ∙ ap (option_and_then (λ cells. rows_after kinds (with_row rs cells) ds)) (sym is)
+    ∙ ap (λ m. rows_after kinds (rs ++ row_of m cells ∷ []) ds) (sym place)
+    ∙ ap (λ l. rows_after kinds l ds) (sym grown)
 
 -- ---- entries
 

@@ -27,7 +27,9 @@ use Rattle.sw_spine.specs.History.{History}
 use Rattle.sw_spine.specs.Table.{is_numbered}
 use Rattle.sw_spine.specs.declared.history.Entry.{Entry}
 use Rattle.sw_spine.specs.declared.history.State.{State}
+use Rattle.sw_rows.specs.declared.table.TheConstants.{MOST_ROWS}
 use Rattle.sw_spine.specs.declared.history.State.TheVariants as state
+use Rattle.sw_spine.specs.declared.spine.TheConstants.{MOST_ENTRIES, MOST_SESSIONS}
 use Rattle.sw_histories.specs.RecordReading.{cell_in, cells_after, cells_of, columns_in, in_range, items_list, of_kind, row_in, rows_after, rows_in, rows_up_to, state_of, texts_after}
 use Rattle.sw_histories.specs.RecordRelation.{AreEntries, IsEntry, IsRecord}
 use Rattle.sw_histories.specs.RecordText.{attribute_text, cell_data, entry_data, list_data, record_data, record_text, row_data, state_data}
@@ -156,7 +158,7 @@ entry_back columns e ok i = record {
   text = call_text columns e.call;
   text_is = refl;
   call = line_back columns i.line e.call ok i.call;
-  session = within 1 1024 e.session (omega (arith, i.first)) i.last;
+  session = within 1 MOST_SESSIONS e.session (omega (arith, i.first)) i.last;
   state = state_back columns e.call e.state i.state;
 }
 
@@ -207,11 +209,11 @@ written h r = record {
   members = refl;
   format = refl;
   columns = columns_back h r.schema;
-  limit = within 1 1048576 h.limit (let some = r.sound.some in omega (arith, some)) r.sound.most;
+  limit = within 1 MOST_ROWS h.limit (let some = r.sound.some in omega (arith, some)) r.sound.most;
   rows = rows_back h r;
   items = map (entry_data h.columns) h.entries;
   items_are = ap (λ l. Some l) (list_items (map (entry_data h.columns) h.entries));
-  few = subst (λ n. n ≤ 1048576) (sym (length-map h.entries (entry_data h.columns))) r.sound.short;
+  few = subst (λ n. n ≤ MOST_ENTRIES) (sym (length-map h.entries (entry_data h.columns))) r.sound.short;
   entries = entries_back h.columns h.entries r.schema r.calls;
 }
 

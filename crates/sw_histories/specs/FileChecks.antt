@@ -20,16 +20,29 @@ IsVerdict h status line =
     (IsLegal h × (status ≡ 0) × (line ≡ legal_line (length h.entries)))
     ⊎ ((place : ℕ) × IsFirstFault h place × (status ≡ 1) × (line ≡ illegal_line place))
 
--- a history's verdict was written; or a beginning of it was, since the sink failed; or there was no memory
-abbrev pub Judges : History → Option (List ℕ) → Option (List ℕ) → ℕ → ℕ → Result ℕ Refusal → Type 0
-Judges h old new failed_old failed_new (Ok status) = (line : List ℕ) × IsVerdict h status line × Took old new line × (failed_new ≡ failed_old)
-Judges h old new failed_old failed_new (Err refusal.NoMemory) = (new ≡ old) × (failed_new ≡ failed_old)
-Judges h old new failed_old failed_new (Err refusal.Output) = (status : ℕ) × (line : List ℕ) × IsVerdict h status line × TookBeginning old new line × Raised failed_old failed_new
-Judges h old new failed_old failed_new (Err other) = ⊥
+-- nothing was written, and the count of failures stands
+abbrev pub IsUntouched : Option (List ℕ) → Option (List ℕ) → ℕ → ℕ → Type 0
+IsUntouched old new f g = (new ≡ old) × (g ≡ f)
 
--- the same of the history of a file's bytes; where they are none, the refusal is their first fault, and nothing was written
+-- a history's verdict was written, and the count of failures stands
+abbrev pub HasJudged : History → ℕ → Option (List ℕ) → Option (List ℕ) → ℕ → ℕ → Type 0
+HasJudged h status old new f g = (line : List ℕ) × IsVerdict h status line × Took old new line × (g ≡ f)
+
+-- a beginning of it was, since the sink failed
+abbrev pub HasBegun : History → Option (List ℕ) → Option (List ℕ) → ℕ → ℕ → Type 0
+HasBegun h old new f g =
+    (status : ℕ) × (line : List ℕ) × IsVerdict h status line × TookBeginning old new line × Raised f g
+
+-- a history's verdict was written; or a beginning of it was; or there was no memory
+abbrev pub Judges : History → Option (List ℕ) → Option (List ℕ) → ℕ → ℕ → Result ℕ Refusal → Type 0
+Judges h old new f g (Ok status) = HasJudged h status old new f g
+Judges h old new f g (Err refusal.NoMemory) = IsUntouched old new f g
+Judges h old new f g (Err refusal.Output) = HasBegun h old new f g
+Judges h old new f g (Err other) = ⊥
+
+-- the same of the history of a file's bytes; where they are none, the refusal is their first fault
 abbrev pub ChecksFile : List ℕ → Option (List ℕ) → Option (List ℕ) → ℕ → ℕ → Result ℕ Refusal → Type 0
-ChecksFile bytes old new failed_old failed_new (Ok status) = (h : History) × (record_at bytes ≡ Ok h) × Judges h old new failed_old failed_new (Ok status)
-ChecksFile bytes old new failed_old failed_new (Err refusal.NoMemory) = (new ≡ old) × (failed_new ≡ failed_old)
-ChecksFile bytes old new failed_old failed_new (Err refusal.Output) = (h : History) × (record_at bytes ≡ Ok h) × Judges h old new failed_old failed_new (Err refusal.Output)
-ChecksFile bytes old new failed_old failed_new (Err other) = (record_at bytes ≡ Err other) × (new ≡ old) × (failed_new ≡ failed_old)
+ChecksFile bytes old new f g (Ok status) = (h : History) × (record_at bytes ≡ Ok h) × HasJudged h status old new f g
+ChecksFile bytes old new f g (Err refusal.NoMemory) = IsUntouched old new f g
+ChecksFile bytes old new f g (Err refusal.Output) = (h : History) × (record_at bytes ≡ Ok h) × HasBegun h old new f g
+ChecksFile bytes old new f g (Err other) = (record_at bytes ≡ Err other) × IsUntouched old new f g

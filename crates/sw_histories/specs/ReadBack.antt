@@ -12,6 +12,7 @@ use Rattle.sw_spine.specs.History.{History, IsSound, entry, is_select}
 use Rattle.sw_spine.specs.declared.history.Entry.{Entry}
 use Rattle.sw_spine.specs.declared.history.State.{State}
 use Rattle.sw_spine.specs.declared.history.State.TheVariants as state
+use Rattle.sw_spine.specs.declared.spine.TheConstants.{MOST_SESSIONS}
 use Rattle.sw_histories.specs.RecordReading.{of_kind, record_at}
 use Rattle.sw_histories.specs.RecordText.{record_data, record_text}
 
@@ -55,7 +56,7 @@ pub record IsCalled (columns : List Column) (e : Entry) : Type 0 where
   pub line : List ℕ
   pub call : IsLine columns line (Some e.call)
   pub first : 0 < e.session
-  pub last : e.session ≤ 1024
+  pub last : e.session ≤ MOST_SESSIONS
   pub state : IsStateOf e.call e.state
 
 -- what holds of the record of a run: it is sound, of a table that was read, and its calls are those of lines

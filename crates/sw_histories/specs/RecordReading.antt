@@ -17,6 +17,8 @@ use Rattle.sw_rows.specs.declared.refusal.Refusal.{Refusal}
 use Rattle.sw_rows.specs.declared.refusal.Refusal.TheVariants.{BadLine, TooMany}
 use Rattle.sw_rows.specs.declared.refusal.Why.TheVariants as why
 use Rattle.sw_lang.specs.Reading.{line_at, refused}
+use Rattle.sw_rows.specs.declared.table.TheConstants.{MOST_ROWS}
+use Rattle.sw_spine.specs.declared.spine.TheConstants.{MOST_ENTRIES, MOST_SESSIONS}
 use Rattle.sw_spine.specs.Table.{is_numbered}
 use Rattle.sw_spine.specs.History.{History, entry, is_select}
 use Rattle.sw_spine.specs.declared.history.Entry.{Entry}
@@ -54,15 +56,19 @@ texts_after done (d ∷ ds) = option_and_then (λ t. texts_after (done ++ t ∷ 
 
 -- ---- outside the entries
 
+-- the texts that are the items of the array that is the member of a name
+abbrev pub texts_at : List ℕ → Data → Option (List (List ℕ))
+texts_at name d = option_and_then (texts_after []) (array_at name d)
+
 abbrev pub columns_in : Data → Option (List Column)
-columns_in d = option_and_then (λ ts. result_ok (header_of ts)) (option_and_then (texts_after []) (array_at (codes "attributes") d))
+columns_in d = option_and_then (λ ts. result_ok (header_of ts)) (texts_at (codes "attributes") d)
 
 abbrev pub in_range : ℕ → ℕ → ℕ → Option ℕ
 in_range least most n = if nat_le least n && nat_le n most then Some n else None
 
 -- from 1 to 1,048,576
 abbrev pub limit_in : Data → Option ℕ
-limit_in d = option_and_then (in_range 1 1048576) (number_at (codes "limit") d)
+limit_in d = option_and_then (in_range 1 MOST_ROWS) (number_at (codes "limit") d)
 
 -- the number 1
 abbrev pub has_format : Data → Bool
@@ -90,10 +96,14 @@ cells_of kinds ds = if length ds == length kinds then option_map padded (cells_a
 abbrev pub row_in : List Kind → Data → Option (List ℤ)
 row_in kinds d = option_and_then (λ ds. cells_of kinds (items_list ds)) (as_array d)
 
+-- rows, and behind them one more of these cells, with the next key
+abbrev pub with_row : List Row → List ℤ → List Row
+with_row done cells = done ++ row_of (length done + 1) cells ∷ []
+
 -- rows, after those that stand before; their keys are 1, 2, 3 and so on
 abbrev pub rows_after : List Kind → List Row → List Data → Option (List Row)
 rows_after kinds done [] = Some done
-rows_after kinds done (d ∷ ds) = option_and_then (λ cells. rows_after kinds (done ++ row_of (length done + 1) cells ∷ []) ds) (row_in kinds d)
+rows_after kinds done (d ∷ ds) = option_and_then (λ cells. rows_after kinds (with_row done cells) ds) (row_in kinds d)
 
 -- at most as many as the limit
 abbrev pub rows_up_to : List Kind → ℕ → List Data → Option (List Row)
@@ -112,9 +122,20 @@ pub record Frame : Type 0 where
 abbrev pub frame : List Column → ℕ → List Row → List Data → Frame
 frame columns limit rows items = record { columns = columns; limit = limit; rows = rows; items = items }
 
+-- the frame of these columns, this limit and these rows
+abbrev pub frame_with : Data → List Column → ℕ → List Row → Option Frame
+frame_with d columns limit rows = option_map (λ items. frame columns limit rows items) (array_at (codes "entries") d)
+
+-- of these columns and this limit
+abbrev pub frame_within : Data → List Column → ℕ → Option Frame
+frame_within d columns limit = option_and_then (frame_with d columns limit) (rows_in (kinds_of columns) limit d)
+
+-- of these columns
+abbrev pub frame_by : Data → List Column → Option Frame
+frame_by d columns = option_and_then (frame_within d columns) (limit_in d)
+
 abbrev pub frame_in : Data → Option Frame
-frame_in d =
-    option_and_then (λ columns. option_and_then (λ limit. option_and_then (λ rows. option_map (λ items. frame columns limit rows items) (array_at (codes "entries") d)) (rows_in (kinds_of columns) limit d)) (limit_in d)) (columns_in d)
+frame_in d = option_and_then (frame_by d) (columns_in d)
 
 -- an object of exactly these five members
 abbrev pub frame_of : Data → Option Frame
@@ -130,9 +151,13 @@ or_fault n (Some x) = Ok x
 abbrev pub text_at : List ℕ → Data → Option (List ℕ)
 text_at name d = option_and_then as_str (get name d)
 
+-- `call`, which is a text, beside `session`
+abbrev pub session_call : Data → Option (List ℕ)
+session_call d = option_and_then (λ s. text_at (codes "call") d) (get (codes "session") d)
+
 -- an object of just `call`, which is a text, `reply` and `session`
 abbrev pub has_call : Data → Option (List ℕ)
-has_call d = if has_members 3 d then option_and_then (λ r. option_and_then (λ s. text_at (codes "call") d) (get (codes "session") d)) (get (codes "reply") d) else None
+has_call d = if has_members 3 d then option_and_then (λ r. session_call d) (get (codes "reply") d) else None
 
 -- a line that is no call is no entry's
 abbrev pub call_in : List Column → ℕ → List ℕ → Result Call Refusal
@@ -140,7 +165,7 @@ call_in columns n text = refused n (line_at columns text) >>= or_fault n
 
 -- from 1 to 1,024
 abbrev pub session_in : Data → Option ℕ
-session_in d = option_and_then (in_range 1 1024) (number_at (codes "session") d)
+session_in d = option_and_then (in_range 1 MOST_SESSIONS) (number_at (codes "session") d)
 
 -- the word for a select that is open or void
 abbrev pub word_in : Call → List ℕ → Option State
@@ -171,7 +196,8 @@ entry_in columns n d = or_fault n (has_call d) >>= λ text. (call_in columns n t
 -- entries, after those that stand before
 abbrev pub entries_after : List Column → List Entry → List Data → Result (List Entry) Refusal
 entries_after columns done [] = Ok done
-entries_after columns done (d ∷ ds) = entry_in columns (length done + 1) d >>= λ e. entries_after columns (done ++ e ∷ []) ds
+entries_after columns done (d ∷ ds) =
+    entry_in columns (length done + 1) d >>= λ e. entries_after columns (done ++ e ∷ []) ds
 
 -- ---- the file
 
@@ -180,7 +206,10 @@ history_with f es = record { columns = f.columns; rows = f.rows; limit = f.limit
 
 -- the number of entries is looked at before them
 abbrev pub entries_of : Frame → Result History Refusal
-entries_of f = if nat_le (length f.items) 1048576 then (entries_after f.columns [] f.items >>= λ es. Ok (history_with f es)) else Err (TooMany 1048576)
+entries_of f =
+    if nat_le (length f.items) MOST_ENTRIES
+    then (entries_after f.columns [] f.items >>= λ es. Ok (history_with f es))
+    else Err (TooMany MOST_ENTRIES)
 
 abbrev pub history_of : Data → Result History Refusal
 history_of d = or_fault 0 (frame_of d) >>= entries_of
@@ -196,6 +225,6 @@ record_at bytes = or_fault 0 (json_of bytes) >>= history_of
 -- what holds of the part outside the entries
 pub record IsFrame (f : Frame) : Type 0 where
   pub some : 0 < f.limit
-  pub most : f.limit ≤ 1048576
+  pub most : f.limit ≤ MOST_ROWS
   pub few : length f.rows ≤ f.limit
   pub numbered : is_numbered 1 f.rows ≡ true

@@ -1,5 +1,5 @@
--- Which bytes are the file of which record, apart from the order in which faults are looked for: the parts of the file stand
--- beside one another.
+-- Which bytes are the file of which record, apart from the order in which faults are looked for: the parts of the file
+-- stand beside one another.
 use Rattle.std.specs.Prelude.{◌≡◌, ◌≤◌, IsUtf8, ℕ, true, List, [], ◌∷◌, codes, length, Some}
 use Rattle.serde_json.specs.Data.{Data}
 use Rattle.serde_json.specs.Read.{read}
@@ -7,6 +7,7 @@ use Rattle.sw_rows.specs.Header.{Column, kinds_of}
 use Rattle.sw_lang.specs.Grammar.{IsLine}
 use Rattle.sw_spine.specs.History.{History}
 use Rattle.sw_spine.specs.declared.history.Entry.{Entry}
+use Rattle.sw_spine.specs.declared.spine.TheConstants.{MOST_ENTRIES}
 use Rattle.sw_histories.specs.RecordReading.{array_at, columns_in, has_format, has_members, limit_in, rows_in, session_in, state_in, text_at}
 
 -- an object of three members: a line that is the call, the session's number, and what has become of the call
@@ -36,5 +37,5 @@ pub record IsRecord (bytes : List ℕ) (h : History) : Type 0 where
   pub rows : rows_in (kinds_of h.columns) h.limit value ≡ Some h.rows
   pub items : List Data
   pub items_are : array_at (codes "entries") value ≡ Some items
-  pub few : length items ≤ 1048576
+  pub few : length items ≤ MOST_ENTRIES
   pub entries : AreEntries h.columns items h.entries

@@ -1,9 +1,9 @@
 -- The text of a record: a JSON object, in which numbers are whole.
-use Rattle.std.specs.Prelude.{◌≡◌, ◌++◌, ℕ, ℤ, List, codes, decimal, length, map, take, Option, Result, IfErr, OnOk}
+use Rattle.std.specs.Prelude.{◌≡◌, ◌++◌, Bool, ℕ, ℤ, List, codes, decimal, length, map, take, Option, Result, IfErr, OnOk}
 use Rattle.serde_json.specs.Data.{Data, array, member, no_members, number, object, string, unsigned}
 use Rattle.serde_json.specs.Find.{of_integer}
 use Rattle.serde_json.specs.View.{items_of}
-use Rattle.serde_json.specs.Written.{compact_text}
+use Rattle.serde_json.specs.Written.{comma_if, compact_text}
 use Rattle.sw_rows.specs.Header.{Column}
 use Rattle.sw_rows.specs.Spelling.{kind_text}
 use Rattle.sw_table.specs.declared.row.Row.{Row}
@@ -29,12 +29,19 @@ attribute_text c = c.0 ++ (codes ":" ++ kind_text c.1)
 abbrev pub texts_data : List (List ℕ) → Data
 texts_data ts = list_data (map (λ t. string t) ts)
 
+-- the attributes, each with its type
+abbrev pub attributes_data : List Column → Data
+attributes_data columns = texts_data (map attribute_text columns)
+
 abbrev pub cell_data : ℤ → Data
 cell_data z = number (of_integer z)
 
 -- the stored cells of a row of n attributes
 abbrev pub row_data : ℕ → Row → Data
 row_data n r = list_data (map cell_data (take n r.cells))
+
+abbrev pub rows_data : ℕ → List Row → Data
+rows_data n rs = list_data (map (row_data n) rs)
 
 -- the lines of a reply, or the word for a call that has none
 abbrev pub state_data : List Column → Call → State → Data
@@ -49,6 +56,9 @@ entry_data columns e =
     (member (codes "reply") (state_data columns e.call e.state)
     (member (codes "session") (number (unsigned e.session)) no_members)))
 
+abbrev pub entries_data : List Column → List Entry → Data
+entries_data columns es = list_data (map (entry_data columns) es)
+
 -- the five members of the file
 abbrev pub whole_data : Data → Data → ℕ → Data → Data
 whole_data attributes entries limit rows =
@@ -60,8 +70,8 @@ whole_data attributes entries limit rows =
 
 abbrev pub record_data : History → Data
 record_data h =
-    whole_data (texts_data (map attribute_text h.columns)) (list_data (map (entry_data h.columns) h.entries))
-    h.limit (list_data (map (row_data (length h.columns)) h.rows))
+    whole_data (attributes_data h.columns) (entries_data h.columns h.entries)
+    h.limit (rows_data (length h.columns) h.rows)
 
 -- the bytes of a record's file: no blanks, and in each object the keys ascend
 unfoldable pub record_text : History → List ℕ
@@ -70,9 +80,17 @@ record_text h = compact_text (record_data h)
 -- a text and then what stands before the rows
 abbrev pub front_text : List ℕ → History → List ℕ
 front_text before h =
-    before ++ codes "{\"attributes\":" ++ compact_text (texts_data (map attribute_text h.columns))
-    ++ codes ",\"entries\":" ++ compact_text (list_data (map (entry_data h.columns) h.entries))
+    before ++ codes "{\"attributes\":" ++ compact_text (attributes_data h.columns)
+    ++ codes ",\"entries\":" ++ compact_text (entries_data h.columns h.entries)
     ++ codes ",\"format\":1,\"limit\":" ++ decimal h.limit
+
+-- an item of an array: a comma, where one stands before it, and its text
+abbrev pub item_text : Bool → Data → List ℕ
+item_text is_later d = comma_if is_later ++ compact_text d
+
+-- these bytes were put behind those that stood there; or that is refused
+abbrev pub Puts : {A E : Type 0} → Result A E → List ℕ → List ℕ → List ℕ → Type 0
+Puts result old new bytes = OnOk result (new ≡ old ++ bytes)
 
 -- what a refusal of a writer leaves: without memory nothing was written; after a failure a beginning of the text was
 abbrev pub Stops : Option (List ℕ) → Option (List ℕ) → ℕ → ℕ → List ℕ → Refusal → Type 0
@@ -80,7 +98,8 @@ Stops old new failed_old failed_new text refusal.NoMemory = (new ≡ old) × (fa
 Stops old new failed_old failed_new text refusal.Output = TookBeginning old new text × Raised failed_old failed_new
 Stops old new failed_old failed_new text other = ⊥
 
--- a text went out whole, and the count of failures stands; or the refusal tells how much of it did
-pub record WritesText (old new : Option (List ℕ)) (failed_old failed_new : ℕ) (result : Result (Unit {0}) Refusal) (text : List ℕ) : Type 0 where
-  pub whole : OnOk result (Took old new text × (failed_new ≡ failed_old))
-  pub part : IfErr result (Stops old new failed_old failed_new text)
+-- a text went out whole, and the count f of failures stands; or the refusal tells how much of it did
+pub record WritesText (old new : Option (List ℕ)) (f g : ℕ) (result : Result (Unit {0}) Refusal) (text : List ℕ)
+    : Type 0 where
+  pub whole : OnOk result (Took old new text × (g ≡ f))
+  pub part : IfErr result (Stops old new f g text)

@@ -11,28 +11,32 @@ use sw_rows::{Refusal, Sink};
 use sw_spine::Record;
 
 fn write_count<W: Sink>(count: usize, out: &mut W) -> Result<(), Refusal>
-    ensures { Writes (W.taken out.old) (W.taken out.new) (W.failed out.old) (W.failed out.new) result (decimal count ++ codes " entries\n") }
+    ensures { Writes (W.taken out.old) (W.taken out.new) (W.failed out.old) (W.failed out.new) result
+        (decimal count ++ codes " entries\n") }
 {
     write_number(count, out)?;
     write_all(out, b" entries\n")
 }
 
 fn write_legal<W: Sink>(count: usize, out: &mut W) -> Result<(), Refusal>
-    ensures { Writes (W.taken out.old) (W.taken out.new) (W.failed out.old) (W.failed out.new) result (legal_line count) }
+    ensures { Writes (W.taken out.old) (W.taken out.new) (W.failed out.old) (W.failed out.new) result
+        (legal_line count) }
 {
     write_all(out, b"legal: ")?;
     write_count(count, out)
 }
 
 fn write_place<W: Sink>(place: u64, out: &mut W) -> Result<(), Refusal>
-    ensures { Writes (W.taken out.old) (W.taken out.new) (W.failed out.old) (W.failed out.new) result (decimal place ++ codes "\n") }
+    ensures { Writes (W.taken out.old) (W.taken out.new) (W.failed out.old) (W.failed out.new) result
+        (decimal place ++ codes "\n") }
 {
     write_number(place, out)?;
     write_all(out, b"\n")
 }
 
 fn write_fault_place<W: Sink>(place: u64, out: &mut W) -> Result<(), Refusal>
-    ensures { Writes (W.taken out.old) (W.taken out.new) (W.failed out.old) (W.failed out.new) result (illegal_line place) }
+    ensures { Writes (W.taken out.old) (W.taken out.new) (W.failed out.old) (W.failed out.new) result
+        (illegal_line place) }
 {
     write_all(out, b"not legal: entry ")?;
     write_place(place, out)

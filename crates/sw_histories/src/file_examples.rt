@@ -1,5 +1,5 @@
-//! A worked example: the file that the definitions give for a history that is written out, and the history that they give
-//! for the file.
+//! A worked example: the file that the definitions give for a history that is written out, and the history that they
+//! give for the file.
 //!
 //! The function here does nothing. Its contract is the example, and the check computes it.
 

@@ -1,12 +1,9 @@
-//! A file's object without its entries, which are passed over, and where they stand.
+//! A file's object without its entries and its rows, which are passed over, and where they stand.
 
-ghost use Rattle.std.specs.Prelude.{◌≡◌, ◌∷◌, ◌<◌, ℕ, List, codes, length, Err, None, Some, IfOk, MatchResult, OnOk, option_and_then};
-ghost use Rattle.json.specs.Json.{items, members, value};
-ghost use Rattle.serde_json.specs.Data.{Data, Items, no_members};
-ghost use Rattle.serde_json.specs.Read.{converted, of_items, of_json, of_members, read};
-ghost use Rattle.serde_json.specs.View.{view};
-ghost use Rattle.sw_histories.specs.RecordReading.{items_list};
-ghost use Rattle.sw_histories.specs.Outlines.{Counts, IsCount, IsOutline, IsOutlineOf, NoObject, after_brace, after_member, after_members, emptied, items_after, outline_at, standing};
+ghost use Rattle.std.specs.Prelude.{◌≡◌, ◌<◌, length, Err, None, IfOk, OnOk};
+ghost use Rattle.serde_json.specs.Read.{read};
+ghost use Rattle.sw_histories.specs.FromTokens.{data_from, items_from, members_from};
+ghost use Rattle.sw_histories.specs.Outlines.{HasEmptied, HasOutlined, HasPassed, IsOutline, IsOutlineOf, NoObject, Passes, after_member, after_members, is_passed, items_entered, standing};
 
 use crate::values::{NoValue, read, read_from};
 use json::{Reader, Scratch, Token};
@@ -16,7 +13,7 @@ use sw_spine::MOST_ENTRIES;
 
 /// Passes over a member of an object.
 fn pass(reader: &mut Reader<'_>) -> Result<(), NoValue>
-    ensures { MatchResult result (λ _. after_member reader.old ≡ Some reader.new) (λ _. after_member reader.old ≡ None) }
+    ensures { Passes result (after_member reader.old) reader.new }
 {
     match reader.next_key() {
         Ok(Some(_)) => match reader.skip_value(126) {
@@ -29,7 +26,7 @@ fn pass(reader: &mut Reader<'_>) -> Result<(), NoValue>
 
 /// Passes over so many members of an object.
 fn pass_all(reader: &mut Reader<'_>, count: usize) -> Result<(), NoValue>
-    ensures { MatchResult result (λ _. after_members count reader.old ≡ Some reader.new) (λ _. after_members count reader.old ≡ None) }
+    ensures { Passes result (after_members count reader.old) reader.new }
 {
     let mut left = count;
     while left > 0 {
@@ -43,7 +40,7 @@ fn pass_all(reader: &mut Reader<'_>, count: usize) -> Result<(), NoValue>
 
 /// Goes to the items of the array that is the value of the member after so many others, in the object that comes next.
 pub(crate) fn enter(reader: &mut Reader<'_>, place: usize) -> Result<(), NoValue>
-    ensures { MatchResult result (λ _. option_and_then (items_after place) (after_brace reader.old) ≡ Some reader.new) (λ _. option_and_then (items_after place) (after_brace reader.old) ≡ None) }
+    ensures { Passes result (items_entered place reader.old) reader.new }
 {
     let Some(Token::BeginObject) = reader.next() else {
         return Err(NoValue::Invalid);
@@ -62,9 +59,9 @@ pub(crate) fn enter(reader: &mut Reader<'_>, place: usize) -> Result<(), NoValue
 
 /// Counts the values of an array that was begun, up to its end. The count stops above the most entries of a history.
 fn count_items(alloc: Global, reader: &mut Reader<'_>, depth: usize) -> Result<usize, NoValue>
-    ensures ok { IfOk result (λ n. (ds : Items) × (converted of_items (items (value depth) (length reader.old) reader.old) ≡ Some (ds, reader.new)) × IsCount n (length (items_list ds))) }
+    ensures ok { IfOk result (HasPassed depth reader.old reader.new) }
     ensures shorter { OnOk result (length reader.new < length reader.old) }
-    ensures err { result ≡ Err NoValue.Invalid → converted of_items (items (value depth) (length reader.old) reader.old) ≡ None }
+    ensures err { result ≡ Err NoValue.Invalid → items_from depth reader.old ≡ None }
 {
     let mut count = 0usize;
     'items: while !reader.take_end_array() {
@@ -79,9 +76,9 @@ fn count_items(alloc: Global, reader: &mut Reader<'_>, depth: usize) -> Result<u
 
 /// An array's number of values and the array without them, or another value as it is.
 fn read_emptied(alloc: Global, reader: &mut Reader<'_>) -> Result<(Value, Option<usize>), NoValue>
-    ensures ok { IfOk result (λ r. (d : Data) × (converted of_json (value 126 reader.old) ≡ Some (d, reader.new)) × (view r.0 ≡ emptied d) × Counts r.1 d reader.old) }
+    ensures ok { IfOk result (HasEmptied reader.old reader.new) }
     ensures shorter { OnOk result (length reader.new < length reader.old) }
-    ensures err { result ≡ Err NoValue.Invalid → converted of_json (value 126 reader.old) ≡ None }
+    ensures err { result ≡ Err NoValue.Invalid → data_from 126 reader.old ≡ None }
 {
     match reader.next() {
         Some(Token::BeginArray) => match count_items(alloc, reader, 125) {
@@ -96,17 +93,24 @@ fn read_emptied(alloc: Global, reader: &mut Reader<'_>) -> Result<(Value, Option
     }
 }
 
-/// The value of a member of this name, of `entries` without its items, and how many these are.
+/// Whether the items of the value of a member are passed over.
+fn is_passed(name: &str) -> bool
+    ensures { result ≡ is_passed name.now }
+{
+    name == "entries" || name == "rows"
+}
+
+/// The value of a member of this name, without its items where these are passed over, and how many they are.
 fn read_member(
     alloc: Global,
     reader: &mut Reader<'_>,
     name: &str,
 ) -> Result<(Value, Option<usize>), NoValue>
-    ensures ok { IfOk result (λ r. (d : Data) × (converted of_json (value 126 reader.old) ≡ Some (d, reader.new)) × (view r.0 ≡ outline_at name.now d) × (name.now ≡ codes "entries" → Counts r.1 d reader.old)) }
+    ensures ok { IfOk result (HasOutlined name.now reader.old reader.new) }
     ensures shorter { OnOk result (length reader.new < length reader.old) }
-    ensures err { result ≡ Err NoValue.Invalid → converted of_json (value 126 reader.old) ≡ None }
+    ensures err { result ≡ Err NoValue.Invalid → data_from 126 reader.old ≡ None }
 {
-    if name == "entries" {
+    if is_passed(name) {
         return read_emptied(alloc, reader);
     }
     match read(alloc, reader, 126) {
@@ -115,52 +119,56 @@ fn read_member(
     }
 }
 
-/// Where the entries stand: in the array that is the value of the member after so many others; and how many they are, a
+/// Where the items of an array stand, which is the value of the member after so many others; and how many they are, a
 /// count that stops above the most entries of a history.
 #[derive(Clone, Copy, Drop)]
-pub(crate) struct Entries {
+pub(crate) struct ItemsAt {
     pub(crate) place: usize,
     pub(crate) count: usize,
 }
 
-/// An object without its entries.
+/// An object without its entries and its rows.
 #[derive(Drop)]
 pub(crate) struct Outline {
     pub(crate) members: Map<String, Value>,
-    pub(crate) entries: Option<Entries>,
+    pub(crate) entries: Option<ItemsAt>,
+    pub(crate) rows: Option<ItemsAt>,
 }
 
-/// Where the entries stand after the member after so many others.
+/// Where the items of the member that is sought stand, after the member after so many others.
 fn standing(
-    before: Option<Entries>,
+    sought: &str,
+    before: Option<ItemsAt>,
     name: &str,
     place: usize,
     counted: Option<usize>,
-) -> Option<Entries>
-    ensures { result ≡ standing before name.now place counted }
+) -> Option<ItemsAt>
+    ensures { result ≡ standing sought.now before name.now place counted }
 {
-    if name != "entries" {
+    if name != sought {
         return before;
     }
     match counted {
-        Some(count) => Some(Entries { place, count }),
+        Some(count) => Some(ItemsAt { place, count }),
         None => None,
     }
 }
 
-/// The members of an object that was begun, up to its end, and its entries' place.
+/// The members of an object that was begun, up to its end, and the places of its entries and its rows.
 fn outline_members(alloc: Global, reader: &mut Reader<'_>) -> Result<Outline, NoValue>
     ensures ok { IfOk result (IsOutline reader.old reader.new) }
-    ensures err { result ≡ Err NoValue.Invalid → converted (λ ms. of_members ms no_members) (members (value 126) (length reader.old) reader.old) ≡ None }
+    ensures err { result ≡ Err NoValue.Invalid → members_from 126 reader.old ≡ None }
 {
     let mut found = Map::new(alloc);
     let mut entries = None;
+    let mut rows = None;
     let mut place = 0usize;
     'members: while let Some(name) = reader.next_key()? {
         let key = String::from_str(alloc, name)?;
         let (member, counted) = read_member(alloc, reader, name)?;
         drop(found.insert(key, member)?);
-        entries = standing(entries, name, place, counted);
+        entries = standing("entries", entries, name, place, counted);
+        rows = standing("rows", rows, name, place, counted);
         let Some(next) = place.checked_add(1) else {
             return Err(NoValue::Memory);
         };
@@ -169,6 +177,7 @@ fn outline_members(alloc: Global, reader: &mut Reader<'_>) -> Result<Outline, No
     Ok(Outline {
         members: found,
         entries,
+        rows,
     })
 }
 

@@ -1,26 +1,28 @@
 //! A record is read from a JSON text.
 
-ghost use Rattle.std.specs.Prelude.{◌≡◌, ◌≤◌, [], Some, None, if◌then◌else◌, length, map, option_and_then, option_map, string_bytes, IfErr, IfOk, IfSome, IsSomeAnd};
+ghost use Rattle.std.specs.Prelude.{◌≡◌, ◌≤◌, [], Some, None, if◌then◌else◌, length, map, option_and_then, option_map, string_bytes, IfErr, IfOk, IfSome};
 ghost use Rattle.json.specs.Lex.{tokens};
 ghost use Rattle.serde_json.specs.Data.{object};
 ghost use Rattle.serde_json.specs.View.{members_view, view};
 ghost use Rattle.sw_rows.specs.Header.{kinds_of};
 ghost use Rattle.sw_rows.specs.declared.refusal.Refusal.TheVariants.{BadLine};
 ghost use Rattle.sw_rows.specs.declared.refusal.Why.TheVariants as why;
+ghost use Rattle.sw_rows.specs.declared.table.TheConstants.{MOST_ROWS};
 ghost use Rattle.sw_spine.specs.History.{AllBelow, CallsBelow};
-ghost use Rattle.sw_histories.specs.Outlines.{IsOutlineOf, framed_by, outside_of, read_as, record_in, values_at, values_in};
-ghost use Rattle.sw_histories.specs.Told.{Reads};
-ghost use Rattle.sw_histories.specs.Told.{TellsText};
-ghost use Rattle.sw_histories.specs.RecordReading.{array_at, call_in, cell_in, cells_of, columns_in, entries_after, entry_in, has_call, has_members, in_range, number_at, of_kind, record_at, row_in, rows_after, rows_in, state_in, text_at, texts_after, word_in};
+ghost use Rattle.sw_spine.specs.declared.spine.TheConstants.{MOST_ENTRIES};
+ghost use Rattle.sw_histories.specs.FromTokens.{AreCounted, AreFew};
+ghost use Rattle.sw_histories.specs.Outlines.{IsOutlineOf, IsWithinMost, ReadsEntries, ReadsRows, ReadsRowsUpTo, front_as, front_of, limit_of, outside_in, read_as, record_in, values_at, values_in};
+ghost use Rattle.sw_histories.specs.Told.{Reads, TellsText};
+ghost use Rattle.sw_histories.specs.RecordReading.{array_at, call_in, cell_in, cells_of, columns_in, entry_in, has_call, has_members, in_range, number_at, of_kind, record_at, row_in, state_in, text_at, texts_after, word_in};
 
-use crate::outline::{Outline, enter, read_outline};
+use crate::outline::{ItemsAt, Outline, enter, read_outline};
 use crate::values::{NoValue, read};
 use json::{Reader, Scratch};
 use serde_json::{Map, Value};
 use std::alloc::{AllocError, Global};
 use sw_lang::parse_line;
-use sw_rows::{Call, Kind, PackedRows, Refusal, Row, Schema, Why};
-use sw_spine::{Entry, Lines, MOST_ENTRIES, Record, State};
+use sw_rows::{Call, Kind, MOST_ROWS, PackedRows, Refusal, Row, Schema, Why};
+use sw_spine::{Entry, Lines, MOST_ENTRIES, MOST_SESSIONS, Record, State};
 
 fn no_history(line: u32) -> Refusal
     ensures { result ≡ BadLine line why.History }
@@ -142,43 +144,121 @@ fn read_row(schema: &Schema, value: &Value) -> Option<[i64; 8]>
     }
 }
 
-/// Rows whose keys are 1, 2, 3 and so on.
-fn read_all_rows(
+/// The cells of a row, whose value is let go.
+fn take_row(schema: &Schema, value: Value) -> Option<[i64; 8]>
+    ensures { result ≡ row_in (kinds_of schema.now) (view value) }
+{
+    read_row(schema, &value)
+}
+
+/// Rows in order, up to the end of their array; their keys are 1, 2, 3 and so on. Room for so many is made at once.
+fn read_rows(
     alloc: Global,
     schema: &Schema,
-    items: &[Value],
+    reader: &mut Reader<'_>,
+    count: usize,
 ) -> Result<Option<PackedRows>, AllocError>
-    requires { length items.now ≤ 1048576 }
-    ensures { IfOk result (λ o. option_map (λ rows. rows.items) o ≡ rows_after (kinds_of schema.now) [] (map view items.now)) }
+    requires { AreFew (values_in reader.old) }
+    ensures { IfOk result (ReadsRows (kinds_of schema.now) (values_in reader.old)) }
 {
     let mut rows = PackedRows::new(alloc, schema.len());
-    rows.reserve(items.len())?;
-    let mut rest = items;
-    while let Some((value, later)) = rest.split_first() {
-        let Some(cells) = read_row(schema, value) else {
+    rows.reserve(count)?;
+    'rows: while !reader.take_end_array() {
+        let value = match read(alloc, reader, 125) {
+            Ok(value) => value,
+            Err(NoValue::Memory) => return Err(AllocError),
+            Err(NoValue::Invalid) => unreachable!(),
+        };
+        let Some(cells) = take_row(schema, value) else {
             return Ok(None);
         };
         let key = rows.len() as u64 + 1;
         rows.add(&Row { key, cells })?;
-        rest = later;
     }
     Ok(Some(rows))
 }
 
-/// The rows, at most as many as the limit.
-fn read_rows(
+/// The rows of a text's object, of which the array stands at a place.
+fn read_rows_at(
+    alloc: Global,
+    schema: &Schema,
+    text: &str,
+    scratch: &mut Scratch,
+    at: ItemsAt,
+) -> Result<Option<PackedRows>, AllocError>
+    requires { AreFew (values_at at.place (tokens text.now)) }
+    ensures { IfOk result (ReadsRows (kinds_of schema.now) (values_at at.place (tokens text.now))) }
+{
+    let Ok(mut reader) = Reader::new(text, scratch) else {
+        return Err(AllocError);
+    };
+    match enter(&mut reader, at.place) {
+        Ok(()) => read_rows(alloc, schema, &mut reader, at.count),
+        Err(_) => unreachable!(),
+    }
+}
+
+/// The same, at most as many as the limit.
+fn read_rows_up_to(
     alloc: Global,
     schema: &Schema,
     limit: u64,
-    value: &Value,
+    text: &str,
+    scratch: &mut Scratch,
+    at: ItemsAt,
 ) -> Result<Option<PackedRows>, AllocError>
-    requires { limit ≤ 1048576 }
-    ensures { IfOk result (λ o. option_map (λ rows. rows.items) o ≡ rows_in (kinds_of schema.now) limit (view value.now)) }
+    requires counted { AreCounted (values_at at.place (tokens text.now)) at.count }
+    requires most { limit ≤ MOST_ROWS }
+    ensures { IfOk result (ReadsRowsUpTo (kinds_of schema.now) limit (values_at at.place (tokens text.now))) }
 {
-    match array_at(value, "rows") {
-        Some(items) if items.len() as u64 <= limit => read_all_rows(alloc, schema, items),
-        _ => Ok(None),
+    if at.count as u64 > limit {
+        return Ok(None);
     }
+    read_rows_at(alloc, schema, text, scratch, at)
+}
+
+/// What stands outside the entries and the rows of a file.
+#[derive(Drop)]
+struct Front {
+    schema: Schema,
+    limit: u64,
+}
+
+/// The limit, where the members, the format and the place of the entries are a history's.
+fn read_limit(value: &Value) -> Option<u64>
+    ensures told { result ≡ limit_of (view value.now) }
+    ensures most { IfSome result (λ limit. limit ≤ MOST_ROWS) }
+{
+    if !has_members(value, 5) || number_at(value, "format", 1, 1).is_none() {
+        return None;
+    }
+    match array_at(value, "entries") {
+        Some(_) => number_at(value, "limit", 1, MOST_ROWS),
+        None => None,
+    }
+}
+
+/// The attributes and the limit; None where they are no history's.
+fn read_front(alloc: Global, value: &Value) -> Result<Option<Front>, AllocError>
+    ensures told { IfOk result (λ o. option_map front_as o ≡ front_of (view value.now)) }
+    ensures most { IfOk result IsWithinMost }
+{
+    let Some(limit) = read_limit(value) else {
+        return Ok(None);
+    };
+    let Some(schema) = read_columns(alloc, value)? else {
+        return Ok(None);
+    };
+    Ok(Some(Front { schema, limit }))
+}
+
+/// The same of an object's members, which are let go.
+fn take_front(alloc: Global, members: Map<String, Value>) -> Result<Option<Front>, AllocError>
+    ensures told { IfOk result (λ o. option_map front_as o ≡ front_of (object (members_view members.entries))) }
+    ensures most { IfOk result IsWithinMost }
+{
+    let value = Value::Object(members);
+    read_front(alloc, &value)
 }
 
 /// What stands outside the entries of a file.
@@ -189,31 +269,24 @@ struct Outer {
     rows: PackedRows,
 }
 
-/// The limit, where the members, the format and the place of the entries are a history's.
-fn read_limit(value: &Value) -> Option<u64>
-    ensures framed { outside_of (view value.now) ≡ option_and_then (framed_by (view value.now)) result }
-    ensures most { IfSome result (λ limit. limit ≤ 1048576) }
+/// The part outside the entries of a text whose outline was read; None where it is none.
+fn read_outside(
+    alloc: Global,
+    text: &str,
+    scratch: &mut Scratch,
+    outline: Outline,
+) -> Result<Option<Outer>, AllocError>
+    requires { IsOutlineOf text.now outline }
+    ensures { IfOk result (λ o. option_map read_as o ≡ outside_in text.now) }
 {
-    if !has_members(value, 5) || number_at(value, "format", 1, 1).is_none() {
-        return None;
-    }
-    match array_at(value, "entries") {
-        Some(_) => number_at(value, "limit", 1, 1_048_576),
-        None => None,
-    }
-}
-
-/// The part outside the entries; None where it is none.
-fn read_outer(alloc: Global, value: &Value) -> Result<Option<Outer>, AllocError>
-    ensures { IfOk result (λ o. option_map read_as o ≡ outside_of (view value.now)) }
-{
-    let Some(limit) = read_limit(value) else {
+    let Some(at) = outline.rows else {
         return Ok(None);
     };
-    let Some(schema) = read_columns(alloc, value)? else {
+    let Some(front) = take_front(alloc, outline.members)? else {
         return Ok(None);
     };
-    match read_rows(alloc, &schema, limit, value) {
+    let Front { schema, limit } = front;
+    match read_rows_up_to(alloc, &schema, limit, text, scratch, at) {
         Ok(Some(rows)) => Ok(Some(Outer {
             schema,
             limit,
@@ -222,14 +295,6 @@ fn read_outer(alloc: Global, value: &Value) -> Result<Option<Outer>, AllocError>
         Ok(None) => Ok(None),
         Err(e) => Err(e),
     }
-}
-
-/// The same of an object's members, which are let go.
-fn read_outside(alloc: Global, members: Map<String, Value>) -> Result<Option<Outer>, AllocError>
-    ensures { IfOk result (λ o. option_map read_as o ≡ outside_of (object (members_view members.entries))) }
-{
-    let value = Value::Object(members);
-    read_outer(alloc, &value)
 }
 
 fn text_at<'a>(value: &'a Value, name: &str) -> Option<&'a str>
@@ -331,7 +396,7 @@ fn read_entry(alloc: Global, schema: &Schema, line: u32, value: &Value) -> Resul
         Ok(call) => call,
         Err(e) => return Err(e),
     };
-    let Some(session) = number_at(value, "session", 1, 1024) else {
+    let Some(session) = number_at(value, "session", 1, MOST_SESSIONS as u64) else {
         return Err(no_history(line));
     };
     match read_state(alloc, &call, value) {
@@ -360,10 +425,10 @@ fn read_entries(
     schema: &Schema,
     reader: &mut Reader<'_>,
 ) -> Result<Vec<Entry>, Refusal>
-    requires { IsSomeAnd (values_in reader.old) (λ ds. length ds ≤ 1048576) }
-    ensures answers { IfSome (values_in reader.old) (λ ds. Reads (λ entries. entries.items) result (entries_after schema.now [] ds)) }
+    requires { AreFew (values_in reader.old) }
+    ensures answers { ReadsEntries schema.now (values_in reader.old) result }
     ensures below { IfOk result (λ entries. AllBelow (length schema.now) entries.items) }
-    ensures few { IfOk result (λ entries. length entries.items ≤ 1048576) }
+    ensures few { IfOk result (λ entries. length entries.items ≤ MOST_ENTRIES) }
     ensures why { IfErr result TellsText }
 {
     let mut entries: Vec<Entry> = Vec::new(alloc);
@@ -394,10 +459,10 @@ fn read_entries_at(
     scratch: &mut Scratch,
     place: usize,
 ) -> Result<Vec<Entry>, Refusal>
-    requires { IsSomeAnd (values_at place (tokens text.now)) (λ ds. length ds ≤ 1048576) }
-    ensures answers { IfSome (values_at place (tokens text.now)) (λ ds. Reads (λ entries. entries.items) result (entries_after schema.now [] ds)) }
+    requires { AreFew (values_at place (tokens text.now)) }
+    ensures answers { ReadsEntries schema.now (values_at place (tokens text.now)) result }
     ensures below { IfOk result (λ entries. AllBelow (length schema.now) entries.items) }
-    ensures few { IfOk result (λ entries. length entries.items ≤ 1048576) }
+    ensures few { IfOk result (λ entries. length entries.items ≤ MOST_ENTRIES) }
     ensures why { IfErr result TellsText }
 {
     let Ok(mut reader) = Reader::new(text, scratch) else {
@@ -409,8 +474,8 @@ fn read_entries_at(
     }
 }
 
-/// The record of a text whose outline was read. What stands outside the entries is looked at first, then their number, then
-/// entries in order.
+/// The record of a text whose outline was read. What stands outside the entries is looked at first, then their number,
+/// then entries in order.
 fn read_outlined(
     alloc: Global,
     text: &str,
@@ -421,11 +486,10 @@ fn read_outlined(
     ensures answers { Reads (λ h. h) result (record_in text.now) }
     ensures why { IfErr result TellsText }
 {
-    let Outline { members, entries } = outline;
-    let Some(entries) = entries else {
+    let Some(entries) = outline.entries else {
         return Err(no_history(0));
     };
-    let Ok(read) = read_outside(alloc, members) else {
+    let Ok(read) = read_outside(alloc, text, scratch, outline) else {
         return Err(Refusal::NoMemory);
     };
     let Some(outer) = read else {
@@ -447,8 +511,8 @@ fn read_outlined(
     }
 }
 
-/// The record of a text. The text is gone through twice: its entries are read once the attributes are known, and one after
-/// another, so that they never stand beside the record as JSON values.
+/// The record of a text. The text is gone through to find what stands where, and then its rows and its entries are read
+/// once the attributes are known, one after another, so that they never stand beside the record as JSON values.
 fn read_text(alloc: Global, text: &str) -> Result<Record, Refusal>
     ensures answers { Reads (λ h. h) result (record_in text.now) }
     ensures why { IfErr result TellsText }
@@ -463,10 +527,10 @@ fn read_text(alloc: Global, text: &str) -> Result<Record, Refusal>
 
 /// The record of a file's bytes.
 ///
-/// Refused `BadLine` of line 0 and why `History` where the bytes are no such JSON outside the entries; then `TooMany` of
-/// 1,048,576 where there are more entries; then for the first entry, from 1, that is none `BadLine` with its number: why
-/// `History` for its members, its session and its reply, or what `parse_line` finds in its call, `UnknownAttribute` among
-/// it. `NoMemory` otherwise.
+/// Refused `BadLine` of line 0 and why `History` where the bytes are no such JSON outside the entries; then `TooMany`
+/// of 1,048,576 where there are more entries; then for the first entry, from 1, that is none `BadLine` with its number:
+/// why `History` for its members, its session and its reply, or what `parse_line` finds in its call,
+/// `UnknownAttribute` among it. `NoMemory` otherwise.
 pub fn read_record(alloc: Global, bytes: &[u8]) -> Result<Record, Refusal>
     ensures answers { Reads (λ h. h) result (record_at bytes.now) }
     ensures why { IfErr result TellsText }

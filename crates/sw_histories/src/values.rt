@@ -1,11 +1,10 @@
 //! Values of a JSON text, one after another from its tokens.
 
 ghost use Rattle.std.specs.Prelude.{◌≡◌, ◌==◌, ◌<◌, ◌≤◌, ◌∷◌, length, true, false, Err, None, Some, IfOk, IsTrue, OnOk, option_map, slice_index};
-ghost use Rattle.json.specs.Json.{items, members, value};
 ghost use Rattle.json.specs.Reads.{token_of};
-ghost use Rattle.serde_json.specs.Data.{no_members};
-ghost use Rattle.serde_json.specs.Read.{converted, float_of, number_from, number_of, of_items, of_json, of_members};
+ghost use Rattle.serde_json.specs.Read.{float_of, number_from, number_of};
 ghost use Rattle.serde_json.specs.View.{items_view, members_view, number_view, view};
+ghost use Rattle.sw_histories.specs.FromTokens.{data_from, items_from, members_from};
 
 use fast_float::Numeral;
 use json::{Reader, Token};
@@ -102,9 +101,9 @@ fn number_of(text: &str) -> Option<Number>
 /// The next value. Arrays and objects may nest this deep.
 #[cycle(read)]
 pub(crate) fn read(alloc: Global, reader: &mut Reader<'_>, depth: usize) -> Result<Value, NoValue>
-    ensures ok { IfOk result (λ v. converted of_json (value depth reader.old) ≡ Some (view v, reader.new)) }
+    ensures ok { IfOk result (λ v. data_from depth reader.old ≡ Some (view v, reader.new)) }
     ensures shorter { OnOk result (length reader.new < length reader.old) }
-    ensures err { result ≡ Err NoValue.Invalid → converted of_json (value depth reader.old) ≡ None }
+    ensures err { result ≡ Err NoValue.Invalid → data_from depth reader.old ≡ None }
 {
     match reader.next() {
         Some(token) => read_from(alloc, reader, token, depth),
@@ -120,9 +119,9 @@ pub(crate) fn read_from(
     token: Token<'_>,
     depth: usize,
 ) -> Result<Value, NoValue>
-    ensures ok { IfOk result (λ v. converted of_json (value depth (token_of token.entry ∷ reader.old)) ≡ Some (view v, reader.new)) }
+    ensures ok { IfOk result (λ v. data_from depth (token_of token.entry ∷ reader.old) ≡ Some (view v, reader.new)) }
     ensures shorter { OnOk result (length reader.new ≤ length reader.old) }
-    ensures err { result ≡ Err NoValue.Invalid → converted of_json (value depth (token_of token.entry ∷ reader.old)) ≡ None }
+    ensures err { result ≡ Err NoValue.Invalid → data_from depth (token_of token.entry ∷ reader.old) ≡ None }
 {
     match token {
         Token::String(text) => Ok(Value::String(String::from_str(alloc, text)?)),
@@ -151,9 +150,9 @@ pub(crate) fn read_from(
 /// The values of an array that was begun, up to its end.
 #[cycle(read)]
 fn read_items(alloc: Global, reader: &mut Reader<'_>, depth: usize) -> Result<Vec<Value>, NoValue>
-    ensures ok { IfOk result (λ v. converted of_items (items (value depth) (length reader.old) reader.old) ≡ Some (items_view v.items, reader.new)) }
+    ensures ok { IfOk result (λ v. items_from depth reader.old ≡ Some (items_view v.items, reader.new)) }
     ensures shorter { OnOk result (length reader.new < length reader.old) }
-    ensures err { result ≡ Err NoValue.Invalid → converted of_items (items (value depth) (length reader.old) reader.old) ≡ None }
+    ensures err { result ≡ Err NoValue.Invalid → items_from depth reader.old ≡ None }
 {
     let mut found = Vec::new(alloc);
     'items: while !reader.take_end_array() {
@@ -170,9 +169,9 @@ fn read_members(
     reader: &mut Reader<'_>,
     depth: usize,
 ) -> Result<Map<String, Value>, NoValue>
-    ensures ok { IfOk result (λ m. converted (λ ms. of_members ms no_members) (members (value depth) (length reader.old) reader.old) ≡ Some (members_view m.entries, reader.new)) }
+    ensures ok { IfOk result (λ m. members_from depth reader.old ≡ Some (members_view m.entries, reader.new)) }
     ensures shorter { OnOk result (length reader.new < length reader.old) }
-    ensures err { result ≡ Err NoValue.Invalid → converted (λ ms. of_members ms no_members) (members (value depth) (length reader.old) reader.old) ≡ None }
+    ensures err { result ≡ Err NoValue.Invalid → members_from depth reader.old ≡ None }
 {
     let mut found = Map::new(alloc);
     'members: while let Some(name) = reader.next_key()? {

@@ -1,12 +1,12 @@
 //! A record is written as a JSON text.
 
-ghost use Rattle.std.specs.Prelude.{◌≡◌, ◌≤◌, ◌++◌, codes, decimal, false, map, string_bytes, IfOk, OnOk};
+ghost use Rattle.std.specs.Prelude.{◌≡◌, ◌≤◌, decimal, false, map, string_bytes, IfOk, OnOk};
 ghost use Rattle.serde_json.specs.View.{view};
 ghost use Rattle.serde_json.specs.Written.{comma_if, compact_text, has_float};
 ghost use Rattle.sw_lang.specs.PrintedCalls.{call_text};
 ghost use Rattle.sw_rows.specs.Cells.{HasPlaces};
 ghost use Rattle.sw_rows.specs.Spelling.{kind_text};
-ghost use Rattle.sw_histories.specs.RecordText.{attribute_text, cell_data, entry_data, front_text, list_data, record_text, row_data, state_data, texts_data, WritesText};
+ghost use Rattle.sw_histories.specs.RecordText.{Puts, WritesText, attribute_text, attributes_data, cell_data, entries_data, entry_data, front_text, item_text, list_data, record_text, row_data, rows_data, state_data, texts_data};
 
 use serde_json::{Value, json};
 use std::alloc::{AllocError, Global};
@@ -65,7 +65,7 @@ fn attribute_string(alloc: Global, name: &str, kind: Kind) -> Result<String, All
 }
 
 fn attributes_value(alloc: Global, schema: &Schema) -> Result<Value, AllocError>
-    ensures { IfOk result (λ v. view v ≡ texts_data (map attribute_text schema.now)) }
+    ensures { IfOk result (λ v. view v ≡ attributes_data schema.now) }
 {
     let mut items = Vec::new(alloc);
     for attr in 0..schema.len() {
@@ -132,7 +132,7 @@ fn entry_value(alloc: Global, schema: &Schema, entry: &Entry) -> Result<Value, A
 /// Puts the text of a value after a text.
 fn put_value(alloc: Global, value: &Value, text: &mut Vec<u8>) -> Result<(), AllocError>
     requires { has_float (view value.now) ≡ false }
-    ensures { OnOk result (text.new.items ≡ text.old.items ++ compact_text (view value.now)) }
+    ensures { Puts result text.old.items text.new.items (compact_text (view value.now)) }
 {
     let bytes = value.to_vec(alloc)?;
     text.extend_from_slice(bytes.as_slice())?;
@@ -141,7 +141,7 @@ fn put_value(alloc: Global, value: &Value, text: &mut Vec<u8>) -> Result<(), All
 
 /// Puts a comma after a text, where an item stands before.
 fn put_comma(is_later: bool, text: &mut Vec<u8>) -> Result<(), AllocError>
-    ensures { OnOk result (text.new.items ≡ text.old.items ++ comma_if is_later) }
+    ensures { Puts result text.old.items text.new.items (comma_if is_later) }
 {
     if is_later {
         text.push(b',')?;
@@ -156,7 +156,7 @@ fn put_entry(
     is_later: bool,
     text: &mut Vec<u8>,
 ) -> Result<(), AllocError>
-    ensures { OnOk result (text.new.items ≡ text.old.items ++ (comma_if is_later ++ compact_text (entry_data schema.now entry.now))) }
+    ensures { Puts result text.old.items text.new.items (item_text is_later (entry_data schema.now entry.now)) }
 {
     let value = entry_value(alloc, schema, entry)?;
     put_comma(is_later, text)?;
@@ -170,7 +170,7 @@ fn put_entries(
     entries: &[Entry],
     text: &mut Vec<u8>,
 ) -> Result<(), AllocError>
-    ensures { OnOk result (text.new.items ≡ text.old.items ++ compact_text (list_data (map (entry_data schema.now) entries.now))) }
+    ensures { Puts result text.old.items text.new.items (compact_text (entries_data schema.now entries.now)) }
 {
     text.push(b'[')?;
     let mut is_later = false;
@@ -192,7 +192,7 @@ fn put_row(
     text: &mut Vec<u8>,
 ) -> Result<(), AllocError>
     requires { width ≤ 8 }
-    ensures { OnOk result (text.new.items ≡ text.old.items ++ (comma_if is_later ++ compact_text (row_data width row.now))) }
+    ensures { Puts result text.old.items text.new.items (item_text is_later (row_data width row.now)) }
 {
     let value = row_value(alloc, width, row)?;
     put_comma(is_later, text)?;
@@ -207,7 +207,7 @@ fn put_rows(
     text: &mut Vec<u8>,
 ) -> Result<(), AllocError>
     requires { width ≤ 8 }
-    ensures { OnOk result (text.new.items ≡ text.old.items ++ compact_text (list_data (map (row_data width) rows.now.items))) }
+    ensures { Puts result text.old.items text.new.items (compact_text (rows_data width rows.now.items)) }
 {
     text.push(b'[')?;
     let mut is_later = false;
@@ -221,14 +221,14 @@ fn put_rows(
 
 /// Puts the attributes as an array.
 fn put_attributes(alloc: Global, schema: &Schema, text: &mut Vec<u8>) -> Result<(), AllocError>
-    ensures { OnOk result (text.new.items ≡ text.old.items ++ compact_text (texts_data (map attribute_text schema.now))) }
+    ensures { Puts result text.old.items text.new.items (compact_text (attributes_data schema.now)) }
 {
     let value = attributes_value(alloc, schema)?;
     put_value(alloc, &value, text)
 }
 
 fn put_limit(alloc: Global, limit: u64, text: &mut Vec<u8>) -> Result<(), AllocError>
-    ensures { OnOk result (text.new.items ≡ text.old.items ++ decimal limit) }
+    ensures { Puts result text.old.items text.new.items (decimal limit) }
 {
     let value = Value::from(limit);
     put_value(alloc, &value, text)
@@ -259,13 +259,14 @@ fn record_bytes(alloc: Global, history: &Record) -> Result<Vec<u8>, AllocError>
     Ok(text)
 }
 
-/// Writes the text of a record's file: one JSON object without blanks, in which keys ascend. An answered entry is written
-/// with the lines of its reply.
+/// Writes the text of a record's file: one JSON object without blanks, in which keys ascend. An answered entry is
+/// written with the lines of its reply.
 ///
 /// Refused `NoMemory`, and then nothing was written, or `Output` where the sink fails, and then a beginning of the text
 /// was.
 pub fn write_record<W: Sink>(alloc: Global, history: &Record, out: &mut W) -> Result<(), Refusal>
-    ensures { WritesText (W.taken out.old) (W.taken out.new) (W.failed out.old) (W.failed out.new) result (record_text history.now) }
+    ensures { WritesText (W.taken out.old) (W.taken out.new) (W.failed out.old) (W.failed out.new) result
+        (record_text history.now) }
 {
     match record_bytes(alloc, history) {
         Ok(text) => write_all(out, text.as_slice()),

@@ -19,7 +19,8 @@ abbrev pub crack : {A : Type 0} → (A → ℤ) → Bound → Arrangement A → 
 crack value b (last xs) = piece (left_part (goes_left value b) xs) b (last (right_part (goes_left value b) xs))
 crack value b (piece xs c rest) =
     cond (same_bound b c) (piece xs c rest)
-    (cond (bound_below b c) (piece (left_part (goes_left value b) xs) b (piece (right_part (goes_left value b) xs) c rest))
+    (cond (bound_below b c)
+    (piece (left_part (goes_left value b) xs) b (piece (right_part (goes_left value b) xs) c rest))
     (piece xs c (crack value b rest)))
 
 -- the first item goes to the end
@@ -46,13 +47,17 @@ each_piece f (piece xs b rest) = piece (f xs) b (each_piece f rest)
 abbrev pub ripple_insert : {A : Type 0} → (A → ℤ) → A → Arrangement A → Arrangement A
 ripple_insert value x (last xs) = last (xs ++ x ∷ [])
 ripple_insert value x (piece xs b rest) =
-    cond (goes_left value b x) (piece (xs ++ x ∷ []) b (each_piece first_to_end rest)) (piece xs b (ripple_insert value x rest))
+    cond (goes_left value b x)
+    (piece (xs ++ x ∷ []) b (each_piece first_to_end rest))
+    (piece xs b (ripple_insert value x rest))
 
 -- the last item of the piece takes the place; in each later piece the last item comes to the front
 abbrev pub ripple_remove : {A : Type 0} → ℕ → Arrangement A → Arrangement A
 ripple_remove n (last xs) = last (take_out xs n)
 ripple_remove n (piece xs b rest) =
-    cond (nat_lt n (length xs)) (piece (take_out xs n) b (each_piece last_to_front rest)) (piece xs b (ripple_remove (n - length xs) rest))
+    cond (nat_lt n (length xs))
+    (piece (take_out xs n) b (each_piece last_to_front rest))
+    (piece xs b (ripple_remove (n - length xs) rest))
 
 -- the bounds, in order
 abbrev pub bounds : {A : Type 0} → Arrangement A → List Bound

@@ -32,4 +32,6 @@ taken_up-laid_out (piece xs (After v) rest) = ap (λ r. piece xs (After v) r) (t
 
 abbrev pub arrangement_code : {A : Type 0} → Coded A → Coded (Arrangement A)
 arrangement_code {A} a =
-    code_by (List (List A × (ℤ ⊎ ℤ)) × List A) (coded× (coded_list (coded× (coded_list a) (coded⊎ coded_ℤ coded_ℤ))) (coded_list a)) laid_out (λ p. taken_up p.0 p.1) taken_up-laid_out
+    code_by (List (List A × (ℤ ⊎ ℤ)) × List A)
+    (coded× (coded_list (coded× (coded_list a) (coded⊎ coded_ℤ coded_ℤ))) (coded_list a))
+    laid_out (λ p. taken_up p.0 p.1) taken_up-laid_out

@@ -1,5 +1,6 @@
 -- The flat form of an arrangement: its items in one list, and marks where a bound's right side begins.
-use Rattle.std.specs.Prelude.{◌≡◌, ◌≤◌, ℕ, false, cond, List, [], ◌∷◌, length, ◌+◌, suc, zero}
+use Rattle.std.specs.Prelude.{◌≡◌, ◌≤◌, ℕ, ℤ, false, cond, List, [], ◌∷◌, length, zip, ◌+◌, suc, zero, vec_capacity}
+use Rattle.std.specs.Global.{Vec}
 use Rattle.sw_rows.specs.declared.bound.Bound.{Bound}
 use Rattle.sw_rows.specs.Bounds.{bound_below, same_bound}
 use Rattle.sw_kernel.specs.declared.mark.Mark.{Mark}
@@ -17,6 +18,18 @@ IsFlat a items marks = (joined a ≡ items) × (marks_from 0 a ≡ marks)
 -- whatever arrangement the items and marks are before, they are what f makes of it afterwards
 abbrev pub Become : {A : Type 0} → (Arrangement A → Arrangement A) → List A → List Mark → List A → List Mark → Type 0
 Become {A} f items marks items' marks' = (a : Arrangement A) → IsFlat a items marks → IsFlat (f a) items' marks'
+
+abbrev pub Pairs : Type 0
+Pairs = Arrangement (ℤ × ℤ)
+
+-- so do the pairs of two lists
+abbrev pub TurnInto : (Pairs → Pairs) → Vec ℤ → Vec ℤ → List Mark → Vec ℤ → Vec ℤ → List Mark → Type 0
+TurnInto f head tail marks head' tail' marks' =
+    Become f (zip head.items tail.items) marks (zip head'.items tail'.items) marks'
+
+-- a list's memory stays as it was
+abbrev pub KeepsRoom : Vec ℤ → Vec ℤ → Type 0
+KeepsRoom old new = vec_capacity new ≡ vec_capacity old
 
 -- the places of the marks never fall, from i on, and never pass n
 abbrev pub InOrder : ℕ → ℕ → List Mark → Type 0

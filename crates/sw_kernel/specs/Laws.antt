@@ -13,7 +13,8 @@ use Rattle.sw_kernel.specs.Tapes.{IsTape, IsRising, IsSound, is_marked, count_fr
 abbrev pub StepSeenLaw : Type 0
 StepSeenLaw =
     (value tail : Row → ℤ) (e : Step Row) (a : Arrangement Row) →
-    shown (pair_of value tail) (step value e a) ≡ step head_of (shown_step (pair_of value tail) e) (shown (pair_of value tail) a)
+    shown (pair_of value tail) (step value e a)
+    ≡ step head_of (shown_step (pair_of value tail) e) (shown (pair_of value tail) a)
 
 -- the same of a whole replay
 abbrev pub ReplaySeenLaw : Type 0

@@ -1,11 +1,11 @@
 //! The ripple of an insertion.
 
-ghost use Rattle.std.specs.Prelude.{◌≡◌, ◌+◌, ◌<◌, ◌≤◌, length, zip, slice_index_or, slice_set, nat_lt, cond, drop, All, ◌++◌, ◌∷◌, [], ◌^◌, vec_len, vec_capacity};
+ghost use Rattle.std.specs.Prelude.{◌≡◌, ◌+◌, ◌<◌, ◌≤◌, length, zip, drop, All, ◌++◌, ◌∷◌, [], ◌^◌, vec_len, vec_capacity};
 ghost use Rattle.sw_kernel.specs.declared.mark.Mark.{Mark};
 ghost use Rattle.sw_kernel.specs.Partition.{head_of};
 ghost use Rattle.sw_kernel.specs.Arrangement.{ripple_insert};
-ghost use Rattle.sw_kernel.specs.Ripple.{piece_of, carried, later_from};
-ghost use Rattle.sw_kernel.specs.Flat.{Become, InOrder, end_before};
+ghost use Rattle.sw_kernel.specs.Ripple.{AreCarried, first_or, later_from, piece_of, put_first};
+ghost use Rattle.sw_kernel.specs.Flat.{InOrder, KeepsRoom, TurnInto, end_before};
 
 use crate::mark::Mark;
 
@@ -41,8 +41,8 @@ fn hand_over(
 ) -> (i64, i64)
     requires lengths { length head.old ≡ length tail.old }
     requires room { end ≤ length head.old }
-    ensures pairs { zip head.new tail.new ≡ cond (nat_lt at end) (slice_set (zip head.old tail.old) at (h, t)) (zip head.old tail.old) }
-    ensures carried { (result.0, result.1) ≡ cond (nat_lt at end) (slice_index_or (zip head.old tail.old) at (h, t)) (h, t) }
+    ensures pairs { zip head.new tail.new ≡ put_first at end (h, t) (zip head.old tail.old) }
+    ensures carried { (result.0, result.1) ≡ first_or at end (h, t) (zip head.old tail.old) }
 {
     if at < end {
         let next = (head[at], tail[at]);
@@ -66,7 +66,7 @@ fn carry_on(
     requires lengths { length head.old ≡ length tail.old }
     requires range { All (λ (m : Mark). m.at ≤ length head.old) marks.now }
     requires from { from ≤ length marks.now }
-    ensures { zip head.new tail.new ++ (result.0, result.1) ∷ [] ≡ carried (drop from marks.now) (length head.old) (h, t) (zip head.old tail.old) }
+    ensures { AreCarried from marks.now (h, t) head.old tail.old head.new tail.new (result.0, result.1) }
 {
     let n = head.len();
     let mut hand = (h, t);
@@ -108,9 +108,9 @@ pub fn ripple_in(head: &mut Vec<i64>, tail: &mut Vec<i64>, marks: &mut [Mark], h
     requires lengths { vec_len head.old ≡ vec_len tail.old }
     requires room { (vec_len head.old < vec_capacity head.old) × (vec_len tail.old < vec_capacity tail.old) }
     requires order { InOrder 0 (vec_len head.old) marks.old }
-    ensures rippled { Become (ripple_insert head_of (h, t)) (zip head.old.items tail.old.items) marks.old (zip head.new.items tail.new.items) marks.new }
+    ensures rippled { TurnInto (ripple_insert head_of (h, t)) head.old tail.old marks.old head.new tail.new marks.new }
     ensures lengths { (vec_len head.new ≡ vec_len head.old + 1) × (vec_len tail.new ≡ vec_len tail.old + 1) }
-    ensures capacity { (vec_capacity head.new ≡ vec_capacity head.old) × (vec_capacity tail.new ≡ vec_capacity tail.old) }
+    ensures capacity { KeepsRoom head.old head.new × KeepsRoom tail.old tail.new }
 {
     let from = piece_of(marks, h);
     let (x, y) = carry_on(head, tail, marks, from, h, t);

@@ -1,7 +1,7 @@
 //! Lists of misplaced places within a block, made without a branch.
 
-ghost use Rattle.std.specs.Prelude.{◌≡◌, ◌+◌, ◌-◌, ◌<◌, ◌≤◌, ℕ, Bool, true, false, length};
-ghost use Rattle.sw_kernel.specs.Blocks.{LieOn, Listed, goes_up, goes_down};
+ghost use Rattle.std.specs.Prelude.{◌≡◌, ◌+◌, ◌-◌, ◌<◌, ◌≤◌, true, false, length};
+ghost use Rattle.sw_kernel.specs.Blocks.{LieOn, Listed, ListsOneMore, goes_down, goes_up};
 
 use sw_rows::Bound;
 
@@ -10,7 +10,7 @@ use sw_rows::Bound;
 pub(crate) fn note(places: &mut [u8; 128], n: usize, k: usize, goes: bool) -> usize
     requires { (n ≤ k) × (k < 128) }
     ensures bound { result ≤ k + 1 }
-    ensures listed { (test : ℕ → Bool) → test k ≡ goes → Listed test places.old 0 n k → Listed test places.new 0 result (k + 1) }
+    ensures listed { ListsOneMore goes k places.old n places.new result }
 {
     places[n] = k as u8;
     n + goes as usize

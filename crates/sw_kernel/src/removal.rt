@@ -1,10 +1,10 @@
 //! The ripple of a removal.
 
-ghost use Rattle.std.specs.Prelude.{◌≡◌, ◌+◌, ◌<◌, ◌≤◌, ℕ, length, zip, slice_index_or, slice_set, drop, All, vec_len, vec_capacity};
+ghost use Rattle.std.specs.Prelude.{◌≡◌, ◌+◌, ◌<◌, ◌≤◌, ℕ, length, zip, slice_index_or, All, vec_len};
 ghost use Rattle.sw_kernel.specs.declared.mark.Mark.{Mark};
 ghost use Rattle.sw_kernel.specs.Arrangement.{ripple_remove};
-ghost use Rattle.sw_kernel.specs.Ripple.{holder_of, closed_up, earlier_from, origin};
-ghost use Rattle.sw_kernel.specs.Flat.{Become, InOrder};
+ghost use Rattle.sw_kernel.specs.Ripple.{closed_up_from, earlier_from, holder_of, moved, origin};
+ghost use Rattle.sw_kernel.specs.Flat.{InOrder, KeepsRoom, TurnInto};
 
 use crate::mark::Mark;
 
@@ -26,7 +26,7 @@ fn holder_of(marks: &[Mark], place: usize) -> usize
 fn move_item(head: &mut [i64], tail: &mut [i64], to: usize, from: usize)
     requires lengths { length head.old ≡ length tail.old }
     requires within { (to < length head.old) × (from < length head.old) }
-    ensures { zip head.new tail.new ≡ slice_set (zip head.old tail.old) to (slice_index_or (zip head.old tail.old) from origin) }
+    ensures { zip head.new tail.new ≡ moved origin to from (zip head.old tail.old) }
 {
     head[to] = head[from];
     tail[to] = tail[from];
@@ -39,7 +39,7 @@ fn close_up(head: &mut [i64], tail: &mut [i64], marks: &[Mark], from: usize, pla
     requires reach { (k : ℕ) (d : Mark) → from ≤ k → k < length marks.now → 0 < (slice_index_or marks.now k d).at }
     requires from { from ≤ length marks.now }
     requires place { place < length head.old }
-    ensures { zip head.new tail.new ≡ closed_up origin (drop from marks.now) (length head.old) place (zip head.old tail.old) }
+    ensures { zip head.new tail.new ≡ closed_up_from from marks.now (length head.old) place (zip head.old tail.old) }
 {
     let n = head.len();
     let mut hole = place;
@@ -71,9 +71,9 @@ pub fn ripple_out(head: &mut Vec<i64>, tail: &mut Vec<i64>, marks: &mut [Mark], 
     requires lengths { vec_len head.old ≡ vec_len tail.old }
     requires place { place < vec_len head.old }
     requires order { InOrder 0 (vec_len head.old) marks.old }
-    ensures rippled { Become (ripple_remove place) (zip head.old.items tail.old.items) marks.old (zip head.new.items tail.new.items) marks.new }
+    ensures rippled { TurnInto (ripple_remove place) head.old tail.old marks.old head.new tail.new marks.new }
     ensures lengths { (vec_len head.new + 1 ≡ vec_len head.old) × (vec_len tail.new + 1 ≡ vec_len tail.old) }
-    ensures capacity { (vec_capacity head.new ≡ vec_capacity head.old) × (vec_capacity tail.new ≡ vec_capacity tail.old) }
+    ensures capacity { KeepsRoom head.old head.new × KeepsRoom tail.old tail.new }
 {
     let n = head.len();
     let from = holder_of(marks, place);

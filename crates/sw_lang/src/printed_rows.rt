@@ -4,10 +4,11 @@ ghost use Rattle.std.specs.Prelude.{◌≡◌, ◌++◌, ◌∷◌, [], codes, d
 ghost use Rattle.sw_lang.specs.Replies.{cell_text, cells_text, kind_at, more_cells, row_line, rows_line, with_ends};
 ghost use Rattle.sw_lang.specs.Sinks.{Writes};
 ghost use Rattle.sw_rows.specs.Cells.{HasPlaces};
+ghost use Rattle.sw_rows.specs.Replies.{reply_row};
 
 use crate::printed_cells::write_cell;
 use crate::sinks::{write_all, write_number};
-use sw_rows::{Kind, Refusal, ReplyRow, Schema, Sink};
+use sw_rows::{Kind, Refusal, ReplyRows, Schema, Sink};
 
 // The kind of an attribute.
 pub(crate) fn kind_at(schema: &Schema, attr: usize) -> Kind
@@ -107,27 +108,29 @@ fn write_after_key<W: Sink>(
 fn write_row<W: Sink>(
     schema: &Schema,
     attrs: &[usize],
-    row: &ReplyRow,
+    key: u64,
+    cells: &[i64],
     out: &mut W,
 ) -> Result<(), Refusal>
     ensures { Writes (W.taken out.old) (W.taken out.new) (W.failed out.old) (W.failed out.new) result
-        (row_line (map (kind_at schema.now) attrs.now) row.now) }
+        (row_line (map (kind_at schema.now) attrs.now) (reply_row key cells.now)) }
 {
-    write_number(row.key, out)?;
-    write_after_key(schema, attrs, row.cells.as_slice(), out)
+    write_number(key, out)?;
+    write_after_key(schema, attrs, cells, out)
 }
 
 // A row as a line.
 fn write_row_line<W: Sink>(
     schema: &Schema,
     attrs: &[usize],
-    row: &ReplyRow,
+    key: u64,
+    cells: &[i64],
     out: &mut W,
 ) -> Result<(), Refusal>
     ensures { Writes (W.taken out.old) (W.taken out.new) (W.failed out.old) (W.failed out.new) result
-        (row_line (map (kind_at schema.now) attrs.now) row.now ++ codes "\n") }
+        (row_line (map (kind_at schema.now) attrs.now) (reply_row key cells.now) ++ codes "\n") }
 {
-    write_row(schema, attrs, row, out)?;
+    write_row(schema, attrs, key, cells, out)?;
     write_all(out, b"\n")
 }
 
@@ -135,16 +138,15 @@ fn write_row_line<W: Sink>(
 fn write_row_lines<W: Sink>(
     schema: &Schema,
     attrs: &[usize],
-    rows: &[ReplyRow],
+    rows: &ReplyRows,
     out: &mut W,
 ) -> Result<(), Refusal>
     ensures { Writes (W.taken out.old) (W.taken out.new) (W.failed out.old) (W.failed out.new) result
         (with_ends (map (row_line (map (kind_at schema.now) attrs.now)) rows.now)) }
 {
-    let mut rows = rows;
-    while let Some((row, later)) = rows.split_first() {
-        write_row_line(schema, attrs, row, out)?;
-        rows = later;
+    let mut left = rows.left();
+    while let Some((key, cells)) = left.next() {
+        write_row_line(schema, attrs, key, cells, out)?;
     }
     Ok(())
 }
@@ -171,7 +173,7 @@ fn write_rows_line<W: Sink>(count: usize, out: &mut W) -> Result<(), Refusal>
 pub(crate) fn write_rows<W: Sink>(
     schema: &Schema,
     attrs: &[usize],
-    rows: &[ReplyRow],
+    rows: &ReplyRows,
     out: &mut W,
 ) -> Result<(), Refusal>
     ensures { Writes (W.taken out.old) (W.taken out.new) (W.failed out.old) (W.failed out.new) result

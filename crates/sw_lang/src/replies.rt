@@ -8,7 +8,7 @@ ghost use Rattle.sw_rows.specs.Cells.{HasPlaces};
 use crate::printed_cells::{write_extreme, write_sum};
 use crate::printed_rows::{kind_at, write_rows};
 use crate::sinks::{write_all, write_number};
-use sw_rows::{Call, Kind, Refusal, Reply, ReplyRow, Schema, Sink, Want};
+use sw_rows::{Call, Kind, Refusal, Reply, ReplyRows, Schema, Sink, Want};
 
 // The kind of the first attribute that is shown, or of the one that is summed or compared.
 fn kind_wanted(schema: &Schema, want: &Want) -> Kind
@@ -39,7 +39,7 @@ fn kind_called(schema: &Schema, call: &Call) -> Kind
 fn write_rows_wanted<W: Sink>(
     schema: &Schema,
     want: &Want,
-    rows: &[ReplyRow],
+    rows: &ReplyRows,
     out: &mut W,
 ) -> Result<(), Refusal>
     ensures { Writes (W.taken out.old) (W.taken out.new) (W.failed out.old) (W.failed out.new) result
@@ -57,7 +57,7 @@ fn write_rows_wanted<W: Sink>(
 fn write_rows_called<W: Sink>(
     schema: &Schema,
     call: &Call,
-    rows: &[ReplyRow],
+    rows: &ReplyRows,
     out: &mut W,
 ) -> Result<(), Refusal>
     ensures { Writes (W.taken out.old) (W.taken out.new) (W.failed out.old) (W.failed out.new) result
@@ -118,7 +118,7 @@ pub fn write_reply<W: Sink>(
         (reply_bytes schema.now call.now reply.now) }
 {
     match reply {
-        Reply::Rows(rows) => write_rows_called(schema, call, rows.as_slice(), out),
+        Reply::Rows(rows) => write_rows_called(schema, call, rows, out),
         Reply::Count(count) => write_number_line(*count, out),
         Reply::Sum(sum) => write_sum_line(kind_called(schema, call), *sum, out),
         Reply::Least(extreme) => write_extreme_line(kind_called(schema, call), *extreme, out),

@@ -31,7 +31,8 @@ HeldParts = (Bool × (ℕ × Tail)) × ((ℕ × ℕ) × Arrangement (ℤ × ℤ)
 
 abbrev pub held_code : Coded Held
 held_code =
-    code_by HeldParts (coded× (coded× coded_bool (coded× coded_ℕ tail_code)) (coded× (coded× coded_ℕ coded_ℕ) pairs_code))
+    code_by HeldParts
+    (coded× (coded× coded_bool (coded× coded_ℕ tail_code)) (coded× (coded× coded_ℕ coded_ℕ) pairs_code))
     (λ m. ((m.is_blank, (m.head, m.tail)), ((m.cells, m.cursor), m.pairs)))
     (λ p. record { is_blank = p.0.0; head = p.0.1.0; tail = p.0.1.1; cells = p.1.0.0; cursor = p.1.0.1; pairs = p.1.1 })
     (λ _. refl)

@@ -35,7 +35,14 @@ blank = record { is_blank = true; head = 0; tail = Key; cells = 0; cursor = 0; p
 
 -- a map that has replayed nothing yet
 abbrev pub begun : ℕ → Tail → ℕ → Held
-begun head tail cells = record { is_blank = false; head = head; tail = tail; cells = cells; cursor = 0; pairs = last [] }
+begun head tail cells = record {
+  is_blank = false;
+  head = head;
+  tail = tail;
+  cells = cells;
+  cursor = 0;
+  pairs = last [];
+}
 
 -- one more entry replayed
 abbrev pub after : Step Row → Held → Held

@@ -17,7 +17,9 @@ BegunLaw = (a : ℕ) (tape : List (Step Row)) (tail : Tail) (cells : ℕ) → Is
 
 -- an aligned map that replays the entry at its cursor is aligned
 abbrev pub StepLaw : Type 0
-StepLaw = (a : ℕ) (tape : List (Step Row)) (m : Held) (e : Step Row) → slice_get tape m.cursor ≡ Some e → IsAligned a tape m → IsAligned a tape (after e m)
+StepLaw =
+    (a : ℕ) (tape : List (Step Row)) (m : Held) (e : Step Row) →
+    slice_get tape m.cursor ≡ Some e → IsAligned a tape m → IsAligned a tape (after e m)
 
 -- a lawful map is lawful when the tape grows
 abbrev pub LongerLaw : Type 0
@@ -25,17 +27,22 @@ LongerLaw = (a : ℕ) (tape es : List (Step Row)) (m : Held) → IsLawful a tape
 
 -- the entry at its cursor is one that an aligned map may replay, and needs no more room than the tape's peak
 abbrev pub NextLaw : Type 0
-NextLaw = (a : ℕ) (tape : List (Step Row)) (m : Held) (e : Step Row) → IsTape tape → slice_get tape m.cursor ≡ Some e → IsAligned a tape m → MayReplay m e × (pairs_in (after e m) ≤ peak_from 0 tape)
+NextLaw =
+    (a : ℕ) (tape : List (Step Row)) (m : Held) (e : Step Row) →
+    IsTape tape → slice_get tape m.cursor ≡ Some e → IsAligned a tape m →
+    MayReplay m e × (pairs_in (after e m) ≤ peak_from 0 tape)
 
 -- at the tape's end an aligned map has, place by place, the pairs of the tape's rows, and it has the places of their bounds
 abbrev pub ReadyLaw : Type 0
 ReadyLaw =
     (a : ℕ) (tape : List (Step Row)) (m : Held) → IsAligned a tape m → m.cursor ≡ length tape →
-    (joined m.pairs ≡ map (pair_in a m.tail) (joined (rows_by a tape))) × ((b : Bound) → place_of b m.pairs ≡ place_of b (rows_by a tape))
+    (joined m.pairs ≡ map (pair_in a m.tail) (joined (rows_by a tape)))
+    × ((b : Bound) → place_of b m.pairs ≡ place_of b (rows_by a tape))
 
 -- a bound that stands in a range of the tape has a place, at most the number of rows: the rows before it are left of the
 -- bound, the others are not
 abbrev pub PlaceLaw : Type 0
 PlaceLaw =
     (a : ℕ) (tape : List (Step Row)) (b : Bound) → IsTape tape → is_marked b tape ≡ true →
-    (n : ℕ) × (place_of b (rows_by a tape) ≡ Some n) × (n ≤ length (joined (rows_by a tape))) × IsSound (cell_of a) (joined (rows_by a tape)) (record { bound = b; at = n })
+    (n : ℕ) × (place_of b (rows_by a tape) ≡ Some n) × (n ≤ length (joined (rows_by a tape)))
+    × IsSound (cell_of a) (joined (rows_by a tape)) (record { bound = b; at = n })

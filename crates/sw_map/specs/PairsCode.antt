@@ -6,4 +6,8 @@ use Rattle.sw_map.specs.Codes.{pairs_code}
 use Rattle.sw_map.specs.Pieces.{Table}
 
 abbrev pub table_code : Coded Table
-table_code = code_by (Arrangement (ℤ × ℤ) × ℕ) (coded× pairs_code coded_ℕ) (λ t. (t.pieces, t.room)) (λ p. record { pieces = p.0; room = p.1 }) (λ _. refl)
+table_code =
+    code_by (Arrangement (ℤ × ℤ) × ℕ) (coded× pairs_code coded_ℕ)
+    (λ t. (t.pieces, t.room))
+    (λ p. record { pieces = p.0; room = p.1 })
+    (λ _. refl)

@@ -1,6 +1,8 @@
 -- A map's flat lists as pieces between bounds, and what they always keep.
-use Rattle.std.specs.Prelude.{◌≡◌, ◌<◌, ℤ, ℕ, List, [], ◌∷◌, ◌++◌, ◌-◌, map, length, take, drop, zip, Option, None, Some, Bool, cond, vec_len, vec_capacity}
+use Rattle.std.specs.Prelude.{◌≡◌, ◌<◌, ◌≤◌, ℤ, ℕ, List, [], ◌∷◌, ◌++◌, ◌-◌, count_by, map, length, take, drop, zip, Option, None, Some, Bool, cond, Result, MatchResult, slice_index_or, vec_len, vec_capacity}
 use Rattle.std.specs.Global.{Vec}
+use Rattle.sw_rows.specs.Gives.{IsRefused}
+use Rattle.sw_rows.specs.declared.refusal.Refusal.{Refusal}
 use Rattle.sw_rows.specs.declared.bound.Bound.{Bound}
 use Rattle.sw_table.specs.declared.row.Row.{Row}
 use Rattle.sw_rows.specs.Bounds.{same_bound}
@@ -8,7 +10,7 @@ use Rattle.sw_kernel.specs.declared.mark.Mark.{Mark}
 use Rattle.sw_kernel.specs.Partition.{partition, head_of}
 use Rattle.sw_kernel.specs.Arrangement.{Arrangement, last, piece, joined}
 use Rattle.sw_kernel.specs.Replay.{Step, loaded, inserted, removed, ranged, step}
-use Rattle.sw_kernel.specs.Flat.{InOrder}
+use Rattle.sw_kernel.specs.Flat.{InOrder, Pairs}
 use Rattle.sw_kernel.specs.Tapes.{IsRising}
 
 -- the arrangement of these items, of which the first stands at i, cut at these marks
@@ -24,6 +26,10 @@ abbrev pub mark_of : Bound → List Mark → Option ℕ
 mark_of b [] = None
 mark_of b (m ∷ ms) = cond (same_bound b m.bound) (Some m.at) (mark_of b ms)
 
+-- whether the mark before the k-th piece has the bound; d where there is no such mark
+abbrev pub is_before : ℕ → Bound → List Mark → Mark → Bool
+is_before k b marks d = same_bound b (slice_index_or marks (k - 1) d).bound
+
 -- zs with the places from s up to e partitioned
 abbrev pub parted : {A : Type 0} → (A → Bool) → ℕ → ℕ → List A → List A
 parted p s e zs = take s zs ++ (partition p (take (e - s) (drop s zs)) ++ drop e zs)
@@ -34,6 +40,19 @@ pub record IsLaidOut {A : Type 0} (a : Arrangement A) (items : List A) (marks : 
   pub order : InOrder 0 (length items) marks
   pub rising : IsRising (bounds_of marks)
 
+-- how many items of the places from s up to e pass a test
+abbrev pub count_between : {A : Type 0} → (A → Bool) → ℕ → ℕ → List A → ℕ
+count_between p s e zs = count_by p (take (e - s) (drop s zs))
+
+-- the pairs of two lists, in the pieces that the marks make
+abbrev pub pieces_of : Vec ℤ → Vec ℤ → List Mark → Pairs
+pieces_of head tail marks = pieces_between 0 (zip head.items tail.items) marks
+
+-- two lists and their marks are now what f makes of their pieces
+abbrev pub AreCut : (Pairs → Pairs) → Vec ℤ → Vec ℤ → Vec Mark → Vec ℤ → Vec ℤ → Vec Mark → Type 0
+AreCut f head tail marks head' tail' marks' =
+    IsLaidOut (f (pieces_of head tail marks.items)) (zip head'.items tail'.items) marks'.items
+
 -- pairs in their pieces, and for how many pairs there is room
 pub record Table : Type 0 where
   pub pieces : Arrangement (ℤ × ℤ)
@@ -42,6 +61,14 @@ pub record Table : Type 0 where
 -- a step on the pairs; the room stays
 abbrev pub stepped : Step (ℤ × ℤ) → Table → Table
 stepped e t = record { pieces = step head_of e t.pieces; room = t.room }
+
+-- there is room for the pairs that there are after a step
+abbrev pub HasRoomAfter : Step (ℤ × ℤ) → Table → Type 0
+HasRoomAfter e t = length (joined (stepped e t).pieces) ≤ t.room
+
+-- the table after it was to make a step; or it was refused for want of memory, and is as it was
+abbrev pub HasSteppedOr : {A : Type 0} → Result A Refusal → Step (ℤ × ℤ) → Table → Table → Type 0
+HasSteppedOr r e t t' = MatchResult r (λ _. t' ≡ stepped e t) (IsRefused t t')
 
 -- a removed place is one of the pairs'
 abbrev pub HasPlace : Step (ℤ × ℤ) → Table → Type 0
@@ -59,7 +86,7 @@ TakesNoMemory (ranged lower upper) = ⊥
 
 -- the two lists and the marks as a table
 abbrev pub table_of : Vec ℤ → Vec ℤ → List Mark → Table
-table_of head tail marks = record { pieces = pieces_between 0 (zip head.items tail.items) marks; room = vec_capacity head }
+table_of head tail marks = record { pieces = pieces_of head tail marks; room = vec_capacity head }
 
 -- what they always keep
 pub record IsTable (head tail : Vec ℤ) (marks : List Mark) : Type 0 where

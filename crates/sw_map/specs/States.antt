@@ -11,16 +11,38 @@ use Rattle.sw_map.specs.Held.{Held, blank}
 -- what it holds; its cells are those that its lease holds
 abbrev pub held_by : Home → Held
 held_by (Blank purse) = blank
-held_by (Active a) = record { is_blank = false; head = a.head; tail = a.tail; cells = a.lease.held; cursor = a.cursor; pairs = a.pairs.pieces }
+held_by (Active a) = record {
+  is_blank = false;
+  head = a.head;
+  tail = a.tail;
+  cells = a.lease.held;
+  cursor = a.cursor;
+  pairs = a.pairs.pieces;
+}
 
 -- what it holds with what it kept and a lease of so many cells
 abbrev pub held_with : Kept → ℕ → Held
-held_with k cells = record { is_blank = false; head = k.head; tail = k.tail; cells = cells; cursor = k.cursor; pairs = k.pairs.pieces }
+held_with k cells = record {
+  is_blank = false;
+  head = k.head;
+  tail = k.tail;
+  cells = cells;
+  cursor = k.cursor;
+  pairs = k.pairs.pieces;
+}
 
 -- its seat at the budget
 abbrev pub seat_of : Home → Account
 seat_of (Blank purse) = purse
 seat_of (Active a) = a.lease
+
+-- it holds this, and this is its seat
+abbrev pub IsHome : Held → Account → Home → Type 0
+IsHome held seat home = (held_by home ≡ held) × (seat_of home ≡ seat)
+
+-- it is blank, and its lease was given back for want of memory
+abbrev pub IsGivenBack : Account → Home → Refusal → Type 0
+IsGivenBack lease home e = (held_by home ≡ blank) × (seat_of home ≡ returned lease) × (e ≡ NoMemory)
 
 -- the seat after a begin: one load and one compare-exchange, which took the cells
 abbrev pub HasLeased : Account → ℕ → Account → Type 0
@@ -32,6 +54,9 @@ abbrev pub HasReturned : Account → ℕ → Account → Refusal → Type 0
 HasReturned a cells b NoMemory = b ≡ returned (asked a cells b.seen b.seen)
 HasReturned a cells b e = Refused a cells b e
 
+abbrev pub HasLeasedOr : {A : Type 0} → Result A Refusal → Account → ℕ → Account → Type 0
+HasLeasedOr r a cells b = MatchResult r (λ _. HasLeased a cells b) (λ e. HasReturned a cells b e)
+
 -- the seat after a clear: what it held is given back, if it was in use
 abbrev pub cleared : Account → Bool → Account
 cleared a true = a
@@ -39,4 +64,4 @@ cleared a false = returned a
 
 -- the seat after its lease was given back and so many cells were asked for: as after a clear and a begin
 abbrev pub HasLeasedAnew : Result Bool Refusal → Account → ℕ → Account → Type 0
-HasLeasedAnew r a cells b = MatchResult r (λ _. HasLeased (returned a) cells b) (λ e. HasReturned (returned a) cells b e)
+HasLeasedAnew r a cells b = HasLeasedOr r (returned a) cells b

@@ -1,12 +1,12 @@
 //! Cracks of head and tail, in place.
 
-ghost use Rattle.std.specs.Prelude.{◌≡◌, ◌+◌, ◌-◌, ◌<◌, ◌≤◌, ◌++◌, ◌∷◌, length, zip, take, drop, count_by, vec_len, vec_capacity};
+ghost use Rattle.std.specs.Prelude.{◌≡◌, ◌+◌, ◌-◌, ◌<◌, ◌≤◌, ◌++◌, ◌∷◌, length, zip, take, drop, vec_len, vec_capacity};
 ghost use Rattle.sw_kernel.specs.Partition.{goes_left, head_of};
 ghost use Rattle.sw_kernel.specs.Arrangement.{crack};
 ghost use Rattle.sw_kernel.specs.Replay.{crack_at};
-ghost use Rattle.sw_kernel.specs.Flat.{InOrder, IsNew, end_before, marks_below, start_at};
+ghost use Rattle.sw_kernel.specs.Flat.{InOrder, IsNew, KeepsRoom, end_before, marks_below, start_at};
 ghost use Rattle.sw_kernel.specs.Tapes.{IsRising};
-ghost use Rattle.sw_map.specs.Pieces.{IsLaidOut, bounds_of, parted, pieces_between};
+ghost use Rattle.sw_map.specs.Pieces.{AreCut, bounds_of, count_between, parted};
 
 use crate::places::{is_marked, marks_below};
 use sw_kernel::{Mark, split};
@@ -32,7 +32,7 @@ fn part(head: &mut [i64], tail: &mut [i64], start: usize, end: usize, bound: Bou
     requires lengths { length head.old ≡ length tail.old }
     requires range { (start ≤ end) × (end ≤ length head.old) }
     ensures pairs { zip head.new tail.new ≡ parted (goes_left head_of bound) start end (zip head.old tail.old) }
-    ensures left { result ≡ count_by (goes_left head_of bound) (take (end - start) (drop start (zip head.old tail.old))) }
+    ensures left { result ≡ count_between (goes_left head_of bound) start end (zip head.old tail.old) }
     ensures few { result ≤ end - start }
 {
     split(&mut head[start..end], &mut tail[start..end], bound)
@@ -66,10 +66,10 @@ fn crack_new(
     requires new { IsNew bound marks.old.items }
     requires place { k ≡ marks_below marks.old.items bound }
     requires within { k ≤ vec_len marks.old }
-    ensures cracked { IsLaidOut (crack head_of bound (pieces_between 0 (zip head.old.items tail.old.items) marks.old.items)) (zip head.new.items tail.new.items) marks.new.items }
+    ensures cracked { AreCut (crack head_of bound) head.old tail.old marks.old head.new tail.new marks.new }
     ensures order { InOrder 0 (vec_len head.new) marks.new.items }
     ensures lengths { (vec_len head.new ≡ vec_len head.old) × (vec_len tail.new ≡ vec_len tail.old) }
-    ensures capacity { (vec_capacity head.new ≡ vec_capacity head.old) × (vec_capacity tail.new ≡ vec_capacity tail.old) }
+    ensures capacity { KeepsRoom head.old head.new × KeepsRoom tail.old tail.new }
     ensures marks { (vec_len marks.new ≡ vec_len marks.old + 1) × (vec_capacity marks.new ≡ vec_capacity marks.old) }
 {
     let start = start_of(marks, k);
@@ -91,10 +91,10 @@ fn crack(head: &mut Vec<i64>, tail: &mut Vec<i64>, marks: &mut Vec<Mark>, bound:
     requires room { vec_len marks.old < vec_capacity marks.old }
     requires order { InOrder 0 (vec_len head.old) marks.old.items }
     requires rising { IsRising (bounds_of marks.old.items) }
-    ensures cracked { IsLaidOut (crack head_of bound (pieces_between 0 (zip head.old.items tail.old.items) marks.old.items)) (zip head.new.items tail.new.items) marks.new.items }
+    ensures cracked { AreCut (crack head_of bound) head.old tail.old marks.old head.new tail.new marks.new }
     ensures order { InOrder 0 (vec_len head.new) marks.new.items }
     ensures lengths { (vec_len head.new ≡ vec_len head.old) × (vec_len tail.new ≡ vec_len tail.old) }
-    ensures capacity { (vec_capacity head.new ≡ vec_capacity head.old) × (vec_capacity tail.new ≡ vec_capacity tail.old) }
+    ensures capacity { KeepsRoom head.old head.new × KeepsRoom tail.old tail.new }
     ensures marks { (vec_len marks.new ≤ vec_len marks.old + 1) × (vec_capacity marks.new ≡ vec_capacity marks.old) }
 {
     let k = marks_below(marks, bound);
@@ -114,10 +114,10 @@ pub(crate) fn crack_some(
     requires room { vec_len marks.old < vec_capacity marks.old }
     requires order { InOrder 0 (vec_len head.old) marks.old.items }
     requires rising { IsRising (bounds_of marks.old.items) }
-    ensures cracked { IsLaidOut (crack_at head_of bound (pieces_between 0 (zip head.old.items tail.old.items) marks.old.items)) (zip head.new.items tail.new.items) marks.new.items }
+    ensures cracked { AreCut (crack_at head_of bound) head.old tail.old marks.old head.new tail.new marks.new }
     ensures order { InOrder 0 (vec_len head.new) marks.new.items }
     ensures lengths { (vec_len head.new ≡ vec_len head.old) × (vec_len tail.new ≡ vec_len tail.old) }
-    ensures capacity { (vec_capacity head.new ≡ vec_capacity head.old) × (vec_capacity tail.new ≡ vec_capacity tail.old) }
+    ensures capacity { KeepsRoom head.old head.new × KeepsRoom tail.old tail.new }
     ensures marks { (vec_len marks.new ≤ vec_len marks.old + 1) × (vec_capacity marks.new ≡ vec_capacity marks.old) }
 {
     if let Some(bound) = bound {

@@ -1,11 +1,11 @@
 //! The trait of maps, and a box of any map.
 
-ghost use Rattle.std.specs.Prelude.{◌≡◌, ℕ, ◌+◌, ◌<◌, ◌≤◌, pos, length, true, false, MatchResult, slice_index_or, slice_range};
-ghost use Rattle.sw_rows.specs.declared.refusal.Refusal.TheVariants.{NoMemory};
+ghost use Rattle.std.specs.Prelude.{◌≡◌, ◌+◌, ◌<◌, ◌≤◌, pos, length, false, slice_index_or, slice_range};
 ghost use Rattle.sw_kernel.specs.Arrangement.{joined};
 ghost use Rattle.sw_tape.specs.Entries.{step_of};
+ghost use Rattle.sw_tape.specs.declared.tape.TheConstants.{MAX_ENTRIES};
 ghost use Rattle.sw_map.specs.Held.{Held, blank, begun, after, pairs_in, place_of, tails_in, MayReplay, KeysFit};
-ghost use Rattle.sw_map.specs.Refusals.{HasGrownOr, IsBeginRefusal};
+ghost use Rattle.sw_map.specs.Refusals.{HasBegunOr, HasGrownOr, HasReplayedOr};
 
 use crate::tail::Tail;
 use sw_rows::{Bound, Refusal};
@@ -73,7 +73,7 @@ pub trait CrackerMap: Send + Drop {
     /// `NoMemory`, `Short` or `Contended`, and is then blank.
     fn begin(&mut self, head: u8, tail: Tail, cells: u64) -> Result<(), Refusal>
         requires { held self.old ≡ blank }
-        ensures { MatchResult result (λ _. held self.new ≡ begun head tail cells) (λ e. (held self.new ≡ blank) × IsBeginRefusal cells e) };
+        ensures { HasBegunOr result head tail cells (held self.new) };
 
     /// Grows the lease of a map in use to so many cells, more than it has, and answers `true`; all else is as it was. A map that
     /// does not grow in place answers `false`, and nothing has changed. It is refused what `begin` is, and is then blank.
@@ -89,11 +89,11 @@ pub trait CrackerMap: Send + Drop {
     /// has changed.
     fn step(&mut self, entry: &Entry) -> Result<(), Refusal>
         requires begun { (held self.old).is_blank ≡ false }
-        requires early { (held self.old).cursor < 4096 }
+        requires early { (held self.old).cursor < MAX_ENTRIES }
         requires next { MayReplay (held self.old) (step_of entry.now) }
         requires keys { KeysFit (step_of entry.now) }
         requires room { pairs_in (after (step_of entry.now) (held self.old)) ≤ (held self.old).cells }
-        ensures { MatchResult result (λ _. held self.new ≡ after (step_of entry.now) (held self.old)) (λ e. (held self.new ≡ held self.old) × (e ≡ NoMemory)) };
+        ensures { HasReplayedOr result (step_of entry.now) (held self.old) (held self.new) };
 
     /// Makes the map blank; its lease is given back. It takes no memory.
     fn clear(&mut self)

@@ -1,11 +1,9 @@
 //! What a map's box has of its budget, and its pairs.
 
-ghost use Rattle.std.specs.Prelude.{◌≡◌, ◌<◌, ◌≤◌, IfErr, IfOk, MatchResult, false, true};
+ghost use Rattle.std.specs.Prelude.{◌≡◌, ◌<◌, ◌≤◌, IfErr, IfOk, OnOk, false, true};
 ghost use Rattle.sw_map.specs.Held.{begun, blank};
-ghost use Rattle.sw_map.specs.Refusals.{HasGrownOr, IsBeginRefusal};
-ghost use Rattle.sw_rows.specs.declared.refusal.Refusal.TheVariants.{NoMemory};
-ghost use Rattle.sw_map.specs.States.{HasLeased, HasLeasedAnew, HasReturned, cleared, held_by, held_with, seat_of};
-ghost use Rattle.sw_budget.specs.Account.{returned};
+ghost use Rattle.sw_map.specs.Refusals.{HasBegunOr, HasGrownOr};
+ghost use Rattle.sw_map.specs.States.{HasLeasedAnew, HasLeasedOr, IsGivenBack, IsHome, cleared, held_by, held_with, seat_of};
 
 use crate::active::Active;
 use crate::pairs::Pairs;
@@ -33,8 +31,8 @@ pub struct Plan {
 /// Gives a lease lists of its room; where they find no memory, the lease is given back.
 fn furnish(lease: Lease, plan: Plan) -> (Home, Result<(), Refusal>)
     requires { lease.held ≡ plan.cells }
-    ensures ok { IfOk result.1 (λ _. (held_by result.0 ≡ begun plan.head plan.tail plan.cells) × (seat_of result.0 ≡ lease)) }
-    ensures err { IfErr result.1 (λ e. (held_by result.0 ≡ blank) × (seat_of result.0 ≡ returned lease) × (e ≡ NoMemory)) }
+    ensures ok { OnOk result.1 (IsHome (begun plan.head plan.tail plan.cells) lease result.0) }
+    ensures err { IfErr result.1 (IsGivenBack lease result.0) }
 {
     match Pairs::with_room(plan.alloc, plan.cells as usize) {
         Ok(pairs) => {
@@ -65,8 +63,8 @@ fn refurnish(lease: Lease, kept: Kept, cells: u64) -> (Home, Result<bool, Refusa
     requires held { lease.held ≡ cells }
     requires more { kept.pairs.room ≤ cells }
     ensures grew { IfOk result.1 (λ grew. grew ≡ true) }
-    ensures ok { IfOk result.1 (λ _. (held_by result.0 ≡ held_with kept cells) × (seat_of result.0 ≡ lease)) }
-    ensures err { IfErr result.1 (λ e. (held_by result.0 ≡ blank) × (seat_of result.0 ≡ returned lease) × (e ≡ NoMemory)) }
+    ensures ok { OnOk result.1 (IsHome (held_with kept cells) lease result.0) }
+    ensures err { IfErr result.1 (IsGivenBack lease result.0) }
 {
     let Kept {
         head,
@@ -93,8 +91,8 @@ impl Home {
     /// Begins a blank map. Where it is refused it is blank, with its purse.
     pub(crate) fn begin(self, plan: Plan) -> (Home, Result<(), Refusal>)
         requires { held_by self ≡ blank }
-        ensures held { MatchResult result.1 (λ _. held_by result.0 ≡ begun plan.head plan.tail plan.cells) (λ e. (held_by result.0 ≡ blank) × IsBeginRefusal plan.cells e) }
-        ensures seat { MatchResult result.1 (λ _. HasLeased (seat_of self) plan.cells (seat_of result.0)) (λ e. HasReturned (seat_of self) plan.cells (seat_of result.0) e) }
+        ensures held { HasBegunOr result.1 plan.head plan.tail plan.cells (held_by result.0) }
+        ensures seat { HasLeasedOr result.1 (seat_of self) plan.cells (seat_of result.0) }
     {
         match self {
             Home::Blank(purse) => match purse.lease(plan.cells) {

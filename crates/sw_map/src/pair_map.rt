@@ -35,13 +35,13 @@ impl PairMap {
 }
 
 impl CrackerMap for PairMap {
-    ghost use Rattle.std.specs.Prelude.{◌≡◌, ◌<◌, ◌≤◌, IfOk, IsOk, MatchResult, false, true};
-    ghost use Rattle.sw_rows.specs.declared.refusal.Refusal.TheVariants.{NoMemory};
+    ghost use Rattle.std.specs.Prelude.{◌≡◌, ◌<◌, ◌≤◌, IfOk, IsOk, false, true};
     ghost use Rattle.sw_tape.specs.Entries.{step_of};
+    ghost use Rattle.sw_tape.specs.declared.tape.TheConstants.{MAX_ENTRIES};
     ghost use Rattle.sw_map.specs.Held.{KeysFit, MayReplay, after, begun, blank, pairs_in};
     ghost use Rattle.sw_map.specs.Pieces.{TakesNoMemory};
-    ghost use Rattle.sw_map.specs.Refusals.{HasGrownOr, IsBeginRefusal};
-    ghost use Rattle.sw_map.specs.States.{HasLeased, HasLeasedAnew, HasReturned, cleared, held_by, seat_of};
+    ghost use Rattle.sw_map.specs.Refusals.{HasBegunOr, HasGrownOr, HasReplayedOr};
+    ghost use Rattle.sw_map.specs.States.{HasLeasedAnew, HasLeasedOr, cleared, held_by, seat_of};
 
     ghost held = { λ m. held_by m.home };
 
@@ -120,8 +120,8 @@ impl CrackerMap for PairMap {
     /// memory.
     fn begin(&mut self, head: u8, tail: Tail, cells: u64) -> Result<(), Refusal>
         requires { held_by self.old.home ≡ blank }
-        ensures held { MatchResult result (λ _. held_by self.new.home ≡ begun head tail cells) (λ e. (held_by self.new.home ≡ blank) × IsBeginRefusal cells e) }
-        ensures seat { MatchResult result (λ _. HasLeased (seat_of self.old.home) cells (seat_of self.new.home)) (λ e. HasReturned (seat_of self.old.home) cells (seat_of self.new.home) e) }
+        ensures held { HasBegunOr result head tail cells (held_by self.new.home) }
+        ensures seat { HasLeasedOr result (seat_of self.old.home) cells (seat_of self.new.home) }
     {
         let plan = Plan {
             alloc: self.alloc,
@@ -147,11 +147,11 @@ impl CrackerMap for PairMap {
     /// It is never refused but at a range, and its lease stays as it was.
     fn step(&mut self, entry: &Entry) -> Result<(), Refusal>
         requires begun { (held_by self.old.home).is_blank ≡ false }
-        requires early { (held_by self.old.home).cursor < 4096 }
+        requires early { (held_by self.old.home).cursor < MAX_ENTRIES }
         requires next { MayReplay (held_by self.old.home) (step_of entry.now) }
         requires keys { KeysFit (step_of entry.now) }
         requires room { pairs_in (after (step_of entry.now) (held_by self.old.home)) ≤ (held_by self.old.home).cells }
-        ensures held { MatchResult result (λ _. held_by self.new.home ≡ after (step_of entry.now) (held_by self.old.home)) (λ e. (held_by self.new.home ≡ held_by self.old.home) × (e ≡ NoMemory)) }
+        ensures held { HasReplayedOr result (step_of entry.now) (held_by self.old.home) (held_by self.new.home) }
         ensures memory { TakesNoMemory (step_of entry.now) → IsOk result }
         ensures seat { seat_of self.new.home ≡ seat_of self.old.home }
     {

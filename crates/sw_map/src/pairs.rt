@@ -5,12 +5,11 @@ ghost use Rattle.sw_rows.specs.declared.refusal.Refusal.TheVariants.{NoMemory};
 ghost use Rattle.sw_table.specs.declared.row.Row.{Row};
 ghost use Rattle.sw_rows.specs.Scan.{cell_of};
 ghost use Rattle.sw_kernel.specs.Arrangement.{joined, last};
-ghost use Rattle.sw_kernel.specs.Partition.{head_of};
 ghost use Rattle.sw_kernel.specs.Replay.{inserted, loaded, ranged, removed, shown_step};
 ghost use Rattle.sw_tape.specs.Entries.{step_of};
 ghost use Rattle.sw_map.specs.declared.tail.Tail.TheVariants.{Key};
 ghost use Rattle.sw_map.specs.Held.{KeysFit, pair_in, place_of, tail_value};
-ghost use Rattle.sw_map.specs.Pieces.{HasPlace, TakesNoMemory, stepped};
+ghost use Rattle.sw_map.specs.Pieces.{HasPlace, HasRoomAfter, HasSteppedOr, TakesNoMemory, stepped};
 
 use crate::crack::crack_some;
 use crate::places::find_mark;
@@ -233,7 +232,7 @@ impl Pairs {
         lower: Option<Bound>,
         upper: Option<Bound>,
     ) -> Result<(), Refusal>
-        ensures { MatchResult result (λ _. self.new ≡ stepped (ranged lower upper) self.old) (λ e. (self.new ≡ self.old) × (e ≡ NoMemory)) }
+        ensures { HasSteppedOr result (ranged lower upper) self.old self.new }
     {
         if self.marks.reserve(2).is_err() {
             return Err(Refusal::NoMemory);
@@ -255,10 +254,10 @@ impl Pairs {
     /// Replays an entry of a tape, each row as the pair of this head and tail. It is refused `NoMemory` alone, at a range
     /// alone, and then nothing has changed.
     pub(crate) fn replay(&mut self, head: u8, tail: Tail, entry: &Entry) -> Result<(), Refusal>
-        requires room { length (joined (stepped (shown_step (pair_in head tail) (step_of entry.now)) self.old).pieces) ≤ self.old.room }
+        requires room { HasRoomAfter (shown_step (pair_in head tail) (step_of entry.now)) self.old }
         requires place { HasPlace (shown_step (pair_in head tail) (step_of entry.now)) self.old }
         requires keys { KeysFit (step_of entry.now) }
-        ensures steps { MatchResult result (λ _. self.new ≡ stepped (shown_step (pair_in head tail) (step_of entry.now)) self.old) (λ e. (self.new ≡ self.old) × (e ≡ NoMemory)) }
+        ensures steps { HasSteppedOr result (shown_step (pair_in head tail) (step_of entry.now)) self.old self.new }
         ensures memory { TakesNoMemory (step_of entry.now) → IsOk result }
     {
         match entry {

@@ -1,11 +1,11 @@
 //! Where a bound's mark stands among rising marks.
 
-ghost use Rattle.std.specs.Prelude.{◌≡◌, ◌-◌, ◌<◌, ◌≤◌, true, false, length, slice_index_or};
+ghost use Rattle.std.specs.Prelude.{◌≡◌, ◌-◌, ◌<◌, ◌≤◌, true, false, length};
 ghost use Rattle.sw_rows.specs.Bounds.{same_bound};
 ghost use Rattle.sw_kernel.specs.declared.mark.Mark.{Mark};
 ghost use Rattle.sw_kernel.specs.Flat.{marks_below};
 ghost use Rattle.sw_kernel.specs.Tapes.{IsRising};
-ghost use Rattle.sw_map.specs.Pieces.{bounds_of, mark_of};
+ghost use Rattle.sw_map.specs.Pieces.{bounds_of, is_before, mark_of};
 
 use sw_kernel::Mark;
 use sw_rows::Bound;
@@ -34,8 +34,8 @@ pub(crate) fn marks_below(marks: &[Mark], bound: Bound) -> usize
 pub(crate) fn is_marked(marks: &[Mark], k: usize, bound: Bound) -> bool
     requires { k ≤ length marks.now }
     ensures low { result ≡ true → 0 < k }
-    ensures there { result ≡ true → (d : Mark) → (0 < k) × (same_bound bound (slice_index_or marks.now (k - 1) d).bound ≡ true) }
-    ensures new { result ≡ false → (d : Mark) → 0 < k → same_bound bound (slice_index_or marks.now (k - 1) d).bound ≡ false }
+    ensures there { result ≡ true → (d : Mark) → (0 < k) × (is_before k bound marks.now d ≡ true) }
+    ensures new { result ≡ false → (d : Mark) → 0 < k → is_before k bound marks.now d ≡ false }
 {
     0 < k && is_same(bound, marks[k - 1].bound)
 }

@@ -5,11 +5,13 @@ ghost use Rattle.std.specs.Io.KnownBytes.{IsAtEnd};
 ghost use Rattle.sw_rows.specs.Gives.{Raised, TellsSource};
 ghost use Rattle.sw_rows.specs.Tables.{IsAllRead, IsLoaded, shown_packed, table_of};
 
+use crate::parts::read_table_in_parts;
 use crate::refusal::Refusal;
 use crate::schema::Schema;
 use crate::source::Source;
 use crate::table::read_table;
 use std::alloc::{AllocError, Global};
+use std::thread::Threads;
 use sw_table::PackedRows;
 
 /// How many bytes a table or a script has at most.
@@ -75,6 +77,28 @@ pub fn load<R: Source>(alloc: Global, source: &mut R) -> Result<(Schema, PackedR
 {
     match read_all(alloc, source, MOST_BYTES) {
         Ok(bytes) => match read_table(alloc, &bytes) {
+            Ok(table) => Ok(table),
+            Err(e) => Err(e),
+        },
+        Err(e) => Err(e),
+    }
+}
+
+/// Reads a table as `load` does, with the same clauses, a long one in parts, each by a thread of its own.
+pub fn load_in_parts<T: Threads + Sync, R: Source>(
+    rt: &T,
+    alloc: Global,
+    source: &mut R,
+) -> Result<(Schema, PackedRows), Refusal>
+    ensures spelled { IfSome (R.left source.old) (IsLoaded (R.failed source.old) (R.failed source.new) result) }
+    ensures steady { OnOk result (R.failed source.new ≡ R.failed source.old) }
+    ensures table { IfOk result (λ t. (bytes : List ℕ) × (table_of bytes ≡ Ok (shown_packed t))) }
+    ensures width { IfOk result (λ t. t.1.width ≡ length t.0) }
+    ensures told { IfErr result (TellsSource (Raised (R.failed source.old) (R.failed source.new))) }
+    ensures ended { OnOk result (IsAtEnd (R.left source.new)) }
+{
+    match read_all(alloc, source, MOST_BYTES) {
+        Ok(bytes) => match read_table_in_parts(rt, alloc, &bytes) {
             Ok(table) => Ok(table),
             Err(e) => Err(e),
         },

@@ -1,6 +1,6 @@
 //! The plain scan.
 
-ghost use Rattle.std.specs.Prelude.{◌≡◌, ◌<◌, length, slice_index_or, All, IfOk, IsOk, IsOkUnless};
+ghost use Rattle.std.specs.Prelude.{◌≡◌, ◌<◌, ◌++◌, ◌∷◌, [], length, slice_index_or, All, IfOk, IsOk, IsOkUnless, OnOk, OnErr};
 ghost use Rattle.sw_rows.specs.Scan.{meets_all, answer, column, greatest, is_match, least, matching, selected, total, AsksBelow, CondsBelow, ShowsCells, ShowsRow, TakesMemory};
 ghost use Rattle.sw_table.specs.Kept.{kept};
 ghost use Rattle.sw_table.specs.declared.row.Row.{Row};
@@ -142,6 +142,14 @@ fn shown_at<P: Places>(
     })
 }
 
+/// Adds a row at the end; after an error nothing has changed.
+fn push_row(found: &mut ReplyRows, row: ReplyRow) -> Result<(), AllocError>
+    ensures ok { OnOk result (found.new ≡ found.old ++ row ∷ []) }
+    ensures err { OnErr result (found.new ≡ found.old) }
+{
+    found.push(row.key, row.cells.as_slice())
+}
+
 /// The live rows that meet each condition, each as its key and its cells of some attributes.
 fn select<P: Places>(
     alloc: Global,
@@ -156,7 +164,7 @@ fn select<P: Places>(
     let mut found = ReplyRows::new(alloc);
     for place in 0..rows.places() {
         if is_found(rows, conds, place) {
-            found.push(shown_at(alloc, rows, place, names)?)?;
+            push_row(&mut found, shown_at(alloc, rows, place, names)?)?;
         }
     }
     Ok(found)

@@ -46,7 +46,7 @@ fn read_cells(schema: &Schema, rec: u64, row: &ByteRecord) -> Result<[i64; 8], R
 pub const MOST_ROWS: u64 = 1_048_576;
 
 /// Reads the rows that are left, of as many cells as there are attributes.
-fn read_rows(
+pub(crate) fn read_rows(
     alloc: Global,
     schema: &Schema,
     rdr: &mut Reader<&[u8]>,

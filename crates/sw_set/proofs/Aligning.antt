@@ -9,7 +9,8 @@ use Rattle.sw_kernel.specs.Replay.{Step}
 use Rattle.sw_map.specs.Held.{Held}
 use Rattle.sw_map.specs.Lawful.{IsAligned, IsLawful}
 use Rattle.sw_map.proofs.Replays.{aligned-lawful}
-use Rattle.sw_set.specs.Shelf.{AreSameMaps, AreaState, IsAreaLawful, IsSameMap}
+use Rattle.sw_set.specs.Shelf.{AreaState, IsAreaLawful}
+use Rattle.sw_set.specs.Aligned.{AreSameMaps, IsSameMap}
 use Rattle.sw_set.proofs.Boxes.{boxes-kept, get_or-here, lawful-after, lawful-at, own-aligned, same-refl}
 use Rattle.sw_set.proofs.Shelves.{apart-same, area-with, area_of, leases-same}
 

@@ -19,7 +19,8 @@ use Rattle.sw_kernel.specs.Tapes.{HoldsOnce}
 use Rattle.sw_kernel.proofs.Members.{Mem, mem-filter, mem-filtered, mem-permutation}
 use Rattle.sw_set.specs.Shelf.{Rises, key_of}
 use Rattle.sw_table.specs.Kept.{kept}
-use Rattle.sw_set.specs.Choice.{AreInKeyOrder, AreOf, IsReplyOver, IsRun, chosen, further, meets_first}
+use Rattle.sw_set.specs.Choice.{AreOf, IsRun, chosen, further, meets_first}
+use Rattle.sw_set.specs.Collected.{AreInKeyOrder, IsReplyOver}
 use Rattle.sw_set.proofs.Gathered.{Apart, Same, same-once, apart-distinct}
 use Rattle.sw_set.proofs.KeyOrder.{apart-filter, count-same, greatest-same, least-same, rises-filter, rises-sorted, rising-unique, total-same}
 

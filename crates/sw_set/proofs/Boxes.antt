@@ -14,7 +14,7 @@ use Rattle.sw_map.specs.declared.tail.Tail.{Tail}
 use Rattle.sw_map.specs.Held.{Held, after, pairs_in, MayReplay, KeysFit}
 use Rattle.sw_map.specs.Lawful.{IsAligned, IsLawful}
 use Rattle.sw_map.proofs.Replays.{aligned-more, after-room, may-replay, aligned-lawful, lawful-aligned}
-use Rattle.sw_set.specs.Shelf.{HasRoomWhereNeeded, IsAtEnd, IsSameMap, AreSameMaps}
+use Rattle.sw_set.specs.Aligned.{HasRoomWhereNeeded, IsAtEnd, IsSameMap, AreSameMaps}
 
 -- a map that started as m0 and has replayed the first i entries
 pub record IsOnTheWay (tape : List (Step Row)) (i : ℕ) (m0 m : Held) : Type 0 where

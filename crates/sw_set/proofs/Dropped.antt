@@ -10,7 +10,7 @@ use Rattle.sw_kernel.specs.Replay.{Step}
 use Rattle.sw_map.specs.Held.{Held, blank}
 use Rattle.sw_map.specs.Lawful.{IsLawful}
 use Rattle.sw_set.specs.Shelf.{AreaState, AreApart, HasLease, IsAreaLawful}
-use Rattle.sw_set.specs.Prepared.{IsShed}
+use Rattle.sw_set.specs.Boxed.{IsShed}
 use Rattle.sw_set.proofs.Boxes.{get_or_any}
 use Rattle.sw_set.proofs.Shelves.{area_of, area-with}
 

@@ -14,8 +14,10 @@ use Rattle.sw_map.specs.declared.tail.Tail.TheVariants.{Key}
 use Rattle.sw_map.specs.Held.{Held, pairs_in, pair_in, place_of}
 use Rattle.sw_map.specs.Lawful.{IsAligned, rows_by}
 use Rattle.sw_map.proofs.Replays.{aligned-lawful, ready-joined, ready-place, place-marked}
-use Rattle.sw_set.specs.Shelf.{AreaState, AreApart, AreSameMaps, HasRoomWhereNeeded, IsAreaLawful, IsAtEnd}
-use Rattle.sw_set.specs.Prepared.{IsFoundAt, IsHeld, IsNoted, IsPlace, IsReady, cells_for, stands_if}
+use Rattle.sw_set.specs.Shelf.{AreaState, AreApart, IsAreaLawful}
+use Rattle.sw_set.specs.Aligned.{AreSameMaps, HasRoomWhereNeeded, IsAtEnd}
+use Rattle.sw_set.specs.Prepared.{IsNoted, IsPlace, IsReady, cells_for, stands_if}
+use Rattle.sw_set.specs.Boxed.{IsFoundAt, IsHeld}
 use Rattle.sw_set.proofs.Boxes.{get_or_any}
 
 -- ---- after a range was noted its bounds stand

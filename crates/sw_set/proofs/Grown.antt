@@ -11,7 +11,7 @@ use Rattle.sw_map.specs.Lawful.{IsLawful}
 use Rattle.sw_map.specs.Refusals.{HasGrownOr}
 use Rattle.sw_map.proofs.Replays.{aligned-lawful, lawful-aligned}
 use Rattle.sw_set.specs.Shelf.{AreaState, HasLease, IsAreaLawful}
-use Rattle.sw_set.specs.Prepared.{HasGrownAt, IsFreshBut, IsHeld}
+use Rattle.sw_set.specs.Boxed.{HasGrownAt, IsFreshBut, IsHeld}
 use Rattle.sw_set.proofs.Aligning.{at-inside, at-lawful, at-place}
 use Rattle.sw_set.proofs.Boxes.{get_or_any}
 use Rattle.sw_set.proofs.Shelves.{area_of, area-set, blank-not, lawful-of_blank, view-set}

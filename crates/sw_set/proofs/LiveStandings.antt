@@ -5,7 +5,7 @@ use Rattle.sw_table.specs.declared.row.Row.{Row}
 use Rattle.sw_table.specs.declared.row.Update.{Update}
 use Rattle.sw_table.specs.declared.row.Update.TheVariants.{Insert, Remove}
 use Rattle.sw_table.specs.Updates.{without}
-use Rattle.sw_set.specs.Live.{IsNextStanding, IsStanding, Standing, live_among}
+use Rattle.sw_set.specs.Live.{IsNextStanding, IsStandingOf, Standing, live_among}
 use Rattle.sw_set.specs.Shelf.{Rises, came_then, key_of}
 use Rattle.std.proofs.lemmas.List.Sums.{fold-append}
 use Rattle.sw_set.proofs.LiveFinds.{rises-front}
@@ -20,7 +20,7 @@ pushed s r = record { later = s.later ++ r ∷ []; flags = s.flags ++ true ∷ [
 abbrev pub flagged : Standing → ℕ → Bool → Standing
 flagged s p b = record s { flags = slice_set s.flags p b }
 
-module _ (load : List Row) (s : Standing) (standing : IsStanding load s) where
+module _ (load : List Row) (s : Standing) (standing : IsStandingOf load s) where
   -- the rows with one more at their end
   later-pushed : (r : Row) → load ++ (s.later ++ r ∷ []) ≡ (load ++ s.later) ++ r ∷ []
   later-pushed r = sym (append_assoc load s.later (r ∷ []))
@@ -28,7 +28,7 @@ module _ (load : List Row) (s : Standing) (standing : IsStanding load s) where
   pub live-pushed : (r : Row) → live_among load (pushed s r) ≡ live_among load s ++ r ∷ []
   live-pushed r = rw (later-pushed r) (kept-more s.flags (load ++ s.later) r standing.many)
 
-  pub standing-flagged : (p : ℕ) (b : Bool) → IsStanding load (flagged s p b)
+  pub standing-flagged : (p : ℕ) (b : Bool) → IsStandingOf load (flagged s p b)
   standing-flagged p b = record { many = length-set s.flags p b ∙ standing.many; rise = standing.rise }
 
   pub live-removed : (k p : ℕ) (d : Row) → p < length (load ++ s.later) → (get_or (load ++ s.later) p d).key ≡ k → live_among load (flagged s p false) ≡ without k (live_among load s)

@@ -3,7 +3,7 @@ use Rattle.std.proofs.Common.{◌≡◌, ℕ, ◌<◌, false, List, length, get_
 use Rattle.std.proofs.lemmas.List.{length-map}
 use Rattle.sw_map.specs.declared.tail.Tail.{Tail}
 use Rattle.sw_map.specs.Held.{Held}
-use Rattle.sw_set.specs.Prepared.{IsSpare}
+use Rattle.sw_set.specs.Boxed.{IsSpare}
 use Rattle.sw_set.proofs.Boxes.{held-at, held-all}
 
 pub some-at : {X : Type 0} (h : X → Held) (P : Held → Type 0) (ys : List X) (ms : List Held) (i : ℕ) → map h ys ≡ ms → i < length ys → ((d : X) → P (h (get_or ys i d))) → (i < length ms) × ((d : Held) → P (get_or ms i d))

@@ -11,9 +11,12 @@ use Rattle.sw_kernel.specs.Replay.{Step, loaded, inserted, removed}
 use Rattle.sw_kernel.specs.Tapes.{brought, peak_from}
 use Rattle.sw_map.specs.declared.tail.Tail.TheVariants.{Key}
 use Rattle.sw_map.specs.Held.{Held}
-use Rattle.sw_set.specs.Merged.{AreMerged, IsAllMerged, IsMerged, IsMergedUpTo, IsPartlyMerged, IsSameShell, IsStoppedAt, LacksKeys, StandsForSame, without_inbox}
-use Rattle.sw_set.specs.Prepared.{IsReady, IsSameButBoxes}
-use Rattle.sw_set.specs.Shelf.{AreApart, AreReceivable, AreSameMaps, AreaState, MayReceive, came_then, logged_rows}
+use Rattle.sw_set.specs.Merged.{AreMerged, IsAllMerged, IsMerged, IsPartlyMerged, IsSameShell, LacksKeys, StandsForSame, without_inbox}
+use Rattle.sw_set.specs.Merging.{IsMergedUpTo, IsStoppedAt}
+use Rattle.sw_set.specs.Prepared.{IsReady}
+use Rattle.sw_set.specs.Boxed.{IsSameButBoxes}
+use Rattle.sw_set.specs.Shelf.{AreApart, AreReceivable, AreaState, MayReceive, came_then, logged_rows}
+use Rattle.sw_set.specs.Aligned.{AreSameMaps}
 use Rattle.sw_set.proofs.Longer.{all-without, brought-inserted, brought-removed, logged-all, logged-inserted, logged-removed}
 use Rattle.sw_set.proofs.Receiving.{IsBelow, all-left, all-right, less-after, receivable-less}
 use Rattle.sw_set.proofs.Views.{IsOwn, all-own}

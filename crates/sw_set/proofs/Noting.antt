@@ -11,7 +11,8 @@ use Rattle.sw_kernel.specs.Replay.{Step, loaded, inserted, removed, ranged}
 use Rattle.sw_kernel.specs.Tapes.{brought, brought_by, count_after, peak_from}
 use Rattle.sw_map.specs.Held.{KeysFit}
 use Rattle.sw_set.specs.Shelf.{AreaState, IsAreaLawful, IsSameArea, Rises, key_of}
-use Rattle.sw_set.specs.Prepared.{IsNoted, IsSameButBoxes, stands_if}
+use Rattle.sw_set.specs.Prepared.{IsNoted, stands_if}
+use Rattle.sw_set.specs.Boxed.{IsSameButBoxes}
 use Rattle.sw_set.proofs.Receiving.{IsBelow, brings-less}
 use Rattle.sw_set.proofs.Shelves.{brought-ranged, logged-ranged}
 

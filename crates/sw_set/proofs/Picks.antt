@@ -1,14 +1,11 @@
 -- The least recently used box among those looked at so far.
 use Rattle.std.proofs.Common.{◌≡◌, ◌≢◌, ℕ, ◌+◌, ◌<◌, ◌⊎◌, inl, inr, List, length, get_or, refl, ap, sym, ◌∙◌, arith, subst, Option, Some, None, MatchOption, eqb, eqb-true, eq-eqb, Bool, true, false, true≢false}
+use Rattle.sw_set.specs.Sought.{IsAt}
 use Rattle.sw_set.proofs.Boxes.{get_or_any}
 
 -- what is known of the first n elements
 abbrev pub Before : {X : Type 0} → (X → Type 0) → List X → ℕ → Type 0
 Before {X} N xs n = (k : ℕ) (d : X) → k < n → k < length xs → N (get_or xs k d)
-
--- what is known of the element at a place
-abbrev pub At : {X : Type 0} → (X → Type 0) → List X → ℕ → Type 0
-At {X} P xs i = (i < length xs) × ((d : X) → P (get_or xs i d))
 
 pub before-more : {X : Type 0} (N : X → Type 0) (xs : List X) (n : ℕ) (x : X) → n < length xs → N (get_or xs n x) → Before N xs n → Before N xs (n + 1)
 before-more N xs n x lt here before k d lk l = by (eqb k n) refl
@@ -20,10 +17,10 @@ before-more N xs n x lt here before k d lk l = by (eqb k n) refl
         below : k ≢ n → k < n
         below ne = omega (arith, lk, ne)
 
-pub kept-on : {X : Type 0} (N P : X → Type 0) (xs : List X) (best : Option ℕ) (n : ℕ) (x : X) → n < length xs → N (get_or xs n x) → MatchOption best (Before N xs n) (At P xs) → MatchOption best (Before N xs (n + 1)) (At P xs)
+pub kept-on : {X : Type 0} (N P : X → Type 0) (xs : List X) (best : Option ℕ) (n : ℕ) (x : X) → n < length xs → N (get_or xs n x) → MatchOption best (Before N xs n) (IsAt P xs) → MatchOption best (Before N xs (n + 1)) (IsAt P xs)
 kept-on N P xs None n x lt here m = before-more N xs n x lt here m
 kept-on N P xs (Some i) n x lt here m = m
 
-pub found-at : {X : Type 0} (N P : X → Type 0) (xs : List X) (best : Option ℕ) (n r : ℕ) (x : X) → n < length xs → P (get_or xs n x) → (best ≡ Some r) ⊎ (r ≡ n) → MatchOption best (Before N xs n) (At P xs) → At P xs r
-found-at N P xs best n r x lt here (inl e) m = subst (λ (b : Option ℕ). MatchOption b (Before N xs n) (At P xs)) e m
+pub found-at : {X : Type 0} (N P : X → Type 0) (xs : List X) (best : Option ℕ) (n r : ℕ) (x : X) → n < length xs → P (get_or xs n x) → (best ≡ Some r) ⊎ (r ≡ n) → MatchOption best (Before N xs n) (IsAt P xs) → IsAt P xs r
+found-at N P xs best n r x lt here (inl e) m = subst (λ (b : Option ℕ). MatchOption b (Before N xs n) (IsAt P xs)) e m
 found-at N P xs best n r x lt here (inr e) m = (omega (arith, lt, e), λ d. subst P (get_or_any xs n x d lt ∙ ap (λ j. get_or xs j d) (sym e)) here)

@@ -16,8 +16,9 @@ use Rattle.sw_map.specs.Held.{Held, pairs_in, tail_value}
 use Rattle.sw_map.proofs.Replays.{ready-joined}
 use Rattle.sw_set.specs.declared.window.Side.TheVariants.{Tail}
 use Rattle.sw_set.specs.Choice.{IsRun, shown_rows, side_in}
-use Rattle.sw_set.specs.Position.{HasPlace}
-use Rattle.sw_set.specs.Prepared.{IsFoundAt, stands_if}
+use Rattle.sw_set.specs.Position.{HasCrackedAt}
+use Rattle.sw_set.specs.Prepared.{stands_if}
+use Rattle.sw_set.specs.Boxed.{IsFoundAt}
 use Rattle.sw_set.specs.Shelf.{Rises, key_of, logged_rows}
 use Rattle.sw_set.proofs.Answered.{filter-run}
 use Rattle.sw_set.proofs.Boxes.{get_or_any}
@@ -36,14 +37,14 @@ above-stands : (tape : List (Step Row)) (v : ℤ) (o : Option Bound) → IsNeare
 above-stands tape v None h = refl
 above-stands tape v (Some b) h = h.0
 
-standing-place : (a : ℕ) (tape : List (Step Row)) (m : Held) (o : Option Bound) → IsMapAtEnd a tape m → stands_if o tape ≡ true → HasPlace o m
+standing-place : (a : ℕ) (tape : List (Step Row)) (m : Held) (o : Option Bound) → IsMapAtEnd a tape m → stands_if o tape ≡ true → HasCrackedAt o m
 standing-place a tape m None w s = tt
 standing-place a tape m (Some b) w s = found-stands a tape m (Some b) 0 w s
 
-pub lower-place : (a : ℕ) (tape : List (Step Row)) (m : Held) (v : ℤ) (o : Option Bound) → IsMapAtEnd a tape m → IsNearestBelow (λ b. is_marked b tape) v o → HasPlace o m
+pub lower-place : (a : ℕ) (tape : List (Step Row)) (m : Held) (v : ℤ) (o : Option Bound) → IsMapAtEnd a tape m → IsNearestBelow (λ b. is_marked b tape) v o → HasCrackedAt o m
 lower-place a tape m v o w h = standing-place a tape m o w (below-stands tape v o h)
 
-pub upper-place : (a : ℕ) (tape : List (Step Row)) (m : Held) (v : ℤ) (o : Option Bound) → IsMapAtEnd a tape m → IsNearestAbove (λ b. is_marked b tape) v o → HasPlace o m
+pub upper-place : (a : ℕ) (tape : List (Step Row)) (m : Held) (v : ℤ) (o : Option Bound) → IsMapAtEnd a tape m → IsNearestAbove (λ b. is_marked b tape) v o → HasCrackedAt o m
 upper-place a tape m v o w h = standing-place a tape m o w (above-stands tape v o h)
 
 -- ---- the value lies between them

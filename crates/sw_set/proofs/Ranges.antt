@@ -19,7 +19,7 @@ use Rattle.sw_kernel.proofs.Once.{held-replay, once-from_held}
 use Rattle.sw_map.specs.declared.tail.Tail.{Tail}
 use Rattle.sw_map.specs.Lawful.{rows_by}
 use Rattle.sw_map.proofs.Replays.{place-sound, place-within, places-rise}
-use Rattle.sw_set.specs.Needs.{edge, needed, head_in, is_before, lower_from, lower_in, touches, upper_in, upper_upto}
+use Rattle.sw_set.specs.Needs.{edge, needed, head_in, spans, lower_from, lower_in, touches, upper_in, upper_upto}
 use Rattle.sw_set.specs.Shelf.{AreaState, IsAreaLawful, Rises, key_of, lies_within, logged_rows, rows_in}
 use Rattle.sw_set.specs.Prepared.{IsPlace, IsPrepared, IsPreparedFor, IsReady, is_touched}
 use Rattle.sw_set.specs.Choice.{IsRun, meets_first, shown_rows}
@@ -82,7 +82,7 @@ clip-upper (Some e) (Some b) v h = by (bound_below b e) refl
     by false p = ap (λ t. is_below (if t then Some b else None) v) p ∙ all e b p h
 
 -- ---- two bounds that a value lies between are in order
-pub between : (lower upper : Option Bound) (v : ℤ) → is_above lower v ≡ true → is_below upper v ≡ true → is_before lower upper ≡ true
+pub between : (lower upper : Option Bound) (v : ℤ) → is_above lower v ≡ true → is_below upper v ≡ true → spans lower upper ≡ true
 between None upper v p q = refl
 between (Some b) None v p q = refl
 between (Some (Before x)) (Some (Before y)) v p q = grind (arith, p, q)
@@ -137,7 +137,7 @@ upper-behind a tape None upto t is k d lt =
     absurd (omega (arith, no, none))
 upper-behind a tape (Some b) upto t is k d lt = (place-sound a tape b upto t is).behind k d lt
 
-places-ordered : (a : ℕ) (tape : List (Step Row)) (lower upper : Option Bound) (from upto : ℕ) → is_before lower upper ≡ true → IsPlace lower 0 (rows_by a tape) from → IsPlace upper (length (shown_rows a tape)) (rows_by a tape) upto → from ≤ upto
+places-ordered : (a : ℕ) (tape : List (Step Row)) (lower upper : Option Bound) (from upto : ℕ) → spans lower upper ≡ true → IsPlace lower 0 (rows_by a tape) from → IsPlace upper (length (shown_rows a tape)) (rows_by a tape) upto → from ≤ upto
 places-ordered a tape None upper from upto before is ut = omega (arith, is)
 places-ordered a tape (Some b) None from upto before is ut = let le = place-within b from (rows_by a tape) is in omega (arith, le, ut)
 places-ordered a tape (Some b) (Some c) from upto before is ut = places-rise a tape b c from upto before is ut
@@ -162,7 +162,7 @@ slice-low P from upto xs le all =
     subst (All P) (drop-take from (upto - from) xs) (All-drop P from (take (from + (upto - from)) xs) (subst (λ (k : ℕ). All P (take k xs)) (sym n) all))
 
 -- the rows between two bounds' places are those between the bounds
-pub run-of : (a : ℕ) (tape : List (Step Row)) (lower upper : Option Bound) (from upto : ℕ) → IsTape tape → is_before lower upper ≡ true → IsPlace lower 0 (rows_by a tape) from → IsPlace upper (length (shown_rows a tape)) (rows_by a tape) upto → IsRun (λ (r : Row). is_within lower upper (cell_of a r)) (shown_rows a tape) from upto
+pub run-of : (a : ℕ) (tape : List (Step Row)) (lower upper : Option Bound) (from upto : ℕ) → IsTape tape → spans lower upper ≡ true → IsPlace lower 0 (rows_by a tape) from → IsPlace upper (length (shown_rows a tape)) (rows_by a tape) upto → IsRun (λ (r : Row). is_within lower upper (cell_of a r)) (shown_rows a tape) from upto
 run-of a tape lower upper from upto t before lo hi = record {
   ordered = places-ordered a tape lower upper from upto before lo hi;
   within = places-within a tape upper upto hi;
@@ -173,7 +173,7 @@ run-of a tape lower upper from upto t before lo hi = record {
 
 -- ---- the range of a query
 -- bounds that are in order are so within an interval
-clipped-before : (start end lower upper : Option Bound) → is_before lower upper ≡ true → is_before (lower_from start lower) (upper_upto end upper) ≡ true
+clipped-before : (start end lower upper : Option Bound) → spans lower upper ≡ true → spans (lower_from start lower) (upper_upto end upper) ≡ true
 clipped-before start end lower upper before = by (lower_from start lower) (upper_upto end upper) (kept-lower start lower) (kept-upper end upper)
   where
     kept-lower : (start lower : Option Bound) (b : Bound) → lower_from start lower ≡ Some b → lower ≡ Some b
@@ -200,10 +200,10 @@ clipped-before start end lower upper before = by (lower_from start lower) (upper
             none-is-not : None ≡ Some b → ⊥
             none-is-not p = cc
 
-    by : (lo hi : Option Bound) → ((b : Bound) → lo ≡ Some b → lower ≡ Some b) → ((b : Bound) → hi ≡ Some b → upper ≡ Some b) → is_before lo hi ≡ true
+    by : (lo hi : Option Bound) → ((b : Bound) → lo ≡ Some b → lower ≡ Some b) → ((b : Bound) → hi ≡ Some b → upper ≡ Some b) → spans lo hi ≡ true
     by None hi l u = refl
     by (Some b) None l u = refl
-    by (Some b) (Some c) l u = sym (ap (λ (o : Option Bound). is_before o (Some c)) (l b refl)) ∙ ap (is_before lower) (sym (u c refl)) ∙ before
+    by (Some b) (Some c) l u = sym (ap (λ (o : Option Bound). spans o (Some c)) (l b refl)) ∙ ap (spans lower) (sym (u c refl)) ∙ before
 
 -- a row of the interval meets the first condition just where it lies between the clipped bounds
 first-clipped : (x : AreaState) (cs : List Cond) (r : Row) → head_in cs ≡ x.attribute → lies_within x.attribute x.from x.below r ≡ true → meets_first cs r ≡ is_within (lower_from (edge x.from) (lower_in cs)) (upper_upto (edge x.below) (upper_in cs)) (cell_of x.attribute r)
@@ -238,7 +238,7 @@ prepared-run x cs tails from upto w head touched p =
 pub untouched-first : (x : AreaState) (cs : List Cond) (r : Row) → head_in cs ≡ x.attribute → touches (edge x.from) (edge x.below) (lower_in cs) (upper_in cs) ≡ false → lies_within x.attribute x.from x.below r ≡ true → meets_first cs r ≡ false
 untouched-first x [] r head off w = absurd (true≢false (sym (none-upper (edge x.from)) ∙ off))
   where
-    none-upper : (b : Option Bound) → is_before b None ≡ true
+    none-upper : (b : Option Bound) → spans b None ≡ true
     none-upper None = refl
     none-upper (Some b) = refl
 untouched-first x (c ∷ cs) r head off w = ap (λ (n : ℕ). is_within c.lower c.upper (cell_of n r)) head ∙ untouched-none (edge x.from) (edge x.below) c.lower c.upper (cell_of x.attribute r) off w

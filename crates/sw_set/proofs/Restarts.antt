@@ -12,9 +12,12 @@ use Rattle.sw_kernel.specs.Tapes.{brought}
 use Rattle.sw_map.specs.declared.tail.Tail.TheVariants.{Key}
 use Rattle.sw_map.specs.Held.{Held}
 use Rattle.sw_map.specs.Lawful.{rows_by}
-use Rattle.sw_set.specs.Merged.{IsBegunAnew, IsLogged, IsLoggedOrNot, IsRemovalLogged, IsSameShell, IsSameTape, MustBegin}
-use Rattle.sw_set.specs.Prepared.{IsReady, IsSameButBoxes}
-use Rattle.sw_set.specs.Shelf.{AreSameMaps, AreaState, IsSameArea, logged_rows}
+use Rattle.sw_set.specs.Merged.{IsBegunAnew, IsRemovalLogged, IsSameShell, MustBegin}
+use Rattle.sw_set.specs.Merging.{IsLogged, IsLoggedOrNot, IsSameTape}
+use Rattle.sw_set.specs.Prepared.{IsReady}
+use Rattle.sw_set.specs.Boxed.{IsSameButBoxes}
+use Rattle.sw_set.specs.Shelf.{AreaState, IsSameArea, logged_rows}
+use Rattle.sw_set.specs.Aligned.{AreSameMaps}
 use Rattle.sw_set.proofs.Boxes.{same-refl, same-trans}
 use Rattle.sw_set.proofs.Longer.{logged-all}
 use Rattle.sw_set.proofs.Merges.{logged-at, shell-refl, shell-trans}

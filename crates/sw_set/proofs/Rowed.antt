@@ -10,7 +10,8 @@ use Rattle.sw_rows.specs.Scan.{cell_of, column, projected}
 use Rattle.sw_kernel.proofs.Members.{Mem, mem-from_contains, mem-permutation}
 use Rattle.sw_map.specs.Held.{Held, blank}
 use Rattle.sw_table.specs.Kept.{kept}
-use Rattle.sw_set.specs.Choice.{AreInKeyOrder, IsColumn, IsInside, chosen, column_at, placed, row_in, value_in}
+use Rattle.sw_set.specs.Choice.{IsColumn, IsInside, chosen, column_at, placed, row_in, value_in}
+use Rattle.sw_set.specs.Collected.{AreInKeyOrder}
 use Rattle.sw_set.specs.declared.window.Column.{Column}
 use Rattle.sw_set.proofs.Stock.{side-long}
 use Rattle.sw_set.proofs.Told.{chosen-map, range-at, range-long}

@@ -18,8 +18,9 @@ use Rattle.sw_map.specs.Lawful.{IsLawful}
 use Rattle.sw_map.specs.Refusals.{IsBeginRefusal}
 use Rattle.sw_map.proofs.Replays.{lawful-longer, lawful-blank, lawful-aligned, begun-aligned}
 use Rattle.sw_tape.specs.Restart.{first_rows}
-use Rattle.sw_set.specs.Shelf.{AreaState, AreApart, AreReceivable, AreSameMaps, HasLease, IsAreaLawful, Rises, came_then, key_of, lies_within, logged_rows}
-use Rattle.sw_set.specs.Prepared.{IsFreshBut}
+use Rattle.sw_set.specs.Shelf.{AreaState, AreApart, AreReceivable, HasLease, IsAreaLawful, Rises, came_then, key_of, lies_within, logged_rows}
+use Rattle.sw_set.specs.Aligned.{AreSameMaps}
+use Rattle.sw_set.specs.Boxed.{IsFreshBut}
 use Rattle.sw_set.specs.Merged.{IsBegunAnew, IsSameShell}
 use Rattle.sw_set.proofs.Boxes.{held-all, set-each}
 use Rattle.sw_set.proofs.Longer.{live-more}

@@ -9,7 +9,8 @@ use Rattle.sw_rows.specs.declared.refusal.Refusal.TheVariants.{NoMemory}
 use Rattle.sw_table.specs.Updates.{rows_then, without}
 use Rattle.sw_kernel.specs.Replay.{Step, loaded, inserted}
 use Rattle.sw_map.specs.Held.{Held, blank}
-use Rattle.sw_set.specs.Merged.{GoesOn, IsBegunAnew, IsLogged, IsLoggedOrNot, IsMerged, IsMergedUpTo, IsRemoval, IsSameShell, IsSameTape, IsStretch, LacksKeys, MustBegin}
+use Rattle.sw_set.specs.Merged.{IsBegunAnew, IsMerged, IsSameShell, LacksKeys, MustBegin}
+use Rattle.sw_set.specs.Merging.{GoesOn, IsLogged, IsLoggedOrNot, IsMergedUpTo, IsRemoval, IsSameTape, IsStretch}
 use Rattle.sw_set.specs.Shelf.{AreaState, logged_rows}
 use Rattle.sw_set.proofs.Merges.{full-or-not, logged-at, merged-rows, shell-trans, upto-more}
 use Rattle.sw_set.proofs.Restarts.{tape-after, tape-same}

@@ -6,7 +6,7 @@ use Rattle.sw_kernel.specs.Replay.{Step}
 use Rattle.sw_table.specs.declared.row.Row.{Row}
 use Rattle.sw_map.specs.declared.tail.Tail.{Tail}
 use Rattle.sw_map.specs.Held.{Held}
-use Rattle.sw_set.specs.Shelf.{AreSameMaps, IsAtEnd, IsSameMap}
+use Rattle.sw_set.specs.Aligned.{AreSameMaps, IsAtEnd, IsSameMap}
 use Rattle.sw_set.proofs.Boxes.{get_or_any, held-at}
 
 pub swapped-back : {X : Type 0} (R : X → X → Type 0) (xs ys zs ws : List X) (i j : ℕ) → length ys ≡ length xs → i < length xs → j < length xs → SwappedAt xs ys i j → ((k : ℕ) (d : X) → k < length ys → R (get_or ys k d) (get_or zs k d)) → SwappedAt zs ws i j → (k : ℕ) (d : X) → k < length xs → R (get_or xs k d) (get_or ws k d)

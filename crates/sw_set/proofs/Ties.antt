@@ -13,7 +13,7 @@ use Rattle.sw_kernel.specs.Tapes.{IsTape, brought}
 use Rattle.sw_map.specs.Lawful.{rows_by}
 use Rattle.sw_table.specs.Kept.{kept}
 use Rattle.sw_tape.specs.Restart.{first_rows}
-use Rattle.sw_set.specs.Live.{IsStanding, Standing, live_among}
+use Rattle.sw_set.specs.Live.{IsStandingOf, Standing, live_among}
 use Rattle.sw_set.specs.Shelf.{Rises, key_of, logged_rows}
 use Rattle.sw_set.specs.Tied.{IsTied}
 use Rattle.sw_table.proofs.LiveLaws.{kept-fresh, kept-has, kept-lacks, kept-more, kept-removed}
@@ -68,7 +68,7 @@ tied-came a tape s load is w = ap (λ (v : List Row). v ++ s.later) is ∙ w.cam
 pub tied-many : (a : ℕ) (tape : List (Step Row)) (s : Standing) (load : List Row) → load ≡ first_rows tape → IsTied a tape s → length s.flags ≡ length (load ++ s.later)
 tied-many a tape s load is w = w.many ∙ ap length (sym (tied-came a tape s load is w))
 
-pub tied-standing : (a : ℕ) (tape : List (Step Row)) (s : Standing) (load : List Row) → load ≡ first_rows tape → Rises key_of (brought tape) → IsTied a tape s → IsStanding load s
+pub tied-standing : (a : ℕ) (tape : List (Step Row)) (s : Standing) (load : List Row) → load ≡ first_rows tape → Rises key_of (brought tape) → IsTied a tape s → IsStandingOf load s
 tied-standing a tape s load is rise w = record { many = tied-many a tape s load is w; rise = subst (Rises key_of) (sym (tied-came a tape s load is w)) rise }
 
 pub tied-live : (a : ℕ) (tape : List (Step Row)) (s : Standing) (load : List Row) → load ≡ first_rows tape → IsTied a tape s → live_among load s ≡ logged_rows a tape

@@ -9,7 +9,8 @@ use Rattle.sw_map.specs.declared.tail.Tail.{Tail}
 use Rattle.sw_map.specs.Held.{Held, blank, begun}
 use Rattle.sw_map.specs.Refusals.{IsBeginRefusal}
 use Rattle.sw_set.specs.Shelf.{AreaState, AreApart}
-use Rattle.sw_set.specs.Prepared.{IsHeld, IsMapOf, IsFreshBut, IsSameButBoxes, AreNeededKept, IsPrepareRefusal}
+use Rattle.sw_set.specs.Prepared.{IsPrepareRefusal}
+use Rattle.sw_set.specs.Boxed.{IsHeld, IsMapOf, IsFreshBut, IsSameButBoxes, AreNeededKept}
 use Rattle.sw_set.proofs.Boxes.{set-each, get_or_any}
 
 -- an injection of the places of one list into those of another

@@ -5,7 +5,7 @@ use Rattle.sw_rows.specs.declared.bound.Bound.{Bound}
 use Rattle.sw_map.specs.declared.tail.Tail.{Tail}
 use Rattle.sw_map.specs.Held.{Held, blank, place_of}
 use Rattle.sw_set.specs.Shelf.{AreApart}
-use Rattle.sw_set.specs.Prepared.{IsCleared}
+use Rattle.sw_set.specs.Boxed.{IsCleared}
 use Rattle.sw_set.proofs.Boxes.{get_or_any, set-each}
 use Rattle.sw_set.proofs.Ends.{only-place}
 

@@ -1,14 +1,12 @@
 -- Columns of maps, the range of places that qualifies, and what truth values choose of it.
-use Rattle.std.specs.Prelude.{◌≡◌, ◌≢◌, ◌≤◌, ◌<◌, ◌+◌, ◌-◌, ◌*◌, ◌^◌, ◌≤ℤ◌, ℕ, suc, ℤ, pos, neg_ℤ, Bool, true, false, List, [], ◌∷◌, length, map, take, drop, get_or, slice_range, count_by, unsigned_abs, Option, None, Some, All, Any, IsPermutation}
-use Rattle.std.specs.List.Sorted.{IsNonDecreasingBy}
+use Rattle.std.specs.Prelude.{◌≡◌, ◌≢◌, ◌≤◌, ◌<◌, ◌+◌, ◌-◌, ◌*◌, ◌^◌, ◌≤ℤ◌, ◌&&◌, ℕ, suc, ℤ, pos, neg_ℤ, Bool, true, false, List, [], ◌∷◌, length, map, take, drop, get_or, slice_index_or, slice_range, count_by, unsigned_abs, Option, None, Some, All, Any}
 use Rattle.sw_rows.specs.declared.query.Cond.{Cond}
 use Rattle.sw_rows.specs.declared.query.Want.{Want}
 use Rattle.sw_rows.specs.declared.query.Want.TheVariants as want
-use Rattle.sw_rows.specs.declared.reply.Reply.{Reply}
-use Rattle.sw_rows.specs.declared.reply.Reply.TheVariants as reply
 use Rattle.sw_rows.specs.declared.reply.ReplyRow.{ReplyRow}
 use Rattle.sw_table.specs.declared.row.Row.{Row}
-use Rattle.sw_rows.specs.Scan.{meets, projected, answer_over}
+use Rattle.sw_rows.specs.Bounds.{is_within}
+use Rattle.sw_rows.specs.Scan.{column, meets}
 use Rattle.sw_kernel.specs.Arrangement.{joined}
 use Rattle.sw_kernel.specs.Replay.{Step}
 use Rattle.sw_table.specs.Kept.{kept}
@@ -16,6 +14,7 @@ use Rattle.sw_map.specs.declared.tail.Tail.TheVariants.{Key, Cell}
 use Rattle.sw_map.specs.Held.{Held, blank, pairs_in, tails_in}
 use Rattle.sw_map.specs.Lawful.{IsLawful, rows_by}
 use Rattle.sw_set.specs.Prepared.{IsReady}
+use Rattle.sw_set.specs.declared.window.TheConstants.{BLOCK}
 use Rattle.sw_set.specs.declared.window.Side.{Side}
 use Rattle.sw_set.specs.declared.window.Side.TheVariants.{Head, Tail}
 use Rattle.sw_set.specs.declared.window.Column.{Column}
@@ -51,6 +50,10 @@ side_in Tail m = tails_in m
 abbrev pub shown_rows : ℕ → List (Step Row) → List Row
 shown_rows head tape = joined (rows_by head tape)
 
+-- those from one place up to below another
+abbrev pub range_rows : ℕ → List (Step Row) → ℕ → ℕ → List Row
+range_rows head tape from upto = slice_range (shown_rows head tape) from upto
+
 -- boxes that are lawful, of which one has the keys at the tape's end
 pub record AreStocked (head : ℕ) (tape : List (Step Row)) (ms : List Held) : Type 0 where
   pub lawful : All (IsLawful head tape) ms
@@ -81,15 +84,31 @@ first_column = record { at = 0; side = Head }
 abbrev pub column_at : List Column → ℕ → Column
 column_at cs a = get_or cs a first_column
 
+-- the column of an attribute has the cells of these rows
+abbrev pub HasColumn : List Held → List Column → List Row → ℕ → Type 0
+HasColumn ms cs rows a = IsColumn ms (column_at cs a) (column a rows)
+
+-- the column of each of these attributes has a place
+abbrev pub HavePlace : List Held → List Column → List ℕ → ℕ → Type 0
+HavePlace ms cs names place = All (λ (a : ℕ). IsInside ms (place + 1) (column_at cs a)) names
+
+-- their values at a place
+abbrev pub values_shown : List Held → List Column → List ℕ → ℕ → List ℤ
+values_shown ms cs names place = map (λ a. value_in ms (column_at cs a) place) names
+
 -- a row put together by its place
 abbrev pub row_in : List Held → List Column → List ℕ → ℕ × ℕ → ReplyRow
-row_in ms cs names p = record { key = p.0; cells = map (λ a. value_in ms (column_at cs a) p.1) names }
+row_in ms cs names p = record { key = p.0; cells = values_shown ms cs names p.1 }
 
 -- a block of cells, read from one place up to below another
 pub record IsBlock (block : List ℤ) (start end : ℕ) (xs : List ℤ) : Type 0 where
-  pub short : end ≤ start + 256
+  pub short : end ≤ start + BLOCK
   pub within : end ≤ length xs
   pub cells : (k : ℕ) → start ≤ k → k < end → get_or block (k - start) (pos 0) ≡ get_or xs k (pos 0)
+
+-- the values of a column of a map from one place on, so many
+abbrev pub values_from : Side → Held → ℕ → ℕ → List ℤ
+values_from side m from len = slice_range (side_in side m) from (from + len)
 
 -- ---- what is chosen of the range
 
@@ -118,6 +137,13 @@ abbrev pub AreOf : {X : Type 0} → (X → Bool) → List X → Option (List Boo
 AreOf {X} q xs None = All (λ (x : X). q x ≡ true) xs
 AreOf q xs (Some bs) = bs ≡ map q xs
 
+-- of the items chosen before those stay chosen whose value meets a condition
+abbrev pub AreRefined : Cond → List ℤ → List Bool → List Bool → Type 0
+AreRefined c values old new =
+    (k : ℕ) → k < length old
+    → slice_index_or new k false
+    ≡ (slice_index_or old k false && is_within c.lower c.upper (slice_index_or values k (pos 0)))
+
 -- numbers, each with its place, from i on
 abbrev pub placed : ℕ → List ℤ → List (ℕ × ℕ)
 placed i [] = []
@@ -126,18 +152,6 @@ placed i (k ∷ ks) = (unsigned_abs k, i) ∷ placed (suc i) ks
 -- a number that so many cells may sum to
 abbrev pub IsSumOf : ℕ → ℤ → Type 0
 IsSumOf n z = (neg_ℤ (pos (2 ^ 63 * n)) ≤ℤ z) × (z ≤ℤ pos (2 ^ 63 * n))
-
--- ---- replies
-
--- these rows of a reply, by keys that do not fall
-pub record AreInKeyOrder (xs ys : List ReplyRow) : Type 0 where
-  pub moved : IsPermutation xs ys
-  pub sorted : IsNonDecreasingBy (λ r. r.key) ys
-
--- what is wanted of rows that are held in another order than that of their keys
-abbrev pub IsReplyOver : List Row → Want → Reply → Type 0
-IsReplyOver xs (want.Rows names) told = (ys : List ReplyRow) × (told ≡ reply.Rows ys) × AreInKeyOrder (map (projected names) xs) ys
-IsReplyOver xs w told = told ≡ answer_over xs w
 
 -- the columns of what is wanted are there
 abbrev pub HasWanted : ℕ → List (Step Row) → List Held → Want → Type 0

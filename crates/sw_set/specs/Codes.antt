@@ -21,7 +21,11 @@ abbrev pub bound_code : Coded Bound
 bound_code = code_by (ℤ ⊎ ℤ) (coded⊎ coded_ℤ coded_ℤ) sided unsided unsided-sided
 
 abbrev pub row_code : Coded Row
-row_code = code_by (ℕ × List ℤ) (coded× coded_ℕ (coded_list coded_ℤ)) (λ r. (r.key, r.cells)) (λ p. record { key = p.0; cells = p.1 }) (λ _. refl)
+row_code =
+    code_by (ℕ × List ℤ) (coded× coded_ℕ (coded_list coded_ℤ))
+    (λ r. (r.key, r.cells))
+    (λ p. record { key = p.0; cells = p.1 })
+    (λ _. refl)
 
 -- an update as a row, or a key
 abbrev pub update_parts : Update → Row ⊎ ℕ
@@ -64,7 +68,9 @@ step_of-parts (ranged lower upper) = refl
 abbrev pub step_code : Coded (Step Row)
 step_code =
     code_by StepParts
-    (coded⊎ (coded⊎ (coded_list row_code) row_code) (coded⊎ coded_ℕ (coded× (coded_option bound_code) (coded_option bound_code))))
+    (coded⊎
+    (coded⊎ (coded_list row_code) row_code)
+    (coded⊎ coded_ℕ (coded× (coded_option bound_code) (coded_option bound_code))))
     step_parts step_of_parts step_of-parts
 
 abbrev pub AreaParts : Type 0
@@ -73,7 +79,17 @@ AreaParts = (ℕ × (Option ℤ × Option ℤ)) × ((List Update × ℕ) × (Lis
 abbrev pub area_code : Coded AreaState
 area_code =
     code_by AreaParts
-    (coded× (coded× coded_ℕ (coded× (coded_option coded_ℤ) (coded_option coded_ℤ))) (coded× (coded× (coded_list update_code) coded_ℕ) (coded× (coded_list step_code) (coded_list held_code))))
+    (coded×
+    (coded× coded_ℕ (coded× (coded_option coded_ℤ) (coded_option coded_ℤ)))
+    (coded× (coded× (coded_list update_code) coded_ℕ) (coded× (coded_list step_code) (coded_list held_code))))
     (λ x. ((x.attribute, (x.from, x.below)), ((x.inbox, x.spare), (x.tape, x.boxes))))
-    (λ p. record { attribute = p.0.0; from = p.0.1.0; below = p.0.1.1; inbox = p.1.0.0; spare = p.1.0.1; tape = p.1.1.0; boxes = p.1.1.1 })
+    (λ p. record {
+      attribute = p.0.0;
+      from = p.0.1.0;
+      below = p.0.1.1;
+      inbox = p.1.0.0;
+      spare = p.1.0.1;
+      tape = p.1.1.0;
+      boxes = p.1.1.1;
+    })
     (λ _. refl)

@@ -1,10 +1,17 @@
 pub mod Needs
 pub mod Shelf
+pub mod Aligned
+pub mod Sought
+pub mod Boxed
 pub mod Prepared
+pub mod Preparing
 pub mod Codes
 pub mod Choice
+pub mod Collected
 pub mod Figures
 pub mod Live
 pub mod Position
 pub mod Tied
 pub mod Merged
+pub mod Merging
+pub mod Outcomes

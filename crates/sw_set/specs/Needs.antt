@@ -31,14 +31,14 @@ edge None = None
 edge (Some v) = Some (Before v)
 
 -- whether a range may begin at the one and end at the other: no bound stands below all, or above all
-abbrev pub is_before : Option Bound → Option Bound → Bool
-is_before None upper = true
-is_before (Some b) None = true
-is_before (Some b) (Some c) = bound_below b c
+abbrev pub spans : Option Bound → Option Bound → Bool
+spans None upper = true
+spans (Some b) None = true
+spans (Some b) (Some c) = bound_below b c
 
 -- whether a range meets an interval, both given by where they begin and end
 abbrev pub touches : Option Bound → Option Bound → Option Bound → Option Bound → Bool
-touches start end lower upper = is_before lower upper && (is_before lower end && is_before start upper)
+touches start end lower upper = spans lower upper && (spans lower end && spans start upper)
 
 -- the lower bound within an interval: one at or below its start counts as absent
 abbrev pub lower_from : Option Bound → Option Bound → Option Bound
@@ -71,6 +71,10 @@ needs_cell head q b = not (b == head) && (is_tested q.conds b || is_wanted q.wan
 abbrev pub attributes : List ℕ
 attributes = 0 ∷ 1 ∷ 2 ∷ 3 ∷ 4 ∷ 5 ∷ 6 ∷ 7 ∷ []
 
+-- the tails of those of these attributes that it needs
+abbrev pub tails_for : ℕ → Query → List ℕ → List Tail
+tails_for head q names = map Cell (filter (needs_cell head q) names)
+
 -- the tails of the maps that a query needs, in the order in which they are made: the key, then the attributes by number
 abbrev pub needed : ℕ → Query → List Tail
-needed head q = Key ∷ map Cell (filter (needs_cell head q) attributes)
+needed head q = Key ∷ tails_for head q attributes

@@ -1,5 +1,6 @@
 -- What an area is, which rows it stands for, and when it is lawful.
-use Rattle.std.specs.Prelude.{◌≡◌, ◌≢◌, ◌≤◌, ◌<◌, ◌^◌, ℕ, ℤ, Bool, true, false, List, [], ◌∷◌, ◌++◌, fold, length, slice_index_or, Option, All, Contains}
+use Rattle.std.specs.Prelude.{◌≡◌, ◌≢◌, ◌≤◌, ◌<◌, ◌-◌, ◌^◌, ℕ, ℤ, Bool, true, false, List, [], ◌∷◌, ◌++◌, fold, length, slice_index_or, slice_set, Option, All, vec_capacity, vec_len}
+use Rattle.std.specs.Global.{Vec}
 use Rattle.sw_table.specs.declared.row.Row.{Row}
 use Rattle.sw_table.specs.declared.row.Update.{Update}
 use Rattle.sw_table.specs.declared.row.Update.TheVariants as update
@@ -7,11 +8,12 @@ pub use Rattle.sw_table.specs.Live.{Rises, key_of}
 use Rattle.sw_rows.specs.Bounds.{is_within}
 use Rattle.sw_rows.specs.Scan.{cell_of}
 use Rattle.sw_table.specs.Updates.{has_key, rows_then}
+use Rattle.sw_kernel.specs.Arrangement.{joined}
 use Rattle.sw_kernel.specs.Replay.{Step, loaded}
-use Rattle.sw_kernel.specs.Tapes.{IsTape, live_rows, brought, peak_from}
-use Rattle.sw_map.specs.declared.tail.Tail.{Tail}
+use Rattle.sw_kernel.specs.Tapes.{IsTape, live_rows, brought}
 use Rattle.sw_map.specs.Held.{Held, KeysFit}
-use Rattle.sw_map.specs.Lawful.{IsLawful}
+use Rattle.sw_map.specs.Lawful.{IsLawful, rows_by}
+use Rattle.sw_tape.specs.declared.tape.TheConstants.{MAX_ENTRIES}
 use Rattle.sw_set.specs.Needs.{edge}
 
 -- An area: the attribute that is the head of its maps, the interval of its rows' cells there (from the one value, below the
@@ -27,19 +29,63 @@ pub record AreaState : Type 0 where
 
 -- an area that is opened with rows: its tape is one load of them, and it has no boxes
 abbrev pub loaded_area : ℕ → Option ℤ → Option ℤ → List Row → AreaState
-loaded_area attribute from below rows = record { attribute = attribute; from = from; below = below; inbox = []; spare = 0; tape = loaded rows ∷ []; boxes = [] }
+loaded_area attribute from below rows = record {
+  attribute = attribute;
+  from = from;
+  below = below;
+  inbox = [];
+  spare = 0;
+  tape = loaded rows ∷ [];
+  boxes = [];
+}
+
+-- an area by its fields, of which the inbox is a list with its room
+abbrev pub area_over : ℕ → Option ℤ → Option ℤ → Vec Update → List (Step Row) → List Held → AreaState
+area_over attribute from below inbox tape boxes = record {
+  attribute = attribute;
+  from = from;
+  below = below;
+  inbox = inbox.items;
+  spare = vec_capacity inbox - vec_len inbox;
+  tape = tape;
+  boxes = boxes;
+}
+
+-- the area with another inbox
+abbrev pub with_inbox : Vec Update → AreaState → AreaState
+with_inbox inbox x = record x { inbox = inbox.items; spare = vec_capacity inbox - vec_len inbox }
+
+-- the area with another map in the box at a place
+abbrev pub with_box : ℕ → Held → AreaState → AreaState
+with_box at m x = record x { boxes = slice_set x.boxes at m }
 
 -- the live rows of the tape
 abbrev pub logged_rows : ℕ → List (Step Row) → List Row
 logged_rows a tape = live_rows (cell_of a) key_of tape
 
+-- those of an area's tape
+abbrev pub tape_rows : AreaState → List Row
+tape_rows x = logged_rows x.attribute x.tape
+
+-- those rows in the order in which the tape arranges them
+abbrev pub arranged_rows : AreaState → List Row
+arranged_rows x = joined (rows_by x.attribute x.tape)
+
+-- those that some updates leave
+abbrev pub rows_left_by : List Update → AreaState → List Row
+rows_left_by us x = fold rows_then (tape_rows x) us
+
 -- the rows that an area stands for: those of the tape, and then what waits
 abbrev pub rows_in : AreaState → List Row
-rows_in x = fold rows_then (logged_rows x.attribute x.tape) x.inbox
+rows_in x = rows_left_by x.inbox x
 
 -- whether a row's cell lies in the interval
 abbrev pub lies_within : ℕ → Option ℤ → Option ℤ → Row → Bool
 lies_within a from below r = is_within (edge from) (edge below) (cell_of a r)
+
+-- it lies in that of an area
+abbrev pub LiesIn : AreaState → Row → Type 0
+LiesIn x r = lies_within x.attribute x.from x.below r ≡ true
 
 -- the rows that ever came, after one more update
 abbrev pub came_then : List Row → Update → List Row
@@ -57,13 +103,31 @@ BringsNoMore x y = (n : ℕ) → All (λ (r : Row). r.key < n) (came_in x) → A
 -- What an area may receive, where these rows came and these of them are live: a row of its interval whose key fits a signed
 -- cell and exceeds those of all that came; the removal of a live one.
 abbrev pub MayReceive : ℕ → Option ℤ → Option ℤ → List Row → List Row → Update → Type 0
-MayReceive a from below came live (update.Insert r) = All (λ (c : Row). c.key < r.key) came × (r.key < 2 ^ 63) × (lies_within a from below r ≡ true)
+MayReceive a from below came live (update.Insert r) =
+    All (λ (c : Row). c.key < r.key) came × (r.key < 2 ^ 63) × (lies_within a from below r ≡ true)
 MayReceive a from below came live (update.Remove key) = has_key key live ≡ true
 
 -- one after the other
 abbrev pub AreReceivable : ℕ → Option ℤ → Option ℤ → List Row → List Row → List Update → Type 0
 AreReceivable a from below came live [] = Unit {0}
-AreReceivable a from below came live (u ∷ us) = MayReceive a from below came live u × AreReceivable a from below (came_then came u) (rows_then live u) us
+AreReceivable a from below came live (u ∷ us) =
+    MayReceive a from below came live u × AreReceivable a from below (came_then came u) (rows_then live u) us
+
+-- an area may receive these behind what waits
+abbrev pub MayReceiveAll : List Update → AreaState → Type 0
+MayReceiveAll us x = AreReceivable x.attribute x.from x.below (came_in x) (rows_in x) us
+
+-- these may be merged next into an area's tape
+abbrev pub MayMergeAll : List Update → AreaState → Type 0
+MayMergeAll us x = AreReceivable x.attribute x.from x.below (brought x.tape) (tape_rows x) us
+
+-- this one may
+abbrev pub MayMerge : Update → AreaState → Type 0
+MayMerge u x = MayReceive x.attribute x.from x.below (brought x.tape) (tape_rows x) u
+
+-- these may come to an area of this interval that has just these rows
+abbrev pub MayComeAfterLoad : List Row → List Update → AreaState → Type 0
+MayComeAfterLoad rows us x = AreReceivable x.attribute x.from x.below rows rows us
 
 -- no two boxes that are not blank have maps of the same tail
 unfoldable pub AreApart : List Held → Type 0
@@ -80,35 +144,16 @@ HasLease m = m.is_blank ≡ false → 0 < m.cells
 pub record IsAreaLawful (x : AreaState) : Type 0 where
   pub attribute : x.attribute < 8
   pub tape : IsTape x.tape
-  pub short : length x.tape ≤ 4096
+  pub short : length x.tape ≤ MAX_ENTRIES
   pub keys : All (λ (e : Step Row). KeysFit e) x.tape
   pub brought_rise : Rises key_of (brought x.tape)
-  pub rows_rise : Rises key_of (logged_rows x.attribute x.tape)
-  pub rows_fit : All (λ (r : Row). r.key < 2 ^ 63) (logged_rows x.attribute x.tape)
-  pub within : All (λ (r : Row). lies_within x.attribute x.from x.below r ≡ true) (logged_rows x.attribute x.tape)
+  pub rows_rise : Rises key_of (tape_rows x)
+  pub rows_fit : All (λ (r : Row). r.key < 2 ^ 63) (tape_rows x)
+  pub within : All (LiesIn x) (tape_rows x)
   pub boxes : All (IsLawful x.attribute x.tape) x.boxes
   pub leases : All HasLease x.boxes
   pub apart : AreApart x.boxes
-  pub receivable : AreReceivable x.attribute x.from x.below (brought x.tape) (logged_rows x.attribute x.tape) x.inbox
-
--- the same map, at perhaps another cursor
-pub record IsSameMap (m n : Held) : Type 0 where
-  pub blank : n.is_blank ≡ m.is_blank
-  pub tail : n.tail ≡ m.tail
-  pub cells : n.cells ≡ m.cells
-
--- the boxes hold the same maps, place by place
-pub record AreSameMaps (ms ns : List Held) : Type 0 where
-  pub many : length ns ≡ length ms
-  pub each : (k : ℕ) (d e : Held) → k < length ms → IsSameMap (slice_index_or ms k d) (slice_index_or ns k e)
-
--- a map with one of the tails, and then it stands at the tape's end
-unfoldable pub IsAtEnd : List Tail → List (Step Row) → Held → Type 0
-IsAtEnd tails tape m = m.is_blank ≡ false → Contains tails m.tail → m.cursor ≡ length tape
-
--- a map with one of the tails has room for the tape after each of its entries
-unfoldable pub HasRoomWhereNeeded : List Tail → List (Step Row) → Held → Type 0
-HasRoomWhereNeeded tails tape m = m.is_blank ≡ false → Contains tails m.tail → peak_from 0 tape ≤ m.cells
+  pub receivable : MayMergeAll x.inbox x
 
 -- the area but for its boxes and its tape; it stands for the same rows
 pub record IsSameArea (x y : AreaState) : Type 0 where

@@ -1,13 +1,13 @@
 //! Alignment: maps replay the tape up to its end.
 
-ghost use Rattle.std.specs.Prelude.{◌≡◌, ◌<◌, ◌≤◌, ◌↔◌, false, length, All, Contains, IsTrue, MatchResult, OnErr};
+ghost use Rattle.std.specs.Prelude.{◌≡◌, ◌<◌, ◌≤◌, ◌↔◌, false, length, All, Contains, IsTrue, OnErr};
 ghost use Rattle.sw_table.specs.declared.row.Row.{Row};
-ghost use Rattle.sw_rows.specs.declared.refusal.Refusal.TheVariants.{NoMemory};
 ghost use Rattle.sw_kernel.specs.Replay.{Step};
 ghost use Rattle.sw_kernel.specs.Tapes.{IsTape, peak_from};
 ghost use Rattle.sw_map.specs.Held.{KeysFit};
 ghost use Rattle.sw_map.specs.Lawful.{IsAligned, IsLawful};
-ghost use Rattle.sw_set.specs.Shelf.{HasRoomWhereNeeded, IsAtEnd, IsSameMap};
+ghost use Rattle.sw_set.specs.Outcomes.{MemoryAside};
+ghost use Rattle.sw_set.specs.Aligned.{HasRoomWhereNeeded, IsAtEnd, IsSameMap};
 
 use sw_map::{CrackerMap, Tail};
 use sw_rows::Refusal;
@@ -20,7 +20,7 @@ pub(crate) fn align_map<M: CrackerMap>(it: &mut M, tape: &Tape) -> Result<(), Re
     requires room { peak_from 0 tape.now ≤ (M.held it.old).cells }
     ensures aligned { IsAligned (M.held it.old).head tape.now (M.held it.new) }
     ensures same { IsSameMap (M.held it.old) (M.held it.new) }
-    ensures ends { MatchResult result (λ _. (M.held it.new).cursor ≡ length tape.now) (λ e. e ≡ NoMemory) }
+    ensures ends { MemoryAside result (λ _. (M.held it.new).cursor ≡ length tape.now) }
     ensures behind { OnErr result ((M.held it.old).cursor < length tape.now) }
 {
     for i in it.cursor()..tape.len() {
@@ -50,7 +50,7 @@ pub(crate) fn align_box<M: CrackerMap>(
     requires room { HasRoomWhereNeeded tails.now tape.now (M.held it.old) }
     ensures lawful { IsLawful attribute tape.now (M.held it.new) }
     ensures same { IsSameMap (M.held it.old) (M.held it.new) }
-    ensures ends { MatchResult result (λ _. IsAtEnd tails.now tape.now (M.held it.new)) (λ e. e ≡ NoMemory) }
+    ensures ends { MemoryAside result (λ _. IsAtEnd tails.now tape.now (M.held it.new)) }
 {
     if it.is_blank() {
         return Ok(());

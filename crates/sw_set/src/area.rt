@@ -1,26 +1,28 @@
 //! An area, and its single changes.
 
-ghost use Rattle.std.specs.Prelude.{◌≡◌, ◌≢◌, ◌<◌, ◌≤◌, ◌+◌, ◌-◌, ◌^◌, ◌∷◌, ◌++◌, [], true, false, List, fold, length, map, pos, All, Any, Contains, IfOk, IsOk, IsOkUnless, MatchOption, MatchResult, None, Some, remove, slice_index_or, slice_set, vec_capacity, vec_len};
+ghost use Rattle.std.specs.Prelude.{◌≡◌, ◌<◌, ◌≤◌, ◌+◌, ◌^◌, ◌++◌, false, true, List, [], length, map, All, IfOk, IsOk, IsOkUnless, MatchOption, remove, slice_index_or, vec_capacity, vec_len};
 ghost use Rattle.sw_table.specs.declared.row.Row.{Row};
-ghost use Rattle.sw_table.specs.declared.row.Update.TheVariants.{Insert, Remove};
+ghost use Rattle.sw_table.specs.declared.row.Update.TheVariants.{Insert};
 ghost use Rattle.sw_rows.specs.declared.refusal.Refusal.TheVariants.{NoMemory};
 ghost use Rattle.sw_table.specs.Updates.{has_key, rows_then};
 ghost use Rattle.sw_rows.specs.Scan.{AsksBelow, TakesMemory, answer};
-ghost use Rattle.sw_kernel.specs.Arrangement.{joined};
-ghost use Rattle.sw_kernel.specs.Replay.{inserted, loaded, ranged, removed};
+ghost use Rattle.sw_kernel.specs.Replay.{inserted, ranged, removed};
 ghost use Rattle.sw_map.specs.declared.tail.Tail.TheVariants.{Key};
-ghost use Rattle.sw_kernel.specs.Tapes.{brought, peak_from};
-ghost use Rattle.sw_map.specs.Held.{Held, blank, begun, pairs_in, place_of};
-ghost use Rattle.sw_map.specs.Lawful.{rows_by};
-ghost use Rattle.sw_map.specs.Refusals.{HasGrownOr, IsBeginRefusal};
-ghost use Rattle.sw_set.specs.Live.{live_among};
-ghost use Rattle.sw_set.specs.Merged.{IsBegunAnew, IsSameShell};
-ghost use Rattle.sw_set.specs.Prepared.{HasGrownAt, IsCleared, IsFreshBut, IsOneCleared, IsPreparedFor, IsReady, IsSameButBoxes, IsShed, IsSpare, stands_if};
+ghost use Rattle.sw_kernel.specs.Tapes.{peak_from};
+ghost use Rattle.sw_map.specs.Held.{Held, blank, pairs_in, place_of};
+ghost use Rattle.sw_map.specs.Refusals.{HasBegunOr, HasGrownOr};
+ghost use Rattle.sw_tape.specs.declared.tape.TheConstants.{MAX_ENTRIES};
 ghost use Rattle.sw_tape.specs.Bounds.{HasPieces};
 ghost use Rattle.sw_tape.specs.Restart.{first_rows};
 ghost use Rattle.sw_set.specs.Figures.{capped, cells_among, maps_among};
-ghost use Rattle.sw_set.specs.Shelf.{AreReceivable, AreSameMaps, AreaState, HasRoomWhereNeeded, IsAreaLawful, IsAtEnd, IsSameArea, MayReceive, Rises, came_in, key_of, lies_within, loaded_area, logged_rows, rows_in};
+ghost use Rattle.sw_set.specs.Merged.{without_inbox};
 ghost use Rattle.sw_set.specs.Needs.{head_in};
+ghost use Rattle.sw_set.specs.Outcomes.{AreAppendedOr, CameToWaitOr, HasBegunAnewOr, HasLoggedOr, HasMadeAt, HasMadeRoomOr, HasRestartedOr, IsLongerOr, IsSuppliedOr, MemoryAside, rows_standing};
+ghost use Rattle.sw_set.specs.Prepared.{IsPreparedFor, IsReady, stands_if};
+ghost use Rattle.sw_set.specs.Boxed.{HasGrownAt, IsCleared, IsFreshBut, IsOneCleared, IsSameButBoxes, IsShed, IsSpare};
+ghost use Rattle.sw_set.specs.Shelf.{AreaState, IsAreaLawful, IsSameArea, LiesIn, MayComeAfterLoad, MayMerge, MayMergeAll, MayReceiveAll, Rises, arranged_rows, key_of, lies_within, loaded_area, rows_in, rows_left_by, tape_rows, with_box, with_inbox};
+ghost use Rattle.sw_set.specs.Aligned.{AreSameMaps, HasRoomWhereNeeded, IsAtEnd};
+ghost use Rattle.sw_set.specs.Sought.{AreAllBlank, EndsBy, FindsUnless, HasCursor, HasReachedOr, HaveSomeMap, HoldsMap, IsCrackedAt, IsNeeded, IsNeededIfMap, IsUncracked, IsUnneeded, LacksMap, Shows, TellsUnless, shown_at};
 
 use crate::align::{align_map, is_needed};
 use crate::at_once::align_at_once;
@@ -57,8 +59,8 @@ pub struct Area<M: CrackerMap> {
 }
 
 impl<M: CrackerMap> Model for Area<M> {
-    ghost use Rattle.std.specs.Prelude.{◌≡◌, ◌-◌, map, vec_capacity, vec_len};
-    ghost use Rattle.sw_set.specs.Shelf.{AreaState, IsAreaLawful};
+    ghost use Rattle.std.specs.Prelude.{◌≡◌, map, vec_len};
+    ghost use Rattle.sw_set.specs.Shelf.{AreaState, IsAreaLawful, area_over};
     ghost use Rattle.sw_set.specs.Tied.{IsTied};
     ghost use Rattle.sw_set.specs.Codes.{area_code};
 
@@ -66,9 +68,11 @@ impl<M: CrackerMap> Model for Area<M> {
 
     ghost coded = { area_code };
 
-    ghost view = { λ a. record { attribute = a.attribute; from = a.from; below = a.below; inbox = a.inbox.items; spare = vec_capacity a.inbox - vec_len a.inbox; tape = a.tape; boxes = map M.held a.boxes.items } };
+    ghost view = { λ a. area_over a.attribute a.from a.below a.inbox a.tape (map M.held a.boxes.items) };
 
-    ghost invariant = { λ a. IsAreaLawful (record { attribute = a.attribute; from = a.from; below = a.below; inbox = a.inbox.items; spare = vec_capacity a.inbox - vec_len a.inbox; tape = a.tape; boxes = map M.held a.boxes.items }) × (vec_len a.stamps ≡ vec_len a.boxes) × IsTied a.attribute a.tape a.live };
+    ghost invariant = { λ a.
+        IsAreaLawful (area_over a.attribute a.from a.below a.inbox a.tape (map M.held a.boxes.items))
+        × (vec_len a.stamps ≡ vec_len a.boxes) × IsTied a.attribute a.tape a.live };
 }
 
 impl<M: CrackerMap> Area<M> {
@@ -85,7 +89,7 @@ impl<M: CrackerMap> Area<M> {
         requires keys { All (λ (r : Row). r.key < 2 ^ 63) rows.now }
         requires rise { Rises key_of rows.now }
         requires within { All (λ (r : Row). lies_within attribute from below r ≡ true) rows.now }
-        ensures { MatchResult result (λ a. a ≡ loaded_area attribute from below rows.now) (λ e. e ≡ NoMemory) }
+        ensures { MemoryAside result (λ a. a ≡ loaded_area attribute from below rows.now) }
     {
         match PackedRows::of(alloc, rows) {
             Ok(copy) => Area::of(alloc, attribute, from, below, copy),
@@ -105,7 +109,7 @@ impl<M: CrackerMap> Area<M> {
         requires keys { All (λ (r : Row). r.key < 2 ^ 63) rows.items }
         requires rise { Rises key_of rows.items }
         requires within { All (λ (r : Row). lies_within attribute from below r ≡ true) rows.items }
-        ensures { MatchResult result (λ a. a ≡ loaded_area attribute from below rows.items) (λ e. e ≡ NoMemory) }
+        ensures { MemoryAside result (λ a. a ≡ loaded_area attribute from below rows.items) }
     {
         let live = LiveRows::all(alloc, rows.width(), rows.len())?;
         let tape = Tape::of(alloc, rows)?;
@@ -128,7 +132,7 @@ impl<M: CrackerMap> Area<M> {
     /// Takes a blank box. Refused `NoMemory`, nothing has changed, and that box comes back.
     pub fn supply(&mut self, it: M) -> Result<(), (M, Refusal)>
         requires { M.held it ≡ blank }
-        ensures { MatchResult result (λ _. self.new ≡ record self.old { boxes = self.old.boxes ++ blank ∷ [] }) (λ r. (self.new ≡ self.old) × (r.0 ≡ it) × (r.1 ≡ NoMemory)) }
+        ensures { IsSuppliedOr result it self.old self.new }
     {
         if self.boxes.reserve(1).is_err() || self.stamps.reserve(1).is_err() {
             return Err((it, Refusal::NoMemory));
@@ -155,7 +159,7 @@ impl<M: CrackerMap> Area<M> {
     /// How many entries the tape has, at most 4,096. What is always true of an area is told beside it.
     pub fn tape_len(&self) -> usize
         ensures many { result ≡ length self.now.tape }
-        ensures few { length self.now.tape ≤ 4096 }
+        ensures few { length self.now.tape ≤ MAX_ENTRIES }
         ensures lawful { IsAreaLawful self.now }
     {
         self.tape.len()
@@ -252,8 +256,8 @@ impl<M: CrackerMap> Area<M> {
 
     /// Logs one range at the tape's end. A refusal changes nothing.
     pub(crate) fn log(&mut self, lower: Option<Bound>, upper: Option<Bound>) -> Result<(), Refusal>
-        requires { length self.old.tape < 4096 }
-        ensures { MatchResult result (λ _. self.new ≡ record self.old { tape = self.old.tape ++ ranged lower upper ∷ [] }) (λ e. (self.new ≡ self.old) × (e ≡ NoMemory)) }
+        requires { length self.old.tape < MAX_ENTRIES }
+        ensures { HasLoggedOr result (ranged lower upper) self.old self.new }
     {
         self.tape.push(Entry::Range(lower, upper))
     }
@@ -261,9 +265,9 @@ impl<M: CrackerMap> Area<M> {
     /// Logs a row that comes, at the tape's end. A refusal changes nothing.
     pub(crate) fn log_insertion(&mut self, row: Row) -> Result<(), Refusal>
         requires received { self.old.inbox ≡ [] }
-        requires room { length self.old.tape < 4096 }
-        requires may { MayReceive self.old.attribute self.old.from self.old.below (brought self.old.tape) (logged_rows self.old.attribute self.old.tape) (Insert row) }
-        ensures { MatchResult result (λ _. self.new ≡ record self.old { tape = self.old.tape ++ inserted row ∷ [] }) (λ e. (self.new ≡ self.old) × (e ≡ NoMemory)) }
+        requires room { length self.old.tape < MAX_ENTRIES }
+        requires may { MayMerge (Insert row) self.old }
+        ensures { HasLoggedOr result (inserted row) self.old self.new }
     {
         self.live.push(row)?;
         if let Err(e) = self.tape.push(Entry::Insert(row)) {
@@ -276,11 +280,11 @@ impl<M: CrackerMap> Area<M> {
     /// Logs that the live row of a key goes, whose pair stands at a place at the tape's end. A refusal changes nothing.
     pub(crate) fn log_removal(&mut self, key: u64, place: usize) -> Result<(), Refusal>
         requires received { self.old.inbox ≡ [] }
-        requires room { length self.old.tape < 4096 }
-        requires live { has_key key (logged_rows self.old.attribute self.old.tape) ≡ true }
-        requires within { place < length (joined (rows_by self.old.attribute self.old.tape)) }
-        requires own { (d : Row) → (slice_index_or (joined (rows_by self.old.attribute self.old.tape)) place d).key ≡ key }
-        ensures { MatchResult result (λ _. self.new ≡ record self.old { tape = self.old.tape ++ removed place ∷ [] }) (λ e. (self.new ≡ self.old) × (e ≡ NoMemory)) }
+        requires room { length self.old.tape < MAX_ENTRIES }
+        requires live { has_key key (tape_rows self.old) ≡ true }
+        requires within { place < length (arranged_rows self.old) }
+        requires own { (d : Row) → (slice_index_or (arranged_rows self.old) place d).key ≡ key }
+        ensures { HasLoggedOr result (removed place) self.old self.new }
     {
         let Some(at) = self.live.find(load_of(&self.tape), key) else {
             unreachable!()
@@ -294,11 +298,11 @@ impl<M: CrackerMap> Area<M> {
     /// changes nothing.
     fn begin_anew(&mut self, live: LiveRows) -> Result<(), Refusal>
         requires many { length live.flags ≡ length (first_rows self.old.tape ++ live.later) }
-        requires keys { All (λ (r : Row). r.key < 2 ^ 63) (live_among (first_rows self.old.tape) live) }
-        requires rise { Rises key_of (live_among (first_rows self.old.tape) live) }
-        requires within { All (λ (r : Row). lies_within self.old.attribute self.old.from self.old.below r ≡ true) (live_among (first_rows self.old.tape) live) }
-        requires receivable { AreReceivable self.old.attribute self.old.from self.old.below (live_among (first_rows self.old.tape) live) (live_among (first_rows self.old.tape) live) self.old.inbox }
-        ensures { MatchResult result (λ _. IsSameShell self.old self.new × IsBegunAnew (live_among (first_rows self.old.tape) live) self.new) (λ e. (self.new ≡ self.old) × (e ≡ NoMemory)) }
+        requires keys { All (λ (r : Row). r.key < 2 ^ 63) (rows_standing live self.old) }
+        requires rise { Rises key_of (rows_standing live self.old) }
+        requires within { All (LiesIn self.old) (rows_standing live self.old) }
+        requires receivable { MayComeAfterLoad (rows_standing live self.old) self.old.inbox self.old }
+        ensures { HasBegunAnewOr result (rows_standing live self.old) self.old self.new }
     {
         let width = load_of(&self.tape).width();
         let all = LiveRows::all(self.alloc, width, live.count())?;
@@ -312,7 +316,7 @@ impl<M: CrackerMap> Area<M> {
     /// Begins the area anew with its live rows. A refusal changes nothing.
     pub(crate) fn restart(&mut self) -> Result<(), Refusal>
         ensures same { IsSameArea self.old self.new }
-        ensures ends { MatchResult result (λ _. self.new.tape ≡ loaded (logged_rows self.old.attribute self.old.tape) ∷ []) (λ e. (self.new ≡ self.old) × (e ≡ NoMemory)) }
+        ensures ends { HasRestartedOr result self.old self.new }
     {
         let live = self.live.after(self.alloc, load_of(&self.tape), &[])?;
         self.begin_anew(live)
@@ -321,8 +325,8 @@ impl<M: CrackerMap> Area<M> {
     /// Begins the area anew with the rows that are live after these updates. A refusal changes nothing.
     pub(crate) fn restart_after(&mut self, updates: &[Update]) -> Result<(), Refusal>
         requires received { self.old.inbox ≡ [] }
-        requires receivable { AreReceivable self.old.attribute self.old.from self.old.below (brought self.old.tape) (logged_rows self.old.attribute self.old.tape) updates.now }
-        ensures { MatchResult result (λ _. IsSameShell self.old self.new × IsBegunAnew (fold rows_then (logged_rows self.old.attribute self.old.tape) updates.now) self.new) (λ e. (self.new ≡ self.old) × (e ≡ NoMemory)) }
+        requires receivable { MayMergeAll updates.now self.old }
+        ensures { HasBegunAnewOr result (rows_left_by updates.now self.old) self.old self.new }
     {
         let live = self.live.after(self.alloc, load_of(&self.tape), updates)?;
         self.begin_anew(live)
@@ -336,7 +340,7 @@ impl<M: CrackerMap> Area<M> {
         requires room { (d : Held) → peak_from 0 self.old.tape ≤ (slice_index_or self.old.boxes at d).cells }
         ensures same { IsSameButBoxes self.old self.new }
         ensures maps { AreSameMaps self.old.boxes self.new.boxes }
-        ensures ends { MatchResult result (λ _. (d : Held) → (slice_index_or self.new.boxes at d).cursor ≡ length self.old.tape) (λ _. (d : Held) → (slice_index_or self.old.boxes at d).cursor < length self.old.tape) }
+        ensures ends { HasReachedOr result at (length self.old.tape) self.old.boxes self.new.boxes }
     {
         align_map(&mut self.boxes[at], &self.tape)
     }
@@ -345,9 +349,9 @@ impl<M: CrackerMap> Area<M> {
     pub(crate) fn place_of(&self, at: usize, key: u64) -> usize
         requires within { at < length self.now.boxes }
         requires ready { (d : Held) → IsReady Key self.now.tape (slice_index_or self.now.boxes at d) }
-        requires live { has_key key (logged_rows self.now.attribute self.now.tape) ≡ true }
-        ensures within { result < length (joined (rows_by self.now.attribute self.now.tape)) }
-        ensures own { (d : Row) → (slice_index_or (joined (rows_by self.now.attribute self.now.tape)) result d).key ≡ key }
+        requires live { has_key key (tape_rows self.now) ≡ true }
+        ensures within { result < length (arranged_rows self.now) }
+        ensures own { (d : Row) → (slice_index_or (arranged_rows self.now) result d).key ≡ key }
     {
         let load = load_of(&self.tape);
         let Some(row) = self.live.find(load, key) else {
@@ -360,7 +364,7 @@ impl<M: CrackerMap> Area<M> {
     /// Makes room for so many updates more: until they are received, `receive` takes no memory. A refusal changes nothing.
     pub fn room(&mut self, more: usize) -> Result<(), Refusal>
         ensures same { self.new ≡ record self.old { spare = self.new.spare } }
-        ensures ends { MatchResult result (λ _. (more ≤ self.new.spare) × (self.old.spare ≤ self.new.spare)) (λ e. (self.new.spare ≡ self.old.spare) × (e ≡ NoMemory)) }
+        ensures ends { HasMadeRoomOr result more self.old.spare self.new.spare }
         ensures roomy { more ≤ self.old.spare → IsOk result }
     {
         match self.inbox.reserve(more) {
@@ -372,8 +376,8 @@ impl<M: CrackerMap> Area<M> {
     /// Appends updates to those that wait: an inserted key exceeds all that came before it, its row lies in the area's
     /// interval, and a removed key is live then. A refusal changes nothing.
     pub fn receive(&mut self, updates: &[Update]) -> Result<(), Refusal>
-        requires { AreReceivable self.old.attribute self.old.from self.old.below (came_in self.old) (rows_in self.old) updates.now }
-        ensures ends { MatchResult result (λ _. (self.new ≡ record self.old { inbox = self.old.inbox ++ updates.now; spare = self.new.spare }) × (self.old.spare ≤ self.new.spare + length updates.now)) (λ e. (self.new ≡ self.old) × (e ≡ NoMemory)) }
+        requires { MayReceiveAll updates.now self.old }
+        ensures ends { CameToWaitOr result updates.now self.old self.new }
         ensures roomy { length updates.now ≤ self.old.spare → IsOk result }
     {
         append(&mut self.inbox, updates)
@@ -392,10 +396,10 @@ impl<M: CrackerMap> Area<M> {
 
     /// Takes out what waits.
     pub(crate) fn take_inbox(&mut self) -> Vec<Update>
-        ensures area { self.new ≡ record self.old { inbox = []; spare = 0 } }
+        ensures area { self.new ≡ without_inbox self.old }
         ensures taken { result.items ≡ self.old.inbox }
         ensures spare { vec_capacity result ≡ self.old.spare + length self.old.inbox }
-        ensures receivable { AreReceivable self.old.attribute self.old.from self.old.below (brought self.old.tape) (logged_rows self.old.attribute self.old.tape) result.items }
+        ensures receivable { MayMergeAll result.items self.old }
     {
         let none = Vec::new(self.alloc);
         mem::replace(&mut self.inbox, none)
@@ -403,8 +407,8 @@ impl<M: CrackerMap> Area<M> {
 
     /// These updates wait from now on, and no others.
     pub(crate) fn put_inbox(&mut self, waiting: Vec<Update>)
-        requires { AreReceivable self.old.attribute self.old.from self.old.below (brought self.old.tape) (logged_rows self.old.attribute self.old.tape) waiting.items }
-        ensures { self.new ≡ record self.old { inbox = waiting.items; spare = vec_capacity waiting - vec_len waiting } }
+        requires { MayMergeAll waiting.items self.old }
+        ensures { self.new ≡ with_inbox waiting self.old }
     {
         self.inbox = waiting;
     }
@@ -429,14 +433,14 @@ impl<M: CrackerMap> Area<M> {
 
     /// The box that has a map of the tail.
     pub(crate) fn with_map(&self, tail: Tail) -> Option<usize>
-        ensures { MatchOption result (All (λ m. m.is_blank ≡ false → m.tail ≢ tail) self.now.boxes) (λ i. (i < length self.now.boxes) × ((d : Held) → ((slice_index_or self.now.boxes i d).is_blank ≡ false) × ((slice_index_or self.now.boxes i d).tail ≡ tail))) }
+        ensures { FindsUnless (LacksMap tail) (HoldsMap tail) self.now.boxes result }
     {
         find_map(self.boxes.as_slice(), tail)
     }
 
     /// A box for a new map: the first blank one, else the least recently used that the tails do not need.
     pub(crate) fn spare(&self, tails: &[Tail]) -> Option<usize>
-        ensures { MatchOption result (All (λ m. (m.is_blank ≡ false) × Contains tails.now m.tail) self.now.boxes) (λ i. (i < length self.now.boxes) × ((d : Held) → IsSpare tails.now (slice_index_or self.now.boxes i d))) }
+        ensures { FindsUnless (IsNeeded tails.now) (IsSpare tails.now) self.now.boxes result }
     {
         if let Some(i) = find_blank(self.boxes.as_slice()) {
             return Some(i);
@@ -446,7 +450,7 @@ impl<M: CrackerMap> Area<M> {
 
     /// The least recently used box with a lease that the tails do not need.
     pub(crate) fn leased(&self, tails: &[Tail]) -> Option<usize>
-        ensures { MatchOption result (All (λ m. m.is_blank ≡ false → Contains tails.now m.tail) self.now.boxes) (λ i. (i < length self.now.boxes) × ((d : Held) → ((slice_index_or self.now.boxes i d).is_blank ≡ false) × ¬ Contains tails.now (slice_index_or self.now.boxes i d).tail)) }
+        ensures { FindsUnless (IsNeededIfMap tails.now) (IsUnneeded tails.now) self.now.boxes result }
     {
         find_leased(self.boxes.as_slice(), self.stamps.as_slice(), tails)
     }
@@ -487,7 +491,7 @@ impl<M: CrackerMap> Area<M> {
     fn shown_at(&self, at: usize, place: usize) -> i64
         requires within { at < length self.now.boxes }
         requires there { (d : Held) → place < pairs_in (slice_index_or self.now.boxes at d) }
-        ensures { (d : Held) → result ≡ (slice_index_or (joined (slice_index_or self.now.boxes at d).pairs) place (pos 0, pos 0)).1 }
+        ensures { (d : Held) → result ≡ shown_at place (slice_index_or self.now.boxes at d) }
     {
         self.boxes[at].tail_at(place)
     }
@@ -495,7 +499,7 @@ impl<M: CrackerMap> Area<M> {
     /// Clears the box at a place.
     pub(crate) fn clear_at(&mut self, at: usize)
         requires { at < length self.old.boxes }
-        ensures { self.new ≡ record self.old { boxes = slice_set self.old.boxes at blank } }
+        ensures { self.new ≡ with_box at blank self.old }
     {
         clear_box(&mut self.boxes[at]);
     }
@@ -516,7 +520,7 @@ impl<M: CrackerMap> Area<M> {
     pub fn clear_oldest(&mut self) -> u64
         ensures same { IsSameButBoxes self.old self.new }
         ensures cleared { IsOneCleared self.old.boxes self.new.boxes result }
-        ensures none { result ≡ 0 → All (λ m. m.is_blank ≡ true) self.old.boxes }
+        ensures none { result ≡ 0 → AreAllBlank self.old.boxes }
     {
         self.known();
         let Some(at) = self.leased(&[]) else {
@@ -563,7 +567,7 @@ impl<M: CrackerMap> Area<M> {
 
     /// The stamp of the least recently used map, if a box has one.
     pub fn oldest(&self) -> Option<u64>
-        ensures { MatchOption result (All (λ m. m.is_blank ≡ true) self.now.boxes) (λ _. Any (λ m. m.is_blank ≡ false) self.now.boxes) }
+        ensures { MatchOption result (AreAllBlank self.now.boxes) (λ _. HaveSomeMap self.now.boxes) }
     {
         let Some(at) = self.leased(&[]) else {
             return None;
@@ -577,7 +581,7 @@ impl<M: CrackerMap> Area<M> {
 
     /// The cursor of the map of a tail, if there is one.
     pub fn cursor(&self, tail: Tail) -> Option<usize>
-        ensures { MatchOption result (All (λ m. m.is_blank ≡ false → m.tail ≢ tail) self.now.boxes) (λ n. Any (λ m. (m.is_blank ≡ false) × (m.tail ≡ tail) × (n ≡ m.cursor)) self.now.boxes) }
+        ensures { TellsUnless (LacksMap tail) (HasCursor tail) self.now.boxes result }
     {
         match self.with_map(tail) {
             Some(at) => Some(self.cursor_at(at)),
@@ -587,7 +591,7 @@ impl<M: CrackerMap> Area<M> {
 
     /// What the map of a tail shows at a place, if there is such a map and such a place.
     pub fn peek(&self, tail: Tail, place: usize) -> Option<i64>
-        ensures { MatchOption result (All (λ m. m.is_blank ≡ false → m.tail ≡ tail → pairs_in m ≤ place) self.now.boxes) (λ v. Any (λ m. (m.is_blank ≡ false) × (m.tail ≡ tail) × (place < pairs_in m) × (v ≡ (slice_index_or (joined m.pairs) place (pos 0, pos 0)).1)) self.now.boxes) }
+        ensures { TellsUnless (EndsBy tail place) (Shows tail place) self.now.boxes result }
     {
         self.known();
         let Some(at) = self.with_map(tail) else {
@@ -602,7 +606,7 @@ impl<M: CrackerMap> Area<M> {
 
     /// How many pairs of the key map stand before a bound, if there is a key map and it has cracked at that bound.
     pub fn place(&self, bound: Bound) -> Option<usize>
-        ensures { MatchOption result (All (λ m. m.is_blank ≡ false → m.tail ≡ Key → place_of bound m.pairs ≡ None) self.now.boxes) (λ n. Any (λ m. (m.is_blank ≡ false) × (m.tail ≡ Key) × (place_of bound m.pairs ≡ Some n)) self.now.boxes) }
+        ensures { TellsUnless (IsUncracked bound) (IsCrackedAt bound) self.now.boxes result }
     {
         self.known();
         match self.with_map(Tail::Key) {
@@ -652,7 +656,7 @@ impl<M: CrackerMap> Area<M> {
         ensures same { IsSameArea self.old self.new }
         ensures tape { self.new.tape ≡ self.old.tape }
         ensures maps { AreSameMaps self.old.boxes self.new.boxes }
-        ensures ends { MatchResult result (λ _. All (IsAtEnd tails.now self.old.tape) self.new.boxes) (λ e. e ≡ NoMemory) }
+        ensures ends { MemoryAside result (λ _. All (IsAtEnd tails.now self.old.tape) self.new.boxes) }
     {
         align_at_once(
             rt,
@@ -678,7 +682,7 @@ impl<M: CrackerMap> Area<M> {
         requires within { at < length self.old.boxes }
         requires fresh { IsFreshBut at tail self.old.boxes }
         requires some { 0 < cells }
-        ensures { MatchResult result (λ _. self.new ≡ record self.old { boxes = slice_set self.old.boxes at (begun self.old.attribute tail cells) }) (λ e. (self.new ≡ record self.old { boxes = slice_set self.old.boxes at blank }) × IsBeginRefusal cells e) }
+        ensures { HasMadeAt result at tail cells self.old self.new }
     {
         let attribute = self.attribute;
         begin_box(&mut self.boxes[at], attribute, tail, cells)
@@ -698,8 +702,8 @@ fn load_of(tape: &Tape) -> &PackedRows
 
 /// Appends updates to others. A refusal changes nothing.
 fn append(waiting: &mut Vec<Update>, updates: &[Update]) -> Result<(), Refusal>
-    ensures items { MatchResult result (λ _. waiting.new.items ≡ waiting.old.items ++ updates.now) (λ _. waiting.new.items ≡ waiting.old.items) }
-    ensures room { MatchResult result (λ _. (vec_len waiting.new ≡ vec_len waiting.old + length updates.now) × (vec_capacity waiting.old ≤ vec_capacity waiting.new)) (λ e. (vec_len waiting.new ≡ vec_len waiting.old) × (vec_capacity waiting.new ≡ vec_capacity waiting.old) × (e ≡ NoMemory)) }
+    ensures items { AreAppendedOr result updates.now waiting.old.items waiting.new.items }
+    ensures room { IsLongerOr result (length updates.now) waiting.old waiting.new }
     ensures roomy { vec_len waiting.old + length updates.now ≤ vec_capacity waiting.old → IsOk result }
 {
     if waiting.reserve(updates.len()).is_err() {
@@ -742,7 +746,7 @@ fn begin_box<M: CrackerMap>(
     tail: Tail,
     cells: u64,
 ) -> Result<(), Refusal>
-    ensures { MatchResult result (λ _. M.held it.new ≡ begun attribute tail cells) (λ e. (M.held it.new ≡ blank) × IsBeginRefusal cells e) }
+    ensures { HasBegunOr result attribute tail cells (M.held it.new) }
 {
     it.clear();
     it.begin(attribute, tail, cells)

@@ -1,12 +1,13 @@
 //! Alignment of several maps at once.
 
-ghost use Rattle.std.specs.Prelude.{◌≡◌, ℕ, ◌<◌, ◌≤◌, false, true, length, map, All, Contains, MatchOption, MatchResult, IfSome, slice_index_or};
+ghost use Rattle.std.specs.Prelude.{◌≡◌, ◌≤◌, false, length, map, All, MatchOption, IfSome};
 ghost use Rattle.sw_table.specs.declared.row.Row.{Row};
-ghost use Rattle.sw_rows.specs.declared.refusal.Refusal.TheVariants.{NoMemory};
 ghost use Rattle.sw_kernel.specs.Replay.{Step};
 ghost use Rattle.sw_map.specs.Held.{KeysFit};
 ghost use Rattle.sw_map.specs.Lawful.{IsLawful};
-ghost use Rattle.sw_set.specs.Shelf.{HasRoomWhereNeeded, IsAtEnd, IsSameMap, AreSameMaps};
+ghost use Rattle.sw_set.specs.Aligned.{AreSameMaps, HasRoomWhereNeeded, IsAtEnd, IsSteppedFrom, KeepMaps, MayBeAligned};
+ghost use Rattle.sw_set.specs.Outcomes.{MemoryAside};
+ghost use Rattle.sw_set.specs.Sought.{AllAtCursor, IsAtCursor, IsBetween};
 
 use crate::align::{align_box, is_needed};
 use crate::lacking::lacks_much;
@@ -32,12 +33,12 @@ fn step_first<R: Threads + Sync, M: CrackerMap>(
     requires within { many ≤ length boxes.old }
     ensures lawful { All (λ m. IsLawful attribute tape.now (M.held m)) boxes.new }
     ensures many { length boxes.new ≡ length boxes.old }
-    ensures same { (k : ℕ) (d : M) → k < length boxes.old → IsSameMap (M.held (slice_index_or boxes.old k d)) (M.held (slice_index_or boxes.new k d)) }
+    ensures same { KeepMaps M.held boxes.old boxes.new }
 {
     let (front, rest) = boxes.split_at_mut(many);
     let step = |_: usize, it: &mut M|
-        requires { IsLawful attribute tape.now (M.held it.now) × All (λ (e : Step Row). KeysFit e) tape.now × HasRoomWhereNeeded tails.now tape.now (M.held it.now) }
-        ensures { IsLawful attribute tape.entry.now (M.held it.exit.now) × IsSameMap (M.held it.entry.now) (M.held it.exit.now) }
+        requires { MayBeAligned attribute tape.now tails.now (M.held it.now) }
+        ensures { IsSteppedFrom attribute tape.entry.now (M.held it.entry.now) (M.held it.exit.now) }
     {
         let _ = align_box(attribute, it, tails, tape);
     };
@@ -47,7 +48,7 @@ fn step_first<R: Threads + Sync, M: CrackerMap>(
 
 /// Whether a box has a needed map that lacks entries of a tape of this length.
 fn lacks<M: CrackerMap>(it: &M, tails: &[Tail], end: usize) -> bool
-    ensures { result ≡ false → (M.held it.now).is_blank ≡ false → Contains tails.now (M.held it.now).tail → (M.held it.now).cursor ≡ end }
+    ensures { result ≡ false → IsAtCursor tails.now end (M.held it.now) }
 {
     !it.is_blank() && is_needed(tails, it.tail()) && it.cursor() != end
 }
@@ -59,7 +60,7 @@ fn find_lacking<M: CrackerMap>(
     tails: &[Tail],
     end: usize,
 ) -> Option<usize>
-    ensures { MatchOption result ((k : ℕ) (d : M) → from ≤ k → k < length boxes.now → (M.held (slice_index_or boxes.now k d)).is_blank ≡ false → Contains tails.now (M.held (slice_index_or boxes.now k d)).tail → (M.held (slice_index_or boxes.now k d)).cursor ≡ end) (λ at. (from ≤ at) × (at < length boxes.now)) }
+    ensures { MatchOption result (AllAtCursor M.held from tails.now end boxes.now) (IsBetween from (length boxes.now)) }
 {
     for at in from..boxes.len() {
         if lacks(&boxes[at], tails, end) {
@@ -71,7 +72,7 @@ fn find_lacking<M: CrackerMap>(
 
 /// The first box, from a place on, whose needed map lacks so much that a thread is worth its start.
 fn find_much<M: CrackerMap>(boxes: &[M], from: usize, tails: &[Tail], tape: &Tape) -> Option<usize>
-    ensures { IfSome result (λ at. (from ≤ at) × (at < length boxes.now)) }
+    ensures { IfSome result (IsBetween from (length boxes.now)) }
 {
     for at in from..boxes.len() {
         if lacks(&boxes[at], tails, tape.len()) && lacks_much(&boxes[at], tape) {
@@ -99,7 +100,7 @@ fn step_lacking<R: Threads + Sync, M: CrackerMap>(
     requires within { from ≤ length boxes.old }
     ensures lawful { All (λ m. IsLawful attribute tape.now (M.held m)) boxes.new }
     ensures many { length boxes.new ≡ length boxes.old }
-    ensures same { (k : ℕ) (d : M) → k < length boxes.old → IsSameMap (M.held (slice_index_or boxes.old k d)) (M.held (slice_index_or boxes.new k d)) }
+    ensures same { KeepMaps M.held boxes.old boxes.new }
 {
     match find_much(boxes, from, tails, tape) {
         None => step_first(rt, attribute, boxes, done, tails, tape),
@@ -125,7 +126,7 @@ pub(crate) fn align_at_once<R: Threads + Sync, M: CrackerMap>(
     requires room { All (λ m. HasRoomWhereNeeded tails.now tape.now (M.held m)) boxes.old }
     ensures lawful { All (IsLawful attribute tape.now) (map M.held boxes.new) }
     ensures same { AreSameMaps (map M.held boxes.old) (map M.held boxes.new) }
-    ensures ends { MatchResult result (λ _. All (IsAtEnd tails.now tape.now) (map M.held boxes.new)) (λ e. e ≡ NoMemory) }
+    ensures ends { MemoryAside result (λ _. All (IsAtEnd tails.now tape.now) (map M.held boxes.new)) }
 {
     step_lacking(rt, attribute, boxes, 0, 0, tails, tape);
     match find_lacking(boxes, 0, tails, tape.len()) {

@@ -1,8 +1,7 @@
 //! Which rows of a range are chosen.
 
-ghost use Rattle.std.specs.Prelude.{◌≡◌, ◌+◌, ◌<◌, ◌≤◌, ◌&&◌, ℕ, ℤ, pos, List, false, length, slice_index_or, Option, None, Some};
-ghost use Rattle.sw_rows.specs.Bounds.{is_within};
-ghost use Rattle.sw_set.specs.Choice.{is_chosen, AreFor, count_chosen};
+ghost use Rattle.std.specs.Prelude.{◌≡◌, length};
+ghost use Rattle.sw_set.specs.Choice.{AreRefined, count_chosen, is_chosen};
 
 use crate::window::Window;
 use sw_bits::Bits;
@@ -42,7 +41,7 @@ impl Choice {
 pub(crate) fn refine_by<M: CrackerMap>(bits: &mut Bits, window: &mut Window<'_, M>, cond: &Cond)
     requires { length window.old ≡ length bits.old }
     ensures long { length bits.new ≡ length bits.old }
-    ensures places { (k : ℕ) → k < length bits.old → slice_index_or bits.new k false ≡ (slice_index_or bits.old k false && is_within cond.now.lower cond.now.upper (slice_index_or window.old k (pos 0))) }
+    ensures places { AreRefined cond.now window.old bits.old bits.new }
 {
     for place in 0..bits.len() {
         let value = window.at(place);

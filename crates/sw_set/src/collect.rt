@@ -1,16 +1,14 @@
 //! The answer of a query from boxes that stand at the tape's end.
 
-ghost use Rattle.std.specs.Prelude.{◌≡◌, ◌<◌, ◌≤◌, List, [], map, length, slice_range, All, Any, Contains, IfOk, IsOk, IsOkUnless, MatchResult};
+ghost use Rattle.std.specs.Prelude.{◌≡◌, ◌<◌, ◌≤◌, [], map, length, All, IsOk, IsOkUnless};
 ghost use Rattle.sw_rows.specs.declared.refusal.Refusal.TheVariants.{NoMemory};
-ghost use Rattle.sw_table.specs.declared.row.Row.{Row};
-ghost use Rattle.sw_rows.specs.Scan.{AsksBelow, CondsBelow, WantsBelow, TakesMemory, answer, answer_over, meets_all, projected};
-ghost use Rattle.sw_kernel.specs.Tapes.{HoldsOnce};
-ghost use Rattle.sw_map.specs.declared.tail.Tail.{Tail};
+ghost use Rattle.sw_rows.specs.Scan.{AsksBelow, CondsBelow, WantsBelow, TakesMemory, answer_over, meets_all};
 ghost use Rattle.sw_map.specs.Lawful.{IsLawful};
 ghost use Rattle.sw_set.specs.Needs.{head_in, needed};
-ghost use Rattle.sw_set.specs.Prepared.{IsReady};
-ghost use Rattle.sw_set.specs.Shelf.{Rises, key_of};
-ghost use Rattle.sw_set.specs.Choice.{AreFor, AreInKeyOrder, AreOf, AreStocked, HasCells, HasWanted, IsReplyOver, IsRun, chosen, further, meets_first, shown_rows};
+ghost use Rattle.sw_set.specs.Outcomes.{MemoryAside};
+ghost use Rattle.sw_set.specs.Prepared.{StandReady};
+ghost use Rattle.sw_set.specs.Choice.{AreFor, AreStocked, HasCells, HasWanted, IsRun, meets_first, range_rows, shown_rows};
+ghost use Rattle.sw_set.specs.Collected.{AnswersInOrder, AreOfFurther, IsListOf, IsReplyOver, chosen_rows};
 
 use crate::choice::{Choice, refine_by};
 use crate::finding::{columns_of, open_cells, open_keys};
@@ -37,7 +35,7 @@ fn refined<M: CrackerMap>(
     requires cells { All (λ c. HasCells head tape.now (map M.held boxes.now) c.attr) conds.now }
     requires ordered { from ≤ upto }
     requires within { upto ≤ length (shown_rows head tape.now) }
-    ensures { MatchResult result (λ bits. bits ≡ map (meets_all conds.now) (slice_range (shown_rows head tape.now) from upto)) (λ e. e ≡ NoMemory) }
+    ensures { MemoryAside result (λ bits. bits ≡ map (meets_all conds.now) (range_rows head tape.now from upto)) }
 {
     let mut bits = Bits::all(alloc, upto - from)?;
     for cond in conds {
@@ -62,7 +60,7 @@ fn choose<M: CrackerMap>(
     requires cells { All (λ c. HasCells head tape.now (map M.held boxes.now) c.attr) conds.now }
     requires ordered { from ≤ upto }
     requires within { upto ≤ length (shown_rows head tape.now) }
-    ensures chosen { MatchResult result (λ choice. AreOf (meets_all (further conds.now)) (slice_range (shown_rows head tape.now) from upto) choice.bits) (λ e. e ≡ NoMemory) }
+    ensures chosen { MemoryAside result (λ c. AreOfFurther conds.now (range_rows head tape.now from upto) c.bits) }
     ensures one { length conds.now ≤ 1 → IsOk result }
 {
     if conds.len() < 2 {
@@ -89,7 +87,7 @@ fn select<M: CrackerMap>(
     requires cells { All (HasCells head tape.now (map M.held boxes.now)) names.now }
     requires ordered { from ≤ upto }
     requires within { upto ≤ length (shown_rows head tape.now) }
-    ensures { MatchResult result (λ rows. AreInKeyOrder (map (projected names.now) (chosen choice.now.bits (slice_range (shown_rows head tape.now) from upto))) rows) (λ e. e ≡ NoMemory) }
+    ensures { MemoryAside result (IsListOf names.now (chosen_rows head tape.now from upto choice.now.bits)) }
 {
     let mut keys = open_keys(boxes, head, tape, from, upto);
     let mut found = found_keys(alloc, &mut keys, from, choice)?;
@@ -114,8 +112,8 @@ fn wanted<M: CrackerMap>(
     requires cells { HasWanted head tape.now (map M.held boxes.now) want.now }
     requires ordered { from ≤ upto }
     requires within { upto ≤ length (shown_rows head tape.now) }
-    requires fitting { AreFor (length (slice_range (shown_rows head tape.now) from upto)) choice.now.bits }
-    ensures told { MatchResult result (IsReplyOver (chosen choice.now.bits (slice_range (shown_rows head tape.now) from upto)) want.now) (λ e. e ≡ NoMemory) }
+    requires fitting { AreFor (length (range_rows head tape.now from upto)) choice.now.bits }
+    ensures told { MemoryAside result (IsReplyOver (chosen_rows head tape.now from upto choice.now.bits) want.now) }
     ensures scalars { (TakesMemory want.now → ⊥) → IsOk result }
 {
     match want {
@@ -177,9 +175,9 @@ pub(crate) fn collect_from<M: CrackerMap>(
     requires asks { AsksBelow 8 query.now }
     requires head { head_in query.now.conds ≡ head }
     requires lawful { All (IsLawful head tape.now) (map M.held boxes.now) }
-    requires maps { from < upto → (t : Tail) → Contains (needed head query.now) t → Any (IsReady t tape.now) (map M.held boxes.now) }
+    requires maps { from < upto → StandReady (needed head query.now) tape.now (map M.held boxes.now) }
     requires run { IsRun (meets_first query.now.conds) (shown_rows head tape.now) from upto }
-    ensures answered { (rows : List Row) → HoldsOnce key_of (shown_rows head tape.now) rows → Rises key_of rows → IfOk result (λ reply. reply ≡ answer rows query.now) }
+    ensures answered { AnswersInOrder result (shown_rows head tape.now) query.now }
     ensures refused { IsOkUnless result NoMemory }
     ensures scalars { (TakesMemory query.now.want → ⊥) → length query.now.conds ≤ 1 → IsOk result }
 {

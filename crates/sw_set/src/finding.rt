@@ -1,8 +1,8 @@
 //! Where the columns that a query needs stand.
 
-ghost use Rattle.std.specs.Prelude.{◌≡◌, ℕ, ◌<◌, ◌≤◌, pos, List, map, length, slice_range, slice_index_or, Any, All, Decides, Contains};
+ghost use Rattle.std.specs.Prelude.{◌≡◌, ℕ, ◌<◌, ◌≤◌, pos, List, map, length, slice_index_or, Any, All, Decides, Contains};
 ghost use Rattle.sw_rows.specs.Scan.{column};
-ghost use Rattle.sw_set.specs.Choice.{AreStocked, HasCells, IsColumn, column_at, shown_rows};
+ghost use Rattle.sw_set.specs.Choice.{AreStocked, HasCells, HasColumn, IsColumn, range_rows, shown_rows};
 ghost use Rattle.sw_set.specs.Prepared.{IsReady};
 ghost use Rattle.sw_map.specs.declared.tail.Tail.TheVariants.{Key};
 
@@ -60,7 +60,7 @@ pub(crate) fn columns_of<M: CrackerMap>(
     requires few { All (λ (a : ℕ). a < 8) names.now }
     requires stocked { AreStocked head tape.now (map M.held boxes.now) }
     requires cells { All (HasCells head tape.now (map M.held boxes.now)) names.now }
-    ensures { All (λ (a : ℕ). IsColumn (map M.held boxes.now) (column_at result a) (column a (shown_rows head tape.now))) names.now }
+    ensures { All (HasColumn (map M.held boxes.now) result (shown_rows head tape.now)) names.now }
 {
     let mut columns = [Column {
         at: 0,
@@ -86,7 +86,7 @@ pub(crate) fn open_cells<'a, M: CrackerMap>(
     requires cells { HasCells head tape.now (map M.held boxes.now) attr }
     requires ordered { from ≤ upto }
     requires within { upto ≤ length (shown_rows head tape.now) }
-    ensures { result ≡ column attr (slice_range (shown_rows head tape.now) from upto) }
+    ensures { result ≡ column attr (range_rows head tape.now from upto) }
 {
     let column = column_of(boxes, head, tape, attr);
     Window::new(&boxes[column.at], column.side, from, upto)
@@ -103,7 +103,7 @@ pub(crate) fn open_keys<'a, M: CrackerMap>(
     requires stocked { AreStocked head tape.now (map M.held boxes.now) }
     requires ordered { from ≤ upto }
     requires within { upto ≤ length (shown_rows head tape.now) }
-    ensures { result ≡ map (λ r. pos r.key) (slice_range (shown_rows head tape.now) from upto) }
+    ensures { result ≡ map (λ r. pos r.key) (range_rows head tape.now from upto) }
 {
     let at = find_ready(boxes, Tail::Key, tape);
     Window::new(&boxes[at], Side::Tail, from, upto)

@@ -1,27 +1,18 @@
 //! Which rows of a tape are live.
 
-ghost use Rattle.std.specs.Prelude.{◌≡◌, ◌-◌, ◌<◌, ◌≤◌, ◌++◌, ◌+◌, [], true, false, not, length, filter, fold, take, replicate, slice_index_or, slice_set, All, Bool, Decides, IfOk, IsOk, IsOkUnless, MatchOption, MatchResult};
+ghost use Rattle.std.specs.Prelude.{◌≡◌, ◌<◌, ◌≤◌, ◌++◌, ◌+◌, true, false, not, length, filter, fold, slice_index_or, slice_set, All, Bool, Decides, IfOk, IsOk, IsOkUnless, MatchResult};
 ghost use Rattle.sw_table.specs.declared.row.Row.{Row};
 ghost use Rattle.sw_rows.specs.declared.refusal.Refusal.TheVariants.{NoMemory};
 ghost use Rattle.sw_rows.specs.Gives.{IsRefused};
 ghost use Rattle.sw_rows.specs.Scan.{AsksBelow, TakesMemory, answer, cell_of};
-ghost use Rattle.sw_table.specs.Rows.{HasNoRow, IsRowAt};
-ghost use Rattle.sw_table.specs.Updates.{has_key, rows_then};
-ghost use Rattle.sw_set.specs.Live.{IsNextStanding, IsStanding, Standing, IsStandingAfter, came_later, came_to, live_among};
+ghost use Rattle.sw_table.specs.Updates.{has_key};
+ghost use Rattle.sw_set.specs.Live.{FindsKey, IsNextStanding, IsStandingOf, Standing, IsStandingAfter, all_standing, came_later, came_to, live_among, without_last};
+ghost use Rattle.sw_set.specs.Outcomes.{MemoryAside};
 ghost use Rattle.sw_set.specs.Shelf.{Rises, came_then, key_of};
 
-use std::alloc::{AllocError, Global};
+use std::alloc::Global;
 use std::marker::Model;
 use sw_rows::{PackedRows, Places, Query, Refusal, Reply, Row, Update, scan};
-
-/// A copy of rows. The one error is that there is no memory for it.
-fn copy_of(alloc: Global, rows: &PackedRows) -> Result<PackedRows, AllocError>
-    ensures { IfOk result (λ copy. copy.items ≡ rows.now.items) }
-{
-    let mut copy = PackedRows::new(alloc, rows.width());
-    copy.extend_from(rows, 0, rows.len())?;
-    Ok(copy)
-}
 
 /// Which of the rows that a tape brought are live: of those in its load, and of those that came later. Each has a place: those
 /// of the load first, then the later ones, in the order in which they came.
@@ -49,7 +40,7 @@ impl LiveRows {
     pub(crate) fn all(alloc: Global, width: usize, many: usize) -> Result<LiveRows, Refusal>
         requires some { 1 ≤ width }
         requires most { width ≤ 8 }
-        ensures { MatchResult result (λ live. live ≡ record { later = []; flags = replicate many true }) (λ e. e ≡ NoMemory) }
+        ensures { MemoryAside result (λ live. live ≡ all_standing many) }
     {
         match vec![in alloc; true; many] {
             Ok(flags) => Ok(LiveRows {
@@ -104,8 +95,8 @@ impl LiveRows {
 
     /// The place of a key, whether or not its row is live. By binary search.
     pub(crate) fn find(&self, load: &PackedRows, key: u64) -> Option<usize>
-        requires { IsStanding load.now.items self.now }
-        ensures { MatchOption result (HasNoRow key (came_to load.now.items self.now)) (IsRowAt key (came_to load.now.items self.now)) }
+        requires { IsStandingOf load.now.items self.now }
+        ensures { FindsKey key (came_to load.now.items self.now) result }
     {
         if let Some(place) = load.find(key) {
             return Some(place);
@@ -118,7 +109,7 @@ impl LiveRows {
 
     /// Whether a live row has the key. By binary search.
     pub(crate) fn holds(&self, load: &PackedRows, key: u64) -> bool
-        requires { IsStanding load.now.items self.now }
+        requires { IsStandingOf load.now.items self.now }
         ensures { result ≡ has_key key (live_among load.now.items self.now) }
     {
         match self.find(load, key) {
@@ -142,7 +133,7 @@ impl LiveRows {
     pub(crate) fn undo_push(&mut self)
         requires rows { 0 < length self.old.later }
         requires flags { 0 < length self.old.flags }
-        ensures { self.new ≡ record { later = take (length self.old.later - 1) self.old.later; flags = take (length self.old.flags - 1) self.old.flags } }
+        ensures { self.new ≡ without_last self.old }
     {
         self.later.truncate(self.later.len() - 1);
         if self.flags.pop() == Some(false) {
@@ -191,9 +182,9 @@ impl LiveRows {
 
     /// A copy. Refused `NoMemory` alone.
     fn copied(&self, alloc: Global) -> Result<LiveRows, Refusal>
-        ensures { MatchResult result (λ live. live ≡ self.now) (λ e. e ≡ NoMemory) }
+        ensures { MemoryAside result (λ live. live ≡ self.now) }
     {
-        let Ok(later) = copy_of(alloc, &self.later) else {
+        let Ok(later) = self.later.part(alloc, 0, self.later.len()) else {
             return Err(Refusal::NoMemory);
         };
         let Ok(flags) = Vec::from_slice(alloc, self.flags.as_slice()) else {
@@ -208,9 +199,9 @@ impl LiveRows {
 
     /// A row comes, or that of a key goes, if it is there. Refused `NoMemory` alone, and then nothing is said of these rows.
     fn take(&mut self, load: &PackedRows, update: &Update) -> Result<(), Refusal>
-        requires standing { IsStanding load.now.items self.old }
+        requires standing { IsStandingOf load.now.items self.old }
         requires rise { Rises key_of (came_then (came_to load.now.items self.old) update.now) }
-        ensures { MatchResult result (λ _. IsNextStanding load.now.items update.now self.old self.new) (λ e. e ≡ NoMemory) }
+        ensures { MemoryAside result (λ _. IsNextStanding load.now.items update.now self.old self.new) }
     {
         match update {
             Update::Insert(row) => self.push(*row),
@@ -232,7 +223,7 @@ impl LiveRows {
     ) -> Result<LiveRows, Refusal>
         requires many { length self.now.flags ≡ length (came_to load.now.items self.now) }
         requires rise { Rises key_of (fold came_then (came_to load.now.items self.now) updates.now) }
-        ensures { MatchResult result (IsStandingAfter load.now.items updates.now self.now) (λ e. e ≡ NoMemory) }
+        ensures { MemoryAside result (IsStandingAfter load.now.items updates.now self.now) }
     {
         let mut live = self.copied(alloc)?;
         for update in updates {

@@ -1,10 +1,11 @@
 //! Making the maps that a query needs.
 
-ghost use Rattle.std.specs.Prelude.{◌≡◌, ◌≢◌, ◌<◌, ◌≤◌, ◌↔◌, false, length, All, Contains, IfErr, IsTrue, MatchResult, slice_index_or};
-ghost use Rattle.sw_rows.specs.declared.refusal.Refusal.TheVariants.{NoBlank};
+ghost use Rattle.std.specs.Prelude.{◌≡◌, ◌<◌, ◌↔◌, false, length, All, Contains, IfErr, IsTrue, slice_index_or};
 ghost use Rattle.sw_map.specs.Held.{Held};
-ghost use Rattle.sw_map.specs.Refusals.{IsBeginRefusal};
-ghost use Rattle.sw_set.specs.Prepared.{AreAllNeeded, AreNeededKept, IsFreshBut, IsHeld, IsPrepareRefusal, IsSameButBoxes, IsShort, IsSpare};
+ghost use Rattle.sw_set.specs.Prepared.{IsShort};
+ghost use Rattle.sw_set.specs.Boxed.{AreNeededKept, IsFreshBut, IsSameButBoxes};
+ghost use Rattle.sw_set.specs.Preparing.{HasMapOr, HasOneMoreOr, HasSpareOr, HaveMapsOr};
+ghost use Rattle.sw_set.specs.Sought.{AreAllNeeded, LacksMap};
 
 use crate::area::Area;
 use sw_map::{CrackerMap, Tail};
@@ -31,7 +32,7 @@ fn begin_again<M: CrackerMap>(
     requires some { 0 < cells }
     ensures same { IsSameButBoxes area.old area.new }
     ensures kept { AreNeededKept at tails.now area.old.boxes area.new.boxes }
-    ensures ends { MatchResult result (λ _. IsHeld tail cells area.new.boxes) (λ e. IsBeginRefusal cells e) }
+    ensures ends { HasMapOr result tail cells area.new.boxes }
     ensures spent { IfErr result (λ e. IsShort e → AreAllNeeded tails.now area.new.boxes) }
 {
     for _turn in 0..area.boxes() {
@@ -65,7 +66,7 @@ fn widen<M: CrackerMap>(
     requires more { (d : Held) → (slice_index_or area.old.boxes at d).cells < cells }
     ensures same { IsSameButBoxes area.old area.new }
     ensures kept { AreNeededKept at tails.now area.old.boxes area.new.boxes }
-    ensures ends { MatchResult result (λ _. IsHeld tail cells area.new.boxes) (λ e. IsBeginRefusal cells e) }
+    ensures ends { HasMapOr result tail cells area.new.boxes }
     ensures spent { IfErr result (λ e. IsShort e → AreAllNeeded tails.now area.new.boxes) }
 {
     if let Ok(true) = area.grow_at(at, cells) {
@@ -77,8 +78,8 @@ fn widen<M: CrackerMap>(
 /// A box for a map that the area lacks. Refused `NoBlank`, all boxes have needed maps, so there are fewer than are needed.
 fn take<M: CrackerMap>(area: &Area<M>, tails: &[Tail], tail: Tail) -> Result<usize, Refusal>
     requires needed { Contains tails.now tail }
-    requires lacks { All (λ m. m.is_blank ≡ false → m.tail ≢ tail) area.now.boxes }
-    ensures { MatchResult result (λ i. (i < length area.now.boxes) × ((d : Held) → IsSpare tails.now (slice_index_or area.now.boxes i d))) (λ e. (e ≡ NoBlank (length area.now.boxes) (length tails.now)) × (length area.now.boxes < length tails.now)) }
+    requires lacks { All (LacksMap tail) area.now.boxes }
+    ensures { HasSpareOr result tails.now area.now.boxes }
 {
     area.known();
     let Some(at) = area.spare(tails) else {
@@ -99,7 +100,7 @@ fn ensure_map<M: CrackerMap>(
     requires needed { Contains tails.now tail }
     requires some { 0 < cells }
     ensures same { IsSameButBoxes area.old area.new }
-    ensures ends { MatchResult result (λ _. IsHeld tail cells area.new.boxes × ((u : Tail) → Contains tails.now u → IsHeld u cells area.old.boxes → IsHeld u cells area.new.boxes)) (λ e. IsPrepareRefusal (length area.old.boxes) (length tails.now) cells e) }
+    ensures ends { HasOneMoreOr result tails.now tail cells area.old.boxes area.new.boxes }
     ensures spent { IfErr result (λ e. IsShort e → AreAllNeeded tails.now area.new.boxes) }
 {
     area.known();
@@ -121,7 +122,7 @@ pub(crate) fn make_all<M: CrackerMap>(
 ) -> Result<(), Refusal>
     requires some { 0 < cells }
     ensures same { IsSameButBoxes area.old area.new }
-    ensures ends { MatchResult result (λ _. All (λ t. IsHeld t cells area.new.boxes) tails.now) (λ e. IsPrepareRefusal (length area.old.boxes) (length tails.now) cells e) }
+    ensures ends { HaveMapsOr result tails.now cells area.old.boxes area.new.boxes }
     ensures spent { IfErr result (λ e. IsShort e → AreAllNeeded tails.now area.new.boxes) }
 {
     for i in 0..tails.len() {

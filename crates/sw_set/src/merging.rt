@@ -1,15 +1,19 @@
 //! Merging: the updates that wait are logged in the tape one after the other, or taken up by a load with which the area begins anew.
 
-ghost use Rattle.std.specs.Prelude.{◌≡◌, ◌<◌, ◌≤◌, ◌+◌, ◌-◌, [], true, false, fold, length, take, drop, MatchOption, MatchResult, slice_index_or, vec_capacity, vec_len};
+ghost use Rattle.std.specs.Prelude.{◌≡◌, ◌<◌, ◌≤◌, ◌+◌, [], true, false, length, drop, MatchOption, MatchResult, slice_index_or, vec_capacity, vec_len};
 ghost use Rattle.sw_table.specs.declared.row.Update.TheVariants.{Insert, Remove};
-ghost use Rattle.sw_rows.specs.declared.refusal.Refusal.TheVariants.{NoMemory};
-ghost use Rattle.sw_table.specs.Updates.{has_key, rows_then};
-ghost use Rattle.sw_kernel.specs.Tapes.{brought};
+ghost use Rattle.sw_table.specs.Updates.{has_key};
+ghost use Rattle.sw_rows.specs.Gives.{IsRefused};
 ghost use Rattle.sw_map.specs.declared.tail.Tail.TheVariants.{Key};
 ghost use Rattle.sw_map.specs.Held.{Held};
-ghost use Rattle.sw_set.specs.Merged.{GoesOn, IsAllMerged, IsBegunAnew, IsLoggedOrNot, IsMergedUpTo, IsPartlyMerged, IsRemovalLogged, IsSameShell, IsSameTape, IsStoppedAt, IsStretch, LacksKeys, StandsForSame};
-ghost use Rattle.sw_set.specs.Prepared.{IsReady, IsSameButBoxes};
-ghost use Rattle.sw_set.specs.Shelf.{AreReceivable, AreSameMaps, MayReceive, logged_rows};
+ghost use Rattle.sw_tape.specs.declared.tape.TheConstants.{MAX_ENTRIES};
+ghost use Rattle.sw_set.specs.Merged.{HasMergedOr, IsRemovalLogged, IsSameShell, LacksKeys, StandsForSame};
+ghost use Rattle.sw_set.specs.Merging.{HasBegunWithOr, HasMergedEachOr, HasMergedFromOr, IsLoggedOrNot, IsStretch};
+ghost use Rattle.sw_set.specs.Prepared.{IsReady};
+ghost use Rattle.sw_set.specs.Boxed.{IsSameButBoxes};
+ghost use Rattle.sw_set.specs.Shelf.{MayMerge, MayMergeAll, tape_rows};
+ghost use Rattle.sw_set.specs.Aligned.{AreSameMaps};
+ghost use Rattle.sw_set.specs.Sought.{IsAt};
 
 use crate::area::Area;
 use sw_map::{CrackerMap, Tail};
@@ -19,7 +23,7 @@ use sw_tape::MAX_ENTRIES;
 /// Logs a row that comes, and answers whether the tape had room for it. Refused `NoMemory`, nothing has changed.
 fn log_insertion<M: CrackerMap>(area: &mut Area<M>, row: Row) -> Result<bool, Refusal>
     requires received { area.old.inbox ≡ [] }
-    requires may { MayReceive area.old.attribute area.old.from area.old.below (brought area.old.tape) (logged_rows area.old.attribute area.old.tape) (Insert row) }
+    requires may { MayMerge (Insert row) area.old }
     ensures told { IsLoggedOrNot (Insert row) area.old area.new result }
     ensures nothing { MatchResult result (λ logged. logged ≡ false → area.new ≡ area.old) (λ _. area.new ≡ area.old) }
 {
@@ -36,7 +40,7 @@ fn log_insertion<M: CrackerMap>(area: &mut Area<M>, row: Row) -> Result<bool, Re
 fn aligned_keys<M: CrackerMap>(area: &mut Area<M>) -> Option<usize>
     ensures same { IsSameButBoxes area.old area.new }
     ensures maps { AreSameMaps area.old.boxes area.new.boxes }
-    ensures found { MatchOption result (LacksKeys area.old) (λ at. (at < length area.new.boxes) × ((d : Held) → IsReady Key area.new.tape (slice_index_or area.new.boxes at d))) }
+    ensures found { MatchOption result (LacksKeys area.old) (IsAt (IsReady Key area.new.tape) area.new.boxes) }
 {
     area.known();
     let Some(at) = area.with_map(Tail::Key) else {
@@ -54,12 +58,12 @@ fn aligned_keys<M: CrackerMap>(area: &mut Area<M>) -> Option<usize>
 /// Logs that the live row of a key goes, at the place that the key map in a box tells. Refused `NoMemory`, nothing has changed.
 fn log_at<M: CrackerMap>(area: &mut Area<M>, at: usize, key: u64) -> Result<(), Refusal>
     requires received { area.old.inbox ≡ [] }
-    requires room { length area.old.tape < 4096 }
-    requires live { has_key key (logged_rows area.old.attribute area.old.tape) ≡ true }
+    requires room { length area.old.tape < MAX_ENTRIES }
+    requires live { has_key key (tape_rows area.old) ≡ true }
     requires within { at < length area.old.boxes }
     requires ready { (d : Held) → IsReady Key area.old.tape (slice_index_or area.old.boxes at d) }
     ensures same { IsSameShell area.old area.new }
-    ensures ends { MatchResult result (λ _. IsRemovalLogged key area.old area.new) (λ e. (area.new ≡ area.old) × (e ≡ NoMemory)) }
+    ensures ends { MatchResult result (λ _. IsRemovalLogged key area.old area.new) (IsRefused area.old area.new) }
 {
     let place = area.place_of(at, key);
     area.log_removal(key, place)
@@ -69,7 +73,7 @@ fn log_at<M: CrackerMap>(area: &mut Area<M>, at: usize, key: u64) -> Result<(), 
 /// `NoMemory`, the tape is as it was, and the key map has perhaps gone further.
 fn log_removal<M: CrackerMap>(area: &mut Area<M>, key: u64) -> Result<bool, Refusal>
     requires received { area.old.inbox ≡ [] }
-    requires live { has_key key (logged_rows area.old.attribute area.old.tape) ≡ true }
+    requires live { has_key key (tape_rows area.old) ≡ true }
     ensures { IsLoggedOrNot (Remove key) area.old area.new result }
 {
     area.known();
@@ -87,7 +91,7 @@ fn log_removal<M: CrackerMap>(area: &mut Area<M>, key: u64) -> Result<bool, Refu
 /// has perhaps gone further.
 fn log_one<M: CrackerMap>(area: &mut Area<M>, update: Update) -> Result<bool, Refusal>
     requires received { area.old.inbox ≡ [] }
-    requires may { MayReceive area.old.attribute area.old.from area.old.below (brought area.old.tape) (logged_rows area.old.attribute area.old.tape) update }
+    requires may { MayMerge update area.old }
     ensures { IsLoggedOrNot update area.old area.new result }
 {
     match update {
@@ -117,9 +121,9 @@ fn begin_with<M: CrackerMap>(
 ) -> Result<usize, Refusal>
     requires received { area.old.inbox ≡ [] }
     requires within { at < length updates.now }
-    requires receivable { AreReceivable area.old.attribute area.old.from area.old.below (brought area.old.tape) (logged_rows area.old.attribute area.old.tape) (drop at updates.now) }
+    requires receivable { MayMergeAll (drop at updates.now) area.old }
     ensures same { IsSameShell area.old area.new }
-    ensures ends { MatchResult result (λ upto. IsStretch updates.now at upto × IsBegunAnew (fold rows_then (logged_rows area.old.attribute area.old.tape) (take (upto - at) (drop at updates.now))) area.new) (λ e. (e ≡ NoMemory) × (area.new ≡ area.old)) }
+    ensures ends { HasBegunWithOr result updates.now at area.old area.new }
 {
     let upto = end_of_stretch(updates, at);
     area.restart_after(&updates[at..upto])?;
@@ -135,9 +139,9 @@ fn merge_from<M: CrackerMap>(
 ) -> Result<usize, Refusal>
     requires received { area.old.inbox ≡ [] }
     requires within { at < length updates.now }
-    requires receivable { AreReceivable area.old.attribute area.old.from area.old.below (brought area.old.tape) (logged_rows area.old.attribute area.old.tape) (drop at updates.now) }
+    requires receivable { MayMergeAll (drop at updates.now) area.old }
     ensures same { IsSameShell area.old area.new }
-    ensures ends { MatchResult result (λ upto. (at < upto) × (upto ≤ length updates.now) × GoesOn updates.now at upto area.old area.new) (λ e. (e ≡ NoMemory) × IsSameTape area.old area.new) }
+    ensures ends { HasMergedFromOr result updates.now at area.old area.new }
 {
     area.known();
     if log_one(area, updates[at])? {
@@ -149,8 +153,8 @@ fn merge_from<M: CrackerMap>(
 /// Merges updates one after the other. A refusal stops it, and it answers how many are merged.
 fn merge_each<M: CrackerMap>(area: &mut Area<M>, updates: &[Update]) -> Result<(), usize>
     requires received { area.old.inbox ≡ [] }
-    requires receivable { AreReceivable area.old.attribute area.old.from area.old.below (brought area.old.tape) (logged_rows area.old.attribute area.old.tape) updates.now }
-    ensures { MatchResult result (λ _. IsMergedUpTo updates.now (length updates.now) area.old area.new) (λ many. IsStoppedAt updates.now many area.old area.new) }
+    requires receivable { MayMergeAll updates.now area.old }
+    ensures { HasMergedEachOr result updates.now area.old area.new }
 {
     let mut many = 0;
     while many < updates.len() {
@@ -182,7 +186,7 @@ impl<M: CrackerMap> Area<M> {
     /// rest waits.
     pub fn merge(&mut self) -> Result<(), Refusal>
         ensures same { StandsForSame self.old self.new }
-        ensures ends { MatchResult result (λ _. IsAllMerged self.old self.new) (λ e. (e ≡ NoMemory) × IsPartlyMerged self.old self.new) }
+        ensures ends { HasMergedOr result self.old self.new }
         ensures nothing { self.old.inbox ≡ [] → self.new ≡ self.old }
     {
         let mut waiting = self.take_inbox();

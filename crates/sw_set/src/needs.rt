@@ -1,10 +1,9 @@
 //! What a query asks of an area: whether it touches it, with which bounds, and which maps it needs.
 
-ghost use Rattle.std.specs.Prelude.{◌≡◌, ◌==◌, ◌++◌, ◌∷◌, [], filter, length, map, MatchResult};
+ghost use Rattle.std.specs.Prelude.{◌≡◌, ◌==◌, ◌++◌, ◌∷◌, [], length};
 ghost use Rattle.std.specs.List.{list_any};
-ghost use Rattle.sw_rows.specs.declared.refusal.Refusal.TheVariants.{NoMemory};
-ghost use Rattle.sw_map.specs.declared.tail.Tail.TheVariants.{Cell};
-ghost use Rattle.sw_set.specs.Needs.{edge, head_in, is_before, is_tested, is_wanted, lower_from, lower_in, needed, needs_cell, touches, upper_in, upper_upto};
+ghost use Rattle.sw_set.specs.Needs.{edge, is_tested, is_wanted, lower_from, lower_in, needed, needs_cell, spans, tails_for, touches, upper_in, upper_upto};
+ghost use Rattle.sw_set.specs.Outcomes.{MemoryAside};
 
 use smallvec::SmallVec;
 use std::alloc::Global;
@@ -25,8 +24,8 @@ pub(crate) fn edge(value: Option<i64>) -> Option<Bound>
 }
 
 /// Whether a range may begin at the one and end at the other, where no bound is no limit.
-fn is_before(lower: Option<Bound>, upper: Option<Bound>) -> bool
-    ensures { result ≡ is_before lower upper }
+fn spans(lower: Option<Bound>, upper: Option<Bound>) -> bool
+    ensures { result ≡ spans lower upper }
 {
     let Some(low) = lower else {
         return true;
@@ -46,7 +45,7 @@ pub(crate) fn touches(
 ) -> bool
     ensures { result ≡ touches start end lower upper }
 {
-    is_before(lower, upper) && (is_before(lower, end) && is_before(start, upper))
+    spans(lower, upper) && (spans(lower, end) && spans(start, upper))
 }
 
 /// The lower bound within an interval: one at or below its start counts as absent.
@@ -136,7 +135,7 @@ fn needs_cell(head: u8, query: &Query, attribute: u8) -> bool
 
 /// Adds the tail of an attribute's cells, if a query needs it. Refused `NoMemory` alone.
 fn add_tail(tails: &mut Tails, head: u8, query: &Query, attribute: u8) -> Result<(), Refusal>
-    ensures { MatchResult result (λ _. tails.new.items ≡ tails.old.items ++ map Cell (filter (needs_cell head query.now) (attribute ∷ []))) (λ e. e ≡ NoMemory) }
+    ensures { MemoryAside result (λ _. tails.new.items ≡ tails.old.items ++ tails_for head query.now (attribute ∷ [])) }
 {
     if !needs_cell(head, query, attribute) {
         return Ok(());
@@ -150,7 +149,7 @@ fn add_tail(tails: &mut Tails, head: u8, query: &Query, attribute: u8) -> Result
 /// The tails of the maps that a query needs, in the order in which they are made: the key, then the attributes by number.
 /// Refused `NoMemory` alone.
 pub(crate) fn needed_tails(alloc: Global, head: u8, query: &Query) -> Result<Tails, Refusal>
-    ensures { MatchResult result (λ tails. tails.items ≡ needed head query.now) (λ e. e ≡ NoMemory) }
+    ensures { MemoryAside result (λ tails. tails.items ≡ needed head query.now) }
 {
     let mut tails = Tails::new(alloc);
     if tails.push(Tail::Key).is_err() {

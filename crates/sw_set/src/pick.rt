@@ -1,15 +1,14 @@
 //! Which box: looks over the boxes of an area.
 
-ghost use Rattle.std.specs.Prelude.{◌≡◌, ◌≢◌, ◌<◌, ◌⊎◌, false, true, length, All, Contains, MatchOption, IfSome, Some, slice_index_or};
+ghost use Rattle.std.specs.Prelude.{◌≡◌, ◌⊎◌, false, true, Contains, Some};
+ghost use Rattle.sw_set.specs.Sought.{FindsUnless, HoldsMap, IsNeededIfMap, IsUnneeded, LacksMap};
 
 use crate::align::is_needed;
 use sw_map::{CrackerMap, Tail};
 
 /// The box that has a map of the tail.
 pub(crate) fn find_map<M: CrackerMap>(boxes: &[M], tail: Tail) -> Option<usize>
-    ensures { MatchOption result
-        (All (λ m. (M.held m).is_blank ≡ false → (M.held m).tail ≢ tail) boxes.now)
-        (λ i. (i < length boxes.now) × ((d : M) → ((M.held (slice_index_or boxes.now i d)).is_blank ≡ false) × ((M.held (slice_index_or boxes.now i d)).tail ≡ tail))) }
+    ensures { FindsUnless (λ m. LacksMap tail (M.held m)) (λ m. HoldsMap tail (M.held m)) boxes.now result }
 {
     for i in 0..boxes.len() {
         if !boxes[i].is_blank() && boxes[i].tail() == tail {
@@ -21,9 +20,7 @@ pub(crate) fn find_map<M: CrackerMap>(boxes: &[M], tail: Tail) -> Option<usize>
 
 /// The first blank box.
 pub(crate) fn find_blank<M: CrackerMap>(boxes: &[M]) -> Option<usize>
-    ensures { MatchOption result
-        (All (λ m. (M.held m).is_blank ≡ false) boxes.now)
-        (λ i. (i < length boxes.now) × ((d : M) → (M.held (slice_index_or boxes.now i d)).is_blank ≡ true)) }
+    ensures { FindsUnless (λ m. (M.held m).is_blank ≡ false) (λ m. (M.held m).is_blank ≡ true) boxes.now result }
 {
     for i in 0..boxes.len() {
         if boxes[i].is_blank() {
@@ -51,9 +48,8 @@ pub(crate) fn find_unneeded<M: CrackerMap>(
     stamps: &[u64],
     tails: &[Tail],
 ) -> Option<usize>
-    ensures { MatchOption result
-        (All (λ m. Contains tails.now (M.held m).tail) boxes.now)
-        (λ i. (i < length boxes.now) × ((d : M) → ¬ Contains tails.now (M.held (slice_index_or boxes.now i d)).tail)) }
+    ensures { FindsUnless
+        (λ m. Contains tails.now (M.held m).tail) (λ m. ¬ Contains tails.now (M.held m).tail) boxes.now result }
 {
     let mut best: Option<usize> = None;
     for at in 0..boxes.len() {
@@ -66,8 +62,8 @@ pub(crate) fn find_unneeded<M: CrackerMap>(
 
 /// Whether a box has a lease for a map that the tails lack.
 fn is_leased<M: CrackerMap>(it: &M, tails: &[Tail]) -> bool
-    ensures free { result ≡ true → ((M.held it.now).is_blank ≡ false) × ¬ Contains tails.now (M.held it.now).tail }
-    ensures other { result ≡ false → (M.held it.now).is_blank ≡ false → Contains tails.now (M.held it.now).tail }
+    ensures free { result ≡ true → IsUnneeded tails.now (M.held it.now) }
+    ensures other { result ≡ false → IsNeededIfMap tails.now (M.held it.now) }
 {
     !it.is_blank() && !is_needed(tails, it.tail())
 }
@@ -78,9 +74,8 @@ pub(crate) fn find_leased<M: CrackerMap>(
     stamps: &[u64],
     tails: &[Tail],
 ) -> Option<usize>
-    ensures { MatchOption result
-        (All (λ m. (M.held m).is_blank ≡ false → Contains tails.now (M.held m).tail) boxes.now)
-        (λ i. (i < length boxes.now) × ((d : M) → ((M.held (slice_index_or boxes.now i d)).is_blank ≡ false) × ¬ Contains tails.now (M.held (slice_index_or boxes.now i d)).tail)) }
+    ensures { FindsUnless
+        (λ m. IsNeededIfMap tails.now (M.held m)) (λ m. IsUnneeded tails.now (M.held m)) boxes.now result }
 {
     let mut best: Option<usize> = None;
     for at in 0..boxes.len() {

@@ -1,17 +1,16 @@
 //! Where a row's pair stands in the key map.
 
-ghost use Rattle.std.specs.Prelude.{◌≡◌, ℕ, ◌<◌, ◌≤◌, pos, length, slice_range, slice_index_or, unsigned_abs, Any, Contains};
+ghost use Rattle.std.specs.Prelude.{◌≡◌, ℕ, ◌<◌, ◌≤◌, pos, length, slice_range, slice_index_or, unsigned_abs, Contains};
 ghost use Rattle.sw_table.specs.declared.row.Row.{Row};
-ghost use Rattle.sw_rows.specs.Scan.{cell_of};
 ghost use Rattle.sw_kernel.specs.Arrangement.{joined};
 ghost use Rattle.sw_kernel.specs.Tapes.{IsTape, brought};
 ghost use Rattle.sw_map.specs.Held.{Held, pairs_in};
 ghost use Rattle.sw_map.specs.Lawful.{IsAligned, rows_by};
 ghost use Rattle.sw_map.specs.declared.tail.Tail.TheVariants.{Key};
 ghost use Rattle.sw_set.specs.Choice.{side_in};
-ghost use Rattle.sw_set.specs.Position.{HasPlace};
-ghost use Rattle.sw_set.specs.Prepared.{IsFoundAt};
-ghost use Rattle.sw_set.specs.Shelf.{Rises, key_of, logged_rows};
+ghost use Rattle.sw_set.specs.Position.{HasCrackedAt, HasRowWith};
+ghost use Rattle.sw_set.specs.Boxed.{IsFoundAt};
+ghost use Rattle.sw_set.specs.Shelf.{Rises, key_of};
 ghost use Rattle.sw_set.specs.declared.window.Side.TheVariants.{Tail};
 
 use crate::window::{Side, value_at};
@@ -21,7 +20,7 @@ use sw_tape::Tape;
 
 /// Where a bound that the map has cracked at stands; an absent one stands at a given place.
 fn place_in<M: CrackerMap>(it: &M, bound: Option<Bound>, absent: usize) -> usize
-    requires { HasPlace bound (M.held it.now) }
+    requires { HasCrackedAt bound (M.held it.now) }
     ensures { IsFoundAt bound absent (M.held it.now) result }
 {
     let Some(bound) = bound else {
@@ -56,7 +55,7 @@ pub(crate) fn place_of_row<M: CrackerMap>(it: &M, tape: &Tape, value: i64, key: 
     requires ended { (M.held it.now).cursor ≡ length tape.now }
     requires tail { (M.held it.now).tail ≡ Key }
     requires rise { Rises key_of (brought tape.now) }
-    requires live { Any (λ (r : Row). (r.key ≡ key) × (cell_of (M.held it.now).head r ≡ value)) (logged_rows (M.held it.now).head tape.now) }
+    requires live { HasRowWith key value (M.held it.now).head tape.now }
     ensures within { result < length (joined (rows_by (M.held it.now).head tape.now)) }
     ensures key { (d : Row) → (slice_index_or (joined (rows_by (M.held it.now).head tape.now)) result d).key ≡ key }
 {

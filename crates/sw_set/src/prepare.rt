@@ -1,17 +1,17 @@
 //! Preparing an area for a query: the range is logged, the maps that are needed are made and aligned, and the places of the
 //! range's bounds are found.
 
-ghost use Rattle.std.specs.Prelude.{◌≡◌, ℕ, ◌<◌, ◌≤◌, ◌^◌, ◌&&◌, ◌⊎◌, ◌∷◌, [], true, length, false, All, Any, Contains, IfErr, IfOk, IsErr, IsOk, IsOkUnless, MatchResult, slice_index_or};
+ghost use Rattle.std.specs.Prelude.{◌≡◌, ℕ, ◌<◌, ◌≤◌, ◌^◌, [], true, length, false, Contains, IfErr, IfOk, IsErr, IsOk, IsOkUnless, slice_index_or};
 ghost use Rattle.sw_rows.specs.Scan.{AsksBelow, answer};
 ghost use Rattle.sw_rows.specs.declared.refusal.Refusal.TheVariants.{NoMemory};
-ghost use Rattle.sw_kernel.specs.Replay.{loaded};
-ghost use Rattle.sw_kernel.specs.Tapes.{peak_from};
-ghost use Rattle.sw_map.specs.declared.tail.Tail.{Tail};
 ghost use Rattle.sw_map.specs.declared.tail.Tail.TheVariants.{Key};
 ghost use Rattle.sw_map.specs.Held.{Held};
-ghost use Rattle.sw_set.specs.Needs.{head_in, needed};
-ghost use Rattle.sw_set.specs.Prepared.{AreAllNeeded, HasTooFew, IsBegunFor, IsFoundAt, IsHeld, IsHindered, IsNoBlank, IsNoted, IsNotedFor, IsPartlyNoted, IsPrepareRefusal, IsPrepared, IsPreparedFor, IsReady, IsShort, IsTold, area_lower, area_upper, cells_for, is_touched, stands_if};
-ghost use Rattle.sw_set.specs.Shelf.{IsAtEnd, IsSameArea, logged_rows, rows_in};
+ghost use Rattle.sw_set.specs.Needs.{head_in};
+ghost use Rattle.sw_set.specs.Prepared.{HasTooFew, IsHindered, IsNoBlank, IsPartlyNoted, IsPrepared, IsShort, IsTold, StandReady, cells_for, is_touched, stand_both};
+ghost use Rattle.sw_set.specs.Boxed.{IsFoundAt};
+ghost use Rattle.sw_set.specs.Preparing.{HasNotedOr, HasPreparedOr, HasRangedOr};
+ghost use Rattle.sw_set.specs.Shelf.{IsSameArea, rows_in};
+ghost use Rattle.sw_set.specs.Sought.{AreAllNeeded};
 
 use crate::area::Area;
 use crate::making::make_all;
@@ -32,7 +32,7 @@ pub struct Ready {
 
 /// Whether both bounds, where they are there, stand in ranges of the tape.
 fn all_stand<M: CrackerMap>(area: &Area<M>, lower: Option<Bound>, upper: Option<Bound>) -> bool
-    ensures { result ≡ stands_if lower area.now.tape && stands_if upper area.now.tape }
+    ensures { result ≡ stand_both lower upper area.now.tape }
 {
     area.stands(lower) && area.stands(upper)
 }
@@ -45,7 +45,7 @@ fn note<M: CrackerMap>(
     upper: Option<Bound>,
 ) -> Result<(), Refusal>
     ensures same { IsSameArea area.old area.new }
-    ensures ends { MatchResult result (λ _. IsNoted lower upper (logged_rows area.old.attribute area.old.tape) area.old.tape area.new.tape) (λ e. (e ≡ NoMemory) × ((area.new.tape ≡ area.old.tape) ⊎ IsBegunFor lower upper (logged_rows area.old.attribute area.old.tape) area.old.tape area.new.tape)) }
+    ensures ends { HasNotedOr result lower upper area.old area.new }
 {
     area.known();
     if all_stand(area, lower, upper) {
@@ -89,9 +89,9 @@ fn range_of<M: CrackerMap>(
     upper: Option<Bound>,
     tails: &[Tail],
 ) -> Ready
-    requires maps { (t : Tail) → Contains tails.now t → Any (IsReady t area.now.tape) area.now.boxes }
+    requires maps { StandReady tails.now area.now.tape area.now.boxes }
     requires key { Contains tails.now Key }
-    requires stand { stands_if lower area.now.tape && stands_if upper area.now.tape ≡ true }
+    requires stand { stand_both lower upper area.now.tape ≡ true }
     ensures { IsPrepared lower upper tails.now area.now result.from result.upto }
 {
     area.known();
@@ -116,7 +116,7 @@ fn prepare_range<R: Threads + Sync, M: CrackerMap>(
     ensures counted { IfErr result (λ e. IsNoBlank e → area.new ≡ area.old) }
     ensures spent { IfErr result (λ e. IsShort e → AreAllNeeded tails.now area.new.boxes) }
     ensures same { IsSameArea area.old area.new }
-    ensures ends { MatchResult result (λ r. IsNoted lower upper (logged_rows area.old.attribute area.old.tape) area.old.tape area.new.tape × IsPrepared lower upper tails.now area.new r.from r.upto) (λ e. ((area.new.tape ≡ area.old.tape) ⊎ (IsNoted lower upper (logged_rows area.old.attribute area.old.tape) area.old.tape area.new.tape ⊎ IsBegunFor lower upper (logged_rows area.old.attribute area.old.tape) area.old.tape area.new.tape)) × IsPrepareRefusal (length area.old.boxes) (length tails.now) (cells_for (peak_from 0 area.new.tape)) e) }
+    ensures ends { HasRangedOr result lower upper tails.now area.old area.new }
 {
     area.known();
     note(area, lower, upper)?;
@@ -152,7 +152,7 @@ impl<M: CrackerMap> Area<M> {
         ensures hindered { IfErr result (IsHindered query.now self.old self.new) }
         ensures counted { IfErr result (λ e. IsNoBlank e → self.new ≡ self.old) }
         ensures same { IsSameArea self.old self.new }
-        ensures ends { MatchResult result (λ r. IsNotedFor query.now self.old self.new.tape × IsPreparedFor query.now self.new r.from r.upto) (λ e. IsPartlyNoted query.now self.old self.new.tape × IsPrepareRefusal (length self.old.boxes) (length (needed self.old.attribute query.now)) (cells_for (peak_from 0 self.new.tape)) e) }
+        ensures ends { HasPreparedOr result query.now self.old self.new }
     {
         self.tick();
         if !self.touches(query) {

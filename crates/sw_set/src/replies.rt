@@ -1,20 +1,21 @@
 //! The rows of a reply, put together by place and in key order.
 
-ghost use Rattle.std.specs.Prelude.{◌≡◌, ℕ, ℤ, pos, ◌+◌, ◌<◌, ◌^◌, ◌≤ℤ◌, ◌++◌, ◌∷◌, [], List, map, length, All, IfOk, IsOkUnless, MatchResult, IsPermutation};
+ghost use Rattle.std.specs.Prelude.{◌≡◌, ℕ, ℤ, pos, ◌+◌, ◌<◌, ◌^◌, ◌≤ℤ◌, ◌++◌, ◌∷◌, [], map, length, All, IsPermutation};
 ghost use Rattle.std.specs.List.Sorted.{IsNonDecreasingBy};
-ghost use Rattle.sw_rows.specs.declared.refusal.Refusal.TheVariants.{NoMemory};
-ghost use Rattle.sw_set.specs.Choice.{IsInside, chosen, column_at, placed, row_in, value_in};
+ghost use Rattle.sw_rows.specs.Replies.{reply_row};
+ghost use Rattle.sw_set.specs.Choice.{HavePlace, chosen, placed, row_in, values_shown};
+ghost use Rattle.sw_set.specs.Outcomes.{MemoryAside};
 
 use crate::choice::Choice;
 use crate::window::{Column, Window, value_at};
 use std::alloc::Global;
 use sw_map::CrackerMap;
-use sw_rows::{Cells, Refusal, ReplyRow, ReplyRows};
+use sw_rows::{Cells, Refusal, ReplyRows};
 use sw_slots::sort_dense;
 
 /// Adds a key and the place of its row.
 fn push_found(found: &mut Vec<(u64, usize)>, key: u64, place: usize) -> Result<(), Refusal>
-    ensures { MatchResult result (λ _. found.new.items ≡ found.old.items ++ (key, place) ∷ []) (λ e. e ≡ NoMemory) }
+    ensures { MemoryAside result (λ _. found.new.items ≡ found.old.items ++ (key, place) ∷ []) }
 {
     match found.push((key, place)) {
         Ok(()) => Ok(()),
@@ -24,7 +25,7 @@ fn push_found(found: &mut Vec<(u64, usize)>, key: u64, place: usize) -> Result<(
 
 /// An empty list with room for so many keys.
 fn room_for(alloc: Global, many: usize) -> Result<Vec<(u64, usize)>, Refusal>
-    ensures { MatchResult result (λ found. found.items ≡ []) (λ e. e ≡ NoMemory) }
+    ensures { MemoryAside result (λ found. found.items ≡ []) }
 {
     match Vec::with_capacity(alloc, many) {
         Ok(found) => Ok(found),
@@ -41,7 +42,7 @@ pub(crate) fn found_keys<M: CrackerMap>(
 ) -> Result<Vec<(u64, usize)>, Refusal>
     requires whole { All (λ (k : ℤ). pos 0 ≤ℤ k) keys.old }
     requires fits { from + length keys.old < 2 ^ 64 }
-    ensures { MatchResult result (λ found. found.items ≡ chosen choice.now.bits (placed from keys.old)) (λ e. e ≡ NoMemory) }
+    ensures { MemoryAside result (λ found. found.items ≡ chosen choice.now.bits (placed from keys.old)) }
 {
     let mut found = room_for(alloc, choice.count(keys.len()))?;
     for place in 0..keys.len() {
@@ -65,7 +66,7 @@ pub(crate) fn sort_by_key(alloc: Global, found: &mut Vec<(u64, usize)>)
 
 /// Adds a cell.
 fn push_cell(cells: &mut Cells, cell: i64) -> Result<(), Refusal>
-    ensures { MatchResult result (λ _. cells.new ≡ cells.old ++ cell ∷ []) (λ e. e ≡ NoMemory) }
+    ensures { MemoryAside result (λ _. cells.new ≡ cells.old ++ cell ∷ []) }
 {
     match cells.push(cell) {
         Ok(()) => Ok(()),
@@ -82,8 +83,8 @@ fn cells_at<M: CrackerMap>(
     place: usize,
 ) -> Result<Cells, Refusal>
     requires few { All (λ (a : ℕ). a < 8) names.now }
-    requires inside { All (λ (a : ℕ). IsInside (map M.held boxes.now) (place + 1) (column_at columns.now a)) names.now }
-    ensures { MatchResult result (λ cells. cells ≡ map (λ a. value_in (map M.held boxes.now) (column_at columns.now a) place) names.now) (λ e. e ≡ NoMemory) }
+    requires inside { HavePlace (map M.held boxes.now) columns.now names.now place }
+    ensures { MemoryAside result (λ cells. cells ≡ values_shown (map M.held boxes.now) columns.now names.now place) }
 {
     let mut cells = Cells::new(alloc);
     for name in names {
@@ -95,9 +96,9 @@ fn cells_at<M: CrackerMap>(
 
 /// Adds a row.
 fn push_row(rows: &mut ReplyRows, key: u64, cells: Cells) -> Result<(), Refusal>
-    ensures { MatchResult result (λ _. rows.new ≡ rows.old ++ record { key = key; cells = cells } ∷ []) (λ e. e ≡ NoMemory) }
+    ensures { MemoryAside result (λ _. rows.new ≡ rows.old ++ reply_row key cells ∷ []) }
 {
-    match rows.push(ReplyRow { key, cells }) {
+    match rows.push(key, cells.as_slice()) {
         Ok(()) => Ok(()),
         Err(_) => Err(Refusal::NoMemory),
     }
@@ -112,8 +113,8 @@ pub(crate) fn rows_at<M: CrackerMap>(
     found: &[(u64, usize)],
 ) -> Result<ReplyRows, Refusal>
     requires few { All (λ (a : ℕ). a < 8) names.now }
-    requires inside { All (λ (p : ℕ × ℕ). All (λ (a : ℕ). IsInside (map M.held boxes.now) (p.1 + 1) (column_at columns.now a)) names.now) found.now }
-    ensures { MatchResult result (λ rows. rows ≡ map (row_in (map M.held boxes.now) columns.now names.now) found.now) (λ e. e ≡ NoMemory) }
+    requires inside { All (λ (p : ℕ × ℕ). HavePlace (map M.held boxes.now) columns.now names.now p.1) found.now }
+    ensures { MemoryAside result (λ rows. rows ≡ map (row_in (map M.held boxes.now) columns.now names.now) found.now) }
 {
     let mut rows = ReplyRows::new(alloc);
     for (key, place) in found {

@@ -2,7 +2,7 @@
 
 ghost use Rattle.std.specs.Prelude.{◌≡◌, ℕ, ◌+◌, ◌-◌, ◌<◌, ◌≤◌, ℤ, pos, List, length, slice_range, slice_index_or};
 ghost use Rattle.sw_map.specs.Held.{Held, pairs_in};
-ghost use Rattle.sw_set.specs.Choice.{side_in, IsBlock};
+ghost use Rattle.sw_set.specs.Choice.{side_in};
 ghost use Rattle.sw_set.specs.declared.window.Side.TheVariants.{Head};
 
 use std::marker::Model;
@@ -74,15 +74,17 @@ pub(crate) struct Window<'a, M: CrackerMap> {
 }
 
 impl<'a, M: CrackerMap> Model for Window<'a, M> {
-    ghost use Rattle.std.specs.Prelude.{◌+◌, ◌<◌, ◌≤◌, ◌^◌, List, ℤ, slice_range};
+    ghost use Rattle.std.specs.Prelude.{◌+◌, ◌<◌, ◌≤◌, ◌^◌, List, ℤ};
     ghost use Rattle.sw_map.specs.Held.{pairs_in};
-    ghost use Rattle.sw_set.specs.Choice.{side_in, IsBlock};
+    ghost use Rattle.sw_set.specs.Choice.{IsBlock, values_from};
 
     ghost Value = { List ℤ };
 
-    ghost view = { λ w. slice_range (side_in w.side (M.held w.map.now)) w.from (w.from + w.len) };
+    ghost view = { λ w. values_from w.side (M.held w.map.now) w.from w.len };
 
-    ghost invariant = { λ w. (w.from + w.len ≤ pairs_in (M.held w.map.now)) × (w.from + w.len < 2 ^ 64) × IsBlock w.block w.start w.end (slice_range (side_in w.side (M.held w.map.now)) w.from (w.from + w.len)) };
+    ghost invariant = { λ w.
+        (w.from + w.len ≤ pairs_in (M.held w.map.now)) × (w.from + w.len < 2 ^ 64)
+        × IsBlock w.block w.start w.end (values_from w.side (M.held w.map.now) w.from w.len) };
 }
 
 impl<'a, M: CrackerMap> Window<'a, M> {

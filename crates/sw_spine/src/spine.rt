@@ -1,13 +1,14 @@
 //! The spine.
 
-ghost use Rattle.std.specs.Prelude.{ℕ, ◌≡◌, ◌<◌, ◌≤◌, ◌-◌, ◌++◌, ◌∷◌, [], true, false, Some, None, drop, length, slice_index_or, slice_set, IfErr, IfOk, IfSome, IsSome, IsSomeAnd, MatchResult, OnErr, OnOk};
+ghost use Rattle.std.specs.Prelude.{ℕ, ◌≡◌, ◌<◌, ◌≤◌, ◌-◌, ◌++◌, [], true, false, Some, None, drop, length, slice_index_or, slice_set, IfErr, IfOk, IfSome, IsSome, IsSomeAnd, MatchResult, OnErr, OnOk};
 ghost use Rattle.sw_rows.specs.Scan.{AsksBelow};
 ghost use Rattle.sw_rows.specs.declared.query.Call.TheVariants.{Select, Insert, Delete};
 ghost use Rattle.sw_spine.specs.Table.{inserted, is_numbered, removed, reply_to, updates_then};
 ghost use Rattle.sw_spine.specs.History.{IsLegal, IsSound, all_given, is_absent, is_select, mine, open_place, settled};
 ghost use Rattle.sw_spine.specs.Receivable.{AreUpdates};
 ghost use Rattle.sw_spine.specs.Rest.{none_open};
-ghost use Rattle.sw_spine.specs.Books.{IsCount, KeepsOtherHeads, KeepsOthers, KeepsTaken, RefusesEntry, RefusesRows, RefusesSession, history_of, is_opened, new_books, reply_now, took, untaken, updates, waits_for, with_answered, with_open, with_published, with_session, with_settled};
+ghost use Rattle.sw_rows.specs.declared.table.TheConstants.{MOST_ROWS};
+ghost use Rattle.sw_spine.specs.Books.{HasAnswered, HasBegun, HasOneMore, IsCount, IsNewSpine, IsNotBegun, IsRefusedBy, KeepsOtherHeads, KeepsOthers, KeepsTaken, Opens, RefusesEntry, RefusesRows, RefusesSession, history_of, is_opened, took, untaken, updates, waits_for, with_open, with_published, with_settled};
 ghost use Rattle.sw_spine.specs.declared.history.State.TheVariants.{Answered, Void};
 
 use crate::history::{Entry, Record, State};
@@ -47,7 +48,10 @@ impl Model for Spine {
 
     ghost view = { λ s. books_of s.schema s.store s.entries.items s.taken s.sessions s.published };
 
-    ghost invariant = { λ s. IsSpine (books_of s.schema s.store s.entries.items s.taken s.sessions s.published) s.store.later s.places.items };
+    ghost invariant = { λ s. IsSpine
+        (books_of s.schema s.store s.entries.items s.taken s.sessions s.published)
+        s.store.later
+        s.places.items };
 }
 
 /// The reply to an insert, by the key that was given.
@@ -97,9 +101,9 @@ impl Spine {
         limit: u64,
     ) -> Result<Spine, Refusal>
         requires some { 0 < limit }
-        requires most { limit ≤ 1048576 }
+        requires most { limit ≤ MOST_ROWS }
         requires numbered { is_numbered 1 rows.items ≡ true }
-        ensures { MatchResult result (λ s. (length rows.items ≤ limit) × (s ≡ new_books schema rows.items limit)) (RefusesRows limit rows.items) }
+        ensures { MatchResult result (IsNewSpine schema rows.items limit) (RefusesRows limit rows.items) }
     {
         if rows.len() as u64 > limit {
             return Err(Refusal::TooMany { limit });
@@ -123,7 +127,7 @@ impl Spine {
     ///
     /// Refused `TooMany` of limit 1,024 where that many were opened, `NoMemory` otherwise; after a refusal nothing has changed.
     pub fn open_session(&mut self) -> Result<u64, Refusal>
-        ensures opened { MatchResult result (λ n. (n ≡ self.new.sessions) × (self.old.sessions < 1024) × (self.new ≡ with_session self.old)) (λ e. (self.new ≡ self.old) × RefusesSession self.old e) }
+        ensures opened { MatchResult result (Opens self.old self.new) (IsRefusedBy RefusesSession self.old self.new) }
         ensures begun { IfOk result (λ n. (mine n self.new.entries ≡ []) × (waits_for n self.new ≡ None)) }
     {
         if self.places.len() == MOST_SESSIONS {
@@ -190,8 +194,8 @@ impl Spine {
         requires head { head < 8 }
         ensures begun { OnOk result (self.new ≡ with_open session query head self.old) }
         ensures inbox { OnOk result (inbox.new.items ≡ inbox.old.items ++ untaken head self.old) }
-        ensures room { OnOk result (length self.old.entries < 1048576) }
-        ensures refused { IfErr result (λ e. (self.new ≡ self.old) × (inbox.new.items ≡ inbox.old.items) × RefusesEntry self.old e) }
+        ensures room { OnOk result (length self.old.entries < MOST_ENTRIES) }
+        ensures refused { IfErr result (IsNotBegun self.old self.new inbox.old.items inbox.new.items) }
 
         // What follows of the books.
         ensures waits { OnOk result (waits_for session self.new ≡ Some (Select query, updates self.old)) }
@@ -224,8 +228,8 @@ impl Spine {
         requires rest { waits_for session self.old ≡ None }
         requires asks { AsksBelow (length self.old.columns) query }
         requires head { head < 8 }
-        requires room { length self.old.entries < 1048576 }
-        ensures ok { OnOk result ((self.new ≡ with_open session query head self.old) × (inbox.new.items ≡ inbox.old.items ++ untaken head self.old)) }
+        requires room { length self.old.entries < MOST_ENTRIES }
+        ensures ok { OnOk result (HasBegun session query head self.old self.new inbox.old.items inbox.new.items) }
         ensures err { OnErr result ((self.new ≡ self.old) × (inbox.new.items ≡ inbox.old.items)) }
     {
         self.entries.reserve(1)?;
@@ -253,7 +257,7 @@ impl Spine {
 
         // What follows of the books.
         ensures rest { waits_for session self.new ≡ None }
-        ensures mine { IfSome (waits_for session self.old) (λ w. mine session self.new.entries ≡ mine session self.old.entries ++ (w.0, reply) ∷ []) }
+        ensures mine { IfSome (waits_for session self.old) (λ w. HasOneMore session self.old self.new w.0 reply) }
         ensures others { KeepsOthers session self.old self.new }
         ensures updates { updates self.new ≡ updates self.old }
         ensures taken { KeepsTaken self.old self.new }
@@ -292,13 +296,13 @@ impl Spine {
         requires opened { is_opened session self.old ≡ true }
         requires rest { waits_for session self.old ≡ None }
         requires changes { is_select call ≡ false }
-        ensures committed { IfOk result (λ reply. (reply ≡ reply_now call self.old) × (self.new ≡ with_answered session call self.old)) }
-        ensures room { OnOk result (length self.old.entries < 1048576) }
-        ensures refused { IfErr result (λ e. (self.new ≡ self.old) × RefusesEntry self.old e) }
+        ensures committed { IfOk result (HasAnswered session call self.old self.new) }
+        ensures room { OnOk result (length self.old.entries < MOST_ENTRIES) }
+        ensures refused { IfErr result (IsRefusedBy RefusesEntry self.old self.new) }
 
         // What follows of the books.
         ensures rest { waits_for session self.new ≡ None }
-        ensures mine { IfOk result (λ reply. mine session self.new.entries ≡ mine session self.old.entries ++ (call, reply) ∷ []) }
+        ensures mine { IfOk result (HasOneMore session self.old self.new call) }
         ensures others { KeepsOthers session self.old self.new }
         ensures updates { OnOk result (updates self.new ≡ updates_then self.old.limit (updates self.old) call) }
         ensures taken { KeepsTaken self.old self.new }
@@ -318,8 +322,8 @@ impl Spine {
         requires opened { is_opened session self.old ≡ true }
         requires rest { waits_for session self.old ≡ None }
         requires changes { is_select call ≡ false }
-        requires room { length self.old.entries < 1048576 }
-        ensures { MatchResult result (λ reply. (reply ≡ reply_now call self.old) × (self.new ≡ with_answered session call self.old)) (λ _. self.new ≡ self.old) }
+        requires room { length self.old.entries < MOST_ENTRIES }
+        ensures { MatchResult result (HasAnswered session call self.old self.new) (λ _. self.new ≡ self.old) }
     {
         match call {
             Call::Insert(cells) => self.insert(session, cells),
@@ -331,8 +335,8 @@ impl Spine {
     fn insert(&mut self, session: u64, cells: [i64; 8]) -> Result<Reply, AllocError>
         requires opened { is_opened session self.old ≡ true }
         requires rest { waits_for session self.old ≡ None }
-        requires room { length self.old.entries < 1048576 }
-        ensures { MatchResult result (λ reply. (reply ≡ reply_now (Insert cells) self.old) × (self.new ≡ with_answered session (Insert cells) self.old)) (λ _. self.new ≡ self.old) }
+        requires room { length self.old.entries < MOST_ENTRIES }
+        ensures { MatchResult result (HasAnswered session (Insert cells) self.old self.new) (λ _. self.new ≡ self.old) }
     {
         self.entries.reserve(1)?;
         let given = self.store.insert(cells)?;
@@ -347,8 +351,8 @@ impl Spine {
     fn delete(&mut self, session: u64, key: u64) -> Result<Reply, AllocError>
         requires opened { is_opened session self.old ≡ true }
         requires rest { waits_for session self.old ≡ None }
-        requires room { length self.old.entries < 1048576 }
-        ensures { MatchResult result (λ reply. (reply ≡ reply_now (Delete key) self.old) × (self.new ≡ with_answered session (Delete key) self.old)) (λ _. self.new ≡ self.old) }
+        requires room { length self.old.entries < MOST_ENTRIES }
+        ensures { MatchResult result (HasAnswered session (Delete key) self.old self.new) (λ _. self.new ≡ self.old) }
     {
         self.entries.reserve(1)?;
         let found = self.store.delete(key)?;

@@ -1,5 +1,5 @@
 -- The keys 1, 2, 3 and so on.
-use Rattle.std.proofs.Common.{◌≡◌, ◌≤◌, take, drop, refl, ◌≢◌, ◌∙◌, ap, sym, subst, ℕ, zero, suc, ◌+◌, ◌<◌, List, [], ◌∷◌, ◌++◌, length, get_or, All, MatchOption, Option, None, Some, ◌⊎◌, arith}
+use Rattle.std.proofs.Common.{◌≡◌, ◌≤◌, take, drop, refl, ◌≢◌, ◌∙◌, ap, sym, subst, ℕ, zero, suc, ◌+◌, ◌<◌, List, [], ◌∷◌, ◌++◌, length, map, get_or, All, MatchOption, Option, None, Some, ◌⊎◌, arith}
 use Rattle.std.specs.List.{range_with_len}
 use Rattle.std.proofs.Math.Seq.{take-add}
 use Rattle.std.proofs.lemmas.List.FromFn.{get_or-range_with_len, length-range_with_len}
@@ -42,3 +42,16 @@ numbers-cut a (suc k) (suc n) le = ap (λ v. a ∷ v) (numbers-cut (a + 1) k n (
 pub numbers-next : (start many n : ℕ) → start + many ≤ n → range_with_len 1 (start + many) ≡ range_with_len 1 start ++ take many (drop start (range_with_len 1 n))
 numbers-next start many n le =
     numbers-cut 1 (start + many) n le ∙ take-add start many (range_with_len 1 n) ∙ ap (λ (v : List ℕ). v ++ take many (drop start (range_with_len 1 n))) (sym (numbers-cut 1 start n (omega (arith, le))))
+
+-- the numbers after the first n of them
+numbers-split : (a m n : ℕ) → range_with_len a (m + n) ≡ range_with_len a m ++ range_with_len (a + m) n
+numbers-split a zero n = ap (range_with_len a) (let e : 0 + n ≡ n = omega arith in e) ∙ ap (λ (k : ℕ). range_with_len k n) (let e : a ≡ a + 0 = omega arith in e)
+numbers-split a (suc m) n = ap (range_with_len a) (let e : suc m + n ≡ suc (m + n) = omega arith in e) ∙ ap (λ (v : List ℕ). a ∷ v) (numbers-split (a + 1) m n ∙ ap (λ (k : ℕ). range_with_len (a + 1) m ++ range_with_len k n) (let e : a + 1 + m ≡ a + suc m = omega arith in e))
+
+numbers-raised : (m a n : ℕ) → range_with_len (m + a) n ≡ map (λ (k : ℕ). m + k) (range_with_len a n)
+numbers-raised m a zero = refl
+numbers-raised m a (suc n) = ap (λ (v : List ℕ). (m + a) ∷ v) (ap (λ (k : ℕ). range_with_len k n) (let e : m + a + 1 ≡ m + (a + 1) = omega arith in e) ∙ numbers-raised m (a + 1) n)
+
+-- numbers behind numbers
+pub numbers-behind : (m n : ℕ) → range_with_len 1 (m + n) ≡ range_with_len 1 m ++ map (λ (k : ℕ). m + k) (range_with_len 1 n)
+numbers-behind m n = numbers-split 1 m n ∙ ap (λ (v : List ℕ). range_with_len 1 m ++ v) (ap (λ (k : ℕ). range_with_len k n) (let e : 1 + m ≡ m + 1 = omega arith in e) ∙ numbers-raised m 1 n)

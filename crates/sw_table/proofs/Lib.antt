@@ -5,3 +5,4 @@ pub mod LiveFlags
 pub mod LiveLaws
 pub mod Packing
 pub mod Standing
+pub mod Widths

@@ -1,5 +1,5 @@
 -- Rows as one flat list of cells: a row at a place, one more row, and a row's cell.
-use Rattle.std.proofs.Common.{◌≡◌, ◌≢◌, All, MatchOption, Option, None, Some, ◌∙◌, ap, sym, refl, ℕ, zero, suc, ◌+◌, ◌*◌, ◌<◌, ◌≤◌, ◌-◌, Bool, true, false, Decides, List, [], ◌∷◌, ◌++◌, length, get_or, take, drop, replicate, ℤ, pos, arith, length-append, length-drop}
+use Rattle.std.proofs.Common.{◌≡◌, ◌≢◌, All, MatchOption, Option, None, Some, ◌∙◌, ap, sym, refl, ℕ, zero, suc, ◌+◌, ◌*◌, ◌<◌, ◌≤◌, ◌-◌, Bool, true, false, Decides, List, [], ◌∷◌, ◌++◌, length, map, get_or, take, drop, replicate, ℤ, pos, arith, length-append, length-drop}
 use Rattle.std.proofs.Math.Nat.{add-mul, suc-mul}
 use Rattle.std.proofs.lemmas.Nat.{mul-le}
 use Rattle.std.proofs.lemmas.List.{drop-append-le, drop-drop, get_or-drop, get_or-take, get_or_append_left, get_or-append_right, length-take-le, nil_from_length, take-append-drop, take-append-le, take-take, take_rest, take_at, drop_at, drop-take}
@@ -8,7 +8,7 @@ use Rattle.sw_table.specs.declared.row.Row.{Row}
 use Rattle.std.specs.List.{AllByRecursion}
 use Rattle.sw_table.specs.Kept.{kept, kept_parts}
 use Rattle.sw_table.specs.Live.{Rises, key_of}
-use Rattle.sw_table.specs.Packed.{IsWhole, IsWithin, row_of, rows_in, zeros}
+use Rattle.sw_table.specs.Packed.{IsWhole, IsWithin, row_behind, row_of, rows_in, zeros}
 
 pub rows-many : (n : ℕ) (ks : List ℕ) (cs : List ℤ) → length (rows_in n ks cs) ≡ length ks
 rows-many n [] cs = refl
@@ -46,7 +46,7 @@ all-zero zero i = refl
 all-zero (suc m) zero = refl
 all-zero (suc m) (suc i) = all-zero m i
 
-zero-at : (n a : ℕ) → get_or (drop n zeros) a (pos 0) ≡ pos 0
+pub zero-at : (n a : ℕ) → get_or (drop n zeros) a (pos 0) ≡ pos 0
 zero-at n a = get_or-drop n zeros a (pos 0) ∙ at (n + a)
   where
     at : (i : ℕ) → get_or zeros i (pos 0) ≡ pos 0
@@ -208,3 +208,8 @@ joined-whole n ks ls cs ds one other = record {
   most = one.most;
   whole = rw (length-append ks ls, length-append cs ds, one.whole, other.whole) (sym (add-mul (length ks) (length ls) n));
 }
+
+-- the rows of raised keys
+pub rows-raised : (n m : ℕ) (ks : List ℕ) (cs : List ℤ) → rows_in n (map (λ (k : ℕ). m + k) ks) cs ≡ map (row_behind m) (rows_in n ks cs)
+rows-raised n m [] cs = refl
+rows-raised n m (k ∷ ks) cs = ap (λ v. row_of n (m + k) cs ∷ v) (rows-raised n m ks (drop n cs))

@@ -1,5 +1,5 @@
 -- Rows as one flat list of cells.
-use Rattle.std.specs.Prelude.{◌≡◌, ◌≤◌, ◌*◌, ◌+◌, ◌++◌, ◌∷◌, [], ℕ, ℤ, pos, List, length, take, drop, replicate, vec_len, vec_capacity}
+use Rattle.std.specs.Prelude.{◌≡◌, ◌≤◌, ◌*◌, ◌+◌, ◌++◌, ◌∷◌, [], ℕ, ℤ, pos, List, length, take, drop, map, replicate, vec_len, vec_capacity, All}
 use Rattle.std.specs.Global.{Vec}
 use Rattle.sw_table.specs.declared.row.Row.{Row}
 
@@ -23,6 +23,21 @@ pub record Packed : Type 0 where
 -- all cells of a row from the n-th on are 0
 abbrev pub IsWithin : ℕ → Row → Type 0
 IsWithin n r = drop n r.cells ≡ drop n zeros
+
+-- the least number from 1 up of cells that all of some rows are within
+pub record IsLeastWidth (rows : List Row) (n : ℕ) : Type 0 where
+  pub some : 1 ≤ n
+  pub most : n ≤ 8
+  pub within : All (IsWithin n) rows
+  pub least : (m : ℕ) → 1 ≤ m → All (IsWithin m) rows → n ≤ m
+
+-- a row with its key raised by n
+abbrev pub row_behind : ℕ → Row → Row
+row_behind n r = record r { key = n + r.key }
+
+-- rows, and more of them behind, whose keys are raised by how many there were
+abbrev pub behind : List Row → List Row → List Row
+behind rows more = rows ++ map (row_behind (length rows)) more
 
 -- each row has its cells
 pub record IsWhole (width : ℕ) (keys : List ℕ) (cells : List ℤ) : Type 0 where

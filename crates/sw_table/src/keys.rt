@@ -1,6 +1,6 @@
 //! The keys of a list of rows.
 
-ghost use Rattle.std.specs.Prelude.{◌≡◌, ◌≤◌, ◌<◌, ◌+◌, ◌-◌, ◌++◌, ◌∷◌, [], true, ℕ, length, slice_index_or, take, IfOk, MatchOption, OnOk, OnErr};
+ghost use Rattle.std.specs.Prelude.{◌≡◌, ◌≤◌, ◌<◌, ◌+◌, ◌-◌, ◌^◌, ◌++◌, ◌∷◌, [], true, ℕ, length, map, slice_index_or, take, All, IfOk, MatchOption, OnOk, OnErr};
 ghost use Rattle.std.specs.List.{range_with_len};
 ghost use Rattle.sw_table.specs.Kept.{kept};
 ghost use Rattle.sw_table.specs.Keys.{HasNo, IsKeyAt};
@@ -181,6 +181,28 @@ impl Keys {
             return Ok(());
         }
         self.push_each(alloc, keys, start, many)
+    }
+
+    /// Adds each key of a list, raised by how many keys there are; after an error nothing has changed.
+    pub(crate) fn extend_behind(&mut self, alloc: Global, keys: &Keys) -> Result<(), AllocError>
+        requires few { length self.old + length keys.now < 2 ^ 63 }
+        requires small { All (λ (k : ℕ). k < 2 ^ 63) keys.now }
+        ensures ok { OnOk result (self.new ≡ self.old ++ map (λ (k : ℕ). length self.old + k) keys.now) }
+        ensures err { OnErr result (self.new ≡ self.old) }
+    {
+        let before = self.len();
+        let more = keys.len();
+        if self.counts_on(keys, before) {
+            self.form = Form::Numbered(before + more);
+            return Ok(());
+        }
+        for place in 0..more {
+            if let Err(e) = self.push(alloc, before as u64 + keys.at(place)) {
+                self.truncate(before);
+                return Err(e);
+            }
+        }
+        Ok(())
     }
 
     /// Keeps so many keys at most, the first ones.

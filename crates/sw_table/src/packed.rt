@@ -1,11 +1,11 @@
 //! Rows as one flat list of cells.
 
-ghost use Rattle.std.specs.Prelude.{◌≡◌, ◌≤◌, ◌<◌, ◌*◌, ◌+◌, ◌^◌, ◌-◌, ◌++◌, ◌∷◌, [], ℤ, pos, List, length, map, take, drop, slice_index_or, vec_len, All, Decides, IfOk, IsOk, MatchOption, OnOk, OnErr};
+ghost use Rattle.std.specs.Prelude.{◌≡◌, ◌≤◌, ◌<◌, ◌*◌, ◌+◌, ◌^◌, ◌-◌, ◌++◌, ◌∷◌, [], ℕ, ℤ, pos, List, length, map, take, drop, slice_index_or, vec_len, All, Decides, IfOk, IsOk, MatchOption, OnOk, OnErr};
 ghost use Rattle.sw_table.specs.declared.row.Row.{Row};
 ghost use Rattle.sw_table.specs.Rows.{HasNoRow, IsRowAt, cell_of};
 ghost use Rattle.sw_table.specs.Kept.{kept};
 ghost use Rattle.sw_table.specs.Live.{Rises, key_of};
-ghost use Rattle.sw_table.specs.Packed.{HasRoomFor, IsSameRoom, IsWithin, Packed, stretch, zeros};
+ghost use Rattle.sw_table.specs.Packed.{HasRoomFor, IsLeastWidth, IsSameRoom, IsWithin, Packed, behind, stretch, zeros};
 
 use crate::keeping::keep_cells;
 use crate::keys::Keys;
@@ -52,24 +52,23 @@ fn padded(cells: &[i64]) -> [i64; 8]
     all
 }
 
-/// How many cells of a row are used, one at least, as far as eight.
+/// How many cells of a row are used, one at least.
 fn used(row: &Row) -> usize
     ensures some { 1 ≤ result }
     ensures most { result ≤ 8 }
+    ensures within { IsWithin result row.now }
+    ensures least { (n : ℕ) → 1 ≤ n → IsWithin n row.now → result ≤ n }
 {
-    let mut used = 1;
-    for attr in 0..8 {
-        if row.cells[attr] != 0 {
-            used = attr + 1;
-        }
+    let mut used = 8;
+    while used > 1 && row.cells[used - 1] == 0 {
+        used -= 1;
     }
     used
 }
 
-/// How many cells are used of each of some rows at most.
+/// How many cells are used of each of some rows at most, one at least.
 fn most_used(rows: &[Row]) -> usize
-    ensures some { 1 ≤ result }
-    ensures most { result ≤ 8 }
+    ensures { IsLeastWidth rows.now result }
 {
     let mut most = 1;
     for row in rows {
@@ -327,6 +326,7 @@ impl PackedRows {
 
     /// Adds rows at the end, whatever their cells; after an error the rows are as they were.
     fn extend_from_slice(&mut self, rows: &[Row]) -> Result<(), AllocError>
+        ensures width { All (IsWithin self.old.width) rows.now → self.new.width ≡ self.old.width }
         ensures ok { OnOk result (self.new.items ≡ self.old.items ++ rows.now) }
         ensures err { OnErr result (self.new.items ≡ self.old.items) }
     {
@@ -373,6 +373,7 @@ impl PackedRows {
         many: usize,
     ) -> Result<(), AllocError>
         requires within { start + many ≤ length rows.now.items }
+        ensures width { All (IsWithin self.old.width) (stretch start many rows.now.items) → self.new.width ≡ self.old.width }
         ensures ok { OnOk result (self.new.items ≡ self.old.items ++ stretch start many rows.now.items) }
         ensures err { OnErr result (self.new.items ≡ self.old.items) }
     {
@@ -387,19 +388,38 @@ impl PackedRows {
         Ok(())
     }
 
+    /// Where a part begins, and how many rows it has: from a place on, so many at most.
+    fn bounds(&self, from: usize, most: usize) -> (usize, usize)
+        ensures within { result.0 + result.1 ≤ length self.now.items }
+        ensures part { stretch result.0 result.1 self.now.items ≡ stretch from most self.now.items }
+    {
+        let start = from.min(self.len());
+        (start, most.min(self.len() - start))
+    }
+
+    /// A copy of the rows from a place on, so many at most. The one error is that there is no memory for it.
+    pub fn part(&self, alloc: Global, from: usize, most: usize) -> Result<PackedRows, AllocError>
+        ensures { IfOk result (λ p. p ≡ record self.now { items = stretch from most self.now.items }) }
+    {
+        let (start, many) = self.bounds(from, most);
+        let mut part = PackedRows::with_capacity(alloc, self.width, many)?;
+        part.extend_flat(self, start, many)?;
+        Ok(part)
+    }
+
     /// Adds the rows of another list from a place on, so many at most; after an error the rows are as they were. Lists of the same
-    /// width are copied as they lie.
+    /// width are copied as they lie, and the width stays where all these rows are within it.
     pub fn extend_from(
         &mut self,
         rows: &PackedRows,
         from: usize,
         most: usize,
     ) -> Result<(), AllocError>
+        ensures width { All (IsWithin self.old.width) (stretch from most rows.now.items) → self.new.width ≡ self.old.width }
         ensures ok { OnOk result (self.new.items ≡ self.old.items ++ stretch from most rows.now.items) }
         ensures err { OnErr result (self.new.items ≡ self.old.items) }
     {
-        let start = from.min(rows.len());
-        let many = most.min(rows.len() - start);
+        let (start, many) = rows.bounds(from, most);
         if rows.width() == self.width() {
             self.extend_flat(rows, start, many)
         } else {
@@ -407,10 +427,31 @@ impl PackedRows {
         }
     }
 
-    /// These rows, whatever their cells. The width is the most that one of them uses, of which no clause tells. The one error is
-    /// that there is no memory for them.
+    /// Adds all rows of a list of the same width, each with its key raised by how many rows there are; after an error nothing has
+    /// changed. Where the keys of both are 1, 2, 3 and so on, so are those of all, and no list of keys is made.
+    pub fn extend_behind(&mut self, rows: &PackedRows) -> Result<(), AllocError>
+        requires width { rows.now.width ≡ self.old.width }
+        requires small { All (λ (r : Row). r.key < 2 ^ 63) rows.now.items }
+        ensures ok { OnOk result (self.new ≡ record self.old { items = behind self.old.items rows.now.items }) }
+        ensures err { OnErr result (self.new ≡ self.old) }
+    {
+        let alloc = *self.cells.allocator();
+        let before = self.cells.len();
+        self.cells.extend_from_slice(&rows.cells)?;
+        match self.keys.extend_behind(alloc, &rows.keys) {
+            Ok(()) => Ok(()),
+            Err(e) => {
+                self.cells.truncate(before);
+                Err(e)
+            }
+        }
+    }
+
+    /// These rows, whatever their cells. The width is the most that one of them uses. The one error is that there is no memory for
+    /// them.
     pub fn of(alloc: Global, rows: &[Row]) -> Result<PackedRows, AllocError>
-        ensures { IfOk result (λ p. p.items ≡ rows.now) }
+        ensures rows { IfOk result (λ p. p.items ≡ rows.now) }
+        ensures width { IfOk result (λ p. IsLeastWidth rows.now p.width) }
     {
         let mut packed = PackedRows::new(alloc, most_used(rows));
         packed.reserve(rows.len())?;

@@ -3,7 +3,7 @@ use Rattle.std.specs.Prelude.{◌≡◌, ℕ, ℤ, Bool, true, false, ◌||◌, 
 use Rattle.sw_rows.specs.declared.bound.Bound.{Bound}
 use Rattle.sw_table.specs.declared.row.Row.{Row}
 use Rattle.sw_kernel.specs.Replay.{Step}
-use Rattle.sw_kernel.specs.Tapes.{IsRising, is_marked}
+use Rattle.sw_kernel.specs.Tapes.{IsRising, is_marked, ranges_at}
 use Rattle.sw_rows.specs.Bounds.{bound_below, is_left, same_bound}
 
 -- whether a bound is among these
@@ -33,13 +33,22 @@ IsSplit v (suc k) (c ∷ cs) = (is_left c v ≡ false) × IsSplit v k cs
 -- of the bounds that pass the test and do not have the value on their left, the greatest; no bound where there is none
 abbrev pub IsNearestBelow : (Bound → Bool) → ℤ → Option Bound → Type 0
 IsNearestBelow there v None = (b : Bound) → there b ≡ true → is_left b v ≡ true
-IsNearestBelow there v (Some c) = (there c ≡ true) × (is_left c v ≡ false) × ((b : Bound) → there b ≡ true → is_left b v ≡ false → bound_below c b ≡ false)
+IsNearestBelow there v (Some c) =
+    (there c ≡ true) × (is_left c v ≡ false)
+    × ((b : Bound) → there b ≡ true → is_left b v ≡ false → bound_below c b ≡ false)
 
 -- of the bounds that pass the test and have the value on their left, the least; no bound where there is none
 abbrev pub IsNearestAbove : (Bound → Bool) → ℤ → Option Bound → Type 0
 IsNearestAbove there v None = (b : Bound) → there b ≡ true → is_left b v ≡ false
-IsNearestAbove there v (Some c) = (there c ≡ true) × (is_left c v ≡ true) × ((b : Bound) → there b ≡ true → is_left b v ≡ true → bound_below b c ≡ false)
+IsNearestAbove there v (Some c) =
+    (there c ≡ true) × (is_left c v ≡ true)
+    × ((b : Bound) → there b ≡ true → is_left b v ≡ true → bound_below b c ≡ false)
+
+-- the bounds of a step came to others
+abbrev pub AreJoinedBy : Step Row → List Bound → List Bound → Type 0
+AreJoinedBy e old new = (b : Bound) → is_among b new ≡ ranges_at b e || is_among b old
 
 -- so many pieces: one more than the bounds that stand in ranges of a tape, which a rising list has each once
 abbrev pub HasPieces : ℕ → List (Step Row) → Type 0
-HasPieces n tape = (bs : List Bound) × IsRising bs × ((b : Bound) → is_among b bs ≡ is_marked b tape) × (n ≡ length bs + 1)
+HasPieces n tape =
+    (bs : List Bound) × IsRising bs × ((b : Bound) → is_among b bs ≡ is_marked b tape) × (n ≡ length bs + 1)

@@ -1,13 +1,13 @@
 //! The tape.
 
-ghost use Rattle.std.specs.Prelude.{◌≡◌, ◌<◌, ◌≤◌, ◌+◌, ◌^◌, ◌++◌, ◌∷◌, ◌||◌, [], List, length, map, vec_len, vec_capacity, MatchOption, MatchResult, OnErr, OnOk, IfErr, IfOk, slice_get, slice_set, Some};
+ghost use Rattle.std.specs.Prelude.{◌≡◌, ◌<◌, ◌≤◌, ◌+◌, ◌++◌, ◌∷◌, ◌||◌, [], List, length, map, vec_len, vec_capacity, MatchOption, MatchResult, OnErr, OnOk, IfErr, IfOk, slice_get, slice_set, Some};
 ghost use Rattle.sw_rows.specs.Gives.{IsRefused};
 ghost use Rattle.sw_rows.specs.declared.bound.Bound.{Bound};
 ghost use Rattle.sw_table.specs.declared.row.Row.{Row};
 ghost use Rattle.sw_rows.specs.declared.refusal.Refusal.TheVariants.{NoMemory, TooMany};
 ghost use Rattle.sw_kernel.specs.Replay.{Step, loaded};
-ghost use Rattle.sw_kernel.specs.Tapes.{IsRising, IsTape, MayFollow, count_from, is_marked, peak_from, ranges_at};
-ghost use Rattle.sw_tape.specs.Bounds.{HasPieces, IsNearestAbove, IsNearestBelow, is_among};
+ghost use Rattle.sw_kernel.specs.Tapes.{IsRising, IsTape, MayFollow, count_from, is_marked, peak_from};
+ghost use Rattle.sw_tape.specs.Bounds.{AreJoinedBy, HasPieces, IsNearestAbove, IsNearestBelow, is_among};
 ghost use Rattle.sw_tape.specs.declared.entry.Entry.TheVariants.{Remove};
 ghost use Rattle.sw_tape.specs.Entries.{IsKept, step_of};
 ghost use Rattle.sw_tape.specs.Restart.{AreOneLoad, IsCountOf, first_rows, live_load};
@@ -88,7 +88,7 @@ fn add_bounds(bounds: &mut Vec<Bound>, entry: &Entry)
     requires room { vec_len bounds.old + 2 ≤ vec_capacity bounds.old }
     requires rising { IsRising bounds.old.items }
     ensures rising { IsRising bounds.new.items }
-    ensures among { (b : Bound) → is_among b bounds.new.items ≡ ranges_at b (step_of entry.now) || is_among b bounds.old.items }
+    ensures among { AreJoinedBy (step_of entry.now) bounds.old.items bounds.new.items }
 {
     if let Entry::Range(lower, upper) = entry {
         add_some(bounds, *lower);
@@ -159,11 +159,13 @@ impl Tape {
         requires follows { MayFollow (count_from 0 self.old) (step_of entry) }
         ensures ok { OnOk result (self.new ≡ self.old ++ step_of entry ∷ []) }
         ensures err { OnErr result (self.new ≡ self.old) }
-        ensures full { length self.old ≡ 4096 → result ≡ Err (TooMany 4096) }
-        ensures room { length self.old < 4096 → IfErr result (λ e. e ≡ NoMemory) }
+        ensures full { length self.old ≡ MAX_ENTRIES → result ≡ Err (TooMany MAX_ENTRIES) }
+        ensures room { length self.old < MAX_ENTRIES → IfErr result (λ e. e ≡ NoMemory) }
     {
         if self.len() == MAX_ENTRIES {
-            return Err(Refusal::TooMany { limit: 4096 });
+            return Err(Refusal::TooMany {
+                limit: MAX_ENTRIES as u64,
+            });
         }
         if self.entries.reserve(1).is_err() || self.bounds.reserve(2).is_err() {
             return Err(Refusal::NoMemory);
@@ -179,7 +181,7 @@ impl Tape {
     /// The number of entries, which begin with the one load. A tape is never empty.
     pub fn len(&self) -> usize
         ensures count { result ≡ length self.now }
-        ensures most { result ≤ 4096 }
+        ensures most { result ≤ MAX_ENTRIES }
         ensures tape { IsTape self.now }
     {
         self.entries.len()

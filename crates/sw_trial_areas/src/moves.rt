@@ -10,7 +10,7 @@ use std::test::Fail;
 use std::thread::Threads;
 use sw_lang::parse_line;
 use sw_map::{CrackerMap, Tail};
-use sw_rows::{Bound, Call, Query, Refusal, Reply, ReplyRow, Schema};
+use sw_rows::{Bound, Call, Query, Refusal, Reply, ReplyRows, Schema};
 use sw_set::Area;
 
 /// What is done to an area, or looked at.
@@ -59,18 +59,19 @@ fn query(alloc: Global, line: &str) -> Result<Query, Refusal> {
 }
 
 /// Tells a row of a reply.
-fn push_row(text: &mut String, row: &ReplyRow) -> Result<(), AllocError> {
-    write!(text, "{}:", row.key)?;
-    for cell in row.cells.as_slice() {
+fn push_row(text: &mut String, key: u64, cells: &[i64]) -> Result<(), AllocError> {
+    write!(text, "{key}:")?;
+    for cell in cells {
         write!(text, " {cell}")?;
     }
     text.push_str(", ")
 }
 
 /// Tells the rows of a reply, and how many there are.
-fn push_rows(text: &mut String, rows: &[ReplyRow]) -> Result<(), AllocError> {
-    for row in rows {
-        push_row(text, row)?;
+fn push_rows(text: &mut String, rows: &ReplyRows) -> Result<(), AllocError> {
+    let mut left = rows.left();
+    while let Some((key, cells)) = left.next() {
+        push_row(text, key, cells)?;
     }
     write!(text, "{} rows", rows.len())
 }
@@ -78,7 +79,7 @@ fn push_rows(text: &mut String, rows: &[ReplyRow]) -> Result<(), AllocError> {
 /// Tells a reply.
 fn push_reply(text: &mut String, reply: &Reply) -> Result<(), AllocError> {
     match reply {
-        Reply::Rows(rows) => push_rows(text, rows.as_slice()),
+        Reply::Rows(rows) => push_rows(text, rows),
         Reply::Count(n) => write!(text, "{n}"),
         Reply::Sum(sum) => write!(text, "{sum}"),
         Reply::Least(Some(cell)) => write!(text, "{cell}"),

@@ -1,22 +1,22 @@
 //! A session that makes each refused call again.
 
 ghost use Rattle.std.specs.Prelude.{◌≡◌, ◌<◌, ◌≤◌, ℕ, true, length, All, IfOk};
-ghost use Rattle.sw_lang.specs.Cuts.{AreCuts, cuts_on};
 ghost use Rattle.sw_map.specs.Held.{blank};
-ghost use Rattle.sw_spine.specs.Table.{is_numbered};
 ghost use Rattle.sw_spine.specs.History.{CallsBelow, IsLegal};
+ghost use Rattle.sw_versions.specs.Pending.{IsPlain};
 
 use crate::meeting::{Table, hand};
-use crate::running::{Trial, cleared, numbered};
+use crate::running::{Trial, cleared};
+use left_right::Absorb;
 use std::alloc::Global;
 use std::marker::Brand;
 use std::sync::Wait;
 use std::thread::Threads;
 use sw_engine::{Blank, Engine, Naming, Session};
-use sw_lang::parse_cuts;
 use sw_map::CrackerMap;
-use sw_rows::{Call, Refusal, Schema};
+use sw_rows::{Call, Refusal, Schema, Update};
 use sw_spine::Record;
+use sw_versions::{Live, Op};
 
 /// How often a call is made again.
 const TURNS: usize = 3;
@@ -35,6 +35,8 @@ fn insist<J: Naming, M: CrackerMap, R: Threads + Wait + Sync>(
     call: &Call,
     tally: &mut Tally,
 )
+where
+    Live<J>: Absorb<Op<J>, State = [Update; 0]>,
     requires { CallsBelow (length J.columns) call.now }
 {
     for _ in 0..TURNS {
@@ -55,13 +57,12 @@ fn insist_on<J: Naming, M: CrackerMap, R: Threads + Wait + Sync>(
     maps: Vec<M>,
     calls: &[Call],
 ) -> Result<(Record, Tally), Refusal>
+where
+    Live<J>: Absorb<Op<J>, State = [Update; 0]>,
     requires books { (books.sessions.name ≡ J.sessions) × (books.heads.name ≡ J.heads) }
+    requires list { books.list.seen.book ≡ J.book }
+    requires plain { IsPlain ⟦<Live<J> as Absorb<Op<J>>>⟧.state ⟦<Live<J> as Absorb<Op<J>>>⟧.applied }
     requires table { (table.schema ≡ J.columns) × (table.rows.items ≡ J.opening) × (table.limit ≡ J.limit) }
-    requires some { 0 < table.limit }
-    requires most { table.limit ≤ 1048576 }
-    requires numbered { is_numbered 1 table.rows.items ≡ true }
-    requires lists { length table.cuts ≡ length table.schema }
-    requires cuts { (a : ℕ) → a < length table.schema → AreCuts (cuts_on table.cuts a) }
     requires blank { All (λ m. M.held m ≡ blank) maps.items }
     requires calls { All (λ c. CallsBelow (length J.columns) c) calls.now }
     ensures { IfOk result (λ r. IsLegal r.0) }
@@ -71,6 +72,7 @@ fn insist_on<J: Naming, M: CrackerMap, R: Threads + Wait + Sync>(
         rows,
         cuts,
         limit,
+        ..
     } = table;
     if schema.len() == 0 {
         return Err(Refusal::Input);
@@ -91,10 +93,29 @@ fn insist_on<J: Naming, M: CrackerMap, R: Threads + Wait + Sync>(
         insist(rt, &mut session, call, &mut tally);
     }
     tickets.push_reserved(session.end());
-    match engine.close(tickets) {
+    match engine.close(rt, tickets) {
         Ok(record) => Ok((record, tally)),
         Err(_) => Err(Refusal::Input),
     }
+}
+
+/// The same where the names are picked: what a copy of the rows makes of an update is known here, as it is not under a bound.
+fn insist_picked<J: Naming, M: CrackerMap, R: Threads + Wait + Sync>(
+    rt: &R,
+    alloc: Global,
+    books: Blank,
+    table: Table,
+    maps: Vec<M>,
+    calls: &[Call],
+) -> Result<(Record, Tally), Refusal>
+    requires books { (books.sessions.name ≡ J.sessions) × (books.heads.name ≡ J.heads) }
+    requires list { books.list.seen.book ≡ J.book }
+    requires table { (table.schema ≡ J.columns) × (table.rows.items ≡ J.opening) × (table.limit ≡ J.limit) }
+    requires blank { All (λ m. M.held m ≡ blank) maps.items }
+    requires calls { All (λ c. CallsBelow (length J.columns) c) calls.now }
+    ensures { IfOk result (λ r. IsLegal r.0) }
+{
+    insist_on::<J, M, R>(rt, alloc, books, table, maps, calls)
 }
 
 /// One session over the table, whose calls are made again where they are refused. The boxes, made blank, are those of the first
@@ -113,14 +134,7 @@ pub(crate) fn insist_all<M: CrackerMap, R: Threads + Wait + Sync>(
     requires calls { All (λ c. CallsBelow (length schema) c) calls.now }
     ensures { IfOk result (λ r. IsLegal r.0) }
 {
-    let rows = numbered(alloc, trial.rows)?;
-    let cuts = parse_cuts(alloc, &schema, trial.cuts)?;
+    let table = Table::of(alloc, trial, schema)?;
     let maps = cleared(alloc, maps)?;
-    let table = Table {
-        schema,
-        rows,
-        cuts,
-        limit: trial.limit,
-    };
-    insist_on::<Brand, M, R>(rt, alloc, Blank::new(), table, maps, calls)
+    insist_picked::<Brand, M, R>(rt, alloc, Blank::new(), table, maps, calls)
 }

@@ -17,3 +17,7 @@ mod refusal_tests;
 mod running;
 #[cfg(test)]
 mod tests;
+#[cfg(test)]
+mod viewing;
+#[cfg(test)]
+mod viewing_tests;

@@ -8,7 +8,7 @@ ghost use Rattle.sw_spine.specs.History.{CallsBelow};
 use std::alloc::{AllocError, Global};
 use sw_lang::parse_line;
 use sw_map::{CrackerMap, push_blank};
-use sw_rows::{Call, PackedRows, Refusal, Reply, ReplyRow, Row, Schema};
+use sw_rows::{Call, PackedRows, Refusal, Reply, ReplyRows, Row, Schema};
 use sw_spine::{Record, State};
 
 /// The rows of a table, its cuts, and the limit of rows.
@@ -137,9 +137,9 @@ pub(crate) fn cleared<M: CrackerMap>(alloc: Global, maps: Vec<M>) -> Result<Vec<
 }
 
 /// A row of a reply as text.
-fn shown_row(alloc: Global, row: &ReplyRow) -> Result<String, AllocError> {
-    let mut text = format!(in alloc; "{}:", row.key)?;
-    for cell in row.cells.as_slice() {
+fn shown_row(alloc: Global, key: u64, cells: &[i64]) -> Result<String, AllocError> {
+    let mut text = format!(in alloc; "{key}:")?;
+    for cell in cells {
         text.push_str(format!(in alloc; " {cell}")?.as_str())?;
     }
     text.push_str(", ")?;
@@ -147,19 +147,20 @@ fn shown_row(alloc: Global, row: &ReplyRow) -> Result<String, AllocError> {
 }
 
 /// A reply of rows as text.
-fn shown_rows(alloc: Global, rows: &[ReplyRow]) -> Result<String, AllocError> {
+fn shown_rows(alloc: Global, rows: &ReplyRows) -> Result<String, AllocError> {
     let mut text = String::new(alloc);
-    for row in rows {
-        text.push_str(shown_row(alloc, row)?.as_str())?;
+    let mut left = rows.left();
+    while let Some((key, cells)) = left.next() {
+        text.push_str(shown_row(alloc, key, cells)?.as_str())?;
     }
     text.push_str(format!(in alloc; "{} rows", rows.len())?.as_str())?;
     Ok(text)
 }
 
 /// A reply as text.
-fn shown(alloc: Global, reply: &Reply) -> Result<String, AllocError> {
+pub(crate) fn shown(alloc: Global, reply: &Reply) -> Result<String, AllocError> {
     match reply {
-        Reply::Rows(rows) => shown_rows(alloc, rows.as_slice()),
+        Reply::Rows(rows) => shown_rows(alloc, rows),
         Reply::Count(n) => Ok(format!(in alloc; "{n}")?),
         Reply::Sum(sum) => Ok(format!(in alloc; "{sum}")?),
         Reply::Least(Some(cell)) => Ok(format!(in alloc; "{cell}")?),

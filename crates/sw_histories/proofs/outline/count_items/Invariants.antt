@@ -2,7 +2,7 @@ use Rattle.std.proofs.Common.{◌≡◌, ℕ, ◌≤◌, List, length}
 use Rattle.json.specs.Json.{items, value, parse_map}
 use Rattle.serde_json.specs.Read.{converted, of_items}
 use Rattle.serde_json.specs.declared.value.Value.{Value}
-use Rattle.sw_histories.specs.Outlines.{IsCount}
+use Rattle.sw_histories.specs.FromTokens.{IsCount}
 use Rattle.sw_histories.proofs.ValueReading.{items_before}
 use Rattle.sw_histories.proofs.outline.count_items.Given as goal
 

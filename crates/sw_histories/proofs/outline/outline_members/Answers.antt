@@ -1,16 +1,16 @@
-use Rattle.std.proofs.Common.{rules, ◌≡◌, ◌∙◌, ap, sym, refl, length, Some, None, ◌+◌, ◌-◌, arith, string_bytes}
+use Rattle.std.proofs.Common.{rules, ◌≡◌, ◌∙◌, ap, sym, refl, length, Some, None, ◌+◌, ◌-◌, arith, codes, string_bytes}
 use Rattle.json.specs.Json.{read_key, value}
 use Rattle.json.proofs.Grammar.{read_key-shorter}
 use Rattle.serde_json.specs.Data.{no_members, put}
 use Rattle.serde_json.specs.View.{members_view, view}
 use Rattle.serde_json.proofs.Views.{members_view-insert_entry}
-use Rattle.sw_histories.specs.Outlines.{after_members, outline_at, outline_of}
+use Rattle.sw_histories.specs.Outlines.{after_members, is_passed, outline_at, outline_of}
 use Rattle.sw_histories.proofs.ValueReading.{key_refused, member_read, member_refused, members_over}
 use Rattle.sw_histories.proofs.OutlineLemmas.{member_passed, members_passed, outline_put, stands_more}
 use Rattle.sw_histories.proofs.outline.outline_members.Goals as goal
 
 pub members-init : goal.members-init
-members-init c = (length c.args.reader.now, no_members, omega arith, refl, omega arith, ap members_view c.new-found.ensures.empty, refl, refl)
+members-init c = (length c.args.reader.now, no_members, omega arith, refl, omega arith, ap members_view c.new-found.ensures.empty, refl, refl, refl)
 
 pub returns-in_err-name-clause-err : goal.returns-in_err-name-clause-err
 returns-in_err-name-clause-err c refused =
@@ -51,7 +51,8 @@ members-preserved c =
       omega (arith, l.invariant.4, less, lesser),
       drawn,
       ap (λ m. after_members m c.args.reader.now) next ∙ members_passed l.place c.args.reader.now l.reader r l.invariant.6 (member_passed l.reader s r k d named read.1),
-      rw c.standing-entries.ensures (stands_more l.entries k c.in_ok-member.counted l.place d all c.args.reader.now l.reader s l.invariant.6 named read.3 l.invariant.7),
+      rw c.standing-entries.ensures (stands_more (codes "entries") l.entries k c.in_ok-member.counted l.place d all c.args.reader.now l.reader s l.invariant.6 named (λ e. read.3 (ap is_passed e)) l.invariant.7),
+      rw c.standing-rows.ensures (stands_more (codes "rows") l.rows k c.in_ok-member.counted l.place d all c.args.reader.now l.reader s l.invariant.6 named (λ e. read.3 (ap is_passed e)) l.invariant.8),
     )
 
 pub returns-clause-ok : goal.returns-clause-ok
@@ -62,5 +63,6 @@ returns-clause-ok c =
       all = l.invariant.1;
       read = l.invariant.3 ∙ members_over (value 126) l.invariant.1 l.invariant.0 l.reader c.next_key.new.self l.invariant.2 over;
       outline = l.invariant.5;
-      stands = l.invariant.7;
+      entries = l.invariant.7;
+      rows = l.invariant.8;
     }

@@ -1,4 +1,4 @@
-use Rattle.std.proofs.Common.{◌≡◌, ℕ, ◌≤◌, length, Some}
+use Rattle.std.proofs.Common.{◌≡◌, ℕ, ◌≤◌, codes, length, Some}
 use Rattle.json.specs.Json.{members, value}
 use Rattle.serde_json.specs.Data.{Members, no_members}
 use Rattle.serde_json.specs.Read.{converted, of_members}
@@ -13,7 +13,8 @@ invariant-members l =
     × (length l.reader ≤ length l.initial.reader)
     × (members_view l.found.entries ≡ outline_of all)
     × (after_members l.place l.initial.reader ≡ Some l.reader)
-    × Stands l.entries all l.initial.reader
+    × Stands (codes "entries") l.entries all l.initial.reader
+    × Stands (codes "rows") l.rows all l.initial.reader
 
 abbrev pub decreases-members : goal.decreases-members
 decreases-members l = length l.reader

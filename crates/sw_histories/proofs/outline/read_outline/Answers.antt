@@ -47,5 +47,6 @@ returns-in-None-clause-ok c =
       is_begun = ap after_brace (sym c.in-Ok.ensures.ok ∙ first);
       read = whole_read (value 127 (tokens c.args.text.now)) (object o.all) (opened ∙ ap (parse_map object) o.read ∙ ap (λ r. Some (object o.all, r)) over);
       outline = o.outline;
-      stands = o.stands;
+      entries = o.entries;
+      rows = o.rows;
     }

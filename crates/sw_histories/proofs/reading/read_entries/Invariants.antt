@@ -4,6 +4,7 @@ use Rattle.json.specs.Json.{items, value}
 use Rattle.serde_json.specs.Data.{Data}
 use Rattle.serde_json.specs.Read.{converted, of_items}
 use Rattle.sw_spine.specs.History.{AllBelow}
+use Rattle.sw_spine.specs.declared.spine.TheConstants.{MOST_ENTRIES}
 use Rattle.sw_histories.specs.RecordReading.{entries_after}
 use Rattle.sw_histories.specs.Outlines.{values_in}
 use Rattle.sw_histories.proofs.EntriesLemmas.{listed}
@@ -13,7 +14,7 @@ abbrev pub invariant-entries : goal.invariant-entries
 invariant-entries l =
     (n : ℕ) × (left : List Data) × (length l.reader ≤ n)
     × (listed (converted of_items (items (value 125) n l.reader)) ≡ Some left)
-    × (length l.entries.items + length left ≤ 1048576)
+    × (length l.entries.items + length left ≤ MOST_ENTRIES)
     × AllBelow (length l.schema) l.entries.items
     × IfSome (values_in l.initial.reader) (λ ds. entries_after l.schema [] ds ≡ entries_after l.schema l.entries.items left)
 

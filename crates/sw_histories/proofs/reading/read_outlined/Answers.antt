@@ -1,12 +1,13 @@
 use Rattle.std.proofs.Common.{◌≡◌, ◌∙◌, ◌≤◌, ◌<◌, ap, sym, subst, arith, List, length, None, Some, Ok, Err, []}
-use Rattle.std.specs.Prelude.{option_map}
+use Rattle.std.specs.Prelude.{option_and_then, option_map}
 use Rattle.serde_json.specs.Data.{object}
 use Rattle.sw_lang.specs.Reading.{Answers}
 use Rattle.sw_spine.specs.History.{History}
 use Rattle.sw_spine.specs.declared.history.Entry.{Entry}
-use Rattle.sw_histories.specs.Outlines.{outline_of, record_in, without_items}
+use Rattle.sw_spine.specs.declared.spine.TheConstants.{MOST_ENTRIES}
+use Rattle.sw_histories.specs.Outlines.{outside_of, read_as, record_in}
 use Rattle.sw_histories.specs.Told.{◌>>=◌}
-use Rattle.sw_histories.specs.RecordReading.{entries_after, frame, frame_of, history_with}
+use Rattle.sw_histories.specs.RecordReading.{entries_after, frame, history_with}
 use Rattle.sw_histories.proofs.RecordReadingLemmas.{frame_sound}
 use Rattle.sw_histories.proofs.EntriesLemmas.{answers_bind, few_enough, no_record, outer_none, outer_some, record_is, some_at, stood, too_many}
 use Rattle.sw_histories.proofs.reading.read_outlined.Goals as goal
@@ -15,7 +16,8 @@ pub returns-in_default-read-clause-answers : goal.returns-in_default-read-clause
 returns-in_default-read-clause-answers c =
     let h = c.requires in
     let at = stood c.args.text.now c.args.outline c.in-Some.entries h c.in-Some.is in
-    let none : None ≡ option_map without_items (frame_of (object (outline_of h.all))) = grind (arith, c.in-Ok.ensures, h.outline) in
+    let seen : option_map read_as c.in-Ok.read ≡ outside_of (object h.all) = c.in-Ok.ensures ∙ ap (option_and_then outside_of) h.read in
+    let none : None ≡ outside_of (object h.all) = sym (ap (option_map read_as) c.in_default-read.is) ∙ seen in
     subst (λ e. Answers {A = History} (Err e) (record_in c.args.text.now)) (sym c.no_history-in_default-read.ensures) (no_record c.args.text.now h.all h.read (outer_none h.all at.values at.there none))
 
 pub returns-then-entries-gt-MOST_ENTRIES-clause-answers : goal.returns-then-entries-gt-MOST_ENTRIES-clause-answers
@@ -23,9 +25,10 @@ returns-then-entries-gt-MOST_ENTRIES-clause-answers c =
     let h = c.requires in
     let o = c.in-Some-read.outer in
     let at = stood c.args.text.now c.args.outline c.in-Some.entries h c.in-Some.is in
-    let some : Some (frame o.schema o.limit o.rows.items []) ≡ option_map without_items (frame_of (object (outline_of h.all))) = grind (arith, c.in-Ok.ensures, h.outline, c.in-Some-read.is) in
+    let seen : option_map read_as c.in-Ok.read ≡ outside_of (object h.all) = c.in-Ok.ensures ∙ ap (option_and_then outside_of) h.read in
+    let some : Some (frame o.schema o.limit o.rows.items []) ≡ outside_of (object h.all) = sym (ap (option_map read_as) c.in-Some-read.is) ∙ seen in
     let f = frame o.schema o.limit o.rows.items at.values in
-    let many : 1048576 < length at.values = at.counted.1 (omega arith) in
+    let many : MOST_ENTRIES < length at.values = at.counted.1 (omega arith) in
     record_is c.args.text.now h.all f h.read (outer_some h.all at.values o.schema o.limit o.rows.items at.there some) ∙ too_many f many
 
 pub invariant_of-result : goal.invariant_of-result
@@ -33,7 +36,8 @@ invariant_of-result c =
     let h = c.requires in
     let o = c.in-Some-read.outer in
     let at = stood c.args.text.now c.args.outline c.in-Some.entries h c.in-Some.is in
-    let some : Some (frame o.schema o.limit o.rows.items []) ≡ option_map without_items (frame_of (object (outline_of h.all))) = grind (arith, c.in-Ok.ensures, h.outline, c.in-Some-read.is) in
+    let seen : option_map read_as c.in-Ok.read ≡ outside_of (object h.all) = c.in-Ok.ensures ∙ ap (option_and_then outside_of) h.read in
+    let some : Some (frame o.schema o.limit o.rows.items []) ≡ outside_of (object h.all) = sym (ap (option_map read_as) c.in-Some-read.is) ∙ seen in
     let sound = frame_sound (object h.all) (frame o.schema o.limit o.rows.items at.values) (outer_some h.all at.values o.schema o.limit o.rows.items at.there some) in
     record {
       some = sound.some;
@@ -49,10 +53,11 @@ returns-in-Ok-read_entries_at-clause-answers c =
     let h = c.requires in
     let o = c.in-Some-read.outer in
     let at = stood c.args.text.now c.args.outline c.in-Some.entries h c.in-Some.is in
-    let some : Some (frame o.schema o.limit o.rows.items []) ≡ option_map without_items (frame_of (object (outline_of h.all))) = grind (arith, c.in-Ok.ensures, h.outline, c.in-Some-read.is) in
+    let seen : option_map read_as c.in-Ok.read ≡ outside_of (object h.all) = c.in-Ok.ensures ∙ ap (option_and_then outside_of) h.read in
+    let some : Some (frame o.schema o.limit o.rows.items []) ≡ outside_of (object h.all) = sym (ap (option_map read_as) c.in-Some-read.is) ∙ seen in
     let f = frame o.schema o.limit o.rows.items at.values in
-    let count : c.in-Some.entries.count ≤ 1048576 = omega arith in
-    let few : length at.values ≤ 1048576 = omega (arith, at.counted.0 count, count) in
+    let count : c.in-Some.entries.count ≤ MOST_ENTRIES = omega arith in
+    let few : length at.values ≤ MOST_ENTRIES = omega (arith, at.counted.0 count, count) in
     let read = some_at _ at.values _ at.stands c.in-Ok-read_entries_at.ensures.answers in
     record_is c.args.text.now h.all f h.read (outer_some h.all at.values o.schema o.limit o.rows.items at.there some) ∙ few_enough f few ∙ ap (λ r. r >>= λ es. Ok (history_with f es)) read
 
@@ -61,10 +66,11 @@ returns-in-Err-clause-answers c =
     let h = c.requires in
     let o = c.in-Some-read.outer in
     let at = stood c.args.text.now c.args.outline c.in-Some.entries h c.in-Some.is in
-    let some : Some (frame o.schema o.limit o.rows.items []) ≡ option_map without_items (frame_of (object (outline_of h.all))) = grind (arith, c.in-Ok.ensures, h.outline, c.in-Some-read.is) in
+    let seen : option_map read_as c.in-Ok.read ≡ outside_of (object h.all) = c.in-Ok.ensures ∙ ap (option_and_then outside_of) h.read in
+    let some : Some (frame o.schema o.limit o.rows.items []) ≡ outside_of (object h.all) = sym (ap (option_map read_as) c.in-Some-read.is) ∙ seen in
     let f = frame o.schema o.limit o.rows.items at.values in
-    let count : c.in-Some.entries.count ≤ 1048576 = omega arith in
-    let few : length at.values ≤ 1048576 = omega (arith, at.counted.0 count, count) in
+    let count : c.in-Some.entries.count ≤ MOST_ENTRIES = omega arith in
+    let few : length at.values ≤ MOST_ENTRIES = omega (arith, at.counted.0 count, count) in
     let read = some_at _ at.values _ at.stands c.in-Err.ensures.answers in
     let is = record_is c.args.text.now h.all f h.read (outer_some h.all at.values o.schema o.limit o.rows.items at.there some) ∙ few_enough f few in
     subst (λ said. Answers {A = History} (Err c.in-Err.e) said) (sym is) (answers_bind {A = List Entry} {B = History} c.in-Err.e (entries_after o.schema [] at.values) (λ es. Ok (history_with f es)) read)

@@ -5,4 +5,4 @@ pub returns-in_err-write_number : goal.returns-in_err-write_number
 returns-in_err-write_number g c = stops _ _ c.from_residual.result c.from_residual.ensures.1 c.in_err-write_number.ensures
 
 pub returns : goal.returns
-returns g c = rw (← c.as_slice.ensures) (both _ _ c.write_after_key.result c.in_ok-write_number.ensures c.write_after_key.ensures)
+returns g c = both _ _ c.write_after_key.result c.in_ok-write_number.ensures c.write_after_key.ensures

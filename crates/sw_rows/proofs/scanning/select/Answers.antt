@@ -4,7 +4,7 @@ use Rattle.sw_rows.specs.declared.reply.ReplyRow.{ReplyRow}
 use Rattle.sw_rows.specs.Scan.{projected}
 use Rattle.sw_rows.proofs.ScanLemmas.{found-no, found-none, shown-yes}
 use Rattle.sw_rows.proofs.scanning.select.Goals as goal
-use Rattle.sw_rows.proofs.scanning.select.Goals.{then-is_found+in_ok-shown_at+in_ok-push, else-is_found}
+use Rattle.sw_rows.proofs.scanning.select.Goals.{then-is_found+in_ok-shown_at+in_ok-push_row, else-is_found}
 
 pub loop-place-init : goal.loop-place-init
 loop-place-init g c =
@@ -18,8 +18,8 @@ loop-place-preserved g c =
     let lt : i < length xs = omega (arith, c.loop-place-test.true, c.places-place-end.ensures) in
     let so_far = c.loop-place.invariant in
     elim c.if-is_found.branch [
-      | then-is_found+in_ok-shown_at+in_ok-push w ↦
-          w.found-is ∙ w.in_ok-push.ensures.ok
+      | then-is_found+in_ok-shown_at+in_ok-push_row w ↦
+          w.found-is ∙ w.in_ok-push_row.ensures.ok
           ∙ ap (λ (r : ReplyRow). c.loop-place.found ++ r ∷ []) (w.in_ok-shown_at.ensures none)
           ∙ shown-yes cs fs xs i none lt (sym (c.is_found.ensures none) ∙ w.if-is_found.true) c.args.names.now c.loop-place.found (get_or xs i none) refl so_far
       | else-is_found w ↦ w.found-is ∙ so_far ∙ sym (ap (map (projected c.args.names.now)) (found-no cs fs xs i none lt (sym (c.is_found.ensures none) ∙ w.if-is_found.false)))

@@ -1,5 +1,5 @@
 use Rattle.std.proofs.Common.{arith}
-use Rattle.sw_set.specs.Shelf.{IsSameMap}
+use Rattle.sw_set.specs.Aligned.{IsSameMap}
 use Rattle.sw_set.proofs.Swaps.{swapped-back}
 use Rattle.sw_set.proofs.at_once.+step_lacking.Goals as goal
 

@@ -5,7 +5,8 @@ use Rattle.sw_rows.specs.declared.refusal.Refusal.{Refusal}
 use Rattle.sw_rows.specs.declared.refusal.Refusal.TheVariants.{NoMemory}
 use Rattle.sw_table.specs.declared.row.Row.{Row}
 use Rattle.sw_rows.specs.Scan.{answer, answer_over, meets_all}
-use Rattle.sw_set.specs.Choice.{AreOf, HasCells, IsReplyOver, chosen, further, shown_rows}
+use Rattle.sw_set.specs.Choice.{AreOf, HasCells, chosen, further, shown_rows}
+use Rattle.sw_set.specs.Collected.{IsReplyOver}
 use Rattle.sw_set.proofs.Answered.{none-matching, range-matching, told-answer, told-nothing}
 use Rattle.sw_set.proofs.Needing.{conds-held, want-held}
 use Rattle.sw_set.proofs.Told.{if-ok}

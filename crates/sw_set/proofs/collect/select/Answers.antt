@@ -7,7 +7,8 @@ use Rattle.sw_table.specs.declared.row.Row.{Row}
 use Rattle.sw_rows.specs.declared.refusal.Refusal.{Refusal}
 use Rattle.sw_rows.specs.declared.refusal.Refusal.TheVariants.{NoMemory}
 use Rattle.sw_rows.specs.Scan.{cell_of, projected}
-use Rattle.sw_set.specs.Choice.{AreInKeyOrder, chosen, column_at, placed, row_in, shown_rows}
+use Rattle.sw_set.specs.Choice.{chosen, column_at, placed, row_in, shown_rows}
+use Rattle.sw_set.specs.Collected.{AreInKeyOrder}
 use Rattle.sw_set.proofs.Rowed.{column-inside, found-below, in-key-order}
 use Rattle.sw_set.proofs.Told.{range-long, weaker}
 use Rattle.sw_set.proofs.collect.select.Goals as goal

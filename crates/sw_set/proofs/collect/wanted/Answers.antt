@@ -5,7 +5,8 @@ use mir.Syntax.{w128}
 use Rattle.sw_rows.specs.declared.query.Want.{Want}
 use Rattle.sw_rows.specs.declared.reply.Reply.TheVariants as reply
 use Rattle.sw_rows.specs.Scan.{cell_of, total, least, greatest}
-use Rattle.sw_set.specs.Choice.{IsReplyOver, chosen, count_chosen, shown_rows}
+use Rattle.sw_set.specs.Choice.{chosen, count_chosen, shown_rows}
+use Rattle.sw_set.specs.Collected.{IsReplyOver}
 use Rattle.sw_set.proofs.Told.{chosen-map, chosen-count, range-long}
 use Rattle.sw_set.proofs.collect.wanted.Goals as goal
 

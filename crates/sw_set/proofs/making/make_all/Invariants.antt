@@ -1,6 +1,6 @@
 use Rattle.std.proofs.Common.{◌<◌, ℕ, length, get_or}
 use Rattle.sw_map.specs.declared.tail.Tail.{Tail}
-use Rattle.sw_set.specs.Prepared.{IsHeld, IsSameButBoxes}
+use Rattle.sw_set.specs.Boxed.{IsHeld, IsSameButBoxes}
 use Rattle.sw_set.proofs.making.make_all.Given as goal
 
 abbrev pub invariant-loop-i : goal.invariant-loop-i

@@ -1,6 +1,6 @@
 use Rattle.std.proofs.Common.{ℕ, ◌<◌, ◌≤◌, length, get_or}
 use Rattle.sw_table.specs.declared.row.Update.{Update}
-use Rattle.sw_set.specs.Merged.{IsRemoval}
+use Rattle.sw_set.specs.Merging.{IsRemoval}
 use Rattle.sw_set.proofs.merging.end_of_stretch.Given as goal
 
 abbrev pub invariant-loop-upto : goal.invariant-loop-upto

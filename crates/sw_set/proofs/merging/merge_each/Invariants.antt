@@ -1,5 +1,5 @@
 use Rattle.std.proofs.Common.{◌-◌, length}
-use Rattle.sw_set.specs.Merged.{IsMergedUpTo}
+use Rattle.sw_set.specs.Merging.{IsMergedUpTo}
 use Rattle.sw_set.proofs.merging.merge_each.Given as goal
 
 abbrev pub invariant-loop-many : goal.invariant-loop-many

@@ -2,7 +2,7 @@ use Rattle.std.proofs.Common.{rules, subst, ℕ}
 use Rattle.sw_kernel.specs.Tapes.{is_marked}
 use Rattle.sw_tape.specs.Bounds.{IsNearestAbove, IsNearestBelow}
 use Rattle.sw_map.specs.Held.{pairs_in}
-use Rattle.sw_set.specs.Prepared.{IsFoundAt}
+use Rattle.sw_set.specs.Boxed.{IsFoundAt}
 use Rattle.sw_set.proofs.Positions.{key-at, key-between, lower-place, upper-place, upper-within}
 use Rattle.sw_set.proofs.position.place_of_row.Goals as goal
 

@@ -13,7 +13,7 @@ returns c =
     let is : c.open_two.new.spine ≡ with_session (with_session b) = c.in_ok-open_two.ensures ∙ ap (λ (o : Books). with_session (with_session o)) c.in_ok-spine.ensures.1 in
     let some : 0 < 8 = omega arith in
     let three : length columns ≡ 3 = search rules in
-    let copied : c.args.rows.now ≡ rows = sym c.in-Ok.ensures in
+    let copied : c.args.rows.now ≡ rows = sym c.in-Ok.ensures.rows in
     let taken : rows_of (took 0 b) ≡ rows = ap rows_of (took_new columns rows c.args.limit 0 some) ∙ rows_of_opened rows in
     record {
       sessions = ap (λ (o : Books). o.sessions) is;

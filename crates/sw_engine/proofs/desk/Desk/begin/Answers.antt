@@ -6,6 +6,7 @@ use Rattle.sw_spine.specs.Books.{Books, took, waits_for}
 use Rattle.sw_spine.specs.Receivable.{AreUpdates}
 use Rattle.sw_engine.specs.Desk.{received_by}
 use Rattle.sw_engine.proofs.Ties.{all_taken, begin_tied, head_below, is_of_same, length_set, mine_is, waits_is}
+use Rattle.sw_engine.proofs.Published.{behind_set, prefix_same, published_kept, share_grows}
 use Rattle.sw_engine.proofs.desk.Desk.begin.Goals as goal
 
 pub begin-requires-clause-rest : goal.begin-requires-clause-rest
@@ -36,6 +37,7 @@ invariant_of-self-2 g c =
       many_are = c.self.invariant.many_are ∙ sym (ap length rows ∙ length_set s.sessions.rows h.number (c.of.result.value, false));
       of = is_of_same g.J.Naming.columns g.J.Naming.opening g.J.Naming.limit s.spine x c.self.invariant.of (ap (λ (b : Books). b.columns) done) (ap (λ (b : Books). b.rows) done) (ap (λ (b : Books). b.limit) done);
       tied = begin_tied s.spine x s.sessions.rows c.set.new.self.rows s.heads.rows c.set-2.new.self.rows h.number c.args.number m.number c.head.inside.number c.of.result.value c.of-2.result.value c.self.invariant.tied c.requires.rest.1 c.head.invariant.number_is c.begin.ensures.others c.begin.ensures.heads (ap (λ (b : Books). b.sessions) done) c.of.ensures c.of-2.ensures rows heads;
+      behind = behind_set g.J.Naming.opening s.spine x c.of.result.value s.sessions.rows c.set.new.self.rows h.number c.self.invariant.behind (prefix_same _ _ (sym (published_kept g.J.Naming.opening s.spine x (ap (λ (b : Books). b.published) done) c.begin.ensures.updates))) c.of.ensures rows;
     }
 
 pub invariant_of-head-2 : goal.invariant_of-head-2
@@ -69,3 +71,11 @@ returns-clause-waits g c =
     let n = c.args.number in
     let all = all_taken s.spine m.value s.sessions.rows s.heads.rows m.number c.head.inside.number (received_by g.J.Naming.opening c.head.inside.head) c.head.inside.inbox.items c.begin.new.inbox.items c.self.invariant.tied c.agree-2.ensures.value c.head.invariant.number_is c.head.invariant.taken c.in_ok-begin.ensures.inbox in
     ap (waits_for n) (c.set.ensures.value ∙ c.of.ensures) ∙ (c.in_ok-begin.ensures.waits ∙ ap (λ (us : List Update). Some (Select c.args.query, us)) (sym all))
+
+pub returns-clause-grows : goal.returns-clause-grows
+returns-clause-grows g c =
+    let s = c.self.inside in
+    let h = c.args.share.now in
+    let x = c.begin.new.self in
+    let kept = published_kept g.J.Naming.opening s.spine x (ap (λ (b : Books). b.published) c.in_ok-begin.ensures.begun) c.begin.ensures.updates in
+    share_grows g.J.Naming.opening s.spine x h.value c.set.new.share.value s.sessions.rows h.number c.self.invariant.behind c.agree.ensures.value (prefix_same _ _ (sym kept)) (c.set.ensures.value ∙ c.of.ensures)

@@ -2,19 +2,20 @@ use Rattle.std.proofs.Common.{rules, ◌≡◌, length, get_or, sym, ap, ◌∙�
 use Rattle.sw_spine.specs.History.{History, IsLegal, all_given, is_absent, mine}
 use Rattle.sw_spine.specs.Books.{Books, waits_for}
 use Rattle.sw_spine.specs.Rest.{none_open}
+use Rattle.sw_engine.specs.Desk.{DeskState}
 use Rattle.sw_engine.proofs.Ties.{absent_or_named, given_length, opened_rests}
 use Rattle.sw_engine.proofs.engine.Engine.close.Goals as goal
 
 pub returns-clause-headline : goal.returns-clause-headline
 returns-clause-headline g c =
-    let d = c.into_inner-desk.result in
+    let d = c.end-desk.result in
     let ts = c.args.tickets.items in
     let b = c.into_spine.result in
     let is = c.into_record.ensures.record_is in
     let spine = c.into_spine.ensures.spine in
     let of = c.into_spine.ensures.of in
     let same : b ≡ d.books = spine ∙ c.give_all.ensures.books in
-    let as_many : length d.given ≡ length ts = search rules in
+    let as_many : length d.given ≡ length ts = ap (λ (x : DeskState). length x.given) c.end-desk.ensures ∙ (let e : length c.into_inner-desk.result.desk.given ≡ length ts = search rules in e) in
     let made : length d.given ≡ b.sessions = sym (given_length ts d.given c.give_all.new.self.given c.give_all.ensures.given) ∙ (c.into_spine.ensures.sessions ∙ ap (λ (x : Books). x.sessions) (sym spine)) in record {
       columns_are = ap (λ (h : History). h.columns) is ∙ (ap (λ (x : Books). x.columns) spine ∙ of.columns_are);
       rows_are = ap (λ (h : History). h.rows) is ∙ (ap (λ (x : Books). x.rows) spine ∙ of.rows_are);

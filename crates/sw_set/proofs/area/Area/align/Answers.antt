@@ -2,7 +2,8 @@ use Rattle.std.proofs.Common.{◌≡◌, List, map, length, sym, subst, arith, A
 use Rattle.std.proofs.lemmas.List.{length-map}
 use Rattle.sw_set.proofs.Shelves.{area-with, apart-same, leases-same, written}
 use Rattle.sw_map.specs.Lawful.{IsLawful}
-use Rattle.sw_set.specs.Shelf.{AreSameMaps, AreaState, HasRoomWhereNeeded}
+use Rattle.sw_set.specs.Shelf.{AreaState}
+use Rattle.sw_set.specs.Aligned.{AreSameMaps, HasRoomWhereNeeded}
 use Rattle.sw_set.proofs.Boxes.{all-held}
 use Rattle.sw_set.proofs.area.Area.align.Goals as goal
 

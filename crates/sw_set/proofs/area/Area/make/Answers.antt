@@ -1,5 +1,5 @@
 use Rattle.std.proofs.Common.{map, sym, subst}
-use Rattle.sw_set.specs.Prepared.{IsFreshBut}
+use Rattle.sw_set.specs.Boxed.{IsFreshBut}
 use Rattle.sw_set.specs.Shelf.{AreaState}
 use Rattle.sw_set.proofs.Shelves.{area-set, tried-lawful, tried-leased, tried-fresh, tried-view}
 use Rattle.sw_set.proofs.area.Area.make.Goals as goal

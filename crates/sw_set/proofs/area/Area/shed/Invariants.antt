@@ -1,4 +1,4 @@
-use Rattle.sw_set.specs.Prepared.{IsShed}
+use Rattle.sw_set.specs.Boxed.{IsShed}
 use Rattle.sw_set.proofs.area.Area.shed.Given as goal
 
 abbrev pub invariant-loop-gone : goal.invariant-loop-gone

@@ -4,7 +4,7 @@ use Rattle.std.proofs.lemmas.List.Sums.{fold-append}
 use Rattle.sw_table.specs.declared.row.Row.{Row}
 use Rattle.sw_table.specs.declared.row.Update.{Update}
 use Rattle.sw_table.specs.declared.row.Update.TheVariants.{Insert}
-use Rattle.sw_set.specs.Live.{IsStanding, Standing, live_among}
+use Rattle.sw_set.specs.Live.{IsStandingOf, Standing, live_among}
 use Rattle.sw_set.specs.Shelf.{Rises, came_then, key_of}
 use Rattle.sw_set.proofs.LiveStandings.{rises-came, rises-part}
 use Rattle.sw_set.proofs.live.LiveRows.after.Goals as goal
@@ -13,8 +13,8 @@ pub loop-update-init : goal.loop-update-init
 loop-update-init c =
     let load = c.args.load.now.items in
     let s = c.args.self.now in
-    let standing : IsStanding load s = record { many = c.requires.many; rise = rises-came (load ++ s.later) c.args.updates.now c.requires.rise } in (
-      subst (IsStanding load) (sym c.in_ok-live.ensures) standing,
+    let standing : IsStandingOf load s = record { many = c.requires.many; rise = rises-came (load ++ s.later) c.args.updates.now c.requires.rise } in (
+      subst (IsStandingOf load) (sym c.in_ok-live.ensures) standing,
       ap (λ (v : Standing). load ++ v.later) c.in_ok-live.ensures,
       ap (live_among load) c.in_ok-live.ensures,
     )

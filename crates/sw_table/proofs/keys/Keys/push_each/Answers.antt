@@ -1,4 +1,4 @@
-use Rattle.std.proofs.Common.{◌≡◌, ◌∙◌, ◌++◌, ◌∷◌, ◌<◌, [], ap, sym, drop, length, length-drop, take, arith}
+use Rattle.std.proofs.Common.{◌∙◌, ◌++◌, ◌∷◌, ◌<◌, [], ap, sym, drop, length, length-drop, take, arith}
 use Rattle.std.proofs.lemmas.List.{append_assoc, get_or-drop, take_more}
 use Rattle.sw_table.proofs.keys.Keys.push_each.Goals as goal
 

@@ -1,7 +1,6 @@
 use Rattle.std.proofs.Common.{◌≡◌, ◌∙◌, ap, subst, sym, List, Bool, length, replicate, true, arith, rules}
 use Rattle.std.proofs.lemmas.List.{length-take-le}
 use Rattle.std.specs.Vec.{vec_len}
-use Rattle.sw_table.specs.declared.row.Row.{Row}
 use Rattle.sw_table.specs.Kept.{kept}
 use Rattle.sw_table.specs.Live.{Living, live_rows}
 use Rattle.sw_table.specs.Packed.{Packed}

@@ -1,4 +1,4 @@
-use Rattle.std.proofs.Common.{◌≡◌, ◌∙◌, ◌++◌, ◌∷◌, ◌<◌, ◌+◌, [], ap, sym, length, map, take, List, ℤ, arith, rules}
+use Rattle.std.proofs.Common.{◌∙◌, ◌++◌, ◌∷◌, ◌<◌, [], ap, sym, length, map, take, List, ℤ, arith, rules}
 use Rattle.std.proofs.lemmas.List.{append_assoc, map_push, take_more}
 use Rattle.std.proofs.Common.{w64}
 use Rattle.std.proofs.lemmas.Int.{to_z-of_z}

@@ -1,4 +1,4 @@
-use Rattle.std.proofs.Common.{◌≡◌, ◌∙◌, ◌++◌, ◌∷◌, ◌<◌, ◌+◌, ◌^◌, [], ap, sym, length, map, pos, take, List, ℤ, arith, rules, w64}
+use Rattle.std.proofs.Common.{◌∙◌, ◌++◌, ◌∷◌, ◌<◌, ◌^◌, [], ap, sym, length, map, pos, take, List, ℤ, arith, rules, w64}
 use Rattle.std.proofs.lemmas.Int.{to_z_pos}
 use Rattle.std.proofs.lemmas.List.{append_assoc, map_push, take_more}
 use Rattle.sw_table.specs.declared.row.Row.{Row}

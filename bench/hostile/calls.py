@@ -1,0 +1,152 @@
+#!/usr/bin/env python3
+"""Calls of tapes, maps, areas and heads, made one by one by a program of their own (calls.rt.txt). Each run is made again with its first
+allocation refused, its second, and so on, until a run meets no refusal: a refused call says `refused 1` and nothing else, leaves what it
+was made on as its contract says, and is then answered as in the run without a refusal. And worked examples over maps that refuse each
+n-th step, find the budget contended at each second begin, or find no cells at all: the replies are the known ones.
+Ends with 1 and the first run that is wrong. Called by calls.sh, which builds the program."""
+import tempfile, time
+from collections import Counter
+from memory import preload, refusing
+from running import Wrong, ended, options, told
+
+MET = "allocation refused\n"
+AMPLE = 1 << 20
+
+RANGE = ("select b where a >= 10 and a <= 15", "1: 7\n3: 5\n(2 rows)")
+FROM_TEN = ("select a where a >= 10", "1: 12\n3: 12\n4: 20\n(3 rows)")
+BELOW = ("select b where a < 12", "2: 8\n(1 rows)")
+ABOVE = ("select b where a >= 12", "1: 7\n3: 5\n4: 2\n(3 rows)")
+
+# Lines over the four rows, and what each is answered.
+WORKED = {
+    "a range": [RANGE],
+    "the same again": [RANGE, RANGE],
+    "a second tail": [RANGE, ("select b, c where a >= 10 and a <= 15", "1: 7, 1\n3: 5, 1\n(2 rows)")],
+    "a row that comes": [RANGE, ("insert 1, 9, 0", "key 5"), ("count where a < 10", "2")],
+    "a row that goes": [RANGE, ("delete 2", "removed"), FROM_TEN],
+    "keys that are not there": [("delete 2", "removed"), ("delete 2", "no such key"), ("delete 0", "no such key")],
+    "a row that goes without its map": [RANGE, ("clear", "done"), ("delete 2", "removed"), FROM_TEN],
+    "both sides of a cut": [BELOW, ("select b where a <= 12", "1: 7\n2: 8\n3: 5\n(3 rows)")],
+    "from area to area": [BELOW, ABOVE, BELOW],
+    "rows come and go beside a cut": [BELOW, ("insert 1, 9, 0", "key 5"), ("delete 4", "removed"), ("count where a < 12", "2"), ("count", "4")],
+}
+
+# Sides whose calls are given a refusal, with boxes and cells.
+GROWN = [(side, boxes, cells) for side in ("area", "head", "cuts") for boxes, cells in ((6, AMPLE), (4, 128), (2, 64), (0, AMPLE), (4, 0))]
+
+# Maps that refuse: each step of this number, each second begin; and no cells.
+TROUBLES = [("%d" % every, AMPLE) for every in range(1, 6)] + [("contended", AMPLE), ("0", 0)]
+
+BLANK = "0 used, 0 cells, cursor 0:"
+
+
+def groups(text):
+    """What was called, what came of it and what was seen then, call by call."""
+    made = []
+    for part in text.split("> ")[1:]:
+        name, _, rest = part.partition("\n")
+        answer, mark, seen = ("\n" + rest).rpartition("\n= ")
+        made.append((name, answer.strip("\n"), seen.strip("\n")) if mark else (name, seen.strip("\n"), ""))
+    return made
+
+
+def keys(seen):
+    return seen.split(";")[0]
+
+
+def left_so(name, before, seen):
+    """Whether a refused call may have left this."""
+    if name in ("begin", "grow"):
+        return seen == BLANK
+    if name == "merge" or name.split()[0] in ("prepare", "select", "count"):
+        return keys(seen) == keys(before)
+    return seen == before or seen == "none"
+
+
+def wrong(words, what, expected, got):
+    raise Wrong("WRONG: %s: %s\n  expected %r\n  got      %r" % (" ".join(words), what, expected, got))
+
+
+class Calls:
+    def __init__(self, program):
+        self.program, self.folder = program, tempfile.TemporaryDirectory()
+        self.library, self.tally = preload(self.folder.name), Counter()
+
+    def ran(self, words, **how):
+        return told(self.program, words, self.folder.name, **how)
+
+    def plain(self, words, replies):
+        """The calls of a run without a refusal, whose replies to lines are these."""
+        status, out, fault = self.ran(words)
+        made = groups(out)
+        lines = [(name, answer) for name, answer, _ in made if name in dict(replies)]
+        if (status, fault, lines) != (0, "", replies) or "refused" in out:
+            wrong(words, "no refusal", replies, (status, fault, out))
+        if words[0] in ("area", "head", "cuts") and made[-1] != ("end", "0 used", "none"):
+            wrong(words, "the end", "0 used", made[-1])
+        return made
+
+    def judged(self, words, at, plain, out):
+        """Judges a run of which one allocation was refused, and counts the calls that it refused."""
+        place, refused, before = 0, 0, "none"
+        for name, answer, seen in groups(out):
+            if name == "from the first":
+                place = [it[0] for it in plain].index("begin")
+            elif answer.startswith("refused"):
+                refused += 1
+                known = name == "boxes" or name.startswith("read ") or name == plain[place][0]
+                if answer != "refused 1" or not known or not left_so(name, before, seen):
+                    wrong(words, "allocation %d" % at, ("refused 1", before), (name, answer, seen))
+                # a head drops a box that it refuses, and is given the next one
+                place += words[0] in ("head", "cuts") and name == "supply"
+            else:
+                same = (name, answer) == plain[place][:2]
+                if not same or (seen if words[0] in ("tape", "map") else keys(seen)) not in (plain[place][2], keys(plain[place][2])):
+                    wrong(words, "allocation %d" % at, plain[place], (name, answer, seen))
+                place += 1
+            before = seen
+        if place != len(plain) or refused > 1:
+            wrong(words, "allocation %d" % at, "all calls, one refused", (place, refused))
+        return refused
+
+    def each(self, words, replies):
+        """Refuses each allocation in turn."""
+        plain, at, fault = self.plain(words, replies), 0, MET
+        while MET in fault:
+            at += 1
+            status, out, fault = self.ran(words, **refusing(self.library, REFUSED=at, TOLD=1))
+            if status != 0 and out:
+                wrong(words, "allocation %d" % at, "status 0", (status, out, fault))
+            if MET in fault:
+                kind = "before any call" if status else "a call" if self.judged(words, at, plain, out) else "answered all the same"
+                self.tally[kind] += 1
+        if (status, groups(out)) != (0, plain):
+            wrong(words, "no refusal any more", plain, (status, out))
+        return at - 1
+
+
+def main():
+    calls, began = Calls(options(__doc__).program), time.time()
+    for side in ("tape", "map", "load"):
+        print("%s: %d allocations, each refused" % (side, calls.each([side, "0", "0", "0"], [])), flush=True)
+    for side, boxes, cells in GROWN:
+        many = 0
+        for name, lines in WORKED.items():
+            more = [text for line, _ in lines for text in (["prepare " + line] if line.split()[0] in ("select", "count") and side == "area" else []) + [line]]
+            for said in ([line for line, _ in lines], more) if side == "area" else ([line for line, _ in lines],):
+                if boxes < 6 and said is more:
+                    continue
+                many += calls.each([side, "0", str(boxes), str(cells)] + said, lines)
+        print("%s, %d boxes, %d cells: %d allocations, each refused" % (side, boxes, cells, many), flush=True)
+    print("refused: " + ", ".join("%s %d" % it for it in calls.tally.items()) + " in %.0f s" % (time.time() - began), flush=True)
+    began, many = time.time(), 0
+    for every, cells in TROUBLES:
+        for side in ("area", "head", "cuts"):
+            for name, lines in WORKED.items():
+                calls.plain([side, every, "6", str(cells)] + [line for line, _ in lines], lines)
+                many += 1
+    print("over maps that refuse: %d runs, all replies as known, in %.0f s" % (many, time.time() - began))
+
+
+if __name__ == "__main__":
+    ended(main)

@@ -1,0 +1,176 @@
+-- What is published stays, or grows.
+use Rattle.std.proofs.Common.{◌≡◌, ◌⊎◌, ⊎_elim, inl, inr, ℕ, zero, suc, ◌+◌, ◌≤◌, List, [], ◌∷◌, ◌++◌, length, take, drop, set, Bool, true, false, Some, refl, sym, ◌∙◌, ap, subst, arith, length-append, fold}
+use Rattle.std.specs.Prelude.{Err, Ok, OnErr, OnOk, Result, slice_get}
+use Rattle.std.proofs.lemmas.List.{append-nil, drop-take, length-drop, take-append-le}
+use Rattle.std.proofs.lemmas.List.Sums.{fold-append}
+use mathlib.Core.List.{IsPrefix}
+use Rattle.sw_rows.specs.Header.{Column}
+use Rattle.sw_table.specs.declared.row.Row.{Row}
+use Rattle.sw_table.specs.declared.row.Update.{Update}
+use Rattle.sw_table.specs.Updates.{rows_of, rows_then}
+use Rattle.sw_versions.specs.Known.{Shelved}
+use Rattle.sw_versions.specs.Lists.{rows_after}
+use Rattle.sw_versions.proofs.Prefixes.{prefix_length, prefix_self, prefix_taken, prefix_trans}
+use Rattle.sw_spine.specs.Books.{Books, new_books, updates, with_published, with_session}
+use Rattle.sw_spine.specs.Table.{opened}
+use Rattle.sw_spine.proofs.StoreLemmas.{rows_of_opened}
+use Rattle.sw_engine.specs.Published.{AreBehind, GivesReceipt, IsShelfOf, Receipted, later, no_versions, published_of}
+use Rattle.sw_engine.specs.Desk.{IsShown, IsTied}
+use Rattle.sw_engine.proofs.Ties.{get_set, length_push}
+
+pub prefix_same : {A : Type 0} (xs ys : List A) → xs ≡ ys → IsPrefix xs ys
+prefix_same xs ys e = ([], append-nil xs ∙ e)
+
+-- ---- what a visit leaves published
+
+-- it changes neither the updates nor their number
+pub published_kept : (opening : List Row) (s s' : Books) → s'.published ≡ s.published → updates s' ≡ updates s → published_of opening s' ≡ published_of opening s
+published_kept opening s s' p u = λ i. drop (length opening) (take (p i) (u i))
+
+-- it adds updates
+pub published_more : (opening : List Row) (s s' : Books) (more : List Update) → s'.published ≡ s.published → updates s' ≡ updates s ++ more → s.published ≤ length (updates s) → published_of opening s' ≡ published_of opening s
+published_more opening s s' more p u le = ap (λ (us : List Update). drop (length opening) us) ((λ i. take (p i) (u i)) ∙ take-append-le s.published (updates s) more le)
+
+-- ---- rows of the sessions' book
+
+-- the session's row goes to the new state
+pub behind_set : (opening : List Row) (s s' x : Books) (rows rows' : List (Books × Bool)) (k : ℕ) → AreBehind opening s rows → IsPrefix (published_of opening s) (published_of opening s') → x ≡ s' → rows' ≡ set rows k (x, false) → AreBehind opening s' rows'
+behind_set opening s s' x rows rows' k behind grows new are j r e = ⊎_elim
+    (λ p. subst (λ (u : Books × Bool). IsPrefix (published_of opening u.0) (published_of opening s')) p.1 (prefix_same (published_of opening x) (published_of opening s') (ap (published_of opening) new)))
+    (λ p. prefix_trans (published_of opening r.0) (published_of opening s) (published_of opening s') (behind j r p.1) grows)
+    (get_set rows k j (x, false) r (sym (ap (λ (l : List (Books × Bool)). slice_get l j) are) ∙ e))
+
+-- the session's share goes from what it showed to the new state
+pub share_grows : (opening : List Row) (s s' a x : Books) (rows : List (Books × Bool)) (k : ℕ) → AreBehind opening s rows → slice_get rows k ≡ Some (a, false) → IsPrefix (published_of opening s) (published_of opening s') → x ≡ s' → IsPrefix (published_of opening a) (published_of opening x)
+share_grows opening s s' a x rows k behind at grows new =
+    subst (λ (b : Books). IsPrefix (published_of opening a) (published_of opening b)) (sym new)
+    (prefix_trans (published_of opening a) (published_of opening s) (published_of opening s') (behind k (a, false) at) grows)
+
+-- what stands in a list with one more at its end
+get_push : {A : Type 0} (xs : List A) (k : ℕ) (x y : A) → slice_get (xs ++ x ∷ []) k ≡ Some y → (slice_get xs k ≡ Some y) ⊎ (x ≡ y)
+get_push [] zero x y e = inr (cc e)
+get_push [] (suc k) x y e = absurd cc
+get_push (z ∷ xs) zero x y e = inl e
+get_push (z ∷ xs) (suc k) x y e = get_push xs k x y e
+
+-- one more session, whose share shows the new state
+pub enrol_tied : (s s' x : Books) (rows rows' heads : List (Books × Bool)) → IsTied s rows heads → s' ≡ with_session s → x ≡ s' → rows' ≡ rows ++ (x, false) ∷ [] → IsTied s' rows' heads
+enrol_tied s s' x rows rows' heads t is new are = rw (are, new, is) record {
+  shown = λ k r e. ⊎_elim
+      (λ at. t.shown k r at)
+      (λ n. subst (λ (u : Books × Bool). IsShown (k + 1) u.0 (with_session s)) n (refl, refl))
+      (get_push rows k (with_session s, false) r e);
+  taken = λ j r e. t.taken j r e;
+  as_many = length_push rows (with_session s, false) ∙ ap (λ n. n + 1) t.as_many;
+  few = t.few;
+}
+
+-- one more session
+pub behind_push : (opening : List Row) (s s' x : Books) (rows rows' : List (Books × Bool)) → AreBehind opening s rows → published_of opening s ≡ published_of opening s' → x ≡ s' → rows' ≡ rows ++ (x, false) ∷ [] → AreBehind opening s' rows'
+behind_push opening s s' x rows rows' behind same new are j r e = ⊎_elim
+    (λ at. subst (λ (us : List Update). IsPrefix (published_of opening r.0) us) same (behind j r at))
+    (λ is. subst (λ (u : Books × Bool). IsPrefix (published_of opening u.0) (published_of opening s')) is (prefix_same (published_of opening x) (published_of opening s') (ap (published_of opening) new)))
+    (get_push rows j (x, false) r (sym (ap (λ (l : List (Books × Bool)). slice_get l j) are) ∙ e))
+
+-- a share that came back keeps its row
+pub behind_given : (opening : List Row) (s a : Books) (rows rows' : List (Books × Bool)) (k : ℕ) → AreBehind opening s rows → slice_get rows k ≡ Some (a, false) → rows' ≡ set rows k (a, true) → AreBehind opening s rows'
+behind_given opening s a rows rows' k behind at are j r e = ⊎_elim
+    (λ p. subst (λ (u : Books × Bool). IsPrefix (published_of opening u.0) (published_of opening s)) p.1 (behind k (a, false) at))
+    (λ p. behind j r p.1)
+    (get_set rows k j (a, true) r (sym (ap (λ (l : List (Books × Bool)). slice_get l j) are) ∙ e))
+
+take_grows : {A : Type 0} (n m : ℕ) (xs : List A) → n ≤ m → IsPrefix (take n xs) (take m xs)
+take_grows zero m [] le = (take m [], refl)
+take_grows zero m (x ∷ xs) le = (take m (x ∷ xs), refl)
+take_grows (suc n) zero xs le = absurd (omega (arith, le))
+take_grows (suc n) (suc m) [] le = ([], refl)
+take_grows (suc n) (suc m) (x ∷ xs) le =
+    let r = take_grows n m xs (omega (arith, le)) in (r.0, ap (λ ys. x ∷ ys) r.1)
+
+drop_grows : {A : Type 0} (m : ℕ) (xs ys : List A) → IsPrefix xs ys → IsPrefix (drop m xs) (drop m ys)
+drop_grows zero xs ys p = p
+drop_grows (suc m) [] ys p = (drop (suc m) ys, refl)
+drop_grows (suc m) (x ∷ xs) [] p = absurd (cc (p.1))
+drop_grows (suc m) (x ∷ xs) (y ∷ ys) p = drop_grows m xs ys (p.0, cc (p.1))
+
+-- more of the updates are published
+pub published_grows : (opening : List Row) (b : Books) (n : ℕ) → b.published ≤ n → IsPrefix (published_of opening b) (published_of opening (record b { published = n }))
+published_grows opening b n le = drop_grows (length opening) (take b.published (updates b)) (take n (updates b)) (take_grows b.published n (updates b) le)
+
+-- ---- the shelf
+
+prefix_more : {A : Type 0} (m : ℕ) (us ys xs : List A) → IsPrefix xs (drop m us) → IsPrefix xs (drop m (us ++ ys))
+prefix_more zero us ys xs p = prefix_trans xs us (us ++ ys) p (ys, refl)
+prefix_more (suc m) [] ys [] p = (drop (suc m) ys, refl)
+prefix_more (suc m) [] ys (x ∷ xs) p = absurd (cc (p.1))
+prefix_more (suc m) (u ∷ us) ys xs p = prefix_more m us ys xs p
+
+-- a shelf that was just made
+pub shelf_new : (columns : List Column) (opening : List Row) (limit : ℕ) (b : Books) → b ≡ new_books columns opening limit → IsShelfOf opening b no_versions
+shelf_new columns opening limit b e = record {
+  booked = (later opening b, refl);
+  published = (later opening b, refl);
+  counted = ap (λ (x : Books). x.published) e ∙ (let n : length opening ≡ length opening + 0 = omega arith in n);
+}
+
+-- no update more
+pub shelf_kept : (opening : List Row) (b b' : Books) (s : Shelved) → IsShelfOf opening b s → updates b' ≡ updates b → b'.published ≡ b.published → IsShelfOf opening b' s
+shelf_kept opening b b' s is u p = record {
+  booked = subst (λ (us : List Update). IsPrefix s.booked (drop (length opening) us)) (sym u) is.booked;
+  published = subst (λ (us : List Update). IsPrefix s.published (drop (length opening) us)) (sym u) is.published;
+  counted = p ∙ is.counted;
+}
+
+-- some updates more
+pub shelf_more : (opening : List Row) (b b' : Books) (s : Shelved) (more : List Update) → IsShelfOf opening b s → updates b' ≡ updates b ++ more → b'.published ≡ b.published → IsShelfOf opening b' s
+shelf_more opening b b' s more is u p = record {
+  booked = subst (λ (us : List Update). IsPrefix s.booked (drop (length opening) us)) (sym u) (prefix_more (length opening) (updates b) more s.booked is.booked);
+  published = subst (λ (us : List Update). IsPrefix s.published (drop (length opening) us)) (sym u) (prefix_more (length opening) (updates b) more s.published is.published);
+  counted = p ∙ is.counted;
+}
+
+-- what is published after a commit: what was, or all updates
+pub caught_up : (opening : List Row) (b : Books) (s : Shelved) (p all : List Update) → IsShelfOf opening b s → all ≡ later opening b → (p ≡ s.published) ⊎ (p ≡ all) → IsPrefix p (later opening b)
+caught_up opening b s p all is every either = ⊎_elim
+    (λ same. subst (λ (l : List Update). IsPrefix l (later opening b)) (sym same) is.published)
+    (λ whole. prefix_same p (later opening b) (whole ∙ every))
+    either
+
+-- what a commit leaves: some updates more, the shelf caught up, and the spine with the number of what is published
+pub after_commit : (opening : List Row) (had b b' : Books) (s v : Shelved) (more all : List Update) (n : ℕ) → IsShelfOf opening had s → updates b ≡ updates had ++ more → b.published ≡ had.published → all ≡ later opening b → IsPrefix v.booked all → (v.published ≡ s.published) ⊎ (v.published ≡ all) → b' ≡ with_published n b → n ≡ length opening + length v.published → IsShelfOf opening b' v
+after_commit opening had b b' s v more all n is u p every booked either set count =
+    let begins = caught_up opening b s v.published all (shelf_more opening had b s more is u p) every either in record {
+      booked = subst (λ (x : Books). IsPrefix v.booked (later opening x)) (sym set) (subst (λ (l : List Update). IsPrefix v.booked l) every booked);
+      published = subst (λ (x : Books). IsPrefix v.published (later opening x)) (sym set) begins;
+      counted = ap (λ (x : Books). x.published) set ∙ count;
+    }
+
+-- what the spine has as published is what the shelf has
+pub published_is : (opening : List Row) (b : Books) (s : Shelved) → IsShelfOf opening b s → published_of opening b ≡ s.published
+published_is opening b s is =
+    ap (λ (n : ℕ). drop (length opening) (take n (updates b))) is.counted
+    ∙ (drop-take (length opening) (length s.published) (updates b) ∙ prefix_taken s.published (later opening b) is.published)
+
+-- as many updates as are published, the opening rows counted, are there
+pub published_high : (opening : List Row) (b : Books) (p : List Update) → IsPrefix p (later opening b) → length opening ≤ length (updates b) → length opening + length p ≤ length (updates b)
+published_high opening b p is le =
+    let short = prefix_length p (later opening b) is in
+    let long = length-drop (length opening) (updates b) in
+    omega (arith, short, long, le)
+
+-- ---- receipts
+
+-- a call that gives the receipt of what is published, or else leaves the one that was given
+pub held_after : {A E : Type 0} (told : Result A E) (r r' p p' : List Update) → IsPrefix r p → IsPrefix p p' → OnOk told (r' ≡ p') → OnErr told (r' ≡ r) → IsPrefix r' p'
+held_after (Ok a) r r' p p' had grows ok err = prefix_same r' p' ok
+held_after (Err e) r r' p p' had grows ok err = subst (λ (l : List Update). IsPrefix l p') (sym err) (prefix_trans r p p' had grows)
+
+pub gives_after : {A E : Type 0} (told : Result A E) (old new : Receipted) → IsPrefix old.given old.published → IsPrefix old.published new.published → OnOk told (new.given ≡ new.published) → OnErr told (new.given ≡ old.given) → GivesReceipt told old new
+gives_after (Ok a) old new had grows ok err = (ok, subst (λ (l : List Update). IsPrefix old.given l) (sym ok) (prefix_trans old.given old.published new.published had grows))
+gives_after (Err e) old new had grows ok err = err
+
+-- ---- viewers
+
+-- the rows that updates leave of the opening rows are those of the list that begins with these
+pub rows_join : (opening : List Row) (us : List Update) → rows_after opening us ≡ rows_of (opened opening ++ us)
+rows_join opening us = sym (fold-append rows_then [] (opened opening) us ∙ ap (λ (rs : List Row). fold rows_then rs us) (rows_of_opened opening))

@@ -1,0 +1,82 @@
+-- What the shelf under the lock has of the history's updates, and what the sessions' shares show of it.
+use Rattle.std.specs.Prelude.{ℕ, ◌≡◌, ◌+◌, List, [], Bool, None, Some, MatchResult, Result, drop, length, slice_get, take}
+use mathlib.Core.List.{IsPrefix}
+use Rattle.sw_table.specs.declared.row.Row.{Row}
+use Rattle.sw_table.specs.declared.row.Update.{Update}
+use Rattle.sw_rows.specs.declared.query.Call.{Call}
+use Rattle.sw_rows.specs.declared.query.Call.TheVariants as call
+use Rattle.sw_rows.specs.declared.refusal.Refusal.{Refusal}
+use Rattle.sw_rows.specs.declared.refusal.Refusal.TheVariants as refusal
+use Rattle.sw_spine.specs.History.{mine}
+use Rattle.sw_spine.specs.Books.{Books, updates, waits_for, with_answered, with_published}
+use Rattle.sw_tie.specs.declared.Share.{Share}
+use Rattle.sw_versions.specs.Known.{Shelved}
+use Rattle.sw_versions.specs.declared.viewer.TheConstants.{MOST_VIEWERS}
+
+-- the updates after the opening rows
+abbrev pub later : List Row → Books → List Update
+later opening b = drop (length opening) (updates b)
+
+-- those of them that are published
+abbrev pub published_of : List Row → Books → List Update
+published_of opening b = drop (length opening) (take b.published (updates b))
+
+-- what each row of the sessions' book shows as published begins what is published
+abbrev pub AreBehind : List Row → Books → List (Books × Bool) → Type 0
+AreBehind opening s rows = (k : ℕ) (r : Books × Bool) → slice_get rows k ≡ Some r → IsPrefix (published_of opening r.0) (published_of opening s)
+
+-- what stands in the book of updates, and what is published, begins the updates after the opening rows; and the spine has the
+-- number of those that are published
+pub record IsShelfOf (opening : List Row) (b : Books) (s : Shelved) : Type 0 where
+  pub booked : IsPrefix s.booked (later opening b)
+  pub published : IsPrefix s.published (later opening b)
+  pub counted : b.published ≡ length opening + length s.published
+
+-- nothing stands in the book, nothing is published, and no viewer was opened
+abbrev pub no_versions : Shelved
+no_versions = record { booked = []; published = []; viewers = 0 }
+
+-- a call is answered at the end of the history, and the spine has the number of the updates that are published
+abbrev pub with_committed : List Row → ℕ → Call → Shelved → Books → Books
+with_committed opening session c s b = with_published (length opening + length s.published) (with_answered session c b)
+
+-- one viewer more was opened
+abbrev pub with_viewer : Shelved → Shelved
+with_viewer s = record s { viewers = s.viewers + 1 }
+
+-- why no viewer is opened
+abbrev pub RefusesViewing : Refusal → Type 0
+RefusesViewing refusal.NoMemory = Unit {0}
+RefusesViewing (refusal.TooMany limit) = limit ≡ MOST_VIEWERS
+RefusesViewing other = ⊥
+
+-- ---- receipts
+
+-- what a session shows of them: the list that it has the receipt of, and the one that its share shows as published
+pub record Receipted : Type 0 where
+  pub given : List Update
+  pub published : List Update
+
+-- an insert, a delete or a meeting that is answered gives the receipt of what is published then, which begins with the one before;
+-- refused, the receipt stays
+abbrev pub GivesReceipt : {A E : Type 0} → Result A E → Receipted → Receipted → Type 0
+GivesReceipt told old new =
+    MatchResult told (λ _. (new.given ≡ new.published) × IsPrefix old.given new.given) (λ _. new.given ≡ old.given)
+
+-- a select leaves it
+abbrev pub CallGives : {A E : Type 0} → Call → Result A E → Receipted → Receipted → Type 0
+CallGives (call.Select q) told old new = new.given ≡ old.given
+CallGives (call.Insert cells) told old new = GivesReceipt told old new
+CallGives (call.Delete key) told old new = GivesReceipt told old new
+
+-- the session's share waits for nothing, and what the session has the receipt of begins what the share shows as published
+abbrev pub IsHeld : ℕ → List Row → ℕ → Share Books → List Update → Type 0
+IsHeld name opening session share receipt =
+    (share.name ≡ name) × (session ≡ share.number + 1) × (waits_for session share.value ≡ None)
+    × IsPrefix receipt (published_of opening share.value)
+
+-- the share of a session that was just opened
+abbrev pub IsNewShare : ℕ → Books → ℕ → Share Books → Type 0
+IsNewShare name b session share =
+    (session ≡ b.sessions) × (share.name ≡ name) × (session ≡ share.number + 1) × (share.value ≡ b)
+    × (waits_for session b ≡ None) × (mine session b.entries ≡ [])

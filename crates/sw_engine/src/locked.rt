@@ -1,0 +1,276 @@
+//! What lies under the lock: the desk, and the shelf of what viewers read.
+
+ghost use Rattle.std.specs.Prelude.{◌≡◌, ◌⊎◌, ◌<◌, ◌≤◌, [], false, None, Some, length, IfErr, IfOk, IsSome, IsSomeAnd, OnErr, OnOk, true};
+ghost use mathlib.Core.List.{IsPrefix};
+ghost use Rattle.sw_rows.specs.Scan.{AsksBelow};
+ghost use Rattle.sw_rows.specs.declared.query.Call.TheVariants.{Select};
+ghost use Rattle.sw_spine.specs.Table.{is_numbered, reply_to};
+ghost use Rattle.sw_spine.specs.History.{is_select, mine};
+ghost use Rattle.sw_spine.specs.Books.{RefusesSession, new_books, waits_for, with_session, with_settled};
+ghost use Rattle.sw_spine.specs.declared.history.State.TheVariants.{Answered, Void};
+ghost use Rattle.sw_versions.specs.Pending.{IsPlain};
+ghost use Rattle.sw_versions.specs.Lists.{IsLonger};
+ghost use Rattle.sw_versions.specs.Refused.{IsAhead, RefusesViewer};
+ghost use Rattle.sw_versions.specs.declared.viewer.TheConstants.{MOST_VIEWERS};
+ghost use Rattle.sw_engine.specs.Desk.{InOrder, IsAnswered, IsAtRest, IsBegun, IsShareOf, IsTold, RefusesCall, RefusesMany};
+ghost use Rattle.sw_engine.specs.Published.{IsNewShare, later, no_versions, published_of, with_committed, with_viewer};
+
+use crate::desk::{Desk, Ticket};
+use crate::latch::LatchedHead;
+use left_right::Absorb;
+use std::alloc::Global;
+use std::marker::Model;
+use std::sync::Wait;
+use sw_map::CrackerMap;
+use sw_rows::{Call, PackedRows, Query, Refusal, Reply, Update};
+use sw_spine::Spine;
+use sw_tie::Share;
+use sw_versions::{Book, Front, Live, Naming, Op, Opened, Shelf, Viewer};
+
+/// The desk, and the shelf of what viewers read, with the book of its updates. Until there is a viewer the shelf has no copies of
+/// the rows.
+#[derive(Drop)]
+pub struct LockedDesk<J: Naming>
+where
+    Live<J>: Absorb<Op<J>, State = [Update; 0]>,
+{
+    desk: Desk<J>,
+    shelf: Shelf<J>,
+    book: Book<J>,
+}
+
+impl<J: Naming> Model for LockedDesk<J>
+where
+    Live<J>: Absorb<Op<J>, State = [Update; 0]>,
+{
+    ghost use Rattle.sw_table.specs.Live.{RisesFrom};
+    ghost use Rattle.sw_engine.specs.Locked.{LockState};
+    ghost use Rattle.sw_engine.specs.Published.{IsShelfOf};
+
+    ghost Value = { LockState };
+
+    ghost view = { λ l. record { desk = l.desk; shelf = l.shelf } };
+
+    ghost invariant = { λ l. IsShelfOf J.opening l.desk.books l.shelf × RisesFrom 0 J.opening };
+}
+
+impl<J: Naming> LockedDesk<J>
+where
+    Live<J>: Absorb<Op<J>, State = [Update; 0]>,
+{
+    /// A desk with no entries and no session, and a shelf with nothing published.
+    pub fn new(alloc: Global, desk: Desk<J>, list: Opened) -> LockedDesk<J>
+        requires list { list.seen.book ≡ J.book }
+        requires begun { desk.books ≡ new_books J.columns J.opening J.limit }
+        requires numbered { is_numbered 1 J.opening ≡ true }
+        requires most { length J.opening ≤ 1048576 }
+        requires plain { IsPlain ⟦<Live<J> as Absorb<Op<J>>>⟧.state ⟦<Live<J> as Absorb<Op<J>>>⟧.applied }
+        ensures { result ≡ record { desk = desk; shelf = no_versions } }
+    {
+        let opening = desk.opening_rows().len() as u64;
+        let (book, front) = list.named::<J>(opening);
+        LockedDesk {
+            desk,
+            shelf: Shelf::new(alloc, front),
+            book,
+        }
+    }
+
+    /// The next session's number and share, and the receipt of what is published.
+    #[tactic(auto, using(crate::proofs::Published::shelf_kept))]
+    pub fn enrol(&mut self) -> Result<(u64, Share<Spine>, Front<J>), Refusal>
+        ensures share { IfOk result (λ t. IsNewShare J.sessions self.new.desk.books t.0 t.1) }
+        ensures receipt { IfOk result (λ t. t.2 ≡ self.old.shelf.published) }
+        ensures shown { IfOk result (λ t. t.2 ≡ published_of J.opening t.1.value) }
+        ensures made { OnOk result (self.new.desk.books ≡ with_session self.old.desk.books) }
+        ensures shelf { self.new.shelf ≡ self.old.shelf }
+        ensures refused { IfErr result (λ e. (self.new ≡ self.old) × RefusesSession self.old.desk.books e) }
+    {
+        let (number, share) = self.desk.enrol()?;
+        Ok((number, share, self.shelf.published()))
+    }
+
+    /// The tickets of the first sessions, in order.
+    #[tactic(auto, using(crate::proofs::Ties::in_order_push, crate::proofs::Ties::length_push))]
+    pub fn enrol_all(&mut self, alloc: Global, many: usize) -> Result<Vec<Ticket<J>>, Refusal>
+        requires { self.old.desk.books.sessions ≡ 0 }
+        ensures all { IfOk result (λ v. (length v.items ≡ many) × InOrder 1 v.items) }
+        ensures refused { IfErr result (λ e. RefusesMany many e) }
+    {
+        let mut tickets = Vec::new(alloc);
+        for _ in 0..many {
+            let ticket = self.ticket()?;
+            if tickets.push(ticket).is_err() {
+                return Err(Refusal::NoMemory);
+            }
+        }
+        Ok(tickets)
+    }
+
+    /// The next session's ticket.
+    #[tactic(auto, using(crate::proofs::Published::prefix_same))]
+    fn ticket(&mut self) -> Result<Ticket<J>, Refusal>
+        ensures ticket { IfOk result (λ t. (t.0 ≡ self.new.desk.books.sessions) × (t.1 ≡ [])) }
+        ensures made { OnOk result (self.new.desk.books ≡ with_session self.old.desk.books) }
+        ensures refused { IfErr result (λ e. (self.new ≡ self.old) × RefusesSession self.old.desk.books e) }
+    {
+        let (number, share, receipt) = self.enrol()?;
+        Ok(Ticket::new(number, share, receipt))
+    }
+
+    /// How many sessions were opened.
+    pub fn sessions(&self) -> u64
+        ensures { result ≡ length self.now.desk.given }
+    {
+        self.desk.sessions()
+    }
+
+    /// The opening rows.
+    pub fn opening_rows(&self) -> &PackedRows
+        ensures { result.now.items ≡ J.opening }
+    {
+        self.desk.opening_rows()
+    }
+
+    /// A select begins at the desk.
+    #[tactic(auto, using(crate::proofs::Published::shelf_kept))]
+    pub fn begin<M: CrackerMap>(
+        &mut self,
+        number: u64,
+        share: &mut Share<Spine>,
+        head: &mut LatchedHead<J, M>,
+        query: Query,
+    ) -> Result<(), Refusal>
+        requires rest { IsAtRest J.sessions number share.old }
+        requires asks { AsksBelow (length J.columns) query }
+        ensures share { IsShareOf J.sessions number share.new }
+        ensures mine { mine number share.new.value.entries ≡ mine number share.old.value.entries }
+        ensures waits { OnOk result (waits_for number share.new.value ≡ Some (Select query, head.new.taken)) }
+        ensures rest { OnErr result (waits_for number share.new.value ≡ None) }
+        ensures grows { IsPrefix (published_of J.opening share.old.value) (published_of J.opening share.new.value) }
+        ensures begun { OnOk result (IsBegun number query self.old.desk.books self.new.desk.books) }
+        ensures kept { OnErr result (self.new.desk.books ≡ self.old.desk.books) }
+        ensures shelf { self.new.shelf ≡ self.old.shelf }
+        ensures same { head.new ≡ record head.old { taken = head.new.taken } }
+        ensures refused { IfErr result (λ e. RefusesCall e) }
+    {
+        self.desk.begin(number, share, head, query)
+    }
+
+    /// The session's open select is answered at the desk.
+    #[tactic(auto, using(crate::proofs::Published::shelf_kept))]
+    pub fn finish(&mut self, number: u64, share: &mut Share<Spine>, reply: Reply)
+        requires share { IsShareOf J.sessions number share.old }
+        requires reply { IsSomeAnd (waits_for number share.old.value) (λ w. reply ≡ reply_to J.limit w.1 w.0) }
+        ensures rest { IsAtRest J.sessions number share.new }
+        ensures mine { IsAnswered number reply share.old.value share.new.value }
+        ensures grows { IsPrefix (published_of J.opening share.old.value) (published_of J.opening share.new.value) }
+        ensures finished { self.new.desk.books ≡ with_settled number (Answered reply) self.old.desk.books }
+        ensures shelf { self.new.shelf ≡ self.old.shelf }
+    {
+        self.desk.finish(number, share, reply);
+    }
+
+    /// The session's open select is given up at the desk.
+    #[tactic(auto, using(crate::proofs::Published::shelf_kept))]
+    pub fn void(&mut self, number: u64, share: &mut Share<Spine>)
+        requires share { IsShareOf J.sessions number share.old }
+        requires waits { IsSome (waits_for number share.old.value) }
+        ensures rest { IsAtRest J.sessions number share.new }
+        ensures mine { mine number share.new.value.entries ≡ mine number share.old.value.entries }
+        ensures grows { IsPrefix (published_of J.opening share.old.value) (published_of J.opening share.new.value) }
+        ensures voided { self.new.desk.books ≡ with_settled number Void self.old.desk.books }
+        ensures shelf { self.new.shelf ≡ self.old.shelf }
+    {
+        self.desk.void(number, share);
+    }
+
+    /// An insert or a delete is answered at the end of the history. Then all updates that are not published yet are published at
+    /// once, or none of them; where there is no memory for it, or none yet, a later commit publishes them. Refused, nothing has
+    /// changed.
+    pub fn commit<R: Wait>(
+        &mut self,
+        rt: &R,
+        number: u64,
+        share: &mut Share<Spine>,
+        call: Call,
+    ) -> Result<(Reply, Front<J>), Refusal>
+        requires rest { IsAtRest J.sessions number share.old }
+        requires changes { is_select call ≡ false }
+        ensures rest { IsAtRest J.sessions number share.new }
+        ensures mine { IfOk result (λ r. IsTold number call r.0 share.old.value share.new.value) }
+        ensures err { OnErr result (mine number share.new.value.entries ≡ mine number share.old.value.entries) }
+        ensures grows { IsPrefix (published_of J.opening share.old.value) (published_of J.opening share.new.value) }
+        ensures shown { OnOk result (share.new.value ≡ self.new.desk.books) }
+        ensures receipt { IfOk result (λ r. r.1 ≡ self.new.shelf.published) }
+        ensures told { IfOk result (λ r. r.1 ≡ published_of J.opening share.new.value) }
+        ensures answered { OnOk result (self.new.desk.books
+            ≡ with_committed J.opening number call self.new.shelf self.old.desk.books) }
+        ensures published { (self.new.shelf.published ≡ self.old.shelf.published)
+            ⊎ (self.new.shelf.published ≡ later J.opening self.new.desk.books) }
+        ensures longer { IsPrefix self.old.shelf.published self.new.shelf.published }
+        ensures viewers { self.new.shelf.viewers ≡ self.old.shelf.viewers }
+        ensures kept { OnErr result ((self.new.desk.books ≡ self.old.desk.books) × (self.new.shelf ≡ self.old.shelf)) }
+        ensures refused { IfErr result (λ e. RefusesCall e) }
+    {
+        let LockedDesk { desk, shelf, book } = self;
+        let reply = desk.commit(number, share, call)?;
+        shelf.catch_up(rt, book, desk.later());
+        let receipt = shelf.published();
+        let count = book.count(&receipt);
+        desk.publish(number, share, count);
+        Ok((reply, receipt))
+    }
+
+    /// A viewer learns what is published, if that begins with all that it has seen, and the receipt of it is given. Either way
+    /// the session's share shows what is published.
+    ///
+    /// Refused `Ahead` where the viewer has seen more than is published, both counted with the opening rows; then nothing has
+    /// changed.
+    pub fn meet(
+        &mut self,
+        number: u64,
+        share: &mut Share<Spine>,
+        viewer: &mut Viewer<J>,
+    ) -> Result<Front<J>, Refusal>
+        requires rest { IsAtRest J.sessions number share.old }
+        ensures rest { IsAtRest J.sessions number share.new }
+        ensures mine { mine number share.new.value.entries ≡ mine number share.old.value.entries }
+        ensures grows { IsPrefix (published_of J.opening share.old.value) (published_of J.opening share.new.value) }
+        ensures shown { published_of J.opening share.new.value ≡ self.old.shelf.published }
+        ensures books { self.new.desk.books ≡ self.old.desk.books }
+        ensures shelf { self.new.shelf ≡ self.old.shelf }
+        ensures receipt { IfOk result (λ r. r ≡ self.old.shelf.published) }
+        ensures met { IfOk result (λ r. IsPrefix viewer.old.seen r × IsLonger viewer.old.told r viewer.new.told) }
+        ensures seen { viewer.new.seen ≡ viewer.old.seen }
+        ensures kept { OnErr result (viewer.new ≡ viewer.old) }
+        ensures refused { IfErr result (IsAhead J.opening viewer.old.seen self.old.shelf.published) }
+    {
+        let LockedDesk { desk, shelf, book } = self;
+        desk.publish(number, share, desk.published());
+        shelf.meet(book, viewer)
+    }
+
+    /// A viewer, which has learnt what is published. The first one has the two copies of the rows made.
+    ///
+    /// Refused `NoMemory` where there is no memory for them, and `TooMany` of limit 16 where that many viewers were ever opened,
+    /// or no place for a reader was got; then nothing has changed.
+    pub fn viewer(&mut self) -> Result<Viewer<J>, Refusal>
+        ensures few { OnOk result (self.old.shelf.viewers < MOST_VIEWERS) }
+        ensures opened { IfOk result (λ v. v ≡ record { seen = self.old.shelf.published; told = self.old.shelf.published }) }
+        ensures counted { OnOk result (self.new ≡ record self.old { shelf = with_viewer self.old.shelf }) }
+        ensures refused { IfErr result (λ e. (self.new ≡ self.old) × RefusesViewer self.old.shelf.viewers e) }
+    {
+        let LockedDesk { desk, shelf, .. } = self;
+        shelf.viewer(desk.opening_rows(), desk.later())
+    }
+
+    /// Waits for the readers, and ends the writer. The desk is left.
+    pub fn end<R: Wait>(self, rt: &R) -> Desk<J>
+        ensures { result ≡ self.desk }
+    {
+        let LockedDesk { desk, shelf, .. } = self;
+        shelf.close(rt);
+        desk
+    }
+}

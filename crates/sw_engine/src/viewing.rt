@@ -1,0 +1,60 @@
+//! Viewers, which read the live rows without waiting.
+
+ghost use Rattle.std.specs.Prelude.{◌≡◌, ◌++◌, IfErr, IfOk};
+ghost use mathlib.Core.List.{IsPrefix};
+ghost use Rattle.sw_rows.specs.Scan.{AsksBelow};
+ghost use Rattle.sw_rows.specs.declared.query.Call.TheVariants.{Select};
+ghost use Rattle.sw_spine.specs.Table.{opened, reply_to};
+ghost use Rattle.sw_versions.specs.Lists.{IsLonger};
+ghost use Rattle.sw_versions.specs.Refused.{RefusesAnswer};
+
+use std::marker::{Model, PhantomData};
+use sw_rows::{Query, Refusal, Reply};
+use sw_versions::{Front, Naming};
+
+/// The list of updates that was published when it was given, to be learnt by a viewer. It takes no memory beyond its length, and
+/// can be copied.
+pub type Receipt<J> = Front<J>;
+
+/// A reader of an engine's live rows, which takes no lock and waits for nobody. It does not outlive its engine.
+///
+/// Contracts see the list of updates that it saw last, and the one that it was told of, the opening rows left out.
+#[derive(Drop)]
+pub struct Viewer<'e, J: Naming> {
+    pub(crate) reader: sw_versions::Viewer<J>,
+    pub(crate) of: PhantomData<&'e ()>,
+}
+
+impl<'e, J: Naming> Model for Viewer<'e, J> {
+    ghost use Rattle.sw_versions.specs.Known.{Known};
+
+    ghost Value = { Known };
+
+    ghost view = { λ v. v.reader };
+}
+
+impl<'e, J: Naming> Viewer<'e, J> {
+    /// What a query is answered over the rows of the list that is then seen, which begins with all that was seen before and with
+    /// all that was told: the reply of the plain table there. It takes memory for a list of rows alone.
+    ///
+    /// Refused `NoMemory`, or `TooMany` of limit 16 where its reader has no place any more; after a refusal it has seen and was
+    /// told what it had. The caller's condition: attributes are below 8.
+    pub fn answer(&mut self, query: &Query) -> Result<Reply, Refusal>
+        requires { AsksBelow 8 query.now }
+        ensures answered { IfOk result (λ r. r ≡ reply_to J.limit (opened J.opening ++ self.new.seen) (Select query.now)) }
+        ensures seen { IfOk result (λ _. IsPrefix self.old.seen self.new.seen) }
+        ensures told { IfOk result (λ _. IsPrefix self.old.told self.new.seen) }
+        ensures same { self.new.told ≡ self.old.told }
+        ensures refused { IfErr result (λ e. (self.new ≡ self.old) × RefusesAnswer query.now.want e) }
+    {
+        self.reader.answer(query)
+    }
+
+    /// The receipt's list counts as told. It takes no memory.
+    pub fn learn(&mut self, receipt: Receipt<J>)
+        ensures told { IsLonger self.old.told receipt self.new.told }
+        ensures seen { self.new.seen ≡ self.old.seen }
+    {
+        self.reader.learn(receipt);
+    }
+}

@@ -1,0 +1,36 @@
+-- Rows that were read in parts, each part with records of its own from 1.
+use Rattle.std.specs.Prelude.{◌≡◌, ◌+◌, ◌≤◌, ◌==◌, ◌<◌, ◌^◌, All, get_or, if◌then◌else◌, ℕ, Bool, not, List, ◌++◌, length, map, nat_lt, Result, Ok, Err}
+use Rattle.std.specs.List.{list_all}
+use Rattle.sw_rows.specs.Header.{Fault, bad_table, too_many}
+use Rattle.sw_rows.specs.Tables.{◌>>=◌}
+use Rattle.sw_table.specs.Packed.{Packed, row_behind}
+use Rattle.sw_table.specs.declared.row.Row.{Row}
+
+-- no byte is a double quote
+abbrev pub has_no_quote : List ℕ → Bool
+has_no_quote bytes = list_all (λ c. not (c == 34)) bytes
+
+-- no byte order mark begins here
+abbrev pub begins_plain : List ℕ → Bool
+begins_plain bytes = not (get_or bytes 0 0 == 239)
+
+-- few rows of n cells, of which each key can be raised
+pub record IsPart (n : ℕ) (part : Packed) : Type 0 where
+  pub few : length part.items ≤ 1048576
+  pub keys : All (λ r. r.key < 2 ^ 63) part.items
+  pub width : part.width ≡ n
+
+-- a fault of a record behind n others
+abbrev pub fault_behind : ℕ → Fault → Fault
+fault_behind n (bad_table rec field) = if nat_lt 1048576 (n + rec) then too_many 1048576 else bad_table (n + rec) field
+fault_behind n (too_many limit) = too_many 1048576
+
+-- what comes of a part behind rows
+abbrev pub rows_behind : List Row → Result (List Row) Fault → Result (List Row) Fault
+rows_behind rows (Ok more) =
+    if nat_lt 1048576 (length rows + length more) then Err (too_many 1048576) else Ok (rows ++ map (row_behind (length rows)) more)
+rows_behind rows (Err e) = Err (fault_behind (length rows) e)
+
+-- what comes of two parts; the first fault in order decides
+abbrev pub rows_joined : Result (List Row) Fault → Result (List Row) Fault → Result (List Row) Fault
+rows_joined first rest = first >>= λ rows. rows_behind rows rest

@@ -1,0 +1,245 @@
+//! A table that is read in parts, each by a thread of its own.
+
+ghost use Rattle.std.specs.Prelude.{◌≡◌, ◌<◌, ◌≤◌, ◌==◌, ◌++◌, [], ◌∷◌, ℕ, List, true, drop, get_or, length, not, take, Result, Ok, Err, IfOk, IfSome};
+ghost use Rattle.std.specs.List.{list_all};
+ghost use Rattle.std.specs.Thread.{IsSync};
+ghost use Rattle.csv.specs.Reading.{default_config, is_bom, records, strip_bom};
+ghost use Rattle.sw_rows.specs.Gives.{Fails, Gives};
+ghost use Rattle.sw_rows.specs.Header.{Fault, header_of, kinds_of};
+ghost use Rattle.sw_rows.specs.Parts.{IsPart, begins_plain, has_no_quote, rows_behind, rows_joined};
+ghost use Rattle.sw_rows.specs.Tables.{rows_after, shown_packed, table_in};
+ghost use Rattle.sw_table.specs.declared.row.Row.{Row};
+
+use crate::records;
+use crate::refusal::Refusal;
+use crate::schema::{Schema, read_header};
+use crate::table::{MOST_ROWS, read_rows, read_table};
+use csv::ByteRecord;
+use std::alloc::Global;
+use std::thread::{Threads, join};
+use sw_table::PackedRows;
+
+/// How often a table is halved at most.
+const HALVINGS: u32 = 2;
+
+/// How many bytes a part has at least that is halved.
+const LEAST_HALVED: usize = 1_048_576;
+
+/// Whether no byte is a double quote.
+fn has_no_quote(bytes: &[u8]) -> bool
+    ensures { result ≡ has_no_quote bytes.now }
+{
+    // Goes on behind a quote, so that many bytes are compared at once.
+    let mut found = false;
+    for c in bytes {
+        found |= *c == b'"';
+    }
+    !found
+}
+
+/// Where the first line feed is.
+fn feed_at(bytes: &[u8]) -> Option<usize>
+    ensures { IfSome result (λ at. (at < length bytes.now) × (get_or bytes.now at 0 ≡ 10)) }
+{
+    bytes.iter().position(|c| *c == b'\n')
+}
+
+/// Whether the bytes begin with none that a byte order mark begins with.
+fn begins_plain(bytes: &[u8]) -> bool
+    ensures { result ≡ begins_plain bytes.now }
+{
+    match bytes.first() {
+        Some(c) => *c != 0xEF,
+        None => true,
+    }
+}
+
+/// Where the bytes may be cut in two, the first line feed from a place on: their records are those of both parts.
+fn cut(bytes: &[u8], from: usize) -> Option<usize>
+    requires { from ≤ length bytes.now }
+    ensures inside { IfSome result (λ at. at ≤ length bytes.now) }
+    ensures plain { IfSome result (λ at. begins_plain (drop at bytes.now) ≡ true) }
+    ensures records { IfSome result (λ at. records default_config bytes.now ≡ records default_config (take at bytes.now) ++ records default_config (drop at bytes.now)) }
+{
+    let (_, back) = bytes.split_at(from);
+    let at = from + feed_at(back)? + 1;
+    let (left, right) = bytes.split_at(at);
+    if has_no_quote(left) && begins_plain(right) {
+        Some(at)
+    } else {
+        None
+    }
+}
+
+/// Reads the rows of a part.
+fn read_part(alloc: Global, schema: &Schema, part: &[u8]) -> Result<PackedRows, Refusal>
+    requires { begins_plain part.now ≡ true }
+    ensures rows { Gives ⊥ (λ rows. rows.items) result (rows_after (kinds_of schema.now) [] (records default_config part.now)) }
+    ensures part { IfOk result (IsPart (length schema.now)) }
+{
+    let mut rdr = records::open(alloc, part);
+    let mut row = ByteRecord::new(alloc);
+    read_rows(alloc, schema, &mut rdr, &mut row)
+}
+
+/// Adds the rows of a part, of which each takes the number behind its own.
+fn append(rows: &mut PackedRows, more: &PackedRows) -> Result<(), Refusal>
+    requires few { length rows.old.items ≤ 1048576 }
+    requires more { IsPart rows.old.width more.now }
+    ensures gives { Gives ⊥ (λ _. rows.new.items) result (rows_behind rows.old.items (Ok more.now.items)) }
+    ensures width { rows.new.width ≡ rows.old.width }
+{
+    if (rows.len() + more.len()) as u64 > MOST_ROWS {
+        return Err(Refusal::TooMany { limit: MOST_ROWS });
+    }
+    match rows.extend_behind(more) {
+        Ok(()) => Ok(()),
+        Err(_) => Err(Refusal::NoMemory),
+    }
+}
+
+/// The refusal of a part that lies behind so many rows.
+fn behind(count: u64, refusal: Refusal) -> Refusal
+    requires { count ≤ 1048576 }
+    ensures { (rows : List Row) (read : Result (List Row) Fault) → length rows ≡ count → Fails ⊥ refusal read → Fails ⊥ result (rows_behind rows read) }
+{
+    match refusal {
+        Refusal::BadTable { rec, field } if rec <= MOST_ROWS - count => Refusal::BadTable {
+            rec: count + rec,
+            field,
+        },
+        Refusal::BadTable { rec: _, field: _ } | Refusal::TooMany { limit: _ } => {
+            Refusal::TooMany { limit: MOST_ROWS }
+        }
+        // A part tells of nothing else but memory.
+        _ => Refusal::NoMemory,
+    }
+}
+
+/// The rows of two parts, or the first fault of both.
+fn joined(
+    first: Result<PackedRows, Refusal>,
+    rest: Result<PackedRows, Refusal>,
+) -> Result<PackedRows, Refusal>
+    requires first { IfOk first (λ rows. IsPart rows.width rows) }
+    requires rest { IfOk first (λ rows. IfOk rest (IsPart rows.width)) }
+    ensures width { (n : ℕ) → IfOk first (IsPart n) → IfOk result (λ all. all.width ≡ n) }
+    ensures gives { (a b : Result (List Row) Fault) → Gives ⊥ (λ rows. rows.items) first a → Gives ⊥ (λ rows. rows.items) rest b → Gives ⊥ (λ rows. rows.items) result (rows_joined a b) }
+{
+    let mut rows = match first {
+        Ok(rows) => rows,
+        Err(refusal) => return Err(refusal),
+    };
+    match rest {
+        Ok(more) => match append(&mut rows, &more) {
+            Ok(()) => Ok(rows),
+            Err(refusal) => Err(refusal),
+        },
+        Err(refusal) => Err(behind(rows.len() as u64, refusal)),
+    }
+}
+
+/// Reads the rows of a part, halved so many times, in a thread for each half.
+#[cycle(halves)]
+fn read_halves<R: Threads + Sync>(
+    rt: &R,
+    alloc: Global,
+    schema: &Schema,
+    part: &[u8],
+    halvings: u32,
+) -> Result<PackedRows, Refusal>
+    requires { begins_plain part.now ≡ true }
+    ensures rows { Gives ⊥ (λ rows. rows.items) result (rows_after (kinds_of schema.now) [] (records default_config part.now)) }
+    ensures part { IfOk result (IsPart (length schema.now)) }
+{
+    if halvings == 0 || part.len() < LEAST_HALVED {
+        return read_part(alloc, schema, part);
+    }
+    let Some(at) = cut(part, part.len() / 2) else {
+        return read_part(alloc, schema, part);
+    };
+    let (left, right) = part.split_at(at);
+    let fewer = halvings - 1;
+    let (first, rest) = join(
+        rt,
+        || -> Result<PackedRows, Refusal>
+            requires { IsSync R.row × (begins_plain left.now ≡ true) }
+            ensures rows { Gives ⊥ (λ rows. rows.items) result (rows_after (kinds_of schema.entry.now) [] (records default_config left.entry.now)) }
+            ensures part { IfOk result (IsPart (length schema.entry.now)) }
+        { read_halves(rt, alloc, schema, left, fewer) },
+        || -> Result<PackedRows, Refusal>
+            requires { IsSync R.row × (begins_plain right.now ≡ true) }
+            ensures rows { Gives ⊥ (λ rows. rows.items) result (rows_after (kinds_of schema.entry.now) [] (records default_config right.entry.now)) }
+            ensures part { IfOk result (IsPart (length schema.entry.now)) }
+        { read_halves(rt, alloc, schema, right, fewer) },
+    );
+    joined(first, rest)
+}
+
+// Whether three bytes are a byte order mark.
+fn is_mark(a: u8, b: u8, c: u8) -> bool
+    ensures { result ≡ is_bom a b c }
+{
+    a == 0xEF && b == 0xBB && c == 0xBF
+}
+
+/// The bytes without a byte order mark at their start.
+#[tactic(auto, using(crate::proofs::CutLaw::short_bom, crate::proofs::CutLaw::no_bom, crate::proofs::CutLaw::one_bom))]
+fn unmarked(bytes: &[u8]) -> &[u8]
+    ensures { result.now ≡ strip_bom bytes.now }
+{
+    if bytes.len() < 3 {
+        return bytes;
+    }
+    if !is_mark(bytes[0], bytes[1], bytes[2]) {
+        return bytes;
+    }
+    let (_, rest) = bytes.split_at(3);
+    rest
+}
+
+/// The attributes of bytes that are one record, where they are that and it is a header.
+fn read_head(alloc: Global, head: &[u8]) -> Option<Schema>
+    requires { begins_plain head.now ≡ true }
+    ensures { IfSome result (λ s. (h : List (List ℕ)) × (records default_config head.now ≡ h ∷ []) × (header_of h ≡ Ok s)) }
+{
+    let mut rdr = records::open(alloc, head);
+    let mut row = ByteRecord::new(alloc);
+    let Ok(true) = records::next(&mut rdr, &mut row) else {
+        return None;
+    };
+    let mut more = ByteRecord::new(alloc);
+    let Ok(false) = records::next(&mut rdr, &mut more) else {
+        return None;
+    };
+    match read_header(alloc, &row) {
+        Ok(schema) => Some(schema),
+        Err(_) => None,
+    }
+}
+
+/// Reads the table that bytes spell, its rows in parts, each in a thread, where it is long.
+pub(crate) fn read_table_in_parts<R: Threads + Sync>(
+    rt: &R,
+    alloc: Global,
+    bytes: &[u8],
+) -> Result<(Schema, PackedRows), Refusal>
+    ensures gives { Gives ⊥ shown_packed result (table_in bytes.now) }
+    ensures width { IfOk result (λ t. t.1.width ≡ length t.0) }
+{
+    let text = unmarked(bytes);
+    if !begins_plain(text) {
+        return read_table(alloc, bytes);
+    }
+    let Some(at) = cut(text, 0) else {
+        return read_table(alloc, bytes);
+    };
+    let (head, body) = text.split_at(at);
+    let Some(schema) = read_head(alloc, head) else {
+        return read_table(alloc, bytes);
+    };
+    match read_halves(rt, alloc, &schema, body, HALVINGS) {
+        Ok(rows) => Ok((schema, rows)),
+        Err(refusal) => Err(refusal),
+    }
+}

@@ -1,0 +1,5 @@
+pub mod Lists
+pub mod Rules
+pub mod Known
+pub mod Pending
+pub mod Refused

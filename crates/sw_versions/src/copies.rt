@@ -1,0 +1,177 @@
+//! The two copies of the rows that readers take, with the writer of both.
+
+ghost use Rattle.std.specs.Prelude.{◌≡◌, ◌⊎◌, ◌<◌, ◌+◌, ◌++◌, ◌∷◌, [], None, drop, fold, IfOk, IfSome, MatchResult, OnErr, OnOk, is_some, true};
+ghost use Rattle.sw_table.specs.Live.{live_rows};
+ghost use Rattle.sw_versions.specs.Lists.{EndsWith, rows_after};
+ghost use Rattle.sw_versions.specs.Known.{wrote};
+ghost use Rattle.sw_versions.specs.Pending.{HasPublishedOr, IsPlain, all_of};
+ghost use Rattle.sw_versions.specs.declared.viewer.TheConstants.{MOST_VIEWERS};
+
+use crate::book::{Front, Naming};
+use crate::live::{Live, Op};
+use crate::viewer::{MOST_VIEWERS, Viewer};
+use core::mem::replace_with;
+use crossbeam_utils::rule::Unruled;
+use left_right::Absorb;
+use left_right::writer::Writer;
+use std::alloc::{AllocError, Global};
+use std::marker::Model;
+use std::mem::ManuallyDrop;
+use std::sync::Wait;
+use sw_table::{LiveTable, Update};
+
+/// The writer of the copies, and the operation that it had no memory to take. It is ended by `end` alone: where it is dropped
+/// before, the copies stay where they are.
+#[derive(Drop)]
+pub struct Copies<J: Naming>
+where
+    Live<J>: Absorb<Op<J>, State = [Update; 0]>,
+{
+    writer: ManuallyDrop<Writer<Live<J>, Op<J>, (), Unruled>>,
+    waiting: Option<Op<J>>,
+    viewers: u64,
+}
+
+impl<J: Naming> Model for Copies<J>
+where
+    Live<J>: Absorb<Op<J>, State = [Update; 0]>,
+{
+    ghost use Rattle.std.specs.Prelude.{drop};
+    ghost use Rattle.sw_versions.specs.Known.{Written};
+    ghost use Rattle.sw_versions.specs.Pending.{IsPlain};
+
+    ghost Value = { Written };
+
+    ghost view = { λ c. record {
+      published = c.writer.value.desk.shown.value;
+      pending = drop c.writer.value.behind c.writer.value.log.items;
+      waiting = c.waiting;
+      viewers = c.viewers;
+    } };
+
+    ghost invariant = { λ c. IsPlain ⟦<Live<J> as Absorb<Op<J>>>⟧.state ⟦<Live<J> as Absorb<Op<J>>>⟧.applied };
+}
+
+/// Publishes all that is pending. After an error readers see what they saw.
+fn publish<J: Naming, R: Wait>(
+    rt: &R,
+    writer: &mut Writer<Live<J>, Op<J>, (), Unruled>,
+) -> Result<(), AllocError>
+where
+    Live<J>: Absorb<Op<J>, State = [Update; 0]>,
+    ensures { HasPublishedOr ⟦<Live<J> as Absorb<Op<J>>>⟧.state ⟦<Live<J> as Absorb<Op<J>>>⟧.applied
+        writer.old.desk.shown.value (drop writer.old.behind writer.old.log.items)
+        writer.new.desk.shown.value (drop writer.new.behind writer.new.log.items) result }
+{
+    replace_with(writer, rt, |writer, rt| {
+        writer.publish_as::<Unruled, R>(rt)
+    })
+}
+
+impl<J: Naming> Copies<J>
+where
+    Live<J>: Absorb<Op<J>, State = [Update; 0]>,
+{
+    /// Copies of the rows of a list, which is published. The one error is that there is no memory for them.
+    pub(crate) fn new(
+        alloc: Global,
+        first: LiveTable,
+        second: LiveTable,
+        front: &Front<J>,
+    ) -> Result<Copies<J>, AllocError>
+        requires plain { IsPlain ⟦<Live<J> as Absorb<Op<J>>>⟧.state ⟦<Live<J> as Absorb<Op<J>>>⟧.applied }
+        requires first { live_rows first ≡ rows_after J.opening front.now }
+        requires second { live_rows second ≡ rows_after J.opening front.now }
+        ensures { IfOk result (λ c. c ≡ wrote front.now) }
+    {
+        let first = Live::new(first, front.again());
+        let second = Live::new(second, front.again());
+        let writer = Writer::new(alloc, first, second, MOST_VIEWERS as usize)?;
+        Ok(Copies {
+            // a writer is ended and not dropped
+            writer: unsafe { ManuallyDrop::new_unchecked(writer) },
+            waiting: None,
+            viewers: 0,
+        })
+    }
+
+    /// The list that readers take.
+    pub(crate) fn published(&self) -> Front<J>
+        ensures { result ≡ self.now.published }
+    {
+        self.writer.published().front().again()
+    }
+
+    /// Whether an operation waits for memory.
+    pub(crate) fn waits(&self) -> bool
+        ensures { result ≡ is_some self.now.waiting }
+    {
+        self.waiting.is_some()
+    }
+
+    /// The last update of a list is to be taken, where none waits.
+    pub(crate) fn put(&mut self, update: Update, front: Front<J>)
+        requires none { self.old.waiting ≡ None }
+        requires last { EndsWith front update }
+        ensures all { all_of self.new ≡ all_of self.old ++ update ∷ [] }
+        ensures published { self.new.published ≡ self.old.published }
+        ensures viewers { self.new.viewers ≡ self.old.viewers }
+    {
+        self.waiting = Some(Op::new(update, front));
+    }
+
+    /// The writer takes what waits: whether nothing waits now.
+    pub(crate) fn append(&mut self) -> bool
+        ensures none { result ≡ true → self.new.waiting ≡ None }
+        ensures all { all_of self.new ≡ all_of self.old }
+        ensures published { self.new.published ≡ self.old.published }
+        ensures viewers { self.new.viewers ≡ self.old.viewers }
+    {
+        match self.waiting.take() {
+            Some(op) => match self.writer.append(op) {
+                Ok(()) => true,
+                Err(op) => {
+                    self.waiting = Some(op);
+                    false
+                }
+            },
+            None => true,
+        }
+    }
+
+    /// Publishes all that the writer has, where nothing waits. Without memory for it readers see what they saw.
+    pub(crate) fn publish<R: Wait>(&mut self, rt: &R)
+        requires none { self.old.waiting ≡ None }
+        ensures published { (self.new.published ≡ self.old.published) ⊎ (self.new.published ≡ all_of self.old) }
+        ensures all { all_of self.new ≡ all_of self.old }
+        ensures viewers { self.new.viewers ≡ self.old.viewers }
+    {
+        let _ = publish(rt, &mut self.writer);
+    }
+
+    /// A viewer, which has learnt what is published; none where there were as many as there may be, or where no place for a reader
+    /// was got.
+    pub(crate) fn viewer(&mut self, alloc: Global) -> Option<Viewer<J>>
+        ensures few { IfSome result (λ _. self.old.viewers < MOST_VIEWERS) }
+        ensures some { IfSome result (λ v. v ≡ record { seen = self.old.published; told = self.old.published }) }
+        ensures counted { IfSome result (λ _. self.new ≡ record self.old { viewers = self.old.viewers + 1 }) }
+        ensures none { result ≡ None → self.new ≡ self.old }
+    {
+        if self.viewers >= MOST_VIEWERS {
+            return None;
+        }
+        match self.writer.factory().reader() {
+            Ok(reader) => {
+                self.viewers += 1;
+                Some(Viewer::new(alloc, reader, self.published()))
+            }
+            Err(_) => None,
+        }
+    }
+
+    /// Waits for the readers, and ends the writer.
+    pub(crate) fn end<R: Wait>(self, rt: &R) {
+        let Copies { writer, .. } = self;
+        drop(ManuallyDrop::into_inner(writer).take(rt));
+    }
+}

@@ -1,0 +1,14 @@
+//! Versions of the live rows for readers that never wait: one list of updates, of which each reader's list and each receipt is a
+//! beginning.
+#![tactic(auto)]
+
+mod book;
+mod copies;
+mod live;
+mod shelf;
+mod viewer;
+
+pub use book::{Book, Front, Naming, Opened};
+pub use live::{Live, Op};
+pub use shelf::Shelf;
+pub use viewer::{MOST_VIEWERS, Viewer};
