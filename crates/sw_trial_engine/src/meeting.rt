@@ -8,7 +8,6 @@ ghost use Rattle.sw_spine.specs.History.{CallsBelow, IsLegal};
 ghost use Rattle.sw_versions.specs.Pending.{IsPlain};
 
 use crate::running::{Trial, cleared, numbered};
-use crate::viewing::count_all;
 use left_right::Absorb;
 use std::alloc::{AllocError, Global};
 use std::marker::Brand;
@@ -16,7 +15,7 @@ use std::sync::atomic::{AtomicBool, Ordering};
 use std::sync::{Arc, Wait};
 use std::thread;
 use std::thread::Threads;
-use sw_engine::{Blank, Engine, Naming, Session, Ticket, Viewer, deal};
+use sw_engine::{Blank, Engine, Naming, Session, Ticket, deal};
 use sw_lang::{Cuts, parse_cuts};
 use sw_map::CrackerMap;
 use sw_rows::{Call, PackedRows, Refusal, Schema, Update};
@@ -60,8 +59,7 @@ impl Table {
     }
 }
 
-/// A session, its calls, whether it waits until the other's call is under way, a viewer that answers then, and boxes that come and
-/// go.
+/// A session, its calls, whether it waits until the other's call is under way, and boxes that come and go.
 #[derive(Drop)]
 struct Turn<'e, J: Naming, M: CrackerMap>
 where
@@ -70,7 +68,6 @@ where
     session: Session<'e, J, M>,
     calls: &'e [Call],
     waits: bool,
-    viewer: Option<Viewer<'e, J>>,
     later: Vec<M>,
 }
 
@@ -114,21 +111,9 @@ where
     }
 }
 
-/// Whether a viewer, where there is one, answers how many rows there are.
-fn is_answered<J: Naming>(alloc: Global, viewer: Option<Viewer<'_, J>>) -> bool {
-    match viewer {
-        Some(viewer) => {
-            let mut viewer = viewer;
-            viewer.answer(&count_all(alloc)).is_ok()
-        }
-        None => true,
-    }
-}
-
 /// Makes the calls, first the wait where there is one, and tells that it has ended.
 fn take_turn<J: Naming, M: CrackerMap, R: Threads + Wait + Sync>(
     rt: &R,
-    alloc: Global,
     engine: &Engine<J, M>,
     turn: Turn<'_, J, M>,
     signals: &Signals,
@@ -142,12 +127,10 @@ where
         mut session,
         calls,
         waits,
-        viewer,
         later,
     } = turn;
     keep(rt, engine, later);
     let mut answered = !waits || Gate::wait_for(&signals.begun, TURNS);
-    answered = is_answered(alloc, viewer) && answered;
     for call in calls {
         if session.call(rt, call).is_err() {
             answered = false;
@@ -162,12 +145,11 @@ where
     }
 }
 
-/// The turns of two sessions, of which the second waits and has a viewer, and of a third that has boxes and makes no call. None
-/// where there are not three tickets.
+/// The turns of two sessions, of which the second waits, and of a third that has boxes and makes no call. None where there are not
+/// three tickets.
 fn all_turns<'e, J: Naming, M: CrackerMap>(
     alloc: Global,
     engine: &'e Engine<J, M>,
-    viewer: Viewer<'e, J>,
     tickets: Vec<Ticket<J>>,
     first: &'e [Call],
     second: &'e [Call],
@@ -188,21 +170,18 @@ where
         session: engine.attach(one),
         calls: first,
         waits: false,
-        viewer: None,
         later: Vec::new(alloc),
     })?;
     turns.push(Turn {
         session: engine.attach(two),
         calls: second,
         waits: true,
-        viewer: Some(viewer),
         later: Vec::new(alloc),
     })?;
     turns.push(Turn {
         session: engine.attach(three),
         calls: &[],
         waits: false,
-        viewer: None,
         later,
     })?;
     Ok(turns)
@@ -231,7 +210,6 @@ where
 /// Takes the turns in threads of their own.
 fn take_turns<'e, J: Naming + Send + Sync, M: CrackerMap, R: Threads + Wait + Sync>(
     rt: &R,
-    alloc: Global,
     engine: &Engine<J, M>,
     turns: Vec<Turn<'e, J, M>>,
     signals: &Signals,
@@ -246,7 +224,7 @@ where
         turns,
         &|turn: Turn<'_, J, M>| -> Done<J>
             requires { (1 < length J.columns) × All (λ c. CallsBelow (length J.columns) c) turn.calls.now }
-        { take_turn(rt, alloc, engine, turn, signals) },
+        { take_turn(rt, engine, turn, signals) },
     )
 }
 
@@ -275,7 +253,7 @@ where
     }
 }
 
-/// Takes the turns of the sessions of three tickets and of a viewer.
+/// Takes the turns of the sessions of three tickets.
 fn take_all<J: Naming + Send + Sync, M: CrackerMap, R: Threads + Wait + Sync>(
     rt: &R,
     alloc: Global,
@@ -292,11 +270,10 @@ where
     requires first { All (λ c. CallsBelow (length J.columns) c) first.now }
     requires second { All (λ c. CallsBelow (length J.columns) c) second.now }
 {
-    let viewer = engine.viewer(rt)?;
-    let Ok(turns) = all_turns(alloc, engine, viewer, tickets, first, second, later) else {
+    let Ok(turns) = all_turns(alloc, engine, tickets, first, second, later) else {
         return Err(Refusal::NoMemory);
     };
-    match take_turns(rt, alloc, engine, turns, signals) {
+    match take_turns(rt, engine, turns, signals) {
         Ok(done) => Ok(done),
         Err(_) => Err(Refusal::NoMemory),
     }
@@ -423,7 +400,6 @@ where
             session: engine.attach(ticket),
             calls: blocks[place].as_slice(),
             waits: false,
-            viewer: None,
             later: Vec::new(alloc),
         });
     }
@@ -451,7 +427,7 @@ where
 {
     deal(rt, &engine, columns, maps)?;
     let turns = block_turns(alloc, &engine, tickets, blocks)?;
-    let Ok(done) = take_turns(rt, alloc, &engine, turns, signals) else {
+    let Ok(done) = take_turns(rt, &engine, turns, signals) else {
         return Err(Refusal::NoMemory);
     };
     end(rt, alloc, engine, done)
@@ -540,8 +516,8 @@ pub(crate) fn play<M: CrackerMap, R: Threads + Wait + Sync>(
     play_picked::<Brand, M, R>(rt, alloc, Blank::new(), table, maps, blocks, &signals)
 }
 
-/// Two sessions over the table, each on a thread of its own: once `begun` is set a viewer answers and the second makes its calls,
-/// and `answered` is set behind them. The first head of the engine has the gated boxes, the second the free ones, and the later ones come
+/// Two sessions over the table, each on a thread of its own: once `begun` is set the second makes its calls, and
+/// `answered` is set behind them. The first head of the engine has the gated boxes, the second the free ones, and the later ones come
 /// and go in a third session's thread; all are made blank. Tells the record, and whether all calls were answered and `begun` was set in
 /// time.
 pub(crate) fn meet<M: CrackerMap, R: Threads + Wait + Sync>(
