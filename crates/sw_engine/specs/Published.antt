@@ -1,16 +1,19 @@
 -- What the shelf under the lock has of the history's updates, and what the sessions' shares show of it.
-use Rattle.std.specs.Prelude.{ℕ, ◌≡◌, ◌+◌, List, [], Bool, None, Some, MatchResult, Result, drop, length, slice_get, take}
+use Rattle.std.specs.Prelude.{ℕ, ◌≡◌, ◌+◌, ◌++◌, List, [], Bool, None, Some, MatchResult, Result, drop, length, slice_get, take}
 use mathlib.Core.List.{IsPrefix}
 use Rattle.sw_table.specs.declared.row.Row.{Row}
 use Rattle.sw_table.specs.declared.row.Update.{Update}
+use Rattle.sw_rows.specs.declared.query.Query.{Query}
 use Rattle.sw_rows.specs.declared.query.Call.{Call}
 use Rattle.sw_rows.specs.declared.query.Call.TheVariants as call
+use Rattle.sw_rows.specs.declared.reply.Reply.{Reply}
 use Rattle.sw_rows.specs.declared.refusal.Refusal.{Refusal}
 use Rattle.sw_rows.specs.declared.refusal.Refusal.TheVariants as refusal
 use Rattle.sw_spine.specs.History.{mine}
 use Rattle.sw_spine.specs.Books.{Books, updates, waits_for, with_answered, with_published}
+use Rattle.sw_spine.specs.Table.{opened, reply_to}
 use Rattle.sw_tie.specs.declared.Share.{Share}
-use Rattle.sw_versions.specs.Known.{Shelved}
+use Rattle.sw_versions.specs.Known.{Known, Shelved}
 use Rattle.sw_versions.specs.declared.viewer.TheConstants.{MOST_VIEWERS}
 
 -- the updates after the opening rows
@@ -39,6 +42,14 @@ no_versions = record { booked = []; published = []; viewers = 0 }
 -- a call is answered at the end of the history, and the spine has the number of the updates that are published
 abbrev pub with_committed : List Row → ℕ → Call → Shelved → Books → Books
 with_committed opening session c s b = with_published (length opening + length s.published) (with_answered session c b)
+
+-- a new viewer has seen, and was told, what is published
+abbrev pub new_viewer : Shelved → Known
+new_viewer s = record { seen = s.published; told = s.published }
+
+-- what the plain table answers a query after the opening rows and a list of updates
+abbrev pub answer_after : ℕ → List Row → List Update → Query → Reply
+answer_after limit opening list q = reply_to limit (opened opening ++ list) (call.Select q)
 
 -- one viewer more was opened
 abbrev pub with_viewer : Shelved → Shelved

@@ -240,7 +240,8 @@ where
     /// plain list of rows, and each session's answered entries are the calls that were answered to it.
     ///
     /// Refused `SharesOut` with both numbers otherwise; then the engine and the tickets come back, and it has waited for nobody.
-    /// It takes no memory. Where it is not refused it waits for viewers that are answering.
+    /// It takes no memory. Where it is not refused it ends the writer of the copies; no viewer is left
+    /// then, by their types.
     pub fn close<R: Wait>(
         self,
         rt: &R,
@@ -337,7 +338,8 @@ where
     #[tactic(auto, using(crate::proofs::Parts::taken_within, crate::proofs::Parts::taken_more))]
     fn add_rows<R: Wait>(&self, rt: &R, rows: &mut PackedRows, most: usize) -> Result<(), Refusal>
         requires { rows.old.items ≡ take (length rows.old.items) J.opening }
-        ensures { MatchResult result (λ _. rows.new.items ≡ take (length rows.old.items + most) J.opening) (λ e. e ≡ NoMemory) }
+        ensures ok { OnOk result (rows.new.items ≡ take (length rows.old.items + most) J.opening) }
+        ensures err { IfErr result (λ e. e ≡ NoMemory) }
     {
         let Ok(next) = self.some_rows(rt, rows.len(), most) else {
             return Err(Refusal::NoMemory);

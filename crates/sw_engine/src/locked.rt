@@ -13,7 +13,7 @@ ghost use Rattle.sw_versions.specs.Lists.{IsLonger};
 ghost use Rattle.sw_versions.specs.Refused.{IsAhead, RefusesViewer};
 ghost use Rattle.sw_versions.specs.declared.viewer.TheConstants.{MOST_VIEWERS};
 ghost use Rattle.sw_engine.specs.Desk.{InOrder, IsAnswered, IsAtRest, IsBegun, IsShareOf, IsTold, RefusesCall, RefusesMany};
-ghost use Rattle.sw_engine.specs.Published.{IsNewShare, later, no_versions, published_of, with_committed, with_viewer};
+ghost use Rattle.sw_engine.specs.Published.{IsNewShare, later, new_viewer, no_versions, published_of, with_committed, with_viewer};
 
 use crate::desk::{Desk, Ticket};
 use crate::latch::LatchedHead;
@@ -257,7 +257,7 @@ where
     /// or no place for a reader was got; then nothing has changed.
     pub fn viewer(&mut self) -> Result<Viewer<J>, Refusal>
         ensures few { OnOk result (self.old.shelf.viewers < MOST_VIEWERS) }
-        ensures opened { IfOk result (λ v. v ≡ record { seen = self.old.shelf.published; told = self.old.shelf.published }) }
+        ensures opened { IfOk result (λ v. v ≡ new_viewer self.old.shelf) }
         ensures counted { OnOk result (self.new ≡ record self.old { shelf = with_viewer self.old.shelf }) }
         ensures refused { IfErr result (λ e. (self.new ≡ self.old) × RefusesViewer self.old.shelf.viewers e) }
     {

@@ -1,10 +1,9 @@
 //! Viewers, which read the live rows without waiting.
 
-ghost use Rattle.std.specs.Prelude.{◌≡◌, ◌++◌, IfErr, IfOk};
+ghost use Rattle.std.specs.Prelude.{◌≡◌, IfErr, IfOk};
 ghost use mathlib.Core.List.{IsPrefix};
 ghost use Rattle.sw_rows.specs.Scan.{AsksBelow};
-ghost use Rattle.sw_rows.specs.declared.query.Call.TheVariants.{Select};
-ghost use Rattle.sw_spine.specs.Table.{opened, reply_to};
+ghost use Rattle.sw_engine.specs.Published.{answer_after};
 ghost use Rattle.sw_versions.specs.Lists.{IsLonger};
 ghost use Rattle.sw_versions.specs.Refused.{RefusesAnswer};
 
@@ -12,8 +11,8 @@ use std::marker::{Model, PhantomData};
 use sw_rows::{Query, Refusal, Reply};
 use sw_versions::{Front, Naming};
 
-/// The list of updates that was published when it was given, to be learnt by a viewer. It takes no memory beyond its length, and
-/// can be copied.
+/// The list of updates that was published when it was given, to be learnt by a viewer. It takes no memory, however
+/// long the list is, and can be copied.
 pub type Receipt<J> = Front<J>;
 
 /// A reader of an engine's live rows, which takes no lock and waits for nobody. It does not outlive its engine.
@@ -41,7 +40,7 @@ impl<'e, J: Naming> Viewer<'e, J> {
     /// told what it had. The caller's condition: attributes are below 8.
     pub fn answer(&mut self, query: &Query) -> Result<Reply, Refusal>
         requires { AsksBelow 8 query.now }
-        ensures answered { IfOk result (λ r. r ≡ reply_to J.limit (opened J.opening ++ self.new.seen) (Select query.now)) }
+        ensures answered { IfOk result (λ r. r ≡ answer_after J.limit J.opening self.new.seen query.now) }
         ensures seen { IfOk result (λ _. IsPrefix self.old.seen self.new.seen) }
         ensures told { IfOk result (λ _. IsPrefix self.old.told self.new.seen) }
         ensures same { self.new.told ≡ self.old.told }
