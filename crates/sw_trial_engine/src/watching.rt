@@ -35,7 +35,6 @@ pub(crate) struct Watch {
     pub viewers: usize,
     pub looks: usize,
     pub query: Query,
-    ghost asks: { AsksBelow 8 query },
 }
 
 /// The receipt that a session had after it had inserted the row of a key.
@@ -69,7 +68,7 @@ impl<J: Naming> Board<J> {
     }
 }
 
-/// A session and its calls, or a viewer and what it has seen.
+/// A session and its calls, or a viewer and what it has seen. Two options and no enum: a closure over that is dearer to prove.
 #[derive(Drop)]
 struct Side<'e, J: Naming, M: CrackerMap>
 where
@@ -135,7 +134,9 @@ fn look_on<J: Naming, R: Wait>(
     watch: &Watch,
     viewer: &mut Viewer<'_, J>,
     seen: &mut Vec<Seen>,
-) -> bool {
+) -> bool
+    requires { AsksBelow 8 watch.now.query }
+{
     let mut answered = true;
     for _ in 0..watch.looks {
         let key = board.teach(rt, viewer);
@@ -154,7 +155,8 @@ fn take_side<J: Naming, M: CrackerMap, R: Threads + Wait + Sync>(
 ) -> Came<J>
 where
     Live<J>: Absorb<Op<J>, State = [Update; 0]>,
-    requires { All (λ c. CallsBelow (length J.columns) c) side.calls.now }
+    requires asks { AsksBelow 8 watch.now.query }
+    requires calls { All (λ c. CallsBelow (length J.columns) c) side.calls.now }
 {
     let Side {
         session,
@@ -192,13 +194,14 @@ fn take_sides<'e, J: Naming + Send + Sync, M: CrackerMap, R: Threads + Wait + Sy
 ) -> Result<Vec<Came<J>>, AllocError>
 where
     Live<J>: Absorb<Op<J>, State = [Update; 0]> + Send + Sync,
-    requires { All (λ s. All (λ c. CallsBelow (length J.columns) c) s.calls.now) sides.items }
+    requires asks { AsksBelow 8 watch.now.query }
+    requires calls { All (λ s. All (λ c. CallsBelow (length J.columns) c) s.calls.now) sides.items }
 {
     thread::map_vec(
         rt,
         sides,
         &|side: Side<'_, J, M>| -> Came<J>
-            requires { All (λ c. CallsBelow (length J.columns) c) side.calls.now }
+            requires { AsksBelow 8 watch.now.query × All (λ c. CallsBelow (length J.columns) c) side.calls.now }
         { take_side(rt, board, watch, signals, side) },
     )
 }
@@ -343,7 +346,8 @@ fn take_all<J: Naming + Send + Sync, M: CrackerMap, R: Threads + Wait + Sync>(
 ) -> Result<Sorted<J>, Refusal>
 where
     Live<J>: Absorb<Op<J>, State = [Update; 0]> + Send + Sync,
-    requires { All (λ b. All (λ c. CallsBelow (length J.columns) c) b.items) blocks.now }
+    requires asks { AsksBelow 8 watch.now.query }
+    requires below { All (λ b. All (λ c. CallsBelow (length J.columns) c) b.items) blocks.now }
 {
     let mut sides = session_sides(alloc, engine, tickets, blocks)?;
     add_viewers(rt, alloc, engine, &mut sides, watch.viewers)?;
@@ -375,6 +379,7 @@ where
     requires place { 0 < length J.columns }
     requires blank { All (λ m. M.held m ≡ blank) maps.items }
     requires below { All (λ b. All (λ c. CallsBelow (length J.columns) c) b.items) blocks.now }
+    requires asks { AsksBelow 8 watch.now.query }
     ensures { IfOk result (λ w. IsLegal w.record) }
 {
     hand(rt, &engine, 0, maps)?;
@@ -401,6 +406,7 @@ where
     requires table { (table.schema ≡ J.columns) × (table.rows.items ≡ J.opening) × (table.limit ≡ J.limit) }
     requires blank { All (λ m. M.held m ≡ blank) maps.items }
     requires below { All (λ b. All (λ c. CallsBelow (length J.columns) c) b.items) blocks.now }
+    requires asks { AsksBelow 8 watch.now.query }
     ensures { IfOk result (λ w. IsLegal w.record) }
 {
     let Table {
@@ -436,6 +442,7 @@ fn observe_picked<J: Naming + Send + Sync, M: CrackerMap, R: Threads + Wait + Sy
     requires table { (table.schema ≡ J.columns) × (table.rows.items ≡ J.opening) × (table.limit ≡ J.limit) }
     requires blank { All (λ m. M.held m ≡ blank) maps.items }
     requires below { All (λ b. All (λ c. CallsBelow (length J.columns) c) b.items) blocks.now }
+    requires asks { AsksBelow 8 watch.now.query }
     ensures { IfOk result (λ w. IsLegal w.record) }
 {
     observe_on::<J, M, R>(rt, alloc, books, table, maps, blocks, watch, signals)
@@ -457,6 +464,7 @@ pub(crate) fn observe<M: CrackerMap, R: Threads + Wait + Sync>(
     requires some { 0 < trial.limit }
     requires most { trial.limit ≤ 1048576 }
     requires below { All (λ b. All (λ c. CallsBelow (length schema) c) b.items) blocks.now }
+    requires asks { AsksBelow 8 watch.now.query }
     ensures { IfOk result (λ w. IsLegal w.record) }
 {
     let table = Table::of(alloc, trial, schema)?;
