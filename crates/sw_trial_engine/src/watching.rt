@@ -305,10 +305,15 @@ fn sort_all<J: Naming>(alloc: Global, came: Vec<Came<J>>) -> Result<Sorted<J>, A
         answered: true,
     };
     for one in came {
-        sorted.answered = sorted.answered && one.answered;
-        match one.ticket {
+        let Came {
+            ticket,
+            seen,
+            answered,
+        } = one;
+        sorted.answered = sorted.answered && answered;
+        match ticket {
             Some(ticket) => sorted.tickets.push(ticket)?,
-            None => sorted.seen.push(one.seen)?,
+            None => sorted.seen.push(seen)?,
         }
     }
     Ok(sorted)
@@ -324,11 +329,16 @@ where
     Live<J>: Absorb<Op<J>, State = [Update; 0]>,
     ensures { IfOk result (λ w. IsLegal w.record) }
 {
-    match engine.close(rt, sorted.tickets) {
+    let Sorted {
+        tickets,
+        seen,
+        answered,
+    } = sorted;
+    match engine.close(rt, tickets) {
         Ok(record) => Ok(Watched {
             record,
-            seen: sorted.seen,
-            answered: sorted.answered,
+            seen,
+            answered,
         }),
         Err(_) => Err(Refusal::NoMemory),
     }
