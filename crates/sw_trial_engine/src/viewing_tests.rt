@@ -78,9 +78,10 @@ impl Beginnings {
 
     /// An entry of the history, which is an update where it inserted a row or removed one.
     fn add(&mut self, entry: &Entry) -> Result<(), AllocError> {
+        let place = self.sums.len();
         match (&entry.call, &entry.state) {
             (Call::Insert(cells), State::Answered(Reply::Inserted(_))) => {
-                self.insert(cells[1], self.sums.len())?;
+                self.insert(cells[1], place)?;
             }
             (Call::Delete(key), State::Answered(Reply::Removed)) => self.remove(*key),
             _ => return Ok(()),
