@@ -11,7 +11,7 @@ use crate::running::{Trial, cleared};
 use left_right::Absorb;
 use std::alloc::{AllocError, Global};
 use std::marker::Brand;
-use std::sync::atomic::Ordering;
+use std::sync::atomic::{AtomicBool, Ordering};
 use std::sync::{Mutex, Wait};
 use std::thread;
 use std::thread::Threads;
@@ -21,6 +21,9 @@ use sw_rows::{Call, Query, Refusal, Reply, Schema, Update};
 use sw_spine::Record;
 use sw_trial_maps::Gate;
 use sw_versions::{Live, Op};
+
+/// How often a session looks whether a viewer has looked since its last insertion, at most, before its next call.
+const PAUSE: u64 = 1_000_000;
 
 /// What a viewer was answered, a count or a sum, and the key of the row of whose insertion it had learnt last, 0 for none.
 #[derive(Clone, Copy)]
@@ -44,16 +47,19 @@ struct Posted<J: Naming> {
     key: u64,
 }
 
-/// Where sessions post receipts for viewers: the last one stands.
+/// Where sessions post receipts for viewers: the last one stands; and whether a viewer has looked since then.
 #[derive(Drop)]
 struct Board<J: Naming> {
     last: Mutex<Option<Posted<J>>>,
+    looked: AtomicBool,
 }
 
 impl<J: Naming> Board<J> {
-    /// Posts a receipt.
+    /// Posts a receipt, and waits a while until a viewer has looked, so that viewers look between the calls.
     fn post<R: Wait>(&self, rt: &R, receipt: Receipt<J>, key: u64) {
         *self.last.lock(rt) = Some(Posted { receipt, key });
+        self.looked.store(false, Ordering::SeqCst);
+        let _ = Gate::wait_for(&self.looked, PAUSE);
     }
 
     /// A viewer learns what was posted last. Tells its key, 0 where nothing was posted.
@@ -141,6 +147,7 @@ fn look_on<J: Naming, R: Wait>(
     for _ in 0..watch.looks {
         let key = board.teach(rt, viewer);
         answered = look(viewer, &watch.query, key, seen) && answered;
+        board.looked.store(true, Ordering::SeqCst);
     }
     answered
 }
@@ -363,6 +370,7 @@ where
     add_viewers(rt, alloc, engine, &mut sides, watch.viewers)?;
     let board = Board {
         last: Mutex::new(None),
+        looked: AtomicBool::new(false),
     };
     let Ok(came) = take_sides(rt, &board, watch, signals, sides) else {
         return Err(Refusal::NoMemory);
