@@ -168,7 +168,7 @@ fn crowded<R: Threads + Wait + Sync>(rt: &R, alloc: Global) -> Result<String, Fa
     let signals = Signals::new(alloc, true)?;
     let watch = Watch {
         viewers: 16,
-        looks: 200,
+        looks: 20,
         query: sum_of_b(alloc),
     };
     let blocks = blocks.as_slice();
@@ -182,6 +182,6 @@ fn crowded<R: Threads + Wait + Sync>(rt: &R, alloc: Global) -> Result<String, Fa
 #[test]
 fn viewers_see_beginnings_of_the_history(rt: HostRuntime) -> Result<(), Fail> {
     let alloc = rt.alloc();
-    assert_eq!(rt; crowded(&rt, alloc)?.as_str(), "16 viewers, 3200 looks");
+    assert_eq!(rt; crowded(&rt, alloc)?.as_str(), "16 viewers, 320 looks");
     Ok(())
 }

@@ -22,7 +22,8 @@ use sw_spine::Record;
 use sw_trial_maps::Gate;
 use sw_versions::{Live, Op};
 
-/// How often a session looks whether a viewer has looked since its last insertion, at most, before its next call.
+/// How often at most a session looks whether a viewer has looked since its last insertion, before its next call; and a viewer
+/// whether a session has posted, before its next look.
 const PAUSE: u64 = 1_000_000;
 
 /// What a viewer was answered, a count or a sum, and the key of the row of whose insertion it had learnt last, 0 for none.
@@ -47,10 +48,12 @@ struct Posted<J: Naming> {
     key: u64,
 }
 
-/// Where sessions post receipts for viewers: the last one stands; and whether a viewer has looked since then.
+/// Where sessions post receipts for viewers: the last one stands; whether one was posted since a viewer was about to look, and
+/// whether a viewer has looked since one was posted.
 #[derive(Drop)]
 struct Board<J: Naming> {
     last: Mutex<Option<Posted<J>>>,
+    posted: AtomicBool,
     looked: AtomicBool,
 }
 
@@ -59,6 +62,7 @@ impl<J: Naming> Board<J> {
     fn post<R: Wait>(&self, rt: &R, receipt: Receipt<J>, key: u64) {
         *self.last.lock(rt) = Some(Posted { receipt, key });
         self.looked.store(false, Ordering::SeqCst);
+        self.posted.store(true, Ordering::SeqCst);
         let _ = Gate::wait_for(&self.looked, PAUSE);
     }
 
@@ -133,7 +137,8 @@ fn look<J: Naming>(
     seen.push(Seen { key, reply }).is_ok()
 }
 
-/// A viewer looks as often as it is asked to, each time after it has learnt what was posted last.
+/// A viewer looks as often as it is asked to, each time after it has waited a while for what is posted, and learnt what was posted
+/// last.
 fn look_on<J: Naming, R: Wait>(
     rt: &R,
     board: &Board<J>,
@@ -145,6 +150,8 @@ fn look_on<J: Naming, R: Wait>(
 {
     let mut answered = true;
     for _ in 0..watch.looks {
+        let _ = Gate::wait_for(&board.posted, PAUSE);
+        board.posted.store(false, Ordering::SeqCst);
         let key = board.teach(rt, viewer);
         answered = look(viewer, &watch.query, key, seen) && answered;
         board.looked.store(true, Ordering::SeqCst);
@@ -370,6 +377,7 @@ where
     add_viewers(rt, alloc, engine, &mut sides, watch.viewers)?;
     let board = Board {
         last: Mutex::new(None),
+        posted: AtomicBool::new(false),
         looked: AtomicBool::new(false),
     };
     let Ok(came) = take_sides(rt, &board, watch, signals, sides) else {
