@@ -185,7 +185,7 @@ fn observed_past<R: Threads + Wait + Sync>(rt: &R, alloc: Global) -> Result<Stri
         query: count_all(alloc),
     };
     let blocks = blocks.as_slice();
-    let came = observe(rt, alloc, TABLE, schema, maps, blocks, &watch, &given)?;
+    let came = observe(rt, alloc, TABLE, schema, maps, blocks, watch, given)?;
     seen_beside(alloc, &came, overran.load(Ordering::SeqCst))
 }
 

@@ -172,7 +172,7 @@ fn crowded<R: Threads + Wait + Sync>(rt: &R, alloc: Global) -> Result<String, Fa
         query: sum_of_b(alloc),
     };
     let blocks = blocks.as_slice();
-    let came = observe(rt, alloc, trial, schema, maps, blocks, &watch, &signals)?;
+    let came = observe(rt, alloc, trial, schema, maps, blocks, watch, signals)?;
     if !came.answered || came.record.check().is_err() {
         return Ok(String::from_str(alloc, "unanswered or not legal")?);
     }

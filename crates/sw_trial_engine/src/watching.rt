@@ -55,6 +55,8 @@ struct Board<J: Naming> {
     last: Mutex<Option<Posted<J>>>,
     posted: AtomicBool,
     looked: AtomicBool,
+    watch: Watch,
+    signals: Signals,
 }
 
 impl<J: Naming> Board<J> {
@@ -142,18 +144,17 @@ fn look<J: Naming>(
 fn look_on<J: Naming, R: Wait>(
     rt: &R,
     board: &Board<J>,
-    watch: &Watch,
     viewer: &mut Viewer<'_, J>,
     seen: &mut Vec<Seen>,
 ) -> bool
-    requires { AsksBelow 8 watch.now.query }
+    requires { AsksBelow 8 board.now.watch.query }
 {
     let mut answered = true;
-    for _ in 0..watch.looks {
+    for _ in 0..board.watch.looks {
         let _ = Gate::wait_for(&board.posted, PAUSE);
         board.posted.store(false, Ordering::SeqCst);
         let key = board.teach(rt, viewer);
-        answered = look(viewer, &watch.query, key, seen) && answered;
+        answered = look(viewer, &board.watch.query, key, seen) && answered;
         board.looked.store(true, Ordering::SeqCst);
     }
     answered
@@ -163,13 +164,11 @@ fn look_on<J: Naming, R: Wait>(
 fn take_side<J: Naming, M: CrackerMap, R: Threads + Wait + Sync>(
     rt: &R,
     board: &Board<J>,
-    watch: &Watch,
-    signals: &Signals,
     side: Side<'_, J, M>,
 ) -> Came<J>
 where
     Live<J>: Absorb<Op<J>, State = [Update; 0]>,
-    requires asks { AsksBelow 8 watch.now.query }
+    requires asks { AsksBelow 8 board.now.watch.query }
     requires calls { All (λ c. CallsBelow (length J.columns) c) side.calls.now }
 {
     let Side {
@@ -181,9 +180,9 @@ where
     let mut answered = true;
     if let Some(viewer) = viewer {
         let mut viewer = viewer;
-        answered = Gate::wait_for(&signals.begun, TURNS);
-        answered = look_on(rt, board, watch, &mut viewer, &mut seen) && answered;
-        signals.answered.store(true, Ordering::SeqCst);
+        answered = Gate::wait_for(&board.signals.begun, TURNS);
+        answered = look_on(rt, board, &mut viewer, &mut seen) && answered;
+        board.signals.answered.store(true, Ordering::SeqCst);
     }
     let mut ticket = None;
     if let Some(session) = session {
@@ -202,21 +201,19 @@ where
 fn take_sides<'e, J: Naming + Send + Sync, M: CrackerMap, R: Threads + Wait + Sync>(
     rt: &R,
     board: &Board<J>,
-    watch: &Watch,
-    signals: &Signals,
     sides: Vec<Side<'e, J, M>>,
 ) -> Result<Vec<Came<J>>, AllocError>
 where
     Live<J>: Absorb<Op<J>, State = [Update; 0]> + Send + Sync,
-    requires asks { AsksBelow 8 watch.now.query }
+    requires asks { AsksBelow 8 board.now.watch.query }
     requires calls { All (λ s. All (λ c. CallsBelow (length J.columns) c) s.calls.now) sides.items }
 {
     thread::map_vec(
         rt,
         sides,
         &|side: Side<'_, J, M>| -> Came<J>
-            requires { AsksBelow 8 watch.now.query × All (λ c. CallsBelow (length J.columns) c) side.calls.now }
-        { take_side(rt, board, watch, signals, side) },
+            requires { AsksBelow 8 board.now.watch.query × All (λ c. CallsBelow (length J.columns) c) side.calls.now }
+        { take_side(rt, board, side) },
     )
 }
 
@@ -365,12 +362,12 @@ fn take_all<J: Naming + Send + Sync, M: CrackerMap, R: Threads + Wait + Sync>(
     engine: &Engine<J, M>,
     tickets: Vec<Ticket<J>>,
     blocks: &[Vec<Call>],
-    watch: &Watch,
-    signals: &Signals,
+    watch: Watch,
+    signals: Signals,
 ) -> Result<Sorted<J>, Refusal>
 where
     Live<J>: Absorb<Op<J>, State = [Update; 0]> + Send + Sync,
-    requires asks { AsksBelow 8 watch.now.query }
+    requires asks { AsksBelow 8 watch.query }
     requires below { All (λ b. All (λ c. CallsBelow (length J.columns) c) b.items) blocks.now }
 {
     let mut sides = session_sides(alloc, engine, tickets, blocks)?;
@@ -379,8 +376,10 @@ where
         last: Mutex::new(None),
         posted: AtomicBool::new(false),
         looked: AtomicBool::new(false),
+        watch,
+        signals,
     };
-    let Ok(came) = take_sides(rt, &board, watch, signals, sides) else {
+    let Ok(came) = take_sides(rt, &board, sides) else {
         return Err(Refusal::NoMemory);
     };
     match sort_all(alloc, came) {
@@ -397,15 +396,15 @@ fn observe_at<J: Naming + Send + Sync, M: CrackerMap, R: Threads + Wait + Sync>(
     tickets: Vec<Ticket<J>>,
     maps: Vec<M>,
     blocks: &[Vec<Call>],
-    watch: &Watch,
-    signals: &Signals,
+    watch: Watch,
+    signals: Signals,
 ) -> Result<Watched, Refusal>
 where
     Live<J>: Absorb<Op<J>, State = [Update; 0]> + Send + Sync,
     requires place { 0 < length J.columns }
     requires blank { All (λ m. M.held m ≡ blank) maps.items }
     requires below { All (λ b. All (λ c. CallsBelow (length J.columns) c) b.items) blocks.now }
-    requires asks { AsksBelow 8 watch.now.query }
+    requires asks { AsksBelow 8 watch.query }
     ensures { IfOk result (λ w. IsLegal w.record) }
 {
     hand(rt, &engine, 0, maps)?;
@@ -421,8 +420,8 @@ fn observe_on<J: Naming + Send + Sync, M: CrackerMap, R: Threads + Wait + Sync>(
     table: Table,
     maps: Vec<M>,
     blocks: &[Vec<Call>],
-    watch: &Watch,
-    signals: &Signals,
+    watch: Watch,
+    signals: Signals,
 ) -> Result<Watched, Refusal>
 where
     Live<J>: Absorb<Op<J>, State = [Update; 0]> + Send + Sync,
@@ -432,7 +431,7 @@ where
     requires table { (table.schema ≡ J.columns) × (table.rows.items ≡ J.opening) × (table.limit ≡ J.limit) }
     requires blank { All (λ m. M.held m ≡ blank) maps.items }
     requires below { All (λ b. All (λ c. CallsBelow (length J.columns) c) b.items) blocks.now }
-    requires asks { AsksBelow 8 watch.now.query }
+    requires asks { AsksBelow 8 watch.query }
     ensures { IfOk result (λ w. IsLegal w.record) }
 {
     let Table {
@@ -460,15 +459,15 @@ fn observe_picked<J: Naming + Send + Sync, M: CrackerMap, R: Threads + Wait + Sy
     table: Table,
     maps: Vec<M>,
     blocks: &[Vec<Call>],
-    watch: &Watch,
-    signals: &Signals,
+    watch: Watch,
+    signals: Signals,
 ) -> Result<Watched, Refusal>
     requires books { (books.sessions.name ≡ J.sessions) × (books.heads.name ≡ J.heads) }
     requires list { books.list.seen.book ≡ J.book }
     requires table { (table.schema ≡ J.columns) × (table.rows.items ≡ J.opening) × (table.limit ≡ J.limit) }
     requires blank { All (λ m. M.held m ≡ blank) maps.items }
     requires below { All (λ b. All (λ c. CallsBelow (length J.columns) c) b.items) blocks.now }
-    requires asks { AsksBelow 8 watch.now.query }
+    requires asks { AsksBelow 8 watch.query }
     ensures { IfOk result (λ w. IsLegal w.record) }
 {
     observe_on::<J, M, R>(rt, alloc, books, table, maps, blocks, watch, signals)
@@ -483,14 +482,14 @@ pub(crate) fn observe<M: CrackerMap, R: Threads + Wait + Sync>(
     schema: Schema,
     maps: Vec<M>,
     blocks: &[Vec<Call>],
-    watch: &Watch,
-    signals: &Signals,
+    watch: Watch,
+    signals: Signals,
 ) -> Result<Watched, Refusal>
     requires few { length trial.rows.now ≤ 1048576 }
     requires some { 0 < trial.limit }
     requires most { trial.limit ≤ 1048576 }
     requires below { All (λ b. All (λ c. CallsBelow (length schema) c) b.items) blocks.now }
-    requires asks { AsksBelow 8 watch.now.query }
+    requires asks { AsksBelow 8 watch.query }
     ensures { IfOk result (λ w. IsLegal w.record) }
 {
     let table = Table::of(alloc, trial, schema)?;
