@@ -21,5 +21,3 @@ mod tests;
 mod viewing;
 #[cfg(test)]
 mod viewing_tests;
-#[cfg(test)]
-mod watching;
