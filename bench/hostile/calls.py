@@ -104,7 +104,7 @@ class Calls:
                 if not same or (seen if words[0] in ("tape", "map") else keys(seen)) not in (plain[place][2], keys(plain[place][2])):
                     wrong(words, "allocation %d" % at, plain[place], (name, answer, seen))
                 place += 1
-            before = seen
+            before = before if seen == "none" else seen
         if place != len(plain) or refused > 1:
             wrong(words, "allocation %d" % at, "all calls, one refused", (place, refused))
         return refused
