@@ -58,9 +58,22 @@ def left_so(name, before, seen):
     """Whether a refused call may have left this."""
     if name in ("begin", "grow"):
         return seen == BLANK
-    if name == "merge" or name.split()[0] in ("prepare", "select", "count"):
+    if name == "merge" or name.split()[0] in ("prepare", "scan", "select", "count"):
         return keys(seen) == keys(before)
     return seen == before or seen == "none"
+
+
+def asked(side, boxes, lines):
+    """Lines and what they are answered, with each other call round them: room before an insert, and before a select its preparation,
+    where that can be made, and its answer from the rows."""
+    made = []
+    for line, answer in lines:
+        if line.startswith("insert") and side == "area":
+            made.append(("room", "done"))
+        if line.split()[0] in ("select", "count"):
+            made += [("scan " + line, answer)] + [("prepare " + line, "done")] * (side == "area" and boxes == 6)
+        made.append((line, answer))
+    return made
 
 
 def wrong(words, what, expected, got):
@@ -131,20 +144,18 @@ def main():
         print("%s: %d allocations, each refused" % (side, calls.each([side, "0", "0", "0"], [])), flush=True)
     for side, boxes, cells in GROWN:
         many = 0
-        for name, lines in WORKED.items():
-            more = [text for line, _ in lines for text in (["prepare " + line] if line.split()[0] in ("select", "count") and side == "area" else []) + [line]]
-            for said in ([line for line, _ in lines], more) if side == "area" else ([line for line, _ in lines],):
-                if boxes < 6 and said is more:
-                    continue
-                many += calls.each([side, "0", str(boxes), str(cells)] + said, lines)
+        for lines in WORKED.values():
+            for said in (lines, asked(side, boxes, lines)):
+                many += calls.each([side, "0", str(boxes), str(cells)] + [line for line, _ in said], said)
         print("%s, %d boxes, %d cells: %d allocations, each refused" % (side, boxes, cells, many), flush=True)
     print("refused: " + ", ".join("%s %d" % it for it in calls.tally.items()) + " in %.0f s" % (time.time() - began), flush=True)
     began, many = time.time(), 0
     for every, cells in TROUBLES:
         for side in ("area", "head", "cuts"):
-            for name, lines in WORKED.items():
-                calls.plain([side, every, "6", str(cells)] + [line for line, _ in lines], lines)
-                many += 1
+            for lines in WORKED.values():
+                for said in (lines, asked(side, 0, lines)):
+                    calls.plain([side, every, "6", str(cells)] + [line for line, _ in said], said)
+                    many += 1
     print("over maps that refuse: %d runs, all replies as known, in %.0f s" % (many, time.time() - began))
 
 
