@@ -39,6 +39,49 @@ TROUBLES = [("%d" % every, AMPLE) for every in range(1, 6)] + [("contended", AMP
 
 BLANK = "0 used, 0 cells, cursor 0:"
 
+LOADED = "3 attributes\n1: 12, 7, 1\n2: 3, 8, 0\n3: 12, 5, 1\n4: 20, 2, 0"
+
+
+def tape_seen(names):
+    """What is seen of a tape of four rows after each call: its entries, its pieces, and the most pairs that it had."""
+    for name in names:
+        if name in ("new tape", "restart", "restart with live rows"):
+            pairs = peak = {"new tape": 4, "restart": 2, "restart with live rows": 3}[name]
+            entries, pieces = 1, 1
+        else:
+            entries, pieces = entries + 1, pieces + 2 * (name == "push of a range")
+            pairs += {"push of a row": 1, "push of a removal": -1}.get(name, 0)
+            peak = max(peak, pairs)
+        yield "%d entries, %d pieces, peak %d" % (entries, pieces, peak)
+
+
+def map_wrong(made):
+    """The first call of a map after which something else is seen than what it has to hold: these pairs, cut at these bounds."""
+    cells = cursor = 0
+    pairs, bounds, before, of = [], [], [], None
+    for name, answer, seen in made:
+        words = name.split()
+        told, _, shown = seen.partition(":")
+        shown = [tuple(int(number) for number in pair.split(":")) for pair in shown.split()]
+        if words[0] in ("begin", "clear"):
+            cells, cursor, pairs, bounds, of = int(words[2]) if words[0] == "begin" else 0, 0, [], [], words[1:2]
+        elif words[0] == "grow":
+            cells = int(words[1])
+        else:
+            cursor += 1
+            row = [(1, 12, 7), (2, 3, 8), (3, 12, 5), (4, 20, 2)] if words[1] == "load" else [(int(words[2]), 13, 9)] if words[1] == "row" else []
+            pairs += [(a, key if of == ["keys"] else b) for key, a, b in row]
+            if words[1] == "removal":
+                pairs.remove(before[int(words[2])])
+            if words[1] == "range":
+                bounds += [(int(words[2]), True), (int(words[3]), False)]
+        sides = [[a < value or (a == value and not is_before) for a, _ in shown] for value, is_before in bounds]
+        held = sorted(shown) == sorted(pairs) and all(side == sorted(side, reverse=True) for side in sides)
+        if answer != "done" or told != "%d used, %d cells, cursor %d" % (cells, cells, cursor) or not held:
+            return name, answer, seen
+        before = shown
+    return None
+
 
 def groups(text):
     """What was called, what came of it and what was seen then, call by call."""
@@ -56,7 +99,7 @@ def keys(seen):
 
 def left_so(name, before, seen):
     """Whether a refused call may have left this."""
-    if name in ("begin", "grow"):
+    if name.split()[0] in ("begin", "grow"):
         return seen == BLANK
     if name == "merge" or name.split()[0] in ("prepare", "scan", "select", "count"):
         return keys(seen) == keys(before)
@@ -97,6 +140,12 @@ class Calls:
             wrong(words, "no refusal", replies, (status, fault, out))
         if words[0] in ("area", "head", "cuts") and made[-1] != ("end", "0 used", "none"):
             wrong(words, "the end", "0 used", made[-1])
+        if words[0] == "tape" and [seen for _, _, seen in made] != list(tape_seen(name for name, _, _ in made)):
+            wrong(words, "a tape", list(tape_seen(name for name, _, _ in made)), made)
+        if words[0] == "map" and map_wrong(made[1:]):
+            wrong(words, "a map", "its pairs, cut at its bounds", map_wrong(made[1:]))
+        if words[0] == "load" and made != [("load", LOADED, "none")]:
+            wrong(words, "a table", LOADED, made)
         return made
 
     def judged(self, words, at, plain, out):
@@ -104,7 +153,7 @@ class Calls:
         place, refused, before = 0, 0, "none"
         for name, answer, seen in groups(out):
             if name == "from the first":
-                place = [it[0] for it in plain].index("begin")
+                place = [it[0].split()[0] for it in plain].index("begin")
             elif answer.startswith("refused"):
                 refused += 1
                 known = name == "boxes" or name.startswith("read ") or name == plain[place][0]

@@ -89,7 +89,7 @@ class Sessions:
         calls = [it for it in lines if it[0] not in ("viewer", "learn", "clear") and not it[0].startswith("view ")]
         end = [("close", "%d entries" % len(calls)), ("void", "0"), ("check", "legal")]
         many = len(made) - len(lines) - len(end)
-        if (status, fault) != (0, "") or made[many:] != lines + end or set(made[:many]) - {("open", "done"), ("supply", "done")}:
+        if (status, fault) != (0, "") or made[many:] != lines + end or set(made[:many]) - {(name, "done") for name in BEFORE}:
             wrong(words, "no refusal", lines + end, (status, made, fault))
         return made[:many], end
 
