@@ -126,7 +126,7 @@ def wrong(words, what, expected, got):
 class Calls:
     def __init__(self, program):
         self.program, self.folder = program, tempfile.TemporaryDirectory()
-        self.library, self.tally = preload(self.folder.name), Counter()
+        self.library, self.tally, self.kinds = preload(self.folder.name), Counter(), Counter()
 
     def ran(self, words, **how):
         return told(self.program, words, self.folder.name, **how)
@@ -159,6 +159,7 @@ class Calls:
                 known = name == "boxes" or name.startswith("read ") or name == plain[place][0]
                 if answer != "refused 1" or not known or not left_so(name, before, seen):
                     wrong(words, "allocation %d" % at, ("refused 1", before), (name, answer, seen))
+                self.kinds[words[0] + " " + (name if words[0] == "tape" else " ".join(name.split()[:1 + (words[0] == "map")]))] += 1
                 # a head drops a box that it refuses, and is given the next one
                 place += words[0] in ("head", "cuts") and name == "supply"
             else:
@@ -197,6 +198,7 @@ def main():
             for said in (lines, asked(side, boxes, lines)):
                 many += calls.each([side, "0", str(boxes), str(cells)] + [line for line, _ in said], said)
         print("%s, %d boxes, %d cells: %d allocations, each refused" % (side, boxes, cells, many), flush=True)
+    print("refused calls: " + ", ".join("%s %d" % it for it in sorted(calls.kinds.items())))
     print("refused: " + ", ".join("%s %d" % it for it in calls.tally.items()) + " in %.0f s" % (time.time() - began), flush=True)
     began, many = time.time(), 0
     for every, cells in TROUBLES:

@@ -77,7 +77,7 @@ def replies(lines, late=None):
 class Sessions:
     def __init__(self, program):
         self.program, self.folder = program, tempfile.TemporaryDirectory()
-        self.library, self.tally = preload(self.folder.name), Counter()
+        self.library, self.tally, self.kinds = preload(self.folder.name), Counter(), Counter()
 
     def ran(self, words, **how):
         status, out, fault = told(self.program, words, self.folder.name, **how)
@@ -100,6 +100,7 @@ class Sessions:
         for name, answer in refused:
             if answer != "refused 1" and (name, answer) != ("viewer", "refused 5 limit 16"):
                 wrong(words, "allocation %d" % at, "refused 1", (name, answer))
+            self.kinds[name.split()[0]] += 1
         names = {name for name, _ in ways[0]} | {"table", "boxes"}
         if len(refused) > 1 or any(name not in names and not name.startswith("read ") for name, _ in refused):
             wrong(words, "allocation %d" % at, "one refused call", refused)
@@ -151,6 +152,7 @@ def main():
         print("%s boxes, %d cells, %s: %d allocations, each refused" % (boxes, cells, cuts, many), flush=True)
     for name, lines in VIEWED.items():
         print("%s: %d allocations, each refused" % (name, sessions.viewed(lines)), flush=True)
+    print("refused calls: " + ", ".join("%s %d" % it for it in sorted(sessions.kinds.items())))
     print("refused: " + ", ".join("%s %d" % it for it in sessions.tally.items()) + " in %.0f s" % (time.time() - began), flush=True)
     began, many = time.time(), 0
     known = [([line for line, _ in lines], lines) for lines in WORKED.values()] + [(lines, replies(lines)) for lines in VIEWED.values()]
