@@ -39,6 +39,49 @@ TROUBLES = [("%d" % every, AMPLE) for every in range(1, 6)] + [("contended", AMP
 
 BLANK = "0 used, 0 cells, cursor 0:"
 
+LOADED = "3 attributes\n1: 12, 7, 1\n2: 3, 8, 0\n3: 12, 5, 1\n4: 20, 2, 0"
+
+
+def tape_seen(names):
+    """What is seen of a tape of four rows after each call: its entries, its pieces, and the most pairs that it had."""
+    for name in names:
+        if name in ("new tape", "restart", "restart with live rows"):
+            pairs = peak = {"new tape": 4, "restart": 2, "restart with live rows": 3}[name]
+            entries, pieces = 1, 1
+        else:
+            entries, pieces = entries + 1, pieces + 2 * (name == "push of a range")
+            pairs += {"push of a row": 1, "push of a removal": -1}.get(name, 0)
+            peak = max(peak, pairs)
+        yield "%d entries, %d pieces, peak %d" % (entries, pieces, peak)
+
+
+def map_wrong(made):
+    """The first call of a map after which something else is seen than what it has to hold: these pairs, cut at these bounds."""
+    cells = cursor = 0
+    pairs, bounds, before, of = [], [], [], None
+    for name, answer, seen in made:
+        words = name.split()
+        told, _, shown = seen.partition(":")
+        shown = [tuple(int(number) for number in pair.split(":")) for pair in shown.split()]
+        if words[0] in ("begin", "clear"):
+            cells, cursor, pairs, bounds, of = int(words[2]) if words[0] == "begin" else 0, 0, [], [], words[1:2]
+        elif words[0] == "grow":
+            cells = int(words[1])
+        else:
+            cursor += 1
+            row = [(1, 12, 7), (2, 3, 8), (3, 12, 5), (4, 20, 2)] if words[1] == "load" else [(int(words[2]), 13, 9)] if words[1] == "row" else []
+            pairs += [(a, key if of == ["keys"] else b) for key, a, b in row]
+            if words[1] == "removal":
+                pairs.remove(before[int(words[2])])
+            if words[1] == "range":
+                bounds += [(int(words[2]), True), (int(words[3]), False)]
+        sides = [[a < value or (a == value and not is_before) for a, _ in shown] for value, is_before in bounds]
+        held = sorted(shown) == sorted(pairs) and all(side == sorted(side, reverse=True) for side in sides)
+        if answer != "done" or told != "%d used, %d cells, cursor %d" % (cells, cells, cursor) or not held:
+            return name, answer, seen
+        before = shown
+    return None
+
 
 def groups(text):
     """What was called, what came of it and what was seen then, call by call."""
@@ -56,11 +99,24 @@ def keys(seen):
 
 def left_so(name, before, seen):
     """Whether a refused call may have left this."""
-    if name in ("begin", "grow"):
+    if name.split()[0] in ("begin", "grow"):
         return seen == BLANK
-    if name == "merge" or name.split()[0] in ("prepare", "select", "count"):
+    if name == "merge" or name.split()[0] in ("prepare", "scan", "select", "count"):
         return keys(seen) == keys(before)
     return seen == before or seen == "none"
+
+
+def asked(side, boxes, lines):
+    """Lines and what they are answered, with each other call round them: room before an insert, and before a select its preparation,
+    where that can be made, and its answer from the rows."""
+    made = []
+    for line, answer in lines:
+        if line.startswith("insert") and side == "area":
+            made.append(("room", "done"))
+        if line.split()[0] in ("select", "count"):
+            made += [("scan " + line, answer)] + [("prepare " + line, "done")] * (side == "area" and boxes == 6)
+        made.append((line, answer))
+    return made
 
 
 def wrong(words, what, expected, got):
@@ -70,7 +126,7 @@ def wrong(words, what, expected, got):
 class Calls:
     def __init__(self, program):
         self.program, self.folder = program, tempfile.TemporaryDirectory()
-        self.library, self.tally = preload(self.folder.name), Counter()
+        self.library, self.tally, self.kinds = preload(self.folder.name), Counter(), Counter()
 
     def ran(self, words, **how):
         return told(self.program, words, self.folder.name, **how)
@@ -84,6 +140,12 @@ class Calls:
             wrong(words, "no refusal", replies, (status, fault, out))
         if words[0] in ("area", "head", "cuts") and made[-1] != ("end", "0 used", "none"):
             wrong(words, "the end", "0 used", made[-1])
+        if words[0] == "tape" and [seen for _, _, seen in made] != list(tape_seen(name for name, _, _ in made)):
+            wrong(words, "a tape", list(tape_seen(name for name, _, _ in made)), made)
+        if words[0] == "map" and map_wrong(made[1:]):
+            wrong(words, "a map", "its pairs, cut at its bounds", map_wrong(made[1:]))
+        if words[0] == "load" and made != [("load", LOADED, "none")]:
+            wrong(words, "a table", LOADED, made)
         return made
 
     def judged(self, words, at, plain, out):
@@ -91,12 +153,13 @@ class Calls:
         place, refused, before = 0, 0, "none"
         for name, answer, seen in groups(out):
             if name == "from the first":
-                place = [it[0] for it in plain].index("begin")
+                place = [it[0].split()[0] for it in plain].index("begin")
             elif answer.startswith("refused"):
                 refused += 1
                 known = name == "boxes" or name.startswith("read ") or name == plain[place][0]
                 if answer != "refused 1" or not known or not left_so(name, before, seen):
                     wrong(words, "allocation %d" % at, ("refused 1", before), (name, answer, seen))
+                self.kinds[words[0] + " " + (name if words[0] == "tape" else " ".join(name.split()[:1 + (words[0] == "map")]))] += 1
                 # a head drops a box that it refuses, and is given the next one
                 place += words[0] in ("head", "cuts") and name == "supply"
             else:
@@ -104,7 +167,7 @@ class Calls:
                 if not same or (seen if words[0] in ("tape", "map") else keys(seen)) not in (plain[place][2], keys(plain[place][2])):
                     wrong(words, "allocation %d" % at, plain[place], (name, answer, seen))
                 place += 1
-            before = seen
+            before = before if seen == "none" else seen
         if place != len(plain) or refused > 1:
             wrong(words, "allocation %d" % at, "all calls, one refused", (place, refused))
         return refused
@@ -131,20 +194,19 @@ def main():
         print("%s: %d allocations, each refused" % (side, calls.each([side, "0", "0", "0"], [])), flush=True)
     for side, boxes, cells in GROWN:
         many = 0
-        for name, lines in WORKED.items():
-            more = [text for line, _ in lines for text in (["prepare " + line] if line.split()[0] in ("select", "count") and side == "area" else []) + [line]]
-            for said in ([line for line, _ in lines], more) if side == "area" else ([line for line, _ in lines],):
-                if boxes < 6 and said is more:
-                    continue
-                many += calls.each([side, "0", str(boxes), str(cells)] + said, lines)
+        for lines in WORKED.values():
+            for said in (lines, asked(side, boxes, lines)):
+                many += calls.each([side, "0", str(boxes), str(cells)] + [line for line, _ in said], said)
         print("%s, %d boxes, %d cells: %d allocations, each refused" % (side, boxes, cells, many), flush=True)
+    print("refused calls: " + ", ".join("%s %d" % it for it in sorted(calls.kinds.items())))
     print("refused: " + ", ".join("%s %d" % it for it in calls.tally.items()) + " in %.0f s" % (time.time() - began), flush=True)
     began, many = time.time(), 0
     for every, cells in TROUBLES:
         for side in ("area", "head", "cuts"):
-            for name, lines in WORKED.items():
-                calls.plain([side, every, "6", str(cells)] + [line for line, _ in lines], lines)
-                many += 1
+            for lines in WORKED.values():
+                for said in (lines, asked(side, 0, lines)):
+                    calls.plain([side, every, "6", str(cells)] + [line for line, _ in said], said)
+                    many += 1
     print("over maps that refuse: %d runs, all replies as known, in %.0f s" % (many, time.time() - began))
 
 

@@ -3,7 +3,8 @@
 makes fewer. Each call is made twice, so that a refused one is made again with memory; each answered line is the model's, given which
 call was refused. Where just one allocation is refused, one call is refused or the whole run is, with nothing but refusal 1; its history
 is legal, and has at most one void entry. With ample maps all allocations from one on are refused too: no run may pass for one that was
-answered.
+answered. Last comes a table that is read in parts, each by a thread of its own: its runs are answered, or refused as a whole or in one
+call.
 Ends with 1 and the first run that is wrong."""
 import json
 from collections import Counter
@@ -103,14 +104,49 @@ class Growths(Holder):
         return void
 
 
+class Parts(Growths):
+    """A case is a name, a table, a script and what that is answered."""
+
+    def one(self, number, name, table, script, plain):
+        files, tally = {"t.csv": table, "s.txt": script}, Counter()
+        folder, words = self.fresh(number, files), ["run", "--table", "t.csv", "--script", "s.txt"]
+        ways = {(0, plain, ""): "nothing", (3, "", FAULT): "run"}
+        lines = plain.split("\n")
+        for place in range(len(lines) - 1):
+            ways[3, "\n".join(lines[:place] + [REFUSED] + lines[place + 1:]), ""] = "call"
+        at, fault = 0, MET
+        while MET in fault:
+            at += 1
+            status, out, fault = told(self.program, words, folder, **refusing(self.library, REFUSED=at, TOLD=1))
+            way = ways.get((status, out, fault.replace(MET, "")))
+            if way is None or (MET not in fault and way != "nothing"):
+                wrong("%s, allocation %d" % (name, at), files, words, list(ways), (status, out, fault))
+            tally[way] += MET in fault
+        self.tallies.append(tally)
+        self.clear(folder)
+        return 0
+
+
+def long_tables():
+    """Tables that are halved once and twice, with scripts and what those are answered."""
+    for rows, script, plain in ((75000, b"count\n", "75000\n"), (180000, b"", "")):
+        table = b"a:int,b:int\n" + b"".join(b"%d,%010d\n" % (row * 7919 % 1009, row % 1013) for row in range(rows))
+        yield "%d rows in parts" % rows, table, script, plain
+
+
 def main():
-    growths = Growths(options(__doc__).program)
+    given = options(__doc__)
+    growths = Growths(given.program)
     for way in WAYS:
         growths.hold(way, [("%s, %s" % (script, way), doubled(SCRIPTS[script]), WAYS[way]) for script in SCRIPTS])
     counts = sum(growths.tallies, Counter())
     print("one allocation refused: all of the run %(run)d, one call %(call)d, with %(void)d void entries, the history %(history)d, "
           "none of these %(nothing)d; all from one on refused: %(all)d" % counts)
     growths.end()
+    parts = Parts(given.program)
+    parts.hold("tables in parts", long_tables())
+    print("one allocation refused: all of the run %(run)d, one call %(call)d, none of these %(nothing)d" % sum(parts.tallies, Counter()))
+    parts.end()
 
 
 if __name__ == "__main__":

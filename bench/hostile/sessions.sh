@@ -9,11 +9,12 @@ set -euo pipefail
 here=$(cd "$(dirname "$0")" && pwd)
 . "$here/../proved.sh"
 proofs=$work/crates/sessions/proofs
-mkdir -p "$proofs/rows_of" "$proofs/tried"
-echo "pub mod Lemmas" > "$proofs/Lib.antt"
-cp "$here/../lemmas.antt.txt" "$proofs/Lemmas.antt"
-cp "$here/sessions_rows_of.antt.txt" "$proofs/rows_of/Invariants.antt"
-cp "$here/sessions_tried.antt.txt" "$proofs/tried/Invariants.antt"
+mkdir -p "$proofs"
+touch "$proofs/Lib.antt"
+for part in names_below.Invariants names_below.Answers conds_below.Invariants conds_below.Answers tried.Invariants; do
+  mkdir -p "$proofs/${part%.*}"
+  cp "$here/sessions_$part.antt.txt" "$proofs/${part%.*}/${part#*.}.antt"
+done
 build program sessions "$here/sessions.rt.txt" \
   sw_table sw_rows sw_lang sw_kernel sw_tape sw_budget sw_bits sw_slots sw_map sw_trial_maps sw_set sw_tie sw_chunks sw_spine sw_versions sw_engine left_right anyhow
 python3 "$here/sessions.py" --program "$work/crates/sessions/out/sessions" "$@"
