@@ -29,7 +29,7 @@ build program viewers "$here/viewers.rt.txt" \
   sw_table sw_rows sw_lang sw_kernel sw_tape sw_budget sw_map sw_bits sw_slots sw_set sw_spine sw_tie sw_chunks sw_versions sw_engine left_right anyhow
 cc -O3 -o "$work/peer" "$here/peer.c"
 
-python3 - "$work" "$rows" "$rounds" "$calls" "${RUN:-}" "${BESIDE:-}" <<'END_OF_PYTHON'
+python3 - "$work" "$rows" "$rounds" "$calls" "${RUN:-}" "${BESIDE:-}" <<'END'
 import statistics, subprocess, sys
 work, rows, rounds, calls = sys.argv[1], int(sys.argv[2]), int(sys.argv[3]), int(sys.argv[4])
 run, beside, median = sys.argv[5].split(), sys.argv[6].split(), statistics.median
@@ -95,4 +95,4 @@ for many in (10, 100, 1000, 10_000):
     print(f"{calls} updates over {many} rows: no viewer {a:.0f} ns each, four open {b:.0f}, four that answer {c:.0f}: {a / c:.2f} of the rate with none, "
           f"{b / c:.2f} of that with four open (of medians {m[0] / m[2]:.2f}, {m[1] / m[2]:.2f}); "
           f"{sum(it[2] for it in busy) / sum(it[1] for it in busy) * 1000:.2f} answers a microsecond", flush=True)
-END_OF_PYTHON
+END
