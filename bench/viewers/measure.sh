@@ -20,11 +20,14 @@ here=$(cd "$(dirname "$0")" && pwd)
 . "$here/../proved.sh"
 sizes "$@"
 proofs=$work/crates/viewers/proofs
-mkdir -p "$proofs/rows_of" "$proofs/run"
+mkdir -p "$proofs"
 echo "pub mod Lemmas" > "$proofs/Lib.antt"
 cp "$here/../lemmas.antt.txt" "$proofs/Lemmas.antt"
-cp "$here/rows_of.antt.txt" "$proofs/rows_of/Invariants.antt"
-cp "$here/run.antt.txt" "$proofs/run/Invariants.antt"
+for proof in "$here"/*.antt.txt; do
+  name=$(basename "$proof" .antt.txt)
+  mkdir -p "$proofs/$name"
+  cp "$proof" "$proofs/$name/Invariants.antt"
+done
 build program viewers "$here/viewers.rt.txt" \
   sw_table sw_rows sw_lang sw_kernel sw_tape sw_budget sw_map sw_bits sw_slots sw_set sw_spine sw_tie sw_chunks sw_versions sw_engine left_right anyhow
 cc -O3 -o "$work/peer" "$here/peer.c"
