@@ -10,10 +10,10 @@
 #   a viewer's count by one range over ROWS rows (by default 1,000,000), and the same scan in C, without and with a flag a row: ranges of
 #   one thousandth and of one half of the rows;
 #   ten times CALLS inserts of a session (by default ten thousand) over 10,000 rows and over ROWS: with no viewer, with one, with four open;
-#   CALLS inserts and deletes by turns over 10 to 10,000 rows, beside four viewers that answer a count all the time in threads of their own:
-#   with no viewer, with four open, with four that answer. Each is a process; as many as a hundred times ROUNDS, and their sums compared.
-# On a busy machine RUN='chrt -f 10' (as root) runs the first three at real-time priority. The last has five threads, which four processors
-# have to share, and which at that priority they do not: there BESIDE='nice -n -20' serves.
+#   CALLS inserts and deletes by turns over 10, 100 and 1,000 rows, beside one viewer and three that answer a count all the time in threads of
+#   their own, and a fifth of CALLS beside four: with no viewer, with as many idle ones, with those that answer. Sums of twice ROUNDS runs.
+# On a busy machine RUN='chrt -f 10' (as root) runs all but the last at real-time priority. Beside four viewers there are five threads, which four
+# processors have to share, and which at that priority they do not: there BESIDE='nice -n -20' serves.
 # It needs rt, cc and python3. Nothing of the repository is written.
 set -euo pipefail
 here=$(cd "$(dirname "$0")" && pwd)
@@ -89,13 +89,13 @@ for many in (10_000, rows):
     a, b, c = each(none, few), each(one, few), each(four, few)
     print(f"{few} inserts over {many} rows: no viewer {a[0]:.0f} ns each, one open {b[0]:.0f}: {against(b, a)}; four open {c[0]:.0f}: {against(c, a)}", flush=True)
 
-for many in (10, 100, 1000, 10_000):
-    sides = (("idle", 0), ("idle", 4), ("busy", 4))
-    none, still, busy = by_turns(100 * rounds, *(lambda side=side, open=open: viewers(side, "update", many, calls, open, 500, before=beside) for side, open in sides))
-    assert {it[0] for it in none + still + busy} == {many + calls % 2}
-    a, b, c = (sum(it[1] for it in side) / len(side) / calls for side in (none, still, busy))
-    m = [median(it[1] / calls for it in side) for side in (none, still, busy)]
-    print(f"{calls} updates over {many} rows: no viewer {a:.0f} ns each, four open {b:.0f}, four that answer {c:.0f}: {a / c:.2f} of the rate with none, "
-          f"{b / c:.2f} of that with four open (of medians {m[0] / m[2]:.2f}, {m[1] / m[2]:.2f}); "
-          f"{sum(it[2] for it in busy) / sum(it[1] for it in busy) * 1000:.2f} answers a microsecond", flush=True)
+for open, before, few in ((1, run, calls), (3, run, calls), (4, beside, calls // 5)):
+    for many in (10, 100, 1000):
+        sides = (("idle", 0), ("idle", open), ("busy", open))
+        none, still, busy = by_turns(2 * rounds, *(lambda side=side, open=open: viewers(side, "update", many, few, open, 500, before=before) for side, open in sides))
+        assert {it[0] for it in none + still + busy} == {many + few % 2}
+        a, b, c = (sum(it[1] for it in side) / len(side) / few for side in (none, still, busy))
+        x, y = median(it[1] / few for it in none), median(it[1] / few for it in busy)
+        print(f"{few} updates over {many} rows, {open} viewers: none open {a:.0f} ns each, all idle {b:.0f}, all answering {c:.0f}: {a / c:.5f} of the rate with none "
+              f"(of medians {x / y:.5f}), {b / c:.5f} of that with idle ones; {sum(it[2] for it in busy) / sum(it[1] for it in busy) * 1000:.2f} answers a microsecond", flush=True)
 END
