@@ -21,3 +21,5 @@ mod tests;
 mod viewing;
 #[cfg(test)]
 mod viewing_tests;
+#[cfg(test)]
+mod watching;

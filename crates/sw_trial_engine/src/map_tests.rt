@@ -3,6 +3,8 @@
 use crate::closing::closed;
 use crate::meeting::{Signals, TURNS, meet, play};
 use crate::running::{Trial, calls, one_block, told};
+use crate::viewing::count_all;
+use crate::watching::{Watch, Watched, observe};
 use std::alloc::Global;
 use std::sync::atomic::{AtomicBool, Ordering};
 use std::sync::{Arc, Wait};
@@ -152,6 +154,45 @@ fn met<R: Threads + Wait + Sync>(rt: &R, alloc: Global) -> Result<String, Fail> 
 fn a_session_is_answered_while_another_heads_map_is_stepped(rt: HostRuntime) -> Result<(), Fail> {
     let alloc = rt.alloc();
     assert_eq!(rt; met(&rt, alloc)?.as_str(), "3; 2; 2 entries");
+    Ok(())
+}
+
+/// What a viewer saw, behind what the session was told beside it, or that they are not as they should be.
+fn seen_beside(alloc: Global, came: &Watched, is_late: bool) -> Result<String, Fail> {
+    if is_late || !came.answered || came.record.check().is_err() {
+        return Ok(String::from_str(alloc, "late, unanswered or not legal")?);
+    }
+    let mut text = told(alloc, &came.record, 1)?;
+    for seen in came.seen.as_slice() {
+        for one in seen.as_slice() {
+            write!(text, "{} seen", one.reply)?;
+        }
+    }
+    Ok(text)
+}
+
+/// A session asks the head of a, whose maps wait in their first step until a viewer on another thread, which looks then, is answered.
+fn observed_past<R: Threads + Wait + Sync>(rt: &R, alloc: Global) -> Result<String, Fail> {
+    let (_budget, mut purse) = Budget::open(alloc, 1 << 20)?;
+    let overran = Arc::new(alloc, AtomicBool::new(false))?;
+    let given = Signals::new(alloc, false)?;
+    let maps = gated(alloc, &mut purse, &given, &overran)?;
+    let schema = Schema::of(alloc, &HEADER)?;
+    let blocks = one_block(alloc, &schema, &["count where a >= 10"])?;
+    let watch = Watch {
+        viewers: 1,
+        looks: 1,
+        query: count_all(alloc),
+    };
+    let blocks = blocks.as_slice();
+    let came = observe(rt, alloc, TABLE, schema, maps, blocks, watch, given)?;
+    seen_beside(alloc, &came, overran.load(Ordering::SeqCst))
+}
+
+#[test]
+fn a_viewer_is_answered_while_a_map_is_stepped(rt: HostRuntime) -> Result<(), Fail> {
+    let alloc = rt.alloc();
+    assert_eq!(rt; observed_past(&rt, alloc)?.as_str(), "3; 4 seen");
     Ok(())
 }
 

@@ -153,8 +153,8 @@ fn one_session_is_told(rt: HostRuntime) -> Result<(), Fail> {
 
 /// A fixed sequence of numbers.
 #[derive(Drop)]
-struct Dice {
-    state: u64,
+pub(crate) struct Dice {
+    pub state: u64,
 }
 
 impl Dice {
@@ -213,7 +213,7 @@ fn random_block(
 }
 
 /// Random calls of four sessions.
-fn random_blocks(
+pub(crate) fn random_blocks(
     alloc: Global,
     schema: &Schema,
     dice: &mut Dice,
@@ -282,7 +282,7 @@ const MIXES: [Mix; 12] = [
     (4, 200, 16, 640, 5),
 ];
 
-const EIGHT: [&str; 8] = [
+pub(crate) const EIGHT: [&str; 8] = [
     "a:int", "b:int", "c:int", "d:int", "e:int", "f:int", "g:int", "h:int",
 ];
 
