@@ -19,6 +19,7 @@ mod refusal;
 mod reply;
 mod scanning;
 mod schema;
+mod sieve;
 mod source;
 pub mod spelling;
 mod table;

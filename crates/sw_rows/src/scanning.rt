@@ -5,48 +5,22 @@ ghost use Rattle.sw_rows.specs.Scan.{meets_all, answer, column, greatest, is_mat
 ghost use Rattle.sw_table.specs.Kept.{kept};
 ghost use Rattle.sw_table.specs.declared.row.Row.{Row};
 
-use crate::bound::is_within;
 use crate::places::{AllLive, Places};
-use crate::query::{Cond, Query, Want};
+use crate::query::{Query, Want};
 use crate::refusal::Refusal;
 use crate::reply::{Cells, Reply, ReplyRow, ReplyRows};
+use crate::sieve::Sieve;
 use std::alloc::{AllocError, Global};
 use sw_table::Row;
 
-/// Whether the row at a place meets each condition.
-#[inline]
-#[tactic(auto, using(std::proofs::lemmas::List::Folds::list_all_more, std::proofs::lemmas::List::Folds::list_all_at))]
-fn meets_at<P: Places>(rows: &P, place: usize, conds: &[Cond]) -> bool
-    requires place { place < length (P.rows rows.now) }
-    requires conds { CondsBelow 8 conds.now }
-    ensures { (d : Row) → result ≡ meets_all conds.now (slice_index_or (P.rows rows.now) place d) }
-{
-    for cond in conds {
-        if !is_within(cond.lower, cond.upper, rows.cell(place, cond.attr)) {
-            return false;
-        }
-    }
-    true
-}
-
-/// Whether the row at a place is live and meets each condition.
-#[inline]
-fn is_found<P: Places>(rows: &P, conds: &[Cond], place: usize) -> bool
-    requires place { place < length (P.rows rows.now) }
-    requires conds { CondsBelow 8 conds.now }
-    ensures { (d : Row) → result ≡ is_match conds.now (P.flags rows.now) (P.rows rows.now) place d }
-{
-    rows.is_live(place) && meets_at(rows, place, conds)
-}
-
 /// How many live rows meet each condition.
-fn count<P: Places>(rows: &P, conds: &[Cond]) -> u64
-    requires { CondsBelow 8 conds.now }
-    ensures { result ≡ length (matching conds.now (kept (P.flags rows.now) (P.rows rows.now))) }
+fn count<P: Places>(rows: &P, sieve: &Sieve<'_>) -> u64
+    requires { CondsBelow 8 sieve.now }
+    ensures { result ≡ length (matching sieve.now (kept (P.flags rows.now) (P.rows rows.now))) }
 {
     let mut found: u64 = 0;
     for place in 0..rows.places() {
-        if is_found(rows, conds, place) {
+        if sieve.takes(rows, place) {
             found += 1;
         }
     }
@@ -54,14 +28,14 @@ fn count<P: Places>(rows: &P, conds: &[Cond]) -> u64
 }
 
 /// The sum of an attribute's cells of the live rows that meet each condition, 0 for none.
-fn sum<P: Places>(rows: &P, conds: &[Cond], attr: usize) -> i128
-    requires conds { CondsBelow 8 conds.now }
+fn sum<P: Places>(rows: &P, sieve: &Sieve<'_>, attr: usize) -> i128
+    requires conds { CondsBelow 8 sieve.now }
     requires attr { attr < 8 }
-    ensures { result ≡ total (column attr (matching conds.now (kept (P.flags rows.now) (P.rows rows.now)))) }
+    ensures { result ≡ total (column attr (matching sieve.now (kept (P.flags rows.now) (P.rows rows.now)))) }
 {
     let mut sum: i128 = 0;
     for place in 0..rows.places() {
-        if is_found(rows, conds, place) {
+        if sieve.takes(rows, place) {
             sum += i128::from(rows.cell(place, attr));
         }
     }
@@ -69,14 +43,14 @@ fn sum<P: Places>(rows: &P, conds: &[Cond], attr: usize) -> i128
 }
 
 /// The least of an attribute's cells of the live rows that meet each condition, if there are any.
-fn min<P: Places>(rows: &P, conds: &[Cond], attr: usize) -> Option<i64>
-    requires conds { CondsBelow 8 conds.now }
+fn min<P: Places>(rows: &P, sieve: &Sieve<'_>, attr: usize) -> Option<i64>
+    requires conds { CondsBelow 8 sieve.now }
     requires attr { attr < 8 }
-    ensures { result ≡ least (column attr (matching conds.now (kept (P.flags rows.now) (P.rows rows.now)))) }
+    ensures { result ≡ least (column attr (matching sieve.now (kept (P.flags rows.now) (P.rows rows.now)))) }
 {
     let mut found: Option<i64> = None;
     for place in 0..rows.places() {
-        if is_found(rows, conds, place) {
+        if sieve.takes(rows, place) {
             let here = rows.cell(place, attr);
             found = match found {
                 Some(low) => Some(low.min(here)),
@@ -88,14 +62,14 @@ fn min<P: Places>(rows: &P, conds: &[Cond], attr: usize) -> Option<i64>
 }
 
 /// The greatest of an attribute's cells of the live rows that meet each condition, if there are any.
-fn max<P: Places>(rows: &P, conds: &[Cond], attr: usize) -> Option<i64>
-    requires conds { CondsBelow 8 conds.now }
+fn max<P: Places>(rows: &P, sieve: &Sieve<'_>, attr: usize) -> Option<i64>
+    requires conds { CondsBelow 8 sieve.now }
     requires attr { attr < 8 }
-    ensures { result ≡ greatest (column attr (matching conds.now (kept (P.flags rows.now) (P.rows rows.now)))) }
+    ensures { result ≡ greatest (column attr (matching sieve.now (kept (P.flags rows.now) (P.rows rows.now)))) }
 {
     let mut found: Option<i64> = None;
     for place in 0..rows.places() {
-        if is_found(rows, conds, place) {
+        if sieve.takes(rows, place) {
             let here = rows.cell(place, attr);
             found = match found {
                 Some(high) => Some(high.max(here)),
@@ -154,16 +128,16 @@ fn push_row(found: &mut ReplyRows, row: ReplyRow) -> Result<(), AllocError>
 fn select<P: Places>(
     alloc: Global,
     rows: &P,
-    conds: &[Cond],
+    sieve: &Sieve<'_>,
     names: &[usize],
 ) -> Result<ReplyRows, AllocError>
-    requires conds { CondsBelow 8 conds.now }
+    requires conds { CondsBelow 8 sieve.now }
     requires names { All (λ a. a < 8) names.now }
-    ensures { IfOk result (λ found. found ≡ selected conds.now names.now (kept (P.flags rows.now) (P.rows rows.now))) }
+    ensures { IfOk result (λ found. found ≡ selected sieve.now names.now (kept (P.flags rows.now) (P.rows rows.now))) }
 {
     let mut found = ReplyRows::new(alloc);
     for place in 0..rows.places() {
-        if is_found(rows, conds, place) {
+        if sieve.takes(rows, place) {
             push_row(&mut found, shown_at(alloc, rows, place, names)?)?;
         }
     }
@@ -180,16 +154,16 @@ pub fn scan<P: Places>(alloc: Global, rows: &P, query: &Query) -> Result<Reply, 
     ensures refused { IsOkUnless result Refusal.NoMemory }
     ensures scalars { (TakesMemory query.now.want → ⊥) → IsOk result }
 {
-    let conds = query.conds.as_slice();
+    let sieve = &Sieve::new(query.conds.as_slice());
     match &query.want {
-        Want::Rows(names) => match select(alloc, rows, conds, names.as_slice()) {
+        Want::Rows(names) => match select(alloc, rows, sieve, names.as_slice()) {
             Ok(found) => Ok(Reply::Rows(found)),
             Err(_) => Err(Refusal::NoMemory),
         },
-        Want::Count => Ok(Reply::Count(count(rows, conds))),
-        Want::Sum(attr) => Ok(Reply::Sum(sum(rows, conds, *attr))),
-        Want::Min(attr) => Ok(Reply::Least(min(rows, conds, *attr))),
-        Want::Max(attr) => Ok(Reply::Least(max(rows, conds, *attr))),
+        Want::Count => Ok(Reply::Count(count(rows, sieve))),
+        Want::Sum(attr) => Ok(Reply::Sum(sum(rows, sieve, *attr))),
+        Want::Min(attr) => Ok(Reply::Least(min(rows, sieve, *attr))),
+        Want::Max(attr) => Ok(Reply::Least(max(rows, sieve, *attr))),
     }
 }
 

@@ -1,4 +1,4 @@
-use Rattle.std.proofs.Common.{◌≡◌, ◌∙◌, ◌++◌, ◌∷◌, ◌<◌, ◌≤◌, [], ap, sym, ℕ, ℤ, List, get_or, length, map, take, arith, rules, w64}
+use Rattle.std.proofs.Common.{◌∙◌, ◌++◌, ◌∷◌, ◌<◌, ◌≤◌, [], ap, sym, ℤ, List, get_or, length, map, take, rules, w64}
 use Rattle.std.proofs.lemmas.Int.{to_z-of_z}
 use Rattle.std.proofs.lemmas.List.{map_push, take_all, take_more}
 use Rattle.sw_rows.specs.Scan.{cell_of}

@@ -1,7 +1,7 @@
 use Rattle.std.proofs.Common.{◌≡◌, get_or, take, true}
 use Rattle.sw_rows.specs.Scan.{meets_all}
 use Rattle.sw_table.specs.declared.row.Row.{Row}
-use Rattle.sw_rows.proofs.scanning.meets_at.Given as goal
+use Rattle.sw_rows.proofs.sieve.meets_at.Given as goal
 
 -- each condition so far is met
 abbrev pub invariant-loop-cond : goal.invariant-loop-cond
