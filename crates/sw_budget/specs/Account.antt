@@ -8,7 +8,8 @@ use Rattle.sw_rows.specs.declared.refusal.Refusal.{Refusal}
 use Rattle.sw_rows.specs.declared.refusal.Refusal.TheVariants.{Short, Contended}
 
 -- Which budget it is of, that budget's capacity, and the view of its seat: the cells that it holds,
--- the word at its last load, the word that its last step found, how often it has loaded the word, and how often it has tried to change it
+-- the word at its last load, the word that its last step found, how often it has loaded the word,
+-- and how often it has tried to change it
 pub record Account : Type 0 where
   pub budget : TableId
   pub capacity : ℕ
@@ -20,10 +21,25 @@ pub record Account : Type 0 where
 
 -- the account of a seat of this budget that has this view
 abbrev pub account_of : TableId → View → Account
-account_of budget v = record { budget = budget; capacity = v.capacity; held = v.held; seen = v.seen; found = v.found; loads = v.loads; tries = v.tries }
+account_of budget v = record {
+  budget = budget;
+  capacity = v.capacity;
+  held = v.held;
+  seen = v.seen;
+  found = v.found;
+  loads = v.loads;
+  tries = v.tries;
+}
 
 abbrev pub view_of : Account → View
-view_of a = record { capacity = a.capacity; held = a.held; seen = a.seen; found = a.found; loads = a.loads; tries = a.tries }
+view_of a = record {
+  capacity = a.capacity;
+  held = a.held;
+  seen = a.seen;
+  found = a.found;
+  loads = a.loads;
+  tries = a.tries;
+}
 
 abbrev pub account : Seat (Unit {0}) View → Account
 account s = account_of s.table_id s.me.0
@@ -56,11 +72,13 @@ returned a = account_of a.budget (step.returned (view_of a))
 abbrev pub asked : Account → ℕ → ℕ → ℕ → Account
 asked a held seen found = tried (looked a seen) held found
 
--- Why a lease of `want` cells was refused, and the account of the purse that comes back: the cells seen in use and those
--- wanted exceed the capacity, or the second step found another number than the load had seen
+-- Why a lease of `want` cells was refused, and the account of the purse that comes back: the cells seen in use and
+-- those wanted exceed the capacity, or the second step found another number than the load had seen
 abbrev pub Refused : Account → ℕ → Account → Refusal → Type 0
-Refused a want b (Short used wanted capacity) = (b ≡ looked a used) × (wanted ≡ want) × (capacity ≡ a.capacity) × (used ≤ capacity) × (capacity < used + want)
-Refused a want b (Contended seen found) = (b ≡ asked a 0 seen found) × (seen ≢ found) × (seen + want ≤ a.capacity) × (found ≤ a.capacity)
+Refused a want b (Short used wanted capacity) =
+    (b ≡ looked a used) × (wanted ≡ want) × (capacity ≡ a.capacity) × (used ≤ capacity) × (capacity < used + want)
+Refused a want b (Contended seen found) =
+    (b ≡ asked a 0 seen found) × (seen ≢ found) × (seen + want ≤ a.capacity) × (found ≤ a.capacity)
 Refused a want b _ = ⊥
 
 -- a budget as its caller sees it

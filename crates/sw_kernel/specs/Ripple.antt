@@ -24,7 +24,8 @@ first_or at end x zs = cond (nat_lt at end) (slice_index_or zs at x) x
 abbrev pub put_first : {A : Type 0} → ℕ → ℕ → A → List A → List A
 put_first at end x zs = cond (nat_lt at end) (slice_set zs at x) zs
 
--- an item is carried from piece to piece: it takes the first place of each that is not empty, and that one's item is carried on
+-- an item is carried from piece to piece: it takes the first place of each that is not
+-- empty, and that one's item is carried on
 abbrev pub carried : {A : Type 0} → List Mark → ℕ → A → List A → List A
 carried [] n x zs = zs ++ x ∷ []
 carried (m ∷ ms) n x zs =

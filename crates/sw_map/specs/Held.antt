@@ -20,8 +20,8 @@ tail_value (Cell a) r = cell_of a r
 abbrev pub pair_in : ℕ → Tail → Row → ℤ × ℤ
 pair_in head tail = pair_of (cell_of head) (tail_value tail)
 
--- A map: whether it is blank; and if it isn't, its head and tail, the cells of its lease, its cursor (how many entries it has
--- replayed), and its pairs in their pieces. One cell is room for one pair.
+-- A map: whether it is blank; and if it isn't, its head and tail, the cells of its lease, its cursor (how many entries
+-- it has replayed), and its pairs in their pieces. One cell is room for one pair.
 pub record Held : Type 0 where
   pub is_blank : Bool
   pub head : ℕ

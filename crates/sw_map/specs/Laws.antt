@@ -32,15 +32,16 @@ NextLaw =
     IsTape tape → slice_get tape m.cursor ≡ Some e → IsAligned a tape m →
     MayReplay m e × (pairs_in (after e m) ≤ peak_from 0 tape)
 
--- at the tape's end an aligned map has, place by place, the pairs of the tape's rows, and it has the places of their bounds
+-- at the tape's end an aligned map has, place by place, the pairs of the tape's rows,
+-- and it has the places of their bounds
 abbrev pub ReadyLaw : Type 0
 ReadyLaw =
     (a : ℕ) (tape : List (Step Row)) (m : Held) → IsAligned a tape m → m.cursor ≡ length tape →
     (joined m.pairs ≡ map (pair_in a m.tail) (joined (rows_by a tape)))
     × ((b : Bound) → place_of b m.pairs ≡ place_of b (rows_by a tape))
 
--- a bound that stands in a range of the tape has a place, at most the number of rows: the rows before it are left of the
--- bound, the others are not
+-- a bound that stands in a range of the tape has a place, at most the number of rows: the rows before it are left of
+-- the bound, the others are not
 abbrev pub PlaceLaw : Type 0
 PlaceLaw =
     (a : ℕ) (tape : List (Step Row)) (b : Bound) → IsTape tape → is_marked b tape ≡ true →

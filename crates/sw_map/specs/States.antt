@@ -48,8 +48,8 @@ IsGivenBack lease home e = (held_by home ≡ blank) × (seat_of home ≡ returne
 abbrev pub HasLeased : Account → ℕ → Account → Type 0
 HasLeased a cells b = (b ≡ asked a cells b.seen b.seen) × (b.seen + cells ≤ a.capacity)
 
--- the seat after a begin that was refused: where the budget refused, as it left the purse; where memory was refused, the
--- lease was given back
+-- the seat after a begin that was refused: where the budget refused, as it left the purse; where memory was refused,
+-- the lease was given back
 abbrev pub HasReturned : Account → ℕ → Account → Refusal → Type 0
 HasReturned a cells b NoMemory = b ≡ returned (asked a cells b.seen b.seen)
 HasReturned a cells b e = Refused a cells b e

@@ -72,8 +72,8 @@ IsOneCleared ms ns cells =
     ⊎ ((at : ℕ) × (at < length ms) × ((d : Held) → IsLeasing cells (slice_index_or ms at d))
     × (ns ≡ slice_set ms at blank))
 
--- The area after boxes were dropped: at most so many, and all where it has no more. Those that went and those that are left are
--- the boxes that were there.
+-- The area after boxes were dropped: at most so many, and all where it has no more. Those that went and those that are
+-- left are the boxes that were there.
 pub record IsShed (most : ℕ) (x y : AreaState) (gone : ℕ) : Type 0 where
   pub attribute : y.attribute ≡ x.attribute
   pub from : y.from ≡ x.from

@@ -7,7 +7,8 @@ use Rattle.sw_table.specs.Kept.{kept}
 use Rattle.sw_table.specs.Rows.{HasNoRow, IsRowAt}
 use Rattle.sw_set.specs.Shelf.{Rises, came_then, key_of}
 
--- The rows that came after a tape's load, and a flag for each row of the load and then for each later one: whether it is live.
+-- The rows that came after a tape's load, and a flag for each row of the load and then
+-- for each later one: whether it is live.
 pub record Standing : Type 0 where
   pub later : List Row
   pub flags : List Bool

@@ -34,7 +34,8 @@ pub record IsInserted (r : Row) (x y : AreaState) : Type 0 where
   pub logged : length x.tape < MAX_ENTRIES → (y.tape ≡ x.tape ++ inserted r ∷ []) × (y.boxes ≡ x.boxes)
   pub restarted : length x.tape ≡ MAX_ENTRIES → IsBegunAnew (tape_rows x ++ r ∷ []) y
 
--- A row goes: the place of its pair at the tape's end is one entry more, and a key map has replayed what was there before.
+-- A row goes: the place of its pair at the tape's end is one entry more, and a key
+-- map has replayed what was there before.
 pub record IsRemovalLogged (key : ℕ) (x y : AreaState) : Type 0 where
   pub place : ℕ
   pub tape : y.tape ≡ x.tape ++ removed place ∷ []

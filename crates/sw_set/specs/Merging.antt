@@ -42,14 +42,16 @@ abbrev pub IsRemoval : Update → Type 0
 IsRemoval (update.Insert r) = ⊥
 IsRemoval (update.Remove key) = Unit {0}
 
--- The updates from the one place up to the other are for one load: at least one, and all up to the last by which a row goes.
+-- The updates from the one place up to the other are for one load: at least one, and
+-- all up to the last by which a row goes.
 pub record IsStretch (us : List Update) (at upto : ℕ) : Type 0 where
   pub more : at < upto
   pub within : upto ≤ length us
   pub last : at + 1 < upto → (d : Update) → IsRemoval (get_or us (upto - 1) d)
   pub rest : (k : ℕ) (d : Update) → upto ≤ k → k < length us → IsRemoval (get_or us k d) → ⊥
 
--- each number that exceeds the keys of the rows that come to the tape of x by these updates exceeds those of the tape of y
+-- each number that exceeds the keys of the rows that come to the tape of x by these
+-- updates exceeds those of the tape of y
 abbrev pub HasBroughtNoMore : List Update → AreaState → AreaState → Type 0
 HasBroughtNoMore us x y =
     (n : ℕ) → All (λ (r : Row). r.key < n) (fold came_then (brought x.tape) us) →
@@ -79,8 +81,8 @@ GoesOn us at upto x y = (first : AreaState) → IsMergedUpTo us at first x → I
 
 -- ---- what came of it
 
--- The area is begun anew with the updates of a stretch, and where it ends is answered; or there was no memory, and nothing has
--- changed.
+-- The area is begun anew with the updates of a stretch, and where it ends is answered; or there was no memory, and
+-- nothing has changed.
 abbrev pub HasBegunWithOr : Result ℕ Refusal → List Update → ℕ → AreaState → AreaState → Type 0
 HasBegunWithOr r us at x y =
     MatchResult r

@@ -27,8 +27,8 @@ stands_if (Some b) tape = is_marked b tape
 abbrev pub stand_both : Option Bound → Option Bound → List (Step Row) → Bool
 stand_both lower upper tape = stands_if lower tape && stands_if upper tape
 
--- What a query with these bounds makes of the tape: nothing where they stand in it; otherwise one range more, after a restart
--- with these rows where the tape is full.
+-- What a query with these bounds makes of the tape: nothing where they stand in it; otherwise one range more, after a
+-- restart with these rows where the tape is full.
 pub record IsNoted (lower upper : Option Bound) (rows : List Row) (old new : List (Step Row)) : Type 0 where
   pub stood : stand_both lower upper old ≡ true → new ≡ old
   pub added : stand_both lower upper old ≡ false → length old < MAX_ENTRIES → new ≡ old ++ ranged lower upper ∷ []
@@ -67,8 +67,8 @@ area_upper x q = upper_upto (edge x.below) (upper_in q.conds)
 abbrev pub is_touched : AreaState → Query → Bool
 is_touched x q = touches (edge x.from) (edge x.below) (lower_in q.conds) (upper_in q.conds)
 
--- How an area stands that is prepared for a query, and the range of places that qualify: each needed map at the tape's end, and
--- the bounds' places; for a query that does not touch it, the empty range.
+-- How an area stands that is prepared for a query, and the range of places that qualify: each needed map at the tape's
+-- end, and the bounds' places; for a query that does not touch it, the empty range.
 pub record IsPreparedFor (q : Query) (x : AreaState) (from upto : ℕ) : Type 0 where
   pub touched : is_touched x q ≡ true → IsPrepared (area_lower x q) (area_upper x q) (needed x.attribute q) x from upto
   pub untouched : is_touched x q ≡ false → (from ≡ 0) × (upto ≡ 0)
@@ -121,8 +121,8 @@ HasTooFew x q = length x.boxes < length (needed x.attribute q)
 abbrev pub no_blank : AreaState → Query → Refusal
 no_blank x q = NoBlank (length x.boxes) (length (needed x.attribute q))
 
--- A refusal comes only where the query touches the area; boxes are counted first; and there are too few cells only where each
--- map that is left is needed.
+-- A refusal comes only where the query touches the area; boxes are counted first; and there are too few cells only
+-- where each map that is left is needed.
 pub record IsHindered (q : Query) (x y : AreaState) (e : Refusal) : Type 0 where
   pub touched : is_touched x q ≡ true
   pub counted : HasTooFew x q → e ≡ no_blank x q

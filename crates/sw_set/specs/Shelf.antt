@@ -16,8 +16,8 @@ use Rattle.sw_map.specs.Lawful.{IsLawful, rows_by}
 use Rattle.sw_tape.specs.declared.tape.TheConstants.{MAX_ENTRIES}
 use Rattle.sw_set.specs.Needs.{edge}
 
--- An area: the attribute that is the head of its maps, the interval of its rows' cells there (from the one value, below the
--- other), the updates that wait, how many more may come before they take memory, the tape, and the boxes.
+-- An area: the attribute that is the head of its maps, the interval of its rows' cells there (from the one value, below
+-- the other), the updates that wait, how many more may come before they take memory, the tape, and the boxes.
 pub record AreaState : Type 0 where
   pub attribute : ℕ
   pub from : Option ℤ
@@ -100,8 +100,8 @@ came_in x = fold came_then (brought x.tape) x.inbox
 abbrev pub BringsNoMore : AreaState → AreaState → Type 0
 BringsNoMore x y = (n : ℕ) → All (λ (r : Row). r.key < n) (came_in x) → All (λ (r : Row). r.key < n) (came_in y)
 
--- What an area may receive, where these rows came and these of them are live: a row of its interval whose key fits a signed
--- cell and exceeds those of all that came; the removal of a live one.
+-- What an area may receive, where these rows came and these of them are live: a row of its interval whose key fits a
+-- signed cell and exceeds those of all that came; the removal of a live one.
 abbrev pub MayReceive : ℕ → Option ℤ → Option ℤ → List Row → List Row → Update → Type 0
 MayReceive a from below came live (update.Insert r) =
     All (λ (c : Row). c.key < r.key) came × (r.key < 2 ^ 63) × (lies_within a from below r ≡ true)
@@ -139,8 +139,8 @@ AreApart ms =
 abbrev pub HasLease : Held → Type 0
 HasLease m = m.is_blank ≡ false → 0 < m.cells
 
--- The tape holds rows of the interval, by rising keys; each box is blank, or lawful at some cursor of it with a lease; and what
--- waits may be received.
+-- The tape holds rows of the interval, by rising keys; each box is blank, or lawful at some cursor of it with a lease;
+-- and what waits may be received.
 pub record IsAreaLawful (x : AreaState) : Type 0 where
   pub attribute : x.attribute < 8
   pub tape : IsTape x.tape

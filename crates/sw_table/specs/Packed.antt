@@ -49,6 +49,14 @@ pub record IsWhole (width : ℕ) (keys : List ℕ) (cells : List ℤ) : Type 0 w
 abbrev pub stretch : {X : Type 0} → ℕ → ℕ → List X → List X
 stretch start many xs = take many (drop start xs)
 
+-- the same rows, and a stretch of others behind them
+abbrev pub with_stretch : ℕ → ℕ → List Row → Packed → Packed
+with_stretch start many rows p = record p { items = p.items ++ stretch start many rows }
+
+-- the width stays where some rows are within it
+abbrev pub KeepsWidth : List Row → Packed → Packed → Type 0
+KeepsWidth rows old new = All (IsWithin old.width) rows → new.width ≡ old.width
+
 -- a vector has room for so many items more
 abbrev pub HasRoomFor : ℕ → Vec ℤ → Type 0
 HasRoomFor more v = vec_len v + more ≤ vec_capacity v

@@ -9,8 +9,8 @@ use crate::row::Row;
 use std::alloc::{AllocError, Global};
 use std::marker::Model;
 
-/// The rows of a table, in the order in which they came, by rising keys. A row that goes stays as a dead one until the table is
-/// made compact.
+/// The rows of a table, in the order in which they came, by rising keys. A row that goes stays as a dead one until the
+/// table is made compact.
 #[derive(Drop)]
 pub struct LiveTable {
     came: PackedRows,
@@ -133,8 +133,8 @@ impl LiveTable {
         }
     }
 
-    /// Drops the dead rows, in place; the rows stay. The one error is that there is no memory for their keys, and then nothing
-    /// has changed.
+    /// Drops the dead rows, in place; the rows stay. The one error is that there is no memory for their keys, and then
+    /// nothing has changed.
     pub fn compact(&mut self) -> Result<(), AllocError>
         ensures top { self.new.top ≡ self.old.top }
         ensures ok { OnOk result (self.new.came ≡ live_rows self.old) }

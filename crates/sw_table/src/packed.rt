@@ -5,7 +5,7 @@ ghost use Rattle.sw_table.specs.declared.row.Row.{Row};
 ghost use Rattle.sw_table.specs.Rows.{HasNoRow, IsRowAt, cell_of};
 ghost use Rattle.sw_table.specs.Kept.{kept};
 ghost use Rattle.sw_table.specs.Live.{Rises, key_of};
-ghost use Rattle.sw_table.specs.Packed.{HasRoomFor, IsLeastWidth, IsSameRoom, IsWithin, Packed, behind, stretch, zeros};
+ghost use Rattle.sw_table.specs.Packed.{HasRoomFor, IsLeastWidth, IsSameRoom, IsWithin, KeepsWidth, Packed, behind, stretch, with_stretch, zeros};
 
 use crate::keeping::keep_cells;
 use crate::keys::Keys;
@@ -90,7 +90,8 @@ fn make_room(out: &mut Vec<i64>, more: usize) -> Result<(), AllocError>
     Ok(())
 }
 
-/// A list of rows of as many attributes as its width: no more cells than those are kept of a row, one row after another.
+/// A list of rows of as many attributes as its width: no more cells than those are kept of a row, one row after
+/// another.
 #[derive(Debug, Drop)]
 pub struct PackedRows {
     width: usize,
@@ -264,8 +265,8 @@ impl PackedRows {
         self.keys.find(key)
     }
 
-    /// Takes the rows out whose flags are false, in place; the others move up, in their order. After an error nothing has
-    /// changed.
+    /// Takes the rows out whose flags are false, in place; the others move up, in their order. After an error nothing
+    /// has changed.
     pub fn keep(&mut self, live: &[bool]) -> Result<(), AllocError>
         requires { length live.now ≡ length self.old.items }
         ensures ok { OnOk result (self.new ≡ record self.old { items = kept live.now self.old.items }) }
@@ -289,7 +290,8 @@ impl PackedRows {
         Ok(wide)
     }
 
-    /// Makes the rows wide enough for one more, where they are not; the rows stay, and after an error nothing has changed.
+    /// Makes the rows wide enough for one more, where they are not; the rows stay, and after an error nothing has
+    /// changed.
     pub(crate) fn widen(&mut self, row: &Row) -> Result<(), AllocError>
         ensures rows { self.new.items ≡ self.old.items }
         ensures fitting { IsWithin self.old.width row.now → self.new ≡ self.old }
@@ -303,8 +305,8 @@ impl PackedRows {
         Ok(())
     }
 
-    /// Adds a row at the end, whatever its cells: one that does not fit the width widens it to eight. After an error the rows are
-    /// as they were.
+    /// Adds a row at the end, whatever its cells: one that does not fit the width widens it to eight. After an error
+    /// the rows are as they were.
     pub fn add(&mut self, row: &Row) -> Result<(), AllocError>
         ensures width { IsWithin self.old.width row.now → self.new.width ≡ self.old.width }
         ensures ok { OnOk result (self.new.items ≡ self.old.items ++ row.now ∷ []) }
@@ -326,7 +328,7 @@ impl PackedRows {
 
     /// Adds rows at the end, whatever their cells; after an error the rows are as they were.
     fn extend_from_slice(&mut self, rows: &[Row]) -> Result<(), AllocError>
-        ensures width { All (IsWithin self.old.width) rows.now → self.new.width ≡ self.old.width }
+        ensures width { KeepsWidth rows.now self.old self.new }
         ensures ok { OnOk result (self.new.items ≡ self.old.items ++ rows.now) }
         ensures err { OnErr result (self.new.items ≡ self.old.items) }
     {
@@ -340,7 +342,8 @@ impl PackedRows {
         Ok(())
     }
 
-    /// Adds so many rows of a list of the same width, from a place on, all cells at once; after an error nothing has changed.
+    /// Adds so many rows of a list of the same width, from a place on, all cells at once; after an error nothing has
+    /// changed.
     fn extend_flat(
         &mut self,
         rows: &PackedRows,
@@ -349,7 +352,7 @@ impl PackedRows {
     ) -> Result<(), AllocError>
         requires width { rows.now.width ≡ self.old.width }
         requires within { start + many ≤ length rows.now.items }
-        ensures ok { OnOk result (self.new ≡ record self.old { items = self.old.items ++ stretch start many rows.now.items }) }
+        ensures ok { OnOk result (self.new ≡ with_stretch start many rows.now.items self.old) }
         ensures err { OnErr result (self.new ≡ self.old) }
     {
         let alloc = *self.cells.allocator();
@@ -373,7 +376,7 @@ impl PackedRows {
         many: usize,
     ) -> Result<(), AllocError>
         requires within { start + many ≤ length rows.now.items }
-        ensures width { All (IsWithin self.old.width) (stretch start many rows.now.items) → self.new.width ≡ self.old.width }
+        ensures width { KeepsWidth (stretch start many rows.now.items) self.old self.new }
         ensures ok { OnOk result (self.new.items ≡ self.old.items ++ stretch start many rows.now.items) }
         ensures err { OnErr result (self.new.items ≡ self.old.items) }
     {
@@ -407,15 +410,15 @@ impl PackedRows {
         Ok(part)
     }
 
-    /// Adds the rows of another list from a place on, so many at most; after an error the rows are as they were. Lists of the same
-    /// width are copied as they lie, and the width stays where all these rows are within it.
+    /// Adds the rows of another list from a place on, so many at most; after an error the rows are as they were. Lists
+    /// of the same width are copied as they lie, and the width stays where all these rows are within it.
     pub fn extend_from(
         &mut self,
         rows: &PackedRows,
         from: usize,
         most: usize,
     ) -> Result<(), AllocError>
-        ensures width { All (IsWithin self.old.width) (stretch from most rows.now.items) → self.new.width ≡ self.old.width }
+        ensures width { KeepsWidth (stretch from most rows.now.items) self.old self.new }
         ensures ok { OnOk result (self.new.items ≡ self.old.items ++ stretch from most rows.now.items) }
         ensures err { OnErr result (self.new.items ≡ self.old.items) }
     {
@@ -427,8 +430,9 @@ impl PackedRows {
         }
     }
 
-    /// Adds all rows of a list of the same width, each with its key raised by how many rows there are; after an error nothing has
-    /// changed. Where the keys of both are 1, 2, 3 and so on, so are those of all, and no list of keys is made.
+    /// Adds all rows of a list of the same width, each with its key raised by how many rows there are; after an error
+    /// nothing has changed. Where the keys of both are 1, 2, 3 and so on, so are those of all, and no list of keys is
+    /// made.
     pub fn extend_behind(&mut self, rows: &PackedRows) -> Result<(), AllocError>
         requires width { rows.now.width ≡ self.old.width }
         requires small { All (λ (r : Row). r.key < 2 ^ 63) rows.now.items }
@@ -447,8 +451,8 @@ impl PackedRows {
         }
     }
 
-    /// These rows, whatever their cells. The width is the most that one of them uses. The one error is that there is no memory for
-    /// them.
+    /// These rows, whatever their cells. The width is the most that one of them uses. The one error is that there is no
+    /// memory for them.
     pub fn of(alloc: Global, rows: &[Row]) -> Result<PackedRows, AllocError>
         ensures rows { IfOk result (λ p. p.items ≡ rows.now) }
         ensures width { IfOk result (λ p. IsLeastWidth rows.now p.width) }

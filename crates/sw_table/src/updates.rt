@@ -1,7 +1,7 @@
 //! Updates of a plain list of rows.
 
-ghost use Rattle.std.specs.Prelude.{◌≡◌, ◌<◌, ℕ, OnOk, OnErr, fold, length, take};
-ghost use Rattle.sw_table.specs.Updates.{has_key, rows_then, without};
+ghost use Rattle.std.specs.Prelude.{◌≡◌, OnOk, OnErr, fold};
+ghost use Rattle.sw_table.specs.Updates.{IsPartWay, has_key, rows_then, without};
 
 use crate::row::{Row, Update};
 use std::alloc::AllocError;
@@ -34,7 +34,7 @@ pub fn update(rows: &mut Vec<Row>, update: Update) -> Result<(), AllocError>
 /// Makes updates in order. After an error a beginning of them is made, and nothing else.
 pub fn update_all(rows: &mut Vec<Row>, updates: &[Update]) -> Result<(), AllocError>
     ensures ok { OnOk result (rows.new.items ≡ fold rows_then rows.old.items updates.now) }
-    ensures err { OnErr result ((n : ℕ) × (n < length updates.now) × (rows.new.items ≡ fold rows_then rows.old.items (take n updates.now))) }
+    ensures err { OnErr result (IsPartWay updates.now rows.old.items rows.new.items) }
 {
     for one in updates {
         update(rows, *one)?;

@@ -1,9 +1,9 @@
 -- What merging makes of areas that are written out.
-use Rattle.std.proofs.Common.{◌≡◌, ◌<◌, ◌∷◌, ◌++◌, [], List, ℕ, zero, suc, length, get_or, pos, true≢false, None, refl, ap, sym, subst, inl, inr, arith, All}
+use Rattle.std.proofs.Common.{◌≡◌, ◌<◌, ◌∷◌, [], List, ℕ, zero, suc, length, get_or, true≢false, None, refl, ap, sym, subst, inl, inr, arith, All}
 use Rattle.std.proofs.lemmas.List.Elements.{All-from_recursion}
 use Rattle.sw_table.specs.declared.row.Row.{Row}
 use Rattle.sw_table.specs.declared.row.Update.TheVariants.{Insert, Remove}
-use Rattle.sw_rows.specs.Examples.{four_rows, row_with}
+use Rattle.sw_rows.specs.Examples.{four_rows}
 use Rattle.sw_kernel.specs.Arrangement.{joined}
 use Rattle.sw_kernel.specs.Partition.{left_part, right_part}
 use Rattle.sw_kernel.specs.Replay.{Step, loaded, inserted, removed, ranged}
@@ -13,7 +13,7 @@ use Rattle.sw_map.specs.Lawful.{rows_by}
 use Rattle.sw_set.specs.Merged.{IsMerged, LacksKeys}
 use Rattle.sw_set.specs.Shelf.{AreReceivable}
 use Rattle.sw_set.proofs.Boxes.{same-refl}
-use Rattle.sw_trial_areas.specs.Examples.{begun_area, cleared_area, cracked_tape, fifth_row, key_map, longer_tape, mapped_area, second_map, shorter_tape, three_rows}
+use Rattle.sw_trial_areas.specs.Examples.{begun_area, cleared_area, cracked_tape, fifth_row, key_map, longer_tape, mapped_area, old_row, second_map, shorter_tape, strayed_tape, three_rows}
 
 pub comes_merged : IsMerged (Insert fifth_row) mapped_area (record mapped_area { tape = longer_tape })
 comes_merged = record { logged = λ _. (refl, refl); restarted = λ full. absurd (omega (arith, full)) }
@@ -48,7 +48,7 @@ key_there place is own =
     let no : 1 ≡ 2 = subst (λ (n : ℕ). (get_or (joined (rows_by 0 cracked_tape)) n fifth_row).key ≡ 2) (sym is) (own fifth_row) in
     absurd (omega (arith, no))
 
-pub another_place_refused : IsMerged (Remove 2) mapped_area (record mapped_area { tape = cracked_tape ++ removed 1 ∷ [] }) → ⊥
+pub another_place_refused : IsMerged (Remove 2) mapped_area (record mapped_area { tape = strayed_tape }) → ⊥
 another_place_refused (inl w) = key_there w.1.place (ap third_place w.1.tape) w.1.own
 another_place_refused (inr w) = let no : 3 ≡ 1 = ap length w.1.tape in absurd (omega (arith, no))
 
@@ -82,5 +82,5 @@ removed_twice w = absurd (true≢false (sym w.1.0))
 pub insertion_received : AreReceivable 0 None None four_rows four_rows (Insert fifth_row ∷ Remove 5 ∷ [])
 insertion_received = ((All-from_recursion (λ (c : Row). c.key < 5) four_rows (omega arith, (omega arith, (omega arith, (omega arith, tt)))), omega arith, refl), (refl, tt))
 
-pub old_key_refused : AreReceivable 0 None None four_rows three_rows (Insert (row_with 2 (pos 1) (pos 1) (pos 1)) ∷ []) → ⊥
+pub old_key_refused : AreReceivable 0 None None four_rows three_rows (Insert old_row ∷ []) → ⊥
 old_key_refused w = let no : 3 < 2 = w.0.0 2 fifth_row (omega arith) in absurd (omega (arith, no))

@@ -52,8 +52,13 @@ longer_tape = cracked_tape ++ inserted (row_with 5 (pos 1) (pos 9) (pos 0)) ∷ 
 abbrev pub shorter_tape : List (Step Row)
 shorter_tape = cracked_tape ++ removed 0 ∷ []
 
+-- or, in its stead, the row at another place
+abbrev pub strayed_tape : List (Step Row)
+strayed_tape = cracked_tape ++ removed 1 ∷ []
+
 abbrev pub three_rows : List Row
-three_rows = row_with 1 (pos 12) (pos 7) (pos 1) ∷ row_with 3 (pos 12) (pos 5) (pos 1) ∷ row_with 4 (pos 20) (pos 2) (pos 0) ∷ []
+three_rows =
+    row_with 1 (pos 12) (pos 7) (pos 1) ∷ row_with 3 (pos 12) (pos 5) (pos 1) ∷ row_with 4 (pos 20) (pos 2) (pos 0) ∷ []
 
 -- or the tape begins anew without it
 abbrev pub begun_tape : List (Step Row)
@@ -65,7 +70,8 @@ whole_tape = loaded four_rows ∷ ranged (Some least_bound) (Some greatest_bound
 
 -- three rows of one value, cracked at it, and two more
 abbrev pub fives_tape : List (Step Row)
-fives_tape = loaded (row_of_one 1 (pos 5) ∷ row_of_one 2 (pos 5) ∷ row_of_one 3 (pos 5) ∷ []) ∷ ranged (before 5) (after 5) ∷ []
+fives_tape =
+    loaded (row_of_one 1 (pos 5) ∷ row_of_one 2 (pos 5) ∷ row_of_one 3 (pos 5) ∷ []) ∷ ranged (before 5) (after 5) ∷ []
 
 abbrev pub mixed_tape : List (Step Row)
 mixed_tape = fives_tape ++ inserted (row_of_one 4 (pos 7)) ∷ inserted (row_of_one 5 (pos 4)) ∷ []
@@ -78,7 +84,10 @@ second_map = record {
   tail = Cell 1;
   cells = 64;
   cursor = 2;
-  pairs = piece ((pos 3, pos 8) ∷ []) (Before (pos 10)) (piece ((pos 12, pos 7) ∷ (pos 12, pos 5) ∷ []) (After (pos 15)) (last ((pos 20, pos 2) ∷ [])));
+  pairs =
+      piece ((pos 3, pos 8) ∷ []) (Before (pos 10))
+      (piece ((pos 12, pos 7) ∷ (pos 12, pos 5) ∷ []) (After (pos 15))
+      (last ((pos 20, pos 2) ∷ [])));
 }
 
 -- the key map there
@@ -89,12 +98,23 @@ key_map = record {
   tail = Key;
   cells = 64;
   cursor = 2;
-  pairs = piece ((pos 3, pos 2) ∷ []) (Before (pos 10)) (piece ((pos 12, pos 1) ∷ (pos 12, pos 3) ∷ []) (After (pos 15)) (last ((pos 20, pos 4) ∷ [])));
+  pairs =
+      piece ((pos 3, pos 2) ∷ []) (Before (pos 10))
+      (piece ((pos 12, pos 1) ∷ (pos 12, pos 3) ∷ []) (After (pos 15))
+      (last ((pos 20, pos 4) ∷ [])));
 }
 
 -- an area of four rows with these two maps
 abbrev pub mapped_area : AreaState
-mapped_area = record { attribute = 0; from = None; below = None; inbox = []; spare = 0; tape = cracked_tape; boxes = key_map ∷ second_map ∷ [] }
+mapped_area = record {
+  attribute = 0;
+  from = None;
+  below = None;
+  inbox = [];
+  spare = 0;
+  tape = cracked_tape;
+  boxes = key_map ∷ second_map ∷ [];
+}
 
 -- the same when its key map was cleared, and when it was begun anew without the row of key 2
 abbrev pub cleared_area : AreaState
@@ -107,9 +127,21 @@ begun_area = record mapped_area { tape = loaded three_rows ∷ []; boxes = blank
 abbrev pub fifth_row : Row
 fifth_row = row_with 5 (pos 1) (pos 9) (pos 0)
 
+-- one whose key is not above all that came
+abbrev pub old_row : Row
+old_row = row_with 2 (pos 1) (pos 1) (pos 1)
+
 -- an area of four rows, one of which waits to go
 abbrev pub waiting_area : Update → AreaState
-waiting_area u = record { attribute = 0; from = None; below = None; inbox = u ∷ []; spare = 0; tape = cracked_tape; boxes = [] }
+waiting_area u = record {
+  attribute = 0;
+  from = None;
+  below = None;
+  inbox = u ∷ [];
+  spare = 0;
+  tape = cracked_tape;
+  boxes = [];
+}
 
 -- `select b` with a range of a
 abbrev pub select_b : Query

@@ -19,7 +19,15 @@ numbered cells = map row_of (enumerate_from 1 cells)
 abbrev pub may_open : Shape → List Row → Bool
 may_open s rows = nat_lt s.attribute 8 && list_all (lies_within s.attribute s.from s.below) rows
 
--- The area of a shape over rows: its tape is one load of them, no update waits, and of so many blank boxes it has as many as it
--- takes.
+-- The area of a shape over rows: its tape is one load of them, no update waits, and of so many blank boxes it has as
+-- many as it takes.
 abbrev pub opened : Shape → List Row → ℕ → AreaState
-opened s rows many = record { attribute = s.attribute; from = s.from; below = s.below; inbox = []; spare = 0; tape = loaded rows ∷ []; boxes = replicate (min s.boxes many) blank }
+opened s rows many = record {
+  attribute = s.attribute;
+  from = s.from;
+  below = s.below;
+  inbox = [];
+  spare = 0;
+  tape = loaded rows ∷ [];
+  boxes = replicate (min s.boxes many) blank;
+}

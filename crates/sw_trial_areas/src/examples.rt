@@ -2,11 +2,10 @@
 //!
 //! Each function here does nothing. Its contract is the example, and the check computes it.
 
-ghost use Rattle.std.specs.Prelude.{◌≡◌, ◌∷◌, ◌++◌, [], pos, false, true};
-ghost use Rattle.sw_rows.specs.Examples.{four_rows, row_with};
+ghost use Rattle.std.specs.Prelude.{◌≡◌, ◌∷◌, [], pos, false, true};
+ghost use Rattle.sw_rows.specs.Examples.{four_rows};
 ghost use Rattle.sw_rows.specs.declared.bound.Bound.TheVariants.{Before, After};
 ghost use Rattle.sw_table.specs.declared.row.Update.TheVariants.{Insert, Remove};
-ghost use Rattle.sw_kernel.specs.Replay.{removed};
 ghost use Rattle.sw_kernel.specs.Tapes.{peak_from};
 ghost use Rattle.sw_map.specs.declared.tail.Tail.TheVariants.{Key, Cell};
 ghost use Rattle.sw_map.specs.Held.{begun, place_of};
@@ -15,7 +14,7 @@ ghost use Rattle.sw_set.specs.Needs.{edge, head_in, lower_from, needed, touches,
 ghost use Rattle.sw_set.specs.Prepared.{cells_for, stands_if};
 ghost use Rattle.sw_set.specs.Merged.{IsMerged};
 ghost use Rattle.sw_set.specs.Shelf.{AreReceivable, logged_rows, rows_in};
-ghost use Rattle.sw_trial_areas.specs.Examples.{after, before, begun_area, begun_tape, cleared_area, count_all, cracked_pieces, cracked_tape, fifth_row, fives_tape, greatest_bound, keys_by, least_bound, longer_tape, mapped_area, mixed_tape, places_by, second_map, select_a_by_b, select_b, select_b_and_c, shorter_tape, sum_b_by_c, three_rows, waiting_area, whole_tape};
+ghost use Rattle.sw_trial_areas.specs.Examples.{after, before, begun_area, begun_tape, cleared_area, count_all, cracked_pieces, cracked_tape, fifth_row, fives_tape, greatest_bound, keys_by, least_bound, longer_tape, mapped_area, mixed_tape, old_row, places_by, second_map, select_a_by_b, select_b, select_b_and_c, shorter_tape, strayed_tape, sum_b_by_c, three_rows, waiting_area, whole_tape};
 
 /// Which intervals a range touches: the ends are those of bounds, and a range whose ends are turned touches none.
 pub(crate) fn intervals_that_are_touched()
@@ -103,7 +102,7 @@ pub(crate) fn rows_come_and_go()
 pub(crate) fn updates_that_are_merged()
     ensures comes { IsMerged (Insert fifth_row) mapped_area (record mapped_area { tape = longer_tape }) }
     ensures goes { IsMerged (Remove 2) mapped_area (record mapped_area { tape = shorter_tape }) }
-    ensures at_its_place { IsMerged (Remove 2) mapped_area (record mapped_area { tape = cracked_tape ++ removed 1 ∷ [] }) → ⊥ }
+    ensures at_its_place { IsMerged (Remove 2) mapped_area (record mapped_area { tape = strayed_tape }) → ⊥ }
     ensures restarts { IsMerged (Remove 2) cleared_area begun_area }
     ensures only_then { IsMerged (Remove 2) mapped_area begun_area → ⊥ }
 {}
@@ -114,7 +113,7 @@ pub(crate) fn updates_that_may_be_received()
     ensures removal { AreReceivable 0 None None four_rows four_rows (Remove 2 ∷ []) }
     ensures twice { AreReceivable 0 None None four_rows four_rows (Remove 2 ∷ Remove 2 ∷ []) → ⊥ }
     ensures insertion { AreReceivable 0 None None four_rows four_rows (Insert fifth_row ∷ Remove 5 ∷ []) }
-    ensures old_key { AreReceivable 0 None None four_rows three_rows (Insert (row_with 2 (pos 1) (pos 1) (pos 1)) ∷ []) → ⊥ }
+    ensures old_key { AreReceivable 0 None None four_rows three_rows (Insert old_row ∷ []) → ⊥ }
 {}
 
 /// A range at the ends of all values, and rows of one value.

@@ -20,7 +20,8 @@ const MOST_ROWS: usize = 1 << 20;
 /// Adds the row of these cells whose key is one more than a number. Refused `NoMemory` alone.
 fn push_row(rows: &mut Vec<Row>, number: usize, cells: [i64; 8]) -> Result<(), Refusal>
     requires { number < 2 ^ 20 }
-    ensures { MatchResult result (λ _. rows.new.items ≡ rows.old.items ++ row_of (number + 1, cells) ∷ []) (λ e. e ≡ NoMemory) }
+    ensures { MatchResult result
+        (λ _. rows.new.items ≡ rows.old.items ++ row_of (number + 1, cells) ∷ []) (λ e. e ≡ NoMemory) }
 {
     let row = Row {
         key: number as u64 + 1,
@@ -96,7 +97,8 @@ fn may_open(shape: Shape, rows: &[Row]) -> bool
 pub(crate) fn add<M: CrackerMap>(maps: &mut Vec<M>, map: M) -> Result<(), Refusal>
     requires all { All (λ m. M.held m ≡ blank) maps.old.items }
     requires one { M.held map ≡ blank }
-    ensures added { MatchResult result (λ _. maps.new.items ≡ maps.old.items ++ map ∷ []) (λ e. (maps.new.items ≡ maps.old.items) × (e ≡ NoMemory)) }
+    ensures added { MatchResult result (λ _. maps.new.items ≡ maps.old.items ++ map ∷ [])
+        (λ e. (maps.new.items ≡ maps.old.items) × (e ≡ NoMemory)) }
     ensures blank { All (λ m. M.held m ≡ blank) maps.new.items }
 {
     if maps.reserve(1).is_err() {
@@ -111,7 +113,8 @@ fn take_last<M: CrackerMap>(maps: &mut Vec<M>) -> Option<M>
     requires { All (λ m. M.held m ≡ blank) maps.old.items }
     ensures rest { All (λ m. M.held m ≡ blank) maps.new.items }
     ensures taken { IfSome result (λ m. M.held m ≡ blank) }
-    ensures many { MatchOption result ((vec_len maps.old ≡ 0) × (vec_len maps.new ≡ 0)) (λ _. vec_len maps.new + 1 ≡ vec_len maps.old) }
+    ensures many { MatchOption result ((vec_len maps.old ≡ 0) × (vec_len maps.new ≡ 0))
+        (λ _. vec_len maps.new + 1 ≡ vec_len maps.old) }
 {
     maps.pop()
 }
@@ -127,7 +130,9 @@ pub(crate) fn open<M: CrackerMap>(
     requires rise { Rises key_of rows.now }
     requires fit { All (λ (r : Row). r.key < 2 ^ 63) rows.now }
     requires blank { All (λ m. M.held m ≡ blank) maps.items }
-    ensures opened { MatchResult result (λ area. (may_open shape rows.now ≡ true) × (area ≡ opened shape rows.now (vec_len maps))) (λ e. e ≡ cond (may_open shape rows.now) NoMemory Input) }
+    ensures opened { MatchResult result
+        (λ area. (may_open shape rows.now ≡ true) × (area ≡ opened shape rows.now (vec_len maps)))
+        (λ e. e ≡ cond (may_open shape rows.now) NoMemory Input) }
     ensures received { IfOk result (λ area. area.inbox ≡ []) }
 {
     if !may_open(shape, rows) {
