@@ -29,7 +29,9 @@ pub record IsEntry (schema : List Column) (text : List ℕ) (cut : Cut) : Type 0
 abbrev pub AreEntries : List Column → List ℕ → List Cut → Type 0
 AreEntries schema text [] = text ≡ []
 AreEntries schema text (c ∷ []) = IsEntry schema text c
-AreEntries schema text (c ∷ d ∷ ds) = (entry rest : List ℕ) × (text ≡ entry ++ (codes ";" ++ rest)) × IsEntry schema entry c × AreEntries schema rest (d ∷ ds)
+AreEntries schema text (c ∷ d ∷ ds) =
+    (entry rest : List ℕ) × (text ≡ entry ++ (codes ";" ++ rest))
+    × IsEntry schema entry c × AreEntries schema rest (d ∷ ds)
 
 -- the values of an attribute, in the order of the cuts
 abbrev pub values_on : List Cut → ℕ → List ℤ

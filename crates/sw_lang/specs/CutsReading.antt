@@ -30,7 +30,9 @@ cut_value kind part (Some equals) = cut_valued (cell_value kind (drop (equals + 
 
 -- the cuts of an attribute rise
 unfoldable pub with_cut : CutLists → ℕ → ℤ → Result CutLists Fault
-with_cut cuts a z = if list_all (λ y. int_lt y z) (cuts_on cuts a) then Ok (slice_set cuts a (cuts_on cuts a ++ z ∷ [])) else Err (Bad why.Cuts)
+with_cut cuts a z =
+    if list_all (λ y. int_lt y z) (cuts_on cuts a) then Ok (slice_set cuts a (cuts_on cuts a ++ z ∷ []))
+    else Err (Bad why.Cuts)
 
 -- the bytes before '=', or all of them
 abbrev pub before : List ℕ → Option ℕ → List ℕ
@@ -50,7 +52,8 @@ equals_at part = position (λ b. b == 61) part
 -- the cuts with those of further parts
 abbrev pub cuts_after : List Column → CutLists → List (List ℕ) → Result CutLists Fault
 cuts_after schema cuts [] = Ok cuts
-cuts_after schema cuts (part ∷ parts) = cut_split schema cuts part (equals_at part) >>= λ more. cuts_after schema more parts
+cuts_after schema cuts (part ∷ parts) =
+    cut_split schema cuts part (equals_at part) >>= λ more. cuts_after schema more parts
 
 abbrev pub is_divider : ℕ → Bool
 is_divider b = b == 59

@@ -2,7 +2,6 @@
 use Rattle.std.specs.Prelude.{ℕ, ℤ, pos, neg_ℤ, List, [], ◌∷◌, Option, Some, None, Result, Ok, Err, codes, replicate}
 use Rattle.sw_rows.specs.Header.{Column}
 use Rattle.sw_rows.specs.declared.bound.Bound.{Bound}
-use Rattle.sw_rows.specs.declared.bound.Bound.TheVariants.{Before, After}
 use Rattle.sw_rows.specs.declared.kind.Kind.TheVariants as kind
 use Rattle.sw_rows.specs.declared.query.Cond.{Cond}
 use Rattle.sw_rows.specs.declared.query.Call.{Call}
@@ -11,6 +10,7 @@ use Rattle.sw_rows.specs.declared.query.Want.{Want}
 use Rattle.sw_rows.specs.declared.query.Want.TheVariants.{Rows, Count, Sum, Min, Max}
 use Rattle.sw_rows.specs.declared.refusal.Why.TheVariants as why
 use Rattle.sw_lang.specs.PrintedCalls.{call_text}
+use Rattle.sw_lang.specs.PrintedExamples.{above, at_least, at_most, below}
 use Rattle.sw_lang.specs.declared.fault.Fault.{Fault}
 use Rattle.sw_lang.specs.declared.fault.Fault.TheVariants.{Bad, Unknown, Excess}
 
@@ -32,26 +32,38 @@ asks want conds = Ok (Some (Select (record { conds = conds; want = want })))
 abbrev pub on : ℕ → Option Bound → Option Bound → Cond
 on a lower upper = record { attr = a; lower = lower; upper = upper }
 
+-- a count under one condition
+abbrev pub counts_where : ℕ → Option Bound → Option Bound → Result (Option Call) Fault
+counts_where a lower upper = asks Count (on a lower upper ∷ [])
+
+-- an insert of a row of these three cells, with zeros after them
+abbrev pub inserts : ℤ → ℤ → ℤ → Result (Option Call) Fault
+inserts x y z = Ok (Some (Insert (x ∷ y ∷ z ∷ pos 0 ∷ pos 0 ∷ pos 0 ∷ pos 0 ∷ pos 0 ∷ [])))
+
 -- over the mixed table
 abbrev pub calls : List Example
 calls =
     (codes "", Ok None)
     ∷ (codes " # select", Ok None)
-    ∷ (codes "count where a=5", asks Count (on 0 (Some (Before (pos 5))) (Some (After (pos 5))) ∷ []))
-    ∷ (codes "select b,a where b < 9.5 and a>=-1 and b>0", asks (Rows (1 ∷ 0 ∷ [])) (on 1 (Some (After (pos 0))) (Some (Before (pos 950))) ∷ on 0 (Some (Before (neg_ℤ (pos 1)))) None ∷ []))
+    ∷ (codes "count where a=5", counts_where 0 (at_least (pos 5)) (at_most (pos 5)))
+    ∷ (
+      codes "select b,a where b < 9.5 and a>=-1 and b>0",
+      asks (Rows (1 ∷ 0 ∷ []))
+          (on 1 (above (pos 0)) (below (pos 950)) ∷ on 0 (at_least (neg_ℤ (pos 1))) None ∷ []),
+    )
     ∷ (codes "sum c", asks (Sum 2) [])
-    ∷ (codes "insert -1, +2.5, true", Ok (Some (Insert (neg_ℤ (pos 1) ∷ pos 250 ∷ pos 1 ∷ pos 0 ∷ pos 0 ∷ pos 0 ∷ pos 0 ∷ pos 0 ∷ []))))
+    ∷ (codes "insert -1, +2.5, true", inserts (neg_ℤ (pos 1)) (pos 250) (pos 1))
     ∷ (codes "delete 18446744073709551615", Ok (Some (Delete 18446744073709551615)))
     ∷ (codes "delete 00000000000000000007", Ok (Some (Delete 7)))
     ∷ (codes "select a, a, a, a, a, a, a, a", asks (Rows (0 ∷ 0 ∷ 0 ∷ 0 ∷ 0 ∷ 0 ∷ 0 ∷ 0 ∷ [])) [])
-    ∷ (codes "min b where c=true", asks (Min 1) (on 2 (Some (Before (pos 1))) (Some (After (pos 1))) ∷ []))
+    ∷ (codes "min b where c=true", asks (Min 1) (on 2 (at_least (pos 1)) (at_most (pos 1)) ∷ []))
     ∷ (codes "max a", asks (Max 0) [])
-    ∷ (codes "count\twhere\ta=1", asks Count (on 0 (Some (Before (pos 1))) (Some (After (pos 1))) ∷ []))
-    ∷ (codes "count where a > 1 and a >= 2 and a < 9 and a <= 8", asks Count (on 0 (Some (Before (pos 2))) (Some (After (pos 8))) ∷ []))
-    ∷ (codes "count where a >= 2 and a > 2 and a <= 9 and a < 9", asks Count (on 0 (Some (After (pos 2))) (Some (Before (pos 9))) ∷ []))
-    ∷ (codes "count where a=3 and a=5", asks Count (on 0 (Some (Before (pos 5))) (Some (After (pos 3))) ∷ []))
-    ∷ (codes "insert 1, +007.5, true", Ok (Some (Insert (pos 1 ∷ pos 750 ∷ pos 1 ∷ pos 0 ∷ pos 0 ∷ pos 0 ∷ pos 0 ∷ pos 0 ∷ []))))
-    ∷ (codes "insert -0, -0.25, false", Ok (Some (Insert (pos 0 ∷ neg_ℤ (pos 25) ∷ pos 0 ∷ pos 0 ∷ pos 0 ∷ pos 0 ∷ pos 0 ∷ pos 0 ∷ []))))
+    ∷ (codes "count\twhere\ta=1", counts_where 0 (at_least (pos 1)) (at_most (pos 1)))
+    ∷ (codes "count where a > 1 and a >= 2 and a < 9 and a <= 8", counts_where 0 (at_least (pos 2)) (at_most (pos 8)))
+    ∷ (codes "count where a >= 2 and a > 2 and a <= 9 and a < 9", counts_where 0 (above (pos 2)) (below (pos 9)))
+    ∷ (codes "count where a=3 and a=5", counts_where 0 (at_least (pos 5)) (at_most (pos 3)))
+    ∷ (codes "insert 1, +007.5, true", inserts (pos 1) (pos 750) (pos 1))
+    ∷ (codes "insert -0, -0.25, false", inserts (pos 0) (neg_ℤ (pos 25)) (pos 0))
     ∷ (codes "insert 1, 9.999, true", Err (Bad why.Value))
     ∷ (codes "insert 1, 5., true", Err (Bad why.Value))
     ∷ (codes "insert 1, .5, true", Err (Bad why.Value))
@@ -121,14 +133,20 @@ refusals =
 abbrev pub printed_lines : List (List ℕ × List ℕ)
 printed_lines =
     (codes "count where a=5", codes "count where a >= 5 and a <= 5")
-    ∷ (codes "  select b,a,b where b<9.5 and a>-1 and b>=+0", codes "select b, a, b where b >= 0.00 and b < 9.50 and a > -1")
+    ∷ (
+      codes "  select b,a,b where b<9.5 and a>-1 and b>=+0",
+      codes "select b, a, b where b >= 0.00 and b < 9.50 and a > -1",
+    )
     ∷ (codes "sum b where c=true and a<=7 and c=true", codes "sum b where c >= true and c <= true and a <= 7")
     ∷ (codes "min a", codes "min a")
     ∷ (codes "max c where a=3 and a=5", codes "max c where a >= 5 and a <= 3")
     ∷ (codes "insert -007 ,\t.5", [])
     ∷ (codes "insert -007,-.5,true", [])
     ∷ (codes "insert -007,-0.5,true", codes "insert -7, -0.50, true")
-    ∷ (codes "insert -9223372036854775808,-92233720368547758.08,false", codes "insert -9223372036854775808, -92233720368547758.08, false")
+    ∷ (
+      codes "insert -9223372036854775808,-92233720368547758.08,false",
+      codes "insert -9223372036854775808, -92233720368547758.08, false",
+    )
     ∷ (codes "delete 007", codes "delete 7")
     ∷ []
 

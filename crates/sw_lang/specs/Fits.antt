@@ -28,7 +28,8 @@ IsBoundOfKind k (Some (Before z)) = IsOfKind k z
 IsBoundOfKind k (Some (After z)) = IsOfKind k z
 
 abbrev pub HasBoundsOfKind : List Column → Cond → Type 0
-HasBoundsOfKind schema c = IsBoundOfKind (kind_at schema c.attr) c.lower × IsBoundOfKind (kind_at schema c.attr) c.upper
+HasBoundsOfKind schema c =
+    IsBoundOfKind (kind_at schema c.attr) c.lower × IsBoundOfKind (kind_at schema c.attr) c.upper
 
 -- a list of names has 1 to 8
 abbrev pub HasFewNames : Want → Type 0

@@ -37,35 +37,42 @@ pub record IsTerm (schema : List Column) (a b c : Tok) (t : Term) : Type 0 where
 abbrev pub IsTerms : List Column → List Tok → List Term → Type 0
 IsTerms schema ts [] = ⊥
 IsTerms schema ts (t ∷ []) = (a b c : Tok) × (ts ≡ a ∷ b ∷ c ∷ []) × IsTerm schema a b c t
-IsTerms schema ts (t ∷ u ∷ us) = (a b c : Tok) × (rest : List Tok) × (ts ≡ a ∷ b ∷ c ∷ word (codes "and") ∷ rest) × IsTerm schema a b c t × IsTerms schema rest (u ∷ us)
+IsTerms schema ts (t ∷ u ∷ us) =
+    (a b c : Tok) × (rest : List Tok) × (ts ≡ a ∷ b ∷ c ∷ word (codes "and") ∷ rest)
+    × IsTerm schema a b c t × IsTerms schema rest (u ∷ us)
 
 -- nothing, or "where" and terms, which make the conditions
 abbrev pub IsWhere : List Column → List Tok → List Cond → Type 0
 IsWhere schema ts conds =
     ((ts ≡ []) × (conds ≡ []))
-    ⊎ ((terms : List Term) × (rest : List Tok) × (ts ≡ word (codes "where") ∷ rest) × IsTerms schema rest terms × (conds ≡ conditions terms))
+    ⊎ ((terms : List Term) × (rest : List Tok) × (ts ≡ word (codes "where") ∷ rest)
+    × IsTerms schema rest terms × (conds ≡ conditions terms))
 
 -- one name or more, with commas between
 abbrev pub IsNames : List Column → List Tok → List ℕ → Type 0
 IsNames schema ts [] = ⊥
 IsNames schema ts (i ∷ []) = (a : Tok) × (ts ≡ a ∷ []) × IsName schema a i
-IsNames schema ts (i ∷ j ∷ js) = (a : Tok) × (rest : List Tok) × (ts ≡ a ∷ comma ∷ rest) × IsName schema a i × IsNames schema rest (j ∷ js)
+IsNames schema ts (i ∷ j ∷ js) =
+    (a : Tok) × (rest : List Tok) × (ts ≡ a ∷ comma ∷ rest) × IsName schema a i × IsNames schema rest (j ∷ js)
 
 -- a comma and a value of each kind
 abbrev pub MoreValues : List Kind → List Tok → List ℤ → Type 0
 MoreValues [] ts zs = (ts ≡ []) × (zs ≡ [])
 MoreValues (k ∷ ks) ts [] = ⊥
-MoreValues (k ∷ ks) ts (z ∷ zs) = (a : Tok) × (rest : List Tok) × (ts ≡ comma ∷ a ∷ rest) × IsValue k a z × MoreValues ks rest zs
+MoreValues (k ∷ ks) ts (z ∷ zs) =
+    (a : Tok) × (rest : List Tok) × (ts ≡ comma ∷ a ∷ rest) × IsValue k a z × MoreValues ks rest zs
 
 -- one value of each kind, with commas between
 abbrev pub IsValues : List Kind → List Tok → List ℤ → Type 0
 IsValues [] ts zs = (ts ≡ []) × (zs ≡ [])
 IsValues (k ∷ ks) ts [] = ⊥
-IsValues (k ∷ ks) ts (z ∷ zs) = (a : Tok) × (rest : List Tok) × (ts ≡ a ∷ rest) × IsValue k a z × MoreValues ks rest zs
+IsValues (k ∷ ks) ts (z ∷ zs) =
+    (a : Tok) × (rest : List Tok) × (ts ≡ a ∷ rest) × IsValue k a z × MoreValues ks rest zs
 
 -- what is asked: "select" and 1 to 8 names, "count", or "sum", "min" or "max" and a name
 abbrev pub IsWant : List Column → List Tok → Want → Type 0
-IsWant schema ts (Rows names) = (rest : List Tok) × (ts ≡ word (codes "select") ∷ rest) × IsNames schema rest names × (length names ≤ 8)
+IsWant schema ts (Rows names) =
+    (rest : List Tok) × (ts ≡ word (codes "select") ∷ rest) × IsNames schema rest names × (length names ≤ 8)
 IsWant schema ts Count = ts ≡ word (codes "count") ∷ []
 IsWant schema ts (Sum a) = (t : Tok) × (ts ≡ word (codes "sum") ∷ t ∷ []) × IsName schema t a
 IsWant schema ts (Min a) = (t : Tok) × (ts ≡ word (codes "min") ∷ t ∷ []) × IsName schema t a
@@ -73,8 +80,11 @@ IsWant schema ts (Max a) = (t : Tok) × (ts ≡ word (codes "max") ∷ t ∷ [])
 
 -- a question and perhaps conditions; "insert" and one value for each attribute; or "delete" and a key
 abbrev pub IsCall : List Column → List Tok → Call → Type 0
-IsCall schema ts (Select q) = (front rest : List Tok) × (ts ≡ front ++ rest) × IsWant schema front q.want × IsWhere schema rest q.conds
-IsCall schema ts (Insert cells) = (zs : List ℤ) × (rest : List Tok) × (ts ≡ word (codes "insert") ∷ rest) × IsValues (kinds_of schema) rest zs × (cells ≡ padded zs)
+IsCall schema ts (Select q) =
+    (front rest : List Tok) × (ts ≡ front ++ rest) × IsWant schema front q.want × IsWhere schema rest q.conds
+IsCall schema ts (Insert cells) =
+    (zs : List ℤ) × (rest : List Tok) × (ts ≡ word (codes "insert") ∷ rest)
+    × IsValues (kinds_of schema) rest zs × (cells ≡ padded zs)
 IsCall schema ts (Delete key) = (t : Tok) × (ts ≡ word (codes "delete") ∷ t ∷ []) × IsKey t key
 
 -- a line of at most 4,096 bytes: a comment or a line without tokens, which is no call, or a call

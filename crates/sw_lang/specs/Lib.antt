@@ -1,3 +1,4 @@
+pub mod Agreement
 pub mod Cuts
 pub mod CutsReading
 pub mod Examples

@@ -1,6 +1,7 @@
 -- Columns, calls and replies of the examples of printed calls and replies.
-use Rattle.std.specs.Prelude.{ℕ, ℤ, List, [], ◌∷◌, Option, codes}
+use Rattle.std.specs.Prelude.{ℕ, ℤ, List, [], ◌∷◌, Option, Some, codes}
 use Rattle.sw_rows.specs.declared.bound.Bound.{Bound}
+use Rattle.sw_rows.specs.declared.bound.Bound.TheVariants.{Before, After}
 use Rattle.sw_rows.specs.declared.query.Cond.{Cond}
 use Rattle.sw_rows.specs.Header.{Column}
 use Rattle.sw_rows.specs.declared.kind.Kind.TheVariants as kind
@@ -24,6 +25,22 @@ asking w = call.Select (record { conds = []; want = w })
 -- a query with conditions
 abbrev pub asking_where : Want → List Cond → Call
 asking_where w cs = call.Select (record { conds = cs; want = w })
+
+-- the lower bound of the cells from a value on
+abbrev pub at_least : ℤ → Option Bound
+at_least z = Some (Before z)
+
+-- the lower bound of the cells above a value
+abbrev pub above : ℤ → Option Bound
+above z = Some (After z)
+
+-- the upper bound of the cells up to a value
+abbrev pub at_most : ℤ → Option Bound
+at_most z = Some (After z)
+
+-- the upper bound of the cells below a value
+abbrev pub below : ℤ → Option Bound
+below z = Some (Before z)
 
 abbrev pub cond : ℕ → Option Bound → Option Bound → Cond
 cond a lower upper = record { attr = a; lower = lower; upper = upper }

@@ -18,7 +18,8 @@ use Rattle.sw_rows.specs.declared.reply.Reply.TheVariants as reply
 abbrev pub padded_digits : ℕ → List ℕ → List ℕ
 padded_digits places ds = replicate (places - length ds) 48 ++ ds
 
--- a whole number of units, of which 10 to the power `places` are one: its whole part, a dot, and just that many decimals
+-- a whole number of units, of which 10 to the power `places` are one: its whole part, a dot, and just that many
+-- decimals
 abbrev pub with_point : ℕ → ℕ → List ℕ
 with_point places n = decimal (n / 10 ^ places) ++ (codes "." ++ padded_digits places (decimal (n % 10 ^ places)))
 

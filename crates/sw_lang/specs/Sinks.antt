@@ -15,6 +15,7 @@ TookBeginning old new bytes = (front rest : List ℕ) × (bytes ≡ front ++ res
 
 -- a writer wrote the text: all of it, and the count of failures stands; or it answers Output and nothing else, after a
 -- beginning of the text, and the count was raised
-pub record Writes (old new : Option (List ℕ)) (failed_old failed_new : ℕ) (result : Result (Unit {0}) Refusal) (text : List ℕ) : Type 0 where
+pub record Writes (old new : Option (List ℕ)) (failed_old failed_new : ℕ) (result : Result (Unit {0}) Refusal)
+    (text : List ℕ) : Type 0 where
   pub whole : OnOk result (Took old new text × (failed_new ≡ failed_old))
   pub part : IfErr result (λ e. (e ≡ refusal.Output) × TookBeginning old new text × Raised failed_old failed_new)

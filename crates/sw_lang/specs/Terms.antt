@@ -28,7 +28,12 @@ cond_of t = record { attr = t.attr; lower = lower_of t.op t.value; upper = upper
 
 -- a condition that also meets the term
 abbrev pub narrowed : Cond → Term → Cond
-narrowed c t = record { attr = c.attr; lower = greater c.lower (lower_of t.op t.value); upper = lesser c.upper (upper_of t.op t.value) }
+narrowed c t =
+    record {
+      attr = c.attr;
+      lower = greater c.lower (lower_of t.op t.value);
+      upper = lesser c.upper (upper_of t.op t.value);
+    }
 
 -- the condition on the term's attribute is narrowed, or stands last as a new one
 abbrev pub add_term : List Cond → Term → List Cond

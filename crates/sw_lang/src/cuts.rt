@@ -1,10 +1,11 @@
 //! Where heads are cut before the first query.
 
-ghost use Rattle.std.specs.Prelude.{◌≡◌, ◌<◌, ◌++◌, ◌∷◌, ◌==◌, [], List, ℤ, length, position, replicate, int_lt, slice_index_or, slice_set, option_map, Ok, IfOk, IfSome, OnOk};
+ghost use Rattle.std.specs.Prelude.{◌≡◌, ◌<◌, ◌++◌, ◌∷◌, ◌==◌, [], List, ℤ, length, position, replicate, int_lt, slice_index_or, slice_set, option_map, IfOk, IfSome, OnOk};
 ghost use Rattle.std.specs.List.{list_all, slice_split};
 ghost use Rattle.sw_rows.specs.Cells.{HasPlaces};
 ghost use Rattle.sw_rows.specs.Header.{IsSchema};
-ghost use Rattle.sw_lang.specs.Cuts.{CutLists, FitCuts, IsCuts, cuts_on};
+ghost use Rattle.sw_lang.specs.Agreement.{AnswersRelated};
+ghost use Rattle.sw_lang.specs.Cuts.{FitCuts, IsCuts, cuts_on};
 ghost use Rattle.sw_lang.specs.CutsReading.{before, cut_name, cut_split, cut_value, cuts_after, cuts_at, equals_at, is_divider, no_cuts, parts_after, with_cut, with_room};
 ghost use Rattle.sw_lang.specs.Reading.{attr_of, refused, Answers, Gives};
 
@@ -196,7 +197,8 @@ fn divider_at(text: &[u8]) -> Option<usize>
 
 // The bytes before the first ';', and those after it, if there is one.
 fn first_part(text: &[u8]) -> (&[u8], Option<&[u8]>)
-    ensures parts { slice_split is_divider text.now ≡ result.0.now ∷ parts_after (option_map (λ rest. rest.now) result.1) }
+    ensures parts { slice_split is_divider text.now
+        ≡ result.0.now ∷ parts_after (option_map (λ rest. rest.now) result.1) }
     ensures shorter { IfSome result.1 (λ rest. length rest.now < length text.now) }
 {
     let Some(end) = divider_at(text) else {
@@ -234,7 +236,7 @@ pub fn parse_cuts(alloc: Global, schema: &Schema, text: &str) -> Result<Cuts, Re
 
     // cuts come just where the relation of cuts relates them to the text
     ensures grammar { IfOk result (IsCuts schema.now text.now) }
-    ensures only { IsSchema schema.now → (cuts : CutLists) → IsCuts schema.now text.now cuts → Answers result (Ok cuts) }
+    ensures only { IsSchema schema.now → AnswersRelated result (IsCuts schema.now text.now) }
 
     // of each attribute at most 15, which rise, each a cell of its kind
     ensures fits { IfOk result (FitCuts schema.now) }

@@ -1,12 +1,11 @@
 //! Laws of the grammar of lines. Each function has no body to speak of: its contract is the law.
 
-ghost use Rattle.std.specs.Prelude.{◌≡◌, ℕ, List, [], Ok, Option, fold, map};
+ghost use Rattle.std.specs.Prelude.{◌≡◌, List, [], fold, map};
 ghost use Rattle.sw_lang.specs.declared.term.Term.{Term};
 ghost use Rattle.sw_lang.specs.Terms.{add_term, conditions};
-ghost use Rattle.sw_rows.specs.Header.{Column, IsSchema};
+ghost use Rattle.sw_lang.specs.Agreement.{FindsAllRelated, FindsRelated};
 ghost use Rattle.sw_lang.specs.Grammar.{IsLine};
-ghost use Rattle.sw_rows.specs.declared.query.Call.{Call};
-ghost use Rattle.sw_lang.specs.Cuts.{CutLists, IsCuts};
+ghost use Rattle.sw_lang.specs.Cuts.{IsCuts};
 ghost use Rattle.sw_lang.specs.CutsReading.{cuts_at};
 ghost use Rattle.sw_lang.specs.ReadBack.{PrintedCallsAreLines, PrintedCallsAreRead};
 ghost use Rattle.sw_lang.specs.Reading.{line_at};
@@ -37,8 +36,8 @@ pub fn terms_make_conditions()
 
 /// Reading a line from left to right finds just what the grammar relates to the line.
 pub fn lines_are_read_as_related()
-    ensures found { (schema : List Column) (text : List ℕ) (call : Option Call) → line_at schema text ≡ Ok call → IsLine schema text call }
-    ensures only { (schema : List Column) (text : List ℕ) (call : Option Call) → IsSchema schema → IsLine schema text call → line_at schema text ≡ Ok call }
+    ensures found { FindsRelated line_at IsLine }
+    ensures only { FindsAllRelated line_at IsLine }
 {}
 
 /// Where a line is a call, what `write_call` prints of the call is a line too, of at most 4,096 bytes, and is the same
@@ -50,6 +49,6 @@ pub fn printed_calls_are_read()
 
 /// Reading a text of cuts from left to right finds just what the relation of cuts relates to the text.
 pub fn cuts_are_read_as_related()
-    ensures found { (schema : List Column) (text : List ℕ) (cuts : CutLists) → cuts_at schema text ≡ Ok cuts → IsCuts schema text cuts }
-    ensures only { (schema : List Column) (text : List ℕ) (cuts : CutLists) → IsSchema schema → IsCuts schema text cuts → cuts_at schema text ≡ Ok cuts }
+    ensures found { FindsRelated cuts_at IsCuts }
+    ensures only { FindsAllRelated cuts_at IsCuts }
 {}

@@ -1,13 +1,13 @@
 //! The call of a line.
 
-ghost use Rattle.std.specs.Prelude.{◌≡◌, ◌<◌, ◌≤◌, [], ℤ, List, length, Option, Ok, IfOk, IfSome, ◌==◌};
+ghost use Rattle.std.specs.Prelude.{◌≡◌, ◌<◌, ◌≤◌, [], ℤ, List, length, IfOk, IfSome, ◌==◌};
 ghost use Rattle.sw_rows.specs.Cells.{HasPlaces};
+ghost use Rattle.sw_lang.specs.Agreement.{AnswersRelated};
 ghost use Rattle.sw_lang.specs.Reading.{aggregate_at, asked, call_at, call_of, cells_at, delete_at, first_by, insert_at, is_comment, line_at, name_of, names_at, next_value, nothing_left, past_comma, refused, select_at, term_at, terms_at, where_at, Answers, Gives};
 ghost use Rattle.sw_lang.specs.Tokens.{tok, tokens};
 ghost use Rattle.sw_lang.specs.Grammar.{IsLine};
 ghost use Rattle.sw_lang.specs.Fits.{FitsCall};
 ghost use Rattle.sw_rows.specs.Header.{IsSchema};
-ghost use Rattle.sw_rows.specs.declared.query.Call.{Call};
 
 use crate::fault::{Fault, ParseError, bad};
 use crate::single::{is_comma, is_word, key_at, kind_at, name_at, op_at, value_at};
@@ -289,7 +289,7 @@ pub fn parse_line(
 
     // a value comes just where the grammar relates it to the line
     ensures grammar { IfOk result (IsLine schema.now text.now) }
-    ensures only { IsSchema schema.now → (call : Option Call) → IsLine schema.now text.now call → Answers result (Ok call) }
+    ensures only { IsSchema schema.now → AnswersRelated result (IsLine schema.now text.now) }
 
     ensures fits { IfOk result (λ call. IfSome call (FitsCall schema.now)) }
 {

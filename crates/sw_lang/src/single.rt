@@ -23,7 +23,8 @@ pub(crate) fn kind_at(schema: &Schema, attr: usize) -> Kind
 
 // The word as text, where it may be a name.
 fn as_name(word: &[u8]) -> Option<&str>
-    ensures { MatchOption result (is_name word.now ≡ false) (λ name. (name.now ≡ word.now) × (is_name word.now ≡ true)) }
+    ensures { MatchOption result (is_name word.now ≡ false)
+        (λ name. (name.now ≡ word.now) × (is_name word.now ≡ true)) }
 {
     if !is_name(word) {
         return None;

@@ -62,7 +62,8 @@ fn word_len(text: &[u8]) -> usize
 
 // A comparison that an `=` may follow, and the bytes after it.
 fn or_equal(short: Op, long: Op, rest: &[u8]) -> (Op, &[u8])
-    ensures tokens { op result.0 ∷ tokens result.1.now ≡ or_equal short long (slice_index rest.now 0) (tokens rest.now) }
+    ensures tokens { op result.0 ∷ tokens result.1.now
+        ≡ or_equal short long (slice_index rest.now 0) (tokens rest.now) }
     ensures shorter { length result.1.now ≤ length rest.now }
 {
     let Some((first, after)) = rest.split_first() else {
