@@ -145,6 +145,11 @@ after_commit opening had b b' s v more all n is u p every booked either set coun
       counted = ap (λ (x : Books). x.published) set ∙ count;
     }
 
+-- what a meeting leaves: no update more
+pub after_meeting : (opening : List Row) (b b' : Books) (s v : Shelved) (all : List Update) (n : ℕ) → IsShelfOf opening b s → all ≡ later opening b → IsPrefix v.booked all → (v.published ≡ s.published) ⊎ (v.published ≡ all) → b' ≡ with_published n b → n ≡ length opening + length v.published → IsShelfOf opening b' v
+after_meeting opening b b' s v all n is every booked either set count =
+    after_commit opening b b b' s v [] all n is (sym (append-nil (updates b))) refl every booked either set count
+
 -- what the spine has as published is what the shelf has
 pub published_is : (opening : List Row) (b : Books) (s : Shelved) → IsShelfOf opening b s → published_of opening b ≡ s.published
 published_is opening b s is =

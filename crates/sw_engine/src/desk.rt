@@ -324,14 +324,6 @@ impl<J: Naming> Desk<J> {
         sessions.set(share, Snapshot::of(spine));
     }
 
-    /// How many of the updates are published, the opening rows counted.
-    pub fn published(&self) -> u64
-        ensures value { result ≡ self.now.books.published }
-        ensures high { result ≤ length (updates self.now.books) }
-    {
-        self.spine.published()
-    }
-
     /// The updates after the opening rows.
     pub fn later(&self) -> &[Update]
         ensures later { result.now ≡ later J.opening self.now.books }

@@ -431,7 +431,7 @@ where
         ensures kept { OnErr result (reader.new ≡ reader.old) }
         ensures refused { IfErr result (IsAhead J.opening reader.old.seen (published_of J.opening share.new.value)) }
     {
-        self.visit(rt).meet(number, share, reader)
+        self.visit(rt).meet(rt, number, share, reader)
     }
 
     fn commit<R: Wait>(
@@ -572,10 +572,12 @@ where
         self.receipt.again()
     }
 
-    /// A viewer learns what is published, and the session has the receipt of it. It takes no memory.
+    /// A viewer learns what is published, and the session has the receipt of it. What an earlier call could not publish, since
+    /// viewers read or there was no memory, is published before; for that it waits for viewers that read, and does without where
+    /// there is no memory.
     ///
-    /// Refused `Ahead` where the viewer has seen more updates than are published, both counted with the opening rows; then nothing
-    /// has changed.
+    /// Refused `Ahead` where the viewer has seen more updates than are published, both counted with the opening rows; then the
+    /// viewer and the session's receipt are as they were.
     pub fn meet<R: Wait>(
         &mut self,
         rt: &R,

@@ -6,7 +6,7 @@ ghost use Rattle.sw_rows.specs.Scan.{AsksBelow};
 ghost use Rattle.sw_rows.specs.declared.query.Call.TheVariants.{Select};
 ghost use Rattle.sw_spine.specs.Table.{is_numbered, reply_to};
 ghost use Rattle.sw_spine.specs.History.{is_select, mine};
-ghost use Rattle.sw_spine.specs.Books.{RefusesSession, new_books, waits_for, with_session, with_settled};
+ghost use Rattle.sw_spine.specs.Books.{RefusesSession, new_books, waits_for, with_published, with_session, with_settled};
 ghost use Rattle.sw_spine.specs.declared.history.State.TheVariants.{Answered, Void};
 ghost use Rattle.sw_versions.specs.Pending.{IsPlain};
 ghost use Rattle.sw_versions.specs.Lists.{IsLonger};
@@ -25,7 +25,7 @@ use sw_map::CrackerMap;
 use sw_rows::{Call, PackedRows, Query, Refusal, Reply, Update};
 use sw_spine::Spine;
 use sw_tie::Share;
-use sw_versions::{Book, Front, Live, Naming, Op, Opened, Shelf, Viewer};
+use sw_versions::{Book, Front, Live, Naming, Op, Opened, Shelf, Viewer, WhileRead};
 
 /// The desk, and the shelf of what viewers read, with the book of its updates. Until there is a viewer the shelf has no copies of
 /// the rows.
@@ -186,8 +186,8 @@ where
     }
 
     /// An insert or a delete is answered at the end of the history. Then all updates that are not published yet are published at
-    /// once, or none of them; where there is no memory for it, or none yet, a later commit publishes them. Refused, nothing has
-    /// changed.
+    /// once, or none of them: where there is no memory for it, or a viewer still reads the copy that would be written, a later
+    /// commit or meeting publishes them. Refused, nothing has changed.
     pub fn commit<R: Wait>(
         &mut self,
         rt: &R,
@@ -215,20 +215,22 @@ where
     {
         let LockedDesk { desk, shelf, book } = self;
         let reply = desk.commit(number, share, call)?;
-        shelf.catch_up(rt, book, desk.later());
+        shelf.catch_up(rt, book, desk.later(), WhileRead::PutsOff);
         let receipt = shelf.published();
         let count = book.count(&receipt);
         desk.publish(number, share, count);
         Ok((reply, receipt))
     }
 
-    /// A viewer learns what is published, if that begins with all that it has seen, and the receipt of it is given. Either way
-    /// the session's share shows what is published.
+    /// All updates that are not published yet are published at once, or none of them where there is no memory for it. For that
+    /// this waits for viewers that read. Then a viewer learns what is published, if that begins with all that it has seen, and
+    /// the receipt of it is given. Either way the session's share shows what is published.
     ///
-    /// Refused `Ahead` where the viewer has seen more than is published, both counted with the opening rows; then nothing has
-    /// changed.
-    pub fn meet(
+    /// Refused `Ahead` where the viewer has seen more than is published, both counted with the opening rows; then the viewer is
+    /// as it was.
+    pub fn meet<R: Wait>(
         &mut self,
+        rt: &R,
         number: u64,
         share: &mut Share<Spine>,
         viewer: &mut Viewer<J>,
@@ -237,17 +239,23 @@ where
         ensures rest { IsAtRest J.sessions number share.new }
         ensures mine { mine number share.new.value.entries ≡ mine number share.old.value.entries }
         ensures grows { IsPrefix (published_of J.opening share.old.value) (published_of J.opening share.new.value) }
-        ensures shown { published_of J.opening share.new.value ≡ self.old.shelf.published }
-        ensures books { self.new.desk.books ≡ self.old.desk.books }
-        ensures shelf { self.new.shelf ≡ self.old.shelf }
-        ensures receipt { IfOk result (λ r. r ≡ self.old.shelf.published) }
+        ensures shown { published_of J.opening share.new.value ≡ self.new.shelf.published }
+        ensures books { self.new.desk.books
+            ≡ with_published (length J.opening + length self.new.shelf.published) self.old.desk.books }
+        ensures published { (self.new.shelf.published ≡ self.old.shelf.published)
+            ⊎ (self.new.shelf.published ≡ later J.opening self.new.desk.books) }
+        ensures longer { IsPrefix self.old.shelf.published self.new.shelf.published }
+        ensures viewers { self.new.shelf.viewers ≡ self.old.shelf.viewers }
+        ensures receipt { IfOk result (λ r. r ≡ self.new.shelf.published) }
         ensures met { IfOk result (λ r. IsPrefix viewer.old.seen r × IsLonger viewer.old.told r viewer.new.told) }
         ensures seen { viewer.new.seen ≡ viewer.old.seen }
         ensures kept { OnErr result (viewer.new ≡ viewer.old) }
-        ensures refused { IfErr result (IsAhead J.opening viewer.old.seen self.old.shelf.published) }
+        ensures refused { IfErr result (IsAhead J.opening viewer.old.seen self.new.shelf.published) }
     {
         let LockedDesk { desk, shelf, book } = self;
-        desk.publish(number, share, desk.published());
+        shelf.catch_up(rt, book, desk.later(), WhileRead::Waits);
+        let published = shelf.published();
+        desk.publish(number, share, book.count(&published));
         shelf.meet(book, viewer)
     }
 

@@ -1,8 +1,11 @@
 -- Rows that were read in parts, each part with records of its own from 1.
-use Rattle.std.specs.Prelude.{◌≡◌, ◌+◌, ◌≤◌, ◌==◌, ◌<◌, ◌^◌, All, get_or, if◌then◌else◌, ℕ, Bool, not, List, ◌++◌, length, map, nat_lt, Result, Ok, Err}
+use Rattle.std.specs.Prelude.{◌≡◌, ◌+◌, ◌≤◌, ◌==◌, ◌<◌, ◌^◌, All, get_or, if◌then◌else◌, ℕ, Bool, not, List, [], ◌++◌, length, map, nat_lt, Result, Ok, Err}
 use Rattle.std.specs.List.{list_all}
-use Rattle.sw_rows.specs.Header.{Fault, bad_table, too_many}
-use Rattle.sw_rows.specs.Tables.{◌>>=◌}
+use Rattle.csv.specs.Reading.{default_config, records}
+use Rattle.sw_rows.specs.Gives.{Gives}
+use Rattle.sw_rows.specs.Header.{Column, Fault, bad_table, kinds_of, too_many}
+use Rattle.sw_rows.specs.Tables.{◌>>=◌, rows_after}
+use Rattle.sw_rows.specs.declared.refusal.Refusal.{Refusal}
 use Rattle.sw_table.specs.Packed.{Packed, row_behind}
 use Rattle.sw_table.specs.declared.row.Row.{Row}
 
@@ -25,10 +28,25 @@ abbrev pub fault_behind : ℕ → Fault → Fault
 fault_behind n (bad_table rec field) = if nat_lt 1048576 (n + rec) then too_many 1048576 else bad_table (n + rec) field
 fault_behind n (too_many limit) = too_many 1048576
 
+-- the rows of a part, by its records
+abbrev pub rows_of_part : List Column → List ℕ → Result (List Row) Fault
+rows_of_part columns part = rows_after (kinds_of columns) [] (records default_config part)
+
+-- the rows that were read are those of a text, or the refusal tells of its fault
+abbrev pub GivesRows : Result Packed Refusal → Result (List Row) Fault → Type 0
+GivesRows result read = Gives ⊥ (λ (p : Packed). p.items) result read
+
+-- the records of a text are those of its two parts
+abbrev pub AreRecordsOfBoth : List ℕ → List ℕ → List ℕ → Type 0
+AreRecordsOfBoth first rest whole =
+    records default_config whole ≡ records default_config first ++ records default_config rest
+
 -- what comes of a part behind rows
 abbrev pub rows_behind : List Row → Result (List Row) Fault → Result (List Row) Fault
 rows_behind rows (Ok more) =
-    if nat_lt 1048576 (length rows + length more) then Err (too_many 1048576) else Ok (rows ++ map (row_behind (length rows)) more)
+    if nat_lt 1048576 (length rows + length more)
+    then Err (too_many 1048576)
+    else Ok (rows ++ map (row_behind (length rows)) more)
 rows_behind rows (Err e) = Err (fault_behind (length rows) e)
 
 -- what comes of two parts; the first fault in order decides

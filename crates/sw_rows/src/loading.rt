@@ -37,7 +37,7 @@ pub fn read_all<R: Source>(alloc: Global, source: &mut R, limit: usize) -> Resul
     ensures steady { OnOk result (R.failed source.new ≡ R.failed source.old) }
     ensures told { IfErr result (TellsSource (Raised (R.failed source.old) (R.failed source.new))) }
     ensures ended { OnOk result (IsAtEnd (R.left source.new)) }
-    ensures refused { OnErr result ((result ≡ Err Refusal.NoMemory) ⊎ (result ≡ Err Refusal.Input) ⊎ (result ≡ Err (Refusal.TooMany limit))) }
+    ensures refused { IfErr result (λ e. (e ≡ Refusal.NoMemory) ⊎ (e ≡ Refusal.Input) ⊎ (e ≡ Refusal.TooMany limit)) }
 {
     let mut bytes: Vec<u8> = Vec::new(alloc);
     let Ok(mut block) = zeros(alloc, BLOCK) else {

@@ -5,9 +5,9 @@ ghost use Rattle.std.specs.List.{list_all};
 ghost use Rattle.std.specs.Thread.{IsSync};
 ghost use Rattle.csv.specs.Reading.{default_config, is_bom, records, strip_bom};
 ghost use Rattle.sw_rows.specs.Gives.{Fails, Gives};
-ghost use Rattle.sw_rows.specs.Header.{Fault, header_of, kinds_of};
-ghost use Rattle.sw_rows.specs.Parts.{IsPart, begins_plain, has_no_quote, rows_behind, rows_joined};
-ghost use Rattle.sw_rows.specs.Tables.{rows_after, shown_packed, table_in};
+ghost use Rattle.sw_rows.specs.Header.{Fault, header_of};
+ghost use Rattle.sw_rows.specs.Parts.{AreRecordsOfBoth, GivesRows, IsPart, begins_plain, has_no_quote, rows_behind, rows_joined, rows_of_part};
+ghost use Rattle.sw_rows.specs.Tables.{shown_packed, table_in};
 ghost use Rattle.sw_table.specs.declared.row.Row.{Row};
 
 use crate::records;
@@ -59,7 +59,7 @@ fn cut(bytes: &[u8], from: usize) -> Option<usize>
     requires { from ≤ length bytes.now }
     ensures inside { IfSome result (λ at. at ≤ length bytes.now) }
     ensures plain { IfSome result (λ at. begins_plain (drop at bytes.now) ≡ true) }
-    ensures records { IfSome result (λ at. records default_config bytes.now ≡ records default_config (take at bytes.now) ++ records default_config (drop at bytes.now)) }
+    ensures records { IfSome result (λ at. AreRecordsOfBoth (take at bytes.now) (drop at bytes.now) bytes.now) }
 {
     let (_, back) = bytes.split_at(from);
     let at = from + feed_at(back)? + 1;
@@ -74,7 +74,7 @@ fn cut(bytes: &[u8], from: usize) -> Option<usize>
 /// Reads the rows of a part.
 fn read_part(alloc: Global, schema: &Schema, part: &[u8]) -> Result<PackedRows, Refusal>
     requires { begins_plain part.now ≡ true }
-    ensures rows { Gives ⊥ (λ rows. rows.items) result (rows_after (kinds_of schema.now) [] (records default_config part.now)) }
+    ensures rows { GivesRows result (rows_of_part schema.now part.now) }
     ensures part { IfOk result (IsPart (length schema.now)) }
 {
     let mut rdr = records::open(alloc, part);
@@ -101,7 +101,8 @@ fn append(rows: &mut PackedRows, more: &PackedRows) -> Result<(), Refusal>
 /// The refusal of a part that lies behind so many rows.
 fn behind(count: u64, refusal: Refusal) -> Refusal
     requires { count ≤ 1048576 }
-    ensures { (rows : List Row) (read : Result (List Row) Fault) → length rows ≡ count → Fails ⊥ refusal read → Fails ⊥ result (rows_behind rows read) }
+    ensures { (rows : List Row) (read : Result (List Row) Fault) → length rows ≡ count → Fails ⊥ refusal read
+        → Fails ⊥ result (rows_behind rows read) }
 {
     match refusal {
         Refusal::BadTable { rec, field } if rec <= MOST_ROWS - count => Refusal::BadTable {
@@ -124,7 +125,8 @@ fn joined(
     requires first { IfOk first (λ rows. IsPart rows.width rows) }
     requires rest { IfOk first (λ rows. IfOk rest (IsPart rows.width)) }
     ensures width { (n : ℕ) → IfOk first (IsPart n) → IfOk result (λ all. all.width ≡ n) }
-    ensures gives { (a b : Result (List Row) Fault) → Gives ⊥ (λ rows. rows.items) first a → Gives ⊥ (λ rows. rows.items) rest b → Gives ⊥ (λ rows. rows.items) result (rows_joined a b) }
+    ensures gives { (a b : Result (List Row) Fault) → GivesRows first a → GivesRows rest b
+        → GivesRows result (rows_joined a b) }
 {
     let mut rows = match first {
         Ok(rows) => rows,
@@ -149,7 +151,7 @@ fn read_halves<R: Threads + Sync>(
     halvings: u32,
 ) -> Result<PackedRows, Refusal>
     requires { begins_plain part.now ≡ true }
-    ensures rows { Gives ⊥ (λ rows. rows.items) result (rows_after (kinds_of schema.now) [] (records default_config part.now)) }
+    ensures rows { GivesRows result (rows_of_part schema.now part.now) }
     ensures part { IfOk result (IsPart (length schema.now)) }
 {
     if halvings == 0 || part.len() < LEAST_HALVED {
@@ -164,12 +166,12 @@ fn read_halves<R: Threads + Sync>(
         rt,
         || -> Result<PackedRows, Refusal>
             requires { IsSync R.row × (begins_plain left.now ≡ true) }
-            ensures rows { Gives ⊥ (λ rows. rows.items) result (rows_after (kinds_of schema.entry.now) [] (records default_config left.entry.now)) }
+            ensures rows { GivesRows result (rows_of_part schema.entry.now left.entry.now) }
             ensures part { IfOk result (IsPart (length schema.entry.now)) }
         { read_halves(rt, alloc, schema, left, fewer) },
         || -> Result<PackedRows, Refusal>
             requires { IsSync R.row × (begins_plain right.now ≡ true) }
-            ensures rows { Gives ⊥ (λ rows. rows.items) result (rows_after (kinds_of schema.entry.now) [] (records default_config right.entry.now)) }
+            ensures rows { GivesRows result (rows_of_part schema.entry.now right.entry.now) }
             ensures part { IfOk result (IsPart (length schema.entry.now)) }
         { read_halves(rt, alloc, schema, right, fewer) },
     );
@@ -201,7 +203,8 @@ fn unmarked(bytes: &[u8]) -> &[u8]
 /// The attributes of bytes that are one record, where they are that and it is a header.
 fn read_head(alloc: Global, head: &[u8]) -> Option<Schema>
     requires { begins_plain head.now ≡ true }
-    ensures { IfSome result (λ s. (h : List (List ℕ)) × (records default_config head.now ≡ h ∷ []) × (header_of h ≡ Ok s)) }
+    ensures { IfSome result (λ s. (h : List (List ℕ)) × (records default_config head.now ≡ h ∷ [])
+        × (header_of h ≡ Ok s)) }
 {
     let mut rdr = records::open(alloc, head);
     let mut row = ByteRecord::new(alloc);

@@ -20,7 +20,8 @@ use sw_table::{PackedRows, Row};
 /// Reads the cells of record `rec`.
 fn read_cells(schema: &Schema, rec: u64, row: &ByteRecord) -> Result<[i64; 8], Refusal>
     requires { rec < 2097152 }
-    ensures gives { Gives ⊥ (λ cells. cells) result (then_padded (cells_of rec (kinds_of schema.now) (fields_of row.now))) }
+    ensures gives { Gives ⊥ (λ cells. cells) result
+        (then_padded (cells_of rec (kinds_of schema.now) (fields_of row.now))) }
     ensures within { IfOk result (λ cells. drop (length schema.now) cells ≡ drop (length schema.now) zeros) }
 {
     let count = schema.len();

@@ -15,10 +15,6 @@ use Rattle.sw_set.specs.Live.{Standing, live_among}
 use Rattle.sw_set.specs.Merged.{IsBegunAnew, IsSameShell}
 use Rattle.sw_set.specs.Shelf.{AreaState, tape_rows, with_box}
 
--- memory aside: what was made passes, or memory was refused
-abbrev pub MemoryAside : {A : Type 0} → Result A Refusal → (A → Type 0) → Type 0
-MemoryAside r P = MatchResult r P (λ e. e ≡ NoMemory)
-
 -- ---- boxes
 
 -- a blank box came behind the others; or there was no memory, nothing has changed, and that box comes back

@@ -6,7 +6,7 @@ ghost use Rattle.sw_kernel.specs.Replay.{Step};
 ghost use Rattle.sw_kernel.specs.Tapes.{IsTape, peak_from};
 ghost use Rattle.sw_map.specs.Held.{KeysFit};
 ghost use Rattle.sw_map.specs.Lawful.{IsAligned, IsLawful};
-ghost use Rattle.sw_set.specs.Outcomes.{MemoryAside};
+ghost use Rattle.sw_rows.specs.Gives.{MemoryAside};
 ghost use Rattle.sw_set.specs.Aligned.{HasRoomWhereNeeded, IsAtEnd, IsSameMap};
 
 use sw_map::{CrackerMap, Tail};

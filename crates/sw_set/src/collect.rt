@@ -5,7 +5,7 @@ ghost use Rattle.sw_rows.specs.declared.refusal.Refusal.TheVariants.{NoMemory};
 ghost use Rattle.sw_rows.specs.Scan.{AsksBelow, CondsBelow, WantsBelow, TakesMemory, answer_over, meets_all};
 ghost use Rattle.sw_map.specs.Lawful.{IsLawful};
 ghost use Rattle.sw_set.specs.Needs.{head_in, needed};
-ghost use Rattle.sw_set.specs.Outcomes.{MemoryAside};
+ghost use Rattle.sw_rows.specs.Gives.{MemoryAside};
 ghost use Rattle.sw_set.specs.Prepared.{StandReady};
 ghost use Rattle.sw_set.specs.Choice.{AreFor, AreStocked, HasCells, HasWanted, IsRun, meets_first, range_rows, shown_rows};
 ghost use Rattle.sw_set.specs.Collected.{AnswersInOrder, AreOfFurther, IsListOf, IsReplyOver, chosen_rows};

@@ -3,11 +3,10 @@
 ghost use Rattle.std.specs.Prelude.{◌≡◌, ◌<◌, ◌≤◌, ◌++◌, ◌+◌, true, false, not, length, filter, fold, slice_index_or, slice_set, All, Bool, Decides, IfOk, IsOk, IsOkUnless, MatchResult};
 ghost use Rattle.sw_table.specs.declared.row.Row.{Row};
 ghost use Rattle.sw_rows.specs.declared.refusal.Refusal.TheVariants.{NoMemory};
-ghost use Rattle.sw_rows.specs.Gives.{IsRefused};
+ghost use Rattle.sw_rows.specs.Gives.{IsRefused, MemoryAside};
 ghost use Rattle.sw_rows.specs.Scan.{AsksBelow, TakesMemory, answer, cell_of};
 ghost use Rattle.sw_table.specs.Updates.{has_key};
 ghost use Rattle.sw_set.specs.Live.{FindsKey, IsNextStanding, IsStandingOf, Standing, IsStandingAfter, all_standing, came_later, came_to, live_among, without_last};
-ghost use Rattle.sw_set.specs.Outcomes.{MemoryAside};
 ghost use Rattle.sw_set.specs.Shelf.{Rises, came_then, key_of};
 
 use std::alloc::Global;

@@ -3,7 +3,7 @@
 ghost use Rattle.std.specs.Prelude.{◌≡◌, ◌==◌, ◌++◌, ◌∷◌, [], length};
 ghost use Rattle.std.specs.List.{list_any};
 ghost use Rattle.sw_set.specs.Needs.{edge, is_tested, is_wanted, lower_from, lower_in, needed, needs_cell, spans, tails_for, touches, upper_in, upper_upto};
-ghost use Rattle.sw_set.specs.Outcomes.{MemoryAside};
+ghost use Rattle.sw_rows.specs.Gives.{MemoryAside};
 
 use smallvec::SmallVec;
 use std::alloc::Global;

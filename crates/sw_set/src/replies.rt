@@ -4,7 +4,7 @@ ghost use Rattle.std.specs.Prelude.{◌≡◌, ℕ, ℤ, pos, ◌+◌, ◌<◌, 
 ghost use Rattle.std.specs.List.Sorted.{IsNonDecreasingBy};
 ghost use Rattle.sw_rows.specs.Replies.{reply_row};
 ghost use Rattle.sw_set.specs.Choice.{HavePlace, chosen, placed, row_in, values_shown};
-ghost use Rattle.sw_set.specs.Outcomes.{MemoryAside};
+ghost use Rattle.sw_rows.specs.Gives.{MemoryAside};
 
 use crate::choice::Choice;
 use crate::window::{Column, Window, value_at};

@@ -10,6 +10,7 @@ ghost use Rattle.sw_versions.specs.declared.viewer.TheConstants.{MOST_VIEWERS};
 use crate::book::{Front, Naming};
 use crate::live::{Live, Op};
 use crate::viewer::{MOST_VIEWERS, Viewer};
+use crate::visits::{Visitors, WhileRead};
 use core::mem::replace_with;
 use crossbeam_utils::rule::Unruled;
 use left_right::Absorb;
@@ -30,6 +31,7 @@ where
     writer: ManuallyDrop<Writer<Live<J>, Op<J>, (), Unruled>>,
     waiting: Option<Op<J>>,
     viewers: u64,
+    visitors: Visitors,
 }
 
 impl<J: Naming> Model for Copies<J>
@@ -86,12 +88,14 @@ where
     {
         let first = Live::new(first, front.again());
         let second = Live::new(second, front.again());
+        let visitors = Visitors::new(alloc, MOST_VIEWERS)?;
         let writer = Writer::new(alloc, first, second, MOST_VIEWERS as usize)?;
         Ok(Copies {
             // a writer is ended and not dropped
             writer: unsafe { ManuallyDrop::new_unchecked(writer) },
             waiting: None,
             viewers: 0,
+            visitors,
         })
     }
 
@@ -139,14 +143,20 @@ where
         }
     }
 
-    /// Publishes all that the writer has, where nothing waits. Without memory for it readers see what they saw.
-    pub(crate) fn publish<R: Wait>(&mut self, rt: &R)
+    /// Publishes all that the writer has, where nothing waits. Without memory for it, or where it is put off, readers see what they
+    /// saw.
+    pub(crate) fn publish<R: Wait>(&mut self, rt: &R, while_read: WhileRead)
         requires none { self.old.waiting ≡ None }
         ensures published { (self.new.published ≡ self.old.published) ⊎ (self.new.published ≡ all_of self.old) }
         ensures all { all_of self.new ≡ all_of self.old }
         ensures viewers { self.new.viewers ≡ self.old.viewers }
     {
-        let _ = publish(rt, &mut self.writer);
+        if while_read.puts_off() && self.visitors.any_reads_on() {
+            return;
+        }
+        if publish(rt, &mut self.writer).is_ok() {
+            self.visitors.look();
+        }
     }
 
     /// A viewer, which has learnt what is published; none where there were as many as there may be, or where no place for a reader
@@ -160,10 +170,11 @@ where
         if self.viewers >= MOST_VIEWERS {
             return None;
         }
+        let visits = self.visitors.visits(self.viewers)?;
         match self.writer.factory().reader() {
             Ok(reader) => {
                 self.viewers += 1;
-                Some(Viewer::new(alloc, reader, self.published()))
+                Some(Viewer::new(alloc, reader, visits, self.published()))
             }
             Err(_) => None,
         }

@@ -7,8 +7,10 @@ mod copies;
 mod live;
 mod shelf;
 mod viewer;
+mod visits;
 
 pub use book::{Book, Front, Naming, Opened};
 pub use live::{Live, Op};
 pub use shelf::Shelf;
 pub use viewer::{MOST_VIEWERS, Viewer};
+pub use visits::WhileRead;

@@ -13,6 +13,7 @@ use crate::book::{Book, Front, Naming};
 use crate::copies::Copies;
 use crate::live::{Live, Op, table_after};
 use crate::viewer::{MOST_VIEWERS, Viewer};
+use crate::visits::WhileRead;
 use left_right::Absorb;
 use std::alloc::{AllocError, Global};
 use std::marker::Model;
@@ -138,6 +139,7 @@ fn publish_all<J: Naming, R: Wait>(
     booked: &Front<J>,
     copies: &mut Copies<J>,
     updates: &[Update],
+    while_read: WhileRead,
 )
 where
     Live<J>: Absorb<Op<J>, State = [Update; 0]>,
@@ -149,7 +151,7 @@ where
     ensures viewers { copies.new.viewers ≡ copies.old.viewers }
 {
     if !copies.waits() && booked.len() == updates.len() as u64 {
-        copies.publish(rt);
+        copies.publish(rt, while_read);
     }
 }
 
@@ -180,12 +182,18 @@ where
     }
 
     /// All updates of the history that are not published yet are published at once, or none of them. Where a viewer still reads
-    /// the copy from before the last publishing, this waits for it.
+    /// the copy from before the last publishing, this waits for it, or leaves them for a later call, as it is told.
     ///
-    /// Refused memory leaves it for a later call. The caller's condition: what stands in the book begins the updates, which are
+    /// Refused memory leaves them for a later call too. The caller's condition: what stands in the book begins the updates, which are
     /// those after the opening rows.
     #[tactic(auto, using(crate::proofs::Prefixes::prefix_self))]
-    pub fn catch_up<R: Wait>(&mut self, rt: &R, book: &Book<J>, updates: &[Update])
+    pub fn catch_up<R: Wait>(
+        &mut self,
+        rt: &R,
+        book: &Book<J>,
+        updates: &[Update],
+        while_read: WhileRead,
+    )
         requires { IsPrefix self.old.booked updates.now }
         ensures booked { IsPrefix self.new.booked updates.now }
         ensures published { (self.new.published ≡ self.old.published) ⊎ (self.new.published ≡ updates.now) }
@@ -196,7 +204,7 @@ where
         match copies {
             Some(copies) => {
                 hand_all(booked, copies, book, updates);
-                publish_all(rt, booked, copies, updates);
+                publish_all(rt, booked, copies, updates, while_read);
             }
             None => {
                 if let Some(all) = book_all(booked, book, updates) {

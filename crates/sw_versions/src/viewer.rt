@@ -8,6 +8,7 @@ ghost use Rattle.sw_versions.specs.Refused.{RefusesAnswer};
 
 use crate::book::{Front, Naming};
 use crate::live::Live;
+use crate::visits::Visits;
 use core::mem::replace_with;
 use crossbeam_utils::rule::Unruled;
 use left_right::reader::Reader;
@@ -24,6 +25,7 @@ pub const MOST_VIEWERS: u64 = 16;
 pub struct Viewer<J: Naming> {
     alloc: Global,
     reader: Reader<Live<J>, (), Unruled>,
+    visits: Visits,
     seen: Front<J>,
     told: Front<J>,
 }
@@ -94,6 +96,7 @@ impl<J: Naming> Viewer<J> {
     pub(crate) fn new(
         alloc: Global,
         reader: Reader<Live<J>, (), Unruled>,
+        visits: Visits,
         opened: Front<J>,
     ) -> Viewer<J>
         ensures { result ≡ record { seen = opened; told = opened } }
@@ -102,6 +105,7 @@ impl<J: Naming> Viewer<J> {
         Viewer {
             alloc,
             reader,
+            visits,
             seen,
             told: opened,
         }
@@ -121,6 +125,7 @@ impl<J: Naming> Viewer<J> {
         ensures refused { IfErr result (λ e. (self.new ≡ self.old) × RefusesAnswer query.now.want e) }
     {
         let alloc = self.alloc;
+        self.visits.step();
         let found = replace_with(
             &mut self.reader,
             (alloc, &self.seen, &self.told, query),
@@ -128,6 +133,7 @@ impl<J: Naming> Viewer<J> {
                 requires { AsksBelow 8 query.now }
             { read(alloc, reader, seen, told, query) },
         );
+        self.visits.step();
         let (reply, seen) = found?;
         self.seen = seen;
         Ok(reply)

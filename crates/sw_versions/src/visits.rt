@@ -1,0 +1,116 @@
+//! Who reads a copy: one count for each viewer, by which the writer sees whether it would have to wait for one.
+//!
+//! No clause rests on these counts. They decide when something is published, and never what.
+
+use std::alloc::{AllocError, Global};
+use std::sync::Arc;
+use std::sync::atomic::{AtomicU64, Ordering};
+
+/// What publishing does while a viewer still reads the copy from before the last publishing, which is the one to be written.
+#[derive(Clone, Copy)]
+pub enum WhileRead {
+    /// It waits until the viewer is done.
+    Waits,
+    /// It is left for a later time.
+    PutsOff,
+}
+
+impl WhileRead {
+    pub(crate) fn puts_off(self) -> bool {
+        match self {
+            WhileRead::Waits => false,
+            WhileRead::PutsOff => true,
+        }
+    }
+}
+
+/// How often a viewer came to the copies and went: an odd number while it reads. The viewer counts, and the writer looks.
+#[derive(Drop)]
+pub(crate) struct Visits {
+    count: Arc<AtomicU64>,
+}
+
+impl Visits {
+    /// None yet. The one error is that there is no memory for the count.
+    fn new(alloc: Global) -> Result<Visits, AllocError> {
+        let count = Arc::new(alloc, AtomicU64::new(0))?;
+        Ok(Visits { count })
+    }
+
+    /// The same count for another holder, if it may have one more.
+    fn again(&self) -> Option<Visits> {
+        match Arc::try_clone(&self.count) {
+            Ok(count) => Some(Visits { count }),
+            Err(_) => None,
+        }
+    }
+
+    fn count(&self) -> u64 {
+        self.count.load(Ordering::SeqCst)
+    }
+
+    /// The viewer comes, or goes.
+    pub(crate) fn step(&self) {
+        self.count
+            .store(self.count().wrapping_add(1), Ordering::SeqCst);
+    }
+}
+
+/// A viewer's count, and what it was when something was published last.
+#[derive(Drop)]
+struct Watch {
+    visits: Visits,
+    then: u64,
+}
+
+impl Watch {
+    /// Whether the viewer has read since before the last publishing.
+    fn is_reading_on(&self) -> bool {
+        self.then % 2 == 1 && self.visits.count() == self.then
+    }
+
+    /// Something was published.
+    fn look(&mut self) {
+        self.then = self.visits.count();
+    }
+}
+
+/// The counts of all viewers that may be opened.
+#[derive(Drop)]
+pub(crate) struct Visitors {
+    watches: Vec<Watch>,
+}
+
+impl Visitors {
+    /// The counts of so many viewers. The one error is that there is no memory for them.
+    pub(crate) fn new(alloc: Global, many: u64) -> Result<Visitors, AllocError> {
+        let mut watches = Vec::new(alloc);
+        for _ in 0..many {
+            let visits = Visits::new(alloc)?;
+            if watches.push(Watch { visits, then: 0 }).is_err() {
+                return Err(AllocError);
+            }
+        }
+        Ok(Visitors { watches })
+    }
+
+    /// A viewer's count for the viewer itself.
+    pub(crate) fn visits(&self, viewer: u64) -> Option<Visits> {
+        match self.watches.get(viewer as usize) {
+            Some(watch) => watch.visits.again(),
+            None => None,
+        }
+    }
+
+    /// Whether a viewer still reads the copy from before the last publishing.
+    pub(crate) fn any_reads_on(&self) -> bool {
+        self.watches.iter().any(|watch| watch.is_reading_on())
+    }
+
+    /// Something was published.
+    pub(crate) fn look(&mut self) {
+        for watch in self.watches.iter_mut() {
+            watch.look();
+        }
+    }
+}
