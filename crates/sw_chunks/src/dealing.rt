@@ -106,7 +106,8 @@ fn end_of(cuts: &[i64], place: usize) -> Option<i64>
     cuts.get(place).copied()
 }
 
-/// An area of each interval, with the rows whose cells lie there. Without cuts they are not copied. Refused `NoMemory` alone.
+/// An area of each interval, with the rows whose cells lie there. Without cuts they are not copied. Refused `NoMemory`
+/// alone.
 pub(crate) fn areas_of<M: CrackerMap>(
     alloc: Global,
     attribute: u8,

@@ -27,8 +27,8 @@ use sw_spine::Spine;
 use sw_tie::Share;
 use sw_versions::{Book, Front, Live, Naming, Op, Opened, Shelf, Viewer};
 
-/// The desk, and the shelf of what viewers read, with the book of its updates. Until there is a viewer the shelf has no copies of
-/// the rows.
+/// The desk, and the shelf of what viewers read, with the book of its updates. Until there is a viewer the shelf has no
+/// copies of the rows.
 #[derive(Drop)]
 pub struct LockedDesk<J: Naming>
 where
@@ -185,9 +185,9 @@ where
         self.desk.void(number, share);
     }
 
-    /// An insert or a delete is answered at the end of the history. Then all updates that are not published yet are published at
-    /// once, or none of them; where there is no memory for it, or none yet, a later commit publishes them. Refused, nothing has
-    /// changed.
+    /// An insert or a delete is answered at the end of the history. Then all updates that are not published yet are
+    /// published at once, or none of them; where there is no memory for it, or none yet, a later commit publishes them.
+    /// Refused, nothing has changed.
     pub fn commit<R: Wait>(
         &mut self,
         rt: &R,
@@ -222,11 +222,11 @@ where
         Ok((reply, receipt))
     }
 
-    /// A viewer learns what is published, if that begins with all that it has seen, and the receipt of it is given. Either way
-    /// the session's share shows what is published.
+    /// A viewer learns what is published, if that begins with all that it has seen, and the receipt of it is given.
+    /// Either way the session's share shows what is published.
     ///
-    /// Refused `Ahead` where the viewer has seen more than is published, both counted with the opening rows; then nothing has
-    /// changed.
+    /// Refused `Ahead` where the viewer has seen more than is published, both counted with the opening rows; then
+    /// nothing has changed.
     pub fn meet(
         &mut self,
         number: u64,
@@ -253,8 +253,8 @@ where
 
     /// A viewer, which has learnt what is published. The first one has the two copies of the rows made.
     ///
-    /// Refused `NoMemory` where there is no memory for them, and `TooMany` of limit 16 where that many viewers were ever opened,
-    /// or no place for a reader was got; then nothing has changed.
+    /// Refused `NoMemory` where there is no memory for them, and `TooMany` of limit 16 where that many viewers were
+    /// ever opened, or no place for a reader was got; then nothing has changed.
     pub fn viewer(&mut self) -> Result<Viewer<J>, Refusal>
         ensures few { OnOk result (self.old.shelf.viewers < MOST_VIEWERS) }
         ensures opened { IfOk result (λ v. v ≡ new_viewer self.old.shelf) }

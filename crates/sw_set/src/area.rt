@@ -332,8 +332,8 @@ impl<M: CrackerMap> Area<M> {
         self.begin_anew(live)
     }
 
-    /// Steps the map in the box at a place to the tape's end. Refused, it had entries to replay, and stands at the cursor that it
-    /// reached.
+    /// Steps the map in the box at a place to the tape's end. Refused, it had entries to replay, and stands at the
+    /// cursor that it reached.
     pub(crate) fn align_at(&mut self, at: usize) -> Result<(), Refusal>
         requires within { at < length self.old.boxes }
         requires begun { (d : Held) → (slice_index_or self.old.boxes at d).is_blank ≡ false }
@@ -550,8 +550,8 @@ impl<M: CrackerMap> Area<M> {
         let _stamp = self.stamps.remove(at);
     }
 
-    /// Drops up to so many boxes, blank ones first, then by least recent use, and answers how many: as many as that, or all. It
-    /// is never refused, and the boxes that stay are as they were.
+    /// Drops up to so many boxes, blank ones first, then by least recent use, and answers how many: as many as that, or
+    /// all. It is never refused, and the boxes that stay are as they were.
     pub fn shed(&mut self, most: usize) -> usize
         ensures shed { IsShed most self.old self.new result }
         ensures all { result < most → length self.new.boxes ≡ 0 }
@@ -615,8 +615,8 @@ impl<M: CrackerMap> Area<M> {
         }
     }
 
-    /// The plain answer over the area's rows; no map is used, and none changes. Only a list of rows takes memory, and the one
-    /// refusal is `NoMemory`.
+    /// The plain answer over the area's rows; no map is used, and none changes. Only a list of rows takes memory, and
+    /// the one refusal is `NoMemory`.
     pub fn scan(&self, query: &Query) -> Result<Reply, Refusal>
         requires received { self.now.inbox ≡ [] }
         requires asks { AsksBelow 8 query.now }
@@ -667,7 +667,8 @@ impl<M: CrackerMap> Area<M> {
         )
     }
 
-    /// Grows the lease of the map in the box at a place to so many cells, and answers whether it grew. Refused, the box is blank.
+    /// Grows the lease of the map in the box at a place to so many cells, and answers whether it grew. Refused, the box
+    /// is blank.
     pub(crate) fn grow_at(&mut self, at: usize, cells: u64) -> Result<bool, Refusal>
         requires within { at < length self.old.boxes }
         requires begun { (d : Held) → (slice_index_or self.old.boxes at d).is_blank ≡ false }

@@ -161,8 +161,8 @@ fn nothing(alloc: Global, want: &Want) -> Reply
 /// What a query is answered, from boxes of which those that it needs stand at the tape's end, and the range of places whose
 /// rows meet its first condition. Where the range is empty, no box is needed.
 ///
-/// The reply is that of a plain scan over the rows that the tape holds, in key order. The one refusal is `NoMemory`, and only
-/// where rows are asked for or there are two conditions or more.
+/// The reply is that of a plain scan over the rows that the tape holds, in key order. The one refusal is `NoMemory`,
+/// and only where rows are asked for or there are two conditions or more.
 pub(crate) fn collect_from<M: CrackerMap>(
     alloc: Global,
     boxes: &[M],

@@ -4,8 +4,8 @@ use sw_map::CrackerMap;
 use sw_rows::Bound;
 use sw_tape::{Entry, Tape};
 
-/// A thread is worth its start where more pairs than this are to be parted: that takes some 4 ms, and a processor that idles, or has
-/// other work, takes up to as long to come (measured by bench/area/wake.sh).
+/// A thread is worth its start where more pairs than this are to be parted: that takes some 4 ms, and a processor that
+/// idles, or has other work, takes up to as long to come (measured by bench/area/wake.sh).
 const WORTH: usize = 2_000_000;
 
 /// How many of the tape's bounds in a row are looked for in a map that may lack them.
@@ -79,8 +79,9 @@ fn parted_by<M: CrackerMap>(it: &M, tape: &Tape, entry: &Entry) -> usize {
     }
 }
 
-/// Whether a map lacks so much of the tape that a thread is worth its start: it has yet to load, or its cracks part many pairs. An entry
-/// counts besides as many pairs as the tape has entries, since it may move one for each mark; so few entries are looked at.
+/// Whether a map lacks so much of the tape that a thread is worth its start: it has yet to load, or its cracks part
+/// many pairs. An entry counts besides as many pairs as the tape has entries, since it may move one for each mark; so
+/// few entries are looked at.
 pub(crate) fn lacks_much<M: CrackerMap>(it: &M, tape: &Tape) -> bool {
     let each = tape.len();
     let mut work: usize = 0;

@@ -14,8 +14,8 @@ use std::alloc::Global;
 use std::marker::Model;
 use sw_rows::{PackedRows, Places, Query, Refusal, Reply, Row, Update, scan};
 
-/// Which of the rows that a tape brought are live: of those in its load, and of those that came later. Each has a place: those
-/// of the load first, then the later ones, in the order in which they came.
+/// Which of the rows that a tape brought are live: of those in its load, and of those that came later. Each has a
+/// place: those of the load first, then the later ones, in the order in which they came.
 #[derive(Drop)]
 pub(crate) struct LiveRows {
     later: PackedRows,
@@ -36,7 +36,8 @@ impl Model for LiveRows {
 }
 
 impl LiveRows {
-    /// As many rows as that, all of them of a load that keeps so many cells of a row, and all live. Refused `NoMemory` alone.
+    /// As many rows as that, all of them of a load that keeps so many cells of a row, and all live. Refused `NoMemory`
+    /// alone.
     pub(crate) fn all(alloc: Global, width: usize, many: usize) -> Result<LiveRows, Refusal>
         requires some { 1 ≤ width }
         requires most { width ≤ 8 }
@@ -232,8 +233,8 @@ impl LiveRows {
         Ok(live)
     }
 
-    /// What a query is answered over the rows that are live. It takes memory only where rows are asked for, and then it may be
-    /// refused, `NoMemory` alone. The caller's condition: attributes are below 8.
+    /// What a query is answered over the rows that are live. It takes memory only where rows are asked for, and then it
+    /// may be refused, `NoMemory` alone. The caller's condition: attributes are below 8.
     pub(crate) fn scan(
         &self,
         alloc: Global,

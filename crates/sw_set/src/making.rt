@@ -18,8 +18,9 @@ fn is_short(e: &Refusal) -> bool
     matches!(e, Refusal::Short { .. })
 }
 
-/// Begins a map in a box. On `Short` the least recently used unneeded box with a lease is cleared and it is tried again, until
-/// it succeeds or there is no such box: each turn leaves one box more blank, so there are fewer turns than boxes.
+/// Begins a map in a box. On `Short` the least recently used unneeded box with a lease is cleared and it is tried
+/// again, until it succeeds or there is no such box: each turn leaves one box more blank, so there are fewer turns than
+/// boxes.
 fn begin_again<M: CrackerMap>(
     area: &mut Area<M>,
     at: usize,
@@ -50,8 +51,8 @@ fn begin_again<M: CrackerMap>(
     unreachable!()
 }
 
-/// Gives the map in a box so many cells, more than it has: its lease grows in place, or, where it does not or is refused, it is
-/// begun again.
+/// Gives the map in a box so many cells, more than it has: its lease grows in place, or, where it does not or is
+/// refused, it is begun again.
 fn widen<M: CrackerMap>(
     area: &mut Area<M>,
     at: usize,

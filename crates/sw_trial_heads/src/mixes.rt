@@ -22,8 +22,8 @@ enum Scanned {
     JustWhereSomeLack,
 }
 
-/// What a mix is made of: how many rows come and how many go among ten calls, how many rows there may be at first, whether boxes
-/// come and go, and how many calls there are.
+/// What a mix is made of: how many rows come and how many go among ten calls, how many rows there may be at first,
+/// whether boxes come and go, and how many calls there are.
 #[derive(Clone, Copy)]
 struct Plan {
     come: u32,
@@ -79,7 +79,8 @@ const REFUSING: &[Trouble] = &[
     Trouble::Every(5),
 ];
 
-/// Boxes that grow: never refused but for cells, refused memory at every third step or growth and at every seventh, and contended.
+/// Boxes that grow: never refused but for cells, refused memory at every third step or growth and at every seventh, and
+/// contended.
 const GROWING: &[Trouble] = &[
     Trouble::Grows(0),
     Trouble::Grows(3),
@@ -87,7 +88,8 @@ const GROWING: &[Trouble] = &[
     Trouble::Contends,
 ];
 
-/// Mixes of a plan: one for each of these troubles, capacities and numbers of boxes, with up to so many cuts, by dice of a seed.
+/// Mixes of a plan: one for each of these troubles, capacities and numbers of boxes, with up to so many cuts, by dice
+/// of a seed.
 #[derive(Clone, Copy)]
 struct Group<'t> {
     seed: u64,
