@@ -39,7 +39,7 @@ fn all_stand<M: CrackerMap>(area: &Area<M>, lower: Option<Bound>, upper: Option<
 
 /// Logs the range exactly where one of its bounds stands in no range of the tape, after a restart where the tape is full.
 /// Refused `NoMemory`, the tape is as it was, or, where it was full, one load of the rows.
-fn note<M: CrackerMap>(
+fn log_range<M: CrackerMap>(
     area: &mut Area<M>,
     lower: Option<Bound>,
     upper: Option<Bound>,
@@ -124,7 +124,7 @@ fn prepare_range<R: Threads + Sync, M: CrackerMap>(
     ensures ends { HasRangedOr result lower upper tails.now area.old area.new }
 {
     area.known();
-    note(area, lower, upper)?;
+    log_range(area, lower, upper)?;
     let cells = cells_for(area.peak());
     make_all(area, tails, cells)?;
     area.known();
