@@ -296,7 +296,7 @@ impl<M: CrackerMap> Area<M> {
 
     /// Begins the area anew with those rows that are live: its tape is one load of them, and all boxes are blank. A refusal
     /// changes nothing.
-    fn begin_anew(&mut self, live: LiveRows) -> Result<(), Refusal>
+    fn restart_with(&mut self, live: LiveRows) -> Result<(), Refusal>
         requires many { length live.flags ≡ length (first_rows self.old.tape ++ live.later) }
         requires keys { All (λ (r : Row). r.key < 2 ^ 63) (rows_standing live self.old) }
         requires rise { Rises key_of (rows_standing live self.old) }
@@ -319,7 +319,7 @@ impl<M: CrackerMap> Area<M> {
         ensures ends { HasRestartedOr result self.old self.new }
     {
         let live = self.live.after(self.alloc, load_of(&self.tape), &[])?;
-        self.begin_anew(live)
+        self.restart_with(live)
     }
 
     /// Begins the area anew with the rows that are live after these updates. A refusal changes nothing.
@@ -329,7 +329,7 @@ impl<M: CrackerMap> Area<M> {
         ensures { HasBegunAnewOr result (rows_left_by updates.now self.old) self.old self.new }
     {
         let live = self.live.after(self.alloc, load_of(&self.tape), updates)?;
-        self.begin_anew(live)
+        self.restart_with(live)
     }
 
     /// Steps the map in the box at a place to the tape's end. Refused, it had entries to replay, and stands at the

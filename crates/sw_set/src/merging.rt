@@ -118,7 +118,7 @@ fn end_of_stretch(updates: &[Update], at: usize) -> usize
 
 /// Begins the area anew with the updates that one load takes up, and answers where they end. Refused `NoMemory`,
 /// nothing has changed.
-fn begin_with<M: CrackerMap>(
+fn restart_from<M: CrackerMap>(
     area: &mut Area<M>,
     updates: &[Update],
     at: usize,
@@ -151,7 +151,7 @@ fn merge_from<M: CrackerMap>(
     if log_one(area, updates[at])? {
         return Ok(at + 1);
     }
-    begin_with(area, updates, at)
+    restart_from(area, updates, at)
 }
 
 /// Merges updates one after the other. A refusal stops it, and it answers how many are merged.
