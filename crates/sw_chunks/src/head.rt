@@ -22,7 +22,7 @@ use crate::clearing::clear_but;
 use crate::dealing::{areas_of, owners_kept};
 use crate::figures::{Figures, figures_of};
 use crate::places::add_owners;
-use crate::routing::share_all;
+use crate::routing::route_all;
 use crate::scanning::scan_areas;
 use crate::shelving::{fewest, shed_all};
 use crate::telling::{tell_all, tell_rows};
@@ -168,7 +168,7 @@ impl<M: CrackerMap> Head<M> {
             self.cuts.as_slice(),
             updates,
         )?;
-        let done = share_all(
+        let done = route_all(
             self.alloc,
             self.attribute,
             self.cuts.as_slice(),
