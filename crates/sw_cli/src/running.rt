@@ -163,7 +163,7 @@ fn make<J: Naming + Send + Sync, M: CrackerMap, O: Onlooker, R: Threads + Wait +
 }
 
 /// Makes the blocks of a run that was opened, and writes what came of them.
-fn begin<M: CrackerMap, O: Onlooker, R: Threads + Wait + Sync, W: Sink>(
+fn make_and_write<M: CrackerMap, O: Onlooker, R: Threads + Wait + Sync, W: Sink>(
     rt: &R,
     alloc: Global,
     opened: Opened,
@@ -257,7 +257,7 @@ pub fn run_told<
         (sink_seen (W.taken out.old) (W.taken out.new) (W.failed out.old) (W.failed out.new)) result }
 {
     match read_start(rt, alloc, table, script, options.cuts, options.limit) {
-        Ok(opened) => begin(rt, alloc, opened, options, maps, out, stats, onlooker),
+        Ok(opened) => make_and_write(rt, alloc, opened, options, maps, out, stats, onlooker),
         Err(e) => Err(e),
     }
 }
