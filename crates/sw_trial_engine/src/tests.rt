@@ -230,7 +230,7 @@ pub(crate) fn random_blocks(
 }
 
 /// Whether two calls are the same, by what is shown of them.
-fn is_same(alloc: Global, one: &Call, other: &Call) -> Result<bool, Fail> {
+fn is_same_call(alloc: Global, one: &Call, other: &Call) -> Result<bool, Fail> {
     let shown = format!(in alloc; "{one:?}")?;
     Ok(shown.as_str() == format!(in alloc; "{other:?}")?.as_str())
 }
@@ -243,7 +243,7 @@ fn are_made(alloc: Global, record: &Record, session: u64, calls: &[Call]) -> Res
             let Some((call, later)) = rest.split_first() else {
                 return Ok(false);
             };
-            if !is_same(alloc, &entry.call, call)? {
+            if !is_same_call(alloc, &entry.call, call)? {
                 return Ok(false);
             }
             rest = later;
