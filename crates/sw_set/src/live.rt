@@ -94,7 +94,7 @@ impl LiveRows {
         }
     }
 
-    /// The place of a key, whether or not its row is live. By binary search.
+    /// The place of a key, whether or not its row is live.
     pub(crate) fn find(&self, load: &PackedRows, key: u64) -> Option<usize>
         requires { IsStandingOf load.now.items self.now }
         ensures { FindsKey key (came_to load.now.items self.now) result }
@@ -108,7 +108,7 @@ impl LiveRows {
         }
     }
 
-    /// Whether a live row has the key. By binary search.
+    /// Whether a live row has the key.
     pub(crate) fn holds(&self, load: &PackedRows, key: u64) -> bool
         requires { IsStandingOf load.now.items self.now }
         ensures { result ≡ has_key key (live_among load.now.items self.now) }
