@@ -306,7 +306,7 @@ fn mixed<R: Threads + Wait + Sync>(rt: &R, alloc: Global, mix: Mix) -> Result<bo
 }
 
 #[test]
-fn four_sessions_at_once(rt: HostRuntime) -> Result<(), Fail> {
+fn four_sessions_at_once_leave_a_legal_record(rt: HostRuntime) -> Result<(), Fail> {
     let alloc = rt.alloc();
     for k in 0..MIXES.len() {
         assert_eq!(rt; mixed(&rt, alloc, MIXES[k])?, true, "mix {k}");

@@ -419,7 +419,7 @@ fn refused_steps_and_begins_leave_the_replies(rt: HostRuntime) -> Result<(), Fai
 }
 
 #[test]
-fn tapes_that_fill_again_and_again(rt: HostRuntime) -> Result<(), Fail> {
+fn tapes_that_fill_again_and_again_leave_the_replies(rt: HostRuntime) -> Result<(), Fail> {
     let mut text = String::new(rt.alloc());
     mix_all(&rt, rt.alloc(), OF_FULL_TAPES, &mut text)?;
     assert_eq!(rt; text.as_str(), "");
