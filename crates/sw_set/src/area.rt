@@ -19,7 +19,7 @@ ghost use Rattle.sw_set.specs.Merged.{without_inbox};
 ghost use Rattle.sw_set.specs.Needs.{head_in};
 ghost use Rattle.sw_set.specs.Outcomes.{AreAppendedOr, CameToWaitOr, HasBegunAnewOr, HasLoggedOr, HasMadeAt, HasMadeRoomOr, HasRestartedOr, IsLongerOr, IsSuppliedOr, MemoryAside, rows_standing};
 ghost use Rattle.sw_set.specs.Prepared.{IsPreparedFor, IsReady, stands_if};
-ghost use Rattle.sw_set.specs.Boxed.{HasGrownAt, IsCleared, IsFreshBut, IsOneCleared, IsSameButBoxes, IsShed, IsSpare};
+ghost use Rattle.sw_set.specs.Boxed.{HasGrownAt, IsCleared, IsFree, IsFreshBut, IsOneCleared, IsSameButBoxes, IsShed};
 ghost use Rattle.sw_set.specs.Shelf.{AreaState, IsAreaLawful, IsSameArea, LiesIn, MayComeAfterLoad, MayMerge, MayMergeAll, MayReceiveAll, Rises, arranged_rows, key_of, lies_within, loaded_area, rows_in, rows_left_by, tape_rows, with_box, with_inbox};
 ghost use Rattle.sw_set.specs.Aligned.{AreSameMaps, HasRoomWhereNeeded, IsAtEnd};
 ghost use Rattle.sw_set.specs.Sought.{AreAllBlank, EndsBy, FindsUnless, HasCursor, HasReachedOr, HaveSomeMap, HoldsMap, IsCrackedAt, IsNeeded, IsNeededIfMap, IsUncracked, IsUnneeded, LacksMap, Shows, TellsUnless, shown_at};
@@ -439,8 +439,8 @@ impl<M: CrackerMap> Area<M> {
     }
 
     /// A box for a new map: the first blank one, else the least recently used that the tails do not need.
-    pub(crate) fn spare(&self, tails: &[Tail]) -> Option<usize>
-        ensures { FindsUnless (IsNeeded tails.now) (IsSpare tails.now) self.now.boxes result }
+    pub(crate) fn free_box(&self, tails: &[Tail]) -> Option<usize>
+        ensures { FindsUnless (IsNeeded tails.now) (IsFree tails.now) self.now.boxes result }
     {
         if let Some(i) = find_blank(self.boxes.as_slice()) {
             return Some(i);

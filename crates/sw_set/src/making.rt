@@ -4,7 +4,7 @@ ghost use Rattle.std.specs.Prelude.{◌≡◌, ◌<◌, ◌↔◌, false, length
 ghost use Rattle.sw_map.specs.Held.{Held};
 ghost use Rattle.sw_set.specs.Prepared.{IsShort};
 ghost use Rattle.sw_set.specs.Boxed.{AreNeededKept, IsFreshBut, IsSameButBoxes};
-ghost use Rattle.sw_set.specs.Preparing.{HasMapOr, HasOneMoreOr, HasSpareOr, HaveMapsOr};
+ghost use Rattle.sw_set.specs.Preparing.{HasFreeOr, HasMapOr, HasOneMoreOr, HaveMapsOr};
 ghost use Rattle.sw_set.specs.Sought.{AreAllNeeded, LacksMap};
 
 use crate::area::Area;
@@ -80,10 +80,10 @@ fn widen<M: CrackerMap>(
 fn take<M: CrackerMap>(area: &Area<M>, tails: &[Tail], tail: Tail) -> Result<usize, Refusal>
     requires needed { Contains tails.now tail }
     requires lacks { All (LacksMap tail) area.now.boxes }
-    ensures { HasSpareOr result tails.now area.now.boxes }
+    ensures { HasFreeOr result tails.now area.now.boxes }
 {
     area.known();
-    let Some(at) = area.spare(tails) else {
+    let Some(at) = area.free_box(tails) else {
         let boxes = area.boxes() as u64;
         let needed = tails.len() as u64;
         return Err(Refusal::NoBlank { boxes, needed });
