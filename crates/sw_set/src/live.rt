@@ -199,7 +199,7 @@ impl LiveRows {
     }
 
     /// A row comes, or that of a key goes, if it is there. Refused `NoMemory` alone, and then nothing is said of these rows.
-    fn take(&mut self, load: &PackedRows, update: &Update) -> Result<(), Refusal>
+    fn follow(&mut self, load: &PackedRows, update: &Update) -> Result<(), Refusal>
         requires standing { IsStandingOf load.now.items self.old }
         requires rise { Rises key_of (came_then (came_to load.now.items self.old) update.now) }
         ensures { MemoryAside result (λ _. IsNextStanding load.now.items update.now self.old self.new) }
@@ -228,7 +228,7 @@ impl LiveRows {
     {
         let mut live = self.copied(alloc)?;
         for update in updates {
-            live.take(load, update)?;
+            live.follow(load, update)?;
         }
         Ok(live)
     }

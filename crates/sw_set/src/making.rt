@@ -77,7 +77,7 @@ fn widen<M: CrackerMap>(
 }
 
 /// A box for a map that the area lacks. Refused `NoBlank`, all boxes have needed maps, so there are fewer than are needed.
-fn take<M: CrackerMap>(area: &Area<M>, tails: &[Tail], tail: Tail) -> Result<usize, Refusal>
+fn find_box<M: CrackerMap>(area: &Area<M>, tails: &[Tail], tail: Tail) -> Result<usize, Refusal>
     requires needed { Contains tails.now tail }
     requires lacks { All (LacksMap tail) area.now.boxes }
     ensures { HasFreeOr result tails.now area.now.boxes }
@@ -111,7 +111,7 @@ fn ensure_map<M: CrackerMap>(
         }
         return widen(area, at, tails, tail, cells);
     }
-    let at = take(area, tails, tail)?;
+    let at = find_box(area, tails, tail)?;
     begin_again(area, at, tails, tail, cells)
 }
 
