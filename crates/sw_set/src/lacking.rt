@@ -28,7 +28,7 @@ fn above(tape: &Tape, bound: Bound) -> Option<Bound> {
 }
 
 /// Where the piece begins that a bound falls into: at one of the nearest bounds below that the map has cracked at, or at 0.
-fn start_of<M: CrackerMap>(it: &M, tape: &Tape, bound: Bound) -> usize {
+fn piece_start<M: CrackerMap>(it: &M, tape: &Tape, bound: Bound) -> usize {
     let mut last = bound;
     for _turn in 0..NEAR {
         let Some(next) = below(tape, last) else {
@@ -43,7 +43,7 @@ fn start_of<M: CrackerMap>(it: &M, tape: &Tape, bound: Bound) -> usize {
 }
 
 /// Where it ends: at one of the nearest bounds above that the map has cracked at, or at its last pair.
-fn end_of<M: CrackerMap>(it: &M, tape: &Tape, bound: Bound) -> usize {
+fn piece_end<M: CrackerMap>(it: &M, tape: &Tape, bound: Bound) -> usize {
     let mut last = bound;
     for _turn in 0..NEAR {
         let Some(next) = above(tape, last) else {
@@ -65,7 +65,7 @@ fn parted_at<M: CrackerMap>(it: &M, tape: &Tape, bound: Option<Bound>) -> usize 
     if it.find(bound).is_some() {
         return 0;
     }
-    end_of(it, tape, bound).saturating_sub(start_of(it, tape, bound))
+    piece_end(it, tape, bound).saturating_sub(piece_start(it, tape, bound))
 }
 
 /// How many pairs an entry parts; a load is more than any number.
