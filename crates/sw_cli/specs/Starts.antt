@@ -12,9 +12,9 @@ use Rattle.sw_cli.specs.Outcomes.{Outcome}
 use Rattle.sw_cli.specs.Run.{AllAnswered, Began, Leaves, Start, TellsAll, out_of, script_of, start_of}
 use Rattle.sw_cli.specs.Script.{AreBlocks}
 use Rattle.sw_cli.specs.Sides.{FailedInTurn, IsUntouched, SinkFailed, SinkHeld, SinkSeen, SourceFailed, SourceSeen}
-use Rattle.sw_cli.specs.declared.start.Opened.{Opened}
+use Rattle.sw_cli.specs.declared.start.Inputs.{Inputs}
 
-abbrev pub start_seen : Opened → Start
+abbrev pub start_seen : Inputs → Start
 start_seen o = record { columns = o.schema; rows = o.rows.items; blocks = o.blocks.items; cuts = o.cuts }
 
 -- one to eight attributes, rows within the limit with the keys 1, 2, 3 and so on, blocks of calls on the attributes of
@@ -51,7 +51,7 @@ ReadsScript columns s view result =
     IfSome s.left (λ bytes. ReadsFrom (SourceFailed s) view result (script_of columns bytes))
 
 -- what is answered of the sources of table and script: the start that their bytes spell
-abbrev pub ReadsStart : ℕ → List ℕ → SourceSeen → SourceSeen → Result Opened Refusal → Type 0
+abbrev pub ReadsStart : ℕ → List ℕ → SourceSeen → SourceSeen → Result Inputs Refusal → Type 0
 ReadsStart limit cuts t s result =
     IfBoth t.left s.left (λ a b. ReadsFrom (FailedInTurn t s a) start_seen result (start_of limit cuts a b))
 
