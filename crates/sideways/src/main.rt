@@ -13,7 +13,7 @@ ghost use Rattle.std.specs.Prelude.{◌≡◌, ◌<◌, ◌≤◌, All, IfSome};
 ghost use Rattle.sw_map.specs.Held.{blank};
 
 use crate::explaining::write_explanations;
-use crate::seeing::{Lines, Seen, Sights};
+use crate::seeing::{LinesSeen, Seen, Sights};
 use crate::words::command;
 use clap::error::ErrorKind;
 use clap::{ArgMatches, Error};
@@ -42,7 +42,7 @@ struct Errors<E: Sink + Drop> {
 
 /// What is known after a run: the record, whether a call was refused, and what each head tells of itself.
 #[derive(Drop)]
-struct Ended {
+struct AfterRun {
     history: Record,
     has_refused: bool,
     stats: Vec<HeadStats>,
@@ -58,7 +58,7 @@ fn run_open<R: Threads + Wait + Sync, O: Onlooker, T: Source, S: Source, W: Sink
     options: &Options<'_>,
     maps: Vec<PairMap>,
     onlooker: &O,
-) -> Result<Ended, Refusal>
+) -> Result<AfterRun, Refusal>
     requires some { 0 < options.now.limit }
     requires most { options.now.limit ≤ 1048576 }
     requires blank { All (λ m. ⟦<PairMap as CrackerMap>⟧.held m ≡ blank) maps.items }
@@ -76,7 +76,7 @@ fn run_open<R: Threads + Wait + Sync, O: Onlooker, T: Source, S: Source, W: Sink
         &mut stats,
         onlooker,
     )?;
-    Ok(Ended {
+    Ok(AfterRun {
         history,
         has_refused: noting.has_refused(),
         stats,
@@ -92,7 +92,7 @@ fn run_named<R: Files + Clock + Print + Eprint + Threads + Wait + Sync>(
     cuts: &str,
     settings: &Settings,
     seen: &Seen<'_, R>,
-) -> Result<Ended, Refusal> {
+) -> Result<AfterRun, Refusal> {
     let Ok(table) = File::open(rt, table) else {
         return Err(Refusal::Input);
     };
@@ -108,7 +108,7 @@ fn run_named<R: Files + Clock + Print + Eprint + Threads + Wait + Sync>(
     run_open(
         rt,
         alloc,
-        &mut Lines::new(Counted::new(table), seen),
+        &mut LinesSeen::new(Counted::new(table), seen),
         &mut Counted::new(script),
         Counted::new(io::writer(rt)),
         &options,
@@ -135,7 +135,7 @@ fn keep<R: Files>(
 
 /// Writes what each head tells of itself, on standard error.
 fn tell<R: Clock + Eprint, E: Sink>(
-    ended: &Ended,
+    ended: &AfterRun,
     seen: &Seen<'_, R>,
     errors: &mut E,
 ) -> Result<(), Refusal> {

@@ -147,16 +147,16 @@ fn ends_in(bytes: &[u8]) -> u64 {
 
 /// A source of a table before another, which tells how many lines went by. It counts them only where they are told.
 #[derive(Drop)]
-pub(crate) struct Lines<'s, 'r, S: Source, R: Clock + Eprint> {
+pub(crate) struct LinesSeen<'s, 'r, S: Source, R: Clock + Eprint> {
     source: S,
     read: u64,
     seen: &'s Seen<'r, R>,
 }
 
-impl<'s, 'r, S: Source, R: Clock + Eprint> Lines<'s, 'r, S, R> {
+impl<'s, 'r, S: Source, R: Clock + Eprint> LinesSeen<'s, 'r, S, R> {
     /// A source of which no line went by.
-    pub(crate) fn new(source: S, seen: &'s Seen<'r, R>) -> Lines<'s, 'r, S, R> {
-        Lines {
+    pub(crate) fn new(source: S, seen: &'s Seen<'r, R>) -> LinesSeen<'s, 'r, S, R> {
+        LinesSeen {
             source,
             read: 0,
             seen,
@@ -164,7 +164,7 @@ impl<'s, 'r, S: Source, R: Clock + Eprint> Lines<'s, 'r, S, R> {
     }
 }
 
-impl<S: Source, R: Clock + Eprint> Source for Lines<'_, '_, S, R> {
+impl<S: Source, R: Clock + Eprint> Source for LinesSeen<'_, '_, S, R> {
     ghost left = { λ s. S.left s.source };
 
     ghost failed = { λ s. S.failed s.source };

@@ -58,8 +58,8 @@ pub record IsOneAsked (k : ℕ) (xs ys : List AreaState) : Type 0 where
   pub here : (d e : AreaState) → StandsForSame (get_or xs k d) (get_or ys k e)
   pub others : (j : ℕ) (d e : AreaState) → j < length xs → j ≢ k → IsSameButBoxes (get_or xs j d) (get_or ys j e)
 
--- The areas before a place were asked, so that their bounds stand in ranges where none scanned; of the others maps may have
--- been cleared.
+-- The areas before a place were asked, so that their bounds stand in ranges where none scanned; of the others maps may
+-- have been cleared.
 pub record AreAskedBefore (q : Query) (k : ℕ) (xs ys : List AreaState) (scans : ℕ) : Type 0 where
   pub same : AreEach StandsForSame xs ys
   pub kept : AreUntouchedKept q xs ys

@@ -39,8 +39,8 @@ AreBlankBut but xs = (k : ℕ) (d : AreaState) → k < length xs → k ≢ but �
 abbrev pub IsMappedBut : ℕ → List AreaState → ℕ → Type 0
 IsMappedBut but xs k = (k < length xs) × (k ≢ but) × ((d : AreaState) → HasMap (get_or xs k d))
 
--- The areas after maps were cleared in all but the one at a place, until so many cells came back or none was left: what came
--- back is told, up to the greatest number of the type.
+-- The areas after maps were cleared in all but the one at a place, until so many cells came back or none was left: what
+-- came back is told, up to the greatest number of the type.
 pub record AreClearedBut (but cells : ℕ) (xs ys : List AreaState) (came : ℕ) : Type 0 where
   pub same : AreEach IsSameButBoxes xs ys
   pub kept : (d e : AreaState) → but < length xs → get_or ys but e ≡ get_or xs but d

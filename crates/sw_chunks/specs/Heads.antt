@@ -19,8 +19,8 @@ use Rattle.sw_chunks.specs.Cleared.{AreEach, HoldsOfEach}
 use Rattle.sw_chunks.specs.Shelved.{IsFewest}
 use Rattle.sw_chunks.specs.Cuts.{Interval, RiseAbove, intervals}
 
--- The attribute that is the head, its cuts, the list of all that it was opened with and received, and an area for each interval,
--- in order.
+-- The attribute that is the head, its cuts, the list of all that it was opened with and received, and an area for each
+-- interval, in order.
 pub record HeadState : Type 0 where
   pub attribute : ℕ
   pub cuts : List ℤ
@@ -40,7 +40,8 @@ ArePartsOf a cuts rows parts =
     (k : ℕ) (d : Packed) (i : Interval) → k ≤ length cuts
     → (get_or parts k d).items ≡ part_of a rows (get_or (intervals cuts) k i)
 
--- Each area has the rows of these updates that lie in its interval, and no key that came to it exceeds all that came by them.
+-- Each area has the rows of these updates that lie in its interval, and no key that came to it exceeds all that came by
+-- them.
 pub record StandsFor (us : List Update) (a : ℕ) (cuts : List ℤ) (xs : List AreaState) : Type 0 where
   pub rise : Rises key_of (rows_of us)
   pub parts : map rows_in xs ≡ map (part_of a (rows_of us)) (intervals cuts)

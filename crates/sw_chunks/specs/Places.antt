@@ -80,9 +80,9 @@ IsSent place ps us x y = y ≡ record x { inbox = x.inbox ++ sent place ps us; s
 abbrev pub AreSent : List ℕ → List Update → List AreaState → List AreaState → Type 0
 AreSent ps us xs ys = (k : ℕ) (d e : AreaState) → k < length xs → IsSent k ps us (get_or xs k d) (get_or ys k e)
 
--- updates were shared out: what goes to each area by these owners waits there
-abbrev pub AreShared : ℕ → List ℤ → List (ℕ × ℕ) → List Update → List AreaState → List AreaState → Type 0
-AreShared a cuts owners us xs ys = AreSent (places_of a cuts owners us) us xs ys
+-- updates were routed: what goes to each area by these owners waits there
+abbrev pub AreRouted : ℕ → List ℤ → List (ℕ × ℕ) → List Update → List AreaState → List AreaState → Type 0
+AreRouted a cuts owners us xs ys = AreSent (places_of a cuts owners us) us xs ys
 
 -- the rows and their areas, with one more if the update is a row that comes
 abbrev pub owners_then : ℕ → List ℤ → List (ℕ × ℕ) → Update → List (ℕ × ℕ)

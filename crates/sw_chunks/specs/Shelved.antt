@@ -30,8 +30,8 @@ HasParted x y = (went : List Held) × IsPermutation x.boxes (went ++ y.boxes)
 abbrev pub HasBox : AreaState → Type 0
 HasBox x = 0 < length x.boxes
 
--- Boxes were dropped, those of the lowest areas first: at most so many, and all where there are no more. Each area's are those
--- that it had, but for what went.
+-- Boxes were dropped, those of the lowest areas first: at most so many, and all where there are no more. Each area's
+-- are those that it had, but for what went.
 pub record AreShed (most : ℕ) (xs ys : List AreaState) (gone : ℕ) : Type 0 where
   pub many : length ys ≡ length xs
   pub same : (k : ℕ) (d e : AreaState) → k < length xs → IsSameButShelf (get_or xs k d) (get_or ys k e)

@@ -6,8 +6,8 @@ ghost use Rattle.sw_chunks.specs.Cleared.{AreBlankBut, AreClearedBut, IsMappedBu
 use sw_map::CrackerMap;
 use sw_set::Area;
 
-/// Of an area found before and a later one, with the stamps of their least recently used maps, that with the lesser stamp; of
-/// equal stamps the earlier area.
+/// Of an area found before and a later one, with the stamps of their least recently used maps, that with the lesser
+/// stamp; of equal stamps the earlier area.
 fn older(best: Option<(usize, u64)>, at: usize, stamp: u64) -> (usize, u64)
     ensures { (best ≡ Some result) ⊎ (result ≡ (at, stamp)) }
 {

@@ -91,22 +91,23 @@ fn parts_of(
 }
 
 /// Where the interval at a place begins.
-fn start_of(cuts: &[i64], place: usize) -> Option<i64>
+fn interval_start(cuts: &[i64], place: usize) -> Option<i64>
     requires { place ≤ length cuts.now }
     ensures { (i : Interval) → result ≡ (get_or (intervals cuts.now) place i).0 }
 {
-    end_of(cuts, place.checked_sub(1)?)
+    interval_end(cuts, place.checked_sub(1)?)
 }
 
 /// The value below which it ends.
-fn end_of(cuts: &[i64], place: usize) -> Option<i64>
+fn interval_end(cuts: &[i64], place: usize) -> Option<i64>
     requires { place ≤ length cuts.now }
     ensures { (i : Interval) → result ≡ (get_or (intervals cuts.now) place i).1 }
 {
     cuts.get(place).copied()
 }
 
-/// An area of each interval, with the rows whose cells lie there. Without cuts they are not copied. Refused `NoMemory` alone.
+/// An area of each interval, with the rows whose cells lie there. Without cuts they are not copied. Refused `NoMemory`
+/// alone.
 pub(crate) fn areas_of<M: CrackerMap>(
     alloc: Global,
     attribute: u8,
@@ -125,7 +126,13 @@ pub(crate) fn areas_of<M: CrackerMap>(
     let mut areas = Vec::new(alloc);
     for k in 0..parts.len() {
         let part = mem::replace(&mut parts[k], PackedRows::new(alloc, 1));
-        let area = Area::of(alloc, attribute, start_of(cuts, k), end_of(cuts, k), part)?;
+        let area = Area::of(
+            alloc,
+            attribute,
+            interval_start(cuts, k),
+            interval_end(cuts, k),
+            part,
+        )?;
         if areas.push(area).is_err() {
             return Err(Refusal::NoMemory);
         }

@@ -22,7 +22,7 @@ use crate::clearing::clear_but;
 use crate::dealing::{areas_of, owners_kept};
 use crate::figures::{Figures, figures_of};
 use crate::places::add_owners;
-use crate::routing::share_all;
+use crate::routing::route_all;
 use crate::scanning::scan_areas;
 use crate::shelving::{fewest, shed_all};
 use crate::telling::{tell_all, tell_rows};
@@ -36,15 +36,16 @@ use sw_tie::Book;
 
 /// The areas of one attribute: below the first cut, from each cut up to below the next, and from the last upwards.
 ///
-/// Contracts see its attribute, its cuts and the list of all updates that it was opened with and received: that list stands in a
-/// book that takes no bytes. They also see its areas.
+/// Contracts see its attribute, its cuts and the list of all updates that it was opened with and received: that list
+/// stands in a book that takes no bytes. They also see its areas.
 #[derive(Drop)]
 pub struct Head<M: CrackerMap> {
     alloc: Global,
     attribute: u8,
     cuts: Vec<i64>,
     areas: Vec<Area<M>>,
-    /// The keys of all rows that ever came, which rise, and beside each the area to which its row went. Without cuts it is empty.
+    /// The keys of all rows that ever came, which rise, and beside each the area to which its row went. Without cuts it
+    /// is empty.
     owners: Vec<(u64, u8)>,
     told: Book<Update>,
     clock: u64,
@@ -64,8 +65,9 @@ impl<M: CrackerMap> Model for Head<M> {
 }
 
 impl<M: CrackerMap> Head<M> {
-    /// A head over these rows, which rise by key, with areas by these cuts, which rise. It stands for the rows as insertions.
-    /// Each row goes once to the area in whose interval its cell lies, and no area has boxes. Refused `NoMemory` alone.
+    /// A head over these rows, which rise by key, with areas by these cuts, which rise. It stands for the rows as
+    /// insertions. Each row goes once to the area in whose interval its cell lies, and no area has boxes. Refused
+    /// `NoMemory` alone.
     pub fn new(alloc: Global, attribute: u8, cuts: &[i64], rows: &[Row]) -> Result<Head<M>, Refusal>
         requires attribute { attribute < 8 }
         requires rising { RiseAbove None cuts.now }
@@ -150,9 +152,9 @@ impl<M: CrackerMap> Head<M> {
         figures_of(self.areas.as_slice())
     }
 
-    /// Appends updates: an inserted key exceeds all that came before it, and a removed key is live then. Each goes to one area,
-    /// an insertion to that in whose interval its cell lies, a removal to that of its row, and waits there. A refusal changes
-    /// nothing but the room of areas.
+    /// Appends updates: an inserted key exceeds all that came before it, and a removed key is live then. Each goes to
+    /// one area, an insertion to that in whose interval its cell lies, a removal to that of its row, and waits there. A
+    /// refusal changes nothing but the room of areas.
     pub fn receive(&mut self, updates: &[Update]) -> Result<(), Refusal>
         requires { MayFollow self.old.attribute self.old.updates updates.now }
         ensures received { OnOk result (HasReceived updates.now self.old self.new) }
@@ -166,7 +168,7 @@ impl<M: CrackerMap> Head<M> {
             self.cuts.as_slice(),
             updates,
         )?;
-        let done = share_all(
+        let done = route_all(
             self.alloc,
             self.attribute,
             self.cuts.as_slice(),
@@ -187,9 +189,10 @@ impl<M: CrackerMap> Head<M> {
     }
 
     /// The answer of a query over all rows: the areas that it touches are merged and asked, from the lowest, and their
-    /// replies put together. Beside it stands how many of these areas scanned. An area that tells `Short` is asked once more
-    /// after maps of the other areas were cleared, by least recent use. The head stands for the same updates, each area for the
-    /// same rows with as many boxes, and areas that the query does not touch are as they were, but for what their boxes hold.
+    /// replies put together. Beside it stands how many of these areas scanned. An area that tells `Short` is asked once
+    /// more after maps of the other areas were cleared, by least recent use. The head stands for the same updates, each
+    /// area for the same rows with as many boxes, and areas that the query does not touch are as they were, but for
+    /// what their boxes hold.
     ///
     /// The one refusal is `NoMemory`.
     pub fn answer<R: Threads + Sync>(
@@ -211,8 +214,8 @@ impl<M: CrackerMap> Head<M> {
         answer_areas(rt, self.alloc, self.areas.as_mut_slice(), self.clock, query)
     }
 
-    /// The plain answer over all rows: the areas that the query touches are merged and scanned. No map is made for it, and areas
-    /// that the query does not touch are what they were. The one refusal is `NoMemory`.
+    /// The plain answer over all rows: the areas that the query touches are merged and scanned. No map is made for it,
+    /// and areas that the query does not touch are what they were. The one refusal is `NoMemory`.
     pub fn scan(&mut self, query: &Query) -> Result<Reply, Refusal>
         requires asks { AsksBelow 8 query.now }
         requires head { head_in query.now.conds ≡ self.old.attribute }
@@ -225,8 +228,8 @@ impl<M: CrackerMap> Head<M> {
         scan_areas(self.alloc, self.areas.as_mut_slice(), query)
     }
 
-    /// Gives a blank box to the area with the fewest, of several to the lowest. Refused `NoMemory`, nothing has changed, and the
-    /// box comes back.
+    /// Gives a blank box to the area with the fewest, of several to the lowest. Refused `NoMemory`, nothing has
+    /// changed, and the box comes back.
     pub fn supply(&mut self, it: M) -> Result<(), (M, Refusal)>
         requires { M.held it ≡ blank }
         ensures { MatchResult result (λ _. IsSupplied self.old self.new) (ComesBack self.old self.new it) }
@@ -235,8 +238,8 @@ impl<M: CrackerMap> Head<M> {
         self.areas[at].supply(it)
     }
 
-    /// Drops up to so many boxes, those of the lowest areas first, and answers how many: as many as that, or all. It is never
-    /// refused.
+    /// Drops up to so many boxes, those of the lowest areas first, and answers how many: as many as that, or all. It is
+    /// never refused.
     pub fn shed(&mut self, most: usize) -> usize
         ensures same { IsSameHead self.old self.new }
         ensures shed { AreShed most self.old.areas self.new.areas result }
@@ -244,8 +247,8 @@ impl<M: CrackerMap> Head<M> {
         shed_all(self.areas.as_mut_slice(), most)
     }
 
-    /// Clears maps by least recent use, over all areas, until so many cells came back or none is left, and answers how many came
-    /// back, up to the greatest number of the type. It is never refused.
+    /// Clears maps by least recent use, over all areas, until so many cells came back or none is left, and answers how
+    /// many came back, up to the greatest number of the type. It is never refused.
     pub fn evict(&mut self, cells: u64) -> u64
         ensures same { IsSameHead self.old self.new }
         ensures evicted { AreClearedBut (length self.old.areas) cells self.old.areas self.new.areas result }

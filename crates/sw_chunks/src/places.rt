@@ -32,7 +32,7 @@ fn stands_at(owners: &[(u64, u8)], place: usize, key: u64) -> bool
     place < owners.len() && owners[place].0 == key
 }
 
-/// The place that stands beside a key, where keys rise. By binary search.
+/// The place that stands beside a key, where keys rise.
 fn find_place(owners: &[(u64, u8)], key: u64) -> u8
     requires { Rises (λ (o : ℕ × ℕ). o.0) owners.now }
     ensures { result ≡ find_place key owners.now }

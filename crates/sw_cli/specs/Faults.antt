@@ -16,7 +16,8 @@ refusal_text (refusal.BadLine line w) = labelled (codes "3 line ") line ++ (code
 refusal_text (refusal.UnknownAttribute name) = codes "4 name " ++ name
 refusal_text (refusal.TooMany limit) = labelled (codes "5 limit ") limit
 refusal_text (refusal.NoBlank boxes needed) = labelled (codes "6 boxes ") boxes ++ labelled (codes " needed ") needed
-refusal_text (refusal.Short used want capacity) = labelled (codes "7 used ") used ++ (labelled (codes " want ") want ++ labelled (codes " capacity ") capacity)
+refusal_text (refusal.Short used want capacity) =
+    labelled (codes "7 used ") used ++ (labelled (codes " want ") want ++ labelled (codes " capacity ") capacity)
 refusal_text (refusal.Contended seen found) = labelled (codes "8 seen ") seen ++ labelled (codes " found ") found
 refusal_text (refusal.SharesOut made given) = labelled (codes "9 made ") made ++ labelled (codes " given ") given
 refusal_text (refusal.HistoryFull entries) = labelled (codes "10 entries ") entries

@@ -50,14 +50,15 @@ script_of columns bytes = or_refusal (bytes_within 268435456 bytes) >>= blocks_o
 abbrev pub cuts_of : List Column → List ℕ → Result CutLists Refusal
 cuts_of columns text = refused 0 (cuts_at columns text)
 
--- the bytes of the table are looked at first, then those of the script, then the text of the cuts, and then the rows are
--- held against the limit; the first fault in that order is the refusal
+-- the bytes of the table are looked at first, then those of the script, then the text of the cuts, and then the rows
+-- are held against the limit; the first fault in that order is the refusal
 abbrev pub start_of : ℕ → List ℕ → List ℕ → List ℕ → Result Start Refusal
 start_of limit cuts table script =
     or_refusal (table_of table) >>= λ t.
     (script_of t.columns script >>= λ blocks.
     (cuts_of t.columns cuts >>= λ lists.
-    (rows_within limit t.rows >>= λ rows. Ok (record { columns = t.columns; rows = rows; blocks = blocks; cuts = lists }))))
+    (rows_within limit t.rows >>= λ rows.
+    Ok (record { columns = t.columns; rows = rows; blocks = blocks; cuts = lists }))))
 
 -- ---- what a run leaves
 
@@ -65,10 +66,11 @@ start_of limit cuts table script =
 abbrev pub is_session : ℕ → ℕ → Bool
 is_session n session = nat_lt 0 session && nat_le session n
 
--- The record of a table whose sessions 1, 2, 3 and so on made the calls of these outcomes, one block each: it is legal, from
--- the attributes, rows and limit of the table; the answered calls of block i are those of session i, no other session has
--- entries, and none is open.
-pub record IsRecordOf (columns : List Column) (rows : List Row) (limit : ℕ) (told : List (List Outcome)) (h : History) : Type 0 where
+-- The record of a table whose sessions 1, 2, 3 and so on made the calls of these outcomes, one block each: it is legal,
+-- from the attributes, rows and limit of the table; the answered calls of block i are those of session i, no other
+-- session has entries, and none is open.
+pub record IsRecordOf (columns : List Column) (rows : List Row) (limit : ℕ) (told : List (List Outcome)) (h : History)
+    : Type 0 where
   pub columns_are : h.columns ≡ columns
   pub rows_are : h.rows ≡ rows
   pub limit_is : h.limit ≡ limit
@@ -78,9 +80,10 @@ pub record IsRecordOf (columns : List Column) (rows : List Row) (limit : ℕ) (t
   pub alone : (session : ℕ) → is_session (length told) session ≡ false → is_absent session h.entries ≡ true
   pub closed : none_open h.entries ≡ true
 
--- A run from a start that ended: each call of each block has an outcome, a refused one was refused for want of memory or
--- for a full history, the record is of these outcomes, and the sink took their lines.
-pub record Leaves (limit : ℕ) (s : Start) (told : List (List Outcome)) (old new : Option (List ℕ)) (h : History) : Type 0 where
+-- A run from a start that ended: each call of each block has an outcome, a refused one was refused for want of memory
+-- or for a full history, the record is of these outcomes, and the sink took their lines.
+pub record Leaves (limit : ℕ) (s : Start) (told : List (List Outcome)) (old new : Option (List ℕ)) (h : History)
+    : Type 0 where
   pub calls : map calls_of told ≡ s.blocks
   pub why : AllSayWhy told
   pub record_is : IsRecordOf s.columns s.rows limit told h
@@ -99,10 +102,11 @@ pub record Began (limit : ℕ) (s : Start) (old new : Option (List ℕ)) : Type 
 
 -- each session has an answered call for each call of its block
 abbrev pub AllAnswered : List (List Call) → History → Type 0
-AllAnswered blocks h = (i : ℕ) → i < length blocks → length (mine (i + 1) h.entries) ≡ length (slice_index_or blocks i [])
+AllAnswered blocks h =
+    (i : ℕ) → i < length blocks → length (mine (i + 1) h.entries) ≡ length (slice_index_or blocks i [])
 
--- the answered calls of session i are the calls of block i, and the sink took the lines of their replies, block after block
--- with a line `---` between two, and nothing else
+-- the answered calls of session i are the calls of block i, and the sink took the lines of their replies, block after
+-- block with a line `---` between two, and nothing else
 pub record TellsAll (s : Start) (old new : Option (List ℕ)) (h : History) : Type 0 where
   pub calls : (i : ℕ) → i < length s.blocks → map (λ m. m.0) (mine (i + 1) h.entries) ≡ slice_index_or s.blocks i []
   pub wrote : Took old new (text_of s.columns (map all_answered (sessions_from 1 (length s.blocks) h)))
@@ -110,7 +114,8 @@ pub record TellsAll (s : Start) (old new : Option (List ℕ)) (h : History) : Ty
 -- the lines of the table's replies to calls, one after another
 abbrev pub replies_bytes : List Column → ℕ → List Update → List Call → List ℕ
 replies_bytes columns limit us [] = []
-replies_bytes columns limit us (c ∷ cs) = reply_bytes columns c (reply_to limit us c) ++ replies_bytes columns limit (updates_then limit us c) cs
+replies_bytes columns limit us (c ∷ cs) =
+    reply_bytes columns c (reply_to limit us c) ++ replies_bytes columns limit (updates_then limit us c) cs
 
 -- what a script of one block writes: the lines of the plain table's replies to its calls
 abbrev pub out_of : ℕ → Start → List Call → List ℕ

@@ -21,7 +21,8 @@ script_lines text = map without_terminator (lines_of text)
 
 -- whether a line divides blocks: it has at most 4,096 bytes, `---` and then spaces and tabs alone
 abbrev pub is_divider : List ℕ → Bool
-is_divider line = nat_le (length line) MOST_LINE && (bytes_eq (take 3 line) (codes "---") && list_all is_blank (drop 3 line))
+is_divider line =
+    nat_le (length line) MOST_LINE && (bytes_eq (take 3 line) (codes "---") && list_all is_blank (drop 3 line))
 
 -- the call of line n, if it has one; its length is looked at first, and then whether it is UTF-8
 abbrev pub call_of_line : List Column → ℕ → List ℕ → Result (Option Call) Refusal
@@ -76,7 +77,8 @@ blocks_of columns text = with_lines columns 1 (so_far [] []) (script_lines text)
 abbrev pub AllCallsBelow : ℕ → List Call → Type 0
 AllCallsBelow n cs = All (CallsBelow n) cs
 
--- what holds of the blocks so far: their calls name attributes of the first n alone, and neither blocks nor calls are too many
+-- what holds of the blocks so far: their calls name attributes of the first n alone, and neither blocks nor calls are
+-- too many
 pub record AreSound (n : ℕ) (p : SoFar) : Type 0 where
   pub below : All (AllCallsBelow n) p.closed
   pub below_last : AllCallsBelow n p.last

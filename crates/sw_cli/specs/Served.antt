@@ -11,7 +11,8 @@ use Rattle.sw_cli.specs.Outcomes.{Outcome, SaysWhy, Told, answered, blocks_told,
 use Rattle.sw_cli.specs.Sides.{SinkSeen}
 use Rattle.sw_cli.specs.declared.ended.Ended.{Ended}
 
--- tickets with the numbers n, n + 1, n + 2 and so on, to each of which the answered calls of a block's outcomes were answered
+-- tickets with the numbers n, n + 1, n + 2 and so on, to each of which the answered calls of a block's outcomes were
+-- answered
 abbrev pub AreAnswered : ℕ → List (List Outcome) → List (ℕ × List (Call × Reply)) → Type 0
 AreAnswered n [] [] = Unit {0}
 AreAnswered n [] (t ∷ ts) = ⊥
@@ -21,7 +22,8 @@ AreAnswered n (b ∷ bs) (t ∷ ts) = (t.0 ≡ n) × (t.1 ≡ answered b) × Are
 -- place by place
 abbrev pub Each : {X Y : Type 0} → (X → Y → Type 0) → List X → List Y → Type 0
 Each {X} {Y} P xs ys =
-    (length ys ≡ length xs) × ((i : ℕ) (x : X) (y : Y) → i < length xs → P (slice_index_or xs i x) (slice_index_or ys i y))
+    (length ys ≡ length xs)
+    × ((i : ℕ) (x : X) (y : Y) → i < length xs → P (slice_index_or xs i x) (slice_index_or ys i y))
 
 -- a session that has made no call, and the calls that it is to make, with room for what comes of them
 pub record IsFresh (made : List (Call × Reply)) (told : List Told) (room : ℕ) (calls : List Call) : Type 0 where
@@ -38,7 +40,8 @@ pub record IsDone (session : ℕ) (calls : List Call) (ticket : ℕ × List (Cal
   pub why : All SaysWhy told
 
 -- the sink took all of a text; or it failed, and took a beginning
-pub record Served {A : Type 0} (old new : Option (List ℕ)) (f g : ℕ) (result : Result A Refusal) (text : List ℕ) : Type 0 where
+pub record Served {A : Type 0} (old new : Option (List ℕ)) (f g : ℕ) (result : Result A Refusal) (text : List ℕ)
+    : Type 0 where
   pub whole : OnOk result (Took old new text × (g ≡ f))
   pub part : IfErr result (λ e. (e ≡ refusal.Output) × TookBeginning old new text × Raised f g)
 

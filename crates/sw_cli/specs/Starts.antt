@@ -12,13 +12,13 @@ use Rattle.sw_cli.specs.Outcomes.{Outcome}
 use Rattle.sw_cli.specs.Run.{AllAnswered, Began, Leaves, Start, TellsAll, out_of, script_of, start_of}
 use Rattle.sw_cli.specs.Script.{AreBlocks}
 use Rattle.sw_cli.specs.Sides.{FailedInTurn, IsUntouched, SinkFailed, SinkHeld, SinkSeen, SourceFailed, SourceSeen}
-use Rattle.sw_cli.specs.declared.start.Opened.{Opened}
+use Rattle.sw_cli.specs.declared.start.Inputs.{Inputs}
 
-abbrev pub start_seen : Opened → Start
+abbrev pub start_seen : Inputs → Start
 start_seen o = record { columns = o.schema; rows = o.rows.items; blocks = o.blocks.items; cuts = o.cuts }
 
--- one to eight attributes, rows within the limit with the keys 1, 2, 3 and so on, blocks of calls on the attributes of the
--- table, which are not too many, and cuts that rise, at most 15 of an attribute
+-- one to eight attributes, rows within the limit with the keys 1, 2, 3 and so on, blocks of calls on the attributes of
+-- the table, which are not too many, and cuts that rise, at most 15 of an attribute
 pub record IsStart (limit : ℕ) (s : Start) : Type 0 where
   pub wide : length s.columns ≤ 8
   pub some : 0 < length s.columns
@@ -51,7 +51,7 @@ ReadsScript columns s view result =
     IfSome s.left (λ bytes. ReadsFrom (SourceFailed s) view result (script_of columns bytes))
 
 -- what is answered of the sources of table and script: the start that their bytes spell
-abbrev pub ReadsStart : ℕ → List ℕ → SourceSeen → SourceSeen → Result Opened Refusal → Type 0
+abbrev pub ReadsStart : ℕ → List ℕ → SourceSeen → SourceSeen → Result Inputs Refusal → Type 0
 ReadsStart limit cuts t s result =
     IfBoth t.left s.left (λ a b. ReadsFrom (FailedInTurn t s a) start_seen result (start_of limit cuts a b))
 
@@ -82,19 +82,25 @@ Goes limit s w (Err refusal.NoMemory) = IsUntouched w
 Goes limit s w (Err refusal.Output) = Began limit s w.taken_before w.taken_after × SinkFailed w
 Goes limit s w (Err e) = ⊥
 
--- What a run answers: a record of the calls that the bytes spell, each with its outcome, whose lines the sink took; or a
--- refusal of the sink, which took a beginning of such lines; or, before any call, the refusal of what the bytes spell.
-abbrev pub Ran : Type 0 → ℕ → List ℕ → List ℕ → List ℕ → Option (List ℕ) → Option (List ℕ) → Result History Refusal → Type 0
-Ran I limit cuts table script old new (Ok h) = (s : Start) × (start_of limit cuts table script ≡ Ok s) × LeavesSome limit s old new h
-Ran I limit cuts table script old new (Err refusal.Output) = (s : Start) × (start_of limit cuts table script ≡ Ok s) × Began limit s old new
+-- What a run answers: a record of the calls that the bytes spell, each with its outcome, whose lines the sink took; or
+-- a refusal of the sink, which took a beginning of such lines; or, before any call, the refusal of what the bytes
+-- spell.
+abbrev pub Ran :
+    Type 0 → ℕ → List ℕ → List ℕ → List ℕ → Option (List ℕ) → Option (List ℕ) → Result History Refusal → Type 0
+Ran I limit cuts table script old new (Ok h) =
+    (s : Start) × (start_of limit cuts table script ≡ Ok s) × LeavesSome limit s old new h
+Ran I limit cuts table script old new (Err refusal.Output) =
+    (s : Start) × (start_of limit cuts table script ≡ Ok s) × Began limit s old new
 Ran I limit cuts table script old new (Err e) = RefusedFrom I e (start_of limit cuts table script)
 
--- where each session has an answered call for each call of its block, the record has the calls of the blocks, and the sink
--- took the lines of their replies
+-- where each session has an answered call for each call of its block, the record has the calls of the blocks, and the
+-- sink took the lines of their replies
 abbrev pub TellsWhere : ℕ → List ℕ → List ℕ → List ℕ → Option (List ℕ) → Option (List ℕ) → History → Type 0
-TellsWhere limit cuts table script old new h = (s : Start) → start_of limit cuts table script ≡ Ok s → AllAnswered s.blocks h → TellsAll s old new h
+TellsWhere limit cuts table script old new h =
+    (s : Start) → start_of limit cuts table script ≡ Ok s → AllAnswered s.blocks h → TellsAll s old new h
 
 -- and where the script has one block, the lines are those of the plain table's replies, and nothing else
 abbrev pub WritesOut : ℕ → List ℕ → List ℕ → List ℕ → Option (List ℕ) → Option (List ℕ) → History → Type 0
 WritesOut limit cuts table script old new h =
-    (s : Start) (calls : List Call) → start_of limit cuts table script ≡ Ok s → s.blocks ≡ calls ∷ [] → AllAnswered s.blocks h → Took old new (out_of limit s calls)
+    (s : Start) (calls : List Call) → start_of limit cuts table script ≡ Ok s → s.blocks ≡ calls ∷ []
+    → AllAnswered s.blocks h → Took old new (out_of limit s calls)

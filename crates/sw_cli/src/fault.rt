@@ -23,7 +23,7 @@ pub fn status(refusal: &Refusal) -> u8
     }
 }
 
-// A number after its label.
+/// A number after its label.
 pub(crate) fn write_labelled<W: Sink>(label: &[u8], number: u64, out: &mut W) -> Result<(), Refusal>
     ensures { Writes (W.taken out.old) (W.taken out.new) (W.failed out.old) (W.failed out.new) result
         (labelled label.now number) }
@@ -32,7 +32,7 @@ pub(crate) fn write_labelled<W: Sink>(label: &[u8], number: u64, out: &mut W) ->
     write_number(number, out)
 }
 
-// Two numbers, each after its label.
+/// Two numbers, each after its label.
 pub(crate) fn write_pair<W: Sink>(
     label: &[u8],
     number: u64,
@@ -94,7 +94,7 @@ fn write_short<W: Sink>(used: u64, want: u64, capacity: u64, out: &mut W) -> Res
     write_pair(b" want ", want, b" capacity ", capacity, out)
 }
 
-// The number of a refusal and its fields.
+/// The number of a refusal and its fields.
 fn write_text<W: Sink>(refusal: &Refusal, out: &mut W) -> Result<(), Refusal>
     ensures { Writes (W.taken out.old) (W.taken out.new) (W.failed out.old) (W.failed out.new) result
         (refusal_text refusal.now) }

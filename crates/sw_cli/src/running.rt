@@ -16,7 +16,7 @@ use crate::buffered::{Base, Buffered, block};
 use crate::ended::Ended;
 use crate::looking_on::{Nobody, Onlooker};
 use crate::serving::serve;
-use crate::start::{Opened, read_start};
+use crate::start::{Inputs, read_start};
 use core::mem::replace_with;
 use left_right::Absorb;
 use std::alloc::Global;
@@ -79,7 +79,7 @@ fn make_with<J: Naming + Send + Sync, M: CrackerMap, O: Onlooker, R: Threads + W
     rt: &R,
     alloc: Global,
     books: Blank,
-    opened: Opened,
+    opened: Inputs,
     options: &Options<'_>,
     maps: Vec<M>,
     stats: &mut Vec<HeadStats>,
@@ -100,7 +100,7 @@ where
     ensures record_is { IfOk result (λ j. IsRecordOf J.columns J.opening J.limit (told_in j.ended) j.ended.history) }
     ensures refused { IsOkUnless result NoMemory }
 {
-    let Opened {
+    let Inputs {
         schema,
         rows,
         blocks,
@@ -141,7 +141,7 @@ fn make<J: Naming + Send + Sync, M: CrackerMap, O: Onlooker, R: Threads + Wait +
     rt: &R,
     alloc: Global,
     books: Blank,
-    opened: Opened,
+    opened: Inputs,
     options: &Options<'_>,
     maps: Vec<M>,
     stats: &mut Vec<HeadStats>,
@@ -163,10 +163,10 @@ fn make<J: Naming + Send + Sync, M: CrackerMap, O: Onlooker, R: Threads + Wait +
 }
 
 /// Makes the blocks of a run that was opened, and writes what came of them.
-fn begin<M: CrackerMap, O: Onlooker, R: Threads + Wait + Sync, W: Sink>(
+fn make_and_write<M: CrackerMap, O: Onlooker, R: Threads + Wait + Sync, W: Sink>(
     rt: &R,
     alloc: Global,
-    opened: Opened,
+    opened: Inputs,
     options: &Options<'_>,
     maps: Vec<M>,
     out: &mut W,
@@ -257,7 +257,7 @@ pub fn run_told<
         (sink_seen (W.taken out.old) (W.taken out.new) (W.failed out.old) (W.failed out.new)) result }
 {
     match read_start(rt, alloc, table, script, options.cuts, options.limit) {
-        Ok(opened) => begin(rt, alloc, opened, options, maps, out, stats, onlooker),
+        Ok(opened) => make_and_write(rt, alloc, opened, options, maps, out, stats, onlooker),
         Err(e) => Err(e),
     }
 }

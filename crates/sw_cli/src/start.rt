@@ -17,7 +17,7 @@ use sw_rows::{MOST_BYTES, PackedRows, Refusal, Schema, Source, load_in_parts, re
 
 /// A table, a script and cuts that were read.
 #[derive(Drop)]
-pub(crate) struct Opened {
+pub(crate) struct Inputs {
     pub(crate) schema: Schema,
     pub(crate) rows: PackedRows,
     pub(crate) blocks: Vec<Block>,
@@ -62,7 +62,7 @@ pub(crate) fn read_start<R: Threads + Sync, T: Source, S: Source>(
     script: &mut S,
     cuts: &str,
     limit: u64,
-) -> Result<Opened, Refusal>
+) -> Result<Inputs, Refusal>
     ensures spelled { ReadsStart limit cuts.now
         (source_seen (T.left table.old) (T.failed table.old) (T.failed table.new))
         (source_seen (S.left script.old) (S.failed script.old) (S.failed script.new)) result }
@@ -89,7 +89,7 @@ pub(crate) fn read_start<R: Threads + Sync, T: Source, S: Source>(
     if rows.len() as u64 > limit {
         return Err(Refusal::TooMany { limit });
     }
-    Ok(Opened {
+    Ok(Inputs {
         schema,
         rows,
         blocks,

@@ -57,9 +57,10 @@ pub record IsOf (columns : List Column) (rows : List Row) (limit : ℕ) (s : Boo
   pub rows_are : s.rows ≡ rows
   pub limit_is : s.limit ≡ limit
 
--- the books have these names, one row was opened for each session, and both are tied to the spine, which began from this table;
--- no session's row is ahead of what is published
-pub record IsDesk (sessions_name heads_name : ℕ) (columns : List Column) (rows : List Row) (limit : ℕ) (s : Books) (many : ℕ) (sessions heads : Book Books) : Type 0 where
+-- the books have these names, one row was opened for each session, and both are tied to the spine, which began from
+-- this table; no session's row is ahead of what is published
+pub record IsDesk (sessions_name heads_name : ℕ) (columns : List Column) (rows : List Row) (limit : ℕ)
+    (s : Books) (many : ℕ) (sessions heads : Book Books) : Type 0 where
   pub sessions_named : sessions.name ≡ sessions_name
   pub heads_named : heads.name ≡ heads_name
   pub many_are : many ≡ length sessions.rows
@@ -73,7 +74,8 @@ IsShareOf name session share = (share.name ≡ name) × (session ≡ share.numbe
 
 -- and the session waits for nothing
 abbrev pub IsAtRest : ℕ → ℕ → Share Books → Type 0
-IsAtRest name session share = (share.name ≡ name) × (session ≡ share.number + 1) × (waits_for session share.value ≡ None)
+IsAtRest name session share =
+    (share.name ≡ name) × (session ≡ share.number + 1) × (waits_for session share.value ≡ None)
 
 -- what a head has received: the opening rows, before it is made
 abbrev pub received_by : List Row → Option HeadState → List Update
@@ -85,8 +87,8 @@ abbrev pub held_by : Option HeadState → ℕ
 held_by None = 0
 held_by (Some h) = boxes_in h.areas
 
--- What a latch shows: all updates that were taken for its head, the opening rows first; whether the head is made; how many
--- blank boxes wait for it; and how many it has.
+-- What a latch shows: all updates that were taken for its head, the opening rows first; whether the head is made; how
+-- many blank boxes wait for it; and how many it has.
 pub record LatchState : Type 0 where
   pub taken : List Update
   pub made : Bool
@@ -94,11 +96,17 @@ pub record LatchState : Type 0 where
   pub held : ℕ
 
 abbrev pub latched : List Row → Option HeadState → List Update → ℕ → LatchState
-latched opening head inbox waiting = record { taken = received_by opening head ++ inbox; made = is_some head; waiting = waiting; held = held_by head }
+latched opening head inbox waiting = record {
+  taken = received_by opening head ++ inbox;
+  made = is_some head;
+  waiting = waiting;
+  held = held_by head;
+}
 
--- What was taken for a head of this number is what its share shows; the head, once it is made, is of that attribute, and may
--- receive what waits.
-pub record IsLatched (heads_name limit : ℕ) (columns : List Column) (opening : List Row) (number : ℕ) (head : Option HeadState) (inbox : List Update) (share : Share Books) : Type 0 where
+-- What was taken for a head of this number is what its share shows; the head, once it is made, is of that attribute,
+-- and may receive what waits.
+pub record IsLatched (heads_name limit : ℕ) (columns : List Column) (opening : List Row) (number : ℕ)
+    (head : Option HeadState) (inbox : List Update) (share : Share Books) : Type 0 where
   pub named : share.name ≡ heads_name
   pub number_is : share.number ≡ number
   pub taken : received_by opening head ++ inbox ≡ took number share.value
@@ -157,7 +165,8 @@ TooManySessions other = ⊥
 -- these tickets came back one after the other, each for the first time; the sessions' numbers begin at 1
 abbrev pub AreGiven : {X : Type 0} → List (ℕ × X) → List Bool → List Bool → Type 0
 AreGiven [] before after = before ≡ after
-AreGiven (t ∷ ts) before after = (n : ℕ) × (t.0 ≡ n + 1) × (slice_get before n ≡ Some false) × AreGiven ts (set before n true) after
+AreGiven (t ∷ ts) before after =
+    (n : ℕ) × (t.0 ≡ n + 1) × (slice_get before n ≡ Some false) × AreGiven ts (set before n true) after
 
 -- one of these tickets has the number
 abbrev pub IsNamed : {X : Type 0} → ℕ → List (ℕ × X) → Type 0
@@ -176,7 +185,8 @@ AreCounted n (k ∷ ks) = (k ≡ n) × AreCounted (n + 1) ks
 
 -- why an engine is not closed: as many tickets as came back, and another number of sessions
 abbrev pub RefusesClose : {X : Type 0} → List X → List X → Refusal → Type 0
-RefusesClose given back e = (back ≡ given) × (made : ℕ) × (e ≡ refusal.SharesOut made (length given)) × (made ≢ length given)
+RefusesClose given back e =
+    (back ≡ given) × (made : ℕ) × (e ≡ refusal.SharesOut made (length given)) × (made ≢ length given)
 
 -- why tickets are refused to so many sessions
 abbrev pub RefusesMany : ℕ → Refusal → Type 0
@@ -187,5 +197,6 @@ RefusesMany sessions other = ⊥
 -- why no engine is opened with the tickets of so many sessions
 abbrev pub RefusesOpening : ℕ → List Row → ℕ → Refusal → Type 0
 RefusesOpening limit rows sessions refusal.NoMemory = length rows ≤ limit
-RefusesOpening limit rows sessions (refusal.TooMany most) = ((limit < length rows) × (most ≡ limit)) ⊎ ((1024 < sessions) × (most ≡ 1024))
+RefusesOpening limit rows sessions (refusal.TooMany most) =
+    ((limit < length rows) × (most ≡ limit)) ⊎ ((1024 < sessions) × (most ≡ 1024))
 RefusesOpening limit rows sessions other = ⊥

@@ -1,14 +1,15 @@
 -- The headline, as a claim of the record that `close` answers.
 --
 -- Whatever selects, inserts and deletes any number of sessions make from their threads, however maps are made, aligned,
--- cracked, cleared and dropped meanwhile, the history that the engine keeps is the history of one thread over a plain list of
--- rows: every answered call stands in it once, in its session's order, with the reply that was given and that the list gives
--- there.
+-- cracked, cleared and dropped meanwhile, the history that the engine keeps is the history of one thread over a plain
+-- list of rows: every answered call stands in it once, in its session's order, with the reply that was given and that
+-- the list gives there.
 --
--- Premises: all sessions have ended, and their tickets, which are this engine's by their type, are handed to `close`; the calls
--- are those that returned; the maps handed in keep the contract of `CrackerMap`. A ticket shows its session's number and the
--- calls that were answered to it, each with the reply that was given, in the order made: `select`, `insert` and `delete`, where
--- they answer, make that list longer by just the call and the reply, and where they are refused leave it.
+-- Premises: all sessions have ended, and their tickets, which are this engine's by their type, are handed to `close`;
+-- the calls are those that returned; the maps handed in keep the contract of `CrackerMap`. A ticket shows its session's
+-- number and the calls that were answered to it, each with the reply that was given, in the order made: `select`,
+-- `insert` and `delete`, where they answer, make that list longer by just the call and the reply, and where they are
+-- refused leave it.
 use Rattle.std.specs.Prelude.{ℕ, ◌≡◌, ◌⊎◌, List, true, All}
 use Rattle.sw_rows.specs.Header.{Column}
 use Rattle.sw_table.specs.declared.row.Row.{Row}
@@ -18,7 +19,8 @@ use Rattle.sw_spine.specs.History.{History, IsLegal, all_given, is_absent, mine}
 use Rattle.sw_spine.specs.Rest.{none_open}
 use Rattle.sw_engine.specs.Desk.{IsNamed}
 
-pub record IsHistoryOfOneThread (columns : List Column) (rows : List Row) (limit : ℕ) (tickets : List (ℕ × List (Call × Reply))) (h : History) : Type 0 where
+pub record IsHistoryOfOneThread (columns : List Column) (rows : List Row) (limit : ℕ)
+    (tickets : List (ℕ × List (Call × Reply))) (h : History) : Type 0 where
   -- it begins from the attributes, the opening rows and the limit of `open`
   pub columns_are : h.columns ≡ columns
   pub rows_are : h.rows ≡ rows

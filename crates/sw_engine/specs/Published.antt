@@ -26,10 +26,12 @@ published_of opening b = drop (length opening) (take b.published (updates b))
 
 -- what each row of the sessions' book shows as published begins what is published
 abbrev pub AreBehind : List Row → Books → List (Books × Bool) → Type 0
-AreBehind opening s rows = (k : ℕ) (r : Books × Bool) → slice_get rows k ≡ Some r → IsPrefix (published_of opening r.0) (published_of opening s)
+AreBehind opening s rows =
+    (k : ℕ) (r : Books × Bool) → slice_get rows k ≡ Some r
+    → IsPrefix (published_of opening r.0) (published_of opening s)
 
--- what stands in the book of updates, and what is published, begins the updates after the opening rows; and the spine has the
--- number of those that are published
+-- what stands in the book of updates, and what is published, begins the updates after the opening rows; and the spine
+-- has the number of those that are published
 pub record IsShelfOf (opening : List Row) (b : Books) (s : Shelved) : Type 0 where
   pub booked : IsPrefix s.booked (later opening b)
   pub published : IsPrefix s.published (later opening b)
@@ -68,8 +70,8 @@ pub record Receipted : Type 0 where
   pub given : List Update
   pub published : List Update
 
--- an insert, a delete or a meeting that is answered gives the receipt of what is published then, which begins with the one before;
--- refused, the receipt stays
+-- an insert, a delete or a meeting that is answered gives the receipt of what is published then, which begins with the
+-- one before; refused, the receipt stays
 abbrev pub GivesReceipt : {A E : Type 0} → Result A E → Receipted → Receipted → Type 0
 GivesReceipt told old new =
     MatchResult told (λ _. (new.given ≡ new.published) × IsPrefix old.given new.given) (λ _. new.given ≡ old.given)
@@ -80,7 +82,8 @@ CallGives (call.Select q) told old new = new.given ≡ old.given
 CallGives (call.Insert cells) told old new = GivesReceipt told old new
 CallGives (call.Delete key) told old new = GivesReceipt told old new
 
--- the session's share waits for nothing, and what the session has the receipt of begins what the share shows as published
+-- the session's share waits for nothing, and what the session has the receipt of begins what the share shows as
+-- published
 abbrev pub IsHeld : ℕ → List Row → ℕ → Share Books → List Update → Type 0
 IsHeld name opening session share receipt =
     (share.name ≡ name) × (session ≡ share.number + 1) × (waits_for session share.value ≡ None)

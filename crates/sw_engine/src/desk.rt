@@ -303,7 +303,8 @@ impl<J: Naming> Desk<J> {
         Ok(reply)
     }
 
-    /// So many of the updates are published, the opening rows counted, and the session's share shows it. Nothing else changes.
+    /// So many of the updates are published, the opening rows counted, and the session's share shows it. Nothing else
+    /// changes.
     pub fn publish(&mut self, number: u64, share: &mut Share<Spine>, count: u64)
         requires rest { IsAtRest J.sessions number share.old }
         requires low { self.old.books.published ≤ count }

@@ -53,8 +53,8 @@ fn pause(long: usize) {
     }
 }
 
-/// What lies under a lock. It is tried for a while before the thread sleeps for it, since most others hold it for less time than
-/// a sleep takes.
+/// What lies under a lock. It is tried for a while before the thread sleeps for it, since most others hold it for less
+/// time than a sleep takes.
 fn take<'l, T, R: Wait>(rt: &R, lock: &'l Mutex<T>, long: usize) -> MutexGuard<'l, T> {
     for _ in 0..TRIES {
         if let Some(guard) = lock.try_lock() {
@@ -111,9 +111,9 @@ where
 {
     /// An engine over opening rows, with no session. No head is made.
     ///
-    /// Refused `TooMany` of the limit where there are more rows, `NoMemory` otherwise. The caller's conditions: the limit is
-    /// 1 to 1,048,576, the rows have the keys 1, 2, 3 and so on, and the cuts are lawful: a list for each attribute, of at most
-    /// 15 values that rise.
+    /// Refused `TooMany` of the limit where there are more rows, `NoMemory` otherwise. The caller's conditions: the
+    /// limit is 1 to 1,048,576, the rows have the keys 1, 2, 3 and so on, and the cuts are lawful: a list for each
+    /// attribute, of at most 15 values that rise.
     pub fn open(
         alloc: Global,
         books: Blank,
@@ -220,11 +220,11 @@ where
         })
     }
 
-    /// A viewer, which has learnt what is published. Until the first one there are no copies of the rows for viewers, and calls do
-    /// no work for them.
+    /// A viewer, which has learnt what is published. Until the first one there are no copies of the rows for viewers,
+    /// and calls do no work for them.
     ///
-    /// Refused `NoMemory`, or `TooMany` of limit 16, where that many were ever opened or no place for a reader was got; a refused
-    /// one opened none.
+    /// Refused `NoMemory`, or `TooMany` of limit 16, where that many were ever opened or no place for a reader was got;
+    /// a refused one opened none.
     pub fn viewer<R: Wait>(&self, rt: &R) -> Result<Viewer<'_, J>, Refusal>
         ensures opened { IfOk result (λ v. v.seen ≡ v.told) }
         ensures refused { IfErr result RefusesViewing }
@@ -239,8 +239,8 @@ where
     /// Ends the engine where as many tickets come back as sessions were made: the record is the history of one thread over a
     /// plain list of rows, and each session's answered entries are the calls that were answered to it.
     ///
-    /// Refused `SharesOut` with both numbers otherwise; then the engine and the tickets come back, and it has waited for nobody.
-    /// It takes no memory. Where it is not refused it ends the writer of the copies; no viewer is left
+    /// Refused `SharesOut` with both numbers otherwise; then the engine and the tickets come back, and it has waited
+    /// for nobody. It takes no memory. Where it is not refused it ends the writer of the copies; no viewer is left
     /// then, by their types.
     pub fn close<R: Wait>(
         self,
@@ -350,8 +350,8 @@ where
         }
     }
 
-    /// A copy of the opening rows, made in visits of `PART` rows, so that others visit between them and memory that is written for
-    /// the first time is not written under the lock. Refused `NoMemory` alone.
+    /// A copy of the opening rows, made in visits of `PART` rows, so that others visit between them and memory that is
+    /// written for the first time is not written under the lock. Refused `NoMemory` alone.
     #[tactic(auto, using(crate::proofs::Parts::taken_whole, crate::proofs::Parts::taken_again))]
     fn opening_rows<R: Wait>(&self, rt: &R) -> Result<PackedRows, Refusal>
         ensures { MatchResult result (λ rows. rows.items ≡ J.opening) (λ e. e ≡ NoMemory) }
@@ -458,8 +458,8 @@ where
     }
 }
 
-/// A session. Contracts see its number, the calls that were answered to it, and the list of updates that it has the receipt of,
-/// beside the one that its share shows as published.
+/// A session. Contracts see its number, the calls that were answered to it, and the list of updates that it has the
+/// receipt of, beside the one that its share shows as published.
 #[derive(Drop)]
 pub struct Session<'e, J: Naming, M: CrackerMap>
 where
@@ -564,8 +564,8 @@ where
         }
     }
 
-    /// The receipt of the list that was published when the session was opened, or at its last insert, delete or meeting that was
-    /// answered. Each begins with the one before. It takes no memory, and waits for nobody.
+    /// The receipt of the list that was published when the session was opened, or at its last insert, delete or meeting
+    /// that was answered. Each begins with the one before. It takes no memory, and waits for nobody.
     pub fn receipt(&self) -> Receipt<J>
         ensures { result ≡ self.now.2.given }
     {

@@ -72,8 +72,8 @@ fn receive_all<M: CrackerMap>(head: &mut Head<M>, inbox: &mut Vec<Update>) -> Re
 /// A head, once it is made, the boxes that wait for it, and the updates that were taken for it and that it has not
 /// received.
 ///
-/// Contracts see all that was taken for it, the opening rows first, whether the head is made, and how many boxes wait for it and
-/// how many it has.
+/// Contracts see all that was taken for it, the opening rows first, whether the head is made, and how many boxes wait
+/// for it and how many it has.
 #[derive(Drop)]
 pub struct LatchedHead<J: Naming, M: CrackerMap> {
     pub(crate) number: usize,
@@ -103,8 +103,8 @@ impl<J: Naming, M: CrackerMap> LatchedHead<J, M> {
         self.head.is_some()
     }
 
-    /// Makes the head from the opening rows, a copy of which it takes over, if it was never asked. Refused `NoMemory` alone, and
-    /// then nothing has changed.
+    /// Makes the head from the opening rows, a copy of which it takes over, if it was never asked. Refused `NoMemory`
+    /// alone, and then nothing has changed.
     #[tactic(auto, using(crate::proofs::Heads::made_latch, crate::proofs::Heads::same_latch))]
     pub fn make(
         &mut self,
@@ -125,8 +125,8 @@ impl<J: Naming, M: CrackerMap> LatchedHead<J, M> {
         Ok(())
     }
 
-    /// Gives the head the boxes that wait for it, those first that came first. Refused `NoMemory` alone, the rest wait on: none
-    /// is lost.
+    /// Gives the head the boxes that wait for it, those first that came first. Refused `NoMemory` alone, the rest wait
+    /// on: none is lost.
     pub fn hand_over(&mut self) -> Result<(), Refusal>
         requires { self.old.made ≡ true }
         ensures same { IsSameButBoxes self.old self.new }
@@ -201,8 +201,8 @@ impl<J: Naming, M: CrackerMap> LatchedHead<J, M> {
         }
     }
 
-    /// Takes a blank box, which waits until the head is asked. Refused `NoMemory`, nothing has changed, and that very box comes
-    /// back.
+    /// Takes a blank box, which waits until the head is asked. Refused `NoMemory`, nothing has changed, and that very
+    /// box comes back.
     pub fn supply(&mut self, it: M) -> Result<(), (M, Refusal)>
         requires { M.held it ≡ blank }
         ensures kept { OnOk result (self.new ≡ record self.old { waiting = self.old.waiting + 1 }) }

@@ -27,8 +27,8 @@ use sw_spine::Spine;
 use sw_tie::Share;
 use sw_versions::{Book, Front, Live, Naming, Op, Opened, Shelf, Viewer, WhileRead};
 
-/// The desk, and the shelf of what viewers read, with the book of its updates. Until there is a viewer the shelf has no copies of
-/// the rows.
+/// The desk, and the shelf of what viewers read, with the book of its updates. Until there is a viewer the shelf has no
+/// copies of the rows.
 #[derive(Drop)]
 pub struct LockedDesk<J: Naming>
 where
@@ -261,8 +261,8 @@ where
 
     /// A viewer, which has learnt what is published. The first one has the two copies of the rows made.
     ///
-    /// Refused `NoMemory` where there is no memory for them, and `TooMany` of limit 16 where that many viewers were ever opened,
-    /// or no place for a reader was got; then nothing has changed.
+    /// Refused `NoMemory` where there is no memory for them, and `TooMany` of limit 16 where that many viewers were
+    /// ever opened, or no place for a reader was got; then nothing has changed.
     pub fn viewer(&mut self) -> Result<Viewer<J>, Refusal>
         ensures few { OnOk result (self.old.shelf.viewers < MOST_VIEWERS) }
         ensures opened { IfOk result (λ v. v ≡ new_viewer self.old.shelf) }

@@ -14,8 +14,8 @@ use sw_map::CrackerMap;
 use sw_rows::{PackedRows, Refusal};
 use sw_versions::Naming;
 
-/// The cuts of each head. No lock lies over them, since they never change. The opening rows, over which heads are made, lie with
-/// the spine.
+/// The cuts of each head. No lock lies over them, since they never change. The opening rows, over which heads are made,
+/// lie with the spine.
 #[derive(Drop)]
 pub struct Opening<J: Naming> {
     cuts: Cuts,

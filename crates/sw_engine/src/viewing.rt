@@ -33,11 +33,11 @@ impl<'e, J: Naming> Model for Viewer<'e, J> {
 }
 
 impl<'e, J: Naming> Viewer<'e, J> {
-    /// What a query is answered over the rows of the list that is then seen, which begins with all that was seen before and with
-    /// all that was told: the reply of the plain table there. It takes memory for a list of rows alone.
+    /// What a query is answered over the rows of the list that is then seen, which begins with all that was seen before
+    /// and with all that was told: the reply of the plain table there. It takes memory for a list of rows alone.
     ///
-    /// Refused `NoMemory`, or `TooMany` of limit 16 where its reader has no place any more; after a refusal it has seen and was
-    /// told what it had. The caller's condition: attributes are below 8.
+    /// Refused `NoMemory`, or `TooMany` of limit 16 where its reader has no place any more; after a refusal it has seen
+    /// and was told what it had. The caller's condition: attributes are below 8.
     pub fn answer(&mut self, query: &Query) -> Result<Reply, Refusal>
         requires { AsksBelow 8 query.now }
         ensures answered { IfOk result (λ r. r ≡ answer_after J.limit J.opening self.new.seen query.now) }

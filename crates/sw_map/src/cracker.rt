@@ -75,8 +75,9 @@ pub trait CrackerMap: Send + Drop {
         requires { held self.old ≡ blank }
         ensures { HasBegunOr result head tail cells (held self.new) };
 
-    /// Grows the lease of a map in use to so many cells, more than it has, and answers `true`; all else is as it was. A map that
-    /// does not grow in place answers `false`, and nothing has changed. It is refused what `begin` is, and is then blank.
+    /// Grows the lease of a map in use to so many cells, more than it has, and answers `true`; all else is as it was. A
+    /// map that does not grow in place answers `false`, and nothing has changed. It is refused what `begin` is, and is
+    /// then blank.
     fn grow(&mut self, cells: u64) -> Result<bool, Refusal>
         requires begun { (held self.old).is_blank ≡ false }
         requires more { (held self.old).cells < cells }

@@ -103,8 +103,8 @@ impl Home {
         }
     }
 
-    /// Gives the lease back and takes one of more cells, and keeps all that the map has. Where it is refused it is blank, with its
-    /// purse.
+    /// Gives the lease back and takes one of more cells, and keeps all that the map has. Where it is refused it is
+    /// blank, with its purse.
     pub(crate) fn grow(self, cells: u64) -> (Home, Result<bool, Refusal>)
         requires begun { (held_by self).is_blank ≡ false }
         requires more { (held_by self).cells < cells }

@@ -108,8 +108,8 @@ fn append_tails(values: &mut Vec<i64>, tail: Tail, rows: &PackedRows)
     }
 }
 
-/// Makes room for so many values in all, by the allocator's own reallocation. It is refused `NoMemory` alone, and then nothing
-/// has changed.
+/// Makes room for so many values in all, by the allocator's own reallocation. It is refused `NoMemory` alone, and then
+/// nothing has changed.
 fn make_room(values: &mut Vec<i64>, room: usize) -> Result<(), Refusal>
     requires { vec_capacity values.old ≤ room }
     ensures items { values.new.items ≡ values.old.items }

@@ -21,7 +21,7 @@ fn is_same(one: Bound, other: Bound) -> bool
     }
 }
 
-/// How many marks do not stand above the bound, by binary search.
+/// How many marks do not stand above the bound.
 pub(crate) fn marks_below(marks: &[Mark], bound: Bound) -> usize
     requires { IsRising (bounds_of marks.now) }
     ensures below { result ≡ marks_below marks.now bound }

@@ -3,7 +3,7 @@ use Rattle.std.proofs.Common.{◌≡◌, ℕ, ◌<◌, false, List, length, get_
 use Rattle.std.proofs.lemmas.List.{length-map}
 use Rattle.sw_map.specs.declared.tail.Tail.{Tail}
 use Rattle.sw_map.specs.Held.{Held}
-use Rattle.sw_set.specs.Boxed.{IsSpare}
+use Rattle.sw_set.specs.Boxed.{IsFree}
 use Rattle.sw_set.proofs.Boxes.{held-at, held-all}
 
 pub some-at : {X : Type 0} (h : X → Held) (P : Held → Type 0) (ys : List X) (ms : List Held) (i : ℕ) → map h ys ≡ ms → i < length ys → ((d : X) → P (h (get_or ys i d))) → (i < length ms) × ((d : Held) → P (get_or ms i d))
@@ -20,6 +20,6 @@ pub look : {X : Type 0} (h : X → Held) (N P : Held → Type 0) (r : Option ℕ
 look h N P None ys ms is w = all-of h N ys ms is w
 look h N P (Some i) ys ms is w = some-at h P ys ms i is w.0 w.1
 
-pub look-spare : {X : Type 0} (h : X → Held) (tails : List Tail) (r : Option ℕ) (ys : List X) (ms : List Held) → map h ys ≡ ms → All (λ m. (h m).is_blank ≡ false) ys → MatchOption r (All (λ m. Contains tails (h m).tail) ys) (λ i. (i < length ys) × ((d : X) → ¬ Contains tails (h (get_or ys i d)).tail)) → MatchOption r (All (λ m. (m.is_blank ≡ false) × Contains tails m.tail) ms) (λ i. (i < length ms) × ((d : Held) → IsSpare tails (get_or ms i d)))
-look-spare h tails None ys ms is b w = all-of h (λ m. (m.is_blank ≡ false) × Contains tails m.tail) ys ms is (λ k d l. (b k d l, w k d l))
-look-spare h tails (Some i) ys ms is b w = some-at h (IsSpare tails) ys ms i is w.0 (λ d _. w.1 d)
+pub look-free : {X : Type 0} (h : X → Held) (tails : List Tail) (r : Option ℕ) (ys : List X) (ms : List Held) → map h ys ≡ ms → All (λ m. (h m).is_blank ≡ false) ys → MatchOption r (All (λ m. Contains tails (h m).tail) ys) (λ i. (i < length ys) × ((d : X) → ¬ Contains tails (h (get_or ys i d)).tail)) → MatchOption r (All (λ m. (m.is_blank ≡ false) × Contains tails m.tail) ms) (λ i. (i < length ms) × ((d : Held) → IsFree tails (get_or ms i d)))
+look-free h tails None ys ms is b w = all-of h (λ m. (m.is_blank ≡ false) × Contains tails m.tail) ys ms is (λ k d l. (b k d l, w k d l))
+look-free h tails (Some i) ys ms is b w = some-at h (IsFree tails) ys ms i is w.0 (λ d _. w.1 d)

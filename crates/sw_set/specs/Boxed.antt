@@ -23,8 +23,8 @@ abbrev pub HasGrownAt : Result Bool Refusal → ℕ → ℕ → AreaState → Ar
 HasGrownAt r at cells x y = (m : Held) × HasGrownOr r cells (slice_index_or x.boxes at blank) m × (y ≡ with_box at m x)
 
 -- the box may be taken for a map that the tails lack
-abbrev pub IsSpare : List Tail → Held → Type 0
-IsSpare tails m = m.is_blank ≡ false → ¬ Contains tails m.tail
+abbrev pub IsFree : List Tail → Held → Type 0
+IsFree tails m = m.is_blank ≡ false → ¬ Contains tails m.tail
 
 -- no box but the one at a place has a map of the tail
 unfoldable pub IsFreshBut : ℕ → Tail → List Held → Type 0

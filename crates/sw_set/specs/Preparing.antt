@@ -10,7 +10,7 @@ use Rattle.sw_map.specs.Held.{Held}
 use Rattle.sw_map.specs.Refusals.{IsBeginRefusal}
 use Rattle.sw_set.specs.declared.prepare.Ready.{Ready}
 use Rattle.sw_set.specs.Prepared.{IsBegunFor, IsNoted, IsNotedFor, IsPartlyNoted, IsPrepareRefusal, IsPrepared, IsPreparedFor, IsWhyUnprepared, cells_for}
-use Rattle.sw_set.specs.Boxed.{IsHeld, IsSpare}
+use Rattle.sw_set.specs.Boxed.{IsFree, IsHeld}
 use Rattle.sw_set.specs.Shelf.{AreaState, tape_rows}
 use Rattle.sw_set.specs.Sought.{IsAt}
 
@@ -38,10 +38,10 @@ abbrev pub HasMapOr : {A : Type 0} → Result A Refusal → Tail → ℕ → Lis
 HasMapOr r tail cells ms = MatchResult r (λ _. IsHeld tail cells ms) (IsBeginRefusal cells)
 
 -- a place of a box that may be taken; or the boxes are fewer than the tails, and both numbers are told
-abbrev pub HasSpareOr : Result ℕ Refusal → List Tail → List Held → Type 0
-HasSpareOr r tails ms =
+abbrev pub HasFreeOr : Result ℕ Refusal → List Tail → List Held → Type 0
+HasFreeOr r tails ms =
     MatchResult r
-    (IsAt (IsSpare tails) ms)
+    (IsAt (IsFree tails) ms)
     (λ e. (e ≡ NoBlank (length ms) (length tails)) × (length ms < length tails))
 
 -- each of these maps that is there stays

@@ -13,7 +13,8 @@ use sw_map::{CrackerMap, Tail};
 use sw_rows::Refusal;
 use sw_tape::Tape;
 
-/// Steps a map to the end of the tape. Refused `NoMemory`, it had entries to replay, and stands at the cursor that it reached.
+/// Steps a map to the end of the tape. Refused `NoMemory`, it had entries to replay, and stands at the cursor that it
+/// reached.
 pub(crate) fn align_map<M: CrackerMap>(it: &mut M, tape: &Tape) -> Result<(), Refusal>
     requires aligned { IsAligned (M.held it.old).head tape.now (M.held it.old) }
     requires keys { All (λ (e : Step Row). KeysFit e) tape.now }

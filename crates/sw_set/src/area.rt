@@ -20,7 +20,7 @@ ghost use Rattle.sw_set.specs.Needs.{head_in};
 ghost use Rattle.sw_rows.specs.Gives.{MemoryAside};
 ghost use Rattle.sw_set.specs.Outcomes.{AreAppendedOr, CameToWaitOr, HasBegunAnewOr, HasLoggedOr, HasMadeAt, HasMadeRoomOr, HasRestartedOr, IsLongerOr, IsSuppliedOr, rows_standing};
 ghost use Rattle.sw_set.specs.Prepared.{IsPreparedFor, IsReady, stands_if};
-ghost use Rattle.sw_set.specs.Boxed.{HasGrownAt, IsCleared, IsFreshBut, IsOneCleared, IsSameButBoxes, IsShed, IsSpare};
+ghost use Rattle.sw_set.specs.Boxed.{HasGrownAt, IsCleared, IsFree, IsFreshBut, IsOneCleared, IsSameButBoxes, IsShed};
 ghost use Rattle.sw_set.specs.Shelf.{AreaState, IsAreaLawful, IsSameArea, LiesIn, MayComeAfterLoad, MayMerge, MayMergeAll, MayReceiveAll, Rises, arranged_rows, key_of, lies_within, loaded_area, rows_in, rows_left_by, tape_rows, with_box, with_inbox};
 ghost use Rattle.sw_set.specs.Aligned.{AreSameMaps, HasRoomWhereNeeded, IsAtEnd};
 ghost use Rattle.sw_set.specs.Sought.{AreAllBlank, EndsBy, FindsUnless, HasCursor, HasReachedOr, HaveSomeMap, HoldsMap, IsCrackedAt, IsNeeded, IsNeededIfMap, IsUncracked, IsUnneeded, LacksMap, Shows, TellsUnless, shown_at};
@@ -297,7 +297,7 @@ impl<M: CrackerMap> Area<M> {
 
     /// Begins the area anew with those rows that are live: its tape is one load of them, and all boxes are blank. A refusal
     /// changes nothing.
-    fn begin_anew(&mut self, live: LiveRows) -> Result<(), Refusal>
+    fn restart_with(&mut self, live: LiveRows) -> Result<(), Refusal>
         requires many { length live.flags ≡ length (first_rows self.old.tape ++ live.later) }
         requires keys { All (λ (r : Row). r.key < 2 ^ 63) (rows_standing live self.old) }
         requires rise { Rises key_of (rows_standing live self.old) }
@@ -320,7 +320,7 @@ impl<M: CrackerMap> Area<M> {
         ensures ends { HasRestartedOr result self.old self.new }
     {
         let live = self.live.after(self.alloc, load_of(&self.tape), &[])?;
-        self.begin_anew(live)
+        self.restart_with(live)
     }
 
     /// Begins the area anew with the rows that are live after these updates. A refusal changes nothing.
@@ -330,11 +330,11 @@ impl<M: CrackerMap> Area<M> {
         ensures { HasBegunAnewOr result (rows_left_by updates.now self.old) self.old self.new }
     {
         let live = self.live.after(self.alloc, load_of(&self.tape), updates)?;
-        self.begin_anew(live)
+        self.restart_with(live)
     }
 
-    /// Steps the map in the box at a place to the tape's end. Refused, it had entries to replay, and stands at the cursor that it
-    /// reached.
+    /// Steps the map in the box at a place to the tape's end. Refused, it had entries to replay, and stands at the
+    /// cursor that it reached.
     pub(crate) fn align_at(&mut self, at: usize) -> Result<(), Refusal>
         requires within { at < length self.old.boxes }
         requires begun { (d : Held) → (slice_index_or self.old.boxes at d).is_blank ≡ false }
@@ -440,8 +440,8 @@ impl<M: CrackerMap> Area<M> {
     }
 
     /// A box for a new map: the first blank one, else the least recently used that the tails do not need.
-    pub(crate) fn spare(&self, tails: &[Tail]) -> Option<usize>
-        ensures { FindsUnless (IsNeeded tails.now) (IsSpare tails.now) self.now.boxes result }
+    pub(crate) fn free_box(&self, tails: &[Tail]) -> Option<usize>
+        ensures { FindsUnless (IsNeeded tails.now) (IsFree tails.now) self.now.boxes result }
     {
         if let Some(i) = find_blank(self.boxes.as_slice()) {
             return Some(i);
@@ -551,8 +551,8 @@ impl<M: CrackerMap> Area<M> {
         let _stamp = self.stamps.remove(at);
     }
 
-    /// Drops up to so many boxes, blank ones first, then by least recent use, and answers how many: as many as that, or all. It
-    /// is never refused, and the boxes that stay are as they were.
+    /// Drops up to so many boxes, blank ones first, then by least recent use, and answers how many: as many as that, or
+    /// all. It is never refused, and the boxes that stay are as they were.
     pub fn shed(&mut self, most: usize) -> usize
         ensures shed { IsShed most self.old self.new result }
         ensures all { result < most → length self.new.boxes ≡ 0 }
@@ -616,8 +616,8 @@ impl<M: CrackerMap> Area<M> {
         }
     }
 
-    /// The plain answer over the area's rows; no map is used, and none changes. Only a list of rows takes memory, and the one
-    /// refusal is `NoMemory`.
+    /// The plain answer over the area's rows; no map is used, and none changes. Only a list of rows takes memory, and
+    /// the one refusal is `NoMemory`.
     pub fn scan(&self, query: &Query) -> Result<Reply, Refusal>
         requires received { self.now.inbox ≡ [] }
         requires asks { AsksBelow 8 query.now }
@@ -668,7 +668,8 @@ impl<M: CrackerMap> Area<M> {
         )
     }
 
-    /// Grows the lease of the map in the box at a place to so many cells, and answers whether it grew. Refused, the box is blank.
+    /// Grows the lease of the map in the box at a place to so many cells, and answers whether it grew. Refused, the box
+    /// is blank.
     pub(crate) fn grow_at(&mut self, at: usize, cells: u64) -> Result<bool, Refusal>
         requires within { at < length self.old.boxes }
         requires begun { (d : Held) → (slice_index_or self.old.boxes at d).is_blank ≡ false }

@@ -17,8 +17,8 @@ use sw_map::{CrackerMap, Tail};
 use sw_rows::Refusal;
 use sw_tape::Tape;
 
-/// Steps the first boxes at once, each towards the tape's end, after the others one by one; a single one is stepped by the caller.
-/// A box whose step is refused stops at the cursor that it reached, and the others go on.
+/// Steps the first boxes at once, each towards the tape's end, after the others one by one; a single one is stepped by
+/// the caller. A box whose step is refused stops at the cursor that it reached, and the others go on.
 fn step_first<R: Threads + Sync, M: CrackerMap>(
     rt: &R,
     attribute: u8,
@@ -82,8 +82,8 @@ fn find_much<M: CrackerMap>(boxes: &[M], from: usize, tails: &[Tail], tape: &Tap
     None
 }
 
-/// Brings the boxes that lack much to the front, from the place `done` on, steps all that are there at once and the others one after
-/// the other, and puts each back at its place.
+/// Brings the boxes that lack much to the front, from the place `done` on, steps all that are there at once and the
+/// others one after the other, and puts each back at its place.
 fn step_lacking<R: Threads + Sync, M: CrackerMap>(
     rt: &R,
     attribute: u8,

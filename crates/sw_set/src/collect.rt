@@ -11,7 +11,7 @@ ghost use Rattle.sw_set.specs.Choice.{AreFor, AreStocked, HasCells, HasWanted, I
 ghost use Rattle.sw_set.specs.Collected.{AnswersInOrder, AreOfFurther, IsListOf, IsReplyOver, chosen_rows};
 
 use crate::choice::{Choice, refine_by};
-use crate::finding::{columns_of, open_cells, open_keys};
+use crate::finding::{columns_of, window_of_cells, window_of_keys};
 use crate::replies::{found_keys, rows_at, sort_by_key};
 use crate::totals::{max, min, sum};
 use std::alloc::Global;
@@ -39,7 +39,7 @@ fn refined<M: CrackerMap>(
 {
     let mut bits = Bits::all(alloc, upto - from)?;
     for cond in conds {
-        let mut cells = open_cells(boxes, head, tape, cond.attr, from, upto);
+        let mut cells = window_of_cells(boxes, head, tape, cond.attr, from, upto);
         refine_by(&mut bits, &mut cells, cond);
     }
     Ok(bits)
@@ -89,7 +89,7 @@ fn select<M: CrackerMap>(
     requires within { upto ≤ length (shown_rows head tape.now) }
     ensures { MemoryAside result (IsListOf names.now (chosen_rows head tape.now from upto choice.now.bits)) }
 {
-    let mut keys = open_keys(boxes, head, tape, from, upto);
+    let mut keys = window_of_keys(boxes, head, tape, from, upto);
     let mut found = found_keys(alloc, &mut keys, from, choice)?;
     sort_by_key(alloc, &mut found);
     let columns = columns_of(boxes, head, tape, names);
@@ -132,15 +132,15 @@ fn wanted<M: CrackerMap>(
         },
         Want::Count => Ok(Reply::Count(choice.count(upto - from) as u64)),
         Want::Sum(attr) => {
-            let mut cells = open_cells(boxes, head, tape, *attr, from, upto);
+            let mut cells = window_of_cells(boxes, head, tape, *attr, from, upto);
             Ok(Reply::Sum(sum(&mut cells, choice)))
         }
         Want::Min(attr) => {
-            let mut cells = open_cells(boxes, head, tape, *attr, from, upto);
+            let mut cells = window_of_cells(boxes, head, tape, *attr, from, upto);
             Ok(Reply::Least(min(&mut cells, choice)))
         }
         Want::Max(attr) => {
-            let mut cells = open_cells(boxes, head, tape, *attr, from, upto);
+            let mut cells = window_of_cells(boxes, head, tape, *attr, from, upto);
             Ok(Reply::Least(max(&mut cells, choice)))
         }
     }
@@ -161,8 +161,8 @@ fn nothing(alloc: Global, want: &Want) -> Reply
 /// What a query is answered, from boxes of which those that it needs stand at the tape's end, and the range of places whose
 /// rows meet its first condition. Where the range is empty, no box is needed.
 ///
-/// The reply is that of a plain scan over the rows that the tape holds, in key order. The one refusal is `NoMemory`, and only
-/// where rows are asked for or there are two conditions or more.
+/// The reply is that of a plain scan over the rows that the tape holds, in key order. The one refusal is `NoMemory`,
+/// and only where rows are asked for or there are two conditions or more.
 pub(crate) fn collect_from<M: CrackerMap>(
     alloc: Global,
     boxes: &[M],

@@ -73,7 +73,7 @@ pub(crate) fn columns_of<M: CrackerMap>(
 }
 
 /// The cells of an attribute from one place up to below another.
-pub(crate) fn open_cells<'a, M: CrackerMap>(
+pub(crate) fn window_of_cells<'a, M: CrackerMap>(
     boxes: &'a [M],
     head: u8,
     tape: &Tape,
@@ -93,7 +93,7 @@ pub(crate) fn open_cells<'a, M: CrackerMap>(
 }
 
 /// The keys from one place up to below another.
-pub(crate) fn open_keys<'a, M: CrackerMap>(
+pub(crate) fn window_of_keys<'a, M: CrackerMap>(
     boxes: &'a [M],
     head: u8,
     tape: &Tape,

@@ -4,8 +4,8 @@ use sw_map::CrackerMap;
 use sw_rows::Bound;
 use sw_tape::{Entry, Tape};
 
-/// A thread is worth its start where more pairs than this are to be parted: that takes some 4 ms, and a processor that idles, or has
-/// other work, takes up to as long to come (measured by bench/area/wake.sh).
+/// A thread is worth its start where more pairs than this are to be parted: that takes some 4 ms, and a processor that
+/// idles, or has other work, takes up to as long to come (measured by bench/area/wake.sh).
 const WORTH: usize = 2_000_000;
 
 /// How many of the tape's bounds in a row are looked for in a map that may lack them.
@@ -28,7 +28,7 @@ fn above(tape: &Tape, bound: Bound) -> Option<Bound> {
 }
 
 /// Where the piece begins that a bound falls into: at one of the nearest bounds below that the map has cracked at, or at 0.
-fn start_of<M: CrackerMap>(it: &M, tape: &Tape, bound: Bound) -> usize {
+fn piece_start<M: CrackerMap>(it: &M, tape: &Tape, bound: Bound) -> usize {
     let mut last = bound;
     for _turn in 0..NEAR {
         let Some(next) = below(tape, last) else {
@@ -43,7 +43,7 @@ fn start_of<M: CrackerMap>(it: &M, tape: &Tape, bound: Bound) -> usize {
 }
 
 /// Where it ends: at one of the nearest bounds above that the map has cracked at, or at its last pair.
-fn end_of<M: CrackerMap>(it: &M, tape: &Tape, bound: Bound) -> usize {
+fn piece_end<M: CrackerMap>(it: &M, tape: &Tape, bound: Bound) -> usize {
     let mut last = bound;
     for _turn in 0..NEAR {
         let Some(next) = above(tape, last) else {
@@ -65,7 +65,7 @@ fn parted_at<M: CrackerMap>(it: &M, tape: &Tape, bound: Option<Bound>) -> usize 
     if it.find(bound).is_some() {
         return 0;
     }
-    end_of(it, tape, bound).saturating_sub(start_of(it, tape, bound))
+    piece_end(it, tape, bound).saturating_sub(piece_start(it, tape, bound))
 }
 
 /// How many pairs an entry parts; a load is more than any number.
@@ -79,8 +79,9 @@ fn parted_by<M: CrackerMap>(it: &M, tape: &Tape, entry: &Entry) -> usize {
     }
 }
 
-/// Whether a map lacks so much of the tape that a thread is worth its start: it has yet to load, or its cracks part many pairs. An entry
-/// counts besides as many pairs as the tape has entries, since it may move one for each mark; so few entries are looked at.
+/// Whether a map lacks so much of the tape that a thread is worth its start: it has yet to load, or its cracks part
+/// many pairs. An entry counts besides as many pairs as the tape has entries, since it may move one for each mark; so
+/// few entries are looked at.
 pub(crate) fn lacks_much<M: CrackerMap>(it: &M, tape: &Tape) -> bool {
     let each = tape.len();
     let mut work: usize = 0;

@@ -1,4 +1,5 @@
-//! Areas: the live rows of an interval of a head's values, the tape that reorganised them, and the boxed maps that replay it.
+//! Areas: the live rows of an interval of a head's values, the tape that reorganised them, and the boxed maps that
+//! replay it.
 #![tactic(auto)]
 
 mod align;

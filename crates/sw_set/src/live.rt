@@ -13,8 +13,8 @@ use std::alloc::Global;
 use std::marker::Model;
 use sw_rows::{PackedRows, Places, Query, Refusal, Reply, Row, Update, scan};
 
-/// Which of the rows that a tape brought are live: of those in its load, and of those that came later. Each has a place: those
-/// of the load first, then the later ones, in the order in which they came.
+/// Which of the rows that a tape brought are live: of those in its load, and of those that came later. Each has a
+/// place: those of the load first, then the later ones, in the order in which they came.
 #[derive(Drop)]
 pub(crate) struct LiveRows {
     later: PackedRows,
@@ -35,7 +35,8 @@ impl Model for LiveRows {
 }
 
 impl LiveRows {
-    /// As many rows as that, all of them of a load that keeps so many cells of a row, and all live. Refused `NoMemory` alone.
+    /// As many rows as that, all of them of a load that keeps so many cells of a row, and all live. Refused `NoMemory`
+    /// alone.
     pub(crate) fn all(alloc: Global, width: usize, many: usize) -> Result<LiveRows, Refusal>
         requires some { 1 ≤ width }
         requires most { width ≤ 8 }
@@ -92,7 +93,7 @@ impl LiveRows {
         }
     }
 
-    /// The place of a key, whether or not its row is live. By binary search.
+    /// The place of a key, whether or not its row is live.
     pub(crate) fn find(&self, load: &PackedRows, key: u64) -> Option<usize>
         requires { IsStandingOf load.now.items self.now }
         ensures { FindsKey key (came_to load.now.items self.now) result }
@@ -106,7 +107,7 @@ impl LiveRows {
         }
     }
 
-    /// Whether a live row has the key. By binary search.
+    /// Whether a live row has the key.
     pub(crate) fn holds(&self, load: &PackedRows, key: u64) -> bool
         requires { IsStandingOf load.now.items self.now }
         ensures { result ≡ has_key key (live_among load.now.items self.now) }
@@ -197,7 +198,7 @@ impl LiveRows {
     }
 
     /// A row comes, or that of a key goes, if it is there. Refused `NoMemory` alone, and then nothing is said of these rows.
-    fn take(&mut self, load: &PackedRows, update: &Update) -> Result<(), Refusal>
+    fn follow(&mut self, load: &PackedRows, update: &Update) -> Result<(), Refusal>
         requires standing { IsStandingOf load.now.items self.old }
         requires rise { Rises key_of (came_then (came_to load.now.items self.old) update.now) }
         ensures { MemoryAside result (λ _. IsNextStanding load.now.items update.now self.old self.new) }
@@ -226,13 +227,13 @@ impl LiveRows {
     {
         let mut live = self.copied(alloc)?;
         for update in updates {
-            live.take(load, update)?;
+            live.follow(load, update)?;
         }
         Ok(live)
     }
 
-    /// What a query is answered over the rows that are live. It takes memory only where rows are asked for, and then it may be
-    /// refused, `NoMemory` alone. The caller's condition: attributes are below 8.
+    /// What a query is answered over the rows that are live. It takes memory only where rows are asked for, and then it
+    /// may be refused, `NoMemory` alone. The caller's condition: attributes are below 8.
     pub(crate) fn scan(
         &self,
         alloc: Global,

@@ -4,7 +4,7 @@ ghost use Rattle.std.specs.Prelude.{◌≡◌, ◌<◌, ◌↔◌, false, length
 ghost use Rattle.sw_map.specs.Held.{Held};
 ghost use Rattle.sw_set.specs.Prepared.{IsShort};
 ghost use Rattle.sw_set.specs.Boxed.{AreNeededKept, IsFreshBut, IsSameButBoxes};
-ghost use Rattle.sw_set.specs.Preparing.{HasMapOr, HasOneMoreOr, HasSpareOr, HaveMapsOr};
+ghost use Rattle.sw_set.specs.Preparing.{HasFreeOr, HasMapOr, HasOneMoreOr, HaveMapsOr};
 ghost use Rattle.sw_set.specs.Sought.{AreAllNeeded, LacksMap};
 
 use crate::area::Area;
@@ -18,8 +18,9 @@ fn is_short(e: &Refusal) -> bool
     matches!(e, Refusal::Short { .. })
 }
 
-/// Begins a map in a box. On `Short` the least recently used unneeded box with a lease is cleared and it is tried again, until
-/// it succeeds or there is no such box: each turn leaves one box more blank, so there are fewer turns than boxes.
+/// Begins a map in a box. On `Short` the least recently used unneeded box with a lease is cleared and it is tried
+/// again, until it succeeds or there is no such box: each turn leaves one box more blank, so there are fewer turns than
+/// boxes.
 fn begin_again<M: CrackerMap>(
     area: &mut Area<M>,
     at: usize,
@@ -50,8 +51,8 @@ fn begin_again<M: CrackerMap>(
     unreachable!()
 }
 
-/// Gives the map in a box so many cells, more than it has: its lease grows in place, or, where it does not or is refused, it is
-/// begun again.
+/// Gives the map in a box so many cells, more than it has: its lease grows in place, or, where it does not or is
+/// refused, it is begun again.
 fn widen<M: CrackerMap>(
     area: &mut Area<M>,
     at: usize,
@@ -76,13 +77,13 @@ fn widen<M: CrackerMap>(
 }
 
 /// A box for a map that the area lacks. Refused `NoBlank`, all boxes have needed maps, so there are fewer than are needed.
-fn take<M: CrackerMap>(area: &Area<M>, tails: &[Tail], tail: Tail) -> Result<usize, Refusal>
+fn find_box<M: CrackerMap>(area: &Area<M>, tails: &[Tail], tail: Tail) -> Result<usize, Refusal>
     requires needed { Contains tails.now tail }
     requires lacks { All (LacksMap tail) area.now.boxes }
-    ensures { HasSpareOr result tails.now area.now.boxes }
+    ensures { HasFreeOr result tails.now area.now.boxes }
 {
     area.known();
-    let Some(at) = area.spare(tails) else {
+    let Some(at) = area.free_box(tails) else {
         let boxes = area.boxes() as u64;
         let needed = tails.len() as u64;
         return Err(Refusal::NoBlank { boxes, needed });
@@ -110,7 +111,7 @@ fn ensure_map<M: CrackerMap>(
         }
         return widen(area, at, tails, tail, cells);
     }
-    let at = take(area, tails, tail)?;
+    let at = find_box(area, tails, tail)?;
     begin_again(area, at, tails, tail, cells)
 }
 

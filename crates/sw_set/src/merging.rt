@@ -1,4 +1,5 @@
-//! Merging: the updates that wait are logged in the tape one after the other, or taken up by a load with which the area begins anew.
+//! Merging: the updates that wait are logged in the tape one after the other, or taken up by a load with which the area
+//! begins anew.
 
 ghost use Rattle.std.specs.Prelude.{◌≡◌, ◌<◌, ◌≤◌, ◌+◌, [], true, false, length, drop, MatchOption, MatchResult, slice_index_or, vec_capacity, vec_len};
 ghost use Rattle.sw_table.specs.declared.row.Update.TheVariants.{Insert, Remove};
@@ -35,8 +36,8 @@ fn log_insertion<M: CrackerMap>(area: &mut Area<M>, row: Row) -> Result<bool, Re
     Ok(true)
 }
 
-/// The box of the key map, which is stepped to the tape's end; none where there is no key map, its lease is too small for the
-/// tape's peak, or a step found no memory.
+/// The box of the key map, which is stepped to the tape's end; none where there is no key map, its lease is too small
+/// for the tape's peak, or a step found no memory.
 fn aligned_keys<M: CrackerMap>(area: &mut Area<M>) -> Option<usize>
     ensures same { IsSameButBoxes area.old area.new }
     ensures maps { AreSameMaps area.old.boxes area.new.boxes }
@@ -55,7 +56,8 @@ fn aligned_keys<M: CrackerMap>(area: &mut Area<M>) -> Option<usize>
     Some(at)
 }
 
-/// Logs that the live row of a key goes, at the place that the key map in a box tells. Refused `NoMemory`, nothing has changed.
+/// Logs that the live row of a key goes, at the place that the key map in a box tells. Refused `NoMemory`, nothing has
+/// changed.
 fn log_at<M: CrackerMap>(area: &mut Area<M>, at: usize, key: u64) -> Result<(), Refusal>
     requires received { area.old.inbox ≡ [] }
     requires room { length area.old.tape < MAX_ENTRIES }
@@ -87,8 +89,8 @@ fn log_removal<M: CrackerMap>(area: &mut Area<M>, key: u64) -> Result<bool, Refu
     Ok(true)
 }
 
-/// Logs an update where it can be logged, and answers whether it was. Refused `NoMemory`, the tape is as it was, and the key map
-/// has perhaps gone further.
+/// Logs an update where it can be logged, and answers whether it was. Refused `NoMemory`, the tape is as it was, and
+/// the key map has perhaps gone further.
 fn log_one<M: CrackerMap>(area: &mut Area<M>, update: Update) -> Result<bool, Refusal>
     requires received { area.old.inbox ≡ [] }
     requires may { MayMerge update area.old }
@@ -100,8 +102,9 @@ fn log_one<M: CrackerMap>(area: &mut Area<M>, update: Update) -> Result<bool, Re
     }
 }
 
-/// Where the updates end that one load takes up, from a place on: after the last removal, or after the first update where no removal
-/// follows it. Once an area has begun anew it has no key map, so each later removal would have it begin anew again.
+/// Where the updates end that one load takes up, from a place on: after the last removal, or after the first update
+/// where no removal follows it. Once an area has begun anew it has no key map, so each later removal would have it
+/// begin anew again.
 fn end_of_stretch(updates: &[Update], at: usize) -> usize
     requires { at < length updates.now }
     ensures { IsStretch updates.now at result }
@@ -113,8 +116,9 @@ fn end_of_stretch(updates: &[Update], at: usize) -> usize
     upto
 }
 
-/// Begins the area anew with the updates that one load takes up, and answers where they end. Refused `NoMemory`, nothing has changed.
-fn begin_with<M: CrackerMap>(
+/// Begins the area anew with the updates that one load takes up, and answers where they end. Refused `NoMemory`,
+/// nothing has changed.
+fn restart_from<M: CrackerMap>(
     area: &mut Area<M>,
     updates: &[Update],
     at: usize,
@@ -130,8 +134,8 @@ fn begin_with<M: CrackerMap>(
     Ok(upto)
 }
 
-/// Merges the update at a place, and later ones where the area is begun anew; it answers up to where. Refused `NoMemory`, the
-/// tape is as it was, and the key map has perhaps gone further.
+/// Merges the update at a place, and later ones where the area is begun anew; it answers up to where. Refused
+/// `NoMemory`, the tape is as it was, and the key map has perhaps gone further.
 fn merge_from<M: CrackerMap>(
     area: &mut Area<M>,
     updates: &[Update],
@@ -147,7 +151,7 @@ fn merge_from<M: CrackerMap>(
     if log_one(area, updates[at])? {
         return Ok(at + 1);
     }
-    begin_with(area, updates, at)
+    restart_from(area, updates, at)
 }
 
 /// Merges updates one after the other. A refusal stops it, and it answers how many are merged.
@@ -177,10 +181,10 @@ fn drop_first(waiting: &mut Vec<Update>, many: usize)
 }
 
 impl<M: CrackerMap> Area<M> {
-    /// Merges the updates that wait, one after the other. A row that comes is logged, or, where the tape is full, the area is
-    /// begun anew with it. A row that goes is logged by the place of its pair in the key map at the tape's end; where the tape
-    /// is full, or no key map with room for the tape's peak can be stepped to the end, the area is begun anew without it. One load
-    /// takes up all updates to the last removal that waits.
+    /// Merges the updates that wait, one after the other. A row that comes is logged, or, where the tape is full, the
+    /// area is begun anew with it. A row that goes is logged by the place of its pair in the key map at the tape's end;
+    /// where the tape is full, or no key map with room for the tape's peak can be stepped to the end, the area is begun
+    /// anew without it. One load takes up all updates to the last removal that waits.
     ///
     /// The area stands for the same rows. The one refusal is `NoMemory`: a beginning of the updates is merged then, and the
     /// rest waits.

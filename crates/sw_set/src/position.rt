@@ -19,7 +19,7 @@ use sw_rows::Bound;
 use sw_tape::Tape;
 
 /// Where a bound that the map has cracked at stands; an absent one stands at a given place.
-fn place_in<M: CrackerMap>(it: &M, bound: Option<Bound>, absent: usize) -> usize
+fn place_of_bound<M: CrackerMap>(it: &M, bound: Option<Bound>, absent: usize) -> usize
     requires { HasCrackedAt bound (M.held it.now) }
     ensures { IsFoundAt bound absent (M.held it.now) result }
 {
@@ -60,7 +60,7 @@ pub(crate) fn place_of_row<M: CrackerMap>(it: &M, tape: &Tape, value: i64, key: 
     ensures key { (d : Row) → (slice_index_or (joined (rows_by (M.held it.now).head tape.now)) result d).key ≡ key }
 {
     let (lower, upper) = tape.around(value);
-    let from = place_in(it, lower, 0);
-    let upto = place_in(it, upper, it.len());
+    let from = place_of_bound(it, lower, 0);
+    let upto = place_of_bound(it, upper, it.len());
     find_key(it, key, from, upto)
 }

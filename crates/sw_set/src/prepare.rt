@@ -39,7 +39,7 @@ fn all_stand<M: CrackerMap>(area: &Area<M>, lower: Option<Bound>, upper: Option<
 
 /// Logs the range exactly where one of its bounds stands in no range of the tape, after a restart where the tape is full.
 /// Refused `NoMemory`, the tape is as it was, or, where it was full, one load of the rows.
-fn note<M: CrackerMap>(
+fn log_range<M: CrackerMap>(
     area: &mut Area<M>,
     lower: Option<Bound>,
     upper: Option<Bound>,
@@ -68,7 +68,12 @@ fn cells_for(pairs: usize) -> u64
 }
 
 /// Where a bound stands in the box at a place; an absent one stands where it is said.
-fn place_in<M: CrackerMap>(area: &Area<M>, at: usize, bound: Option<Bound>, absent: usize) -> usize
+fn place_in_box<M: CrackerMap>(
+    area: &Area<M>,
+    at: usize,
+    bound: Option<Bound>,
+    absent: usize,
+) -> usize
     requires within { at < length area.now.boxes }
     requires marked { (d : Held) → (i : ℕ) × IsFoundAt bound absent (slice_index_or area.now.boxes at d) i }
     ensures { (d : Held) → IsFoundAt bound absent (slice_index_or area.now.boxes at d) result }
@@ -98,8 +103,8 @@ fn range_of<M: CrackerMap>(
     let Some(at) = area.with_map(Tail::Key) else {
         return Ready { from: 0, upto: 0 };
     };
-    let from = place_in(area, at, lower, 0);
-    let upto = place_in(area, at, upper, area.pairs_at(at));
+    let from = place_in_box(area, at, lower, 0);
+    let upto = place_in_box(area, at, upper, area.pairs_at(at));
     Ready { from, upto }
 }
 
@@ -119,7 +124,7 @@ fn prepare_range<R: Threads + Sync, M: CrackerMap>(
     ensures ends { HasRangedOr result lower upper tails.now area.old area.new }
 {
     area.known();
-    note(area, lower, upper)?;
+    log_range(area, lower, upper)?;
     let cells = cells_for(area.peak());
     make_all(area, tails, cells)?;
     area.known();

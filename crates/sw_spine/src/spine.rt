@@ -125,7 +125,8 @@ impl Spine {
 
     /// Opens the next session and answers its number, from 1. The session has made no calls and waits for nothing.
     ///
-    /// Refused `TooMany` of limit 1,024 where that many were opened, `NoMemory` otherwise; after a refusal nothing has changed.
+    /// Refused `TooMany` of limit 1,024 where that many were opened, `NoMemory` otherwise; after a refusal nothing has
+    /// changed.
     pub fn open_session(&mut self) -> Result<u64, Refusal>
         ensures opened { MatchResult result (Opens self.old self.new) (IsRefusedBy RefusesSession self.old self.new) }
         ensures begun { IfOk result (λ n. (mine n self.new.entries ≡ []) × (waits_for n self.new ≡ None)) }
@@ -174,9 +175,10 @@ impl Spine {
         self.entries.as_slice()
     }
 
-    /// A select begins: its place is the end of the history, and the updates that the head has not taken go to the inbox's end
-    /// and count as taken. The opening rows count as taken by every head from the start. All updates of the history are such
-    /// as a table may get: the inserted rows have the next keys, within the limit, and the removed keys are live.
+    /// A select begins: its place is the end of the history, and the updates that the head has not taken go to the
+    /// inbox's end and count as taken. The opening rows count as taken by every head from the start. All updates of the
+    /// history are such as a table may get: the inserted rows have the next keys, within the limit, and the removed
+    /// keys are live.
     ///
     /// Refused `HistoryFull` where the history has 1,048,576 entries, `NoMemory` otherwise; after a refusal nothing has
     /// changed. The caller's conditions: the session was opened and has no open entry, the query names attributes of the

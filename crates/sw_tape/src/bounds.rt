@@ -19,7 +19,7 @@ fn is_same(one: Bound, other: Bound) -> bool
     }
 }
 
-/// How many of the bounds stand below this one, by binary search.
+/// How many of the bounds stand below this one.
 fn count_below(bounds: &[Bound], bound: Bound) -> usize
     requires { IsRising bounds.now }
     ensures { IsPlaceOf bound result bounds.now }
@@ -85,7 +85,7 @@ pub(crate) fn add_some(bounds: &mut Vec<Bound>, bound: Option<Bound>)
     }
 }
 
-/// How many of the bounds do not have the value on their left, by binary search.
+/// How many of the bounds do not have the value on their left.
 fn count_up_to(bounds: &[Bound], value: i64) -> usize
     requires { IsRising bounds.now }
     ensures within { result ≤ length bounds.now }

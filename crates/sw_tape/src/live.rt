@@ -7,8 +7,8 @@ ghost use Rattle.sw_tape.specs.Restart.{kept};
 use sw_rows::Refusal;
 use sw_table::PackedRows;
 
-/// Appends later rows to others, and keeps of all of them those whose flags are true. Refused `NoMemory`, the rows are as they
-/// were.
+/// Appends later rows to others, and keeps of all of them those whose flags are true. Refused `NoMemory`, the rows are
+/// as they were.
 pub(crate) fn keep_live(
     rows: &mut PackedRows,
     later: &PackedRows,

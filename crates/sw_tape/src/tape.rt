@@ -138,8 +138,8 @@ impl Tape {
         Ok(())
     }
 
-    /// Makes the tape one load of those rows that are live: of the rows of its load, and then of the later ones, each has a flag.
-    /// They are kept in place. It is refused `NoMemory` alone, and then the tape is as it was.
+    /// Makes the tape one load of those rows that are live: of the rows of its load, and then of the later ones, each
+    /// has a flag. They are kept in place. It is refused `NoMemory` alone, and then the tape is as it was.
     pub fn restart_live(&mut self, later: &PackedRows, live: &[bool]) -> Result<(), Refusal>
         requires many { length live.now ≡ length (first_rows self.old ++ later.now.items) }
         ensures ok { OnOk result (self.new ≡ loaded (live_load live.now self.old later.now.items) ∷ []) }

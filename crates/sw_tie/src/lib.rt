@@ -113,8 +113,8 @@ impl<T> Book<T> {
     }
 }
 
-// The steps that take a token apart, each proved by hand in proofs/Share. They are methods of `Share`, since only a token's own
-// type may do that.
+// The steps that take a token apart, each proved by hand in proofs/Share. They are methods of `Share`, since only a
+// token's own type may do that.
 impl<T> Share<T> {
     fn next(book: &mut Book<T>, value: &Snapshot<T>) -> Share<T>
         ensures { (book.new.name ≡ book.old.name)

@@ -230,7 +230,7 @@ pub(crate) fn random_blocks(
 }
 
 /// Whether two calls are the same, by what is shown of them.
-fn is_same(alloc: Global, one: &Call, other: &Call) -> Result<bool, Fail> {
+fn is_same_call(alloc: Global, one: &Call, other: &Call) -> Result<bool, Fail> {
     let shown = format!(in alloc; "{one:?}")?;
     Ok(shown.as_str() == format!(in alloc; "{other:?}")?.as_str())
 }
@@ -243,7 +243,7 @@ fn are_made(alloc: Global, record: &Record, session: u64, calls: &[Call]) -> Res
             let Some((call, later)) = rest.split_first() else {
                 return Ok(false);
             };
-            if !is_same(alloc, &entry.call, call)? {
+            if !is_same_call(alloc, &entry.call, call)? {
                 return Ok(false);
             }
             rest = later;
@@ -306,7 +306,7 @@ fn mixed<R: Threads + Wait + Sync>(rt: &R, alloc: Global, mix: Mix) -> Result<bo
 }
 
 #[test]
-fn four_sessions_at_once(rt: HostRuntime) -> Result<(), Fail> {
+fn four_sessions_at_once_leave_a_legal_record(rt: HostRuntime) -> Result<(), Fail> {
     let alloc = rt.alloc();
     for k in 0..MIXES.len() {
         assert_eq!(rt; mixed(&rt, alloc, MIXES[k])?, true, "mix {k}");

@@ -1,4 +1,5 @@
-//! What a head does with calls, over boxes of maps that count: which areas it touches, which maps it clears, and what merging does.
+//! What a head does with calls, over boxes of maps that count: which areas it touches, which maps it clears, and what
+//! merging does.
 
 use crate::scenes::{Boxes, Case, ONE_AREA, TWO_AREAS, Trouble, play_cases};
 use crate::steps::{Step, View};
@@ -94,8 +95,8 @@ const AN_AREA_THAT_IS_SHORT_AGAIN: &[(Step<'static>, &str)] = &[
     ),
 ];
 
-/// Where the budget is contended an area is scanned, and nothing is tried again: the area is not asked a second time, which would
-/// find the budget free, and no map of the other is cleared.
+/// Where the budget is contended an area is scanned, and nothing is tried again: the area is not asked a second time,
+/// which would find the budget free, and no map of the other is cleared.
 const AN_AREA_WHOSE_BUDGET_IS_CONTENDED: &[(Step<'static>, &str)] = &[
     (Step::Call("count where a < 12"), "1\n"),
     (Step::Call("count where a >= 12"), "3\n"),
@@ -288,7 +289,8 @@ const ROWS_OF_ONE_VALUE: &[(Step<'static>, &str)] = &[
     (Step::At(0, View::Place(Bound::After(5))), "4"),
 ];
 
-/// A lease that is too small grows; of a map that counts its calls it is asked for again, and the tape replayed from its load.
+/// A lease that is too small grows; of a map that counts its calls it is asked for again, and the tape replayed from
+/// its load.
 const A_LEASE_TOO_SMALL_IS_ASKED_FOR_AGAIN: &[(Step<'static>, &str)] = &[
     (Step::Call("count where a >= 10"), "3\n"),
     (Step::Used, "64"),

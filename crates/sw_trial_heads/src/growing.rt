@@ -1,4 +1,5 @@
-//! Heads under updates: keys are given out in order, and nothing is received or asked that a head may not receive or be asked.
+//! Heads under updates: keys are given out in order, and nothing is received or asked that a head may not receive or be
+//! asked.
 
 ghost use Rattle.std.specs.Prelude.{◌≡◌, ◌∷◌, [], length, replicate, true, false, IfErr, IfOk, MatchResult, None};
 ghost use Rattle.sw_rows.specs.declared.refusal.Refusal.TheVariants.{NoMemory};
@@ -76,8 +77,9 @@ impl<M: CrackerMap> Model for GrowingHead<M> {
 }
 
 impl<M: CrackerMap> GrowingHead<M> {
-    /// A head over the rows of these cells, by the keys 1, 2, 3 and so on, of the first 1,048,576 alone; no area has boxes. `Input`
-    /// where the attribute is not below 8 or the cuts are more than 15 or do not rise, and otherwise refused `NoMemory` alone.
+    /// A head over the rows of these cells, by the keys 1, 2, 3 and so on, of the first 1,048,576 alone; no area has
+    /// boxes. `Input` where the attribute is not below 8 or the cuts are more than 15 or do not rise, and otherwise
+    /// refused `NoMemory` alone.
     pub fn open(
         alloc: Global,
         attribute: u8,
@@ -113,8 +115,8 @@ impl<M: CrackerMap> GrowingHead<M> {
         }
     }
 
-    /// Receives the row of these cells by the next key, and answers the key. `Input` where keys have come to their end, otherwise
-    /// refused `NoMemory` alone; after a refusal the head stands for the same updates.
+    /// Receives the row of these cells by the next key, and answers the key. `Input` where keys have come to their end,
+    /// otherwise refused `NoMemory` alone; after a refusal the head stands for the same updates.
     pub fn insert(&mut self, cells: [i64; 8]) -> Result<u64, Refusal>
         ensures came { IfOk result (λ key. HasCome key cells self.old self.new) }
         ensures refused { IfErr result (λ e. IsSameHead self.old self.new × IsMemoryOrInput e) }
@@ -136,8 +138,8 @@ impl<M: CrackerMap> GrowingHead<M> {
         }
     }
 
-    /// Receives that the row of a key goes, and answers `true`; where there is no such row, `false`, and nothing has changed.
-    /// Refused `NoMemory` alone, and then the head stands for the same updates.
+    /// Receives that the row of a key goes, and answers `true`; where there is no such row, `false`, and nothing has
+    /// changed. Refused `NoMemory` alone, and then the head stands for the same updates.
     pub fn remove(&mut self, key: u64) -> Result<bool, Refusal>
         ensures gone { IfOk result (λ gone. HasGone key gone self.old self.new) }
         ensures refused { IfErr result (λ e. IsSameHead self.old self.new × (e ≡ NoMemory)) }
@@ -184,8 +186,8 @@ impl<M: CrackerMap> GrowingHead<M> {
         self.head.scan(query)
     }
 
-    /// Clears a box, and gives it to the area with the fewest, of several to the lowest. Refused `NoMemory` alone; then nothing
-    /// has changed, and the box is dropped.
+    /// Clears a box, and gives it to the area with the fewest, of several to the lowest. Refused `NoMemory` alone; then
+    /// nothing has changed, and the box is dropped.
     pub fn supply(&mut self, it: M) -> Result<(), Refusal>
         ensures { MatchResult result (λ _. IsSupplied self.old self.new) (λ e. (self.new ≡ self.old) × (e ≡ NoMemory)) }
     {

@@ -22,10 +22,10 @@ enum Scanned {
     JustWhereSomeLack,
 }
 
-/// What a mix is made of: how many rows come and how many go among ten calls, how many rows there may be at first, whether boxes
-/// come and go, and how many calls there are.
+/// What a mix is made of: how many rows come and how many go among ten calls, how many rows there may be at first,
+/// whether boxes come and go, and how many calls there are.
 #[derive(Clone, Copy)]
-struct Plan {
+struct Recipe {
     come: u32,
     go: u32,
     rows: u32,
@@ -35,7 +35,7 @@ struct Plan {
 }
 
 /// Queries alone.
-const QUERIES: Plan = Plan {
+const QUERIES: Recipe = Recipe {
     come: 0,
     go: 0,
     rows: 120,
@@ -45,7 +45,7 @@ const QUERIES: Plan = Plan {
 };
 
 /// Three rows come and two go, beside five queries.
-const MORE_COME: Plan = Plan {
+const MORE_COME: Recipe = Recipe {
     come: 3,
     go: 2,
     rows: 80,
@@ -55,7 +55,7 @@ const MORE_COME: Plan = Plan {
 };
 
 /// Rows come and none goes, so that leases grow again and again.
-const ROWS_COME: Plan = Plan {
+const ROWS_COME: Recipe = Recipe {
     come: 5,
     go: 0,
     rows: 60,
@@ -79,7 +79,8 @@ const REFUSING: &[Trouble] = &[
     Trouble::Every(5),
 ];
 
-/// Boxes that grow: never refused but for cells, refused memory at every third step or growth and at every seventh, and contended.
+/// Boxes that grow: never refused but for cells, refused memory at every third step or growth and at every seventh, and
+/// contended.
 const GROWING: &[Trouble] = &[
     Trouble::Grows(0),
     Trouble::Grows(3),
@@ -87,11 +88,12 @@ const GROWING: &[Trouble] = &[
     Trouble::Contends,
 ];
 
-/// Mixes of a plan: one for each of these troubles, capacities and numbers of boxes, with up to so many cuts, by dice of a seed.
+/// Mixes of a recipe: one for each of these troubles, capacities and numbers of boxes, with up to so many cuts, by
+/// dice of a seed.
 #[derive(Clone, Copy)]
 struct Group<'t> {
     seed: u64,
-    plan: Plan,
+    recipe: Recipe,
     cuts: u32,
     troubles: &'t [Trouble],
     capacities: &'t [u64],
@@ -102,7 +104,7 @@ struct Group<'t> {
 const OF_CALLS: &[Group<'static>] = &[
     Group {
         seed: 1,
-        plan: Plan {
+        recipe: Recipe {
             scanned: Scanned::JustWhereSomeLack,
             ..QUERIES
         },
@@ -113,7 +115,7 @@ const OF_CALLS: &[Group<'static>] = &[
     },
     Group {
         seed: 2,
-        plan: Plan {
+        recipe: Recipe {
             scanned: Scanned::WhereAllLack,
             ..QUERIES
         },
@@ -124,7 +126,7 @@ const OF_CALLS: &[Group<'static>] = &[
     },
     Group {
         seed: 11,
-        plan: Plan {
+        recipe: Recipe {
             scanned: Scanned::WhereAllLack,
             ..MORE_COME
         },
@@ -135,7 +137,7 @@ const OF_CALLS: &[Group<'static>] = &[
     },
     Group {
         seed: 12,
-        plan: Plan {
+        recipe: Recipe {
             scanned: Scanned::WhereAllLack,
             ..MORE_COME
         },
@@ -150,7 +152,7 @@ const OF_CALLS: &[Group<'static>] = &[
 const OF_REFUSED_CALLS: &[Group<'static>] = &[
     Group {
         seed: 21,
-        plan: QUERIES,
+        recipe: QUERIES,
         cuts: 15,
         troubles: REFUSING,
         capacities: CAPACITIES,
@@ -158,7 +160,7 @@ const OF_REFUSED_CALLS: &[Group<'static>] = &[
     },
     Group {
         seed: 22,
-        plan: MORE_COME,
+        recipe: MORE_COME,
         cuts: 0,
         troubles: REFUSING,
         capacities: CAPACITIES,
@@ -166,7 +168,7 @@ const OF_REFUSED_CALLS: &[Group<'static>] = &[
     },
     Group {
         seed: 23,
-        plan: MORE_COME,
+        recipe: MORE_COME,
         cuts: 15,
         troubles: REFUSING,
         capacities: CAPACITIES,
@@ -174,7 +176,7 @@ const OF_REFUSED_CALLS: &[Group<'static>] = &[
     },
     Group {
         seed: 24,
-        plan: MORE_COME,
+        recipe: MORE_COME,
         cuts: 15,
         troubles: &[Trouble::Contends],
         capacities: CAPACITIES,
@@ -182,7 +184,7 @@ const OF_REFUSED_CALLS: &[Group<'static>] = &[
     },
     Group {
         seed: 25,
-        plan: ROWS_COME,
+        recipe: ROWS_COME,
         cuts: 1,
         troubles: GROWING,
         capacities: &[448, 1024, 4096],
@@ -193,7 +195,7 @@ const OF_REFUSED_CALLS: &[Group<'static>] = &[
 /// Heads whose tapes fill again and again: as many rows go as come.
 const OF_FULL_TAPES: &[Group<'static>] = &[Group {
     seed: 31,
-    plan: Plan {
+    recipe: Recipe {
         come: 4,
         go: 4,
         rows: 80,
@@ -207,10 +209,10 @@ const OF_FULL_TAPES: &[Group<'static>] = &[Group {
     boxes: &[1, 2, 6],
 }];
 
-/// A mix that is made: its plan, its dice, up to how many cuts there are, and how many areas were scanned.
+/// A mix that is made: its recipe, its dice, up to how many cuts there are, and how many areas were scanned.
 #[derive(Drop)]
 pub(crate) struct Mix {
-    plan: Plan,
+    recipe: Recipe,
     dice: Dice,
     cuts: u32,
     scans: usize,
@@ -234,9 +236,9 @@ fn push_call<M: CrackerMap>(
     line: &mut String,
 ) -> Result<(), AllocError> {
     let kind = mix.dice.roll(10);
-    if kind < mix.plan.come {
+    if kind < mix.recipe.come {
         mix.dice.push_row(line)
-    } else if kind - mix.plan.come < mix.plan.go {
+    } else if kind - mix.recipe.come < mix.recipe.go {
         write!(line, "delete {}", some_key(trial, &mut mix.dice))
     } else {
         mix.dice.push_query(head, line)
@@ -259,10 +261,10 @@ fn tend<M: CrackerMap>(
             mix.dice.push_query(head, &mut line)?;
             merge(alloc, trial, line.as_str())?;
         }
-        2 if mix.plan.boxes_go => {
+        2 if mix.recipe.boxes_go => {
             let _gone = trial.head.shed(mix.dice.roll(3) as usize);
         }
-        3 if mix.plan.boxes_go => supply(trial)?,
+        3 if mix.recipe.boxes_go => supply(trial)?,
         _ => {}
     }
     Ok(())
@@ -278,7 +280,7 @@ fn call_all<R: Threads + Sync, M: CrackerMap>(
     text: &mut String,
 ) -> Result<(), Fail> {
     let mut line = String::new(alloc);
-    for number in 0..mix.plan.calls {
+    for number in 0..mix.recipe.calls {
         line.clear();
         push_call(trial, mix, head, &mut line)?;
         if !tell(rt, alloc, trial, line.as_str(), text)? {
@@ -293,7 +295,7 @@ fn call_all<R: Threads + Sync, M: CrackerMap>(
 /// The cells of the rows that there are at first.
 fn cells_for(alloc: Global, mix: &mut Mix) -> Result<Vec<[i64; 8]>, AllocError> {
     let mut cells = Vec::new(alloc);
-    for _turn in 0..mix.dice.roll(mix.plan.rows) {
+    for _turn in 0..mix.dice.roll(mix.recipe.rows) {
         cells.push(mix.dice.cells())?;
     }
     Ok(cells)
@@ -326,7 +328,7 @@ pub(crate) fn mixed<R: Threads + Sync, M: CrackerMap>(
 /// Whether so many areas may have been scanned in a mix.
 fn may_scan(mix: &Mix, boxes: usize, capacity: u64) -> bool {
     let some = mix.scans > 0;
-    match mix.plan.scanned {
+    match mix.recipe.scanned {
         Scanned::Any => true,
         Scanned::Some => some,
         Scanned::WhereAllLack => some || (boxes > 0 && capacity > 0),
@@ -388,7 +390,7 @@ fn mix_all<R: Threads + Sync>(
 ) -> Result<(), Fail> {
     for group in groups {
         let mut mix = Mix {
-            plan: group.plan,
+            recipe: group.recipe,
             dice: Dice::new(group.seed),
             cuts: group.cuts,
             scans: 0,
@@ -417,7 +419,7 @@ fn refused_steps_and_begins_leave_the_replies(rt: HostRuntime) -> Result<(), Fai
 }
 
 #[test]
-fn tapes_that_fill_again_and_again(rt: HostRuntime) -> Result<(), Fail> {
+fn tapes_that_fill_again_and_again_leave_the_replies(rt: HostRuntime) -> Result<(), Fail> {
     let mut text = String::new(rt.alloc());
     mix_all(&rt, rt.alloc(), OF_FULL_TAPES, &mut text)?;
     assert_eq!(rt; text.as_str(), "");

@@ -43,8 +43,9 @@ pub(crate) struct Watch<'t> {
     pub counts: &'t Counts,
 }
 
-/// What boxes do besides: they refuse every n-th step, none where n is 0, and count their calls, and never grow in place; or they grow,
-/// and refuse every n-th step or growth; or they grow, and find the budget contended at every second begin and growth.
+/// What boxes do besides: they refuse every n-th step, none where n is 0, and count their calls, and never grow in
+/// place; or they grow, and refuse every n-th step or growth; or they grow, and find the budget contended at every
+/// second begin and growth.
 #[derive(Clone, Copy)]
 pub(crate) enum Trouble {
     Every(u64),
@@ -148,7 +149,8 @@ fn contended(
     Ok(maps)
 }
 
-/// Plays a scene over boxes of a budget of its own, all of whose cells have to be there again in the end, and tells what is wrong.
+/// Plays a scene over boxes of a budget of its own, all of whose cells have to be there again in the end, and tells
+/// what is wrong.
 pub(crate) fn play<R: Threads + Sync>(
     rt: &R,
     alloc: Global,

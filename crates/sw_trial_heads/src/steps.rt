@@ -180,8 +180,8 @@ fn take<R: Threads + Sync, M: CrackerMap>(
     }
 }
 
-/// Takes steps in order. Of the first that does not show what is expected it tells what it shows and its number, from 0; else
-/// nothing.
+/// Takes steps in order. Of the first that does not show what is expected it tells what it shows and its number, from
+/// 0; else nothing.
 pub(crate) fn take_all<R: Threads + Sync, M: CrackerMap>(
     rt: &R,
     alloc: Global,

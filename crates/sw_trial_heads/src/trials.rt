@@ -18,7 +18,8 @@ pub(crate) struct Shape<'t> {
     pub cells: &'t [[i64; 8]],
 }
 
-/// A head, the plain list of its rows, the key that comes next, boxes that may come to the head, and how many areas were scanned.
+/// A head, the plain list of its rows, the key that comes next, boxes that may come to the head, and how many areas
+/// were scanned.
 #[derive(Drop)]
 pub(crate) struct Trial<M: CrackerMap> {
     pub schema: Schema,
@@ -126,8 +127,8 @@ fn written<R: Threads + Sync, M: CrackerMap>(
     write_reply(&trial.schema, call, &other, plain)
 }
 
-/// Makes the call of a line, and answers whether the head replies as the plain list does. Tells what the head replies, and after it
-/// what the plain list does where that is another reply.
+/// Makes the call of a line, and answers whether the head replies as the plain list does. Tells what the head replies,
+/// and after it what the plain list does where that is another reply.
 pub(crate) fn tell<R: Threads + Sync, M: CrackerMap>(
     rt: &R,
     alloc: Global,

@@ -55,7 +55,7 @@ fn are_refined(bits: &mut Bits) -> bool
 }
 
 #[test]
-fn places_of_bits(rt: HostRuntime) -> Result<(), Refusal> {
+fn bits_are_whole_and_refined(rt: HostRuntime) -> Result<(), Refusal> {
     for (len, last) in WHOLE {
         assert!(rt; is_whole(rt.alloc(), *len, *last)?, "{len}");
     }

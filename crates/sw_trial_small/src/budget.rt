@@ -90,7 +90,7 @@ fn a_third_lease_is_short(rt: HostRuntime) -> Result<(), Fail> {
 }
 
 #[test]
-fn a_budget_of_no_cells(rt: HostRuntime) -> Result<(), Fail> {
+fn a_budget_of_no_cells_leases_none(rt: HostRuntime) -> Result<(), Fail> {
     let (budget, purse) = Budget::open(rt.alloc(), 0)?;
     let Err((purse, refusal)) = purse.lease(64) else {
         panic!(rt; "a lease of no cells")
@@ -108,7 +108,7 @@ fn a_budget_of_no_cells(rt: HostRuntime) -> Result<(), Fail> {
 }
 
 #[test]
-fn the_greatest_budget(rt: HostRuntime) -> Result<(), Fail> {
+fn the_greatest_budget_is_leased_whole(rt: HostRuntime) -> Result<(), Fail> {
     let (budget, mut purse) = Budget::open(rt.alloc(), u64::MAX)?;
     let other = purse.split()?;
     let Ok(lease) = purse.lease(u64::MAX) else {
@@ -125,7 +125,7 @@ fn the_greatest_budget(rt: HostRuntime) -> Result<(), Fail> {
 }
 
 #[test]
-fn four_threads(rt: HostRuntime) -> Result<(), Fail> {
+fn four_threads_give_all_cells_back(rt: HostRuntime) -> Result<(), Fail> {
     let (budget, mut first) = Budget::open(rt.alloc(), 128)?;
     let second = first.split()?;
     let third = first.split()?;

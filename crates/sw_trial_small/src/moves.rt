@@ -66,7 +66,7 @@ fn is_parted(alloc: Global, piece: &Piece) -> Result<bool, AllocError> {
 }
 
 #[test]
-fn partition_of_worked_pieces(rt: HostRuntime) -> Result<(), AllocError> {
+fn worked_pieces_are_parted(rt: HostRuntime) -> Result<(), AllocError> {
     for piece in PIECES {
         assert!(rt; is_parted(rt.alloc(), piece)?, "{piece:?}");
     }
@@ -151,7 +151,7 @@ fn is_rippled(alloc: Global, ripple: &Ripple) -> Result<bool, AllocError> {
 }
 
 #[test]
-fn ripples_of_worked_pairs(rt: HostRuntime) -> Result<(), AllocError> {
+fn worked_pairs_are_rippled(rt: HostRuntime) -> Result<(), AllocError> {
     for ripple in RIPPLES {
         assert!(rt; is_rippled(rt.alloc(), ripple)?, "{ripple:?}");
     }

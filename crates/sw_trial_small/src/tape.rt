@@ -213,7 +213,7 @@ fn kept_again(alloc: Global, tape: &mut Tape) -> Result<bool, Refusal> {
 }
 
 #[test]
-fn ranges_of_a_tape(rt: HostRuntime) -> Result<(), Refusal> {
+fn ranges_are_marked_and_limited(rt: HostRuntime) -> Result<(), Refusal> {
     assert!(rt; ranges_are_marked(rt.alloc())?);
     assert!(rt; one_more_is_refused(rt.alloc())?);
     assert!(rt; nearest_are_around(rt.alloc())?);
@@ -221,7 +221,7 @@ fn ranges_of_a_tape(rt: HostRuntime) -> Result<(), Refusal> {
 }
 
 #[test]
-fn entries_of_a_tape(rt: HostRuntime) -> Result<(), Refusal> {
+fn entries_come_back_and_rows_are_kept(rt: HostRuntime) -> Result<(), Refusal> {
     assert!(rt; entries_come_back(&mut worked_tape(rt.alloc())?)?);
     assert!(rt; peak_is_kept(&mut worked_tape(rt.alloc())?)?);
     let mut tape = worked_tape(rt.alloc())?;

@@ -50,7 +50,7 @@ fn take_no_bytes<T>() {
 }
 
 #[test]
-fn any_type(rt: HostRuntime) -> Result<(), Fail> {
+fn tokens_of_any_type_are_given_back(rt: HostRuntime) -> Result<(), Fail> {
     let alloc = rt.alloc();
     give_both(&1u64, &2);
     give_both(&"before", &"after");
@@ -62,7 +62,7 @@ fn any_type(rt: HostRuntime) -> Result<(), Fail> {
 }
 
 #[test]
-fn two_threads(rt: HostRuntime) {
+fn two_threads_count_every_visit(rt: HostRuntime) {
     let counts = count_both::<Brand, Brand, _>(&rt, Book::new(), Book::new(), 1000, 600);
     assert_eq!(rt; counts, (1000, 600));
 }

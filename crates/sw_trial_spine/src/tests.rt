@@ -75,7 +75,7 @@ fn tell_case(alloc: Global, limit: u64, steps: &[Step], text: &mut Text) -> Resu
 }
 
 #[test]
-fn cases(rt: HostRuntime) -> Result<(), Refusal> {
+fn cases_are_told_as_wanted(rt: HostRuntime) -> Result<(), Refusal> {
     for (limit, steps, wanted) in CASES {
         let mut text = Counted::new(Vec::new(rt.alloc()));
         tell_case(rt.alloc(), *limit, steps, &mut text)?;
@@ -162,7 +162,7 @@ fn lines_kept(alloc: Global) -> Result<usize, AllocError> {
 }
 
 #[test]
-fn limits_and_heads(rt: HostRuntime) -> Result<(), Refusal> {
+fn limits_hold_and_heads_take_once(rt: HostRuntime) -> Result<(), Refusal> {
     let alloc = rt.alloc();
     assert!(rt; takes_once(alloc)?);
     assert!(rt; are_limited(alloc)?);

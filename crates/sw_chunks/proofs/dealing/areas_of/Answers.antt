@@ -30,7 +30,7 @@ of-requires-clause-within g c κs there =
     let le : c.loop-k.k ≤ length c.args.cuts.now = search rules in
     let is : c.replace-part.result.items ≡ part_of c.args.attribute c.args.rows.items (get_or (intervals c.args.cuts.now) c.loop-k.k i) =
     ap (λ (v : Packed). v.items) (c.replace-part.ensures.value ∙ c.index_mut.ensures.value) ∙ c.loop-k.invariant.2 c.loop-k.k c.index_mut.result.now i (omega arith) le in
-    part-ends c.args.attribute c.args.rows.items (get_or (intervals c.args.cuts.now) c.loop-k.k i) c.start_of.result c.end_of.result c.replace-part.result.items (c.start_of.ensures i) (c.end_of.ensures i) is
+    part-ends c.args.attribute c.args.rows.items (get_or (intervals c.args.cuts.now) c.loop-k.k i) c.interval_start.result c.interval_end.result c.replace-part.result.items (c.interval_start.ensures i) (c.interval_end.ensures i) is
 
 pub loop-k-preserved : goal.loop-k-preserved
 loop-k-preserved g c =
@@ -40,7 +40,7 @@ loop-k-preserved g c =
     ap (λ (v : Packed). v.items) (c.replace-part.ensures.value ∙ c.index_mut.ensures.value) ∙ c.loop-k.invariant.2 c.loop-k.k c.index_mut.result.now i (omega arith) le in
     let pushed : c.push.new.self.items ≡ c.loop-k.areas.items ++ c.in_ok-area.area ∷ [] = search rules in (
       pushed ∙ opened-more c.args.attribute c.args.rows.items c.args.cuts.now c.loop-k.k i c.loop-k.areas.items c.in_ok-area.area (omega (arith, le)) c.loop-k.invariant.0
-          (c.in_ok-area.ensures ∙ area-opened c.args.attribute c.args.rows.items (get_or (intervals c.args.cuts.now) c.loop-k.k i) c.start_of.result c.end_of.result c.replace-part.result.items (c.start_of.ensures i) (c.end_of.ensures i) is),
+          (c.in_ok-area.ensures ∙ area-opened c.args.attribute c.args.rows.items (get_or (intervals c.args.cuts.now) c.loop-k.k i) c.interval_start.result c.interval_end.result c.replace-part.result.items (c.interval_start.ensures i) (c.interval_end.ensures i) is),
       length-set c.loop-k.parts.items c.loop-k.k c.replace-part.new.dest ∙ c.loop-k.invariant.1,
       λ j d e past within. ap (λ (v : Packed). v.items) (get_or-set_other c.loop-k.parts.items c.loop-k.k j c.replace-part.new.dest d (λ same. absurd (omega (arith, same, past)))) ∙ c.loop-k.invariant.2 j d e (omega (arith, past)) within,
     )

@@ -6,8 +6,8 @@ use Rattle.sw_cli.proofs.running.run_told.Goals as goal
 
 pub returns-in-Ok : goal.returns-in-Ok
 returns-in-Ok g c =
-    begun_answers c.args.options.now.limit c.args.options.now.cuts.now (start_seen c.in-Ok.opened) (source_seen (g.T.Source.left c.args.table.now) _ _) (source_seen (g.S.Source.left c.args.script.now) _ _) (sink_seen _ _ _ _) c.begin.result
-    c.in-Ok.ensures.spelled c.in-Ok.ensures.steady c.begin.ensures
+    begun_answers c.args.options.now.limit c.args.options.now.cuts.now (start_seen c.in-Ok.opened) (source_seen (g.T.Source.left c.args.table.now) _ _) (source_seen (g.S.Source.left c.args.script.now) _ _) (sink_seen _ _ _ _) c.make_and_write.result
+    c.in-Ok.ensures.spelled c.in-Ok.ensures.steady c.make_and_write.ensures
 
 pub returns-in-Err : goal.returns-in-Err
 returns-in-Err g c =

@@ -14,4 +14,4 @@ loop-cond-preserved g c =
     let range = slice_range (shown_rows c.args.head c.args.tape.now) c.args.from c.args.upto in
     let none : Cond = record { attr = 0; lower = None; upper = None } in
     let at = get_or c.args.conds.now c.loop-cond.cond-index none in
-    refined-step range c.args.conds.now c.loop-cond.cond-index at none c.loop-cond.bits c.refine_by.new.bits c.open_cells-cells.result c.loop-cond-test.true refl c.loop-cond.invariant c.open_cells-cells.ensures c.refine_by.ensures.long c.refine_by.ensures.places
+    refined-step range c.args.conds.now c.loop-cond.cond-index at none c.loop-cond.bits c.refine_by.new.bits c.window_of_cells-cells.result c.loop-cond-test.true refl c.loop-cond.invariant c.window_of_cells-cells.ensures c.refine_by.ensures.long c.refine_by.ensures.places

@@ -22,19 +22,19 @@ returns-in-Sum-clause-told g c =
     let o = c.args.choice.now.bits in
     let range = slice_range (shown_rows c.args.head c.args.tape.now) c.args.from c.args.upto in
     let fits : SFits w128 c.sum.result = search rules in
-    let is = c.sum.ensures ∙ ap (λ (v : List ℤ). total (chosen o v)) c.open_cells-cells.ensures ∙ ap total (chosen-map (cell_of c.in-Sum.attr) o range) in
+    let is = c.sum.ensures ∙ ap (λ (v : List ℤ). total (chosen o v)) c.window_of_cells-cells.ensures ∙ ap total (chosen-map (cell_of c.in-Sum.attr) o range) in
     subst (λ (w : Want). IsReplyOver (chosen o range) w (reply.Sum (to_z w128 (of_z w128 c.sum.result)))) (sym c.in-Sum.is) (ap reply.Sum (to_z-of_z w128 c.sum.result fits ∙ is))
 
 pub returns-in-Min-clause-told : goal.returns-in-Min-clause-told
 returns-in-Min-clause-told g c =
     let o = c.args.choice.now.bits in
     let range = slice_range (shown_rows c.args.head c.args.tape.now) c.args.from c.args.upto in
-    let is = c.min.ensures ∙ ap (λ (v : List ℤ). least (chosen o v)) c.open_cells-cells-in-Min.ensures ∙ ap least (chosen-map (cell_of c.in-Min.attr) o range) in
+    let is = c.min.ensures ∙ ap (λ (v : List ℤ). least (chosen o v)) c.window_of_cells-cells-in-Min.ensures ∙ ap least (chosen-map (cell_of c.in-Min.attr) o range) in
     subst (λ (w : Want). IsReplyOver (chosen o range) w (reply.Least c.min.result)) (sym c.in-Min.is) (ap reply.Least is)
 
 pub returns-in-Max-clause-told : goal.returns-in-Max-clause-told
 returns-in-Max-clause-told g c =
     let o = c.args.choice.now.bits in
     let range = slice_range (shown_rows c.args.head c.args.tape.now) c.args.from c.args.upto in
-    let is = c.max.ensures ∙ ap (λ (v : List ℤ). greatest (chosen o v)) c.open_cells-cells-in-Max.ensures ∙ ap greatest (chosen-map (cell_of c.in-Max.attr) o range) in
+    let is = c.max.ensures ∙ ap (λ (v : List ℤ). greatest (chosen o v)) c.window_of_cells-cells-in-Max.ensures ∙ ap greatest (chosen-map (cell_of c.in-Max.attr) o range) in
     subst (λ (w : Want). IsReplyOver (chosen o range) w (reply.Least c.max.result)) (sym c.in-Max.is) (ap reply.Least is)

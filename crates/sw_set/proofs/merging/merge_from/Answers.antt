@@ -18,4 +18,4 @@ returns-clause-ends g c =
     let at = c.args.at in
     let u : Update = get_or us at (Insert (record { key = 0; cells = [] })) in
     let told = told-not u c.args.area.now c.log_one.new.area c.in_ok-log_one.field-0 c.if-branch.false c.in_ok-log_one.ensures in
-    goes-begun c.begin_with.result us at u c.args.area.now c.log_one.new.area c.begin_with.new.area c.requires.within (get_or_any _ _ _ _ c.requires.within) c.known.ensures.short told.0 told.1 c.begin_with.ensures.same c.begin_with.ensures.ends
+    goes-begun c.restart_from.result us at u c.args.area.now c.log_one.new.area c.restart_from.new.area c.requires.within (get_or_any _ _ _ _ c.requires.within) c.known.ensures.short told.0 told.1 c.restart_from.ensures.same c.restart_from.ensures.ends

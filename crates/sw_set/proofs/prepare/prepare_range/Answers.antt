@@ -16,4 +16,4 @@ range_of-requires-clause-maps g c κs within =
 
 pub range_of-requires-clause-stand : goal.range_of-requires-clause-stand
 range_of-requires-clause-stand g c κs within =
-    subst (λ (v : List (Step Row)). stands_if c.args.lower v && stands_if c.args.upper v ≡ true) (sym (c.in_ok-align.ensures.tape ∙ c.in_ok-make_all.ensures.same.tape)) (noted-stand c.args.lower c.args.upper _ _ _ c.known.ensures.short c.in_ok-note.ensures.ends)
+    subst (λ (v : List (Step Row)). stands_if c.args.lower v && stands_if c.args.upper v ≡ true) (sym (c.in_ok-align.ensures.tape ∙ c.in_ok-make_all.ensures.same.tape)) (noted-stand c.args.lower c.args.upper _ _ _ c.known.ensures.short c.in_ok-log_range.ensures.ends)

@@ -10,8 +10,8 @@ use Rattle.sw_set.proofs.Restarts.{restarted-same}
 use Rattle.sw_set.proofs.Ties.{tied-after}
 use Rattle.sw_set.proofs.area.Area.restart.Goals as goal
 
-pub begin_anew-requires-clause-receivable : goal.begin_anew-requires-clause-receivable
-begin_anew-requires-clause-receivable g c κs within =
+pub restart_with-requires-clause-receivable : goal.restart_with-requires-clause-receivable
+restart_with-requires-clause-receivable g c κs within =
     let s = c.self.inside in
     let live = c.in_ok-live.live in
     let are : live_among (first_rows s.tape) live ≡ logged_rows s.attribute s.tape = tied-after s.attribute s.tape s.live live _ [] c.load_of.ensures c.self.invariant.2 c.in_ok-live.ensures.1 in
@@ -24,4 +24,4 @@ returns-clause-same g c =
     let s = c.self.inside in
     let live = c.in_ok-live.live in
     let are : live_among (first_rows s.tape) live ≡ logged_rows s.attribute s.tape = tied-after s.attribute s.tape s.live live _ [] c.load_of.ensures c.self.invariant.2 c.in_ok-live.ensures.1 in
-    restarted-same _ _ _ _ (subst (λ (v : AreaState). live_among (first_rows v.tape) live ≡ logged_rows v.attribute v.tape) c.self.view_is are) c.begin_anew.ensures
+    restarted-same _ _ _ _ (subst (λ (v : AreaState). live_among (first_rows v.tape) live ≡ logged_rows v.attribute v.tape) c.self.view_is are) c.restart_with.ensures

@@ -19,8 +19,8 @@ loop-update-init c =
       ap (live_among load) c.in_ok-live.ensures,
     )
 
-pub take-requires-clause-rise : goal.take-requires-clause-rise
-take-requires-clause-rise c =
+pub follow-requires-clause-rise : goal.follow-requires-clause-rise
+follow-requires-clause-rise c =
     let load = c.args.load.now.items in
     let s = c.args.self.now in
     let us = c.args.updates.now in

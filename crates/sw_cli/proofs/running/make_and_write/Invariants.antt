@@ -1,4 +1,4 @@
-use Rattle.sw_cli.proofs.running.begin.Given as goal
+use Rattle.sw_cli.proofs.running.make_and_write.Given as goal
 
 -- the books that were just made, and the table
 abbrev pub ghosts-make : goal.ghosts-make

@@ -1,5 +1,5 @@
 use Rattle.sw_set.proofs.Noting.{same-logged, same-trans}
-use Rattle.sw_set.proofs.prepare.note.Goals as goal
+use Rattle.sw_set.proofs.prepare.log_range.Goals as goal
 
 pub returns-clause-same : goal.returns-clause-same
 returns-clause-same g c = same-logged _ _ _ _ _ c.log-2.ensures

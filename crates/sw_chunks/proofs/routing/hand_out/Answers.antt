@@ -1,5 +1,5 @@
 use Rattle.sw_chunks.proofs.Rooms.{may-spare, sent-spare}
-use Rattle.sw_chunks.proofs.routing.share_out.Goals as goal
+use Rattle.sw_chunks.proofs.routing.hand_out.Goals as goal
 
 pub hand_all-requires-clause-may : goal.hand_all-requires-clause-may
 hand_all-requires-clause-may g c = λ κs far.

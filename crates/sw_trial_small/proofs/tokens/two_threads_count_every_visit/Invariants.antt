@@ -1,4 +1,4 @@
-use Rattle.sw_trial_small.proofs.tokens.two_threads.Given as goal
+use Rattle.sw_trial_small.proofs.tokens.two_threads_count_every_visit.Given as goal
 
 -- the two books that were just made
 abbrev pub ghosts-count_both-J-Naming : goal.ghosts-count_both-J-Naming

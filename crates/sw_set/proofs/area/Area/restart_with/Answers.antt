@@ -9,7 +9,7 @@ use Rattle.sw_set.proofs.Boxes.{held-all}
 use Rattle.sw_table.proofs.LiveLaws.{kept-long}
 use Rattle.sw_set.proofs.Shelves.{area-begun, begun-shell, written}
 use Rattle.sw_set.proofs.Ties.{tied-loaded}
-use Rattle.sw_set.proofs.area.Area.begin_anew.Goals as goal
+use Rattle.sw_set.proofs.area.Area.restart_with.Goals as goal
 
 pub invariant_of-self-2 : goal.invariant_of-self-2
 invariant_of-self-2 g c =

@@ -1,7 +1,7 @@
 use Rattle.sw_cli.specs.Sides.{sink_seen}
 use Rattle.sw_cli.specs.Starts.{start_seen}
 use Rattle.sw_cli.proofs.Going.{goes}
-use Rattle.sw_cli.proofs.running.begin.Goals as goal
+use Rattle.sw_cli.proofs.running.make_and_write.Goals as goal
 
 pub returns-in-Ok : goal.returns-in-Ok
 returns-in-Ok g c =

@@ -4,9 +4,9 @@ use Rattle.sw_map.specs.Held.{tail_value}
 use Rattle.sw_set.specs.Choice.{IsColumn, shown_rows}
 use Rattle.sw_set.specs.declared.window.Side.TheVariants.{Tail}
 use Rattle.sw_set.proofs.Stock.{tail-column, column-range, column-long}
-use Rattle.sw_set.proofs.finding.open_keys.Goals as goal
-use Rattle.sw_set.proofs.finding.open_keys.Goals.{After-index-boxes-at}
-use Rattle.sw_set.proofs.finding.open_keys.Given.{Over}
+use Rattle.sw_set.proofs.finding.window_of_keys.Goals as goal
+use Rattle.sw_set.proofs.finding.window_of_keys.Goals.{After-index-boxes-at}
+use Rattle.sw_set.proofs.finding.window_of_keys.Given.{Over}
 
 is-keys : (g : Over) (c : After-index-boxes-at g) → IsColumn (map g.M.CrackerMap.held c.args.boxes.now) (record { at = c.find_ready-at.result; side = Tail }) (map (tail_value Key) (shown_rows c.args.head c.args.tape.now))
 is-keys g c = tail-column g.M.CrackerMap.held c.args.boxes.now c.args.head c.args.tape.now Key c.find_ready-at.result c.requires.stocked c.find_ready-at.ensures.inside c.find_ready-at.ensures.ready

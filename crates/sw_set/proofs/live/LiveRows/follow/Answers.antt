@@ -7,8 +7,8 @@ use Rattle.sw_rows.specs.declared.refusal.Refusal.TheVariants.{NoMemory}
 use Rattle.sw_set.specs.Live.{IsNextStanding, IsStandingOf, Standing}
 use Rattle.sw_set.specs.Shelf.{Rises, came_then, key_of}
 use Rattle.sw_set.proofs.LiveStandings.{next-absent, next-pushed, next-removed, pushed}
-use Rattle.sw_set.proofs.live.LiveRows.take.Goals as goal
-use Rattle.sw_set.proofs.live.LiveRows.take.Goals.{in-Some, in_default}
+use Rattle.sw_set.proofs.live.LiveRows.follow.Goals as goal
+use Rattle.sw_set.proofs.live.LiveRows.follow.Goals.{in-Some, in_default}
 
 -- the row is pushed, or memory was refused
 pushed-or-not : {U : Type 0} (r : Result U Refusal) (load : List Row) (s t : Standing) (row : Row) → IsStandingOf load s → Rises key_of ((load ++ s.later) ++ row ∷ []) → MatchResult r (λ _. t ≡ pushed s row) (λ e. (t ≡ s) × (e ≡ NoMemory)) → MatchResult r (λ _. IsNextStanding load (Insert row) s t) (λ e. e ≡ NoMemory)
