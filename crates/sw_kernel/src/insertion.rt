@@ -22,8 +22,8 @@ fn piece_of(marks: &[Mark], value: i64) -> usize
     marks.len()
 }
 
-/// Where the piece before the k-th mark ends.
-fn end_before(marks: &[Mark], k: usize, n: usize) -> usize
+/// Where the piece before the k-th mark ends, of n items.
+pub fn end_before(marks: &[Mark], k: usize, n: usize) -> usize
     ensures { result ≡ end_before (drop k marks.now) n }
 {
     if k < marks.len() { marks[k].at } else { n }

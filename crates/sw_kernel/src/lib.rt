@@ -13,7 +13,7 @@ mod partition;
 mod passing;
 mod removal;
 
-pub use insertion::ripple_in;
+pub use insertion::{end_before, ripple_in};
 pub use laws::{
     bounds_marked, bounds_rise, items_counted, marks_sound, replays_seen, rows_held_once,
     steps_seen,

@@ -105,7 +105,7 @@ impl Cuts {
     }
 }
 
-// The attribute that is cut, which has room for one more.
+/// The attribute that is cut, which has room for one more.
 #[tactic(auto, unfolding(crate::specs::CutsReading::cut_name, crate::specs::CutsReading::with_room))]
 fn cut_name(alloc: Global, schema: &Schema, cuts: &Cuts, name: &[u8]) -> Result<usize, ParseError>
     requires { length cuts.now ≡ length schema.now }
@@ -119,7 +119,7 @@ fn cut_name(alloc: Global, schema: &Schema, cuts: &Cuts, name: &[u8]) -> Result<
     Ok(attr)
 }
 
-// The value after '='.
+/// The value after '='.
 #[tactic(auto, unfolding(crate::specs::CutsReading::cut_value))]
 fn cut_value(kind: Kind, part: &[u8], equals: Option<usize>) -> Result<i64, ParseError>
     requires places { HasPlaces kind }
@@ -135,7 +135,7 @@ fn cut_value(kind: Kind, part: &[u8], equals: Option<usize>) -> Result<i64, Pars
     }
 }
 
-// Whether a value stands above all of a list.
+/// Whether a value stands above all of a list.
 fn is_above(values: &[i64], value: i64) -> bool
     ensures { result ≡ list_all (λ y. int_lt y value) values.now }
 {
@@ -155,7 +155,7 @@ fn add_cut(cuts: &mut Cuts, attr: usize, value: i64) -> Result<(), ParseError>
     Ok(())
 }
 
-// Where the first '=' is.
+/// Where the first '=' is.
 fn equals_at(part: &[u8]) -> Option<usize>
     ensures value { result ≡ equals_at part.now }
     ensures within { IfSome result (λ i. i < length part.now) }
@@ -173,7 +173,7 @@ fn before(part: &[u8], equals: Option<usize>) -> &[u8]
     }
 }
 
-// Adds the cut of a name, '=' and a value.
+/// Adds the cut of a name, '=' and a value.
 #[tactic(auto, unfolding(crate::specs::CutsReading::cut_split))]
 fn add_part(alloc: Global, schema: &Schema, cuts: &mut Cuts, part: &[u8]) -> Result<(), ParseError>
     requires { length cuts.old ≡ length schema.now }
@@ -187,7 +187,7 @@ fn add_part(alloc: Global, schema: &Schema, cuts: &mut Cuts, part: &[u8]) -> Res
     Ok(())
 }
 
-// Where the first ';' is.
+/// Where the first ';' is.
 fn divider_at(text: &[u8]) -> Option<usize>
     ensures value { result ≡ position is_divider text.now }
     ensures within { IfSome result (λ i. i < length text.now) }
@@ -195,7 +195,7 @@ fn divider_at(text: &[u8]) -> Option<usize>
     text.iter().position(|b| *b == b';')
 }
 
-// The bytes before the first ';', and those after it, if there is one.
+/// The bytes before the first ';', and those after it, if there is one.
 fn first_part(text: &[u8]) -> (&[u8], Option<&[u8]>)
     ensures parts { slice_split is_divider text.now
         ≡ result.0.now ∷ parts_after (option_map (λ rest. rest.now) result.1) }

@@ -34,7 +34,7 @@ fn term_at<'a>(
     Ok((Term { attr, op, value }, rest))
 }
 
-// Adds the conditions of terms with "and" between, up to the end.
+/// Adds the conditions of terms with "and" between, up to the end.
 fn add_terms(
     alloc: Global,
     schema: &Schema,
@@ -72,7 +72,7 @@ fn where_at(alloc: Global, schema: &Schema, text: &[u8]) -> Result<Conds, ParseE
     Ok(conds)
 }
 
-// Adds the names with commas between, and answers the bytes after them.
+/// Adds the names with commas between, and answers the bytes after them.
 fn add_names<'a>(
     alloc: Global,
     schema: &Schema,
@@ -143,7 +143,7 @@ fn max_at(alloc: Global, schema: &Schema, text: &[u8]) -> Result<Call, ParseErro
     Ok(call)
 }
 
-// The bytes past the comma that stands before a value, or all of them before the first.
+/// The bytes past the comma that stands before a value, or all of them before the first.
 #[tactic(auto, unfolding(crate::specs::Reading::past_comma))]
 fn past_comma(is_first: bool, text: &[u8]) -> Result<&[u8], ParseError>
     ensures gives { (values : List ℤ) → is_first ≡ (length values == 0)
@@ -211,7 +211,7 @@ fn delete_at(text: &[u8]) -> Result<Call, ParseError>
     Ok(Call::Delete(key))
 }
 
-// The call that begins with this token.
+/// The call that begins with this token.
 #[tactic(auto, unfolding(crate::specs::Reading::call_of))]
 fn call_of(alloc: Global, schema: &Schema, first: Token, text: &[u8]) -> Result<Call, ParseError>
     ensures { Gives (λ c. c) result (call_of schema.now (tok first.entry) (tokens text.now)) }

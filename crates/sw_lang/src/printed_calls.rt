@@ -8,11 +8,11 @@ ghost use Rattle.sw_rows.specs.Cells.{HasPlaces};
 ghost use Rattle.sw_rows.specs.Header.{kinds_of};
 
 use crate::printed_cells::write_cell;
-use crate::printed_rows::{kind_at, write_cells};
+use crate::printed_rows::{kind_or_int, write_cells};
 use crate::sinks::{write_all, write_number};
 use sw_rows::{Bound, Call, Cond, Kind, Query, Refusal, Schema, Sink, Want};
 
-// The name of an attribute.
+/// The name of an attribute.
 fn write_name<W: Sink>(schema: &Schema, attr: usize, out: &mut W) -> Result<(), Refusal>
     ensures { Writes (W.taken out.old) (W.taken out.new) (W.failed out.old) (W.failed out.new) result
         (name_at schema.now attr) }
@@ -24,7 +24,7 @@ fn write_name<W: Sink>(schema: &Schema, attr: usize, out: &mut W) -> Result<(), 
     }
 }
 
-// A comma, a space and a name.
+/// A comma, a space and a name.
 fn write_next_name<W: Sink>(schema: &Schema, attr: usize, out: &mut W) -> Result<(), Refusal>
     ensures { Writes (W.taken out.old) (W.taken out.new) (W.failed out.old) (W.failed out.new) result
         (codes ", " ++ name_at schema.now attr) }
@@ -76,7 +76,7 @@ fn write_select<W: Sink>(schema: &Schema, attrs: &[usize], out: &mut W) -> Resul
     write_names(schema, attrs, out)
 }
 
-// A word, with its space, and a name.
+/// A word, with its space, and a name.
 fn write_aggregate<W: Sink>(
     word: &[u8],
     schema: &Schema,
@@ -90,7 +90,7 @@ fn write_aggregate<W: Sink>(
     write_name(schema, attr, out)
 }
 
-// What is asked for.
+/// What is asked for.
 fn write_want<W: Sink>(schema: &Schema, want: &Want, out: &mut W) -> Result<(), Refusal>
     ensures { Writes (W.taken out.old) (W.taken out.new) (W.failed out.old) (W.failed out.new) result
         (want_text schema.now want.now) }
@@ -104,7 +104,7 @@ fn write_want<W: Sink>(schema: &Schema, want: &Want, out: &mut W) -> Result<(), 
     }
 }
 
-// An operator with its spaces, and a value.
+/// An operator with its spaces, and a value.
 fn write_compared<W: Sink>(kind: Kind, op: &[u8], value: &i64, out: &mut W) -> Result<(), Refusal>
     requires { HasPlaces kind }
     ensures { Writes (W.taken out.old) (W.taken out.new) (W.failed out.old) (W.failed out.new) result
@@ -125,7 +125,7 @@ fn write_comparison<W: Sink>(
         (comparison schema.now attr op.now value.now) }
 {
     write_name(schema, attr, out)?;
-    write_compared(kind_at(schema, attr), op, value, out)
+    write_compared(kind_or_int(schema, attr), op, value, out)
 }
 
 fn write_joiner<W: Sink>(started: bool, out: &mut W) -> Result<(), Refusal>
@@ -134,7 +134,7 @@ fn write_joiner<W: Sink>(started: bool, out: &mut W) -> Result<(), Refusal>
     write_all(out, if started { b" and " } else { b" where " })
 }
 
-// A comparison after its joiner.
+/// A comparison after its joiner.
 fn write_term<W: Sink>(
     schema: &Schema,
     started: bool,
@@ -182,14 +182,14 @@ fn write_upper<W: Sink>(
     }
 }
 
-// Whether a comparison stands before an upper bound's.
+/// Whether a comparison stands before an upper bound's.
 fn continues(started: bool, lower: Option<Bound>) -> bool
     ensures { result ≡ (started || is_some lower) }
 {
     started || lower.is_some()
 }
 
-// The comparisons of a condition.
+/// The comparisons of a condition.
 fn write_cond<W: Sink>(
     schema: &Schema,
     started: bool,
@@ -203,14 +203,14 @@ fn write_cond<W: Sink>(
     write_upper(schema, continues(started, cond.lower), cond, out)
 }
 
-// Whether a comparison stands before what follows a condition.
+/// Whether a comparison stands before what follows a condition.
 fn starts(started: bool, cond: &Cond) -> bool
     ensures { result ≡ (started || (is_some cond.now.lower || is_some cond.now.upper)) }
 {
     started || cond.lower.is_some() || cond.upper.is_some()
 }
 
-// The comparisons of conditions.
+/// The comparisons of conditions.
 fn write_where<W: Sink>(schema: &Schema, conds: &[Cond], out: &mut W) -> Result<(), Refusal>
     ensures { Writes (W.taken out.old) (W.taken out.new) (W.failed out.old) (W.failed out.new) result
         (where_text schema.now false conds.now) }
@@ -233,10 +233,10 @@ fn write_query<W: Sink>(schema: &Schema, query: &Query, out: &mut W) -> Result<(
     write_where(schema, query.conds.as_slice(), out)
 }
 
-// The numbers of all attributes that a table may have.
+/// The numbers of all attributes that a table may have.
 const ATTRS: [usize; 8] = [0, 1, 2, 3, 4, 5, 6, 7];
 
-// A cell for each attribute.
+/// A cell for each attribute.
 fn write_row_cells<W: Sink>(schema: &Schema, cells: &[i64], out: &mut W) -> Result<(), Refusal>
     ensures { Writes (W.taken out.old) (W.taken out.new) (W.failed out.old) (W.failed out.new) result
         (cells_text (kinds_of schema.now) cells.now) }

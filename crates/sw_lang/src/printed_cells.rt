@@ -10,7 +10,7 @@ use sw_rows::{Kind, Refusal, Sink};
 
 const POWERS_OF_TEN: [u128; 7] = [1, 10, 100, 1_000, 10_000, 100_000, 1_000_000];
 
-// Ten to a power.
+/// Ten to a power.
 fn power_of_ten(power: u8) -> u128
     requires { power ≤ 6 }
     ensures value { result ≡ 10 ^ power }
@@ -20,7 +20,7 @@ fn power_of_ten(power: u8) -> u128
     POWERS_OF_TEN[power as usize]
 }
 
-// A dot, and just so many decimals.
+/// A dot, and just so many decimals.
 fn write_fraction<W: Sink>(places: u8, fraction: u64, out: &mut W) -> Result<(), Refusal>
     requires some { 1 ≤ places }
     requires few { places ≤ 6 }
@@ -34,7 +34,7 @@ fn write_fraction<W: Sink>(places: u8, fraction: u64, out: &mut W) -> Result<(),
     write_all(out, &text[..end])
 }
 
-// Units, of which ten to the power `places` are one: the whole part, a dot and the decimals.
+/// Units, of which ten to the power `places` are one: the whole part, a dot and the decimals.
 fn write_with_point<W: Sink>(places: u8, units: u128, out: &mut W) -> Result<(), Refusal>
     requires some { 1 ≤ places }
     requires few { places ≤ 6 }
@@ -47,7 +47,7 @@ fn write_with_point<W: Sink>(places: u8, units: u128, out: &mut W) -> Result<(),
     write_fraction(places, fraction, out)
 }
 
-// The same below 0.
+/// The same below 0.
 fn write_below_zero<W: Sink>(places: u8, units: u128, out: &mut W) -> Result<(), Refusal>
     requires some { 1 ≤ places }
     requires few { places ≤ 6 }
@@ -58,7 +58,7 @@ fn write_below_zero<W: Sink>(places: u8, units: u128, out: &mut W) -> Result<(),
     write_with_point(places, units, out)
 }
 
-// A number of units with a sign.
+/// A number of units with a sign.
 fn write_fixed<W: Sink>(places: u8, units: i128, out: &mut W) -> Result<(), Refusal>
     requires some { 1 ≤ places }
     requires few { places ≤ 6 }
@@ -72,7 +72,7 @@ fn write_fixed<W: Sink>(places: u8, units: i128, out: &mut W) -> Result<(), Refu
     }
 }
 
-// Writes a cell of a kind.
+/// Writes a cell of a kind.
 pub(crate) fn write_cell<W: Sink>(kind: Kind, cell: &i64, out: &mut W) -> Result<(), Refusal>
     requires { HasPlaces kind }
     ensures { Writes (W.taken out.old) (W.taken out.new) (W.failed out.old) (W.failed out.new) result
@@ -86,7 +86,7 @@ pub(crate) fn write_cell<W: Sink>(kind: Kind, cell: &i64, out: &mut W) -> Result
     }
 }
 
-// Writes a sum over a kind.
+/// Writes a sum over a kind.
 pub(crate) fn write_sum<W: Sink>(kind: Kind, sum: i128, out: &mut W) -> Result<(), Refusal>
     requires { HasPlaces kind }
     ensures { Writes (W.taken out.old) (W.taken out.new) (W.failed out.old) (W.failed out.new) result
@@ -98,7 +98,7 @@ pub(crate) fn write_sum<W: Sink>(kind: Kind, sum: i128, out: &mut W) -> Result<(
     }
 }
 
-// Writes the least or the greatest of a kind, if there is one.
+/// Writes the least or the greatest of a kind, if there is one.
 pub(crate) fn write_extreme<W: Sink>(
     kind: Kind,
     extreme: Option<i64>,

@@ -10,8 +10,8 @@ use crate::printed_cells::write_cell;
 use crate::sinks::{write_all, write_number};
 use sw_rows::{Kind, Refusal, ReplyRows, Schema, Sink};
 
-// The kind of an attribute.
-pub(crate) fn kind_at(schema: &Schema, attr: usize) -> Kind
+/// The kind of an attribute.
+pub(crate) fn kind_or_int(schema: &Schema, attr: usize) -> Kind
     ensures value { result ≡ kind_at schema.now attr }
     ensures places { HasPlaces result }
 {
@@ -22,7 +22,7 @@ pub(crate) fn kind_at(schema: &Schema, attr: usize) -> Kind
     }
 }
 
-// A comma, a space and a cell.
+/// A comma, a space and a cell.
 fn write_next_cell<W: Sink>(kind: Kind, cell: &i64, out: &mut W) -> Result<(), Refusal>
     requires { HasPlaces kind }
     ensures { Writes (W.taken out.old) (W.taken out.new) (W.failed out.old) (W.failed out.new) result
@@ -32,7 +32,7 @@ fn write_next_cell<W: Sink>(kind: Kind, cell: &i64, out: &mut W) -> Result<(), R
     write_cell(kind, cell, out)
 }
 
-// The cells after the first.
+/// The cells after the first.
 fn write_more_cells<W: Sink>(
     schema: &Schema,
     attrs: &[usize],
@@ -48,14 +48,14 @@ fn write_more_cells<W: Sink>(
         let Some((cell, after)) = cells.split_first() else {
             return Ok(());
         };
-        write_next_cell(kind_at(schema, *attr), cell, out)?;
+        write_next_cell(kind_or_int(schema, *attr), cell, out)?;
         attrs = later;
         cells = after;
     }
     Ok(())
 }
 
-// The first cell and those after it.
+/// The first cell and those after it.
 fn write_some_cells<W: Sink>(
     schema: &Schema,
     attr: usize,
@@ -67,11 +67,11 @@ fn write_some_cells<W: Sink>(
     ensures { Writes (W.taken out.old) (W.taken out.new) (W.failed out.old) (W.failed out.new) result
         (cells_text (map (kind_at schema.now) (attr ∷ later.now)) (cell.now ∷ after.now)) }
 {
-    write_cell(kind_at(schema, attr), cell, out)?;
+    write_cell(kind_or_int(schema, attr), cell, out)?;
     write_more_cells(schema, later, after, out)
 }
 
-// The cells of a row.
+/// The cells of a row.
 pub(crate) fn write_cells<W: Sink>(
     schema: &Schema,
     attrs: &[usize],
@@ -90,7 +90,7 @@ pub(crate) fn write_cells<W: Sink>(
     write_some_cells(schema, *attr, later, cell, after, out)
 }
 
-// A colon, a space and the cells of a row.
+/// A colon, a space and the cells of a row.
 fn write_after_key<W: Sink>(
     schema: &Schema,
     attrs: &[usize],
@@ -104,7 +104,7 @@ fn write_after_key<W: Sink>(
     write_cells(schema, attrs, cells, out)
 }
 
-// A row without its line's end.
+/// A row without its line's end.
 fn write_row<W: Sink>(
     schema: &Schema,
     attrs: &[usize],
@@ -119,7 +119,7 @@ fn write_row<W: Sink>(
     write_after_key(schema, attrs, cells, out)
 }
 
-// A row as a line.
+/// A row as a line.
 fn write_row_line<W: Sink>(
     schema: &Schema,
     attrs: &[usize],
@@ -134,7 +134,7 @@ fn write_row_line<W: Sink>(
     write_all(out, b"\n")
 }
 
-// Rows as lines.
+/// Rows as lines.
 fn write_row_lines<W: Sink>(
     schema: &Schema,
     attrs: &[usize],
@@ -151,7 +151,7 @@ fn write_row_lines<W: Sink>(
     Ok(())
 }
 
-// How many rows there are, without the bracket before it.
+/// How many rows there are, without the bracket before it.
 fn write_count_end<W: Sink>(count: usize, out: &mut W) -> Result<(), Refusal>
     ensures { Writes (W.taken out.old) (W.taken out.new) (W.failed out.old) (W.failed out.new) result
         ((decimal count ++ codes " rows)") ++ codes "\n") }
@@ -160,7 +160,7 @@ fn write_count_end<W: Sink>(count: usize, out: &mut W) -> Result<(), Refusal>
     write_all(out, b" rows)\n")
 }
 
-// How many rows there are, as a line.
+/// How many rows there are, as a line.
 fn write_rows_line<W: Sink>(count: usize, out: &mut W) -> Result<(), Refusal>
     ensures { Writes (W.taken out.old) (W.taken out.new) (W.failed out.old) (W.failed out.new) result
         (rows_line count ++ codes "\n") }
@@ -169,7 +169,7 @@ fn write_rows_line<W: Sink>(count: usize, out: &mut W) -> Result<(), Refusal>
     write_count_end(count, out)
 }
 
-// Rows as lines, and how many there are.
+/// Rows as lines, and how many there are.
 pub(crate) fn write_rows<W: Sink>(
     schema: &Schema,
     attrs: &[usize],

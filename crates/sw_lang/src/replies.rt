@@ -10,7 +10,7 @@ use crate::printed_rows::{kind_at, write_rows};
 use crate::sinks::{write_all, write_number};
 use sw_rows::{Call, Kind, Refusal, Reply, ReplyRows, Schema, Sink, Want};
 
-// The kind of the first attribute that is shown, or of the one that is summed or compared.
+/// The kind of the first attribute that is shown, or of the one that is summed or compared.
 fn kind_wanted(schema: &Schema, want: &Want) -> Kind
     ensures value { result ≡ first_kind (kinds_wanted schema.now want.now) }
     ensures places { HasPlaces result }
@@ -35,7 +35,7 @@ fn kind_called(schema: &Schema, call: &Call) -> Kind
     }
 }
 
-// The rows that a query is answered.
+/// The rows that a query is answered.
 fn write_rows_wanted<W: Sink>(
     schema: &Schema,
     want: &Want,
@@ -69,7 +69,7 @@ fn write_rows_called<W: Sink>(
     }
 }
 
-// A number as a line.
+/// A number as a line.
 fn write_number_line<W: Sink>(number: u64, out: &mut W) -> Result<(), Refusal>
     ensures { Writes (W.taken out.old) (W.taken out.new) (W.failed out.old) (W.failed out.new) result
         (decimal number ++ codes "\n") }

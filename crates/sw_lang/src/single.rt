@@ -1,7 +1,7 @@
 //! Readings of one token.
 
 ghost use Rattle.std.specs.Prelude.{◌≡◌, ◌<◌, length, IfOk, MatchOption, true, false};
-ghost use Rattle.sw_rows.specs.Cells.{digits_after, digits_number, fitting, HasPlaces};
+ghost use Rattle.sw_rows.specs.Cells.{HasPlaces};
 ghost use Rattle.sw_rows.specs.Header.{is_name};
 ghost use Rattle.sw_lang.specs.Replies.{kind_at};
 ghost use Rattle.sw_lang.specs.Reading.{attr_of, first_by, is_comma, is_word, key_of, key_value, name_of, op_of, value_of, Gives};
@@ -10,7 +10,7 @@ ghost use Rattle.sw_lang.specs.Tokens.{tok, tokens};
 use crate::fault::{Fault, ParseError, bad};
 use crate::token::{Op, Token, next_token};
 use std::alloc::Global;
-use sw_rows::{Kind, Name, Schema, Why, is_name, read_cell_bytes};
+use sw_rows::{Kind, Name, Schema, Why, is_name, read_cell_bytes, read_digits};
 
 /// The kind of an attribute.
 pub(crate) fn kind_at(schema: &Schema, attr: usize) -> Kind
@@ -21,7 +21,7 @@ pub(crate) fn kind_at(schema: &Schema, attr: usize) -> Kind
     schema.kind(attr)
 }
 
-// The word as text, where it may be a name.
+/// The word as text, where it may be a name.
 fn as_name(word: &[u8]) -> Option<&str>
     ensures { MatchOption result (is_name word.now ≡ false)
         (λ name. (name.now ≡ word.now) × (is_name word.now ≡ true)) }
@@ -88,21 +88,6 @@ fn value_of(kind: Kind, token: Token) -> Result<i64, ParseError>
         Some(value) => Ok(value),
         None => Err(bad(Why::Value)),
     }
-}
-
-// The number that digits write after those of `start`.
-#[tactic(auto, using(sw_rows::proofs::CellLemmas::too_large, sw_rows::proofs::CellLemmas::one_more))]
-fn read_digits(start: u64, digits: &[u8]) -> Option<u64>
-    ensures { result ≡ fitting (digits_after start digits.now) }
-{
-    let mut n = start;
-    for digit in digits {
-        if !digit.is_ascii_digit() {
-            return None;
-        }
-        n = n.checked_mul(10)?.checked_add(u64::from(*digit - b'0'))?;
-    }
-    Some(n)
 }
 
 fn read_key(word: &[u8]) -> Option<u64>

@@ -53,14 +53,14 @@ pub(crate) fn skip_blanks(text: &[u8]) -> &[u8]
     rest
 }
 
-// How long the word at the front is.
+/// How long the word at the front is.
 fn word_len(text: &[u8]) -> usize
     ensures { result ≡ length (take_while is_word_byte text.now) }
 {
     text.iter().take_while(|b| is_word_byte(**b)).count()
 }
 
-// A comparison that an `=` may follow, and the bytes after it.
+/// A comparison that an `=` may follow, and the bytes after it.
 fn or_equal(short: Op, long: Op, rest: &[u8]) -> (Op, &[u8])
     ensures tokens { op result.0 ∷ tokens result.1.now
         ≡ or_equal short long (slice_index rest.now 0) (tokens rest.now) }
@@ -75,7 +75,7 @@ fn or_equal(short: Op, long: Op, rest: &[u8]) -> (Op, &[u8])
     (short, rest)
 }
 
-// The token at the front, where no blank stands, and the bytes after it.
+/// The token at the front, where no blank stands, and the bytes after it.
 fn front_token(text: &[u8]) -> Option<(Token<'_>, &[u8])>
     requires { is_blank (slice_index text.now 0) ≡ false }
     ensures tokens { MatchOption result (tokens text.now ≡ []) (λ p. tokens text.now ≡ tok p.0 ∷ tokens p.1.now) }

@@ -9,7 +9,7 @@ ghost use Rattle.sw_kernel.specs.Tapes.{IsRising};
 ghost use Rattle.sw_map.specs.Pieces.{AreCut, bounds_of, count_between, parted};
 
 use crate::places::{is_marked, marks_below};
-use sw_kernel::{Mark, split};
+use sw_kernel::{Mark, end_before, split};
 use sw_rows::Bound;
 
 /// Where the k-th piece begins.
@@ -18,13 +18,6 @@ fn start_of(marks: &[Mark], k: usize) -> usize
     ensures { result ≡ start_at 0 marks.now k }
 {
     if k == 0 { 0 } else { marks[k - 1].at }
-}
-
-/// Where the k-th piece of n pairs ends.
-fn end_of(marks: &[Mark], k: usize, n: usize) -> usize
-    ensures { result ≡ end_before (drop k marks.now) n }
-{
-    if k < marks.len() { marks[k].at } else { n }
 }
 
 /// Partitions the pairs from `start` up to `end`, and answers how many go left.
@@ -73,7 +66,7 @@ fn crack_new(
     ensures marks { (vec_len marks.new ≡ vec_len marks.old + 1) × (vec_capacity marks.new ≡ vec_capacity marks.old) }
 {
     let start = start_of(marks, k);
-    let end = end_of(marks, k, head.len());
+    let end = end_before(marks, k, head.len());
     let left = part(head, tail, start, end, bound);
     put_mark(
         marks,

@@ -1,7 +1,6 @@
 //! Where a bound's mark stands among rising marks.
 
 ghost use Rattle.std.specs.Prelude.{◌≡◌, ◌-◌, ◌<◌, ◌≤◌, true, false, length};
-ghost use Rattle.sw_rows.specs.Bounds.{same_bound};
 ghost use Rattle.sw_kernel.specs.declared.mark.Mark.{Mark};
 ghost use Rattle.sw_kernel.specs.Flat.{marks_below};
 ghost use Rattle.sw_kernel.specs.Tapes.{IsRising};
@@ -9,17 +8,6 @@ ghost use Rattle.sw_map.specs.Pieces.{bounds_of, is_before, mark_of};
 
 use sw_kernel::Mark;
 use sw_rows::Bound;
-
-/// Whether two bounds are one.
-fn is_same(one: Bound, other: Bound) -> bool
-    ensures { result ≡ same_bound one other }
-{
-    match (one, other) {
-        (Bound::Before(low), Bound::Before(high)) => low == high,
-        (Bound::After(low), Bound::After(high)) => low == high,
-        _ => false,
-    }
-}
 
 /// How many marks do not stand above the bound.
 pub(crate) fn marks_below(marks: &[Mark], bound: Bound) -> usize
@@ -37,7 +25,7 @@ pub(crate) fn is_marked(marks: &[Mark], k: usize, bound: Bound) -> bool
     ensures there { result ≡ true → (d : Mark) → (0 < k) × (is_before k bound marks.now d ≡ true) }
     ensures new { result ≡ false → (d : Mark) → 0 < k → is_before k bound marks.now d ≡ false }
 {
-    0 < k && is_same(bound, marks[k - 1].bound)
+    0 < k && bound.is_same(marks[k - 1].bound)
 }
 
 /// The place of the bound's mark, if it has one.

@@ -25,7 +25,7 @@ pub mod spelling;
 mod table;
 
 pub use bound::{Bound, greater, is_within, lesser};
-pub use cell::{read_cell, read_cell_bytes};
+pub use cell::{read_cell, read_cell_bytes, read_digits};
 pub use kind::Kind;
 pub use loading::{MOST_BYTES, load, load_in_parts, read_all};
 pub use name::Name;

@@ -178,7 +178,7 @@ fn read_halves<R: Threads + Sync>(
     joined(first, rest)
 }
 
-// Whether three bytes are a byte order mark.
+/// Whether three bytes are a byte order mark.
 fn is_mark(a: u8, b: u8, c: u8) -> bool
     ensures { result ≡ is_bom a b c }
 {

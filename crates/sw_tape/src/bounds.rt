@@ -8,17 +8,6 @@ ghost use Rattle.sw_tape.specs.Bounds.{IsNearestAbove, IsNearestBelow, IsPlaceOf
 
 use sw_rows::Bound;
 
-/// Whether two bounds are one.
-fn is_same(one: Bound, other: Bound) -> bool
-    ensures { result ≡ same_bound one other }
-{
-    match (one, other) {
-        (Bound::Before(low), Bound::Before(high)) => low == high,
-        (Bound::After(low), Bound::After(high)) => low == high,
-        _ => false,
-    }
-}
-
 /// How many of the bounds stand below this one.
 fn count_below(bounds: &[Bound], bound: Bound) -> usize
     requires { IsRising bounds.now }
@@ -31,7 +20,7 @@ fn count_below(bounds: &[Bound], bound: Bound) -> usize
 fn stands_at(bounds: &[Bound], place: usize, bound: Bound) -> bool
     ensures { result ≡ is_first bound (drop place bounds.now) }
 {
-    place < bounds.len() && is_same(bound, bounds[place])
+    place < bounds.len() && bound.is_same(bounds[place])
 }
 
 /// Whether the bound is among these.

@@ -13,7 +13,7 @@ part-left-requires-clause-range c =
     let ms = c.args.marks.now.items in let k = c.args.k in let n = c.args.head.now.len in
     let p = start-end 0 n ms k c.requires.order (search rules) in
     let es : c.start_of-start.result ≡ start_at 0 ms k = search rules in
-    let ee : c.end_of-end.result ≡ end_before (drop k ms) n = search rules in
+    let ee : c.end_before-end.result ≡ end_before (drop k ms) n = search rules in
     let el : length c.deref_mut.result.now ≡ n = search rules in
     (omega (arith, p.0, es, ee), omega (arith, p.1, ee, el))
 
@@ -22,7 +22,7 @@ returns-clause-cracked c =
     let hs = c.args.head.now.items in let ts = c.args.tail.now.items in
     let ms = c.args.marks.now.items in let k = c.args.k in let n = c.args.head.now.len in
     let r = c.part-left in let b = c.args.bound in
-    let s = c.start_of-start.result in let e = c.end_of-end.result in
+    let s = c.start_of-start.result in let e = c.end_before-end.result in
     let zs : List (ℤ × ℤ) = zip hs ts in
     let ln : length hs ≡ n = search rules in
     let lt : length ts ≡ c.args.tail.now.len = search rules in
@@ -46,7 +46,7 @@ returns-clause-order c =
     let hs = c.args.head.now.items in let ts = c.args.tail.now.items in
     let ms = c.args.marks.now.items in let k = c.args.k in let n = c.args.head.now.len in
     let r = c.part-left in let b = c.args.bound in
-    let s = c.start_of-start.result in let e = c.end_of-end.result in
+    let s = c.start_of-start.result in let e = c.end_before-end.result in
     let zs : List (ℤ × ℤ) = zip hs ts in
     let ln : length hs ≡ n = search rules in
     let lt : length ts ≡ c.args.tail.now.len = search rules in
