@@ -6,7 +6,7 @@ ghost use Rattle.sw_lang.specs.Sinks.{Writes};
 ghost use Rattle.sw_rows.specs.Cells.{HasPlaces};
 
 use crate::printed_cells::{write_extreme, write_sum};
-use crate::printed_rows::{kind_at, write_rows};
+use crate::printed_rows::{kind_or_int, write_rows};
 use crate::sinks::{write_all, write_number};
 use sw_rows::{Call, Kind, Refusal, Reply, ReplyRows, Schema, Sink, Want};
 
@@ -17,11 +17,11 @@ fn kind_wanted(schema: &Schema, want: &Want) -> Kind
 {
     match want {
         Want::Rows(attrs) => match attrs.as_slice().first() {
-            Some(attr) => kind_at(schema, *attr),
+            Some(attr) => kind_or_int(schema, *attr),
             None => Kind::Int,
         },
         Want::Count => Kind::Int,
-        Want::Sum(attr) | Want::Min(attr) | Want::Max(attr) => kind_at(schema, *attr),
+        Want::Sum(attr) | Want::Min(attr) | Want::Max(attr) => kind_or_int(schema, *attr),
     }
 }
 
