@@ -9,6 +9,7 @@ use Rattle.sw_rows.specs.declared.query.Call.TheVariants as call
 use Rattle.sw_rows.specs.declared.reply.Reply.{Reply}
 use Rattle.sw_rows.specs.declared.refusal.Refusal.{Refusal}
 use Rattle.sw_rows.specs.declared.refusal.Refusal.TheVariants as refusal
+use Rattle.sw_rows.specs.declared.table.TheConstants.{MOST_ROWS}
 use Rattle.sw_lang.specs.Cuts.{AreCuts, CutLists, cuts_on}
 use Rattle.sw_chunks.specs.Heads.{HeadState}
 use Rattle.sw_chunks.specs.Shelved.{boxes_in}
@@ -17,6 +18,7 @@ use Rattle.sw_spine.specs.History.{entry, mine}
 use Rattle.sw_spine.specs.Books.{Books, new_books, took, waits_for}
 use Rattle.sw_spine.specs.Receivable.{AreUpdates}
 use Rattle.sw_spine.specs.declared.history.State.TheVariants as state
+use Rattle.sw_spine.specs.declared.spine.TheConstants.{MOST_ENTRIES, MOST_SESSIONS}
 use Rattle.sw_tie.specs.declared.Book.{Book}
 use Rattle.sw_engine.specs.Published.{AreBehind}
 use Rattle.sw_tie.specs.declared.Share.{Share}
@@ -110,7 +112,7 @@ pub record IsLatched (heads_name limit : ℕ) (columns : List Column) (opening :
   pub named : share.name ≡ heads_name
   pub number_is : share.number ≡ number
   pub taken : received_by opening head ++ inbox ≡ took number share.value
-  pub most : limit ≤ 1048576
+  pub most : limit ≤ MOST_ROWS
   pub may_come : AreUpdates limit (received_by opening head ++ inbox)
   pub place : number < length columns
   pub attribute : IfSome head (λ h. h.attribute ≡ number)
@@ -127,7 +129,7 @@ IsSameButBoxes old new = new ≡ record old { waiting = new.waiting; held = new.
 -- what heads are made with: the opening rows are in order, and there is a list of cuts for each attribute
 pub record IsGround (columns : List Column) (opening : List Row) (cuts : CutLists) : Type 0 where
   pub numbered : is_numbered 1 opening ≡ true
-  pub within : length opening ≤ 1048576
+  pub within : length opening ≤ MOST_ROWS
   pub few : length columns ≤ 8
   pub lists : length cuts ≡ length columns
   pub lawful : (a : ℕ) → a < length columns → AreCuts (cuts_on cuts a)
@@ -153,13 +155,13 @@ IsBegun session q old new = new.entries ≡ old.entries ++ entry session (call.S
 -- why a call is refused
 abbrev pub RefusesCall : Refusal → Type 0
 RefusesCall refusal.NoMemory = Unit {0}
-RefusesCall (refusal.HistoryFull entries) = entries ≡ 1048576
+RefusesCall (refusal.HistoryFull entries) = entries ≡ MOST_ENTRIES
 RefusesCall other = ⊥
 
 -- why no session is opened
 abbrev pub TooManySessions : Refusal → Type 0
 TooManySessions refusal.NoMemory = Unit {0}
-TooManySessions (refusal.TooMany limit) = limit ≡ 1024
+TooManySessions (refusal.TooMany limit) = limit ≡ MOST_SESSIONS
 TooManySessions other = ⊥
 
 -- these tickets came back one after the other, each for the first time; the sessions' numbers begin at 1
@@ -191,12 +193,12 @@ RefusesClose given back e =
 -- why tickets are refused to so many sessions
 abbrev pub RefusesMany : ℕ → Refusal → Type 0
 RefusesMany sessions refusal.NoMemory = Unit {0}
-RefusesMany sessions (refusal.TooMany most) = (1024 < sessions) × (most ≡ 1024)
+RefusesMany sessions (refusal.TooMany most) = (MOST_SESSIONS < sessions) × (most ≡ MOST_SESSIONS)
 RefusesMany sessions other = ⊥
 
 -- why no engine is opened with the tickets of so many sessions
 abbrev pub RefusesOpening : ℕ → List Row → ℕ → Refusal → Type 0
 RefusesOpening limit rows sessions refusal.NoMemory = length rows ≤ limit
 RefusesOpening limit rows sessions (refusal.TooMany most) =
-    ((limit < length rows) × (most ≡ limit)) ⊎ ((1024 < sessions) × (most ≡ 1024))
+    ((limit < length rows) × (most ≡ limit)) ⊎ ((MOST_SESSIONS < sessions) × (most ≡ MOST_SESSIONS))
 RefusesOpening limit rows sessions other = ⊥

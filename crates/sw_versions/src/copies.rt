@@ -143,20 +143,23 @@ where
         }
     }
 
-    /// Publishes all that the writer has, where nothing waits. Without memory for it, or where it is put off, readers see what they
-    /// saw.
-    pub(crate) fn publish<R: Wait>(&mut self, rt: &R, while_read: WhileRead)
+    /// Whether it is time to publish: no viewer still reads the copy from before the last publishing, or it is to be waited for.
+    pub(crate) fn is_time(&self, while_read: WhileRead) -> bool {
+        match while_read {
+            WhileRead::Waits => true,
+            WhileRead::PutsOff => !self.visitors.any_reads_on(),
+        }
+    }
+
+    /// Publishes all that the writer has, where nothing waits. Without memory for it readers see what they saw.
+    pub(crate) fn publish<R: Wait>(&mut self, rt: &R)
         requires none { self.old.waiting ≡ None }
         ensures published { (self.new.published ≡ self.old.published) ⊎ (self.new.published ≡ all_of self.old) }
         ensures all { all_of self.new ≡ all_of self.old }
         ensures viewers { self.new.viewers ≡ self.old.viewers }
     {
-        if while_read.puts_off() && self.visitors.any_reads_on() {
-            return;
-        }
-        if publish(rt, &mut self.writer).is_ok() {
-            self.visitors.look();
-        }
+        let _ = publish(rt, &mut self.writer);
+        self.visitors.look();
     }
 
     /// A viewer, which has learnt what is published; none where there were as many as there may be, or where no place for a reader

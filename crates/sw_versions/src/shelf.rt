@@ -133,7 +133,7 @@ where
     }
 }
 
-/// Publishes what the writer has, where that is all.
+/// Publishes what the writer has, where that is all and it is time.
 fn publish_all<J: Naming, R: Wait>(
     rt: &R,
     booked: &Front<J>,
@@ -150,8 +150,8 @@ where
     ensures grows { IsPrefix copies.old.published copies.new.published }
     ensures viewers { copies.new.viewers ≡ copies.old.viewers }
 {
-    if !copies.waits() && booked.len() == updates.len() as u64 {
-        copies.publish(rt, while_read);
+    if !copies.waits() && booked.len() == updates.len() as u64 && copies.is_time(while_read) {
+        copies.publish(rt);
     }
 }
 

@@ -15,15 +15,6 @@ pub enum WhileRead {
     PutsOff,
 }
 
-impl WhileRead {
-    pub(crate) fn puts_off(self) -> bool {
-        match self {
-            WhileRead::Waits => false,
-            WhileRead::PutsOff => true,
-        }
-    }
-}
-
 /// How often a viewer came to the copies and went: an odd number while it reads. The viewer counts, and the writer looks.
 #[derive(Drop)]
 pub(crate) struct Visits {
@@ -107,7 +98,7 @@ impl Visitors {
         self.watches.iter().any(|watch| watch.is_reading_on())
     }
 
-    /// Something was published.
+    /// Something was published, or was to be.
     pub(crate) fn look(&mut self) {
         for watch in self.watches.iter_mut() {
             watch.look();
