@@ -1,5 +1,5 @@
 -- A list taken in parts.
-use Rattle.std.proofs.Common.{◌≡◌, ◌≤◌, ◌+◌, ◌++◌, ℕ, zero, suc, List, [], ◌∷◌, drop, length, take, refl, sym, ap, ◌∙◌, arith}
+use Rattle.std.proofs.Common.{◌≡◌, ◌+◌, ◌++◌, ℕ, zero, suc, List, [], ◌∷◌, drop, length, take, refl, sym, ap, ◌∙◌, arith}
 use Rattle.std.proofs.lemmas.List.{take_all}
 
 taken_next : {A : Type 0} (n m k : ℕ) (xs : List A) → k ≡ n + m → take n xs ++ take m (drop n xs) ≡ take k xs
@@ -13,18 +13,9 @@ taken_length zero xs = refl
 taken_length (suc m) [] = refl
 taken_length (suc m) (x ∷ xs) = ap (λ l. x ∷ l) (taken_length m xs)
 
-taken_short : {A : Type 0} (n : ℕ) (xs : List A) → length (take n xs) ≤ length xs
-taken_short zero xs = omega arith
-taken_short (suc n) [] = omega arith
-taken_short (suc n) (x ∷ xs) = let rest = taken_short n xs in omega (arith, rest)
-
--- a beginning is no longer
-pub taken_within : {A : Type 0} (ys xs : List A) → ys ≡ take (length ys) xs → length ys ≤ length xs
-taken_within ys xs is = let short = taken_short (length ys) xs in let e = ap length is in omega (arith, short, e)
-
 -- a beginning, and so many more
-pub taken_more : {A : Type 0} (ys zs new xs : List A) (n m : ℕ) → ys ≡ take (length ys) xs → zs ≡ take m (drop (length ys) xs) → n ≡ length zs → new ≡ ys ++ take n (drop 0 zs) → new ≡ take (length ys + m) xs
-taken_more ys zs new xs n m is next all e = e ∙ (ap (λ l. ys ++ l) (take_all n zs (omega (arith, all)) ∙ next) ∙ (ap (λ l. l ++ take m (drop (length ys) xs)) is ∙ taken_next (length ys) m (length ys + m) xs refl))
+pub taken_more : {A : Type 0} (ys new xs : List A) (n m : ℕ) → ys ≡ take (length ys) xs → n ≡ length ys → new ≡ ys ++ take m (drop n xs) → new ≡ take (length ys + m) xs
+taken_more ys new xs n m is all e = e ∙ (ap (λ k. ys ++ take m (drop k xs)) all ∙ (ap (λ l. l ++ take m (drop (length ys) xs)) is ∙ taken_next (length ys) m (length ys + m) xs refl))
 
 -- it is a beginning again
 pub taken_again : {A : Type 0} (new xs : List A) (n : ℕ) → new ≡ take n xs → new ≡ take (length new) xs

@@ -1,6 +1,6 @@
 //! Heads under their latches, the history under its lock, and the sessions.
 
-ghost use Rattle.std.specs.Prelude.{◌≡◌, ◌<◌, ◌≤◌, ◌+◌, ◌++◌, ◌∷◌, [], ℕ, true, drop, length, take, vec_len, IfErr, IfOk, IsOkUnless, MatchResult, OnErr, OnOk, false};
+ghost use Rattle.std.specs.Prelude.{◌≡◌, ◌<◌, ◌≤◌, ◌+◌, ◌++◌, ◌∷◌, [], ℕ, true, length, take, vec_len, IfErr, IfOk, IsOkUnless, MatchResult, OnErr, OnOk, false};
 ghost use Rattle.sw_rows.specs.Scan.{AsksBelow};
 ghost use Rattle.sw_rows.specs.declared.query.Call.TheVariants.{Select, Insert, Delete};
 ghost use Rattle.sw_rows.specs.declared.refusal.Refusal.TheVariants.{NoMemory};
@@ -321,37 +321,23 @@ where
         (rows.width(), rows.len())
     }
 
-    /// Copies of up to so many opening rows from a place on, made in one visit.
-    fn some_rows<R: Wait>(&self, rt: &R, from: usize, most: usize) -> Result<PackedRows, AllocError>
-        requires { from ≤ length J.opening }
-        ensures { IfOk result (λ rows. rows.items ≡ take most (drop from J.opening)) }
-    {
-        let desk = self.visit(rt);
-        let rows = desk.opening_rows();
-        let many = most.min(rows.len() - from);
-        let mut some = PackedRows::with_capacity(self.alloc, rows.width(), many)?;
-        some.extend_from(rows, from, most)?;
-        Ok(some)
-    }
-
     /// Adds copies of the next opening rows, up to so many, in one visit. Refused `NoMemory` alone.
-    #[tactic(auto, using(crate::proofs::Parts::taken_within, crate::proofs::Parts::taken_more))]
+    #[tactic(auto, using(crate::proofs::Parts::taken_more))]
     fn add_rows<R: Wait>(&self, rt: &R, rows: &mut PackedRows, most: usize) -> Result<(), Refusal>
         requires { rows.old.items ≡ take (length rows.old.items) J.opening }
         ensures ok { OnOk result (rows.new.items ≡ take (length rows.old.items + most) J.opening) }
         ensures err { IfErr result (λ e. e ≡ NoMemory) }
     {
-        let Ok(next) = self.some_rows(rt, rows.len(), most) else {
-            return Err(Refusal::NoMemory);
-        };
-        match rows.extend_from(&next, 0, next.len()) {
+        let from = rows.len();
+        let desk = self.visit(rt);
+        match rows.extend_from(desk.opening_rows(), from, most) {
             Ok(()) => Ok(()),
             Err(_) => Err(Refusal::NoMemory),
         }
     }
 
-    /// A copy of the opening rows, made in visits of `PART` rows, so that others visit between them and memory that is
-    /// written for the first time is not written under the lock. Refused `NoMemory` alone.
+    /// A copy of the opening rows, made in visits of `PART` rows, so that others visit between them. Its memory is got before
+    /// them. Refused `NoMemory` alone.
     #[tactic(auto, using(crate::proofs::Parts::taken_whole, crate::proofs::Parts::taken_again))]
     fn opening_rows<R: Wait>(&self, rt: &R) -> Result<PackedRows, Refusal>
         ensures { MatchResult result (λ rows. rows.items ≡ J.opening) (λ e. e ≡ NoMemory) }
