@@ -1,6 +1,6 @@
 //! What lies under the lock: the desk, and the shelf of what viewers read.
 
-ghost use Rattle.std.specs.Prelude.{◌≡◌, ◌⊎◌, ◌<◌, ◌≤◌, [], false, None, Some, length, IfErr, IfOk, IsSome, IsSomeAnd, OnErr, OnOk, true};
+ghost use Rattle.std.specs.Prelude.{◌≡◌, ◌⊎◌, ◌<◌, ◌≤◌, ◌+◌, [], false, None, Some, length, IfErr, IfOk, IsSome, IsSomeAnd, OnErr, OnOk, true};
 ghost use mathlib.Core.List.{IsPrefix};
 ghost use Rattle.sw_rows.specs.Scan.{AsksBelow};
 ghost use Rattle.sw_rows.specs.declared.query.Call.TheVariants.{Select};
@@ -254,8 +254,9 @@ where
     {
         let LockedDesk { desk, shelf, book } = self;
         shelf.catch_up(rt, book, desk.later(), WhileRead::Waits);
-        let published = shelf.published();
-        desk.publish(number, share, book.count(&published));
+        let receipt = shelf.published();
+        let count = book.count(&receipt);
+        desk.publish(number, share, count);
         shelf.meet(book, viewer)
     }
 

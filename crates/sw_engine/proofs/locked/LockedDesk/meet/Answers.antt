@@ -11,16 +11,16 @@ publish-requires-clause-high g c =
     let opening = g.J.Naming.opening in
     let b = c.self.inside.desk.books in
     let begins = caught_up opening b c.self.inside.shelf c.catch_up.new.self.published c.later.result.now c.self.invariant.0 c.later.ensures.later c.catch_up.ensures.published in
-    let is = c.count-count.ensures ∙ ap (λ (l : List Update). length opening + length l) c.published.ensures in
+    let is = c.count-count.ensures ∙ ap (λ (l : List Update). length opening + length l) c.published-receipt.ensures in
     subst (λ (n : ℕ). n ≤ length (updates b)) (sym is) (published_high opening b c.catch_up.new.self.published begins c.later.ensures.opening)
 
-pub invariant_of-self-2 : goal.invariant_of-self-2
-invariant_of-self-2 g c = (
-  after_meeting g.J.Naming.opening c.self.inside.desk.books c.publish.new.self.books c.self.inside.shelf c.catch_up.new.self c.later.result.now c.count-count.result c.self.invariant.0 c.later.ensures.later c.catch_up.ensures.booked c.catch_up.ensures.published c.publish.ensures.published (c.count-count.ensures ∙ ap (λ (l : List Update). length g.J.Naming.opening + length l) c.published.ensures),
+pub invariant_of-self : goal.invariant_of-self
+invariant_of-self g c = (
+  after_meeting g.J.Naming.opening c.self.inside.desk.books c.publish.new.self.books c.self.inside.shelf c.catch_up.new.self c.later.result.now c.count-count.result c.self.invariant.0 c.later.ensures.later c.catch_up.ensures.booked c.catch_up.ensures.published c.publish.ensures.published (c.count-count.ensures ∙ ap (λ (l : List Update). length g.J.Naming.opening + length l) c.published-receipt.ensures),
   c.self.invariant.1,
 )
 
 pub returns-clause-shown : goal.returns-clause-shown
 returns-clause-shown g c =
-    let is = after_meeting g.J.Naming.opening c.self.inside.desk.books c.publish.new.self.books c.self.inside.shelf c.catch_up.new.self c.later.result.now c.count-count.result c.self.invariant.0 c.later.ensures.later c.catch_up.ensures.booked c.catch_up.ensures.published c.publish.ensures.published (c.count-count.ensures ∙ ap (λ (l : List Update). length g.J.Naming.opening + length l) c.published.ensures) in
+    let is = after_meeting g.J.Naming.opening c.self.inside.desk.books c.publish.new.self.books c.self.inside.shelf c.catch_up.new.self c.later.result.now c.count-count.result c.self.invariant.0 c.later.ensures.later c.catch_up.ensures.booked c.catch_up.ensures.published c.publish.ensures.published (c.count-count.ensures ∙ ap (λ (l : List Update). length g.J.Naming.opening + length l) c.published-receipt.ensures) in
     ap (published_of g.J.Naming.opening) c.publish.ensures.shown ∙ published_is g.J.Naming.opening c.publish.new.self.books c.catch_up.new.self is
