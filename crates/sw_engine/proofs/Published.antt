@@ -1,5 +1,5 @@
 -- What is published stays, or grows.
-use Rattle.std.proofs.Common.{◌≡◌, ◌⊎◌, ⊎_elim, inl, inr, ℕ, zero, suc, ◌+◌, ◌≤◌, List, [], ◌∷◌, ◌++◌, length, take, drop, set, Bool, true, false, Some, refl, sym, ◌∙◌, ap, subst, arith, length-append, fold}
+use Rattle.std.proofs.Common.{◌≡◌, ◌⊎◌, ⊎_elim, inl, inr, ℕ, zero, suc, ◌+◌, ◌≤◌, List, [], ◌∷◌, ◌++◌, length, take, drop, set, Bool, true, false, Some, refl, sym, ◌∙◌, ap, subst, arith, fold}
 use Rattle.std.specs.Prelude.{Err, Ok, OnErr, OnOk, Result, slice_get}
 use Rattle.std.proofs.lemmas.List.{append-nil, drop-take, length-drop, take-append-le}
 use Rattle.std.proofs.lemmas.List.Sums.{fold-append}
@@ -10,7 +10,7 @@ use Rattle.sw_table.specs.declared.row.Update.{Update}
 use Rattle.sw_table.specs.Updates.{rows_of, rows_then}
 use Rattle.sw_versions.specs.Known.{Shelved}
 use Rattle.sw_versions.specs.Lists.{rows_after}
-use Rattle.sw_versions.proofs.Prefixes.{prefix_length, prefix_self, prefix_taken, prefix_trans}
+use Rattle.sw_versions.proofs.Prefixes.{prefix_length, prefix_taken, prefix_trans}
 use Rattle.sw_spine.specs.Books.{Books, new_books, updates, with_published, with_session}
 use Rattle.sw_spine.specs.Table.{opened}
 use Rattle.sw_spine.proofs.StoreLemmas.{rows_of_opened}

@@ -193,12 +193,12 @@ RefusesClose given back e =
 -- why tickets are refused to so many sessions
 abbrev pub RefusesMany : ℕ → Refusal → Type 0
 RefusesMany sessions refusal.NoMemory = Unit {0}
-RefusesMany sessions (refusal.TooMany most) = (1024 < sessions) × (most ≡ 1024)
+RefusesMany sessions (refusal.TooMany most) = (MOST_SESSIONS < sessions) × (most ≡ MOST_SESSIONS)
 RefusesMany sessions other = ⊥
 
 -- why no engine is opened with the tickets of so many sessions
 abbrev pub RefusesOpening : ℕ → List Row → ℕ → Refusal → Type 0
 RefusesOpening limit rows sessions refusal.NoMemory = length rows ≤ limit
 RefusesOpening limit rows sessions (refusal.TooMany most) =
-    ((limit < length rows) × (most ≡ limit)) ⊎ ((1024 < sessions) × (most ≡ 1024))
+    ((limit < length rows) × (most ≡ limit)) ⊎ ((MOST_SESSIONS < sessions) × (most ≡ MOST_SESSIONS))
 RefusesOpening limit rows sessions other = ⊥

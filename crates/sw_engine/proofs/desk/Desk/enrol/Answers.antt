@@ -1,4 +1,4 @@
-use Rattle.std.proofs.Common.{◌≡◌, ◌+◌, ◌++◌, ◌∷◌, [], length, false, sym, ap, ◌∙◌}
+use Rattle.std.proofs.Common.{◌≡◌, ◌+◌, length, false, sym, ap, ◌∙◌}
 use Rattle.sw_spine.specs.Books.{Books, with_session}
 use Rattle.sw_engine.specs.Published.{published_of}
 use Rattle.sw_engine.proofs.Published.{behind_push, enrol_tied}

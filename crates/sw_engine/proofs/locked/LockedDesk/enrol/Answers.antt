@@ -1,5 +1,4 @@
-use Rattle.std.proofs.Common.{◌≡◌, sym, ap, ◌∙◌}
-use Rattle.sw_spine.specs.Books.{Books}
+use Rattle.std.proofs.Common.{sym, ap, ◌∙◌}
 use Rattle.sw_engine.specs.Published.{published_of}
 use Rattle.sw_engine.proofs.Published.{published_is}
 use Rattle.sw_engine.proofs.locked.LockedDesk.enrol.Goals as goal
