@@ -128,10 +128,10 @@ def under_limits(rng, begin, table, script, step, count):
                 yield "%d KiB" % (begin + number * step), table, script, told_words, limited(begin + number * step)
 
 
-def preload(work):
-    """The library that refuses allocations."""
-    library = os.path.join(work, "refusing.so")
-    source = str(TOP / "bench" / "refusing.c")
+def preload(work, name="refusing"):
+    """The library that refuses allocations, or one of another name."""
+    library = os.path.join(work, name + ".so")
+    source = str(TOP / "bench" / (name + ".c"))
     subprocess.run(["cc", "-O1", "-shared", "-fPIC", "-o", library, source, "-ldl"], check=True)
     return library
 
