@@ -1,11 +1,12 @@
 #!/usr/bin/env python3
 """Ends that fail: pipes that are closed, disks that are full after each number of bytes, files that cannot be opened or read,
-sources that give few bytes at a time, and standard streams that are closed. Each run must end with its status and its line,
-what went out must be a beginning of what was to go out, and no file but the named one may change.
-Ends with 1 and the first case that is wrong."""
+sources that give few bytes at a time, each read and each write failing in turn, writes that take few bytes at a time, and standard
+streams that are closed. Each run must end with its status and its line, what went out must be a beginning of what was to go out,
+and no file but the named one may change. Ends with 1 and the first case that is wrong."""
 import fcntl, os, resource, struct, subprocess, tempfile, termios, threading, time
 from pathlib import Path
 from histories import check
+from memory import preload, refusing
 from model import run
 from running import ended, options, told, wrong
 
@@ -14,7 +15,17 @@ SCRIPT = b"count\nselect b, c where a >= 10\ninsert 1, 2, 3\n---\nsum a\nmin b w
 STATUS, OUT, _, HISTORY = run(TABLE, SCRIPT)
 RUN = ["run", "--table", "t.csv", "--script", "s.txt"]
 NO_INPUT, NO_OUTPUT = (2, "", "sideways: refused 12\n"), "sideways: refused 13\n"
+NO_HISTORY = (2, "", "sideways: refused 3 line 0 why History\n")
 MANY = b"a\n" + b"".join(b"%d\n" % number for number in range(1000))
+
+
+# A table, a script and what they give, each more than three blocks of 64 KiB.
+LONG_TABLE = b"a:int,b:int\n" + b"".join(b"%050d,%d\n" % (row, row * 7919 % 1009) for row in range(4000))
+LONG_SCRIPT = b"insert 1, 2\ncount\nselect a, b where a >= 3980\n" * 900 + b"# nothing\n" * 20000
+_, LONG_OUT, _, LONG_HISTORY = run(LONG_TABLE, LONG_SCRIPT)
+
+# What the library tells of the failed read or write.
+MET = "read or write failed\n"
 
 
 class Ends:
@@ -25,6 +36,7 @@ class Ends:
         self.put("t.csv", TABLE)
         self.put("s.txt", SCRIPT)
         self.put("h.json", HISTORY)
+        self.library = preload(self.folder, "failing")
 
     def put(self, name, data):
         (self.folder / name).write_bytes(data)
@@ -159,6 +171,83 @@ class Ends:
         status, _, fault = told(self.program, words, self.folder)
         self.held("a history into a pipe whose reader goes", words, (3, NO_OUTPUT), (status, fault))
 
+    # Reads and writes that fail, or take few bytes
+
+    def failing(self, end, **how):
+        """What a run is given so that something becomes of the reads and writes of the files whose names end so."""
+        return refusing(self.library, FILE=end, TOLD=1, **how)
+
+    def failing_reads(self):
+        """Each read of a table, of a script and of a checked history fails in turn, the last one, which finds the end, too."""
+        for table, script, history, most, good in ((TABLE, SCRIPT, HISTORY, 16, OUT), (LONG_TABLE, LONG_SCRIPT, LONG_HISTORY, 65536, LONG_OUT)):
+            files = {"read.csv": table, "read.txt": script, "read.json": history}
+            for name, data in files.items():
+                self.put(name, data)
+            words = ["run", "--table", "read.csv", "--script", "read.txt"]
+            for name in ("read.csv", "read.txt"):
+                self.each_read(words, name, len(files[name]), most, (0, good, ""))
+            self.each_read(["check", "read.json"], "read.json", len(history), most, check(history))
+
+    def each_read(self, words, name, size, most, good):
+        at, fault = 0, MET
+        while MET in fault:
+            at += 1
+            status, out, fault = told(self.program, words, self.folder, **self.failing(name, FAILED=at, MOST=most))
+            expected = NO_INPUT if MET in fault else good
+            self.held("read %d of %s" % (at, name), words, expected, (status, out, fault.replace(MET, "")))
+        self.held("the reads of %s" % name, words, -(-size // most) + 1, at - 1)
+
+    def failing_writes(self):
+        """Each write of the output and of the history fails in turn: what was written before it is there, and no more."""
+        self.put("long.csv", LONG_TABLE)
+        self.put("long.txt", LONG_SCRIPT)
+        long = ["run", "--table", "long.csv", "--script", "long.txt"]
+        for words, out, history, mosts in ((RUN, OUT, HISTORY, (1, 16)), (long, LONG_OUT, LONG_HISTORY, (65536,))):
+            for most in mosts:
+                self.each_write(words, "out", out.encode(), history, most)
+                self.each_write(words, "kept.json", out.encode(), history, most)
+
+    def each_write(self, words, name, out, history, most):
+        words, at, fault = words + ["--history", "kept.json"], 0, MET
+        while MET in fault:
+            at += 1
+            got = self.written(words, "out", "kept.json", **self.failing("/" + name, FAILED=at, MOST=most))
+            fault, before = got[1], (at - 1) * most
+            if MET not in fault:
+                expected = (0, "", out, history)
+            elif name == "out":
+                expected = (3, MET + NO_OUTPUT, out[:before], None)
+            else:
+                expected = (3, MET + NO_OUTPUT, out, history[:before])
+                self.hold("the check of a beginning", ["check", "kept.json"], NO_HISTORY)
+            self.held("write %d of %s" % (at, name), words, expected, got)
+        self.held("the writes of %s" % name, words, -(-len(out if name == "out" else history) // most), at - 1)
+
+    def written(self, words, out, history, **more):
+        """A run whose output goes into a file: the status, what is told, and what is in this file and in the history's."""
+        (self.folder / history).unlink(missing_ok=True)
+        with open(self.folder / out, "wb") as file:
+            status, fault = self.streams(words, stdout=file, stderr=subprocess.PIPE, **more)
+        kept = self.folder / history
+        return status, fault, (self.folder / out).read_bytes(), kept.read_bytes() if kept.exists() else None
+
+    def short_writes(self):
+        """Writes that take so many bytes at most: all of the output, of the history and of a fault's line goes out."""
+        self.put("long.csv", LONG_TABLE)
+        self.put("long.txt", LONG_SCRIPT)
+        long = ["run", "--table", "long.csv", "--script", "long.txt"]
+        cases = [(RUN, OUT, HISTORY, most) for most in range(1, len(HISTORY) + 1)]
+        cases += [(long, LONG_OUT, LONG_HISTORY, most) for most in (1, 2, 3, 1000, 4095, 65535)]
+        for words, out, history, most in cases:
+            words = words + ["--history", "history.short"]
+            got = self.written(words, "out.short", "history.short", **self.failing(".short", MOST=most))
+            self.held("writes of at most %d bytes" % most, words, (0, "", out.encode(), history), got)
+        for most in range(1, len(NO_INPUT[2])):
+            with open(self.folder / "told.short", "wb") as file:
+                status = self.streams(["check", "none"], stdout=subprocess.DEVNULL, stderr=file, **self.failing(".short", MOST=most))[0]
+            line = (self.folder / "told.short").read_text()
+            self.held("a line by %d bytes at most" % most, ["check", "none"], (NO_INPUT[0], NO_INPUT[2]), (status, line))
+
     def closed_streams(self):
         """Standard streams that are closed when the program begins: that is told, and no file is written in their place."""
         words = RUN + ["--history", "closed.json", "--stats"]
@@ -176,7 +265,9 @@ class Ends:
 def main():
     given = options(__doc__)
     ends = Ends(given.program)
-    for what in (ends.closed_pipes, ends.full_disks, ends.files, ends.sources, ends.closed_streams):
+    kinds = [ends.closed_pipes, ends.full_disks, ends.files, ends.sources, ends.failing_reads, ends.failing_writes, ends.short_writes,
+             ends.closed_streams]
+    for what in kinds:
         before, began = ends.made, time.time()
         what()
         print("%s: %d as expected, %.0f s" % (what.__name__.replace("_", " "), ends.made - before, time.time() - began), flush=True)

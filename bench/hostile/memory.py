@@ -1,15 +1,16 @@
 #!/usr/bin/env python3
 """Memory that runs out: runs and checks under limits of address space of many sizes, and with allocations refused at random, or
 all from one on. Each ends with its answer or with `refused 1` and status 3, never by a signal; each answered line is the
-model's, given which calls were refused; and each history that was written is legal and that of the output.
-Ends with 1 and the first case that is wrong."""
+model's, given which calls were refused; and each history that was written is legal and that of the output. Of each kind a stated
+number of runs at least must be answered whole, and a stated number refused. Ends with 1 and the first case that is wrong, or where
+there were too few."""
 import json, os, random, resource, subprocess
 from pathlib import Path
 from histories import check
 from making import schema_for, script_for, separated, table_for
 from model import Store, run, show_call
 from reading import load, parse_script
-from running import TOP, Holder, ended, options, told, wrong
+from running import TOP, Holder, Wrong, ended, options, told, wrong
 
 REFUSED, FAULT = "refused 1", "sideways: refused 1\n"
 
@@ -64,9 +65,9 @@ class Runs(Holder):
         status, out, fault = told(self.program, words, folder, **more)
         if (status, fault) not in ((0, ""), (3, ""), (3, FAULT)):
             wrong(name, files, words, "status 0, or 3 and the line of refusal 1", (status, fault, out[:200]))
-        has_refused = REFUSED in out.split("\n")
-        if out and (status == 0) == (has_refused or bool(fault)):
-            wrong(name, files, words, "status 3 just where something was refused", (status, fault, has_refused))
+        is_refused = bool(fault) or REFUSED in out.split("\n")
+        if (status == 3) != is_refused or not (out or fault):
+            wrong(name, files, words, "status 3 just where something was refused, else replies", (status, fault, is_refused))
         if out and "--threads" not in words:
             difference = told_story(table, script, out)
             if difference:
@@ -101,10 +102,11 @@ def limited(kib):
 def least(program, folder):
     """The KiB at which a small run ends with status 0."""
     (folder / "t.csv").write_bytes(b"a\n1\n")
-    kib, words = 1024, ["run", "--table", "t.csv", "--script", "/dev/null", "--history", "h.json"]
-    while told(program, words, folder, **limited(kib))[0] != 0:
-        kib += 4
-    return kib
+    words = ["run", "--table", "t.csv", "--script", "/dev/null", "--history", "h.json"]
+    for kib in range(1024, 16384, 4):
+        if told(program, words, folder, **limited(kib))[0] == 0:
+            return kib
+    raise Wrong("WRONG: a run of one row does not end with 0 within 16 MiB")
 
 
 def inputs(rng, rows, calls, blocks):
@@ -126,10 +128,10 @@ def under_limits(rng, begin, table, script, step, count):
                 yield "%d KiB" % (begin + number * step), table, script, told_words, limited(begin + number * step)
 
 
-def preload(work):
-    """The library that refuses allocations."""
-    library = os.path.join(work, "refusing.so")
-    source = str(TOP / "bench" / "refusing.c")
+def preload(work, name="refusing"):
+    """The library that refuses allocations, or one of another name."""
+    library = os.path.join(work, name + ".so")
+    source = str(TOP / "bench" / (name + ".c"))
     subprocess.run(["cc", "-O1", "-shared", "-fPIC", "-o", library, source, "-ldl"], check=True)
     return library
 
@@ -165,15 +167,16 @@ def main():
     print("the least address space in which a small run ends with 0: %d KiB" % begin, flush=True)
     small = inputs(rng, 30, 60, 0.05)
     large = inputs(rng, 4000, 60, 0.05)
-    runs.hold("small runs under limits", under_limits(rng, begin, *small, 16, 150 * times))
-    runs.hold("large runs under limits", under_limits(rng, begin, *large, 768, 40 * times))
+    runs.hold("small runs under limits", under_limits(rng, begin, *small, 16, 150 * times), answered=200 * times, refused=1)
+    runs.hold("large runs under limits", under_limits(rng, begin, *large, 768, 40 * times), answered=40 * times, refused=1)
     library = preload(runs.folder.name)
-    runs.hold("runs with allocations refused at random", refused_at_random(rng, library, 300 * times))
-    runs.hold("runs with all refused from one on", refused_from(library, *small, 300 * times))
+    runs.hold("runs with allocations refused at random", refused_at_random(rng, library, 300 * times), answered=20 * times, refused=100 * times)
+    runs.hold("runs with all refused from one on", refused_from(library, *small, 300 * times), refused=500)
     history = run(*small)[3]
     checks = Checks(given.program)
-    checks.hold("checks under limits", checks_under([limited(begin + 8 * number) for number in range(200 * times)], history))
-    checks.hold("checks with allocations refused", checks_under([refusing(library, SHARE=1, AFTER=number) for number in range(1, 300 * times)], history))
+    checks.hold("checks under limits", checks_under([limited(begin + 8 * number) for number in range(200 * times)], history), answered=150 * times)
+    ways = [refusing(library, SHARE=1, AFTER=number) for number in range(1, 300 * times)]
+    checks.hold("checks with allocations refused", checks_under(ways, history), refused=200)
     runs.end()
 
 

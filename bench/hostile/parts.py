@@ -1,7 +1,8 @@
 #!/usr/bin/env python3
 """Long tables, which a run reads in parts, each by a thread of its own: each is held against the same table with its first name in quotes, which is
 read on one thread. Lines end by CR, LF or both, some are empty, and there are quotes, byte order marks in mid-text, bad cells, wrong counts, and
-rows up to and past the greatest number. Status, output and fault line must be the same. Ends with 1 and the first case that is wrong."""
+rows up to and past the greatest number. Status, output and fault line must be the same, an answered run must have all its lines, and a stated
+number of tables at least must be answered. Ends with 1 and the first case that is wrong, or where too few were answered."""
 import random
 from making import chance
 from running import Holder, ended, options, told, wrong
@@ -14,6 +15,14 @@ SCRIPT = b"count\nselect a, b, c\n"
 MOST_ROWS = 1 << 20
 
 
+def is_whole(run):
+    """Whether a run was refused for its table; or answered with the number of its rows, and then with their sum or with all of them."""
+    status, out, fault = run
+    lines = out.split("\n")
+    rows = lines[1:] == [lines[0], ""] or (lines[-2:] == ["(%s rows)" % lines[0], ""] and lines[0] == str(len(lines) - 3))
+    return (status == 2 and not out) or (status == 0 and not fault and rows)
+
+
 class Twice(Holder):
     """Holds a run of a table against that of the same table with a quote in its header."""
 
@@ -21,7 +30,7 @@ class Twice(Holder):
         folder = self.fresh(number, {**files, "t.csv": table, "q.csv": table.replace(HEADER, QUOTED, 1)})
         got, expected = (told(self.program, [*words, "--table", file], folder) for file in ("t.csv", "q.csv"))
         self.clear(folder)
-        if got != expected:
+        if got != expected or not is_whole(got):
             shown = lambda run: (run[0], run[1][:200], run[2])
             wrong(name, {**files, "t.csv": table}, words, shown(expected), shown(got))
         return got[0]
@@ -58,8 +67,8 @@ def limits():
 def main():
     given = options(__doc__)
     holder, rng = Twice(given.program), random.Random(given.seed)
-    holder.hold("limits", limits())
-    holder.hold("random long tables", random_tables(rng, 300 * given.times))
+    holder.hold("limits", limits(), answered=2, refused=36)
+    holder.hold("random long tables", random_tables(rng, 300 * given.times), answered=50 * given.times, refused=150 * given.times)
     holder.end()
 
 

@@ -70,8 +70,8 @@ class Holder:
         self.clear(folder)
         return got[0]
 
-    def hold(self, kind, cases):
-        """Holds all cases of a kind, and says how many there were of each status."""
+    def hold(self, kind, cases, answered=0, refused=0):
+        """Holds all cases of a kind, and says how many there were of each status. So many are answered and so many refused at least."""
         statuses, futures = {}, []
         with ThreadPoolExecutor(3) as pool:
             for case in cases:
@@ -86,6 +86,9 @@ class Holder:
                 raise
         shown = ", ".join("%d with status %d" % (statuses[status], status) for status in sorted(statuses))
         print("%s: %d as expected: %s" % (kind, len(futures), shown), flush=True)
+        got = statuses.get(0, 0), statuses.get(2, 0) + statuses.get(3, 0)
+        if got[0] < answered or got[1] < refused:
+            raise Wrong("WRONG: %s: %d answered and %d refused, wanted %d and %d at least" % (kind, *got, answered, refused))
 
     def end(self):
         print("%d cases in %.0f s" % (self.made, time.time() - self.began))
