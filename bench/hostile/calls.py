@@ -2,9 +2,10 @@
 """Calls of tapes, maps, areas and heads, made one by one by a program of their own (calls.rt.txt). Each run is made again with its first
 allocation refused, its second, and so on, until a run meets no refusal: a refused call says `refused 1` and nothing else, leaves what it
 was made on as its contract says, and is then answered as in the run without a refusal. And worked examples over maps that refuse each
-n-th step, find the budget contended at each second begin, or find no cells at all: the replies are the known ones.
+n-th step, find the budget contended at each second begin, or find no cells at all: the replies are the known ones, and of each kind
+of map it is told how many calls were made, and how many calls of maps were refused, which must be some.
 Ends with 1 and the first run that is wrong. Called by calls.sh, which builds the program."""
-import tempfile, time
+import re, tempfile, time
 from collections import Counter
 from memory import preload, refusing
 from running import Wrong, ended, options, told
@@ -31,11 +32,24 @@ WORKED = {
     "rows come and go beside a cut": [BELOW, ("insert 1, 9, 0", "key 5"), ("delete 4", "removed"), ("count where a < 12", "2"), ("count", "4")],
 }
 
+# More of them, over maps that refuse: so that a map begins again in its box, by another tail or since it was cleared; and so that it makes
+# five steps and more.
+OTHER = ("select c where a >= 10 and a <= 15", "1: 1\n3: 1\n(2 rows)")
+TURNED = {
+    "tails by turns": [RANGE, OTHER, RANGE, OTHER, RANGE],
+    "maps that are cleared": [RANGE, ("clear", "done"), RANGE, ("clear", "done"), RANGE],
+    "one range after the other": [("count where a >= 10", "3"), ("count where a >= 13", "1"), ("count where a < 5", "1"),
+                                  ("count where a >= 20", "1"), ("count where a < 12", "1"), RANGE],
+}
+
 # Sides whose calls are given a refusal, with boxes and cells.
 GROWN = [(side, boxes, cells) for side in ("area", "head", "cuts") for boxes, cells in ((6, AMPLE), (4, 128), (2, 64), (0, AMPLE), (4, 0))]
 
-# Maps that refuse: each step of this number, each second begin; and no cells.
-TROUBLES = [("%d" % every, AMPLE) for every in range(1, 6)] + [("contended", AMPLE), ("0", 0)]
+# Maps that refuse: how they do, the word for it, and the cells: each step of a number, each second begin, and each one for want of cells.
+# And how many boxes there are: enough, and so few that maps take turns in them.
+TROUBLES = [("step %d and each further one of that number" % every, "%d" % every, AMPLE) for every in range(1, 6)]
+TROUBLES += [("each second begin, by 8", "contended", AMPLE), ("each begin, by 7", "none", 0)]
+TROUBLED_BOXES = "6", "2"
 
 BLANK = "0 used, 0 cells, cursor 0:"
 
@@ -104,6 +118,36 @@ def left_so(name, before, seen):
     if name == "merge" or name.split()[0] in ("prepare", "scan", "select", "count"):
         return keys(seen) == keys(before)
     return seen == before or seen == "none"
+
+
+class Kind:
+    """What was called over maps of a kind, and how often these began, stepped and refused to."""
+
+    def __init__(self, name):
+        self.name, self.runs, self.calls, self.began, self.stepped, self.denied = name, 0, 0, 0, 0, 0
+
+    def add(self, words, calls, maps):
+        many = re.fullmatch("([0-9]+) began, ([0-9]+) stepped, ([0-9]+) denied", maps)
+        if not many:
+            wrong(words, "maps that refuse", "how often", maps)
+        began, stepped, denied = (int(number) for number in many.groups())
+        self.runs, self.calls = self.runs + 1, self.calls + calls
+        self.began, self.stepped, self.denied = self.began + began, self.stepped + stepped, self.denied + denied
+
+    def tell(self):
+        """Tells it; wrong where no call of these maps was refused."""
+        print("maps that refuse %s: %d runs, %d calls, all replies as known; the maps began %d times, made %d steps and refused %d calls"
+              % (self.name, self.runs, self.calls, self.began, self.stepped, self.denied), flush=True)
+        if self.denied == 0:
+            raise Wrong("WRONG: no call of a map was refused")
+
+
+def tell_kinds(kinds, began):
+    """Tells each kind, and all of them together."""
+    for kind in kinds:
+        kind.tell()
+    sums = tuple(sum(getattr(kind, name) for kind in kinds) for name in ("runs", "calls", "denied"))
+    print("over maps that refuse: %d runs, %d calls, all replies as known; %d calls of maps refused, in %.0f s" % (*sums, time.time() - began))
 
 
 def asked(side, boxes, lines):
@@ -200,14 +244,17 @@ def main():
         print("%s, %d boxes, %d cells: %d allocations, each refused" % (side, boxes, cells, many), flush=True)
     print("refused calls: " + ", ".join("%s %d" % it for it in sorted(calls.kinds.items())))
     print("refused: " + ", ".join("%s %d" % it for it in calls.tally.items()) + " in %.0f s" % (time.time() - began), flush=True)
-    began, many = time.time(), 0
-    for every, cells in TROUBLES:
+    began, kinds = time.time(), []
+    for name, every, cells in TROUBLES:
+        kinds.append(Kind(name))
         for side in ("area", "head", "cuts"):
-            for lines in WORKED.values():
-                for said in (lines, asked(side, 0, lines)):
-                    calls.plain([side, every, "6", str(cells)] + [line for line, _ in said], said)
-                    many += 1
-    print("over maps that refuse: %d runs, all replies as known, in %.0f s" % (many, time.time() - began))
+            for boxes in TROUBLED_BOXES:
+                for lines in list(WORKED.values()) + list(TURNED.values()):
+                    for said in (lines, asked(side, 0, lines)):
+                        words = [side, every, boxes, str(cells)] + [line for line, _ in said]
+                        made = calls.plain(words, said)
+                        kinds[-1].add(words, len(said), dict(it[:2] for it in made).get("maps", "none"))
+    tell_kinds(kinds, began)
 
 
 if __name__ == "__main__":

@@ -3,11 +3,12 @@
 no refusal: a refused call says `refused 1` and nothing else, of a viewer perhaps `refused 5 limit 16`, and is then answered as in the
 run without a refusal; the record is legal, and has at most one entry more, which is void. Where publishing a change was refused the change
 is answered, each viewer answers as before, and the next insert or delete publishes both, also one that finds no such key. And worked
-examples over maps that refuse: the replies are the known ones.
+examples over maps that refuse: the replies are the known ones, and of each kind of map it is told how many calls were made, and how many
+calls of maps were refused, which must be some.
 Ends with 1 and the first run that is wrong. Called by sessions.sh, which builds the program."""
 import tempfile, time
 from collections import Counter
-from calls import AMPLE, MET, TROUBLES, WORKED, groups, wrong
+from calls import AMPLE, MET, TROUBLED_BOXES, TROUBLES, TURNED, WORKED, Kind, groups, tell_kinds, wrong
 from memory import preload, refusing
 from running import ended, options, told
 
@@ -84,14 +85,15 @@ class Sessions:
         return status, [(name, answer) for name, answer, _ in groups(out)], fault
 
     def plain(self, words, lines):
-        """What is told before the calls, and at the end, of a run without a refusal, whose calls are answered so."""
+        """What is told before the calls, and at the end, of a run without a refusal, whose calls are answered so; and what of its maps."""
         status, made, fault = self.ran(words)
+        maps = made.pop()[1] if made and made[-1][0] == "maps" else "none"
         calls = [it for it in lines if it[0] not in ("viewer", "learn", "clear") and not it[0].startswith("view ")]
         end = [("close", "%d entries" % len(calls)), ("void", "0"), ("check", "legal")]
         many = len(made) - len(lines) - len(end)
         if (status, fault) != (0, "") or made[many:] != lines + end or set(made[:many]) - {(name, "done") for name in BEFORE}:
             wrong(words, "no refusal", lines + end, (status, made, fault))
-        return made[:many], end
+        return made[:many], end, maps
 
     def judged(self, words, at, ways, made):
         """Judges a run of which one allocation was refused, and says what was refused: a call, the publishing, or nothing. Its ways
@@ -122,7 +124,7 @@ class Sessions:
 
     def each(self, words, lines, *late):
         """Refuses each allocation in turn; `late` are the replies where publishing a change was refused."""
-        before, end = self.plain(words, lines)
+        before, end, _ = self.plain(words, lines)
         ways, at, fault = [before + calls + end for calls in (lines,) + late], 0, MET
         while MET in fault:
             at += 1
@@ -154,14 +156,17 @@ def main():
         print("%s: %d allocations, each refused" % (name, sessions.viewed(lines)), flush=True)
     print("refused calls: " + ", ".join("%s %d" % it for it in sorted(sessions.kinds.items())))
     print("refused: " + ", ".join("%s %d" % it for it in sessions.tally.items()) + " in %.0f s" % (time.time() - began), flush=True)
-    began, many = time.time(), 0
-    known = [([line for line, _ in lines], lines) for lines in WORKED.values()] + [(lines, replies(lines)) for lines in VIEWED.values()]
-    for every, cells in TROUBLES:
+    began, kinds = time.time(), []
+    known = [([line for line, _ in lines], lines) for lines in list(WORKED.values()) + list(TURNED.values())]
+    known += [(lines, replies(lines)) for lines in VIEWED.values()]
+    for name, every, cells in TROUBLES:
+        kinds.append(Kind(name))
         for cuts in ("whole", "a=12"):
-            for lines, answers in known:
-                sessions.plain([every, "6", str(cells), cuts] + lines, answers)
-                many += 1
-    print("over maps that refuse: %d runs, all replies as known, in %.0f s" % (many, time.time() - began))
+            for boxes in TROUBLED_BOXES:
+                for lines, answers in known:
+                    words = [every, boxes, str(cells), cuts] + lines
+                    kinds[-1].add(words, len(answers), sessions.plain(words, answers)[2])
+    tell_kinds(kinds, began)
 
 
 if __name__ == "__main__":

@@ -10,6 +10,7 @@ mod seeing;
 mod words;
 
 ghost use Rattle.std.specs.Prelude.{◌≡◌, ◌<◌, ◌≤◌, All, IfSome};
+ghost use Rattle.sw_rows.specs.declared.table.TheConstants.{MOST_ROWS};
 ghost use Rattle.sw_map.specs.Held.{blank};
 
 use crate::explaining::write_explanations;
@@ -60,7 +61,7 @@ fn run_open<R: Threads + Wait + Sync, O: Onlooker, T: Source, S: Source, W: Sink
     onlooker: &O,
 ) -> Result<AfterRun, Refusal>
     requires some { 0 < options.now.limit }
-    requires most { options.now.limit ≤ 1048576 }
+    requires most { options.now.limit ≤ MOST_ROWS }
     requires blank { All (λ m. ⟦<PairMap as CrackerMap>⟧.held m ≡ blank) maps.items }
 {
     let mut noting = Noting::new(out);
@@ -156,12 +157,12 @@ struct Settings {
     maps: u64,
     threads: bool,
     ghost some: { 0 < limit },
-    ghost most: { limit ≤ 1048576 },
+    ghost most: { limit ≤ MOST_ROWS },
 }
 
 /// The limit of rows that was given.
 fn limit_given(given: &ArgMatches) -> Option<u64>
-    ensures { IfSome result (λ limit. (0 < limit) × (limit ≤ 1048576)) }
+    ensures { IfSome result (λ limit. (0 < limit) × (limit ≤ MOST_ROWS)) }
 {
     let limit = given.get_one::<u64>("limit")?;
     if limit == 0 || limit > 1_048_576 {

@@ -12,6 +12,7 @@ use Rattle.sw_chunks.specs.Heads.{AreAreasOf, HeadState, IsCell, IsHeadLawful, R
 use Rattle.sw_chunks.specs.Places.{owners_kept}
 use Rattle.sw_chunks.specs.Routing.{CameHere, given_by}
 use Rattle.sw_chunks.proofs.Dealt.{part-keys}
+use Rattle.sw_chunks.specs.declared.places.TheConstants.{MOST_CUTS}
 
 rows-after : (rows live : List Row) → fold rows_then live (map update.Insert rows) ≡ live ++ rows
 rows-after [] live = sym (append-nil live)
@@ -48,7 +49,7 @@ came-here a rows i n h = subst (λ (l : List Row). All (λ (r : Row). r.key < n)
 pub record MayOpen (a : ℕ) (cuts : List ℤ) (rows : List Row) : Type 0 where
   pub attribute : a < 8
   pub rising : RiseAbove None cuts
-  pub few : length cuts ≤ 15
+  pub few : length cuts ≤ MOST_CUTS
   pub keys : All (λ (r : Row). r.key < 2 ^ 63) rows
   pub rise : Rises key_of rows
   pub fit : All (λ (r : Row). (n : ℕ) → IsCell (cell_of n r)) rows

@@ -18,6 +18,7 @@ use Rattle.sw_chunks.specs.Places.{owners_kept}
 use Rattle.sw_chunks.specs.Cleared.{AreEach, HoldsOfEach}
 use Rattle.sw_chunks.specs.Shelved.{IsFewest}
 use Rattle.sw_chunks.specs.Cuts.{Interval, RiseAbove, intervals}
+use Rattle.sw_chunks.specs.declared.places.TheConstants.{MOST_CUTS}
 
 -- The attribute that is the head, its cuts, the list of all that it was opened with and received, and an area for each
 -- interval, in order.
@@ -51,7 +52,7 @@ pub record StandsFor (us : List Update) (a : ℕ) (cuts : List ℤ) (xs : List A
 pub record AreAreasOf (a : ℕ) (cuts : List ℤ) (xs : List AreaState) : Type 0 where
   pub attribute : a < 8
   pub rising : RiseAbove None cuts
-  pub few : length cuts ≤ 15
+  pub few : length cuts ≤ MOST_CUTS
   pub attributes : All (λ (x : AreaState). x.attribute ≡ a) xs
   pub intervals_are : map interval_of xs ≡ intervals cuts
 

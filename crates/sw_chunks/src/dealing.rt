@@ -7,6 +7,7 @@ ghost use Rattle.sw_set.specs.Shelf.{Rises, key_of};
 ghost use Rattle.sw_chunks.specs.Cuts.{Interval, RiseAbove, intervals};
 ghost use Rattle.sw_chunks.specs.Heads.{ArePartsOf, opened_areas};
 ghost use Rattle.sw_chunks.specs.Places.{owners_kept, owners_of};
+ghost use Rattle.sw_chunks.specs.declared.places.TheConstants.{MOST_CUTS};
 
 use crate::places::place_in;
 use std::alloc::Global;
@@ -52,7 +53,7 @@ fn deal(
 ) -> Result<Vec<PackedRows>, Refusal>
     requires attribute { attribute < 8 }
     requires rising { RiseAbove None cuts.now }
-    requires few { length cuts.now ≤ 15 }
+    requires few { length cuts.now ≤ MOST_CUTS }
     ensures many { IfOk result (λ parts. length parts.items ≡ length cuts.now + 1) }
     ensures parts { IfOk result (λ parts. ArePartsOf attribute cuts.now rows.now.items parts.items) }
     ensures refused { IsOkUnless result NoMemory }
@@ -75,7 +76,7 @@ fn parts_of(
 ) -> Result<Vec<PackedRows>, Refusal>
     requires attribute { attribute < 8 }
     requires rising { RiseAbove None cuts.now }
-    requires few { length cuts.now ≤ 15 }
+    requires few { length cuts.now ≤ MOST_CUTS }
     ensures many { IfOk result (λ parts. length parts.items ≡ length cuts.now + 1) }
     ensures parts { IfOk result (λ parts. ArePartsOf attribute cuts.now rows.items parts.items) }
     ensures refused { IsOkUnless result NoMemory }
@@ -116,7 +117,7 @@ pub(crate) fn areas_of<M: CrackerMap>(
 ) -> Result<Vec<Area<M>>, Refusal>
     requires attribute { attribute < 8 }
     requires rising { RiseAbove None cuts.now }
-    requires few { length cuts.now ≤ 15 }
+    requires few { length cuts.now ≤ MOST_CUTS }
     requires keys { All (λ (r : Row). r.key < 2 ^ 63) rows.items }
     requires rise { Rises key_of rows.items }
     ensures areas { IfOk result (λ areas. areas.items ≡ opened_areas attribute cuts.now rows.items) }
@@ -148,7 +149,7 @@ fn owners_of(
     rows: &PackedRows,
 ) -> Result<Vec<(u64, u8)>, Refusal>
     requires attribute { attribute < 8 }
-    requires few { length cuts.now ≤ 15 }
+    requires few { length cuts.now ≤ MOST_CUTS }
     ensures owners { IfOk result (λ owners. owners.items ≡ owners_of attribute cuts.now rows.now.items) }
     ensures refused { IsOkUnless result NoMemory }
 {
@@ -173,7 +174,7 @@ pub(crate) fn owners_kept(
     rows: &PackedRows,
 ) -> Result<Vec<(u64, u8)>, Refusal>
     requires attribute { attribute < 8 }
-    requires few { length cuts.now ≤ 15 }
+    requires few { length cuts.now ≤ MOST_CUTS }
     ensures owners { IfOk result (λ owners. owners.items ≡ owners_kept attribute cuts.now rows.now.items) }
     ensures refused { IsOkUnless result NoMemory }
 {

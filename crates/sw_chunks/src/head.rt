@@ -15,6 +15,7 @@ ghost use Rattle.sw_chunks.specs.Shelved.{AreShed};
 ghost use Rattle.sw_chunks.specs.Heads.{AreUntouchedKept, AreUntouchedSame, ComesBack, HasReceived, IsHeadLawful, IsRanged, IsSameButRoom, IsSameHead, IsSupplied, opened, touched_of};
 ghost use Rattle.sw_chunks.specs.Figures.{HavePieces, areas_cells, areas_entries, areas_maps};
 ghost use Rattle.sw_chunks.specs.Routing.{MayFollow};
+ghost use Rattle.sw_chunks.specs.declared.places.TheConstants.{MOST_CUTS};
 ghost use Rattle.sw_set.specs.Figures.{capped};
 
 use crate::answering::answer_areas;
@@ -71,7 +72,7 @@ impl<M: CrackerMap> Head<M> {
     pub fn new(alloc: Global, attribute: u8, cuts: &[i64], rows: &[Row]) -> Result<Head<M>, Refusal>
         requires attribute { attribute < 8 }
         requires rising { RiseAbove None cuts.now }
-        requires few { length cuts.now ≤ 15 }
+        requires few { length cuts.now ≤ MOST_CUTS }
         requires keys { All (λ (r : Row). r.key < 2 ^ 63) rows.now }
         requires rise { Rises key_of rows.now }
         ensures { MatchResult result (λ h. h ≡ opened attribute cuts.now rows.now) (λ e. e ≡ NoMemory) }
@@ -91,7 +92,7 @@ impl<M: CrackerMap> Head<M> {
     ) -> Result<Head<M>, Refusal>
         requires attribute { attribute < 8 }
         requires rising { RiseAbove None cuts.now }
-        requires few { length cuts.now ≤ 15 }
+        requires few { length cuts.now ≤ MOST_CUTS }
         requires keys { All (λ (r : Row). r.key < 2 ^ 63) rows.items }
         requires rise { Rises key_of rows.items }
         ensures { MatchResult result (λ h. h ≡ opened attribute cuts.now rows.items) (λ e. e ≡ NoMemory) }

@@ -20,3 +20,4 @@ pub use laws::{
     areas_answer, areas_receive, handed_stands, joined_is_both, may_be_handed, none_untouched,
     one_interval, same_stand, together_is_all,
 };
+pub use places::MOST_CUTS;

@@ -5,13 +5,17 @@ ghost use Rattle.sw_rows.specs.declared.refusal.Refusal.TheVariants.{NoMemory};
 ghost use Rattle.sw_set.specs.Shelf.{Rises};
 ghost use Rattle.sw_chunks.specs.Cuts.{place_in};
 ghost use Rattle.sw_chunks.specs.Places.{IsNotAt, StandsAt, count_at, find_place, owners_added, owners_with, place_by, places_of};
+ghost use Rattle.sw_chunks.specs.declared.places.TheConstants.{MOST_CUTS};
 
 use std::alloc::Global;
 use sw_rows::{Refusal, Update};
 
+/// How many cuts a head has at most.
+pub const MOST_CUTS: usize = 15;
+
 /// The number of the interval in which a cell lies: how many cuts, from the first on, it is not below.
 pub(crate) fn place_in(cuts: &[i64], cell: i64) -> u8
-    requires { length cuts.now ≤ 15 }
+    requires { length cuts.now ≤ MOST_CUTS }
     ensures { result ≡ place_in cuts.now cell }
 {
     let mut place = 0;
@@ -48,7 +52,7 @@ fn find_place(owners: &[(u64, u8)], key: u64) -> u8
 /// The area to which an update goes: that in whose interval its row's cell lies, or that of the row that goes.
 fn place_by(attribute: u8, cuts: &[i64], owners: &[(u64, u8)], update: &Update) -> u8
     requires attribute { attribute < 8 }
-    requires few { length cuts.now ≤ 15 }
+    requires few { length cuts.now ≤ MOST_CUTS }
     requires rise { Rises (λ (o : ℕ × ℕ). o.0) owners.now }
     ensures { result ≡ place_by attribute cuts.now owners.now update.now }
 {
@@ -67,7 +71,7 @@ pub(crate) fn places_by(
     updates: &[Update],
 ) -> Result<Vec<u8>, Refusal>
     requires attribute { attribute < 8 }
-    requires few { length cuts.now ≤ 15 }
+    requires few { length cuts.now ≤ MOST_CUTS }
     requires rise { Rises (λ (o : ℕ × ℕ). o.0) owners.now }
     ensures places { IfOk result (λ places. places.items ≡ places_of attribute cuts.now owners.now updates.now) }
     ensures refused { IsOkUnless result NoMemory }
@@ -103,7 +107,7 @@ fn add_each(
     updates: &[Update],
 ) -> Result<(), Refusal>
     requires attribute { attribute < 8 }
-    requires few { length cuts.now ≤ 15 }
+    requires few { length cuts.now ≤ MOST_CUTS }
     ensures added { OnOk result (owners.new.items ≡ owners_with attribute cuts.now owners.old.items updates.now) }
     ensures left { OnErr result (owners.new.items ≡ owners.old.items) }
     ensures refused { IsOkUnless result NoMemory }
@@ -129,7 +133,7 @@ pub(crate) fn add_owners(
     updates: &[Update],
 ) -> Result<(), Refusal>
     requires attribute { attribute < 8 }
-    requires few { length cuts.now ≤ 15 }
+    requires few { length cuts.now ≤ MOST_CUTS }
     ensures added { OnOk result (owners.new.items ≡ owners_added attribute cuts.now owners.old.items updates.now) }
     ensures left { OnErr result (owners.new.items ≡ owners.old.items) }
     ensures refused { IsOkUnless result NoMemory }

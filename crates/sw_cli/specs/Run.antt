@@ -1,5 +1,6 @@
 -- A run: what it starts from, and what it leaves.
 use Rattle.std.specs.Prelude.{◌≡◌, ◌<◌, ◌+◌, ◌++◌, ◌&&◌, ℕ, Bool, true, false, List, [], ◌∷◌, length, map, nat_le, nat_lt, slice_index_or, Option, Result, Ok, Err, if◌then◌else◌}
+use Rattle.sw_rows.specs.declared.loading.TheConstants.{MOST_BYTES}
 use Rattle.sw_rows.specs.Header.{Column, Fault, bad_table, too_many}
 use Rattle.sw_rows.specs.Tables.{bytes_within, table_of}
 use Rattle.sw_table.specs.declared.row.Row.{Row}
@@ -44,7 +45,7 @@ rows_within limit rows = if nat_lt limit (length rows) then Err (TooMany limit) 
 
 -- the blocks of calls that the bytes of a script spell; a script has at most 268,435,456 bytes
 abbrev pub script_of : List Column → List ℕ → Result (List (List Call)) Refusal
-script_of columns bytes = or_refusal (bytes_within 268435456 bytes) >>= blocks_of columns
+script_of columns bytes = or_refusal (bytes_within MOST_BYTES bytes) >>= blocks_of columns
 
 -- the cuts that a text spells
 abbrev pub cuts_of : List Column → List ℕ → Result CutLists Refusal

@@ -136,7 +136,8 @@ where
     Ok(Outgoing { memory, ended })
 }
 
-/// The same where the names are picked: what a copy of the rows makes of an update is known here, as it is not under a bound.
+/// Makes the blocks as `make_with` does. Here the names of the books stand for any, but what a viewer's copy makes of an update is
+/// known, which a bound of `make_with` asks for.
 fn make<J: Naming + Send + Sync, M: CrackerMap, O: Onlooker, R: Threads + Wait + Sync>(
     rt: &R,
     alloc: Global,

@@ -2,6 +2,7 @@
 
 ghost use Rattle.std.specs.Prelude.{◌≡◌, ◌≤◌, ◌+◌, ℕ, [], length, IfErr, IfOk, IfSome, OnOk};
 ghost use Rattle.std.specs.List.{list_all};
+ghost use Rattle.sw_rows.specs.declared.loading.TheConstants.{MOST_BYTES};
 ghost use Rattle.sw_lang.specs.Reading.{Answers};
 ghost use Rattle.sw_lang.specs.Tokens.{is_blank};
 ghost use Rattle.sw_spine.specs.History.{CallsBelow};
@@ -209,7 +210,7 @@ pub(crate) fn read_blocks(
     schema: &Schema,
     text: &[u8],
 ) -> Result<Vec<Block>, Refusal>
-    requires { length text.now ≤ 268435456 }
+    requires { length text.now ≤ MOST_BYTES }
     ensures answers { Reads (λ blocks. blocks.items) result (blocks_of schema.now text.now) }
     ensures sound { IfOk result (λ blocks. AreBlocks (length schema.now) blocks.items) }
     ensures why { IfErr result TellsText }

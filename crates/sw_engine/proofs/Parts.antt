@@ -14,8 +14,12 @@ taken_length (suc m) [] = refl
 taken_length (suc m) (x ∷ xs) = ap (λ l. x ∷ l) (taken_length m xs)
 
 -- a beginning, and so many more
-pub taken_more : {A : Type 0} (ys new xs : List A) (n m : ℕ) → ys ≡ take (length ys) xs → n ≡ length ys → new ≡ ys ++ take m (drop n xs) → new ≡ take (length ys + m) xs
+taken_more : {A : Type 0} (ys new xs : List A) (n m : ℕ) → ys ≡ take (length ys) xs → n ≡ length ys → new ≡ ys ++ take m (drop n xs) → new ≡ take (length ys + m) xs
 taken_more ys new xs n m is all e = e ∙ (ap (λ k. ys ++ take m (drop k xs)) all ∙ (ap (λ l. l ++ take m (drop (length ys) xs)) is ∙ taken_next (length ys) m (length ys + m) xs refl))
+
+-- a beginning, and a part of the others behind it
+pub taken_part : {A : Type 0} (ys part new xs : List A) (n m k : ℕ) → ys ≡ take (length ys) xs → n ≡ length ys → part ≡ take m (drop n xs) → k ≡ length part → new ≡ ys ++ take k (drop 0 part) → new ≡ take (length ys + m) xs
+taken_part ys part new xs n m k is all next whole e = taken_more ys new xs n m is all (e ∙ ap (λ l. ys ++ l) (take_all k part (omega (arith, whole)) ∙ next))
 
 -- it is a beginning again
 pub taken_again : {A : Type 0} (new xs : List A) (n : ℕ) → new ≡ take n xs → new ≡ take (length new) xs

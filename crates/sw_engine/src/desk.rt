@@ -3,6 +3,7 @@
 ghost use Rattle.std.specs.Prelude.{◌≡◌, ℕ, List, [], ◌∷◌, ◌++◌, ◌<◌, ◌+◌, ◌≤◌, length, true, false, Some, None, All, IfErr, IfOk, IsSome, IsSomeAnd, OnErr, OnOk};
 ghost use Rattle.sw_rows.specs.Scan.{AsksBelow};
 ghost use Rattle.sw_rows.specs.declared.query.Call.TheVariants.{Select};
+ghost use Rattle.sw_rows.specs.declared.table.TheConstants.{MOST_ROWS};
 ghost use Rattle.sw_spine.specs.Table.{is_numbered, opened, reply_to, updates_then};
 ghost use Rattle.sw_spine.specs.History.{is_select, mine};
 ghost use Rattle.sw_spine.specs.Books.{RefusesRows, RefusesSession, new_books, updates, waits_for, with_answered, with_published, with_session, with_settled};
@@ -112,7 +113,7 @@ impl<J: Naming> Desk<J> {
         requires none { (sessions.rows ≡ []) × (heads.rows ≡ []) }
         requires table { (schema ≡ J.columns) × (rows.items ≡ J.opening) × (limit ≡ J.limit) }
         requires some { 0 < limit }
-        requires most { limit ≤ 1048576 }
+        requires most { limit ≤ MOST_ROWS }
         requires numbered { is_numbered 1 rows.items ≡ true }
         ensures few { OnOk result (length rows.items ≤ limit) }
         ensures opened { IfOk result (λ d. d ≡ new_desk J.columns J.opening J.limit) }
@@ -136,7 +137,7 @@ impl<J: Naming> Desk<J> {
         requires begun { self.old.books ≡ new_books J.columns J.opening J.limit }
         requires numbered { is_numbered 1 J.opening ≡ true }
         requires within { length J.opening ≤ J.limit }
-        requires most { J.limit ≤ 1048576 }
+        requires most { J.limit ≤ MOST_ROWS }
         ensures books { self.new.books ≡ self.old.books }
         ensures given { self.new.given ≡ self.old.given }
         ensures heads { self.new.heads ≡ self.old.heads + 1 }
@@ -297,6 +298,7 @@ impl<J: Naming> Desk<J> {
             ..
         } = self;
         sessions.agree(share);
+        // for the prover: what is published is among the updates
         let _count = spine.published();
         let reply = spine.commit(number, call)?;
         sessions.set(share, Snapshot::of(spine));
@@ -330,6 +332,7 @@ impl<J: Naming> Desk<J> {
         ensures later { result.now ≡ later J.opening self.now.books }
         ensures opening { length J.opening ≤ length (updates self.now.books) }
     {
+        // for the prover: the opening rows are among the updates
         let _count = self.spine.published();
         let opening = self.spine.opening_rows().len() as u64;
         self.spine.updates_from(opening)

@@ -1,9 +1,10 @@
 //! Heads under their latches, the history under its lock, and the sessions.
 
-ghost use Rattle.std.specs.Prelude.{◌≡◌, ◌<◌, ◌≤◌, ◌+◌, ◌++◌, ◌∷◌, [], ℕ, true, length, take, vec_len, IfErr, IfOk, IsOkUnless, MatchResult, OnErr, OnOk, false};
+ghost use Rattle.std.specs.Prelude.{◌≡◌, ◌<◌, ◌≤◌, ◌+◌, ◌++◌, ◌∷◌, [], ℕ, true, drop, length, take, vec_len, IfErr, IfOk, IsOkUnless, MatchResult, OnErr, OnOk, false};
 ghost use Rattle.sw_rows.specs.Scan.{AsksBelow};
 ghost use Rattle.sw_rows.specs.declared.query.Call.TheVariants.{Select, Insert, Delete};
 ghost use Rattle.sw_rows.specs.declared.refusal.Refusal.TheVariants.{NoMemory};
+ghost use Rattle.sw_rows.specs.declared.table.TheConstants.{MOST_ROWS};
 ghost use Rattle.sw_lang.specs.Cuts.{AreCuts, cuts_on};
 ghost use Rattle.sw_map.specs.Held.{blank};
 ghost use Rattle.sw_spine.specs.Table.{is_numbered};
@@ -76,7 +77,7 @@ fn all_latches<J: Naming, M: CrackerMap>(
     requires begun { desk.old ≡ new_desk J.columns J.opening J.limit }
     requires numbered { is_numbered 1 J.opening ≡ true }
     requires within { length J.opening ≤ J.limit }
-    requires most { J.limit ≤ 1048576 }
+    requires most { J.limit ≤ MOST_ROWS }
     ensures books { desk.new.books ≡ desk.old.books }
     ensures given { desk.new.given ≡ desk.old.given }
     ensures many { IfOk result (λ v. vec_len v ≡ columns) }
@@ -127,7 +128,7 @@ where
         requires plain { IsPlain ⟦<Live<J> as Absorb<Op<J>>>⟧.state ⟦<Live<J> as Absorb<Op<J>>>⟧.applied }
         requires table { (schema ≡ J.columns) × (rows.items ≡ J.opening) × (limit ≡ J.limit) }
         requires some { 0 < limit }
-        requires most { limit ≤ 1048576 }
+        requires most { limit ≤ MOST_ROWS }
         requires numbered { is_numbered 1 rows.items ≡ true }
         requires lists { length cuts ≡ length schema }
         requires cuts { (a : ℕ) → a < length schema → AreCuts (cuts_on cuts a) }
@@ -154,7 +155,7 @@ where
         requires plain { IsPlain ⟦<Live<J> as Absorb<Op<J>>>⟧.state ⟦<Live<J> as Absorb<Op<J>>>⟧.applied }
         requires table { (schema ≡ J.columns) × (rows.items ≡ J.opening) × (limit ≡ J.limit) }
         requires some { 0 < limit }
-        requires most { limit ≤ 1048576 }
+        requires most { limit ≤ MOST_ROWS }
         requires numbered { is_numbered 1 rows.items ≡ true }
         requires lists { length cuts ≡ length schema }
         requires cuts { (a : ℕ) → a < length schema → AreCuts (cuts_on cuts a) }
@@ -321,23 +322,43 @@ where
         (rows.width(), rows.len())
     }
 
-    /// Adds copies of the next opening rows, up to so many, in one visit. Refused `NoMemory` alone.
-    #[tactic(auto, using(crate::proofs::Parts::taken_more))]
-    fn add_rows<R: Wait>(&self, rt: &R, rows: &mut PackedRows, most: usize) -> Result<(), Refusal>
-        requires { rows.old.items ≡ take (length rows.old.items) J.opening }
-        ensures ok { OnOk result (rows.new.items ≡ take (length rows.old.items + most) J.opening) }
+    /// Puts copies of opening rows, up to so many from a place on, where a list's rows were, in one visit. Refused `NoMemory`
+    /// alone.
+    fn copy_rows<R: Wait>(&self, rt: &R, next: &mut PackedRows, from: usize, most: usize) -> Result<(), Refusal>
+        ensures ok { OnOk result (next.new.items ≡ take most (drop from J.opening)) }
         ensures err { IfErr result (λ e. e ≡ NoMemory) }
     {
-        let from = rows.len();
+        next.truncate(0);
         let desk = self.visit(rt);
-        match rows.extend_from(desk.opening_rows(), from, most) {
+        match next.extend_from(desk.opening_rows(), from, most) {
             Ok(()) => Ok(()),
             Err(_) => Err(Refusal::NoMemory),
         }
     }
 
-    /// A copy of the opening rows, made in visits of `PART` rows, so that others visit between them. Its memory is got before
-    /// them. Refused `NoMemory` alone.
+    /// Adds copies of the next opening rows, up to so many, taken in one visit into `next`. Refused `NoMemory` alone.
+    #[tactic(auto, using(crate::proofs::Parts::taken_part))]
+    fn add_rows<R: Wait>(
+        &self,
+        rt: &R,
+        rows: &mut PackedRows,
+        next: &mut PackedRows,
+        most: usize,
+    ) -> Result<(), Refusal>
+        requires { rows.old.items ≡ take (length rows.old.items) J.opening }
+        ensures ok { OnOk result (rows.new.items ≡ take (length rows.old.items + most) J.opening) }
+        ensures err { IfErr result (λ e. e ≡ NoMemory) }
+    {
+        self.copy_rows(rt, next, rows.len(), most)?;
+        match rows.extend_from(next, 0, next.len()) {
+            Ok(()) => Ok(()),
+            Err(_) => Err(Refusal::NoMemory),
+        }
+    }
+
+    /// A copy of the opening rows, made in visits of `PART` rows, so that others visit between them. Under the lock rows are
+    /// copied into memory that was just written; what is written for the first time is written outside. Refused `NoMemory`
+    /// alone.
     #[tactic(auto, using(crate::proofs::Parts::taken_whole, crate::proofs::Parts::taken_again))]
     fn opening_rows<R: Wait>(&self, rt: &R) -> Result<PackedRows, Refusal>
         ensures { MatchResult result (λ rows. rows.items ≡ J.opening) (λ e. e ≡ NoMemory) }
@@ -346,10 +367,13 @@ where
         let Ok(mut rows) = PackedRows::with_capacity(self.alloc, width, many) else {
             return Err(Refusal::NoMemory);
         };
+        let Ok(mut next) = PackedRows::with_capacity(self.alloc, width, many.min(PART)) else {
+            return Err(Refusal::NoMemory);
+        };
         for _ in 0..many / PART {
-            self.add_rows(rt, &mut rows, PART)?;
+            self.add_rows(rt, &mut rows, &mut next, PART)?;
         }
-        self.add_rows(rt, &mut rows, many)?;
+        self.add_rows(rt, &mut rows, &mut next, many)?;
         Ok(rows)
     }
 

@@ -4,6 +4,7 @@ ghost use Rattle.std.specs.Prelude.{◌≡◌, ◌⊎◌, ◌<◌, ◌≤◌, �
 ghost use mathlib.Core.List.{IsPrefix};
 ghost use Rattle.sw_rows.specs.Scan.{AsksBelow};
 ghost use Rattle.sw_rows.specs.declared.query.Call.TheVariants.{Select};
+ghost use Rattle.sw_rows.specs.declared.table.TheConstants.{MOST_ROWS};
 ghost use Rattle.sw_spine.specs.Table.{is_numbered, reply_to};
 ghost use Rattle.sw_spine.specs.History.{is_select, mine};
 ghost use Rattle.sw_spine.specs.Books.{RefusesSession, new_books, waits_for, with_published, with_session, with_settled};
@@ -63,7 +64,7 @@ where
         requires list { list.seen.book ≡ J.book }
         requires begun { desk.books ≡ new_books J.columns J.opening J.limit }
         requires numbered { is_numbered 1 J.opening ≡ true }
-        requires most { length J.opening ≤ 1048576 }
+        requires most { length J.opening ≤ MOST_ROWS }
         requires plain { IsPlain ⟦<Live<J> as Absorb<Op<J>>>⟧.state ⟦<Live<J> as Absorb<Op<J>>>⟧.applied }
         ensures { result ≡ record { desk = desk; shelf = no_versions } }
     {

@@ -2,6 +2,7 @@
 
 ghost use Rattle.std.specs.Prelude.{◌≡◌, ◌<◌, ◌≤◌, ℕ, true, length, IfOk, IsOkUnless};
 ghost use Rattle.sw_rows.specs.declared.refusal.Refusal.TheVariants.{NoMemory};
+ghost use Rattle.sw_rows.specs.declared.table.TheConstants.{MOST_ROWS};
 ghost use Rattle.sw_lang.specs.Cuts.{AreCuts, cuts_on};
 ghost use Rattle.sw_spine.specs.Table.{is_numbered};
 ghost use Rattle.sw_engine.specs.Desk.{IsNewHead};
@@ -37,7 +38,7 @@ impl<J: Naming> Opening<J> {
     /// The cuts of a table's heads.
     pub fn new(cuts: Cuts) -> Opening<J>
         requires numbered { is_numbered 1 J.opening ≡ true }
-        requires within { length J.opening ≤ 1048576 }
+        requires within { length J.opening ≤ MOST_ROWS }
         requires few { length J.columns ≤ 8 }
         requires lists { length cuts ≡ length J.columns }
         requires cuts { (a : ℕ) → a < length J.columns → AreCuts (cuts_on cuts a) }

@@ -4,6 +4,7 @@ use Rattle.std.specs.List.{list_all}
 use Rattle.std.proofs.lemmas.Bool.{and_parts, false≢true}
 use Rattle.std.proofs.lemmas.Bool.Decides.{Decides-eqb}
 use Rattle.std.proofs.lemmas.List.Folds.{list_all-append}
+use Rattle.sw_lang.specs.declared.cuts.TheConstants.{MOST_CUTS}
 use Rattle.sw_lang.specs.Cuts.{AreCuts, Cut, CutLists, cuts_on, rises, values_on}
 use Rattle.sw_lang.proofs.Merge.{eqb-same}
 
@@ -17,7 +18,7 @@ added cuts (c ∷ cs) = added (with_new cuts c) cs
 
 -- each cut finds room, and stands above those before it
 abbrev pub HasRoom : CutLists → Cut → Type 0
-HasRoom cuts c = (length (cuts_on cuts c.0) < 15) × (list_all (λ y. int_lt y c.1) (cuts_on cuts c.0) ≡ true)
+HasRoom cuts c = (length (cuts_on cuts c.0) < MOST_CUTS) × (list_all (λ y. int_lt y c.1) (cuts_on cuts c.0) ≡ true)
 
 abbrev pub Allowed : CutLists → List Cut → Type 0
 Allowed cuts [] = Unit {0}
@@ -91,7 +92,7 @@ rises_seam (x ∷ xs) z ys h =
 abbrev pub AllLawful : ℕ → CutLists → Type 0
 AllLawful n cuts = (a : ℕ) → a < n → AreCuts (cuts_on cuts a)
 
-new-lawful : (v : Bool) (values : List ℤ) (z : ℤ) → AreCuts values → (v ≡ true → (length values < 15) × (list_all (λ y. int_lt y z) values ≡ true)) → AreCuts (values ++ cond v (z ∷ []) [])
+new-lawful : (v : Bool) (values : List ℤ) (z : ℤ) → AreCuts values → (v ≡ true → (length values < MOST_CUTS) × (list_all (λ y. int_lt y z) values ≡ true)) → AreCuts (values ++ cond v (z ∷ []) [])
 new-lawful true values z l h =
     let room = h refl in
     record { rise = rises_last values z l.rise room.1; few = omega (arith, room.0, length-append values (z ∷ [])) }
@@ -112,7 +113,7 @@ added_lawful n cuts (c ∷ cs) long w allowed l =
 abbrev pub LawfulWith : ℕ → CutLists → List Cut → Type 0
 LawfulWith n cuts cs = (a : ℕ) → a < n → AreCuts (cuts_on cuts a ++ values_on cs a)
 
-room_for : (values : List ℤ) (z : ℤ) (zs : List ℤ) → AreCuts (values ++ z ∷ zs) → (length values < 15) × (list_all (λ y. int_lt y z) values ≡ true)
+room_for : (values : List ℤ) (z : ℤ) (zs : List ℤ) → AreCuts (values ++ z ∷ zs) → (length values < MOST_CUTS) × (list_all (λ y. int_lt y z) values ≡ true)
 room_for values z zs l = (omega (arith, l.few, length-append values (z ∷ zs)), rises_seam values z zs l.rise)
 
 pub lawful_allowed : (n : ℕ) (cuts : CutLists) (cs : List Cut) → length cuts ≡ n → AllWithin n cs → LawfulWith n cuts cs → Allowed cuts cs

@@ -13,6 +13,7 @@ use Rattle.sw_rows.specs.Cells.{cell_value}
 use Rattle.sw_rows.specs.Header.{Column, IsSchema, names_of}
 use Rattle.sw_rows.specs.declared.kind.Kind.{Kind}
 use Rattle.sw_rows.specs.declared.refusal.Why.TheVariants as why
+use Rattle.sw_lang.specs.declared.cuts.TheConstants.{MOST_CUTS}
 use Rattle.sw_lang.specs.declared.fault.Fault.{Fault}
 use Rattle.sw_lang.specs.declared.fault.Fault.TheVariants.{Bad, Excess}
 use Rattle.sw_lang.specs.Cuts.{AreCuts, AreEntries, Cut, CutLists, FitCuts, IsCuts, IsEntry, cuts_on, values_on}
@@ -122,13 +123,13 @@ record PartFound (schema : List Column) (cuts more : CutLists) (part : List ℕ)
   pub room : HasRoom cuts cut
   pub made : more ≡ with_new cuts cut
 
-named_part : (schema : List Column) (cuts : CutLists) (w : List ℕ) (a : ℕ) → cut_name schema cuts w ≡ Ok a → (slice_get (names_of schema) a ≡ Some w) × (length (cuts_on cuts a) < 15)
+named_part : (schema : List Column) (cuts : CutLists) (w : List ℕ) (a : ℕ) → cut_name schema cuts w ≡ Ok a → (slice_get (names_of schema) a ≡ Some w) × (length (cuts_on cuts a) < MOST_CUTS)
 unfolding cut_name with_room
 named_part schema cuts w a e =
     let b = bind_ok (attr_of schema why.Cuts w) (with_room cuts) a e in
-    let r = when_ok (nat_lt (length (cuts_on cuts b.0)) 15) b.0 a (Excess 15) b.2 in
+    let r = when_ok (nat_lt (length (cuts_on cuts b.0)) MOST_CUTS) b.0 a (Excess MOST_CUTS) b.2 in
     let same : b.0 ≡ a = r.1 in
-    (attr_found schema why.Cuts w a (b.1 ∙ ap (λ (i : ℕ). Ok i) same), subst (λ (i : ℕ). length (cuts_on cuts i) < 15) same (ltb-true (length (cuts_on cuts b.0)) 15 r.0))
+    (attr_found schema why.Cuts w a (b.1 ∙ ap (λ (i : ℕ). Ok i) same), subst (λ (i : ℕ). length (cuts_on cuts i) < MOST_CUTS) same (ltb-true (length (cuts_on cuts b.0)) MOST_CUTS r.0))
 
 value_part : (k : Kind) (part : List ℕ) (i : ℕ) (z : ℤ) → cut_value k part (Some i) ≡ Ok z → cell_value k (drop (i + 1) part) ≡ Some z
 unfolding cut_value
@@ -160,10 +161,10 @@ part-at (Some i) schema cuts more part is e =
       made = sym new.1;
     }
 
-name_read : (schema : List Column) (cuts : CutLists) (w : List ℕ) (a : ℕ) → IsSchema schema → slice_get (names_of schema) a ≡ Some w → length (cuts_on cuts a) < 15 → cut_name schema cuts w ≡ Ok a
+name_read : (schema : List Column) (cuts : CutLists) (w : List ℕ) (a : ℕ) → IsSchema schema → slice_get (names_of schema) a ≡ Some w → length (cuts_on cuts a) < MOST_CUTS → cut_name schema cuts w ≡ Ok a
 unfolding cut_name with_room
 name_read schema cuts w a ok named room =
-    let fits : nat_lt (length (cuts_on cuts a)) 15 ≡ true = lt-ltb (length (cuts_on cuts a)) 15 room in
+    let fits : nat_lt (length (cuts_on cuts a)) MOST_CUTS ≡ true = lt-ltb (length (cuts_on cuts a)) MOST_CUTS room in
     ap (λ r. r >>= with_room cuts) (attr_read schema why.Cuts w a ok named) ∙ rw fits refl
 
 value_read : (k : Kind) (part : List ℕ) (i : ℕ) (z : ℤ) → cell_value k (drop (i + 1) part) ≡ Some z → cut_value k part (Some i) ≡ Ok z

@@ -12,6 +12,7 @@ use Rattle.sw_rows.specs.declared.query.Want.TheVariants.{Rows, Count, Sum, Min,
 use Rattle.sw_rows.specs.declared.refusal.Why.TheVariants as why
 use Rattle.sw_lang.specs.declared.fault.Fault.{Fault}
 use Rattle.sw_lang.specs.declared.fault.Fault.TheVariants.{Bad}
+use Rattle.sw_lang.specs.declared.parse.TheConstants.{MOST_LINE}
 use Rattle.sw_lang.specs.Tokens.{Tok, word, tokens}
 use Rattle.sw_lang.specs.Reading.{aggregate_at, asked, call_at, call_of, cells_at, delete_at, first_by, insert_at, is_comment, is_word, key_of, line_at, name_of, names_at, nothing_left, select_at, values_at, where_at}
 use Rattle.sw_lang.specs.Grammar.{IsCall, IsLine, IsName, IsNames, IsWant, IsWhere}
@@ -62,13 +63,13 @@ no_call schema false = refl
 pub line_read : (schema : List Column) (text : List ℕ) (call : Option Call) → IsSchema schema → IsLine schema text call → line_at schema text ≡ Ok call
 unfolding line_at
 line_read schema text None ok (short, inl comment) =
-    let fits : nat_lt 4096 (length text) ≡ false = le-ltb _ _ short in
+    let fits : nat_lt MOST_LINE (length text) ≡ false = le-ltb _ _ short in
     rw (fits, comment) refl
 line_read schema text None ok (short, inr none) =
-    let fits : nat_lt 4096 (length text) ≡ false = le-ltb _ _ short in
+    let fits : nat_lt MOST_LINE (length text) ≡ false = le-ltb _ _ short in
     rw (fits, none) (no_call schema (is_comment text))
 line_read schema text (Some c) ok (short, not_comment, is) =
-    let fits : nat_lt 4096 (length text) ≡ false = le-ltb _ _ short in
+    let fits : nat_lt MOST_LINE (length text) ≡ false = le-ltb _ _ short in
     rw (fits, not_comment) (call_read schema (tokens text) c ok is)
 
 -- ---- what is read is related by the grammar
@@ -197,7 +198,7 @@ call_found schema t ts c e =
     none : (c : Call) → ◌≡◌ {A = Result Call Fault} (Err (Bad why.Word)) (Ok c) → ⊥
     none c e = absurd cc
 
-tokens_found : (schema : List Column) (text : List ℕ) (ts : List Tok) (call : Option Call) → length text ≤ 4096 → is_comment text ≡ false → tokens text ≡ ts → call_at schema ts ≡ Ok call → IsLine schema text call
+tokens_found : (schema : List Column) (text : List ℕ) (ts : List Tok) (call : Option Call) → length text ≤ MOST_LINE → is_comment text ≡ false → tokens text ≡ ts → call_at schema ts ≡ Ok call → IsLine schema text call
 unfolding call_at
 tokens_found schema text [] call short not_comment is e =
     subst (λ (w : Option Call). IsLine schema text w) (same_ok None call e) (short, inr is)
@@ -206,7 +207,7 @@ tokens_found schema text (t ∷ ts) call short not_comment is e =
     let found : IsCall schema (tokens text) b.0 = subst (λ (w : List Tok). IsCall schema w b.0) (sym is) (call_found schema t ts b.0 b.1) in
     subst (λ (w : Option Call). IsLine schema text w) (same_ok (Some b.0) call b.2) (short, not_comment, found)
 
-line-by : (long comment : Bool) (schema : List Column) (text : List ℕ) (call : Option Call) → nat_lt 4096 (length text) ≡ long → is_comment text ≡ comment
+line-by : (long comment : Bool) (schema : List Column) (text : List ℕ) (call : Option Call) → nat_lt MOST_LINE (length text) ≡ long → is_comment text ≡ comment
     → ◌≡◌ {A = Result (Option Call) Fault} (cond long (Err (Bad why.Length)) (cond comment (Ok None) (call_at schema (tokens text)))) (Ok call) → IsLine schema text call
 line-by true comment schema text call l k e = absurd cc
 line-by false true schema text call l k e = subst (λ (w : Option Call). IsLine schema text w) (same_ok None call e) (ltb-false _ _ l, inl k)
@@ -214,4 +215,4 @@ line-by false false schema text call l k e = tokens_found schema text (tokens te
 
 pub line_found : (schema : List Column) (text : List ℕ) (call : Option Call) → line_at schema text ≡ Ok call → IsLine schema text call
 unfolding line_at
-line_found schema text call e = line-by (nat_lt 4096 (length text)) (is_comment text) schema text call refl refl e
+line_found schema text call e = line-by (nat_lt MOST_LINE (length text)) (is_comment text) schema text call refl refl e

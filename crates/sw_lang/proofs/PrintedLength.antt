@@ -16,6 +16,7 @@ use Rattle.sw_rows.specs.declared.query.Call.TheVariants.{Select, Insert, Delete
 use Rattle.sw_rows.specs.declared.query.Cond.{Cond}
 use Rattle.sw_rows.specs.declared.query.Want.{Want}
 use Rattle.sw_rows.specs.declared.query.Want.TheVariants.{Rows, Count, Sum, Min, Max}
+use Rattle.sw_lang.specs.declared.parse.TheConstants.{MOST_LINE}
 use Rattle.sw_lang.specs.declared.term.Term.{Term}
 use Rattle.sw_lang.specs.declared.token.Op.{Op}
 use Rattle.sw_lang.specs.declared.token.Op.TheVariants.{Lt, Le, Eq, Ge, Gt}
@@ -142,7 +143,7 @@ cells_short (k ∷ ks) ts (z ∷ zs) pad p (a, rest, e, is, others) =
 
 -- ---- calls
 
-pub call_short : (schema : List Column) (ts : List Tok) (c : Call) → IsSchema schema → IsCall schema ts c → length (call_text schema c) ≤ 4096
+pub call_short : (schema : List Column) (ts : List Tok) (c : Call) → IsSchema schema → IsCall schema ts c → length (call_text schema c) ≤ MOST_LINE
 call_short schema ts (Select q) ok (front, rest, parts, is, h) =
     omega (arith, want_short schema front q.want ok is, where_short schema q.conds ok (where_conds schema rest q.conds ok h), length-append (want_text schema q.want) (where_text schema false q.conds))
 call_short schema ts (Insert cells) ok (zs, rest, e, is, pad) =

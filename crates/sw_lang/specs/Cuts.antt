@@ -3,6 +3,7 @@ use Rattle.std.specs.Prelude.{◌≡◌, ◌<◌, ◌≤◌, ◌==◌, ◌&&◌,
 use Rattle.std.specs.List.{list_all}
 use Rattle.sw_rows.specs.Cells.{cell_value}
 use Rattle.sw_rows.specs.Header.{Column, names_of}
+use Rattle.sw_lang.specs.declared.cuts.TheConstants.{MOST_CUTS}
 use Rattle.sw_lang.specs.Fits.{IsOfKind}
 use Rattle.sw_lang.specs.Replies.{kind_at}
 
@@ -46,7 +47,7 @@ rises (z ∷ zs) = list_all (λ y. int_lt z y) zs && rises zs
 -- at most 15 values, which rise
 pub record AreCuts (values : List ℤ) : Type 0 where
   pub rise : rises values ≡ true
-  pub few : length values ≤ 15
+  pub few : length values ≤ MOST_CUTS
 
 -- the cuts that a text of entries gives: for each attribute of the table the values that the entries write for it
 pub record IsCuts (schema : List Column) (text : List ℕ) (cuts : CutLists) : Type 0 where

@@ -5,6 +5,7 @@ use Rattle.sw_rows.specs.Cells.{cell_value}
 use Rattle.sw_rows.specs.Header.{Column}
 use Rattle.sw_rows.specs.declared.kind.Kind.{Kind}
 use Rattle.sw_rows.specs.declared.refusal.Why.TheVariants as why
+use Rattle.sw_lang.specs.declared.cuts.TheConstants.{MOST_CUTS}
 use Rattle.sw_lang.specs.declared.fault.Fault.{Fault}
 use Rattle.sw_lang.specs.declared.fault.Fault.TheVariants.{Bad, Excess}
 use Rattle.sw_lang.specs.Cuts.{CutLists, cuts_on}
@@ -13,7 +14,7 @@ use Rattle.sw_lang.specs.Reading.{◌>>=◌, attr_of}
 
 -- an attribute has at most 15 cuts
 unfoldable pub with_room : CutLists → ℕ → Result ℕ Fault
-with_room cuts a = if nat_lt (length (cuts_on cuts a)) 15 then Ok a else Err (Excess 15)
+with_room cuts a = if nat_lt (length (cuts_on cuts a)) MOST_CUTS then Ok a else Err (Excess MOST_CUTS)
 
 -- the attribute that is cut
 unfoldable pub cut_name : List Column → CutLists → List ℕ → Result ℕ Fault

@@ -9,6 +9,7 @@ use Rattle.sw_rows.specs.declared.query.Call.{Call}
 use Rattle.sw_rows.specs.declared.query.Call.TheVariants.{Select, Insert, Delete}
 use Rattle.sw_rows.specs.declared.query.Want.{Want}
 use Rattle.sw_rows.specs.declared.query.Want.TheVariants.{Rows, Count, Sum, Min, Max}
+use Rattle.sw_lang.specs.declared.parse.TheConstants.{MOST_LINE}
 use Rattle.sw_lang.specs.declared.term.Term.{Term}
 use Rattle.sw_lang.specs.Replies.{kind_at}
 use Rattle.sw_lang.specs.Terms.{conditions}
@@ -89,5 +90,5 @@ IsCall schema ts (Delete key) = (t : Tok) × (ts ≡ word (codes "delete") ∷ t
 
 -- a line of at most 4,096 bytes: a comment or a line without tokens, which is no call, or a call
 abbrev pub IsLine : List Column → List ℕ → Option Call → Type 0
-IsLine schema text None = (length text ≤ 4096) × ((is_comment text ≡ true) ⊎ (tokens text ≡ []))
-IsLine schema text (Some c) = (length text ≤ 4096) × (is_comment text ≡ false) × IsCall schema (tokens text) c
+IsLine schema text None = (length text ≤ MOST_LINE) × ((is_comment text ≡ true) ⊎ (tokens text ≡ []))
+IsLine schema text (Some c) = (length text ≤ MOST_LINE) × (is_comment text ≡ false) × IsCall schema (tokens text) c

@@ -17,6 +17,7 @@ use Rattle.sw_lang.specs.declared.fault.Fault.{Fault}
 use Rattle.sw_lang.specs.declared.fault.Fault.TheVariants.{Bad, Unknown, Excess}
 use Rattle.sw_lang.specs.declared.fault.ParseError.{ParseError}
 use Rattle.sw_lang.specs.declared.fault.ParseError.TheVariants as errors
+use Rattle.sw_lang.specs.declared.parse.TheConstants.{MOST_LINE}
 use Rattle.sw_lang.specs.declared.token.Op.{Op}
 use Rattle.sw_lang.specs.declared.term.Term.{Term}
 use Rattle.sw_lang.specs.Replies.{kind_at}
@@ -189,7 +190,7 @@ is_comment text = slice_index (after_blanks text) 0 == 35
 -- a line has at most 4,096 bytes; a comment and a line without tokens give no call
 unfoldable pub line_at : List Column → List ℕ → Result (Option Call) Fault
 line_at schema text =
-    if nat_lt 4096 (length text) then Err (Bad why.Length)
+    if nat_lt MOST_LINE (length text) then Err (Bad why.Length)
     else if is_comment text then Ok None
     else call_at schema (tokens text)
 

@@ -8,6 +8,7 @@ use Rattle.sw_rows.specs.Cells.{cell_value}
 use Rattle.sw_rows.specs.Header.{Fault, bad_table, too_many}
 use Rattle.sw_rows.specs.Gives.{Gives}
 use Rattle.sw_rows.specs.declared.refusal.Refusal.{Refusal}
+use Rattle.sw_rows.specs.declared.table.TheConstants.{MOST_ROWS}
 use Rattle.sw_rows.specs.Parts.{IsPart, rows_behind, rows_joined}
 use Rattle.sw_table.specs.Packed.{Packed, row_behind}
 use Rattle.sw_rows.specs.Tables.{◌>>=◌, cells_after, cells_of, or_bad, padded, row_of, rows_after, then_padded}
@@ -39,10 +40,10 @@ rows_append ks [] ys done = refl
 rows_append ks (x ∷ xs) ys done =
     let read = then_padded (cells_of (length done + 1) ks x) in
     let next = λ (cells : List ℤ). done ++ row_of (length done + 1) cells ∷ [] in
-    ap (λ r. cond (nat_lt (length done) 1048576) r (Err (too_many 1048576)))
+    ap (λ r. cond (nat_lt (length done) MOST_ROWS) r (Err (too_many MOST_ROWS)))
     (bind_same read (λ cells. rows_after ks (next cells) (xs ++ ys)) (λ cells. rows_after ks (next cells) xs >>= λ d. rows_after ks d ys) (λ cells. rows_append ks xs ys (next cells))
     ∙ sym (bind_assoc read (λ cells. rows_after ks (next cells) xs) (λ d. rows_after ks d ys)))
-    ∙ sym (cond_bind (nat_lt (length done) 1048576) (read >>= λ cells. rows_after ks (next cells) xs) (too_many 1048576) (λ d. rows_after ks d ys))
+    ∙ sym (cond_bind (nat_lt (length done) MOST_ROWS) (read >>= λ cells. rows_after ks (next cells) xs) (too_many MOST_ROWS) (λ d. rows_after ks d ys))
 
 -- the cells of a record, or the field at fault, whatever the record's number
 abbrev at_record : Result (List ℤ) ℕ → ℕ → Result (List ℤ) Fault
@@ -91,16 +92,16 @@ one_more : (rows : List Row) (r : Row) → length (rows ++ r ∷ []) ≡ length 
 one_more rows r = length-append rows (r ∷ [])
 
 past : (ks : List Kind) (y : List (List ℕ)) (ys : List (List (List ℕ))) (done : List Row) → Past (length done) (rows_after ks done (y ∷ ys))
-past ks y [] done = by_room (nat_lt (length done) 1048576) (record_shape ks y)
+past ks y [] done = by_room (nat_lt (length done) MOST_ROWS) (record_shape ks y)
   where
     by_read : (x : Result (List ℤ) ℕ) → Past (length done) (at_record x (length done + 1) >>= λ cells. rows_after ks (done ++ row_of (length done + 1) cells ∷ []) [])
     by_read (Ok cells) = let more = one_more done (row_of (length done + 1) cells) in omega (arith, more)
     by_read (Err field) = omega arith
 
-    by_room : (b : Bool) → Shape (λ rec. then_padded (cells_of rec ks y)) → Past (length done) (cond b (then_padded (cells_of (length done + 1) ks y) >>= λ cells. rows_after ks (done ++ row_of (length done + 1) cells ∷ []) []) (Err (too_many 1048576)))
+    by_room : (b : Bool) → Shape (λ rec. then_padded (cells_of rec ks y)) → Past (length done) (cond b (then_padded (cells_of (length done + 1) ks y) >>= λ cells. rows_after ks (done ++ row_of (length done + 1) cells ∷ []) []) (Err (too_many MOST_ROWS)))
     by_room true s = rw (s.1 (length done + 1)) (by_read s.0)
     by_room false s = tt
-past ks y (z ∷ ys) done = by_room (nat_lt (length done) 1048576) (record_shape ks y) (past ks z ys)
+past ks y (z ∷ ys) done = by_room (nat_lt (length done) MOST_ROWS) (record_shape ks y) (past ks z ys)
   where
     by_read : (x : Result (List ℤ) ℕ) → ((e : List Row) → Past (length e) (rows_after ks e (z ∷ ys))) → Past (length done) (at_record x (length done + 1) >>= λ cells. rows_after ks (done ++ row_of (length done + 1) cells ∷ []) (z ∷ ys))
     by_read (Ok cells) more =
@@ -110,42 +111,42 @@ past ks y (z ∷ ys) done = by_room (nat_lt (length done) 1048576) (record_shape
     by_read (Err field) more = omega arith
 
     by_room : (b : Bool) → Shape (λ rec. then_padded (cells_of rec ks y)) → ((e : List Row) → Past (length e) (rows_after ks e (z ∷ ys)))
-        → Past (length done) (cond b (then_padded (cells_of (length done + 1) ks y) >>= λ cells. rows_after ks (done ++ row_of (length done + 1) cells ∷ []) (z ∷ ys)) (Err (too_many 1048576)))
+        → Past (length done) (cond b (then_padded (cells_of (length done + 1) ks y) >>= λ cells. rows_after ks (done ++ row_of (length done + 1) cells ∷ []) (z ∷ ys)) (Err (too_many MOST_ROWS)))
     by_room true s more = rw (s.1 (length done + 1)) (by_read s.0 more)
     by_room false s more = tt
 
 -- what lies past the greatest number of rows is too much
-too_far : (d : List Row) (n : ℕ) (o : Result (List Row) Fault) → 1048576 ≤ length d + n → Past n o → rows_behind d o ≡ Err (too_many 1048576)
+too_far : (d : List Row) (n : ℕ) (o : Result (List Row) Fault) → MOST_ROWS ≤ length d + n → Past n o → rows_behind d o ≡ Err (too_many MOST_ROWS)
 too_far d n (Ok rows) h p =
-    let over : nat_lt 1048576 (length d + length rows) ≡ true = grind (arith, nat_tests, h, p) in
+    let over : nat_lt MOST_ROWS (length d + length rows) ≡ true = grind (arith, nat_tests, h, p) in
     rw over refl
 too_far d n (Err (bad_table rec field)) h p =
-    let over : nat_lt 1048576 (length d + rec) ≡ true = grind (arith, nat_tests, h, p) in
+    let over : nat_lt MOST_ROWS (length d + rec) ≡ true = grind (arith, nat_tests, h, p) in
     rw over refl
 too_far d n (Err (too_many limit)) h p = refl
 
 -- the rows behind others are those of a part of its own
-pub rows_shift : (ks : List Kind) (ys : List (List (List ℕ))) (d e : List Row) → length d + length e ≤ 1048576
+pub rows_shift : (ks : List Kind) (ys : List (List (List ℕ))) (d e : List Row) → length d + length e ≤ MOST_ROWS
     → rows_after ks (d ++ map (row_behind (length d)) e) ys ≡ rows_behind d (rows_after ks e ys)
 rows_shift ks [] d e h =
-    let room : nat_lt 1048576 (length d + length e) ≡ false = grind (arith, nat_tests, h) in
+    let room : nat_lt MOST_ROWS (length d + length e) ≡ false = grind (arith, nat_tests, h) in
     rw room refl
 rows_shift ks (y ∷ ys) d e h =
     let front = d ++ map (row_behind (length d)) e in
     let long : length front ≡ length d + length e = length-append d (map (row_behind (length d)) e) ∙ ap (λ n. length d + n) (length-map e (row_behind (length d))) in
-    told (nat_lt (length d + length e) 1048576)
+    told (nat_lt (length d + length e) MOST_ROWS)
     (λ lt.
-    let outer : nat_lt (length front) 1048576 ≡ true = ap (λ n. nat_lt n 1048576) long ∙ lt in
-    let inner : nat_lt (length e) 1048576 ≡ true = grind (arith, nat_tests, lt) in
+    let outer : nat_lt (length front) MOST_ROWS ≡ true = ap (λ n. nat_lt n MOST_ROWS) long ∙ lt in
+    let inner : nat_lt (length e) MOST_ROWS ≡ true = grind (arith, nat_tests, lt) in
     let s = record_shape ks y in
     rw (outer, inner, s.1 (length front + 1), s.1 (length e + 1)) (by_read s.0 long (lt_of _ _ lt) (rows_shift ks ys d)))
     (λ no.
-    let outer : nat_lt (length front) 1048576 ≡ false = ap (λ n. nat_lt n 1048576) long ∙ no in
-    let full : 1048576 ≤ length d + length e = grind (arith, nat_tests, no) in
+    let outer : nat_lt (length front) MOST_ROWS ≡ false = ap (λ n. nat_lt n MOST_ROWS) long ∙ no in
+    let full : MOST_ROWS ≤ length d + length e = grind (arith, nat_tests, no) in
     rw outer (sym (too_far d (length e) (rows_after ks e (y ∷ ys)) full (past ks y ys e))))
   where
-    by_read : (x : Result (List ℤ) ℕ) → length (d ++ map (row_behind (length d)) e) ≡ length d + length e → length d + length e < 1048576
-        → ((more : List Row) → length d + length more ≤ 1048576 → rows_after ks (d ++ map (row_behind (length d)) more) ys ≡ rows_behind d (rows_after ks more ys))
+    by_read : (x : Result (List ℤ) ℕ) → length (d ++ map (row_behind (length d)) e) ≡ length d + length e → length d + length e < MOST_ROWS
+        → ((more : List Row) → length d + length more ≤ MOST_ROWS → rows_after ks (d ++ map (row_behind (length d)) more) ys ≡ rows_behind d (rows_after ks more ys))
         → (at_record x (length (d ++ map (row_behind (length d)) e) + 1) >>= λ cells. rows_after ks ((d ++ map (row_behind (length d)) e) ++ row_of (length (d ++ map (row_behind (length d)) e) + 1) cells ∷ []) ys)
         ≡ rows_behind d (at_record x (length e + 1) >>= λ cells. rows_after ks (e ++ row_of (length e + 1) cells ∷ []) ys)
     by_read (Ok cells) long lt next =
@@ -156,21 +157,21 @@ rows_shift ks (y ∷ ys) d e h =
         ∙ next (e ++ row ∷ []) (omega (arith, longer, lt))
     by_read (Err field) long lt next =
         let key : length (d ++ map (row_behind (length d)) e) + 1 ≡ length d + (length e + 1) = omega (arith, long) in
-        let room : nat_lt 1048576 (length d + (length e + 1)) ≡ false = grind (arith, nat_tests, lt) in
+        let room : nat_lt MOST_ROWS (length d + (length e + 1)) ≡ false = grind (arith, nat_tests, lt) in
         rw (room, key) refl
 
 -- few rows stay few
 abbrev Few : Result (List Row) Fault → Type 0
-Few (Ok rows) = length rows ≤ 1048576
+Few (Ok rows) = length rows ≤ MOST_ROWS
 Few (Err e) = Unit {0}
 
-few : (ks : List Kind) (ys : List (List (List ℕ))) (done : List Row) → length done ≤ 1048576 → Few (rows_after ks done ys)
+few : (ks : List Kind) (ys : List (List (List ℕ))) (done : List Row) → length done ≤ MOST_ROWS → Few (rows_after ks done ys)
 few ks [] done h = h
-few ks (y ∷ ys) done h = told (nat_lt (length done) 1048576)
+few ks (y ∷ ys) done h = told (nat_lt (length done) MOST_ROWS)
     (λ lt. rw lt (by_read (then_padded (cells_of (length done + 1) ks y)) (lt_of _ _ lt) (few ks ys)))
     (λ no. rw no tt)
   where
-    by_read : (o : Result (List ℤ) Fault) → length done < 1048576 → ((more : List Row) → length more ≤ 1048576 → Few (rows_after ks more ys)) → Few (o >>= λ cells. rows_after ks (done ++ row_of (length done + 1) cells ∷ []) ys)
+    by_read : (o : Result (List ℤ) Fault) → length done < MOST_ROWS → ((more : List Row) → length more ≤ MOST_ROWS → Few (rows_after ks more ys)) → Few (o >>= λ cells. rows_after ks (done ++ row_of (length done + 1) cells ∷ []) ys)
     by_read (Ok cells) lt next = let longer = one_more done (row_of (length done + 1) cells) in next (done ++ row_of (length done + 1) cells ∷ []) (omega (arith, longer, lt))
     by_read (Err e) lt next = tt
 
@@ -192,11 +193,11 @@ all_more rows r h k = grind (arith, common_steps, h, k)
 
 keyed : (ks : List Kind) (ys : List (List (List ℕ))) (done : List Row) → All (λ r. r.key < 2 ^ 63) done → Keyed (rows_after ks done ys)
 keyed ks [] done h = h
-keyed ks (y ∷ ys) done h = told (nat_lt (length done) 1048576)
+keyed ks (y ∷ ys) done h = told (nat_lt (length done) MOST_ROWS)
     (λ lt. rw lt (by_read (then_padded (cells_of (length done + 1) ks y)) (lt_of _ _ lt) (keyed ks ys)))
     (λ no. rw no tt)
   where
-    by_read : (o : Result (List ℤ) Fault) → length done < 1048576 → ((more : List Row) → All (λ r. r.key < 2 ^ 63) more → Keyed (rows_after ks more ys)) → Keyed (o >>= λ cells. rows_after ks (done ++ row_of (length done + 1) cells ∷ []) ys)
+    by_read : (o : Result (List ℤ) Fault) → length done < MOST_ROWS → ((more : List Row) → All (λ r. r.key < 2 ^ 63) more → Keyed (rows_after ks more ys)) → Keyed (o >>= λ cells. rows_after ks (done ++ row_of (length done + 1) cells ∷ []) ys)
     by_read (Ok cells) lt next = next (done ++ row_of (length done + 1) cells ∷ []) (all_more done (row_of (length done + 1) cells) h (omega (arith, lt)))
     by_read (Err e) lt next = tt
 

@@ -6,6 +6,7 @@ use Rattle.sw_rows.specs.Gives.{Gives}
 use Rattle.sw_rows.specs.Header.{Column, Fault, bad_table, kinds_of, too_many}
 use Rattle.sw_rows.specs.Tables.{◌>>=◌, rows_after}
 use Rattle.sw_rows.specs.declared.refusal.Refusal.{Refusal}
+use Rattle.sw_rows.specs.declared.table.TheConstants.{MOST_ROWS}
 use Rattle.sw_table.specs.Packed.{Packed, row_behind}
 use Rattle.sw_table.specs.declared.row.Row.{Row}
 
@@ -19,14 +20,15 @@ begins_plain bytes = not (get_or bytes 0 0 == 239)
 
 -- few rows of n cells, of which each key can be raised
 pub record IsPart (n : ℕ) (part : Packed) : Type 0 where
-  pub few : length part.items ≤ 1048576
+  pub few : length part.items ≤ MOST_ROWS
   pub keys : All (λ r. r.key < 2 ^ 63) part.items
   pub width : part.width ≡ n
 
 -- a fault of a record behind n others
 abbrev pub fault_behind : ℕ → Fault → Fault
-fault_behind n (bad_table rec field) = if nat_lt 1048576 (n + rec) then too_many 1048576 else bad_table (n + rec) field
-fault_behind n (too_many limit) = too_many 1048576
+fault_behind n (bad_table rec field) =
+    if nat_lt MOST_ROWS (n + rec) then too_many MOST_ROWS else bad_table (n + rec) field
+fault_behind n (too_many limit) = too_many MOST_ROWS
 
 -- the rows of a part, by its records
 abbrev pub rows_of_part : List Column → List ℕ → Result (List Row) Fault
@@ -44,8 +46,8 @@ AreRecordsOfBoth first rest whole =
 -- what comes of a part behind rows
 abbrev pub rows_behind : List Row → Result (List Row) Fault → Result (List Row) Fault
 rows_behind rows (Ok more) =
-    if nat_lt 1048576 (length rows + length more)
-    then Err (too_many 1048576)
+    if nat_lt MOST_ROWS (length rows + length more)
+    then Err (too_many MOST_ROWS)
     else Ok (rows ++ map (row_behind (length rows)) more)
 rows_behind rows (Err e) = Err (fault_behind (length rows) e)
 

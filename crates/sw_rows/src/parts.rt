@@ -8,6 +8,7 @@ ghost use Rattle.sw_rows.specs.Gives.{Fails, Gives};
 ghost use Rattle.sw_rows.specs.Header.{Fault, header_of};
 ghost use Rattle.sw_rows.specs.Parts.{AreRecordsOfBoth, GivesRows, IsPart, begins_plain, has_no_quote, rows_behind, rows_joined, rows_of_part};
 ghost use Rattle.sw_rows.specs.Tables.{shown_packed, table_in};
+ghost use Rattle.sw_rows.specs.declared.table.TheConstants.{MOST_ROWS};
 ghost use Rattle.sw_table.specs.declared.row.Row.{Row};
 
 use crate::records;
@@ -84,7 +85,7 @@ fn read_part(alloc: Global, schema: &Schema, part: &[u8]) -> Result<PackedRows, 
 
 /// Adds the rows of a part, of which each takes the number behind its own.
 fn append(rows: &mut PackedRows, more: &PackedRows) -> Result<(), Refusal>
-    requires few { length rows.old.items ≤ 1048576 }
+    requires few { length rows.old.items ≤ MOST_ROWS }
     requires more { IsPart rows.old.width more.now }
     ensures gives { Gives ⊥ (λ _. rows.new.items) result (rows_behind rows.old.items (Ok more.now.items)) }
     ensures width { rows.new.width ≡ rows.old.width }
@@ -100,7 +101,7 @@ fn append(rows: &mut PackedRows, more: &PackedRows) -> Result<(), Refusal>
 
 /// The refusal of a part that lies behind so many rows.
 fn behind(count: u64, refusal: Refusal) -> Refusal
-    requires { count ≤ 1048576 }
+    requires { count ≤ MOST_ROWS }
     ensures { (rows : List Row) (read : Result (List Row) Fault) → length rows ≡ count → Fails ⊥ refusal read
         → Fails ⊥ result (rows_behind rows read) }
 {

@@ -7,6 +7,7 @@ ghost use Rattle.sw_rows.specs.Gives.{Gives};
 ghost use Rattle.sw_rows.specs.Header.{kinds_of};
 ghost use Rattle.sw_rows.specs.Records.{IsPlain, records_left};
 ghost use Rattle.sw_rows.specs.Tables.{cells_of, padded, rows_after, shown_packed, table_in, table_of_records, then_padded};
+ghost use Rattle.sw_rows.specs.declared.table.TheConstants.{MOST_ROWS};
 ghost use Rattle.sw_table.specs.Packed.{zeros};
 
 use crate::cell::read_cell_bytes;
@@ -19,7 +20,7 @@ use sw_table::{PackedRows, Row};
 
 /// Reads the cells of record `rec`.
 fn read_cells(schema: &Schema, rec: u64, row: &ByteRecord) -> Result<[i64; 8], Refusal>
-    requires { rec < 2097152 }
+    requires { rec ≤ MOST_ROWS }
     ensures gives { Gives ⊥ (λ cells. cells) result
         (then_padded (cells_of rec (kinds_of schema.now) (fields_of row.now))) }
     ensures within { IfOk result (λ cells. drop (length schema.now) cells ≡ drop (length schema.now) zeros) }

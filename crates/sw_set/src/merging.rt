@@ -21,8 +21,8 @@ use sw_map::{CrackerMap, Tail};
 use sw_rows::{Refusal, Row, Update};
 use sw_tape::MAX_ENTRIES;
 
-/// Logs a row that comes, and answers whether the tape had room for it. Refused `NoMemory`, nothing has changed.
-fn log_insertion<M: CrackerMap>(area: &mut Area<M>, row: Row) -> Result<bool, Refusal>
+/// Logs a row that comes, if the tape has room for it, and answers whether it had. Refused `NoMemory`, nothing has changed.
+fn try_insertion<M: CrackerMap>(area: &mut Area<M>, row: Row) -> Result<bool, Refusal>
     requires received { area.old.inbox ≡ [] }
     requires may { MayMerge (Insert row) area.old }
     ensures told { IsLoggedOrNot (Insert row) area.old area.new result }
@@ -71,9 +71,9 @@ fn log_at<M: CrackerMap>(area: &mut Area<M>, at: usize, key: u64) -> Result<(), 
     area.log_removal(key, place)
 }
 
-/// Logs that the live row of a key goes, and answers whether the tape had room for it and a key map told its place. Refused
-/// `NoMemory`, the tape is as it was, and the key map has perhaps gone further.
-fn log_removal<M: CrackerMap>(area: &mut Area<M>, key: u64) -> Result<bool, Refusal>
+/// Logs that the live row of a key goes, if the tape has room for it and a key map tells its place, and answers whether it
+/// was logged. Refused `NoMemory`, the tape is as it was, and the key map has perhaps gone further.
+fn try_removal<M: CrackerMap>(area: &mut Area<M>, key: u64) -> Result<bool, Refusal>
     requires received { area.old.inbox ≡ [] }
     requires live { has_key key (tape_rows area.old) ≡ true }
     ensures { IsLoggedOrNot (Remove key) area.old area.new result }
@@ -97,8 +97,8 @@ fn log_one<M: CrackerMap>(area: &mut Area<M>, update: Update) -> Result<bool, Re
     ensures { IsLoggedOrNot update area.old area.new result }
 {
     match update {
-        Update::Insert(row) => log_insertion(area, row),
-        Update::Remove(key) => log_removal(area, key),
+        Update::Insert(row) => try_insertion(area, row),
+        Update::Remove(key) => try_removal(area, key),
     }
 }
 

@@ -1,3 +1,4 @@
+pub mod KeyForms
 pub mod Keys
 pub mod Kept
 pub mod Live

@@ -1,48 +1,28 @@
 //! The keys of a list of rows.
 
-ghost use Rattle.std.specs.Prelude.{◌≡◌, ◌≤◌, ◌<◌, ◌+◌, ◌-◌, ◌^◌, ◌++◌, ◌∷◌, [], true, ℕ, length, map, slice_index_or, take, All, IfOk, MatchOption, OnOk, OnErr};
-ghost use Rattle.std.specs.List.{range_with_len};
+ghost use Rattle.std.specs.Prelude.{◌≡◌, ◌≤◌, ◌<◌, ◌+◌, ◌-◌, ◌^◌, ◌++◌, ◌∷◌, [], true, false, ℕ, length, map, slice_index_or, take, All, IfOk, MatchOption, OnOk, OnErr};
 ghost use Rattle.sw_table.specs.Kept.{kept};
 ghost use Rattle.sw_table.specs.Keys.{HasNo, IsKeyAt};
 ghost use Rattle.sw_table.specs.Live.{Rises};
 ghost use Rattle.sw_table.specs.Packed.{stretch};
 
-use crate::finding::{find_key, find_number};
+use crate::finding::find_key;
 use crate::keeping::keep_keys;
+use crate::numbers::Numbers;
 use std::alloc::{AllocError, Global};
 use std::marker::Model;
 
 /// How keys are kept.
 #[derive(Debug, Drop)]
 enum Form {
-    /// As many keys as that: 1, 2, 3 and so on. No memory is taken.
-    Numbered(usize),
+    /// Keys that follow one another. No memory is taken.
+    Numbered(Numbers),
     /// These keys.
     Listed(Vec<u64>),
 }
 
-/// Whether a key comes next after 1, 2, 3 and so on, as many as that.
-fn is_next(many: usize, key: u64) -> bool
-    ensures there { result ≡ true → key ≡ many + 1 }
-{
-    match key.checked_sub(1) {
-        Some(before) => before == many as u64,
-        None => false,
-    }
-}
-
-/// The keys 1, 2, 3 and so on.
-fn listed(alloc: Global, many: usize) -> Result<Vec<u64>, AllocError>
-    ensures { IfOk result (λ keys. keys.items ≡ range_with_len 1 many) }
-{
-    let mut keys = Vec::with_capacity(alloc, many)?;
-    for place in 0..many {
-        keys.push(place as u64 + 1)?;
-    }
-    Ok(keys)
-}
-
-/// The keys of rows in their order. They take no memory while they came as 1, 2, 3 and so on and `keep` took none out.
+/// The keys of rows in their order. They take no memory while each came after the one before and `keep` took none
+/// out.
 #[derive(Debug, Drop)]
 pub(crate) struct Keys {
     form: Form,
@@ -50,7 +30,7 @@ pub(crate) struct Keys {
 
 impl Model for Keys {
     ghost use Rattle.std.specs.Prelude.{List, ℕ};
-    ghost use Rattle.sw_table.specs.Keys.{keys_in};
+    ghost use Rattle.sw_table.specs.KeyForms.{keys_in};
 
     ghost Value = { List ℕ };
 
@@ -63,7 +43,7 @@ impl Keys {
         ensures { result ≡ [] }
     {
         Keys {
-            form: Form::Numbered(0),
+            form: Form::Numbered(Numbers::new()),
         }
     }
 
@@ -73,7 +53,7 @@ impl Keys {
         ensures { result ≡ length self.now }
     {
         match &self.form {
-            Form::Numbered(many) => *many,
+            Form::Numbered(numbers) => numbers.len(),
             Form::Listed(keys) => keys.len(),
         }
     }
@@ -85,10 +65,7 @@ impl Keys {
         ensures { (d : ℕ) → result ≡ slice_index_or self.now place d }
     {
         match &self.form {
-            Form::Numbered(many) => {
-                let _most = *many;
-                place as u64 + 1
-            }
+            Form::Numbered(numbers) => numbers.at(place),
             Form::Listed(keys) => keys[place],
         }
     }
@@ -109,12 +86,11 @@ impl Keys {
         ensures err { OnErr result (self.new ≡ self.old) }
     {
         match &mut self.form {
-            Form::Numbered(many) => {
-                if is_next(*many, key) {
-                    *many += 1;
+            Form::Numbered(numbers) => {
+                if numbers.push(key) {
                     return Ok(());
                 }
-                let mut keys = listed(alloc, *many)?;
+                let mut keys = numbers.listed(alloc)?;
                 keys.push(key)?;
                 self.form = Form::Listed(keys);
             }
@@ -123,17 +99,32 @@ impl Keys {
         Ok(())
     }
 
-    /// Whether these are 1, 2, 3 and so on, as many as that, and the others are numbered too.
-    fn counts_on(&self, others: &Keys, many: usize) -> bool
-        ensures own { result ≡ true → self.now ≡ range_with_len 1 many }
-        ensures others { result ≡ true → others.now ≡ range_with_len 1 (length others.now) }
+    /// Adds so many keys of a list, from a place on, where all are numbers that follow, and says whether they are;
+    /// else nothing changes.
+    fn join(&mut self, keys: &Keys, start: usize, many: usize) -> bool
+        requires { start + many ≤ length keys.now }
+        ensures joined { result ≡ true → self.new ≡ self.old ++ stretch start many keys.now }
+        ensures other { result ≡ false → self.new ≡ self.old }
     {
-        match &self.form {
-            Form::Numbered(all) => match &others.form {
-                Form::Numbered(theirs) => {
-                    let _most = *theirs;
-                    *all == many
-                }
+        match &mut self.form {
+            Form::Numbered(own) => match &keys.form {
+                Form::Numbered(theirs) => own.extend_from(theirs, start, many),
+                Form::Listed(_) => false,
+            },
+            Form::Listed(_) => false,
+        }
+    }
+
+    /// Adds each key of a list, raised by how many keys there are, where all are numbers that follow, and says whether
+    /// they are; else nothing changes.
+    fn join_behind(&mut self, keys: &Keys) -> bool
+        requires { length self.old + length keys.now < 2 ^ 63 }
+        ensures joined { result ≡ true → self.new ≡ self.old ++ map (λ (k : ℕ). length self.old + k) keys.now }
+        ensures other { result ≡ false → self.new ≡ self.old }
+    {
+        match &mut self.form {
+            Form::Numbered(own) => match &keys.form {
+                Form::Numbered(theirs) => own.extend_behind(theirs),
                 Form::Listed(_) => false,
             },
             Form::Listed(_) => false,
@@ -175,16 +166,14 @@ impl Keys {
         ensures ok { OnOk result (self.new ≡ self.old ++ stretch start many keys.now) }
         ensures err { OnErr result (self.new ≡ self.old) }
     {
-        let _all = keys.len();
-        if self.counts_on(keys, start) {
-            self.form = Form::Numbered(start + many);
+        if self.join(keys, start, many) {
             return Ok(());
         }
         self.push_each(alloc, keys, start, many)
     }
 
-    /// Adds each key of a list, raised by how many keys there are; after an error nothing has changed.
-    pub(crate) fn extend_behind(&mut self, alloc: Global, keys: &Keys) -> Result<(), AllocError>
+    /// Adds each key of a list, raised by how many keys there are, one by one; after an error nothing has changed.
+    fn push_behind(&mut self, alloc: Global, keys: &Keys) -> Result<(), AllocError>
         requires few { length self.old + length keys.now < 2 ^ 63 }
         requires small { All (λ (k : ℕ). k < 2 ^ 63) keys.now }
         ensures ok { OnOk result (self.new ≡ self.old ++ map (λ (k : ℕ). length self.old + k) keys.now) }
@@ -192,10 +181,6 @@ impl Keys {
     {
         let before = self.len();
         let more = keys.len();
-        if self.counts_on(keys, before) {
-            self.form = Form::Numbered(before + more);
-            return Ok(());
-        }
         for place in 0..more {
             if let Err(e) = self.push(alloc, before as u64 + keys.at(place)) {
                 self.truncate(before);
@@ -205,27 +190,36 @@ impl Keys {
         Ok(())
     }
 
+    /// Adds each key of a list, raised by how many keys there are; after an error nothing has changed.
+    pub(crate) fn extend_behind(&mut self, alloc: Global, keys: &Keys) -> Result<(), AllocError>
+        requires few { length self.old + length keys.now < 2 ^ 63 }
+        requires small { All (λ (k : ℕ). k < 2 ^ 63) keys.now }
+        ensures ok { OnOk result (self.new ≡ self.old ++ map (λ (k : ℕ). length self.old + k) keys.now) }
+        ensures err { OnErr result (self.new ≡ self.old) }
+    {
+        if self.join_behind(keys) {
+            return Ok(());
+        }
+        self.push_behind(alloc, keys)
+    }
+
     /// Keeps so many keys at most, the first ones.
     pub(crate) fn truncate(&mut self, many: usize)
         ensures { self.new ≡ take many self.old }
     {
         match &mut self.form {
-            Form::Numbered(all) => {
-                if many < *all {
-                    *all = many;
-                }
-            }
+            Form::Numbered(numbers) => numbers.truncate(many),
             Form::Listed(keys) => keys.truncate(many),
         }
     }
 
-    /// The place of a key, by a sum or by binary search.
+    /// The place of a key, by a difference or by binary search.
     pub(crate) fn find(&self, key: u64) -> Option<usize>
         requires { Rises (λ (k : ℕ). k) self.now }
         ensures { MatchOption result (HasNo key self.now) (IsKeyAt key self.now) }
     {
         match &self.form {
-            Form::Numbered(many) => find_number(*many, key),
+            Form::Numbered(numbers) => numbers.find(key),
             Form::Listed(keys) => find_key(keys, key),
         }
     }
@@ -237,8 +231,8 @@ impl Keys {
         ensures err { OnErr result (self.new ≡ self.old) }
     {
         match &mut self.form {
-            Form::Numbered(many) => {
-                let mut keys = listed(alloc, *many)?;
+            Form::Numbered(numbers) => {
+                let mut keys = numbers.listed(alloc)?;
                 keep_keys(&mut keys, live);
                 self.form = Form::Listed(keys);
             }

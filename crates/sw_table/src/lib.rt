@@ -5,6 +5,7 @@ mod finding;
 mod keeping;
 mod keys;
 mod live;
+mod numbers;
 mod packed;
 mod row;
 mod updates;

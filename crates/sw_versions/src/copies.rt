@@ -147,7 +147,7 @@ where
     pub(crate) fn is_time(&self, while_read: WhileRead) -> bool {
         match while_read {
             WhileRead::Waits => true,
-            WhileRead::PutsOff => !self.visitors.any_reads_on(),
+            WhileRead::PutsOff => !self.visitors.any_reads_on(self.viewers),
         }
     }
 
@@ -159,7 +159,7 @@ where
         ensures viewers { self.new.viewers ≡ self.old.viewers }
     {
         let _ = publish(rt, &mut self.writer);
-        self.visitors.look();
+        self.visitors.look(self.viewers);
     }
 
     /// A viewer, which has learnt what is published; none where there were as many as there may be, or where no place for a reader

@@ -2,6 +2,7 @@
 //!
 //! No clause rests on these counts. They decide when something is published, and never what.
 
+use crossbeam_utils::CachePadded;
 use std::alloc::{AllocError, Global};
 use std::sync::Arc;
 use std::sync::atomic::{AtomicU64, Ordering};
@@ -16,15 +17,16 @@ pub enum WhileRead {
 }
 
 /// How often a viewer came to the copies and went: an odd number while it reads. The viewer counts, and the writer looks.
+/// Each count has a line of the processors' caches for itself, so that no viewer waits for another's.
 #[derive(Drop)]
 pub(crate) struct Visits {
-    count: Arc<AtomicU64>,
+    count: Arc<CachePadded<AtomicU64>>,
 }
 
 impl Visits {
     /// None yet. The one error is that there is no memory for the count.
     fn new(alloc: Global) -> Result<Visits, AllocError> {
-        let count = Arc::new(alloc, AtomicU64::new(0))?;
+        let count = Arc::new(alloc, CachePadded::new(AtomicU64::new(0)))?;
         Ok(Visits { count })
     }
 
@@ -93,14 +95,17 @@ impl Visitors {
         }
     }
 
-    /// Whether a viewer still reads the copy from before the last publishing.
-    pub(crate) fn any_reads_on(&self) -> bool {
-        self.watches.iter().any(|watch| watch.is_reading_on())
+    /// Whether one of the first `opened` viewers still reads the copy from before the last publishing.
+    pub(crate) fn any_reads_on(&self, opened: u64) -> bool {
+        self.watches
+            .iter()
+            .take(opened as usize)
+            .any(|watch| watch.is_reading_on())
     }
 
-    /// Something was published, or was to be.
-    pub(crate) fn look(&mut self) {
-        for watch in self.watches.iter_mut() {
+    /// Something was published, or was to be, while there were so many viewers.
+    pub(crate) fn look(&mut self, opened: u64) {
+        for watch in self.watches.iter_mut().take(opened as usize) {
             watch.look();
         }
     }

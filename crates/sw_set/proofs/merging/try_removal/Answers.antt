@@ -1,6 +1,6 @@
 use Rattle.std.proofs.Common.{arith}
 use Rattle.sw_set.proofs.Restarts.{removal-after}
-use Rattle.sw_set.proofs.merging.log_removal.Goals as goal
+use Rattle.sw_set.proofs.merging.try_removal.Goals as goal
 
 pub returns : goal.returns
 returns g c =
