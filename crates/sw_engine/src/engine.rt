@@ -324,7 +324,13 @@ where
 
     /// Puts copies of opening rows, up to so many from a place on, where a list's rows were, in one visit. Refused `NoMemory`
     /// alone.
-    fn copy_rows<R: Wait>(&self, rt: &R, next: &mut PackedRows, from: usize, most: usize) -> Result<(), Refusal>
+    fn copy_rows<R: Wait>(
+        &self,
+        rt: &R,
+        next: &mut PackedRows,
+        from: usize,
+        most: usize,
+    ) -> Result<(), Refusal>
         ensures ok { OnOk result (next.new.items ≡ take most (drop from J.opening)) }
         ensures err { IfErr result (λ e. e ≡ NoMemory) }
     {
