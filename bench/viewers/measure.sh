@@ -10,8 +10,9 @@
 #   a viewer's count by one range over ROWS rows (by default 1,000,000), and the same scan in C, without and with a flag a row: ranges of
 #   one thousandth and of one half of the rows;
 #   ten times CALLS inserts of a session (by default ten thousand) over 10,000 rows and over ROWS: with no viewer, with one, with four open;
-#   CALLS inserts and deletes by turns over 10, 100 and 1,000 rows, beside one viewer and three that answer a count all the time in threads of
-#   their own, and a fifth of CALLS beside four: with no viewer, with as many idle ones, with those that answer. Sums of twice ROUNDS runs.
+#   ten times CALLS inserts and deletes by turns over 10 rows, a hundred times as many and so on up to ROWS, beside one viewer, three and four
+#   that answer a count all the time in threads of their own: with no viewer, with as many idle ones, with idle ones beside as many processes
+#   in C that scan lists of their own all the time, and with those that answer. Sums of twice ROUNDS runs.
 # On a busy machine RUN='chrt -f 10' (as root) runs all but the last at real-time priority. Beside four viewers there are five threads, which four
 # processors have to share, and which at that priority they do not: there BESIDE='nice -n -20' serves.
 # It needs rt, cc and python3. Nothing of the repository is written.
@@ -33,7 +34,7 @@ build program viewers "$here/viewers.rt.txt" \
 cc -O3 -o "$work/peer" "$here/peer.c"
 
 python3 - "$work" "$rows" "$rounds" "$calls" "${RUN:-}" "${BESIDE:-}" <<'END'
-import statistics, subprocess, sys
+import statistics, subprocess, sys, time
 work, rows, rounds, calls = sys.argv[1], int(sys.argv[2]), int(sys.argv[3]), int(sys.argv[4])
 run, beside, median = sys.argv[5].split(), sys.argv[6].split(), statistics.median
 
@@ -89,13 +90,28 @@ for many in (10_000, rows):
     a, b, c = each(none, few), each(one, few), each(four, few)
     print(f"{few} inserts over {many} rows: no viewer {a[0]:.0f} ns each, one open {b[0]:.0f}: {against(b, a)}; four open {c[0]:.0f}: {against(c, a)}", flush=True)
 
-for open, before, few in ((1, run, calls), (3, run, calls), (4, beside, calls // 5)):
-    for many in (10, 100, 1000):
-        sides = (("idle", 0), ("idle", open), ("busy", open))
-        none, still, busy = by_turns(2 * rounds, *(lambda side=side, open=open: viewers(side, "update", many, few, open, 500, before=before) for side, open in sides))
-        assert {it[0] for it in none + still + busy} == {many + few % 2}
-        a, b, c = (sum(it[1] for it in side) / len(side) / few for side in (none, still, busy))
-        x, y = median(it[1] / few for it in none), median(it[1] / few for it in busy)
-        print(f"{few} updates over {many} rows, {open} viewers: none open {a:.0f} ns each, all idle {b:.0f}, all answering {c:.0f}: {a / c:.5f} of the rate with none "
-              f"(of medians {x / y:.5f}), {b / c:.5f} of that with idle ones; {sum(it[2] for it in busy) / sum(it[1] for it in busy) * 1000:.2f} answers a microsecond", flush=True)
+def beside_others(open, many, few, before):
+    """The session's calls with so many idle viewers, while as many processes in C scan lists of as many rows."""
+    words = [*before, f"{work}/peer", "live", str(many), str(10 ** 15), "500"]
+    others = [subprocess.Popen(words, stdout=subprocess.DEVNULL, stderr=subprocess.DEVNULL) for _ in range(open)]
+    time.sleep(0.1)
+    try:
+        return viewers("idle", "update", many, few, open, 500, before=before)
+    finally:
+        for other in others:
+            other.kill()
+            other.wait()
+
+sizes = [many for many in (10, 1000, 100_000) if many < rows] + [rows]
+for open, before in ((1, run), (3, run), (4, beside)):
+    for many in sizes:
+        few = min(inserts, 1_048_576 - many)
+        none, still, others, busy = by_turns(
+            2 * rounds, lambda: viewers("idle", "update", many, few, 0, 500, before=before), lambda: viewers("idle", "update", many, few, open, 500, before=before),
+            lambda: beside_others(open, many, few, before), lambda: viewers("busy", "update", many, few, open, 500, before=before))
+        assert {it[0] for it in none + still + others + busy} == {many + few % 2}
+        a, b, c, d = (sum(it[1] for it in side) / len(side) / few for side in (none, still, others, busy))
+        print(f"{few} updates over {many} rows, {open} viewers: none open {a:.0f} ns each, all idle {b:.0f}, idle beside scans in C {c:.0f}, all answering {d:.0f}: "
+              f"{a / d:.2f} of the rate with none, {b / d:.2f} of that with idle ones, {c / d:.2f} of that beside scans in C; "
+              f"{sum(it[2] for it in busy) / sum(it[1] for it in busy) * 1000:.3f} answers a microsecond", flush=True)
 END
