@@ -1,6 +1,6 @@
 #!/bin/sh
 # Holds the table of docs/ARCHITECTURE.md against crates.txt: a row for each crate, with just the libraries that it stands on; and
-# looks for a README of at most 60 lines in each crate. Tells what differs, a line each; status 1 where something does.
+# looks for a README of at most 60 lines in each crate, with the same five heads. Tells what differs, a line each; status 1 where something does.
 set -u
 top=$(cd "$(dirname "$0")/.." && pwd) || exit 3
 cd "$top" || exit 3
@@ -25,6 +25,13 @@ in_order() {
     done | sort
 }
 
+# The heads of a README, in order.
+heads="## What it is for
+## A caller's example
+## What it promises
+## What is by tests alone
+## Where to change what"
+
 work=$(mktemp -d) || exit 3
 trap 'rm -rf "$work"' EXIT
 listed >"$work/listed"
@@ -40,6 +47,10 @@ for name in $(cut -d ' ' -f 1 "$work/listed"); do
     if [ "$lines" -eq 0 ] || [ "$lines" -gt 60 ]; then
         differs=yes
         echo "crates/$name/README.md has $lines lines"
+    fi
+    if [ "$lines" -gt 0 ] && [ "$(grep '^## ' "crates/$name/README.md")" != "$heads" ]; then
+        differs=yes
+        echo "crates/$name/README.md has other heads"
     fi
 done
 [ "$differs" = no ] && echo "the table and the READMEs are in order"
