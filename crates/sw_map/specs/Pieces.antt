@@ -84,13 +84,14 @@ TakesNoMemory (inserted row) = Unit {0}
 TakesNoMemory (removed place) = Unit {0}
 TakesNoMemory (ranged lower upper) = ⊥
 
--- the two lists and the marks as a table
-abbrev pub table_of : Vec ℤ → Vec ℤ → List Mark → Table
-table_of head tail marks = record { pieces = pieces_of head tail marks; room = vec_capacity head }
+-- the two lists and the marks as a table with so much room
+abbrev pub table_of : Vec ℤ → Vec ℤ → List Mark → ℕ → Table
+table_of head tail marks room = record { pieces = pieces_of head tail marks; room = room }
 
 -- what they always keep
-pub record IsTable (head tail : Vec ℤ) (marks : List Mark) : Type 0 where
+pub record IsTable (head tail : Vec ℤ) (marks : List Mark) (room : ℕ) : Type 0 where
   pub lengths : vec_len head ≡ vec_len tail
   pub order : InOrder 0 (vec_len head) marks
   pub rising : IsRising (bounds_of marks)
-  pub room : vec_capacity tail ≡ vec_capacity head
+  pub heads : room ≤ vec_capacity head
+  pub tails : room ≤ vec_capacity tail

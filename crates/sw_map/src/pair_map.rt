@@ -132,9 +132,9 @@ impl CrackerMap for PairMap {
         replace_with(&mut self.home, plan, Home::begin)
     }
 
-    /// Its lease is given back and one of so many cells taken; its lists get room for just as many pairs by the
-    /// allocator's own reallocation, and pairs, marks and cursor stay. Where it is refused it has its purse again, and
-    /// no memory.
+    /// Its lease is given back and one of so many cells taken; its lists get room for as many pairs, and where they have
+    /// to grow for a 64th more, by the allocator's own reallocation, and pairs, marks and cursor stay. Where it is refused
+    /// it has its purse again, and no memory.
     fn grow(&mut self, cells: u64) -> Result<bool, Refusal>
         requires begun { (held_by self.old.home).is_blank ≡ false }
         requires more { (held_by self.old.home).cells < cells }

@@ -21,12 +21,18 @@ use sw_rows::{Bound, Refusal, Row};
 use sw_table::PackedRows;
 use sw_tape::Entry;
 
-/// Pairs of head and tail in pieces between bounds. Contracts see the pieces, and for how many pairs there is room.
+/// A list of values that grows gets room for one value in so many more than asked for. An allocator may have to move it, and
+/// then a list that was to grow again and again would be copied each time.
+const PART_TO_SPARE: usize = 64;
+
+/// Pairs of head and tail in pieces between bounds. Contracts see the pieces, and for how many pairs there is room; the lists
+/// have memory for as many or some more.
 #[derive(Drop)]
 pub struct Pairs {
     head: Vec<i64>,
     tail: Vec<i64>,
     marks: Vec<Mark>,
+    room: usize,
 }
 
 impl Model for Pairs {
@@ -37,9 +43,9 @@ impl Model for Pairs {
 
     ghost coded = { table_code };
 
-    ghost view = { λ s. table_of s.head s.tail s.marks.items };
+    ghost view = { λ s. table_of s.head s.tail s.marks.items s.room };
 
-    ghost invariant = { λ s. IsTable s.head s.tail s.marks.items };
+    ghost invariant = { λ s. IsTable s.head s.tail s.marks.items s.room };
 }
 
 /// A row's cell of an attribute; 0 past the last.
@@ -108,15 +114,18 @@ fn append_tails(values: &mut Vec<i64>, tail: Tail, rows: &PackedRows)
     }
 }
 
-/// Makes room for so many values in all, by the allocator's own reallocation. It is refused `NoMemory` alone, and then
-/// nothing has changed.
+/// Makes room for so many values in all, and where there was less for some more, by the allocator's own reallocation. It is
+/// refused `NoMemory` alone, and then nothing has changed.
 fn make_room(values: &mut Vec<i64>, room: usize) -> Result<(), Refusal>
-    requires { vec_capacity values.old ≤ room }
     ensures items { values.new.items ≡ values.old.items }
     ensures len { vec_len values.new ≡ vec_len values.old }
-    ensures ends { MatchResult result (λ _. vec_capacity values.new ≡ room) (λ e. e ≡ NoMemory) }
+    ensures ends { MatchResult result (λ _. room ≤ vec_capacity values.new) (λ e. e ≡ NoMemory) }
 {
-    match values.reserve_exact(room - values.len()) {
+    if room <= values.capacity() {
+        return Ok(());
+    }
+    let ample = room.saturating_add(room / PART_TO_SPARE);
+    match values.reserve_exact(ample - values.len()) {
         Ok(()) => Ok(()),
         Err(_) => Err(Refusal::NoMemory),
     }
@@ -137,6 +146,7 @@ impl Pairs {
             head,
             tail,
             marks: Vec::new(alloc),
+            room,
         })
     }
 
@@ -149,10 +159,16 @@ impl Pairs {
             mut head,
             mut tail,
             marks,
+            ..
         } = self;
         make_room(&mut head, room)?;
         make_room(&mut tail, room)?;
-        Ok(Pairs { head, tail, marks })
+        Ok(Pairs {
+            head,
+            tail,
+            marks,
+            room,
+        })
     }
 
     /// The number of pairs.
@@ -166,7 +182,7 @@ impl Pairs {
     pub(crate) fn room(&self) -> usize
         ensures { result ≡ self.now.room }
     {
-        self.head.capacity()
+        self.room
     }
 
     /// The head of the pair at a place.

@@ -1,4 +1,4 @@
-use Rattle.std.proofs.Common.{rules, ◌≡◌, ◌≤◌, ℕ, ℤ, List, length, zip, arith, sym, ap, ap₂, ◌∙◌, subst, vec_capacity}
+use Rattle.std.proofs.Common.{rules, ◌≡◌, ◌≤◌, ℕ, ℤ, List, length, zip, arith, sym, ap, ap₂, ◌∙◌, subst}
 use mir.Syntax.{w64}
 use mir.Val.{SFits, of_z, to_z}
 use Rattle.std.proofs.lemmas.Int.{to_z-of_z}
@@ -26,7 +26,7 @@ ripple_in-requires-clause-room c =
     let long' = ap (λ (t : Table). length (joined t.pieces)) (sym c.self.view_is) in
     let room' = ap (λ (t : Table). t.room) (sym c.self.view_is) in
     let within = c.requires in
-    (omega (arith, long, long', room', within), omega (arith, long, long', room', within, i.lengths, i.room))
+    (omega (arith, long, long', room', within, i.heads), omega (arith, long, long', room', within, i.lengths, i.tails))
 
 pub invariant_of-self : goal.invariant_of-self
 invariant_of-self c =
@@ -59,7 +59,8 @@ invariant_of-self c =
       lengths = e0;
       order = subst (λ (l : List Mark). InOrder 0 r.head.len l) (sym wr) (subst (λ (j : ℕ). InOrder 0 j r.marks) lz' laid.order);
       rising = subst (λ (l : List Mark). IsRising (bounds_of l)) (sym wr) laid.rising;
-      room = omega (arith, i.room, c.ripple_in.ensures.capacity.0, c.ripple_in.ensures.capacity.1);
+      heads = omega (arith, i.heads, c.ripple_in.ensures.capacity.0);
+      tails = omega (arith, i.tails, c.ripple_in.ensures.capacity.1);
     }
 
 pub returns : goal.returns
@@ -89,6 +90,6 @@ returns c =
     let become : Become (ripple_insert head_of (c.args.head, c.args.tail)) zs ms zs' r.marks =
     subst (λ (x : ℤ × ℤ). Become (ripple_insert head_of x) zs ms zs' r.marks) x' (subst (λ (l : List Mark). Become (ripple_insert head_of (to_z w64 (of_z w64 c.args.head), to_z w64 (of_z w64 c.args.tail))) zs l zs' r.marks) vm c.ripple_in.ensures.rippled) in
     let laid : IsLaidOut (ripple_insert head_of (c.args.head, c.args.tail) (pieces_between 0 zs ms)) zs' r.marks = rippled (ripple_insert head_of (c.args.head, c.args.tail)) zs zs' ms r.marks o i.rising (λ a. bounds-insert head_of (c.args.head, c.args.tail) a) become in
-    ap (λ (l : List Mark). record { pieces = pieces_between 0 zs' l; room = vec_capacity r.head }) wr
-    ∙ ap₂ (λ (b : Arrangement (ℤ × ℤ)) (n : ℕ). record { pieces = b; room = n }) laid.pieces c.ripple_in.ensures.capacity.0
+    ap (λ (l : List Mark). record { pieces = pieces_between 0 zs' l; room = s.room }) wr
+    ∙ ap (λ (b : Arrangement (ℤ × ℤ)). record { pieces = b; room = s.room }) laid.pieces
     ∙ ap (λ (t : Table). stepped (inserted (c.args.head, c.args.tail)) t) c.self.view_is

@@ -1,4 +1,4 @@
-use Rattle.std.proofs.Common.{rules, ◌≡◌, ℕ, ℤ, List, length, map, zip, arith, sym, ap, ap₂, ◌∙◌, subst, vec_capacity}
+use Rattle.std.proofs.Common.{rules, ◌≡◌, ℕ, ℤ, List, length, map, zip, arith, sym, ap, ap₂, ◌∙◌, subst}
 use Rattle.sw_kernel.specs.Arrangement.{Arrangement, joined}
 use Rattle.sw_kernel.specs.Replay.{loaded}
 use Rattle.sw_kernel.specs.Flat.{InOrder}
@@ -18,7 +18,7 @@ append_cells-requires c =
     let long = table-length hs ts s.marks.items same in
     let long' = ap (λ (t : Table). length (joined t.pieces)) (sym c.self.view_is) in
     let room' = ap (λ (t : Table). t.room) (sym c.self.view_is) in
-    omega (arith, long, long', room', c.requires.room)
+    omega (arith, long, long', room', c.requires.room, i.heads)
 
 pub append_tails-requires-clause-room : goal.append_tails-requires-clause-room
 append_tails-requires-clause-room c =
@@ -30,7 +30,7 @@ append_tails-requires-clause-room c =
     let long = table-length hs ts s.marks.items same in
     let long' = ap (λ (t : Table). length (joined t.pieces)) (sym c.self.view_is) in
     let room' = ap (λ (t : Table). t.room) (sym c.self.view_is) in
-    omega (arith, long, long', room', c.requires.room, i.lengths, i.room)
+    omega (arith, long, long', room', c.requires.room, i.lengths, i.tails)
 
 pub invariant_of-self : goal.invariant_of-self
 invariant_of-self c =
@@ -40,7 +40,8 @@ invariant_of-self c =
       lengths = omega (arith, i.lengths, heads.len, tails.len);
       order = order-longer 0 s.head.len c.append_cells.new.values.len s.marks.items (omega (arith, heads.len)) i.order;
       rising = i.rising;
-      room = omega (arith, i.room, heads.capacity, tails.capacity);
+      heads = omega (arith, i.heads, heads.capacity);
+      tails = omega (arith, i.tails, tails.capacity);
     }
 
 pub returns : goal.returns
@@ -52,6 +53,6 @@ returns c =
     let same : length hs ≡ length ts = omega (arith, i.lengths) in
     let o : InOrder 0 (length hs) ms = subst (λ (j : ℕ). InOrder 0 j ms) (sym ln) i.order in
     let rows = c.args.rows.now.items in
-    ap₂ (λ (x y : List ℤ). record { pieces = pieces_between 0 (zip x y) ms; room = vec_capacity c.append_cells.new.values }) c.append_cells.ensures.items c.append_tails.ensures.items
-    ∙ ap₂ (λ (b : Arrangement (ℤ × ℤ)) (n : ℕ). record { pieces = b; room = n }) (table-loaded hs ts ms c.args.head c.args.tail rows same o) c.append_cells.ensures.capacity
+    ap₂ (λ (x y : List ℤ). record { pieces = pieces_between 0 (zip x y) ms; room = s.room }) c.append_cells.ensures.items c.append_tails.ensures.items
+    ∙ ap (λ (b : Arrangement (ℤ × ℤ)). record { pieces = b; room = s.room }) (table-loaded hs ts ms c.args.head c.args.tail rows same o)
     ∙ ap (λ (t : Table). stepped (loaded (map (pair_in c.args.head c.args.tail) rows)) t) c.self.view_is

@@ -1,4 +1,4 @@
-use Rattle.std.proofs.Common.{rules, ◌≡◌, ◌≤◌, ℕ, ℤ, List, length, zip, arith, sym, ap, ap₂, ◌∙◌, subst, vec_capacity}
+use Rattle.std.proofs.Common.{rules, ◌≡◌, ◌≤◌, ℕ, ℤ, List, length, zip, arith, sym, ap, ◌∙◌, subst}
 use Rattle.sw_kernel.specs.declared.mark.Mark.{Mark}
 use Rattle.sw_kernel.specs.Arrangement.{Arrangement, joined, ripple_remove}
 use Rattle.sw_kernel.specs.Replay.{removed}
@@ -51,7 +51,8 @@ invariant_of-self c =
       lengths = e0;
       order = subst (λ (l : List Mark). InOrder 0 r.head.len l) (sym wr) (subst (λ (j : ℕ). InOrder 0 j r.marks) lz' laid.order);
       rising = subst (λ (l : List Mark). IsRising (bounds_of l)) (sym wr) laid.rising;
-      room = omega (arith, i.room, c.ripple_out.ensures.capacity.0, c.ripple_out.ensures.capacity.1);
+      heads = omega (arith, i.heads, c.ripple_out.ensures.capacity.0);
+      tails = omega (arith, i.tails, c.ripple_out.ensures.capacity.1);
     }
 
 pub returns : goal.returns
@@ -77,6 +78,6 @@ returns c =
     let wr = written s.marks.len ms r.marks lm lw in
     let become : Become (ripple_remove c.args.place) zs ms zs' r.marks = subst (λ (l : List Mark). Become (ripple_remove c.args.place) zs l zs' r.marks) vm c.ripple_out.ensures.rippled in
     let laid : IsLaidOut (ripple_remove c.args.place (pieces_between 0 zs ms)) zs' r.marks = rippled (ripple_remove c.args.place) zs zs' ms r.marks o i.rising (λ a. bounds-remove c.args.place a) become in
-    ap (λ (l : List Mark). record { pieces = pieces_between 0 zs' l; room = vec_capacity r.head }) wr
-    ∙ ap₂ (λ (b : Arrangement (ℤ × ℤ)) (n : ℕ). record { pieces = b; room = n }) laid.pieces c.ripple_out.ensures.capacity.0
+    ap (λ (l : List Mark). record { pieces = pieces_between 0 zs' l; room = s.room }) wr
+    ∙ ap (λ (b : Arrangement (ℤ × ℤ)). record { pieces = b; room = s.room }) laid.pieces
     ∙ ap (λ (t : Table). stepped (removed c.args.place) t) c.self.view_is

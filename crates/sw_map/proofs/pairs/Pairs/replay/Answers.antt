@@ -1,4 +1,4 @@
-use Rattle.std.proofs.Common.{◌≡◌, ◌≤◌, List, length, map, arith, ap, ◌∙◌, subst}
+use Rattle.std.proofs.Common.{◌≤◌, List, length, map, arith, ap, ◌∙◌, subst}
 use Rattle.std.proofs.lemmas.List.{length-append, length-map}
 use Rattle.sw_table.specs.declared.row.Row.{Row}
 use Rattle.sw_kernel.specs.Arrangement.{joined}
