@@ -7,7 +7,7 @@ use Rattle.sw_rows.specs.declared.reply.Reply.{Reply}
 use Rattle.sw_rows.specs.declared.refusal.Refusal.{Refusal}
 use Rattle.sw_rows.specs.Scan.{answer}
 use Rattle.sw_table.specs.Updates.{rows_then}
-use Rattle.sw_set.specs.declared.prepare.Ready.{Ready}
+use Rattle.sw_set.specs.declared.ready.Ready.{Ready}
 use Rattle.sw_set.proofs.Ends.{noted-stand}
 use Rattle.sw_set.proofs.Told.{if-ok}
 use Rattle.sw_set.specs.Merged.{StandsForSame}

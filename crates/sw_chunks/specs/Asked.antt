@@ -8,7 +8,7 @@ use Rattle.sw_rows.specs.Scan.{answer, answer_over}
 use Rattle.sw_table.specs.Updates.{rows_of}
 use Rattle.sw_rows.specs.declared.refusal.Refusal.{Refusal}
 use Rattle.sw_rows.specs.declared.refusal.Refusal.TheVariants.{Short}
-use Rattle.sw_set.specs.declared.prepare.Ready.{Ready}
+use Rattle.sw_set.specs.declared.ready.Ready.{Ready}
 use Rattle.sw_set.specs.Needs.{head_in, needed}
 use Rattle.sw_set.specs.Merged.{StandsForSame}
 use Rattle.sw_set.specs.Prepared.{IsPreparedFor, IsSameButBoxes, is_touched}

@@ -70,7 +70,7 @@ impl Model for Cuts {
 }
 
 impl Cuts {
-    // No cuts of so many attributes.
+    /// No cuts of so many attributes.
     fn none(alloc: Global, attrs: usize) -> Result<Cuts, AllocError>
         ensures { IfOk result (λ cuts. cuts ≡ replicate attrs []) }
     {
@@ -114,7 +114,7 @@ fn cut_name(alloc: Global, schema: &Schema, cuts: &Cuts, name: &[u8]) -> Result<
 {
     let attr = attr_of(alloc, schema, name, Why::Cuts)?;
     if cuts.of(attr).len() >= MOST_CUTS {
-        return Err(ParseError::Fault(Fault::Excess(15)));
+        return Err(ParseError::Fault(Fault::Excess(MOST_CUTS as u64)));
     }
     Ok(attr)
 }
@@ -229,8 +229,8 @@ fn cuts_at(alloc: Global, schema: &Schema, text: &[u8]) -> Result<Cuts, ParseErr
 /// The cuts that a text gives: nothing, or a list of `name=value` divided by `;`, without blanks.
 ///
 /// A value is a cell of its attribute's kind, and those of one attribute rise. The first fault from the left decides:
-/// `UnknownAttribute` at a well-formed name that no attribute has, `TooMany` of limit 15 at the name of an attribute's
-/// sixteenth cut, and `BadLine` of line 0 and why `Cuts` at anything else.
+/// `UnknownAttribute` at a well-formed name that no attribute has, `TooMany` of limit `MOST_CUTS` at the name of an
+/// attribute's sixteenth cut, and `BadLine` of line 0 and why `Cuts` at anything else.
 pub fn parse_cuts(alloc: Global, schema: &Schema, text: &str) -> Result<Cuts, Refusal>
     ensures reading { Answers result (refused 0 (cuts_at schema.now text.now)) }
 
@@ -238,7 +238,7 @@ pub fn parse_cuts(alloc: Global, schema: &Schema, text: &str) -> Result<Cuts, Re
     ensures grammar { IfOk result (IsCuts schema.now text.now) }
     ensures only { IsSchema schema.now → AnswersRelated result (IsCuts schema.now text.now) }
 
-    // of each attribute at most 15, which rise, each a cell of its kind
+    // of each attribute at most MOST_CUTS, which rise, each a cell of its kind
     ensures fits { IfOk result (FitCuts schema.now) }
 {
     match cuts_at(alloc, schema, text.as_bytes()) {

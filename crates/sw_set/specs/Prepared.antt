@@ -1,5 +1,5 @@
 -- What `prepare` makes of an area, and why it is refused.
-use Rattle.std.specs.Prelude.{◌≡◌, ◌<◌, ◌+◌, ◌*◌, ◌/◌, ◌&&◌, ◌⊎◌, ℕ, Bool, true, false, max, List, [], ◌∷◌, ◌++◌, length, Option, Some, None, Any, Contains}
+use Rattle.std.specs.Prelude.{◌≡◌, ◌<◌, ◌+◌, ◌-◌, ◌*◌, ◌/◌, ◌&&◌, ◌⊎◌, ℕ, Bool, true, false, max, List, [], ◌∷◌, ◌++◌, length, Option, Some, None, Any, Contains}
 use Rattle.sw_rows.specs.declared.bound.Bound.{Bound}
 use Rattle.sw_table.specs.declared.row.Row.{Row}
 use Rattle.sw_rows.specs.declared.query.Query.{Query}
@@ -12,6 +12,7 @@ use Rattle.sw_map.specs.declared.tail.Tail.{Tail}
 use Rattle.sw_map.specs.Held.{Held, place_of}
 use Rattle.sw_map.specs.Lawful.{rows_by}
 use Rattle.sw_map.specs.Refusals.{IsBeginRefusal}
+use Rattle.sw_set.specs.declared.prepare.TheConstants.{CELL_BLOCK}
 use Rattle.sw_set.specs.Needs.{edge, touches, lower_in, upper_in, lower_from, upper_upto, needed}
 pub use Rattle.sw_set.specs.Boxed.{IsOneCleared, IsSameButBoxes, IsShed}
 use Rattle.sw_set.specs.Shelf.{AreaState, arranged_rows, tape_rows}
@@ -89,9 +90,9 @@ abbrev pub IsPartlyNoted : Query → AreaState → List (Step Row) → Type 0
 IsPartlyNoted q x new =
     (new ≡ x.tape) ⊎ (IsNotedFor q x new ⊎ IsBegunFor (area_lower x q) (area_upper x q) (tape_rows x) x.tape new)
 
--- the cells for so many pairs: a multiple of 64, and at least 64
+-- the cells for so many pairs: whole blocks, and one at least
 abbrev pub cells_for : ℕ → ℕ
-cells_for n = max 64 (64 * ((n + 63) / 64))
+cells_for n = max CELL_BLOCK (CELL_BLOCK * ((n + (CELL_BLOCK - 1)) / CELL_BLOCK))
 
 -- why an area of so many boxes was not prepared for so many maps of so many cells
 abbrev pub IsPrepareRefusal : ℕ → ℕ → ℕ → Refusal → Type 0

@@ -32,7 +32,7 @@ use crate::figures::{cells_among, maps_among};
 use crate::live::LiveRows;
 use crate::pick::{find_blank, find_leased, find_map, find_unneeded};
 use crate::position::place_of_row;
-use crate::prepare::Ready;
+use crate::ready::Ready;
 use std::alloc::Global;
 use std::marker::Model;
 use std::mem;
@@ -573,11 +573,7 @@ impl<M: CrackerMap> Area<M> {
         let Some(at) = self.leased(&[]) else {
             return None;
         };
-        if at < self.stamps.len() {
-            Some(self.stamps[at])
-        } else {
-            Some(0)
-        }
+        Some(self.stamps[at])
     }
 
     /// The cursor of the map of a tail, if there is one.

@@ -17,10 +17,11 @@ mod needs;
 mod pick;
 mod position;
 mod prepare;
+mod ready;
 mod replies;
 mod totals;
 mod window;
 
 pub use area::Area;
 pub use needs::needed_maps;
-pub use prepare::Ready;
+pub use ready::Ready;

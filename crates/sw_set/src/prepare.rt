@@ -18,17 +18,11 @@ use crate::making::make_all;
 use crate::needs::{
     edge, lower_from, lower_of, needed_maps, needed_tails, touches, upper_of, upper_upto,
 };
+use crate::ready::Ready;
 use std::thread::Threads;
 use sw_map::{CrackerMap, Tail};
 use sw_rows::{Bound, Query, Refusal, Reply};
 use sw_tape::MAX_ENTRIES;
-
-/// A range of places in each map of an area: from the one, up to below the other.
-#[derive(Clone, Copy, Debug, PartialEq, Eq)]
-pub struct Ready {
-    pub from: usize,
-    pub upto: usize,
-}
 
 /// Whether both bounds, where they are there, stand in ranges of the tape.
 fn all_stand<M: CrackerMap>(area: &Area<M>, lower: Option<Bound>, upper: Option<Bound>) -> bool
@@ -58,13 +52,16 @@ fn log_range<M: CrackerMap>(
     area.log(lower, upper)
 }
 
-/// The cells for so many pairs: a multiple of 64, and at least 64.
+/// How many cells a block has; a lease is of whole blocks.
+const CELL_BLOCK: u64 = 64;
+
+/// The cells for so many pairs: whole blocks, and one at least.
 fn cells_for(pairs: usize) -> u64
     requires { pairs ≤ 2 ^ 63 }
     ensures { result ≡ cells_for pairs }
 {
-    let blocks = (pairs as u64 + 63) / 64;
-    (64 * blocks).max(64)
+    let blocks = (pairs as u64 + (CELL_BLOCK - 1)) / CELL_BLOCK;
+    (CELL_BLOCK * blocks).max(CELL_BLOCK)
 }
 
 /// Where a bound stands in the box at a place; an absent one stands where it is said.
@@ -83,7 +80,7 @@ fn place_in_box<M: CrackerMap>(
     };
     match area.place_at(at, b) {
         Some(place) => place,
-        None => absent,
+        None => unreachable!(),
     }
 }
 
@@ -101,7 +98,7 @@ fn range_of<M: CrackerMap>(
 {
     area.known();
     let Some(at) = area.with_map(Tail::Key) else {
-        return Ready { from: 0, upto: 0 };
+        unreachable!()
     };
     let from = place_in_box(area, at, lower, 0);
     let upto = place_in_box(area, at, upper, area.pairs_at(at));

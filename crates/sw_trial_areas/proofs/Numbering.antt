@@ -3,6 +3,7 @@ use Rattle.std.proofs.Common.{◌≡◌, ◌<◌, ◌≤◌, ◌+◌, ◌^◌, �
 use Rattle.std.specs.List.{AllByRecursion, enumerate_from}
 use Rattle.std.proofs.lemmas.List.{length-take-le, take_more}
 use Rattle.std.proofs.lemmas.List.Elements.{All-from_recursion}
+use Rattle.sw_rows.specs.declared.table.TheConstants.{MOST_ROWS}
 use Rattle.sw_table.specs.declared.row.Row.{Row}
 use Rattle.sw_set.specs.Shelf.{Rises, key_of}
 use Rattle.sw_trial_areas.specs.Opening.{numbered, row_of}
@@ -46,10 +47,10 @@ few : (n m : ℕ) (cs : List (List ℤ)) → n + length cs ≤ m → AllByRecurs
 few n m [] le = tt
 few n m (c ∷ cs) le = (omega arith, few (n + 1) m cs (omega arith))
 
-pub numbered-fit : (cs : List (List ℤ)) → All (λ (r : Row). r.key < 2 ^ 63) (numbered (take (2 ^ 20) cs))
+pub numbered-fit : (cs : List (List ℤ)) → All (λ (r : Row). r.key < 2 ^ 63) (numbered (take MOST_ROWS cs))
 numbered-fit cs =
-    let long : length (take (2 ^ 20) cs) ≡ min (2 ^ 20) (length cs) = length-take (2 ^ 20) cs in
-    All-from_recursion (λ (r : Row). r.key < 2 ^ 63) _ (few 1 (2 ^ 63) (take (2 ^ 20) cs) (omega (arith, long)))
+    let long : length (take MOST_ROWS cs) ≡ min MOST_ROWS (length cs) = length-take MOST_ROWS cs in
+    All-from_recursion (λ (r : Row). r.key < 2 ^ 63) _ (few 1 (2 ^ 63) (take MOST_ROWS cs) (omega (arith, long)))
 
 -- their keys are at most as many as they are
 pub numbered-below : (cs : List (List ℤ)) → All (λ (r : Row). r.key < 1 + length cs) (numbered cs)

@@ -3,6 +3,7 @@
 ghost use Rattle.std.specs.Prelude.{◌≡◌, ◌<◌, ◌+◌, ◌^◌, ◌++◌, ◌∷◌, [], All, MatchOption, MatchResult, IfOk, IfSome, cond, take, true, vec_len};
 ghost use Rattle.std.specs.List.{list_all};
 ghost use Rattle.sw_rows.specs.declared.refusal.Refusal.TheVariants.{Input, NoMemory};
+ghost use Rattle.sw_rows.specs.declared.table.TheConstants.{MOST_ROWS};
 ghost use Rattle.sw_table.specs.declared.row.Row.{Row};
 ghost use Rattle.sw_map.specs.Held.{blank};
 ghost use Rattle.sw_set.specs.Needs.{edge};
@@ -11,15 +12,12 @@ ghost use Rattle.sw_trial_areas.specs.Opening.{may_open, numbered, opened, row_o
 
 use std::alloc::Global;
 use sw_map::CrackerMap;
-use sw_rows::{Bound, Refusal, Row, is_within};
+use sw_rows::{Bound, MOST_ROWS, Refusal, Row, is_within};
 use sw_set::Area;
-
-/// The most rows of a trial.
-const MOST_ROWS: usize = 1 << 20;
 
 /// Adds the row of these cells whose key is one more than a number. Refused `NoMemory` alone.
 fn push_row(rows: &mut Vec<Row>, number: usize, cells: [i64; 8]) -> Result<(), Refusal>
-    requires { number < 2 ^ 20 }
+    requires { number < MOST_ROWS }
     ensures { MatchResult result
         (λ _. rows.new.items ≡ rows.old.items ++ row_of (number + 1, cells) ∷ []) (λ e. e ≡ NoMemory) }
 {
@@ -33,14 +31,14 @@ fn push_row(rows: &mut Vec<Row>, number: usize, cells: [i64; 8]) -> Result<(), R
     }
 }
 
-/// Rows of these cells, by the keys 1, 2, 3 and so on; of the first 1,048,576 alone. Refused `NoMemory` alone.
+/// Rows of these cells, by the keys 1, 2, 3 and so on; of the first `MOST_ROWS` alone. Refused `NoMemory` alone.
 pub fn numbered(alloc: Global, cells: &[[i64; 8]]) -> Result<Vec<Row>, Refusal>
-    ensures rows { MatchResult result (λ rows. rows.items ≡ numbered (take (2 ^ 20) cells.now)) (λ e. e ≡ NoMemory) }
+    ensures rows { MatchResult result (λ rows. rows.items ≡ numbered (take MOST_ROWS cells.now)) (λ e. e ≡ NoMemory) }
     ensures rise { IfOk result (λ rows. Rises key_of rows.items) }
     ensures fit { IfOk result (λ rows. All (λ (r : Row). r.key < 2 ^ 63) rows.items) }
 {
     let mut rows: Vec<Row> = Vec::new(alloc);
-    for i in 0..cells.len().min(MOST_ROWS) {
+    for i in 0..cells.len().min(MOST_ROWS as usize) {
         push_row(&mut rows, i, cells[i])?;
     }
     Ok(rows)

@@ -2,6 +2,7 @@
 use Rattle.std.specs.Prelude.{◌≡◌, ◌<◌, ◌^◌, ◌⊎◌, ◌∷◌, [], ℕ, ℤ, Bool, false, List, cond, get_or, length, take, All}
 use Rattle.sw_rows.specs.declared.refusal.Refusal.{Refusal}
 use Rattle.sw_rows.specs.declared.refusal.Refusal.TheVariants.{Input, NoMemory}
+use Rattle.sw_rows.specs.declared.table.TheConstants.{MOST_ROWS}
 use Rattle.sw_table.specs.declared.row.Row.{Row}
 use Rattle.sw_table.specs.declared.row.Update.{Update}
 use Rattle.sw_table.specs.declared.row.Update.TheVariants.{Insert, Remove}
@@ -15,9 +16,9 @@ pub record AreLive (us : List Update) (live : List Bool) : Type 0 where
   pub came : All (λ (r : Row). r.key < length live) (given_by us)
   pub beside : (key : ℕ) → has_key key (rows_of us) ≡ get_or live key false
 
--- a head over the rows of these cells, of the first 1,048,576 alone
+-- a head over the rows of these cells, of the first MOST_ROWS alone
 abbrev pub opened_over : ℕ → List ℤ → List (List ℤ) → HeadState
-opened_over a cuts cells = opened a cuts (numbered (take (2 ^ 20) cells))
+opened_over a cuts cells = opened a cuts (numbered (take MOST_ROWS cells))
 
 -- a row has come by a key
 abbrev pub HasCome : ℕ → List ℤ → HeadState → HeadState → Type 0

@@ -9,7 +9,7 @@ ghost use Rattle.sw_trial_maps.specs.Steps.{CanReplay};
 use sw_map::CrackerMap;
 use sw_rows::Refusal;
 use sw_table::PackedRows;
-use sw_tape::Entry;
+use sw_tape::{Entry, MAX_ENTRIES};
 
 /// Whether the keys of all these rows fit a cell.
 fn keys_fit(rows: &PackedRows) -> bool
@@ -23,14 +23,14 @@ fn keys_fit(rows: &PackedRows) -> bool
     true
 }
 
-/// Whether a map may replay the entry: it was begun and stands below 4,096, a load comes first, a removed place is there,
-/// and there is room.
+/// Whether a map may replay the entry: it was begun and stands below `MAX_ENTRIES`, a load comes first, a removed place
+/// is there, and there is room.
 pub fn can_replay<M: CrackerMap>(map: &M, entry: &Entry) -> bool
     ensures { result ≡ true → CanReplay (step_of entry.now) (M.held map.now) }
 {
     let len = map.len() as u64;
     let cells = map.cells();
-    if map.is_blank() || map.cursor() >= 4096 || len > cells {
+    if map.is_blank() || map.cursor() >= MAX_ENTRIES || len > cells {
         return false;
     }
     match entry {

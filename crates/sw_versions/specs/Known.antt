@@ -12,8 +12,8 @@ pub record Ended : Type 0 where
   pub update : Update
   pub list : List Update
 
--- what the writer has: the list that readers take, the operations that they do not see yet, one that waits for memory, and
--- how many viewers were ever opened
+-- what the writer has: the list that readers take, the operations that they do not see yet, one that waits for memory,
+-- and how many viewers were ever opened
 pub record Written : Type 0 where
   pub published : List Update
   pub pending : List Ended
@@ -24,7 +24,8 @@ pub record Written : Type 0 where
 abbrev pub wrote : List Update → Written
 wrote front = record { published = front; pending = []; waiting = None; viewers = 0 }
 
--- what a shelf shows: the updates that stand in the book, those that are published, and how many viewers were ever opened
+-- what a shelf shows: the updates that stand in the book, those that are published, and how many viewers were ever
+-- opened
 pub record Shelved : Type 0 where
   pub booked : List Update
   pub published : List Update

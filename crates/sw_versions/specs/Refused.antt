@@ -8,8 +8,8 @@ use Rattle.sw_rows.specs.declared.refusal.Refusal.{Refusal}
 use Rattle.sw_rows.specs.declared.refusal.Refusal.TheVariants as refusal
 use Rattle.sw_versions.specs.declared.viewer.TheConstants.{MOST_VIEWERS}
 
--- why no viewer is opened where so many were ever opened: there is no memory for the copies that the first one has made,
--- or no place for a reader
+-- why no viewer is opened where so many were ever opened: there is no memory for the copies that the first one has
+-- made, or no place for a reader
 abbrev pub RefusesViewer : ℕ → Refusal → Type 0
 RefusesViewer viewers refusal.NoMemory = viewers ≡ 0
 RefusesViewer viewers (refusal.TooMany limit) = limit ≡ MOST_VIEWERS

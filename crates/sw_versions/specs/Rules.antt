@@ -17,4 +17,5 @@ head_of b = record { tracked = true; key = 0; book = b }
 
 -- the update was added to all that had been seen; or the list was longer, and was seen
 abbrev pub Adds : Step Update → View Update ℕ → ℕ → View Update ℕ → Type 0
-Adds s v found w = MatchBool (found == s.old) ((w.0 ≡ v.0 ++ s.ask ∷ []) × IsShort w.0) ((length w.0 ≡ found) × IsShort w.0)
+Adds s v found w =
+    MatchBool (found == s.old) ((w.0 ≡ v.0 ++ s.ask ∷ []) × IsShort w.0) ((length w.0 ≡ found) × IsShort w.0)

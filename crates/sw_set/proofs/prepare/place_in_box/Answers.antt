@@ -1,5 +1,6 @@
+use Rattle.sw_map.specs.Held.{blank}
 use Rattle.sw_set.proofs.Ends.{found-none}
 use Rattle.sw_set.proofs.prepare.place_in_box.Goals as goal
 
-pub returns-in-None : goal.returns-in-None
-returns-in-None g c = λ d. found-none c.args.bound c.in-Some.b c.args.absent _ c.in-Some.is (c.in-None.ensures d) (c.requires.marked d)
+pub unreachable-requires : goal.unreachable-requires
+unreachable-requires g c = found-none c.args.bound c.in-Some.b c.args.absent _ c.in-Some.is (c.in-None.ensures blank) (c.requires.marked blank)

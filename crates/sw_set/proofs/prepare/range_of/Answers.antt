@@ -7,8 +7,8 @@ use Rattle.sw_set.specs.Prepared.{IsPlace}
 use Rattle.sw_set.proofs.Ends.{at-end_of, found-stands, key-missing, pairs-at_end, place-found, stands-left, stands-right}
 use Rattle.sw_set.proofs.prepare.range_of.Goals as goal
 
-pub returns-in_default : goal.returns-in_default
-returns-in_default g c = key-missing _ _ _ c.requires.maps c.requires.key c.in_default.ensures
+pub unreachable-requires : goal.unreachable-requires
+unreachable-requires g c = key-missing _ _ _ c.requires.maps c.requires.key c.in_default.ensures
 
 pub place_in_box-from-requires-clause-marked : goal.place_in_box-from-requires-clause-marked
 place_in_box-from-requires-clause-marked g c κs within = λ d. found-stands _ _ _ _ _ (at-end_of _ _ _ c.known.ensures (c.requires.maps Key c.requires.key) c.in-Some.ensures.0 c.in-Some.ensures.1 d) (stands-left _ _ c.requires.stand)

@@ -14,7 +14,7 @@ less a b h = grind (arith, nat_tests)
 pub returns-else-len-cells-2 : goal.returns-else-len-cells-2
 returns-else-len-cells-2 g c =
     let m : Held = g.M.CrackerMap.held c.args.map.now in
-    let early : m.cursor < 4096 = omega (arith, c.cursor.ensures, c.if-cursor-ge4096.false) in
+    let early : m.cursor < 4096 = omega (arith, c.cursor.ensures, c.if-cursor-ge-MAX_ENTRIES.false) in
     let room : pairs_in m ≤ m.cells = omega (arith, c.len-len.ensures, c.cells-cells.ensures, c.if-len-cells.false) in
     let fit : IsFit m = record { begun = sym c.is_blank.ensures ∙ c.if-is_blank.false; early = early; room = room } in
     let rows : List Row = c.in-Load.rows.items in
@@ -25,7 +25,7 @@ returns-else-len-cells-2 g c =
 pub returns-else-row : goal.returns-else-row
 returns-else-row g c =
     let m : Held = g.M.CrackerMap.held c.args.map.now in
-    let early : m.cursor < 4096 = omega (arith, c.cursor.ensures, c.if-cursor-ge4096.false) in
+    let early : m.cursor < 4096 = omega (arith, c.cursor.ensures, c.if-cursor-ge-MAX_ENTRIES.false) in
     let room : pairs_in m ≤ m.cells = omega (arith, c.len-len.ensures, c.cells-cells.ensures, c.if-len-cells.false) in
     let fit : IsFit m = record { begun = sym c.is_blank.ensures ∙ c.if-is_blank.false; early = early; room = room } in
     λ t. let lt = less c.len-len.result c.cells-cells.result t in
@@ -36,7 +36,7 @@ returns-else-row g c =
 pub returns-in-Remove : goal.returns-in-Remove
 returns-in-Remove g c =
     let m : Held = g.M.CrackerMap.held c.args.map.now in
-    let early : m.cursor < 4096 = omega (arith, c.cursor.ensures, c.if-cursor-ge4096.false) in
+    let early : m.cursor < 4096 = omega (arith, c.cursor.ensures, c.if-cursor-ge-MAX_ENTRIES.false) in
     let room : pairs_in m ≤ m.cells = omega (arith, c.len-len.ensures, c.cells-cells.ensures, c.if-len-cells.false) in
     let fit : IsFit m = record { begun = sym c.is_blank.ensures ∙ c.if-is_blank.false; early = early; room = room } in
     λ t. let lt = less c.in-Remove.place c.len-in-Remove.result t in
@@ -46,7 +46,7 @@ returns-in-Remove g c =
 pub returns-in-Range : goal.returns-in-Range
 returns-in-Range g c =
     let m : Held = g.M.CrackerMap.held c.args.map.now in
-    let early : m.cursor < 4096 = omega (arith, c.cursor.ensures, c.if-cursor-ge4096.false) in
+    let early : m.cursor < 4096 = omega (arith, c.cursor.ensures, c.if-cursor-ge-MAX_ENTRIES.false) in
     let room : pairs_in m ≤ m.cells = omega (arith, c.len-len.ensures, c.cells-cells.ensures, c.if-len-cells.false) in
     let fit : IsFit m = record { begun = sym c.is_blank.ensures ∙ c.if-is_blank.false; early = early; room = room } in
     λ t. subst (λ (e : Entry). CanReplay (step_of e) m) (sym c.in-Range.is) (can-range m c.in-Range.field-0 c.in-Range.field-1 fit)

@@ -2,5 +2,5 @@ use Rattle.std.proofs.Common.{◌≡◌, false}
 use Rattle.sw_set.proofs.Views.{any-at}
 use Rattle.sw_set.proofs.area.Area.oldest.Goals as goal
 
-pub returns-then-at-len : goal.returns-then-at-len
-returns-then-at-len g c = any-at _ c.in-Some.at (λ m. m.is_blank ≡ false) c.in-Some.ensures.0 (λ d. (c.in-Some.ensures.1 d).0)
+pub returns : goal.returns
+returns g c = any-at _ c.in-Some.at (λ m. m.is_blank ≡ false) c.in-Some.ensures.0 (λ d. (c.in-Some.ensures.1 d).0)
