@@ -82,7 +82,7 @@ not_from_false : (b : Bool) → b ≡ false → not b ≡ true
 not_from_false true h = absurd (true≢false h)
 not_from_false false h = refl
 
-not_from_not : (b : Bool) → not b ≡ true → b ≡ false
+pub not_from_not : (b : Bool) → not b ≡ true → b ≡ false
 not_from_not true h = sym h
 not_from_not false h = refl
 
