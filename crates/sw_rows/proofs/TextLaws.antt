@@ -1,5 +1,5 @@
 -- Codes and texts stand for one another, and both stay as texts are added.
-use Rattle.std.proofs.Common.{◌≡◌, ◌∙◌, ap, sym, refl, ℕ, zero, suc, ◌+◌, ◌-◌, ◌<◌, ◌≤◌, ◌==◌, ◌||◌, Bool, true, false, not, cond, List, [], ◌∷◌, ◌++◌, length, take, get_or, Option, Some, None, Ok, Err, Result, option_map, position, bytes_eq, is_some, slice_get, nat_lt, arith, subst, true≢false, append-nil, append_assoc, length-append}
+use Rattle.std.proofs.Common.{◌≡◌, ◌∙◌, ap, sym, refl, ℕ, zero, suc, ◌+◌, ◌-◌, ◌<◌, ◌≤◌, ◌==◌, ◌||◌, Bool, true, false, not, cond, List, [], ◌∷◌, ◌++◌, length, take, get_or, Option, Some, None, Ok, option_map, position, bytes_eq, is_some, slice_get, nat_lt, arith, subst, true≢false, append-nil, append_assoc, length-append}
 use Rattle.std.proofs.Math.ListN.{get_or-append}
 use Rattle.std.proofs.Math.Seq.{take-append_seam}
 use Rattle.std.proofs.lemmas.Bool.{and_parts, cond-false, cond-true, lt-ltb, not_from_true, or_parts}
@@ -8,13 +8,13 @@ use Rattle.std.proofs.lemmas.List.Quantifiers.{position-Some}
 use Rattle.std.proofs.lemmas.List.Sums.{position_or_len_is}
 use Rattle.std.proofs.lemmas.Option.{none-some, same_Some, slice_get-get_or, slice_get_within}
 use Rattle.std.proofs.lemmas.Slice.Eq.{bytes_eq-Decides}
-use Rattle.std.specs.List.{list_any, position_or_len}
+use Rattle.std.specs.List.{position_or_len}
 use Rattle.std.specs.Option.{option_map_or}
-use Rattle.sw_rows.specs.Header.{Fault, too_many}
+use Rattle.sw_rows.specs.Header.{too_many}
 use Rattle.sw_rows.specs.Texts.{code_given, code_of, has_text, next_code, text_of, texts_differ, with_text, with_texts}
 use Rattle.sw_rows.specs.declared.texts.TheConstants.{MOST_TEXTS}
 use Rattle.sw_rows.proofs.ColumnLemmas.{bytes_eq-sym}
-use Rattle.sw_rows.proofs.Options.{err-ok, if_ok, same_Ok}
+use Rattle.sw_rows.proofs.Options.{if_ok, same_Ok}
 use Rattle.sw_rows.proofs.TextLemmas.{not_from_not}
 
 abbrev Texts : Type 0

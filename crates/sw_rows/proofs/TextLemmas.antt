@@ -1,16 +1,16 @@
 -- An indexed set of strings as a list of texts, and what holds of the texts after a step.
 use Rattle.std.proofs.Common.{◌≡◌, ◌∙◌, ap, sym, refl, ℕ, ◌+◌, ◌<◌, ◌≤◌, Bool, true, false, not, cond, zero, suc, ◌||◌, ◌&&◌, List, [], ◌∷◌, ◌++◌, map, length, take, position, bytes_eq, String, string_bytes, nat_le, Option, Some, option_map, slice_get, subst, arith, true≢false, length-append, IsUtf8}
-use Rattle.std.proofs.lemmas.Bool.{and_from, and_parts, cond-false, cond-true, le-leb, or_parts}
-use Rattle.std.proofs.lemmas.List.{length-take, map-append}
+use Rattle.std.proofs.lemmas.Bool.{and_from, and_parts, cond-false, le-leb, or_parts}
+use Rattle.std.proofs.lemmas.List.{map-append}
 use Rattle.std.proofs.lemmas.List.Folds.{list_all-append}
 use Rattle.std.proofs.lemmas.Option.{none-some, same_Some}
 use Rattle.std.proofs.lemmas.Str.{IsUtf8-from_is_utf8, is_utf8-from_IsUtf8}
 use Rattle.std.specs.Global.{Global}
-use Rattle.std.specs.List.{list_all, list_any, position_or_len, take-map}
+use Rattle.std.specs.List.{list_all, list_any, position_or_len}
 use Rattle.std.specs.Str.{is_utf8}
 use Rattle.std.specs.String.{string_eq}
 use Rattle.indexmap.specs.IndexSet.{insert_key}
-use Rattle.sw_rows.specs.Texts.{AreTexts, code_of, has_text, is_text, is_text_byte, texts_differ, with_text}
+use Rattle.sw_rows.specs.Texts.{AreTexts, code_of, has_text, is_text, is_text_byte, texts_differ}
 use Rattle.sw_rows.specs.declared.texts.TheConstants.{MOST_BYTES_OF_TEXT, MOST_TEXTS}
 use Rattle.sw_rows.proofs.ColumnLemmas.{bytes_eq-sym}
 

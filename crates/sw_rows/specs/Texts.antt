@@ -1,5 +1,5 @@
 -- The texts of cells, and the codes that stand for them.
-use Rattle.std.specs.Prelude.{◌≡◌, ◌≤◌, ◌+◌, ◌-◌, ◌==◌, ◌&&◌, ◌||◌, if◌then◌else◌, fold, ℕ, Bool, true, not, List, [], ◌∷◌, ◌++◌, length, map, nat_lt, nat_le, Option, Some, None, option_map, Result, Ok, Err, position, slice_get, bytes_eq, String, string_bytes}
+use Rattle.std.specs.Prelude.{◌≡◌, ◌≤◌, ◌+◌, ◌-◌, ◌==◌, ◌&&◌, if◌then◌else◌, fold, ℕ, Bool, true, not, List, [], ◌∷◌, ◌++◌, length, map, nat_lt, nat_le, Option, None, option_map, Result, Ok, Err, position, slice_get, bytes_eq, String, string_bytes}
 use Rattle.std.specs.List.{list_all, list_any}
 use Rattle.std.specs.Option.{option_map_or}
 use Rattle.std.specs.Str.{is_utf8}

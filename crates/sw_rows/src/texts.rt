@@ -13,7 +13,7 @@ use std::marker::Model;
 /// How many bytes the text of a cell has at most.
 pub const MOST_BYTES_OF_TEXT: usize = 64;
 
-/// How many texts a table and what is done with it have at most.
+/// How many texts there are at most, no two of them the same.
 pub const MOST_TEXTS: u64 = 1_048_576;
 
 fn are_text_bytes(bytes: &[u8]) -> bool
@@ -22,12 +22,14 @@ fn are_text_bytes(bytes: &[u8]) -> bool
     bytes.iter().all(|byte| *byte >= 32 && *byte != 127)
 }
 
-/// The text that bytes spell, and None where it may be that of no cell.
+/// Bytes as the text of a cell, and None where they are none.
 ///
-/// The text of a cell is UTF-8 of at most `MOST_BYTES_OF_TEXT` bytes, none of them below 32 and none 127. It may be empty.
+/// The text of a cell is UTF-8 of at most `MOST_BYTES_OF_TEXT` bytes, none of them below 32 and none 127. It may be
+/// empty.
 #[tactic(auto, using(crate::proofs::TextLemmas::text_read, crate::proofs::TextLemmas::text_refused))]
 pub fn read_text(bytes: &[u8]) -> Option<&str>
-    ensures { option_map (λ text. text.now) result ≡ (if is_text bytes.now then Some bytes.now else None) }
+    ensures value { option_map (λ text. text.now) result ≡ (if is_text bytes.now then Some bytes.now else None) }
+    ensures text { IfSome result (λ text. is_text text.now ≡ true) }
 {
     if bytes.len() > MOST_BYTES_OF_TEXT || !are_text_bytes(bytes) {
         return None;

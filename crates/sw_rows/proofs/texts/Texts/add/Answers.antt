@@ -12,6 +12,6 @@ invariant_of-self c =
     let sound : AreTexts texts = rw c.self.view_is at c.self.invariant in
     let new : has_text texts text ≡ false = sym c.code.ensures.found ∙ ap is_some c.in_default.is in
     elim c.match-insert.branch [
-      in-Ok-insert w ↦ rw (ap (map string_bytes) w.in-Ok-insert.ensures.keys ∙ text_inserted text c.self.inside.texts.keys texts c.in-Ok.text c.self.view_is c.in-Ok.ensures.ok new) (texts_more texts text sound (grind (arith, nat_tests)) c.requires new)
-    | in-Err w ↦ rw (ap (map string_bytes) w.in-Err.ensures.err ∙ c.self.view_is) sound
+      | in-Ok-insert w ↦ rw (ap (map string_bytes) w.in-Ok-insert.ensures.keys ∙ text_inserted text c.self.inside.texts.keys texts c.in-Ok.text c.self.view_is c.in-Ok.ensures.ok new) (texts_more texts text sound (grind (arith, nat_tests)) c.requires new)
+      | in-Err w ↦ rw (ap (map string_bytes) w.in-Err.ensures.err ∙ c.self.view_is) sound
     ]

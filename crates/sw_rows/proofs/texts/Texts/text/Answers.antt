@@ -1,4 +1,4 @@
-use Rattle.std.proofs.Common.{◌∙◌, ap, sym, Some, map, string_bytes, slice_get, option_map}
+use Rattle.std.proofs.Common.{◌∙◌, ap, sym, Some, map, string_bytes, option_map}
 use Rattle.std.proofs.lemmas.Option.{slice_get-map}
 use Rattle.sw_rows.proofs.TextLemmas.{text_at}
 use Rattle.sw_rows.proofs.texts.Texts.text.Goals as goal
