@@ -3,7 +3,9 @@
 ghost use Rattle.std.specs.Prelude.{[], ◌≡◌, length, take, true, if◌then◌else◌, is_some, option_map, List, None, Some, IfSome, IsOk, OnErr, OnOk};
 ghost use Rattle.std.specs.List.{list_all};
 ghost use Rattle.sw_rows.specs.Gives.{Gives};
+ghost use Rattle.sw_rows.specs.Header.{too_many};
 ghost use Rattle.sw_rows.specs.Texts.{code_given, code_of, has_text, is_text, is_text_byte, text_of, with_text, AreTexts};
+ghost use Rattle.sw_rows.specs.declared.texts.TheConstants.{MOST_TEXTS};
 
 use crate::refusal::Refusal;
 use indexmap::IndexSet;
@@ -98,8 +100,8 @@ impl Texts {
 
     /// The code of a text, which comes last where it is new. A known one changes nothing.
     ///
-    /// Refused `NoMemory`, and `TooMany` of limit `MOST_TEXTS` where the text is new and there are as many: nothing has
-    /// changed then. A known text is never refused.
+    /// Refused `TooMany` of limit `MOST_TEXTS` where the text is new and there are as many, and `NoMemory` where there is
+    /// no memory for a new one: nothing has changed then. A known text is never refused.
     #[tactic(auto, using(crate::proofs::TextLemmas::text_inserted))]
     pub fn add(&mut self, text: &str) -> Result<u64, Refusal>
         requires { is_text text.now ≡ true }
@@ -107,6 +109,8 @@ impl Texts {
         ensures added { OnOk result (self.new ≡ with_text self.old text.now) }
         ensures refused { OnErr result (self.new ≡ self.old) }
         ensures known { has_text self.old text.now ≡ true → IsOk result }
+        ensures full { code_given self.old text.now ≡ Err (too_many MOST_TEXTS)
+            → result ≡ Err (Refusal.TooMany MOST_TEXTS) }
     {
         if let Some(code) = self.code(text) {
             return Ok(code);
