@@ -24,6 +24,7 @@ mod sieve;
 mod source;
 pub mod spelling;
 mod table;
+mod texts;
 
 pub use bound::{Bound, greater, is_within, lesser};
 pub use cell::{read_cell, read_cell_bytes, read_digits};
@@ -40,3 +41,4 @@ pub use schema::{Schema, is_name};
 pub use source::{Counted, Sink, Source};
 pub use sw_table::{LiveTable, PackedRows, Row, Update, has_key, update, update_all};
 pub use table::MOST_ROWS;
+pub use texts::{MOST_BYTES_OF_TEXT, MOST_TEXTS, Texts, read_text};
