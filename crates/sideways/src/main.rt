@@ -31,7 +31,7 @@ use sw_cli::{
     write_record, write_stats_line, write_stats_title,
 };
 use sw_map::{CrackerMap, PairMap};
-use sw_rows::{Counted, Refusal, Sink, Source, read_all};
+use sw_rows::{Counted, MOST_ROWS, Refusal, Sink, Source, read_all};
 use sw_spine::Record;
 
 /// Standard error: the sink to it, and whether it is a terminal.
@@ -165,7 +165,7 @@ fn limit_given(given: &ArgMatches) -> Option<u64>
     ensures { IfSome result (λ limit. (0 < limit) × (limit ≤ MOST_ROWS)) }
 {
     let limit = given.get_one::<u64>("limit")?;
-    if limit == 0 || limit > 1_048_576 {
+    if limit == 0 || limit > MOST_ROWS {
         return None;
     }
     Some(limit)

@@ -2,6 +2,13 @@
 
 use clap::{Arg, ArgAction, Command};
 use std::alloc::{AllocError, Global};
+use sw_rows::MOST_ROWS;
+
+/// The greatest budget of cells.
+const MOST_CELLS: i64 = 1_099_511_627_776;
+
+/// The greatest number of maps at a time.
+const MOST_MAPS: i64 = 4096;
 
 fn file<'a>(alloc: Global, name: &'a str, help: &'a str) -> Arg<'a> {
     Arg::new(alloc, name)
@@ -39,7 +46,7 @@ fn limit<'a>(alloc: Global) -> Arg<'a> {
         "How many rows are ever inserted at most, those of the table included: 1 to 1048576",
         "1048576",
     )
-    .value_parser(clap::value_parser!(u64).range(1..=1_048_576))
+    .value_parser(clap::value_parser!(u64).range(1..=MOST_ROWS as i64))
 }
 
 fn budget<'a>(alloc: Global) -> Arg<'a> {
@@ -50,7 +57,7 @@ fn budget<'a>(alloc: Global) -> Arg<'a> {
         "How many pairs of cells all maps together may hold, a pair for each row of a map: 0 to 1099511627776; with 0 every query scans",
         "16777216",
     )
-    .value_parser(clap::value_parser!(u64).range(0..=1_099_511_627_776))
+    .value_parser(clap::value_parser!(u64).range(0..=MOST_CELLS))
 }
 
 fn maps<'a>(alloc: Global) -> Arg<'a> {
@@ -61,7 +68,7 @@ fn maps<'a>(alloc: Global) -> Arg<'a> {
         "How many maps there may be at a time, dealt out to the attributes in turn: 0 to 4096; with 0 every query scans",
         "64",
     )
-    .value_parser(clap::value_parser!(u64).range(0..=4096))
+    .value_parser(clap::value_parser!(u64).range(0..=MOST_MAPS))
 }
 
 fn cuts<'a>(alloc: Global) -> Arg<'a> {

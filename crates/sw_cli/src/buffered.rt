@@ -3,6 +3,7 @@
 ghost use Rattle.std.specs.Prelude.{◌≡◌, ◌≤◌, IfOk, [], ◌∷◌, List, ℕ, Option, None, OnOk, OnErr, true, vec_capacity, vec_len};
 ghost use Rattle.std.specs.Io.KnownBytes.{Keeps, append_known};
 ghost use Rattle.sw_rows.specs.Gives.{Raised};
+ghost use Rattle.sw_cli.specs.declared.buffered.TheConstants.{BLOCK};
 ghost use Rattle.sw_cli.specs.Sent.{extends, with_waiting};
 
 use std::alloc::{AllocError, Global};
@@ -11,11 +12,11 @@ use std::marker::{Brand, PhantomData};
 use sw_rows::Sink;
 
 /// How many bytes a block has.
-const BLOCK: usize = 65536;
+pub(crate) const BLOCK: usize = 65536;
 
 /// Memory for a block.
 pub(crate) fn block(alloc: Global) -> Result<Vec<u8>, AllocError>
-    ensures { IfOk result (λ block. (block.items ≡ []) × (65536 ≤ vec_capacity block)) }
+    ensures { IfOk result (λ block. (block.items ≡ []) × (BLOCK ≤ vec_capacity block)) }
 {
     Vec::with_capacity(alloc, BLOCK)
 }
@@ -30,16 +31,16 @@ impl Base for Brand {
     ghost base = { None };
 }
 
-/// A sink behind a block of 64 KiB, which it is given when the block is full and at `send`. What the sink took since
-/// the block was put before it comes after what it had taken then.
+/// A sink behind a block of `BLOCK` bytes, which it is given when the block is full and at `send`. What the sink took
+/// since the block was put before it comes after what it had taken then.
 #[derive(Drop)]
 pub(crate) struct Buffered<J: Base, W: Sink> {
     sink: W,
     block: Vec<u8>,
     sent: usize,
     since: PhantomData<J>,
-    ghost room: { 65536 ≤ vec_capacity block },
-    ghost filled: { vec_len block ≤ 65536 },
+    ghost room: { BLOCK ≤ vec_capacity block },
+    ghost filled: { vec_len block ≤ BLOCK },
     ghost waiting: { sent ≤ vec_len block },
     ghost after: { extends J.base (W.taken sink) ≡ true },
 }
@@ -49,7 +50,7 @@ impl<J: Base, W: Sink> Buffered<J, W> {
     pub(crate) fn new(block: Vec<u8>, sink: W) -> Buffered<J, W>
         requires base { J.base ≡ W.taken sink }
         requires empty { block.items ≡ [] }
-        requires room { 65536 ≤ vec_capacity block }
+        requires room { BLOCK ≤ vec_capacity block }
         ensures taken { with_waiting (W.taken result.sink) result.sent result.block.items
             ≡ append_known (W.taken sink) [] }
         ensures failed { W.failed result.sink ≡ W.failed sink }

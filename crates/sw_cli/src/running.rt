@@ -5,6 +5,7 @@ ghost use Rattle.sw_map.specs.Held.{blank};
 ghost use Rattle.sw_rows.specs.declared.refusal.Refusal.TheVariants.{NoMemory};
 ghost use Rattle.sw_rows.specs.declared.table.TheConstants.{MOST_ROWS};
 ghost use Rattle.sw_versions.specs.Pending.{IsPlain};
+ghost use Rattle.sw_cli.specs.declared.buffered.TheConstants.{BLOCK};
 ghost use Rattle.sw_cli.specs.Answers.{RunAnswers};
 ghost use Rattle.sw_cli.specs.Outcomes.{AllSayWhy};
 ghost use Rattle.sw_cli.specs.Run.{IsRecordOf};
@@ -46,7 +47,7 @@ struct Outgoing {
     memory: Vec<u8>,
     ended: Ended,
     ghost empty: { memory.items ≡ [] },
-    ghost room: { 65536 ≤ vec_capacity memory },
+    ghost room: { BLOCK ≤ vec_capacity memory },
 }
 
 /// Writes the lines of what came of blocks through a block of bytes before a sink, and hands the sink back.

@@ -1,6 +1,7 @@
 //! A case a line.
 
 ghost use Rattle.std.specs.Prelude.{◌<◌, ◌≤◌};
+ghost use Rattle.sw_rows.specs.declared.table.TheConstants.{MOST_ROWS};
 
 use crate::faults::fault;
 use crate::files::{checked, cuts, file};
@@ -10,7 +11,7 @@ use std::alloc::{AllocError, Global};
 use std::sync::Wait;
 use std::thread::Threads;
 use sw_cli::{Options, blank_boxes, run_with, write_record};
-use sw_rows::{Counted, Refusal, Sink};
+use sw_rows::{Counted, MOST_ROWS, Refusal, Sink};
 use sw_spine::Record;
 
 /// A limit of rows.
@@ -18,14 +19,14 @@ use sw_spine::Record;
 struct Limit {
     rows: u64,
     ghost some: { 0 < rows },
-    ghost most: { rows ≤ 1048576 },
+    ghost most: { rows ≤ MOST_ROWS },
 }
 
 /// The limit that a text writes, or the greatest.
 fn limit_of(text: &str) -> Limit {
     match text.parse::<u64>() {
-        Ok(rows) if rows > 0 && rows <= 1_048_576 => Limit { rows },
-        _ => Limit { rows: 1_048_576 },
+        Ok(rows) if rows > 0 && rows <= MOST_ROWS => Limit { rows },
+        _ => Limit { rows: MOST_ROWS },
     }
 }
 
@@ -221,7 +222,7 @@ impl Bench {
     pub(crate) fn new(alloc: Global) -> Self {
         Bench {
             table: Vec::new(alloc),
-            limit: Limit { rows: 1_048_576 },
+            limit: Limit { rows: MOST_ROWS },
         }
     }
 

@@ -40,10 +40,12 @@ use sw_versions::{Live, Naming, Op};
 /// How often a lock or a latch is tried before a thread sleeps for it.
 const TRIES: usize = 100;
 
-/// How long a thread pauses between two tries: about as long as some visits to the history take, or as a select does.
+/// How long a thread pauses between two tries of the history's lock: about as long as some visits take.
 const VISIT: usize = 64;
 
-const SELECT: usize = 512;
+/// How long a thread pauses between two tries of a head's latch: about as long as some selects take, so that who has the
+/// latch makes several in a row, and the head's data stay in one processor's cache meanwhile.
+const SELECT: usize = 2048;
 
 /// How many opening rows are copied in one visit, but for the last.
 const PART: usize = 1024;

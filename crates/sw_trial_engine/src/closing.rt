@@ -1,6 +1,7 @@
 //! Sessions that are asked for one by one, boxes that are dropped, and tickets that are missing.
 
 ghost use Rattle.std.specs.Prelude.{◌≡◌, ◌<◌, ◌≤◌, ℕ, true, length, All};
+ghost use Rattle.sw_rows.specs.declared.table.TheConstants.{MOST_ROWS};
 ghost use Rattle.sw_map.specs.Held.{blank};
 ghost use Rattle.sw_versions.specs.Pending.{IsPlain};
 
@@ -134,9 +135,9 @@ pub(crate) fn closed<M: CrackerMap, R: Threads + Wait + Sync>(
     schema: Schema,
     maps: Vec<M>,
 ) -> Result<String, Refusal>
-    requires few { length trial.rows.now ≤ 1048576 }
+    requires few { length trial.rows.now ≤ MOST_ROWS }
     requires some { 0 < trial.limit }
-    requires most { trial.limit ≤ 1048576 }
+    requires most { trial.limit ≤ MOST_ROWS }
 {
     let table = Table::of(alloc, trial, schema)?;
     let maps = cleared(alloc, maps)?;

@@ -1,6 +1,7 @@
 //! A session that makes each refused call again.
 
 ghost use Rattle.std.specs.Prelude.{◌≡◌, ◌<◌, ◌≤◌, ℕ, true, length, All, IfOk};
+ghost use Rattle.sw_rows.specs.declared.table.TheConstants.{MOST_ROWS};
 ghost use Rattle.sw_map.specs.Held.{blank};
 ghost use Rattle.sw_spine.specs.History.{CallsBelow, IsLegal};
 ghost use Rattle.sw_versions.specs.Pending.{IsPlain};
@@ -128,9 +129,9 @@ pub(crate) fn insist_all<M: CrackerMap, R: Threads + Wait + Sync>(
     maps: Vec<M>,
     calls: &[Call],
 ) -> Result<(Record, Tally), Refusal>
-    requires few { length trial.rows.now ≤ 1048576 }
+    requires few { length trial.rows.now ≤ MOST_ROWS }
     requires some { 0 < trial.limit }
-    requires most { trial.limit ≤ 1048576 }
+    requires most { trial.limit ≤ MOST_ROWS }
     requires calls { All (λ c. CallsBelow (length schema) c) calls.now }
     ensures { IfOk result (λ r. IsLegal r.0) }
 {

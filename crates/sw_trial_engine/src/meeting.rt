@@ -1,6 +1,7 @@
 //! Sessions on threads of their own: one for each block of calls, or two of which one calls while the other's call is under way.
 
 ghost use Rattle.std.specs.Prelude.{◌≡◌, ◌<◌, ◌≤◌, ℕ, true, length, All, IfOk};
+ghost use Rattle.sw_rows.specs.declared.table.TheConstants.{MOST_ROWS};
 ghost use Rattle.sw_lang.specs.Cuts.{AreCuts, cuts_on};
 ghost use Rattle.sw_map.specs.Held.{blank};
 ghost use Rattle.sw_spine.specs.Table.{is_numbered};
@@ -34,7 +35,7 @@ pub(crate) struct Table {
     pub cuts: Cuts,
     pub limit: u64,
     ghost some: { 0 < limit },
-    ghost most: { limit ≤ 1048576 },
+    ghost most: { limit ≤ MOST_ROWS },
     ghost numbered: { is_numbered 1 rows.items ≡ true },
     ghost lists: { length cuts ≡ length schema },
     ghost lawful: { (a : ℕ) → a < length schema → AreCuts (cuts_on cuts a) },
@@ -43,9 +44,9 @@ pub(crate) struct Table {
 impl Table {
     /// The rows of a trial by the keys 1, 2, 3 and so on, and its cuts.
     pub(crate) fn of(alloc: Global, trial: Trial<'_>, schema: Schema) -> Result<Table, Refusal>
-        requires few { length trial.rows.now ≤ 1048576 }
+        requires few { length trial.rows.now ≤ MOST_ROWS }
         requires some { 0 < trial.limit }
-        requires most { trial.limit ≤ 1048576 }
+        requires most { trial.limit ≤ MOST_ROWS }
         ensures { IfOk result (λ t. t.schema ≡ schema) }
     {
         let rows = numbered(alloc, trial.rows)?;
@@ -502,9 +503,9 @@ pub(crate) fn play<M: CrackerMap, R: Threads + Wait + Sync>(
     maps: Vec<M>,
     blocks: &[Vec<Call>],
 ) -> Result<(Record, bool), Refusal>
-    requires few { length trial.rows.now ≤ 1048576 }
+    requires few { length trial.rows.now ≤ MOST_ROWS }
     requires some { 0 < trial.limit }
-    requires most { trial.limit ≤ 1048576 }
+    requires most { trial.limit ≤ MOST_ROWS }
     requires below { All (λ b. All (λ c. CallsBelow (length schema) c) b.items) blocks.now }
     ensures { IfOk result (λ r. IsLegal r.0) }
 {
@@ -532,9 +533,9 @@ pub(crate) fn meet<M: CrackerMap, R: Threads + Wait + Sync>(
     second: &[Call],
     signals: &Signals,
 ) -> Result<(Record, bool), Refusal>
-    requires few { length trial.rows.now ≤ 1048576 }
+    requires few { length trial.rows.now ≤ MOST_ROWS }
     requires some { 0 < trial.limit }
-    requires most { trial.limit ≤ 1048576 }
+    requires most { trial.limit ≤ MOST_ROWS }
     requires first { All (λ c. CallsBelow (length schema) c) first.now }
     requires second { All (λ c. CallsBelow (length schema) c) second.now }
     ensures { IfOk result (λ r. IsLegal r.0) }

@@ -1,6 +1,7 @@
 //! Runs of scripts on an engine, and what its record tells.
 
 ghost use Rattle.std.specs.Prelude.{◌≡◌, ◌≤◌, true, length, All, IfOk, IfSome};
+ghost use Rattle.sw_rows.specs.declared.table.TheConstants.{MOST_ROWS};
 ghost use Rattle.sw_map.specs.Held.{blank};
 ghost use Rattle.sw_spine.specs.Table.{is_numbered};
 ghost use Rattle.sw_spine.specs.History.{CallsBelow};
@@ -22,7 +23,7 @@ pub(crate) struct Trial<'a> {
 /// Rows of these cells in a list, by the keys 1, 2, 3 and so on. Refused `NoMemory` alone.
 #[tactic(auto, using(crate::proofs::Readings::numbered_push))]
 fn listed(alloc: Global, cells: &[[i64; 8]]) -> Result<Vec<Row>, Refusal>
-    requires { length cells.now ≤ 1048576 }
+    requires { length cells.now ≤ MOST_ROWS }
     ensures { IfOk result (λ rows. is_numbered 1 rows.items ≡ true) }
 {
     let mut rows = Vec::new(alloc);
@@ -37,7 +38,7 @@ fn listed(alloc: Global, cells: &[[i64; 8]]) -> Result<Vec<Row>, Refusal>
 
 /// The same, packed. Refused `NoMemory` alone.
 pub(crate) fn numbered(alloc: Global, cells: &[[i64; 8]]) -> Result<PackedRows, Refusal>
-    requires { length cells.now ≤ 1048576 }
+    requires { length cells.now ≤ MOST_ROWS }
     ensures { IfOk result (λ rows. is_numbered 1 rows.items ≡ true) }
 {
     let rows = listed(alloc, cells)?;

@@ -1,6 +1,7 @@
 //! Viewers beside sessions.
 
 ghost use Rattle.std.specs.Prelude.{◌≡◌, ◌<◌, ◌≤◌, length, IfOk};
+ghost use Rattle.sw_rows.specs.declared.table.TheConstants.{MOST_ROWS};
 ghost use Rattle.sw_rows.specs.Scan.{AsksBelow};
 ghost use Rattle.sw_versions.specs.Pending.{IsPlain};
 
@@ -201,9 +202,9 @@ pub(crate) fn looked<R: Wait>(
     schema: Schema,
     late: bool,
 ) -> Result<String, Fail>
-    requires few { length trial.rows.now ≤ 1048576 }
+    requires few { length trial.rows.now ≤ MOST_ROWS }
     requires some { 0 < trial.limit }
-    requires most { trial.limit ≤ 1048576 }
+    requires most { trial.limit ≤ MOST_ROWS }
 {
     let table = Table::of(alloc, trial, schema)?;
     looked_picked::<Brand, R>(rt, alloc, Blank::new(), table, late)

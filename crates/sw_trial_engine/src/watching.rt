@@ -1,6 +1,7 @@
 //! Viewers that look, each in a thread of its own, while sessions call in theirs.
 
 ghost use Rattle.std.specs.Prelude.{◌≡◌, ◌<◌, ◌≤◌, ℕ, true, length, All, IfOk};
+ghost use Rattle.sw_rows.specs.declared.table.TheConstants.{MOST_ROWS};
 ghost use Rattle.sw_map.specs.Held.{blank};
 ghost use Rattle.sw_rows.specs.Scan.{AsksBelow};
 ghost use Rattle.sw_spine.specs.History.{CallsBelow, IsLegal};
@@ -487,9 +488,9 @@ pub(crate) fn observe<M: CrackerMap, R: Threads + Wait + Sync>(
     watch: Watch,
     signals: Signals,
 ) -> Result<Watched, Refusal>
-    requires few { length trial.rows.now ≤ 1048576 }
+    requires few { length trial.rows.now ≤ MOST_ROWS }
     requires some { 0 < trial.limit }
-    requires most { trial.limit ≤ 1048576 }
+    requires most { trial.limit ≤ MOST_ROWS }
     requires below { All (λ b. All (λ c. CallsBelow (length schema) c) b.items) blocks.now }
     requires asks { AsksBelow 8 watch.query }
     ensures { IfOk result (λ w. IsLegal w.record) }

@@ -2,6 +2,7 @@
 
 ghost use Rattle.std.specs.Prelude.{◌≡◌, ◌<◌, ◌≤◌, length, true, false, IfOk, OnOk};
 ghost use Rattle.sw_rows.specs.Scan.{AsksBelow};
+ghost use Rattle.sw_rows.specs.declared.table.TheConstants.{MOST_ROWS};
 ghost use Rattle.sw_spine.specs.Table.{is_numbered};
 ghost use Rattle.sw_spine.specs.History.{CallsBelow, is_select};
 ghost use Rattle.sw_spine.specs.Books.{with_session};
@@ -76,7 +77,7 @@ fn open_two(spine: &mut Spine) -> Result<(), Refusal>
 pub(crate) fn opened(alloc: Global, rows: &[Row], limit: u64) -> Result<Spine, Refusal>
     requires some { 0 < limit }
     requires few { length rows.now ≤ limit }
-    requires most { limit ≤ 1048576 }
+    requires most { limit ≤ MOST_ROWS }
     requires numbered { is_numbered 1 rows.now ≡ true }
     ensures { IfOk result (λ spine. IsAtRest spine rows.now) }
 {

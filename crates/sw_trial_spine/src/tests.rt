@@ -5,7 +5,7 @@ ghost use Rattle.sw_trial_spine.specs.Benches.{IsAtRest};
 
 use crate::bench::{Step, Text, four_rows, give_up, make_all, opened, schema, tell};
 use std::alloc::{AllocError, Global};
-use sw_rows::{Call, Conds, Counted, PackedRows, Query, Refusal, Row, Update, Want};
+use sw_rows::{Call, Conds, Counted, MOST_ROWS, PackedRows, Query, Refusal, Row, Update, Want};
 use sw_spine::{
     Lines, Spine, keys_are_given_once, rows_in_order_are_numbered, updates_may_come,
     visits_keep_books,
@@ -65,7 +65,7 @@ const CASES: &[Case] = &[
 
 /// Tells a case.
 fn tell_case(alloc: Global, limit: u64, steps: &[Step], text: &mut Text) -> Result<(), Refusal> {
-    if limit < 4 || limit > 1048576 {
+    if limit < 4 || limit > MOST_ROWS {
         return Err(Refusal::Input);
     }
     let mut rows = four_rows(alloc)?;
