@@ -1,20 +1,20 @@
 -- Codes and texts stand for one another, and both stay as texts are added.
-use Rattle.std.proofs.Common.{◌≡◌, ◌∙◌, ap, sym, refl, ℕ, zero, suc, ◌+◌, ◌-◌, ◌<◌, ◌≤◌, ◌==◌, ◌||◌, Bool, true, false, not, cond, List, [], ◌∷◌, ◌++◌, length, take, get_or, Option, Some, None, Ok, option_map, position, bytes_eq, is_some, slice_get, nat_lt, arith, subst, true≢false, append-nil, append_assoc, length-append}
+use Rattle.std.proofs.Common.{◌≡◌, ◌∙◌, ap, sym, refl, ℕ, zero, suc, ◌+◌, ◌-◌, ◌<◌, ◌≤◌, ◌==◌, ◌||◌, Bool, true, false, not, cond, List, [], ◌∷◌, ◌++◌, length, take, get_or, Option, Some, None, Result, Ok, Err, option_map, position, bytes_eq, is_some, slice_get, nat_lt, arith, subst, true≢false, append-nil, append_assoc, length-append}
 use Rattle.std.proofs.Math.ListN.{get_or-append}
 use Rattle.std.proofs.Math.Seq.{take-append_seam}
 use Rattle.std.proofs.lemmas.Bool.{and_parts, cond-false, cond-true, lt-ltb, not_from_true, or_parts}
 use Rattle.std.proofs.lemmas.Bool.Decides.{nat_tests}
 use Rattle.std.proofs.lemmas.List.Quantifiers.{position-Some}
-use Rattle.std.proofs.lemmas.List.Sums.{position_or_len_is}
+use Rattle.std.proofs.lemmas.List.Sums.{fold-append, position_or_len_is}
 use Rattle.std.proofs.lemmas.Option.{none-some, same_Some, slice_get-get_or, slice_get_within}
 use Rattle.std.proofs.lemmas.Slice.Eq.{bytes_eq-Decides}
 use Rattle.std.specs.List.{position_or_len}
 use Rattle.std.specs.Option.{option_map_or}
-use Rattle.sw_rows.specs.Header.{too_many}
-use Rattle.sw_rows.specs.Texts.{code_given, code_of, has_text, next_code, text_of, texts_differ, with_text, with_texts}
+use Rattle.sw_rows.specs.Faults.{Fault, too_many}
+use Rattle.sw_rows.specs.Texts.{are_full, code_given, code_of, has_text, next_code, text_of, texts_differ, with_text, with_texts}
 use Rattle.sw_rows.specs.declared.texts.TheConstants.{MOST_TEXTS}
 use Rattle.sw_rows.proofs.ColumnLemmas.{bytes_eq-sym}
-use Rattle.sw_rows.proofs.Options.{if_ok, same_Ok}
+use Rattle.sw_rows.proofs.Options.{err-ok, same_Ok, unless_ok}
 use Rattle.sw_rows.proofs.TextLemmas.{not_from_not}
 
 abbrev Texts : Type 0
@@ -105,7 +105,7 @@ code_counted ts (suc i) some few =
 -- ---- more texts
 
 step : (ts : Texts) (t : List ℕ) → (rest : Texts) × (with_text ts t ≡ ts ++ rest)
-step ts t = by_test (has_text ts t)
+step ts t = by_test (has_text ts t || are_full ts)
   where
     by_test : (b : Bool) → (rest : Texts) × (cond b ts (ts ++ t ∷ []) ≡ ts ++ rest)
     by_test true = ([], sym (append-nil ts))
@@ -175,11 +175,14 @@ last_at (s ∷ ts) t h =
     let parts = or_parts (bytes_eq t s) (has_text ts t) h in
     one_further (bytes_eq t s) (position_or_len (bytes_eq t) (ts ++ t ∷ [])) (length ts) parts.0 (last_at ts t parts.1)
 
-code_of_new : (ts : Texts) (t : List ℕ) → has_text ts t ≡ false → code_of (with_text ts t) t ≡ Some (length ts + 1)
-code_of_new ts t h =
+neither : (a b : Bool) → a ≡ false → b ≡ false → (a || b) ≡ false
+neither a b h k = rw (h, k) refl
+
+code_of_new : (ts : Texts) (t : List ℕ) → has_text ts t ≡ false → are_full ts ≡ false → code_of (with_text ts t) t ≡ Some (length ts + 1)
+code_of_new ts t h room =
     let long = length-append ts (t ∷ []) in
     let inside : length ts < length (ts ++ t ∷ []) = omega arith in
-    ap (λ us. code_of us t) (cond-false (has_text ts t) ts (ts ++ t ∷ []) h) ∙ coded (ts ++ t ∷ []) (length ts) (length ts + 1) t refl (position_is (bytes_eq t) (ts ++ t ∷ []) (length ts) (last_at ts t h) inside)
+    ap (λ us. code_of us t) (cond-false (has_text ts t || are_full ts) ts (ts ++ t ∷ []) (neither (has_text ts t) (are_full ts) h room)) ∙ coded (ts ++ t ∷ []) (length ts) (length ts + 1) t refl (position_is (bytes_eq t) (ts ++ t ∷ []) (length ts) (last_at ts t h) inside)
 
 -- the code that a text is given is its code from then on
 pub given_kept : (ts : Texts) (t : List ℕ) (code : ℕ) → code_given ts t ≡ Ok code → code_of (with_text ts t) t ≡ Some code
@@ -187,6 +190,33 @@ given_kept ts t code h = by_code (code_of ts t) refl h
   where
     by_code : (o : Option ℕ) → code_of ts t ≡ o → option_map_or (λ c. Ok c) o (next_code ts) ≡ Ok code → code_of (with_text ts t) t ≡ Some code
     by_code None e k =
-        let next = if_ok (nat_lt (length ts) MOST_TEXTS) (Ok (length ts + 1)) (too_many MOST_TEXTS) code k in
-        code_of_new ts t (unknown ts t e) ∙ ap (λ n. Some n) (same_Ok (length ts + 1) code next.1)
+        let next = unless_ok (are_full ts) (Ok (length ts + 1)) (too_many MOST_TEXTS) code k in
+        code_of_new ts t (unknown ts t e) next.0 ∙ ap (λ n. Some n) (same_Ok (length ts + 1) code next.1)
     by_code (Some c) e k = code_kept ts (t ∷ []) t code (e ∙ ap (λ n. Some n) (same_Ok c code k))
+
+or_right : (a b : Bool) → b ≡ true → (a || b) ≡ true
+or_right true b h = refl
+or_right false b h = h
+
+same_Err : (e : Fault) → ◌≡◌ {A = Result ℕ Fault} (Err (too_many MOST_TEXTS)) (Err e) → e ≡ too_many MOST_TEXTS
+same_Err e h = cc
+
+-- a text for which there is no code has none after others
+pub never_given : (ts : Texts) (t : List ℕ) (more : Texts) (e : Fault) → code_given ts t ≡ Err e → (code_of (with_texts ts more) t ≡ None) × (e ≡ too_many MOST_TEXTS)
+never_given ts t more e h = by_code (code_of ts t) refl h
+  where
+    stays : (us : Texts) (xs : Texts) → are_full us ≡ true → with_texts us xs ≡ us
+    stays us [] full = refl
+    stays us (x ∷ xs) full = ap (λ vs. with_texts vs xs) (cond-true (has_text us x || are_full us) us (us ++ x ∷ []) (or_right (has_text us x) (are_full us) full)) ∙ stays us xs full
+
+    by_full : (b : Bool) → are_full ts ≡ b → code_of ts t ≡ None → cond b (Err (too_many MOST_TEXTS)) (Ok (length ts + 1)) ≡ Err e → (code_of (with_texts ts more) t ≡ None) × (e ≡ too_many MOST_TEXTS)
+    by_full true f n k = (ap (λ us. code_of us t) (stays ts more f) ∙ n, same_Err e k)
+    by_full false f n k = absurd (err-ok e (length ts + 1) (sym k))
+
+    by_code : (o : Option ℕ) → code_of ts t ≡ o → option_map_or (λ c. Ok c) o (next_code ts) ≡ Err e → (code_of (with_texts ts more) t ≡ None) × (e ≡ too_many MOST_TEXTS)
+    by_code None n k = by_full (are_full ts) refl n k
+    by_code (Some c) n k = absurd (err-ok e c (sym k))
+
+-- more texts, and then others
+pub with_more : (ts xs ys : Texts) → with_texts ts (xs ++ ys) ≡ with_texts (with_texts ts xs) ys
+with_more ts xs ys = fold-append with_text ts xs ys

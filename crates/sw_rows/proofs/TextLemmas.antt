@@ -1,5 +1,5 @@
 -- An indexed set of strings as a list of texts, and what holds of the texts after a step.
-use Rattle.std.proofs.Common.{◌≡◌, ◌∙◌, ap, sym, refl, ℕ, ◌+◌, ◌<◌, ◌≤◌, Bool, true, false, not, cond, zero, suc, ◌||◌, ◌&&◌, List, [], ◌∷◌, ◌++◌, map, length, take, position, bytes_eq, String, string_bytes, nat_le, Option, Some, option_map, slice_get, subst, arith, true≢false, length-append, IsUtf8}
+use Rattle.std.proofs.Common.{◌≡◌, ◌∙◌, ap, sym, refl, ℕ, ◌+◌, ◌<◌, ◌≤◌, Bool, true, false, not, cond, zero, suc, ◌||◌, ◌&&◌, List, [], ◌∷◌, ◌++◌, map, length, take, position, bytes_eq, String, string_bytes, nat_le, leb-false, Option, Some, option_map, slice_get, subst, arith, true≢false, length-append, IsUtf8}
 use Rattle.std.proofs.lemmas.Bool.{and_from, and_parts, cond-false, le-leb, or_parts}
 use Rattle.std.proofs.lemmas.List.{map-append}
 use Rattle.std.proofs.lemmas.List.Folds.{list_all-append}
@@ -10,7 +10,7 @@ use Rattle.std.specs.List.{list_all, list_any, position_or_len}
 use Rattle.std.specs.Str.{is_utf8}
 use Rattle.std.specs.String.{string_eq}
 use Rattle.indexmap.specs.IndexSet.{insert_key}
-use Rattle.sw_rows.specs.Texts.{AreTexts, code_of, has_text, is_text, is_text_byte, texts_differ}
+use Rattle.sw_rows.specs.Texts.{AreTexts, are_full, with_text, with_texts, code_of, has_text, is_text, is_text_byte, texts_differ}
 use Rattle.sw_rows.specs.declared.texts.TheConstants.{MOST_BYTES_OF_TEXT, MOST_TEXTS}
 use Rattle.sw_rows.proofs.ColumnLemmas.{bytes_eq-sym}
 
@@ -145,3 +145,15 @@ not_true false f = refl
 
 pub text_refused : (bytes : List ℕ) → (IsUtf8 bytes → ⊥) → is_text bytes ≡ false
 text_refused bytes bad = not_true (is_text bytes) (λ h. bad (text_utf8 bytes h))
+
+-- sound texts and further ones
+pub texts_sound : (ts more : List (List ℕ)) → AreTexts ts → list_all is_text more ≡ true → AreTexts (with_texts ts more)
+texts_sound ts [] s h = s
+texts_sound ts (t ∷ more) s h =
+    let parts = and_parts (is_text t) (list_all is_text more) h in
+    texts_sound (with_text ts t) more (by_tests (has_text ts t) (are_full ts) refl refl parts.0) parts.1
+  where
+    by_tests : (a b : Bool) → has_text ts t ≡ a → are_full ts ≡ b → is_text t ≡ true → AreTexts (cond (a || b) ts (ts ++ t ∷ []))
+    by_tests true b e f k = s
+    by_tests false true e f k = s
+    by_tests false false e f k = texts_more ts t s (let few = leb-false MOST_TEXTS (length ts) f in omega arith) k e

@@ -1,5 +1,5 @@
 -- The texts of cells, and the codes that stand for them.
-use Rattle.std.specs.Prelude.{◌≡◌, ◌≤◌, ◌+◌, ◌-◌, ◌==◌, ◌&&◌, if◌then◌else◌, fold, ℕ, Bool, true, not, List, [], ◌∷◌, ◌++◌, length, map, nat_lt, nat_le, Option, None, option_map, Result, Ok, Err, position, slice_get, bytes_eq, String, string_bytes}
+use Rattle.std.specs.Prelude.{◌≡◌, ◌≤◌, ◌+◌, ◌-◌, ◌==◌, ◌&&◌, ◌||◌, if◌then◌else◌, fold, ℕ, ℤ, pos, negsuc, Bool, true, not, List, [], ◌∷◌, ◌++◌, length, map, nat_le, Option, None, option_map, Result, Ok, Err, position, slice_get, bytes_eq, String, string_bytes}
 use Rattle.std.specs.List.{list_all, list_any}
 use Rattle.std.specs.Option.{option_map_or}
 use Rattle.std.specs.Str.{is_utf8}
@@ -7,7 +7,7 @@ use Rattle.std.specs.declared.hash.FoldHasher.{FoldHasher}
 use Rattle.std.specs.declared.hash.BuildHasherDefault.{BuildHasherDefault}
 use Rattle.std.specs.declared.alloc.Global.{Global}
 use Rattle.indexmap.specs.IndexSet.{IndexSet}
-use Rattle.sw_rows.specs.Header.{Fault, too_many}
+use Rattle.sw_rows.specs.Faults.{Fault, too_many}
 use Rattle.sw_rows.specs.declared.texts.TheConstants.{MOST_BYTES_OF_TEXT, MOST_TEXTS}
 
 -- any byte but 0 to 31 and 127
@@ -30,9 +30,18 @@ code_of texts text = option_map (λ place. place + 1) (position (bytes_eq text) 
 abbrev pub text_of : List (List ℕ) → ℕ → Option (List ℕ)
 text_of texts code = if code == 0 then None else slice_get texts (code - 1)
 
--- the texts and one more: a new text comes last, and a known one changes nothing
+-- the text that a cell stands for, if there is one
+abbrev pub text_at : List (List ℕ) → ℤ → Option (List ℕ)
+text_at texts (pos code) = text_of texts code
+text_at texts (negsuc n) = None
+
+-- whether there are as many texts as there may be
+abbrev pub are_full : List (List ℕ) → Bool
+are_full texts = nat_le MOST_TEXTS (length texts)
+
+-- the texts and one more: a new text comes last, and a known one changes nothing, as one for which there is no code
 abbrev pub with_text : List (List ℕ) → List ℕ → List (List ℕ)
-with_text texts text = if has_text texts text then texts else texts ++ text ∷ []
+with_text texts text = if has_text texts text || are_full texts then texts else texts ++ text ∷ []
 
 -- the texts and further ones, in their order
 abbrev pub with_texts : List (List ℕ) → List (List ℕ) → List (List ℕ)
@@ -40,11 +49,19 @@ with_texts texts more = fold with_text texts more
 
 -- the code that a new text gets: the next, if there is one
 abbrev pub next_code : List (List ℕ) → Result ℕ Fault
-next_code texts = if nat_lt (length texts) MOST_TEXTS then Ok (length texts + 1) else Err (too_many MOST_TEXTS)
+next_code texts = if are_full texts then Err (too_many MOST_TEXTS) else Ok (length texts + 1)
 
 -- the code that a text has or gets
 abbrev pub code_given : List (List ℕ) → List ℕ → Result ℕ Fault
 code_given texts text = option_map_or (λ code. Ok code) (code_of texts text) (next_code texts)
+
+-- a code as the number of a cell
+abbrev pub as_cell : Result ℕ Fault → Result ℤ Fault
+as_cell (Ok code) = Ok (pos code)
+as_cell (Err e) = Err e
+
+abbrev pub cell_given : List (List ℕ) → List ℕ → Result ℤ Fault
+cell_given texts text = as_cell (code_given texts text)
 
 -- no text stands twice
 abbrev pub texts_differ : List (List ℕ) → Bool

@@ -1,11 +1,11 @@
 //! A table that is read in parts, each by a thread of its own.
 
-ghost use Rattle.std.specs.Prelude.{◌≡◌, ◌<◌, ◌≤◌, ◌==◌, ◌++◌, [], ◌∷◌, ℕ, List, true, drop, get_or, length, not, take, Result, Ok, Err, IfOk, IfSome};
+ghost use Rattle.std.specs.Prelude.{◌≡◌, ◌<◌, ◌≤◌, ◌==◌, ◌++◌, [], ◌∷◌, ℕ, List, true, false, drop, get_or, length, not, take, Result, Ok, Err, IfOk, IfSome};
 ghost use Rattle.std.specs.List.{list_all};
 ghost use Rattle.std.specs.Thread.{IsSync};
 ghost use Rattle.csv.specs.Reading.{default_config, is_bom, records, strip_bom};
 ghost use Rattle.sw_rows.specs.Gives.{Fails, Gives};
-ghost use Rattle.sw_rows.specs.Header.{Fault, header_of};
+ghost use Rattle.sw_rows.specs.Header.{Fault, has_texts, header_of};
 ghost use Rattle.sw_rows.specs.Parts.{AreRecordsOfBoth, GivesRows, IsPart, begins_plain, has_no_quote, rows_behind, rows_joined, rows_of_part};
 ghost use Rattle.sw_rows.specs.Tables.{shown_packed, table_in};
 ghost use Rattle.sw_rows.specs.declared.table.TheConstants.{MOST_ROWS};
@@ -13,8 +13,9 @@ ghost use Rattle.sw_table.specs.declared.row.Row.{Row};
 
 use crate::records;
 use crate::refusal::Refusal;
-use crate::schema::{Schema, read_header};
+use crate::schema::{Columns, Schema, read_header};
 use crate::table::{MOST_ROWS, read_rows, read_table};
+use crate::texts::Texts;
 use csv::ByteRecord;
 use std::alloc::Global;
 use std::thread::{Threads, join};
@@ -73,14 +74,17 @@ fn cut(bytes: &[u8], from: usize) -> Option<usize>
 }
 
 /// Reads the rows of a part.
-fn read_part(alloc: Global, schema: &Schema, part: &[u8]) -> Result<PackedRows, Refusal>
-    requires { begins_plain part.now ≡ true }
-    ensures rows { GivesRows result (rows_of_part schema.now part.now) }
-    ensures part { IfOk result (IsPart (length schema.now)) }
+fn read_part(alloc: Global, columns: &Columns, part: &[u8]) -> Result<PackedRows, Refusal>
+    requires plain { begins_plain part.now ≡ true }
+    requires numbers { has_texts columns.now ≡ false }
+    requires some { 0 < length columns.now }
+    ensures rows { GivesRows result (rows_of_part columns.now part.now) }
+    ensures part { IfOk result (IsPart (length columns.now)) }
 {
+    let mut texts = Texts::new(alloc);
     let mut rdr = records::open(alloc, part);
     let mut row = ByteRecord::new(alloc);
-    read_rows(alloc, schema, &mut rdr, &mut row)
+    read_rows(alloc, columns, &mut texts, &mut rdr, &mut row)
 }
 
 /// Adds the rows of a part, of which each takes the number behind its own.
@@ -147,34 +151,36 @@ fn joined(
 fn read_halves<R: Threads + Sync>(
     rt: &R,
     alloc: Global,
-    schema: &Schema,
+    columns: &Columns,
     part: &[u8],
     halvings: u32,
 ) -> Result<PackedRows, Refusal>
-    requires { begins_plain part.now ≡ true }
-    ensures rows { GivesRows result (rows_of_part schema.now part.now) }
-    ensures part { IfOk result (IsPart (length schema.now)) }
+    requires plain { begins_plain part.now ≡ true }
+    requires numbers { has_texts columns.now ≡ false }
+    requires some { 0 < length columns.now }
+    ensures rows { GivesRows result (rows_of_part columns.now part.now) }
+    ensures part { IfOk result (IsPart (length columns.now)) }
 {
     if halvings == 0 || part.len() < LEAST_HALVED {
-        return read_part(alloc, schema, part);
+        return read_part(alloc, columns, part);
     }
     let Some(at) = cut(part, part.len() / 2) else {
-        return read_part(alloc, schema, part);
+        return read_part(alloc, columns, part);
     };
     let (left, right) = part.split_at(at);
     let fewer = halvings - 1;
     let (first, rest) = join(
         rt,
         || -> Result<PackedRows, Refusal>
-            requires { IsSync R.row × (begins_plain left.now ≡ true) }
-            ensures rows { GivesRows result (rows_of_part schema.entry.now left.entry.now) }
-            ensures part { IfOk result (IsPart (length schema.entry.now)) }
-        { read_halves(rt, alloc, schema, left, fewer) },
+            requires { IsSync R.row × (begins_plain left.now ≡ true) × (has_texts columns.now ≡ false) × (0 < length columns.now) }
+            ensures rows { GivesRows result (rows_of_part columns.entry.now left.entry.now) }
+            ensures part { IfOk result (IsPart (length columns.entry.now)) }
+        { read_halves(rt, alloc, columns, left, fewer) },
         || -> Result<PackedRows, Refusal>
-            requires { IsSync R.row × (begins_plain right.now ≡ true) }
-            ensures rows { GivesRows result (rows_of_part schema.entry.now right.entry.now) }
-            ensures part { IfOk result (IsPart (length schema.entry.now)) }
-        { read_halves(rt, alloc, schema, right, fewer) },
+            requires { IsSync R.row × (begins_plain right.now ≡ true) × (has_texts columns.now ≡ false) × (0 < length columns.now) }
+            ensures rows { GivesRows result (rows_of_part columns.entry.now right.entry.now) }
+            ensures part { IfOk result (IsPart (length columns.entry.now)) }
+        { read_halves(rt, alloc, columns, right, fewer) },
     );
     joined(first, rest)
 }
@@ -202,10 +208,11 @@ fn unmarked(bytes: &[u8]) -> &[u8]
 }
 
 /// The attributes of bytes that are one record, where they are that and it is a header.
-fn read_head(alloc: Global, head: &[u8]) -> Option<Schema>
+fn read_head(alloc: Global, head: &[u8]) -> Option<Columns>
     requires { begins_plain head.now ≡ true }
-    ensures { IfSome result (λ s. (h : List (List ℕ)) × (records default_config head.now ≡ h ∷ [])
+    ensures head { IfSome result (λ s. (h : List (List ℕ)) × (records default_config head.now ≡ h ∷ [])
         × (header_of h ≡ Ok s)) }
+    ensures some { IfSome result (λ s. 0 < length s) }
 {
     let mut rdr = records::open(alloc, head);
     let mut row = ByteRecord::new(alloc);
@@ -217,7 +224,7 @@ fn read_head(alloc: Global, head: &[u8]) -> Option<Schema>
         return None;
     };
     match read_header(alloc, &row) {
-        Ok(schema) => Some(schema),
+        Ok(columns) => Some(columns),
         Err(_) => None,
     }
 }
@@ -239,11 +246,14 @@ pub(crate) fn read_table_in_parts<R: Threads + Sync>(
         return read_table(alloc, bytes);
     };
     let (head, body) = text.split_at(at);
-    let Some(schema) = read_head(alloc, head) else {
+    let Some(columns) = read_head(alloc, head) else {
         return read_table(alloc, bytes);
     };
-    match read_halves(rt, alloc, &schema, body, HALVINGS) {
-        Ok(rows) => Ok((schema, rows)),
+    if columns.has_texts() {
+        return read_table(alloc, bytes);
+    }
+    match read_halves(rt, alloc, &columns, body, HALVINGS) {
+        Ok(rows) => Ok((columns.into_schema(Texts::new(alloc)), rows)),
         Err(refusal) => Err(refusal),
     }
 }

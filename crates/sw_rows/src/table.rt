@@ -1,31 +1,92 @@
 //! Tables of comma-separated values.
 
-ghost use Rattle.std.specs.Prelude.{[], ◌≡◌, ◌<◌, ◌≤◌, drop, length, Ok, Some, IfOk, slice_get};
+ghost use Rattle.std.specs.Prelude.{[], ◌++◌, ◌≡◌, ◌<◌, ◌≤◌, ℕ, List, drop, length, Ok, Some, IfOk, OnOk, slice_get};
 ghost use Rattle.csv.specs.Records.{fields_of};
-ghost use Rattle.sw_rows.specs.Cells.{cell_value};
+ghost use Rattle.sw_rows.specs.Cells.{HasPlaces};
+ghost use Rattle.sw_rows.specs.Domains.{domain, under};
+ghost use Rattle.sw_rows.specs.Domains as kind;
 ghost use Rattle.sw_rows.specs.Gives.{Gives};
 ghost use Rattle.sw_rows.specs.Header.{kinds_of};
 ghost use Rattle.sw_rows.specs.Records.{IsPlain, records_left};
-ghost use Rattle.sw_rows.specs.Tables.{cells_of, padded, rows_after, shown_packed, table_in, table_of_records, then_padded};
+ghost use Rattle.sw_rows.specs.Tables.{cell_at, cells_of, over_seen, padded, rows_after, seeing, shown_packed, table_in, table_of_records, table_with, text_field, text_fields, texts_in, then_padded};
+ghost use Rattle.sw_rows.specs.Texts.{with_texts};
 ghost use Rattle.sw_rows.specs.declared.table.TheConstants.{MOST_ROWS};
 ghost use Rattle.sw_table.specs.Packed.{zeros};
 
 use crate::cell::read_cell_bytes;
+use crate::kind::Kind;
 use crate::records;
 use crate::refusal::Refusal;
-use crate::schema::{Fields, Schema, read_header};
+use crate::schema::{Columns, Fields, Schema, read_header};
+use crate::texts::{Texts, cell_of, read_text};
 use csv::{ByteRecord, Reader};
 use std::alloc::Global;
 use sw_table::{PackedRows, Row};
 
-/// Reads the cells of record `rec`.
-fn read_cells(schema: &Schema, rec: u64, row: &ByteRecord) -> Result<[i64; 8], Refusal>
-    requires { rec ≤ MOST_ROWS }
-    ensures gives { Gives ⊥ (λ cells. cells) result
-        (then_padded (cells_of rec (kinds_of schema.now) (fields_of row.now))) }
-    ensures within { IfOk result (λ cells. drop (length schema.now) cells ≡ drop (length schema.now) zeros) }
+/// The place of a field: its record's number and its own, both from 1.
+#[derive(Clone, Copy)]
+struct At {
+    rec: u64,
+    field: u64,
+}
+
+impl At {
+    /// That there is no cell here.
+    fn fault(self) -> Refusal
+        ensures { result ≡ Refusal.BadTable self.rec self.field }
+    {
+        let At { rec, field } = self;
+        Refusal::BadTable { rec, field }
+    }
+}
+
+/// Reads a field of texts: the code of its text, which is added where it is new.
+fn read_text_field(texts: &mut Texts, at: At, field: &[u8]) -> Result<i64, Refusal>
+    ensures gives { (more : List (List ℕ)) → Gives ⊥ (λ cell. cell) result
+        (cell_at at.rec at.field (over_seen texts.old (kind.Text []) field.now more) field.now) }
+    ensures learned { OnOk result (texts.new ≡ with_texts texts.old (text_field (kind.Text []) field.now)) }
 {
-    let count = schema.len();
+    let Some(text) = read_text(field) else {
+        return Err(at.fault());
+    };
+    match texts.add(text) {
+        Ok(code) => Ok(cell_of(code)),
+        Err(e) => Err(e),
+    }
+}
+
+/// Reads the field of a cell of a kind.
+fn read_field(kind: Kind, texts: &mut Texts, at: At, field: &[u8]) -> Result<i64, Refusal>
+    requires { HasPlaces kind }
+    ensures gives { (more : List (List ℕ)) → Gives ⊥ (λ cell. cell) result
+        (cell_at at.rec at.field (over_seen texts.old (domain [] kind) field.now more) field.now) }
+    ensures learned { OnOk result (texts.new ≡ with_texts texts.old (text_field (domain [] kind) field.now)) }
+{
+    if let Kind::Text = kind {
+        return read_text_field(texts, at, field);
+    }
+    match read_cell_bytes(kind, field) {
+        Some(cell) => Ok(cell),
+        None => Err(at.fault()),
+    }
+}
+
+/// Reads the cells of record `rec`, and adds its texts.
+fn read_cells(
+    columns: &Columns,
+    texts: &mut Texts,
+    rec: u64,
+    row: &ByteRecord,
+) -> Result<[i64; 8], Refusal>
+    requires { rec ≤ MOST_ROWS }
+    ensures gives { (more : List (List ℕ)) → Gives ⊥ (λ cells. cells) result (then_padded (cells_of rec
+        (under (with_texts texts.old (text_fields (kinds_of columns.now) (fields_of row.now) ++ more))
+        (kinds_of columns.now)) (fields_of row.now))) }
+    ensures learned { OnOk result
+        (texts.new ≡ with_texts texts.old (text_fields (kinds_of columns.now) (fields_of row.now))) }
+    ensures within { IfOk result (λ cells. drop (length columns.now) cells ≡ drop (length columns.now) zeros) }
+{
+    let count = columns.len();
     let found = row.len();
     if found != count {
         let field = found.min(count) as u64 + 1;
@@ -33,12 +94,15 @@ fn read_cells(schema: &Schema, rec: u64, row: &ByteRecord) -> Result<[i64; 8], R
     }
     let mut cells = [0i64; 8];
     for attr in 0..count {
-        match read_cell_bytes(schema.kind(attr), row.field(attr)) {
-            Some(cell) => cells[attr] = cell,
-            None => {
-                let field = attr as u64 + 1;
-                return Err(Refusal::BadTable { rec, field });
-            }
+        let field = attr as u64 + 1;
+        match read_field(
+            columns.kind(attr),
+            texts,
+            At { rec, field },
+            row.field(attr),
+        ) {
+            Ok(cell) => cells[attr] = cell,
+            Err(e) => return Err(e),
         }
     }
     Ok(cells)
@@ -47,25 +111,31 @@ fn read_cells(schema: &Schema, rec: u64, row: &ByteRecord) -> Result<[i64; 8], R
 /// How many rows are ever inserted at most, those of the table included.
 pub const MOST_ROWS: u64 = 1_048_576;
 
-/// Reads the rows that are left, of as many cells as there are attributes.
+/// Reads the rows that are left, of as many cells as there are attributes, and adds their texts.
 pub(crate) fn read_rows(
     alloc: Global,
-    schema: &Schema,
+    columns: &Columns,
+    texts: &mut Texts,
     rdr: &mut Reader<&[u8]>,
     row: &mut ByteRecord,
 ) -> Result<PackedRows, Refusal>
-    requires { IsPlain rdr.old }
-    ensures gives { Gives ⊥ (λ rows. rows.items) result (rows_after (kinds_of schema.now) [] (records_left rdr.old)) }
-    ensures width { IfOk result (λ rows. rows.width ≡ length schema.now) }
+    requires plain { IsPlain rdr.old }
+    requires some { 0 < length columns.now }
+    ensures gives { (more : List (List ℕ)) → Gives ⊥ (λ rows. rows.items) result (rows_after
+        (under (with_texts texts.old (texts_in (kinds_of columns.now) (records_left rdr.old) ++ more))
+        (kinds_of columns.now)) [] (records_left rdr.old)) }
+    ensures learned { OnOk result
+        (texts.new ≡ with_texts texts.old (texts_in (kinds_of columns.now) (records_left rdr.old))) }
+    ensures width { IfOk result (λ rows. rows.width ≡ length columns.now) }
 {
-    let mut rows = PackedRows::new(alloc, schema.len());
+    let mut rows = PackedRows::new(alloc, columns.len());
     for n in 0..MOST_ROWS {
         match records::next(rdr, row) {
             Ok(true) => {}
             Ok(false) => return Ok(rows),
             Err(_) => return Err(Refusal::NoMemory),
         }
-        match read_cells(schema, n + 1, row) {
+        match read_cells(columns, texts, n + 1, row) {
             Ok(cells) => {
                 if rows.push(&Row { key: n + 1, cells }).is_err() {
                     return Err(Refusal::NoMemory);
@@ -78,6 +148,26 @@ pub(crate) fn read_rows(
         Ok(true) => Err(Refusal::TooMany { limit: MOST_ROWS }),
         Ok(false) => Ok(rows),
         Err(_) => Err(Refusal::NoMemory),
+    }
+}
+
+/// Reads the rows that are left under a header.
+fn read_under(
+    alloc: Global,
+    columns: Columns,
+    rdr: &mut Reader<&[u8]>,
+    row: &mut ByteRecord,
+) -> Result<(Schema, PackedRows), Refusal>
+    requires plain { IsPlain rdr.old }
+    requires some { 0 < length columns }
+    ensures gives { Gives ⊥ shown_packed result
+        (table_with (seeing columns (records_left rdr.old)) (records_left rdr.old)) }
+    ensures width { IfOk result (λ t. t.1.width ≡ length t.0) }
+{
+    let mut texts = Texts::new(alloc);
+    match read_rows(alloc, &columns, &mut texts, rdr, row) {
+        Ok(rows) => Ok((columns.into_schema(texts), rows)),
+        Err(e) => Err(e),
     }
 }
 
@@ -97,10 +187,7 @@ fn read_records(
         Err(_) => return Err(Refusal::NoMemory),
     }
     match read_header(alloc, row) {
-        Ok(schema) => match read_rows(alloc, &schema, rdr, row) {
-            Ok(rows) => Ok((schema, rows)),
-            Err(e) => Err(e),
-        },
+        Ok(columns) => read_under(alloc, columns, rdr, row),
         Err(e) => Err(e),
     }
 }

@@ -1,6 +1,6 @@
 //! Texts of cells, each with a code that stands for it.
 
-ghost use Rattle.std.specs.Prelude.{[], ◌≡◌, length, take, true, if◌then◌else◌, is_some, option_map, List, None, Some, IfSome, IsOk, OnErr, OnOk};
+ghost use Rattle.std.specs.Prelude.{[], ◌≡◌, ◌≤◌, length, pos, take, true, if◌then◌else◌, is_some, option_map, List, None, Some, IfOk, IfSome, IsOk, OnErr, OnOk};
 ghost use Rattle.std.specs.List.{list_all};
 ghost use Rattle.sw_rows.specs.Gives.{Gives};
 ghost use Rattle.sw_rows.specs.Header.{too_many};
@@ -40,6 +40,15 @@ pub fn read_text(bytes: &[u8]) -> Option<&str>
         Ok(text) => Some(text),
         Err(_) => None,
     }
+}
+
+/// The number of a cell that stands for the text of a code.
+pub(crate) fn cell_of(code: u64) -> i64
+    requires { code ≤ MOST_TEXTS }
+    ensures { result ≡ pos code }
+{
+    // few codes fit 63 bits
+    code as i64
 }
 
 /// Texts of cells in the order in which they were first seen. Their codes are 1, 2, 3 and so on.
@@ -83,6 +92,7 @@ impl Texts {
     pub fn code(&self, text: &str) -> Option<u64>
         ensures value { result ≡ code_of self.now text.now }
         ensures found { is_some result ≡ has_text self.now text.now }
+        ensures few { IfSome result (λ code. code ≤ MOST_TEXTS) }
     {
         let place = self.texts.get_index_of(text)?;
         Some(place as u64 + 1)
@@ -106,6 +116,7 @@ impl Texts {
     pub fn add(&mut self, text: &str) -> Result<u64, Refusal>
         requires { is_text text.now ≡ true }
         ensures code { Gives ⊥ (λ code. code) result (code_given self.old text.now) }
+        ensures few { IfOk result (λ code. code ≤ MOST_TEXTS) }
         ensures added { OnOk result (self.new ≡ with_text self.old text.now) }
         ensures refused { OnErr result (self.new ≡ self.old) }
         ensures known { has_text self.old text.now ≡ true → IsOk result }

@@ -1,4 +1,6 @@
-use Rattle.std.proofs.Common.{◌∙◌, ap, is_some, None, Some, true, false}
+use Rattle.std.proofs.Common.{◌≡◌, ◌≤◌, ◌+◌, ◌∙◌, ap, sym, arith, length, is_some, None, Some, true, false}
+use Rattle.sw_rows.specs.Texts.{AreTexts}
+use Rattle.sw_rows.proofs.TextLaws.{code_within}
 use Rattle.sw_rows.proofs.TextLemmas.{text_code, text_known_among}
 use Rattle.sw_rows.proofs.texts.Texts.code.Goals as goal
 
@@ -13,3 +15,11 @@ returns-clause-value c = text_code c.args.text.now c.self.inside.texts.keys c.ar
 
 pub returns-clause-found : goal.returns-clause-found
 returns-clause-found c = text_known_among c.args.text.now c.self.inside.texts.keys c.args.self.now true c.self.view_is c.in_ok-place.ensures.found
+
+pub returns-clause-few : goal.returns-clause-few
+returns-clause-few c =
+    let within = code_within c.args.self.now (c.in_ok-place.place + 1) c.args.text.now (sym (text_code c.args.text.now c.self.inside.texts.keys c.args.self.now (Some c.in_ok-place.place) c.self.view_is c.in_ok-place.ensures.index)) in
+    let sound : AreTexts c.args.self.now = rw c.self.view_is at c.self.invariant in
+    let few = sound.few in
+    let code = within.1 in
+    omega arith
