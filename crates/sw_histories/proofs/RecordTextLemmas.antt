@@ -1,10 +1,8 @@
--- A record's text is ASCII where a call is printed, and has no float.
-use Rattle.std.proofs.Common.{◌≡◌, ◌∙◌, sym, ap, refl, subst, ℕ, ℤ, zero, suc, pos, negsuc, ◌+◌, ◌<◌, ◌&&◌, ◌||◌, Bool, true, false, List, [], ◌∷◌, ◌++◌, length, map, take, codes, decimal, arith, All, Option, Some, None, slice_get, Result, Ok, Err, IsUtf8, add-one, append_assoc, rules}
+-- A call is printed as UTF-8, and a record has no float.
+use Rattle.std.proofs.Common.{◌≡◌, ◌∙◌, sym, ap, refl, subst, ℕ, ℤ, zero, suc, pos, negsuc, ◌+◌, ◌&&◌, ◌||◌, Bool, true, false, List, [], ◌∷◌, ◌++◌, length, map, take, codes, decimal, arith, Option, Some, None, slice_get, Result, Ok, Err, IsUtf8, add-one, append_assoc, rules}
 use Rattle.std.specs.List.{flat_map, list_all}
 use Rattle.std.proofs.lemmas.Bool.Decides.{nat_tests}
 use Rattle.std.proofs.lemmas.Option.{none-some, same_Some}
-use Rattle.std.proofs.lemmas.Str.{IsUtf8-from_ascii}
-use Rattle.std.proofs.lemmas.Str.Ascii.{IsAscii-from_all}
 use Rattle.serde_json.specs.Data.{Data, string}
 use Rattle.serde_json.specs.Find.{is_float, of_integer}
 use Rattle.serde_json.specs.View.{items_of, view}
@@ -29,12 +27,12 @@ use Rattle.sw_rows.specs.declared.refusal.Refusal.{Refusal}
 use Rattle.sw_lang.specs.PrintedCalls.{call_text, comparison, cond_terms, joiner, lower_terms, more_names, name_at, names_text, terms_text, upper_terms, want_text, where_text}
 use Rattle.sw_lang.specs.Replies.{cell_text, cells_text, kind_at, reply_lines}
 use Rattle.sw_lang.specs.Sinks.{Writes}
-use Rattle.sw_spine.specs.Printed.{is_printed}
+use Rattle.sw_spine.specs.Printed.{is_line, is_printed}
 use Rattle.sw_spine.specs.History.{History}
 use Rattle.sw_spine.specs.declared.history.Entry.{Entry}
 use Rattle.sw_spine.specs.declared.history.State.{State}
 use Rattle.sw_spine.specs.declared.history.State.TheVariants as state
-use Rattle.sw_spine.proofs.PrintedLemmas.{both, cell_shown, cells_shown, decimal_shown, either, joined, shown}
+use Rattle.sw_spine.proofs.PrintedLemmas.{both, cell_shown, cells_shown, decimal_shown, either, joined, line_utf8, printed}
 use Rattle.sw_histories.specs.RecordText.{Stops, WritesText, attribute_text, cell_data, entry_data, front_text, list_data, record_text, row_data, state_data, texts_data, whole_data}
 
 -- ---- names
@@ -42,15 +40,15 @@ use Rattle.sw_histories.specs.RecordText.{Stops, WritesText, attribute_text, cel
 name_byte_shown : (b : ℕ) → is_name_byte b ≡ true → is_printed b ≡ true
 name_byte_shown b h = grind (arith, nat_tests, h)
 
-bytes_shown : (w : List ℕ) → list_all is_name_byte w ≡ true → shown w ≡ true
+bytes_shown : (w : List ℕ) → list_all is_name_byte w ≡ true → list_all is_printed w ≡ true
 bytes_shown [] h = refl
 bytes_shown (b ∷ w) h =
     let here : is_name_byte b ≡ true = grind (arith, h) in
     let later : list_all is_name_byte w ≡ true = grind (arith, h) in
-    both (is_printed b) (shown w) (name_byte_shown b here) (bytes_shown w later)
+    both (is_printed b) (list_all is_printed w) (name_byte_shown b here) (bytes_shown w later)
 
-pub name_shown : (w : List ℕ) → is_name w ≡ true → shown w ≡ true
-name_shown w h = bytes_shown w (grind (arith, h))
+pub name_shown : (w : List ℕ) → is_name w ≡ true → is_line w ≡ true
+name_shown w h = printed w (bytes_shown w (grind (arith, h)))
 
 front_of : (a b : Bool) → (a && b) ≡ true → a ≡ true
 front_of true b h = refl
@@ -60,77 +58,70 @@ rest_of : (a b : Bool) → (a && b) ≡ true → b ≡ true
 rest_of true b h = h
 rest_of false b h = absurd cc
 
-named_shown : (columns : List Column) (a : ℕ) → list_all (λ c. is_name c.0) columns ≡ true → shown (name_at columns a) ≡ true
-named_shown [] a h = refl
+named_shown : (columns : List Column) (a : ℕ) → list_all (λ c. is_name c.0) columns ≡ true → is_line (name_at columns a) ≡ true
+named_shown [] a h = printed [] refl
 named_shown (c ∷ cs) zero h = name_shown c.0 (front_of (is_name c.0) (list_all (λ d. is_name d.0) cs) h)
 named_shown (c ∷ cs) (suc a) h = named_shown cs a (rest_of (is_name c.0) (list_all (λ d. is_name d.0) cs) h)
 
 -- ---- calls
 
-compared_shown : (columns : List Column) (a : ℕ) (op : List ℕ) (v : ℤ) → list_all (λ c. is_name c.0) columns ≡ true → shown op ≡ true → shown (comparison columns a op v) ≡ true
+compared_shown : (columns : List Column) (a : ℕ) (op : List ℕ) (v : ℤ) → list_all (λ c. is_name c.0) columns ≡ true → is_line op ≡ true → is_line (comparison columns a op v) ≡ true
 compared_shown columns a op v good h = joined (name_at columns a) (op ++ cell_text (kind_at columns a) v) (named_shown columns a good) (joined op (cell_text (kind_at columns a) v) h (cell_shown (kind_at columns a) v))
 
 abbrev all_shown : List (List ℕ) → Bool
-all_shown ts = list_all (λ t. shown t) ts
+all_shown ts = list_all (λ t. is_line t) ts
 
 lower_shown : (columns : List Column) (a : ℕ) (o : Option Bound) → list_all (λ c. is_name c.0) columns ≡ true → all_shown (lower_terms columns a o) ≡ true
 lower_shown columns a None good = refl
-lower_shown columns a (Some (Before v)) good = both (shown (comparison columns a (codes " >= ") v)) true (compared_shown columns a (codes " >= ") v good refl) refl
-lower_shown columns a (Some (After v)) good = both (shown (comparison columns a (codes " > ") v)) true (compared_shown columns a (codes " > ") v good refl) refl
+lower_shown columns a (Some (Before v)) good = both (is_line (comparison columns a (codes " >= ") v)) true (compared_shown columns a (codes " >= ") v good (printed (codes " >= ") refl)) refl
+lower_shown columns a (Some (After v)) good = both (is_line (comparison columns a (codes " > ") v)) true (compared_shown columns a (codes " > ") v good (printed (codes " > ") refl)) refl
 
 upper_shown : (columns : List Column) (a : ℕ) (o : Option Bound) → list_all (λ c. is_name c.0) columns ≡ true → all_shown (upper_terms columns a o) ≡ true
 upper_shown columns a None good = refl
-upper_shown columns a (Some (Before v)) good = both (shown (comparison columns a (codes " < ") v)) true (compared_shown columns a (codes " < ") v good refl) refl
-upper_shown columns a (Some (After v)) good = both (shown (comparison columns a (codes " <= ") v)) true (compared_shown columns a (codes " <= ") v good refl) refl
+upper_shown columns a (Some (Before v)) good = both (is_line (comparison columns a (codes " < ") v)) true (compared_shown columns a (codes " < ") v good (printed (codes " < ") refl)) refl
+upper_shown columns a (Some (After v)) good = both (is_line (comparison columns a (codes " <= ") v)) true (compared_shown columns a (codes " <= ") v good (printed (codes " <= ") refl)) refl
 
 all_joined : (xs ys : List (List ℕ)) → all_shown xs ≡ true → all_shown ys ≡ true → all_shown (xs ++ ys) ≡ true
 all_joined [] ys h k = k
 all_joined (x ∷ xs) ys h k =
-    let here : shown x ≡ true = grind (arith, h) in
+    let here : is_line x ≡ true = grind (arith, h) in
     let later : all_shown xs ≡ true = grind (arith, h) in
-    both (shown x) (all_shown (xs ++ ys)) here (all_joined xs ys later k)
+    both (is_line x) (all_shown (xs ++ ys)) here (all_joined xs ys later k)
 
 conds_shown : (columns : List Column) (cs : List Cond) → list_all (λ c. is_name c.0) columns ≡ true → all_shown (flat_map (cond_terms columns) cs) ≡ true
 conds_shown columns [] good = refl
 conds_shown columns (c ∷ cs) good = all_joined (cond_terms columns c) (flat_map (cond_terms columns) cs) (all_joined (lower_terms columns c.attr c.lower) (upper_terms columns c.attr c.upper) (lower_shown columns c.attr c.lower good) (upper_shown columns c.attr c.upper good)) (conds_shown columns cs good)
 
-terms_shown : (started : Bool) (ts : List (List ℕ)) → all_shown ts ≡ true → shown (terms_text started ts) ≡ true
-terms_shown started [] h = refl
+terms_shown : (started : Bool) (ts : List (List ℕ)) → all_shown ts ≡ true → is_line (terms_text started ts) ≡ true
+terms_shown started [] h = printed [] refl
 terms_shown started (t ∷ ts) h =
-    let here : shown t ≡ true = grind (arith, h) in
+    let here : is_line t ≡ true = grind (arith, h) in
     let later : all_shown ts ≡ true = grind (arith, h) in
-    joined (joiner started ++ t) (terms_text true ts) (joined (joiner started) t (either started (codes " and ") (codes " where ") refl refl) here) (terms_shown true ts later)
+    joined (joiner started ++ t) (terms_text true ts) (joined (joiner started) t (either started (codes " and ") (codes " where ") (printed (codes " and ") refl) (printed (codes " where ") refl)) here) (terms_shown true ts later)
 
-more_names_shown : (columns : List Column) (ns : List ℕ) → list_all (λ c. is_name c.0) columns ≡ true → shown (more_names (map (name_at columns) ns)) ≡ true
-more_names_shown columns [] good = refl
-more_names_shown columns (a ∷ ns) good = joined (codes ", " ++ name_at columns a) (more_names (map (name_at columns) ns)) (joined (codes ", ") (name_at columns a) refl (named_shown columns a good)) (more_names_shown columns ns good)
+more_names_shown : (columns : List Column) (ns : List ℕ) → list_all (λ c. is_name c.0) columns ≡ true → is_line (more_names (map (name_at columns) ns)) ≡ true
+more_names_shown columns [] good = printed [] refl
+more_names_shown columns (a ∷ ns) good = joined (codes ", " ++ name_at columns a) (more_names (map (name_at columns) ns)) (joined (codes ", ") (name_at columns a) (printed (codes ", ") refl) (named_shown columns a good)) (more_names_shown columns ns good)
 
-names_shown : (columns : List Column) (ns : List ℕ) → list_all (λ c. is_name c.0) columns ≡ true → shown (names_text (map (name_at columns) ns)) ≡ true
-names_shown columns [] good = refl
+names_shown : (columns : List Column) (ns : List ℕ) → list_all (λ c. is_name c.0) columns ≡ true → is_line (names_text (map (name_at columns) ns)) ≡ true
+names_shown columns [] good = printed [] refl
 names_shown columns (a ∷ ns) good = joined (name_at columns a) (more_names (map (name_at columns) ns)) (named_shown columns a good) (more_names_shown columns ns good)
 
-want_shown : (columns : List Column) (w : Want) → list_all (λ c. is_name c.0) columns ≡ true → shown (want_text columns w) ≡ true
-want_shown columns (want.Rows names) good = joined (codes "select ") (names_text (map (name_at columns) names)) refl (names_shown columns names good)
-want_shown columns want.Count good = refl
-want_shown columns (want.Sum a) good = joined (codes "sum ") (name_at columns a) refl (named_shown columns a good)
-want_shown columns (want.Min a) good = joined (codes "min ") (name_at columns a) refl (named_shown columns a good)
-want_shown columns (want.Max a) good = joined (codes "max ") (name_at columns a) refl (named_shown columns a good)
+want_shown : (columns : List Column) (w : Want) → list_all (λ c. is_name c.0) columns ≡ true → is_line (want_text columns w) ≡ true
+want_shown columns (want.Rows names) good = joined (codes "select ") (names_text (map (name_at columns) names)) (printed (codes "select ") refl) (names_shown columns names good)
+want_shown columns want.Count good = printed (codes "count") refl
+want_shown columns (want.Sum a) good = joined (codes "sum ") (name_at columns a) (printed (codes "sum ") refl) (named_shown columns a good)
+want_shown columns (want.Min a) good = joined (codes "min ") (name_at columns a) (printed (codes "min ") refl) (named_shown columns a good)
+want_shown columns (want.Max a) good = joined (codes "max ") (name_at columns a) (printed (codes "max ") refl) (named_shown columns a good)
 
-call_shown : (columns : List Column) (c : Call) → list_all (λ c. is_name c.0) columns ≡ true → shown (call_text columns c) ≡ true
+call_shown : (columns : List Column) (c : Call) → list_all (λ c. is_name c.0) columns ≡ true → is_line (call_text columns c) ≡ true
 call_shown columns (call.Select q) good = joined (want_text columns q.want) (where_text columns false q.conds) (want_shown columns q.want good) (terms_shown false (flat_map (cond_terms columns) q.conds) (conds_shown columns q.conds good))
-call_shown columns (call.Insert cells) good = joined (codes "insert ") (cells_text (kinds_of columns) cells) refl (cells_shown (kinds_of columns) cells)
-call_shown columns (call.Delete key) good = joined (codes "delete ") (decimal key) refl (decimal_shown key)
-
-shown_below : (bs : List ℕ) → shown bs ≡ true → All (λ b. b < 128) bs
-shown_below [] h k d lt = absurd (omega (arith, lt))
-shown_below (b ∷ bs) h zero d lt = grind (arith, nat_tests, h)
-shown_below (b ∷ bs) h (suc k) d lt =
-    let later : shown bs ≡ true = grind (arith, h) in
-    shown_below bs later k d (omega (arith, lt))
+call_shown columns (call.Insert cells) good = joined (codes "insert ") (cells_text (kinds_of columns) cells) (printed (codes "insert ") refl) (cells_shown (kinds_of columns) cells)
+call_shown columns (call.Delete key) good = joined (codes "delete ") (decimal key) (printed (codes "delete ") refl) (decimal_shown key)
 
 -- a call is printed as text
 pub call_utf8 : (columns : List Column) (c : Call) → IsSchema columns → IsUtf8 (call_text columns c)
-call_utf8 columns c ok = IsUtf8-from_ascii (call_text columns c) (IsAscii-from_all (call_text columns c) (shown_below (call_text columns c) (call_shown columns c ok.sound.names)))
+call_utf8 columns c ok = line_utf8 (call_text columns c) (call_shown columns c ok.sound.names)
 
 -- ---- lists
 

@@ -16,32 +16,32 @@ use Rattle.sw_table.specs.declared.row.Row.{Row}
 use Rattle.sw_rows.specs.declared.query.Call.{Call}
 use Rattle.sw_lang.specs.Replies.{reply_lines}
 use Rattle.sw_spine.specs.History.{History}
-use Rattle.sw_spine.specs.Printed.{all_printed, is_printed}
+use Rattle.sw_spine.specs.Printed.{are_lines, is_line, is_printed}
 use Rattle.sw_spine.specs.declared.history.Entry.{Entry}
 use Rattle.sw_spine.specs.declared.history.State.{State}
 use Rattle.sw_spine.specs.declared.history.State.TheVariants as state
-use Rattle.sw_spine.proofs.PrintedLemmas.{both, joined, reply_printed, shown}
+use Rattle.sw_spine.proofs.PrintedLemmas.{both, joined, line_utf8, printed, reply_shown}
 use Rattle.sw_histories.specs.RecordText.{attribute_text, cell_data, entry_data, record_data, record_text, row_data, state_data}
 use Rattle.sw_histories.specs.ReadBack.{IsCalled, IsOfRun, IsStateOf}
 use Rattle.sw_histories.proofs.RecordTextLemmas.{call_utf8, name_shown}
-use Rattle.sw_histories.proofs.TextUtf8.{HasTexts, HaveTexts, shown_utf8, text_utf8}
+use Rattle.sw_histories.proofs.TextUtf8.{HasTexts, HaveTexts, text_utf8}
 
 -- ---- attributes
 
-kind_shown : (k : Kind) → HasPlaces k → shown (kind_text k) ≡ true
-kind_shown kind.Int h = refl
+kind_shown : (k : Kind) → HasPlaces k → is_line (kind_text k) ≡ true
+kind_shown kind.Int h = printed (codes "int") refl
 kind_shown (kind.Fix places) h =
     let digit : is_printed (48 + places) ≡ true = grind (arith, nat_tests, h.0, h.1) in
-    joined (codes "fix") ((48 + places) ∷ []) refl (both (is_printed (48 + places)) true digit refl)
-kind_shown kind.Flag h = refl
+    joined (codes "fix") ((48 + places) ∷ []) (printed (codes "fix") refl) (printed ((48 + places) ∷ []) (both (is_printed (48 + places)) true digit refl))
+kind_shown kind.Flag h = printed (codes "flag") refl
 
 attributes_texts : (cs : List Column) → list_all (λ c. is_name c.0) cs ≡ true → All (λ c. HasPlaces c.1) cs → HaveTexts (items_of (map (λ t. string t) (map attribute_text cs)))
 attributes_texts [] h p = tt
 attributes_texts (c ∷ cs) h p =
     let parts = and_parts (is_name c.0) (list_all (λ d. is_name d.0) cs) h in
-    let ends = joined (codes ":") (kind_text c.1) refl (kind_shown c.1 (All-head (λ d. HasPlaces d.1) c cs p)) in
+    let ends = joined (codes ":") (kind_text c.1) (printed (codes ":") refl) (kind_shown c.1 (All-head (λ d. HasPlaces d.1) c cs p)) in
     let here = joined c.0 (codes ":" ++ kind_text c.1) (name_shown c.0 parts.0) ends in
-    (shown_utf8 (attribute_text c) here, attributes_texts cs parts.1 (All-tail (λ d. HasPlaces d.1) c cs p))
+    (line_utf8 (attribute_text c) here, attributes_texts cs parts.1 (All-tail (λ d. HasPlaces d.1) c cs p))
 
 -- ---- rows
 
@@ -55,18 +55,18 @@ rows_texts n (r ∷ rs) = (cells_texts (take n r.cells), rows_texts n rs)
 
 -- ---- entries
 
-lines_texts : (ls : List (List ℕ)) → all_printed ls ≡ true → HaveTexts (items_of (map (λ t. string t) ls))
+lines_texts : (ls : List (List ℕ)) → are_lines ls ≡ true → HaveTexts (items_of (map (λ t. string t) ls))
 lines_texts [] h = tt
 lines_texts (l ∷ ls) h =
-    let parts = and_parts (shown l) (all_printed ls) h in
-    (shown_utf8 l parts.0, lines_texts ls parts.1)
+    let parts = and_parts (is_line l) (are_lines ls) h in
+    (line_utf8 l parts.0, lines_texts ls parts.1)
 
 kept_texts : (ls : List (List ℕ)) → All (λ l. IsUtf8 l) ls → HaveTexts (items_of (map (λ t. string t) ls))
 kept_texts [] h = tt
 kept_texts (l ∷ ls) h = (All-head (λ m. IsUtf8 m) l ls h, kept_texts ls (All-tail (λ m. IsUtf8 m) l ls h))
 
 state_texts : (columns : List Column) (c : Call) (st : State) → IsStateOf c st → HasTexts (state_data columns c st)
-state_texts columns c (state.Answered r) h = lines_texts (reply_lines columns c r) (reply_printed columns c r)
+state_texts columns c (state.Answered r) h = lines_texts (reply_lines columns c r) (reply_shown columns c r)
 state_texts columns c (state.Lines ls) h = kept_texts ls h
 state_texts columns c state.Open h = IsUtf8-are_ascii (codes "open") refl
 state_texts columns c state.Void h = IsUtf8-are_ascii (codes "void") refl

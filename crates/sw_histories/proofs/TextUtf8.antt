@@ -1,21 +1,11 @@
 -- The text of a value whose strings are UTF-8 is UTF-8.
-use Rattle.std.proofs.Common.{◌≡◌, refl, ℕ, Bool, true, false, List, [], ◌∷◌, ◌++◌, arith, IsUtf8}
+use Rattle.std.proofs.Common.{refl, Bool, true, false, [], ◌∷◌, ◌++◌, IsUtf8}
 use Rattle.std.specs.Prelude.{⊤}
-use Rattle.std.proofs.lemmas.Bool.Decides.{nat_tests}
 use Rattle.std.proofs.lemmas.Str.{IsUtf8-append, IsUtf8-nil}
-use Rattle.json.proofs.Printed.Utf8.{IsUtf8-are_ascii, IsUtf8-boolean, IsUtf8-quoted, are_ascii}
+use Rattle.json.proofs.Printed.Utf8.{IsUtf8-are_ascii, IsUtf8-boolean, IsUtf8-quoted}
 use Rattle.serde_json.specs.Data.{Num, unsigned, negative, float, Data, null, boolean, number, string, array, object, Items, no_items, item, Members, no_members, member}
 use Rattle.serde_json.specs.Written.{comma_if, compact_text, items_text, members_text, number_text}
-use Rattle.sw_rows.specs.declared.kind.Kind.TheVariants as kind
-use Rattle.sw_spine.proofs.PrintedLemmas.{cell_shown, decimal_shown, shown}
-
-shown_ascii : (bs : List ℕ) → shown bs ≡ true → are_ascii bs ≡ true
-shown_ascii [] h = refl
-shown_ascii (b ∷ bs) h = grind (arith, nat_tests, h, shown_ascii bs)
-
--- printed characters are UTF-8
-pub shown_utf8 : (bs : List ℕ) → shown bs ≡ true → IsUtf8 bs
-shown_utf8 bs h = IsUtf8-are_ascii bs (shown_ascii bs h)
+use Rattle.sw_spine.proofs.PrintedLemmas.{decimal_shown, line_utf8, signed_shown}
 
 -- the strings of a value and its keys are UTF-8
 abbrev mutual
@@ -36,8 +26,8 @@ abbrev mutual
   NameTexts (member k d ms) = IsUtf8 k × HasTexts d × NameTexts ms
 
 number_utf8 : (n : Num) → IsUtf8 (number_text n)
-number_utf8 (unsigned n) = shown_utf8 (number_text (unsigned n)) (decimal_shown n)
-number_utf8 (negative z) = shown_utf8 (number_text (negative z)) (cell_shown kind.Int z)
+number_utf8 (unsigned n) = line_utf8 (number_text (unsigned n)) (decimal_shown n)
+number_utf8 (negative z) = line_utf8 (number_text (negative z)) (signed_shown z)
 number_utf8 (float x) = IsUtf8-nil
 
 comma_utf8 : (later : Bool) → IsUtf8 (comma_if later)
