@@ -16,6 +16,7 @@ pub mod PrintedNames
 pub mod PrintedTerms
 pub mod PrintedTokens
 pub mod Progress
+pub mod QuotedTexts
 pub mod ReadBack
 pub mod Relates
 pub mod Singles

@@ -9,6 +9,7 @@ mod printed_calls;
 mod printed_cells;
 pub mod printed_examples;
 mod printed_rows;
+mod quotes;
 mod replies;
 mod single;
 mod sinks;
