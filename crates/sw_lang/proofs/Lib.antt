@@ -14,6 +14,7 @@ pub mod PrintedLength
 pub mod PrintedMerge
 pub mod PrintedNames
 pub mod PrintedTerms
+pub mod PrintedTexts
 pub mod PrintedTokens
 pub mod Progress
 pub mod QuotedTexts

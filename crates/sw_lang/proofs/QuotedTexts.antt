@@ -1,8 +1,8 @@
 -- Where the quotes of a text are closed.
-use Rattle.std.proofs.Common.{◌≡◌, ◌∙◌, ap, sym, refl, ℕ, zero, suc, ◌+◌, ◌<◌, ◌≤◌, true, false, ◌==◌, List, [], ◌∷◌, ◌++◌, length, take, drop, append_assoc, append-nil, slice_index, arith}
+use Rattle.std.proofs.Common.{◌≡◌, ◌∙◌, ap, sym, refl, ℕ, zero, suc, ◌+◌, ◌<◌, ◌≤◌, Bool, true, false, ◌==◌, ◌&&◌, List, [], ◌∷◌, ◌++◌, length, length-append, take, drop, append_assoc, append-nil, slice_index, arith}
 use Rattle.std.proofs.lemmas.Bool.{eqb-true, false≢true}
 use Rattle.std.proofs.lemmas.List.{drop_all, drop_more, get_or-drop, take_more}
-use Rattle.sw_lang.specs.Tokens.{quoted, stray, inside, behind, tokens, tokens_after, undoubled}
+use Rattle.sw_lang.specs.Tokens.{quoted, stray, inside, behind, tokens, tokens_after, undoubled, undoubled_after}
 
 -- bytes up to here are read, all of them inside quotes
 pub record Inside (text : List ℕ) (at : ℕ) : Type 0 where
@@ -85,3 +85,12 @@ closed_at text at r e f =
 
 pub never_closed : (text : List ℕ) (at : ℕ) → Inside text at → length text ≤ at → tokens_after (inside []) text ≡ stray ∷ []
 never_closed text at r h = r.same ∙ ap (tokens_after (inside r.so_far)) (drop_all at text h)
+
+-- ---- the text of its bytes
+
+pub too_long : (held : Bool) (front rest whole : List ℕ) → 1 ≤ length rest → (held && slice_index rest 0 == 39) ≡ false → front ++ undoubled_after held rest ≡ whole → length front < length whole
+too_long held front [] whole some e is = absurd (omega (arith, some))
+too_long held front (b ∷ bs) whole some e is =
+    let more : undoubled_after held (b ∷ bs) ≡ b ∷ undoubled_after (b == 39) bs = rw e refl in
+    let long : length whole ≡ length (front ++ b ∷ undoubled_after (b == 39) bs) = ap length (sym is ∙ ap (λ (w : List ℕ). front ++ w) more) in
+    omega (arith, long, length-append front (b ∷ undoubled_after (b == 39) bs))

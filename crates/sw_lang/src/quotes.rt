@@ -1,7 +1,10 @@
 //! Quoted texts: the bytes between the quotes of one, where each quote of the text stands twice.
 
-ghost use Rattle.std.specs.Prelude.{◌≡◌, ◌<◌, ◌+◌, [], ◌∷◌, ◌==◌, drop, slice_index, take, length, MatchOption, IfSome};
+ghost use Rattle.std.specs.Prelude.{◌≡◌, ◌<◌, ◌≤◌, ◌+◌, [], ◌∷◌, ◌==◌, ◌&&◌, drop, slice_index, take, length, MatchOption, IfSome};
 ghost use Rattle.sw_lang.specs.Tokens.{inside, quoted, stray, tokens, tokens_after, undoubled};
+ghost use Rattle.sw_rows.specs.declared.texts.TheConstants.{MOST_BYTES_OF_TEXT};
+
+use sw_rows::MOST_BYTES_OF_TEXT;
 
 /// Whether a quote stands there.
 fn is_quote(text: &[u8], at: usize) -> bool
@@ -32,4 +35,47 @@ pub(crate) fn raw_len(text: &[u8]) -> Option<usize>
         }
     }
     None
+}
+
+/// Whether a byte is the second of two quotes, where `held` tells that the first stands before it.
+fn is_second(held: bool, byte: u8) -> bool
+    ensures { result ≡ (held && byte == 39) }
+{
+    held && byte == b'\''
+}
+
+/// Puts a quoted text's text at the buffer's front and answers how long it is, and None where it does not fit.
+fn fill(raw: &[u8], buffer: &mut [u8; MOST_BYTES_OF_TEXT]) -> Option<usize>
+    ensures text { MatchOption result (MOST_BYTES_OF_TEXT < length (undoubled raw.now))
+        (λ n. take n buffer.new ≡ undoubled raw.now) }
+    ensures within { IfSome result (λ n. n ≤ MOST_BYTES_OF_TEXT) }
+{
+    let mut len = 0;
+    let mut held = false;
+    let mut rest = raw;
+    while let [first, after @ ..] = rest {
+        rest = after;
+        if is_second(held, *first) {
+            held = false;
+        } else if len == MOST_BYTES_OF_TEXT {
+            return None;
+        } else {
+            buffer[len] = *first;
+            len += 1;
+            held = *first == b'\'';
+        }
+    }
+    Some(len)
+}
+
+/// The text of a quoted text's bytes between its quotes, in this buffer, and None where it is longer than a text of a
+/// table.
+pub(crate) fn undoubled<'b>(
+    raw: &[u8],
+    buffer: &'b mut [u8; MOST_BYTES_OF_TEXT],
+) -> Option<&'b [u8]>
+    ensures { MatchOption result (MOST_BYTES_OF_TEXT < length (undoubled raw.now)) (λ text. text.now ≡ undoubled raw.now) }
+{
+    let len = fill(raw, buffer)?;
+    Some(&buffer[..len])
 }
