@@ -48,7 +48,7 @@ ended (b ∷ bs) ts = word (b ∷ bs) ∷ ts
 abbrev pub or_equal : Op → Op → ℕ → List Tok → List Tok
 or_equal short long next ts = if next == 61 then op long ∷ drop 1 ts else op short ∷ ts
 
--- a byte of no word, before the next byte and the tokens from there on
+-- a byte of no word, before the next byte and the tokens from there on: a blank and a quote add none
 abbrev pub mark : ℕ → ℕ → List Tok → List Tok
 mark b next ts =
     if is_blank b || b == 39 then ts
