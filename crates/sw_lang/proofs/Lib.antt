@@ -14,8 +14,10 @@ pub mod PrintedLength
 pub mod PrintedMerge
 pub mod PrintedNames
 pub mod PrintedTerms
+pub mod PrintedTexts
 pub mod PrintedTokens
 pub mod Progress
+pub mod QuotedTexts
 pub mod ReadBack
 pub mod Relates
 pub mod Singles

@@ -16,7 +16,7 @@ use Rattle.sw_rows.specs.declared.refusal.Why.{Why}
 use Rattle.sw_rows.specs.declared.refusal.Why.TheVariants as why
 use Rattle.sw_lang.specs.declared.fault.Fault.TheVariants.{Bad}
 use Rattle.sw_lang.specs.declared.token.Op.{Op}
-use Rattle.sw_lang.specs.Tokens.{Tok, word, op, comma, stray}
+use Rattle.sw_lang.specs.Tokens.{Tok, word, op, comma, quoted, stray}
 use Rattle.sw_lang.specs.Reading.{attr_of, found, valued, key_value, key_of, name_of, op_of, value_of, is_word, is_comma}
 use Rattle.sw_lang.specs.Grammar.{IsName, IsValue, IsKey}
 
@@ -37,12 +37,14 @@ pub word_is : (w : List ℕ) (t : Tok) → is_word w t ≡ true → t ≡ word w
 word_is w (word v) h = ap word (same_bytes v w h)
 word_is w (op o) h = absurd (false≢true h)
 word_is w comma h = absurd (false≢true h)
+word_is w (quoted q) h = absurd (false≢true h)
 word_is w stray h = absurd (false≢true h)
 
 pub comma_is : (t : Tok) → is_comma t ≡ true → t ≡ comma
 comma_is (word v) h = absurd (false≢true h)
 comma_is (op o) h = absurd (false≢true h)
 comma_is comma h = refl
+comma_is (quoted q) h = absurd (false≢true h)
 comma_is stray h = absurd (false≢true h)
 
 -- ---- names
@@ -72,6 +74,7 @@ unfolding name_of
 name_found schema (word w) i h = (w, refl, attr_found schema why.Word w i h)
 name_found schema (op o) i h = absurd cc
 name_found schema comma i h = absurd cc
+name_found schema (quoted q) i h = absurd cc
 name_found schema stray i h = absurd cc
 
 and-true : (p q : Bool) → (p && q) ≡ true → (p ≡ true) × (q ≡ true)
@@ -134,6 +137,7 @@ unfolding op_of
 op_found (word w) o h = absurd cc
 op_found (op p) o h = cc
 op_found comma o h = absurd cc
+op_found (quoted q) o h = absurd cc
 op_found stray o h = absurd cc
 
 pub op_read : (t : Tok) (o : Op) → t ≡ op o → op_of t ≡ Ok o
@@ -149,6 +153,7 @@ unfolding value_of
 value_found k (word w) z h = (w, refl, valued_is (cell_value k w) z h)
 value_found k (op o) z h = absurd cc
 value_found k comma z h = absurd cc
+value_found k (quoted q) z h = absurd cc
 value_found k stray z h = absurd cc
 
 pub value_read : (k : Kind) (t : Tok) (z : ℤ) → IsValue k t z → value_of k t ≡ Ok z
@@ -160,6 +165,7 @@ unfolding key_of
 key_found (word w) n h = (w, refl, valued_is (key_value w) n h)
 key_found (op o) n h = absurd cc
 key_found comma n h = absurd cc
+key_found (quoted q) n h = absurd cc
 key_found stray n h = absurd cc
 
 pub key_read : (t : Tok) (n : ℕ) → IsKey t n → key_of t ≡ Ok n

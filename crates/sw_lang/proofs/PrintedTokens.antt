@@ -4,7 +4,7 @@ use Rattle.std.specs.List.{list_all}
 use Rattle.std.proofs.lemmas.Bool.{and_parts}
 use Rattle.sw_lang.specs.declared.token.Op.{Op}
 use Rattle.sw_lang.specs.declared.token.Op.TheVariants.{Lt, Le, Eq, Ge, Gt}
-use Rattle.sw_lang.specs.Tokens.{word, op, comma, is_word_byte, tokens, tokens_after}
+use Rattle.sw_lang.specs.Tokens.{word, op, comma, run, is_word_byte, tokens, tokens_after}
 
 -- one word byte or more
 pub record IsRun (w : List ℕ) : Type 0 where
@@ -15,14 +15,14 @@ pub record IsRun (w : List ℕ) : Type 0 where
 abbrev pub Stops : List ℕ → Type 0
 Stops rest = is_word_byte (slice_index rest 0) ≡ false
 
-run-goes : (w run rest : List ℕ) → list_all is_word_byte w ≡ true → tokens_after run (w ++ rest) ≡ tokens_after (run ++ w) rest
-run-goes [] run rest h = rw append-nil refl
-run-goes (b ∷ bs) run rest h =
+run-goes : (w front rest : List ℕ) → list_all is_word_byte w ≡ true → tokens_after (run front) (w ++ rest) ≡ tokens_after (run (front ++ w)) rest
+run-goes [] front rest h = rw append-nil refl
+run-goes (b ∷ bs) front rest h =
     let parts = and_parts (is_word_byte b) (list_all is_word_byte bs) h in
-    let more = run-goes bs (run ++ b ∷ []) rest parts.1 in
-    rw parts.0 (more ∙ ap (λ r. tokens_after r rest) (append_assoc run (b ∷ []) bs))
+    let more = run-goes bs (front ++ b ∷ []) rest parts.1 in
+    rw parts.0 (more ∙ ap (λ w. tokens_after (run w) rest) (append_assoc front (b ∷ []) bs))
 
-word_ends : (b : ℕ) (bs rest : List ℕ) → Stops rest → tokens_after (b ∷ bs) rest ≡ word (b ∷ bs) ∷ tokens rest
+word_ends : (b : ℕ) (bs rest : List ℕ) → Stops rest → tokens_after (run (b ∷ bs)) rest ≡ word (b ∷ bs) ∷ tokens rest
 word_ends b bs [] h = refl
 word_ends b bs (c ∷ cs) h = rw h refl
 

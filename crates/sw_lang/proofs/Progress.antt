@@ -96,3 +96,9 @@ pub stops_within : {a b c : Option (List ℕ)} {p q r : ℕ} {text : List ℕ} {
 stops_within x y (Ok u) h g w = absurd h
 stops_within {a} {c = c} {p} {r = r} {text} x y (Err d) h g w =
     subst (λ (k : Refusal). Writes a c p r (Err k) text) (sym (h ∙ w.part.0)) (fail x y g w.part.1 w.part.2)
+
+-- the rest of a text, behind what went out
+pub last : {a b c : Option (List ℕ)} {p q r : ℕ} {text x : List ℕ} (res : Result (Unit {0}) Refusal) → Progress a b p q text x → Writes b c q r res x → Writes a c p r res text
+last {a} {b} {c} {p} {q} {r} {text} {x} res g w =
+    let before : Writes a b p q (Ok (tt {0})) g.front = record { whole = (g.took, g.counted); part = tt } in
+    subst (λ (t : List ℕ). Writes a c p r res t) (sym g.parts) (both g.front x res before w)

@@ -12,7 +12,7 @@ use Rattle.sw_lang.specs.declared.token.Op.{Op}
 use Rattle.sw_lang.specs.declared.term.Term.{Term}
 use Rattle.sw_lang.specs.Replies.{kind_at}
 use Rattle.sw_lang.specs.Terms.{add_term}
-use Rattle.sw_lang.specs.Tokens.{Tok, word, op, comma, stray}
+use Rattle.sw_lang.specs.Tokens.{Tok, word, op, comma, quoted, stray}
 use Rattle.sw_lang.specs.Reading.{◌>>=◌, Fails, name_of, op_of, value_of, is_word, is_comma, first_by, term_at, terms_at, names_at}
 
 -- the term of three tokens
@@ -109,6 +109,8 @@ by-name schema names a (op o ∷ ts) (Err e) h = rw h refl
 by-name schema names a (op o ∷ ts) (Ok x) h = rw h refl
 by-name schema names a (comma ∷ ts) (Err e) h = rw h refl
 by-name schema names a (comma ∷ ts) (Ok x) h = rw h refl
+by-name schema names a (quoted q ∷ ts) (Err e) h = rw h refl
+by-name schema names a (quoted q ∷ ts) (Ok x) h = rw h refl
 by-name schema names a (stray ∷ ts) (Err e) h = rw h refl
 by-name schema names a (stray ∷ ts) (Ok x) h = rw h refl
 

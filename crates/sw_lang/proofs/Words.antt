@@ -4,23 +4,23 @@ use Rattle.std.specs.List.{prefix_len}
 use Rattle.std.specs.Prelude.{slice_index, take_while}
 use Rattle.std.proofs.lemmas.List.{append-nil}
 use Rattle.std.proofs.lemmas.List.Folds.{length-prefix_len}
-use Rattle.sw_lang.specs.Tokens.{Tok, word, ended, tokens, tokens_after, is_word_byte}
+use Rattle.sw_lang.specs.Tokens.{Tok, word, ended, run, tokens, tokens_after, is_word_byte}
 
 -- the bytes of a word at the front go onto the run before them
 abbrev Front : List ℕ → List ℕ → Type 0
-Front run s = tokens_after run s ≡ ended (run ++ take_while is_word_byte s) (tokens (drop (prefix_len is_word_byte s) s))
+Front w s = tokens_after (run w) s ≡ ended (w ++ take_while is_word_byte s) (tokens (drop (prefix_len is_word_byte s) s))
 
-front-step : (v : Bool) (b : ℕ) (bs run : List ℕ) → is_word_byte b ≡ v → ((r : List ℕ) → Front r bs) → Front run (b ∷ bs)
-front-step true b bs run e ih =
+front-step : (v : Bool) (b : ℕ) (bs w : List ℕ) → is_word_byte b ≡ v → ((r : List ℕ) → Front r bs) → Front w (b ∷ bs)
+front-step true b bs w e ih =
     let n : ℕ = prefix_len is_word_byte bs in
     let one : 1 + n ≡ suc n = omega arith in
-    let more = rw append_assoc at (ih (run ++ b ∷ [])) in
+    let more = rw append_assoc at (ih (w ++ b ∷ [])) in
     rw (e, one) more
-front-step false b bs run e ih = rw (e, append-nil, e) refl
+front-step false b bs w e ih = rw (e, append-nil, e) refl
 
-word_front : (s run : List ℕ) → Front run s
-word_front [] run = rw append-nil refl
-word_front (b ∷ bs) run = front-step (is_word_byte b) b bs run refl (word_front bs)
+word_front : (s w : List ℕ) → Front w s
+word_front [] w = rw append-nil refl
+word_front (b ∷ bs) w = front-step (is_word_byte b) b bs w refl (word_front bs)
 
 ended-some : (w : List ℕ) (ts : List Tok) → 0 < length w → ended w ts ≡ word w ∷ ts
 ended-some [] ts h = absurd (omega arith)

@@ -22,7 +22,7 @@ use Rattle.sw_lang.specs.declared.token.Op.{Op}
 use Rattle.sw_lang.specs.declared.term.Term.{Term}
 use Rattle.sw_lang.specs.Replies.{kind_at}
 use Rattle.sw_lang.specs.Terms.{add_term}
-use Rattle.sw_lang.specs.Tokens.{Tok, word, op, comma, tokens, after_blanks}
+use Rattle.sw_lang.specs.Tokens.{Tok, word, op, comma, quoted, tokens, after_blanks}
 
 infixl 10 ◌>>=◌
 abbrev pub ◌>>=◌ : {A B : Type 0} → Result A Fault → (A → Result B Fault) → Result B Fault
@@ -62,9 +62,10 @@ abbrev pub valued : {A : Type 0} → Option A → Result A Fault
 valued (Some z) = Ok z
 valued None = Err (Bad why.Value)
 
--- the stored number of a value of this kind
+-- the stored number of a value of this kind; a quoted text is none
 unfoldable pub value_of : Kind → Tok → Result ℤ Fault
 value_of kind (word w) = valued (cell_value kind w)
+value_of kind (quoted text) = Err (Bad why.Value)
 value_of kind t = Err (Bad why.Word)
 
 -- a key has 1 to 20 digits, and a number of 64 bits
@@ -73,6 +74,7 @@ key_value w = if nat_lt 20 (length w) then None else fitting (digits_number w)
 
 unfoldable pub key_of : Tok → Result ℕ Fault
 key_of (word w) = valued (key_value w)
+key_of (quoted text) = Err (Bad why.Value)
 key_of t = Err (Bad why.Word)
 
 abbrev pub is_word : List ℕ → Tok → Bool

@@ -1,5 +1,5 @@
 -- The lines of a reply.
-use Rattle.std.specs.Prelude.{◌+◌, ◌-◌, ◌/◌, ◌%◌, ◌^◌, ℕ, ℤ, pos, negsuc, List, [], ◌∷◌, ◌++◌, length, map, replicate, slice_index_or, Option, Some, None, codes, decimal, if◌then◌else◌}
+use Rattle.std.specs.Prelude.{◌+◌, ◌-◌, ◌/◌, ◌%◌, ◌^◌, ◌==◌, ℕ, ℤ, pos, negsuc, List, [], ◌∷◌, ◌++◌, length, map, replicate, slice_index_or, Option, Some, None, codes, decimal, if◌then◌else◌}
 use Rattle.std.specs.List.{flat_map}
 use Rattle.std.specs.Fmt.{signed_decimal}
 use Rattle.std.specs.Ordering.{int_eq}
@@ -39,6 +39,15 @@ abbrev pub sum_text : Kind → ℤ → List ℕ
 sum_text kind.Int z = signed_decimal z
 sum_text (kind.Fix places) z = fixed_text places z
 sum_text kind.Flag z = signed_decimal z
+
+-- each quote twice
+abbrev pub doubled : List ℕ → List ℕ
+doubled [] = []
+doubled (b ∷ bs) = if b == 39 then 39 ∷ 39 ∷ doubled bs else b ∷ doubled bs
+
+-- a text as scripts have it: between quotes, each of its own quotes twice
+abbrev pub quoted_text : List ℕ → List ℕ
+quoted_text text = codes "'" ++ (doubled text ++ codes "'")
 
 -- the kind of an attribute
 abbrev pub kind_at : List Column → ℕ → Kind

@@ -1,5 +1,5 @@
 -- The tokens of a line, told from the left.
-use Rattle.std.specs.Prelude.{ℕ, Bool, ◌||◌, List, [], ◌∷◌, ◌++◌, drop, slice_index, ◌==◌, if◌then◌else◌}
+use Rattle.std.specs.Prelude.{ℕ, Bool, false, ◌||◌, ◌&&◌, List, [], ◌∷◌, ◌++◌, drop, slice_index, ◌==◌, if◌then◌else◌}
 use Rattle.sw_rows.specs.Header.{is_name_byte}
 use Rattle.sw_lang.specs.declared.token.Op.{Op}
 use Rattle.sw_lang.specs.declared.token.Op.TheVariants.{Lt, Le, Eq, Ge, Gt}
@@ -11,10 +11,22 @@ pub data Tok : Type 0 where
   word : List ℕ → Tok
   op : Op → Tok
   comma : Tok
+  quoted : List ℕ → Tok
   stray : Tok
+
+-- the bytes without the second of each two quotes; where `held`, the first of two stands before them
+abbrev pub undoubled_after : (held : Bool) → List ℕ → List ℕ
+undoubled_after held [] = []
+undoubled_after held (b ∷ bs) =
+    if held && b == 39 then undoubled_after false bs else b ∷ undoubled_after (b == 39) bs
+
+-- the text whose quotes have these bytes between them: two quotes are one
+abbrev pub undoubled : List ℕ → List ℕ
+undoubled raw = undoubled_after false raw
 
 abbrev pub tok : Token → Tok
 tok (token.Word w) = word w.now
+tok (token.Quoted raw) = quoted (undoubled raw.now)
 tok (token.Op o) = op o
 tok token.Comma = comma
 tok token.Stray = stray
@@ -36,31 +48,54 @@ ended (b ∷ bs) ts = word (b ∷ bs) ∷ ts
 abbrev pub or_equal : Op → Op → ℕ → List Tok → List Tok
 or_equal short long next ts = if next == 61 then op long ∷ drop 1 ts else op short ∷ ts
 
--- a byte of no word, before the next byte and the tokens from there on
+-- a byte of no word, before the next byte and the tokens from there on: a blank and a quote add none
 abbrev pub mark : ℕ → ℕ → List Tok → List Tok
 mark b next ts =
-    if is_blank b then ts
+    if is_blank b || b == 39 then ts
     else if b == 44 then comma ∷ ts
     else if b == 61 then op Eq ∷ ts
     else if b == 60 then or_equal Lt Le next ts
     else if b == 62 then or_equal Gt Ge next ts
     else stray ∷ ts
 
--- the run of word bytes after one more byte
-abbrev pub run_after : List ℕ → ℕ → List ℕ
-run_after run b = if is_word_byte b then run ++ b ∷ [] else []
+-- what stands before a byte: a run of word bytes, perhaps none; the text so far inside quotes; or such a text and a
+-- quote, which closes it unless the byte is a quote too
+pub data Spot : Type 0 where
+  run : List ℕ → Spot
+  inside : List ℕ → Spot
+  behind : List ℕ → Spot
+
+-- what stands before the next byte
+abbrev pub after_run : List ℕ → ℕ → Spot
+after_run w b = if is_word_byte b then run (w ++ b ∷ []) else if b == 39 then inside [] else run []
+
+abbrev pub step : Spot → ℕ → Spot
+step (run w) b = after_run w b
+step (inside t) b = if b == 39 then behind t else inside (t ++ b ∷ [])
+step (behind t) b = if b == 39 then inside (t ++ b ∷ []) else after_run [] b
 
 -- what a byte adds before the tokens from the next byte on
-abbrev pub put : List ℕ → ℕ → ℕ → List Tok → List Tok
-put run b next ts = if is_word_byte b then ts else ended run (mark b next ts)
+abbrev pub put_after_run : List ℕ → ℕ → ℕ → List Tok → List Tok
+put_after_run w b next ts = if is_word_byte b then ts else ended w (mark b next ts)
 
--- the tokens of bytes before which a run of word bytes stands
-abbrev pub tokens_after : List ℕ → List ℕ → List Tok
-tokens_after run [] = ended run []
-tokens_after run (b ∷ bs) = put run b (slice_index bs 0) (tokens_after (run_after run b) bs)
+abbrev pub put : Spot → ℕ → ℕ → List Tok → List Tok
+put (run w) b next ts = put_after_run w b next ts
+put (inside t) b next ts = ts
+put (behind t) b next ts = if b == 39 then ts else quoted t ∷ put_after_run [] b next ts
+
+-- the tokens that the end of the line adds: quotes that are not closed are a stray token
+abbrev pub at_end : Spot → List Tok
+at_end (run w) = ended w []
+at_end (inside t) = stray ∷ []
+at_end (behind t) = quoted t ∷ []
+
+-- the tokens of bytes before which this stands
+abbrev pub tokens_after : Spot → List ℕ → List Tok
+tokens_after spot [] = at_end spot
+tokens_after spot (b ∷ bs) = put spot b (slice_index bs 0) (tokens_after (step spot b) bs)
 
 abbrev pub tokens : List ℕ → List Tok
-tokens text = tokens_after [] text
+tokens text = tokens_after (run []) text
 
 -- the bytes from the first on that is no space and no tab
 abbrev pub after_blanks : List ℕ → List ℕ

@@ -9,6 +9,8 @@ mod printed_calls;
 mod printed_cells;
 pub mod printed_examples;
 mod printed_rows;
+mod printed_texts;
+mod quotes;
 mod replies;
 mod single;
 mod sinks;
@@ -19,7 +21,8 @@ pub use cuts::{Cuts, MOST_CUTS, parse_cuts};
 pub use fault::Fault;
 pub use line_law::{
     cuts_are_read_as_related, examples_of_cuts, examples_of_lines, examples_of_printed_lines,
-    lines_are_read_as_related, printed_calls_are_read, terms_make_conditions,
+    lines_are_read_as_related, printed_calls_are_read, quoted_texts_are_read_back,
+    terms_make_conditions,
 };
 pub use parse::{MOST_LINE, parse_line};
 pub use printed_calls::write_call;

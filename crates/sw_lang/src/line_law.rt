@@ -1,6 +1,6 @@
 //! Laws of the grammar of lines. Each function has no body to speak of: its contract is the law.
 
-ghost use Rattle.std.specs.Prelude.{◌≡◌, List, [], fold, map};
+ghost use Rattle.std.specs.Prelude.{◌≡◌, ◌≤◌, ◌+◌, ◌*◌, ◌==◌, ℕ, false, List, [], ◌∷◌, ◌++◌, length, codes, slice_index, fold, map};
 ghost use Rattle.sw_lang.specs.declared.term.Term.{Term};
 ghost use Rattle.sw_lang.specs.Terms.{add_term, conditions};
 ghost use Rattle.sw_lang.specs.Agreement.{FindsAllRelated, FindsRelated};
@@ -9,6 +9,8 @@ ghost use Rattle.sw_lang.specs.Cuts.{IsCuts};
 ghost use Rattle.sw_lang.specs.CutsReading.{cuts_at};
 ghost use Rattle.sw_lang.specs.ReadBack.{PrintedCallsAreLines, PrintedCallsAreRead};
 ghost use Rattle.sw_lang.specs.Reading.{line_at};
+ghost use Rattle.sw_lang.specs.Replies.{doubled, quoted_text};
+ghost use Rattle.sw_lang.specs.Tokens.{quoted, tokens, undoubled};
 ghost use Rattle.sw_lang.specs.Examples.{calls, cut_texts, mixed, mixed_cuts, printed_lines, printed_of, refusals, three};
 
 /// The format's examples are read as the format says.
@@ -45,6 +47,16 @@ pub fn lines_are_read_as_related()
 pub fn printed_calls_are_read()
     ensures lines { PrintedCallsAreLines }
     ensures read { PrintedCallsAreRead }
+{}
+
+/// What `write_quoted` writes of a text is one token of a line, a quoted text of just these bytes, whatever follows but a
+/// quote. It is at most twice as long as the text, its two quotes aside.
+pub fn quoted_texts_are_read_back()
+    ensures read { (text rest : List ℕ) → (slice_index rest 0 == 39) ≡ false
+        → tokens (quoted_text text ++ rest) ≡ quoted text ∷ tokens rest }
+    ensures same { (text : List ℕ) → undoubled (doubled text) ≡ text }
+    ensures few_bytes { (text : List ℕ) → length (quoted_text text) ≤ 2 + 2 * length text }
+    ensures example { quoted_text (codes "it's") ≡ codes "'it''s'" }
 {}
 
 /// Reading a text of cuts from left to right finds just what the relation of cuts relates to the text.

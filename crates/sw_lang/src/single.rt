@@ -81,12 +81,10 @@ fn value_of(kind: Kind, token: Token) -> Result<i64, ParseError>
     requires { HasPlaces kind }
     ensures { Gives (λ v. v) result (value_of kind (tok token.entry)) }
 {
-    let Token::Word(word) = token else {
-        return Err(bad(Why::Word));
-    };
-    match read_cell_bytes(kind, word) {
-        Some(value) => Ok(value),
-        None => Err(bad(Why::Value)),
+    match token {
+        Token::Word(word) => read_cell_bytes(kind, word).ok_or(bad(Why::Value)),
+        Token::Quoted(_) => Err(bad(Why::Value)),
+        _ => Err(bad(Why::Word)),
     }
 }
 
@@ -103,10 +101,11 @@ fn read_key(word: &[u8]) -> Option<u64>
 fn key_of(token: Token) -> Result<u64, ParseError>
     ensures { Gives (λ v. v) result (key_of (tok token.entry)) }
 {
-    let Token::Word(word) = token else {
-        return Err(bad(Why::Word));
-    };
-    read_key(word).ok_or(bad(Why::Value))
+    match token {
+        Token::Word(word) => read_key(word).ok_or(bad(Why::Value)),
+        Token::Quoted(_) => Err(bad(Why::Value)),
+        _ => Err(bad(Why::Word)),
+    }
 }
 
 /// Whether a token is this word.

@@ -1,7 +1,9 @@
 //! The tokens of a line.
 
 ghost use Rattle.std.specs.Prelude.{◌≡◌, ◌<◌, ◌≤◌, [], ◌∷◌, length, slice_index, false, take_while, MatchOption, IfSome};
-ghost use Rattle.sw_lang.specs.Tokens.{tok, tokens, after_blanks, is_word_byte, is_blank, or_equal, op};
+ghost use Rattle.sw_lang.specs.Tokens.{tok, tokens, after_blanks, is_word_byte, is_blank, or_equal, op, inside, tokens_after};
+
+use crate::quotes::raw_len;
 
 /// A comparison of a cell with a value.
 #[derive(Clone, Copy, Debug, PartialEq, Eq)]
@@ -20,7 +22,9 @@ pub(crate) enum Token<'a> {
     Word(&'a [u8]),
     Op(Op),
     Comma,
-    /// A byte of no other token.
+    /// What stands between the quotes of a text, each quote of the text twice.
+    Quoted(&'a [u8]),
+    /// A byte of no other token, or a text whose quotes are not closed.
     Stray,
 }
 
@@ -75,6 +79,19 @@ fn or_equal(short: Op, long: Op, rest: &[u8]) -> (Op, &[u8])
     (short, rest)
 }
 
+/// The quoted text that begins behind this quote, and the bytes after it; all bytes are stray where no quote closes it.
+fn behind_quote(text: &[u8]) -> (Token<'_>, &[u8])
+    ensures tokens { tokens_after (inside []) text.now ≡ tok result.0 ∷ tokens result.1.now }
+    ensures shorter { length result.1.now ≤ length text.now }
+{
+    let Some(len) = raw_len(text) else {
+        return (Token::Stray, &text[text.len()..]);
+    };
+    let (raw, _) = text.split_at(len);
+    let (_, rest) = text.split_at(len + 1);
+    (Token::Quoted(raw), rest)
+}
+
 /// The token at the front, where no blank stands, and the bytes after it.
 fn front_token(text: &[u8]) -> Option<(Token<'_>, &[u8])>
     requires { is_blank (slice_index text.now 0) ≡ false }
@@ -102,6 +119,9 @@ fn front_token(text: &[u8]) -> Option<(Token<'_>, &[u8])>
     if first == b'>' {
         let (op, rest) = or_equal(Op::Gt, Op::Ge, rest);
         return Some((Token::Op(op), rest));
+    }
+    if first == b'\'' {
+        return Some(behind_quote(rest));
     }
     Some((Token::Stray, rest))
 }
