@@ -11,7 +11,7 @@ use Rattle.std.proofs.lemmas.List.Splits.{slice_split_at, slice_split_none}
 use Rattle.sw_rows.proofs.CellSpelling.{all_like, cell_spelled, divided, drop_past, position_seam}
 use Rattle.sw_rows.specs.Cells.{cell_value}
 use Rattle.sw_rows.specs.Header.{Column, IsSchema, names_of}
-use Rattle.sw_rows.specs.declared.kind.Kind.{Kind}
+use Rattle.sw_rows.specs.Domains.{Domain}
 use Rattle.sw_rows.specs.declared.refusal.Why.TheVariants as why
 use Rattle.sw_lang.specs.declared.cuts.TheConstants.{MOST_CUTS}
 use Rattle.sw_lang.specs.declared.fault.Fault.{Fault}
@@ -47,7 +47,7 @@ none_divides (b ∷ bs) h =
 name_bytes : (schema : List Column) (w : List ℕ) (i : ℕ) → IsSchema schema → slice_get (names_of schema) i ≡ Some w → list_all is_word_byte w ≡ true
 name_bytes schema w i ok at = (word_of w (attr_named schema w i ok at)).run.bytes
 
-value_bytes : (k : Kind) (w : List ℕ) (z : ℤ) → cell_value k w ≡ Some z → list_all is_word_byte w ≡ true
+value_bytes : (k : Domain) (w : List ℕ) (z : ℤ) → cell_value k w ≡ Some z → list_all is_word_byte w ≡ true
 value_bytes k w z h = (text_word k w z (cell_spelled k w z h)).0.bytes
 
 abbrev Undivided : List ℕ → Type 0
@@ -131,11 +131,11 @@ named_part schema cuts w a e =
     let same : b.0 ≡ a = r.1 in
     (attr_found schema why.Cuts w a (b.1 ∙ ap (λ (i : ℕ). Ok i) same), subst (λ (i : ℕ). length (cuts_on cuts i) < MOST_CUTS) same (ltb-true (length (cuts_on cuts b.0)) MOST_CUTS r.0))
 
-value_part : (k : Kind) (part : List ℕ) (i : ℕ) (z : ℤ) → cut_value k part (Some i) ≡ Ok z → cell_value k (drop (i + 1) part) ≡ Some z
+value_part : (k : Domain) (part : List ℕ) (i : ℕ) (z : ℤ) → cut_value k part (Some i) ≡ Ok z → cell_value k (drop (i + 1) part) ≡ Some z
 unfolding cut_value
 value_part k part i z e = valued_is (cell_value k (drop (i + 1) part)) z e
 
-no_value : (k : Kind) (part : List ℕ) (z : ℤ) → cut_value k part None ≡ Ok z → ⊥
+no_value : (k : Domain) (part : List ℕ) (z : ℤ) → cut_value k part None ≡ Ok z → ⊥
 unfolding cut_value
 no_value k part z e = absurd cc
 
@@ -167,7 +167,7 @@ name_read schema cuts w a ok named room =
     let fits : nat_lt (length (cuts_on cuts a)) MOST_CUTS ≡ true = lt-ltb (length (cuts_on cuts a)) MOST_CUTS room in
     ap (λ r. r >>= with_room cuts) (attr_read schema why.Cuts w a ok named) ∙ rw fits refl
 
-value_read : (k : Kind) (part : List ℕ) (i : ℕ) (z : ℤ) → cell_value k (drop (i + 1) part) ≡ Some z → cut_value k part (Some i) ≡ Ok z
+value_read : (k : Domain) (part : List ℕ) (i : ℕ) (z : ℤ) → cell_value k (drop (i + 1) part) ≡ Some z → cut_value k part (Some i) ≡ Ok z
 unfolding cut_value
 value_read k part i z e = ap cut_valued e
 

@@ -9,8 +9,8 @@ use Rattle.std.proofs.lemmas.Option.{slice_get_within}
 use Rattle.sw_rows.specs.Bounds.{bound_below, greater, lesser}
 use Rattle.sw_rows.specs.Header.{Column, kinds_of, names_of}
 use Rattle.sw_rows.specs.declared.bound.Bound.{Bound}
-use Rattle.sw_rows.specs.declared.kind.Kind.{Kind}
-use Rattle.sw_rows.specs.declared.kind.Kind.TheVariants as kind
+use Rattle.sw_rows.specs.Domains.{Domain}
+use Rattle.sw_rows.specs.Domains as kind
 use Rattle.sw_rows.specs.declared.query.Cond.{Cond}
 use Rattle.sw_rows.specs.declared.query.Call.{Call}
 use Rattle.sw_rows.specs.declared.query.Call.TheVariants.{Select, Insert, Delete}
@@ -34,7 +34,7 @@ flag-kind true q z h = inr (cc)
 flag-kind false true z h = inl (cc)
 flag-kind false false z h = absurd cc
 
-pub value_kind : (k : Kind) (t : Tok) (z : ℤ) → IsValue k t z → IsOfKind k z
+pub value_kind : (k : Domain) (t : Tok) (z : ℤ) → IsValue k t z → IsOfKind k z
 value_kind kind.Int t z h = tt
 value_kind (kind.Fix places) t z h = tt
 value_kind kind.Flag t z (w, is, value) = flag-kind (bytes_eq w (codes "true")) (bytes_eq w (codes "false")) z value
@@ -63,28 +63,28 @@ abbrev CondsFit : List Column → List Cond → Type 0
 CondsFit schema [] = Unit {0}
 CondsFit schema (c ∷ cs) = CondFits schema c × CondsFit schema cs
 
-one_of : (k : Kind) (v : Bool) (a b : Bound) → IsBoundOfKind k (Some a) → IsBoundOfKind k (Some b) → IsBoundOfKind k (cond v (Some a) (Some b))
+one_of : (k : Domain) (v : Bool) (a b : Bound) → IsBoundOfKind k (Some a) → IsBoundOfKind k (Some b) → IsBoundOfKind k (cond v (Some a) (Some b))
 one_of k true a b ha hb = ha
 one_of k false a b ha hb = hb
 
-greater_kind : (k : Kind) (l m : Option Bound) → IsBoundOfKind k l → IsBoundOfKind k m → IsBoundOfKind k (greater l m)
+greater_kind : (k : Domain) (l m : Option Bound) → IsBoundOfKind k l → IsBoundOfKind k m → IsBoundOfKind k (greater l m)
 greater_kind k None m hl hm = hm
 greater_kind k (Some a) None hl hm = hl
 greater_kind k (Some a) (Some b) hl hm = one_of k (bound_below a b) b a hm hl
 
-lesser_kind : (k : Kind) (l m : Option Bound) → IsBoundOfKind k l → IsBoundOfKind k m → IsBoundOfKind k (lesser l m)
+lesser_kind : (k : Domain) (l m : Option Bound) → IsBoundOfKind k l → IsBoundOfKind k m → IsBoundOfKind k (lesser l m)
 lesser_kind k None m hl hm = hm
 lesser_kind k (Some a) None hl hm = hl
 lesser_kind k (Some a) (Some b) hl hm = one_of k (bound_below a b) a b hl hm
 
-lower_kind : (k : Kind) (o : Op) (z : ℤ) → IsOfKind k z → IsBoundOfKind k (lower_of o z)
+lower_kind : (k : Domain) (o : Op) (z : ℤ) → IsOfKind k z → IsBoundOfKind k (lower_of o z)
 lower_kind k Lt z h = tt
 lower_kind k Le z h = tt
 lower_kind k Eq z h = h
 lower_kind k Ge z h = h
 lower_kind k Gt z h = h
 
-upper_kind : (k : Kind) (o : Op) (z : ℤ) → IsOfKind k z → IsBoundOfKind k (upper_of o z)
+upper_kind : (k : Domain) (o : Op) (z : ℤ) → IsOfKind k z → IsBoundOfKind k (upper_of o z)
 upper_kind k Lt z h = h
 upper_kind k Le z h = h
 upper_kind k Eq z h = h
@@ -198,12 +198,12 @@ zeros : (n : ℕ) → replicate n (pos 0) ≡ replicate (length (replicate n (po
 zeros zero = refl
 zeros (suc n) = ap (λ (w : List ℤ). pos 0 ∷ w) (zeros n)
 
-more_fit : (ks : List Kind) (ts : List Tok) (zs : List ℤ) (n : ℕ) → MoreValues ks ts zs → FitsCells ks (zs ++ replicate n (pos 0))
+more_fit : (ks : List Domain) (ts : List Tok) (zs : List ℤ) (n : ℕ) → MoreValues ks ts zs → FitsCells ks (zs ++ replicate n (pos 0))
 more_fit [] ts zs n (none, no_values) = rw no_values (zeros n)
 more_fit (k ∷ ks) ts [] n h = absurd h
 more_fit (k ∷ ks) ts (z ∷ zs) n (a, rest, e, is, more) = (value_kind k a z is, more_fit ks rest zs n more)
 
-values_fit : (ks : List Kind) (ts : List Tok) (zs : List ℤ) (n : ℕ) → IsValues ks ts zs → FitsCells ks (zs ++ replicate n (pos 0))
+values_fit : (ks : List Domain) (ts : List Tok) (zs : List ℤ) (n : ℕ) → IsValues ks ts zs → FitsCells ks (zs ++ replicate n (pos 0))
 values_fit [] ts zs n (none, no_values) = rw no_values (zeros n)
 values_fit (k ∷ ks) ts [] n h = absurd h
 values_fit (k ∷ ks) ts (z ∷ zs) n (a, rest, e, is, more) = (value_kind k a z is, more_fit ks rest zs n more)

@@ -5,12 +5,12 @@ use Rattle.std.proofs.lemmas.List.{length-map}
 use Rattle.std.proofs.lemmas.Option.{slice_get-get_or}
 use Rattle.sw_rows.proofs.ColumnLemmas.{places_at}
 use Rattle.sw_rows.specs.Bounds.{bound_below, greater, lesser}
-use Rattle.sw_rows.specs.Cells.{HasPlaces}
+use Rattle.sw_rows.specs.Domains.{IsDomain}
 use Rattle.sw_rows.specs.Header.{Column, IsSchema, kinds_of}
 use Rattle.sw_rows.specs.declared.bound.Bound.{Bound}
 use Rattle.sw_rows.specs.declared.bound.Bound.TheVariants.{Before, After}
-use Rattle.sw_rows.specs.declared.kind.Kind.{Kind}
-use Rattle.sw_rows.specs.declared.kind.Kind.TheVariants as kind
+use Rattle.sw_rows.specs.Domains.{Domain}
+use Rattle.sw_rows.specs.Domains as kind
 use Rattle.sw_rows.specs.declared.query.Cond.{Cond}
 use Rattle.sw_lang.specs.declared.term.Term.{Term}
 use Rattle.sw_lang.specs.declared.token.Op.{Op}
@@ -25,12 +25,12 @@ use Rattle.sw_lang.proofs.PrintedCells.{IsCell, cell_stored}
 use Rattle.sw_lang.proofs.PrintedMerge.{AllBound, attrs, is_bound}
 use Rattle.sw_lang.proofs.PrintedTerms.{AreGood, IsGood, lower_term, printed, printed_all, upper_term}
 
-pub kind_places : (schema : List Column) (a : ℕ) → IsSchema schema → a < length schema → HasPlaces (kind_at schema a)
+pub kind_places : (schema : List Column) (a : ℕ) → IsSchema schema → a < length schema → IsDomain (kind_at schema a)
 kind_places schema a ok h =
     let within : a < length (kinds_of schema) = rw length-map h in
     places_at schema a (kind_at schema a) ok.sound (slice_get-get_or (kinds_of schema) a kind.Int within)
 
-pub value_stored : (k : Kind) (t : Tok) (z : ℤ) → HasPlaces k → IsValue k t z → IsCell k z
+pub value_stored : (k : Domain) (t : Tok) (z : ℤ) → IsDomain k → IsValue k t z → IsCell k z
 value_stored k t z p (w, is, value) = cell_stored k w z p value
 
 -- ---- terms
@@ -47,33 +47,33 @@ terms_good schema ts (t ∷ u ∷ us) ok (a, b, c, rest, e, is, more) = (term_go
 
 -- ---- bounds
 
-abbrev pub IsBoundOf : Kind → Option Bound → Type 0
+abbrev pub IsBoundOf : Domain → Option Bound → Type 0
 IsBoundOf k None = Unit {0}
 IsBoundOf k (Some (Before z)) = IsCell k z
 IsBoundOf k (Some (After z)) = IsCell k z
 
-one_of : (k : Kind) (v : Bool) (a b : Bound) → IsBoundOf k (Some a) → IsBoundOf k (Some b) → IsBoundOf k (cond v (Some a) (Some b))
+one_of : (k : Domain) (v : Bool) (a b : Bound) → IsBoundOf k (Some a) → IsBoundOf k (Some b) → IsBoundOf k (cond v (Some a) (Some b))
 one_of k true a b ha hb = ha
 one_of k false a b ha hb = hb
 
-greater_of : (k : Kind) (l m : Option Bound) → IsBoundOf k l → IsBoundOf k m → IsBoundOf k (greater l m)
+greater_of : (k : Domain) (l m : Option Bound) → IsBoundOf k l → IsBoundOf k m → IsBoundOf k (greater l m)
 greater_of k None m hl hm = hm
 greater_of k (Some a) None hl hm = hl
 greater_of k (Some a) (Some b) hl hm = one_of k (bound_below a b) b a hm hl
 
-lesser_of : (k : Kind) (l m : Option Bound) → IsBoundOf k l → IsBoundOf k m → IsBoundOf k (lesser l m)
+lesser_of : (k : Domain) (l m : Option Bound) → IsBoundOf k l → IsBoundOf k m → IsBoundOf k (lesser l m)
 lesser_of k None m hl hm = hm
 lesser_of k (Some a) None hl hm = hl
 lesser_of k (Some a) (Some b) hl hm = one_of k (bound_below a b) a b hl hm
 
-lower_cell : (k : Kind) (o : Op) (z : ℤ) → IsCell k z → IsBoundOf k (lower_of o z)
+lower_cell : (k : Domain) (o : Op) (z : ℤ) → IsCell k z → IsBoundOf k (lower_of o z)
 lower_cell k Lt z h = tt
 lower_cell k Le z h = tt
 lower_cell k Eq z h = h
 lower_cell k Ge z h = h
 lower_cell k Gt z h = h
 
-upper_cell : (k : Kind) (o : Op) (z : ℤ) → IsCell k z → IsBoundOf k (upper_of o z)
+upper_cell : (k : Domain) (o : Op) (z : ℤ) → IsCell k z → IsBoundOf k (upper_of o z)
 upper_cell k Lt z h = h
 upper_cell k Le z h = h
 upper_cell k Eq z h = h

@@ -10,8 +10,8 @@ use Rattle.std.proofs.lemmas.Option.{slice_get-get_or, slice_get_within, get_or_
 use Rattle.std.proofs.lemmas.Slice.Eq.{bytes_eq-Decides}
 use Rattle.sw_rows.specs.Cells.{cell_value}
 use Rattle.sw_rows.specs.Header.{Column, IsSchema, is_known, is_name, names_differ, names_of}
-use Rattle.sw_rows.specs.declared.kind.Kind.{Kind}
-use Rattle.sw_rows.specs.declared.kind.Kind.TheVariants as kind
+use Rattle.sw_rows.specs.Domains.{Domain}
+use Rattle.sw_rows.specs.Domains as kind
 use Rattle.sw_rows.specs.declared.refusal.Why.{Why}
 use Rattle.sw_rows.specs.declared.refusal.Why.TheVariants as why
 use Rattle.sw_lang.specs.declared.fault.Fault.TheVariants.{Bad}
@@ -148,7 +148,7 @@ valued_is : {A : Type 0} (x : Option A) (z : A) → valued x ≡ Ok z → x ≡ 
 valued_is (Some y) z h = cc
 valued_is None z h = absurd cc
 
-pub value_found : (k : Kind) (t : Tok) (z : ℤ) → value_of k t ≡ Ok z → IsValue k t z
+pub value_found : (k : Domain) (t : Tok) (z : ℤ) → value_of k t ≡ Ok z → IsValue k t z
 unfolding value_of
 value_found k (word w) z h = (w, refl, valued_is (cell_value k w) z h)
 value_found k (op o) z h = absurd cc
@@ -156,7 +156,7 @@ value_found k comma z h = absurd cc
 value_found k (quoted q) z h = absurd cc
 value_found k stray z h = absurd cc
 
-pub value_read : (k : Kind) (t : Tok) (z : ℤ) → IsValue k t z → value_of k t ≡ Ok z
+pub value_read : (k : Domain) (t : Tok) (z : ℤ) → IsValue k t z → value_of k t ≡ Ok z
 unfolding value_of
 value_read k t z (w, is, value) = rw is (ap valued value)
 

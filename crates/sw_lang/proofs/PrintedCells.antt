@@ -8,10 +8,10 @@ use Rattle.std.specs.Char.{is_ascii_digit}
 use Rattle.std.specs.Fmt.{signed_decimal}
 use Rattle.std.specs.List.{list_all}
 use Rattle.sw_rows.proofs.CellSpelling.{all_like, cell_read_back, cell_spelled}
-use Rattle.sw_rows.specs.Cells.{cell_value, HasPlaces}
+use Rattle.sw_rows.specs.Cells.{cell_value, IsDomain}
 use Rattle.sw_rows.specs.Spelling.{IsSign, WritesCell, WritesNumber, fraction, number_of}
-use Rattle.sw_rows.specs.declared.kind.Kind.{Kind}
-use Rattle.sw_rows.specs.declared.kind.Kind.TheVariants as kind
+use Rattle.sw_rows.specs.Domains.{Domain}
+use Rattle.sw_rows.specs.Domains as kind
 use Rattle.sw_lang.specs.Fits.{IsOfKind}
 use Rattle.sw_lang.specs.Replies.{cell_text, fixed_text, padded_digits, with_point}
 use Rattle.sw_lang.specs.Tokens.{is_word_byte}
@@ -19,8 +19,8 @@ use Rattle.sw_lang.proofs.PrintedDigits.{all_both, and_both, decimal_writes, dec
 use Rattle.sw_lang.proofs.PrintedTokens.{IsRun}
 
 -- a stored cell of a kind
-pub record IsCell (k : Kind) (z : ℤ) : Type 0 where
-  pub places : HasPlaces k
+pub record IsCell (k : Domain) (z : ℤ) : Type 0 where
+  pub places : IsDomain k
   pub of_kind : IsOfKind k z
   pub fits : FitsSigned w64 z
 
@@ -154,12 +154,12 @@ flag_writes : (z : ℤ) → IsOfKind kind.Flag z → WritesCell kind.Flag (cell_
 flag_writes z (inl zero_is) = subst (λ w. WritesCell kind.Flag (cell_text kind.Flag w) w) (sym zero_is) (inr (refl, refl))
 flag_writes z (inr one_is) = subst (λ w. WritesCell kind.Flag (cell_text kind.Flag w) w) (sym one_is) (inl (refl, refl))
 
-cell_writes : (k : Kind) (z : ℤ) → IsCell k z → WritesCell k (cell_text k z) z
+cell_writes : (k : Domain) (z : ℤ) → IsCell k z → WritesCell k (cell_text k z) z
 cell_writes kind.Int z c = int_writes z c.fits
 cell_writes (kind.Fix places) z c = fixed_writes places z c.places.0 c.places.1 c.fits
 cell_writes kind.Flag z c = flag_writes z c.of_kind
 
-pub cell_back : (k : Kind) (z : ℤ) → IsCell k z → cell_value k (cell_text k z) ≡ Some z
+pub cell_back : (k : Domain) (z : ℤ) → IsCell k z → cell_value k (cell_text k z) ≡ Some z
 cell_back k z c = cell_read_back k (cell_text k z) z (cell_writes k z c)
 
 -- ---- a cell's text is one word, and not long
@@ -206,12 +206,12 @@ flag_word : (text : List ℕ) (z : ℤ) → WritesCell kind.Flag text z → IsCe
 flag_word text z (inl w) = subst IsCellWord (sym w.0) true_word
 flag_word text z (inr w) = subst IsCellWord (sym w.0) false_word
 
-pub text_word : (k : Kind) (text : List ℕ) (z : ℤ) → WritesCell k text z → IsCellWord text
+pub text_word : (k : Domain) (text : List ℕ) (z : ℤ) → WritesCell k text z → IsCellWord text
 text_word kind.Int text z w = number_word 0 text z w
 text_word (kind.Fix places) text z w = number_word places text z w
 text_word kind.Flag text z w = flag_word text z w
 
-pub cell_word : (k : Kind) (z : ℤ) → IsCell k z → IsCellWord (cell_text k z)
+pub cell_word : (k : Domain) (z : ℤ) → IsCell k z → IsCellWord (cell_text k z)
 cell_word k z c = text_word k (cell_text k z) z (cell_writes k z c)
 
 -- ---- what is read is a stored cell
@@ -222,11 +222,11 @@ one_fits = record { sfits = omega arith }
 zero_fits : FitsSigned w64 (pos 0)
 zero_fits = record { sfits = omega arith }
 
-stored : (k : Kind) (text : List ℕ) (z : ℤ) → HasPlaces k → WritesCell k text z → IsCell k z
+stored : (k : Domain) (text : List ℕ) (z : ℤ) → IsDomain k → WritesCell k text z → IsCell k z
 stored kind.Int text z p w = record { places = p; of_kind = tt; fits = w.fits }
 stored (kind.Fix places) text z p w = record { places = p; of_kind = tt; fits = w.fits }
 stored kind.Flag text z p (inl w) = record { places = p; of_kind = inr w.1; fits = subst (FitsSigned w64) (sym w.1) one_fits }
 stored kind.Flag text z p (inr w) = record { places = p; of_kind = inl w.1; fits = subst (FitsSigned w64) (sym w.1) zero_fits }
 
-pub cell_stored : (k : Kind) (text : List ℕ) (z : ℤ) → HasPlaces k → cell_value k text ≡ Some z → IsCell k z
+pub cell_stored : (k : Domain) (text : List ℕ) (z : ℤ) → IsDomain k → cell_value k text ≡ Some z → IsCell k z
 cell_stored k text z p h = stored k text z p (cell_spelled k text z h)

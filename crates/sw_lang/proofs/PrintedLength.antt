@@ -6,11 +6,11 @@ use Rattle.std.proofs.lemmas.Fmt.{length-decimal-le}
 use Rattle.std.proofs.lemmas.List.{length-map}
 use Rattle.std.proofs.lemmas.List.Elements.{recursion_from_All}
 use Rattle.std.proofs.lemmas.Map.Steps.{length-le_from_distinct_below}
-use Rattle.sw_rows.specs.Cells.{HasPlaces}
+use Rattle.sw_rows.specs.Domains.{IsDomain}
 use Rattle.sw_rows.specs.Header.{Column, IsSchema, kinds_of}
 use Rattle.sw_rows.specs.declared.bound.Bound.{Bound}
 use Rattle.sw_rows.specs.declared.bound.Bound.TheVariants.{Before, After}
-use Rattle.sw_rows.specs.declared.kind.Kind.{Kind}
+use Rattle.sw_rows.specs.Domains.{Domain}
 use Rattle.sw_rows.specs.declared.query.Call.{Call}
 use Rattle.sw_rows.specs.declared.query.Call.TheVariants.{Select, Insert, Delete}
 use Rattle.sw_rows.specs.declared.query.Cond.{Cond}
@@ -127,14 +127,14 @@ want_short schema ts (Max a) ok (t, e, is) = let short : length (name_at schema 
 
 -- ---- rows
 
-cells_more : (ks : List Kind) (ts : List Tok) (zs pad : List ℤ) → AllPlaces ks → MoreValues ks ts zs → length (more_cells ks (zs ++ pad)) ≤ 66 * length ks
+cells_more : (ks : List Domain) (ts : List Tok) (zs pad : List ℤ) → AllPlaces ks → MoreValues ks ts zs → length (more_cells ks (zs ++ pad)) ≤ 66 * length ks
 cells_more [] ts zs pad p h = omega arith
 cells_more (k ∷ ks) ts [] pad p h = absurd h
 cells_more (k ∷ ks) ts (z ∷ zs) pad p (a, rest, e, is, others) =
     let short : length (cell_text k z) ≤ 64 = (cell_word k z (value_stored k a z p.0 is)).1 in
     omega (arith, short, cells_more ks rest zs pad p.1 others, length-append (cell_text k z) (more_cells ks (zs ++ pad)))
 
-cells_short : (ks : List Kind) (ts : List Tok) (zs pad : List ℤ) → AllPlaces ks → IsValues ks ts zs → length (cells_text ks (zs ++ pad)) ≤ 66 * length ks
+cells_short : (ks : List Domain) (ts : List Tok) (zs pad : List ℤ) → AllPlaces ks → IsValues ks ts zs → length (cells_text ks (zs ++ pad)) ≤ 66 * length ks
 cells_short [] ts zs pad p h = omega arith
 cells_short (k ∷ ks) ts [] pad p h = absurd h
 cells_short (k ∷ ks) ts (z ∷ zs) pad p (a, rest, e, is, others) =
@@ -147,7 +147,7 @@ pub call_short : (schema : List Column) (ts : List Tok) (c : Call) → IsSchema 
 call_short schema ts (Select q) ok (front, rest, parts, is, h) =
     omega (arith, want_short schema front q.want ok is, where_short schema q.conds ok (where_conds schema rest q.conds ok h), length-append (want_text schema q.want) (where_text schema false q.conds))
 call_short schema ts (Insert cells) ok (zs, rest, e, is, pad) =
-    let places = kinds_places schema (recursion_from_All (λ (c : Column). HasPlaces c.1) schema ok.sound.places) in
+    let places = kinds_places schema (recursion_from_All (λ (c : Column). IsDomain c.1) schema ok.sound.domains) in
     let count : length (kinds_of schema) ≡ length schema = length-map schema (λ (c : Column). c.1) in
     let short : length (cells_text (kinds_of schema) cells) ≤ 66 * length (kinds_of schema) = rw pad (cells_short (kinds_of schema) rest zs (replicate (8 - length zs) (pos 0)) places is) in
     omega (arith, short, count, ok.sound.few)

@@ -9,7 +9,7 @@ use Rattle.std.proofs.lemmas.Option.{slice_get-get_or}
 use Rattle.sw_rows.proofs.CellSpelling.{all_like}
 use Rattle.sw_rows.specs.Header.{Column, IsSchema, is_name, is_name_byte, is_reserved, names_of}
 use Rattle.sw_rows.specs.Header.{is_word}
-use Rattle.sw_rows.specs.declared.kind.Kind.TheVariants as kind
+use Rattle.sw_rows.specs.Domains as kind
 use Rattle.sw_lang.specs.Grammar.{IsName}
 use Rattle.sw_lang.specs.PrintedCalls.{name_at}
 use Rattle.sw_lang.specs.Tokens.{word, is_word_byte}

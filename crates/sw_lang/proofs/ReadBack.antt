@@ -2,9 +2,9 @@
 use Rattle.std.proofs.Common.{◌≡◌, ◌∙◌, ap, sym, refl, subst, ℕ, ℤ, pos, ◌-◌, ◌^◌, ◌<◌, false, List, [], ◌∷◌, ◌++◌, length, map, replicate, codes, decimal, append_assoc, append-nil, arith}
 use Rattle.std.specs.List.{AllByRecursion}
 use Rattle.std.proofs.lemmas.List.Elements.{recursion_from_All}
-use Rattle.sw_rows.specs.Cells.{HasPlaces}
+use Rattle.sw_rows.specs.Domains.{IsDomain}
 use Rattle.sw_rows.specs.Header.{Column, IsSchema, kinds_of}
-use Rattle.sw_rows.specs.declared.kind.Kind.{Kind}
+use Rattle.sw_rows.specs.Domains.{Domain}
 use Rattle.sw_rows.specs.declared.query.Call.{Call}
 use Rattle.sw_rows.specs.declared.query.Call.TheVariants.{Select, Insert, Delete}
 use Rattle.sw_rows.specs.declared.query.Cond.{Cond}
@@ -95,19 +95,19 @@ where_back schema ts conds ok h =
 
 -- ---- rows
 
-abbrev pub AllPlaces : List Kind → Type 0
-AllPlaces ks = AllByRecursion HasPlaces ks
+abbrev pub AllPlaces : List Domain → Type 0
+AllPlaces ks = AllByRecursion IsDomain ks
 
-pub kinds_places : (columns : List Column) → AllByRecursion (λ c. HasPlaces c.1) columns → AllPlaces (kinds_of columns)
+pub kinds_places : (columns : List Column) → AllByRecursion (λ c. IsDomain c.1) columns → AllPlaces (kinds_of columns)
 kinds_places [] h = tt
 kinds_places (c ∷ cs) h = (h.0, kinds_places cs h.1)
 
-cells_stop : (ks : List Kind) (zs : List ℤ) → Stops (more_cells ks zs)
+cells_stop : (ks : List Domain) (zs : List ℤ) → Stops (more_cells ks zs)
 cells_stop [] zs = refl
 cells_stop (k ∷ ks) [] = refl
 cells_stop (k ∷ ks) (z ∷ zs) = refl
 
-more_back : (ks : List Kind) (ts : List Tok) (zs pad : List ℤ) → AllPlaces ks → MoreValues ks ts zs → MoreValues ks (tokens (more_cells ks (zs ++ pad))) zs
+more_back : (ks : List Domain) (ts : List Tok) (zs pad : List ℤ) → AllPlaces ks → MoreValues ks ts zs → MoreValues ks (tokens (more_cells ks (zs ++ pad))) zs
 more_back [] ts zs pad p (none, no_values) = (refl, no_values)
 more_back (k ∷ ks) ts [] pad p h = absurd h
 more_back (k ∷ ks) ts (z ∷ zs) pad p (a, rest, e, is, others) =
@@ -120,7 +120,7 @@ more_back (k ∷ ks) ts (z ∷ zs) pad p (a, rest, e, is, others) =
       more_back ks rest zs pad p.1 others,
     )
 
-values_back : (ks : List Kind) (ts : List Tok) (zs pad : List ℤ) → AllPlaces ks → IsValues ks ts zs → IsValues ks (tokens (cells_text ks (zs ++ pad))) zs
+values_back : (ks : List Domain) (ts : List Tok) (zs pad : List ℤ) → AllPlaces ks → IsValues ks ts zs → IsValues ks (tokens (cells_text ks (zs ++ pad))) zs
 values_back [] ts zs pad p (none, no_values) = (refl, no_values)
 values_back (k ∷ ks) ts [] pad p h = absurd h
 values_back (k ∷ ks) ts (z ∷ zs) pad p (a, rest, e, is, others) =
@@ -144,7 +144,7 @@ call_back schema ts (Select q) ok (front, rest, parts, is, h) =
     let f = want_front schema front q.want conds ok is (where_stops schema q.conds) in
     (f.0, tokens conds, f.1, f.2, where_back schema rest q.conds ok h)
 call_back schema ts (Insert cells) ok (zs, rest, e, is, pad) =
-    let places = kinds_places schema (recursion_from_All (λ (c : Column). HasPlaces c.1) schema ok.sound.places) in
+    let places = kinds_places schema (recursion_from_All (λ (c : Column). IsDomain c.1) schema ok.sound.domains) in
     let values = values_back (kinds_of schema) rest zs (replicate (8 - length zs) (pos 0)) places is in
     (zs, tokens (cells_text (kinds_of schema) cells), refl, subst (λ (w : List ℤ). IsValues (kinds_of schema) (tokens (cells_text (kinds_of schema) w)) zs) (sym pad) values, pad)
 call_back schema ts (Delete key) ok (t, e, (w, word_is, value)) =

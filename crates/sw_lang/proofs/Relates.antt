@@ -3,7 +3,7 @@ use Rattle.std.proofs.Common.{◌≡◌, ◌∙◌, ap, sym, refl, subst, ℕ, z
 use Rattle.std.specs.Prelude.{codes}
 use Rattle.std.proofs.lemmas.Bool.{lt-ltb, ltb-true}
 use Rattle.sw_rows.specs.Header.{Column, IsSchema}
-use Rattle.sw_rows.specs.declared.kind.Kind.{Kind}
+use Rattle.sw_rows.specs.Domains.{Domain}
 use Rattle.sw_rows.specs.declared.query.Cond.{Cond}
 use Rattle.sw_rows.specs.declared.refusal.Why.TheVariants as why
 use Rattle.sw_lang.specs.declared.fault.Fault.{Fault}
@@ -210,7 +210,7 @@ names_found (suc n) schema all rest done ts short few e =
 
 -- ---- values
 
-pub more_read : (y : ℤ) (ys : List ℤ) (ks : List Kind) (ts : List Tok) (zs : List ℤ) → MoreValues ks ts zs → values_at (y ∷ ys) ks ts ≡ Ok ((y ∷ ys) ++ zs)
+pub more_read : (y : ℤ) (ys : List ℤ) (ks : List Domain) (ts : List Tok) (zs : List ℤ) → MoreValues ks ts zs → values_at (y ∷ ys) ks ts ≡ Ok ((y ∷ ys) ++ zs)
 unfolding next_value past_comma
 more_read y ys [] ts zs (none, no_values) = rw (none, no_values) (ap (λ (w : List ℤ). Ok w) (sym (append_none (y ∷ ys))))
   where
@@ -223,7 +223,7 @@ more_read y ys (k ∷ ks) ts (z ∷ zs) (a, rest, e, is, others) =
     let joined = rw append_assoc at more in
     rw (e, first_read (value_of k) a z rest (value_read k a z is)) joined
 
-pub values_read : (ks : List Kind) (ts : List Tok) (zs : List ℤ) → IsValues ks ts zs → values_at [] ks ts ≡ Ok zs
+pub values_read : (ks : List Domain) (ts : List Tok) (zs : List ℤ) → IsValues ks ts zs → values_at [] ks ts ≡ Ok zs
 unfolding next_value past_comma
 values_read [] ts zs (none, no_values) = rw (none, no_values) refl
 values_read (k ∷ ks) ts [] h = absurd h
@@ -238,7 +238,7 @@ past-is y ys (t ∷ ts) rest e = by_comma (is_comma t) refl e
     by_comma true h f = ap (λ (w : Tok). w ∷ ts) (comma_is t h) ∙ ap (λ (w : List Tok). comma ∷ w) (same_ok ts rest f)
     by_comma false h f = absurd cc
 
-abbrev pub MoreFound : List ℤ → List Kind → List Tok → List ℤ → Type 0
+abbrev pub MoreFound : List ℤ → List Domain → List Tok → List ℤ → Type 0
 MoreFound done ks ts all = (zs : List ℤ) × MoreValues ks ts zs × (all ≡ done ++ zs)
 
 left-is : {A : Type 0} (x y : A) (ts : List Tok) → nothing_left x ts ≡ Ok y → (ts ≡ []) × (x ≡ y)
@@ -249,7 +249,7 @@ append-none : (xs : List ℤ) → xs ++ [] ≡ xs
 append-none [] = refl
 append-none (x ∷ xs) = ap (λ (w : List ℤ). x ∷ w) (append-none xs)
 
-pub more_found : (y : ℤ) (ys : List ℤ) (ks : List Kind) (ts : List Tok) (all : List ℤ) → values_at (y ∷ ys) ks ts ≡ Ok all → MoreFound (y ∷ ys) ks ts all
+pub more_found : (y : ℤ) (ys : List ℤ) (ks : List Domain) (ts : List Tok) (all : List ℤ) → values_at (y ∷ ys) ks ts ≡ Ok all → MoreFound (y ∷ ys) ks ts all
 unfolding next_value
 more_found y ys [] ts all e =
     let p = left-is (y ∷ ys) all ts e in
@@ -261,7 +261,7 @@ more_found y ys (k ∷ ks) ts all e =
     let m = more_found y (ys ++ b.0.0 ∷ []) ks b.0.1 all b.2 in
     (b.0.0 ∷ m.0, (f.0, b.0.1, past-is y ys ts p.0 p.1 ∙ ap (λ (w : List Tok). comma ∷ w) f.1, value_found k f.0 b.0.0 f.2, m.1), m.2 ∙ append_assoc (y ∷ ys) (b.0.0 ∷ []) m.0)
 
-pub values_found : (ks : List Kind) (ts : List Tok) (all : List ℤ) → values_at [] ks ts ≡ Ok all → IsValues ks ts all
+pub values_found : (ks : List Domain) (ts : List Tok) (all : List ℤ) → values_at [] ks ts ≡ Ok all → IsValues ks ts all
 unfolding next_value past_comma
 values_found [] ts all e = let p = left-is [] all ts e in (p.0, sym p.1)
 values_found (k ∷ ks) ts all e =

@@ -4,8 +4,8 @@ use Rattle.std.specs.Prelude.{position, bytes_eq}
 use Rattle.std.proofs.lemmas.List.{drop_more, drop_all, length-map}
 use Rattle.sw_rows.proofs.TableLemmas.{padded_take}
 use Rattle.sw_rows.specs.Header.{Column, is_name, kinds_of}
-use Rattle.sw_rows.specs.declared.kind.Kind.{Kind}
-use Rattle.sw_rows.specs.declared.kind.Kind.TheVariants as kind
+use Rattle.sw_rows.specs.Domains.{Domain}
+use Rattle.sw_rows.specs.Domains as kind
 use Rattle.sw_rows.specs.declared.refusal.Why.{Why}
 use Rattle.sw_lang.specs.declared.fault.Fault.{Fault}
 use Rattle.sw_lang.specs.declared.fault.Fault.TheVariants.{Unknown}
@@ -28,7 +28,7 @@ values_step schema values i ts h =
     rw (drop_more (kinds_of schema) i kind.Int lt) refl
 
 -- reading ends where a value is none
-pub value_ends : (e : ParseError) (schema : List Column) (values : List ℤ) (i : ℕ) (k : Kind) (all ts : List Tok) → i < length schema → k ≡ kind_at schema i
+pub value_ends : (e : ParseError) (schema : List Column) (values : List ℤ) (i : ℕ) (k : Domain) (all ts : List Tok) → i < length schema → k ≡ kind_at schema i
     → values_at values (drop i (kinds_of schema)) ts ≡ values_at [] (kinds_of schema) all → Fails e (next_value values k ts) → Fails e (cells_at schema all)
 unfolding cells_at
 value_ends errors.Memory schema values i k all ts lt kind so_far h = tt

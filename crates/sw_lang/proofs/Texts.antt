@@ -4,7 +4,7 @@ use Rattle.std.proofs.lemmas.List.{take-append-drop, take-replicate, length-repl
 use Rattle.std.proofs.lemmas.List.Concat.{flat_map-cons}
 use Rattle.std.proofs.lemmas.Grind.{flat_map-append}
 use Rattle.std.proofs.Math.Seq.{take-append_seam}
-use Rattle.sw_rows.specs.declared.kind.Kind.{Kind}
+use Rattle.sw_rows.specs.Domains.{Domain}
 use Rattle.sw_lang.specs.Replies.{cell_text, more_cells, padded_digits, with_ends}
 
 -- digits written into a dot and zeros, from their end
@@ -36,5 +36,5 @@ pub ends_first : {X : Type 0} (f : X → List ℕ) (x : X) (xs all : List X) →
 ends_first f x xs all e = ap (λ l. with_ends (map f l)) e ∙ flat_map-cons (λ k. k ++ codes "\n") (f x) (map f xs)
 
 -- the first of some further cells
-pub cells_first : {X : Type 0} (f : X → Kind) (x : X) (xs all : List X) (z : ℤ) (zs cells : List ℤ) → all ≡ x ∷ xs → cells ≡ z ∷ zs → more_cells (map f all) cells ≡ (codes ", " ++ cell_text (f x) z) ++ more_cells (map f xs) zs
+pub cells_first : {X : Type 0} (f : X → Domain) (x : X) (xs all : List X) (z : ℤ) (zs cells : List ℤ) → all ≡ x ∷ xs → cells ≡ z ∷ zs → more_cells (map f all) cells ≡ (codes ", " ++ cell_text (f x) z) ++ more_cells (map f xs) zs
 cells_first f x xs all z zs cells e h = ap (λ l. more_cells (map f l) cells) e ∙ ap (λ l. more_cells (map f (x ∷ xs)) l) h

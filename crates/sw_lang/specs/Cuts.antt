@@ -1,10 +1,10 @@
 -- Which texts cut heads at which values, apart from the reading from left to right.
 use Rattle.std.specs.Prelude.{◌≡◌, ◌<◌, ◌≤◌, ◌==◌, ◌&&◌, ℕ, ℤ, Bool, true, List, [], ◌∷◌, ◌++◌, length, codes, int_lt, slice_get, slice_index_or, Some, All, if◌then◌else◌}
 use Rattle.std.specs.List.{list_all}
-use Rattle.sw_rows.specs.Cells.{cell_value}
 use Rattle.sw_rows.specs.Header.{Column, names_of}
 use Rattle.sw_lang.specs.declared.cuts.TheConstants.{MOST_CUTS}
 use Rattle.sw_lang.specs.Fits.{IsOfKind}
+use Rattle.sw_lang.specs.Reading.{word_value}
 use Rattle.sw_lang.specs.Replies.{kind_at}
 
 -- for each attribute the values at which its head is cut
@@ -18,13 +18,13 @@ cuts_on cuts a = slice_index_or cuts a []
 abbrev pub Cut : Type 0
 Cut = ℕ × ℤ
 
--- the name of an attribute, '=', and a cell of its kind
+-- the name of an attribute that is not of texts, '=', and a cell of its kind
 pub record IsEntry (schema : List Column) (text : List ℕ) (cut : Cut) : Type 0 where
   pub name : List ℕ
   pub value : List ℕ
   pub text_is : text ≡ name ++ (codes "=" ++ value)
   pub named : slice_get (names_of schema) cut.0 ≡ Some name
-  pub valued : cell_value (kind_at schema cut.0) value ≡ Some cut.1
+  pub valued : word_value (kind_at schema cut.0) value ≡ Some cut.1
 
 -- nothing, or one entry or more with ';' between
 abbrev pub AreEntries : List Column → List ℕ → List Cut → Type 0

@@ -1,16 +1,15 @@
 -- The text that cuts heads, read from left to right, with the first fault that is met.
 use Rattle.std.specs.Prelude.{◌+◌, ℕ, ℤ, Bool, List, [], ◌∷◌, ◌++◌, length, take, drop, replicate, position, int_lt, nat_lt, slice_set, ◌==◌, Option, Some, None, Result, Ok, Err, if◌then◌else◌}
 use Rattle.std.specs.List.{list_all, slice_split}
-use Rattle.sw_rows.specs.Cells.{cell_value}
 use Rattle.sw_rows.specs.Header.{Column}
-use Rattle.sw_rows.specs.declared.kind.Kind.{Kind}
+use Rattle.sw_rows.specs.Domains.{Domain}
 use Rattle.sw_rows.specs.declared.refusal.Why.TheVariants as why
 use Rattle.sw_lang.specs.declared.cuts.TheConstants.{MOST_CUTS}
 use Rattle.sw_lang.specs.declared.fault.Fault.{Fault}
 use Rattle.sw_lang.specs.declared.fault.Fault.TheVariants.{Bad, Excess}
 use Rattle.sw_lang.specs.Cuts.{CutLists, cuts_on}
 use Rattle.sw_lang.specs.Replies.{kind_at}
-use Rattle.sw_lang.specs.Reading.{◌>>=◌, attr_of}
+use Rattle.sw_lang.specs.Reading.{◌>>=◌, attr_of, word_value}
 
 -- an attribute has at most 15 cuts
 unfoldable pub with_room : CutLists → ℕ → Result ℕ Fault
@@ -25,9 +24,9 @@ cut_valued (Some z) = Ok z
 cut_valued None = Err (Bad why.Cuts)
 
 -- the value that follows a name's '=', if there is one
-unfoldable pub cut_value : Kind → List ℕ → Option ℕ → Result ℤ Fault
+unfoldable pub cut_value : Domain → List ℕ → Option ℕ → Result ℤ Fault
 cut_value kind part None = Err (Bad why.Cuts)
-cut_value kind part (Some equals) = cut_valued (cell_value kind (drop (equals + 1) part))
+cut_value kind part (Some equals) = cut_valued (word_value kind (drop (equals + 1) part))
 
 -- the cuts of an attribute rise
 unfoldable pub with_cut : CutLists → ℕ → ℤ → Result CutLists Fault

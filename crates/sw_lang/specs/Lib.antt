@@ -12,3 +12,4 @@ pub mod Replies
 pub mod Sinks
 pub mod Terms
 pub mod Tokens
+pub mod Shown

@@ -1,6 +1,8 @@
 -- Calls as they are printed.
 use Rattle.std.specs.Prelude.{ℕ, ℤ, Bool, true, false, List, [], ◌∷◌, ◌++◌, map, slice_index_or, Option, Some, None, codes, decimal, if◌then◌else◌}
 use Rattle.std.specs.List.{flat_map}
+use Rattle.std.specs.Ordering.{int_eq}
+use Rattle.sw_rows.specs.Domains.{is_of_texts}
 use Rattle.sw_rows.specs.Header.{Column, kinds_of, names_of}
 use Rattle.sw_rows.specs.declared.bound.Bound.{Bound}
 use Rattle.sw_rows.specs.declared.bound.Bound.TheVariants.{Before, After}
@@ -37,9 +39,26 @@ upper_terms columns a None = []
 upper_terms columns a (Some (Before v)) = comparison columns a (codes " < ") v ∷ []
 upper_terms columns a (Some (After v)) = comparison columns a (codes " <= ") v ∷ []
 
+-- the texts that bounds name: the lower bound's, and the upper one's where it is another
+abbrev pub equal_terms : List Column → ℕ → ℤ → ℤ → List (List ℕ)
+equal_terms columns a v w =
+    if int_eq v w then comparison columns a (codes " = ") v ∷ []
+    else comparison columns a (codes " = ") v ∷ comparison columns a (codes " = ") w ∷ []
+
+-- the comparisons of bounds on an attribute of texts; other bounds than those of equality are written as for numbers
+abbrev pub text_terms : List Column → ℕ → Option Bound → Option Bound → List (List ℕ)
+text_terms columns a None upper = upper_terms columns a upper
+text_terms columns a (Some (After v)) upper = lower_terms columns a (Some (After v)) ++ upper_terms columns a upper
+text_terms columns a (Some (Before v)) None = lower_terms columns a (Some (Before v))
+text_terms columns a (Some (Before v)) (Some (Before w)) =
+    lower_terms columns a (Some (Before v)) ++ upper_terms columns a (Some (Before w))
+text_terms columns a (Some (Before v)) (Some (After w)) = equal_terms columns a v w
+
 -- the comparisons of a condition, that of its lower bound first
 abbrev pub cond_terms : List Column → Cond → List (List ℕ)
-cond_terms columns c = lower_terms columns c.attr c.lower ++ upper_terms columns c.attr c.upper
+cond_terms columns c =
+    if is_of_texts (kind_at columns c.attr) then text_terms columns c.attr c.lower c.upper
+    else lower_terms columns c.attr c.lower ++ upper_terms columns c.attr c.upper
 
 -- comparisons after ` where ` or, where others stand before them, ` and `
 abbrev pub joiner : Bool → List ℕ

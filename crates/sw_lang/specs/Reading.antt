@@ -1,9 +1,9 @@
 -- The call of a line, read from left to right, with the first fault that is met.
-use Rattle.std.specs.Prelude.{◌≡◌, ℕ, ℤ, Bool, false, true, List, [], ◌∷◌, ◌++◌, length, Option, Some, None, Result, Ok, Err, nat_lt, slice_index, position, bytes_eq, codes, ◌==◌, if◌then◌else◌}
+use Rattle.std.specs.Prelude.{◌≡◌, ℕ, ℤ, Bool, ◌&&◌, not, false, true, List, [], ◌∷◌, ◌++◌, length, Option, Some, None, Result, Ok, Err, nat_lt, slice_index, position, bytes_eq, codes, ◌==◌, if◌then◌else◌}
 use Rattle.sw_rows.specs.Cells.{cell_value, digits_number, fitting}
 use Rattle.sw_rows.specs.Header.{Column, is_name, kinds_of}
 use Rattle.sw_rows.specs.Tables.{padded}
-use Rattle.sw_rows.specs.declared.kind.Kind.{Kind}
+use Rattle.sw_rows.specs.Domains.{Domain, is_of_texts}
 use Rattle.sw_rows.specs.declared.query.Cond.{Cond}
 use Rattle.sw_rows.specs.declared.query.Call.{Call}
 use Rattle.sw_rows.specs.declared.query.Call.TheVariants.{Select, Insert, Delete}
@@ -18,7 +18,10 @@ use Rattle.sw_lang.specs.declared.fault.Fault.TheVariants.{Bad, Unknown, Excess}
 use Rattle.sw_lang.specs.declared.fault.ParseError.{ParseError}
 use Rattle.sw_lang.specs.declared.fault.ParseError.TheVariants as errors
 use Rattle.sw_lang.specs.declared.parse.TheConstants.{MOST_LINE}
+use Rattle.sw_rows.specs.Texts.{is_text}
+use Rattle.sw_rows.specs.declared.texts.TheConstants.{MOST_TEXTS}
 use Rattle.sw_lang.specs.declared.token.Op.{Op}
+use Rattle.sw_lang.specs.declared.token.Op.TheVariants.{Lt, Le, Eq, Ge, Gt}
 use Rattle.sw_lang.specs.declared.term.Term.{Term}
 use Rattle.sw_lang.specs.Replies.{kind_at}
 use Rattle.sw_lang.specs.Terms.{add_term}
@@ -62,11 +65,45 @@ abbrev pub valued : {A : Type 0} → Option A → Result A Fault
 valued (Some z) = Ok z
 valued None = Err (Bad why.Value)
 
--- the stored number of a value of this kind; a quoted text is none
-unfoldable pub value_of : Kind → Tok → Result ℤ Fault
-value_of kind (word w) = valued (cell_value kind w)
-value_of kind (quoted text) = Err (Bad why.Value)
-value_of kind t = Err (Bad why.Word)
+-- the cell that a word is: of texts it is none
+abbrev pub word_value : Domain → List ℕ → Option ℤ
+word_value d w = if is_of_texts d then None else cell_value d w
+
+-- the cell of a text that may be one; where it has no code there are texts enough already
+abbrev pub coded : Option ℤ → Result ℤ Fault
+coded (Some z) = Ok z
+coded None = Err (Excess MOST_TEXTS)
+
+-- the cell that a quoted text is
+abbrev pub quoted_value : Domain → List ℕ → Result ℤ Fault
+quoted_value d text = if is_of_texts d && is_text text then coded (cell_value d text) else Err (Bad why.Value)
+
+-- the stored number of a value of this domain
+unfoldable pub value_of : Domain → Tok → Result ℤ Fault
+value_of d (word w) = valued (word_value d w)
+value_of d (quoted text) = quoted_value d text
+value_of d t = Err (Bad why.Word)
+
+abbrev pub is_equality : Op → Bool
+is_equality Lt = false
+is_equality Le = false
+is_equality Eq = true
+is_equality Ge = false
+is_equality Gt = false
+
+-- texts are compared by equality alone
+abbrev pub fitting_op : Domain → Op → Result Op Fault
+fitting_op d o = if is_of_texts d && not (is_equality o) then Err (Bad why.Word) else Ok o
+
+unfoldable pub op_for : Domain → Tok → Result Op Fault
+op_for d t = op_of t >>= fitting_op d
+
+-- texts are not summed, and have no least and no greatest
+abbrev pub of_numbers : List Column → ℕ → Result ℕ Fault
+of_numbers schema a = if is_of_texts (kind_at schema a) then Err (Bad why.Word) else Ok a
+
+unfoldable pub number_name : List Column → Tok → Result ℕ Fault
+number_name schema t = name_of schema t >>= of_numbers schema
 
 -- a key has 1 to 20 digits, and a number of 64 bits
 abbrev pub key_value : List ℕ → Option ℕ
@@ -101,7 +138,7 @@ nothing_left x (t ∷ ts) = Err (Bad why.Word)
 unfoldable pub term_at : List Column → List Tok → Result (Term × List Tok) Fault
 term_at schema ts = do
   name ← first_by (name_of schema) ts
-  o ← first_by op_of name.1
+  o ← first_by (op_for (kind_at schema name.0)) name.1
   value ← first_by (value_of (kind_at schema name.0)) o.1
   Ok (record { attr = name.0; op = o.0; value = value.0 }, value.1)
 
@@ -139,7 +176,7 @@ select_at schema ts = names_at schema [] ts >>= λ names. asked schema (Rows nam
 
 -- a name and perhaps conditions
 unfoldable pub aggregate_at : List Column → (ℕ → Want) → List Tok → Result Call Fault
-aggregate_at schema want ts = first_by (name_of schema) ts >>= λ name. asked schema (want name.0) name.1
+aggregate_at schema want ts = first_by (number_name schema) ts >>= λ name. asked schema (want name.0) name.1
 
 -- past the comma that stands before each value but the first
 unfoldable pub past_comma : List ℤ → List Tok → Result (List Tok) Fault
@@ -148,11 +185,11 @@ past_comma (z ∷ zs) [] = Err (Bad why.End)
 past_comma (z ∷ zs) (t ∷ ts) = if is_comma t then Ok ts else Err (Bad why.Word)
 
 -- the next value of a list, of which others stand before
-unfoldable pub next_value : List ℤ → Kind → List Tok → Result (ℤ × List Tok) Fault
+unfoldable pub next_value : List ℤ → Domain → List Tok → Result (ℤ × List Tok) Fault
 next_value values kind ts = past_comma values ts >>= first_by (value_of kind)
 
 -- one value of each kind, with commas between, after those that stand before, and nothing more
-abbrev pub values_at : List ℤ → List Kind → List Tok → Result (List ℤ) Fault
+abbrev pub values_at : List ℤ → List Domain → List Tok → Result (List ℤ) Fault
 values_at values [] ts = nothing_left values ts
 values_at values (k ∷ ks) ts = next_value values k ts >>= λ v. values_at (values ++ v.0 ∷ []) ks v.1
 

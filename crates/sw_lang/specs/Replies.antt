@@ -1,11 +1,12 @@
 -- The lines of a reply.
-use Rattle.std.specs.Prelude.{◌+◌, ◌-◌, ◌/◌, ◌%◌, ◌^◌, ◌==◌, ℕ, ℤ, pos, negsuc, List, [], ◌∷◌, ◌++◌, length, map, replicate, slice_index_or, Option, Some, None, codes, decimal, if◌then◌else◌}
+use Rattle.std.specs.Prelude.{◌+◌, ◌-◌, ◌/◌, ◌%◌, ◌^◌, ◌==◌, ℕ, ℤ, pos, negsuc, List, [], ◌∷◌, ◌++◌, length, map, replicate, slice_index_or, unwrap_or, Option, Some, None, codes, decimal, if◌then◌else◌}
 use Rattle.std.specs.List.{flat_map}
 use Rattle.std.specs.Fmt.{signed_decimal}
 use Rattle.std.specs.Ordering.{int_eq}
 use Rattle.sw_rows.specs.Header.{Column, kinds_of}
-use Rattle.sw_rows.specs.declared.kind.Kind.{Kind}
-use Rattle.sw_rows.specs.declared.kind.Kind.TheVariants as kind
+use Rattle.sw_rows.specs.Domains.{Domain}
+use Rattle.sw_rows.specs.Domains as kind
+use Rattle.sw_rows.specs.Texts.{text_at}
 use Rattle.sw_rows.specs.declared.query.Call.{Call}
 use Rattle.sw_rows.specs.declared.query.Call.TheVariants as call
 use Rattle.sw_rows.specs.declared.query.Want.{Want}
@@ -28,18 +29,6 @@ abbrev pub fixed_text : ℕ → ℤ → List ℕ
 fixed_text places (pos n) = with_point places n
 fixed_text places (negsuc n) = codes "-" ++ with_point places (n + 1)
 
--- a cell of a kind
-abbrev pub cell_text : Kind → ℤ → List ℕ
-cell_text kind.Int z = signed_decimal z
-cell_text (kind.Fix places) z = fixed_text places z
-cell_text kind.Flag z = if int_eq z (pos 1) then codes "true" else codes "false"
-
--- a sum over a kind: like a cell, but of flags the number that are true
-abbrev pub sum_text : Kind → ℤ → List ℕ
-sum_text kind.Int z = signed_decimal z
-sum_text (kind.Fix places) z = fixed_text places z
-sum_text kind.Flag z = signed_decimal z
-
 -- each quote twice
 abbrev pub doubled : List ℕ → List ℕ
 doubled [] = []
@@ -49,50 +38,64 @@ doubled (b ∷ bs) = if b == 39 then 39 ∷ 39 ∷ doubled bs else b ∷ doubled
 abbrev pub quoted_text : List ℕ → List ℕ
 quoted_text text = codes "'" ++ (doubled text ++ codes "'")
 
--- the kind of an attribute
-abbrev pub kind_at : List Column → ℕ → Kind
+-- a cell of a domain; a code that no text has is written as an empty text
+abbrev pub cell_text : Domain → ℤ → List ℕ
+cell_text kind.Int z = signed_decimal z
+cell_text (kind.Fix places) z = fixed_text places z
+cell_text kind.Flag z = if int_eq z (pos 1) then codes "true" else codes "false"
+cell_text (kind.Text texts) z = quoted_text (unwrap_or (text_at texts z) [])
+
+-- a sum over a kind: like a cell, but of flags the number that are true
+abbrev pub sum_text : Domain → ℤ → List ℕ
+sum_text kind.Int z = signed_decimal z
+sum_text (kind.Fix places) z = fixed_text places z
+sum_text kind.Flag z = signed_decimal z
+sum_text (kind.Text texts) z = signed_decimal z
+
+-- the domain of an attribute
+abbrev pub kind_at : List Column → ℕ → Domain
 kind_at columns a = slice_index_or (kinds_of columns) a kind.Int
 
 -- cells with a comma and a space between
-abbrev pub more_cells : List Kind → List ℤ → List ℕ
+abbrev pub more_cells : List Domain → List ℤ → List ℕ
 more_cells [] zs = []
 more_cells (k ∷ ks) [] = []
 more_cells (k ∷ ks) (z ∷ zs) = codes ", " ++ (cell_text k z ++ more_cells ks zs)
 
-abbrev pub cells_text : List Kind → List ℤ → List ℕ
+abbrev pub cells_text : List Domain → List ℤ → List ℕ
 cells_text [] zs = []
 cells_text (k ∷ ks) [] = []
 cells_text (k ∷ ks) (z ∷ zs) = cell_text k z ++ more_cells ks zs
 
 -- a row: its key, a colon, and its cells
-abbrev pub row_line : List Kind → ReplyRow → List ℕ
+abbrev pub row_line : List Domain → ReplyRow → List ℕ
 row_line kinds r = decimal r.key ++ (codes ": " ++ cells_text kinds r.cells)
 
 abbrev pub rows_line : ℕ → List ℕ
 rows_line n = codes "(" ++ (decimal n ++ codes " rows)")
 
 -- the kinds of the cells that are shown, or of the attribute that is summed or compared
-abbrev pub kinds_wanted : List Column → Want → List Kind
+abbrev pub kinds_wanted : List Column → Want → List Domain
 kinds_wanted columns (want.Rows names) = map (kind_at columns) names
 kinds_wanted columns want.Count = []
 kinds_wanted columns (want.Sum a) = kind_at columns a ∷ []
 kinds_wanted columns (want.Min a) = kind_at columns a ∷ []
 kinds_wanted columns (want.Max a) = kind_at columns a ∷ []
 
-abbrev pub kinds_called : List Column → Call → List Kind
+abbrev pub kinds_called : List Column → Call → List Domain
 kinds_called columns (call.Select q) = kinds_wanted columns q.want
 kinds_called columns (call.Insert cells) = []
 kinds_called columns (call.Delete key) = []
 
-abbrev pub first_kind : List Kind → Kind
+abbrev pub first_kind : List Domain → Domain
 first_kind ks = slice_index_or ks 0 kind.Int
 
-abbrev pub extreme_text : Kind → Option ℤ → List ℕ
+abbrev pub extreme_text : Domain → Option ℤ → List ℕ
 extreme_text k None = codes "none"
 extreme_text k (Some z) = cell_text k z
 
 -- the lines of a reply whose cells are of these kinds, without their ends
-abbrev pub lines_of : List Kind → Reply → List (List ℕ)
+abbrev pub lines_of : List Domain → Reply → List (List ℕ)
 lines_of kinds (reply.Rows rows) = map (row_line kinds) rows ++ rows_line (length rows) ∷ []
 lines_of kinds (reply.Count n) = decimal n ∷ []
 lines_of kinds (reply.Sum z) = sum_text (first_kind kinds) z ∷ []

@@ -2,18 +2,19 @@
 
 ghost use Rattle.std.specs.Prelude.{◌≡◌, ◌<◌, ◌++◌, ◌∷◌, ◌==◌, [], List, ℤ, length, position, replicate, int_lt, slice_index_or, slice_set, option_map, IfOk, IfSome, OnOk};
 ghost use Rattle.std.specs.List.{list_all, slice_split};
-ghost use Rattle.sw_rows.specs.Cells.{HasPlaces};
+ghost use Rattle.sw_lang.specs.Shown.{AreSound, domain_of};
 ghost use Rattle.sw_rows.specs.Header.{IsSchema};
 ghost use Rattle.sw_lang.specs.Agreement.{AnswersRelated};
 ghost use Rattle.sw_lang.specs.Cuts.{FitCuts, IsCuts, cuts_on};
 ghost use Rattle.sw_lang.specs.CutsReading.{before, cut_name, cut_split, cut_value, cuts_after, cuts_at, equals_at, is_divider, no_cuts, parts_after, with_cut, with_room};
 ghost use Rattle.sw_lang.specs.Reading.{attr_of, refused, Answers, Gives};
 
+use crate::domain::{AttrValues, values_at};
 use crate::fault::{Fault, ParseError, bad};
-use crate::single::{attr_of, kind_at};
+use crate::single::{attr_of, read_word};
 use std::alloc::{AllocError, Global};
 use std::marker::Model;
-use sw_rows::{Kind, Refusal, Schema, Why, read_cell_bytes};
+use sw_rows::{Refusal, Schema, Why};
 
 /// The greatest number of cuts of one attribute.
 pub const MOST_CUTS: usize = 15;
@@ -121,15 +122,15 @@ fn cut_name(alloc: Global, schema: &Schema, cuts: &Cuts, name: &[u8]) -> Result<
 
 /// The value after '='.
 #[tactic(auto, unfolding(crate::specs::CutsReading::cut_value))]
-fn cut_value(kind: Kind, part: &[u8], equals: Option<usize>) -> Result<i64, ParseError>
-    requires places { HasPlaces kind }
+fn cut_value(values: AttrValues, part: &[u8], equals: Option<usize>) -> Result<i64, ParseError>
+    requires sound { AreSound values }
     requires within { IfSome equals (λ i. i < length part.now) }
-    ensures { Gives (λ z. z) result (cut_value kind part.now equals) }
+    ensures { Gives (λ z. z) result (cut_value (domain_of values.entry) part.now equals) }
 {
     let Some(equals) = equals else {
         return Err(bad(Why::Cuts));
     };
-    match read_cell_bytes(kind, &part[equals + 1..]) {
+    match read_word(values, &part[equals + 1..]) {
         Some(value) => Ok(value),
         None => Err(bad(Why::Cuts)),
     }
@@ -182,7 +183,7 @@ fn add_part(alloc: Global, schema: &Schema, cuts: &mut Cuts, part: &[u8]) -> Res
 {
     let equals = equals_at(part);
     let attr = cut_name(alloc, schema, cuts, before(part, equals))?;
-    let value = cut_value(kind_at(schema, attr), part, equals)?;
+    let value = cut_value(values_at(schema, attr), part, equals)?;
     add_cut(cuts, attr, value)?;
     Ok(())
 }

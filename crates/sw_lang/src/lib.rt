@@ -2,6 +2,7 @@
 #![tactic(auto)]
 
 mod cuts;
+mod domain;
 mod fault;
 mod line_law;
 mod parse;

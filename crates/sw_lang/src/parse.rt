@@ -1,7 +1,7 @@
 //! The call of a line.
 
 ghost use Rattle.std.specs.Prelude.{◌≡◌, ◌<◌, ◌≤◌, [], ℤ, List, length, IfOk, IfSome, ◌==◌};
-ghost use Rattle.sw_rows.specs.Cells.{HasPlaces};
+ghost use Rattle.sw_lang.specs.Shown.{AreSound, domain_of};
 ghost use Rattle.sw_lang.specs.Agreement.{AnswersRelated};
 ghost use Rattle.sw_lang.specs.Reading.{aggregate_at, asked, call_at, call_of, cells_at, delete_at, first_by, insert_at, is_comment, line_at, name_of, names_at, next_value, nothing_left, past_comma, refused, select_at, term_at, terms_at, where_at, Answers, Gives};
 ghost use Rattle.sw_lang.specs.Tokens.{tok, tokens};
@@ -9,12 +9,13 @@ ghost use Rattle.sw_lang.specs.Grammar.{IsLine};
 ghost use Rattle.sw_lang.specs.Fits.{FitsCall};
 ghost use Rattle.sw_rows.specs.Header.{IsSchema};
 
+use crate::domain::{AttrValues, values_at};
 use crate::fault::{Fault, ParseError, bad};
-use crate::single::{is_comma, is_word, key_at, kind_at, name_at, op_at, value_at};
+use crate::single::{is_comma, is_word, key_at, name_at, number_name_at, op_at, value_at};
 use crate::term::{Term, add_term};
 use crate::token::{Token, next_token, skip_blanks};
 use std::alloc::Global;
-use sw_rows::{Call, Conds, Kind, Names, Query, Refusal, Schema, Want, Why};
+use sw_rows::{Call, Conds, Names, Query, Refusal, Schema, Want, Why};
 
 /// The greatest length of a line, in bytes.
 pub const MOST_LINE: usize = 4096;
@@ -29,8 +30,9 @@ fn term_at<'a>(
     ensures shorter { IfOk result (λ p. length p.1.now < length text.now) }
 {
     let (attr, rest) = name_at(alloc, schema, text)?;
-    let (op, rest) = op_at(rest)?;
-    let (value, rest) = value_at(kind_at(schema, attr), rest)?;
+    let values = values_at(schema, attr);
+    let (op, rest) = op_at(values, rest)?;
+    let (value, rest) = value_at(values, rest)?;
     Ok((Term { attr, op, value }, rest))
 }
 
@@ -120,7 +122,7 @@ fn select_at(alloc: Global, schema: &Schema, text: &[u8]) -> Result<Call, ParseE
 fn sum_at(alloc: Global, schema: &Schema, text: &[u8]) -> Result<Call, ParseError>
     ensures { Gives (λ c. c) result (aggregate_at schema.now Want.Sum (tokens text.now)) }
 {
-    let (attr, rest) = name_at(alloc, schema, text)?;
+    let (attr, rest) = number_name_at(alloc, schema, text)?;
     let call = asked(alloc, schema, Want::Sum(attr), rest)?;
     Ok(call)
 }
@@ -129,7 +131,7 @@ fn sum_at(alloc: Global, schema: &Schema, text: &[u8]) -> Result<Call, ParseErro
 fn min_at(alloc: Global, schema: &Schema, text: &[u8]) -> Result<Call, ParseError>
     ensures { Gives (λ c. c) result (aggregate_at schema.now Want.Min (tokens text.now)) }
 {
-    let (attr, rest) = name_at(alloc, schema, text)?;
+    let (attr, rest) = number_name_at(alloc, schema, text)?;
     let call = asked(alloc, schema, Want::Min(attr), rest)?;
     Ok(call)
 }
@@ -138,7 +140,7 @@ fn min_at(alloc: Global, schema: &Schema, text: &[u8]) -> Result<Call, ParseErro
 fn max_at(alloc: Global, schema: &Schema, text: &[u8]) -> Result<Call, ParseError>
     ensures { Gives (λ c. c) result (aggregate_at schema.now Want.Max (tokens text.now)) }
 {
-    let (attr, rest) = name_at(alloc, schema, text)?;
+    let (attr, rest) = number_name_at(alloc, schema, text)?;
     let call = asked(alloc, schema, Want::Max(attr), rest)?;
     Ok(call)
 }
@@ -162,13 +164,18 @@ fn past_comma(is_first: bool, text: &[u8]) -> Result<&[u8], ParseError>
 }
 
 #[tactic(auto, unfolding(crate::specs::Reading::next_value))]
-fn next_value(is_first: bool, kind: Kind, text: &[u8]) -> Result<(i64, &[u8]), ParseError>
-    requires { HasPlaces kind }
-    ensures { (values : List ℤ) → is_first ≡ (length values == 0)
-        → Gives (λ p. (p.0, tokens p.1.now)) result (next_value values kind (tokens text.now)) }
+fn next_value<'a>(
+    is_first: bool,
+    values: AttrValues,
+    text: &'a [u8],
+) -> Result<(i64, &'a [u8]), ParseError>
+    requires { AreSound values }
+    ensures { (before : List ℤ) → is_first ≡ (length before == 0)
+        → Gives (λ p. (p.0, tokens p.1.now)) result
+        (next_value before (domain_of values.entry) (tokens text.now)) }
 {
     let rest = past_comma(is_first, text)?;
-    let (value, rest) = value_at(kind, rest)?;
+    let (value, rest) = value_at(values, rest)?;
     Ok((value, rest))
 }
 
@@ -187,7 +194,7 @@ fn cells_at(schema: &Schema, text: &[u8]) -> Result<[i64; 8], ParseError>
     let mut cells = [0; 8];
     let mut rest = text;
     for attr in 0..schema.len() {
-        let (value, after) = next_value(attr == 0, kind_at(schema, attr), rest)?;
+        let (value, after) = next_value(attr == 0, values_at(schema, attr), rest)?;
         cells[attr] = value;
         rest = after;
     }

@@ -1,16 +1,18 @@
 //! Calls go out as text.
 
 ghost use Rattle.std.specs.Prelude.{◌≡◌, ◌++◌, ◌||◌, codes, decimal, false, is_some, map};
-ghost use Rattle.sw_lang.specs.PrintedCalls.{call_text, comparison, cond_terms, joiner, lower_terms, more_names, name_at, names_text, terms_text, upper_terms, want_text, where_text};
+ghost use Rattle.sw_lang.specs.PrintedCalls.{call_text, comparison, cond_terms, equal_terms, text_terms, joiner, lower_terms, more_names, name_at, names_text, terms_text, upper_terms, want_text, where_text};
 ghost use Rattle.sw_lang.specs.Replies.{cell_text, cells_text};
 ghost use Rattle.sw_lang.specs.Sinks.{Writes};
-ghost use Rattle.sw_rows.specs.Cells.{HasPlaces};
+ghost use Rattle.sw_lang.specs.Shown.{AreSound, domain_of};
 ghost use Rattle.sw_rows.specs.Header.{kinds_of};
 
+use crate::domain::{AttrValues, values_or_int};
 use crate::printed_cells::write_cell;
-use crate::printed_rows::{kind_or_int, write_cells};
+use crate::printed_rows::write_cells;
+use crate::single::are_texts;
 use crate::sinks::{write_all, write_number};
-use sw_rows::{Bound, Call, Cond, Kind, Query, Refusal, Schema, Sink, Want};
+use sw_rows::{Bound, Call, Cond, Query, Refusal, Schema, Sink, Want};
 
 /// The name of an attribute.
 fn write_name<W: Sink>(schema: &Schema, attr: usize, out: &mut W) -> Result<(), Refusal>
@@ -105,13 +107,18 @@ fn write_want<W: Sink>(schema: &Schema, want: &Want, out: &mut W) -> Result<(), 
 }
 
 /// An operator with its spaces, and a value.
-fn write_compared<W: Sink>(kind: Kind, op: &[u8], value: &i64, out: &mut W) -> Result<(), Refusal>
-    requires { HasPlaces kind }
+fn write_compared<W: Sink>(
+    values: AttrValues,
+    op: &[u8],
+    value: &i64,
+    out: &mut W,
+) -> Result<(), Refusal>
+    requires { AreSound values }
     ensures { Writes (W.taken out.old) (W.taken out.new) (W.failed out.old) (W.failed out.new) result
-        (op.now ++ cell_text kind value.now) }
+        (op.now ++ cell_text (domain_of values.entry) value.now) }
 {
     write_all(out, op)?;
-    write_cell(kind, value, out)
+    write_cell(values, value, out)
 }
 
 fn write_comparison<W: Sink>(
@@ -125,7 +132,7 @@ fn write_comparison<W: Sink>(
         (comparison schema.now attr op.now value.now) }
 {
     write_name(schema, attr, out)?;
-    write_compared(kind_or_int(schema, attr), op, value, out)
+    write_compared(values_or_int(schema, attr), op, value, out)
 }
 
 fn write_joiner<W: Sink>(started: bool, out: &mut W) -> Result<(), Refusal>
@@ -189,6 +196,58 @@ fn continues(started: bool, lower: Option<Bound>) -> bool
     started || lower.is_some()
 }
 
+/// The texts that bounds name: the lower bound's, and the upper one's where it is another.
+fn write_equal<W: Sink>(
+    schema: &Schema,
+    started: bool,
+    attr: usize,
+    texts: (&i64, &i64),
+    out: &mut W,
+) -> Result<(), Refusal>
+    ensures { Writes (W.taken out.old) (W.taken out.new) (W.failed out.old) (W.failed out.new) result
+        (terms_text started (equal_terms schema.now attr texts.0.now texts.1.now)) }
+{
+    let (lower, upper) = texts;
+    write_term(schema, started, attr, b" = ", lower, out)?;
+    if lower == upper {
+        return Ok(());
+    }
+    write_term(schema, true, attr, b" = ", upper, out)
+}
+
+/// The comparisons of bounds.
+fn write_bounds<W: Sink>(
+    schema: &Schema,
+    started: bool,
+    cond: &Cond,
+    out: &mut W,
+) -> Result<(), Refusal>
+    ensures { Writes (W.taken out.old) (W.taken out.new) (W.failed out.old) (W.failed out.new) result
+        (terms_text started (lower_terms schema.now cond.now.attr cond.now.lower
+        ++ upper_terms schema.now cond.now.attr cond.now.upper)) }
+{
+    write_lower(schema, started, cond, out)?;
+    write_upper(schema, continues(started, cond.lower), cond, out)
+}
+
+/// The comparisons of a condition on texts.
+fn write_text_cond<W: Sink>(
+    schema: &Schema,
+    started: bool,
+    cond: &Cond,
+    out: &mut W,
+) -> Result<(), Refusal>
+    ensures { Writes (W.taken out.old) (W.taken out.new) (W.failed out.old) (W.failed out.new) result
+        (terms_text started (text_terms schema.now cond.now.attr cond.now.lower cond.now.upper)) }
+{
+    match (&cond.lower, &cond.upper) {
+        (Some(Bound::Before(lower)), Some(Bound::After(upper))) => {
+            write_equal(schema, started, cond.attr, (lower, upper), out)
+        }
+        _ => write_bounds(schema, started, cond, out),
+    }
+}
+
 /// The comparisons of a condition.
 fn write_cond<W: Sink>(
     schema: &Schema,
@@ -199,8 +258,11 @@ fn write_cond<W: Sink>(
     ensures { Writes (W.taken out.old) (W.taken out.new) (W.failed out.old) (W.failed out.new) result
         (terms_text started (cond_terms schema.now cond.now)) }
 {
-    write_lower(schema, started, cond, out)?;
-    write_upper(schema, continues(started, cond.lower), cond, out)
+    if are_texts(values_or_int(schema, cond.attr)) {
+        write_text_cond(schema, started, cond, out)
+    } else {
+        write_bounds(schema, started, cond, out)
+    }
 }
 
 /// Whether a comparison stands before what follows a condition.

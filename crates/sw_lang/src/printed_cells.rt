@@ -1,12 +1,18 @@
 //! Cells and sums go out as text.
 
-ghost use Rattle.std.specs.Prelude.{◌≡◌, ◌<◌, ◌≤◌, ◌+◌, ◌^◌, ◌++◌, codes, decimal};
+ghost use Rattle.std.specs.Prelude.{[], ◌≡◌, ◌<◌, ◌≤◌, ◌+◌, ◌^◌, ◌++◌, codes, decimal};
 ghost use Rattle.sw_lang.specs.Replies.{cell_text, extreme_text, fixed_text, padded_digits, sum_text, with_point};
 ghost use Rattle.sw_lang.specs.Sinks.{Writes};
-ghost use Rattle.sw_rows.specs.Cells.{HasPlaces};
+ghost use Rattle.sw_rows.specs.Domains.{domain};
+ghost use Rattle.sw_rows.specs.Domains as kind;
+ghost use Rattle.sw_rows.specs.Header.{texts_of};
+ghost use Rattle.sw_lang.specs.Shown.{AreSound, domain_of};
+ghost use Rattle.sw_lang.specs.declared.domain.AttrValues.TheVariants as values;
 
+use crate::domain::AttrValues;
+use crate::printed_texts::write_quoted;
 use crate::sinks::{write_all, write_number};
-use sw_rows::{Kind, Refusal, Sink};
+use sw_rows::{Kind, Refusal, Schema, Sink};
 
 const POWERS_OF_TEN: [u128; 7] = [1, 10, 100, 1_000, 10_000, 100_000, 1_000_000];
 
@@ -72,44 +78,70 @@ fn write_fixed<W: Sink>(places: u8, units: i128, out: &mut W) -> Result<(), Refu
     }
 }
 
-/// Writes a cell of a kind.
-pub(crate) fn write_cell<W: Sink>(kind: Kind, cell: &i64, out: &mut W) -> Result<(), Refusal>
-    requires { HasPlaces kind }
+/// Writes a number or a flag of a kind.
+fn write_number_cell<W: Sink>(kind: Kind, cell: &i64, out: &mut W) -> Result<(), Refusal>
+    requires { AreSound (values.Numbers kind) }
     ensures { Writes (W.taken out.old) (W.taken out.new) (W.failed out.old) (W.failed out.new) result
-        (cell_text kind cell.now) }
+        (cell_text (domain [] kind) cell.now) }
 {
     match kind {
         Kind::Int => write_number(*cell, out),
         Kind::Fix(places) => write_fixed(places, i128::from(*cell), out),
         Kind::Flag if *cell == 1 => write_all(out, b"true"),
         Kind::Flag => write_all(out, b"false"),
+        Kind::Text => unreachable!(),
     }
 }
 
-/// Writes a sum over a kind.
-pub(crate) fn write_sum<W: Sink>(kind: Kind, sum: i128, out: &mut W) -> Result<(), Refusal>
-    requires { HasPlaces kind }
+/// Writes the text of a code.
+fn write_text_cell<W: Sink>(schema: &Schema, cell: &i64, out: &mut W) -> Result<(), Refusal>
     ensures { Writes (W.taken out.old) (W.taken out.new) (W.failed out.old) (W.failed out.new) result
-        (sum_text kind sum) }
+        (cell_text (kind.Text (texts_of schema.now)) cell.now) }
 {
-    match kind {
-        Kind::Fix(places) => write_fixed(places, sum, out),
-        Kind::Int | Kind::Flag => write_number(sum, out),
+    match schema.text(*cell) {
+        Some(text) => write_quoted(text.as_bytes(), out),
+        None => write_quoted(b"", out),
     }
 }
 
-/// Writes the least or the greatest of a kind, if there is one.
+/// Writes a cell.
+pub(crate) fn write_cell<W: Sink>(values: AttrValues, cell: &i64, out: &mut W) -> Result<(), Refusal>
+    requires { AreSound values }
+    ensures { Writes (W.taken out.old) (W.taken out.new) (W.failed out.old) (W.failed out.new) result
+        (cell_text (domain_of values.entry) cell.now) }
+{
+    match values {
+        AttrValues::Numbers(kind) => write_number_cell(kind, cell, out),
+        AttrValues::Texts(schema) => write_text_cell(schema, cell, out),
+    }
+}
+
+/// Writes a sum; one of codes, for which no line asks, is a whole number.
+pub(crate) fn write_sum<W: Sink>(values: AttrValues, sum: i128, out: &mut W) -> Result<(), Refusal>
+    requires { AreSound values }
+    ensures { Writes (W.taken out.old) (W.taken out.new) (W.failed out.old) (W.failed out.new) result
+        (sum_text (domain_of values.entry) sum) }
+{
+    match values {
+        AttrValues::Numbers(Kind::Fix(places)) => write_fixed(places, sum, out),
+        AttrValues::Numbers(Kind::Int | Kind::Flag | Kind::Text) | AttrValues::Texts(_) => {
+            write_number(sum, out)
+        }
+    }
+}
+
+/// Writes the least or the greatest cell, if there is one.
 pub(crate) fn write_extreme<W: Sink>(
-    kind: Kind,
+    values: AttrValues,
     extreme: Option<i64>,
     out: &mut W,
 ) -> Result<(), Refusal>
-    requires { HasPlaces kind }
+    requires { AreSound values }
     ensures { Writes (W.taken out.old) (W.taken out.new) (W.failed out.old) (W.failed out.new) result
-        (extreme_text kind extreme) }
+        (extreme_text (domain_of values.entry) extreme) }
 {
     match extreme {
-        Some(cell) => write_cell(kind, &cell, out),
+        Some(cell) => write_cell(values, &cell, out),
         None => write_all(out, b"none"),
     }
 }

@@ -5,9 +5,10 @@
 ghost use Rattle.std.specs.Prelude.{◌≡◌, ◌∷◌, ◌++◌, [], codes, negsuc, pos};
 ghost use Rattle.sw_lang.specs.PrintedCalls.{call_text};
 ghost use Rattle.sw_lang.specs.PrintedExamples.{abc, above, asking, asking_where, at_least, at_most, below, cond, priced, row};
+ghost use Rattle.sw_rows.specs.Domains as kind;
 ghost use Rattle.sw_lang.specs.Replies.{cell_text, extreme_text, fixed_text, reply_bytes, sum_text};
 
-use sw_rows::{Call, Kind, Reply, Want};
+use sw_rows::{Call, Reply, Want};
 
 /// Numbers of two decimals have just two.
 pub fn two_decimals()
@@ -21,13 +22,13 @@ pub fn two_decimals()
 
 /// A flag is a word, its sum a number.
 pub fn flags_and_sums()
-    ensures yes { cell_text Kind.Flag (pos 1) ≡ codes "true" }
-    ensures no { cell_text Kind.Flag (pos 0) ≡ codes "false" }
-    ensures flags { sum_text Kind.Flag (pos 2) ≡ codes "2" }
-    ensures prices { sum_text (Kind.Fix 2) (pos 1025) ≡ codes "10.25" }
-    ensures past_64_bits { sum_text Kind.Int (pos 36893488147419103228) ≡ codes "36893488147419103228" }
-    ensures least_price { extreme_text (Kind.Fix 2) (Some (negsuc 24)) ≡ codes "-0.25" }
-    ensures no_rows { extreme_text Kind.Int None ≡ codes "none" }
+    ensures yes { cell_text kind.Flag (pos 1) ≡ codes "true" }
+    ensures no { cell_text kind.Flag (pos 0) ≡ codes "false" }
+    ensures flags { sum_text kind.Flag (pos 2) ≡ codes "2" }
+    ensures prices { sum_text (kind.Fix 2) (pos 1025) ≡ codes "10.25" }
+    ensures past_64_bits { sum_text kind.Int (pos 36893488147419103228) ≡ codes "36893488147419103228" }
+    ensures least_price { extreme_text (kind.Fix 2) (Some (negsuc 24)) ≡ codes "-0.25" }
+    ensures no_rows { extreme_text kind.Int None ≡ codes "none" }
 {}
 
 /// Rows are lines of their key and their cells, and then how many there are.

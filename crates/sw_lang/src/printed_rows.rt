@@ -3,33 +3,22 @@
 ghost use Rattle.std.specs.Prelude.{◌≡◌, ◌++◌, ◌∷◌, [], codes, decimal, length, map};
 ghost use Rattle.sw_lang.specs.Replies.{cell_text, cells_text, kind_at, more_cells, row_line, rows_line, with_ends};
 ghost use Rattle.sw_lang.specs.Sinks.{Writes};
-ghost use Rattle.sw_rows.specs.Cells.{HasPlaces};
+ghost use Rattle.sw_lang.specs.Shown.{AreSound, domain_of};
 ghost use Rattle.sw_rows.specs.Replies.{reply_row};
 
+use crate::domain::{AttrValues, values_or_int};
 use crate::printed_cells::write_cell;
 use crate::sinks::{write_all, write_number};
-use sw_rows::{Kind, Refusal, ReplyRows, Schema, Sink};
-
-/// The kind of an attribute.
-pub(crate) fn kind_or_int(schema: &Schema, attr: usize) -> Kind
-    ensures value { result ≡ kind_at schema.now attr }
-    ensures places { HasPlaces result }
-{
-    if attr < schema.len() {
-        schema.kind(attr)
-    } else {
-        Kind::Int
-    }
-}
+use sw_rows::{Refusal, ReplyRows, Schema, Sink};
 
 /// A comma, a space and a cell.
-fn write_next_cell<W: Sink>(kind: Kind, cell: &i64, out: &mut W) -> Result<(), Refusal>
-    requires { HasPlaces kind }
+fn write_next_cell<W: Sink>(values: AttrValues, cell: &i64, out: &mut W) -> Result<(), Refusal>
+    requires { AreSound values }
     ensures { Writes (W.taken out.old) (W.taken out.new) (W.failed out.old) (W.failed out.new) result
-        (codes ", " ++ cell_text kind cell.now) }
+        (codes ", " ++ cell_text (domain_of values.entry) cell.now) }
 {
     write_all(out, b", ")?;
-    write_cell(kind, cell, out)
+    write_cell(values, cell, out)
 }
 
 /// The cells after the first.
@@ -48,7 +37,7 @@ fn write_more_cells<W: Sink>(
         let Some((cell, after)) = cells.split_first() else {
             return Ok(());
         };
-        write_next_cell(kind_or_int(schema, *attr), cell, out)?;
+        write_next_cell(values_or_int(schema, *attr), cell, out)?;
         attrs = later;
         cells = after;
     }
@@ -67,7 +56,7 @@ fn write_some_cells<W: Sink>(
     ensures { Writes (W.taken out.old) (W.taken out.new) (W.failed out.old) (W.failed out.new) result
         (cells_text (map (kind_at schema.now) (attr ∷ later.now)) (cell.now ∷ after.now)) }
 {
-    write_cell(kind_or_int(schema, attr), cell, out)?;
+    write_cell(values_or_int(schema, attr), cell, out)?;
     write_more_cells(schema, later, after, out)
 }
 

@@ -3,35 +3,36 @@
 ghost use Rattle.std.specs.Prelude.{◌≡◌, ◌++◌, ◌∷◌, [], codes, decimal, length, map};
 ghost use Rattle.sw_lang.specs.Replies.{extreme_text, first_kind, kinds_called, kinds_wanted, reply_bytes, row_line, rows_line, sum_text, with_ends};
 ghost use Rattle.sw_lang.specs.Sinks.{Writes};
-ghost use Rattle.sw_rows.specs.Cells.{HasPlaces};
+ghost use Rattle.sw_lang.specs.Shown.{AreSound, domain_of};
 
+use crate::domain::{AttrValues, values_or_int};
 use crate::printed_cells::{write_extreme, write_sum};
-use crate::printed_rows::{kind_or_int, write_rows};
+use crate::printed_rows::write_rows;
 use crate::sinks::{write_all, write_number};
 use sw_rows::{Call, Kind, Refusal, Reply, ReplyRows, Schema, Sink, Want};
 
 /// The kind of the first attribute that is shown, or of the one that is summed or compared.
-fn kind_wanted(schema: &Schema, want: &Want) -> Kind
-    ensures value { result ≡ first_kind (kinds_wanted schema.now want.now) }
-    ensures places { HasPlaces result }
+fn values_wanted<'a>(schema: &'a Schema, want: &Want) -> AttrValues<'a>
+    ensures domain { domain_of result ≡ first_kind (kinds_wanted schema.now want.now) }
+    ensures sound { AreSound result }
 {
     match want {
         Want::Rows(attrs) => match attrs.as_slice().first() {
-            Some(attr) => kind_or_int(schema, *attr),
-            None => Kind::Int,
+            Some(attr) => values_or_int(schema, *attr),
+            None => AttrValues::Numbers(Kind::Int),
         },
-        Want::Count => Kind::Int,
-        Want::Sum(attr) | Want::Min(attr) | Want::Max(attr) => kind_or_int(schema, *attr),
+        Want::Count => AttrValues::Numbers(Kind::Int),
+        Want::Sum(attr) | Want::Min(attr) | Want::Max(attr) => values_or_int(schema, *attr),
     }
 }
 
-fn kind_called(schema: &Schema, call: &Call) -> Kind
-    ensures value { result ≡ first_kind (kinds_called schema.now call.now) }
-    ensures places { HasPlaces result }
+fn values_called<'a>(schema: &'a Schema, call: &Call) -> AttrValues<'a>
+    ensures domain { domain_of result ≡ first_kind (kinds_called schema.now call.now) }
+    ensures sound { AreSound result }
 {
     match call {
-        Call::Select(query) => kind_wanted(schema, &query.want),
-        Call::Insert(_) | Call::Delete(_) => Kind::Int,
+        Call::Select(query) => values_wanted(schema, &query.want),
+        Call::Insert(_) | Call::Delete(_) => AttrValues::Numbers(Kind::Int),
     }
 }
 
@@ -78,21 +79,21 @@ fn write_number_line<W: Sink>(number: u64, out: &mut W) -> Result<(), Refusal>
     write_all(out, b"\n")
 }
 
-fn write_sum_line<W: Sink>(kind: Kind, sum: i128, out: &mut W) -> Result<(), Refusal>
-    requires { HasPlaces kind }
+fn write_sum_line<W: Sink>(values: AttrValues, sum: i128, out: &mut W) -> Result<(), Refusal>
+    requires { AreSound values }
     ensures { Writes (W.taken out.old) (W.taken out.new) (W.failed out.old) (W.failed out.new) result
-        (sum_text kind sum ++ codes "\n") }
+        (sum_text (domain_of values.entry) sum ++ codes "\n") }
 {
-    write_sum(kind, sum, out)?;
+    write_sum(values, sum, out)?;
     write_all(out, b"\n")
 }
 
-fn write_extreme_line<W: Sink>(kind: Kind, extreme: Option<i64>, out: &mut W) -> Result<(), Refusal>
-    requires { HasPlaces kind }
+fn write_extreme_line<W: Sink>(values: AttrValues, extreme: Option<i64>, out: &mut W) -> Result<(), Refusal>
+    requires { AreSound values }
     ensures { Writes (W.taken out.old) (W.taken out.new) (W.failed out.old) (W.failed out.new) result
-        (extreme_text kind extreme ++ codes "\n") }
+        (extreme_text (domain_of values.entry) extreme ++ codes "\n") }
 {
-    write_extreme(kind, extreme, out)?;
+    write_extreme(values, extreme, out)?;
     write_all(out, b"\n")
 }
 
@@ -120,8 +121,8 @@ pub fn write_reply<W: Sink>(
     match reply {
         Reply::Rows(rows) => write_rows_called(schema, call, rows, out),
         Reply::Count(count) => write_number_line(*count, out),
-        Reply::Sum(sum) => write_sum_line(kind_called(schema, call), *sum, out),
-        Reply::Least(extreme) => write_extreme_line(kind_called(schema, call), *extreme, out),
+        Reply::Sum(sum) => write_sum_line(values_called(schema, call), *sum, out),
+        Reply::Least(extreme) => write_extreme_line(values_called(schema, call), *extreme, out),
         Reply::Inserted(key) => write_key_line(*key, out),
         Reply::Full => write_all(out, b"full\n"),
         Reply::Removed => write_all(out, b"removed\n"),

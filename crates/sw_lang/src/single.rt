@@ -1,25 +1,23 @@
 //! Readings of one token.
 
 ghost use Rattle.std.specs.Prelude.{◌≡◌, ◌<◌, length, IfOk, MatchOption, true, false};
-ghost use Rattle.sw_rows.specs.Cells.{HasPlaces};
+ghost use Rattle.sw_rows.specs.Domains.{is_of_texts};
+ghost use Rattle.sw_rows.specs.Domains as kind;
+ghost use Rattle.sw_rows.specs.Header.{texts_of};
+ghost use Rattle.sw_lang.specs.Shown.{AreSound, domain_of};
 ghost use Rattle.sw_rows.specs.Header.{is_name};
-ghost use Rattle.sw_lang.specs.Replies.{kind_at};
-ghost use Rattle.sw_lang.specs.Reading.{attr_of, first_by, is_comma, is_word, key_of, key_value, name_of, op_of, value_of, Gives};
-ghost use Rattle.sw_lang.specs.Tokens.{tok, tokens};
+ghost use Rattle.sw_lang.specs.Reading.{attr_of, first_by, is_comma, is_word, key_of, key_value, name_of, number_name, op_for, op_of, quoted_value, value_of, word_value, Gives};
+ghost use Rattle.sw_lang.specs.Tokens.{tok, tokens, undoubled};
 
+use crate::domain::{AttrValues, values_at};
 use crate::fault::{Fault, ParseError, bad};
+use crate::quotes::undoubled;
 use crate::token::{Op, Token, next_token};
 use std::alloc::Global;
-use sw_rows::{Kind, Name, Schema, Why, is_name, read_cell_bytes, read_digits};
-
-/// The kind of an attribute.
-pub(crate) fn kind_at(schema: &Schema, attr: usize) -> Kind
-    requires { attr < length schema.now }
-    ensures value { result ≡ kind_at schema.now attr }
-    ensures places { HasPlaces result }
-{
-    schema.kind(attr)
-}
+use sw_rows::{
+    Kind, MOST_BYTES_OF_TEXT, MOST_TEXTS, Name, Schema, Why, is_name, read_cell_bytes, read_digits,
+    read_text,
+};
 
 /// The word as text, where it may be a name.
 fn as_name(word: &[u8]) -> Option<&str>
@@ -66,6 +64,18 @@ fn name_of(alloc: Global, schema: &Schema, token: Token) -> Result<usize, ParseE
     Ok(attr)
 }
 
+/// The attribute that a token names, which is not of texts.
+#[tactic(auto, unfolding(crate::specs::Reading::number_name))]
+fn number_name(alloc: Global, schema: &Schema, token: Token) -> Result<usize, ParseError>
+    ensures { Gives (λ i. i) result (number_name schema.now (tok token.entry)) }
+{
+    let attr = name_of(alloc, schema, token)?;
+    if are_texts(values_at(schema, attr)) {
+        return Err(bad(Why::Word));
+    }
+    Ok(attr)
+}
+
 #[tactic(auto, unfolding(crate::specs::Reading::op_of))]
 fn op_of(token: Token) -> Result<Op, ParseError>
     ensures { Gives (λ o. o) result (op_of (tok token.entry)) }
@@ -76,15 +86,79 @@ fn op_of(token: Token) -> Result<Op, ParseError>
     }
 }
 
+/// Whether values are texts.
+pub(crate) fn are_texts(values: AttrValues) -> bool
+    ensures { result ≡ is_of_texts (domain_of values.entry) }
+{
+    match values {
+        AttrValues::Numbers(Kind::Text) | AttrValues::Texts(_) => true,
+        AttrValues::Numbers(_) => false,
+    }
+}
+
+/// An operator that serves these values: texts are compared by equality alone.
+#[tactic(auto, unfolding(crate::specs::Reading::op_for))]
+fn op_for(values: AttrValues, token: Token) -> Result<Op, ParseError>
+    ensures { Gives (λ o. o) result (op_for (domain_of values.entry) (tok token.entry)) }
+{
+    let op = op_of(token)?;
+    if are_texts(values) && op != Op::Eq {
+        return Err(bad(Why::Word));
+    }
+    Ok(op)
+}
+
+/// The cell that a word is.
+pub(crate) fn read_word(values: AttrValues, word: &[u8]) -> Option<i64>
+    requires { AreSound values }
+    ensures { result ≡ word_value (domain_of values.entry) word.now }
+{
+    match values {
+        AttrValues::Numbers(kind) => read_cell_bytes(kind, word),
+        AttrValues::Texts(_) => None,
+    }
+}
+
+/// The cell of a text that a schema knows; where it may be one and is not known, there are texts enough already.
+fn text_value(schema: &Schema, text: &[u8]) -> Result<i64, ParseError>
+    ensures { Gives (λ v. v) result (quoted_value (kind.Text (texts_of schema.now)) text.now) }
+{
+    let Some(text) = read_text(text) else {
+        return Err(bad(Why::Value));
+    };
+    match schema.code(text) {
+        Some(code) => Ok(code),
+        None => Err(ParseError::Fault(Fault::Excess(MOST_TEXTS))),
+    }
+}
+
+/// The cell of a quoted text, of its bytes between the quotes.
+fn quoted_value(values: AttrValues, raw: &[u8]) -> Result<i64, ParseError>
+    requires { AreSound values }
+    ensures { Gives (λ v. v) result (quoted_value (domain_of values.entry) (undoubled raw.now)) }
+{
+    let AttrValues::Texts(schema) = values else {
+        return Err(bad(Why::Value));
+    };
+    let mut buffer = [0; MOST_BYTES_OF_TEXT];
+    match undoubled(raw, &mut buffer) {
+        Some(text) => text_value(schema, text),
+        None => Err(bad(Why::Value)),
+    }
+}
+
 #[tactic(auto, unfolding(crate::specs::Reading::value_of))]
-fn value_of(kind: Kind, token: Token) -> Result<i64, ParseError>
-    requires { HasPlaces kind }
-    ensures { Gives (λ v. v) result (value_of kind (tok token.entry)) }
+fn value_of(values: AttrValues, token: Token) -> Result<i64, ParseError>
+    requires { AreSound values }
+    ensures { Gives (λ v. v) result (value_of (domain_of values.entry) (tok token.entry)) }
 {
     match token {
-        Token::Word(word) => read_cell_bytes(kind, word).ok_or(bad(Why::Value)),
-        Token::Quoted(_) => Err(bad(Why::Value)),
-        _ => Err(bad(Why::Word)),
+        Token::Word(word) => match read_word(values, word) {
+            Some(value) => Ok(value),
+            None => Err(bad(Why::Value)),
+        },
+        Token::Quoted(raw) => quoted_value(values, raw),
+        Token::Op(_) | Token::Comma | Token::Stray => Err(bad(Why::Word)),
     }
 }
 
@@ -145,28 +219,46 @@ pub(crate) fn name_at<'a>(
     Ok((attr, rest))
 }
 
+/// The attribute that the first token names, which is not of texts, and the bytes after it.
 #[tactic(auto, unfolding(crate::specs::Reading::first_by))]
-pub(crate) fn op_at(text: &[u8]) -> Result<(Op, &[u8]), ParseError>
-    ensures gives { Gives (λ p. (p.0, tokens p.1.now)) result (first_by op_of (tokens text.now)) }
+pub(crate) fn number_name_at<'a>(
+    alloc: Global,
+    schema: &Schema,
+    text: &'a [u8],
+) -> Result<(usize, &'a [u8]), ParseError>
+    ensures gives { Gives (λ p. (p.0, tokens p.1.now)) result (first_by (number_name schema.now) (tokens text.now)) }
+{
+    let Some((token, rest)) = next_token(text) else {
+        return Err(bad(Why::End));
+    };
+    let attr = number_name(alloc, schema, token)?;
+    Ok((attr, rest))
+}
+
+#[tactic(auto, unfolding(crate::specs::Reading::first_by))]
+pub(crate) fn op_at<'a>(values: AttrValues, text: &'a [u8]) -> Result<(Op, &'a [u8]), ParseError>
+    ensures gives { Gives (λ p. (p.0, tokens p.1.now)) result
+        (first_by (op_for (domain_of values.entry)) (tokens text.now)) }
     ensures shorter { IfOk result (λ p. length p.1.now < length text.now) }
 {
     let Some((token, rest)) = next_token(text) else {
         return Err(bad(Why::End));
     };
-    let op = op_of(token)?;
+    let op = op_for(values, token)?;
     Ok((op, rest))
 }
 
 #[tactic(auto, unfolding(crate::specs::Reading::first_by))]
-pub(crate) fn value_at(kind: Kind, text: &[u8]) -> Result<(i64, &[u8]), ParseError>
-    requires { HasPlaces kind }
-    ensures gives { Gives (λ p. (p.0, tokens p.1.now)) result (first_by (value_of kind) (tokens text.now)) }
+pub(crate) fn value_at<'a>(values: AttrValues, text: &'a [u8]) -> Result<(i64, &'a [u8]), ParseError>
+    requires { AreSound values }
+    ensures gives { Gives (λ p. (p.0, tokens p.1.now)) result
+        (first_by (value_of (domain_of values.entry)) (tokens text.now)) }
     ensures shorter { IfOk result (λ p. length p.1.now < length text.now) }
 {
     let Some((token, rest)) = next_token(text) else {
         return Err(bad(Why::End));
     };
-    let value = value_of(kind, token)?;
+    let value = value_of(values, token)?;
     Ok((value, rest))
 }
 
