@@ -18,6 +18,7 @@ pub mod PrintedTexts
 pub mod PrintedTokens
 pub mod Progress
 pub mod QuotedTexts
+pub mod QuotedUtf8
 pub mod ReadBack
 pub mod Relates
 pub mod Singles

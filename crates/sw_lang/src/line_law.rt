@@ -1,6 +1,6 @@
 //! Laws of the grammar of lines. Each function has no body to speak of: its contract is the law.
 
-ghost use Rattle.std.specs.Prelude.{◌≡◌, ◌≤◌, ◌+◌, ◌*◌, ◌==◌, ℕ, false, List, [], ◌∷◌, ◌++◌, length, codes, slice_index, fold, map};
+ghost use Rattle.std.specs.Prelude.{IsUtf8, ◌≡◌, ◌≤◌, ◌+◌, ◌*◌, ◌==◌, ℕ, false, List, [], ◌∷◌, ◌++◌, length, codes, slice_index, fold, map};
 ghost use Rattle.sw_lang.specs.declared.term.Term.{Term};
 ghost use Rattle.sw_lang.specs.Terms.{add_term, conditions};
 ghost use Rattle.sw_lang.specs.Agreement.{FindsAllRelated, FindsRelated};
@@ -56,6 +56,7 @@ pub fn quoted_texts_are_read_back()
         → tokens (quoted_text text ++ rest) ≡ quoted text ∷ tokens rest }
     ensures same { (text : List ℕ) → undoubled (doubled text) ≡ text }
     ensures few_bytes { (text : List ℕ) → length (quoted_text text) ≤ 2 + 2 * length text }
+    ensures utf8 { (text : List ℕ) → IsUtf8 text → IsUtf8 (quoted_text text) }
     ensures example { quoted_text (codes "it's") ≡ codes "'it''s'" }
 {}
 

@@ -1,3 +1,4 @@
+use Rattle.sw_lang.proofs.QuotedUtf8.{quoted_utf8}
 use Rattle.sw_lang.proofs.PrintedTexts.{front_quoted, quoted_length, undoubled-doubled}
 use Rattle.sw_lang.proofs.line_law.quoted_texts_are_read_back.Goals as goal
 
@@ -9,3 +10,6 @@ returns-clause-same c = undoubled-doubled
 
 pub returns-clause-few_bytes : goal.returns-clause-few_bytes
 returns-clause-few_bytes c = quoted_length
+
+pub returns-clause-utf8 : goal.returns-clause-utf8
+returns-clause-utf8 c = quoted_utf8
