@@ -47,6 +47,7 @@ pub counted_of_run : IsOfRun (counted (state.Answered (reply.Count 4)))
 counted_of_run = record {
   sound = sound;
   schema = abc_schema;
+  numbers = refl;
   cells = rows_have;
   calls = All-cons (IsCalled abc) (entry 1 (asking want.Count) (state.Answered (reply.Count 4))) [] count_called (All-nil (IsCalled abc));
 }

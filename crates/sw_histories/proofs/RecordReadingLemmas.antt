@@ -14,7 +14,7 @@ use Rattle.serde_json.specs.View.{items_of, items_view, members_view, view}
 use Rattle.serde_json.specs.declared.value.Value.{Value}
 use Rattle.serde_json.proofs.Views.{Entry as Pair, members_len-members_view}
 use Rattle.sw_rows.specs.Tables.{padded, row_of}
-use Rattle.sw_rows.specs.declared.kind.Kind.{Kind}
+use Rattle.sw_rows.specs.Domains.{Domain}
 use Rattle.sw_table.specs.declared.row.Row.{Row}
 use Rattle.sw_rows.specs.declared.query.Call.{Call}
 use Rattle.sw_rows.specs.Header.{Column, kinds_of}
@@ -42,7 +42,7 @@ array_found name d e vs ws there is same =
 
 -- ---- cells
 
-cells_step : (done : List ℤ) (kinds : List Kind) (vs : List Value) (i : ℕ) (k : Kind) (v : Value) → slice_get kinds i ≡ Some k → i < length vs → v ≡ get_or vs i v
+cells_step : (done : List ℤ) (kinds : List Domain) (vs : List Value) (i : ℕ) (k : Domain) (v : Value) → slice_get kinds i ≡ Some k → i < length vs → v ≡ get_or vs i v
     → cells_after done (drop i kinds) (drop i (map view vs)) ≡ option_and_then (λ z. cells_after (done ++ z ∷ []) (drop (i + 1) kinds) (drop (i + 1) (map view vs))) (cell_in k (view v))
 cells_step done kinds vs i k v e lt is =
     let one : drop i kinds ≡ k ∷ drop (i + 1) kinds = drop_more kinds i k (slice_get_within kinds i k e) ∙ ap (λ x. x ∷ drop (i + 1) kinds) (get_or_from_slice_get kinds i k k e) in
@@ -55,13 +55,13 @@ cells_step done kinds vs i k v e lt is =
     length_map [] = refl
     length_map (x ∷ xs) = ap suc (length_map xs)
 
-pub cell_none : (done : List ℤ) (kinds : List Kind) (vs : List Value) (i : ℕ) (k : Kind) (v : Value) → slice_get kinds i ≡ Some k → i < length vs → v ≡ get_or vs i v → None ≡ cell_in k (view v) → cells_after done (drop i kinds) (drop i (map view vs)) ≡ None
+pub cell_none : (done : List ℤ) (kinds : List Domain) (vs : List Value) (i : ℕ) (k : Domain) (v : Value) → slice_get kinds i ≡ Some k → i < length vs → v ≡ get_or vs i v → None ≡ cell_in k (view v) → cells_after done (drop i kinds) (drop i (map view vs)) ≡ None
 cell_none done kinds vs i k v e lt is none = cells_step done kinds vs i k v e lt is ∙ ap (option_and_then (λ z. cells_after (done ++ z ∷ []) (drop (i + 1) kinds) (drop (i + 1) (map view vs)))) (sym none)
 
-pub cell_some : (done : List ℤ) (kinds : List Kind) (vs : List Value) (i : ℕ) (k : Kind) (v : Value) (z : ℤ) → slice_get kinds i ≡ Some k → i < length vs → v ≡ get_or vs i v → Some z ≡ cell_in k (view v) → cells_after done (drop i kinds) (drop i (map view vs)) ≡ cells_after (done ++ z ∷ []) (drop (i + 1) kinds) (drop (i + 1) (map view vs))
+pub cell_some : (done : List ℤ) (kinds : List Domain) (vs : List Value) (i : ℕ) (k : Domain) (v : Value) (z : ℤ) → slice_get kinds i ≡ Some k → i < length vs → v ≡ get_or vs i v → Some z ≡ cell_in k (view v) → cells_after done (drop i kinds) (drop i (map view vs)) ≡ cells_after (done ++ z ∷ []) (drop (i + 1) kinds) (drop (i + 1) (map view vs))
 cell_some done kinds vs i k v z e lt is some = cells_step done kinds vs i k v e lt is ∙ ap (option_and_then (λ z. cells_after (done ++ z ∷ []) (drop (i + 1) kinds) (drop (i + 1) (map view vs)))) (sym some)
 
-pub cells_end : (done : List ℤ) (kinds : List Kind) (ds : List Data) (i : ℕ) → length kinds ≤ i → cells_after done (drop i kinds) ds ≡ Some done
+pub cells_end : (done : List ℤ) (kinds : List Domain) (ds : List Data) (i : ℕ) → length kinds ≤ i → cells_after done (drop i kinds) ds ≡ Some done
 cells_end done kinds ds i h = rw (drop_all i kinds h) refl
 
 pub views_long : (vs : List Value) → length (map view vs) ≡ length vs
@@ -81,7 +81,7 @@ members_count (object ms) es n count is long =
     let counted : n ≡ members_len ms = long ∙ sym (members_len-members_view es) ∙ ap members_len same in
     ap (λ m. nat_eq m count) counted
 
-pub row_found : (kinds : List Kind) (d : Data) (vs ws : List Value) (o : Option (List ℤ)) → Some (items_view vs) ≡ as_array d → ws ≡ vs → o ≡ cells_of kinds (map view ws) → o ≡ row_in kinds d
+pub row_found : (kinds : List Domain) (d : Data) (vs ws : List Value) (o : Option (List ℤ)) → Some (items_view vs) ≡ as_array d → ws ≡ vs → o ≡ cells_of kinds (map view ws) → o ≡ row_in kinds d
 row_found kinds d vs ws o is same found =
     found ∙ ap (λ l. cells_of kinds (map view l)) same
     ∙ ap (cells_of kinds) (sym (list_items (map view vs)))
@@ -127,7 +127,7 @@ record AreRows (n : ℕ) (rs : List Row) : Type 0 where
   numbered : is_numbered 1 rs ≡ true
   count : length rs ≡ n
 
-rows_sound : (kinds : List Kind) (done rs : List Row) (ds : List Data) → rows_after kinds done ds ≡ Some rs → is_numbered 1 done ≡ true → AreRows (length done + length ds) rs
+rows_sound : (kinds : List Domain) (done rs : List Row) (ds : List Data) → rows_after kinds done ds ≡ Some rs → is_numbered 1 done ≡ true → AreRows (length done + length ds) rs
 rows_sound kinds done rs [] h all =
     let same : done ≡ rs = same_Some done rs h in
     record { numbered = subst (λ l. is_numbered 1 l ≡ true) same all; count = ap (λ l. length l) (sym same) ∙ omega arith }
@@ -146,7 +146,7 @@ range_bounds least most n m h =
     let high : n ≤ most = grind (arith, nat_tests, inside.0) in
     (omega (arith, low, same), omega (arith, high, same))
 
-pub cells_long : (kinds : List Kind) (vs : List Value) → length vs ≡ length kinds → cells_of kinds (map view vs) ≡ option_map padded (cells_after [] kinds (map view vs))
+pub cells_long : (kinds : List Domain) (vs : List Value) → length vs ≡ length kinds → cells_of kinds (map view vs) ≡ option_map padded (cells_after [] kinds (map view vs))
 cells_long kinds vs long =
     let same : (length (map view vs) == length kinds) ≡ true = grind (arith, nat_tests, views_long vs, long) in
     ap (λ b. cond b (option_map padded (cells_after [] kinds (map view vs))) None) same
@@ -164,14 +164,14 @@ record FitRows (limit : ℕ) (rs : List Row) : Type 0 where
   numbered : is_numbered 1 rs ≡ true
   few : length rs ≤ limit
 
-within_sound : (kinds : List Kind) (limit : ℕ) (ds : List Data) (rs : List Row) → rows_up_to kinds limit ds ≡ Some rs → FitRows limit rs
+within_sound : (kinds : List Domain) (limit : ℕ) (ds : List Data) (rs : List Row) → rows_up_to kinds limit ds ≡ Some rs → FitRows limit rs
 within_sound kinds limit ds rs h =
     let inside = if_some {A = List Row} (nat_le (length ds) limit) (rows_after kinds [] ds) rs h in
     let sound = rows_sound kinds [] rs ds inside.1 refl in
     let few : length ds ≤ limit = grind (arith, nat_tests, inside.0) in
     record { numbered = sound.numbered; few = omega (arith, few, sound.count) }
 
-rows_in_sound : (kinds : List Kind) (limit : ℕ) (d : Data) (rs : List Row) → rows_in kinds limit d ≡ Some rs → FitRows limit rs
+rows_in_sound : (kinds : List Domain) (limit : ℕ) (d : Data) (rs : List Row) → rows_in kinds limit d ≡ Some rs → FitRows limit rs
 rows_in_sound kinds limit d rs h =
     let parts = then_some {A = List Data} {B = List Row} (rows_up_to kinds limit) (array_at (codes "rows") d) rs h in
     within_sound kinds limit parts.0 rs parts.2
@@ -190,10 +190,10 @@ frame_sound d f h =
 
 -- ---- rows
 
-pub row_none : (kinds : List Kind) (rs : List Row) (d : Data) (ds : List Data) (all : Option (List Row)) → all ≡ rows_after kinds rs (d ∷ ds) → None ≡ row_in kinds d → None ≡ all
+pub row_none : (kinds : List Domain) (rs : List Row) (d : Data) (ds : List Data) (all : Option (List Row)) → all ≡ rows_after kinds rs (d ∷ ds) → None ≡ row_in kinds d → None ≡ all
 row_none kinds rs d ds all before none = sym (before ∙ ap (option_and_then (λ cells. rows_after kinds (with_row rs cells) ds)) (sym none))
 
-pub rows_step : (kinds : List Kind) (rs more : List Row) (d : Data) (ds : List Data) (cells : List ℤ) (n : ℕ) (all : Option (List Row)) → all ≡ rows_after kinds rs (d ∷ ds) → n ≡ length rs + 1 → Some cells ≡ row_in kinds d → more ≡ rs ++ row_of n cells ∷ [] → all ≡ rows_after kinds more ds
+pub rows_step : (kinds : List Domain) (rs more : List Row) (d : Data) (ds : List Data) (cells : List ℤ) (n : ℕ) (all : Option (List Row)) → all ≡ rows_after kinds rs (d ∷ ds) → n ≡ length rs + 1 → Some cells ≡ row_in kinds d → more ≡ rs ++ row_of n cells ∷ [] → all ≡ rows_after kinds more ds
 rows_step kinds rs more d ds cells n all before place is grown =
     before
     ∙ ap (option_and_then (λ cells. rows_after kinds (with_row rs cells) ds)) (sym is)

@@ -16,7 +16,7 @@ use Rattle.serde_json.specs.Written.{compact_text, has_float, items_have_float}
 use Rattle.sw_rows.specs.Header.{Column, IsSchema, is_name, is_name_byte, kinds_of, names_of}
 use Rattle.sw_rows.specs.declared.bound.Bound.{Bound}
 use Rattle.sw_rows.specs.declared.bound.Bound.TheVariants.{Before, After}
-use Rattle.sw_rows.specs.declared.kind.Kind.{Kind}
+use Rattle.sw_rows.specs.Domains.{Domain, is_of_texts}
 use Rattle.sw_table.specs.declared.row.Row.{Row}
 use Rattle.sw_rows.specs.declared.query.Cond.{Cond}
 use Rattle.sw_rows.specs.declared.query.Want.{Want}
@@ -24,7 +24,7 @@ use Rattle.sw_rows.specs.declared.query.Want.TheVariants as want
 use Rattle.sw_rows.specs.declared.query.Call.{Call}
 use Rattle.sw_rows.specs.declared.query.Call.TheVariants as call
 use Rattle.sw_rows.specs.declared.refusal.Refusal.{Refusal}
-use Rattle.sw_lang.specs.PrintedCalls.{call_text, comparison, cond_terms, joiner, lower_terms, more_names, name_at, names_text, terms_text, upper_terms, want_text, where_text}
+use Rattle.sw_lang.specs.PrintedCalls.{call_text, comparison, cond_terms, equal_terms, text_terms, joiner, lower_terms, more_names, name_at, names_text, terms_text, upper_terms, want_text, where_text}
 use Rattle.sw_lang.specs.Replies.{cell_text, cells_text, kind_at, reply_lines}
 use Rattle.sw_lang.specs.Sinks.{Writes}
 use Rattle.sw_spine.specs.Printed.{is_line, is_printed}
@@ -32,7 +32,7 @@ use Rattle.sw_spine.specs.History.{History}
 use Rattle.sw_spine.specs.declared.history.Entry.{Entry}
 use Rattle.sw_spine.specs.declared.history.State.{State}
 use Rattle.sw_spine.specs.declared.history.State.TheVariants as state
-use Rattle.sw_spine.proofs.PrintedLemmas.{both, cell_shown, cells_shown, decimal_shown, either, joined, line_utf8, printed}
+use Rattle.sw_spine.proofs.PrintedLemmas.{both, kind_sound, kinds_sound, cell_shown, cells_shown, decimal_shown, either, joined, line_utf8, printed}
 use Rattle.sw_histories.specs.RecordText.{Stops, WritesText, attribute_text, cell_data, entry_data, front_text, list_data, record_text, row_data, state_data, texts_data, whole_data}
 
 -- ---- names
@@ -65,18 +65,18 @@ named_shown (c ∷ cs) (suc a) h = named_shown cs a (rest_of (is_name c.0) (list
 
 -- ---- calls
 
-compared_shown : (columns : List Column) (a : ℕ) (op : List ℕ) (v : ℤ) → list_all (λ c. is_name c.0) columns ≡ true → is_line op ≡ true → is_line (comparison columns a op v) ≡ true
-compared_shown columns a op v good h = joined (name_at columns a) (op ++ cell_text (kind_at columns a) v) (named_shown columns a good) (joined op (cell_text (kind_at columns a) v) h (cell_shown (kind_at columns a) v))
+compared_shown : (columns : List Column) (a : ℕ) (op : List ℕ) (v : ℤ) → IsSchema columns → is_line op ≡ true → is_line (comparison columns a op v) ≡ true
+compared_shown columns a op v good h = joined (name_at columns a) (op ++ cell_text (kind_at columns a) v) (named_shown columns a good.sound.names) (joined op (cell_text (kind_at columns a) v) h (cell_shown (kind_at columns a) v (kind_sound columns a good)))
 
 abbrev all_shown : List (List ℕ) → Bool
 all_shown ts = list_all (λ t. is_line t) ts
 
-lower_shown : (columns : List Column) (a : ℕ) (o : Option Bound) → list_all (λ c. is_name c.0) columns ≡ true → all_shown (lower_terms columns a o) ≡ true
+lower_shown : (columns : List Column) (a : ℕ) (o : Option Bound) → IsSchema columns → all_shown (lower_terms columns a o) ≡ true
 lower_shown columns a None good = refl
 lower_shown columns a (Some (Before v)) good = both (is_line (comparison columns a (codes " >= ") v)) true (compared_shown columns a (codes " >= ") v good (printed (codes " >= ") refl)) refl
 lower_shown columns a (Some (After v)) good = both (is_line (comparison columns a (codes " > ") v)) true (compared_shown columns a (codes " > ") v good (printed (codes " > ") refl)) refl
 
-upper_shown : (columns : List Column) (a : ℕ) (o : Option Bound) → list_all (λ c. is_name c.0) columns ≡ true → all_shown (upper_terms columns a o) ≡ true
+upper_shown : (columns : List Column) (a : ℕ) (o : Option Bound) → IsSchema columns → all_shown (upper_terms columns a o) ≡ true
 upper_shown columns a None good = refl
 upper_shown columns a (Some (Before v)) good = both (is_line (comparison columns a (codes " < ") v)) true (compared_shown columns a (codes " < ") v good (printed (codes " < ") refl)) refl
 upper_shown columns a (Some (After v)) good = both (is_line (comparison columns a (codes " <= ") v)) true (compared_shown columns a (codes " <= ") v good (printed (codes " <= ") refl)) refl
@@ -88,9 +88,36 @@ all_joined (x ∷ xs) ys h k =
     let later : all_shown xs ≡ true = grind (arith, h) in
     both (is_line x) (all_shown (xs ++ ys)) here (all_joined xs ys later k)
 
-conds_shown : (columns : List Column) (cs : List Cond) → list_all (λ c. is_name c.0) columns ≡ true → all_shown (flat_map (cond_terms columns) cs) ≡ true
+equal_shown : (columns : List Column) (a : ℕ) (v w : ℤ) → IsSchema columns → all_shown (equal_terms columns a v w) ≡ true
+equal_shown columns a v w good = by_same (int_eq v w)
+  where
+    one : (z : ℤ) → is_line (comparison columns a (codes " = ") z) ≡ true
+    one z = compared_shown columns a (codes " = ") z good (printed (codes " = ") refl)
+
+    by_same : (b : Bool) → all_shown (cond b (comparison columns a (codes " = ") v ∷ []) (comparison columns a (codes " = ") v ∷ comparison columns a (codes " = ") w ∷ [])) ≡ true
+    by_same true = both (is_line (comparison columns a (codes " = ") v)) true (one v) refl
+    by_same false = both (is_line (comparison columns a (codes " = ") v)) (all_shown (comparison columns a (codes " = ") w ∷ [])) (one v) (both (is_line (comparison columns a (codes " = ") w)) true (one w) refl)
+
+bounds_shown : (columns : List Column) (a : ℕ) (l u : Option Bound) → IsSchema columns → all_shown (lower_terms columns a l ++ upper_terms columns a u) ≡ true
+bounds_shown columns a l u good = all_joined (lower_terms columns a l) (upper_terms columns a u) (lower_shown columns a l good) (upper_shown columns a u good)
+
+text_shown : (columns : List Column) (a : ℕ) (l u : Option Bound) → IsSchema columns → all_shown (text_terms columns a l u) ≡ true
+text_shown columns a None u good = upper_shown columns a u good
+text_shown columns a (Some (After v)) u good = bounds_shown columns a (Some (After v)) u good
+text_shown columns a (Some (Before v)) None good = lower_shown columns a (Some (Before v)) good
+text_shown columns a (Some (Before v)) (Some (Before w)) good = bounds_shown columns a (Some (Before v)) (Some (Before w)) good
+text_shown columns a (Some (Before v)) (Some (After w)) good = equal_shown columns a v w good
+
+cond_shown : (columns : List Column) (c : Cond) → IsSchema columns → all_shown (cond_terms columns c) ≡ true
+cond_shown columns c good = by_kind (is_of_texts (kind_at columns c.attr))
+  where
+    by_kind : (b : Bool) → all_shown (cond b (text_terms columns c.attr c.lower c.upper) (lower_terms columns c.attr c.lower ++ upper_terms columns c.attr c.upper)) ≡ true
+    by_kind true = text_shown columns c.attr c.lower c.upper good
+    by_kind false = bounds_shown columns c.attr c.lower c.upper good
+
+conds_shown : (columns : List Column) (cs : List Cond) → IsSchema columns → all_shown (flat_map (cond_terms columns) cs) ≡ true
 conds_shown columns [] good = refl
-conds_shown columns (c ∷ cs) good = all_joined (cond_terms columns c) (flat_map (cond_terms columns) cs) (all_joined (lower_terms columns c.attr c.lower) (upper_terms columns c.attr c.upper) (lower_shown columns c.attr c.lower good) (upper_shown columns c.attr c.upper good)) (conds_shown columns cs good)
+conds_shown columns (c ∷ cs) good = all_joined (cond_terms columns c) (flat_map (cond_terms columns) cs) (cond_shown columns c good) (conds_shown columns cs good)
 
 terms_shown : (started : Bool) (ts : List (List ℕ)) → all_shown ts ≡ true → is_line (terms_text started ts) ≡ true
 terms_shown started [] h = printed [] refl
@@ -114,14 +141,14 @@ want_shown columns (want.Sum a) good = joined (codes "sum ") (name_at columns a)
 want_shown columns (want.Min a) good = joined (codes "min ") (name_at columns a) (printed (codes "min ") refl) (named_shown columns a good)
 want_shown columns (want.Max a) good = joined (codes "max ") (name_at columns a) (printed (codes "max ") refl) (named_shown columns a good)
 
-call_shown : (columns : List Column) (c : Call) → list_all (λ c. is_name c.0) columns ≡ true → is_line (call_text columns c) ≡ true
-call_shown columns (call.Select q) good = joined (want_text columns q.want) (where_text columns false q.conds) (want_shown columns q.want good) (terms_shown false (flat_map (cond_terms columns) q.conds) (conds_shown columns q.conds good))
-call_shown columns (call.Insert cells) good = joined (codes "insert ") (cells_text (kinds_of columns) cells) (printed (codes "insert ") refl) (cells_shown (kinds_of columns) cells)
+call_shown : (columns : List Column) (c : Call) → IsSchema columns → is_line (call_text columns c) ≡ true
+call_shown columns (call.Select q) good = joined (want_text columns q.want) (where_text columns false q.conds) (want_shown columns q.want good.sound.names) (terms_shown false (flat_map (cond_terms columns) q.conds) (conds_shown columns q.conds good))
+call_shown columns (call.Insert cells) good = joined (codes "insert ") (cells_text (kinds_of columns) cells) (printed (codes "insert ") refl) (cells_shown (kinds_of columns) cells (kinds_sound columns good))
 call_shown columns (call.Delete key) good = joined (codes "delete ") (decimal key) (printed (codes "delete ") refl) (decimal_shown key)
 
 -- a call is printed as text
 pub call_utf8 : (columns : List Column) (c : Call) → IsSchema columns → IsUtf8 (call_text columns c)
-call_utf8 columns c ok = line_utf8 (call_text columns c) (call_shown columns c ok.sound.names)
+call_utf8 columns c ok = line_utf8 (call_text columns c) (call_shown columns c ok)
 
 -- ---- lists
 
@@ -129,7 +156,7 @@ pub map_twice : {A B C : Type 0} (f : B → C) (g : A → B) (xs : List A) → m
 map_twice f g [] = refl
 map_twice f g (x ∷ xs) = ap (λ l. f (g x) ∷ l) (map_twice f g xs)
 
-pub take_column : (columns : List Column) (i : ℕ) (name : List ℕ) (k : Kind) → slice_get (names_of columns) i ≡ Some name → slice_get (kinds_of columns) i ≡ Some k → take (suc i) columns ≡ take i columns ++ (name, k) ∷ []
+pub take_column : (columns : List Column) (i : ℕ) (name : List ℕ) (k : Domain) → slice_get (names_of columns) i ≡ Some name → slice_get (kinds_of columns) i ≡ Some k → take (suc i) columns ≡ take i columns ++ (name, k) ∷ []
 take_column [] i name k h e = absurd (none-some name h)
 take_column (c ∷ cs) zero name k h e =
     let n : c.0 ≡ name = same_Some c.0 name h in
@@ -183,7 +210,7 @@ views_more : (vs : List Value) (v : Value) → map view (vs ++ v ∷ []) ≡ map
 views_more [] v = refl
 views_more (x ∷ vs) v = ap (λ l. view x ∷ l) (views_more vs v)
 
-pub one_attribute : (vs ws : List Value) (v : Value) (columns : List Column) (i : ℕ) (name : List ℕ) (k : Kind) → slice_get (names_of columns) i ≡ Some name → slice_get (kinds_of columns) i ≡ Some k → map view vs ≡ map (λ t. string t) (map attribute_text (take i columns)) → ws ≡ vs ++ v ∷ [] → view v ≡ string (attribute_text (name, k)) → map view ws ≡ map (λ t. string t) (map attribute_text (take (i + 1) columns))
+pub one_attribute : (vs ws : List Value) (v : Value) (columns : List Column) (i : ℕ) (name : List ℕ) (k : Domain) → slice_get (names_of columns) i ≡ Some name → slice_get (kinds_of columns) i ≡ Some k → map view vs ≡ map (λ t. string t) (map attribute_text (take i columns)) → ws ≡ vs ++ v ∷ [] → view v ≡ string (attribute_text (name, k)) → map view ws ≡ map (λ t. string t) (map attribute_text (take (i + 1) columns))
 one_attribute vs ws v columns i name k named kinded before more is =
     ap (map view) more ∙ views_more vs v
     ∙ ap (λ l. l ++ view v ∷ []) before

@@ -7,11 +7,11 @@ use Rattle.std.proofs.lemmas.List.Elements.{All-head, All-tail}
 use Rattle.json.proofs.Printed.Utf8.{IsUtf8-are_ascii}
 use Rattle.serde_json.specs.Data.{string}
 use Rattle.serde_json.specs.View.{items_of}
-use Rattle.sw_rows.specs.Cells.{HasPlaces}
+use Rattle.sw_rows.specs.Domains.{IsDomain}
 use Rattle.sw_rows.specs.Header.{Column, IsSchema, is_name}
 use Rattle.sw_rows.specs.Spelling.{kind_text}
-use Rattle.sw_rows.specs.declared.kind.Kind.{Kind}
-use Rattle.sw_rows.specs.declared.kind.Kind.TheVariants as kind
+use Rattle.sw_rows.specs.Domains.{Domain}
+use Rattle.sw_rows.specs.Domains as kind
 use Rattle.sw_table.specs.declared.row.Row.{Row}
 use Rattle.sw_rows.specs.declared.query.Call.{Call}
 use Rattle.sw_lang.specs.Replies.{reply_lines}
@@ -28,20 +28,21 @@ use Rattle.sw_histories.proofs.TextUtf8.{HasTexts, HaveTexts, text_utf8}
 
 -- ---- attributes
 
-kind_shown : (k : Kind) → HasPlaces k → is_line (kind_text k) ≡ true
+kind_shown : (k : Domain) → IsDomain k → is_line (kind_text k) ≡ true
 kind_shown kind.Int h = printed (codes "int") refl
 kind_shown (kind.Fix places) h =
     let digit : is_printed (48 + places) ≡ true = grind (arith, nat_tests, h.0, h.1) in
     joined (codes "fix") ((48 + places) ∷ []) (printed (codes "fix") refl) (printed ((48 + places) ∷ []) (both (is_printed (48 + places)) true digit refl))
 kind_shown kind.Flag h = printed (codes "flag") refl
+kind_shown (kind.Text texts) h = printed (codes "text") refl
 
-attributes_texts : (cs : List Column) → list_all (λ c. is_name c.0) cs ≡ true → All (λ c. HasPlaces c.1) cs → HaveTexts (items_of (map (λ t. string t) (map attribute_text cs)))
+attributes_texts : (cs : List Column) → list_all (λ c. is_name c.0) cs ≡ true → All (λ c. IsDomain c.1) cs → HaveTexts (items_of (map (λ t. string t) (map attribute_text cs)))
 attributes_texts [] h p = tt
 attributes_texts (c ∷ cs) h p =
     let parts = and_parts (is_name c.0) (list_all (λ d. is_name d.0) cs) h in
-    let ends = joined (codes ":") (kind_text c.1) (printed (codes ":") refl) (kind_shown c.1 (All-head (λ d. HasPlaces d.1) c cs p)) in
+    let ends = joined (codes ":") (kind_text c.1) (printed (codes ":") refl) (kind_shown c.1 (All-head (λ d. IsDomain d.1) c cs p)) in
     let here = joined c.0 (codes ":" ++ kind_text c.1) (name_shown c.0 parts.0) ends in
-    (line_utf8 (attribute_text c) here, attributes_texts cs parts.1 (All-tail (λ d. HasPlaces d.1) c cs p))
+    (line_utf8 (attribute_text c) here, attributes_texts cs parts.1 (All-tail (λ d. IsDomain d.1) c cs p))
 
 -- ---- rows
 
@@ -65,11 +66,11 @@ kept_texts : (ls : List (List ℕ)) → All (λ l. IsUtf8 l) ls → HaveTexts (i
 kept_texts [] h = tt
 kept_texts (l ∷ ls) h = (All-head (λ m. IsUtf8 m) l ls h, kept_texts ls (All-tail (λ m. IsUtf8 m) l ls h))
 
-state_texts : (columns : List Column) (c : Call) (st : State) → IsStateOf c st → HasTexts (state_data columns c st)
-state_texts columns c (state.Answered r) h = lines_texts (reply_lines columns c r) (reply_shown columns c r)
-state_texts columns c (state.Lines ls) h = kept_texts ls h
-state_texts columns c state.Open h = IsUtf8-are_ascii (codes "open") refl
-state_texts columns c state.Void h = IsUtf8-are_ascii (codes "void") refl
+state_texts : (columns : List Column) (c : Call) (st : State) → IsSchema columns → IsStateOf c st → HasTexts (state_data columns c st)
+state_texts columns c (state.Answered r) ok h = lines_texts (reply_lines columns c r) (reply_shown columns c r ok)
+state_texts columns c (state.Lines ls) ok h = kept_texts ls h
+state_texts columns c state.Open ok h = IsUtf8-are_ascii (codes "open") refl
+state_texts columns c state.Void ok h = IsUtf8-are_ascii (codes "void") refl
 
 entry_texts : (columns : List Column) (e : Entry) → IsSchema columns → IsCalled columns e → HasTexts (entry_data columns e)
 entry_texts columns e ok i = (
@@ -77,7 +78,7 @@ entry_texts columns e ok i = (
   call_utf8 columns e.call ok,
   (
     IsUtf8-are_ascii (codes "reply") refl,
-    state_texts columns e.call e.state i.state,
+    state_texts columns e.call e.state ok i.state,
     (IsUtf8-are_ascii (codes "session") refl, tt, tt),
   ),
 )
@@ -92,7 +93,7 @@ entries_texts columns (e ∷ es) ok h =
 record_texts : (h : History) → IsOfRun h → HasTexts (record_data h)
 record_texts h r = (
   IsUtf8-are_ascii (codes "attributes") refl,
-  attributes_texts h.columns r.schema.sound.names r.schema.sound.places,
+  attributes_texts h.columns r.schema.sound.names r.schema.sound.domains,
   (
     IsUtf8-are_ascii (codes "entries") refl,
     entries_texts h.columns h.entries r.schema r.calls,

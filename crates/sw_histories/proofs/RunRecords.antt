@@ -1,5 +1,5 @@
 -- The text of a run's record is read as that record.
-use Rattle.std.proofs.Common.{◌≡◌, ◌∙◌, sym, ap, refl, subst, ℕ, ℤ, pos, negsuc, suc, ◌+◌, ◌-◌, ◌<◌, ◌≤◌, ◌^◌, ◌==◌, ◌&&◌, true, cond, List, [], ◌∷◌, ◌++◌, arith, length, map, replicate, take, All, Some, None, Ok, nat_eq, nat_le, inr, append_assoc, append-nil, length-append, eqb-true, le-leb, lt-ltb}
+use Rattle.std.proofs.Common.{◌≡◌, ◌∙◌, sym, ap, refl, subst, ℕ, ℤ, pos, negsuc, suc, ◌+◌, ◌-◌, ◌<◌, ◌≤◌, ◌^◌, ◌==◌, ◌&&◌, true, false, true≢false, cond, List, [], ◌∷◌, ◌++◌, arith, length, map, replicate, take, All, Some, None, Ok, nat_eq, nat_le, inr, append_assoc, append-nil, length-append, eqb-true, le-leb, lt-ltb}
 use Rattle.std.specs.Prelude.{option_and_then, option_map}
 use Rattle.std.specs.List.{list_all}
 use Rattle.std.specs.Result.{result_ok}
@@ -9,11 +9,13 @@ use Rattle.std.proofs.lemmas.List.{length-map}
 use Rattle.std.proofs.lemmas.List.Elements.{All-append, All-cons, All-head, All-nil, All-replicate, All-same, All-tail}
 use Rattle.serde_json.specs.Data.{string}
 use Rattle.serde_json.specs.View.{items_of}
-use Rattle.sw_rows.specs.Cells.{HasPlaces}
-use Rattle.sw_rows.specs.Header.{Column, IsSchema, header_of, is_name, kinds_of}
+use Rattle.sw_rows.specs.Domains.{IsDomain}
+use Rattle.sw_rows.specs.Header.{Column, IsSchema, has_texts, header_of, is_name, kinds_of}
 use Rattle.sw_rows.specs.Spelling.{WriteColumns}
 use Rattle.sw_rows.specs.Tables.{padded, row_of}
-use Rattle.sw_rows.specs.declared.kind.Kind.{Kind}
+use Rattle.sw_rows.specs.Domains.{Domain, IsFresh, is_of_texts}
+use Rattle.sw_rows.specs.Domains as kind
+use Rattle.std.proofs.lemmas.Bool.{or_parts}
 use Rattle.sw_table.specs.declared.row.Row.{Row}
 use Rattle.sw_rows.specs.declared.query.Call.{Call}
 use Rattle.sw_rows.proofs.HeaderSpelling.{header_read_back}
@@ -50,26 +52,33 @@ texts_back ts = ap (texts_after []) (list_items (map (λ t. string t) ts)) ∙ t
 
 -- ---- the header
 
-columns_written : (cs : List Column) → list_all (λ c. is_name c.0) cs ≡ true → All (λ c. HasPlaces c.1) cs → WriteColumns (map attribute_text cs) cs
-columns_written [] h p = tt
-columns_written (c ∷ cs) h p =
-    let parts = and_parts (is_name c.0) (list_all (λ d. is_name d.0) cs) h in
-    ((parts.0, All-head (λ d. HasPlaces d.1) c cs p, inr refl), columns_written cs parts.1 (All-tail (λ d. HasPlaces d.1) c cs p))
+fresh_numbers : (d : Domain) → IsDomain d → is_of_texts d ≡ false → IsFresh d
+fresh_numbers kind.Int s h = tt
+fresh_numbers (kind.Fix places) s h = s
+fresh_numbers kind.Flag s h = tt
+fresh_numbers (kind.Text texts) s h = absurd (true≢false h)
 
-header_back : (cs : List Column) → IsSchema cs → header_of (map attribute_text cs) ≡ Ok cs
-header_back cs ok =
+columns_written : (cs : List Column) → list_all (λ c. is_name c.0) cs ≡ true → All (λ c. IsDomain c.1) cs → has_texts cs ≡ false → WriteColumns (map attribute_text cs) cs
+columns_written [] h p none = tt
+columns_written (c ∷ cs) h p none =
+    let parts = and_parts (is_name c.0) (list_all (λ d. is_name d.0) cs) h in
+    let numbers = or_parts (is_of_texts c.1) (has_texts cs) none in
+    ((parts.0, fresh_numbers c.1 (All-head (λ d. IsDomain d.1) c cs p) numbers.0, inr refl), columns_written cs parts.1 (All-tail (λ d. IsDomain d.1) c cs p) numbers.1)
+
+header_back : (cs : List Column) → IsSchema cs → has_texts cs ≡ false → header_of (map attribute_text cs) ≡ Ok cs
+header_back cs ok none =
     let long : length (map attribute_text cs) ≡ length cs = length-map cs attribute_text in
     header_read_back (map attribute_text cs) cs (record {
       some = subst (λ n. 0 < n) (sym long) ok.some;
       few = subst (λ n. n ≤ 8) (sym long) ok.sound.few;
-      fields_are = columns_written cs ok.sound.names ok.sound.places;
+      fields_are = columns_written cs ok.sound.names ok.sound.domains none;
       distinct = ok.sound.distinct;
     })
 
-columns_back : (h : History) → IsSchema h.columns → columns_in (record_data h) ≡ Some h.columns
-columns_back h ok =
+columns_back : (h : History) → IsSchema h.columns → has_texts h.columns ≡ false → columns_in (record_data h) ≡ Some h.columns
+columns_back h ok none =
     ap (option_and_then (λ ts. result_ok (header_of ts))) (texts_back (map attribute_text h.columns))
-    ∙ ap (λ r. result_ok r) (header_back h.columns ok)
+    ∙ ap (λ r. result_ok r) (header_back h.columns ok none)
 
 -- ---- numbers
 
@@ -80,11 +89,11 @@ within least most n low high =
 
 -- ---- rows
 
-cell_back : (k : Kind) (z : ℤ) → IsWord z → of_kind k z ≡ Some z → cell_in k (cell_data z) ≡ Some z
+cell_back : (k : Domain) (z : ℤ) → IsWord z → of_kind k z ≡ Some z → cell_in k (cell_data z) ≡ Some z
 cell_back k (pos n) w is = ap (λ b. option_and_then (of_kind k) (cond b (Some (pos n)) None)) (lt-ltb n (2 ^ 63) w) ∙ is
 cell_back k (negsuc n) w is = is
 
-cells_again : (done : List ℤ) (ks : List Kind) (zs : List ℤ) → AreCells ks zs → cells_after done ks (map cell_data zs) ≡ Some (done ++ zs)
+cells_again : (done : List ℤ) (ks : List Domain) (zs : List ℤ) → AreCells ks zs → cells_after done ks (map cell_data zs) ≡ Some (done ++ zs)
 cells_again done [] [] h = ap (λ l. Some l) (sym (append-nil done))
 cells_again done [] (z ∷ zs) h = absurd h
 cells_again done (k ∷ ks) [] h = absurd h
@@ -93,7 +102,7 @@ cells_again done (k ∷ ks) (z ∷ zs) h =
     ∙ cells_again (done ++ z ∷ []) ks zs h.1
     ∙ ap (λ l. Some l) (append_assoc done (z ∷ []) zs)
 
-as_many : (ks : List Kind) (zs : List ℤ) → AreCells ks zs → length zs ≡ length ks
+as_many : (ks : List Domain) (zs : List ℤ) → AreCells ks zs → length zs ≡ length ks
 as_many [] [] h = refl
 as_many [] (z ∷ zs) h = absurd h
 as_many (k ∷ ks) [] h = absurd h
@@ -102,7 +111,7 @@ as_many (k ∷ ks) (z ∷ zs) h = ap suc (as_many ks zs h.1)
 same_length : (n m : ℕ) → n ≡ m → nat_eq n m ≡ true
 same_length n m h = grind (arith, nat_tests, h)
 
-cells_back : (ks : List Kind) (zs : List ℤ) → AreCells ks zs → row_in ks (list_data (map cell_data zs)) ≡ Some (padded zs)
+cells_back : (ks : List Domain) (zs : List ℤ) → AreCells ks zs → row_in ks (list_data (map cell_data zs)) ≡ Some (padded zs)
 cells_back ks zs h =
     let long : length (map cell_data zs) ≡ length ks = length-map zs cell_data ∙ as_many ks zs h in
     ap (cells_of ks) (list_items (map cell_data zs))
@@ -113,13 +122,13 @@ taken : (zs ys : List ℤ) → take (length zs) (zs ++ ys) ≡ zs
 taken [] ys = refl
 taken (z ∷ zs) ys = ap (λ l. z ∷ l) (taken zs ys)
 
-row_back : (ks : List Kind) (n : ℕ) (r : Row) → n ≡ length ks → HasCells ks r → row_in ks (row_data n r) ≡ Some r.cells
+row_back : (ks : List Domain) (n : ℕ) (r : Row) → n ≡ length ks → HasCells ks r → row_in ks (row_data n r) ≡ Some r.cells
 row_back ks n r long (zs, h, is) =
     let same : n ≡ length zs = long ∙ sym (as_many ks zs h) in
     let shown : take n r.cells ≡ zs = ap (take n) is ∙ ap (λ m. take m (padded zs)) same ∙ taken zs (replicate (8 - length zs) (pos 0)) in
     ap (λ l. row_in ks (list_data (map cell_data l))) shown ∙ cells_back ks zs h ∙ ap (λ l. Some l) (sym is)
 
-rows_again : (ks : List Kind) (n next : ℕ) (done rs : List Row) → n ≡ length ks → next ≡ length done + 1 → is_numbered next rs ≡ true → All (HasCells ks) rs → rows_after ks done (map (row_data n) rs) ≡ Some (done ++ rs)
+rows_again : (ks : List Domain) (n next : ℕ) (done rs : List Row) → n ≡ length ks → next ≡ length done + 1 → is_numbered next rs ≡ true → All (HasCells ks) rs → rows_after ks done (map (row_data n) rs) ≡ Some (done ++ rs)
 rows_again ks n next done [] long here h a = ap (λ l. Some l) (sym (append-nil done))
 rows_again ks n next done (r ∷ rs) long here h a =
     let parts = and_parts (r.key == next) (is_numbered (next + 1) rs) h in
@@ -176,18 +185,18 @@ sessions_words columns (e ∷ es) h =
     let small : e.session < 2 ^ 64 = omega (arith, i.last) in
     All-cons (λ e. e.session < 2 ^ 64) e es small (sessions_words columns es (All-tail (IsCalled columns) e es h))
 
-cells_words : (ks : List Kind) (zs : List ℤ) → AreCells ks zs → All IsWord zs
+cells_words : (ks : List Domain) (zs : List ℤ) → AreCells ks zs → All IsWord zs
 cells_words [] [] h = All-nil IsWord
 cells_words [] (z ∷ zs) h = absurd h
 cells_words (k ∷ ks) [] h = absurd h
 cells_words (k ∷ ks) (z ∷ zs) h = All-cons IsWord z zs h.0.0 (cells_words ks zs h.1)
 
-row_words : (ks : List Kind) (r : Row) → HasCells ks r → All IsWord r.cells
+row_words : (ks : List Domain) (r : Row) → HasCells ks r → All IsWord r.cells
 row_words ks r (zs, h, is) =
     let none : IsWord (pos 0) = omega arith in
     All-same IsWord r.cells (padded zs) is (All-append IsWord zs (replicate (8 - length zs) (pos 0)) (cells_words ks zs h) (All-replicate IsWord (8 - length zs) (pos 0) none))
 
-rows_words : (ks : List Kind) (rs : List Row) → All (HasCells ks) rs → All (λ r. All IsWord r.cells) rs
+rows_words : (ks : List Domain) (rs : List Row) → All (HasCells ks) rs → All (λ r. All IsWord r.cells) rs
 rows_words ks [] h = All-nil (λ r. All IsWord r.cells)
 rows_words ks (r ∷ rs) h =
     All-cons (λ r. All IsWord r.cells) r rs (row_words ks r (All-head (HasCells ks) r rs h)) (rows_words ks rs (All-tail (HasCells ks) r rs h))
@@ -208,7 +217,7 @@ written h r = record {
   json = record_read h (has_words h r);
   members = refl;
   format = refl;
-  columns = columns_back h r.schema;
+  columns = columns_back h r.schema r.numbers;
   limit = within 1 MOST_ROWS h.limit (let some = r.sound.some in omega (arith, some)) r.sound.most;
   rows = rows_back h r;
   items = map (entry_data h.columns) h.entries;

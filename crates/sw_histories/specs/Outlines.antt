@@ -13,7 +13,7 @@ use Rattle.serde_json.specs.declared.value.Value.{Value}
 use Rattle.sw_table.specs.Packed.{Packed}
 use Rattle.sw_table.specs.declared.row.Row.{Row}
 use Rattle.sw_rows.specs.Header.{Column}
-use Rattle.sw_rows.specs.declared.kind.Kind.{Kind}
+use Rattle.sw_rows.specs.Domains.{Domain}
 use Rattle.sw_rows.specs.declared.table.TheConstants.{MOST_ROWS}
 use Rattle.sw_rows.specs.declared.refusal.Refusal.{Refusal}
 use Rattle.sw_spine.specs.History.{History}
@@ -215,11 +215,11 @@ abbrev pub AreRows : Option (List Row) → Option Packed → Type 0
 AreRows said read = option_map (λ rows. rows.items) read ≡ said
 
 -- rows that were read are those of values, where there are values
-abbrev pub ReadsRows : List Kind → Option (List Data) → Option Packed → Type 0
+abbrev pub ReadsRows : List Domain → Option (List Data) → Option Packed → Type 0
 ReadsRows kinds o read = IfSome o (λ ds. AreRows (rows_after kinds [] ds) read)
 
 -- the same, at most so many
-abbrev pub ReadsRowsUpTo : List Kind → ℕ → Option (List Data) → Option Packed → Type 0
+abbrev pub ReadsRowsUpTo : List Domain → ℕ → Option (List Data) → Option Packed → Type 0
 ReadsRowsUpTo kinds limit o read = IfSome o (λ ds. AreRows (rows_up_to kinds limit ds) read)
 
 -- the entries of values are answered, or their first fault, where there are values

@@ -1,9 +1,9 @@
 -- Records whose text is read again.
 use Rattle.std.specs.Prelude.{◌≡◌, ◌<◌, ◌≤◌, ◌^◌, IsUtf8, ℕ, ℤ, pos, negsuc, true, List, [], ◌∷◌, All, map, Some, Ok}
 use Rattle.serde_json.specs.Read.{read}
-use Rattle.sw_rows.specs.Header.{Column, IsSchema, kinds_of}
+use Rattle.sw_rows.specs.Header.{Column, IsSchema, has_texts, kinds_of}
 use Rattle.sw_rows.specs.Tables.{padded}
-use Rattle.sw_rows.specs.declared.kind.Kind.{Kind}
+use Rattle.sw_rows.specs.Domains.{Domain}
 use Rattle.sw_table.specs.declared.row.Row.{Row}
 use Rattle.sw_rows.specs.declared.query.Call.{Call}
 use Rattle.sw_lang.specs.Grammar.{IsLine}
@@ -34,14 +34,14 @@ TextsAreJson = (h : History) → HasWords h → read (record_text h) ≡ Some (r
 -- ---- records of runs
 
 -- numbers of 64 bits, one for each kind, of flags 0 or 1
-abbrev pub AreCells : List Kind → List ℤ → Type 0
+abbrev pub AreCells : List Domain → List ℤ → Type 0
 AreCells [] [] = Unit {0}
 AreCells [] (z ∷ zs) = ⊥
 AreCells (k ∷ ks) [] = ⊥
 AreCells (k ∷ ks) (z ∷ zs) = (IsWord z × (of_kind k z ≡ Some z)) × AreCells ks zs
 
 -- a cell for each attribute, and 0 after the last one
-abbrev pub HasCells : List Kind → Row → Type 0
+abbrev pub HasCells : List Domain → Row → Type 0
 HasCells kinds r = (cells : List ℤ) × AreCells kinds cells × (r.cells ≡ padded cells)
 
 -- selects alone are open or void; lines that stand for a reply are texts
@@ -59,10 +59,12 @@ pub record IsCalled (columns : List Column) (e : Entry) : Type 0 where
   pub last : e.session ≤ MOST_SESSIONS
   pub state : IsStateOf e.call e.state
 
--- what holds of the record of a run: it is sound, of a table that was read, and its calls are those of lines
+-- what holds of the record of a run: it is sound, of a table that was read, which has no attribute of texts, since no
+-- header names one, and its calls are those of lines
 pub record IsOfRun (h : History) : Type 0 where
   pub sound : IsSound h
   pub schema : IsSchema h.columns
+  pub numbers : has_texts h.columns ≡ false
   pub cells : All (HasCells (kinds_of h.columns)) h.rows
   pub calls : All (IsCalled h.columns) h.entries
 

@@ -9,8 +9,8 @@ use Rattle.serde_json.specs.Find.{as_array, as_i64, as_number, as_str, as_u64, g
 use Rattle.serde_json.specs.Read.{read}
 use Rattle.sw_rows.specs.Header.{Column, header_of, kinds_of}
 use Rattle.sw_rows.specs.Tables.{padded, row_of}
-use Rattle.sw_rows.specs.declared.kind.Kind.{Kind}
-use Rattle.sw_rows.specs.declared.kind.Kind.TheVariants as kind
+use Rattle.sw_rows.specs.Domains.{Domain}
+use Rattle.sw_rows.specs.Domains as kind
 use Rattle.sw_table.specs.declared.row.Row.{Row}
 use Rattle.sw_rows.specs.declared.query.Call.{Call}
 use Rattle.sw_rows.specs.declared.refusal.Refusal.{Refusal}
@@ -74,26 +74,27 @@ limit_in d = option_and_then (in_range 1 MOST_ROWS) (number_at (codes "limit") d
 abbrev pub has_format : Data → Bool
 has_format d = is_some (option_and_then (in_range 1 1) (number_at (codes "format") d))
 
--- a number is a cell of a kind: of flags 0 or 1
-abbrev pub of_kind : Kind → ℤ → Option ℤ
+-- a number is a cell of a kind: of flags 0 or 1, and of texts none
+abbrev pub of_kind : Domain → ℤ → Option ℤ
 of_kind kind.Int z = Some z
 of_kind (kind.Fix places) z = Some z
 of_kind kind.Flag z = if int_eq z (pos 0) || int_eq z (pos 1) then Some z else None
+of_kind (kind.Text texts) z = None
 
 -- a whole number of 64 signed bits that is a cell of the kind
-abbrev pub cell_in : Kind → Data → Option ℤ
+abbrev pub cell_in : Domain → Data → Option ℤ
 cell_in k d = option_and_then (of_kind k) (option_and_then as_i64 (as_number d))
 
 -- the cells of kinds, after those that stand before
-abbrev pub cells_after : List ℤ → List Kind → List Data → Option (List ℤ)
+abbrev pub cells_after : List ℤ → List Domain → List Data → Option (List ℤ)
 cells_after done [] ds = Some done
 cells_after done (k ∷ ks) [] = Some done
 cells_after done (k ∷ ks) (d ∷ ds) = option_and_then (λ z. cells_after (done ++ z ∷ []) ks ds) (cell_in k d)
 
-abbrev pub cells_of : List Kind → List Data → Option (List ℤ)
+abbrev pub cells_of : List Domain → List Data → Option (List ℤ)
 cells_of kinds ds = if length ds == length kinds then option_map padded (cells_after [] kinds ds) else None
 
-abbrev pub row_in : List Kind → Data → Option (List ℤ)
+abbrev pub row_in : List Domain → Data → Option (List ℤ)
 row_in kinds d = option_and_then (λ ds. cells_of kinds (items_list ds)) (as_array d)
 
 -- rows, and behind them one more of these cells, with the next key
@@ -101,15 +102,15 @@ abbrev pub with_row : List Row → List ℤ → List Row
 with_row done cells = done ++ row_of (length done + 1) cells ∷ []
 
 -- rows, after those that stand before; their keys are 1, 2, 3 and so on
-abbrev pub rows_after : List Kind → List Row → List Data → Option (List Row)
+abbrev pub rows_after : List Domain → List Row → List Data → Option (List Row)
 rows_after kinds done [] = Some done
 rows_after kinds done (d ∷ ds) = option_and_then (λ cells. rows_after kinds (with_row done cells) ds) (row_in kinds d)
 
 -- at most as many as the limit
-abbrev pub rows_up_to : List Kind → ℕ → List Data → Option (List Row)
+abbrev pub rows_up_to : List Domain → ℕ → List Data → Option (List Row)
 rows_up_to kinds limit ds = if nat_le (length ds) limit then rows_after kinds [] ds else None
 
-abbrev pub rows_in : List Kind → ℕ → Data → Option (List Row)
+abbrev pub rows_in : List Domain → ℕ → Data → Option (List Row)
 rows_in kinds limit d = option_and_then (rows_up_to kinds limit) (array_at (codes "rows") d)
 
 -- the table, the limit, and the entries that are not read yet

@@ -1,9 +1,10 @@
 //! A record is read from a JSON text.
 
-ghost use Rattle.std.specs.Prelude.{◌≡◌, ◌≤◌, [], Some, None, if◌then◌else◌, length, map, option_and_then, option_map, string_bytes, IfErr, IfOk, IfSome};
+ghost use Rattle.std.specs.Prelude.{◌≡◌, ◌≤◌, ℕ, List, [], Some, None, if◌then◌else◌, length, map, option_and_then, option_map, string_bytes, IfErr, IfOk, IfSome};
 ghost use Rattle.json.specs.Lex.{tokens};
 ghost use Rattle.serde_json.specs.Data.{object};
 ghost use Rattle.serde_json.specs.View.{members_view, view};
+ghost use Rattle.sw_rows.specs.Domains.{domain};
 ghost use Rattle.sw_rows.specs.Header.{kinds_of};
 ghost use Rattle.sw_rows.specs.declared.refusal.Refusal.TheVariants.{BadLine};
 ghost use Rattle.sw_rows.specs.declared.refusal.Why.TheVariants as why;
@@ -98,17 +99,18 @@ fn read_columns(alloc: Global, value: &Value) -> Result<Option<Schema>, AllocErr
 }
 
 fn of_kind(kind: Kind, number: i64) -> bool
-    ensures { if◌then◌else◌ result (Some number) None ≡ of_kind kind number }
+    ensures { (texts : List (List ℕ)) → if◌then◌else◌ result (Some number) None ≡ of_kind (domain texts kind) number }
 {
     match kind {
         Kind::Int | Kind::Fix(_) => true,
         Kind::Flag => number == 0 || number == 1,
+        Kind::Text => false,
     }
 }
 
 /// A cell of a kind.
 fn read_cell(kind: Kind, value: &Value) -> Option<i64>
-    ensures { result ≡ cell_in kind (view value.now) }
+    ensures { (texts : List (List ℕ)) → result ≡ cell_in (domain texts kind) (view value.now) }
 {
     let number = value.as_i64()?;
     if of_kind(kind, number) {

@@ -1,10 +1,11 @@
 //! A record is written as a JSON text.
 
-ghost use Rattle.std.specs.Prelude.{◌≡◌, ◌≤◌, decimal, false, map, string_bytes, IfOk, OnOk};
+ghost use Rattle.std.specs.Prelude.{◌≡◌, ◌≤◌, ℕ, List, decimal, false, map, string_bytes, IfOk, OnOk};
 ghost use Rattle.serde_json.specs.View.{view};
 ghost use Rattle.serde_json.specs.Written.{comma_if, compact_text, has_float};
 ghost use Rattle.sw_lang.specs.PrintedCalls.{call_text};
 ghost use Rattle.sw_rows.specs.Cells.{HasPlaces};
+ghost use Rattle.sw_rows.specs.Domains.{domain};
 ghost use Rattle.sw_rows.specs.Spelling.{kind_text};
 ghost use Rattle.sw_histories.specs.RecordText.{Puts, WritesText, attribute_text, attributes_data, cell_data, entries_data, entry_data, front_text, item_text, list_data, record_text, row_data, rows_data, state_data, texts_data};
 
@@ -39,11 +40,12 @@ fn call_string(alloc: Global, schema: &Schema, call: &Call) -> Result<String, Al
 
 fn kind_name(kind: Kind) -> &'static str
     requires { HasPlaces kind }
-    ensures { result.now ≡ kind_text kind }
+    ensures { (texts : List (List ℕ)) → result.now ≡ kind_text (domain texts kind) }
 {
     match kind {
         Kind::Int => "int",
         Kind::Flag => "flag",
+        Kind::Text => "text",
         Kind::Fix(1) => "fix1",
         Kind::Fix(2) => "fix2",
         Kind::Fix(3) => "fix3",
@@ -56,7 +58,8 @@ fn kind_name(kind: Kind) -> &'static str
 /// A name with its type.
 fn attribute_string(alloc: Global, name: &str, kind: Kind) -> Result<String, AllocError>
     requires { HasPlaces kind }
-    ensures { IfOk result (λ text. string_bytes text ≡ attribute_text (name.now, kind)) }
+    ensures { (texts : List (List ℕ)) → IfOk result (λ text. string_bytes text
+        ≡ attribute_text (name.now, domain texts kind)) }
 {
     let mut text = String::from_str(alloc, name)?;
     text.push_str(":")?;

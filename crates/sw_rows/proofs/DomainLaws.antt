@@ -1,8 +1,8 @@
 -- Attributes over texts.
-use Rattle.std.proofs.Common.{◌≡◌, ◌∙◌, ap, sym, refl, subst, ℕ, ℤ, pos, zero, suc, ◌+◌, ◌-◌, ◌<◌, ◌≤◌, All, Bool, true, false, not, cond, true≢false, List, [], ◌∷◌, length, map, take, drop, get_or, slice_get, position, bytes_eq, arith, Option, Some, None, option_map, ◌||◌, ◌&&◌}
+use Rattle.std.proofs.Common.{◌≡◌, ◌∙◌, ap, sym, refl, subst, ℕ, ℤ, pos, zero, suc, ◌+◌, ◌-◌, ◌<◌, ◌≤◌, All, Bool, true, false, not, cond, true≢false, List, [], ◌∷◌, length, map, take, drop, get_or, slice_get, slice_index_or, position, bytes_eq, arith, Option, Some, None, option_map, ◌||◌, ◌&&◌}
 use Rattle.std.proofs.lemmas.Bool.{or_parts}
 use Rattle.std.proofs.lemmas.List.{drop_all, drop_more}
-use Rattle.std.proofs.lemmas.Option.{get_or_from_slice_get, none-some, same_Some, slice_get-map, slice_get_within}
+use Rattle.std.proofs.lemmas.Option.{get_or_from_slice_get, slice_get-get_or, none-some, same_Some, slice_get-map, slice_get_within}
 use Rattle.std.specs.List.{list_all, list_any, position_or_len}
 use Rattle.std.specs.Prelude.{String}
 use Rattle.std.specs.declared.alloc.Global.{Global}
@@ -231,3 +231,12 @@ none_more us b h k = absurd (true≢false (sym h ∙ k))
 pub kinds_of_texts : (cs : List Column) → list_any is_of_texts (kinds_of cs) ≡ has_texts cs
 kinds_of_texts [] = refl
 kinds_of_texts (c ∷ cs) = ap (λ b. is_of_texts c.1 || b) (kinds_of_texts cs)
+
+-- the domain of an attribute is sound, and past the last one there are whole numbers
+pub domain_at : (cs : List Column) (a : ℕ) → AreColumns cs → a < length cs → IsDomain (slice_index_or (kinds_of cs) a kind.Int)
+domain_at cs a s h = subst IsDomain (kind_first cs a (slice_index_or (kinds_of cs) a kind.Int) ([], kind.Int) (slice_get-get_or (kinds_of cs) a kind.Int (subst (λ n. a < n) (sym (kinds_long cs)) h))) (s.domains a ([], kind.Int) h)
+
+pub domain_past : (cs : List Column) (a : ℕ) → length cs ≤ a → slice_index_or (kinds_of cs) a kind.Int ≡ kind.Int
+domain_past [] a h = refl
+domain_past (c ∷ cs) zero h = absurd (omega (arith, h))
+domain_past (c ∷ cs) (suc a) h = domain_past cs a (omega (arith, h))

@@ -11,11 +11,11 @@ use Rattle.std.proofs.lemmas.Slice.Eq.{bytes_eq-Decides}
 use Rattle.std.specs.List.{position_or_len}
 use Rattle.std.specs.Option.{option_map_or}
 use Rattle.sw_rows.specs.Faults.{Fault, too_many}
-use Rattle.sw_rows.specs.Texts.{are_full, code_given, code_of, has_text, next_code, text_of, texts_differ, with_text, with_texts}
+use Rattle.sw_rows.specs.Texts.{AreTexts, is_text, are_full, code_given, code_of, has_text, next_code, text_of, texts_differ, with_text, with_texts}
 use Rattle.sw_rows.specs.declared.texts.TheConstants.{MOST_TEXTS}
 use Rattle.sw_rows.proofs.ColumnLemmas.{bytes_eq-sym}
 use Rattle.sw_rows.proofs.Options.{err-ok, same_Ok, unless_ok}
-use Rattle.sw_rows.proofs.TextLemmas.{not_from_not}
+use Rattle.sw_rows.proofs.TextLemmas.{not_from_not, text_at}
 
 abbrev Texts : Type 0
 Texts = List (List ℕ)
@@ -220,3 +220,7 @@ never_given ts t more e h = by_code (code_of ts t) refl h
 -- more texts, and then others
 pub with_more : (ts xs ys : Texts) → with_texts ts (xs ++ ys) ≡ with_texts (with_texts ts xs) ys
 with_more ts xs ys = fold-append with_text ts xs ys
+
+-- the text of a code may be one of a cell
+pub text_sound : (ts : Texts) (code : ℕ) (t : List ℕ) → AreTexts ts → text_of ts code ≡ Some t → is_text t ≡ true
+text_sound ts code t s h = let at = coded_at ts code t h in text_at ts at.0 t s.sound at.2
