@@ -2,9 +2,9 @@
 //!
 //! Each function here does nothing. Its contract is the law, or a worked example, which the check computes.
 
-ghost use Rattle.std.specs.Prelude.{◌≡◌, ◌<◌, ◌∷◌, ◌++◌, [], ℕ, List, codes, length, map, pos};
+ghost use Rattle.std.specs.Prelude.{◌≡◌, ◌<◌, ◌∷◌, [], ℕ, List, codes, length, pos};
 ghost use Rattle.sw_rows.specs.Domains as kind;
-ghost use Rattle.sw_rows.specs.Examples.{asking, at_least, city_bytes, city_columns, city_rows, coded, city_rows_seen, in_city, on, seen_row, shown, two_cities};
+ghost use Rattle.sw_rows.specs.Examples.{asking, at_least, city_bytes, city_columns, city_rows, city_rows_seen, coded, in_city, on, seen_row, shown, two_cities};
 ghost use Rattle.sw_rows.specs.Header.{Column, IsSchema, holding, kinds_of, texts_of};
 ghost use Rattle.sw_rows.specs.Scan.{answer, matching, meets};
 ghost use Rattle.sw_rows.specs.Tables.{Table, table_of};
