@@ -24,6 +24,7 @@ mod sieve;
 mod source;
 pub mod spelling;
 mod table;
+pub mod text_answers;
 mod texts;
 
 pub use bound::{Bound, greater, is_within, lesser};
