@@ -13,7 +13,7 @@ use Rattle.sw_kernel.specs.Tapes.{brought}
 use Rattle.sw_map.specs.declared.tail.Tail.TheVariants.{Key}
 use Rattle.sw_map.specs.Held.{Held}
 use Rattle.sw_map.specs.Lawful.{rows_by}
-use Rattle.sw_set.specs.Merged.{IsAllLoaded, IsBegunAnew, IsRemovalLogged, IsSameShell, MustBegin, StandsForSame}
+use Rattle.sw_set.specs.Merged.{IsBegunWithInbox, IsBegunAnew, IsRemovalLogged, IsSameShell, MustBegin, StandsForSame}
 use Rattle.sw_set.specs.Merging.{IsLogged, IsLoggedOrNot, IsSameTape}
 use Rattle.sw_set.specs.Prepared.{IsReady}
 use Rattle.sw_set.specs.Boxed.{IsSameButBoxes}
@@ -54,8 +54,8 @@ rows-less came live [] less = less
 rows-less came live (Insert r ∷ us) less = rows-less (came ++ r ∷ []) (live ++ r ∷ []) us (less-then came live (Insert r) less)
 rows-less came live (Remove k ∷ us) less = rows-less came (rows_then live (Remove k)) us (λ n h. all-without (λ (r : Row). r.key < n) k live (less n h))
 
-pub loaded-stands : (x y : AreaState) → IsAllLoaded x y → StandsForSame x y
-loaded-stands x y w = record {
+pub inbox-begun : (x y : AreaState) → IsBegunWithInbox x y → StandsForSame x y
+inbox-begun x y w = record {
   attribute = w.shell.attribute;
   from = w.shell.from;
   below = w.shell.below;

@@ -1,4 +1,4 @@
--- What merging makes of an area, update by update.
+-- What merging makes of an area, update by update or by one load of all that waits.
 use Rattle.std.specs.Prelude.{◌≡◌, ◌<◌, ◌+◌, ◌⊎◌, ℕ, suc, List, [], ◌∷◌, ◌++◌, length, take, drop, slice_index_or, All, Any, Result, MatchResult}
 use Rattle.sw_table.specs.declared.row.Row.{Row}
 use Rattle.sw_table.specs.declared.row.Update.{Update}
@@ -103,18 +103,18 @@ removals_in [] = 0
 removals_in (update.Insert r ∷ us) = removals_in us
 removals_in (update.Remove key ∷ us) = suc (removals_in us)
 
--- more removals wait than are merged one by one: all that waits is for one load
-abbrev pub MergesAtOnce : AreaState → Type 0
-MergesAtOnce x = MOST_REMOVALS_MERGED < removals_in x.inbox
+-- more removals wait than are merged one by one: one load takes up all that waits
+abbrev pub MergesByOneLoad : AreaState → Type 0
+MergesByOneLoad x = MOST_REMOVALS_MERGED < removals_in x.inbox
 
 -- the area is begun anew with all that waited
-pub record IsAllLoaded (x y : AreaState) : Type 0 where
+pub record IsBegunWithInbox (x y : AreaState) : Type 0 where
   pub shell : IsSameShell (drained (x.spare + length x.inbox) x) y
   pub begun : IsBegunAnew (rows_in x) y
 
 -- it is; or there was no memory, and nothing has changed
-abbrev pub HasLoadedAllOr : {A : Type 0} → Result A Refusal → AreaState → AreaState → Type 0
-HasLoadedAllOr r x y = MatchResult r (λ _. IsAllLoaded x y) (IsRefused x y)
+abbrev pub HasBegunWithInboxOr : {A : Type 0} → Result A Refusal → AreaState → AreaState → Type 0
+HasBegunWithInboxOr r x y = MatchResult r (λ _. IsBegunWithInbox x y) (IsRefused x y)
 
 -- the area but for its boxes, its tape and what waits; it stands for the same rows
 pub record StandsForSame (x y : AreaState) : Type 0 where

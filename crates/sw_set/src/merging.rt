@@ -8,7 +8,7 @@ ghost use Rattle.sw_rows.specs.Gives.{IsRefused};
 ghost use Rattle.sw_map.specs.declared.tail.Tail.TheVariants.{Key};
 ghost use Rattle.sw_map.specs.Held.{Held};
 ghost use Rattle.sw_tape.specs.declared.tape.TheConstants.{MAX_ENTRIES};
-ghost use Rattle.sw_set.specs.Merged.{HasLoadedAllOr, HasMergedOr, IsRemovalLogged, IsSameShell, LacksKeys, MergesAtOnce, StandsForSame, removals_in};
+ghost use Rattle.sw_set.specs.Merged.{HasBegunWithInboxOr, HasMergedOr, IsRemovalLogged, IsSameShell, LacksKeys, MergesByOneLoad, StandsForSame, removals_in};
 ghost use Rattle.sw_set.specs.Merging.{HasBegunWithOr, HasMergedEachOr, HasMergedFromOr, IsLoggedOrNot, IsStretch};
 ghost use Rattle.sw_set.specs.Prepared.{IsReady};
 ghost use Rattle.sw_set.specs.Boxed.{IsSameButBoxes};
@@ -210,21 +210,21 @@ impl<M: CrackerMap> Area<M> {
     /// rest waits; where one load was to take up all of them, nothing has changed.
     pub fn merge(&mut self) -> Result<(), Refusal>
         ensures same { StandsForSame self.old self.new }
-        ensures ends { ¬ MergesAtOnce self.old → HasMergedOr result self.old self.new }
-        ensures at_once { MergesAtOnce self.old → HasLoadedAllOr result self.old self.new }
+        ensures ends { ¬ MergesByOneLoad self.old → HasMergedOr result self.old self.new }
+        ensures by_load { MergesByOneLoad self.old → HasBegunWithInboxOr result self.old self.new }
         ensures nothing { self.old.inbox ≡ [] → self.new ≡ self.old }
     {
         if removals_in(self.waiting()) > MOST_REMOVALS_MERGED {
-            self.load_all()
+            self.restart_with_inbox()
         } else {
             self.merge_in_turn()
         }
     }
 
     /// Begins the area anew with all that waits. Refused `NoMemory`, nothing has changed.
-    fn load_all(&mut self) -> Result<(), Refusal>
+    fn restart_with_inbox(&mut self) -> Result<(), Refusal>
         ensures same { StandsForSame self.old self.new }
-        ensures ends { HasLoadedAllOr result self.old self.new }
+        ensures ends { HasBegunWithInboxOr result self.old self.new }
     {
         let mut waiting = self.take_inbox();
         match self.restart_after(waiting.as_slice()) {
