@@ -1,28 +1,29 @@
 -- Areas that are begun anew, or have one entry more, as merging wants them.
-use Rattle.std.proofs.Common.{◌≡◌, ℕ, ◌<◌, List, [], ◌∷◌, ◌++◌, length, get_or, refl, ap, sym, ◌∙◌, arith, subst, Any, Result, Ok, Err, MatchResult, true, false}
+use Rattle.std.proofs.Common.{◌≡◌, ℕ, ◌<◌, List, [], ◌∷◌, ◌++◌, fold, length, get_or, refl, ap, sym, ◌∙◌, arith, subst, Any, Result, Ok, Err, MatchResult, true, false}
 use Rattle.std.proofs.lemmas.List.{append-nil}
 use Rattle.sw_table.specs.declared.row.Row.{Row}
 use Rattle.sw_table.specs.declared.row.Update.{Update}
 use Rattle.sw_table.specs.declared.row.Update.TheVariants.{Insert, Remove}
 use Rattle.sw_rows.specs.declared.refusal.Refusal.{Refusal}
 use Rattle.sw_rows.specs.declared.refusal.Refusal.TheVariants.{NoMemory}
+use Rattle.sw_table.specs.Updates.{rows_then}
 use Rattle.sw_kernel.specs.Arrangement.{joined}
 use Rattle.sw_kernel.specs.Replay.{Step, loaded, inserted, removed}
 use Rattle.sw_kernel.specs.Tapes.{brought}
 use Rattle.sw_map.specs.declared.tail.Tail.TheVariants.{Key}
 use Rattle.sw_map.specs.Held.{Held}
 use Rattle.sw_map.specs.Lawful.{rows_by}
-use Rattle.sw_set.specs.Merged.{IsBegunAnew, IsRemovalLogged, IsSameShell, MustBegin}
+use Rattle.sw_set.specs.Merged.{IsBegunWithInbox, IsBegunAnew, IsRemovalLogged, IsSameShell, MustBegin, StandsForSame}
 use Rattle.sw_set.specs.Merging.{IsLogged, IsLoggedOrNot, IsSameTape}
 use Rattle.sw_set.specs.Prepared.{IsReady}
 use Rattle.sw_set.specs.Boxed.{IsSameButBoxes}
-use Rattle.sw_set.specs.Shelf.{AreaState, IsSameArea, logged_rows}
+use Rattle.sw_set.specs.Shelf.{AreaState, IsSameArea, came_then, logged_rows, rows_in}
 use Rattle.sw_set.specs.Aligned.{AreSameMaps}
 use Rattle.sw_set.proofs.Boxes.{same-refl, same-trans}
-use Rattle.sw_set.proofs.Longer.{logged-all}
+use Rattle.sw_set.proofs.Longer.{all-without, logged-all}
 use Rattle.sw_set.proofs.Merges.{logged-at, shell-refl, shell-trans}
 use Rattle.sw_set.proofs.Noting.{same-area}
-use Rattle.sw_set.proofs.Receiving.{IsBelow, brings-less}
+use Rattle.sw_set.proofs.Receiving.{IsBelow, brings-less, less-then}
 use Rattle.sw_set.proofs.Views.{any-at}
 
 -- ---- begun anew with the live rows
@@ -45,6 +46,26 @@ restarted-same (Err e) rows x y are w = subst (IsSameArea x) (sym w.0) (same-are
 pub restarted-tape : {U : Type 0} (r : Result U Refusal) (rows : List Row) (x y : AreaState) → rows ≡ logged_rows x.attribute x.tape → MatchResult r (λ _. IsSameShell x y × IsBegunAnew rows y) (λ e. (y ≡ x) × (e ≡ NoMemory)) → MatchResult r (λ _. y.tape ≡ loaded (logged_rows x.attribute x.tape) ∷ []) (λ e. (y ≡ x) × (e ≡ NoMemory))
 restarted-tape (Ok u) rows x y are w = w.1.tape ∙ ap (λ (v : List Row). loaded v ∷ []) are
 restarted-tape (Err e) rows x y are w = w
+
+-- ---- begun anew with all that waits
+-- the live rows are among those that came, and so after any updates
+rows-less : (came live : List Row) (us : List Update) → ((n : ℕ) → IsBelow n came → IsBelow n live) → (n : ℕ) → IsBelow n (fold came_then came us) → IsBelow n (fold rows_then live us)
+rows-less came live [] less = less
+rows-less came live (Insert r ∷ us) less = rows-less (came ++ r ∷ []) (live ++ r ∷ []) us (less-then came live (Insert r) less)
+rows-less came live (Remove k ∷ us) less = rows-less came (rows_then live (Remove k)) us (λ n h. all-without (λ (r : Row). r.key < n) k live (less n h))
+
+pub inbox-begun : (x y : AreaState) → IsBegunWithInbox x y → StandsForSame x y
+inbox-begun x y w = record {
+  attribute = w.shell.attribute;
+  from = w.shell.from;
+  below = w.shell.below;
+  rows = ap (fold rows_then (logged_rows y.attribute y.tape)) w.shell.inbox ∙ logged-at x.attribute y.attribute (loaded (rows_in x) ∷ []) y.tape w.shell.attribute w.begun.tape;
+  many = w.shell.many;
+  brings = λ n h. subst (IsBelow n) (sym came) (rows-less (brought x.tape) (logged_rows x.attribute x.tape) x.inbox (λ m all. logged-all (λ (r : Row). r.key < m) x.attribute x.tape all) n h);
+}
+  where
+    came : fold came_then (brought y.tape) y.inbox ≡ rows_in x
+    came = ap (fold came_then (brought y.tape)) w.shell.inbox ∙ ap brought w.begun.tape ∙ append-nil (rows_in x)
 
 -- ---- an update is logged, or has the area begun anew
 shell-same : (x y : AreaState) → y ≡ x → IsSameShell x y

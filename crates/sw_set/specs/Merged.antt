@@ -1,16 +1,18 @@
--- What merging makes of an area, update by update.
-use Rattle.std.specs.Prelude.{◌≡◌, ◌<◌, ◌+◌, ◌⊎◌, ℕ, List, [], ◌∷◌, ◌++◌, length, take, drop, slice_index_or, All, Any, Result, MatchResult}
+-- What merging makes of an area, update by update or by one load of all that waits.
+use Rattle.std.specs.Prelude.{◌≡◌, ◌<◌, ◌+◌, ◌⊎◌, ℕ, suc, List, [], ◌∷◌, ◌++◌, length, take, drop, slice_index_or, All, Any, Result, MatchResult}
 use Rattle.sw_table.specs.declared.row.Row.{Row}
 use Rattle.sw_table.specs.declared.row.Update.{Update}
 use Rattle.sw_table.specs.declared.row.Update.TheVariants as update
 use Rattle.sw_rows.specs.declared.refusal.Refusal.{Refusal}
 use Rattle.sw_rows.specs.declared.refusal.Refusal.TheVariants.{NoMemory}
+use Rattle.sw_rows.specs.Gives.{IsRefused}
 use Rattle.sw_table.specs.Updates.{without}
 use Rattle.sw_kernel.specs.Replay.{loaded, inserted, removed}
 use Rattle.sw_kernel.specs.Tapes.{peak_from}
 use Rattle.sw_map.specs.declared.tail.Tail.TheVariants.{Key}
 use Rattle.sw_map.specs.Held.{blank}
 use Rattle.sw_tape.specs.declared.tape.TheConstants.{MAX_ENTRIES}
+use Rattle.sw_set.specs.declared.merging.TheConstants.{MOST_REMOVALS_MERGED}
 use Rattle.sw_set.specs.Shelf.{AreaState, BringsNoMore, arranged_rows, rows_in, tape_rows}
 use Rattle.sw_set.specs.Aligned.{AreSameMaps}
 use Rattle.sw_set.specs.Prepared.{IsReady}
@@ -94,6 +96,25 @@ pub record IsPartlyMerged (x y : AreaState) : Type 0 where
 -- all is merged; or there was no memory for more than a beginning
 abbrev pub HasMergedOr : {A : Type 0} → Result A Refusal → AreaState → AreaState → Type 0
 HasMergedOr r x y = MatchResult r (λ _. IsAllMerged x y) (λ e. (e ≡ NoMemory) × IsPartlyMerged x y)
+
+-- by how many of the updates a row goes
+unfoldable pub removals_in : List Update → ℕ
+removals_in [] = 0
+removals_in (update.Insert r ∷ us) = removals_in us
+removals_in (update.Remove key ∷ us) = suc (removals_in us)
+
+-- more removals wait than are merged one by one: one load takes up all that waits
+abbrev pub MergesByOneLoad : AreaState → Type 0
+MergesByOneLoad x = MOST_REMOVALS_MERGED < removals_in x.inbox
+
+-- the area is begun anew with all that waited
+pub record IsBegunWithInbox (x y : AreaState) : Type 0 where
+  pub shell : IsSameShell (drained (x.spare + length x.inbox) x) y
+  pub begun : IsBegunAnew (rows_in x) y
+
+-- it is; or there was no memory, and nothing has changed
+abbrev pub HasBegunWithInboxOr : {A : Type 0} → Result A Refusal → AreaState → AreaState → Type 0
+HasBegunWithInboxOr r x y = MatchResult r (λ _. IsBegunWithInbox x y) (IsRefused x y)
 
 -- the area but for its boxes, its tape and what waits; it stands for the same rows
 pub record StandsForSame (x y : AreaState) : Type 0 where

@@ -395,6 +395,13 @@ impl<M: CrackerMap> Area<M> {
         held
     }
 
+    /// The updates that wait.
+    pub(crate) fn waiting(&self) -> &[Update]
+        ensures { result.now ≡ self.now.inbox }
+    {
+        self.inbox.as_slice()
+    }
+
     /// Takes out what waits.
     pub(crate) fn take_inbox(&mut self) -> Vec<Update>
         ensures area { self.new ≡ without_inbox self.old }

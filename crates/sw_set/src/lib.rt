@@ -23,5 +23,6 @@ mod totals;
 mod window;
 
 pub use area::Area;
+pub use merging::MOST_REMOVALS_MERGED;
 pub use needs::needed_maps;
 pub use ready::Ready;

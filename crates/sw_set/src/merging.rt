@@ -8,7 +8,7 @@ ghost use Rattle.sw_rows.specs.Gives.{IsRefused};
 ghost use Rattle.sw_map.specs.declared.tail.Tail.TheVariants.{Key};
 ghost use Rattle.sw_map.specs.Held.{Held};
 ghost use Rattle.sw_tape.specs.declared.tape.TheConstants.{MAX_ENTRIES};
-ghost use Rattle.sw_set.specs.Merged.{HasMergedOr, IsRemovalLogged, IsSameShell, LacksKeys, StandsForSame};
+ghost use Rattle.sw_set.specs.Merged.{HasBegunWithInboxOr, HasMergedOr, IsRemovalLogged, IsSameShell, LacksKeys, MergesByOneLoad, StandsForSame, removals_in};
 ghost use Rattle.sw_set.specs.Merging.{HasBegunWithOr, HasMergedEachOr, HasMergedFromOr, IsLoggedOrNot, IsStretch};
 ghost use Rattle.sw_set.specs.Prepared.{IsReady};
 ghost use Rattle.sw_set.specs.Boxed.{IsSameButBoxes};
@@ -20,6 +20,9 @@ use crate::area::Area;
 use sw_map::{CrackerMap, Tail};
 use sw_rows::{Refusal, Row, Update};
 use sw_tape::MAX_ENTRIES;
+
+/// The most removals that a merge takes up one by one. Where more wait, one load takes up all that waits.
+pub const MOST_REMOVALS_MERGED: usize = 64;
 
 /// Logs a row that comes, if the tape has room for it, and answers whether it had. Refused `NoMemory`, nothing has changed.
 fn try_insertion<M: CrackerMap>(area: &mut Area<M>, row: Row) -> Result<bool, Refusal>
@@ -180,15 +183,66 @@ fn drop_first(waiting: &mut Vec<Update>, many: usize)
     waiting.drain(..many);
 }
 
+/// How many rows go by these updates.
+fn removals_in(updates: &[Update]) -> usize
+    ensures { result ≡ removals_in updates.now }
+{
+    let mut many = 0;
+    for update in updates {
+        many += match update {
+            Update::Insert(_) => 0,
+            Update::Remove(_) => 1,
+        };
+    }
+    many
+}
+
 impl<M: CrackerMap> Area<M> {
-    /// Merges the updates that wait, one after the other. A row that comes is logged, or, where the tape is full, the
-    /// area is begun anew with it. A row that goes is logged by the place of its pair in the key map at the tape's end;
-    /// where the tape is full, or no key map with room for the tape's peak can be stepped to the end, the area is begun
-    /// anew without it. One load takes up all updates to the last removal that waits.
+    /// Merges the updates that wait: one after the other, or, where more than `MOST_REMOVALS_MERGED` of them are removals,
+    /// by one load that takes up all of them, with which the area is begun anew.
+    ///
+    /// One after the other, a row that comes is logged, or, where the tape is full, the area is begun anew with it. A row
+    /// that goes is logged by the place of its pair in the key map at the tape's end; where the tape is full, or no key map
+    /// with room for the tape's peak can be stepped to the end, the area is begun anew without it. One load takes up all
+    /// updates to the last removal that waits.
     ///
     /// The area stands for the same rows. The one refusal is `NoMemory`: a beginning of the updates is merged then, and the
-    /// rest waits.
+    /// rest waits; where one load was to take up all of them, nothing has changed.
     pub fn merge(&mut self) -> Result<(), Refusal>
+        ensures same { StandsForSame self.old self.new }
+        ensures ends { ¬ MergesByOneLoad self.old → HasMergedOr result self.old self.new }
+        ensures by_load { MergesByOneLoad self.old → HasBegunWithInboxOr result self.old self.new }
+        ensures nothing { self.old.inbox ≡ [] → self.new ≡ self.old }
+    {
+        if removals_in(self.waiting()) > MOST_REMOVALS_MERGED {
+            self.restart_with_inbox()
+        } else {
+            self.merge_in_turn()
+        }
+    }
+
+    /// Begins the area anew with all that waits. Refused `NoMemory`, nothing has changed.
+    fn restart_with_inbox(&mut self) -> Result<(), Refusal>
+        ensures same { StandsForSame self.old self.new }
+        ensures ends { HasBegunWithInboxOr result self.old self.new }
+    {
+        let mut waiting = self.take_inbox();
+        match self.restart_after(waiting.as_slice()) {
+            Ok(()) => {
+                waiting.clear();
+                self.put_inbox(waiting);
+                Ok(())
+            }
+            Err(e) => {
+                self.put_inbox(waiting);
+                Err(e)
+            }
+        }
+    }
+
+    /// Merges the updates that wait, one after the other. Refused `NoMemory`, a beginning of them is merged, and the rest
+    /// waits.
+    fn merge_in_turn(&mut self) -> Result<(), Refusal>
         ensures same { StandsForSame self.old self.new }
         ensures ends { HasMergedOr result self.old self.new }
         ensures nothing { self.old.inbox ≡ [] → self.new ≡ self.old }

@@ -4,6 +4,7 @@
 use crate::scenes::{Boxes, Case, ONE_AREA, TWO_AREAS, Trouble, play_cases};
 use crate::steps::{Step, View};
 use crate::trials::Shape;
+use std::alloc::Global;
 use std::test::Fail;
 use sw_map::Tail;
 use sw_rows::Bound;
@@ -362,6 +363,91 @@ const A_KEY_MAP_THAT_CANNOT_BE_ALIGNED_BEGINS_ANEW: &[(Step<'static>, &str)] = &
     (Step::Call("count where a < 10"), "1\n"),
 ];
 
+/// Of 100 rows that rise by a, 65 removals, which have the tape begun anew once with all that waits; no key is looked for.
+const REMOVALS_BEYOND_THE_LIMIT_ARE_ONE_LOAD: &[(Step<'static>, &str)] = &[
+    (Step::Call("count where a <= 50"), "50\n"),
+    (Step::At(0, View::Sizes), "3 boxes, 2 entries"),
+    (Step::Call("insert 101"), "key 101\n"),
+    (Step::DeletesUpTo(65), "removed\n"),
+    (Step::Call("insert 102"), "key 102\n"),
+    (Step::Counts, "1 begins, 2 steps, 0 tails"),
+    (Step::Merge("count"), ""),
+    // the rows that came before the removals and after them are in the load
+    (Step::At(0, View::Sizes), "3 boxes, 1 entries"),
+    (Step::At(0, View::Restarts), "1"),
+    (Step::At(0, KEY), "none"),
+    (Step::Used, "0"),
+    (Step::Counts, "0 begins, 0 steps, 0 tails"),
+    (Step::At(0, View::Holds(65)), "false"),
+    (Step::At(0, View::Holds(66)), "true"),
+    (Step::Call("count where a > 98"), "4\n"),
+];
+
+/// 70 removals, and a count that logs nothing.
+const SEVENTY_REMOVALS: &[(Step<'static>, &str)] = &[
+    (Step::Call("count where a <= 50"), "50\n"),
+    (Step::DeletesUpTo(70), "removed\n"),
+    (Step::At(0, View::Sizes), "3 boxes, 2 entries"),
+    (Step::Call("count"), "30\n"),
+    (Step::At(0, View::Sizes), "3 boxes, 1 entries"),
+    (Step::At(0, View::Restarts), "1"),
+    (Step::Used, "64"),
+];
+
+/// 64 removals, each of which is logged.
+const REMOVALS_UP_TO_THE_LIMIT_ARE_LOGGED: &[(Step<'static>, &str)] = &[
+    (Step::Call("count where a <= 50"), "50\n"),
+    (Step::DeletesUpTo(64), "removed\n"),
+    (Step::Call("count"), "36\n"),
+    (Step::At(0, View::Sizes), "3 boxes, 66 entries"),
+    (Step::At(0, View::Restarts), "0"),
+    (Step::Used, "128"),
+];
+
+/// 70 removals, of which 35 are in each of two areas.
+const REMOVALS_ARE_COUNTED_BY_AREA: &[(Step<'static>, &str)] = &[
+    (Step::Call("count where a <= 50"), "50\n"),
+    (Step::DeletesUpTo(70), "removed\n"),
+    (Step::Call("count"), "30\n"),
+    // the range stands in the tape of the second area alone
+    (Step::At(0, View::Sizes), "3 boxes, 36 entries"),
+    (Step::At(1, View::Sizes), "3 boxes, 37 entries"),
+    (Step::At(0, View::Restarts), "0"),
+    (Step::At(1, View::Restarts), "0"),
+];
+
+/// Removals of many of 100 rows whose a is the key: names, cuts, how many boxes there are, and steps.
+const MANY_REMOVALS: &[(&str, &[i64], usize, &[(Step<'static>, &str)])] = &[
+    (
+        "removals_beyond_the_limit_are_one_load",
+        &[],
+        3,
+        REMOVALS_BEYOND_THE_LIMIT_ARE_ONE_LOAD,
+    ),
+    ("seventy_removals", &[], 3, SEVENTY_REMOVALS),
+    (
+        "removals_up_to_the_limit_are_logged",
+        &[],
+        3,
+        REMOVALS_UP_TO_THE_LIMIT_ARE_LOGGED,
+    ),
+    (
+        "removals_are_counted_by_area",
+        &[36],
+        6,
+        REMOVALS_ARE_COUNTED_BY_AREA,
+    ),
+];
+
+/// Rows whose a is 1, 2, 3 and so on, up to a number.
+fn rising(alloc: Global, last: i64) -> Result<Vec<[i64; 8]>, Fail> {
+    let mut cells = Vec::new(alloc);
+    for before in 0..last {
+        cells.push([before.wrapping_add(1), 0, 0, 0, 0, 0, 0, 0])?;
+    }
+    Ok(cells)
+}
+
 /// Several areas.
 const AREAS: &[Case<'static>] = &[
     Case {
@@ -511,6 +597,33 @@ fn heads_share_boxes_and_cells_among_areas(rt: HostRuntime) -> Result<(), Fail> 
 fn heads_merge_what_waits(rt: HostRuntime) -> Result<(), Fail> {
     let mut text = String::new(rt.alloc());
     play_cases(&rt, rt.alloc(), MERGES, &mut text)?;
+    assert_eq!(rt; text.as_str(), "");
+    Ok(())
+}
+
+#[test]
+fn heads_merge_many_removals(rt: HostRuntime) -> Result<(), Fail> {
+    let cells = rising(rt.alloc(), 100)?;
+    let mut text = String::new(rt.alloc());
+    for (name, cuts, first, steps) in MANY_REMOVALS {
+        if text.is_empty() {
+            let case = Case {
+                name: *name,
+                shape: Shape {
+                    header: &["a"],
+                    attribute: 0,
+                    cuts: *cuts,
+                    cells: cells.as_slice(),
+                },
+                boxes: Boxes {
+                    first: *first,
+                    ..AMPLE
+                },
+                steps: *steps,
+            };
+            play_cases(&rt, rt.alloc(), &[case], &mut text)?;
+        }
+    }
     assert_eq!(rt; text.as_str(), "");
     Ok(())
 }

@@ -18,6 +18,8 @@ pub(crate) enum Step<'t> {
     Call(&'t str),
     /// Makes it so often: the last reply.
     Calls(u32, &'t str),
+    /// Deletes the rows of the keys 1, 2, 3 and so on, up to a number: the last reply.
+    DeletesUpTo(u64),
     /// Merges what waits in the areas that a query touches.
     Merge(&'t str),
     /// Clears maps until so many cells came back: how many did.
@@ -47,6 +49,8 @@ pub(crate) enum View {
     Cursor(Tail),
     /// Whether it has a row of a key.
     Holds(u64),
+    /// How often it was begun anew.
+    Restarts,
 }
 
 /// What a counter tells, which is 0 again.
@@ -88,6 +92,7 @@ fn view_of<M: CrackerMap>(area: &Area<M>, view: View, text: &mut String) -> Resu
         View::Place(bound) => push_place(text, area.place(bound)),
         View::Cursor(tail) => push_place(text, area.cursor(tail)),
         View::Holds(key) => write!(text, "{}", area.holds(key)),
+        View::Restarts => write!(text, "{}", area.restarts()),
     }
 }
 
@@ -150,6 +155,23 @@ fn called_often<R: Threads + Sync, M: CrackerMap>(
     Ok(())
 }
 
+/// Deletes the rows of the keys up to a number.
+fn deleted_up_to<R: Threads + Sync, M: CrackerMap>(
+    rt: &R,
+    alloc: Global,
+    trial: &mut Trial<M>,
+    last: u64,
+    text: &mut String,
+) -> Result<(), Fail> {
+    let mut line = String::new(alloc);
+    for before in 0..last {
+        line.clear();
+        write!(line, "delete {}", before.wrapping_add(1))?;
+        called(rt, alloc, trial, line.as_str(), text)?;
+    }
+    Ok(())
+}
+
 /// Merges what waits in the areas that a query touches: no map is made for it.
 pub(crate) fn merge<M: CrackerMap>(
     alloc: Global,
@@ -174,6 +196,7 @@ fn take<R: Threads + Sync, M: CrackerMap>(
     match step {
         Step::Call(line) => called(rt, alloc, trial, line, text),
         Step::Calls(many, line) => called_often(rt, alloc, trial, many, line, text),
+        Step::DeletesUpTo(last) => deleted_up_to(rt, alloc, trial, last, text),
         Step::Merge(line) => merge(alloc, trial, line),
         Step::Supply => Ok(supply(trial)?),
         _ => Ok(tend(trial, watch, step, text)?),
