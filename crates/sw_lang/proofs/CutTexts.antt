@@ -1,5 +1,5 @@
 -- Texts of cuts: the reading finds the cuts that the relation relates to a text, and no others.
-use Rattle.std.proofs.Common.{◌≡◌, ◌∙◌, ap, sym, refl, subst, ℕ, zero, suc, ℤ, ◌+◌, ◌<◌, ◌≤◌, Bool, true, false, not, cond, eqb, List, [], ◌∷◌, ◌++◌, length, take, drop, codes, All, Option, Some, None, Result, Ok, Err, position, slice_get, int_lt, nat_lt, length-append, length-drop, ext_get_or, arith, lt-ltb, ltb-true, ◌==◌}
+use Rattle.std.proofs.Common.{◌≡◌, ◌∙◌, ap, sym, refl, subst, ℕ, zero, suc, ℤ, ◌+◌, ◌<◌, ◌≤◌, inl, inr, Bool, true, false, not, cond, eqb, List, [], ◌∷◌, ◌++◌, length, take, drop, codes, All, Option, Some, None, Result, Ok, Err, position, slice_get, int_lt, nat_lt, length-append, length-drop, ext_get_or, arith, lt-ltb, ltb-true, ◌==◌}
 use Rattle.std.specs.List.{AllByRecursion, list_all, slice_split}
 use Rattle.std.proofs.Math.Seq.{take-append_seam}
 use Rattle.std.proofs.lemmas.Bool.{and_parts}
@@ -9,9 +9,10 @@ use Rattle.std.proofs.lemmas.List.Elements.{All-append, All-cons, All-from_recur
 use Rattle.std.proofs.lemmas.List.Quantifiers.{position-Some}
 use Rattle.std.proofs.lemmas.List.Splits.{slice_split_at, slice_split_none}
 use Rattle.sw_rows.proofs.CellSpelling.{all_like, cell_spelled, divided, drop_past, position_seam}
-use Rattle.sw_rows.specs.Cells.{cell_value}
 use Rattle.sw_rows.specs.Header.{Column, IsSchema, names_of}
+use Rattle.sw_rows.specs.Spelling.{WritesCell}
 use Rattle.sw_rows.specs.Domains.{Domain}
+use Rattle.sw_rows.specs.Domains as kind
 use Rattle.sw_rows.specs.declared.refusal.Why.TheVariants as why
 use Rattle.sw_lang.specs.declared.cuts.TheConstants.{MOST_CUTS}
 use Rattle.sw_lang.specs.declared.fault.Fault.{Fault}
@@ -19,14 +20,14 @@ use Rattle.sw_lang.specs.declared.fault.Fault.TheVariants.{Bad, Excess}
 use Rattle.sw_lang.specs.Cuts.{AreCuts, AreEntries, Cut, CutLists, FitCuts, IsCuts, IsEntry, cuts_on, values_on}
 use Rattle.sw_lang.specs.CutsReading.{cut_name, cut_split, cut_value, cut_valued, cuts_after, cuts_at, equals_at, is_divider, no_cuts, with_cut, with_room}
 use Rattle.sw_lang.specs.Fits.{IsOfKind}
-use Rattle.sw_lang.specs.Reading.{◌>>=◌, attr_of}
+use Rattle.sw_lang.specs.Reading.{◌>>=◌, attr_of, word_value}
 use Rattle.sw_lang.specs.Replies.{kind_at}
 use Rattle.sw_lang.specs.Tokens.{is_word_byte, word}
 use Rattle.sw_lang.proofs.CutLists.{AllLawful, AllWithin, Allowed, HasRoom, LawfulWith, added, added_lawful, added_length, added_on, lawful_allowed, with_new}
 use Rattle.sw_lang.proofs.CutSteps.{empty_text, parts_none, parts_some, some_text}
 use Rattle.sw_lang.proofs.Fit.{value_kind}
 use Rattle.sw_lang.proofs.Names.{attr_found, attr_named, attr_read, attr_within}
-use Rattle.sw_lang.proofs.PrintedCells.{text_word}
+use Rattle.sw_lang.proofs.PrintedCells.{number_word}
 use Rattle.sw_lang.proofs.PrintedNames.{word_of}
 use Rattle.sw_lang.proofs.Relates.{bind_ok, same_ok}
 
@@ -47,8 +48,15 @@ none_divides (b ∷ bs) h =
 name_bytes : (schema : List Column) (w : List ℕ) (i : ℕ) → IsSchema schema → slice_get (names_of schema) i ≡ Some w → list_all is_word_byte w ≡ true
 name_bytes schema w i ok at = (word_of w (attr_named schema w i ok at)).run.bytes
 
-value_bytes : (k : Domain) (w : List ℕ) (z : ℤ) → cell_value k w ≡ Some z → list_all is_word_byte w ≡ true
-value_bytes k w z h = (text_word k w z (cell_spelled k w z h)).0.bytes
+flag_bytes : (w : List ℕ) (z : ℤ) → WritesCell kind.Flag w z → list_all is_word_byte w ≡ true
+flag_bytes w z (inl s) = ap (list_all is_word_byte) s.0
+flag_bytes w z (inr s) = ap (list_all is_word_byte) s.0
+
+value_bytes : (k : Domain) (w : List ℕ) (z : ℤ) → word_value k w ≡ Some z → list_all is_word_byte w ≡ true
+value_bytes kind.Int w z h = (number_word 0 w z (cell_spelled kind.Int w z h)).0.bytes
+value_bytes (kind.Fix places) w z h = (number_word places w z (cell_spelled (kind.Fix places) w z h)).0.bytes
+value_bytes kind.Flag w z h = flag_bytes w z (cell_spelled kind.Flag w z h)
+value_bytes (kind.Text texts) w z h = absurd cc
 
 abbrev Undivided : List ℕ → Type 0
 Undivided text = All (λ b. is_divider b ≡ false) text
@@ -131,9 +139,9 @@ named_part schema cuts w a e =
     let same : b.0 ≡ a = r.1 in
     (attr_found schema why.Cuts w a (b.1 ∙ ap (λ (i : ℕ). Ok i) same), subst (λ (i : ℕ). length (cuts_on cuts i) < MOST_CUTS) same (ltb-true (length (cuts_on cuts b.0)) MOST_CUTS r.0))
 
-value_part : (k : Domain) (part : List ℕ) (i : ℕ) (z : ℤ) → cut_value k part (Some i) ≡ Ok z → cell_value k (drop (i + 1) part) ≡ Some z
+value_part : (k : Domain) (part : List ℕ) (i : ℕ) (z : ℤ) → cut_value k part (Some i) ≡ Ok z → word_value k (drop (i + 1) part) ≡ Some z
 unfolding cut_value
-value_part k part i z e = valued_is (cell_value k (drop (i + 1) part)) z e
+value_part k part i z e = valued_is (word_value k (drop (i + 1) part)) z e
 
 no_value : (k : Domain) (part : List ℕ) (z : ℤ) → cut_value k part None ≡ Ok z → ⊥
 unfolding cut_value
@@ -167,7 +175,7 @@ name_read schema cuts w a ok named room =
     let fits : nat_lt (length (cuts_on cuts a)) MOST_CUTS ≡ true = lt-ltb (length (cuts_on cuts a)) MOST_CUTS room in
     ap (λ r. r >>= with_room cuts) (attr_read schema why.Cuts w a ok named) ∙ rw fits refl
 
-value_read : (k : Domain) (part : List ℕ) (i : ℕ) (z : ℤ) → cell_value k (drop (i + 1) part) ≡ Some z → cut_value k part (Some i) ≡ Ok z
+value_read : (k : Domain) (part : List ℕ) (i : ℕ) (z : ℤ) → word_value k (drop (i + 1) part) ≡ Some z → cut_value k part (Some i) ≡ Ok z
 unfolding cut_value
 value_read k part i z e = ap cut_valued e
 
@@ -186,7 +194,7 @@ part_read schema cuts part c ok is room =
     let k = kind_at schema c.0 in
     ap (cut_split schema cuts part) place
     ∙ ap (λ r. r >>= λ a. cut_value (kind_at schema a) part (Some n) >>= λ z. with_cut cuts a z) (ap (cut_name schema cuts) front ∙ name_read schema cuts is.name c.0 ok is.named room.0)
-    ∙ ap (λ r. r >>= λ z. with_cut cuts c.0 z) (value_read k part n c.1 (ap (cell_value k) back ∙ is.valued))
+    ∙ ap (λ r. r >>= λ z. with_cut cuts c.0 z) (value_read k part n c.1 (ap (word_value k) back ∙ is.valued))
     ∙ new_read cuts c.0 c.1 room.1
 
 -- ---- all parts
@@ -291,7 +299,7 @@ AllOfKind schema [] = Unit {0}
 AllOfKind schema (c ∷ cs) = IsOfKind (kind_at schema c.0) c.1 × AllOfKind schema cs
 
 entry_kind : (schema : List Column) (text : List ℕ) (c : Cut) → IsEntry schema text c → IsOfKind (kind_at schema c.0) c.1
-entry_kind schema text c is = value_kind (kind_at schema c.0) (word is.value) c.1 (is.value, refl, is.valued)
+entry_kind schema text c is = value_kind (kind_at schema c.0) (word is.value) c.1 (inl (is.value, refl, is.valued))
 
 entries_kinds : (schema : List Column) (text : List ℕ) (cs : List Cut) → AreEntries schema text cs → AllOfKind schema cs
 entries_kinds schema text [] is = tt

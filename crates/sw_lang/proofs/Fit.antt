@@ -1,15 +1,20 @@
 -- What the grammar relates to a line fits the table.
-use Rattle.std.proofs.Common.{◌≡◌, ap, sym, refl, subst, ℕ, zero, suc, ℤ, pos, ◌-◌, ◌<◌, ◌≤◌, inl, inr, Bool, true, false, cond, eqb, List, [], ◌∷◌, ◌++◌, length, map, replicate, Option, Some, None, IfSome, nat_eq, arith}
+use Rattle.std.proofs.Common.{◌≡◌, ap, sym, refl, subst, ℕ, zero, suc, ℤ, pos, negsuc, ◌-◌, ◌<◌, ◌≤◌, inl, inr, int_lt, Bool, true, false, not, cond, eqb, ◌&&◌, List, [], ◌∷◌, ◌++◌, length, map, replicate, Option, Some, None, IfSome, nat_eq, nat_lt, arith}
 use Rattle.std.specs.Prelude.{bytes_eq, codes}
 use Rattle.std.specs.List.{AllByRecursion, IsDistinct}
+use Rattle.std.proofs.lemmas.Bool.{false≢true, le-ltb, ltb-true}
 use Rattle.std.proofs.lemmas.Bool.Decides.{Decides-eqb}
 use Rattle.std.proofs.lemmas.List.{length-map}
 use Rattle.std.proofs.lemmas.List.Elements.{All-from_recursion}
 use Rattle.std.proofs.lemmas.Option.{slice_get_within}
+use Rattle.sw_rows.proofs.CellSpelling.{cell_spelled}
+use Rattle.sw_rows.proofs.TextLaws.{code_only}
 use Rattle.sw_rows.specs.Bounds.{bound_below, greater, lesser}
 use Rattle.sw_rows.specs.Header.{Column, kinds_of, names_of}
 use Rattle.sw_rows.specs.declared.bound.Bound.{Bound}
-use Rattle.sw_rows.specs.Domains.{Domain}
+use Rattle.sw_rows.specs.declared.bound.Bound.TheVariants.{Before, After}
+use Rattle.sw_rows.specs.Scan.{WantsBelow}
+use Rattle.sw_rows.specs.Domains.{Domain, is_of_texts}
 use Rattle.sw_rows.specs.Domains as kind
 use Rattle.sw_rows.specs.declared.query.Cond.{Cond}
 use Rattle.sw_rows.specs.declared.query.Call.{Call}
@@ -20,10 +25,12 @@ use Rattle.sw_lang.specs.declared.term.Term.{Term}
 use Rattle.sw_lang.specs.declared.token.Op.{Op}
 use Rattle.sw_lang.specs.declared.token.Op.TheVariants.{Lt, Le, Eq, Ge, Gt}
 use Rattle.sw_lang.specs.Replies.{kind_at}
-use Rattle.sw_lang.specs.Terms.{add_term, attrs_after, conditions, lower_of, upper_of, with_attr}
+use Rattle.sw_lang.specs.Terms.{add_term, attrs_after, cond_of, conditions, lower_of, narrowed, upper_of, with_attr}
 use Rattle.sw_lang.specs.Tokens.{Tok}
-use Rattle.sw_lang.specs.Fits.{FitsCall, FitsCells, FitsQuery, HasBoundsOfKind, IsBoundOfKind, IsOfKind}
+use Rattle.sw_lang.specs.Fits.{AreEqualBounds, FitsCall, FitsCells, FitsQuery, HasBoundsOfKind, HasFewNames, IsBoundOfKind, IsEqualOnTexts, IsOfKind, TakesNumbers}
+use Rattle.sw_lang.specs.Reading.{is_equality}
 use Rattle.sw_lang.specs.Grammar.{IsCall, IsLine, IsName, IsNames, IsTerm, IsTerms, IsValue, IsValues, IsWant, IsWhere, MoreValues}
+use Rattle.sw_lang.proofs.Names.{Serves}
 use Rattle.sw_lang.proofs.Merge.{Distinct, conds_from, conds_from-conditions, distinct-more, eqb-turned, has, or-false}
 
 pub name_within : (schema : List Column) (t : Tok) (i : ℕ) → IsName schema t i → i < length schema
@@ -37,19 +44,26 @@ flag-kind false false z h = absurd cc
 pub value_kind : (k : Domain) (t : Tok) (z : ℤ) → IsValue k t z → IsOfKind k z
 value_kind kind.Int t z h = tt
 value_kind (kind.Fix places) t z h = tt
-value_kind kind.Flag t z (w, is, value) = flag-kind (bytes_eq w (codes "true")) (bytes_eq w (codes "false")) z value
+value_kind kind.Flag t z (inl (w, is, value)) = flag-kind (bytes_eq w (codes "true")) (bytes_eq w (codes "false")) z value
+value_kind kind.Flag t z (inr (text, is, of_texts, value)) = absurd (false≢true of_texts)
+value_kind (kind.Text texts) t z (inl (w, is, value)) = absurd cc
+value_kind (kind.Text texts) t z (inr (text, is, of_texts, value)) =
+    let spelled = cell_spelled (kind.Text texts) text z value in
+    (spelled.1.0, spelled.1.2, text, code_only texts spelled.1.0 text spelled.1.1)
 
 -- ---- conditions
 
 abbrev TermFits : List Column → Term → Type 0
-TermFits schema t = (t.attr < length schema) × IsOfKind (kind_at schema t.attr) t.value
+TermFits schema t =
+    (t.attr < length schema) × IsOfKind (kind_at schema t.attr) t.value
+    × Serves (kind_at schema t.attr) t.op
 
 abbrev TermsFit : List Column → List Term → Type 0
 TermsFit schema [] = Unit {0}
 TermsFit schema (t ∷ ts) = TermFits schema t × TermsFit schema ts
 
 term_fits : (schema : List Column) (a b c : Tok) (t : Term) → IsTerm schema a b c t → TermFits schema t
-term_fits schema a b c t is = (name_within schema a t.attr is.name, value_kind (kind_at schema t.attr) c t.value is.value)
+term_fits schema a b c t is = (name_within schema a t.attr is.name, value_kind (kind_at schema t.attr) c t.value is.value, is.fits)
 
 terms_fit : (schema : List Column) (ts : List Tok) (us : List Term) → IsTerms schema ts us → TermsFit schema us
 terms_fit schema ts [] h = absurd h
@@ -57,7 +71,7 @@ terms_fit schema ts (t ∷ []) (a, b, c, e, is) = (term_fits schema a b c t is, 
 terms_fit schema ts (t ∷ u ∷ us) (a, b, c, rest, e, is, more) = (term_fits schema a b c t is, terms_fit schema rest (u ∷ us) more)
 
 abbrev CondFits : List Column → Cond → Type 0
-CondFits schema c = (c.attr < length schema) × HasBoundsOfKind schema c
+CondFits schema c = (c.attr < length schema) × HasBoundsOfKind schema c × IsEqualOnTexts schema c
 
 abbrev CondsFit : List Column → List Cond → Type 0
 CondsFit schema [] = Unit {0}
@@ -91,16 +105,71 @@ upper_kind k Eq z h = h
 upper_kind k Ge z h = tt
 upper_kind k Gt z h = tt
 
+-- ---- bounds of equality
+
+not_itself : (v : ℤ) → int_lt v v ≡ false
+not_itself (pos a) = le-ltb a a (omega arith)
+not_itself (negsuc a) = le-ltb a a (omega arith)
+
+not_both : (a b : ℕ) → nat_lt a b ≡ true → nat_lt b a ≡ false
+not_both a b h = le-ltb b a (omega (arith, ltb-true a b h))
+
+not_turned : (v w : ℤ) → int_lt v w ≡ true → int_lt w v ≡ false
+not_turned (pos a) (pos b) h = not_both a b h
+not_turned (pos a) (negsuc b) h = absurd (false≢true h)
+not_turned (negsuc a) (pos b) h = refl
+not_turned (negsuc a) (negsuc b) h = not_both b a h
+
+-- narrowing an equality by another one keeps it one
+equal-by : (y z v : ℤ) (p q : Bool) → int_lt y v ≡ p → int_lt z v ≡ q → int_lt y z ≡ false
+    → AreEqualBounds (cond p (Some (Before v)) (Some (Before y))) (cond q (Some (After z)) (Some (After v)))
+equal-by y z v true true e f h = not_turned z v f
+equal-by y z v true false e f h = not_itself v
+equal-by y z v false true e f h = h
+equal-by y z v false false e f h = e
+
+equal_more : (l u : Option Bound) (o : Op) (v : ℤ) → is_equality o ≡ true → AreEqualBounds l u → AreEqualBounds (greater l (lower_of o v)) (lesser u (upper_of o v))
+equal_more l u Lt v o h = absurd (false≢true o)
+equal_more l u Le v o h = absurd (false≢true o)
+equal_more l u Ge v o h = absurd (false≢true o)
+equal_more l u Gt v o h = absurd (false≢true o)
+equal_more None u Eq v o h = absurd h
+equal_more (Some (After y)) u Eq v o h = absurd h
+equal_more (Some (Before y)) None Eq v o h = absurd h
+equal_more (Some (Before y)) (Some (Before z)) Eq v o h = absurd h
+equal_more (Some (Before y)) (Some (After z)) Eq v o h = equal-by y z v (int_lt y v) (int_lt z v) refl refl h
+
+equal_new : (o : Op) (v : ℤ) → is_equality o ≡ true → AreEqualBounds (lower_of o v) (upper_of o v)
+equal_new Lt v o = absurd (false≢true o)
+equal_new Le v o = absurd (false≢true o)
+equal_new Eq v o = not_itself v
+equal_new Ge v o = absurd (false≢true o)
+equal_new Gt v o = absurd (false≢true o)
+
+-- the operator of a term on texts
+served : (p q : Bool) → (p && not q) ≡ false → p ≡ true → q ≡ true
+served true true h e = refl
+served true false h e = absurd (false≢true (sym h))
+served false q h e = absurd (false≢true e)
+
 add-by : (v : Bool) (schema : List Column) (c : Cond) (cs : List Cond) (t : Term) → eqb c.attr t.attr ≡ v → CondsFit schema (c ∷ cs) → TermFits schema t → CondsFit schema (add_term cs t) → CondsFit schema (add_term (c ∷ cs) t)
 add-by true schema c cs t e h f ih =
     let same : t.attr ≡ c.attr = sym ((Decides-eqb c.attr t.attr).0 e) in
     let of_kind : IsOfKind (kind_at schema c.attr) t.value = subst (λ (a : ℕ). IsOfKind (kind_at schema a) t.value) same f.1 in
     let k = kind_at schema c.attr in
-    rw e ((h.0.0, (greater_kind k c.lower (lower_of t.op t.value) h.0.1.0 (lower_kind k t.op t.value of_kind), lesser_kind k c.upper (upper_of t.op t.value) h.0.1.1 (upper_kind k t.op t.value of_kind))), h.1)
+    let bounds : HasBoundsOfKind schema (narrowed c t) =
+    (greater_kind k c.lower (lower_of t.op t.value) h.0.1.0 (lower_kind k t.op t.value of_kind), lesser_kind k c.upper (upper_of t.op t.value) h.0.1.1 (upper_kind k t.op t.value of_kind)) in
+    let on_texts : is_of_texts k ≡ true → is_equality t.op ≡ true =
+    λ texts. served (is_of_texts k) (is_equality t.op) (subst (λ (a : ℕ). Serves (kind_at schema a) t.op) same f.2) texts in
+    let equal : IsEqualOnTexts schema (narrowed c t) = λ texts. equal_more c.lower c.upper t.op t.value (on_texts texts) (h.0.2 texts) in
+    rw e ((h.0.0, bounds, equal), h.1)
 add-by false schema c cs t e h f ih = rw e (h.0, ih)
 
 add_fits : (schema : List Column) (cs : List Cond) (t : Term) → CondsFit schema cs → TermFits schema t → CondsFit schema (add_term cs t)
-add_fits schema [] t h f = ((f.0, (lower_kind (kind_at schema t.attr) t.op t.value f.1, upper_kind (kind_at schema t.attr) t.op t.value f.1)), tt)
+add_fits schema [] t h f =
+    let k = kind_at schema t.attr in
+    let equal : IsEqualOnTexts schema (cond_of t) = λ texts. equal_new t.op t.value (served (is_of_texts k) (is_equality t.op) f.2 texts) in
+    ((f.0, (lower_kind k t.op t.value f.1, upper_kind k t.op t.value f.1), equal), tt)
 add_fits schema (c ∷ cs) t h f = add-by (eqb c.attr t.attr) schema c cs t refl h f (add_fits schema cs t h.1 f)
 
 from_fits : (schema : List Column) (cs : List Cond) (ts : List Term) → CondsFit schema cs → TermsFit schema ts → CondsFit schema (conds_from cs ts)
@@ -151,6 +220,10 @@ kinds : (schema : List Column) (cs : List Cond) → CondsFit schema cs → AllBy
 kinds schema [] h = tt
 kinds schema (c ∷ cs) h = (h.0.1, kinds schema cs h.1)
 
+equals : (schema : List Column) (cs : List Cond) → CondsFit schema cs → AllByRecursion (IsEqualOnTexts schema) cs
+equals schema [] h = tt
+equals schema (c ∷ cs) h = (h.0.2, equals schema cs h.1)
+
 pub names_below : (schema : List Column) (ts : List Tok) (is : List ℕ) → IsNames schema ts is → AllByRecursion (λ a. a < length schema) is
 names_below schema ts [] h = absurd h
 names_below schema ts (i ∷ []) (a, e, is) = (name_within schema a i is, tt)
@@ -160,37 +233,24 @@ some_names : (schema : List Column) (ts : List Tok) (is : List ℕ) → IsNames 
 some_names schema ts [] h = absurd h
 some_names schema ts (i ∷ is) h = omega arith
 
+question_fits : (schema : List Column) (conds : List Cond) (want : Want) → CondsOf schema conds → WantsBelow (length schema) want → TakesNumbers schema want → HasFewNames want
+    → FitsQuery schema (record { conds = conds; want = want })
+question_fits schema conds want h within numbers few = record {
+  attrs = record { conds = All-from_recursion (λ c. c.attr < length schema) conds (below schema conds h.fit); want = within };
+  once = h.once;
+  bounds = All-from_recursion (HasBoundsOfKind schema) conds (kinds schema conds h.fit);
+  equal = All-from_recursion (IsEqualOnTexts schema) conds (equals schema conds h.fit);
+  numbers = numbers;
+  names = few;
+}
+
 want_fits : (schema : List Column) (front : List Tok) (conds : List Cond) (want : Want) → IsWant schema front want → CondsOf schema conds → FitsQuery schema (record { conds = conds; want = want })
-want_fits schema front conds (Rows names) (rest, e, is, few) h = record {
-  attrs = record { conds = All-from_recursion (λ c. c.attr < length schema) conds (below schema conds h.fit); want = All-from_recursion (λ a. a < length schema) names (names_below schema rest names is) };
-  once = h.once;
-  bounds = All-from_recursion (HasBoundsOfKind schema) conds (kinds schema conds h.fit);
-  names = (some_names schema rest names is, few);
-}
-want_fits schema front conds Count e h = record {
-  attrs = record { conds = All-from_recursion (λ c. c.attr < length schema) conds (below schema conds h.fit); want = tt };
-  once = h.once;
-  bounds = All-from_recursion (HasBoundsOfKind schema) conds (kinds schema conds h.fit);
-  names = tt;
-}
-want_fits schema front conds (Sum a) (t, e, is) h = record {
-  attrs = record { conds = All-from_recursion (λ c. c.attr < length schema) conds (below schema conds h.fit); want = name_within schema t a is };
-  once = h.once;
-  bounds = All-from_recursion (HasBoundsOfKind schema) conds (kinds schema conds h.fit);
-  names = tt;
-}
-want_fits schema front conds (Min a) (t, e, is) h = record {
-  attrs = record { conds = All-from_recursion (λ c. c.attr < length schema) conds (below schema conds h.fit); want = name_within schema t a is };
-  once = h.once;
-  bounds = All-from_recursion (HasBoundsOfKind schema) conds (kinds schema conds h.fit);
-  names = tt;
-}
-want_fits schema front conds (Max a) (t, e, is) h = record {
-  attrs = record { conds = All-from_recursion (λ c. c.attr < length schema) conds (below schema conds h.fit); want = name_within schema t a is };
-  once = h.once;
-  bounds = All-from_recursion (HasBoundsOfKind schema) conds (kinds schema conds h.fit);
-  names = tt;
-}
+want_fits schema front conds (Rows names) (rest, e, is, few) h =
+    question_fits schema conds (Rows names) h (All-from_recursion (λ a. a < length schema) names (names_below schema rest names is)) tt (some_names schema rest names is, few)
+want_fits schema front conds Count e h = question_fits schema conds Count h tt tt tt
+want_fits schema front conds (Sum a) (t, e, is) h = question_fits schema conds (Sum a) h (name_within schema t a is.0) is.1 tt
+want_fits schema front conds (Min a) (t, e, is) h = question_fits schema conds (Min a) h (name_within schema t a is.0) is.1 tt
+want_fits schema front conds (Max a) (t, e, is) h = question_fits schema conds (Max a) h (name_within schema t a is.0) is.1 tt
 
 -- ---- rows
 

@@ -14,9 +14,9 @@ use Rattle.sw_lang.specs.declared.fault.Fault.{Fault}
 use Rattle.sw_lang.specs.declared.fault.Fault.TheVariants.{Bad}
 use Rattle.sw_lang.specs.declared.parse.TheConstants.{MOST_LINE}
 use Rattle.sw_lang.specs.Tokens.{Tok, word, tokens}
-use Rattle.sw_lang.specs.Reading.{aggregate_at, asked, call_at, call_of, cells_at, delete_at, first_by, insert_at, is_comment, is_word, key_of, line_at, name_of, names_at, nothing_left, select_at, values_at, where_at}
-use Rattle.sw_lang.specs.Grammar.{IsCall, IsLine, IsName, IsNames, IsWant, IsWhere}
-use Rattle.sw_lang.proofs.Names.{key_found, key_read, name_found, name_read, word_is}
+use Rattle.sw_lang.specs.Reading.{aggregate_at, asked, call_at, call_of, cells_at, delete_at, first_by, insert_at, is_comment, is_word, key_of, line_at, names_at, nothing_left, number_name, select_at, values_at, where_at}
+use Rattle.sw_lang.specs.Grammar.{IsCall, IsLine, IsNames, IsNumbersName, IsWant, IsWhere}
+use Rattle.sw_lang.proofs.Names.{key_found, key_read, number_found, number_read, word_is}
 use Rattle.sw_lang.proofs.Relates.{bind_ok, first_is, first_read, names_found, names_read, same_ok, values_found, values_read, where-NoComma, where_found, where_read}
 
 abbrev selected : List Cond → Want → Call
@@ -27,10 +27,10 @@ selected conds want = Select (record { conds = conds; want = want })
 asked_read : (schema : List Column) (want : Want) (ts : List Tok) (conds : List Cond) → IsSchema schema → IsWhere schema ts conds → asked schema want ts ≡ Ok (selected conds want)
 asked_read schema want ts conds ok h = rw (where_read schema ts conds ok h) refl
 
-aggregate_read : (schema : List Column) (want : ℕ → Want) (t : Tok) (a : ℕ) (rest : List Tok) (conds : List Cond) → IsSchema schema → IsName schema t a → IsWhere schema rest conds
+aggregate_read : (schema : List Column) (want : ℕ → Want) (t : Tok) (a : ℕ) (rest : List Tok) (conds : List Cond) → IsSchema schema → IsNumbersName schema t a → IsWhere schema rest conds
     → aggregate_at schema want (t ∷ rest) ≡ Ok (selected conds (want a))
 unfolding aggregate_at
-aggregate_read schema want t a rest conds ok is h = rw (first_read (name_of schema) t a rest (name_read schema t a ok is)) (asked_read schema (want a) rest conds ok h)
+aggregate_read schema want t a rest conds ok is h = rw (first_read (number_name schema) t a rest (number_read schema t a ok is)) (asked_read schema (want a) rest conds ok h)
 
 select_read : (schema : List Column) (front rest : List Tok) (names : List ℕ) (conds : List Cond) → IsSchema schema → IsNames schema front names → length names ≤ 8 → IsWhere schema rest conds
     → select_at schema (front ++ rest) ≡ Ok (selected conds (Rows names))
@@ -99,15 +99,15 @@ from_count schema t ts c h e =
     question schema Count a.0 (t ∷ ts) (t ∷ []) ts c refl (ap (λ (w : Tok). w ∷ []) (word_is (codes "count") t h)) a.1 a.2
 
 abbrev Aggregated : List Column → (ℕ → Want) → List Tok → Call → Type 0
-Aggregated schema want ts c = (n : Tok) × (a : ℕ) × (rest : List Tok) × (conds : List Cond) × (ts ≡ n ∷ rest) × IsName schema n a × IsWhere schema rest conds × (selected conds (want a) ≡ c)
+Aggregated schema want ts c = (n : Tok) × (a : ℕ) × (rest : List Tok) × (conds : List Cond) × (ts ≡ n ∷ rest) × IsNumbersName schema n a × IsWhere schema rest conds × (selected conds (want a) ≡ c)
 
 aggregate_found : (schema : List Column) (want : ℕ → Want) (ts : List Tok) (c : Call) → aggregate_at schema want ts ≡ Ok c → Aggregated schema want ts c
 unfolding aggregate_at
 aggregate_found schema want ts c e =
-    let b = bind_ok (first_by (name_of schema) ts) (λ name. asked schema (want name.0) name.1) c e in
-    let f = first_is (name_of schema) ts b.0.0 b.0.1 b.1 in
+    let b = bind_ok (first_by (number_name schema) ts) (λ name. asked schema (want name.0) name.1) c e in
+    let f = first_is (number_name schema) ts b.0.0 b.0.1 b.1 in
     let a = asked_found schema (want b.0.0) b.0.1 c b.2 in
-    (f.0, b.0.0, b.0.1, a.0, f.1, name_found schema f.0 b.0.0 f.2, a.1, a.2)
+    (f.0, b.0.0, b.0.1, a.0, f.1, number_found schema f.0 b.0.0 f.2, a.1, a.2)
 
 from_sum : (schema : List Column) (t : Tok) (ts : List Tok) (c : Call) → is_word (codes "sum") t ≡ true → aggregate_at schema Sum ts ≡ Ok c → IsCall schema (t ∷ ts) c
 from_sum schema t ts c h e =

@@ -1,24 +1,28 @@
 -- Which words are names, values, keys and words of the language.
-use Rattle.std.proofs.Common.{◌≡◌, ◌∙◌, ap, sym, refl, ℕ, zero, suc, ℤ, ◌<◌, Bool, true, false, cond, not, ◌&&◌, List, [], ◌∷◌, length, get_or, Option, Some, None, Ok, Err, slice_get, arith}
+use Rattle.std.proofs.Common.{◌≡◌, ◌∙◌, ap, sym, refl, subst, ℕ, zero, suc, ℤ, ◌<◌, inl, inr, Bool, true, false, cond, not, ◌&&◌, List, [], ◌∷◌, length, get_or, Option, Some, None, Result, Ok, Err, slice_get, arith}
 use Rattle.std.specs.Prelude.{position, bytes_eq}
 use Rattle.std.specs.List.{list_all, position_or_len}
-use Rattle.std.proofs.lemmas.Bool.{false≢true, lt-ltb}
+use Rattle.std.proofs.lemmas.Bool.{cond-true, false≢true, lt-ltb}
 use Rattle.std.proofs.lemmas.List.{get_or-map, length-map}
 use Rattle.std.proofs.lemmas.List.Folds.{list_all_at, list_any_at}
 use Rattle.std.proofs.lemmas.List.Quantifiers.{position-Some}
 use Rattle.std.proofs.lemmas.Option.{slice_get-get_or, slice_get_within, get_or_from_slice_get}
 use Rattle.std.proofs.lemmas.Slice.Eq.{bytes_eq-Decides}
+use Rattle.sw_rows.proofs.CellSpelling.{cell_spelled}
 use Rattle.sw_rows.specs.Cells.{cell_value}
 use Rattle.sw_rows.specs.Header.{Column, IsSchema, is_known, is_name, names_differ, names_of}
-use Rattle.sw_rows.specs.Domains.{Domain}
+use Rattle.sw_rows.specs.Domains.{Domain, is_of_texts}
 use Rattle.sw_rows.specs.Domains as kind
 use Rattle.sw_rows.specs.declared.refusal.Why.{Why}
 use Rattle.sw_rows.specs.declared.refusal.Why.TheVariants as why
+use Rattle.sw_rows.specs.Texts.{is_text}
+use Rattle.sw_lang.specs.declared.fault.Fault.{Fault}
 use Rattle.sw_lang.specs.declared.fault.Fault.TheVariants.{Bad}
 use Rattle.sw_lang.specs.declared.token.Op.{Op}
+use Rattle.sw_lang.specs.Replies.{kind_at}
 use Rattle.sw_lang.specs.Tokens.{Tok, word, op, comma, quoted, stray}
-use Rattle.sw_lang.specs.Reading.{attr_of, found, valued, key_value, key_of, name_of, op_of, value_of, is_word, is_comma}
-use Rattle.sw_lang.specs.Grammar.{IsName, IsValue, IsKey}
+use Rattle.sw_lang.specs.Reading.{◌>>=◌, attr_of, coded, found, valued, key_value, key_of, name_of, number_name, of_numbers, op_for, op_of, quoted_value, value_of, is_equality, is_word, is_comma, word_value}
+use Rattle.sw_lang.specs.Grammar.{IsKey, IsName, IsNumbersName, IsValue}
 
 pub same_bytes : (v w : List ℕ) → bytes_eq v w ≡ true → v ≡ w
 same_bytes v w h = (bytes_eq-Decides v w).0 h
@@ -130,35 +134,78 @@ pub name_read : (schema : List Column) (t : Tok) (i : ℕ) → IsSchema schema �
 unfolding name_of
 name_read schema t i ok (w, is, at) = rw is (attr_read schema why.Word w i ok at)
 
+-- what a test lets pass
+kept-by : {A : Type 0} (v : Bool) (x y : A) → ◌≡◌ {A = Result A Fault} (cond v (Err (Bad why.Word)) (Ok x)) (Ok y) → (v ≡ false) × (x ≡ y)
+kept-by true x y h = absurd cc
+kept-by false x y h = (refl, cc)
+
+number-by : (r : Result ℕ Fault) (schema : List Column) (t : Tok) (a : ℕ) → name_of schema t ≡ r → (r >>= of_numbers schema) ≡ Ok a → IsNumbersName schema t a
+number-by (Ok i) schema t a e h =
+    let k = kept-by (is_of_texts (kind_at schema i)) i a h in
+    (name_found schema t a (e ∙ ap (λ (n : ℕ). Ok n) k.1), subst (λ (n : ℕ). is_of_texts (kind_at schema n) ≡ false) k.1 k.0)
+number-by (Err f) schema t a e h = absurd cc
+
+pub number_found : (schema : List Column) (t : Tok) (a : ℕ) → number_name schema t ≡ Ok a → IsNumbersName schema t a
+unfolding number_name
+number_found schema t a h = number-by (name_of schema t) schema t a refl h
+
+pub number_read : (schema : List Column) (t : Tok) (a : ℕ) → IsSchema schema → IsNumbersName schema t a → number_name schema t ≡ Ok a
+unfolding number_name
+number_read schema t a ok (is, numbers) = rw (name_read schema t a ok is, numbers) refl
+
 -- ---- operators, values and keys
 
-pub op_found : (t : Tok) (o : Op) → op_of t ≡ Ok o → t ≡ op o
-unfolding op_of
-op_found (word w) o h = absurd cc
-op_found (op p) o h = cc
-op_found comma o h = absurd cc
-op_found (quoted q) o h = absurd cc
-op_found stray o h = absurd cc
+-- an operator that serves a domain
+abbrev pub Serves : Domain → Op → Type 0
+Serves d o = (is_of_texts d && not (is_equality o)) ≡ false
 
-pub op_read : (t : Tok) (o : Op) → t ≡ op o → op_of t ≡ Ok o
-unfolding op_of
-op_read t o h = rw h refl
+pub op_found : (d : Domain) (t : Tok) (o : Op) → op_for d t ≡ Ok o → (t ≡ op o) × Serves d o
+unfolding op_for op_of
+op_found d (word w) o h = absurd cc
+op_found d (op p) o h =
+    let k = kept-by (is_of_texts d && not (is_equality p)) p o h in
+    (ap op k.1, subst (Serves d) k.1 k.0)
+op_found d comma o h = absurd cc
+op_found d (quoted q) o h = absurd cc
+op_found d stray o h = absurd cc
+
+pub op_read : (d : Domain) (t : Tok) (o : Op) → t ≡ op o → Serves d o → op_for d t ≡ Ok o
+unfolding op_for op_of
+op_read d t o h serves = rw (h, serves) refl
 
 valued_is : {A : Type 0} (x : Option A) (z : A) → valued x ≡ Ok z → x ≡ Some z
 valued_is (Some y) z h = cc
 valued_is None z h = absurd cc
 
+coded_is : (x : Option ℤ) (z : ℤ) → coded x ≡ Ok z → x ≡ Some z
+coded_is (Some y) z h = cc
+coded_is None z h = absurd cc
+
+quoted-by : (v w : Bool) (x : Option ℤ) (z : ℤ) → cond (v && w) (coded x) (Err (Bad why.Value)) ≡ Ok z → (v ≡ true) × (x ≡ Some z)
+quoted-by true true x z h = (refl, coded_is x z h)
+quoted-by true false x z h = absurd cc
+quoted-by false w x z h = absurd cc
+
 pub value_found : (k : Domain) (t : Tok) (z : ℤ) → value_of k t ≡ Ok z → IsValue k t z
 unfolding value_of
-value_found k (word w) z h = (w, refl, valued_is (cell_value k w) z h)
+value_found k (word w) z h = inl (w, refl, valued_is (word_value k w) z h)
 value_found k (op o) z h = absurd cc
 value_found k comma z h = absurd cc
-value_found k (quoted q) z h = absurd cc
+value_found k (quoted q) z h = let b = quoted-by (is_of_texts k) (is_text q) (cell_value k q) z h in inr (q, refl, b.0, b.1)
 value_found k stray z h = absurd cc
+
+quoted_read : (k : Domain) (text : List ℕ) (z : ℤ) → is_of_texts k ≡ true → cell_value k text ≡ Some z → quoted_value k text ≡ Ok z
+quoted_read kind.Int text z t h = absurd (false≢true t)
+quoted_read (kind.Fix places) text z t h = absurd (false≢true t)
+quoted_read kind.Flag text z t h = absurd (false≢true t)
+quoted_read (kind.Text texts) text z t h =
+    let is : is_text text ≡ true = (cell_spelled (kind.Text texts) text z h).0 in
+    cond-true (is_text text) (coded (cell_value (kind.Text texts) text)) (Err (Bad why.Value)) is ∙ ap coded h
 
 pub value_read : (k : Domain) (t : Tok) (z : ℤ) → IsValue k t z → value_of k t ≡ Ok z
 unfolding value_of
-value_read k t z (w, is, value) = rw is (ap valued value)
+value_read k t z (inl (w, is, value)) = rw is (ap valued value)
+value_read k t z (inr (text, is, of_texts, value)) = rw is (quoted_read k text z of_texts value)
 
 pub key_found : (t : Tok) (n : ℕ) → key_of t ≡ Ok n → IsKey t n
 unfolding key_of

@@ -12,7 +12,7 @@ use Rattle.sw_lang.specs.declared.term.Term.{Term}
 use Rattle.sw_lang.specs.Replies.{kind_at}
 use Rattle.sw_lang.specs.Terms.{add_term}
 use Rattle.sw_lang.specs.Tokens.{Tok, word, comma}
-use Rattle.sw_lang.specs.Reading.{◌>>=◌, first_by, is_word, is_comma, name_of, names_at, next_value, nothing_left, op_of, past_comma, term_at, terms_at, value_of, values_at, where_at}
+use Rattle.sw_lang.specs.Reading.{◌>>=◌, first_by, is_word, is_comma, name_of, names_at, next_value, nothing_left, op_for, past_comma, term_at, terms_at, value_of, values_at, where_at}
 use Rattle.sw_lang.specs.Grammar.{IsName, IsNames, IsTerm, IsTerms, IsValues, IsWhere, MoreValues}
 use Rattle.sw_lang.proofs.Merge.{conds_from, conds_from-conditions}
 use Rattle.sw_lang.proofs.Names.{comma_is, name_found, name_read, op_found, op_read, value_found, value_read, word_is}
@@ -46,7 +46,7 @@ first_read f a x rest e = rw e refl
 
 pub term_read : (schema : List Column) (a b c : Tok) (t : Term) (rest : List Tok) → IsSchema schema → IsTerm schema a b c t → term_at schema (a ∷ b ∷ c ∷ rest) ≡ Ok (t, rest)
 unfolding term_at first_by
-term_read schema a b c t rest ok h = rw (name_read schema a t.attr ok h.name, op_read b t.op h.op, value_read (kind_at schema t.attr) c t.value h.value) refl
+term_read schema a b c t rest ok h = rw (name_read schema a t.attr ok h.name, op_read (kind_at schema t.attr) b t.op h.op h.fits, value_read (kind_at schema t.attr) c t.value h.value) refl
 
 pub terms_read : (schema : List Column) (conds : List Cond) (ts : List Tok) (us : List Term) → IsSchema schema → IsTerms schema ts us → terms_at schema conds ts ≡ Ok (conds_from conds us)
 terms_read schema conds ts [] ok h = absurd h
@@ -64,16 +64,17 @@ three ts more last left rest a b c e1 e2 e3 e4 = rw (e1, e2, e3, e4) refl
 term_is : (schema : List Column) (ts : List Tok) (t : Term) (rest : List Tok) → term_at schema ts ≡ Ok (t, rest) → (a b c : Tok) × (ts ≡ a ∷ b ∷ c ∷ rest) × IsTerm schema a b c t
 unfolding term_at
 term_is schema ts t rest e =
-    let n = bind_ok (first_by (name_of schema) ts) (λ name. first_by op_of name.1 >>= λ o. first_by (value_of (kind_at schema name.0)) o.1 >>= λ value. Ok (record { attr = name.0; op = o.0; value = value.0 }, value.1)) (t, rest) e in
-    let o = bind_ok (first_by op_of n.0.1) (λ o. first_by (value_of (kind_at schema n.0.0)) o.1 >>= λ value. Ok (record { attr = n.0.0; op = o.0; value = value.0 }, value.1)) (t, rest) n.2 in
+    let n = bind_ok (first_by (name_of schema) ts) (λ name. first_by (op_for (kind_at schema name.0)) name.1 >>= λ o. first_by (value_of (kind_at schema name.0)) o.1 >>= λ value. Ok (record { attr = name.0; op = o.0; value = value.0 }, value.1)) (t, rest) e in
+    let o = bind_ok (first_by (op_for (kind_at schema n.0.0)) n.0.1) (λ o. first_by (value_of (kind_at schema n.0.0)) o.1 >>= λ value. Ok (record { attr = n.0.0; op = o.0; value = value.0 }, value.1)) (t, rest) n.2 in
     let v = bind_ok (first_by (value_of (kind_at schema n.0.0)) o.0.1) (λ value. Ok (record { attr = n.0.0; op = o.0.0; value = value.0 }, value.1)) (t, rest) o.2 in
     let made : Term = record { attr = n.0.0; op = o.0.0; value = v.0.0 } in
     let p = same_pair made t v.0.1 rest v.2 in
     let fa = first_is (name_of schema) ts n.0.0 n.0.1 n.1 in
-    let fb = first_is op_of n.0.1 o.0.0 o.0.1 o.1 in
+    let fb = first_is (op_for (kind_at schema n.0.0)) n.0.1 o.0.0 o.0.1 o.1 in
     let fc = first_is (value_of (kind_at schema n.0.0)) o.0.1 v.0.0 v.0.1 v.1 in
     let parts : ts ≡ fa.0 ∷ fb.0 ∷ fc.0 ∷ rest = three ts n.0.1 o.0.1 v.0.1 rest fa.0 fb.0 fc.0 fa.1 fb.1 fc.1 p.1 in
-    let is : IsTerm schema fa.0 fb.0 fc.0 made = record { name = name_found schema fa.0 n.0.0 fa.2; op = op_found fb.0 o.0.0 fb.2; value = value_found (kind_at schema n.0.0) fc.0 v.0.0 fc.2 } in
+    let operator = op_found (kind_at schema n.0.0) fb.0 o.0.0 fb.2 in
+    let is : IsTerm schema fa.0 fb.0 fc.0 made = record { name = name_found schema fa.0 n.0.0 fa.2; op = operator.0; fits = operator.1; value = value_found (kind_at schema n.0.0) fc.0 v.0.0 fc.2 } in
     (fa.0, fb.0, fc.0, parts, same_term schema fa.0 fb.0 fc.0 made t p.0 is)
 
 joined_is : (v : Bool) (r : Result (List Cond) Fault) (cs : List Cond) → cond v r (Err (Bad why.Word)) ≡ Ok cs → (v ≡ true) × (r ≡ Ok cs)

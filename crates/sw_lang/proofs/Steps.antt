@@ -13,11 +13,11 @@ use Rattle.sw_lang.specs.declared.term.Term.{Term}
 use Rattle.sw_lang.specs.Replies.{kind_at}
 use Rattle.sw_lang.specs.Terms.{add_term}
 use Rattle.sw_lang.specs.Tokens.{Tok, word, op, comma, quoted, stray}
-use Rattle.sw_lang.specs.Reading.{◌>>=◌, Fails, name_of, op_of, value_of, is_word, is_comma, first_by, term_at, terms_at, names_at}
+use Rattle.sw_lang.specs.Reading.{◌>>=◌, Fails, name_of, op_for, value_of, is_word, is_comma, first_by, term_at, terms_at, names_at}
 
 -- the term of three tokens
 abbrev pub term_of : List Column → Tok → Tok → Tok → Result Term Fault
-term_of schema a b c = name_of schema a >>= λ x. op_of b >>= λ o. value_of (kind_at schema x) c >>= λ z. Ok (record { attr = x; op = o; value = z })
+term_of schema a b c = name_of schema a >>= λ x. op_for (kind_at schema x) b >>= λ o. value_of (kind_at schema x) c >>= λ z. Ok (record { attr = x; op = o; value = z })
 
 -- with the tokens that are left
 abbrev pub with_rest : {A : Type 0} → List Tok → Result A Fault → Result (A × List Tok) Fault
@@ -33,16 +33,16 @@ with_value : (x : ℕ) (o : Op) (rest : List Tok) (r : Result ℤ Fault) → (wi
 with_value x o rest (Ok z) = refl
 with_value x o rest (Err e) = refl
 
-by-op : (schema : List Column) (x : ℕ) (b c : Tok) (rest : List Tok) (r : Result Op Fault) → op_of b ≡ r
-    → (first_by op_of (b ∷ c ∷ rest) >>= λ o. first_by (value_of (kind_at schema x)) o.1 >>= made_with x o.0)
-    ≡ with_rest rest (op_of b >>= λ o. value_of (kind_at schema x) c >>= made x o)
+by-op : (schema : List Column) (x : ℕ) (b c : Tok) (rest : List Tok) (r : Result Op Fault) → op_for (kind_at schema x) b ≡ r
+    → (first_by (op_for (kind_at schema x)) (b ∷ c ∷ rest) >>= λ o. first_by (value_of (kind_at schema x)) o.1 >>= made_with x o.0)
+    ≡ with_rest rest (op_for (kind_at schema x) b >>= λ o. value_of (kind_at schema x) c >>= made x o)
 unfolding first_by
 by-op schema x b c rest (Ok o) e = rw e (with_value x o rest (value_of (kind_at schema x) c))
 by-op schema x b c rest (Err f) e = rw e refl
 
 by-name-of : (schema : List Column) (a b c : Tok) (rest : List Tok) (r : Result ℕ Fault) → name_of schema a ≡ r → term_at schema (a ∷ b ∷ c ∷ rest) ≡ with_rest rest (term_of schema a b c)
 unfolding term_at first_by
-by-name-of schema a b c rest (Ok x) e = rw e (by-op schema x b c rest (op_of b) refl)
+by-name-of schema a b c rest (Ok x) e = rw e (by-op schema x b c rest (op_for (kind_at schema x) b) refl)
 by-name-of schema a b c rest (Err f) e = rw e refl
 
 pub term_at-of : (schema : List Column) (a b c : Tok) (rest : List Tok) → term_at schema (a ∷ b ∷ c ∷ rest) ≡ with_rest rest (term_of schema a b c)
@@ -72,12 +72,19 @@ by-last schema conds a b c =
     rw (term_at-of schema a b c [])
     (then-rest (term_of schema a b c) [] [] (λ _ t. Ok (add_term conds t)) (λ rest t. more_terms schema (add_term conds t) rest) (λ t. refl))
 
-by-short : (schema : List Column) (conds : List Cond) (a b : Tok) (r1 : Result ℕ Fault) → name_of schema a ≡ r1 → (r2 : Result Op Fault) → op_of b ≡ r2
+-- a term of two tokens is none, whatever its operator
+by-short-op : (schema : List Column) (conds : List Cond) (x : ℕ) (b : Tok) (r : Result Op Fault)
+    → ((with_rest [] r >>= λ o. first_by (value_of (kind_at schema x)) o.1 >>= made_with x o.0) >>= λ t. Ok (add_term conds t.0))
+    ≡ ((with_rest [] r >>= λ o. first_by (value_of (kind_at schema x)) o.1 >>= made_with x o.0) >>= λ t. more_terms schema (add_term conds t.0) t.1)
+unfolding first_by
+by-short-op schema conds x b (Ok o) = refl
+by-short-op schema conds x b (Err e) = refl
+
+by-short : (schema : List Column) (conds : List Cond) (a b : Tok) (r : Result ℕ Fault) → name_of schema a ≡ r
     → terms_at schema conds (a ∷ b ∷ []) ≡ (term_at schema (a ∷ b ∷ []) >>= λ t. more_terms schema (add_term conds t.0) t.1)
 unfolding terms_at term_at first_by
-by-short schema conds a b (Err e) e1 r2 e2 = rw e1 refl
-by-short schema conds a b (Ok x) e1 (Err e) e2 = rw (e1, e2) refl
-by-short schema conds a b (Ok x) e1 (Ok y) e2 = rw (e1, e2) refl
+by-short schema conds a b (Err e) e1 = rw e1 refl
+by-short schema conds a b (Ok x) e1 = rw e1 (by-short-op schema conds x b (op_for (kind_at schema x) b))
 
 by-one : (schema : List Column) (conds : List Cond) (a : Tok) (r1 : Result ℕ Fault) → name_of schema a ≡ r1
     → terms_at schema conds (a ∷ []) ≡ (term_at schema (a ∷ []) >>= λ t. more_terms schema (add_term conds t.0) t.1)
@@ -89,7 +96,7 @@ pub terms_step : (schema : List Column) (conds : List Cond) (ts : List Tok) → 
 unfolding terms_at term_at first_by
 terms_step schema conds [] = refl
 terms_step schema conds (a ∷ []) = by-one schema conds a (name_of schema a) refl
-terms_step schema conds (a ∷ b ∷ []) = by-short schema conds a b (name_of schema a) refl (op_of b) refl
+terms_step schema conds (a ∷ b ∷ []) = by-short schema conds a b (name_of schema a) refl
 terms_step schema conds (a ∷ b ∷ c ∷ []) = by-last schema conds a b c
 terms_step schema conds (a ∷ b ∷ c ∷ d ∷ ts) = by-terms schema conds a b c d ts
 
