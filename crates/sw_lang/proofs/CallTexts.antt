@@ -1,12 +1,15 @@
 -- The texts of calls, as the writers put them together.
-use Rattle.std.proofs.Common.{◌≡◌, ◌∙◌, ap, sym, refl, ℕ, ◌≤◌, Bool, true, false, ◌||◌, List, [], ◌∷◌, ◌++◌, length, map, take, codes, Option, Some, None, is_some, arith, append_assoc}
+use Rattle.std.proofs.Common.{◌≡◌, ◌∙◌, ap, sym, refl, ℕ, ℤ, ◌≤◌, Bool, true, false, ◌||◌, List, [], ◌∷◌, ◌++◌, length, map, take, codes, Option, Some, None, is_some, arith, append_assoc, append-nil, if◌then◌else◌}
 use Rattle.std.specs.List.{flat_map}
+use Rattle.std.proofs.lemmas.Bool.Decides.{Decides-int_eq}
 use Rattle.std.proofs.lemmas.List.Concat.{flat_map-cons}
+use Rattle.std.specs.Ordering.{int_eq}
+use Rattle.sw_rows.specs.Domains.{is_of_texts}
 use Rattle.sw_rows.specs.Header.{Column, kinds_of}
 use Rattle.sw_rows.specs.declared.bound.Bound.{Bound}
 use Rattle.sw_rows.specs.declared.bound.Bound.TheVariants.{Before, After}
 use Rattle.sw_rows.specs.declared.query.Cond.{Cond}
-use Rattle.sw_lang.specs.PrintedCalls.{cond_terms, joiner, lower_terms, more_names, terms_text, upper_terms, where_text}
+use Rattle.sw_lang.specs.PrintedCalls.{comparison, cond_terms, equal_terms, joiner, lower_terms, more_names, terms_text, text_terms, upper_terms, where_text}
 use Rattle.sw_lang.specs.Replies.{kind_at}
 
 -- the first of some further names
@@ -41,17 +44,71 @@ unfolding are_some
 some_append [] ys = refl
 some_append (x ∷ xs) ys = refl
 
-some_cond : (columns : List Column) (c : Cond) → are_some (cond_terms columns c) ≡ (is_some c.lower || is_some c.upper)
-some_cond columns c =
-    some_append (lower_terms columns c.attr c.lower) (upper_terms columns c.attr c.upper)
-    ∙ ap (λ b. b || are_some (upper_terms columns c.attr c.upper)) (some_lower columns c.attr c.lower)
-    ∙ ap (λ b. is_some c.lower || b) (some_upper columns c.attr c.upper)
+some_bounds : (columns : List Column) (a : ℕ) (lower upper : Option Bound) → are_some (lower_terms columns a lower ++ upper_terms columns a upper) ≡ (is_some lower || is_some upper)
+some_bounds columns a lower upper =
+    some_append (lower_terms columns a lower) (upper_terms columns a upper)
+    ∙ ap (λ b. b || are_some (upper_terms columns a upper)) (some_lower columns a lower)
+    ∙ ap (λ b. is_some lower || b) (some_upper columns a upper)
 
--- a condition's comparisons are that of its lower bound and that of its upper one
-pub cond_split : (columns : List Column) (s : Bool) (c : Cond) → terms_text s (cond_terms columns c) ≡ terms_text s (lower_terms columns c.attr c.lower) ++ terms_text (s || is_some c.lower) (upper_terms columns c.attr c.upper)
-cond_split columns s c =
+some_equal : (v : Bool) (columns : List Column) (a : ℕ) (x y : ℤ) → int_eq x y ≡ v → are_some (equal_terms columns a x y) ≡ true
+unfolding are_some
+some_equal true columns a x y e = rw e refl
+some_equal false columns a x y e = rw e refl
+
+some_text : (columns : List Column) (a : ℕ) (lower upper : Option Bound) → are_some (text_terms columns a lower upper) ≡ (is_some lower || is_some upper)
+unfolding are_some
+some_text columns a None upper = some_upper columns a upper
+some_text columns a (Some (After v)) upper = refl
+some_text columns a (Some (Before v)) None = refl
+some_text columns a (Some (Before v)) (Some (Before w)) = refl
+some_text columns a (Some (Before v)) (Some (After w)) = some_equal (int_eq v w) columns a v w refl
+
+some_cond-by : (v : Bool) (columns : List Column) (c : Cond) → is_of_texts (kind_at columns c.attr) ≡ v → are_some (cond_terms columns c) ≡ (is_some c.lower || is_some c.upper)
+some_cond-by true columns c e = rw e (some_text columns c.attr c.lower c.upper)
+some_cond-by false columns c e = rw e (some_bounds columns c.attr c.lower c.upper)
+
+some_cond : (columns : List Column) (c : Cond) → are_some (cond_terms columns c) ≡ (is_some c.lower || is_some c.upper)
+some_cond columns c = some_cond-by (is_of_texts (kind_at columns c.attr)) columns c refl
+
+-- bounds that are not those of equality
+abbrev pub AreOther : Option Bound → Option Bound → Type 0
+AreOther None upper = Unit {0}
+AreOther (Some (After v)) upper = Unit {0}
+AreOther (Some (Before v)) None = Unit {0}
+AreOther (Some (Before v)) (Some (Before w)) = Unit {0}
+AreOther (Some (Before v)) (Some (After w)) = ⊥
+
+-- of them the comparisons are as for numbers
+pub other_text : (columns : List Column) (a : ℕ) (lower upper : Option Bound) → AreOther lower upper → text_terms columns a lower upper ≡ lower_terms columns a lower ++ upper_terms columns a upper
+other_text columns a None upper h = refl
+other_text columns a (Some (After v)) upper h = refl
+other_text columns a (Some (Before v)) None h = refl
+other_text columns a (Some (Before v)) (Some (Before w)) h = refl
+other_text columns a (Some (Before v)) (Some (After w)) h = absurd h
+
+-- comparisons of bounds are that of the lower one and that of the upper one
+pub bounds_split : (columns : List Column) (s : Bool) (c : Cond) → terms_text s (lower_terms columns c.attr c.lower ++ upper_terms columns c.attr c.upper) ≡ terms_text s (lower_terms columns c.attr c.lower) ++ terms_text (s || is_some c.lower) (upper_terms columns c.attr c.upper)
+bounds_split columns s c =
     terms_append s (lower_terms columns c.attr c.lower) (upper_terms columns c.attr c.upper)
     ∙ ap (λ b. terms_text s (lower_terms columns c.attr c.lower) ++ terms_text (s || b) (upper_terms columns c.attr c.upper)) (some_lower columns c.attr c.lower)
+
+-- the comparison with a first text, and perhaps that with another
+abbrev equal_more : (columns : List Column) (a : ℕ) (v w : ℤ) → List (List ℕ)
+equal_more columns a v w = if int_eq v w then [] else comparison columns a (codes " = ") w ∷ []
+
+equal_by : (b : Bool) (columns : List Column) (s : Bool) (a : ℕ) (v w : ℤ) → int_eq v w ≡ b → terms_text s (equal_terms columns a v w) ≡ (joiner s ++ comparison columns a (codes " = ") v) ++ terms_text true (equal_more columns a v w)
+equal_by true columns s a v w e = rw e refl
+equal_by false columns s a v w e = rw e refl
+
+pub equal_first : (columns : List Column) (s : Bool) (a : ℕ) (v w : ℤ) → terms_text s (equal_terms columns a v w) ≡ (joiner s ++ comparison columns a (codes " = ") v) ++ terms_text true (equal_more columns a v w)
+equal_first columns s a v w = equal_by (int_eq v w) columns s a v w refl
+
+apart : (b : Bool) (v w : ℤ) → int_eq v w ≡ b → (v ≡ w → ⊥) → b ≡ false
+apart true v w e other = absurd (other ((Decides-int_eq v w).0 e))
+apart false v w e other = refl
+
+pub equal_two : (columns : List Column) (s : Bool) (a : ℕ) (v w : ℤ) → (v ≡ w → ⊥) → terms_text s (equal_terms columns a v w) ≡ (joiner s ++ comparison columns a (codes " = ") v) ++ (joiner true ++ comparison columns a (codes " = ") w)
+equal_two columns s a v w other = rw (apart (int_eq v w) v w refl other) (ap (λ l. (joiner s ++ comparison columns a (codes " = ") v) ++ l) (append-nil (joiner true ++ comparison columns a (codes " = ") w)))
 
 -- the first of some conditions
 pub conds_first : (columns : List Column) (s : Bool) (c : Cond) (cs all : List Cond) → all ≡ c ∷ cs → where_text columns s all ≡ terms_text s (cond_terms columns c) ++ where_text columns (s || (is_some c.lower || is_some c.upper)) cs

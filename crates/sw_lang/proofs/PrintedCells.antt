@@ -1,5 +1,5 @@
--- A printed cell is read back, and is one word.
-use Rattle.std.proofs.Common.{◌≡◌, ◌∙◌, ap, sym, refl, subst, ℕ, zero, suc, ◌+◌, ◌-◌, ◌*◌, ◌/◌, ◌%◌, ◌^◌, ◌<◌, ◌≤◌, inl, inr, ℤ, pos, negsuc, neg_ℤ, Bool, true, false, List, [], ◌∷◌, ◌++◌, length, fold, decimal, codes, Some, FitsSigned, w64, append-nil, length-append, div-le_self, arith}
+-- A printed cell is read back, and is one token.
+use Rattle.std.proofs.Common.{◌≡◌, ◌∙◌, ap, sym, refl, subst, ℕ, zero, suc, ◌+◌, ◌-◌, ◌*◌, ◌/◌, ◌%◌, ◌^◌, ◌<◌, ◌≤◌, inl, inr, ℤ, pos, negsuc, neg_ℤ, Bool, true, false, List, [], ◌∷◌, ◌++◌, length, fold, decimal, codes, Some, FitsSigned, w64, append-nil, length-append, div-le_self, arith, ◌&&◌, ◌==◌, nat_le, leb-true, true≢false, slice_get, slice_index}
 use Rattle.std.proofs.lemmas.Bool.Decides.{nat_tests}
 use Rattle.std.proofs.lemmas.Fmt.{length-decimal-le}
 use Rattle.std.proofs.lemmas.List.Sums.{fold-append}
@@ -7,16 +7,27 @@ use Rattle.std.proofs.lemmas.Nat.{div-add-mod', mod_below}
 use Rattle.std.specs.Char.{is_ascii_digit}
 use Rattle.std.specs.Fmt.{signed_decimal}
 use Rattle.std.specs.List.{list_all}
+use Rattle.std.proofs.lemmas.Bool.{and_parts}
+use Rattle.std.specs.Prelude.{unwrap_or}
+use Rattle.std.specs.Str.{is_utf8}
 use Rattle.sw_rows.proofs.CellSpelling.{all_like, cell_read_back, cell_spelled}
-use Rattle.sw_rows.specs.Cells.{cell_value, IsDomain}
+use Rattle.sw_rows.proofs.Options.{unless_some}
+use Rattle.sw_rows.proofs.TextLaws.{code_only, code_there, code_within}
+use Rattle.sw_rows.proofs.TextLemmas.{text_at as one_at}
+use Rattle.sw_rows.specs.Texts.{code_of, is_text, is_text_byte, text_at, text_of}
+use Rattle.sw_rows.specs.declared.texts.TheConstants.{MOST_BYTES_OF_TEXT}
+use Rattle.sw_rows.specs.Cells.{cell_value}
 use Rattle.sw_rows.specs.Spelling.{IsSign, WritesCell, WritesNumber, fraction, number_of}
-use Rattle.sw_rows.specs.Domains.{Domain}
+use Rattle.sw_rows.specs.Domains.{Domain, IsDomain, is_of_texts}
 use Rattle.sw_rows.specs.Domains as kind
 use Rattle.sw_lang.specs.Fits.{IsOfKind}
 use Rattle.sw_lang.specs.Replies.{cell_text, fixed_text, padded_digits, with_point}
-use Rattle.sw_lang.specs.Tokens.{is_word_byte}
+use Rattle.sw_lang.specs.Grammar.{IsValue}
+use Rattle.sw_lang.specs.Reading.{word_value}
+use Rattle.sw_lang.specs.Tokens.{Tok, word, quoted, tokens, is_word_byte}
 use Rattle.sw_lang.proofs.PrintedDigits.{all_both, and_both, decimal_writes, decimals_write, more}
-use Rattle.sw_lang.proofs.PrintedTokens.{IsRun}
+use Rattle.sw_lang.proofs.PrintedTexts.{front_quoted, quoted_length}
+use Rattle.sw_lang.proofs.PrintedTokens.{IsRun, Stops, front_word}
 
 -- a stored cell of a kind
 pub record IsCell (k : Domain) (z : ℤ) : Type 0 where
@@ -154,13 +165,30 @@ flag_writes : (z : ℤ) → IsOfKind kind.Flag z → WritesCell kind.Flag (cell_
 flag_writes z (inl zero_is) = subst (λ w. WritesCell kind.Flag (cell_text kind.Flag w) w) (sym zero_is) (inr (refl, refl))
 flag_writes z (inr one_is) = subst (λ w. WritesCell kind.Flag (cell_text kind.Flag w) w) (sym one_is) (inl (refl, refl))
 
-cell_writes : (k : Domain) (z : ℤ) → IsCell k z → WritesCell k (cell_text k z) z
-cell_writes kind.Int z c = int_writes z c.fits
-cell_writes (kind.Fix places) z c = fixed_writes places z c.places.0 c.places.1 c.fits
-cell_writes kind.Flag z c = flag_writes z c.of_kind
+-- ---- texts
 
-pub cell_back : (k : Domain) (z : ℤ) → IsCell k z → cell_value k (cell_text k z) ≡ Some z
-cell_back k z c = cell_read_back k (cell_text k z) z (cell_writes k z c)
+-- the text of a code
+pub record IsCoded (texts : List (List ℕ)) (z : ℤ) : Type 0 where
+  pub text : List ℕ
+  pub at : text_at texts z ≡ Some text
+  pub sound : is_text text ≡ true
+  pub value : cell_value (kind.Text texts) text ≡ Some z
+
+pub text_coded : (texts : List (List ℕ)) (z : ℤ) → IsCell (kind.Text texts) z → IsCoded texts z
+text_coded texts z c =
+    let code : ℕ = c.of_kind.0 in
+    let is : z ≡ pos code = c.of_kind.1 in
+    let text : List ℕ = c.of_kind.2 in
+    let has : text_of texts code ≡ Some text = c.of_kind.3 in
+    let place = unless_some (code == 0) (slice_get texts (code - 1)) text has in
+    let sound : is_text text ≡ true = one_at texts (code - 1) text c.places.sound place.1 in
+    let coded : code_of texts text ≡ Some code = code_there texts code text c.places.distinct has in
+    record {
+      text = text;
+      at = ap (text_at texts) is ∙ has;
+      sound = sound;
+      value = cell_read_back (kind.Text texts) text z (sound, (code, coded, is));
+    }
 
 -- ---- a cell's text is one word, and not long
 
@@ -206,13 +234,71 @@ flag_word : (text : List ℕ) (z : ℤ) → WritesCell kind.Flag text z → IsCe
 flag_word text z (inl w) = subst IsCellWord (sym w.0) true_word
 flag_word text z (inr w) = subst IsCellWord (sym w.0) false_word
 
-pub text_word : (k : Domain) (text : List ℕ) (z : ℤ) → WritesCell k text z → IsCellWord text
-text_word kind.Int text z w = number_word 0 text z w
-text_word (kind.Fix places) text z w = number_word places text z w
-text_word kind.Flag text z w = flag_word text z w
+pub text_word : (k : Domain) (text : List ℕ) (z : ℤ) → is_of_texts k ≡ false → WritesCell k text z → IsCellWord text
+text_word kind.Int text z n w = number_word 0 text z w
+text_word (kind.Fix places) text z n w = number_word places text z w
+text_word kind.Flag text z n w = flag_word text z w
+text_word (kind.Text texts) text z n w = absurd (true≢false n)
 
-pub cell_word : (k : Domain) (z : ℤ) → IsCell k z → IsCellWord (cell_text k z)
-cell_word k z c = text_word k (cell_text k z) z (cell_writes k z c)
+-- a word that is a cell is no text's
+pub word_is : (k : Domain) (w : List ℕ) (z : ℤ) → word_value k w ≡ Some z → (is_of_texts k ≡ false) × (cell_value k w ≡ Some z)
+word_is k w z h = unless_some (is_of_texts k) (cell_value k w) z h
+
+pub value_word : (k : Domain) (w : List ℕ) (z : ℤ) → word_value k w ≡ Some z → IsCellWord w
+value_word k w z h = let is = word_is k w z h in text_word k w z is.0 (cell_spelled k w z is.1)
+
+-- ---- a cell's text is one token, and not long
+
+-- neither a word nor a quoted text goes on into what follows
+abbrev pub Ends : List ℕ → Type 0
+Ends rest = Stops rest × ((slice_index rest 0 == 39) ≡ false)
+
+-- the token of a cell
+abbrev pub value_tok : Domain → ℤ → Tok
+value_tok kind.Int z = word (cell_text kind.Int z)
+value_tok (kind.Fix places) z = word (cell_text (kind.Fix places) z)
+value_tok kind.Flag z = word (cell_text kind.Flag z)
+value_tok (kind.Text texts) z = quoted (unwrap_or (text_at texts z) [])
+
+-- how the text of a cell is read
+pub record IsPrinted (k : Domain) (z : ℤ) : Type 0 where
+  pub front : (rest : List ℕ) → Ends rest → tokens (cell_text k z ++ rest) ≡ value_tok k z ∷ tokens rest
+  pub value : IsValue k (value_tok k z) z
+  pub short : length (cell_text k z) ≤ 130
+
+number_printed : (k : Domain) (z : ℤ) → is_of_texts k ≡ false → value_tok k z ≡ word (cell_text k z) → WritesCell k (cell_text k z) z → IsPrinted k z
+number_printed k z n same w =
+    let text : List ℕ = cell_text k z in
+    let one : IsCellWord text = text_word k text z n w in
+    let read : word_value k text ≡ Some z = rw n (cell_read_back k text z w) in
+    record {
+      front = λ rest ends. front_word text rest one.0 ends.0 ∙ ap (λ t. t ∷ tokens rest) (sym same);
+      value = inl (text, same, read);
+      short = omega (arith, one.1);
+    }
+
+text_printed : (texts : List (List ℕ)) (z : ℤ) → IsCoded texts z → IsPrinted (kind.Text texts) z
+text_printed texts z c =
+    let text : List ℕ = unwrap_or (text_at texts z) [] in
+    let same : text ≡ c.text = ap (λ o. unwrap_or o []) c.at in
+    let sound : is_text text ≡ true = ap is_text same ∙ c.sound in
+    let short : length text ≤ 64 = text_short text sound in
+    record {
+      front = λ rest ends. front_quoted text rest ends.1;
+      value = inr (text, refl, refl, ap (cell_value (kind.Text texts)) same ∙ c.value);
+      short = omega (arith, short, quoted_length text);
+    }
+  where
+    text_short : (t : List ℕ) → is_text t ≡ true → length t ≤ 64
+    text_short t h =
+        let parts = and_parts (is_utf8 t && nat_le (length t) MOST_BYTES_OF_TEXT) (list_all is_text_byte t) h in
+        leb-true (length t) MOST_BYTES_OF_TEXT (and_parts (is_utf8 t) (nat_le (length t) MOST_BYTES_OF_TEXT) parts.0).1
+
+pub cell_printed : (k : Domain) (z : ℤ) → IsCell k z → IsPrinted k z
+cell_printed kind.Int z c = number_printed kind.Int z refl refl (int_writes z c.fits)
+cell_printed (kind.Fix places) z c = number_printed (kind.Fix places) z refl refl (fixed_writes places z c.places.0 c.places.1 c.fits)
+cell_printed kind.Flag z c = number_printed kind.Flag z refl refl (flag_writes z c.of_kind)
+cell_printed (kind.Text texts) z c = text_printed texts z (text_coded texts z c)
 
 -- ---- what is read is a stored cell
 
@@ -227,6 +313,14 @@ stored kind.Int text z p w = record { places = p; of_kind = tt; fits = w.fits }
 stored (kind.Fix places) text z p w = record { places = p; of_kind = tt; fits = w.fits }
 stored kind.Flag text z p (inl w) = record { places = p; of_kind = inr w.1; fits = subst (FitsSigned w64) (sym w.1) one_fits }
 stored kind.Flag text z p (inr w) = record { places = p; of_kind = inl w.1; fits = subst (FitsSigned w64) (sym w.1) zero_fits }
+stored (kind.Text texts) text z p w =
+    let code : ℕ = w.1.0 in
+    let within = code_within texts code text w.1.1 in
+    record {
+      places = p;
+      of_kind = (code, w.1.2, text, code_only texts code text w.1.1);
+      fits = subst (FitsSigned w64) (sym w.1.2) (record { sfits = omega (arith, within.1, p.few) });
+    }
 
 pub cell_stored : (k : Domain) (text : List ℕ) (z : ℤ) → IsDomain k → cell_value k text ≡ Some z → IsCell k z
 cell_stored k text z p h = stored k text z p (cell_spelled k text z h)

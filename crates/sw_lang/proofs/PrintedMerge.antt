@@ -1,26 +1,31 @@
 -- The comparisons that conditions are printed by make those conditions again.
-use Rattle.std.proofs.Common.{◌≡◌, ◌∙◌, ap, sym, refl, ℕ, Bool, true, false, ◌||◌, eqb, List, [], ◌∷◌, ◌++◌, map, is_some, Option, Some, None, append_assoc, append-nil, subst}
-use Rattle.std.proofs.lemmas.Bool.Decides.{Decides-eqb}
+use Rattle.std.proofs.Common.{◌≡◌, ◌∙◌, ap, sym, refl, ℕ, ℤ, int_lt, Bool, true, false, ◌||◌, eqb, List, [], ◌∷◌, ◌++◌, map, is_some, Option, Some, None, append_assoc, append-nil, subst}
+use Rattle.std.proofs.lemmas.Bool.Decides.{Decides-eqb, Decides-int_eq}
 use Rattle.std.proofs.lemmas.List.{map-append}
+use Rattle.std.specs.Ordering.{int_eq}
+use Rattle.sw_rows.specs.Domains.{is_of_texts}
+use Rattle.sw_rows.specs.Header.{Column}
 use Rattle.sw_rows.specs.declared.bound.Bound.{Bound}
 use Rattle.sw_rows.specs.declared.bound.Bound.TheVariants.{Before, After}
 use Rattle.sw_rows.specs.declared.query.Cond.{Cond}
 use Rattle.sw_lang.specs.declared.term.Term.{Term}
-use Rattle.sw_lang.specs.declared.token.Op.TheVariants.{Lt, Le, Ge, Gt}
+use Rattle.sw_lang.specs.declared.token.Op.TheVariants.{Lt, Le, Eq, Ge, Gt}
+use Rattle.sw_lang.specs.Fits.{AreEqualBounds, IsEqualOnTexts}
+use Rattle.sw_lang.specs.Replies.{kind_at}
 use Rattle.sw_lang.specs.Terms.{add_term, cond_of, conditions, narrowed}
 use Rattle.sw_lang.proofs.Merge.{Distinct, conds_from, conds_from-conditions, eqb-turned, has, has-last, or-false}
-use Rattle.sw_lang.proofs.PrintedTerms.{lower_term, printed, printed_all, upper_term}
+use Rattle.sw_lang.proofs.PrintedTerms.{equal_terms_of, lower_term, printed, printed_all, text_terms_of, upper_term}
 
 abbrev pub attrs : List Cond → List ℕ
 attrs cs = map (λ c. c.attr) cs
 
--- a condition has a bound
 abbrev pub is_bound : Option Bound → Option Bound → Bool
 is_bound lower upper = is_some lower || is_some upper
 
-abbrev pub AllBound : List Cond → Type 0
-AllBound [] = Unit {0}
-AllBound (c ∷ cs) = (is_bound c.lower c.upper ≡ true) × AllBound cs
+-- a condition has a bound, and on texts the bounds of equality
+abbrev pub AllBound : List Column → List Cond → Type 0
+AllBound schema [] = Unit {0}
+AllBound schema (c ∷ cs) = (is_bound c.lower c.upper ≡ true) × IsEqualOnTexts schema c × AllBound schema cs
 
 -- ---- one term
 
@@ -55,6 +60,32 @@ one done a (Some (Before v)) (Some (After w)) h b = both done (record { attr = a
 one done a (Some (After v)) (Some (Before w)) h b = both done (record { attr = a; op = Gt; value = v }) (record { attr = a; op = Lt; value = w }) h refl
 one done a (Some (After v)) (Some (After w)) h b = both done (record { attr = a; op = Gt; value = v }) (record { attr = a; op = Le; value = w }) h refl
 
+-- the greater lower bound and the lesser upper one of two equalities, the second not above the first
+apart_bounds : (v w : ℤ) (a : ℕ) → int_lt v w ≡ false
+    → narrowed (cond_of (record { attr = a; op = Eq; value = v })) (record { attr = a; op = Eq; value = w }) ≡ record { attr = a; lower = Some (Before v); upper = Some (After w) }
+apart_bounds v w a h = rw h refl
+
+equal_by : (b : Bool) (done : List Cond) (a : ℕ) (v w : ℤ) → int_eq v w ≡ b → has (attrs done) a ≡ false → int_lt v w ≡ false
+    → conds_from done (equal_terms_of a v w) ≡ done ++ record { attr = a; lower = Some (Before v); upper = Some (After w) } ∷ []
+equal_by true done a v w e h low =
+    let same : v ≡ w = (Decides-int_eq v w).0 e in
+    rw e (add_new done (record { attr = a; op = Eq; value = v }) h ∙ ap (λ (x : ℤ). done ++ record { attr = a; lower = Some (Before v); upper = Some (After x) } ∷ []) same)
+equal_by false done a v w e h low =
+    rw e (both done (record { attr = a; op = Eq; value = v }) (record { attr = a; op = Eq; value = w }) h refl ∙ ap (λ (c : Cond). done ++ c ∷ []) (apart_bounds v w a low))
+
+one_text : (done : List Cond) (a : ℕ) (lower upper : Option Bound) → has (attrs done) a ≡ false → AreEqualBounds lower upper
+    → conds_from done (text_terms_of a lower upper) ≡ done ++ record { attr = a; lower = lower; upper = upper } ∷ []
+one_text done a None upper h b = absurd b
+one_text done a (Some (After v)) upper h b = absurd b
+one_text done a (Some (Before v)) None h b = absurd b
+one_text done a (Some (Before v)) (Some (Before w)) h b = absurd b
+one_text done a (Some (Before v)) (Some (After w)) h b = equal_by (int_eq v w) done a v w refl h b
+
+one_by : (t : Bool) (schema : List Column) (done : List Cond) (c : Cond) → is_of_texts (kind_at schema c.attr) ≡ t → has (attrs done) c.attr ≡ false → is_bound c.lower c.upper ≡ true → IsEqualOnTexts schema c
+    → conds_from done (printed schema c) ≡ done ++ c ∷ []
+one_by true schema done c e h b equal = rw e (one_text done c.attr c.lower c.upper h (equal e))
+one_by false schema done c e h b equal = rw e (one done c.attr c.lower c.upper h b)
+
 -- ---- all conditions
 
 conds_from-append : (done : List Cond) (ts us : List Term) → conds_from done (ts ++ us) ≡ conds_from (conds_from done ts) us
@@ -77,15 +108,15 @@ none_last done c (a ∷ xs) n h =
     let apart : eqb c a ≡ false = eqb-turned false a c parts.0 in
     (has-last done c a ∙ rw (n.0, apart) refl, none_last done c xs n.1 parts.1)
 
-all : (done cs : List Cond) → NoneOf (attrs done) (attrs cs) → Distinct (attrs cs) → AllBound cs → conds_from done (printed_all cs) ≡ done ++ cs
-all done [] n d b = sym (append-nil done)
-all done (c ∷ cs) n d b =
+all : (schema : List Column) (done cs : List Cond) → NoneOf (attrs done) (attrs cs) → Distinct (attrs cs) → AllBound schema cs → conds_from done (printed_all schema cs) ≡ done ++ cs
+all schema done [] n d b = sym (append-nil done)
+all schema done (c ∷ cs) n d b =
     let more : attrs (done ++ c ∷ []) ≡ attrs done ++ c.attr ∷ [] = map-append (λ (e : Cond). e.attr) done (c ∷ []) in
     let next : NoneOf (attrs (done ++ c ∷ [])) (attrs cs) = subst (λ (l : List ℕ). NoneOf l (attrs cs)) (sym more) (none_last (attrs done) c.attr (attrs cs) n.1 d.0) in
-    conds_from-append done (printed c) (printed_all cs)
-    ∙ ap (λ (l : List Cond). conds_from l (printed_all cs)) (one done c.attr c.lower c.upper n.0 b.0)
-    ∙ all (done ++ c ∷ []) cs next d.1 b.1
+    conds_from-append done (printed schema c) (printed_all schema cs)
+    ∙ ap (λ (l : List Cond). conds_from l (printed_all schema cs)) (one_by (is_of_texts (kind_at schema c.attr)) schema done c refl n.0 b.0 b.1)
+    ∙ all schema (done ++ c ∷ []) cs next d.1 b.2
     ∙ append_assoc done (c ∷ []) cs
 
-pub printed_make : (cs : List Cond) → Distinct (attrs cs) → AllBound cs → conditions (printed_all cs) ≡ cs
-printed_make cs d b = sym (conds_from-conditions (printed_all cs)) ∙ all [] cs (none_of-nil (attrs cs)) d b
+pub printed_make : (schema : List Column) (cs : List Cond) → Distinct (attrs cs) → AllBound schema cs → conditions (printed_all schema cs) ≡ cs
+printed_make schema cs d b = sym (conds_from-conditions (printed_all schema cs)) ∙ all schema [] cs (none_of-nil (attrs cs)) d b

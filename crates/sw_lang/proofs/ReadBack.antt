@@ -17,7 +17,7 @@ use Rattle.sw_lang.specs.Replies.{cell_text, cells_text, more_cells}
 use Rattle.sw_lang.specs.Tokens.{Tok, word, comma, tokens}
 use Rattle.sw_lang.proofs.Fit.{name_within, names_below}
 use Rattle.sw_lang.proofs.LineConds.{all_bound, printed_good, value_stored, where_conds}
-use Rattle.sw_lang.proofs.PrintedCells.{cell_back, cell_word, digits_word}
+use Rattle.sw_lang.proofs.PrintedCells.{Ends, cell_printed, digits_word, value_tok}
 use Rattle.sw_lang.proofs.PrintedDigits.{decimal_writes, key_back, key_fits}
 use Rattle.sw_lang.proofs.PrintedMerge.{printed_make}
 use Rattle.sw_lang.proofs.PrintedNames.{name_is, name_word}
@@ -79,19 +79,19 @@ want_front schema ts (Rows names) rest ok (more, e, is, few) stops =
     (word (codes "select") ∷ name_toks schema names, ap (λ l. word (codes "select") ∷ l) (names_tokens schema names rest ok below stops), (name_toks schema names, refl, names_are schema more names below is, few))
 want_front schema ts Count rest ok e stops = (word (codes "count") ∷ [], front_word (codes "count") rest count_run stops, refl)
 want_front schema ts (Sum a) rest ok (t, e, is) stops =
-    let within = name_within schema t a is in
-    (word (codes "sum") ∷ name_tok schema a ∷ [], ap (λ l. word (codes "sum") ∷ l) (front_word (name_at schema a) rest (name_word schema a ok within).run stops), (name_tok schema a, refl, name_is schema a within))
+    let within = name_within schema t a is.0 in
+    (word (codes "sum") ∷ name_tok schema a ∷ [], ap (λ l. word (codes "sum") ∷ l) (front_word (name_at schema a) rest (name_word schema a ok within).run stops), (name_tok schema a, refl, (name_is schema a within, is.1)))
 want_front schema ts (Min a) rest ok (t, e, is) stops =
-    let within = name_within schema t a is in
-    (word (codes "min") ∷ name_tok schema a ∷ [], ap (λ l. word (codes "min") ∷ l) (front_word (name_at schema a) rest (name_word schema a ok within).run stops), (name_tok schema a, refl, name_is schema a within))
+    let within = name_within schema t a is.0 in
+    (word (codes "min") ∷ name_tok schema a ∷ [], ap (λ l. word (codes "min") ∷ l) (front_word (name_at schema a) rest (name_word schema a ok within).run stops), (name_tok schema a, refl, (name_is schema a within, is.1)))
 want_front schema ts (Max a) rest ok (t, e, is) stops =
-    let within = name_within schema t a is in
-    (word (codes "max") ∷ name_tok schema a ∷ [], ap (λ l. word (codes "max") ∷ l) (front_word (name_at schema a) rest (name_word schema a ok within).run stops), (name_tok schema a, refl, name_is schema a within))
+    let within = name_within schema t a is.0 in
+    (word (codes "max") ∷ name_tok schema a ∷ [], ap (λ l. word (codes "max") ∷ l) (front_word (name_at schema a) rest (name_word schema a ok within).run stops), (name_tok schema a, refl, (name_is schema a within, is.1)))
 
 where_back : (schema : List Column) (ts : List Tok) (conds : List Cond) → IsSchema schema → IsWhere schema ts conds → IsWhere schema (tokens (where_text schema false conds)) conds
 where_back schema ts conds ok h =
     let c = where_conds schema ts conds ok h in
-    where_is schema conds ok (printed_good schema conds c.stored) (printed_make conds c.once (all_bound schema conds c.stored))
+    where_is schema conds ok (printed_good schema conds c.stored) (printed_make schema conds c.once (all_bound schema conds c.stored))
 
 -- ---- rows
 
@@ -102,21 +102,21 @@ pub kinds_places : (columns : List Column) → AllByRecursion (λ c. IsDomain c.
 kinds_places [] h = tt
 kinds_places (c ∷ cs) h = (h.0, kinds_places cs h.1)
 
-cells_stop : (ks : List Domain) (zs : List ℤ) → Stops (more_cells ks zs)
-cells_stop [] zs = refl
-cells_stop (k ∷ ks) [] = refl
-cells_stop (k ∷ ks) (z ∷ zs) = refl
+cells_end : (ks : List Domain) (zs : List ℤ) → Ends (more_cells ks zs)
+cells_end [] zs = (refl, refl)
+cells_end (k ∷ ks) [] = (refl, refl)
+cells_end (k ∷ ks) (z ∷ zs) = (refl, refl)
 
 more_back : (ks : List Domain) (ts : List Tok) (zs pad : List ℤ) → AllPlaces ks → MoreValues ks ts zs → MoreValues ks (tokens (more_cells ks (zs ++ pad))) zs
 more_back [] ts zs pad p (none, no_values) = (refl, no_values)
 more_back (k ∷ ks) ts [] pad p h = absurd h
 more_back (k ∷ ks) ts (z ∷ zs) pad p (a, rest, e, is, others) =
-    let cell = value_stored k a z p.0 is in
+    let cell = cell_printed k z (value_stored k a z p.0 is) in
     let later : List ℕ = more_cells ks (zs ++ pad) in (
-      word (cell_text k z),
+      value_tok k z,
       tokens later,
-      ap (λ l. comma ∷ l) (front_word (cell_text k z) later (cell_word k z cell).0 (cells_stop ks (zs ++ pad))),
-      (cell_text k z, refl, cell_back k z cell),
+      ap (λ l. comma ∷ l) (cell.front later (cells_end ks (zs ++ pad))),
+      cell.value,
       more_back ks rest zs pad p.1 others,
     )
 
@@ -124,12 +124,12 @@ values_back : (ks : List Domain) (ts : List Tok) (zs pad : List ℤ) → AllPlac
 values_back [] ts zs pad p (none, no_values) = (refl, no_values)
 values_back (k ∷ ks) ts [] pad p h = absurd h
 values_back (k ∷ ks) ts (z ∷ zs) pad p (a, rest, e, is, others) =
-    let cell = value_stored k a z p.0 is in
+    let cell = cell_printed k z (value_stored k a z p.0 is) in
     let later : List ℕ = more_cells ks (zs ++ pad) in (
-      word (cell_text k z),
+      value_tok k z,
       tokens later,
-      front_word (cell_text k z) later (cell_word k z cell).0 (cells_stop ks (zs ++ pad)),
-      (cell_text k z, refl, cell_back k z cell),
+      cell.front later (cells_end ks (zs ++ pad)),
+      cell.value,
       more_back ks rest zs pad p.1 others,
     )
 

@@ -205,7 +205,7 @@ fn write_equal<W: Sink>(
     out: &mut W,
 ) -> Result<(), Refusal>
     ensures { Writes (W.taken out.old) (W.taken out.new) (W.failed out.old) (W.failed out.new) result
-        (terms_text started (equal_terms schema.now attr texts.0.now texts.1.now)) }
+        (terms_text started (equal_terms schema.now attr texts.entry.0.now texts.entry.1.now)) }
 {
     let (lower, upper) = texts;
     write_term(schema, started, attr, b" = ", lower, out)?;

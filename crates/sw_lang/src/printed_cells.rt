@@ -105,7 +105,11 @@ fn write_text_cell<W: Sink>(schema: &Schema, cell: &i64, out: &mut W) -> Result<
 }
 
 /// Writes a cell.
-pub(crate) fn write_cell<W: Sink>(values: AttrValues, cell: &i64, out: &mut W) -> Result<(), Refusal>
+pub(crate) fn write_cell<W: Sink>(
+    values: AttrValues,
+    cell: &i64,
+    out: &mut W,
+) -> Result<(), Refusal>
     requires { AreSound values }
     ensures { Writes (W.taken out.old) (W.taken out.new) (W.failed out.old) (W.failed out.new) result
         (cell_text (domain_of values.entry) cell.now) }

@@ -88,7 +88,11 @@ fn write_sum_line<W: Sink>(values: AttrValues, sum: i128, out: &mut W) -> Result
     write_all(out, b"\n")
 }
 
-fn write_extreme_line<W: Sink>(values: AttrValues, extreme: Option<i64>, out: &mut W) -> Result<(), Refusal>
+fn write_extreme_line<W: Sink>(
+    values: AttrValues,
+    extreme: Option<i64>,
+    out: &mut W,
+) -> Result<(), Refusal>
     requires { AreSound values }
     ensures { Writes (W.taken out.old) (W.taken out.new) (W.failed out.old) (W.failed out.new) result
         (extreme_text (domain_of values.entry) extreme ++ codes "\n") }
