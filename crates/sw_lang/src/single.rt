@@ -249,7 +249,10 @@ pub(crate) fn op_at<'a>(values: AttrValues, text: &'a [u8]) -> Result<(Op, &'a [
 }
 
 #[tactic(auto, unfolding(crate::specs::Reading::first_by))]
-pub(crate) fn value_at<'a>(values: AttrValues, text: &'a [u8]) -> Result<(i64, &'a [u8]), ParseError>
+pub(crate) fn value_at<'a>(
+    values: AttrValues,
+    text: &'a [u8],
+) -> Result<(i64, &'a [u8]), ParseError>
     requires { AreSound values }
     ensures gives { Gives (λ p. (p.0, tokens p.1.now)) result
         (first_by (value_of (domain_of values.entry)) (tokens text.now)) }
