@@ -220,7 +220,7 @@ number_word places text z w =
       w.short,
     )
 
--- the text of a cell is one word of at most 64 bytes
+-- one word of at most 64 bytes
 abbrev pub IsCellWord : List ℕ → Type 0
 IsCellWord text = IsRun text × (length text ≤ 64)
 
@@ -234,6 +234,7 @@ flag_word : (text : List ℕ) (z : ℤ) → WritesCell kind.Flag text z → IsCe
 flag_word text z (inl w) = subst IsCellWord (sym w.0) true_word
 flag_word text z (inr w) = subst IsCellWord (sym w.0) false_word
 
+-- a number and a flag are one
 pub text_word : (k : Domain) (text : List ℕ) (z : ℤ) → is_of_texts k ≡ false → WritesCell k text z → IsCellWord text
 text_word kind.Int text z n w = number_word 0 text z w
 text_word (kind.Fix places) text z n w = number_word places text z w

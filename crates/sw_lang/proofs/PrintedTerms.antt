@@ -31,6 +31,7 @@ upper_term a None = []
 upper_term a (Some (Before v)) = record { attr = a; op = Lt; value = v } ∷ []
 upper_term a (Some (After v)) = record { attr = a; op = Le; value = v } ∷ []
 
+-- on an attribute of texts: equality with the text of the lower bound, and with that of the upper one where it is another
 abbrev pub equal_term : ℕ → ℤ → List Term
 equal_term a v = record { attr = a; op = Eq; value = v } ∷ []
 

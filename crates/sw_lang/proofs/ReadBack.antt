@@ -13,7 +13,7 @@ use Rattle.sw_rows.specs.declared.query.Want.TheVariants.{Rows, Count, Sum, Min,
 use Rattle.sw_lang.specs.Grammar.{IsCall, IsNames, IsValues, IsWant, IsWhere, MoreValues}
 use Rattle.sw_lang.specs.PrintedCalls.{call_text, more_names, name_at, names_text, want_text, where_text}
 use Rattle.sw_lang.specs.Reading.{is_comment}
-use Rattle.sw_lang.specs.Replies.{cell_text, cells_text, more_cells}
+use Rattle.sw_lang.specs.Replies.{cells_text, more_cells}
 use Rattle.sw_lang.specs.Tokens.{Tok, word, comma, tokens}
 use Rattle.sw_lang.proofs.Fit.{name_within, names_below}
 use Rattle.sw_lang.proofs.LineConds.{all_bound, printed_good, value_stored, where_conds}

@@ -324,8 +324,9 @@ fn write_delete<W: Sink>(key: u64, out: &mut W) -> Result<(), Refusal>
 
 /// Writes a call as a line without its end.
 ///
-/// Conditions stand in their order, each as a comparison for its lower bound and one for its upper bound. Takes no
-/// memory. Refused `Output` where the sink fails; then a beginning of the text went out.
+/// Conditions stand in their order, each as a comparison for its lower bound and one for its upper bound; one on texts
+/// as equality with the text of its lower bound, and with that of its upper bound where it is another. Takes no memory.
+/// Refused `Output` where the sink fails; then a beginning of the text went out.
 pub fn write_call<W: Sink>(schema: &Schema, call: &Call, out: &mut W) -> Result<(), Refusal>
     ensures { Writes (W.taken out.old) (W.taken out.new) (W.failed out.old) (W.failed out.new) result
         (call_text schema.now call.now) }
