@@ -24,6 +24,7 @@ mod sieve;
 mod source;
 pub mod spelling;
 mod table;
+mod text_parts;
 mod texts;
 
 pub use bound::{Bound, greater, is_within, lesser};
