@@ -1,5 +1,5 @@
 -- Texts of two parts, and rows whose texts have other codes.
-use Rattle.std.proofs.Common.{◌≡◌, ◌∙◌, ap, sym, refl, subst, ℕ, ℤ, pos, zero, suc, ◌+◌, ◌-◌, ◌<◌, ◌≤◌, ◌==◌, ◌&&◌, ◌||◌, Bool, true, false, cond, true≢false, List, [], ◌∷◌, ◌++◌, length, map, min, replicate, take, ◌^◌, All, nat_eq, nat_lt, get_or, slice_get, bytes_eq, Option, Some, None, option_map, Result, Ok, Err, append-nil, append_assoc, length-append, arith}
+use Rattle.std.proofs.Common.{◌≡◌, ◌∙◌, ap, sym, refl, subst, ℕ, ℤ, pos, zero, suc, ◌+◌, ◌-◌, ◌<◌, ◌==◌, ◌||◌, Bool, true, false, cond, true≢false, List, [], ◌∷◌, ◌++◌, length, map, min, replicate, take, ◌^◌, All, nat_eq, nat_lt, get_or, slice_get, bytes_eq, Option, Some, None, option_map, Result, Ok, Err, append-nil, append_assoc, length-append, arith}
 use Rattle.std.proofs.Math.ListN.{set}
 use Rattle.std.proofs.lemmas.Bool.{cond-false, cond-true}
 use Rattle.std.proofs.lemmas.Bool.Decides.{nat_tests}
@@ -159,8 +159,7 @@ cells_coded_after ts us codes h rec done new (d ∷ ds) (t ∷ fields) cells e =
     by_value None k f more = absurd (err-ok (fault_at rec (length done + 1) (over ts d) t) cells f)
     by_value (Some z) k f more =
         let next = more z f in
-        let y = cond (is_of_texts d) (exchanged codes z) z in
-        (
+        let y = cond (is_of_texts d) (exchanged codes z) z in (
           z ∷ next.0,
           next.1 ∙ append_assoc done (z ∷ []) next.0,
           ap (λ o. or_bad (fault_at rec (length new + 1) (over us d) t) o (λ x. cells_after rec (new ++ x ∷ []) (under us ds) fields)) (cell_coded ts us codes d t z h k) ∙ next.2 ∙ ap (λ v. Ok v) (append_assoc new (y ∷ []) (cells_coded ds codes next.0)),
@@ -308,7 +307,7 @@ parts_joined cs a b whole first rest all codes both one other room texts given r
     let xs = records default_config a in
     let ys = records default_config b in
     let read = λ (more : Texts). ap (λ v. rows_after (under (with_texts v more) ds) [] (records default_config whole)) texts ∙ ap (rows_after (under (with_texts (with_texts first.texts rest.texts) more) ds) []) both
-        ∙ rows_both ds xs ys first.texts rest.texts more codes first.rows.items rest.rows.items all.rows.items one.rows other.rows (subst (λ v. AreCodes rest.texts v codes) texts given) rows in
+    ∙ rows_both ds xs ys first.texts rest.texts more codes first.rows.items rest.rows.items all.rows.items one.rows other.rows (subst (λ v. AreCodes rest.texts v codes) texts given) rows in
     record {
       texts = texts ∙ texts_joined ds xs ys first.texts rest.texts one.texts other.texts room ∙ ap (λ v. with_texts [] (texts_in ds v)) (sym both);
       rows = read;

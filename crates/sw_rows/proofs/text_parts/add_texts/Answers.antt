@@ -1,6 +1,5 @@
-use Rattle.std.proofs.Common.{◌≡◌, ◌∙◌, ap, sym, ◌+◌, ◌++◌, ◌∷◌, [], ℤ, pos, List, ℕ, Some, Ok, length, length-append, rules, w64, to_z, of_z, arith}
+use Rattle.std.proofs.Common.{◌≡◌, ◌∙◌, ap, sym, ◌+◌, ◌++◌, ◌∷◌, [], ℤ, pos, List, length, length-append, rules, w64, to_z, of_z}
 use Rattle.std.proofs.lemmas.Int.{to_z-of_z}
-use Rattle.sw_rows.specs.Parts.{AreCodes}
 use Rattle.sw_rows.proofs.TextParts.{code_pushed, codes_are, pushed, text_added, text_there}
 use Rattle.sw_rows.proofs.text_parts.add_texts.Goals as goal
 

@@ -1,7 +1,6 @@
-use Rattle.std.proofs.Common.{◌≡◌, ◌∙◌, ap, sym, [], List, map, take, ℕ, ◌+◌}
+use Rattle.std.proofs.Common.{◌∙◌, ap, sym, [], List, map}
 use Rattle.sw_rows.specs.Domains.{domain, is_of_texts}
 use Rattle.sw_rows.specs.Header.{kinds_of}
-use Rattle.sw_rows.specs.Parts.{row_coded}
 use Rattle.sw_table.specs.Exchanged.{with_exchanged}
 use Rattle.sw_table.specs.Packed.{Packed}
 use Rattle.sw_table.specs.declared.row.Row.{Row}
@@ -22,11 +21,11 @@ loop-attr-preserved c =
     let codes = c.args.codes.now in
     let start = c.args.rows.now in
     elim c.match-kind.branch [
-      in-Text w ↦
+      | in-Text w ↦
           w.rows-is ∙ w.exchange.ensures
           ∙ ap (λ p. items_are p (map (with_exchanged i codes) p.items)) c.loop-attr.invariant
-          ∙ ap (items_are start) (text_further ds codes start.items i (domain [] c.kind.result) c.kind.ensures.value (ap (λ k. is_of_texts (domain [] k)) w.in-Text.is)) |
-      in_default w ↦
+          ∙ ap (items_are start) (text_further ds codes start.items i (domain [] c.kind.result) c.kind.ensures.value (ap (λ k. is_of_texts (domain [] k)) w.in-Text.is))
+      | in_default w ↦
           w.rows-is ∙ c.loop-attr.invariant
           ∙ ap (items_are start) (number_further ds codes start.items i (domain [] c.kind.result) c.kind.ensures.value (not_text c.kind.result w.in_default.not-Text))
     ]

@@ -1,7 +1,7 @@
 use Rattle.std.proofs.Common.{◌≡◌, ◌∙◌, ap, sym, refl, Ok, length, false, arith}
 use Rattle.std.proofs.lemmas.Bool.Decides.{nat_tests}
 use Rattle.sw_rows.specs.Header.{kinds_of}
-use Rattle.sw_rows.specs.Parts.{row_coded, rows_behind}
+use Rattle.sw_rows.specs.Parts.{rows_behind}
 use Rattle.sw_rows.specs.Texts.{are_full}
 use Rattle.sw_table.specs.Packed.{Packed}
 use Rattle.sw_rows.proofs.TextParts.{codes_are, part_coded, part_under, parts_joined}

@@ -1,10 +1,5 @@
-use Rattle.std.proofs.Common.{◌≡◌, [], ◌++◌, ap, sym, List, ℕ, length, ◌∙◌, Ok}
+use Rattle.std.proofs.Common.{ap, ◌∙◌}
 use Rattle.csv.specs.Reading.{default_config, records}
-use Rattle.sw_rows.specs.Domains.{under}
-use Rattle.sw_rows.specs.Header.{kinds_of}
-use Rattle.sw_rows.specs.Records.{records_left}
-use Rattle.sw_rows.specs.Tables.{rows_after, texts_in}
-use Rattle.sw_rows.specs.Texts.{with_texts}
 use Rattle.sw_rows.proofs.CutLaw.{unmarked}
 use Rattle.sw_rows.proofs.TextParts.{part_read}
 use Rattle.sw_rows.proofs.text_parts.read_part.Goals as goal

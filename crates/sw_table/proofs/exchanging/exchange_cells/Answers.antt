@@ -1,6 +1,5 @@
-use Rattle.std.proofs.Common.{◌≡◌, ◌∙◌, ap, sym, ◌<◌, ◌≤◌, ◌*◌, ◌+◌, ℕ, ℤ, pos, List, length, get_or, arith, rules, w64, to_z, of_z}
+use Rattle.std.proofs.Common.{◌≡◌, ◌∙◌, ap, sym, ◌<◌, ◌*◌, ◌+◌, pos, length, get_or, arith, rules, w64, to_z, of_z}
 use Rattle.std.proofs.Math.ListN.{set, length-set}
-use Rattle.std.proofs.Math.Nat.{suc-mul}
 use Rattle.std.proofs.lemmas.Int.{to_z-of_z}
 use Rattle.sw_table.specs.Exchanged.{exchanged, with_exchanged}
 use Rattle.sw_table.specs.Packed.{rows_in}
