@@ -4,8 +4,6 @@ use Rattle.std.proofs.lemmas.Bool.{or_parts}
 use Rattle.std.proofs.lemmas.List.{drop_all, drop_more}
 use Rattle.std.proofs.lemmas.Option.{get_or_from_slice_get, slice_get-get_or, none-some, same_Some, slice_get-map, slice_get_within}
 use Rattle.std.specs.List.{list_all, list_any, position_or_len}
-use Rattle.std.specs.Prelude.{String}
-use Rattle.std.specs.declared.alloc.Global.{Global}
 use Rattle.sw_rows.specs.Domains.{Domain, IsDomain, IsOver, domain, is_of_texts, kind_in, over, under}
 use Rattle.sw_rows.specs.Domains as kind
 use Rattle.sw_rows.specs.Header.{AreColumns, Column, IsSchema, has_texts, holding, is_known, is_name, kinds_of, names_differ, names_of, texts_of, texts_or}

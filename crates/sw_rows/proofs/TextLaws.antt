@@ -60,13 +60,13 @@ place_only ts i t h =
 not_zero : (code : ℕ) → 0 < code → (code == 0) ≡ false
 not_zero code some = grind (arith, nat_tests)
 
-text_next : (ts : Texts) (i : ℕ) → text_of ts (i + 1) ≡ slice_get ts i
+pub text_next : (ts : Texts) (i : ℕ) → text_of ts (i + 1) ≡ slice_get ts i
 text_next ts i =
     let e : i + 1 - 1 ≡ i = omega arith in
     cond-false (i + 1 == 0) None (slice_get ts (i + 1 - 1)) (not_zero (i + 1) (omega arith)) ∙ ap (slice_get ts) e
 
 -- a code that some text has is one more than the text's place
-coded_at : (ts : Texts) (code : ℕ) (t : List ℕ) → text_of ts code ≡ Some t → (i : ℕ) × (i + 1 ≡ code) × (slice_get ts i ≡ Some t)
+pub coded_at : (ts : Texts) (code : ℕ) (t : List ℕ) → text_of ts code ≡ Some t → (i : ℕ) × (i + 1 ≡ code) × (slice_get ts i ≡ Some t)
 coded_at ts zero t h = absurd (none-some t h)
 coded_at ts (suc i) t h = let e : i + 1 ≡ suc i = omega arith in (i, e, sym (text_next ts i) ∙ ap (text_of ts) e ∙ h)
 

@@ -1,12 +1,16 @@
 -- Rows that were read in parts, each part with records of its own from 1.
-use Rattle.std.specs.Prelude.{◌≡◌, ◌+◌, ◌≤◌, ◌==◌, ◌<◌, ◌^◌, All, get_or, if◌then◌else◌, ℕ, Bool, not, List, [], ◌++◌, length, map, nat_lt, Result, Ok, Err}
+use Rattle.std.specs.Prelude.{◌≡◌, ◌+◌, ◌≤◌, ◌==◌, ◌<◌, ◌^◌, All, get_or, if◌then◌else◌, ℕ, ℤ, pos, Bool, not, List, [], ◌∷◌, ◌++◌, length, map, nat_lt, slice_get, Some, Result, Ok, Err}
 use Rattle.std.specs.List.{list_all}
 use Rattle.csv.specs.Reading.{default_config, records}
+use Rattle.sw_rows.specs.Domains.{Domain, is_of_texts, under}
 use Rattle.sw_rows.specs.Gives.{Gives}
 use Rattle.sw_rows.specs.Header.{Column, Fault, bad_table, kinds_of, too_many}
-use Rattle.sw_rows.specs.Tables.{◌>>=◌, rows_after}
+use Rattle.sw_rows.specs.Tables.{◌>>=◌, rows_after, texts_in}
+use Rattle.sw_rows.specs.Texts.{code_of, with_texts}
 use Rattle.sw_rows.specs.declared.refusal.Refusal.{Refusal}
 use Rattle.sw_rows.specs.declared.table.TheConstants.{MOST_ROWS}
+use Rattle.sw_rows.specs.declared.text_parts.Part.{Part}
+use Rattle.sw_table.specs.Exchanged.{exchanged}
 use Rattle.sw_table.specs.Packed.{Packed, row_behind}
 use Rattle.sw_table.specs.declared.row.Row.{Row}
 
@@ -54,3 +58,25 @@ rows_behind rows (Err e) = Err (fault_behind (length rows) e)
 -- what comes of two parts; the first fault in order decides
 abbrev pub rows_joined : Result (List Row) Fault → Result (List Row) Fault → Result (List Row) Fault
 rows_joined first rest = first >>= λ rows. rows_behind rows rest
+
+-- a part with texts of its own, by its records: each of its texts once, in the order in which they are first seen, and
+-- its rows, which are the same over these and any further texts
+pub record IsRead (columns : List Column) (text : List ℕ) (read : Part) : Type 0 where
+  pub texts : read.texts ≡ with_texts [] (texts_in (kinds_of columns) (records default_config text))
+  pub rows : (more : List (List ℕ)) → rows_after (under (with_texts read.texts more) (kinds_of columns)) []
+      (records default_config text) ≡ Ok read.rows.items
+  pub part : IsPart (length columns) read.rows
+
+-- a code for each of some texts, in their order: that which it has among others
+abbrev pub AreCodes : List (List ℕ) → List (List ℕ) → List ℤ → Type 0
+AreCodes texts others codes = (place : ℕ) (text : List ℕ) → slice_get texts place ≡ Some text
+    → (code : ℕ) × (code_of others text ≡ Some code) × (slice_get codes place ≡ Some (pos code))
+
+-- cells with those of texts exchanged for other codes
+abbrev pub cells_coded : List Domain → List ℤ → List ℤ → List ℤ
+cells_coded [] codes cells = cells
+cells_coded (d ∷ ds) codes [] = []
+cells_coded (d ∷ ds) codes (z ∷ zs) = (if is_of_texts d then exchanged codes z else z) ∷ cells_coded ds codes zs
+
+abbrev pub row_coded : List Domain → List ℤ → Row → Row
+row_coded ds codes r = record r { cells = cells_coded ds codes r.cells }

@@ -25,6 +25,7 @@ mod source;
 pub mod spelling;
 mod table;
 pub mod text_answers;
+mod text_parts;
 mod texts;
 
 pub use bound::{Bound, greater, is_within, lesser};

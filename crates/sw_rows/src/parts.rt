@@ -15,6 +15,7 @@ use crate::records;
 use crate::refusal::Refusal;
 use crate::schema::{Columns, Schema, read_header};
 use crate::table::{MOST_ROWS, read_rows, read_table};
+use crate::text_parts::read_text_table;
 use crate::texts::Texts;
 use csv::ByteRecord;
 use std::alloc::Global;
@@ -22,10 +23,10 @@ use std::thread::{Threads, join};
 use sw_table::PackedRows;
 
 /// How often a table is halved at most.
-const HALVINGS: u32 = 2;
+pub(crate) const HALVINGS: u32 = 2;
 
 /// How many bytes a part has at least that is halved.
-const LEAST_HALVED: usize = 1_048_576;
+pub(crate) const LEAST_HALVED: usize = 1_048_576;
 
 /// Whether no byte is a double quote.
 fn has_no_quote(bytes: &[u8]) -> bool
@@ -57,7 +58,7 @@ fn begins_plain(bytes: &[u8]) -> bool
 }
 
 /// Where the bytes may be cut in two, the first line feed from a place on: their records are those of both parts.
-fn cut(bytes: &[u8], from: usize) -> Option<usize>
+pub(crate) fn cut(bytes: &[u8], from: usize) -> Option<usize>
     requires { from ≤ length bytes.now }
     ensures inside { IfSome result (λ at. at ≤ length bytes.now) }
     ensures plain { IfSome result (λ at. begins_plain (drop at bytes.now) ≡ true) }
@@ -88,7 +89,7 @@ fn read_part(alloc: Global, columns: &Columns, part: &[u8]) -> Result<PackedRows
 }
 
 /// Adds the rows of a part, of which each takes the number behind its own.
-fn append(rows: &mut PackedRows, more: &PackedRows) -> Result<(), Refusal>
+pub(crate) fn append(rows: &mut PackedRows, more: &PackedRows) -> Result<(), Refusal>
     requires few { length rows.old.items ≤ MOST_ROWS }
     requires more { IsPart rows.old.width more.now }
     ensures gives { Gives ⊥ (λ _. rows.new.items) result (rows_behind rows.old.items (Ok more.now.items)) }
@@ -250,7 +251,11 @@ pub(crate) fn read_table_in_parts<R: Threads + Sync>(
         return read_table(alloc, bytes);
     };
     if columns.has_texts() {
-        return read_table(alloc, bytes);
+        return match read_text_table(rt, alloc, columns, body) {
+            Some(table) => Ok(table),
+            // in sequence, which tells the first fault
+            None => read_table(alloc, bytes),
+        };
     }
     match read_halves(rt, alloc, &columns, body, HALVINGS) {
         Ok(rows) => Ok((columns.into_schema(Texts::new(alloc)), rows)),

@@ -1,3 +1,4 @@
+pub mod ExchangeLaws
 pub mod InPlace
 pub mod KeyFinds
 pub mod KeyLists

@@ -1,3 +1,4 @@
+pub mod Exchanged
 pub mod KeyForms
 pub mod Keys
 pub mod Kept

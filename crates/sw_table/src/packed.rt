@@ -3,10 +3,12 @@
 ghost use Rattle.std.specs.Prelude.{◌≡◌, ◌≤◌, ◌<◌, ◌*◌, ◌+◌, ◌^◌, ◌-◌, ◌++◌, ◌∷◌, [], ℕ, ℤ, pos, List, length, map, take, drop, slice_index_or, vec_len, All, Decides, IfOk, IsOk, MatchOption, OnOk, OnErr};
 ghost use Rattle.sw_table.specs.declared.row.Row.{Row};
 ghost use Rattle.sw_table.specs.Rows.{HasNoRow, IsRowAt, cell_of};
+ghost use Rattle.sw_table.specs.Exchanged.{with_exchanged};
 ghost use Rattle.sw_table.specs.Kept.{kept};
 ghost use Rattle.sw_table.specs.Live.{Rises, key_of};
 ghost use Rattle.sw_table.specs.Packed.{HasRoomFor, IsLeastWidth, IsSameRoom, IsWithin, KeepsWidth, Packed, behind, stretch, with_stretch, zeros};
 
+use crate::exchanging::exchange_cells;
 use crate::keeping::keep_cells;
 use crate::keys::Keys;
 use crate::row::Row;
@@ -276,6 +278,16 @@ impl PackedRows {
         self.keys.keep(alloc, live)?;
         keep_cells(&mut self.cells, self.width, live);
         Ok(())
+    }
+
+    /// Exchanges an attribute's cells for numbers of a list: 1 for the first number, 2 for the second, and so on. Any
+    /// other cell stays.
+    pub fn exchange(&mut self, attr: usize, codes: &[i64])
+        requires { attr < self.old.width }
+        ensures { self.new ≡ record self.old { items = map (with_exchanged attr codes.now) self.old.items } }
+    {
+        let many = self.keys.len();
+        exchange_cells(&mut self.cells, self.width, many, attr, codes);
     }
 
     /// The same rows, with all eight cells kept. The one error is that there is no memory for them.

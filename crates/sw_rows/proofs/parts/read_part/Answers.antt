@@ -1,7 +1,6 @@
-use Rattle.std.proofs.Common.{◌≡◌, [], ap, length, ◌∙◌}
+use Rattle.std.proofs.Common.{[], ap, length, ◌∙◌}
 use Rattle.csv.specs.Reading.{default_config, records}
 use Rattle.sw_rows.specs.Header.{kinds_of}
-use Rattle.sw_rows.specs.Parts.{GivesRows, rows_of_part}
 use Rattle.sw_rows.proofs.CutLaw.{unmarked}
 use Rattle.sw_rows.proofs.DomainLaws.{under_numbers}
 use Rattle.sw_rows.proofs.PartLaws.{gives_part}

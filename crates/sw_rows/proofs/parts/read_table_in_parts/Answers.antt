@@ -1,6 +1,5 @@
 use Rattle.std.proofs.Common.{◌≡◌, ◌∙◌, ap, sym, List, ℕ, ◌∷◌, ◌++◌, [], Ok, take, drop}
 use Rattle.csv.specs.Reading.{default_config, records, strip_bom}
-use Rattle.sw_rows.specs.Gives.{Fails}
 use Rattle.sw_rows.specs.Header.{Column, header_of, holding}
 use Rattle.sw_rows.specs.Tables.{◌>>=◌, seeing, table_in, table_of_records, table_with}
 use Rattle.sw_rows.proofs.TableLemmas.{numbers_fail, numbers_read}

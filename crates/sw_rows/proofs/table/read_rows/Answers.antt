@@ -1,4 +1,4 @@
-use Rattle.std.proofs.Common.{◌≡◌, ◌∙◌, ◌<◌, ◌≤◌, ◌+◌, ◌++◌, ◌∷◌, ap, sym, subst, arith, ℕ, List, length, length-append, Ok, []}
+use Rattle.std.proofs.Common.{◌≡◌, ◌∙◌, ◌<◌, ◌+◌, ◌++◌, ◌∷◌, ap, sym, subst, arith, length, length-append, Ok, []}
 use Rattle.csv.specs.Records.{fields_of}
 use Rattle.sw_rows.specs.Domains.{under}
 use Rattle.sw_rows.specs.Gives.{Fails}

@@ -1,7 +1,6 @@
-use Rattle.std.proofs.Common.{◌≡◌, ◌∙◌, [], ap, sym, rules, true, Ok, FitsSigned, w64}
+use Rattle.std.proofs.Common.{◌∙◌, [], ap, sym, rules, Ok, FitsSigned, w64}
 use Rattle.std.proofs.lemmas.Int.{to_z-of_z}
-use Rattle.sw_rows.specs.Gives.{Fails}
-use Rattle.sw_rows.specs.Texts.{code_given, is_text}
+use Rattle.sw_rows.specs.Texts.{is_text}
 use Rattle.sw_rows.specs.Tables.{cell_at, over_seen}
 use Rattle.sw_rows.specs.Domains as kind
 use Rattle.sw_rows.proofs.TableLemmas.{text_fails, text_given, text_is}

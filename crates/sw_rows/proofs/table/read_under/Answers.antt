@@ -3,7 +3,7 @@ use Rattle.sw_rows.specs.Domains.{under}
 use Rattle.sw_rows.specs.Gives.{Fails}
 use Rattle.sw_rows.specs.Header.{holding, kinds_of}
 use Rattle.sw_rows.specs.Records.{records_left}
-use Rattle.sw_rows.specs.Tables.{Table, rows_after, seeing, texts_in}
+use Rattle.sw_rows.specs.Tables.{rows_after, seeing, texts_in}
 use Rattle.sw_rows.specs.Texts.{with_texts}
 use Rattle.sw_rows.proofs.DomainLaws.{kinds_of_texts}
 use Rattle.sw_rows.proofs.TableLemmas.{no_texts_in, table_fails, table_read}

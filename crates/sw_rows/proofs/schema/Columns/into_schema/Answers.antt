@@ -1,5 +1,5 @@
-use Rattle.std.proofs.Common.{◌≡◌, ◌∙◌, ap, sym, []}
-use Rattle.sw_rows.specs.Header.{AreColumns, has_texts, holding}
+use Rattle.std.proofs.Common.{◌∙◌, ap, sym, []}
+use Rattle.sw_rows.specs.Header.{holding}
 use Rattle.sw_rows.proofs.DomainLaws.{fresh_entries, schema_holding}
 use Rattle.sw_rows.proofs.schema.Columns.into_schema.Goals as goal
 

@@ -1,6 +1,5 @@
-use Rattle.std.proofs.Common.{◌≡◌, ◌∙◌, ap, sym, take, []}
+use Rattle.std.proofs.Common.{◌≡◌, ◌∙◌, ap, sym, take}
 use Rattle.sw_rows.specs.Header.{holding, texts_of}
-use Rattle.sw_rows.specs.Texts.{AreTexts}
 use Rattle.sw_rows.proofs.DomainLaws.{holding_again, none_known, schema_again, take_none}
 use Rattle.sw_rows.proofs.TextLemmas.{texts_fewer}
 use Rattle.sw_rows.proofs.schema.Schema.forget_texts.Goals as goal

@@ -1,4 +1,4 @@
-use Rattle.std.proofs.Common.{◌≡◌, ◌∙◌, ap, sym, Some, slice_get}
+use Rattle.std.proofs.Common.{◌∙◌, ap, sym, slice_get}
 use Rattle.sw_rows.specs.Header.{names_of}
 use Rattle.sw_rows.proofs.DomainLaws.{holding_names}
 use Rattle.sw_rows.proofs.schema.Schema.name.Goals as goal

@@ -1,4 +1,4 @@
-use Rattle.std.proofs.Common.{◌≡◌, ◌≤◌, ◌+◌, ◌∙◌, ap, sym, arith, length, is_some, None, Some, true, false}
+use Rattle.std.proofs.Common.{◌+◌, ◌∙◌, ap, sym, arith, is_some, None, Some, true, false}
 use Rattle.sw_rows.specs.Texts.{AreTexts}
 use Rattle.sw_rows.proofs.TextLaws.{code_within}
 use Rattle.sw_rows.proofs.TextLemmas.{text_code, text_known_among}
