@@ -170,6 +170,42 @@ printed_of columns (Ok (Some call)) = call_text columns call
 printed_of columns (Ok None) = []
 printed_of columns (Err f) = []
 
+-- ---- lines over a table with an attribute of texts
+
+-- two cities that are known, and numbers
+abbrev pub cities : List Column
+cities = (codes "city", kind.Text (codes "Oslo" ∷ codes "it's" ∷ [])) ∷ (codes "n", kind.Int) ∷ []
+
+abbrev pub text_lines : List Example
+text_lines =
+    (codes "count where city = 'Oslo'", counts_where 0 (at_least (pos 1)) (at_most (pos 1)))
+    ∷ (codes "count where city='Oslo'and city = 'it''s'", counts_where 0 (at_least (pos 2)) (at_most (pos 1)))
+    ∷ (codes "count where city = 'it''s'", counts_where 0 (at_least (pos 2)) (at_most (pos 2)))
+    ∷ (
+      codes "insert 'it''s', 4",
+      Ok (Some (Insert (pos 2 ∷ pos 4 ∷ pos 0 ∷ pos 0 ∷ pos 0 ∷ pos 0 ∷ pos 0 ∷ pos 0 ∷ []))),
+    )
+    ∷ (codes "select city where n >= 2", asks (Rows (0 ∷ [])) (on 1 (at_least (pos 2)) None ∷ []))
+    ∷ (codes "max n", asks (Max 1) [])
+    ∷ (codes "count where city < 'Oslo'", Err (Bad why.Word))
+    ∷ (codes "count where city >= 'Oslo'", Err (Bad why.Word))
+    ∷ (codes "max city", Err (Bad why.Word))
+    ∷ (codes "sum city", Err (Bad why.Word))
+    ∷ (codes "count where city = Oslo", Err (Bad why.Value))
+    ∷ (codes "count where city = 1", Err (Bad why.Value))
+    ∷ (codes "count where n = '1'", Err (Bad why.Value))
+    ∷ (codes "count where city = 'Oslo", Err (Bad why.Word))
+    ∷ (codes "insert Oslo, 4", Err (Bad why.Value))
+    ∷ []
+
+-- and the same calls printed
+abbrev pub text_printed : List (List ℕ × List ℕ)
+text_printed =
+    (codes "count where city='Oslo'", codes "count where city = 'Oslo'")
+    ∷ (codes "count where city='Oslo' and city='it''s'", codes "count where city = 'it''s' and city = 'Oslo'")
+    ∷ (codes "insert 'it''s',4", codes "insert 'it''s', 4")
+    ∷ []
+
 -- ---- cuts over the table of whole numbers
 
 abbrev pub CutExample : Type 0

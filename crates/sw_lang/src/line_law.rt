@@ -11,7 +11,7 @@ ghost use Rattle.sw_lang.specs.ReadBack.{PrintedCallsAreLines, PrintedCallsAreRe
 ghost use Rattle.sw_lang.specs.Reading.{line_at};
 ghost use Rattle.sw_lang.specs.Replies.{doubled, quoted_text};
 ghost use Rattle.sw_lang.specs.Tokens.{quoted, tokens, undoubled};
-ghost use Rattle.sw_lang.specs.Examples.{calls, cut_texts, mixed, mixed_cuts, printed_lines, printed_of, refusals, three};
+ghost use Rattle.sw_lang.specs.Examples.{calls, cities, cut_texts, mixed, mixed_cuts, printed_lines, printed_of, refusals, text_lines, text_printed, three};
 
 /// The format's examples are read as the format says.
 pub fn examples_of_lines()
@@ -22,6 +22,12 @@ pub fn examples_of_lines()
 /// The calls of some lines are printed as the format says.
 pub fn examples_of_printed_lines()
     ensures { map (λ e. printed_of mixed (line_at mixed e.0)) printed_lines ≡ map (λ e. e.1) printed_lines }
+{}
+
+/// Lines over a table with an attribute of texts, and calls of some printed.
+pub fn examples_of_texts()
+    ensures lines { map (λ e. line_at cities e.0) text_lines ≡ map (λ e. e.1) text_lines }
+    ensures printed { map (λ e. printed_of cities (line_at cities e.0)) text_printed ≡ map (λ e. e.1) text_printed }
 {}
 
 /// The same for texts of cuts.
