@@ -89,6 +89,7 @@ fn joined(alloc: Global, columns: &Columns, first: Part, rest: Part) -> Option<P
         rows: mut more,
         texts: others,
     } = rest;
+    // a part that has as many texts as there may be may have left some out
     if others.len() as u64 >= MOST_TEXTS {
         return None;
     }
