@@ -25,3 +25,4 @@ pub mod Singles
 pub mod Steps
 pub mod Texts
 pub mod Words
+pub mod FitTexts

@@ -22,7 +22,7 @@ pub use cuts::{Cuts, MOST_CUTS, parse_cuts};
 pub use fault::Fault;
 pub use line_law::{
     cuts_are_read_as_related, examples_of_cuts, examples_of_lines, examples_of_printed_lines,
-    examples_of_texts, lines_are_read_as_related, printed_calls_are_read,
+    examples_of_texts, lines_are_read_as_related, lines_ask_of_texts, printed_calls_are_read,
     quoted_texts_are_read_back, terms_make_conditions,
 };
 pub use parse::{MOST_LINE, parse_line};

@@ -1,7 +1,11 @@
 //! Laws of the grammar of lines. Each function has no body to speak of: its contract is the law.
 
-ghost use Rattle.std.specs.Prelude.{IsUtf8, ◌≡◌, ◌≤◌, ◌+◌, ◌*◌, ◌==◌, ℕ, false, List, [], ◌∷◌, ◌++◌, length, codes, slice_index, fold, map};
+ghost use Rattle.std.specs.Prelude.{ℤ, IsUtf8, ◌≡◌, ◌≤◌, ◌+◌, ◌*◌, ◌==◌, ℕ, false, List, [], ◌∷◌, ◌++◌, length, codes, slice_index, fold, map};
 ghost use Rattle.sw_lang.specs.declared.term.Term.{Term};
+ghost use Rattle.sw_rows.specs.Header.{Column, kinds_of};
+ghost use Rattle.sw_rows.specs.TextRows.{AsksOfTexts, IsRowCoded};
+ghost use Rattle.sw_rows.specs.declared.query.Query.{Query};
+ghost use Rattle.sw_lang.specs.Fits.{FitsCells, FitsQuery};
 ghost use Rattle.sw_lang.specs.Terms.{add_term, conditions};
 ghost use Rattle.sw_lang.specs.Agreement.{FindsAllRelated, FindsRelated};
 ghost use Rattle.sw_lang.specs.Grammar.{IsLine};
@@ -64,6 +68,14 @@ pub fn quoted_texts_are_read_back()
     ensures few_bytes { (text : List ℕ) → length (quoted_text text) ≤ 2 + 2 * length text }
     ensures utf8 { (text : List ℕ) → IsUtf8 text → IsUtf8 (quoted_text text) }
     ensures example { quoted_text (codes "it's") ≡ codes "'it''s'" }
+{}
+
+/// What a line asks of texts is equality, and the cells of a row that it inserts are codes of texts, where they are of
+/// texts: so that answers to it are answers over texts (`sw_rows::text_answers`).
+pub fn lines_ask_of_texts()
+    ensures queries { (schema : List Column) (q : Query) → FitsQuery schema q → AsksOfTexts (kinds_of schema) q }
+    ensures rows { (schema : List Column) (key : ℕ) (cells : List ℤ) → FitsCells (kinds_of schema) cells
+        → IsRowCoded (kinds_of schema) (record { key = key; cells = cells }) }
 {}
 
 /// Reading a text of cuts from left to right finds just what the relation of cuts relates to the text.
