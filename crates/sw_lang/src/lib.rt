@@ -4,6 +4,7 @@
 mod cuts;
 mod domain;
 mod fault;
+mod learning;
 mod line_law;
 mod parse;
 mod printed_calls;
@@ -20,6 +21,7 @@ mod token;
 
 pub use cuts::{Cuts, MOST_CUTS, parse_cuts};
 pub use fault::Fault;
+pub use learning::learn_line;
 pub use line_law::{
     cuts_are_read_as_related, examples_of_cuts, examples_of_lines, examples_of_printed_lines,
     examples_of_texts, lines_are_read_as_related, printed_calls_are_read,
