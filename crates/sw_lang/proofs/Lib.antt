@@ -4,6 +4,7 @@ pub mod CutSteps
 pub mod CutTexts
 pub mod Fit
 pub mod Knowing
+pub mod KnownLines
 pub mod LineConds
 pub mod Lines
 pub mod Merge

@@ -24,7 +24,7 @@ pub use fault::Fault;
 pub use learning::learn_line;
 pub use line_law::{
     cuts_are_read_as_related, examples_of_cuts, examples_of_lines, examples_of_printed_lines,
-    examples_of_texts, lines_are_read_as_related, printed_calls_are_read,
+    examples_of_texts, lines_are_read_as_related, lines_keep_their_calls, printed_calls_are_read,
     quoted_texts_are_read_back, terms_make_conditions,
 };
 pub use parse::{MOST_LINE, parse_line};
