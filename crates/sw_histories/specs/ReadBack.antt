@@ -1,5 +1,5 @@
 -- Records whose text is read again.
-use Rattle.std.specs.Prelude.{◌≡◌, ◌<◌, ◌≤◌, ◌^◌, IsUtf8, ℕ, ℤ, pos, negsuc, true, List, [], ◌∷◌, All, map, Some, Ok}
+use Rattle.std.specs.Prelude.{◌≡◌, ◌<◌, ◌≤◌, ◌^◌, IsUtf8, ℕ, ℤ, pos, negsuc, true, false, List, [], ◌∷◌, All, map, Some, Ok}
 use Rattle.serde_json.specs.Read.{read}
 use Rattle.sw_rows.specs.Header.{Column, IsSchema, has_texts, kinds_of}
 use Rattle.sw_rows.specs.Tables.{padded}

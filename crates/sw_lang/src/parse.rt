@@ -285,7 +285,9 @@ fn line_at(alloc: Global, schema: &Schema, text: &[u8]) -> Result<Option<Call>, 
 ///
 /// The text is the line without its end. Refused `BadLine` with the line's number, from 1, as it is given: why `Length`
 /// where the text is longer than 4,096 bytes; else `Word`, `End` or `Value` for the first token from the left that cannot
-/// stand where it does. `UnknownAttribute` where that token is a well-formed name that no attribute has.
+/// stand where it does. `UnknownAttribute` where that token is a well-formed name that no attribute has. A quoted text is
+/// read as the code under which the schema knows it; one that it does not know is one too many, `TooMany` of
+/// `sw_rows::MOST_TEXTS`.
 pub fn parse_line(
     alloc: Global,
     schema: &Schema,

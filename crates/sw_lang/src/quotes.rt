@@ -68,13 +68,14 @@ fn fill(raw: &[u8], buffer: &mut [u8; MOST_BYTES_OF_TEXT]) -> Option<usize>
     Some(len)
 }
 
-/// The text of a quoted text's bytes between its quotes, in this buffer, and None where it is longer than a text of a
-/// table.
+/// The text of a quoted text's bytes between its quotes, in this buffer, and None where it is longer than the text of a
+/// cell may be.
 pub(crate) fn undoubled<'b>(
     raw: &[u8],
     buffer: &'b mut [u8; MOST_BYTES_OF_TEXT],
 ) -> Option<&'b [u8]>
-    ensures { MatchOption result (MOST_BYTES_OF_TEXT < length (undoubled raw.now)) (λ text. text.now ≡ undoubled raw.now) }
+    ensures { MatchOption result (MOST_BYTES_OF_TEXT < length (undoubled raw.now))
+        (λ text. text.now ≡ undoubled raw.now) }
 {
     let len = fill(raw, buffer)?;
     Some(&buffer[..len])

@@ -11,7 +11,7 @@ use crate::printed_rows::write_rows;
 use crate::sinks::{write_all, write_number};
 use sw_rows::{Call, Kind, Refusal, Reply, ReplyRows, Schema, Sink, Want};
 
-/// The kind of the first attribute that is shown, or of the one that is summed or compared.
+/// The values of the first attribute that is shown, or of the one that is summed or compared.
 fn values_wanted<'a>(schema: &'a Schema, want: &Want) -> AttrValues<'a>
     ensures domain { domain_of result ≡ first_kind (kinds_wanted schema.now want.now) }
     ensures sound { AreSound result }

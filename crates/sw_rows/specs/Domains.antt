@@ -38,7 +38,7 @@ is_of_texts (Fix places) = false
 is_of_texts Flag = false
 is_of_texts (Text texts) = true
 
--- decimals are one to six, and texts are few and differ
+-- decimals are one to six, and texts are texts of cells, few of them, which differ
 abbrev pub IsDomain : Domain → Type 0
 IsDomain Int = Unit {0}
 IsDomain (Fix places) = (1 ≤ places) × (places ≤ 6)

@@ -64,9 +64,10 @@ pub fn read_all<R: Source>(alloc: Global, source: &mut R, limit: usize) -> Resul
 ///
 /// The first fault refuses it: `TooMany` of 268,435,456 bytes, before anything is split; `BadTable` of record 0, field 0
 /// where there is no header; `TooMany` of 8 attributes; `BadTable` at the first field of the header that is none; then record
-/// by record `TooMany` of 1,048,576 rows, `BadTable` at the first field that is missing or too many, `BadTable` at the first
-/// cell that is none of its kind. What is answered is the table of some bytes, also where the source does not tell its own.
-/// `Input` comes only where the source failed in this call.
+/// by record `TooMany` of 1,048,576 rows, `BadTable` at the first field that is missing or too many, `BadTable` at the
+/// first cell that is none of its kind, or `TooMany` of 1,048,576 texts at a cell whose text would be one more. What is
+/// answered is the table of some bytes, also where the source does not tell its own. `Input` comes only where the source
+/// failed in this call.
 pub fn load<R: Source>(alloc: Global, source: &mut R) -> Result<(Schema, PackedRows), Refusal>
     ensures spelled { IfSome (R.left source.old) (IsLoaded (R.failed source.old) (R.failed source.new) result) }
     ensures steady { OnOk result (R.failed source.new ≡ R.failed source.old) }

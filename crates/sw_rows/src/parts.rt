@@ -173,12 +173,14 @@ fn read_halves<R: Threads + Sync>(
     let (first, rest) = join(
         rt,
         || -> Result<PackedRows, Refusal>
-            requires { IsSync R.row × (begins_plain left.now ≡ true) × (has_texts columns.now ≡ false) × (0 < length columns.now) }
+            requires { IsSync R.row × (begins_plain left.now ≡ true) × (has_texts columns.now ≡ false)
+                × (0 < length columns.now) }
             ensures rows { GivesRows result (rows_of_part columns.entry.now left.entry.now) }
             ensures part { IfOk result (IsPart (length columns.entry.now)) }
         { read_halves(rt, alloc, columns, left, fewer) },
         || -> Result<PackedRows, Refusal>
-            requires { IsSync R.row × (begins_plain right.now ≡ true) × (has_texts columns.now ≡ false) × (0 < length columns.now) }
+            requires { IsSync R.row × (begins_plain right.now ≡ true) × (has_texts columns.now ≡ false)
+                × (0 < length columns.now) }
             ensures rows { GivesRows result (rows_of_part columns.entry.now right.entry.now) }
             ensures part { IfOk result (IsPart (length columns.entry.now)) }
         { read_halves(rt, alloc, columns, right, fewer) },

@@ -128,7 +128,8 @@ pub(crate) fn read_rows(
         (texts.new ≡ with_texts texts.old (texts_in (kinds_of columns.now) (records_left rdr.old))) }
     ensures width { IfOk result (λ rows. rows.width ≡ length columns.now) }
 {
-    let mut rows = PackedRows::new(alloc, columns.len());
+    let count = columns.len();
+    let mut rows = PackedRows::new(alloc, count);
     for n in 0..MOST_ROWS {
         match records::next(rdr, row) {
             Ok(true) => {}

@@ -1,13 +1,12 @@
 //! A table with attributes of texts that is read in parts, each by a thread of its own and with texts of its own.
 
-ghost use Rattle.std.specs.Prelude.{◌≡◌, ◌<◌, ◌≤◌, ℕ, List, true, length, map, Ok, IfSome};
+ghost use Rattle.std.specs.Prelude.{◌≡◌, ◌<◌, ℕ, List, true, length, map, Ok, IfSome};
 ghost use Rattle.std.specs.Thread.{IsSync};
 ghost use Rattle.csv.specs.Reading.{default_config, records};
 ghost use Rattle.sw_rows.specs.Header.{has_texts, kinds_of};
 ghost use Rattle.sw_rows.specs.Parts.{AreCodes, AreRecordsOfBoth, IsPart, IsRead, begins_plain, row_coded};
 ghost use Rattle.sw_rows.specs.Tables.{seeing, shown_packed, table_with};
 ghost use Rattle.sw_rows.specs.Texts.{with_texts};
-ghost use Rattle.sw_table.specs.declared.row.Row.{Row};
 
 use crate::kind::Kind;
 use crate::parts::{HALVINGS, LEAST_HALVED, append, cut};
@@ -90,6 +89,7 @@ fn joined(alloc: Global, columns: &Columns, first: Part, rest: Part) -> Option<P
         rows: mut more,
         texts: others,
     } = rest;
+    // a part that has as many texts as there may be may have left some out
     if others.len() as u64 >= MOST_TEXTS {
         return None;
     }

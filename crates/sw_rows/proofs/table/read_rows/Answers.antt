@@ -13,7 +13,7 @@ use Rattle.sw_rows.proofs.TextLaws.{with_more}
 use Rattle.sw_rows.proofs.table.read_rows.Goals as goal
 
 pub new-rows-requires-clause-some : goal.new-rows-requires-clause-some
-new-rows-requires-clause-some c = omega (arith, c.requires.some, c.len.ensures.value)
+new-rows-requires-clause-some c = omega (arith, c.requires.some, c.len-count.ensures.value)
 
 pub returns-in-Ok-false-clause-gives : goal.returns-in-Ok-false-clause-gives
 returns-in-Ok-false-clause-gives c = λ more.
