@@ -3,6 +3,8 @@ pub mod CutLists
 pub mod CutSteps
 pub mod CutTexts
 pub mod Fit
+pub mod Knowing
+pub mod KnownLines
 pub mod LineConds
 pub mod Lines
 pub mod Merge

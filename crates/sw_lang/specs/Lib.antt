@@ -4,6 +4,7 @@ pub mod CutsReading
 pub mod Examples
 pub mod Fits
 pub mod Grammar
+pub mod Learning
 pub mod PrintedCalls
 pub mod PrintedExamples
 pub mod ReadBack

@@ -1,8 +1,8 @@
 //! Laws of the grammar of lines. Each function has no body to speak of: its contract is the law.
 
-ghost use Rattle.std.specs.Prelude.{ℤ, IsUtf8, ◌≡◌, ◌≤◌, ◌+◌, ◌*◌, ◌==◌, ℕ, false, List, [], ◌∷◌, ◌++◌, length, codes, slice_index, fold, map};
+ghost use Rattle.std.specs.Prelude.{ℤ, IsUtf8, ◌≡◌, ◌≤◌, ◌+◌, ◌*◌, ◌==◌, ℕ, false, List, [], ◌∷◌, ◌++◌, length, codes, slice_index, fold, map, Ok, Option};
 ghost use Rattle.sw_lang.specs.declared.term.Term.{Term};
-ghost use Rattle.sw_rows.specs.Header.{Column, kinds_of};
+ghost use Rattle.sw_rows.specs.Header.{kinds_of};
 ghost use Rattle.sw_rows.specs.TextRows.{AsksOfTexts, IsRowCoded};
 ghost use Rattle.sw_rows.specs.declared.query.Query.{Query};
 ghost use Rattle.sw_lang.specs.Fits.{FitsCells, FitsQuery};
@@ -11,6 +11,9 @@ ghost use Rattle.sw_lang.specs.Agreement.{FindsAllRelated, FindsRelated};
 ghost use Rattle.sw_lang.specs.Grammar.{IsLine};
 ghost use Rattle.sw_lang.specs.Cuts.{IsCuts};
 ghost use Rattle.sw_lang.specs.CutsReading.{cuts_at};
+ghost use Rattle.sw_rows.specs.Header.{Column, IsSchema};
+ghost use Rattle.sw_rows.specs.declared.query.Call.{Call};
+ghost use Rattle.sw_lang.specs.Learning.{knowing};
 ghost use Rattle.sw_lang.specs.ReadBack.{PrintedCallsAreLines, PrintedCallsAreRead};
 ghost use Rattle.sw_lang.specs.Reading.{line_at};
 ghost use Rattle.sw_lang.specs.Replies.{doubled, quoted_text};
@@ -50,6 +53,14 @@ pub fn terms_make_conditions()
 pub fn lines_are_read_as_related()
     ensures found { FindsRelated line_at IsLine }
     ensures only { FindsAllRelated line_at IsLine }
+{}
+
+/// What is read of a line under a schema is read of it under the schema that knows more texts, as that which has learned
+/// further lines.
+pub fn lines_keep_their_calls()
+    ensures { (schema : List Column) (more : List (List ℕ)) (text : List ℕ) (call : Option Call)
+        → IsSchema schema → IsSchema (knowing more schema) → line_at schema text ≡ Ok call
+        → line_at (knowing more schema) text ≡ Ok call }
 {}
 
 /// Where a line is a call, what `write_call` prints of the call is a line too, of at most 4,096 bytes, and is the same

@@ -258,7 +258,7 @@ fn call_at(alloc: Global, schema: &Schema, text: &[u8]) -> Result<Option<Call>, 
     Ok(Some(call))
 }
 
-fn is_comment(text: &[u8]) -> bool
+pub(crate) fn is_comment(text: &[u8]) -> bool
     ensures { result ≡ is_comment text.now }
 {
     let Some((first, _)) = skip_blanks(text).split_first() else {
