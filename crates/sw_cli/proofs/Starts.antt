@@ -1,5 +1,6 @@
 -- Why a run is refused before its first call.
-use Rattle.std.proofs.Common.{◌≡◌, ap, subst, refl, ℕ, ◌+◌, ◌⊎◌, inl, inr, Bool, true, suc, List, [], ◌∷◌, length, Option, Some, None, Result, Ok, Err, arith, slice_get, IfErr, IfOk, IfSome, eqb, ◌&&◌}
+use Rattle.std.proofs.Common.{◌≡◌, ap, subst, refl, ℕ, ◌+◌, ◌<◌, ◌⊎◌, inl, inr, Bool, true, suc, List, [], ◌∷◌, length, Option, Some, None, Result, Ok, Err, arith, slice_get, IfErr, IfOk, IfSome, eqb, nat_lt, ◌&&◌}
+use Rattle.std.proofs.lemmas.Grind.{common_steps}
 use Rattle.std.proofs.lemmas.Bool.Decides.{Decides-eqb}
 use Rattle.sw_rows.proofs.RowLaws.{keys-count}
 use Rattle.sw_rows.specs.Gives.{Fails}
@@ -17,8 +18,9 @@ use Rattle.sw_lang.specs.declared.fault.Fault.{Fault as LineFault}
 use Rattle.sw_lang.specs.declared.fault.Fault.TheVariants.{Bad, Excess, Unknown}
 use Rattle.sw_spine.specs.Table.{is_numbered}
 use Rattle.sw_histories.specs.Told.{◌>>=◌, TellsText}
-use Rattle.sw_cli.specs.Run.{or_refusal}
-use Rattle.sw_cli.specs.Starts.{RefusedFrom}
+use Rattle.sw_lang.specs.Cuts.{CutLists}
+use Rattle.sw_cli.specs.Run.{cuts_of, or_refusal, script_of, start_of}
+use Rattle.sw_cli.specs.Starts.{IfBoth, RefusedFrom}
 
 -- a fault of the table is the refusal of what comes after it too
 pub table_refuses : {A B : Type 0} (I J : Type 0) (e : Refusal) (read : Result A Fault) (f : A → Result B Refusal) → Fails I e read → RefusedFrom {Y = B} (I ⊎ J) e (or_refusal read >>= f)
@@ -112,3 +114,15 @@ numbered_from n (r ∷ rs) h =
 -- the rows of a table have the keys 1, 2, 3 and so on
 pub table_numbered : (bytes : List ℕ) (t : Table) → table_of bytes ≡ Ok t → is_numbered 1 t.rows ≡ true
 table_numbered bytes t h = numbered_from 1 t.rows (λ i r e. let k = keys-count bytes t i r h e in omega arith)
+
+over_limit : (limit : ℕ) (cuts a b : List ℕ) (t : Table) (blocks : List (List Call)) (lists : CutLists) → table_of a ≡ Ok t → script_of t.columns b ≡ Ok blocks → cuts_of t.columns cuts ≡ Ok lists → nat_lt limit (length t.rows) ≡ true → start_of limit cuts a b ≡ Err (refusal.TooMany limit)
+over_limit limit cuts a b t blocks lists h k l m = rw (h, k, l, m) refl
+
+pub exceeds : (limit n many : ℕ) → n ≡ many → limit < n → nat_lt limit many ≡ true
+exceeds limit n many e h = subst (λ (k : ℕ). nat_lt limit k ≡ true) e (grind (arith, common_steps))
+
+-- where all was read and the rows are more than the limit, that is the refusal
+pub rows_refuse : (limit : ℕ) (cuts : List ℕ) (left right : Option (List ℕ)) (t : Table) (blocks : List (List Call)) (lists : CutLists) → IfSome left (λ a. table_of a ≡ Ok t) → IfSome right (λ b. script_of t.columns b ≡ Ok blocks) → cuts_of t.columns cuts ≡ Ok lists → nat_lt limit (length t.rows) ≡ true → IfBoth left right (λ a b. start_of limit cuts a b ≡ Err (refusal.TooMany limit))
+rows_refuse limit cuts (Some a) (Some b) t blocks lists h k l m = over_limit limit cuts a b t blocks lists h k l m
+rows_refuse limit cuts (Some a) None t blocks lists h k l m = tt
+rows_refuse limit cuts None right t blocks lists h k l m = tt

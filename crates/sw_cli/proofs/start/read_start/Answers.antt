@@ -1,8 +1,8 @@
-use Rattle.std.proofs.Common.{arith}
+use Rattle.std.proofs.Common.{arith, true, nat_lt, length, ◌≡◌}
 use Rattle.std.proofs.lemmas.Grind.{common_steps}
 use Rattle.sw_rows.proofs.RowLaws.{table-schema}
 use Rattle.sw_rows.specs.Tables.{shown_packed}
-use Rattle.sw_cli.proofs.Starts.{table_numbered}
+use Rattle.sw_cli.proofs.Starts.{exceeds, rows_refuse, table_numbered}
 use Rattle.sw_cli.proofs.start.read_start.Goals as goal
 
 pub returns-clause-sound : goal.returns-clause-sound
@@ -17,3 +17,10 @@ returns-clause-sound g c =
       lists = c.in-Ok-read_cuts.ensures.fits.lists;
       cuts = c.in-Ok-read_cuts.ensures.fits.lawful;
     }
+
+-- where the rows are more than the limit
+pub returns-then-len-limit-clause-spelled : goal.returns-then-len-limit-clause-spelled
+returns-then-len-limit-clause-spelled g c =
+    let t = shown_packed c.in-Ok.found in
+    let more : nat_lt c.args.limit (length t.rows) ≡ true = exceeds c.args.limit c.len.result (length t.rows) c.len.ensures.many c.if-len-limit.true in
+    rows_refuse c.args.limit c.args.cuts.now (g.T.Source.left c.args.table.now) (g.S.Source.left c.args.script.now) t c.in-Ok-read_script.blocks.items c.in-Ok-read_cuts.cuts c.in-Ok.ensures.spelled c.in-Ok-read_script.ensures.spelled c.in-Ok-read_cuts.ensures.answers more
