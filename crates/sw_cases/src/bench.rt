@@ -53,7 +53,7 @@ fn take_table(alloc: Global, bench: &mut Bench, text: &[u8]) -> Result<String, R
 }
 
 /// The update of a line: the row of this key comes in, or a key goes.
-fn update_of(alloc: Global, schema: &Schema, key: u64, text: &str) -> Result<Update, Refusal> {
+fn update_of(alloc: Global, schema: &mut Schema, key: u64, text: &str) -> Result<Update, Refusal> {
     match parse_line(alloc, schema, 7, text)? {
         Some(Call::Insert(cells)) => Ok(Update::Insert(Row { key, cells })),
         Some(Call::Delete(key)) => Ok(Update::Remove(key)),
@@ -70,7 +70,7 @@ fn change(table: &mut Table, one: Update) -> Result<(), AllocError> {
 
 /// Makes the update of a line, and shows the table.
 fn take_update(alloc: Global, table: &mut Table, key: &str, text: &str) -> Result<String, Refusal> {
-    let one = update_of(alloc, &table.schema, number(key), text)?;
+    let one = update_of(alloc, &mut table.schema, number(key), text)?;
     held(change(table, one))?;
     shown(alloc, table)
 }
@@ -92,7 +92,7 @@ fn of_rows(alloc: Global, table: &mut Table, args: &str, text: &str) -> Result<S
 /// A case of a table's attributes and a line.
 fn of_line(
     alloc: Global,
-    schema: &Schema,
+    schema: &mut Schema,
     word: &str,
     args: &str,
     text: &str,
@@ -113,7 +113,7 @@ fn of_line(
 /// A case of a table.
 fn of_table(
     alloc: Global,
-    table: &Table,
+    table: &mut Table,
     word: &str,
     args: &str,
     text: &str,

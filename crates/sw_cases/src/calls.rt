@@ -55,7 +55,7 @@ fn call_parts(alloc: Global, call: &Call) -> Result<String, AllocError> {
 }
 
 /// The call of line 7, in its parts.
-pub(crate) fn parts(alloc: Global, schema: &Schema, text: &str) -> Result<String, Refusal> {
+pub(crate) fn parts(alloc: Global, schema: &mut Schema, text: &str) -> Result<String, Refusal> {
     match parse_line(alloc, schema, 7, text)? {
         Some(call) => held(call_parts(alloc, &call)),
         None => held(String::from_str(alloc, "none")),
@@ -70,7 +70,7 @@ fn print_call(alloc: Global, schema: &Schema, call: &Call) -> Result<String, Ref
 }
 
 /// The call of a line, printed.
-pub(crate) fn printed(alloc: Global, schema: &Schema, text: &str) -> Result<String, Refusal> {
+pub(crate) fn printed(alloc: Global, schema: &mut Schema, text: &str) -> Result<String, Refusal> {
     match parse_line(alloc, schema, 7, text)? {
         Some(call) => print_call(alloc, schema, &call),
         None => Ok(String::new(alloc)),
@@ -78,7 +78,7 @@ pub(crate) fn printed(alloc: Global, schema: &Schema, text: &str) -> Result<Stri
 }
 
 /// The conditions of a line's query, none of another line.
-fn conds_of(alloc: Global, schema: &Schema, text: &str) -> Result<Conds, Refusal> {
+fn conds_of(alloc: Global, schema: &mut Schema, text: &str) -> Result<Conds, Refusal> {
     match parse_line(alloc, schema, 7, text)? {
         Some(Call::Select(query)) => Ok(query.conds),
         _ => Ok(Conds::new(alloc)),
@@ -88,7 +88,7 @@ fn conds_of(alloc: Global, schema: &Schema, text: &str) -> Result<Conds, Refusal
 /// The place of the first condition on an attribute.
 pub(crate) fn place_of(
     alloc: Global,
-    schema: &Schema,
+    schema: &mut Schema,
     attr: &str,
     text: &str,
 ) -> Result<String, Refusal> {
@@ -116,7 +116,7 @@ fn seventh(alloc: Global, conds: &Conds) -> Result<String, AllocError> {
 }
 
 /// The conditions once the first of them is exchanged for one without bounds on attribute 7, and the place of that.
-pub(crate) fn exchanged(alloc: Global, schema: &Schema, text: &str) -> Result<String, Refusal> {
+pub(crate) fn exchanged(alloc: Global, schema: &mut Schema, text: &str) -> Result<String, Refusal> {
     let mut conds = conds_of(alloc, schema, text)?;
     exchange_first(&mut conds);
     held(seventh(alloc, &conds))

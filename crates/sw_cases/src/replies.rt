@@ -14,8 +14,8 @@ use sw_rows::{
 };
 
 /// The call of a line; of a line without one the deletion of key 0.
-fn call_of(alloc: Global, schema: &Schema, text: &str) -> Result<Call, Refusal>
-    ensures { IfOk result (FitsCall schema.now) }
+fn call_of(alloc: Global, schema: &mut Schema, text: &str) -> Result<Call, Refusal>
+    ensures { IfOk result (FitsCall schema.new) }
 {
     match parse_line(alloc, schema, 7, text)? {
         Some(call) => Ok(call),
@@ -68,7 +68,7 @@ fn copied_lines(
 /// What a select is answered over the rows of a table.
 pub(crate) fn asked(
     alloc: Global,
-    schema: &Schema,
+    schema: &mut Schema,
     rows: &[Row],
     text: &str,
 ) -> Result<String, Refusal> {
@@ -114,7 +114,7 @@ fn sent(
 /// What becomes of the lines of a select's reply where a sink fails at its first writes.
 pub(crate) fn failing(
     alloc: Global,
-    schema: &Schema,
+    schema: &mut Schema,
     rows: &[Row],
     writes: &str,
     text: &str,

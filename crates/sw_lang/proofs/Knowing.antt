@@ -1,12 +1,12 @@
 -- A schema that learns the texts of tokens, one after another.
-use Rattle.std.proofs.Common.{◌≡◌, ◌∙◌, ap, sym, refl, ℕ, suc, ◌≤◌, All, Bool, true, false, true≢false, List, [], ◌∷◌, ◌++◌, length, take, nat_lt, arith, if◌then◌else◌, append_assoc, append-nil, ◌||◌}
+use Rattle.std.proofs.Common.{◌≡◌, ◌∙◌, ap, sym, refl, ℕ, suc, ◌≤◌, All, Bool, true, false, true≢false, List, [], ◌∷◌, ◌++◌, length, take, nat_lt, arith, if◌then◌else◌, append_assoc, append-nil, ◌||◌, le_refl, take_all}
 use Rattle.std.proofs.lemmas.Bool.{le-leb}
 use Rattle.sw_rows.specs.Domains.{Domain, IsOver, over}
 use Rattle.sw_rows.specs.Domains as kind
 use Rattle.sw_rows.specs.Header.{Column, IsSchema, has_texts, holding, texts_of}
 use Rattle.sw_rows.specs.Texts.{are_full, has_text, with_texts}
 use Rattle.sw_rows.specs.declared.texts.TheConstants.{MOST_TEXTS}
-use Rattle.sw_rows.proofs.DomainLaws.{holding_again, holding_of_texts, texts_of_holding}
+use Rattle.sw_rows.proofs.DomainLaws.{holding_again, holding_long, holding_of_texts, texts_of_holding}
 use Rattle.sw_rows.proofs.TextLaws.{taken_back, with_more}
 use Rattle.sw_lang.specs.Learning.{knowing, learned, quoted_texts, texts_in_line}
 use Rattle.sw_lang.specs.Reading.{is_comment}
@@ -61,6 +61,22 @@ forgotten s more is some =
     ∙ ap (λ ts. holding ts (knowing more s)) (taken_back (texts_of s) more)
     ∙ holding_again (with_texts (texts_of s) more) (texts_of s) s
     ∙ nothing_more s is
+
+-- and what was learned of a line is forgotten
+pub line_forgotten : (s : List Column) (text : List ℕ) → IsSchema s → holding (take (length (texts_of s)) (texts_of (learned s text))) (learned s text) ≡ s
+line_forgotten s text is = by_test (has_texts s) refl
+  where
+    by_test : (b : Bool) → has_texts s ≡ b → (let t = if b then knowing (texts_in_line text) s else s in holding (take (length (texts_of s)) (texts_of t)) t ≡ s)
+    by_test true some = forgotten s (texts_in_line text) is some
+    by_test false none = ap (λ ts. holding ts s) (take_all (length (texts_of s)) (texts_of s) (le_refl (length (texts_of s)))) ∙ nothing_more s is
+
+-- there are as many attributes as before
+pub learned_width : (s : List Column) (text : List ℕ) → length (learned s text) ≡ length s
+learned_width s text = by_test (has_texts s)
+  where
+    by_test : (b : Bool) → length (if b then knowing (texts_in_line text) s else s) ≡ length s
+    by_test true = holding_long (with_texts (texts_of s) (texts_in_line text)) s
+    by_test false = refl
 
 -- ---- the loop over tokens
 

@@ -281,14 +281,10 @@ fn line_at(alloc: Global, schema: &Schema, text: &[u8]) -> Result<Option<Call>, 
     Ok(call)
 }
 
-/// The call of a line of a script, and None of an empty line or a comment.
-///
-/// The text is the line without its end. Refused `BadLine` with the line's number, from 1, as it is given: why `Length`
-/// where the text is longer than 4,096 bytes; else `Word`, `End` or `Value` for the first token from the left that cannot
-/// stand where it does. `UnknownAttribute` where that token is a well-formed name that no attribute has. A quoted text is
-/// read as the code under which the schema knows it; one that it does not know is one too many, `TooMany` of
+/// The call of a line over the texts that the schema knows, as `parse_line` reads it; for a table that is open, whose
+/// schema stays as it is. A quoted text that the schema does not know is refused as one too many, `TooMany` of
 /// `sw_rows::MOST_TEXTS`.
-pub fn parse_line(
+pub fn parse_known(
     alloc: Global,
     schema: &Schema,
     line: u32,

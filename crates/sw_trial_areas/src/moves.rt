@@ -8,7 +8,7 @@ use crate::scenes::Watch;
 use std::alloc::{AllocError, Global};
 use std::test::Fail;
 use std::thread::Threads;
-use sw_lang::parse_line;
+use sw_lang::parse_known;
 use sw_map::{CrackerMap, Tail};
 use sw_rows::{Bound, Call, Query, Refusal, Reply, ReplyRows, Schema};
 use sw_set::Area;
@@ -51,7 +51,7 @@ pub(crate) enum Move<'t> {
 /// A query as a line of a script, over the attributes a to e.
 fn query(alloc: Global, line: &str) -> Result<Query, Refusal> {
     let schema = Schema::of(alloc, &["a", "b", "c", "d", "e"])?;
-    match parse_line(alloc, &schema, 1, line) {
+    match parse_known(alloc, &schema, 1, line) {
         Ok(Some(Call::Select(query))) => Ok(query),
         Err(e) => Err(e),
         _ => Err(Refusal::Input),

@@ -7,7 +7,7 @@ ghost use Rattle.sw_spine.specs.Table.{is_numbered};
 ghost use Rattle.sw_spine.specs.History.{CallsBelow};
 
 use std::alloc::{AllocError, Global};
-use sw_lang::parse_line;
+use sw_lang::parse_known;
 use sw_map::{CrackerMap, push_blank};
 use sw_rows::{Call, PackedRows, Refusal, Reply, ReplyRows, Row, Schema};
 use sw_spine::{Record, State};
@@ -52,7 +52,7 @@ pub(crate) fn numbered(alloc: Global, cells: &[[i64; 8]]) -> Result<PackedRows, 
 fn call_of(alloc: Global, schema: &Schema, line: &str) -> Result<Option<Call>, Refusal>
     ensures { IfOk result (λ call. IfSome call (CallsBelow (length schema.now))) }
 {
-    parse_line(alloc, schema, 1, line)
+    parse_known(alloc, schema, 1, line)
 }
 
 /// Puts the call of a line, if it has one, behind calls.

@@ -5,7 +5,7 @@ use crate::trials::{Trial, open, replies};
 use std::alloc::Global;
 use std::thread::Threads;
 use sw_budget::Budget;
-use sw_lang::parse_line;
+use sw_lang::parse_known;
 use sw_map::{CrackerMap, PairMap};
 use sw_rows::Reply;
 
@@ -58,7 +58,7 @@ fn is_answered<R: Threads + Sync, M: CrackerMap>(
 ) -> bool {
     for _turn in 0..TURNS {
         let before = keys(trial);
-        if let Ok(Some(call)) = parse_line(alloc, &trial.schema, 1, line) {
+        if let Ok(Some(call)) = parse_known(alloc, &trial.schema, 1, line) {
             if let Ok((reply, plain)) = replies(rt, alloc, trial, &call) {
                 return number_of(&reply) == number && number_of(&plain) == number;
             }

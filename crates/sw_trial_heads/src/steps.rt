@@ -6,7 +6,7 @@ use std::alloc::{AllocError, Global};
 use std::sync::atomic::{AtomicU64, Ordering};
 use std::test::Fail;
 use std::thread::Threads;
-use sw_lang::parse_line;
+use sw_lang::parse_known;
 use sw_map::{CrackerMap, Tail};
 use sw_rows::{Bound, Call};
 use sw_set::Area;
@@ -178,7 +178,7 @@ pub(crate) fn merge<M: CrackerMap>(
     trial: &mut Trial<M>,
     line: &str,
 ) -> Result<(), Fail> {
-    if let Some(Call::Select(query)) = parse_line(alloc, &trial.schema, 1, line)? {
+    if let Some(Call::Select(query)) = parse_known(alloc, &trial.schema, 1, line)? {
         let _reply = trial.head.scan(&query)?;
     }
     Ok(())

@@ -4,7 +4,7 @@ use crate::GrowingHead;
 use std::alloc::Global;
 use std::test::Fail;
 use std::thread::Threads;
-use sw_lang::{parse_line, write_reply};
+use sw_lang::{parse_known, write_reply};
 use sw_map::CrackerMap;
 use sw_rows::{Call, Counted, Refusal, Reply, Row, Schema, answer, has_key};
 use sw_trial_areas::numbered;
@@ -136,7 +136,7 @@ pub(crate) fn tell<R: Threads + Sync, M: CrackerMap>(
     line: &str,
     text: &mut String,
 ) -> Result<bool, Fail> {
-    let Some(call) = parse_line(alloc, &trial.schema, 1, line)? else {
+    let Some(call) = parse_known(alloc, &trial.schema, 1, line)? else {
         return Ok(false);
     };
     let mut out = Counted::new(Vec::new(alloc));

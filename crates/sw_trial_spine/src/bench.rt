@@ -9,7 +9,7 @@ ghost use Rattle.sw_spine.specs.Books.{with_session};
 ghost use Rattle.sw_trial_spine.specs.Benches.{IsAsked, IsAtRest};
 
 use std::alloc::Global;
-use sw_lang::{parse_line, write_all, write_number, write_reply};
+use sw_lang::{parse_known, write_all, write_number, write_reply};
 use sw_rows::{
     Call, Counted, PackedRows, Query, Refusal, Reply, Row, Schema, Update, answer, update_all,
 };
@@ -95,7 +95,7 @@ pub(crate) fn opened(alloc: Global, rows: &[Row], limit: u64) -> Result<Spine, R
 fn call_of(alloc: Global, schema: &Schema, line: &str) -> Result<Call, Refusal>
     ensures { IfOk result (CallsBelow (length schema.now)) }
 {
-    match parse_line(alloc, schema, 1, line) {
+    match parse_known(alloc, schema, 1, line) {
         Ok(Some(call)) => Ok(call),
         Ok(None) => Err(Refusal::Input),
         Err(e) => Err(e),

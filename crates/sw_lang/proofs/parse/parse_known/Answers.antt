@@ -5,7 +5,7 @@ use Rattle.sw_lang.specs.Reading.{line_at}
 use Rattle.sw_lang.proofs.Fit.{line_fits}
 use Rattle.sw_lang.proofs.Lines.{line_found, line_read}
 use Rattle.sw_lang.proofs.Relates.{same_ok}
-use Rattle.sw_lang.proofs.parse.parse_line.Goals as goal
+use Rattle.sw_lang.proofs.parse.parse_known.Goals as goal
 
 pub returns-in-Ok-clause-grammar : goal.returns-in-Ok-clause-grammar
 returns-in-Ok-clause-grammar c = line_found c.args.schema.now c.args.text.now c.in-Ok.call (rw c.as_bytes.ensures.value at c.in-Ok.ensures)
