@@ -9,11 +9,9 @@ use Rattle.sw_rows.specs.Domains as kind
 use Rattle.sw_rows.specs.declared.refusal.Why.{Why}
 use Rattle.sw_lang.specs.declared.fault.Fault.{Fault}
 use Rattle.sw_lang.specs.declared.fault.Fault.TheVariants.{Unknown}
-use Rattle.sw_lang.specs.declared.fault.ParseError.{ParseError}
-use Rattle.sw_lang.specs.declared.fault.ParseError.TheVariants as errors
 use Rattle.sw_lang.specs.Replies.{kind_at}
 use Rattle.sw_lang.specs.Tokens.{Tok}
-use Rattle.sw_lang.specs.Reading.{◌>>=◌, Fails, attr_of, found, next_value, nothing_left, values_at, cells_at}
+use Rattle.sw_lang.specs.Reading.{◌>>=◌, attr_of, found, next_value, nothing_left, values_at, cells_at}
 
 -- a name that no attribute has
 pub unknown : (schema : List Column) (malformed : Why) (w n name : List ℕ) → is_name w ≡ true → n ≡ w → None ≡ position (λ c. bytes_eq n c.0) schema → name ≡ n → attr_of schema malformed w ≡ Err (Unknown name)
@@ -28,11 +26,10 @@ values_step schema values i ts h =
     rw (drop_more (kinds_of schema) i kind.Int lt) refl
 
 -- reading ends where a value is none
-pub value_ends : (e : ParseError) (schema : List Column) (values : List ℤ) (i : ℕ) (k : Domain) (all ts : List Tok) → i < length schema → k ≡ kind_at schema i
-    → values_at values (drop i (kinds_of schema)) ts ≡ values_at [] (kinds_of schema) all → Fails e (next_value values k ts) → Fails e (cells_at schema all)
+pub value_ends : (f : Fault) (schema : List Column) (values : List ℤ) (i : ℕ) (k : Domain) (all ts : List Tok) → i < length schema → k ≡ kind_at schema i
+    → values_at values (drop i (kinds_of schema)) ts ≡ values_at [] (kinds_of schema) all → next_value values k ts ≡ Err f → cells_at schema all ≡ Err f
 unfolding cells_at
-value_ends errors.Memory schema values i k all ts lt kind so_far h = tt
-value_ends (errors.Fault f) schema values i k all ts lt kind so_far h =
+value_ends f schema values i k all ts lt kind so_far h =
     let next : next_value values (kind_at schema i) ts ≡ Err f = ap (λ x. next_value values x ts) (sym kind) ∙ h in
     let one : values_at [] (kinds_of schema) all ≡ Err f = sym so_far ∙ values_step schema values i ts lt ∙ ap (λ r. r >>= λ v. values_at (values ++ v.0 ∷ []) (drop (i + 1) (kinds_of schema)) v.1) next in
     rw one refl
@@ -52,11 +49,10 @@ other_ends : {A B : Type 0} (x : A) (y : B) (u : A) (ts : List Tok) → nothing_
 other_ends x y u [] h = refl
 other_ends x y u (t ∷ ts) h = absurd cc
 
-pub rest_ends : (e : ParseError) (schema : List Column) (values : List ℤ) (i : ℕ) (all ts : List Tok) → length schema ≤ i
-    → values_at values (drop i (kinds_of schema)) ts ≡ values_at [] (kinds_of schema) all → Fails e (nothing_left (tt {0}) ts) → Fails e (cells_at schema all)
+pub rest_ends : (f : Fault) (schema : List Column) (values : List ℤ) (i : ℕ) (all ts : List Tok) → length schema ≤ i
+    → values_at values (drop i (kinds_of schema)) ts ≡ values_at [] (kinds_of schema) all → nothing_left (tt {0}) ts ≡ Err f → cells_at schema all ≡ Err f
 unfolding cells_at
-rest_ends errors.Memory schema values i all ts over so_far h = tt
-rest_ends (errors.Fault f) schema values i all ts over so_far h =
+rest_ends f schema values i all ts over so_far h =
     let one : values_at [] (kinds_of schema) all ≡ Err f = last schema values i all ts over so_far ∙ other_left (tt {0}) values f ts h in
     rw one refl
 

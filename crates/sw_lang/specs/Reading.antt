@@ -41,6 +41,11 @@ abbrev pub Gives : {X Y : Type 0} → (X → Y) → Result X ParseError → Resu
 Gives view (Ok x) read = read ≡ Ok (view x)
 Gives view (Err e) read = Fails e read
 
+-- the same of a function that takes no memory
+abbrev pub Tells : {X Y : Type 0} → (X → Y) → Result X Fault → Result Y Fault → Type 0
+Tells view (Ok x) read = read ≡ Ok (view x)
+Tells view (Err f) read = read ≡ Err f
+
 -- ---- single tokens
 
 abbrev pub found : List ℕ → Option ℕ → Result ℕ Fault

@@ -1,7 +1,7 @@
 //! Why a line is no call.
 
 ghost use Rattle.std.specs.Prelude.{◌≡◌};
-ghost use Rattle.sw_lang.specs.declared.fault.ParseError.TheVariants.{Memory};
+ghost use Rattle.sw_lang.specs.declared.fault.ParseError.TheVariants as error;
 
 use std::alloc::{AllocError, AllocFailed};
 use sw_rows::{Name, Why};
@@ -29,8 +29,16 @@ pub(crate) fn bad(why: Why) -> ParseError
     ParseError::Fault(Fault::Bad(why))
 }
 
+impl From<Fault> for ParseError {
+    ghost from_gives = { λ f e. e ≡ error.Fault f };
+
+    fn from(fault: Fault) -> ParseError {
+        ParseError::Fault(fault)
+    }
+}
+
 impl From<AllocError> for ParseError {
-    ghost from_gives = { λ _ e. e ≡ Memory };
+    ghost from_gives = { λ _ e. e ≡ error.Memory };
 
     fn from(_e: AllocError) -> ParseError {
         ParseError::Memory
@@ -38,7 +46,7 @@ impl From<AllocError> for ParseError {
 }
 
 impl<T: Drop> From<AllocFailed<T>> for ParseError {
-    ghost from_gives = { λ _ e. e ≡ Memory };
+    ghost from_gives = { λ _ e. e ≡ error.Memory };
 
     fn from(_e: AllocFailed<T>) -> ParseError {
         ParseError::Memory

@@ -3,7 +3,7 @@
 ghost use Rattle.std.specs.Prelude.{◌≡◌, ◌<◌, ◌≤◌, [], ℤ, List, length, IfOk, IfSome, ◌==◌};
 ghost use Rattle.sw_lang.specs.Shown.{AreSound, domain_of};
 ghost use Rattle.sw_lang.specs.Agreement.{AnswersRelated};
-ghost use Rattle.sw_lang.specs.Reading.{aggregate_at, asked, call_at, call_of, cells_at, delete_at, first_by, insert_at, is_comment, line_at, name_of, names_at, next_value, nothing_left, past_comma, refused, select_at, term_at, terms_at, where_at, Answers, Gives};
+ghost use Rattle.sw_lang.specs.Reading.{aggregate_at, asked, call_at, call_of, cells_at, delete_at, first_by, insert_at, is_comment, line_at, name_of, names_at, next_value, nothing_left, past_comma, refused, select_at, term_at, terms_at, where_at, Answers, Gives, Tells};
 ghost use Rattle.sw_lang.specs.Tokens.{tok, tokens};
 ghost use Rattle.sw_lang.specs.Grammar.{IsLine};
 ghost use Rattle.sw_lang.specs.Fits.{FitsCall};
@@ -147,18 +147,18 @@ fn max_at(alloc: Global, schema: &Schema, text: &[u8]) -> Result<Call, ParseErro
 
 /// The bytes past the comma that stands before a value, or all of them before the first.
 #[tactic(auto, unfolding(crate::specs::Reading::past_comma))]
-fn past_comma(is_first: bool, text: &[u8]) -> Result<&[u8], ParseError>
+fn past_comma(is_first: bool, text: &[u8]) -> Result<&[u8], Fault>
     ensures gives { (values : List ℤ) → is_first ≡ (length values == 0)
-        → Gives (λ rest. tokens rest.now) result (past_comma values (tokens text.now)) }
+        → Tells (λ rest. tokens rest.now) result (past_comma values (tokens text.now)) }
 {
     if is_first {
         return Ok(text);
     }
     let Some((token, rest)) = next_token(text) else {
-        return Err(bad(Why::End));
+        return Err(Fault::Bad(Why::End));
     };
     if !is_comma(token) {
-        return Err(bad(Why::Word));
+        return Err(Fault::Bad(Why::Word));
     }
     Ok(rest)
 }
@@ -168,10 +168,10 @@ fn next_value<'a>(
     is_first: bool,
     values: AttrValues,
     text: &'a [u8],
-) -> Result<(i64, &'a [u8]), ParseError>
+) -> Result<(i64, &'a [u8]), Fault>
     requires { AreSound values }
     ensures { (before : List ℤ) → is_first ≡ (length before == 0)
-        → Gives (λ p. (p.0, tokens p.1.now)) result
+        → Tells (λ p. (p.0, tokens p.1.now)) result
         (next_value before (domain_of values.entry) (tokens text.now)) }
 {
     let rest = past_comma(is_first, text)?;
@@ -179,17 +179,17 @@ fn next_value<'a>(
     Ok((value, rest))
 }
 
-fn nothing_left(text: &[u8]) -> Result<(), ParseError>
-    ensures { Gives (λ u. u) result (nothing_left tt (tokens text.now)) }
+fn nothing_left(text: &[u8]) -> Result<(), Fault>
+    ensures { Tells (λ u. u) result (nothing_left tt (tokens text.now)) }
 {
     match next_token(text) {
-        Some(_) => Err(bad(Why::Word)),
+        Some(_) => Err(Fault::Bad(Why::Word)),
         None => Ok(()),
     }
 }
 
-fn cells_at(schema: &Schema, text: &[u8]) -> Result<[i64; 8], ParseError>
-    ensures { Gives (λ cells. cells) result (cells_at schema.now (tokens text.now)) }
+fn cells_at(schema: &Schema, text: &[u8]) -> Result<[i64; 8], Fault>
+    ensures { Tells (λ cells. cells) result (cells_at schema.now (tokens text.now)) }
 {
     let mut cells = [0; 8];
     let mut rest = text;
@@ -202,16 +202,16 @@ fn cells_at(schema: &Schema, text: &[u8]) -> Result<[i64; 8], ParseError>
     Ok(cells)
 }
 
-fn insert_at(schema: &Schema, text: &[u8]) -> Result<Call, ParseError>
-    ensures { Gives (λ c. c) result (insert_at schema.now (tokens text.now)) }
+fn insert_at(schema: &Schema, text: &[u8]) -> Result<Call, Fault>
+    ensures { Tells (λ c. c) result (insert_at schema.now (tokens text.now)) }
 {
     let cells = cells_at(schema, text)?;
     Ok(Call::Insert(cells))
 }
 
 #[tactic(auto, unfolding(crate::specs::Reading::delete_at))]
-fn delete_at(text: &[u8]) -> Result<Call, ParseError>
-    ensures { Gives (λ c. c) result (delete_at (tokens text.now)) }
+fn delete_at(text: &[u8]) -> Result<Call, Fault>
+    ensures { Tells (λ c. c) result (delete_at (tokens text.now)) }
 {
     let (key, rest) = key_at(text)?;
     nothing_left(rest)?;
@@ -239,10 +239,10 @@ fn call_of(alloc: Global, schema: &Schema, first: Token, text: &[u8]) -> Result<
         return max_at(alloc, schema, text);
     }
     if is_word(first, b"insert") {
-        return insert_at(schema, text);
+        return Ok(insert_at(schema, text)?);
     }
     if is_word(first, b"delete") {
-        return delete_at(text);
+        return Ok(delete_at(text)?);
     }
     Err(bad(Why::Word))
 }

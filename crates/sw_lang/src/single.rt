@@ -6,7 +6,7 @@ ghost use Rattle.sw_rows.specs.Domains as kind;
 ghost use Rattle.sw_rows.specs.Header.{texts_of};
 ghost use Rattle.sw_lang.specs.Shown.{AreSound, domain_of};
 ghost use Rattle.sw_rows.specs.Header.{is_name};
-ghost use Rattle.sw_lang.specs.Reading.{attr_of, first_by, is_comma, is_word, key_of, key_value, name_of, number_name, op_for, op_of, quoted_value, value_of, word_value, Gives};
+ghost use Rattle.sw_lang.specs.Reading.{attr_of, first_by, is_comma, is_word, key_of, key_value, name_of, number_name, op_for, op_of, quoted_value, value_of, word_value, Gives, Tells};
 ghost use Rattle.sw_lang.specs.Tokens.{tok, tokens, undoubled};
 
 use crate::domain::{AttrValues, values_at};
@@ -77,12 +77,12 @@ fn number_name(alloc: Global, schema: &Schema, token: Token) -> Result<usize, Pa
 }
 
 #[tactic(auto, unfolding(crate::specs::Reading::op_of))]
-fn op_of(token: Token) -> Result<Op, ParseError>
-    ensures { Gives (λ o. o) result (op_of (tok token.entry)) }
+fn op_of(token: Token) -> Result<Op, Fault>
+    ensures { result ≡ op_of (tok token.entry) }
 {
     match token {
         Token::Op(op) => Ok(op),
-        _ => Err(bad(Why::Word)),
+        _ => Err(Fault::Bad(Why::Word)),
     }
 }
 
@@ -98,12 +98,12 @@ pub(crate) fn are_texts(values: AttrValues) -> bool
 
 /// An operator that serves these values: texts are compared by equality alone.
 #[tactic(auto, unfolding(crate::specs::Reading::op_for))]
-fn op_for(values: AttrValues, token: Token) -> Result<Op, ParseError>
-    ensures { Gives (λ o. o) result (op_for (domain_of values.entry) (tok token.entry)) }
+fn op_for(values: AttrValues, token: Token) -> Result<Op, Fault>
+    ensures { result ≡ op_for (domain_of values.entry) (tok token.entry) }
 {
     let op = op_of(token)?;
     if are_texts(values) && op != Op::Eq {
-        return Err(bad(Why::Word));
+        return Err(Fault::Bad(Why::Word));
     }
     Ok(op)
 }
@@ -120,45 +120,45 @@ pub(crate) fn read_word(values: AttrValues, word: &[u8]) -> Option<i64>
 }
 
 /// The cell of a text that a schema knows; where it may be one and is not known, there are texts enough already.
-fn text_value(schema: &Schema, text: &[u8]) -> Result<i64, ParseError>
-    ensures { Gives (λ v. v) result (quoted_value (kind.Text (texts_of schema.now)) text.now) }
+fn text_value(schema: &Schema, text: &[u8]) -> Result<i64, Fault>
+    ensures { result ≡ quoted_value (kind.Text (texts_of schema.now)) text.now }
 {
     let Some(text) = read_text(text) else {
-        return Err(bad(Why::Value));
+        return Err(Fault::Bad(Why::Value));
     };
     match schema.code(text) {
         Some(code) => Ok(code),
-        None => Err(ParseError::Fault(Fault::Excess(MOST_TEXTS))),
+        None => Err(Fault::Excess(MOST_TEXTS)),
     }
 }
 
 /// The cell of a quoted text, of its bytes between the quotes.
-fn quoted_value(values: AttrValues, raw: &[u8]) -> Result<i64, ParseError>
+fn quoted_value(values: AttrValues, raw: &[u8]) -> Result<i64, Fault>
     requires { AreSound values }
-    ensures { Gives (λ v. v) result (quoted_value (domain_of values.entry) (undoubled raw.now)) }
+    ensures { result ≡ quoted_value (domain_of values.entry) (undoubled raw.now) }
 {
     let AttrValues::Texts(schema) = values else {
-        return Err(bad(Why::Value));
+        return Err(Fault::Bad(Why::Value));
     };
     let mut buffer = [0; MOST_BYTES_OF_TEXT];
     match undoubled(raw, &mut buffer) {
         Some(text) => text_value(schema, text),
-        None => Err(bad(Why::Value)),
+        None => Err(Fault::Bad(Why::Value)),
     }
 }
 
 #[tactic(auto, unfolding(crate::specs::Reading::value_of))]
-fn value_of(values: AttrValues, token: Token) -> Result<i64, ParseError>
+fn value_of(values: AttrValues, token: Token) -> Result<i64, Fault>
     requires { AreSound values }
-    ensures { Gives (λ v. v) result (value_of (domain_of values.entry) (tok token.entry)) }
+    ensures { result ≡ value_of (domain_of values.entry) (tok token.entry) }
 {
     match token {
         Token::Word(word) => match read_word(values, word) {
             Some(value) => Ok(value),
-            None => Err(bad(Why::Value)),
+            None => Err(Fault::Bad(Why::Value)),
         },
         Token::Quoted(raw) => quoted_value(values, raw),
-        Token::Op(_) | Token::Comma | Token::Stray => Err(bad(Why::Word)),
+        Token::Op(_) | Token::Comma | Token::Stray => Err(Fault::Bad(Why::Word)),
     }
 }
 
@@ -172,13 +172,13 @@ fn read_key(word: &[u8]) -> Option<u64>
 }
 
 #[tactic(auto, unfolding(crate::specs::Reading::key_of))]
-fn key_of(token: Token) -> Result<u64, ParseError>
-    ensures { Gives (λ v. v) result (key_of (tok token.entry)) }
+fn key_of(token: Token) -> Result<u64, Fault>
+    ensures { result ≡ key_of (tok token.entry) }
 {
     match token {
-        Token::Word(word) => read_key(word).ok_or(bad(Why::Value)),
-        Token::Quoted(_) => Err(bad(Why::Value)),
-        _ => Err(bad(Why::Word)),
+        Token::Word(word) => read_key(word).ok_or(Fault::Bad(Why::Value)),
+        Token::Quoted(_) => Err(Fault::Bad(Why::Value)),
+        _ => Err(Fault::Bad(Why::Word)),
     }
 }
 
@@ -236,13 +236,13 @@ pub(crate) fn number_name_at<'a>(
 }
 
 #[tactic(auto, unfolding(crate::specs::Reading::first_by))]
-pub(crate) fn op_at<'a>(values: AttrValues, text: &'a [u8]) -> Result<(Op, &'a [u8]), ParseError>
-    ensures gives { Gives (λ p. (p.0, tokens p.1.now)) result
+pub(crate) fn op_at<'a>(values: AttrValues, text: &'a [u8]) -> Result<(Op, &'a [u8]), Fault>
+    ensures gives { Tells (λ p. (p.0, tokens p.1.now)) result
         (first_by (op_for (domain_of values.entry)) (tokens text.now)) }
     ensures shorter { IfOk result (λ p. length p.1.now < length text.now) }
 {
     let Some((token, rest)) = next_token(text) else {
-        return Err(bad(Why::End));
+        return Err(Fault::Bad(Why::End));
     };
     let op = op_for(values, token)?;
     Ok((op, rest))
@@ -252,25 +252,25 @@ pub(crate) fn op_at<'a>(values: AttrValues, text: &'a [u8]) -> Result<(Op, &'a [
 pub(crate) fn value_at<'a>(
     values: AttrValues,
     text: &'a [u8],
-) -> Result<(i64, &'a [u8]), ParseError>
+) -> Result<(i64, &'a [u8]), Fault>
     requires { AreSound values }
-    ensures gives { Gives (λ p. (p.0, tokens p.1.now)) result
+    ensures gives { Tells (λ p. (p.0, tokens p.1.now)) result
         (first_by (value_of (domain_of values.entry)) (tokens text.now)) }
     ensures shorter { IfOk result (λ p. length p.1.now < length text.now) }
 {
     let Some((token, rest)) = next_token(text) else {
-        return Err(bad(Why::End));
+        return Err(Fault::Bad(Why::End));
     };
     let value = value_of(values, token)?;
     Ok((value, rest))
 }
 
 #[tactic(auto, unfolding(crate::specs::Reading::first_by))]
-pub(crate) fn key_at(text: &[u8]) -> Result<(u64, &[u8]), ParseError>
-    ensures { Gives (λ p. (p.0, tokens p.1.now)) result (first_by key_of (tokens text.now)) }
+pub(crate) fn key_at(text: &[u8]) -> Result<(u64, &[u8]), Fault>
+    ensures { Tells (λ p. (p.0, tokens p.1.now)) result (first_by key_of (tokens text.now)) }
 {
     let Some((token, rest)) = next_token(text) else {
-        return Err(bad(Why::End));
+        return Err(Fault::Bad(Why::End));
     };
     let key = key_of(token)?;
     Ok((key, rest))
