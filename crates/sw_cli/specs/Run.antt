@@ -22,8 +22,8 @@ use Rattle.sw_cli.specs.Script.{Script, blocks_of}
 
 -- ---- what a run starts from
 
--- a table, a script and cuts that were read: the attributes with the texts that are known after the script, the rows, the
--- calls of the script's blocks, and for each attribute the values at which its head is cut
+-- a table, a script and cuts that were read: the attributes with the texts that are known after the script, the rows,
+-- the calls of the script's blocks, and for each attribute the values at which its head is cut
 pub record Start : Type 0 where
   pub columns : List Column
   pub rows : List Row

@@ -8,7 +8,7 @@ ghost use Rattle.sw_lang.specs.Reading.{Answers};
 ghost use Rattle.sw_lang.specs.Tokens.{is_blank};
 ghost use Rattle.sw_spine.specs.History.{CallsBelow};
 ghost use Rattle.sw_cli.specs.declared.script.TheConstants.{MOST_CALLS};
-ghost use Rattle.sw_cli.specs.Script.{AreBlocks, AreSound, all_blocks, blocks_of, call_of_line, calls_in, is_divider, so_far, spelled, whole, with_block, with_call, with_line};
+ghost use Rattle.sw_cli.specs.Script.{AreBlocks, AreSound, blocks_of, call_of_line, calls_in, is_divider, so_far, spelled, whole, with_block, with_call, with_line};
 ghost use Rattle.sw_histories.specs.Told.{Reads, TellsText};
 
 use bstr::ByteSlice;
@@ -93,8 +93,8 @@ fn call_of_line(
     }
 }
 
-/// The lines so far: the schema with the texts that are known by now, and the blocks, the last one apart. Contracts see all
-/// three.
+/// The lines so far: the schema with the texts that are known by now, and the blocks, the last one apart. Contracts
+/// see all three.
 #[derive(Drop)]
 struct Blocks {
     schema: Schema,
@@ -206,8 +206,9 @@ impl Blocks {
 ///
 /// The texts of a line become known as it is read, and stay so for the lines after it. The first fault in the order of
 /// lines refuses it: `BadLine` with the line's number, from 1, and why `Length` where it has more than 4,096 bytes,
-/// `Encoding` where it is not UTF-8, or what `parse_line` finds; `UnknownAttribute`; `TooMany` of 1,048,576 at the call of
-/// that number and one, of as many at the text that is one too many, and of 1,024 at the line that begins block 1,025.
+/// `Encoding` where it is not UTF-8, or what `parse_line` finds; `UnknownAttribute`; `TooMany` of 1,048,576 at the
+/// call of that number and one, of as many at the text that is one too many, and of 1,024 at the line that begins
+/// block 1,025.
 pub(crate) fn read_blocks(
     alloc: Global,
     schema: Schema,
