@@ -1,5 +1,5 @@
 -- The entries of a file, one after another from its tokens, and the part outside them from its outline.
-use Rattle.std.proofs.Common.{◌≡◌, ◌∙◌, sym, ap, refl, subst, ℕ, ◌+◌, ◌-◌, ◌<◌, ◌≤◌, ◌&&◌, ◌==◌, Bool, true, false, cond, List, [], ◌∷◌, ◌++◌, length, arith, Option, Some, None, Result, Ok, Err, codes, nat_le, IsUtf8}
+use Rattle.std.proofs.Common.{◌≡◌, ◌∙◌, sym, ap, refl, subst, ℕ, ◌+◌, ◌-◌, ◌<◌, ◌≤◌, ◌==◌, Bool, true, false, cond, List, [], ◌∷◌, ◌++◌, length, arith, Option, Some, None, Result, Ok, Err, codes, nat_le, IsUtf8}
 use Rattle.std.specs.Prelude.{option_and_then, option_map, is_some, IfSome}
 use Rattle.std.specs.Str.{is_utf8}
 use Rattle.std.proofs.lemmas.Bool.Decides.{nat_tests}
@@ -13,7 +13,7 @@ use Rattle.serde_json.specs.Data.{Data, Items, Members, array, boolean, item, nu
 use Rattle.serde_json.specs.Find.{as_array, as_number, as_u64, get_member}
 use Rattle.serde_json.specs.Read.{converted, of_items, of_json, read}
 use Rattle.serde_json.specs.View.{members_view}
-use Rattle.sw_rows.specs.Header.{Column, header_of, kinds_of}
+use Rattle.sw_rows.specs.Header.{Column, header_of}
 use Rattle.std.specs.Result.{result_ok}
 use Rattle.sw_table.specs.Packed.{Packed}
 use Rattle.sw_table.specs.declared.row.Row.{Row}
@@ -26,7 +26,8 @@ use Rattle.sw_rows.specs.declared.table.TheConstants.{MOST_ROWS}
 use Rattle.sw_spine.specs.declared.history.Entry.{Entry}
 use Rattle.sw_spine.specs.declared.spine.TheConstants.{MOST_ENTRIES}
 use Rattle.sw_histories.specs.Told.{◌>>=◌}
-use Rattle.sw_histories.specs.RecordReading.{Frame, array_at, columns_in, entries_after, entries_of, entry_in, frame, frame_of, has_format, has_members, history_of, history_with, in_range, limit_in, items_list, or_fault, record_at, rows_up_to, texts_after}
+use Rattle.sw_histories.specs.RecordReading.{Frame, array_at, columns_in, entries_after, entries_of, entry_in, entry_learned, frame, frame_of, has_members, history_of, history_with, in_range, limit_in, items_list, or_fault, record_at, rows_up_to, texts_after}
+use Rattle.sw_histories.specs.RecordText.{format_of}
 use Rattle.sw_histories.specs.FromTokens.{IsCount}
 use Rattle.sw_histories.specs.Outlines.{AreRows, IsOutlineOf, Stands, after_brace, emptied, front_as, front_of, outline_at, outline_of, outside_in, outside_of, record_in, values_after, values_at, without_items}
 use Rattle.sw_histories.specs.declared.outline.ItemsAt.{ItemsAt}
@@ -64,27 +65,28 @@ answers_bind refusal.NoMemory said f h = tt
 answers_bind {A} e said f h = ap (λ (r : Result A Refusal). r >>= f) h
 
 -- an entry's fault is that of the entries from there on
-pub entry_fault : (columns : List Column) (es : List Entry) (d : Data) (ds : List Data) (n : ℕ) (e : Refusal) → n ≡ length es + 1 → Answers {A = Entry} (Err e) (entry_in columns n d) → Answers {A = List Entry} (Err e) (entries_after columns es (d ∷ ds))
+pub entry_fault : (columns : List Column) (es : List Entry) (d : Data) (ds : List Data) (n : ℕ) (e : Refusal) → n ≡ length es + 1 → Answers {A = Entry} (Err e) (entry_in columns n d) → Answers {A = List Column × List Entry} (Err e) (entries_after columns es (d ∷ ds))
 entry_fault columns es d ds n e place h =
-    subst (λ m. Answers {A = List Entry} (Err e) (entry_in columns m d >>= λ x. entries_after columns (es ++ x ∷ []) ds)) place (answers_bind {A = Entry} {B = List Entry} e (entry_in columns n d) (λ x. entries_after columns (es ++ x ∷ []) ds) h)
+    let now = entry_learned columns d in
+    subst (λ m. Answers {A = List Column × List Entry} (Err e) (entry_in columns m d >>= λ x. entries_after now (es ++ x ∷ []) ds)) place (answers_bind {A = Entry} {B = List Column × List Entry} e (entry_in columns n d) (λ x. entries_after now (es ++ x ∷ []) ds) h)
 
 -- ---- the part outside the entries
 
 abbrev frame_from : Option (List Column) → Option ℕ → Option (List Data) → Option (List Data) → Option Frame
 frame_from cs l rs es =
-    option_and_then (λ columns. option_and_then (λ limit. option_and_then (λ rows. option_map (λ items. frame columns limit rows items) es) (option_and_then (rows_up_to (kinds_of columns) limit) rs)) l) cs
+    option_and_then (λ columns. option_and_then (λ limit. option_and_then (λ r. option_map (λ items. frame r.0 limit r.1 items) es) (option_and_then (rows_up_to columns limit) rs)) l) cs
 
 abbrev with_items : List Data → Frame → Frame
 with_items ds f = frame f.columns f.limit f.rows ds
 
-nothing_in : (columns : List Column) (limit : ℕ) (rs : Option (List Row)) → option_and_then (λ rows. option_map {T = List Data} {U = Frame} (λ items. frame columns limit rows items) None) rs ≡ None
-nothing_in columns limit None = refl
-nothing_in columns limit (Some rows) = refl
+nothing_in : (limit : ℕ) (rs : Option (List Column × List Row)) → option_and_then (λ r. option_map {T = List Data} {U = Frame} (λ items. frame r.0 limit r.1 items) None) rs ≡ None
+nothing_in limit None = refl
+nothing_in limit (Some r) = refl
 
 from_none : (cs : Option (List Column)) (l : Option ℕ) (rs : Option (List Data)) → frame_from cs l rs None ≡ None
 from_none None l rs = refl
 from_none (Some columns) None rs = refl
-from_none (Some columns) (Some limit) rs = nothing_in columns limit (option_and_then (rows_up_to (kinds_of columns) limit) rs)
+from_none (Some columns) (Some limit) rs = nothing_in limit (option_and_then (rows_up_to columns limit) rs)
 
 same_map : (f : Data → Data) (o : Option Data) → ((d : Data) → f d ≡ d) → option_map f o ≡ o
 same_map f None h = refl
@@ -104,10 +106,14 @@ is_array_kept (Some (string s)) = refl
 is_array_kept (Some (array xs)) = refl
 is_array_kept (Some (object ms)) = refl
 
-same_test : (ms : Members) → (has_members 5 (object (outline_of ms)) && has_format (object (outline_of ms))) ≡ (has_members 5 (object ms) && has_format (object ms))
-same_test ms =
-    ap (λ n. (n == 5) && has_format (object (outline_of ms))) (outline_long ms)
-    ∙ ap (λ o. has_members 5 (object ms) && is_some (option_and_then (in_range 1 1) (option_and_then as_u64 (option_and_then as_number o)))) (kept_get (codes "format") ms (λ d. refl))
+same_test : (ms : Members) → has_members 5 (object (outline_of ms)) ≡ has_members 5 (object ms)
+same_test ms = ap (λ n. n == 5) (outline_long ms)
+
+-- the attributes of these members, if they are there
+abbrev columns_from : Option Data → Option Data → Option (List Column)
+columns_from names format =
+    option_and_then (λ columns. cond (is_some (option_and_then (in_range (format_of columns) 2) (option_and_then as_u64 (option_and_then as_number format)))) (Some columns) None)
+    (option_and_then (λ ts. result_ok (header_of ts)) (option_and_then (texts_after []) (option_map items_list (option_and_then as_array names))))
 
 abbrev front_from : Bool → Bool → Option (List Column) → Option ℕ → Option (List Column × ℕ)
 front_from b some cs l = option_and_then (λ limit. option_map (λ columns. (columns, limit)) cs) (cond b (cond some l None) None)
@@ -117,24 +123,26 @@ same_front : (ms : Members) → front_of (object (outline_of ms)) ≡ front_of (
 same_front ms =
     let u = object (outline_of ms) in
     let d = object ms in
-    let columns : columns_in u ≡ columns_in d = ap (λ o. option_and_then (λ ts. result_ok (header_of ts)) (option_and_then (texts_after []) (option_map items_list (option_and_then as_array o)))) (kept_get (codes "attributes") ms (λ d. refl)) in
+    let columns : columns_in u ≡ columns_in d =
+    ap (λ o. columns_from o (get_member (codes "format") (outline_of ms))) (kept_get (codes "attributes") ms (λ d. refl))
+    ∙ ap (columns_from (get_member (codes "attributes") ms)) (kept_get (codes "format") ms (λ d. refl)) in
     let limit : limit_in u ≡ limit_in d = ap (λ o. option_and_then (in_range 1 MOST_ROWS) (option_and_then as_u64 (option_and_then as_number o))) (kept_get (codes "limit") ms (λ d. refl)) in
     let some : is_some (array_at (codes "entries") u) ≡ is_some (array_at (codes "entries") d) =
     ap (λ o. is_some (option_map items_list (option_and_then as_array o))) (outline_get (codes "entries") ms)
     ∙ is_array_kept (get_member (codes "entries") ms) in
     ap (λ b. front_from b (is_some (array_at (codes "entries") u)) (columns_in u) (limit_in u)) (same_test ms)
-    ∙ ap (λ b. front_from (has_members 5 d && has_format d) b (columns_in u) (limit_in u)) some
-    ∙ ap (λ cs. front_from (has_members 5 d && has_format d) (is_some (array_at (codes "entries") d)) cs (limit_in u)) columns
-    ∙ ap (λ l. front_from (has_members 5 d && has_format d) (is_some (array_at (codes "entries") d)) (columns_in d) l) limit
+    ∙ ap (λ b. front_from (has_members 5 d) b (columns_in u) (limit_in u)) some
+    ∙ ap (λ cs. front_from (has_members 5 d) (is_some (array_at (codes "entries") d)) cs (limit_in u)) columns
+    ∙ ap (λ l. front_from (has_members 5 d) (is_some (array_at (codes "entries") d)) (columns_in d) l) limit
 
 -- what the front and the values of rows make of the part outside the entries
 abbrev pub outer_from : List Data → List Column × ℕ → Option Frame
-outer_from ds f = option_map (λ rows. frame f.0 f.1 rows []) (rows_up_to (kinds_of f.0) f.1 ds)
+outer_from ds f = option_map (λ r. frame r.0 f.1 r.1 []) (rows_up_to f.0 f.1 ds)
 
-rows_without : (columns : List Column) (limit : ℕ) (es : List Data) (rs : Option (List Row))
-    → option_map without_items (option_and_then (λ rows. option_map (λ items. frame columns limit rows items) (Some es)) rs) ≡ option_map (λ rows. frame columns limit rows []) rs
-rows_without columns limit es None = refl
-rows_without columns limit es (Some rows) = refl
+rows_without : (limit : ℕ) (es : List Data) (rs : Option (List Column × List Row))
+    → option_map without_items (option_and_then (λ r. option_map (λ items. frame r.0 limit r.1 items) (Some es)) rs) ≡ option_map (λ r. frame r.0 limit r.1 []) rs
+rows_without limit es None = refl
+rows_without limit es (Some r) = refl
 
 outer_is : (b : Bool) (cs : Option (List Column)) (l : Option ℕ) (es : Option (List Data)) (ds : List Data)
     → option_map without_items (cond b (frame_from cs l (Some ds) es) None) ≡ option_and_then (outer_from ds) (front_from b (is_some es) cs l)
@@ -143,37 +151,49 @@ outer_is true cs l None ds = ap (option_map without_items) (from_none cs l (Some
 outer_is true None None (Some xs) ds = refl
 outer_is true None (Some limit) (Some xs) ds = refl
 outer_is true (Some columns) None (Some xs) ds = refl
-outer_is true (Some columns) (Some limit) (Some xs) ds = rows_without columns limit xs (rows_up_to (kinds_of columns) limit ds)
+outer_is true (Some columns) (Some limit) (Some xs) ds = rows_without limit xs (rows_up_to columns limit ds)
 
 abbrev outer_by : Members → Option (List Data) → Option (List Data) → Option Frame
-outer_by ms rs es = cond (has_members 5 (object ms) && has_format (object ms)) (frame_from (columns_in (object ms)) (limit_in (object ms)) rs es) None
+outer_by ms rs es = cond (has_members 5 (object ms)) (frame_from (columns_in (object ms)) (limit_in (object ms)) rs es) None
 
 -- the part outside the entries is that of the outline's front, with the rows
 pub outside_is : (ms : Members) (ds : List Data) → array_at (codes "rows") (object ms) ≡ Some ds → outside_of (object ms) ≡ option_and_then (outer_from ds) (front_of (object (outline_of ms)))
 outside_is ms ds h =
     ap (λ rs. option_map without_items (outer_by ms rs (array_at (codes "entries") (object ms)))) h
-    ∙ outer_is (has_members 5 (object ms) && has_format (object ms)) (columns_in (object ms)) (limit_in (object ms)) (array_at (codes "entries") (object ms)) ds
+    ∙ outer_is (has_members 5 (object ms)) (columns_in (object ms)) (limit_in (object ms)) (array_at (codes "entries") (object ms)) ds
     ∙ ap (option_and_then (outer_from ds)) (sym (same_front ms))
 
-items_put : (columns : List Column) (limit : ℕ) (ds : List Data) (rs : Option (List Row))
-    → option_and_then (λ rows. option_map (λ items. frame columns limit rows items) (Some ds)) rs
-    ≡ option_map (with_items ds) (option_map without_items (option_and_then (λ rows. option_map (λ items. frame columns limit rows items) (Some ds)) rs))
-items_put columns limit ds None = refl
-items_put columns limit ds (Some rows) = refl
+none_either : {A : Type 0} (b : Bool) → ◌≡◌ {A = Option A} (cond b None None) None
+none_either true = refl
+none_either false = refl
+
+-- without entries there is no frame
+pub no_entries : (ms : Members) → array_at (codes "entries") (object ms) ≡ None → frame_of (object ms) ≡ None
+no_entries ms h =
+    let rs = array_at (codes "rows") (object ms) in
+    ap (outer_by ms rs) h
+    ∙ ap (λ f. cond (has_members 5 (object ms)) f None) (from_none (columns_in (object ms)) (limit_in (object ms)) rs)
+    ∙ none_either (has_members 5 (object ms))
+
+items_put : (limit : ℕ) (ds : List Data) (rs : Option (List Column × List Row))
+    → option_and_then (λ r. option_map (λ items. frame r.0 limit r.1 items) (Some ds)) rs
+    ≡ option_map (with_items ds) (option_map without_items (option_and_then (λ r. option_map (λ items. frame r.0 limit r.1 items) (Some ds)) rs))
+items_put limit ds None = refl
+items_put limit ds (Some r) = refl
 
 with_entries : (b : Bool) (cs : Option (List Column)) (l : Option ℕ) (rs : Option (List Data)) (ds : List Data)
     → cond b (frame_from cs l rs (Some ds)) None ≡ option_map (with_items ds) (option_map without_items (cond b (frame_from cs l rs (Some ds)) None))
 with_entries false cs l rs ds = refl
 with_entries true None l rs ds = refl
 with_entries true (Some columns) None rs ds = refl
-with_entries true (Some columns) (Some limit) rs ds = items_put columns limit ds (option_and_then (rows_up_to (kinds_of columns) limit) rs)
+with_entries true (Some columns) (Some limit) rs ds = items_put limit ds (option_and_then (rows_up_to columns limit) rs)
 
 -- the frame is the part outside the entries, with the entries
 frame_outside : (ms : Members) (ds : List Data) → array_at (codes "entries") (object ms) ≡ Some ds → frame_of (object ms) ≡ option_map (with_items ds) (outside_of (object ms))
 frame_outside ms ds h =
     let by = outer_by ms (array_at (codes "rows") (object ms)) in
     ap by h
-    ∙ with_entries (has_members 5 (object ms) && has_format (object ms)) (columns_in (object ms)) (limit_in (object ms)) (array_at (codes "rows") (object ms)) ds
+    ∙ with_entries (has_members 5 (object ms)) (columns_in (object ms)) (limit_in (object ms)) (array_at (codes "rows") (object ms)) ds
     ∙ ap (λ es. option_map (with_items ds) (option_map without_items (by es))) (sym h)
 
 -- what was read of the part outside the entries is the frame's
@@ -194,7 +214,7 @@ record_is text ms f is there = ap (λ o. or_fault 0 o >>= history_of) is ∙ ap 
 pub too_many : (f : Frame) → MOST_ENTRIES < length f.items → entries_of f ≡ Err (TooMany MOST_ENTRIES)
 too_many f many = let test : nat_le (length f.items) MOST_ENTRIES ≡ false = grind (arith, nat_tests, many) in rw test refl
 
-pub few_enough : (f : Frame) → length f.items ≤ MOST_ENTRIES → entries_of f ≡ (entries_after f.columns [] f.items >>= λ es. Ok (history_with f es))
+pub few_enough : (f : Frame) → length f.items ≤ MOST_ENTRIES → entries_of f ≡ (entries_after f.columns [] f.items >>= λ r. Ok (history_with f r))
 few_enough f few = let test : nat_le (length f.items) MOST_ENTRIES ≡ true = grind (arith, nat_tests, few) in rw test refl
 
 pub text_record : (bytes : List ℕ) → IsUtf8 bytes → record_at bytes ≡ record_in bytes
@@ -244,5 +264,5 @@ outer_read text o i f h at told =
     ap (option_and_then outside_of) h.read ∙ outside_is h.all at.values at.there
     ∙ ap (option_and_then (outer_from at.values)) (sym (told ∙ ap (λ ms. front_of (object ms)) h.outline))
 
-pub rows_said : (said : Option (List Row)) (o p : Option Packed) → AreRows said o → o ≡ p → AreRows said p
-rows_said said o p h is = subst (AreRows said) is h
+pub rows_said : (said : Option (List Column × List Row)) (columns : List Column) (o p : Option Packed) → AreRows said columns o → o ≡ p → AreRows said columns p
+rows_said said columns o p h is = subst (AreRows said columns) is h

@@ -17,7 +17,7 @@ use Rattle.sw_histories.specs.FileExamples.{counted, row_abc}
 use Rattle.sw_histories.specs.ReadBack.{HasCells, IsCalled, IsOfRun}
 
 three : (key a b c : ℕ) → a < 2 ^ 63 → b < 2 ^ 63 → c < 2 ^ 63 → HasCells (kinds_of abc) (row_abc key (pos a) (pos b) (pos c))
-three key a b c ha hb hc = (pos a ∷ pos b ∷ pos c ∷ [], ((ha, refl), ((hb, refl), ((hc, refl), tt))), refl)
+three key a b c ha hb hc = (pos a ∷ pos b ∷ pos c ∷ [], (ha, (hb, (hc, tt))), refl)
 
 abc_schema : IsSchema abc
 abc_schema = header-schema (codes "a" ∷ codes "b" ∷ codes "c" ∷ []) abc refl

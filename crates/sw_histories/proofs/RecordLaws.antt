@@ -1,8 +1,7 @@
 -- Reading finds just what the relation relates.
-use Rattle.std.proofs.Common.{◌≡◌, ◌∙◌, sym, ap, refl, subst, ℕ, ◌+◌, ◌≤◌, ◌&&◌, Bool, true, false, cond, List, [], ◌∷◌, ◌++◌, length, Option, Some, None, Result, Ok, Err, codes, nat_le, IsUtf8, append_assoc, leb-true, le-leb}
-use Rattle.std.specs.Prelude.{option_and_then, option_map}
+use Rattle.std.proofs.Common.{◌≡◌, ◌∙◌, sym, ap, refl, subst, ℕ, ℤ, ◌+◌, ◌≤◌, Bool, true, false, cond, List, [], ◌∷◌, ◌++◌, length, Option, Some, None, Result, Ok, Err, codes, nat_le, IsUtf8, append_assoc, leb-true, le-leb}
+use Rattle.std.specs.Prelude.{option_and_then, option_map, unwrap_or}
 use Rattle.std.specs.Str.{is_utf8}
-use Rattle.std.proofs.lemmas.Bool.{and_parts}
 use Rattle.std.proofs.lemmas.List.{append-nil}
 use Rattle.std.proofs.lemmas.Str.{IsUtf8-from_is_utf8}
 use Rattle.serde_json.specs.Data.{Data}
@@ -18,6 +17,7 @@ use Rattle.sw_table.specs.declared.row.Row.{Row}
 use Rattle.sw_rows.specs.declared.query.Call.{Call}
 use Rattle.sw_rows.specs.declared.refusal.Refusal.{Refusal}
 use Rattle.sw_rows.proofs.Options.{if_some, then_some}
+use Rattle.sw_lang.specs.Learning.{learned}
 use Rattle.sw_lang.specs.Reading.{line_at, refused}
 use Rattle.sw_lang.specs.declared.fault.Fault.{Fault}
 use Rattle.sw_spine.specs.History.{History, entry}
@@ -25,8 +25,9 @@ use Rattle.sw_spine.specs.declared.history.Entry.{Entry}
 use Rattle.sw_spine.specs.declared.history.State.{State}
 use Rattle.sw_spine.specs.declared.spine.TheConstants.{MOST_ENTRIES, MOST_SESSIONS}
 use Rattle.sw_histories.specs.Told.{◌>>=◌}
-use Rattle.sw_histories.specs.RecordReading.{Frame, array_at, call_in, columns_in, entries_after, entries_of, entry_in, entry_with, frame, frame_by, frame_in, frame_of, frame_with, frame_within, has_call, has_format, has_members, history_of, history_with, in_range, json_of, limit_in, number_at, or_fault, record_at, rows_in, session_in, state_in, state_of, text_at, texts_after}
+use Rattle.sw_histories.specs.RecordReading.{Frame, array_at, call_in, columns_in, columns_under, entries_after, entries_of, entry_in, entry_learned, entry_with, frame, frame_by, frame_in, frame_of, frame_with, frame_within, has_call, has_format, has_members, header_in, history_of, history_with, in_range, json_of, limit_in, number_at, or_fault, record_at, row_in, row_learned, rows_after, rows_in, rows_up_to, session_in, state_in, state_of, text_at, texts_after, with_row}
 use Rattle.sw_histories.specs.RecordRelation.{AreEntries, IsEntry, IsRecord}
+use Rattle.sw_histories.proofs.LearnedTexts.{learned_schema, row_schema}
 use Rattle.sw_histories.proofs.RecordReadingLemmas.{map_some, record_ok}
 
 then_ok : {A B : Type 0} (r : Result A Refusal) (f : A → Result B Refusal) (y : B) → (r >>= f) ≡ Ok y → (x : A) × (r ≡ Ok x) × (f x ≡ Ok y)
@@ -50,11 +51,12 @@ has_call_found d text h =
     let s = then_some {A = Data} {B = List ℕ} (λ s. text_at (codes "call") d) (get (codes "session") d) text r.2 in
     (inside.0, s.2)
 
-call_found : (columns : List Column) (n : ℕ) (text : List ℕ) (c : Call) → call_in columns n text ≡ Ok c → line_at columns text ≡ Ok (Some c)
+call_found : (columns : List Column) (n : ℕ) (text : List ℕ) (c : Call) → call_in columns n text ≡ Ok c → line_at (learned columns text) text ≡ Ok (Some c)
 call_found columns n text c h =
-    let a = then_ok {A = Option Call} {B = Call} (refused n (line_at columns text)) (or_fault n) c h in
+    let line = line_at (learned columns text) text in
+    let a = then_ok {A = Option Call} {B = Call} (refused n line) (or_fault n) c h in
     let o : a.0 ≡ Some c = fault_ok n a.0 c a.2 in
-    refused_ok n (line_at columns text) a.0 a.1 ∙ ap (λ x. Ok x) o
+    refused_ok n line a.0 a.1 ∙ ap (λ x. Ok x) o
 
 pub entry_found : (columns : List Column) (n : ℕ) (d : Data) (e : Entry) → entry_in columns n d ≡ Ok e → IsEntry columns d e
 entry_found columns n d e h =
@@ -68,7 +70,7 @@ entry_found columns n d e h =
       members = members.0;
       text = t.0;
       text_is = members.1;
-      call = line_found columns t.0 (Some c.0) (call_found columns n t.0 c.0 c.1);
+      call = line_found (learned columns t.0) t.0 (Some c.0) (call_found columns n t.0 c.0 c.1);
       session = s.1;
       state = st.1;
     })
@@ -90,7 +92,7 @@ entry_only columns n d e ok i =
     ∙ ap (option_and_then (λ r. option_and_then (λ s. text_at (codes "call") d) (get (codes "session") d))) r.1
     ∙ ap (option_and_then (λ s. text_at (codes "call") d)) s.1
     ∙ i.text_is in
-    let line : line_at columns i.text ≡ Ok (Some e.call) = line_read columns i.text (Some e.call) ok i.call in
+    let line : line_at (learned columns i.text) i.text ≡ Ok (Some e.call) = line_read (learned columns i.text) i.text (Some e.call) (learned_schema columns i.text ok) i.call in
     let with_it : entry_with e.call d ≡ Some e =
     ap (option_and_then (λ s. option_map (λ st. entry s e.call st) (state_in e.call d))) i.session
     ∙ ap (option_map (λ st. entry e.session e.call st)) i.state in
@@ -101,64 +103,93 @@ entry_only columns n d e ok i =
 push_all : (done es : List Entry) (e : Entry) → done ++ (e ∷ es) ≡ (done ++ e ∷ []) ++ es
 push_all done es e = sym (append_assoc done (e ∷ []) es)
 
-record Read (columns : List Column) (done : List Entry) (ds : List Data) (all : List Entry) : Type 0 where
+record Read (columns : List Column) (done : List Entry) (ds : List Data) (r : List Column × List Entry) : Type 0 where
   es : List Entry
-  all_are : all ≡ done ++ es
-  are : AreEntries columns ds es
+  all_are : r.1 ≡ done ++ es
+  are : AreEntries columns ds r.0 es
 
-entries_found : (columns : List Column) (done : List Entry) (ds : List Data) (all : List Entry) → entries_after columns done ds ≡ Ok all → Read columns done ds all
-entries_found columns done [] all h = record { es = []; all_are = sym (let e : done ≡ all = cc in e) ∙ sym (append-nil done); are = tt }
-entries_found columns done (d ∷ ds) all h =
-    let e = then_ok {A = Entry} {B = List Entry} (entry_in columns (length done + 1) d) (λ e. entries_after columns (done ++ e ∷ []) ds) all h in
-    let rest = entries_found columns (done ++ e.0 ∷ []) ds all e.2 in
+entries_found : (columns : List Column) (done : List Entry) (ds : List Data) (r : List Column × List Entry) → entries_after columns done ds ≡ Ok r → Read columns done ds r
+entries_found columns done [] r h =
+    let same : (columns, done) ≡ r = cc in
+    record { es = []; all_are = sym (ap (λ p. p.1) same) ∙ sym (append-nil done); are = sym (ap (λ p. p.0) same) }
+entries_found columns done (d ∷ ds) r h =
+    let now = entry_learned columns d in
+    let e = then_ok {A = Entry} {B = List Column × List Entry} (entry_in columns (length done + 1) d) (λ e. entries_after now (done ++ e ∷ []) ds) r h in
+    let rest = entries_found now (done ++ e.0 ∷ []) ds r e.2 in
     record { es = e.0 ∷ rest.es; all_are = rest.all_are ∙ sym (push_all done rest.es e.0); are = (entry_found columns (length done + 1) d e.0 e.1, rest.are) }
 
-entries_only : (columns : List Column) (done : List Entry) (ds : List Data) (es : List Entry) → IsSchema columns → AreEntries columns ds es → entries_after columns done ds ≡ Ok (done ++ es)
-entries_only columns done [] [] ok are = ap (λ l. Ok l) (sym (append-nil done))
-entries_only columns done [] (e ∷ es) ok are = absurd are
-entries_only columns done (d ∷ ds) [] ok are = absurd are
-entries_only columns done (d ∷ ds) (e ∷ es) ok are =
-    ap (λ r. r >>= λ x. entries_after columns (done ++ x ∷ []) ds) (entry_only columns (length done + 1) d e ok are.0)
-    ∙ entries_only columns (done ++ e ∷ []) ds es ok are.1
-    ∙ ap (λ l. Ok l) (sym (push_all done es e))
+entries_only : (columns : List Column) (done : List Entry) (ds : List Data) (last : List Column) (es : List Entry) → IsSchema columns → AreEntries columns ds last es → entries_after columns done ds ≡ Ok (last, done ++ es)
+entries_only columns done [] last [] ok are = ap (λ cs. Ok (cs, done)) (sym are) ∙ ap (λ l. Ok (last, l)) (sym (append-nil done))
+entries_only columns done [] last (e ∷ es) ok are = absurd are
+entries_only columns done (d ∷ ds) last [] ok are = absurd are
+entries_only columns done (d ∷ ds) last (e ∷ es) ok are =
+    let now = entry_learned columns d in
+    ap (λ r. r >>= λ x. entries_after now (done ++ x ∷ []) ds) (entry_only columns (length done + 1) d e ok are.0)
+    ∙ entries_only now (done ++ e ∷ []) ds last es (learned_schema columns (unwrap_or (text_at (codes "call") d) []) ok) are.1
+    ∙ ap (λ l. Ok (last, l)) (sym (push_all done es e))
 
 -- ---- the part outside the entries
 
 record IsOuter (d : Data) (f : Frame) : Type 0 where
   members : has_members 5 d ≡ true
-  format : has_format d ≡ true
-  columns : columns_in d ≡ Some f.columns
+  named : List Column
+  header : header_in d ≡ Some named
+  format : has_format named d ≡ true
   limit : limit_in d ≡ Some f.limit
-  rows : rows_in (kinds_of f.columns) f.limit d ≡ Some f.rows
+  rows : rows_in named f.limit d ≡ Some (f.columns, f.rows)
   items : array_at (codes "entries") d ≡ Some f.items
 
 outer_found : (d : Data) (f : Frame) → frame_of d ≡ Some f → IsOuter d f
 outer_found d f h =
-    let inside = if_some {A = Frame} (has_members 5 d && has_format d) (frame_in d) f h in
-    let both = and_parts (has_members 5 d) (has_format d) inside.0 in
+    let inside = if_some {A = Frame} (has_members 5 d) (frame_in d) f h in
     let a = then_some {A = List Column} {B = Frame} (frame_by d) (columns_in d) f inside.1 in
+    let n = then_some {A = List Column} {B = List Column} (columns_under d) (header_in d) a.0 a.1 in
+    let under = if_some {A = List Column} (has_format n.0 d) (Some n.0) a.0 n.2 in
+    let same : n.0 ≡ a.0 = same_Some n.0 a.0 under.1 in
     let b = then_some {A = ℕ} {B = Frame} (frame_within d a.0) (limit_in d) f a.2 in
-    let r = then_some {A = List Row} {B = Frame} (frame_with d a.0 b.0) (rows_in (kinds_of a.0) b.0 d) f b.2 in
-    let e = map_some {A = List Data} {B = Frame} (λ items. frame a.0 b.0 r.0 items) (array_at (codes "entries") d) f r.2 in
-    subst (IsOuter d) e.2 (record { members = both.0; format = both.1; columns = a.1; limit = b.1; rows = r.1; items = e.1 })
+    let r = then_some {A = List Column × List Row} {B = Frame} (frame_with d b.0) (rows_in a.0 b.0 d) f b.2 in
+    let e = map_some {A = List Data} {B = Frame} (λ items. frame r.0.0 b.0 r.0.1 items) (array_at (codes "entries") d) f r.2 in
+    subst (IsOuter d) e.2 (record {
+      members = inside.0;
+      named = a.0;
+      header = n.1 ∙ under.1;
+      format = subst (λ cs. has_format cs d ≡ true) same under.0;
+      limit = b.1;
+      rows = r.1;
+      items = e.1;
+    })
 
 outer_only : (d : Data) (f : Frame) → IsOuter d f → frame_of d ≡ Some f
 outer_only d f o =
-    ap (λ b. cond (b && has_format d) (frame_in d) None) o.members
-    ∙ ap (λ b. cond b (frame_in d) None) o.format
-    ∙ ap (option_and_then (frame_by d)) o.columns
-    ∙ ap (option_and_then (frame_within d f.columns)) o.limit
-    ∙ ap (option_and_then (frame_with d f.columns f.limit)) o.rows
+    let columns : columns_in d ≡ Some o.named = ap (option_and_then (columns_under d)) o.header ∙ ap (λ b. cond b (Some o.named) None) o.format in
+    ap (λ b. cond b (frame_in d) None) o.members
+    ∙ ap (option_and_then (frame_by d)) columns
+    ∙ ap (option_and_then (frame_within d o.named)) o.limit
+    ∙ ap (option_and_then (frame_with d f.limit)) o.rows
     ∙ ap (option_map (λ items. frame f.columns f.limit f.rows items)) o.items
 
-columns_schema : (d : Data) (columns : List Column) → columns_in d ≡ Some columns → IsSchema columns
-columns_schema d columns h =
+header_schema : (d : Data) (columns : List Column) → header_in d ≡ Some columns → IsSchema columns
+header_schema d columns h =
     let a = then_some {A = List (List ℕ)} {B = List Column} (λ ts. result_ok (header_of ts)) (option_and_then (texts_after []) (array_at (codes "attributes") d)) columns h in
     header-schema a.0 columns (ok_of (header_of a.0) columns a.2)
   where
     ok_of : (r : Result (List Column) TableFault) (cs : List Column) → result_ok r ≡ Some cs → r ≡ Ok cs
     ok_of (Ok x) cs h = ap (λ z. Ok z) (same_Some x cs h)
     ok_of (Err e) cs h = absurd cc
+
+-- attributes that know the texts of rows
+rows_schema : (columns : List Column) (done : List Row) (ds : List Data) (r : List Column × List Row) → IsSchema columns → rows_after columns done ds ≡ Some r → IsSchema r.0
+rows_schema columns done [] r ok h = subst IsSchema (ap (λ p. p.0) (same_Some (columns, done) r h)) ok
+rows_schema columns done (d ∷ ds) r ok h =
+    let now = row_learned columns d in
+    let parts = then_some {A = List ℤ} {B = List Column × List Row} (λ cells. rows_after now (with_row done cells) ds) (row_in (kinds_of now) d) r h in
+    rows_schema now (with_row done parts.0) ds r (row_schema columns d ok) parts.2
+
+known_schema : (columns : List Column) (limit : ℕ) (d : Data) (r : List Column × List Row) → IsSchema columns → rows_in columns limit d ≡ Some r → IsSchema r.0
+known_schema columns limit d r ok h =
+    let parts = then_some {A = List Data} {B = List Column × List Row} (rows_up_to columns limit) (array_at (codes "rows") d) r h in
+    let inside = if_some {A = List Column × List Row} (nat_le (length parts.0) limit) (rows_after columns [] parts.0) r parts.2 in
+    rows_schema columns [] parts.0 r ok inside.1
 
 -- ---- the file
 
@@ -172,12 +203,13 @@ ok_same x y h = cc
 err_ok : (e : Refusal) (y : History) → ◌≡◌ {A = Result History Refusal} (Err e) (Ok y) → ⊥
 err_ok e y h = cc
 
-items_found : (f : Frame) (h : History) → entries_of f ≡ Ok h → (length f.items ≤ MOST_ENTRIES) × ((es : List Entry) × (entries_after f.columns [] f.items ≡ Ok es) × (history_with f es ≡ h))
+items_found : (f : Frame) (h : History) → entries_of f ≡ Ok h → (length f.items ≤ MOST_ENTRIES) × ((r : List Column × List Entry) × (entries_after f.columns [] f.items ≡ Ok r) × (history_with f r ≡ h))
 items_found f h e = at (nat_le (length f.items) MOST_ENTRIES) refl e
   where
-    at : (b : Bool) → nat_le (length f.items) MOST_ENTRIES ≡ b → cond b (entries_after f.columns [] f.items >>= λ es. Ok (history_with f es)) (Err (TooMany MOST_ENTRIES)) ≡ Ok h → (length f.items ≤ MOST_ENTRIES) × ((es : List Entry) × (entries_after f.columns [] f.items ≡ Ok es) × (history_with f es ≡ h))
+    at : (b : Bool) → nat_le (length f.items) MOST_ENTRIES ≡ b → cond b (entries_after f.columns [] f.items >>= λ r. Ok (history_with f r)) (Err (TooMany MOST_ENTRIES)) ≡ Ok h
+        → (length f.items ≤ MOST_ENTRIES) × ((r : List Column × List Entry) × (entries_after f.columns [] f.items ≡ Ok r) × (history_with f r ≡ h))
     at true few g =
-        let a = then_ok {A = List Entry} {B = History} (entries_after f.columns [] f.items) (λ es. Ok (history_with f es)) h g in
+        let a = then_ok {A = List Column × List Entry} {B = History} (entries_after f.columns [] f.items) (λ r. Ok (history_with f r)) h g in
         (leb-true (length f.items) MOST_ENTRIES few, (a.0, a.1, ok_same (history_with f a.0) h a.2))
     at false many g = absurd (err_ok (TooMany MOST_ENTRIES) h g)
 
@@ -195,23 +227,26 @@ record_found bytes h e =
       value = j.0;
       json = text.1;
       members = o.members;
+      named = o.named;
+      header = o.header;
       format = o.format;
-      columns = o.columns;
       limit = o.limit;
+      known = f.0.columns;
       rows = o.rows;
       items = f.0.items;
       items_are = o.items;
       few = es.0;
-      entries = subst (AreEntries f.0.columns f.0.items) (sym found.all_are) found.are;
+      entries = subst (AreEntries f.0.columns f.0.items es.1.0.0) (sym found.all_are) found.are;
     })
 
 pub record_only : (bytes : List ℕ) (h : History) → IsRecord bytes h → record_at bytes ≡ Ok h
 record_only bytes h r =
-    let f : Frame = frame h.columns h.limit h.rows r.items in
-    let outer : frame_of r.value ≡ Some f = outer_only r.value f (record { members = r.members; format = r.format; columns = r.columns; limit = r.limit; rows = r.rows; items = r.items_are }) in
+    let f : Frame = frame r.known h.limit h.rows r.items in
+    let outer : frame_of r.value ≡ Some f = outer_only r.value f (record { members = r.members; named = r.named; header = r.header; format = r.format; limit = r.limit; rows = r.rows; items = r.items_are }) in
     let few : nat_le (length r.items) MOST_ENTRIES ≡ true = le-leb (length r.items) MOST_ENTRIES r.few in
-    let all : entries_after h.columns [] r.items ≡ Ok h.entries = entries_only h.columns [] r.items h.entries (columns_schema r.value h.columns r.columns) r.entries in
+    let ok : IsSchema r.known = known_schema r.named h.limit r.value (r.known, h.rows) (header_schema r.value r.named r.header) r.rows in
+    let all : entries_after r.known [] r.items ≡ Ok (h.columns, h.entries) = entries_only r.known [] r.items h.columns h.entries ok r.entries in
     sym (record_ok bytes r.value r.utf8 r.json)
     ∙ ap (λ o. or_fault 0 o >>= entries_of) outer
-    ∙ ap (λ b. cond b (entries_after h.columns [] r.items >>= λ es. Ok (history_with f es)) (Err (TooMany MOST_ENTRIES))) few
-    ∙ ap (λ (o : Result (List Entry) Refusal). o >>= λ es. Ok (history_with f es)) all
+    ∙ ap (λ b. cond b (entries_after r.known [] r.items >>= λ x. Ok (history_with f x)) (Err (TooMany MOST_ENTRIES))) few
+    ∙ ap (λ (o : Result (List Column × List Entry) Refusal). o >>= λ x. Ok (history_with f x)) all

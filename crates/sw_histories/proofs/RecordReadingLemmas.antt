@@ -1,5 +1,5 @@
 -- Parts of a value, one by one.
-use Rattle.std.proofs.Common.{◌≡◌, ◌∙◌, sym, ap, refl, subst, ℕ, ℤ, suc, ◌+◌, ◌<◌, ◌≤◌, ◌&&◌, ◌==◌, Bool, true, false, cond, List, [], ◌∷◌, ◌++◌, length, map, drop, get_or, arith, Option, Some, None, Result, Ok, Err, slice_get, codes, nat_eq, nat_le, length-append, IsUtf8}
+use Rattle.std.proofs.Common.{◌≡◌, ◌∙◌, sym, ap, refl, subst, ℕ, ℤ, suc, ◌+◌, ◌<◌, ◌≤◌, ◌&&◌, ◌==◌, ◌⊎◌, inl, inr, Bool, true, false, cond, List, [], ◌∷◌, ◌++◌, length, map, drop, get_or, arith, Option, Some, None, Result, Ok, Err, slice_get, codes, nat_eq, nat_le, length-append, IsUtf8}
 use Rattle.std.specs.Prelude.{option_and_then, option_map}
 use Rattle.std.specs.Str.{is_utf8}
 use Rattle.std.proofs.lemmas.Bool.Decides.{nat_tests}
@@ -14,7 +14,9 @@ use Rattle.serde_json.specs.View.{items_of, items_view, members_view, view}
 use Rattle.serde_json.specs.declared.value.Value.{Value}
 use Rattle.serde_json.proofs.Views.{Entry as Pair, members_len-members_view}
 use Rattle.sw_rows.specs.Tables.{padded, row_of}
-use Rattle.sw_rows.specs.Domains.{Domain}
+use Rattle.sw_rows.specs.Domains.{Domain, domain}
+use Rattle.sw_rows.specs.declared.kind.Kind.{Kind}
+use Rattle.sw_rows.specs.declared.kind.Kind.TheVariants as word
 use Rattle.sw_table.specs.declared.row.Row.{Row}
 use Rattle.sw_rows.specs.declared.query.Call.{Call}
 use Rattle.sw_rows.specs.Header.{Column, kinds_of}
@@ -27,7 +29,7 @@ use Rattle.sw_spine.specs.Table.{is_numbered}
 use Rattle.sw_spine.specs.declared.history.Entry.{Entry}
 use Rattle.sw_spine.specs.declared.history.State.TheVariants as state
 use Rattle.sw_histories.specs.Told.{◌>>=◌}
-use Rattle.sw_histories.specs.RecordReading.{Frame, IsFrame, array_at, cell_in, cells_after, cells_of, columns_in, entries_after, entry_in, frame, frame_by, frame_in, frame_of, frame_with, frame_within, has_format, has_members, history_of, in_range, items_list, limit_in, number_at, or_fault, record_at, row_in, rows_after, rows_in, rows_up_to, state_in, state_of, texts_after, with_row}
+use Rattle.sw_histories.specs.RecordReading.{Frame, IsFrame, array_at, cell_in, cells_after, cells_of, columns_in, entries_after, entry_in, entry_learned, frame, frame_by, frame_in, frame_of, frame_with, frame_within, has_members, history_of, in_range, items_list, limit_in, number_at, number_in, or_fault, record_at, row_in, row_learned, rows_after, rows_in, rows_up_to, state_in, state_of, texts_after, with_row}
 
 pub list_items : (ds : List Data) → items_list (items_of ds) ≡ ds
 list_items [] = refl
@@ -60,6 +62,11 @@ cell_none done kinds vs i k v e lt is none = cells_step done kinds vs i k v e lt
 
 pub cell_some : (done : List ℤ) (kinds : List Domain) (vs : List Value) (i : ℕ) (k : Domain) (v : Value) (z : ℤ) → slice_get kinds i ≡ Some k → i < length vs → v ≡ get_or vs i v → Some z ≡ cell_in k (view v) → cells_after done (drop i kinds) (drop i (map view vs)) ≡ cells_after (done ++ z ∷ []) (drop (i + 1) kinds) (drop (i + 1) (map view vs))
 cell_some done kinds vs i k v z e lt is some = cells_step done kinds vs i k v e lt is ∙ ap (option_and_then (λ z. cells_after (done ++ z ∷ []) (drop (i + 1) kinds) (drop (i + 1) (map view vs)))) (sym some)
+
+pub number_cell : (texts : List (List ℕ)) (k : Kind) (d : Data) → (k ≡ word.Int) ⊎ ((places : ℕ) × (k ≡ word.Fix places)) ⊎ (k ≡ word.Flag) → number_in (domain texts k) d ≡ cell_in (domain texts k) d
+number_cell texts k d (inl e) = rw e refl
+number_cell texts k d (inr (inl (places, e))) = rw e refl
+number_cell texts k d (inr (inr e)) = rw e refl
 
 pub cells_end : (done : List ℤ) (kinds : List Domain) (ds : List Data) (i : ℕ) → length kinds ≤ i → cells_after done (drop i kinds) ds ≡ Some done
 cells_end done kinds ds i h = rw (drop_all i kinds h) refl
@@ -127,16 +134,17 @@ record AreRows (n : ℕ) (rs : List Row) : Type 0 where
   numbered : is_numbered 1 rs ≡ true
   count : length rs ≡ n
 
-rows_sound : (kinds : List Domain) (done rs : List Row) (ds : List Data) → rows_after kinds done ds ≡ Some rs → is_numbered 1 done ≡ true → AreRows (length done + length ds) rs
-rows_sound kinds done rs [] h all =
-    let same : done ≡ rs = same_Some done rs h in
+rows_sound : (columns : List Column) (done : List Row) (ds : List Data) (r : List Column × List Row) → rows_after columns done ds ≡ Some r → is_numbered 1 done ≡ true → AreRows (length done + length ds) r.1
+rows_sound columns done [] r h all =
+    let same : done ≡ r.1 = ap (λ p. p.1) (same_Some (columns, done) r h) in
     record { numbered = subst (λ l. is_numbered 1 l ≡ true) same all; count = ap (λ l. length l) (sym same) ∙ omega arith }
-rows_sound kinds done rs (d ∷ ds) h all =
-    let parts = then_some {A = List ℤ} {B = List Row} (λ cells. rows_after kinds (with_row done cells) ds) (row_in kinds d) rs h in
-    let r = row_of (length done + 1) parts.0 in
-    let more : is_numbered 1 (done ++ r ∷ []) ≡ true = numbered_push 1 done r all (omega arith) in
-    let rest = rows_sound kinds (done ++ r ∷ []) rs ds parts.2 more in
-    record { numbered = rest.numbered; count = rest.count ∙ omega (arith, length-append done (r ∷ [])) }
+rows_sound columns done (d ∷ ds) r h all =
+    let now = row_learned columns d in
+    let parts = then_some {A = List ℤ} {B = List Column × List Row} (λ cells. rows_after now (with_row done cells) ds) (row_in (kinds_of now) d) r h in
+    let row = row_of (length done + 1) parts.0 in
+    let more : is_numbered 1 (done ++ row ∷ []) ≡ true = numbered_push 1 done row all (omega arith) in
+    let rest = rows_sound now (done ++ row ∷ []) ds r parts.2 more in
+    record { numbered = rest.numbered; count = rest.count ∙ omega (arith, length-append done (row ∷ [])) }
 
 range_bounds : (least most n m : ℕ) → in_range least most n ≡ Some m → (least ≤ m) × (m ≤ most)
 range_bounds least most n m h =
@@ -164,47 +172,55 @@ record FitRows (limit : ℕ) (rs : List Row) : Type 0 where
   numbered : is_numbered 1 rs ≡ true
   few : length rs ≤ limit
 
-within_sound : (kinds : List Domain) (limit : ℕ) (ds : List Data) (rs : List Row) → rows_up_to kinds limit ds ≡ Some rs → FitRows limit rs
-within_sound kinds limit ds rs h =
-    let inside = if_some {A = List Row} (nat_le (length ds) limit) (rows_after kinds [] ds) rs h in
-    let sound = rows_sound kinds [] rs ds inside.1 refl in
+within_sound : (columns : List Column) (limit : ℕ) (ds : List Data) (r : List Column × List Row) → rows_up_to columns limit ds ≡ Some r → FitRows limit r.1
+within_sound columns limit ds r h =
+    let inside = if_some {A = List Column × List Row} (nat_le (length ds) limit) (rows_after columns [] ds) r h in
+    let sound = rows_sound columns [] ds r inside.1 refl in
     let few : length ds ≤ limit = grind (arith, nat_tests, inside.0) in
     record { numbered = sound.numbered; few = omega (arith, few, sound.count) }
 
-rows_in_sound : (kinds : List Domain) (limit : ℕ) (d : Data) (rs : List Row) → rows_in kinds limit d ≡ Some rs → FitRows limit rs
-rows_in_sound kinds limit d rs h =
-    let parts = then_some {A = List Data} {B = List Row} (rows_up_to kinds limit) (array_at (codes "rows") d) rs h in
-    within_sound kinds limit parts.0 rs parts.2
+rows_in_sound : (columns : List Column) (limit : ℕ) (d : Data) (r : List Column × List Row) → rows_in columns limit d ≡ Some r → FitRows limit r.1
+rows_in_sound columns limit d r h =
+    let parts = then_some {A = List Data} {B = List Column × List Row} (rows_up_to columns limit) (array_at (codes "rows") d) r h in
+    within_sound columns limit parts.0 r parts.2
 
 -- what the part outside the entries has
 pub frame_sound : (d : Data) (f : Frame) → frame_of d ≡ Some f → IsFrame f
 frame_sound d f h =
-    let inside = if_some {A = Frame} (has_members 5 d && has_format d) (frame_in d) f h in
+    let inside = if_some {A = Frame} (has_members 5 d) (frame_in d) f h in
     let a = then_some {A = List Column} {B = Frame} (frame_by d) (columns_in d) f inside.1 in
     let b = then_some {A = ℕ} {B = Frame} (frame_within d a.0) (limit_in d) f a.2 in
-    let r = then_some {A = List Row} {B = Frame} (frame_with d a.0 b.0) (rows_in (kinds_of a.0) b.0 d) f b.2 in
-    let e = map_some {A = List Data} {B = Frame} (λ items. frame a.0 b.0 r.0 items) (array_at (codes "entries") d) f r.2 in
+    let r = then_some {A = List Column × List Row} {B = Frame} (frame_with d b.0) (rows_in a.0 b.0 d) f b.2 in
+    let e = map_some {A = List Data} {B = Frame} (λ items. frame r.0.0 b.0 r.0.1 items) (array_at (codes "entries") d) f r.2 in
     let limit = limit_sound d b.0 b.1 in
-    let rows = rows_in_sound (kinds_of a.0) b.0 d r.0 r.1 in
+    let rows = rows_in_sound a.0 b.0 d r.0 r.1 in
     subst IsFrame e.2 (record { some = limit.0; most = limit.1; few = rows.few; numbered = rows.numbered })
 
 -- ---- rows
 
-pub row_none : (kinds : List Domain) (rs : List Row) (d : Data) (ds : List Data) (all : Option (List Row)) → all ≡ rows_after kinds rs (d ∷ ds) → None ≡ row_in kinds d → None ≡ all
-row_none kinds rs d ds all before none = sym (before ∙ ap (option_and_then (λ cells. rows_after kinds (with_row rs cells) ds)) (sym none))
+pub row_none : (columns : List Column) (rs : List Row) (d : Data) (ds : List Data) (all : Option (List Column × List Row)) → all ≡ rows_after columns rs (d ∷ ds) → None ≡ row_in (kinds_of (row_learned columns d)) d → None ≡ all
+row_none columns rs d ds all before none =
+    let now = row_learned columns d in
+    sym (before ∙ ap (option_and_then (λ cells. rows_after now (with_row rs cells) ds)) (sym none))
 
-pub rows_step : (kinds : List Domain) (rs more : List Row) (d : Data) (ds : List Data) (cells : List ℤ) (n : ℕ) (all : Option (List Row)) → all ≡ rows_after kinds rs (d ∷ ds) → n ≡ length rs + 1 → Some cells ≡ row_in kinds d → more ≡ rs ++ row_of n cells ∷ [] → all ≡ rows_after kinds more ds
-rows_step kinds rs more d ds cells n all before place is grown =
+pub rows_step : (columns next : List Column) (rs more : List Row) (d : Data) (ds : List Data) (cells : List ℤ) (n : ℕ) (all : Option (List Column × List Row))
+    → all ≡ rows_after columns rs (d ∷ ds) → n ≡ length rs + 1 → Some cells ≡ row_in (kinds_of (row_learned columns d)) d → next ≡ row_learned columns d → more ≡ rs ++ row_of n cells ∷ [] → all ≡ rows_after next more ds
+rows_step columns next rs more d ds cells n all before place is known grown =
+    let now = row_learned columns d in
     before
-    ∙ ap (option_and_then (λ cells. rows_after kinds (with_row rs cells) ds)) (sym is)
-    ∙ ap (λ m. rows_after kinds (rs ++ row_of m cells ∷ []) ds) (sym place)
-    ∙ ap (λ l. rows_after kinds l ds) (sym grown)
+    ∙ ap (option_and_then (λ cells. rows_after now (with_row rs cells) ds)) (sym is)
+    ∙ ap (λ m. rows_after now (rs ++ row_of m cells ∷ []) ds) (sym place)
+    ∙ ap (λ cs. rows_after cs (rs ++ row_of n cells ∷ []) ds) (sym known)
+    ∙ ap (λ l. rows_after next l ds) (sym grown)
 
 -- ---- entries
 
-pub entries_step : (columns : List Column) (es more : List Entry) (d : Data) (ds : List Data) (e : Entry) (n : ℕ) (all : Result (List Entry) Refusal) → all ≡ entries_after columns es (d ∷ ds) → n ≡ length es + 1 → entry_in columns n d ≡ Ok e → more ≡ es ++ e ∷ [] → all ≡ entries_after columns more ds
-entries_step columns es more d ds e n all before place is grown =
+pub entries_step : (columns next : List Column) (es more : List Entry) (d : Data) (ds : List Data) (e : Entry) (n : ℕ) (all : Result (List Column × List Entry) Refusal)
+    → all ≡ entries_after columns es (d ∷ ds) → n ≡ length es + 1 → entry_in columns n d ≡ Ok e → next ≡ entry_learned columns d → more ≡ es ++ e ∷ [] → all ≡ entries_after next more ds
+entries_step columns next es more d ds e n all before place is known grown =
+    let now = entry_learned columns d in
     before
-    ∙ ap (λ m. entry_in columns m d >>= λ x. entries_after columns (es ++ x ∷ []) ds) (sym place)
-    ∙ ap (λ r. r >>= λ x. entries_after columns (es ++ x ∷ []) ds) is
-    ∙ ap (λ l. entries_after columns l ds) (sym grown)
+    ∙ ap (λ m. entry_in columns m d >>= λ x. entries_after now (es ++ x ∷ []) ds) (sym place)
+    ∙ ap (λ r. r >>= λ x. entries_after now (es ++ x ∷ []) ds) is
+    ∙ ap (λ cs. entries_after cs (es ++ e ∷ []) ds) (sym known)
+    ∙ ap (λ l. entries_after next l ds) (sym grown)

@@ -1,8 +1,9 @@
 -- A call is printed as UTF-8, and a record has no float.
-use Rattle.std.proofs.Common.{◌≡◌, ◌∙◌, sym, ap, refl, subst, ℕ, ℤ, zero, suc, pos, negsuc, ◌+◌, ◌&&◌, ◌||◌, Bool, true, false, List, [], ◌∷◌, ◌++◌, length, map, take, codes, decimal, arith, Option, Some, None, slice_get, Result, Ok, Err, IsUtf8, add-one, append_assoc, rules}
+use Rattle.std.proofs.Common.{◌≡◌, ◌∙◌, sym, ap, refl, subst, ℕ, ℤ, zero, suc, pos, negsuc, ◌+◌, ◌&&◌, ◌||◌, Bool, true, false, ◌<◌, ◌≤◌, List, [], ◌∷◌, ◌++◌, length, map, take, drop, get_or, codes, decimal, arith, Option, Some, None, slice_get, Result, Ok, Err, IsUtf8, add-one, append-nil, append_assoc, rules}
 use Rattle.std.specs.List.{flat_map, list_all}
 use Rattle.std.proofs.lemmas.Bool.Decides.{nat_tests}
-use Rattle.std.proofs.lemmas.Option.{none-some, same_Some}
+use Rattle.std.proofs.lemmas.List.{drop_all, drop_more}
+use Rattle.std.proofs.lemmas.Option.{get_or_from_slice_get, none-some, same_Some, slice_get_within}
 use Rattle.serde_json.specs.Data.{Data, string}
 use Rattle.serde_json.specs.Find.{is_float, of_integer}
 use Rattle.serde_json.specs.View.{items_of, view}
@@ -18,6 +19,7 @@ use Rattle.sw_rows.specs.Header.{Column, IsSchema, is_name, is_name_byte, kinds_
 use Rattle.sw_rows.specs.declared.bound.Bound.{Bound}
 use Rattle.sw_rows.specs.declared.bound.Bound.TheVariants.{Before, After}
 use Rattle.sw_rows.specs.Domains.{Domain, is_of_texts}
+use Rattle.sw_rows.specs.Domains as kind
 use Rattle.sw_table.specs.declared.row.Row.{Row}
 use Rattle.sw_rows.specs.declared.query.Cond.{Cond}
 use Rattle.sw_rows.specs.declared.query.Want.{Want}
@@ -34,7 +36,7 @@ use Rattle.sw_spine.specs.declared.history.Entry.{Entry}
 use Rattle.sw_spine.specs.declared.history.State.{State}
 use Rattle.sw_spine.specs.declared.history.State.TheVariants as state
 use Rattle.sw_spine.proofs.PrintedLemmas.{both, kind_sound, kinds_sound, cell_shown, cells_shown, decimal_shown, either, joined, line_utf8, printed}
-use Rattle.sw_histories.specs.RecordText.{Stops, WritesText, attribute_text, cell_data, entry_data, front_text, list_data, record_text, row_data, state_data, texts_data, whole_data}
+use Rattle.sw_histories.specs.RecordText.{Stops, WritesText, attribute_text, cell_data, cells_data, entry_data, format_of, front_text, list_data, record_text, row_data, state_data, texts_data, whole_data}
 
 -- ---- names
 
@@ -178,9 +180,16 @@ integer_is_none : (z : ℤ) → is_float (of_integer z) ≡ false
 integer_is_none (pos n) = refl
 integer_is_none (negsuc n) = refl
 
-cells_have_none : (zs : List ℤ) → items_have_float (items_of (map cell_data zs)) ≡ false
-cells_have_none [] = refl
-cells_have_none (z ∷ zs) = neither (is_float (of_integer z)) (items_have_float (items_of (map cell_data zs))) (integer_is_none z) (cells_have_none zs)
+cell_has_none : (k : Domain) (z : ℤ) → has_float (cell_data k z) ≡ false
+cell_has_none kind.Int z = integer_is_none z
+cell_has_none (kind.Fix places) z = integer_is_none z
+cell_has_none kind.Flag z = integer_is_none z
+cell_has_none (kind.Text texts) z = refl
+
+cells_have_none : (ks : List Domain) (zs : List ℤ) → items_have_float (items_of (cells_data ks zs)) ≡ false
+cells_have_none [] zs = refl
+cells_have_none (k ∷ ks) [] = refl
+cells_have_none (k ∷ ks) (z ∷ zs) = neither (has_float (cell_data k z)) (items_have_float (items_of (cells_data ks zs))) (cell_has_none k z) (cells_have_none ks zs)
 
 state_has_none : (columns : List Column) (c : Call) (s : State) → has_float (state_data columns c s) ≡ false
 state_has_none columns c (state.Answered r) = texts_have_none (reply_lines columns c r)
@@ -225,6 +234,27 @@ view_String s t is =
     let as_text : view (value.String s) ≡ string (string_bytes s) = search (rules, the_lemmas) in
     as_text ∙ ap (λ b. string b) is
 
+-- ---- one cell more
+
+pub cells_step : (ks : List Domain) (zs : List ℤ) (i : ℕ) (k : Domain) (z d : ℤ) → slice_get ks i ≡ Some k → i < length zs → z ≡ get_or zs i d → cells_data (drop i ks) (drop i zs) ≡ cell_data k z ∷ cells_data (drop (i + 1) ks) (drop (i + 1) zs)
+cells_step ks zs i k z d e lt is =
+    let one : drop i ks ≡ k ∷ drop (i + 1) ks = drop_more ks i k (slice_get_within ks i k e) ∙ ap (λ x. x ∷ drop (i + 1) ks) (get_or_from_slice_get ks i k k e) in
+    let other : drop i zs ≡ z ∷ drop (i + 1) zs = drop_more zs i d lt ∙ ap (λ x. x ∷ drop (i + 1) zs) (sym is) in
+    rw (one, other) refl
+
+pub cell_more : (ks : List Domain) (zs : List ℤ) (i : ℕ) (k : Domain) (z d : ℤ) (all : List Data) (vs ws : List Value) (v : Value) → slice_get ks i ≡ Some k → i < length zs → z ≡ get_or zs i d → map view vs ++ cells_data (drop i ks) (drop i zs) ≡ all → ws ≡ vs ++ v ∷ [] → view v ≡ cell_data k z → map view ws ++ cells_data (drop (i + 1) ks) (drop (i + 1) zs) ≡ all
+cell_more ks zs i k z d all vs ws v e lt is before more shown =
+    let rest = cells_data (drop (i + 1) ks) (drop (i + 1) zs) in
+    ap (λ l. map view l ++ rest) more
+    ∙ ap (λ l. l ++ rest) (views_more vs v)
+    ∙ append_assoc (map view vs) (view v ∷ []) rest
+    ∙ ap (λ x. map view vs ++ (x ∷ rest)) shown
+    ∙ ap (λ l. map view vs ++ l) (sym (cells_step ks zs i k z d e lt is))
+    ∙ before
+
+pub cells_over : (ks : List Domain) (zs : List ℤ) (i : ℕ) (all : List Data) (vs : List Value) → length ks ≤ i → map view vs ++ cells_data (drop i ks) (drop i zs) ≡ all → map view vs ≡ all
+cells_over ks zs i all vs past before = sym (append-nil (map view vs)) ∙ ap (λ l. map view vs ++ cells_data l (drop i zs)) (sym (drop_all i ks past)) ∙ before
+
 -- ---- a text grows
 
 pub attributes_have_none : (columns : List Column) → has_float (texts_data (map attribute_text columns)) ≡ false
@@ -233,8 +263,8 @@ attributes_have_none columns = texts_have_none (map attribute_text columns)
 pub entry_has_none : (columns : List Column) (e : Entry) → has_float (entry_data columns e) ≡ false
 entry_has_none columns e = neither (has_float (state_data columns e.call e.state)) false (state_has_none columns e.call e.state) refl
 
-pub row_has_none : (n : ℕ) (r : Row) → has_float (row_data n r) ≡ false
-row_has_none n r = cells_have_none (take n r.cells)
+pub row_has_none : (ks : List Domain) (r : Row) → has_float (row_data ks r) ≡ false
+row_has_none ks r = cells_have_none ks r.cells
 
 pub none_left : {A : Type 0} (xs : List A) → length xs ≡ 0 → xs ≡ []
 none_left [] h = refl
@@ -246,27 +276,30 @@ list_begun t all = sym (append_assoc t (91 ∷ []) all)
 pub item_put : (t more comma d rest : List ℕ) → more ≡ t ++ (comma ++ d) → t ++ (comma ++ (d ++ rest)) ≡ more ++ rest
 item_put t more comma d rest is = ap (λ m. t ++ m) (sym (append_assoc comma d rest)) ∙ sym (append_assoc t (comma ++ d) rest) ∙ ap (λ m. m ++ rest) (sym is)
 
-whole_text : (a e r : Data) (limit : ℕ) → compact_text (whole_data a e limit r)
-    ≡ codes "{\"attributes\":" ++ (compact_text a ++ (codes ",\"entries\":" ++ (compact_text e ++ (codes ",\"format\":1,\"limit\":" ++ (decimal limit ++ (codes ",\"rows\":" ++ (compact_text r ++ 125 ∷ [])))))))
+whole_text : (a e r : Data) (format limit : ℕ) → compact_text (whole_data a e format limit r)
+    ≡ codes "{\"attributes\":" ++ (compact_text a ++ (codes ",\"entries\":" ++ (compact_text e ++ (codes ",\"format\":" ++ (decimal format ++ (codes ",\"limit\":" ++ (decimal limit ++ (codes ",\"rows\":" ++ (compact_text r ++ 125 ∷ [])))))))))
 unfolding escape_byte digits
-whole_text a e r limit = refl
+whole_text a e r format limit = refl
 
-flat : (x a y e z l w r end : List ℕ) → (((((((x ++ a) ++ y) ++ e) ++ z) ++ l) ++ w) ++ r) ++ end ≡ x ++ (a ++ (y ++ (e ++ (z ++ (l ++ (w ++ (r ++ end)))))))
-flat x a y e z l w r end =
-    append_assoc ((((((x ++ a) ++ y) ++ e) ++ z) ++ l) ++ w) r end
-    ∙ append_assoc (((((x ++ a) ++ y) ++ e) ++ z) ++ l) w (r ++ end)
-    ∙ append_assoc ((((x ++ a) ++ y) ++ e) ++ z) l (w ++ (r ++ end))
-    ∙ append_assoc (((x ++ a) ++ y) ++ e) z (l ++ (w ++ (r ++ end)))
-    ∙ append_assoc ((x ++ a) ++ y) e (z ++ (l ++ (w ++ (r ++ end))))
-    ∙ append_assoc (x ++ a) y (e ++ (z ++ (l ++ (w ++ (r ++ end)))))
-    ∙ append_assoc x a (y ++ (e ++ (z ++ (l ++ (w ++ (r ++ end))))))
+flat : (x a y e z f u l w r end : List ℕ) → (((((((((x ++ a) ++ y) ++ e) ++ z) ++ f) ++ u) ++ l) ++ w) ++ r) ++ end ≡ x ++ (a ++ (y ++ (e ++ (z ++ (f ++ (u ++ (l ++ (w ++ (r ++ end)))))))))
+flat x a y e z f u l w r end =
+    append_assoc ((((((((x ++ a) ++ y) ++ e) ++ z) ++ f) ++ u) ++ l) ++ w) r end
+    ∙ append_assoc (((((((x ++ a) ++ y) ++ e) ++ z) ++ f) ++ u) ++ l) w (r ++ end)
+    ∙ append_assoc ((((((x ++ a) ++ y) ++ e) ++ z) ++ f) ++ u) l (w ++ (r ++ end))
+    ∙ append_assoc (((((x ++ a) ++ y) ++ e) ++ z) ++ f) u (l ++ (w ++ (r ++ end)))
+    ∙ append_assoc ((((x ++ a) ++ y) ++ e) ++ z) f (u ++ (l ++ (w ++ (r ++ end))))
+    ∙ append_assoc (((x ++ a) ++ y) ++ e) z (f ++ (u ++ (l ++ (w ++ (r ++ end)))))
+    ∙ append_assoc ((x ++ a) ++ y) e (z ++ (f ++ (u ++ (l ++ (w ++ (r ++ end))))))
+    ∙ append_assoc (x ++ a) y (e ++ (z ++ (f ++ (u ++ (l ++ (w ++ (r ++ end)))))))
+    ∙ append_assoc x a (y ++ (e ++ (z ++ (f ++ (u ++ (l ++ (w ++ (r ++ end))))))))
 
 -- the parts of a record's text, one after another
-pub record_parts : (h : History) → ((front_text [] h ++ codes ",\"rows\":") ++ compact_text (list_data (map (row_data (length h.columns)) h.rows))) ++ 125 ∷ [] ≡ record_text h
+pub record_parts : (h : History) → ((front_text [] h ++ codes ",\"rows\":") ++ compact_text (list_data (map (row_data (kinds_of h.columns)) h.rows))) ++ 125 ∷ [] ≡ record_text h
 unfolding record_text
 record_parts h =
     let a = texts_data (map attribute_text h.columns) in
     let e = list_data (map (entry_data h.columns) h.entries) in
-    let r = list_data (map (row_data (length h.columns)) h.rows) in
-    flat (codes "{\"attributes\":") (compact_text a) (codes ",\"entries\":") (compact_text e) (codes ",\"format\":1,\"limit\":") (decimal h.limit) (codes ",\"rows\":") (compact_text r) (125 ∷ [])
-    ∙ sym (whole_text a e r h.limit)
+    let r = list_data (map (row_data (kinds_of h.columns)) h.rows) in
+    let f = format_of h.columns in
+    flat (codes "{\"attributes\":") (compact_text a) (codes ",\"entries\":") (compact_text e) (codes ",\"format\":") (decimal f) (codes ",\"limit\":") (decimal h.limit) (codes ",\"rows\":") (compact_text r) (125 ∷ [])
+    ∙ sym (whole_text a e r f h.limit)

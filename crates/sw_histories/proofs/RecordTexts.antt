@@ -1,5 +1,8 @@
 -- The text of a run's record is UTF-8.
-use Rattle.std.proofs.Common.{◌≡◌, refl, ℕ, ℤ, ◌+◌, true, List, [], ◌∷◌, ◌++◌, arith, codes, length, map, take, All, IsUtf8}
+use Rattle.std.proofs.Common.{◌≡◌, refl, ℕ, ℤ, pos, negsuc, ◌+◌, true, List, [], ◌∷◌, ◌++◌, arith, codes, map, All, IsUtf8, Option, Some, None}
+use Rattle.std.specs.Prelude.{unwrap_or}
+use Rattle.std.proofs.lemmas.Option.{none-some}
+use Rattle.std.proofs.lemmas.Str.{IsUtf8-nil}
 use Rattle.std.specs.List.{list_all}
 use Rattle.std.proofs.lemmas.Bool.{and_parts}
 use Rattle.std.proofs.lemmas.Bool.Decides.{nat_tests}
@@ -8,7 +11,10 @@ use Rattle.json.proofs.Printed.Utf8.{IsUtf8-are_ascii}
 use Rattle.serde_json.specs.Data.{string}
 use Rattle.serde_json.specs.View.{items_of}
 use Rattle.sw_rows.specs.Domains.{IsDomain}
-use Rattle.sw_rows.specs.Header.{Column, IsSchema, is_name}
+use Rattle.sw_rows.specs.Header.{Column, IsSchema, is_name, kinds_of}
+use Rattle.sw_rows.specs.Texts.{AreTexts, is_text, text_at}
+use Rattle.sw_rows.proofs.TextLemmas as lemmas
+use Rattle.sw_rows.proofs.TextLaws.{text_sound}
 use Rattle.sw_rows.specs.Spelling.{kind_text}
 use Rattle.sw_rows.specs.Domains.{Domain}
 use Rattle.sw_rows.specs.Domains as kind
@@ -20,8 +26,8 @@ use Rattle.sw_spine.specs.Printed.{are_lines, is_line, is_printed}
 use Rattle.sw_spine.specs.declared.history.Entry.{Entry}
 use Rattle.sw_spine.specs.declared.history.State.{State}
 use Rattle.sw_spine.specs.declared.history.State.TheVariants as state
-use Rattle.sw_spine.proofs.PrintedLemmas.{both, joined, line_utf8, printed, reply_shown}
-use Rattle.sw_histories.specs.RecordText.{attribute_text, cell_data, entry_data, record_data, record_text, row_data, state_data}
+use Rattle.sw_spine.proofs.PrintedLemmas.{AreSound, both, joined, kinds_sound, line_utf8, printed, reply_shown}
+use Rattle.sw_histories.specs.RecordText.{attribute_text, cell_data, cells_data, entry_data, record_data, record_text, row_data, state_data}
 use Rattle.sw_histories.specs.ReadBack.{IsCalled, IsOfRun, IsStateOf}
 use Rattle.sw_histories.proofs.RecordTextLemmas.{call_utf8, name_shown}
 use Rattle.sw_histories.proofs.TextUtf8.{HasTexts, HaveTexts, text_utf8}
@@ -46,13 +52,32 @@ attributes_texts (c ∷ cs) h p =
 
 -- ---- rows
 
-cells_texts : (zs : List ℤ) → HaveTexts (items_of (map cell_data zs))
-cells_texts [] = tt
-cells_texts (z ∷ zs) = (tt, cells_texts zs)
+-- the text of a code, or an empty one
+coded_utf8 : (texts : List (List ℕ)) (z : ℤ) → AreTexts texts → IsUtf8 (unwrap_or (text_at texts z) [])
+coded_utf8 texts z s = by_text (text_at texts z) refl
+  where
+    at_code : (y : ℤ) (t : List ℕ) → text_at texts y ≡ Some t → is_text t ≡ true
+    at_code (pos code) t e = text_sound texts code t s e
+    at_code (negsuc n) t e = absurd (none-some t e)
 
-rows_texts : (n : ℕ) (rs : List Row) → HaveTexts (items_of (map (row_data n) rs))
-rows_texts n [] = tt
-rows_texts n (r ∷ rs) = (cells_texts (take n r.cells), rows_texts n rs)
+    by_text : (o : Option (List ℕ)) → text_at texts z ≡ o → IsUtf8 (unwrap_or o [])
+    by_text None e = IsUtf8-nil
+    by_text (Some t) e = lemmas.text_utf8 t (at_code z t e)
+
+cell_texts : (k : Domain) (z : ℤ) → IsDomain k → HasTexts (cell_data k z)
+cell_texts kind.Int z s = tt
+cell_texts (kind.Fix places) z s = tt
+cell_texts kind.Flag z s = tt
+cell_texts (kind.Text texts) z s = coded_utf8 texts z s
+
+cells_texts : (ks : List Domain) (zs : List ℤ) → AreSound ks → HaveTexts (items_of (cells_data ks zs))
+cells_texts [] zs s = tt
+cells_texts (k ∷ ks) [] s = tt
+cells_texts (k ∷ ks) (z ∷ zs) s = (cell_texts k z s.0, cells_texts ks zs s.1)
+
+rows_texts : (ks : List Domain) (rs : List Row) → AreSound ks → HaveTexts (items_of (map (row_data ks) rs))
+rows_texts ks [] s = tt
+rows_texts ks (r ∷ rs) s = (cells_texts ks r.cells s, rows_texts ks rs s)
 
 -- ---- entries
 
@@ -103,7 +128,7 @@ record_texts h r = (
       (
         IsUtf8-are_ascii (codes "limit") refl,
         tt,
-        (IsUtf8-are_ascii (codes "rows") refl, rows_texts (length h.columns) h.rows, tt),
+        (IsUtf8-are_ascii (codes "rows") refl, rows_texts (kinds_of h.columns) h.rows (kinds_sound h.columns r.schema), tt),
       ),
     ),
   ),

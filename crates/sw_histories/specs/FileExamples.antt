@@ -1,9 +1,12 @@
--- The file of a table of three attributes and four rows after one count.
+-- The file of a table of three attributes and four rows after one count, and that of a table of texts after two calls.
 use Rattle.std.specs.Prelude.{◌++◌, ℕ, ℤ, pos, List, [], ◌∷◌, codes}
+use Rattle.sw_rows.specs.Domains as kind
+use Rattle.sw_rows.specs.Header.{Column}
 use Rattle.sw_rows.specs.Tables.{padded, row_of}
 use Rattle.sw_table.specs.declared.row.Row.{Row}
+use Rattle.sw_rows.specs.declared.query.Call.TheVariants as call
 use Rattle.sw_rows.specs.declared.query.Want.TheVariants as want
-use Rattle.sw_lang.specs.PrintedExamples.{abc, asking}
+use Rattle.sw_lang.specs.PrintedExamples.{abc, asking, asking_where, at_least, at_most, cond}
 use Rattle.sw_spine.specs.History.{History, entry}
 use Rattle.sw_spine.specs.declared.history.State.{State}
 
@@ -27,3 +30,32 @@ counted_file =
     ++ codes "\"entries\":[{\"call\":\"count\",\"reply\":[\"4\"],\"session\":1}],"
     ++ codes "\"format\":1,\"limit\":1048576,"
     ++ codes "\"rows\":[[12,7,1],[3,8,0],[12,5,1],[20,2,0]]}"
+
+-- ---- texts
+
+-- a city and a number; two cities stand in the rows, and a third comes with a call
+abbrev pub cities : List Column
+cities =
+    (codes "city", kind.Text (codes "Oslo" ∷ codes "Bergen, N" ∷ codes "it's" ∷ [])) ∷ (codes "n", kind.Int) ∷ []
+
+abbrev pub row_of_city : ℕ → ℕ → ℕ → Row
+row_of_city key city n = row_of key (padded (pos city ∷ pos n ∷ []))
+
+-- one session counted the rows of the first city, and put in a row of a new one; this became of its calls
+abbrev pub visited : State → State → History
+visited first second = record {
+  columns = cities;
+  rows = row_of_city 1 1 1 ∷ row_of_city 2 2 2 ∷ row_of_city 3 1 3 ∷ [];
+  limit = 1048576;
+  entries =
+      entry 1 (asking_where want.Count (cond 0 (at_least (pos 1)) (at_most (pos 1)) ∷ [])) first
+      ∷ entry 1 (call.Insert (pos 3 ∷ pos 4 ∷ [])) second ∷ [];
+}
+
+abbrev pub visited_file : List ℕ
+visited_file =
+    codes "{\"attributes\":[\"city:text\",\"n:int\"],"
+    ++ codes "\"entries\":[{\"call\":\"count where city = 'Oslo'\",\"reply\":[\"2\"],\"session\":1},"
+    ++ codes "{\"call\":\"insert 'it''s', 4\",\"reply\":[\"key 4\"],\"session\":1}],"
+    ++ codes "\"format\":2,\"limit\":1048576,"
+    ++ codes "\"rows\":[[\"Oslo\",1],[\"Bergen, N\",2],[\"Oslo\",3]]}"

@@ -1,6 +1,6 @@
 -- A file's object while its entries and its rows are passed over: what stands there in their place, and where their
 -- tokens begin.
-use Rattle.std.specs.Prelude.{◌≡◌, ◌≤◌, ◌&&◌, ◌||◌, ℕ, zero, suc, Bool, true, List, [], ◌∷◌, bytes_eq, codes, length, Option, Some, None, Result, is_some, option_and_then, option_map, if◌then◌else◌, IfSome, MatchResult}
+use Rattle.std.specs.Prelude.{◌≡◌, ◌≤◌, ◌||◌, ℕ, zero, suc, Bool, true, List, [], ◌∷◌, bytes_eq, codes, length, Option, Some, None, Result, is_some, option_and_then, option_map, if◌then◌else◌, IfSome, MatchResult}
 use Rattle.std.specs.Global.{Vec}
 use Rattle.json.specs.Token.{Token}
 use Rattle.json.specs.Lex.{tokens}
@@ -13,13 +13,12 @@ use Rattle.serde_json.specs.declared.value.Value.{Value}
 use Rattle.sw_table.specs.Packed.{Packed}
 use Rattle.sw_table.specs.declared.row.Row.{Row}
 use Rattle.sw_rows.specs.Header.{Column}
-use Rattle.sw_rows.specs.Domains.{Domain}
 use Rattle.sw_rows.specs.declared.table.TheConstants.{MOST_ROWS}
 use Rattle.sw_rows.specs.declared.refusal.Refusal.{Refusal}
 use Rattle.sw_spine.specs.History.{History}
 use Rattle.sw_spine.specs.declared.history.Entry.{Entry}
 use Rattle.sw_histories.specs.FromTokens.{IsCount, data_from, items_from, members_from}
-use Rattle.sw_histories.specs.RecordReading.{Frame, array_at, columns_in, entries_after, frame, frame_of, has_format, has_members, history_of, items_list, limit_in, or_fault, rows_after, rows_up_to}
+use Rattle.sw_histories.specs.RecordReading.{Frame, array_at, columns_in, entries_after, frame, frame_of, has_members, history_of, items_list, limit_in, or_fault, rows_after, rows_up_to}
 use Rattle.sw_histories.specs.Told.{◌>>=◌, Reads}
 use Rattle.sw_histories.specs.declared.outline.ItemsAt.{ItemsAt}
 use Rattle.sw_histories.specs.declared.outline.Outline.{Outline}
@@ -191,12 +190,10 @@ outside_in text = option_and_then outside_of (read text)
 abbrev pub read_as : Outer → Frame
 read_as o = frame o.schema o.limit o.rows.items []
 
--- the limit, where the members, the format and the place of the entries are a history's
+-- the limit, where the members and the place of the entries are a history's
 abbrev pub limit_of : Data → Option ℕ
 limit_of d =
-    if has_members 5 d && has_format d
-    then (if is_some (array_at (codes "entries") d) then limit_in d else None)
-    else None
+    if has_members 5 d then (if is_some (array_at (codes "entries") d) then limit_in d else None) else None
 
 -- the attributes and that limit
 abbrev pub front_of : Data → Option (List Column × ℕ)
@@ -210,21 +207,22 @@ front_as f = (f.schema, f.limit)
 abbrev pub IsWithinMost : Option Front → Type 0
 IsWithinMost o = IfSome o (λ f. f.limit ≤ MOST_ROWS)
 
--- rows that were read are those that were said; or no rows were said
-abbrev pub AreRows : Option (List Row) → Option Packed → Type 0
-AreRows said read = option_map (λ rows. rows.items) read ≡ said
+-- rows that were read, beside the attributes then, are those that were said; or no rows were said
+abbrev pub AreRows : Option (List Column × List Row) → List Column → Option Packed → Type 0
+AreRows said columns read = option_map (λ rows. (columns, rows.items)) read ≡ said
 
--- rows that were read are those of values, where there are values
-abbrev pub ReadsRows : List Domain → Option (List Data) → Option Packed → Type 0
-ReadsRows kinds o read = IfSome o (λ ds. AreRows (rows_after kinds [] ds) read)
+-- rows that were read, and the attributes before and then, are those of values, where there are values
+abbrev pub ReadsRows : List Column → List Column → Option (List Data) → Option Packed → Type 0
+ReadsRows old new o read = IfSome o (λ ds. AreRows (rows_after old [] ds) new read)
 
 -- the same, at most so many
-abbrev pub ReadsRowsUpTo : List Domain → ℕ → Option (List Data) → Option Packed → Type 0
-ReadsRowsUpTo kinds limit o read = IfSome o (λ ds. AreRows (rows_up_to kinds limit ds) read)
+abbrev pub ReadsRowsUpTo : List Column → List Column → ℕ → Option (List Data) → Option Packed → Type 0
+ReadsRowsUpTo old new limit o read = IfSome o (λ ds. AreRows (rows_up_to old limit ds) new read)
 
--- the entries of values are answered, or their first fault, where there are values
-abbrev pub ReadsEntries : List Column → Option (List Data) → Result (Vec Entry) Refusal → Type 0
-ReadsEntries columns o result = IfSome o (λ ds. Reads (λ entries. entries.items) result (entries_after columns [] ds))
+-- the entries of values are answered, and with them the attributes then, or their first fault, where there are values
+abbrev pub ReadsEntries : List Column → List Column → Option (List Data) → Result (Vec Entry) Refusal → Type 0
+ReadsEntries old new o result =
+    IfSome o (λ ds. Reads (λ entries. (new, entries.items)) result (entries_after old [] ds))
 
 -- the record of a text, or its first fault
 abbrev pub record_in : List ℕ → Result History Refusal

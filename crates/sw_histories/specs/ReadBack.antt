@@ -1,9 +1,11 @@
 -- Records whose text is read again.
-use Rattle.std.specs.Prelude.{◌≡◌, ◌<◌, ◌≤◌, ◌^◌, IsUtf8, ℕ, ℤ, pos, negsuc, true, false, List, [], ◌∷◌, All, map, Some, Ok}
+use Rattle.std.specs.Prelude.{◌≡◌, ◌<◌, ◌≤◌, ◌^◌, ◌⊎◌, IsUtf8, ℕ, ℤ, pos, negsuc, true, false, List, [], ◌∷◌, All, map, IsSome, Some, Ok}
 use Rattle.serde_json.specs.Read.{read}
 use Rattle.sw_rows.specs.Header.{Column, IsSchema, has_texts, kinds_of}
 use Rattle.sw_rows.specs.Tables.{padded}
 use Rattle.sw_rows.specs.Domains.{Domain}
+use Rattle.sw_rows.specs.Domains as kind
+use Rattle.sw_rows.specs.Texts.{text_at}
 use Rattle.sw_table.specs.declared.row.Row.{Row}
 use Rattle.sw_rows.specs.declared.query.Call.{Call}
 use Rattle.sw_lang.specs.Grammar.{IsLine}
@@ -13,7 +15,7 @@ use Rattle.sw_spine.specs.declared.history.Entry.{Entry}
 use Rattle.sw_spine.specs.declared.history.State.{State}
 use Rattle.sw_spine.specs.declared.history.State.TheVariants as state
 use Rattle.sw_spine.specs.declared.spine.TheConstants.{MOST_SESSIONS}
-use Rattle.sw_histories.specs.RecordReading.{of_kind, record_at}
+use Rattle.sw_histories.specs.RecordReading.{record_at}
 use Rattle.sw_histories.specs.RecordText.{record_data, record_text}
 
 -- a number of 64 signed bits
@@ -33,12 +35,19 @@ TextsAreJson = (h : History) → HasWords h → read (record_text h) ≡ Some (r
 
 -- ---- records of runs
 
--- numbers of 64 bits, one for each kind, of flags 0 or 1
+-- a cell of the kind: a number of 64 bits, of flags 0 or 1, and of texts a code that some text has
+abbrev pub IsCellOf : Domain → ℤ → Type 0
+IsCellOf kind.Int z = IsWord z
+IsCellOf (kind.Fix places) z = IsWord z
+IsCellOf kind.Flag z = (z ≡ pos 0) ⊎ (z ≡ pos 1)
+IsCellOf (kind.Text texts) z = IsSome (text_at texts z)
+
+-- cells, one for each kind
 abbrev pub AreCells : List Domain → List ℤ → Type 0
 AreCells [] [] = Unit {0}
 AreCells [] (z ∷ zs) = ⊥
 AreCells (k ∷ ks) [] = ⊥
-AreCells (k ∷ ks) (z ∷ zs) = (IsWord z × (of_kind k z ≡ Some z)) × AreCells ks zs
+AreCells (k ∷ ks) (z ∷ zs) = IsCellOf k z × AreCells ks zs
 
 -- a cell for each attribute, and 0 after the last one
 abbrev pub HasCells : List Domain → Row → Type 0

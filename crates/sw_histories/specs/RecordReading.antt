@@ -1,5 +1,5 @@
 -- Which text is a record's file, and what is the first fault of another one. Line 0 is what stands outside the entries.
-use Rattle.std.specs.Prelude.{◌≡◌, ◌<◌, ◌≤◌, ◌+◌, ◌++◌, ◌==◌, ◌&&◌, ◌||◌, ℕ, ℤ, pos, Bool, true, false, List, [], ◌∷◌, bytes_eq, codes, length, nat_le, Option, Some, None, Result, Ok, Err, option_and_then, option_map, is_some, if◌then◌else◌}
+use Rattle.std.specs.Prelude.{◌≡◌, ◌<◌, ◌≤◌, ◌+◌, ◌++◌, ◌==◌, ◌&&◌, ◌||◌, ℕ, ℤ, pos, Bool, true, false, List, [], ◌∷◌, bytes_eq, codes, filter_map, length, nat_le, Option, Some, None, Result, Ok, Err, option_and_then, option_map, is_some, unwrap_or, if◌then◌else◌}
 use Rattle.std.specs.Ordering.{int_eq}
 use Rattle.std.specs.Result.{result_ok}
 use Rattle.std.specs.Str.{is_utf8}
@@ -9,6 +9,7 @@ use Rattle.serde_json.specs.Find.{as_array, as_i64, as_number, as_str, as_u64, g
 use Rattle.serde_json.specs.Read.{read}
 use Rattle.sw_rows.specs.Header.{Column, header_of, kinds_of}
 use Rattle.sw_rows.specs.Tables.{padded, row_of}
+use Rattle.sw_rows.specs.Texts.{code_of, is_text}
 use Rattle.sw_rows.specs.Domains.{Domain}
 use Rattle.sw_rows.specs.Domains as kind
 use Rattle.sw_table.specs.declared.row.Row.{Row}
@@ -16,6 +17,7 @@ use Rattle.sw_rows.specs.declared.query.Call.{Call}
 use Rattle.sw_rows.specs.declared.refusal.Refusal.{Refusal}
 use Rattle.sw_rows.specs.declared.refusal.Refusal.TheVariants.{BadLine, TooMany}
 use Rattle.sw_rows.specs.declared.refusal.Why.TheVariants as why
+use Rattle.sw_lang.specs.Learning.{knowing, learned}
 use Rattle.sw_lang.specs.Reading.{line_at, refused}
 use Rattle.sw_rows.specs.declared.table.TheConstants.{MOST_ROWS}
 use Rattle.sw_spine.specs.declared.spine.TheConstants.{MOST_ENTRIES, MOST_SESSIONS}
@@ -24,6 +26,7 @@ use Rattle.sw_spine.specs.History.{History, entry, is_select}
 use Rattle.sw_spine.specs.declared.history.Entry.{Entry}
 use Rattle.sw_spine.specs.declared.history.State.{State}
 use Rattle.sw_spine.specs.declared.history.State.TheVariants as state
+use Rattle.sw_histories.specs.RecordText.{format_of}
 use Rattle.sw_histories.specs.Told.{◌>>=◌}
 
 -- ---- parts of a value
@@ -60,8 +63,9 @@ texts_after done (d ∷ ds) = option_and_then (λ t. texts_after (done ++ t ∷ 
 abbrev pub texts_at : List ℕ → Data → Option (List (List ℕ))
 texts_at name d = option_and_then (texts_after []) (array_at name d)
 
-abbrev pub columns_in : Data → Option (List Column)
-columns_in d = option_and_then (λ ts. result_ok (header_of ts)) (texts_at (codes "attributes") d)
+-- the attributes of the header
+abbrev pub header_in : Data → Option (List Column)
+header_in d = option_and_then (λ ts. result_ok (header_of ts)) (texts_at (codes "attributes") d)
 
 abbrev pub in_range : ℕ → ℕ → ℕ → Option ℕ
 in_range least most n = if nat_le least n && nat_le n most then Some n else None
@@ -70,9 +74,30 @@ in_range least most n = if nat_le least n && nat_le n most then Some n else None
 abbrev pub limit_in : Data → Option ℕ
 limit_in d = option_and_then (in_range 1 MOST_ROWS) (number_at (codes "limit") d)
 
--- the number 1
-abbrev pub has_format : Data → Bool
-has_format d = is_some (option_and_then (in_range 1 1) (number_at (codes "format") d))
+-- the number 1 or 2, and 2 where an attribute is of texts
+abbrev pub has_format : List Column → Data → Bool
+has_format columns d = is_some (option_and_then (in_range (format_of columns) 2) (number_at (codes "format") d))
+
+abbrev pub columns_under : Data → List Column → Option (List Column)
+columns_under d columns = if has_format columns d then Some columns else None
+
+-- those attributes, where the format is one for them
+abbrev pub columns_in : Data → Option (List Column)
+columns_in d = option_and_then (columns_under d) (header_in d)
+
+-- ---- rows
+
+-- the text that a value is, where it may be the text of a cell
+abbrev pub text_in : Data → Option (List ℕ)
+text_in d = option_and_then (λ s. if is_text s then Some s else None) (as_str d)
+
+-- the texts of a row, from the left
+abbrev pub row_texts : Data → List (List ℕ)
+row_texts d = unwrap_or (option_map (λ ds. filter_map text_in (items_list ds)) (as_array d)) []
+
+-- attributes that know the texts of a row
+abbrev pub row_learned : List Column → Data → List Column
+row_learned columns d = knowing (row_texts d) columns
 
 -- a number is a cell of a kind: of flags 0 or 1, and of texts none
 abbrev pub of_kind : Domain → ℤ → Option ℤ
@@ -82,8 +107,15 @@ of_kind kind.Flag z = if int_eq z (pos 0) || int_eq z (pos 1) then Some z else N
 of_kind (kind.Text texts) z = None
 
 -- a whole number of 64 signed bits that is a cell of the kind
+abbrev pub number_in : Domain → Data → Option ℤ
+number_in k d = option_and_then (of_kind k) (option_and_then as_i64 (as_number d))
+
+-- a cell of the kind: of texts the code of a text, of another one a number
 abbrev pub cell_in : Domain → Data → Option ℤ
-cell_in k d = option_and_then (of_kind k) (option_and_then as_i64 (as_number d))
+cell_in kind.Int d = number_in kind.Int d
+cell_in (kind.Fix places) d = number_in (kind.Fix places) d
+cell_in kind.Flag d = number_in kind.Flag d
+cell_in (kind.Text texts) d = option_and_then (λ t. option_map pos (code_of texts t)) (text_in d)
 
 -- the cells of kinds, after those that stand before
 abbrev pub cells_after : List ℤ → List Domain → List Data → Option (List ℤ)
@@ -101,17 +133,21 @@ row_in kinds d = option_and_then (λ ds. cells_of kinds (items_list ds)) (as_arr
 abbrev pub with_row : List Row → List ℤ → List Row
 with_row done cells = done ++ row_of (length done + 1) cells ∷ []
 
--- rows, after those that stand before; their keys are 1, 2, 3 and so on
-abbrev pub rows_after : List Domain → List Row → List Data → Option (List Row)
-rows_after kinds done [] = Some done
-rows_after kinds done (d ∷ ds) = option_and_then (λ cells. rows_after kinds (with_row done cells) ds) (row_in kinds d)
+-- rows, after those that stand before, beside the attributes that know their texts; keys are 1, 2, 3 and so on
+abbrev pub rows_after : List Column → List Row → List Data → Option (List Column × List Row)
+rows_after columns done [] = Some (columns, done)
+rows_after columns done (d ∷ ds) =
+    option_and_then (λ cells. rows_after (row_learned columns d) (with_row done cells) ds)
+    (row_in (kinds_of (row_learned columns d)) d)
 
 -- at most as many as the limit
-abbrev pub rows_up_to : List Domain → ℕ → List Data → Option (List Row)
-rows_up_to kinds limit ds = if nat_le (length ds) limit then rows_after kinds [] ds else None
+abbrev pub rows_up_to : List Column → ℕ → List Data → Option (List Column × List Row)
+rows_up_to columns limit ds = if nat_le (length ds) limit then rows_after columns [] ds else None
 
-abbrev pub rows_in : List Domain → ℕ → Data → Option (List Row)
-rows_in kinds limit d = option_and_then (rows_up_to kinds limit) (array_at (codes "rows") d)
+abbrev pub rows_in : List Column → ℕ → Data → Option (List Column × List Row)
+rows_in columns limit d = option_and_then (rows_up_to columns limit) (array_at (codes "rows") d)
+
+-- ---- the part outside the entries
 
 -- the table, the limit, and the entries that are not read yet
 pub record Frame : Type 0 where
@@ -123,13 +159,13 @@ pub record Frame : Type 0 where
 abbrev pub frame : List Column → ℕ → List Row → List Data → Frame
 frame columns limit rows items = record { columns = columns; limit = limit; rows = rows; items = items }
 
--- the frame of these columns, this limit and these rows
-abbrev pub frame_with : Data → List Column → ℕ → List Row → Option Frame
-frame_with d columns limit rows = option_map (λ items. frame columns limit rows items) (array_at (codes "entries") d)
+-- the frame of this limit, and of these rows beside the attributes that know their texts
+abbrev pub frame_with : Data → ℕ → List Column × List Row → Option Frame
+frame_with d limit r = option_map (λ items. frame r.0 limit r.1 items) (array_at (codes "entries") d)
 
 -- of these columns and this limit
 abbrev pub frame_within : Data → List Column → ℕ → Option Frame
-frame_within d columns limit = option_and_then (frame_with d columns limit) (rows_in (kinds_of columns) limit d)
+frame_within d columns limit = option_and_then (frame_with d limit) (rows_in columns limit d)
 
 -- of these columns
 abbrev pub frame_by : Data → List Column → Option Frame
@@ -140,7 +176,7 @@ frame_in d = option_and_then (frame_by d) (columns_in d)
 
 -- an object of exactly these five members
 abbrev pub frame_of : Data → Option Frame
-frame_of d = if has_members 5 d && has_format d then frame_in d else None
+frame_of d = if has_members 5 d then frame_in d else None
 
 -- ---- entries
 
@@ -160,9 +196,9 @@ session_call d = option_and_then (λ s. text_at (codes "call") d) (get (codes "s
 abbrev pub has_call : Data → Option (List ℕ)
 has_call d = if has_members 3 d then option_and_then (λ r. session_call d) (get (codes "reply") d) else None
 
--- a line that is no call is no entry's
+-- the call of a line, whose texts are made known first; a line that is no call is no entry's
 abbrev pub call_in : List Column → ℕ → List ℕ → Result Call Refusal
-call_in columns n text = refused n (line_at columns text) >>= or_fault n
+call_in columns n text = refused n (line_at (learned columns text) text) >>= or_fault n
 
 -- from 1 to 1,024
 abbrev pub session_in : Data → Option ℕ
@@ -194,22 +230,26 @@ entry_with c d = option_and_then (λ s. option_map (λ st. entry s c st) (state_
 abbrev pub entry_in : List Column → ℕ → Data → Result Entry Refusal
 entry_in columns n d = or_fault n (has_call d) >>= λ text. (call_in columns n text >>= λ c. or_fault n (entry_with c d))
 
--- entries, after those that stand before
-abbrev pub entries_after : List Column → List Entry → List Data → Result (List Entry) Refusal
-entries_after columns done [] = Ok done
+-- attributes that know the texts of an entry's call
+abbrev pub entry_learned : List Column → Data → List Column
+entry_learned columns d = learned columns (unwrap_or (text_at (codes "call") d) [])
+
+-- entries, after those that stand before, beside the attributes that know the texts of their calls
+abbrev pub entries_after : List Column → List Entry → List Data → Result (List Column × List Entry) Refusal
+entries_after columns done [] = Ok (columns, done)
 entries_after columns done (d ∷ ds) =
-    entry_in columns (length done + 1) d >>= λ e. entries_after columns (done ++ e ∷ []) ds
+    entry_in columns (length done + 1) d >>= λ e. entries_after (entry_learned columns d) (done ++ e ∷ []) ds
 
 -- ---- the file
 
-abbrev pub history_with : Frame → List Entry → History
-history_with f es = record { columns = f.columns; rows = f.rows; limit = f.limit; entries = es }
+abbrev pub history_with : Frame → List Column × List Entry → History
+history_with f r = record { columns = r.0; rows = f.rows; limit = f.limit; entries = r.1 }
 
 -- the number of entries is looked at before them
 abbrev pub entries_of : Frame → Result History Refusal
 entries_of f =
     if nat_le (length f.items) MOST_ENTRIES
-    then (entries_after f.columns [] f.items >>= λ es. Ok (history_with f es))
+    then (entries_after f.columns [] f.items >>= λ r. Ok (history_with f r))
     else Err (TooMany MOST_ENTRIES)
 
 abbrev pub history_of : Data → Result History Refusal

@@ -3,39 +3,45 @@
 use Rattle.std.specs.Prelude.{◌≡◌, ◌≤◌, IsUtf8, ℕ, true, List, [], ◌∷◌, codes, length, Some}
 use Rattle.serde_json.specs.Data.{Data}
 use Rattle.serde_json.specs.Read.{read}
-use Rattle.sw_rows.specs.Header.{Column, kinds_of}
+use Rattle.sw_rows.specs.Header.{Column}
 use Rattle.sw_lang.specs.Grammar.{IsLine}
+use Rattle.sw_lang.specs.Learning.{learned}
 use Rattle.sw_spine.specs.History.{History}
 use Rattle.sw_spine.specs.declared.history.Entry.{Entry}
 use Rattle.sw_spine.specs.declared.spine.TheConstants.{MOST_ENTRIES}
-use Rattle.sw_histories.specs.RecordReading.{array_at, columns_in, has_format, has_members, limit_in, rows_in, session_in, state_in, text_at}
+use Rattle.sw_histories.specs.RecordReading.{array_at, entry_learned, has_format, has_members, header_in, limit_in, rows_in, session_in, state_in, text_at}
 
--- an object of three members: a line that is the call, the session's number, and what has become of the call
+-- an object of three members: a line that is the call, where its texts are known, the session's number, and what has
+-- become of the call
 pub record IsEntry (columns : List Column) (d : Data) (e : Entry) : Type 0 where
   pub members : has_members 3 d ≡ true
   pub text : List ℕ
   pub text_is : text_at (codes "call") d ≡ Some text
-  pub call : IsLine columns text (Some e.call)
+  pub call : IsLine (learned columns text) text (Some e.call)
   pub session : session_in d ≡ Some e.session
   pub state : state_in e.call d ≡ Some e.state
 
-abbrev pub AreEntries : List Column → List Data → List Entry → Type 0
-AreEntries columns [] [] = Unit {0}
-AreEntries columns [] (e ∷ es) = ⊥
-AreEntries columns (d ∷ ds) [] = ⊥
-AreEntries columns (d ∷ ds) (e ∷ es) = IsEntry columns d e × AreEntries columns ds es
+-- each value is an entry, over the attributes that know the texts of the calls before it; the last ones know all
+abbrev pub AreEntries : List Column → List Data → List Column → List Entry → Type 0
+AreEntries columns [] last [] = last ≡ columns
+AreEntries columns [] last (e ∷ es) = ⊥
+AreEntries columns (d ∷ ds) last [] = ⊥
+AreEntries columns (d ∷ ds) last (e ∷ es) = IsEntry columns d e × AreEntries (entry_learned columns d) ds last es
 
--- a JSON object of five members: the format, the header, the limit, the opening rows, and at most 1,048,576 entries
+-- a JSON object of five members: the format, the header, the limit, the opening rows, and at most 1,048,576 entries;
+-- texts are known from the rows on, and then from call to call
 pub record IsRecord (bytes : List ℕ) (h : History) : Type 0 where
   pub utf8 : IsUtf8 bytes
   pub value : Data
   pub json : read bytes ≡ Some value
   pub members : has_members 5 value ≡ true
-  pub format : has_format value ≡ true
-  pub columns : columns_in value ≡ Some h.columns
+  pub named : List Column
+  pub header : header_in value ≡ Some named
+  pub format : has_format named value ≡ true
   pub limit : limit_in value ≡ Some h.limit
-  pub rows : rows_in (kinds_of h.columns) h.limit value ≡ Some h.rows
+  pub known : List Column
+  pub rows : rows_in named h.limit value ≡ Some (known, h.rows)
   pub items : List Data
   pub items_are : array_at (codes "entries") value ≡ Some items
   pub few : length items ≤ MOST_ENTRIES
-  pub entries : AreEntries h.columns items h.entries
+  pub entries : AreEntries known items h.columns h.entries

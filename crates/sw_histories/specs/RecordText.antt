@@ -1,11 +1,14 @@
 -- The text of a record: a JSON object, in which numbers are whole.
-use Rattle.std.specs.Prelude.{◌≡◌, ◌++◌, Bool, ℕ, ℤ, List, codes, decimal, length, map, take, Option, Result, IfErr, OnOk}
+use Rattle.std.specs.Prelude.{◌≡◌, ◌++◌, Bool, ℕ, ℤ, List, [], ◌∷◌, codes, decimal, map, unwrap_or, if◌then◌else◌, Option, Result, IfErr, OnOk}
 use Rattle.serde_json.specs.Data.{Data, array, member, no_members, number, object, string, unsigned}
 use Rattle.serde_json.specs.Find.{of_integer}
 use Rattle.serde_json.specs.View.{items_of}
 use Rattle.serde_json.specs.Written.{comma_if, compact_text}
-use Rattle.sw_rows.specs.Header.{Column}
+use Rattle.sw_rows.specs.Domains.{Domain}
+use Rattle.sw_rows.specs.Domains as kind
+use Rattle.sw_rows.specs.Header.{Column, has_texts, kinds_of}
 use Rattle.sw_rows.specs.Spelling.{kind_text}
+use Rattle.sw_rows.specs.Texts.{text_at}
 use Rattle.sw_table.specs.declared.row.Row.{Row}
 use Rattle.sw_rows.specs.declared.query.Call.{Call}
 use Rattle.sw_rows.specs.Gives.{Raised}
@@ -33,15 +36,28 @@ texts_data ts = list_data (map (λ t. string t) ts)
 abbrev pub attributes_data : List Column → Data
 attributes_data columns = texts_data (map attribute_text columns)
 
-abbrev pub cell_data : ℤ → Data
-cell_data z = number (of_integer z)
+-- a stored cell as a number; of texts the text of the code, and an empty one where no text has it
+abbrev pub cell_data : Domain → ℤ → Data
+cell_data kind.Int z = number (of_integer z)
+cell_data (kind.Fix places) z = number (of_integer z)
+cell_data kind.Flag z = number (of_integer z)
+cell_data (kind.Text texts) z = string (unwrap_or (text_at texts z) [])
 
--- the stored cells of a row of n attributes
-abbrev pub row_data : ℕ → Row → Data
-row_data n r = list_data (map cell_data (take n r.cells))
+-- a cell of each kind
+abbrev pub cells_data : List Domain → List ℤ → List Data
+cells_data [] zs = []
+cells_data (k ∷ ks) [] = []
+cells_data (k ∷ ks) (z ∷ zs) = cell_data k z ∷ cells_data ks zs
 
-abbrev pub rows_data : ℕ → List Row → Data
-rows_data n rs = list_data (map (row_data n) rs)
+abbrev pub row_data : List Domain → Row → Data
+row_data kinds r = list_data (cells_data kinds r.cells)
+
+abbrev pub rows_data : List Domain → List Row → Data
+rows_data kinds rs = list_data (map (row_data kinds) rs)
+
+-- the number of the format, which tells whether cells may be texts
+abbrev pub format_of : List Column → ℕ
+format_of columns = if has_texts columns then 2 else 1
 
 -- the lines of a reply, or the word for a call that has none
 abbrev pub state_data : List Column → Call → State → Data
@@ -60,18 +76,18 @@ abbrev pub entries_data : List Column → List Entry → Data
 entries_data columns es = list_data (map (entry_data columns) es)
 
 -- the five members of the file
-abbrev pub whole_data : Data → Data → ℕ → Data → Data
-whole_data attributes entries limit rows =
+abbrev pub whole_data : Data → Data → ℕ → ℕ → Data → Data
+whole_data attributes entries format limit rows =
     object (member (codes "attributes") attributes
     (member (codes "entries") entries
-    (member (codes "format") (number (unsigned 1))
+    (member (codes "format") (number (unsigned format))
     (member (codes "limit") (number (unsigned limit))
     (member (codes "rows") rows no_members)))))
 
 abbrev pub record_data : History → Data
 record_data h =
     whole_data (attributes_data h.columns) (entries_data h.columns h.entries)
-    h.limit (rows_data (length h.columns) h.rows)
+    (format_of h.columns) h.limit (rows_data (kinds_of h.columns) h.rows)
 
 -- the bytes of a record's file: no blanks, and in each object the keys ascend
 unfoldable pub record_text : History → List ℕ
@@ -82,7 +98,7 @@ abbrev pub front_text : List ℕ → History → List ℕ
 front_text before h =
     before ++ codes "{\"attributes\":" ++ compact_text (attributes_data h.columns)
     ++ codes ",\"entries\":" ++ compact_text (entries_data h.columns h.entries)
-    ++ codes ",\"format\":1,\"limit\":" ++ decimal h.limit
+    ++ codes ",\"format\":" ++ decimal (format_of h.columns) ++ codes ",\"limit\":" ++ decimal h.limit
 
 -- an item of an array: a comma, where one stands before it, and its text
 abbrev pub item_text : Bool → Data → List ℕ

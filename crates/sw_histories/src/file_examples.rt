@@ -1,10 +1,10 @@
-//! A worked example: the file that the definitions give for a history that is written out, and the history that they
-//! give for the file.
+//! Worked examples: the files that the definitions give for histories that are written out, and the history that they
+//! give for a file.
 //!
-//! The function here does nothing. Its contract is the example, and the check computes it.
+//! The functions here do nothing. Their contracts are the examples, and the check computes them.
 
 ghost use Rattle.std.specs.Prelude.{◌≡◌, ◌∷◌, [], codes, Ok};
-ghost use Rattle.sw_histories.specs.FileExamples.{counted, counted_file};
+ghost use Rattle.sw_histories.specs.FileExamples.{counted, counted_file, visited, visited_file};
 ghost use Rattle.sw_histories.specs.ReadBack.{IsOfRun};
 ghost use Rattle.sw_histories.specs.RecordReading.{record_at};
 ghost use Rattle.sw_histories.specs.RecordText.{record_text};
@@ -18,4 +18,12 @@ pub fn one_count()
     ensures again { record_text (counted (State.Lines (codes "4" ∷ []))) ≡ counted_file }
     ensures of_run { IsOfRun (counted (State.Answered (Reply.Count 4))) }
     ensures read { record_at counted_file ≡ Ok (counted (State.Lines (codes "4" ∷ []))) }
+{}
+
+/// Two calls on a table of texts: its file has format 2, and shows cells and calls with their texts.
+pub fn two_calls_on_cities()
+    ensures written { record_text (visited (State.Answered (Reply.Count 2)) (State.Answered (Reply.Inserted 4)))
+        ≡ visited_file }
+    ensures again { record_text (visited (State.Lines (codes "2" ∷ [])) (State.Lines (codes "key 4" ∷ [])))
+        ≡ visited_file }
 {}

@@ -1,28 +1,35 @@
 //! A record is read from a JSON text.
 
-ghost use Rattle.std.specs.Prelude.{◌≡◌, ◌≤◌, ℕ, List, [], Some, None, if◌then◌else◌, length, map, option_and_then, option_map, string_bytes, IfErr, IfOk, IfSome};
+ghost use Rattle.std.specs.Prelude.{◌≡◌, ◌≤◌, ℕ, List, [], Some, None, true, if◌then◌else◌, filter_map, length, map, option_and_then, option_map, string_bytes, IfErr, IfOk, IfSome, OnOk};
+ghost use Rattle.std.specs.List.{cons_option};
 ghost use Rattle.json.specs.Lex.{tokens};
 ghost use Rattle.serde_json.specs.Data.{object};
 ghost use Rattle.serde_json.specs.View.{members_view, view};
 ghost use Rattle.sw_rows.specs.Domains.{domain};
-ghost use Rattle.sw_rows.specs.Header.{kinds_of};
+ghost use Rattle.sw_rows.specs.Domains as kind;
+ghost use Rattle.sw_rows.specs.Header.{has_texts, kinds_of, texts_of};
+ghost use Rattle.sw_rows.specs.Texts.{is_text};
 ghost use Rattle.sw_rows.specs.declared.refusal.Refusal.TheVariants.{BadLine};
 ghost use Rattle.sw_rows.specs.declared.refusal.Why.TheVariants as why;
 ghost use Rattle.sw_rows.specs.declared.table.TheConstants.{MOST_ROWS};
+ghost use Rattle.sw_lang.specs.Learning.{knowing, learned};
 ghost use Rattle.sw_spine.specs.History.{AllBelow, CallsBelow};
 ghost use Rattle.sw_spine.specs.declared.spine.TheConstants.{MOST_ENTRIES};
 ghost use Rattle.sw_histories.specs.FromTokens.{AreCounted, AreFew};
 ghost use Rattle.sw_histories.specs.Outlines.{IsOutlineOf, IsWithinMost, ReadsEntries, ReadsRows, ReadsRowsUpTo, front_as, front_of, limit_of, outside_in, read_as, record_in, values_at, values_in};
 ghost use Rattle.sw_histories.specs.Told.{Reads, TellsText};
-ghost use Rattle.sw_histories.specs.RecordReading.{array_at, call_in, cell_in, cells_of, columns_in, entry_in, has_call, has_members, in_range, number_at, of_kind, record_at, row_in, state_in, text_at, texts_after, word_in};
+ghost use Rattle.sw_histories.specs.RecordReading.{array_at, call_in, cell_in, cells_of, columns_in, entry_in, entry_learned, has_call, has_members, header_in, in_range, number_at, number_in, of_kind, record_at, row_in, row_learned, state_in, text_at, text_in, texts_after, word_in};
 
 use crate::outline::{ItemsAt, Outline, enter, read_outline};
 use crate::values::{NoValue, read};
+use crate::writing::format_of;
 use json::{Reader, Scratch};
 use serde_json::{Map, Value};
 use std::alloc::{AllocError, Global};
 use sw_lang::parse_line;
-use sw_rows::{Call, Kind, MOST_ROWS, PackedRows, Refusal, Row, Schema, Why};
+use sw_rows::{
+    Call, Kind, MOST_ROWS, MOST_TEXTS, PackedRows, Refusal, Row, Schema, Why, read_text,
+};
 use sw_spine::{Entry, Lines, MOST_ENTRIES, MOST_SESSIONS, Record, State};
 
 fn no_history(line: u32) -> Refusal
@@ -82,8 +89,8 @@ fn texts<'a>(alloc: Global, items: &'a [Value]) -> Result<Option<Vec<&'a str>>, 
 }
 
 /// The attributes, where they are those of a header.
-fn read_columns(alloc: Global, value: &Value) -> Result<Option<Schema>, AllocError>
-    ensures { IfOk result (λ o. o ≡ columns_in (view value.now)) }
+fn read_header(alloc: Global, value: &Value) -> Result<Option<Schema>, AllocError>
+    ensures { IfOk result (λ o. o ≡ header_in (view value.now)) }
 {
     let Some(items) = array_at(value, "attributes") else {
         return Ok(None);
@@ -98,6 +105,73 @@ fn read_columns(alloc: Global, value: &Value) -> Result<Option<Schema>, AllocErr
     }
 }
 
+/// The same, where the format is one for them.
+fn read_columns(alloc: Global, value: &Value) -> Result<Option<Schema>, AllocError>
+    ensures { IfOk result (λ o. o ≡ columns_in (view value.now)) }
+{
+    let Some(schema) = read_header(alloc, value)? else {
+        return Ok(None);
+    };
+    if number_at(value, "format", format_of(&schema), 2).is_none() {
+        return Ok(None);
+    }
+    Ok(Some(schema))
+}
+
+/// The text that a value is, where it may be the text of a cell.
+fn text_in(value: &Value) -> Option<&str>
+    ensures value { option_map (λ t. t.now) result ≡ text_in (view value.now) }
+    ensures text { IfSome result (λ t. is_text t.now ≡ true) }
+{
+    let text = value.as_str()?;
+    read_text(text.as_bytes())
+}
+
+/// Makes the text that a value is known.
+fn learn_value(schema: &mut Schema, value: &Value) -> Result<(), AllocError>
+    requires { has_texts schema.old ≡ true }
+    ensures { OnOk result (schema.new ≡ knowing (cons_option (text_in (view value.now)) []) schema.old) }
+{
+    // for the prover: the schema is one
+    let _count = schema.len();
+    let Some(text) = text_in(value) else {
+        return Ok(());
+    };
+    if schema.texts_known() as u64 >= MOST_TEXTS {
+        return Ok(());
+    }
+    match schema.add_text(text) {
+        Ok(_) => Ok(()),
+        Err(_) => Err(AllocError),
+    }
+}
+
+fn learn_values(schema: &mut Schema, items: &[Value]) -> Result<(), AllocError>
+    requires { has_texts schema.old ≡ true }
+    ensures { OnOk result (schema.new ≡ knowing (filter_map text_in (map view items.now)) schema.old) }
+{
+    // for the prover: the schema is one
+    let _count = schema.len();
+    let mut rest = items;
+    while let Some((value, later)) = rest.split_first() {
+        learn_value(schema, value)?;
+        rest = later;
+    }
+    Ok(())
+}
+
+/// Makes the texts of a row known, from the left, where an attribute is of texts.
+fn learn_cells(schema: &mut Schema, items: &[Value]) -> Result<(), AllocError>
+    ensures { OnOk result (schema.new ≡ knowing (filter_map text_in (map view items.now)) schema.old) }
+{
+    // for the prover: the schema is one
+    let _count = schema.len();
+    if !schema.has_texts() {
+        return Ok(());
+    }
+    learn_values(schema, items)
+}
+
 fn of_kind(kind: Kind, number: i64) -> bool
     ensures { (texts : List (List ℕ)) → if◌then◌else◌ result (Some number) None ≡ of_kind (domain texts kind) number }
 {
@@ -108,15 +182,33 @@ fn of_kind(kind: Kind, number: i64) -> bool
     }
 }
 
-/// A cell of a kind.
-fn read_cell(kind: Kind, value: &Value) -> Option<i64>
-    ensures { (texts : List (List ℕ)) → result ≡ cell_in (domain texts kind) (view value.now) }
+/// A number that is a cell of a kind.
+fn read_number(kind: Kind, value: &Value) -> Option<i64>
+    ensures { (texts : List (List ℕ)) → result ≡ number_in (domain texts kind) (view value.now) }
 {
     let number = value.as_i64()?;
     if of_kind(kind, number) {
         return Some(number);
     }
     None
+}
+
+/// The code of a text that is known.
+fn read_code(schema: &Schema, value: &Value) -> Option<i64>
+    ensures { result ≡ cell_in (kind.Text (texts_of schema.now)) (view value.now) }
+{
+    let text = text_in(value)?;
+    schema.code(text)
+}
+
+/// A cell of a kind.
+fn read_cell(schema: &Schema, kind: Kind, value: &Value) -> Option<i64>
+    ensures { result ≡ cell_in (domain (texts_of schema.now) kind) (view value.now) }
+{
+    match kind {
+        Kind::Text => read_code(schema, value),
+        Kind::Int | Kind::Fix(_) | Kind::Flag => read_number(kind, value),
+    }
 }
 
 /// The cells of a row, as many as there are attributes.
@@ -129,7 +221,7 @@ fn read_cells(schema: &Schema, items: &[Value]) -> Option<[i64; 8]>
     }
     let mut cells = [0i64; 8];
     for attr in 0..count {
-        match read_cell(schema.kind(attr), &items[attr]) {
+        match read_cell(schema, schema.kind(attr), &items[attr]) {
             Some(cell) => cells[attr] = cell,
             None => return None,
         }
@@ -137,31 +229,40 @@ fn read_cells(schema: &Schema, items: &[Value]) -> Option<[i64; 8]>
     Some(cells)
 }
 
-fn read_row(schema: &Schema, value: &Value) -> Option<[i64; 8]>
-    ensures { result ≡ row_in (kinds_of schema.now) (view value.now) }
+/// The cells of a row, whose texts are made known first.
+fn read_row(schema: &mut Schema, value: &Value) -> Result<Option<[i64; 8]>, AllocError>
+    ensures cells { IfOk result (λ cells. cells ≡ row_in (kinds_of (row_learned schema.old (view value.now)))
+        (view value.now)) }
+    ensures learned { OnOk result (schema.new ≡ row_learned schema.old (view value.now)) }
 {
-    match value.as_array() {
-        Some(items) => read_cells(schema, items.as_slice()),
-        None => None,
-    }
+    // for the prover: the schema is one
+    let _count = schema.len();
+    let Some(items) = value.as_array() else {
+        return Ok(None);
+    };
+    learn_cells(schema, items.as_slice())?;
+    Ok(read_cells(schema, items.as_slice()))
 }
 
 /// The cells of a row, whose value is let go.
-fn take_row(schema: &Schema, value: Value) -> Option<[i64; 8]>
-    ensures { result ≡ row_in (kinds_of schema.now) (view value) }
+fn take_row(schema: &mut Schema, value: Value) -> Result<Option<[i64; 8]>, AllocError>
+    ensures cells { IfOk result (λ cells. cells ≡ row_in (kinds_of (row_learned schema.old (view value)))
+        (view value)) }
+    ensures learned { OnOk result (schema.new ≡ row_learned schema.old (view value)) }
 {
     read_row(schema, &value)
 }
 
-/// Rows in order, up to the end of their array; their keys are 1, 2, 3 and so on. Room for so many is made at once.
+/// Rows in order, up to the end of their array; their keys are 1, 2, 3 and so on, and their texts are known then. Room
+/// for so many is made at once.
 fn read_rows(
     alloc: Global,
-    schema: &Schema,
+    schema: &mut Schema,
     reader: &mut Reader<'_>,
     count: usize,
 ) -> Result<Option<PackedRows>, AllocError>
     requires { AreFew (values_in reader.old) }
-    ensures { IfOk result (ReadsRows (kinds_of schema.now) (values_in reader.old)) }
+    ensures { IfOk result (ReadsRows schema.old schema.new (values_in reader.old)) }
 {
     let mut rows = PackedRows::new(alloc, schema.len());
     rows.reserve(count)?;
@@ -171,7 +272,7 @@ fn read_rows(
             Err(NoValue::Memory) => return Err(AllocError),
             Err(NoValue::Invalid) => unreachable!(),
         };
-        let Some(cells) = take_row(schema, value) else {
+        let Some(cells) = take_row(schema, value)? else {
             return Ok(None);
         };
         let key = rows.len() as u64 + 1;
@@ -183,13 +284,13 @@ fn read_rows(
 /// The rows of a text's object, of which the array stands at a place.
 fn read_rows_at(
     alloc: Global,
-    schema: &Schema,
+    schema: &mut Schema,
     text: &str,
     scratch: &mut Scratch,
     at: ItemsAt,
 ) -> Result<Option<PackedRows>, AllocError>
     requires { AreFew (values_at at.place (tokens text.now)) }
-    ensures { IfOk result (ReadsRows (kinds_of schema.now) (values_at at.place (tokens text.now))) }
+    ensures { IfOk result (ReadsRows schema.old schema.new (values_at at.place (tokens text.now))) }
 {
     let Ok(mut reader) = Reader::new(text, scratch) else {
         return Err(AllocError);
@@ -203,7 +304,7 @@ fn read_rows_at(
 /// The same, at most as many as the limit.
 fn read_rows_up_to(
     alloc: Global,
-    schema: &Schema,
+    schema: &mut Schema,
     limit: u64,
     text: &str,
     scratch: &mut Scratch,
@@ -211,7 +312,7 @@ fn read_rows_up_to(
 ) -> Result<Option<PackedRows>, AllocError>
     requires counted { AreCounted (values_at at.place (tokens text.now)) at.count }
     requires most { limit ≤ MOST_ROWS }
-    ensures { IfOk result (ReadsRowsUpTo (kinds_of schema.now) limit (values_at at.place (tokens text.now))) }
+    ensures { IfOk result (ReadsRowsUpTo schema.old schema.new limit (values_at at.place (tokens text.now))) }
 {
     if at.count as u64 > limit {
         return Ok(None);
@@ -226,12 +327,12 @@ struct Front {
     limit: u64,
 }
 
-/// The limit, where the members, the format and the place of the entries are a history's.
+/// The limit, where the members and the place of the entries are a history's.
 fn read_limit(value: &Value) -> Option<u64>
     ensures told { result ≡ limit_of (view value.now) }
     ensures most { IfSome result (λ limit. limit ≤ MOST_ROWS) }
 {
-    if !has_members(value, 5) || number_at(value, "format", 1, 1).is_none() {
+    if !has_members(value, 5) {
         return None;
     }
     match array_at(value, "entries") {
@@ -287,8 +388,8 @@ fn read_outside(
     let Some(front) = take_front(alloc, outline.members)? else {
         return Ok(None);
     };
-    let Front { schema, limit } = front;
-    match read_rows_up_to(alloc, &schema, limit, text, scratch, at) {
+    let Front { mut schema, limit } = front;
+    match read_rows_up_to(alloc, &mut schema, limit, text, scratch, at) {
         Ok(Some(rows)) => Ok(Some(Outer {
             schema,
             limit,
@@ -321,9 +422,11 @@ fn text_of_call<'a>(value: &'a Value) -> Option<&'a str>
     text_at(value, "call")
 }
 
-fn read_call(alloc: Global, schema: &Schema, line: u32, text: &str) -> Result<Call, Refusal>
-    ensures answers { Reads (λ call. call) result (call_in schema.now line text.now) }
-    ensures below { IfOk result (CallsBelow (length schema.now)) }
+/// The call of a line, whose texts are made known.
+fn read_call(alloc: Global, schema: &mut Schema, line: u32, text: &str) -> Result<Call, Refusal>
+    ensures answers { Reads (λ call. call) result (call_in schema.old line text.now) }
+    ensures learned { OnOk result (schema.new ≡ learned schema.old text.now) }
+    ensures below { IfOk result (CallsBelow (length schema.new)) }
     ensures why { IfErr result TellsText }
 {
     match parse_line(alloc, schema, line, text) {
@@ -385,10 +488,17 @@ fn read_state(alloc: Global, call: &Call, value: &Value) -> Result<Option<State>
     }
 }
 
-/// The entry of a line: its members are looked at first, then its call, then its session and its reply.
-fn read_entry(alloc: Global, schema: &Schema, line: u32, value: &Value) -> Result<Entry, Refusal>
-    ensures answers { Reads (λ e. e) result (entry_in schema.now line (view value.now)) }
-    ensures below { IfOk result (λ e. CallsBelow (length schema.now) e.call) }
+/// The entry of a line: its members are looked at first, then its call, whose texts are made known, then its session
+/// and its reply.
+fn read_entry(
+    alloc: Global,
+    schema: &mut Schema,
+    line: u32,
+    value: &Value,
+) -> Result<Entry, Refusal>
+    ensures answers { Reads (λ e. e) result (entry_in schema.old line (view value.now)) }
+    ensures learned { OnOk result (schema.new ≡ entry_learned schema.old (view value.now)) }
+    ensures below { IfOk result (λ e. CallsBelow (length schema.new) e.call) }
     ensures why { IfErr result TellsText }
 {
     let Some(text) = text_of_call(value) else {
@@ -413,23 +523,24 @@ fn read_entry(alloc: Global, schema: &Schema, line: u32, value: &Value) -> Resul
 }
 
 /// The entry of a line, whose value is let go.
-fn take_entry(alloc: Global, schema: &Schema, line: u32, value: Value) -> Result<Entry, Refusal>
-    ensures answers { Reads (λ e. e) result (entry_in schema.now line (view value)) }
-    ensures below { IfOk result (λ e. CallsBelow (length schema.now) e.call) }
+fn take_entry(alloc: Global, schema: &mut Schema, line: u32, value: Value) -> Result<Entry, Refusal>
+    ensures answers { Reads (λ e. e) result (entry_in schema.old line (view value)) }
+    ensures learned { OnOk result (schema.new ≡ entry_learned schema.old (view value)) }
+    ensures below { IfOk result (λ e. CallsBelow (length schema.new) e.call) }
     ensures why { IfErr result TellsText }
 {
     read_entry(alloc, schema, line, &value)
 }
 
-/// Entries in order, up to the end of their array; they count from 1.
+/// Entries in order, up to the end of their array; they count from 1. The texts of their calls are known then.
 fn read_entries(
     alloc: Global,
-    schema: &Schema,
+    schema: &mut Schema,
     reader: &mut Reader<'_>,
 ) -> Result<Vec<Entry>, Refusal>
     requires { AreFew (values_in reader.old) }
-    ensures answers { ReadsEntries schema.now (values_in reader.old) result }
-    ensures below { IfOk result (λ entries. AllBelow (length schema.now) entries.items) }
+    ensures answers { ReadsEntries schema.old schema.new (values_in reader.old) result }
+    ensures below { IfOk result (λ entries. AllBelow (length schema.new) entries.items) }
     ensures few { IfOk result (λ entries. length entries.items ≤ MOST_ENTRIES) }
     ensures why { IfErr result TellsText }
 {
@@ -456,14 +567,14 @@ fn read_entries(
 /// The entries of a text's object, of which the array is the value of the member after so many others.
 fn read_entries_at(
     alloc: Global,
-    schema: &Schema,
+    schema: &mut Schema,
     text: &str,
     scratch: &mut Scratch,
     place: usize,
 ) -> Result<Vec<Entry>, Refusal>
     requires { AreFew (values_at place (tokens text.now)) }
-    ensures answers { ReadsEntries schema.now (values_at place (tokens text.now)) result }
-    ensures below { IfOk result (λ entries. AllBelow (length schema.now) entries.items) }
+    ensures answers { ReadsEntries schema.old schema.new (values_at place (tokens text.now)) result }
+    ensures below { IfOk result (λ entries. AllBelow (length schema.new) entries.items) }
     ensures few { IfOk result (λ entries. length entries.items ≤ MOST_ENTRIES) }
     ensures why { IfErr result TellsText }
 {
@@ -502,11 +613,16 @@ fn read_outlined(
             limit: MOST_ENTRIES as u64,
         });
     }
-    match read_entries_at(alloc, &outer.schema, text, scratch, entries.place) {
+    let Outer {
+        mut schema,
+        limit,
+        rows,
+    } = outer;
+    match read_entries_at(alloc, &mut schema, text, scratch, entries.place) {
         Ok(entries) => Ok(Record {
-            schema: outer.schema,
-            rows: outer.rows,
-            limit: outer.limit,
+            schema,
+            rows,
+            limit,
             entries,
         }),
         Err(e) => Err(e),
@@ -515,7 +631,7 @@ fn read_outlined(
 
 /// The record of a text. The text is gone through to find what stands where, and then its rows and its entries are read
 /// once the attributes are known, one after another, so that they never stand beside the record as JSON values.
-fn read_text(alloc: Global, text: &str) -> Result<Record, Refusal>
+fn read_record_text(alloc: Global, text: &str) -> Result<Record, Refusal>
     ensures answers { Reads (λ h. h) result (record_in text.now) }
     ensures why { IfErr result TellsText }
 {
@@ -527,18 +643,19 @@ fn read_text(alloc: Global, text: &str) -> Result<Record, Refusal>
     }
 }
 
-/// The record of a file's bytes.
+/// The record of a file's bytes. Its attributes know the texts of the rows, one row after another and each from the left,
+/// and then those of the calls.
 ///
 /// Refused `BadLine` of line 0 and why `History` where the bytes are no such JSON outside the entries; then `TooMany`
 /// of 1,048,576 where there are more entries; then for the first entry, from 1, that is none `BadLine` with its number:
 /// why `History` for its members, its session and its reply, or what `parse_line` finds in its call,
-/// `UnknownAttribute` among it. `NoMemory` otherwise.
+/// `UnknownAttribute` and `TooMany` of `sw_rows::MOST_TEXTS` among it. `NoMemory` otherwise.
 pub fn read_record(alloc: Global, bytes: &[u8]) -> Result<Record, Refusal>
     ensures answers { Reads (λ h. h) result (record_at bytes.now) }
     ensures why { IfErr result TellsText }
 {
     match std::str::from_utf8(bytes) {
-        Ok(text) => read_text(alloc, text),
+        Ok(text) => read_record_text(alloc, text),
         Err(_) => Err(no_history(0)),
     }
 }

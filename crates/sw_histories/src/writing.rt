@@ -1,13 +1,14 @@
 //! A record is written as a JSON text.
 
-ghost use Rattle.std.specs.Prelude.{◌≡◌, ◌≤◌, ℕ, List, decimal, false, map, string_bytes, IfOk, OnOk};
+ghost use Rattle.std.specs.Prelude.{◌≡◌, ◌≤◌, ◌<◌, ℕ, List, decimal, false, length, map, string_bytes, IfOk, OnOk};
 ghost use Rattle.serde_json.specs.View.{view};
 ghost use Rattle.serde_json.specs.Written.{comma_if, compact_text, has_float};
 ghost use Rattle.sw_lang.specs.PrintedCalls.{call_text};
 ghost use Rattle.sw_rows.specs.Cells.{HasPlaces};
 ghost use Rattle.sw_rows.specs.Domains.{domain};
+ghost use Rattle.sw_rows.specs.Header.{kinds_of, texts_of};
 ghost use Rattle.sw_rows.specs.Spelling.{kind_text};
-ghost use Rattle.sw_histories.specs.RecordText.{Puts, WritesText, attribute_text, attributes_data, cell_data, entries_data, entry_data, front_text, item_text, list_data, record_text, row_data, rows_data, state_data, texts_data};
+ghost use Rattle.sw_histories.specs.RecordText.{Puts, WritesText, attribute_text, attributes_data, cell_data, entries_data, entry_data, format_of, front_text, item_text, record_text, row_data, rows_data, state_data, texts_data};
 
 use serde_json::{Value, json};
 use std::alloc::{AllocError, Global};
@@ -78,21 +79,35 @@ fn attributes_value(alloc: Global, schema: &Schema) -> Result<Value, AllocError>
     Ok(Value::Array(items))
 }
 
-fn cells_value(alloc: Global, cells: &[i64]) -> Result<Value, AllocError>
-    ensures { IfOk result (λ v. view v ≡ list_data (map cell_data cells.now)) }
+/// The number of the format in which a record of these attributes is written.
+pub(crate) fn format_of(schema: &Schema) -> u64
+    ensures { result ≡ format_of schema.now }
 {
-    let mut items = Vec::new(alloc);
-    for cell in cells {
-        items.push(Value::from(*cell))?;
-    }
-    Ok(Value::Array(items))
+    if schema.has_texts() { 2 } else { 1 }
 }
 
-fn row_value(alloc: Global, width: usize, row: &Row) -> Result<Value, AllocError>
-    requires { width ≤ 8 }
-    ensures { IfOk result (λ v. view v ≡ row_data width row.now) }
+/// A cell as a number or, of texts, as its text.
+fn cell_value(alloc: Global, schema: &Schema, kind: Kind, cell: i64) -> Result<Value, AllocError>
+    ensures { IfOk result (λ v. view v ≡ cell_data (domain (texts_of schema.now) kind) cell) }
 {
-    cells_value(alloc, &row.cells[..width])
+    match kind {
+        Kind::Text => match schema.text(cell) {
+            Some(text) => Value::try_from_str(alloc, text),
+            None => Value::try_from_str(alloc, ""),
+        },
+        Kind::Int | Kind::Fix(_) | Kind::Flag => Ok(Value::from(cell)),
+    }
+}
+
+fn row_value(alloc: Global, schema: &Schema, row: &Row) -> Result<Value, AllocError>
+    ensures { IfOk result (λ v. view v ≡ row_data (kinds_of schema.now) row.now) }
+{
+    let mut items = Vec::new(alloc);
+    for attr in 0..schema.len() {
+        let cell = cell_value(alloc, schema, schema.kind(attr), row.cells[attr])?;
+        items.push(cell)?;
+    }
+    Ok(Value::Array(items))
 }
 
 fn lines_value(alloc: Global, lines: &[String]) -> Result<Value, AllocError>
@@ -189,15 +204,14 @@ fn put_entries(
 
 fn put_row(
     alloc: Global,
-    width: usize,
+    schema: &Schema,
     row: &Row,
     is_later: bool,
     text: &mut Vec<u8>,
 ) -> Result<(), AllocError>
-    requires { width ≤ 8 }
-    ensures { Puts result text.old.items text.new.items (item_text is_later (row_data width row.now)) }
+    ensures { Puts result text.old.items text.new.items (item_text is_later (row_data (kinds_of schema.now) row.now)) }
 {
-    let value = row_value(alloc, width, row)?;
+    let value = row_value(alloc, schema, row)?;
     put_comma(is_later, text)?;
     put_value(alloc, &value, text)
 }
@@ -205,17 +219,17 @@ fn put_row(
 /// Puts rows as an array.
 fn put_rows(
     alloc: Global,
-    width: usize,
+    schema: &Schema,
     rows: &PackedRows,
     text: &mut Vec<u8>,
 ) -> Result<(), AllocError>
-    requires { width ≤ 8 }
-    ensures { Puts result text.old.items text.new.items (compact_text (rows_data width rows.now.items)) }
+    ensures { Puts result text.old.items text.new.items
+        (compact_text (rows_data (kinds_of schema.now) rows.now.items)) }
 {
     text.push(b'[')?;
     let mut is_later = false;
     for place in 0..rows.len() {
-        put_row(alloc, width, &rows.get(place), is_later, text)?;
+        put_row(alloc, schema, &rows.get(place), is_later, text)?;
         is_later = true;
     }
     text.push(b']')?;
@@ -230,10 +244,10 @@ fn put_attributes(alloc: Global, schema: &Schema, text: &mut Vec<u8>) -> Result<
     put_value(alloc, &value, text)
 }
 
-fn put_limit(alloc: Global, limit: u64, text: &mut Vec<u8>) -> Result<(), AllocError>
-    ensures { Puts result text.old.items text.new.items (decimal limit) }
+fn put_number(alloc: Global, number: u64, text: &mut Vec<u8>) -> Result<(), AllocError>
+    ensures { Puts result text.old.items text.new.items (decimal number) }
 {
-    let value = Value::from(limit);
+    let value = Value::from(number);
     put_value(alloc, &value, text)
 }
 
@@ -245,25 +259,27 @@ fn put_front(alloc: Global, history: &Record, text: &mut Vec<u8>) -> Result<(), 
     put_attributes(alloc, &history.schema, text)?;
     text.extend_from_slice(b",\"entries\":")?;
     put_entries(alloc, &history.schema, history.entries.as_slice(), text)?;
-    text.extend_from_slice(b",\"format\":1,\"limit\":")?;
-    put_limit(alloc, history.limit, text)?;
+    text.extend_from_slice(b",\"format\":")?;
+    put_number(alloc, format_of(&history.schema), text)?;
+    text.extend_from_slice(b",\"limit\":")?;
+    put_number(alloc, history.limit, text)?;
     Ok(())
 }
 
 fn record_bytes(alloc: Global, history: &Record) -> Result<Vec<u8>, AllocError>
     ensures { IfOk result (λ text. text.items ≡ record_text history.now) }
 {
-    let width = history.schema.len();
     let mut text = Vec::new(alloc);
     put_front(alloc, history, &mut text)?;
     text.extend_from_slice(b",\"rows\":")?;
-    put_rows(alloc, width, &history.rows, &mut text)?;
+    put_rows(alloc, &history.schema, &history.rows, &mut text)?;
     text.push(b'}')?;
     Ok(text)
 }
 
 /// Writes the text of a record's file: one JSON object without blanks, in which keys ascend. An answered entry is
-/// written with the lines of its reply.
+/// written with the lines of its reply, and a cell of texts as its text. The format is 2 where an attribute is of texts,
+/// and 1 elsewhere.
 ///
 /// Refused `NoMemory`, and then nothing was written, or `Output` where the sink fails, and then a beginning of the text
 /// was.

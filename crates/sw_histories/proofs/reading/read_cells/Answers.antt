@@ -17,7 +17,7 @@ returns-in-None c =
     let vs = c.args.items.now in
     let i = c.loop-attr.attr in
     let long : length vs ≡ length kinds = grind (arith, common_steps) in
-    let none = cell_none (take i c.loop-attr.cells) kinds vs i (domain (texts_of c.args.schema.now) c.kind.result) c.index-items-attr.result c.kind.ensures.value (omega arith) c.index-items-attr.is (c.in-None.ensures (texts_of c.args.schema.now)) in
+    let none = cell_none (take i c.loop-attr.cells) kinds vs i (domain (texts_of c.args.schema.now) c.kind.result) c.index-items-attr.result c.kind.ensures.value (omega arith) c.index-items-attr.is c.in-None.ensures in
     sym (cells_long kinds vs long ∙ ap (option_map padded) (sym c.loop-attr.invariant.read ∙ none))
 
 pub loop-attr-preserved : goal.loop-attr-preserved
@@ -29,7 +29,7 @@ loop-attr-preserved c =
     let fits : FitsSigned w64 z = search rules in
     let kept : to_z w64 (of_z w64 z) ≡ z = to_z-of_z w64 z fits in
     let lt : i < length c.loop-attr.cells = omega arith in
-    let some = cell_some (take i c.loop-attr.cells) kinds vs i (domain (texts_of c.args.schema.now) c.kind.result) c.index-items-attr.result z c.kind.ensures.value (omega arith) c.index-items-attr.is (c.in-Some.ensures (texts_of c.args.schema.now)) in
+    let some = cell_some (take i c.loop-attr.cells) kinds vs i (domain (texts_of c.args.schema.now) c.kind.result) c.index-items-attr.result z c.kind.ensures.value (omega arith) c.index-items-attr.is c.in-Some.ensures in
     record {
       counts = c.loop-attr.invariant.counts;
       eight = grind (arith, common_steps);

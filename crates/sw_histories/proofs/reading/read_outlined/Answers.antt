@@ -1,16 +1,23 @@
-use Rattle.std.proofs.Common.{◌≡◌, ◌∙◌, ◌≤◌, ◌<◌, ap, sym, subst, arith, List, length, None, Some, Ok, Err, []}
+use Rattle.std.proofs.Common.{◌≡◌, ◌∙◌, ◌≤◌, ◌<◌, ap, sym, subst, arith, codes, List, length, None, Some, Ok, Err, []}
 use Rattle.std.specs.Prelude.{option_and_then, option_map}
 use Rattle.serde_json.specs.Data.{object}
+use Rattle.sw_rows.specs.Header.{Column}
 use Rattle.sw_lang.specs.Reading.{Answers}
 use Rattle.sw_spine.specs.History.{History}
 use Rattle.sw_spine.specs.declared.history.Entry.{Entry}
 use Rattle.sw_spine.specs.declared.spine.TheConstants.{MOST_ENTRIES}
-use Rattle.sw_histories.specs.Outlines.{outside_of, read_as, record_in}
+use Rattle.sw_histories.specs.Outlines.{Stands, outside_of, read_as, record_in}
 use Rattle.sw_histories.specs.Told.{◌>>=◌}
 use Rattle.sw_histories.specs.RecordReading.{entries_after, frame, history_with}
 use Rattle.sw_histories.proofs.RecordReadingLemmas.{frame_sound}
-use Rattle.sw_histories.proofs.EntriesLemmas.{answers_bind, few_enough, no_record, outer_none, outer_some, record_is, some_at, stood, too_many}
+use Rattle.sw_histories.proofs.EntriesLemmas.{answers_bind, few_enough, no_entries, no_record, outer_none, outer_some, record_is, some_at, stood, too_many}
 use Rattle.sw_histories.proofs.reading.read_outlined.Goals as goal
+
+pub returns-in_default-clause-answers : goal.returns-in_default-clause-answers
+returns-in_default-clause-answers c =
+    let h = c.requires in
+    let none = subst (λ o. Stands (codes "entries") o h.all h.begun) c.in_default.is h.entries in
+    subst (λ e. Answers {A = History} (Err e) (record_in c.args.text.now)) (sym c.no_history.ensures) (no_record c.args.text.now h.all h.read (no_entries h.all none))
 
 pub returns-in_default-read-clause-answers : goal.returns-in_default-read-clause-answers
 returns-in_default-read-clause-answers c =
@@ -59,7 +66,7 @@ returns-in-Ok-read_entries_at-clause-answers c =
     let count : c.in-Some.entries.count ≤ MOST_ENTRIES = omega arith in
     let few : length at.values ≤ MOST_ENTRIES = omega (arith, at.counted.0 count, count) in
     let read = some_at _ at.values _ at.stands c.in-Ok-read_entries_at.ensures.answers in
-    record_is c.args.text.now h.all f h.read (outer_some h.all at.values o.schema o.limit o.rows.items at.there some) ∙ few_enough f few ∙ ap (λ r. r >>= λ es. Ok (history_with f es)) read
+    record_is c.args.text.now h.all f h.read (outer_some h.all at.values o.schema o.limit o.rows.items at.there some) ∙ few_enough f few ∙ ap (λ r. r >>= λ x. Ok (history_with f x)) read
 
 pub returns-in-Err-clause-answers : goal.returns-in-Err-clause-answers
 returns-in-Err-clause-answers c =
@@ -73,4 +80,4 @@ returns-in-Err-clause-answers c =
     let few : length at.values ≤ MOST_ENTRIES = omega (arith, at.counted.0 count, count) in
     let read = some_at _ at.values _ at.stands c.in-Err.ensures.answers in
     let is = record_is c.args.text.now h.all f h.read (outer_some h.all at.values o.schema o.limit o.rows.items at.there some) ∙ few_enough f few in
-    subst (λ said. Answers {A = History} (Err c.in-Err.e) said) (sym is) (answers_bind {A = List Entry} {B = History} c.in-Err.e (entries_after o.schema [] at.values) (λ es. Ok (history_with f es)) read)
+    subst (λ said. Answers {A = History} (Err c.in-Err.e) said) (sym is) (answers_bind {A = List Column × List Entry} {B = History} c.in-Err.e (entries_after o.schema [] at.values) (λ x. Ok (history_with f x)) read)

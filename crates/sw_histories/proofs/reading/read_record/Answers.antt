@@ -10,7 +10,7 @@ use Rattle.sw_histories.proofs.reading.read_record.Goals as goal
 pub returns-in-Ok-clause-answers : goal.returns-in-Ok-clause-answers
 returns-in-Ok-clause-answers c =
     let same = c.in-Ok.ensures.cases.0 in
-    subst (Reads (λ h. h) c.read_text.result) (ap record_in same ∙ sym (text_record c.args.bytes.now c.in-Ok.ensures.cases.1)) c.read_text.ensures.answers
+    subst (Reads (λ h. h) c.read_record_text.result) (ap record_in same ∙ sym (text_record c.args.bytes.now c.in-Ok.ensures.cases.1)) c.read_record_text.ensures.answers
 
 pub returns-in-Err-clause-answers : goal.returns-in-Err-clause-answers
 returns-in-Err-clause-answers c =

@@ -2,7 +2,6 @@ use Rattle.std.proofs.Common.{◌≡◌, ◌+◌, ◌-◌, ◌<◌, ◌∷◌, [
 use Rattle.std.proofs.lemmas.Option.{IfSome_then}
 use Rattle.json.specs.Json.{after_end_array, value}
 use Rattle.serde_json.specs.View.{view}
-use Rattle.sw_rows.specs.Header.{kinds_of}
 use Rattle.sw_histories.specs.Outlines.{values_in}
 use Rattle.sw_rows.specs.Tables.{row_of}
 use Rattle.sw_histories.specs.RecordReading.{rows_after}
@@ -19,7 +18,7 @@ unreachable-requires c =
 pub returns-in_default : goal.returns-in_default
 returns-in_default c =
     let l = c.rows in
-    let kinds = kinds_of c.args.schema.now in
+    let columns = l.schema in
     let rs = l.rows.items in
     let d = view c.in-Ok.value in
     let going : (after_end_array l.reader ≡ None) × (c.take_end_array.new.self ≡ l.reader) = grind arith in
@@ -27,12 +26,12 @@ returns-in_default c =
     let r = c.read.new.reader in
     let less : length r < length l.reader = rw (← going.1) done.shorter in
     let more = value_more (value 125) l.invariant.0 l.reader r d l.invariant.1 (omega (arith, l.invariant.2, less)) going.0 (rw (← going.1) done.ok) l.invariant.3 in
-    IfSome_then (values_in c.args.reader.now) l.invariant.5 (λ ds h. row_none kinds rs d more.0 (rows_after kinds [] ds) (h ∙ ap (rows_after kinds rs) more.1) c.in_default.ensures)
+    IfSome_then (values_in c.args.reader.now) l.invariant.5 (λ ds h. row_none columns rs d more.0 (rows_after c.args.schema.now [] ds) (h ∙ ap (rows_after columns rs) more.1) (sym c.in_default.is ∙ c.in_ok-cells.ensures.cells))
 
 pub rows-preserved : goal.rows-preserved
 rows-preserved c =
     let l = c.rows in
-    let kinds = kinds_of c.args.schema.now in
+    let columns = l.schema in
     let rs = l.rows.items in
     let d = view c.in-Ok.value in
     let going : (after_end_array l.reader ≡ None) × (c.take_end_array.new.self ≡ l.reader) = grind arith in
@@ -49,11 +48,11 @@ rows-preserved c =
       omega (arith, l.invariant.2, less),
       more.2,
       omega (arith, l.invariant.4, ap length grown ∙ length-append rs (row_of n cells ∷ []), ap length more.1),
-      IfSome_then (values_in c.args.reader.now) l.invariant.5 (λ ds h. rows_step kinds rs c.add.new.self.items d more.0 cells n (rows_after kinds [] ds) (h ∙ ap (rows_after kinds rs) more.1) place c.in-Some.ensures grown),
+      IfSome_then (values_in c.args.reader.now) l.invariant.5 (λ ds h. rows_step columns c.take_row.new.schema rs c.add.new.self.items d more.0 cells n (rows_after c.args.schema.now [] ds) (h ∙ ap (rows_after columns rs) more.1) place (sym c.in-Some.is ∙ c.in_ok-cells.ensures.cells) c.in_ok-cells.ensures.learned grown),
     )
 
 pub returns : goal.returns
 returns c =
     let l = c.rows in
     let over = values_over (value 125) l.invariant.0 l.reader c.take_end_array.new.self l.invariant.1 l.invariant.2 (grind arith) l.invariant.3 in
-    IfSome_then (values_in c.args.reader.now) l.invariant.5 (λ ds h. sym (h ∙ ap (rows_after (kinds_of c.args.schema.now) l.rows.items) over))
+    IfSome_then (values_in c.args.reader.now) l.invariant.5 (λ ds h. sym (h ∙ ap (rows_after l.schema l.rows.items) over))
