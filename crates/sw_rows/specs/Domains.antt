@@ -1,5 +1,5 @@
 -- The kinds of attributes, those of texts with the texts for which their cells stand.
-use Rattle.std.specs.Prelude.{◌≡◌, ◌≤◌, ℕ, Bool, true, false, List, map}
+use Rattle.std.specs.Prelude.{◌≡◌, ◌≤◌, ℕ, Bool, true, false, List, [], map}
 use Rattle.sw_rows.specs.Texts.{AreTexts}
 use Rattle.sw_rows.specs.declared.kind.Kind.{Kind}
 use Rattle.sw_rows.specs.declared.kind.Kind.TheVariants as word
@@ -45,12 +45,12 @@ IsDomain (Fix places) = (1 ≤ places) × (places ≤ 6)
 IsDomain Flag = Unit {0}
 IsDomain (Text texts) = AreTexts texts
 
--- a domain that a field of a header names: texts have no name there yet
+-- a domain that knows no text yet
 abbrev pub IsFresh : Domain → Type 0
 IsFresh Int = Unit {0}
 IsFresh (Fix places) = (1 ≤ places) × (places ≤ 6)
 IsFresh Flag = Unit {0}
-IsFresh (Text texts) = ⊥
+IsFresh (Text texts) = texts ≡ []
 
 -- a domain whose texts, if it has any, are these
 abbrev pub IsOver : List (List ℕ) → Domain → Type 0

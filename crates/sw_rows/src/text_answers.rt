@@ -2,13 +2,12 @@
 //!
 //! Each function here does nothing. Its contract is the law, or a worked example, which the check computes.
 
-ghost use Rattle.std.specs.Prelude.{◌≡◌, ◌<◌, ◌∷◌, [], ℕ, List, codes, drop, length, pos};
+ghost use Rattle.std.specs.Prelude.{◌≡◌, ◌<◌, ◌∷◌, [], ℕ, List, codes, length, pos};
 ghost use Rattle.sw_rows.specs.Domains as kind;
 ghost use Rattle.sw_rows.specs.Examples.{asking, at_least, city_bytes, city_columns, city_rows, city_rows_seen, coded, in_city, on, seen_row, shown, two_cities};
 ghost use Rattle.sw_rows.specs.Header.{Column, IsSchema, holding, kinds_of, texts_of};
 ghost use Rattle.sw_rows.specs.Scan.{answer, matching, meets};
-ghost use Rattle.csv.specs.Reading.{default_config, records};
-ghost use Rattle.sw_rows.specs.Tables.{Table, seeing, table_of, table_with};
+ghost use Rattle.sw_rows.specs.Tables.{Table, table_of};
 ghost use Rattle.sw_rows.specs.Texts.{with_texts};
 ghost use Rattle.sw_rows.specs.TextRows as seen;
 ghost use Rattle.sw_rows.specs.TextRows.{AreCoded, AsksOfTexts, IsRowCoded, IsTextCond, answer_seen, cell_seen, cond_seen, conds_seen, domain_at, domains_shown, matching_seen, meets_seen, reply_seen, row_seen, rows_seen};
@@ -51,11 +50,9 @@ pub fn rows_keep_their_texts()
         ≡ rows_seen (kinds_of columns) rs }
 {}
 
-/// The records of a table under an attribute of texts and one of numbers, and its rows as they are seen.
+/// The bytes of a table with an attribute of texts, and its rows as they are seen.
 pub fn table_of_cities()
-    ensures whole { (let records = drop 1 (records default_config city_bytes)
-        in table_with (seeing (holding [] city_columns) records) records)
-        ≡ Ok (record { columns = city_columns; rows = city_rows }) }
+    ensures whole { table_of city_bytes ≡ Ok (record { columns = city_columns; rows = city_rows }) }
     ensures seen { rows_seen (kinds_of city_columns) city_rows ≡ city_rows_seen }
     ensures no_code { cell_seen (kind.Text two_cities) (pos 3) ≡ seen.number (pos 3) }
 {}
