@@ -1,7 +1,7 @@
 -- A line that is a call under a schema is the same call where the schema knows fewer texts, those of the line among them.
-use Rattle.std.proofs.Common.{◌≡◌, ◌∙◌, ap, sym, refl, subst, ℕ, ℤ, pos, suc, inl, inr, All, Bool, true, false, not, List, [], ◌∷◌, ◌++◌, length, nat_lt, arith, append_assoc, Option, Some, None, option_map, if◌then◌else◌, ◌&&◌, ◌≤◌, Result, Ok, Err}
+use Rattle.std.proofs.Common.{◌≡◌, ◌∙◌, ap, sym, refl, subst, ℕ, ℤ, pos, suc, inl, inr, Bool, true, false, not, List, [], ◌∷◌, ◌++◌, length, arith, append_assoc, Option, Some, None, option_map, if◌then◌else◌, ◌&&◌, ◌≤◌, Result, Ok, Err}
 use Rattle.std.specs.Prelude.{⊤}
-use Rattle.std.proofs.lemmas.Bool.{false≢true, le-ltb}
+use Rattle.std.proofs.lemmas.Bool.{le-ltb}
 use Rattle.std.proofs.lemmas.Option.{none-some, same_Some}
 use Rattle.sw_rows.specs.Cells.{coded_value}
 use Rattle.sw_rows.specs.Domains.{Domain, IsOver, is_of_texts, over}
@@ -21,7 +21,7 @@ use Rattle.sw_lang.specs.Replies.{kind_at}
 use Rattle.sw_lang.specs.Tokens.{Tok, comma, op, quoted, stray, tokens, word}
 use Rattle.sw_lang.specs.declared.parse.TheConstants.{MOST_LINE}
 use Rattle.sw_lang.specs.declared.term.Term.{Term}
-use Rattle.sw_lang.proofs.KnownLines.{AreOver, kind_held, name_kept, numbers_kept, over_at, want_kept}
+use Rattle.sw_lang.proofs.KnownLines.{AreOver, kind_held, name_kept, over_at, want_kept}
 
 abbrev Texts : Type 0
 Texts = List (List ℕ)
