@@ -1,7 +1,7 @@
 """A plain reader and judge of history files, written from docs/HISTORIES.md and the standard of JSON. Python's own reader of
 JSON takes more than the standard, so only its unescaping of a text that is known to be well formed is used."""
 import json, re
-from reading import Fault, MOST_ROWS, bad_line, parse_line, schema_of
+from reading import Fault, MOST_ROWS, bad_line, parse_line, schema_of, text_of
 from model import Store
 
 TEXT = re.compile(r'"(?:[^"\\\x00-\x1f]|\\(?:["\\/bfnrt]|u[0-9a-fA-F]{4}))*"')
@@ -111,10 +111,14 @@ def texts(value):
     return type(value) is list and all(type(item) is str for item in value)
 
 
+def is_cell(kind, value):
+    if kind == b"text":
+        return type(value) is str and text_of(value.encode()) is not None
+    return whole(value, 0 if kind == b"flag" else -2**63, 1 if kind == b"flag" else 2**63 - 1)
+
+
 def is_row(schema, row):
-    return type(row) is list and len(row) == len(schema) and all(
-        whole(number, 0 if kind == b"flag" else -2**63, 1 if kind == b"flag" else 2**63 - 1)
-        for (_, kind), number in zip(schema, row))
+    return type(row) is list and len(row) == len(schema) and all(is_cell(kind, value) for (_, kind), value in zip(schema, row))
 
 
 def outside(outer):
@@ -124,10 +128,11 @@ def outside(outer):
     if not texts(outer["attributes"]) or not outer["attributes"] or type(outer["entries"]) is not list:
         raise NoJson
     schema, rows, limit = schema_of([name.encode() for name in outer["attributes"]]), outer["rows"], outer["limit"]
-    if not whole(outer["format"], 1, 1) or not whole(limit, 1, MOST_ROWS) or type(rows) is not list:
+    if not whole(outer["format"], 2 if any(kind == b"text" for _, kind in schema) else 1, 2) or not whole(limit, 1, MOST_ROWS) or type(rows) is not list:
         raise NoJson
     if len(rows) > limit or not all(is_row(schema, row) for row in rows):
         raise NoJson
+    outer["rows"] = [[schema.code(value) if kind == b"text" else value for (_, kind), value in zip(schema, row)] for row in rows]
     return schema
 
 

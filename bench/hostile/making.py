@@ -1,8 +1,11 @@
 """Makes random tables, lines, scripts and histories from a generator, well formed ones and ones with a few faults put in."""
+import re
 from model import show
 
 NAMES = [b"a", b"b", b"c", b"d", b"_x", b"A9", b"price", b"ok", b"sums", b"n" * 32]
-KINDS = [b"int", b"int", b"int", b"fix1", b"fix2", b"fix6", b"flag"]
+KINDS = [b"int", b"int", b"int", b"fix1", b"fix2", b"fix6", b"flag", b"text", b"text"]
+TEXTS = ["", "Oslo", "oslo", "Bergen, N", "it's", "''", "'", "a \"b\"", "7", "-1", "true", "where", " x ", "#", "caf\u00e9", "\U0001f3d4" * 16, "k" * 64,
+         "a\\b", "x,y,'z'", ";"]
 ODD_CELLS = [b"", b" ", b" 1", b"1 ", b"+", b"-", b"5.", b".5", b"1.2345678", b"--1", b"1e0", b"0x1", b"tru", b"True", b"\xff", b"\xc3\xa9",
              b"9" * 64, b"9" * 65, b"0" * 65, b"-" + b"0" * 64, b"9223372036854775808", b"-9223372036854775809", b"\0", b"1_0"]
 ODD_FIELDS = [b"", b"1a", b"select", b"a:", b"a:int:int", b"a:fix0", b"a:fix7", b"a:INT", b"n" * 33, b"\xff", b"a b", b":int", b"true"]
@@ -19,13 +22,22 @@ def chance(rng, share):
 
 def number_of(rng, kind, spread):
     """A stored number of a kind: mostly small, and sometimes at the ends."""
+    if kind == b"text":
+        return rng.randrange(len(TEXTS))
     if kind == b"flag":
         return rng.randrange(2)
     return rng.choice([-2**63, -2**63 + 1, 2**63 - 1, 2**63 - 2, 0]) if chance(rng, 0.05) else rng.randint(-spread, spread)
 
 
+def quoted(rng, kind, number):
+    """A spelling of a cell in a line."""
+    return b"'" + spelled(rng, kind, number).replace(b"'", b"''") + b"'" if kind == b"text" else spelled(rng, kind, number)
+
+
 def spelled(rng, kind, number):
     """A spelling of a cell: signs, zeros before it, and decimals left out."""
+    if kind == b"text":
+        return TEXTS[number].encode()
     text = show(kind, number).encode()
     if kind == b"flag":
         return text
@@ -57,7 +69,7 @@ def table_for(rng, schema, rows, spread):
 def separated(rng, records):
     """The bytes of records: fields in quotes or without, the ends of lines of every kind, and empty lines."""
     def field(text):
-        if text.strip(b",\r\n\"") == text and chance(rng, 0.9):
+        if not re.search(rb'[,\r\n"]', text) and chance(rng, 0.9):
             return text
         return b'"' + text.replace(b'"', b'""') + b'"'
     end = rng.choice([b"\n", b"\r", b"\r\n", b""])
@@ -82,7 +94,7 @@ def spaced(rng, tokens):
     """Tokens on a line: blanks between words, and perhaps others."""
     line = rng.choice([b"", b"", b" ", b"\t"])
     for before, token in zip([b","] + tokens, tokens):
-        needed = before[-1:].isalnum() and token[:1] not in b",<=>" or before[-1:] == b"_"
+        needed = before[-1:] + token[:1] == b"''" or before[-1:].isalnum() and token[:1] not in b",<=>" or before[-1:] == b"_"
         line += (rng.choice([b" ", b" ", b"\t", b" \t "]) if needed else rng.choice([b"", b" ", b" "])) + token
     return line + rng.choice([b"", b"", b" ", b"\t"])
 
@@ -91,8 +103,8 @@ def conditions(rng, schema, spread, most):
     tokens = []
     for number in range(rng.choice([0, 1, 1, 1, 2, 2, 3, most])):
         name, kind = rng.choice(schema)
-        tokens += [b"where" if number == 0 else b"and", name, rng.choice([b"<", b"<=", b"=", b">=", b">"]),
-                   spelled(rng, kind, number_of(rng, kind, spread))]
+        sign = rng.choice([b"<", b"<=", b"=", b">=", b">"]) if kind != b"text" else b"="
+        tokens += [b"where" if number == 0 else b"and", name, sign, quoted(rng, kind, number_of(rng, kind, spread))]
     return tokens
 
 
@@ -100,11 +112,13 @@ def call_for(rng, schema, spread, keys, updates=0.3, most=6):
     """The tokens of a random call: so great a share of updates, keys up to a number."""
     if chance(rng, updates):
         if chance(rng, 0.5):
-            values = [spelled(rng, kind, number_of(rng, kind, spread)) for _, kind in schema]
+            values = [quoted(rng, kind, number_of(rng, kind, spread)) for _, kind in schema]
             return [b"insert", values[0]] + [token for value in values[1:] for token in (b",", value)]
         return [b"delete", b"%d" % rng.choice([rng.randint(0, keys), rng.randint(1, keys), rng.choice([0, keys + 9, 2**64 - 1])])]
-    verb = rng.choice([b"select", b"select", b"count", b"sum", b"min", b"max"])
-    names = [rng.choice(schema)[0] for _ in range(rng.randint(1, 8) if verb == b"select" else verb != b"count")]
+    numbers = [one for one in schema if one[1] != b"text"]
+    verb = rng.choice([b"select", b"select", b"count"] + [b"sum", b"min", b"max"] * bool(numbers))
+    names = [rng.choice(schema if verb == b"select" else numbers)[0]
+             for _ in range(rng.randint(1, 8) if verb == b"select" else verb != b"count")]
     listed = names[:1] + [token for name in names[1:] for token in (b",", name)]
     return [verb] + listed + conditions(rng, schema, spread, most)
 

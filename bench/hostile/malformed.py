@@ -14,6 +14,9 @@ TABLE = b"a:int,b:int,c:int\n12,7,1\n3,8,0\n12,5,1\n20,2,0\n"
 MIXED = b'price:fix2,"ok:flag",n\r\n+007.5,true,-0\n"-0.25",false,9223372036854775807\r"3","true",-9223372036854775808'
 SCRIPT = (b"count\r\n# of b\n\tselect b,c where a>=10 and a <= 15\n\n--- \ninsert -1, +2, 003\nsum b where c=0\n"
           b"delete 18446744073709551615\n---\nmin a where b < 9 and b > 2\nmax c")
+CITIES = b'city:text,n\nOslo,1\n"Bergen, N",2\n'
+CITY_SCRIPT = (b"count where city = 'Oslo'\ninsert 'it''s', 4\n---\nselect city, n where city='it''s' and n>1\n"
+               b"sum n where city = '' and city = 'x'")
 # Bytes of a table and what its reading gives, worked out by hand.
 CUT_BY_HAND = {0: "2 record 0 field 0", 6: "2 record 0 field 2", 40: "2 record 4 field 2", 42: "2 record 4 field 3", 43: "2 record 4 field 3",
                7: 0, 31: 2, 44: 4, 45: 4}
@@ -176,6 +179,11 @@ def main():
     holder.hold("the table around every byte", around("the table", of_table, TABLE, pieces))
     holder.hold("a table of other kinds around every byte", around("the table", of_table, MIXED, [b'"', b"\n", b"."]))
     holder.hold("a script around every byte", around("the script", lambda name, data: of_run(name, TABLE, data), SCRIPT, [b",", b"\n", b"\xff", b"x"]))
+    holder.hold("a table of texts around every byte", around("the table of texts", of_table, CITIES, [b'"', b"\x1f", b"\x7f", b"\xc3\xa9", b"'"]))
+    holder.hold("a script over texts around every byte",
+                around("the script over texts", lambda name, data: of_run(name, CITIES, data), CITY_SCRIPT, [b"'", b"''", b"\xff", b" "]))
+    holder.hold("a history of texts around every byte",
+                around("the history of texts", of_check, run(CITIES, CITY_SCRIPT)[3], [b'"', b"'", b"\\", b"\\u00e9", b"\\u0007"]))
     holder.hold("lines by their length", lines_by_length())
     holder.hold("dividers", dividers())
     history = run(TABLE, b"count")[3]

@@ -1,10 +1,12 @@
 """A plain model of runs: the store is a dictionary of rows, and each call is made on it in its turn."""
 import json
-from reading import Fault, MOST_ROWS, decimals, load, parse_cuts, parse_script
+from reading import Coded, Fault, MOST_ROWS, decimals, load, parse_cuts, parse_script
 
 
 def show(kind, number, is_sum=False):
     """A cell's text, or a sum's."""
+    if kind == b"text":
+        return "'" + number.text.replace("'", "''") + "'"
     if kind == b"flag" and not is_sum:
         return "true" if number else "false"
     places = decimals(kind)
@@ -23,6 +25,10 @@ def show_call(schema, call):
     terms = []
     for attr, bounds in call[2].items():
         name, kind = schema[attr][0].decode(), schema[attr][1]
+        if kind == b"text":
+            held = [bounds[0][0]] + [bounds[1][0]] * (bounds[0][0] != bounds[1][0])
+            terms += ["%s = %s" % (name, show(kind, code)) for code in held]
+            continue
         for bound, signs in zip(bounds, ((">=", ">"), ("<", "<="))):
             if bound is not None:
                 terms.append("%s %s %s" % (name, signs[bound[1]], show(kind, bound[0])))
@@ -76,9 +82,11 @@ def entry_of(schema, call, lines, session):
 
 def history_text(schema, rows, limit, entries):
     """The bytes of a history file."""
-    outer = {"attributes": [(name + b":" + kind).decode() for name, kind in schema], "entries": entries, "format": 1,
-             "limit": limit, "rows": rows}
-    return json.dumps(outer, separators=(",", ":"), sort_keys=True).encode()
+    is_text = any(kind == b"text" for _, kind in schema)
+    shown = [[cell.text if isinstance(cell, Coded) else cell for cell in row] for row in rows]
+    outer = {"attributes": [(name + b":" + kind).decode() for name, kind in schema], "entries": entries,
+             "format": 2 if is_text else 1, "limit": limit, "rows": shown}
+    return json.dumps(outer, separators=(",", ":"), sort_keys=True, ensure_ascii=False).encode()
 
 
 def run(table, script, cuts=b"", limit=MOST_ROWS):

@@ -3,8 +3,8 @@ the fault at which it is refused. It shares nothing with the program."""
 import re
 
 RESERVED = b"select count sum min max where and insert delete true false".split()
-MOST_BYTES, MOST_ROWS, MOST_CALLS, MOST_BLOCKS, MOST_LINE = 1 << 28, 1 << 20, 1 << 20, 1024, 4096
-TOKEN = re.compile(rb"[ \t]*([A-Za-z0-9_.+-]+|<=|>=|[^ \t])")
+MOST_BYTES, MOST_ROWS, MOST_CALLS, MOST_BLOCKS, MOST_LINE, MOST_TEXTS = 1 << 28, 1 << 20, 1 << 20, 1024, 4096, 1 << 20
+TOKEN = re.compile(rb"[ \t]*([A-Za-z0-9_.+-]+|<=|>=|'(?:[^']|'')*'(?!')|'.*|[^ \t])", re.DOTALL)
 SIGNS = (b"<", b"<=", b"=", b">=", b">")
 
 
@@ -14,6 +14,35 @@ class Fault(Exception):
 
 def bad_line(line, why):
     return Fault("3 line %d why %s" % (line, why))
+
+
+class Coded(int):
+    """The cell of a text: its code, and the text."""
+
+
+class Schema(list):
+    """The names and kinds of attributes, and the texts that are known, in the order first seen."""
+
+    def __init__(self, attributes):
+        super().__init__(attributes)
+        self.codes = {}
+
+    def code(self, text):
+        if text not in self.codes and len(self.codes) == MOST_TEXTS:
+            raise Fault("5 limit %d" % MOST_TEXTS)
+        found = Coded(self.codes.setdefault(text, len(self.codes) + 1))
+        found.text = text
+        return found
+
+
+def text_of(data):
+    """The text of bytes, or None where they are none."""
+    if len(data) > 64 or min(data, default=32) < 32 or 127 in data:
+        return None
+    try:
+        return data.decode()
+    except UnicodeDecodeError:
+        return None
 
 
 # Tables
@@ -70,14 +99,16 @@ def schema_of(fields):
     for number, field in enumerate(fields, 1):
         name, colon, kind = field.partition(b":")
         kind = kind if colon else b"int"
-        if not is_name(name) or not re.fullmatch(rb"int|flag|fix[1-6]", kind) or name in dict(schema):
+        if not is_name(name) or not re.fullmatch(rb"int|flag|text|fix[1-6]", kind) or name in dict(schema):
             raise Fault("2 record 0 field %d" % number)
         schema.append((name, kind))
-    return schema
+    return Schema(schema)
 
 
 def cell(kind, text):
-    """The stored number of a text, or None."""
+    """The stored number of a text, or None. No word is the cell of a text."""
+    if kind == b"text":
+        return None
     if kind == b"flag":
         return {b"true": 1, b"false": 0}.get(text)
     found = re.fullmatch(rb"([+-]?)([0-9]+)(?:\.([0-9]+))?", text) if len(text) <= 64 else None
@@ -104,9 +135,12 @@ def load(data):
             raise Fault("5 limit %d" % MOST_ROWS)
         if len(record) != len(schema):
             raise Fault("2 record %d field %d" % (number, min(len(record), len(schema)) + 1))
-        row = [cell(kind, text) for (_, kind), text in zip(schema, record)]
-        if None in row:
-            raise Fault("2 record %d field %d" % (number, row.index(None) + 1))
+        row = []
+        for (_, kind), text in zip(schema, record):
+            found = text_of(text) if kind == b"text" else cell(kind, text)
+            if found is None:
+                raise Fault("2 record %d field %d" % (number, len(row) + 1))
+            row.append(schema.code(found) if kind == b"text" else found)
         rows.append(row)
     return schema, rows
 
@@ -149,11 +183,33 @@ class Line:
             raise Fault("4 name " + word.decode())
         return names.index(word)
 
+    def word_or_text(self):
+        """A word, or the bytes of a quoted text, and whether it is one."""
+        if len(self.tokens[0]) > 1 and self.tokens[0][:1] == b"'" if self.tokens else False:
+            token = self.take()
+            if token[-1:] != b"'" or len(re.match(rb"'(?:[^']|'')*'", token)[0]) < len(token):
+                raise self.fault("Word")
+            return token[1:-1].replace(b"''", b"'"), True
+        return self.word(), False
+
     def value(self, attr):
-        found = cell(self.schema[attr][1], self.word())
+        kind = self.schema[attr][1]
+        data, is_quoted = self.word_or_text()
+        if is_quoted:
+            text = text_of(data) if kind == b"text" else None
+            found = None if text is None else self.schema.code(text)
+        else:
+            found = cell(kind, data)
         if found is None:
             raise self.fault("Value")
         return found
+
+    def number_name(self):
+        """The name of an attribute that is not of texts."""
+        attr = self.name()
+        if self.schema[attr][1] == b"text":
+            raise self.fault("Word")
+        return attr
 
     def conditions(self):
         conds = {}
@@ -162,7 +218,7 @@ class Line:
         self.wanted(b"where")
         while True:
             attr = self.name()
-            sign = self.wanted(*SIGNS)
+            sign = self.wanted(*[sign for sign in SIGNS if sign == b"=" or self.schema[attr][1] != b"text"])
             value = self.value(attr)
             below, above = conds.get(attr, (None, None))
             if sign in (b">", b">=", b"="):
@@ -194,12 +250,12 @@ class Line:
                 cells.append(self.value(attr))
             made = (verb, cells)
         elif verb == "delete":
-            word = self.word()
-            if not re.fullmatch(rb"[0-9]{1,20}", word) or int(word) >= 2**64:
+            word, is_quoted = self.word_or_text()
+            if is_quoted or not re.fullmatch(rb"[0-9]{1,20}", word) or int(word) >= 2**64:
                 raise self.fault("Value")
             made = (verb, int(word))
         else:
-            names = {"select": self.names, "count": list}.get(verb, lambda: [self.name()])()
+            names = {"select": self.names, "count": list}.get(verb, lambda: [self.number_name()])()
             return verb, names, self.conditions()
         if self.tokens:
             raise self.fault("Word")

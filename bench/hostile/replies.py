@@ -14,7 +14,7 @@ from running import Holder, ended, options, told, wrong
 def cuts_for(rng, schema, spread):
     parts = []
     for name, kind in schema:
-        if kind != b"flag" and chance(rng, 0.5):
+        if kind not in (b"flag", b"text") and chance(rng, 0.5):
             values = sorted({number_of(rng, kind, spread) for _ in range(rng.choice([1, 1, 2, 3, 15]))})
             parts += [name + b"=" + spelled(rng, kind, value) for value in values]
     return b";".join(parts).decode()

@@ -41,18 +41,21 @@ const BAD_TABLE: &str = "\
 refused 2 record R field F: a field of the table cannot be read.
   Records are counted from 0, which is the header; fields from 1. Field 0 of record 0: the table is empty. In the header a
   name is not one, stands twice, or has an unknown kind after its colon. In a row the field is missing, is one too many, or
-  is no cell of its attribute's kind: int, fix1 to fix6, or flag (true, false).
+  is no cell of its attribute's kind: int, fix1 to fix6, flag (true, false), or text (at most 64 bytes of UTF-8, no control
+  bytes).
   What to do: mend that field. A record may go over several lines of the file, where a quoted field has line ends in it.
 ";
 
 const BAD_LINE: &str = "\
 refused 3 line L why W: a line of the script is no call. Lines are counted from 1.
   Encoding: it is not UTF-8. Length: it is longer than 4096 bytes. Word: a word stands where another one is wanted, or one
-  too many. End: the line ends too early. Value: a value or a key is wanted, and the word is none of that kind.
-  Cuts, with line 0: the text of --cuts is not name=value;name=value with rising values.
+  too many; texts are compared by = alone, and not summed. End: the line ends too early. Value: a value or a key is wanted,
+  and the word is none of that kind; a text stands in quotes, 'it''s', and nothing else does.
+  Cuts, with line 0: the text of --cuts is not name=value;name=value with rising values, or cuts an attribute of texts.
   History: the file that was to be checked is no history, or the entry of that number is none; 0 is the whole text.
   What to do: mend the line. Calls look like this:
     select a, b where a >= 5 and b < 7    count    sum b where a = 5    min b    max b    insert 5, 7, 1    delete 3
+    count where city = 'Oslo'    insert 'it''s', 4
 ";
 
 const UNKNOWN_ATTRIBUTE: &str = "\
@@ -63,8 +66,8 @@ refused 4 name N: the table has no attribute of this name.
 const TOO_MANY: &str = "\
 refused 5 limit L: there is more of something than L, the most that is taken.
   268435456: bytes of the table or of the script. 8: attributes of a table. 1024: blocks of a script. 15: cuts of an
-  attribute. 1048576: rows of the table, calls of the script, or entries of a history. Another number: rows of the table, by
-  --limit.
+  attribute. 1048576: rows of the table, calls of the script, different texts of both, or entries of a history. Another
+  number: rows of the table, by --limit.
   What to do: take less of it, or give a greater --limit where that was it.
 ";
 

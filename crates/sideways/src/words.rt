@@ -76,7 +76,7 @@ fn cuts<'a>(alloc: Global) -> Arg<'a> {
         alloc,
         "cuts",
         "TEXT",
-        "Where attributes are cut into areas that are kept apart, as name=value;name=value with rising values, at most 15 of an attribute",
+        "Where attributes are cut into areas that are kept apart, as name=value;name=value with rising values, at most 15 of an attribute, and none of one of texts",
         "",
     )
 }

@@ -2,11 +2,13 @@
 use Rattle.std.proofs.lemmas.List.{take_more}
 use Rattle.std.proofs.Common.{get_or, take, zero, ◌≡◌, ◌∙◌, sym, ap, subst, ℕ, ◌+◌, ◌<◌, ◌≤◌, suc, List, [], ◌∷◌, ◌++◌, length, length-append, Result, Ok, Err, IfOk, OnOk, arith}
 use Rattle.std.proofs.lemmas.List.Elements.{All-nil, All-push}
+use Rattle.sw_rows.specs.Header.{Column}
 use Rattle.sw_rows.specs.declared.query.Call.{Call}
 use Rattle.sw_rows.specs.declared.refusal.Refusal.{Refusal}
+use Rattle.sw_lang.proofs.Knowing.{learned_width}
 use Rattle.sw_spine.specs.History.{CallsBelow}
 use Rattle.sw_cli.specs.declared.script.TheConstants.{MOST_BLOCKS, MOST_CALLS}
-use Rattle.sw_cli.specs.Script.{AllCallsBelow, AreBlocks, AreSound, SoFar, all_blocks, calls_in, so_far}
+use Rattle.sw_cli.specs.Script.{AllCallsBelow, AreBlocks, AreSound, Script, SoFar, all_blocks, calls_in, learning, so_far, whole}
 
 -- one more block
 pub calls_more_block : (bs : List (List Call)) (b : List Call) → calls_in (bs ++ b ∷ []) ≡ calls_in bs + length b
@@ -33,21 +35,22 @@ all_sound n p s =
       short = omega (arith, s.short, count);
     }
 
-block_begins : (n : ℕ) (p : SoFar) → length p.closed + 1 < MOST_BLOCKS → AreSound n p → AreSound n (so_far (all_blocks p) [])
+block_begins : (n : ℕ) (p : SoFar) → length p.closed + 1 < MOST_BLOCKS → AreSound n p → AreSound n (so_far p.columns (all_blocks p) [])
 block_begins n p few s =
     let a = all_sound n p s in
     let long = length-append p.closed (p.last ∷ []) in
-    record { below = a.below; below_last = All-nil (CallsBelow n); few = omega (arith, few, long); short = omega (arith, a.short) }
+    record { wide = s.wide; below = a.below; below_last = All-nil (CallsBelow n); few = omega (arith, few, long); short = omega (arith, a.short) }
 
 -- a block begins after those so far
-pub block_sound : (n : ℕ) (closed items : List (List Call)) (last next : List Call) (p : SoFar) → so_far closed last ≡ p → items ≡ closed ++ last ∷ [] → next ≡ [] → length closed + 1 < MOST_BLOCKS → AreSound n p → AreSound n (so_far items next)
-block_sound n closed items last next p is all none few s =
-    let begins = block_begins n (so_far closed last) few (subst (AreSound n) (sym is) s) in
+pub block_sound : (n : ℕ) (columns : List Column) (closed items : List (List Call)) (last next : List Call) (p : SoFar) → so_far columns closed last ≡ p → items ≡ closed ++ last ∷ [] → next ≡ [] → length closed + 1 < MOST_BLOCKS → AreSound n p → AreSound n (so_far columns items next)
+block_sound n columns closed items last next p is all none few s =
+    let begins = block_begins n (so_far columns closed last) few (subst (AreSound n) (sym is) s) in
     rw (all, none) begins
 
 -- one more call
-pub call_sound : (n : ℕ) (p : SoFar) (c : Call) → calls_in p.closed + length p.last < MOST_CALLS → CallsBelow n c → AreSound n p → AreSound n (so_far p.closed (p.last ++ c ∷ []))
+pub call_sound : (n : ℕ) (p : SoFar) (c : Call) → calls_in p.closed + length p.last < MOST_CALLS → CallsBelow n c → AreSound n p → AreSound n (so_far p.columns p.closed (p.last ++ c ∷ []))
 call_sound n p c few below s = record {
+  wide = s.wide;
   below = s.below;
   below_last = All-push (CallsBelow n) p.last c s.below_last below;
   few = s.few;
@@ -55,13 +58,21 @@ call_sound n p c few below s = record {
 }
 
 -- one more call after those so far, where there was memory for it
-pub added_sound : {A E : Type 0} (n : ℕ) (closed : List (List Call)) (last next : List Call) (p : SoFar) (c : Call) (r : Result A E) → so_far closed last ≡ p → OnOk r (next ≡ last ++ c ∷ []) → calls_in closed + length last < MOST_CALLS → CallsBelow n c → AreSound n p → OnOk r (AreSound n (so_far closed next))
-added_sound n closed last next p c (Ok x) is more few below s =
-    let call = call_sound n (so_far closed last) c few below (subst (AreSound n) (sym is) s) in
+pub added_sound : {A E : Type 0} (n : ℕ) (columns : List Column) (closed : List (List Call)) (last next : List Call) (p : SoFar) (c : Call) (r : Result A E) → so_far columns closed last ≡ p → OnOk r (next ≡ last ++ c ∷ []) → calls_in closed + length last < MOST_CALLS → CallsBelow n c → AreSound n p → OnOk r (AreSound n (so_far columns closed next))
+added_sound n columns closed last next p c (Ok x) is more few below s =
+    let call = call_sound n (so_far columns closed last) c few below (subst (AreSound n) (sym is) s) in
     rw more call
-added_sound n closed last next p c (Err e) is more few below s = tt
+added_sound n columns closed last next p c (Err e) is more few below s = tt
+
+-- the texts of a line become known
+pub learning_sound : (n : ℕ) (p : SoFar) (line : List ℕ) → AreSound n p → AreSound n (learning p line)
+learning_sound n p line s = record { wide = learned_width p.columns line ∙ s.wide; below = s.below; below_last = s.below_last; few = s.few; short = s.short }
 
 -- the same of what is answered
-pub closed_sound : {A : Type 0} (n : ℕ) (p : SoFar) (view : A → List (List Call)) (result : Result A Refusal) → AreSound n p → IfOk result (λ x. view x ≡ all_blocks p) → IfOk result (λ x. AreBlocks n (view x))
-closed_sound n p view (Ok x) s h = subst (AreBlocks n) (sym h) (all_sound n p s)
+pub closed_wide : {A : Type 0} (n : ℕ) (p : SoFar) (view : A → Script) (result : Result A Refusal) → AreSound n p → IfOk result (λ x. view x ≡ whole p) → IfOk result (λ x. length (view x).columns ≡ n)
+closed_wide n p view (Ok x) s h = ap (λ (t : Script). length t.columns) h ∙ s.wide
+closed_wide n p view (Err e) s h = tt
+
+pub closed_sound : {A : Type 0} (n : ℕ) (p : SoFar) (view : A → Script) (result : Result A Refusal) → AreSound n p → IfOk result (λ x. view x ≡ whole p) → IfOk result (λ x. AreBlocks n (view x).blocks)
+closed_sound n p view (Ok x) s h = subst (λ (t : Script). AreBlocks n t.blocks) (sym h) (all_sound n p s)
 closed_sound n p view (Err e) s h = tt

@@ -7,11 +7,12 @@ use Rattle.std.specs.Str.{is_utf8}
 use Rattle.sw_rows.specs.Header.{Column}
 use Rattle.sw_rows.specs.declared.refusal.Refusal.TheVariants.{BadLine}
 use Rattle.sw_rows.specs.declared.refusal.Why.TheVariants as why
+use Rattle.sw_lang.specs.Learning.{learned}
 use Rattle.sw_lang.specs.Reading.{line_at, refused}
 use Rattle.sw_cli.specs.Script.{call_of_line}
 
 -- a line that is short and text
-pub text_line : (columns : List Column) (n : ℕ) (line : List ℕ) → length line ≤ 4096 → IsUtf8 line → call_of_line columns n line ≡ refused n (line_at columns line)
+pub text_line : (columns : List Column) (n : ℕ) (line : List ℕ) → length line ≤ 4096 → IsUtf8 line → call_of_line columns n line ≡ refused n (line_at (learned columns line) line)
 text_line columns n line short text =
     let long : nat_lt 4096 (length line) ≡ false = grind (arith, nat_tests) in
     rw (long, is_utf8-from_IsUtf8 line text) refl

@@ -1,5 +1,5 @@
 -- Why a run is refused before its first call.
-use Rattle.std.proofs.Common.{◌≡◌, ap, subst, refl, ℕ, ◌+◌, ◌<◌, ◌⊎◌, inl, inr, Bool, true, suc, List, [], ◌∷◌, length, Option, Some, None, Result, Ok, Err, arith, slice_get, IfErr, IfOk, IfSome, eqb, nat_lt, ◌&&◌}
+use Rattle.std.proofs.Common.{◌≡◌, ◌∙◌, OnOk, ap, subst, refl, ℕ, ◌+◌, ◌<◌, ◌⊎◌, inl, inr, Bool, true, suc, List, [], ◌∷◌, length, Option, Some, None, Result, Ok, Err, arith, slice_get, IfErr, IfOk, IfSome, eqb, nat_lt, ◌&&◌}
 use Rattle.std.proofs.lemmas.Grind.{common_steps}
 use Rattle.std.proofs.lemmas.Bool.Decides.{Decides-eqb}
 use Rattle.sw_rows.proofs.RowLaws.{keys-count}
@@ -11,7 +11,9 @@ use Rattle.sw_rows.specs.declared.refusal.Refusal.TheVariants as refusal
 use Rattle.sw_rows.specs.Header.{Column, Fault}
 use Rattle.sw_rows.specs.declared.query.Call.{Call}
 use Rattle.sw_rows.specs.declared.query.Call.TheVariants as call
+use Rattle.sw_lang.proofs.Knowing.{learned_width}
 use Rattle.sw_lang.specs.Fits.{FitsCall}
+use Rattle.sw_lang.specs.Learning.{learned}
 use Rattle.sw_spine.specs.History.{CallsBelow}
 use Rattle.sw_lang.specs.Reading.{Answers, refused, refusal_of as line_refusal}
 use Rattle.sw_lang.specs.declared.fault.Fault.{Fault as LineFault}
@@ -19,7 +21,8 @@ use Rattle.sw_lang.specs.declared.fault.Fault.TheVariants.{Bad, Excess, Unknown}
 use Rattle.sw_spine.specs.Table.{is_numbered}
 use Rattle.sw_histories.specs.Told.{◌>>=◌, TellsText}
 use Rattle.sw_lang.specs.Cuts.{CutLists}
-use Rattle.sw_cli.specs.Run.{cuts_of, or_refusal, script_of, start_of}
+use Rattle.sw_cli.specs.Run.{Start, cuts_of, or_refusal, script_of, start_of}
+use Rattle.sw_cli.specs.Script.{Script}
 use Rattle.sw_cli.specs.Starts.{IfBoth, RefusedFrom}
 
 -- a fault of the table is the refusal of what comes after it too
@@ -101,6 +104,11 @@ pub fits_below : (schema : List Column) (result : Result (Option Call) Refusal) 
 fits_below schema (Ok o) h = some_below schema o h
 fits_below schema (Err e) h = tt
 
+-- and there are as many attributes before the texts of its line are known
+pub learned_below : (schema now : List Column) (line : List ℕ) (result : Result (Option Call) Refusal) → OnOk result (now ≡ learned schema line) → IfOk result (λ o. IfSome o (FitsCall now)) → IfOk result (λ o. IfSome o (CallsBelow (length schema)))
+learned_below schema now line (Ok o) is h = subst (λ (n : ℕ). IfSome o (CallsBelow n)) (ap length is ∙ learned_width schema line) (some_below now o h)
+learned_below schema now line (Err e) is h = tt
+
 both-true : (a b : Bool) → a ≡ true → b ≡ true → (a && b) ≡ true
 both-true a b h k = rw (h, k) refl
 
@@ -115,14 +123,29 @@ numbered_from n (r ∷ rs) h =
 pub table_numbered : (bytes : List ℕ) (t : Table) → table_of bytes ≡ Ok t → is_numbered 1 t.rows ≡ true
 table_numbered bytes t h = numbered_from 1 t.rows (λ i r e. let k = keys-count bytes t i r h e in omega arith)
 
-over_limit : (limit : ℕ) (cuts a b : List ℕ) (t : Table) (blocks : List (List Call)) (lists : CutLists) → table_of a ≡ Ok t → script_of t.columns b ≡ Ok blocks → cuts_of t.columns cuts ≡ Ok lists → nat_lt limit (length t.rows) ≡ true → start_of limit cuts a b ≡ Err (refusal.TooMany limit)
-over_limit limit cuts a b t blocks lists h k l m = rw (h, k, l, m) refl
+over_limit : (limit : ℕ) (cuts a b : List ℕ) (t : Table) (s : Script) (lists : CutLists) → table_of a ≡ Ok t → script_of t.columns b ≡ Ok s → cuts_of s.columns cuts ≡ Ok lists → nat_lt limit (length t.rows) ≡ true → start_of limit cuts a b ≡ Err (refusal.TooMany limit)
+over_limit limit cuts a b t s lists h k l m = rw (h, k, l, m) refl
 
 pub exceeds : (limit n many : ℕ) → n ≡ many → limit < n → nat_lt limit many ≡ true
 exceeds limit n many e h = subst (λ (k : ℕ). nat_lt limit k ≡ true) e (grind (arith, common_steps))
 
+-- a text's refusal is that of what comes after it too
+text_refuses_then : {A B : Type 0} (I : Type 0) (e : Refusal) (said : Result A Refusal) (f : A → Result B Refusal) → TellsText e → Answers {A = A} (Err e) said → RefusedFrom {Y = B} I e (said >>= f)
+text_refuses_then I refusal.NoMemory said f t h = tt
+text_refuses_then I refusal.Input said f t h = absurd t
+text_refuses_then {A} I e said f t h = ap (λ (r : Result A Refusal). r >>= f) h
+
+no_cuts : (I : Type 0) (limit : ℕ) (cuts a b : List ℕ) (t : Table) (s : Script) (e : Refusal) → table_of a ≡ Ok t → script_of t.columns b ≡ Ok s → TellsText e → Answers {A = CutLists} (Err e) (cuts_of s.columns cuts) → RefusedFrom {Y = Start} I e (start_of limit cuts a b)
+no_cuts I limit cuts a b t s e h k tells l = rw (h, k) (text_refuses_then I e (cuts_of s.columns cuts) _ tells l)
+
+-- where table and script were read, a refusal of the cuts is the refusal
+pub cuts_refuse : (I : List ℕ → Type 0) (limit : ℕ) (cuts : List ℕ) (left right : Option (List ℕ)) (t : Table) (s : Script) (e : Refusal) → IfSome left (λ a. table_of a ≡ Ok t) → IfSome right (λ b. script_of t.columns b ≡ Ok s) → TellsText e → Answers {A = CutLists} (Err e) (cuts_of s.columns cuts) → IfBoth left right (λ a b. RefusedFrom {Y = Start} (I a) e (start_of limit cuts a b))
+cuts_refuse I limit cuts (Some a) (Some b) t s e h k tells l = no_cuts (I a) limit cuts a b t s e h k tells l
+cuts_refuse I limit cuts (Some a) None t s e h k tells l = tt
+cuts_refuse I limit cuts None right t s e h k tells l = tt
+
 -- where all was read and the rows are more than the limit, that is the refusal
-pub rows_refuse : (limit : ℕ) (cuts : List ℕ) (left right : Option (List ℕ)) (t : Table) (blocks : List (List Call)) (lists : CutLists) → IfSome left (λ a. table_of a ≡ Ok t) → IfSome right (λ b. script_of t.columns b ≡ Ok blocks) → cuts_of t.columns cuts ≡ Ok lists → nat_lt limit (length t.rows) ≡ true → IfBoth left right (λ a b. start_of limit cuts a b ≡ Err (refusal.TooMany limit))
-rows_refuse limit cuts (Some a) (Some b) t blocks lists h k l m = over_limit limit cuts a b t blocks lists h k l m
-rows_refuse limit cuts (Some a) None t blocks lists h k l m = tt
-rows_refuse limit cuts None right t blocks lists h k l m = tt
+pub rows_refuse : (limit : ℕ) (cuts : List ℕ) (left right : Option (List ℕ)) (t : Table) (s : Script) (lists : CutLists) → IfSome left (λ a. table_of a ≡ Ok t) → IfSome right (λ b. script_of t.columns b ≡ Ok s) → cuts_of s.columns cuts ≡ Ok lists → nat_lt limit (length t.rows) ≡ true → IfBoth left right (λ a b. start_of limit cuts a b ≡ Err (refusal.TooMany limit))
+rows_refuse limit cuts (Some a) (Some b) t s lists h k l m = over_limit limit cuts a b t s lists h k l m
+rows_refuse limit cuts (Some a) None t s lists h k l m = tt
+rows_refuse limit cuts None right t s lists h k l m = tt

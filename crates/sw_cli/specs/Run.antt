@@ -18,12 +18,12 @@ use Rattle.sw_spine.specs.Rest.{none_open}
 use Rattle.sw_spine.specs.Table.{opened, reply_to, updates_then}
 use Rattle.sw_histories.specs.Told.{◌>>=◌}
 use Rattle.sw_cli.specs.Outcomes.{AllSayWhy, Outcome, all_answered, answered, calls_of, sessions_from, text_of}
-use Rattle.sw_cli.specs.Script.{blocks_of}
+use Rattle.sw_cli.specs.Script.{Script, blocks_of}
 
 -- ---- what a run starts from
 
--- a table, a script and cuts that were read: the attributes, the rows, the calls of the script's blocks, and for each
--- attribute the values at which its head is cut
+-- a table, a script and cuts that were read: the attributes with the texts that are known after the script, the rows,
+-- the calls of the script's blocks, and for each attribute the values at which its head is cut
 pub record Start : Type 0 where
   pub columns : List Column
   pub rows : List Row
@@ -43,8 +43,8 @@ or_refusal (Err f) = Err (refusal_of f)
 abbrev pub rows_within : ℕ → List Row → Result (List Row) Refusal
 rows_within limit rows = if nat_lt limit (length rows) then Err (TooMany limit) else Ok rows
 
--- the blocks of calls that the bytes of a script spell; a script has at most 268,435,456 bytes
-abbrev pub script_of : List Column → List ℕ → Result (List (List Call)) Refusal
+-- what the bytes of a script spell; a script has at most 268,435,456 bytes
+abbrev pub script_of : List Column → List ℕ → Result Script Refusal
 script_of columns bytes = or_refusal (bytes_within MOST_BYTES bytes) >>= blocks_of columns
 
 -- the cuts that a text spells
@@ -56,10 +56,10 @@ cuts_of columns text = refused 0 (cuts_at columns text)
 abbrev pub start_of : ℕ → List ℕ → List ℕ → List ℕ → Result Start Refusal
 start_of limit cuts table script =
     or_refusal (table_of table) >>= λ t.
-    (script_of t.columns script >>= λ blocks.
-    (cuts_of t.columns cuts >>= λ lists.
+    (script_of t.columns script >>= λ s.
+    (cuts_of s.columns cuts >>= λ lists.
     (rows_within limit t.rows >>= λ rows.
-    Ok (record { columns = t.columns; rows = rows; blocks = blocks; cuts = lists }))))
+    Ok (record { columns = s.columns; rows = rows; blocks = s.blocks; cuts = lists }))))
 
 -- ---- what a run leaves
 

@@ -10,7 +10,7 @@ use Rattle.sw_spine.specs.History.{History}
 use Rattle.sw_spine.specs.Table.{is_numbered}
 use Rattle.sw_cli.specs.Outcomes.{Outcome}
 use Rattle.sw_cli.specs.Run.{AllAnswered, Began, Leaves, Start, TellsAll, out_of, script_of, start_of}
-use Rattle.sw_cli.specs.Script.{AreBlocks}
+use Rattle.sw_cli.specs.Script.{AreBlocks, Script}
 use Rattle.sw_cli.specs.Sides.{FailedInTurn, IsUntouched, SinkFailed, SinkHeld, SinkSeen, SourceFailed, SourceSeen}
 use Rattle.sw_cli.specs.declared.start.Inputs.{Inputs}
 
@@ -45,8 +45,8 @@ IfBoth (Some a) (Some b) P = P a b
 IfBoth (Some a) None P = Unit {0}
 IfBoth None b P = Unit {0}
 
--- what is answered of the script of a source, seen by view: the blocks of the calls that its bytes spell
-abbrev pub ReadsScript : {X : Type 0} → List Column → SourceSeen → (X → List (List Call)) → Result X Refusal → Type 0
+-- what is answered of the script of a source, seen by view: what its bytes spell
+abbrev pub ReadsScript : {X : Type 0} → List Column → SourceSeen → (X → Script) → Result X Refusal → Type 0
 ReadsScript columns s view result =
     IfSome s.left (λ bytes. ReadsFrom (SourceFailed s) view result (script_of columns bytes))
 

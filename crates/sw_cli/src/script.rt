@@ -1,13 +1,14 @@
 //! The blocks of a script, and their calls.
 
-ghost use Rattle.std.specs.Prelude.{◌≡◌, ◌≤◌, ◌+◌, ℕ, [], length, IfErr, IfOk, IfSome, OnOk};
+ghost use Rattle.std.specs.Prelude.{◌≡◌, ◌≤◌, ◌+◌, ℕ, [], length, IfErr, IfOk, IfSome, OnErr, OnOk};
 ghost use Rattle.std.specs.List.{list_all};
 ghost use Rattle.sw_rows.specs.declared.loading.TheConstants.{MOST_BYTES};
+ghost use Rattle.sw_lang.specs.Learning.{learned};
 ghost use Rattle.sw_lang.specs.Reading.{Answers};
 ghost use Rattle.sw_lang.specs.Tokens.{is_blank};
 ghost use Rattle.sw_spine.specs.History.{CallsBelow};
 ghost use Rattle.sw_cli.specs.declared.script.TheConstants.{MOST_CALLS};
-ghost use Rattle.sw_cli.specs.Script.{AreBlocks, AreSound, all_blocks, blocks_of, call_of_line, calls_in, is_divider, so_far, with_block, with_call, with_line};
+ghost use Rattle.sw_cli.specs.Script.{AreBlocks, AreSound, blocks_of, call_of_line, calls_in, is_divider, so_far, spelled, whole, with_block, with_call, with_line};
 ghost use Rattle.sw_histories.specs.Told.{Reads, TellsText};
 
 use bstr::ByteSlice;
@@ -66,15 +67,17 @@ fn is_divider(line: &[u8]) -> bool
     }
 }
 
-/// The call of a line of this number, if it has one.
+/// The call of a line of this number, if it has one. Its texts become known.
 fn call_of_line(
     alloc: Global,
-    schema: &Schema,
+    schema: &mut Schema,
     number: u32,
     line: &[u8],
 ) -> Result<Option<Call>, Refusal>
-    ensures answers { Answers result (call_of_line schema.now number line.now) }
-    ensures below { IfOk result (λ call. IfSome call (CallsBelow (length schema.now))) }
+    ensures answers { Answers result (call_of_line schema.old number line.now) }
+    ensures learned { OnOk result (schema.new ≡ learned schema.old line.now) }
+    ensures unchanged { OnErr result (schema.new ≡ schema.old) }
+    ensures below { IfOk result (λ call. IfSome call (CallsBelow (length schema.old))) }
     ensures why { IfErr result TellsText }
 {
     if line.len() > MOST_LINE {
@@ -90,9 +93,11 @@ fn call_of_line(
     }
 }
 
-/// The blocks of the lines so far, the last one apart. Contracts see both.
+/// The lines so far: the schema with the texts that are known by now, and the blocks, the last one apart. Contracts
+/// see all three.
 #[derive(Drop)]
 struct Blocks {
+    schema: Schema,
     closed: Vec<Block>,
     last: Vec<Call>,
     before: usize,
@@ -104,17 +109,18 @@ impl Model for Blocks {
 
     ghost Value = { SoFar };
 
-    ghost view = { λ p. so_far p.closed.items p.last.items };
+    ghost view = { λ p. so_far p.schema p.closed.items p.last.items };
 
     ghost invariant = { λ p. p.before ≡ calls_in p.closed.items };
 }
 
 impl Blocks {
     /// One block without calls.
-    fn new(alloc: Global) -> Blocks
-        ensures { result ≡ so_far [] [] }
+    fn new(alloc: Global, schema: Schema) -> Blocks
+        ensures { result ≡ so_far schema [] [] }
     {
         Blocks {
+            schema,
             closed: Vec::new(alloc),
             last: Vec::new(alloc),
             before: 0,
@@ -162,64 +168,63 @@ impl Blocks {
     }
 
     /// Reads one more line, of this number.
-    fn read(
-        &mut self,
-        alloc: Global,
-        schema: &Schema,
-        number: u32,
-        line: &[u8],
-    ) -> Result<(), Refusal>
-        requires { AreSound (length schema.now) self.old }
-        ensures answers { Reads (λ _. self.new) result (with_line schema.now number self.old line.now) }
-        ensures sound { OnOk result (AreSound (length schema.now) self.new) }
+    fn read(&mut self, alloc: Global, number: u32, line: &[u8]) -> Result<(), Refusal>
+        requires { calls_in self.old.closed + length self.old.last ≤ MOST_CALLS }
+        ensures answers { Reads (λ _. self.new) result (with_line number self.old line.now) }
+        ensures sound { (n : ℕ) → AreSound n self.old → OnOk result (AreSound n self.new) }
         ensures why { IfErr result TellsText }
     {
         if is_divider(line) {
             return self.divide(alloc);
         }
-        match call_of_line(alloc, schema, number, line) {
+        match call_of_line(alloc, &mut self.schema, number, line) {
             Ok(call) => self.add(call),
             Err(e) => Err(e),
         }
     }
 
-    /// All blocks.
-    fn close(self) -> Result<Vec<Block>, Refusal>
-        ensures all { IfOk result (λ blocks. blocks.items ≡ all_blocks self) }
+    /// The schema, and all blocks.
+    fn close(self) -> Result<(Schema, Vec<Block>), Refusal>
+        ensures all { IfOk result (λ p. spelled p.0 p.1.items ≡ whole self) }
         ensures refused { IfErr result (λ e. e ≡ Refusal.NoMemory) }
     {
         let Blocks {
+            schema,
             mut closed,
             last,
             ..
         } = self;
         match closed.push(Block { calls: last }) {
-            Ok(()) => Ok(closed),
+            Ok(()) => Ok((schema, closed)),
             Err(_) => Err(Refusal::NoMemory),
         }
     }
 }
 
-/// The calls of a script's blocks, in the order of its lines. A line `---` divides two blocks; a block may have no calls.
+/// The calls of a script's blocks, in the order of its lines, and the schema with their texts. A line `---` divides two
+/// blocks; a block may have no calls.
 ///
-/// The first fault in the order of lines refuses it: `BadLine` with the line's number, from 1, and why `Length` where it has
-/// more than 4,096 bytes, `Encoding` where it is not UTF-8, or what `parse_line` finds; `UnknownAttribute`; `TooMany` of
-/// 1,048,576 at the call of that number and one, and of 1,024 at the line that begins block 1,025.
+/// The texts of a line become known as it is read, and stay so for the lines after it. The first fault in the order of
+/// lines refuses it: `BadLine` with the line's number, from 1, and why `Length` where it has more than 4,096 bytes,
+/// `Encoding` where it is not UTF-8, or what `parse_line` finds; `UnknownAttribute`; `TooMany` of 1,048,576 at the
+/// call of that number and one, of as many at the text that is one too many, and of 1,024 at the line that begins
+/// block 1,025.
 pub(crate) fn read_blocks(
     alloc: Global,
-    schema: &Schema,
+    schema: Schema,
     text: &[u8],
-) -> Result<Vec<Block>, Refusal>
+) -> Result<(Schema, Vec<Block>), Refusal>
     requires { length text.now ≤ MOST_BYTES }
-    ensures answers { Reads (λ blocks. blocks.items) result (blocks_of schema.now text.now) }
-    ensures sound { IfOk result (λ blocks. AreBlocks (length schema.now) blocks.items) }
+    ensures answers { Reads (λ p. spelled p.0 p.1.items) result (blocks_of schema text.now) }
+    ensures width { IfOk result (λ p. length p.0 ≡ length schema) }
+    ensures sound { IfOk result (λ p. AreBlocks (length schema) p.1.items) }
     ensures why { IfErr result TellsText }
 {
-    let mut blocks = Blocks::new(alloc);
+    let mut blocks = Blocks::new(alloc, schema);
     let mut number: u32 = 0;
     for line in text.lines() {
         number += 1;
-        match blocks.read(alloc, schema, number, line) {
+        match blocks.read(alloc, number, line) {
             Ok(()) => {}
             Err(e) => return Err(e),
         }

@@ -5,7 +5,7 @@ ghost use Rattle.sw_lang.specs.Cuts.{FitCuts};
 ghost use Rattle.sw_rows.specs.Gives.{Raised};
 ghost use Rattle.sw_histories.specs.Told.{Reads, TellsText};
 ghost use Rattle.sw_cli.specs.Run.{cuts_of};
-ghost use Rattle.sw_cli.specs.Script.{AreBlocks};
+ghost use Rattle.sw_cli.specs.Script.{AreBlocks, spelled};
 ghost use Rattle.sw_cli.specs.Sides.{EitherFailed, SourcesHeld, source_seen};
 ghost use Rattle.sw_cli.specs.Starts.{IsStart, ReadsScript, ReadsStart, TellsStart, start_seen};
 
@@ -24,21 +24,23 @@ pub(crate) struct Inputs {
     pub(crate) cuts: Cuts,
 }
 
-/// Reads a script from its source.
+/// Reads a script from its source. The schema is handed on with the texts of the script.
 fn read_script<S: Source>(
     alloc: Global,
-    schema: &Schema,
+    schema: Schema,
     script: &mut S,
-) -> Result<Vec<Block>, Refusal>
-    ensures spelled { ReadsScript schema.now
-        (source_seen (S.left script.old) (S.failed script.old) (S.failed script.new)) (λ blocks. blocks.items) result }
-    ensures sound { IfOk result (λ blocks. AreBlocks (length schema.now) blocks.items) }
+) -> Result<(Schema, Vec<Block>), Refusal>
+    ensures spelled { ReadsScript schema
+        (source_seen (S.left script.old) (S.failed script.old) (S.failed script.new))
+        (λ p. spelled p.0 p.1.items) result }
+    ensures width { IfOk result (λ p. length p.0 ≡ length schema) }
+    ensures sound { IfOk result (λ p. AreBlocks (length schema) p.1.items) }
     ensures told { IfErr result (TellsStart (Raised (S.failed script.old) (S.failed script.new))) }
     ensures steady { OnOk result (S.failed script.new ≡ S.failed script.old) }
 {
     match read_all(alloc, script, MOST_BYTES) {
         Ok(text) => match read_blocks(alloc, schema, &text) {
-            Ok(blocks) => Ok(blocks),
+            Ok(read) => Ok(read),
             Err(e) => Err(e),
         },
         Err(e) => Err(e),
@@ -78,8 +80,8 @@ pub(crate) fn read_start<R: Threads + Sync, T: Source, S: Source>(
         Ok(found) => found,
         Err(e) => return Err(e),
     };
-    let blocks = match read_script(alloc, &schema, script) {
-        Ok(blocks) => blocks,
+    let (schema, blocks) = match read_script(alloc, schema, script) {
+        Ok(read) => read,
         Err(e) => return Err(e),
     };
     let cuts = match read_cuts(alloc, &schema, cuts) {

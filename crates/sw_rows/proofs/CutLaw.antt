@@ -12,6 +12,7 @@ use Rattle.csv.specs.declared.parser.State.{State}
 use Rattle.csv.specs.declared.parser.State.TheVariants as st
 use Rattle.sw_rows.specs.Parts.{begins_plain, has_no_quote}
 use Rattle.sw_rows.specs.Records.{records_at}
+use Rattle.sw_rows.proofs.Options.{by_bool}
 use Rattle.sw_rows.proofs.RecordLemmas.{records_step}
 
 -- the records from inside a record, with its fields and the bytes of the field at hand
@@ -39,10 +40,6 @@ Stands st.InQuoted fs f = ⊥
 Stands st.AfterQuote fs f = ⊥
 Stands st.InEscape fs f = ⊥
 Stands st.InComment fs f = ⊥
-
-pub by_bool : {P : Type 0} (b : Bool) → (b ≡ true → P) → (b ≡ false → P) → P
-by_bool true f g = f refl
-by_bool false f g = g refl
 
 -- no byte of it is a quote
 plain_head : (c : ℕ) (p : List ℕ) → list_all (λ c. not (c == 34)) (c ∷ p) ≡ true → (c == 34) ≡ false

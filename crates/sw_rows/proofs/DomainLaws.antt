@@ -1,8 +1,9 @@
 -- Attributes over texts.
-use Rattle.std.proofs.Common.{◌≡◌, ◌∙◌, ap, sym, refl, subst, ℕ, ℤ, pos, zero, suc, ◌+◌, ◌-◌, ◌<◌, ◌≤◌, All, Bool, true, false, not, cond, true≢false, List, [], ◌∷◌, length, map, take, drop, get_or, slice_get, slice_index_or, position, bytes_eq, arith, Option, Some, None, option_map, ◌||◌, ◌&&◌}
+use Rattle.std.proofs.Common.{◌≡◌, ◌∙◌, ap, sym, refl, subst, ℕ, zero, suc, ◌+◌, ◌<◌, ◌≤◌, All, Bool, true, false, not, cond, true≢false, List, [], ◌∷◌, length, map, take, drop, get_or, slice_get, slice_index_or, position, bytes_eq, arith, Some, option_map, ◌||◌, ◌&&◌}
 use Rattle.std.proofs.lemmas.Bool.{or_parts}
-use Rattle.std.proofs.lemmas.List.{drop_all, drop_more}
-use Rattle.std.proofs.lemmas.Option.{get_or_from_slice_get, slice_get-get_or, none-some, same_Some, slice_get-map, slice_get_within}
+use Rattle.std.proofs.lemmas.List.{drop_all, drop_more, length-map}
+use Rattle.std.proofs.lemmas.List.Elements.{All-cons, All-head, All-tail}
+use Rattle.std.proofs.lemmas.Option.{slice_get-get_or, none-some, same_Some, slice_get-map, slice_get_within}
 use Rattle.std.specs.List.{list_all, list_any, position_or_len}
 use Rattle.sw_rows.specs.Domains.{Domain, IsDomain, IsOver, domain, is_of_texts, kind_in, over, under}
 use Rattle.sw_rows.specs.Domains as kind
@@ -96,26 +97,16 @@ holding_places ts (c ∷ cs) name = ap (λ n. cond (not (bytes_eq name c.0)) (1 
 pub holding_place : (ts : Texts) (cs : List Column) (name : List ℕ) → position (λ (c : Column). bytes_eq name c.0) (holding ts cs) ≡ position (λ (c : Column). bytes_eq name c.0) cs
 holding_place ts cs name = cc (holding_places ts cs name, holding_long ts cs)
 
-first_of : (P : Column → Type 0) (c : Column) (cs : List Column) → All P (c ∷ cs) → P c
-first_of P c cs h = h 0 c (omega arith)
-
-others_of : (P : Column → Type 0) (c : Column) (cs : List Column) → All P (c ∷ cs) → All P cs
-others_of P c cs h k d lt = h (suc k) d (omega arith)
-
-both_of : (P : Column → Type 0) (c : Column) (cs : List Column) → P c → All P cs → All P (c ∷ cs)
-both_of P c cs p h zero d lt = p
-both_of P c cs p h (suc k) d lt = h k d (omega arith)
-
 none_of : (P : Column → Type 0) → All P []
 none_of P k d lt = absurd (omega arith)
 
 domains_over : (ts : Texts) (cs : List Column) → AreTexts ts → All (λ c. IsDomain c.1) cs → All (λ c. IsDomain c.1) (holding ts cs)
 domains_over ts [] s h = none_of (λ c. IsDomain c.1)
-domains_over ts (c ∷ cs) s h = both_of (λ c. IsDomain c.1) (c.0, over ts c.1) (holding ts cs) (sound_over ts c.1 s (first_of (λ c. IsDomain c.1) c cs h)) (domains_over ts cs s (others_of (λ c. IsDomain c.1) c cs h))
+domains_over ts (c ∷ cs) s h = All-cons (λ c. IsDomain c.1) (c.0, over ts c.1) (holding ts cs) (sound_over ts c.1 s (All-head (λ c. IsDomain c.1) c cs h)) (domains_over ts cs s (All-tail (λ c. IsDomain c.1) c cs h))
 
 are_over : (ts : Texts) (cs : List Column) → All (λ c. IsOver ts c.1) (holding ts cs)
 are_over ts [] = none_of (λ c. IsOver ts c.1)
-are_over ts (c ∷ cs) = both_of (λ c. IsOver ts c.1) (c.0, over ts c.1) (holding ts cs) (is_over ts c.1) (are_over ts cs)
+are_over ts (c ∷ cs) = All-cons (λ c. IsOver ts c.1) (c.0, over ts c.1) (holding ts cs) (is_over ts c.1) (are_over ts cs)
 
 texts_held : (ts : Texts) (cs : List Column) → has_texts cs ≡ true → texts_of (holding ts cs) ≡ ts
 texts_held ts [] h = absurd (true≢false (sym h))
@@ -197,9 +188,8 @@ kind_first [] i d none h = absurd (none-some d h)
 kind_first (c ∷ cs) zero d none h = same_Some c.1 d h
 kind_first (c ∷ cs) (suc i) d none h = kind_first cs i d none h
 
-kinds_long : (cs : List Column) → length (kinds_of cs) ≡ length cs
-kinds_long [] = refl
-kinds_long (c ∷ cs) = ap suc (kinds_long cs)
+pub kinds_long : (cs : List Column) → length (kinds_of cs) ≡ length cs
+kinds_long cs = length-map cs (λ (c : Column). c.1)
 
 -- one attribute more is looked at
 pub texts_further : (cs : List Column) (i : ℕ) (k : Kind) → slice_get (kinds_of cs) i ≡ Some (domain [] k) → has_texts (drop i cs) ≡ (is_of_texts (domain [] k) || has_texts (drop (i + 1) cs))

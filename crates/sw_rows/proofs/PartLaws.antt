@@ -16,10 +16,7 @@ use Rattle.sw_rows.specs.Domains.{Domain, is_of_texts}
 use Rattle.sw_rows.specs.Texts.{is_text}
 use Rattle.sw_rows.specs.declared.texts.TheConstants.{MOST_TEXTS}
 use Rattle.sw_table.specs.declared.row.Row.{Row}
-
-told : {P : Type 0} (b : Bool) → (b ≡ true → P) → (b ≡ false → P) → P
-told true f g = f refl
-told false f g = g refl
+use Rattle.sw_rows.proofs.Options.{by_bool}
 
 lt_of : (a b : ℕ) → nat_lt a b ≡ true → a < b
 lt_of a b h = grind (arith, nat_tests, h)
@@ -141,7 +138,7 @@ rows_shift ks [] d e h =
 rows_shift ks (y ∷ ys) d e h =
     let front = d ++ map (row_behind (length d)) e in
     let long : length front ≡ length d + length e = length-append d (map (row_behind (length d)) e) ∙ ap (λ n. length d + n) (length-map e (row_behind (length d))) in
-    told (nat_lt (length d + length e) MOST_ROWS)
+    by_bool (nat_lt (length d + length e) MOST_ROWS)
     (λ lt.
     let outer : nat_lt (length front) MOST_ROWS ≡ true = ap (λ n. nat_lt n MOST_ROWS) long ∙ lt in
     let inner : nat_lt (length e) MOST_ROWS ≡ true = grind (arith, nat_tests, lt) in
@@ -175,7 +172,7 @@ Few (Err e) = Unit {0}
 
 few : (ks : List Domain) (ys : List (List (List ℕ))) (done : List Row) → length done ≤ MOST_ROWS → Few (rows_after ks done ys)
 few ks [] done h = h
-few ks (y ∷ ys) done h = told (nat_lt (length done) MOST_ROWS)
+few ks (y ∷ ys) done h = by_bool (nat_lt (length done) MOST_ROWS)
     (λ lt. rw lt (by_read (then_padded (cells_of (length done + 1) ks y)) (lt_of _ _ lt) (few ks ys)))
     (λ no. rw no tt)
   where
@@ -201,7 +198,7 @@ all_more rows r h k = grind (arith, common_steps, h, k)
 
 keyed : (ks : List Domain) (ys : List (List (List ℕ))) (done : List Row) → All (λ r. r.key < 2 ^ 63) done → Keyed (rows_after ks done ys)
 keyed ks [] done h = h
-keyed ks (y ∷ ys) done h = told (nat_lt (length done) MOST_ROWS)
+keyed ks (y ∷ ys) done h = by_bool (nat_lt (length done) MOST_ROWS)
     (λ lt. rw lt (by_read (then_padded (cells_of (length done + 1) ks y)) (lt_of _ _ lt) (keyed ks ys)))
     (λ no. rw no tt)
   where

@@ -2,7 +2,7 @@
 use Rattle.std.proofs.Common.{◌≡◌, ◌∙◌, ap, sym, refl, ℕ, zero, suc, ◌+◌, ◌-◌, ◌<◌, ◌≤◌, ◌==◌, ◌||◌, Bool, true, false, not, cond, List, [], ◌∷◌, ◌++◌, length, take, get_or, Option, Some, None, Result, Ok, Err, option_map, position, bytes_eq, is_some, slice_get, nat_lt, arith, subst, true≢false, append-nil, append_assoc, length-append}
 use Rattle.std.proofs.Math.ListN.{get_or-append}
 use Rattle.std.proofs.Math.Seq.{take-append_seam}
-use Rattle.std.proofs.lemmas.Bool.{and_parts, cond-false, cond-true, lt-ltb, not_from_true, or_parts}
+use Rattle.std.proofs.lemmas.Bool.{and_parts, cond-false, cond-true, lt-ltb, not-true, not_from_false, not_from_true, or_parts, or_right}
 use Rattle.std.proofs.lemmas.Bool.Decides.{nat_tests}
 use Rattle.std.proofs.lemmas.List.Quantifiers.{position-Some}
 use Rattle.std.proofs.lemmas.List.Sums.{fold-append, position_or_len_is}
@@ -13,9 +13,10 @@ use Rattle.std.specs.Option.{option_map_or}
 use Rattle.sw_rows.specs.Faults.{Fault, too_many}
 use Rattle.sw_rows.specs.Texts.{AreTexts, is_text, are_full, code_given, code_of, has_text, next_code, text_of, texts_differ, with_text, with_texts}
 use Rattle.sw_rows.specs.declared.texts.TheConstants.{MOST_TEXTS}
+use Rattle.sw_rows.proofs.CellSpelling.{one_further}
 use Rattle.sw_rows.proofs.ColumnLemmas.{bytes_eq-sym}
 use Rattle.sw_rows.proofs.Options.{err-ok, same_Ok, unless_ok}
-use Rattle.sw_rows.proofs.TextLemmas.{not_from_not, text_at}
+use Rattle.sw_rows.proofs.TextLemmas.{text_at}
 
 abbrev Texts : Type 0
 Texts = List (List ℕ)
@@ -28,10 +29,6 @@ other_at [] i new t h e = absurd (none-some t e)
 other_at (s ∷ ts) zero new t h e = sym (ap (bytes_eq new) (same_Some s t e)) ∙ (or_parts (bytes_eq new s) (has_text ts new) h).0
 other_at (s ∷ ts) (suc i) new t h e = other_at ts i new t (or_parts (bytes_eq new s) (has_text ts new) h).1 e
 
-one_further : (b : Bool) (n i : ℕ) → b ≡ false → n ≡ i → cond (not b) (1 + n) 0 ≡ suc i
-one_further true n i h e = absurd (true≢false h)
-one_further false n i h e = omega arith
-
 here : (t : List ℕ) (n : ℕ) → cond (not (bytes_eq t t)) (1 + n) 0 ≡ 0
 here t n = cond-false (not (bytes_eq t t)) (1 + n) 0 (not_from_true (bytes_eq t t) ((bytes_eq-Decides t t).1 refl))
 
@@ -40,8 +37,8 @@ first_at [] i t h e = absurd (none-some t e)
 first_at (s ∷ ts) zero t h e = subst (λ u. cond (not (bytes_eq t u)) (1 + position_or_len (bytes_eq t) ts) 0 ≡ 0) (sym (same_Some s t e)) (here t (position_or_len (bytes_eq t) ts))
 first_at (s ∷ ts) (suc i) t h e =
     let parts = and_parts (not (has_text ts s)) (texts_differ ts) h in
-    let other : bytes_eq t s ≡ false = bytes_eq-sym t s ∙ other_at ts i s t (not_from_not (has_text ts s) parts.0) e in
-    one_further (bytes_eq t s) (position_or_len (bytes_eq t) ts) i other (first_at ts i t parts.1 e)
+    let other : bytes_eq t s ≡ false = bytes_eq-sym t s ∙ other_at ts i s t (not-true (has_text ts s) parts.0) e in
+    one_further (not (bytes_eq t s)) (position_or_len (bytes_eq t) ts) i (not_from_false (bytes_eq t s) other) (first_at ts i t parts.1 e)
 
 -- the first place that passes, where it lies within
 position_is : (p : List ℕ → Bool) (ts : Texts) (i : ℕ) → position_or_len p ts ≡ i → i < length ts → position p ts ≡ Some i
@@ -173,7 +170,7 @@ last_at : (ts : Texts) (t : List ℕ) → has_text ts t ≡ false → position_o
 last_at [] t h = here t 0
 last_at (s ∷ ts) t h =
     let parts = or_parts (bytes_eq t s) (has_text ts t) h in
-    one_further (bytes_eq t s) (position_or_len (bytes_eq t) (ts ++ t ∷ [])) (length ts) parts.0 (last_at ts t parts.1)
+    one_further (not (bytes_eq t s)) (position_or_len (bytes_eq t) (ts ++ t ∷ [])) (length ts) (not_from_false (bytes_eq t s) parts.0) (last_at ts t parts.1)
 
 neither : (a b : Bool) → a ≡ false → b ≡ false → (a || b) ≡ false
 neither a b h k = rw (h, k) refl
@@ -193,10 +190,6 @@ given_kept ts t code h = by_code (code_of ts t) refl h
         let next = unless_ok (are_full ts) (Ok (length ts + 1)) (too_many MOST_TEXTS) code k in
         code_of_new ts t (unknown ts t e) next.0 ∙ ap (λ n. Some n) (same_Ok (length ts + 1) code next.1)
     by_code (Some c) e k = code_kept ts (t ∷ []) t code (e ∙ ap (λ n. Some n) (same_Ok c code k))
-
-or_right : (a b : Bool) → b ≡ true → (a || b) ≡ true
-or_right true b h = refl
-or_right false b h = h
 
 same_Err : (e : Fault) → ◌≡◌ {A = Result ℕ Fault} (Err (too_many MOST_TEXTS)) (Err e) → e ≡ too_many MOST_TEXTS
 same_Err e h = cc

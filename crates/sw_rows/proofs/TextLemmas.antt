@@ -1,6 +1,6 @@
 -- An indexed set of strings as a list of texts, and what holds of the texts after a step.
 use Rattle.std.proofs.Common.{◌≡◌, ◌∙◌, ap, sym, refl, ℕ, ◌+◌, ◌<◌, ◌≤◌, Bool, true, false, not, cond, zero, suc, ◌||◌, ◌&&◌, List, [], ◌∷◌, ◌++◌, map, length, take, position, bytes_eq, String, string_bytes, nat_le, leb-false, Option, Some, option_map, slice_get, subst, arith, true≢false, length-append, IsUtf8}
-use Rattle.std.proofs.lemmas.Bool.{and_from, and_parts, cond-false, le-leb, or_parts}
+use Rattle.std.proofs.lemmas.Bool.{and_from, and_parts, cond-false, le-leb, not-true, not_from_false, or_parts}
 use Rattle.std.proofs.lemmas.List.{map-append}
 use Rattle.std.proofs.lemmas.List.Folds.{list_all-append}
 use Rattle.std.proofs.lemmas.Option.{none-some, same_Some}
@@ -78,14 +78,6 @@ texts_more ts u s few sound new = record {
 
 -- ---- fewer texts
 
-not_from_false : (b : Bool) → b ≡ false → not b ≡ true
-not_from_false true h = absurd (true≢false h)
-not_from_false false h = refl
-
-pub not_from_not : (b : Bool) → not b ≡ true → b ≡ false
-not_from_not true h = sym h
-not_from_not false h = refl
-
 has-none : (n : ℕ) (ts : List (List ℕ)) (t : List ℕ) → has_text ts t ≡ false → has_text (take n ts) t ≡ false
 has-none zero ts t h = refl
 has-none (suc n) [] t h = refl
@@ -105,7 +97,7 @@ differ-take zero ts h = refl
 differ-take (suc n) [] h = refl
 differ-take (suc n) (t ∷ ts) h =
     let parts = and_parts (not (has_text ts t)) (texts_differ ts) h in
-    let here = not_from_false (has_text (take n ts) t) (has-none n ts t (not_from_not (has_text ts t) parts.0)) in
+    let here = not_from_false (has_text (take n ts) t) (has-none n ts t (not-true (has_text ts t) parts.0)) in
     and_from (not (has_text (take n ts) t)) (texts_differ (take n ts)) here (differ-take n ts parts.1)
 
 fewer : (n : ℕ) (ts : List (List ℕ)) → length (take n ts) ≤ length ts

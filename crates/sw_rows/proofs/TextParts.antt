@@ -1,7 +1,7 @@
 -- Texts of two parts, and rows whose texts have other codes.
 use Rattle.std.proofs.Common.{◌≡◌, ◌∙◌, ap, sym, refl, subst, ℕ, ℤ, pos, zero, suc, ◌+◌, ◌-◌, ◌<◌, ◌==◌, ◌||◌, Bool, true, false, cond, true≢false, List, [], ◌∷◌, ◌++◌, length, map, min, replicate, take, ◌^◌, All, nat_eq, nat_lt, get_or, slice_get, bytes_eq, Option, Some, None, option_map, Result, Ok, Err, append-nil, append_assoc, length-append, arith}
 use Rattle.std.proofs.Math.ListN.{set}
-use Rattle.std.proofs.lemmas.Bool.{cond-false, cond-true}
+use Rattle.std.proofs.lemmas.Bool.{cond-false, cond-true, or_left, or_right}
 use Rattle.std.proofs.lemmas.Bool.Decides.{nat_tests}
 use Rattle.std.proofs.lemmas.Grind.{flat_map-append}
 use Rattle.std.proofs.lemmas.List.{length-map, length-take-le, map-append, take_more}
@@ -40,13 +40,6 @@ Settled ts t = (has_text ts t || are_full ts) ≡ true
 settled_same : (ts : Texts) (t : List ℕ) → Settled ts t → with_text ts t ≡ ts
 settled_same ts t h = cond-true (has_text ts t || are_full ts) ts (ts ++ t ∷ []) h
 
-or_true : (a b : Bool) → b ≡ true → (a || b) ≡ true
-or_true true b h = refl
-or_true false b h = h
-
-or_left : (a b : Bool) → a ≡ true → (a || b) ≡ true
-or_left a b h = rw h refl
-
 has_more : (ts us : Texts) (t : List ℕ) → has_text ts t ≡ true → has_text (ts ++ us) t ≡ true
 has_more [] us t h = absurd (true≢false (sym h))
 has_more (s ∷ ts) us t h = by_test (bytes_eq t s) (has_more ts us t) h
@@ -57,7 +50,7 @@ has_more (s ∷ ts) us t h = by_test (bytes_eq t s) (has_more ts us t) h
 
 has_last : (ts : Texts) (t : List ℕ) → has_text (ts ++ t ∷ []) t ≡ true
 has_last [] t = or_left (bytes_eq t t) false ((bytes_eq-Decides t t).1 refl)
-has_last (s ∷ ts) t = or_true (bytes_eq t s) (has_text (ts ++ t ∷ []) t) (has_last ts t)
+has_last (s ∷ ts) t = or_right (bytes_eq t s) (has_text (ts ++ t ∷ []) t) (has_last ts t)
 
 full_more : (ts us : Texts) → are_full ts ≡ true → are_full (ts ++ us) ≡ true
 full_more ts us h = let long = length-append ts us in grind (arith, nat_tests, h, long)
@@ -67,7 +60,7 @@ settled_more ts us t h = by_test (has_text ts t) refl h
   where
     by_test : (b : Bool) → has_text ts t ≡ b → (b || are_full ts) ≡ true → Settled (ts ++ us) t
     by_test true e k = or_left (has_text (ts ++ us) t) (are_full (ts ++ us)) (has_more ts us t e)
-    by_test false e k = or_true (has_text (ts ++ us) t) (are_full (ts ++ us)) (full_more ts us k)
+    by_test false e k = or_right (has_text (ts ++ us) t) (are_full (ts ++ us)) (full_more ts us k)
 
 settled_with : (ts : Texts) (u t : List ℕ) → Settled ts t → Settled (with_text ts u) t
 settled_with ts u t h = by_test (has_text ts u || are_full ts)
@@ -98,7 +91,7 @@ settled_among ts (u ∷ us) t h = by_test (bytes_eq t u) refl h (settled_among (
 
 full_stays : (ts us : Texts) → are_full ts ≡ true → with_texts ts us ≡ ts
 full_stays ts [] h = refl
-full_stays ts (u ∷ us) h = ap (λ v. with_texts v us) (settled_same ts u (or_true (has_text ts u) (are_full ts) h)) ∙ full_stays ts us h
+full_stays ts (u ∷ us) h = ap (λ v. with_texts v us) (settled_same ts u (or_right (has_text ts u) (are_full ts) h)) ∙ full_stays ts us h
 
 -- a text after texts is added after the texts that those were added to
 added_again : (start ts : Texts) (t : List ℕ) → are_full ts ≡ false → with_texts start (with_text ts t) ≡ with_text (with_texts start ts) t

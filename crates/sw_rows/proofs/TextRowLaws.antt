@@ -23,7 +23,7 @@ use Rattle.sw_rows.specs.declared.reply.Reply.TheVariants as reply
 use Rattle.sw_table.specs.declared.row.Row.{Row}
 use Rattle.sw_rows.proofs.TableSpelling.{table_spelled}
 use Rattle.sw_rows.proofs.TextLaws.{code_only, code_there, text_of_kept}
-use Rattle.sw_rows.proofs.DomainLaws.{holding_kinds}
+use Rattle.sw_rows.proofs.DomainLaws.{holding_kinds, kinds_long}
 
 abbrev Texts : Type 0
 Texts = List (List ℕ)
@@ -47,10 +47,6 @@ domain_sound : (cs : List Column) → All (λ c. IsDomain c.1) cs → (a : ℕ) 
 domain_sound [] h a = tt
 domain_sound (c ∷ cs) h zero = h 0 c (omega arith)
 domain_sound (c ∷ cs) h (suc a) = domain_sound cs (λ k d lt. h (suc k) d (omega arith)) a
-
-kinds_long : (cs : List Column) → length (kinds_of cs) ≡ length cs
-kinds_long [] = refl
-kinds_long (c ∷ cs) = ap suc (kinds_long cs)
 
 -- ---- texts and codes
 

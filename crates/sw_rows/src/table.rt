@@ -1,6 +1,6 @@
 //! Tables of comma-separated values.
 
-ghost use Rattle.std.specs.Prelude.{[], ◌++◌, ◌≡◌, ◌<◌, ◌≤◌, ℕ, List, drop, length, Ok, Some, IfOk, OnOk, slice_get};
+ghost use Rattle.std.specs.Prelude.{[], ◌++◌, ◌≡◌, ◌<◌, ◌≤◌, ℕ, List, drop, false, length, Err, Ok, Some, IfOk, OnErr, OnOk, slice_get};
 ghost use Rattle.csv.specs.Records.{fields_of};
 ghost use Rattle.sw_rows.specs.Cells.{HasPlaces};
 ghost use Rattle.sw_rows.specs.Domains.{domain, under};
@@ -9,7 +9,7 @@ ghost use Rattle.sw_rows.specs.Gives.{Gives};
 ghost use Rattle.sw_rows.specs.Header.{kinds_of};
 ghost use Rattle.sw_rows.specs.Records.{IsPlain, records_left};
 ghost use Rattle.sw_rows.specs.Tables.{cell_at, cells_of, over_seen, padded, rows_after, seeing, shown_packed, table_in, table_of_records, table_with, text_field, text_fields, texts_in, then_padded};
-ghost use Rattle.sw_rows.specs.Texts.{with_texts};
+ghost use Rattle.sw_rows.specs.Texts.{is_text, with_texts};
 ghost use Rattle.sw_rows.specs.declared.table.TheConstants.{MOST_ROWS};
 ghost use Rattle.sw_table.specs.Packed.{zeros};
 
@@ -45,6 +45,7 @@ fn read_text_field(texts: &mut Texts, at: At, field: &[u8]) -> Result<i64, Refus
     ensures gives { (more : List (List ℕ)) → Gives ⊥ (λ cell. cell) result
         (cell_at at.rec at.field (over_seen texts.old (kind.Text []) field.now more) field.now) }
     ensures learned { OnOk result (texts.new ≡ with_texts texts.old (text_field (kind.Text []) field.now)) }
+    ensures no_text { is_text field.now ≡ false → result ≡ Err (Refusal.BadTable at.rec at.field) }
 {
     let Some(text) = read_text(field) else {
         return Err(at.fault());
@@ -61,6 +62,8 @@ fn read_field(kind: Kind, texts: &mut Texts, at: At, field: &[u8]) -> Result<i64
     ensures gives { (more : List (List ℕ)) → Gives ⊥ (λ cell. cell) result
         (cell_at at.rec at.field (over_seen texts.old (domain [] kind) field.now more) field.now) }
     ensures learned { OnOk result (texts.new ≡ with_texts texts.old (text_field (domain [] kind) field.now)) }
+    ensures no_text { text_field (domain [] kind) field.now ≡ []
+        → OnErr result (result ≡ Err (Refusal.BadTable at.rec at.field)) }
 {
     if let Kind::Text = kind {
         return read_text_field(texts, at, field);

@@ -14,4 +14,4 @@ returns-clause-sound c =
     let less = c.if-self-len-ge-MOST_CALLS.false in
     let few : calls_in closed + length last < MOST_CALLS = grind (arith, common_steps) in
     let more : OnOk c.match-push.result (c.push.new.self.items ≡ last ++ c.in-Some.call ∷ []) = search rules in
-    λ n below s. added_sound n closed last c.push.new.self.items c.args.self.now c.in-Some.call c.match-push.result c.self.view_is more few (search rules) s
+    λ n below s. added_sound n c.self.inside.schema closed last c.push.new.self.items c.args.self.now c.in-Some.call c.match-push.result c.self.view_is more few (search rules) s

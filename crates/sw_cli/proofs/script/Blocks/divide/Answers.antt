@@ -23,4 +23,4 @@ returns-clause-sound c =
     let long = c.len.ensures in
     let less = c.if-len-ge-MOST_BLOCKS.false in
     let few : length closed + 1 < MOST_BLOCKS = grind (arith, common_steps) in
-    λ n s. block_sound n closed c.push_reserved.new.self.items last c.replace-calls.new.dest.items c.args.self.now c.self.view_is items (rw c.replace-calls.ensures.after c.new.ensures.items) few s
+    λ n s. block_sound n c.self.inside.schema closed c.push_reserved.new.self.items last c.replace-calls.new.dest.items c.args.self.now c.self.view_is items (rw c.replace-calls.ensures.after c.new.ensures.items) few s

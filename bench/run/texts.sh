@@ -1,0 +1,46 @@
+#!/usr/bin/env bash
+# Times whole runs over a table with an attribute of TEXTS different texts and one of whole numbers, beside the same table with the texts' codes as
+# whole numbers in their place, by turns; medians of ROUNDS. The first script is one count, so that it times the load; the second has 1,000 counts of
+# one text each, of which the time of the first is taken off. Texts are of 4 to 8 bytes, and then of 16.
+# Usage: bench/run/texts.sh [ROWS [ROUNDS [TEXTS]]]
+set -euo pipefail
+. "$(dirname "$0")/../program.sh"
+rows=${1:-1000000}
+rounds=${2:-9}
+texts=${3:-10000}
+for bytes in 4-8 16; do
+  PYTHONPATH=$top/bench PYTHONDONTWRITEBYTECODE=1 python3 - "$program" "$work" "$rows" "$rounds" "$texts" "$bytes" <<'PY'
+import random, statistics, sys
+from timed import timed
+program, work, rows, rounds, many, lengths = sys.argv[1], sys.argv[2], int(sys.argv[3]), int(sys.argv[4]), int(sys.argv[5]), sys.argv[6]
+R = random.Random(7)
+least, most = (int(n) for n in (lengths.split("-") * 2)[:2])
+names = set()
+while len(names) < many:
+    names.add("".join(R.choice("abcdefghijklmnopqrstuvwxyz") for _ in range(R.randint(least, most))))
+names = sorted(names)
+codes = {}
+with open(work + "/text.csv", "w") as texts, open(work + "/code.csv", "w") as numbers:
+    texts.write("city:text,n:int\n"); numbers.write("city:int,n:int\n")
+    for _ in range(rows):
+        name, n = R.choice(names), R.randrange(1 << 30)
+        texts.write(f"{name},{n}\n"); numbers.write(f"{codes.setdefault(name, len(codes) + 1)},{n}\n")
+asked = [R.choice(list(codes)) for _ in range(1000)]
+for script, text, code in [("one", "count\n", "count\n"),
+                           ("equal", "".join(f"count where city = '{a}'\n" for a in asked), "".join(f"count where city = {codes[a]}\n" for a in asked))]:
+    open(f"{work}/{script}.text", "w").write(text); open(f"{work}/{script}.code", "w").write(code)
+times = {(script, side): [] for script in ("one", "equal") for side in ("text", "code")}
+for _ in range(rounds):
+    for script in ("one", "equal"):
+        told = {}
+        for side in ("text", "code"):
+            seconds, _, told[side] = timed([program, "run", "--table", f"{work}/{side}.csv", "--script", f"{work}/{script}.{side}"])
+            times[script, side].append(seconds)
+        assert told["text"] == told["code"], script
+of = {key: statistics.median(values) for key, values in times.items()}
+load, plain = of["one", "text"], of["one", "code"]
+counts, numbers = of["equal", "text"] - load, of["equal", "code"] - plain
+print(f"texts of {lengths} bytes: load {load:.3f} s, codes {plain:.3f} s, ratio {load / plain:.2f} (least "
+      f"{min(times['one', 'text']) / min(times['one', 'code']):.2f}); 1,000 counts {counts:.3f} s, over numbers {numbers:.3f} s, ratio {counts / numbers:.2f}", flush=True)
+PY
+done
