@@ -29,7 +29,7 @@ Texts = List (List ℕ)
 
 -- ---- attributes of numbers
 
-numbers_held : (us : Texts) (cs : List Column) → has_texts cs ≡ false → holding us cs ≡ cs
+pub numbers_held : (us : Texts) (cs : List Column) → has_texts cs ≡ false → holding us cs ≡ cs
 numbers_held us [] h = refl
 numbers_held us (c ∷ cs) h =
     let parts = or_parts (is_of_texts c.1) (has_texts cs) h in
@@ -48,7 +48,7 @@ others_of : (P : Column → Type 0) (c : Column) (cs : List Column) → All P (c
 others_of P c cs h k d lt = h (suc k) d (omega (arith, lt))
 
 -- the texts of sound attributes are sound
-texts_known : (cs : List Column) → All (λ c. IsDomain c.1) cs → AreTexts (texts_of cs)
+pub texts_known : (cs : List Column) → All (λ c. IsDomain c.1) cs → AreTexts (texts_of cs)
 texts_known [] h = no_texts
 texts_known (c ∷ cs) h = by_domain c.1 (first_of (λ c. IsDomain c.1) c cs h) (texts_known cs (others_of (λ c. IsDomain c.1) c cs h))
   where
@@ -61,7 +61,7 @@ texts_known (c ∷ cs) h = by_domain c.1 (first_of (λ c. IsDomain c.1) c cs h) 
 abbrev all_texts : Texts → Bool
 all_texts ts = list_all is_text ts
 
-knowing_schema : (s : List Column) (more : Texts) → IsSchema s → all_texts more ≡ true → IsSchema (knowing more s)
+pub knowing_schema : (s : List Column) (more : Texts) → IsSchema s → all_texts more ≡ true → IsSchema (knowing more s)
 knowing_schema s more ok sound = by_test (has_texts s) refl
   where
     by_test : (b : Bool) → has_texts s ≡ b → IsSchema (knowing more s)

@@ -2,6 +2,7 @@ pub mod EntriesLemmas
 pub mod ExampleOfRun
 pub mod FileCheckLemmas
 pub mod LearnedTexts
+pub mod NarrowedLines
 pub mod OutlineLemmas
 pub mod RecordBack
 pub mod RecordLaws

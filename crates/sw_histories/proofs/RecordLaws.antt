@@ -66,7 +66,7 @@ entry_found columns n d e h =
     let w : entry_with c.0 d ≡ Some e = fault_ok n (entry_with c.0 d) e c.2 in
     let s = then_some {A = ℕ} {B = Entry} (λ s. option_map (λ st. entry s c.0 st) (state_in c.0 d)) (session_in d) e w in
     let st = map_some {A = State} {B = Entry} (λ st. entry s.0 c.0 st) (state_in c.0 d) e s.2 in
-    subst (IsEntry columns d) st.2 (record {
+    subst (IsEntry columns d) {x = entry s.0 c.0 st.0} st.2 (record {
       members = members.0;
       text = t.0;
       text_is = members.1;
@@ -149,7 +149,7 @@ outer_found d f h =
     let b = then_some {A = ℕ} {B = Frame} (frame_within d a.0) (limit_in d) f a.2 in
     let r = then_some {A = List Column × List Row} {B = Frame} (frame_with d b.0) (rows_in a.0 b.0 d) f b.2 in
     let e = map_some {A = List Data} {B = Frame} (λ items. frame r.0.0 b.0 r.0.1 items) (array_at (codes "entries") d) f r.2 in
-    subst (IsOuter d) e.2 (record {
+    subst (IsOuter d) {x = frame r.0.0 b.0 r.0.1 e.0} e.2 (record {
       members = inside.0;
       named = a.0;
       header = n.1 ∙ under.1;
@@ -222,7 +222,7 @@ record_found bytes h e =
     let o = outer_found j.0 f.0 (fault_ok 0 (frame_of j.0) f.0 f.1) in
     let es = items_found f.0 h f.2 in
     let found = entries_found f.0.columns [] f.0.items es.1.0 es.1.1 in
-    subst (IsRecord bytes) es.1.2 (record {
+    subst (IsRecord bytes) {x = history_with f.0 es.1.0} es.1.2 (record {
       utf8 = text.0;
       value = j.0;
       json = text.1;

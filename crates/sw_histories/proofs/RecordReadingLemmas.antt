@@ -194,7 +194,7 @@ frame_sound d f h =
     let e = map_some {A = List Data} {B = Frame} (λ items. frame r.0.0 b.0 r.0.1 items) (array_at (codes "entries") d) f r.2 in
     let limit = limit_sound d b.0 b.1 in
     let rows = rows_in_sound a.0 b.0 d r.0 r.1 in
-    subst IsFrame e.2 (record { some = limit.0; most = limit.1; few = rows.few; numbered = rows.numbered })
+    subst IsFrame {x = frame r.0.0 b.0 r.0.1 e.0} e.2 (record { some = limit.0; most = limit.1; few = rows.few; numbered = rows.numbered })
 
 -- ---- rows
 

@@ -1,7 +1,7 @@
 -- The text of a run's record is read as that record.
-use Rattle.std.proofs.Common.{◌≡◌, ◌∙◌, sym, ap, refl, subst, ℕ, ℤ, pos, negsuc, suc, ◌+◌, ◌-◌, ◌<◌, ◌≤◌, ◌^◌, ◌==◌, ◌&&◌, ◌⊎◌, Bool, true, false, true≢false, cond, if◌then◌else◌, List, [], ◌∷◌, ◌++◌, arith, length, map, replicate, All, Option, Some, None, Ok, nat_eq, nat_le, inl, inr, append_assoc, append-nil, length-append, eqb-true, le-leb, lt-ltb}
-use Rattle.std.specs.Prelude.{IsSome, is_some, option_and_then, option_map}
-use Rattle.std.specs.List.{list_all, list_any}
+use Rattle.std.proofs.Common.{◌≡◌, ◌∙◌, sym, ap, refl, subst, ℕ, ℤ, pos, negsuc, suc, ◌+◌, ◌-◌, ◌<◌, ◌≤◌, ◌^◌, ◌==◌, ◌&&◌, ◌||◌, ◌⊎◌, Bool, true, false, true≢false, cond, if◌then◌else◌, List, [], ◌∷◌, ◌++◌, arith, codes, length, map, replicate, All, Option, Some, None, Ok, nat_eq, nat_le, inl, inr, append_assoc, append-nil, length-append, eqb-true, le-leb, lt-ltb}
+use Rattle.std.specs.Prelude.{IsSome, filter_map, flat_map, is_some, option_and_then, option_map, unwrap_or}
+use Rattle.std.specs.List.{AllByRecursion, cons_option, list_all, list_any}
 use Rattle.std.specs.Result.{result_ok}
 use Rattle.std.proofs.lemmas.Bool.{and_parts, false≢true}
 use Rattle.std.proofs.lemmas.Bool.Decides.{nat_tests}
@@ -12,19 +12,20 @@ use Rattle.serde_json.specs.Data.{number, string}
 use Rattle.serde_json.specs.Find.{of_integer}
 use Rattle.serde_json.specs.View.{items_of}
 use Rattle.sw_rows.specs.Domains.{IsDomain}
-use Rattle.sw_rows.specs.Header.{Column, IsSchema, has_texts, header_of, is_name, kinds_of}
-use Rattle.sw_rows.specs.Spelling.{WriteColumns}
+use Rattle.sw_rows.specs.Header.{Column, IsSchema, has_texts, header_of, holding, is_name, kinds_of, texts_of}
+use Rattle.sw_rows.specs.Spelling.{WriteColumns, kind_text}
 use Rattle.sw_rows.specs.Tables.{padded, row_of}
-use Rattle.sw_rows.specs.Domains.{Domain, IsFresh, is_of_texts}
+use Rattle.sw_rows.specs.Domains.{Domain, IsFresh, IsOver, is_of_texts, over, under}
 use Rattle.sw_rows.specs.Domains as kind
-use Rattle.std.proofs.lemmas.Bool.{or_parts}
 use Rattle.sw_table.specs.declared.row.Row.{Row}
 use Rattle.sw_rows.specs.declared.query.Call.{Call}
-use Rattle.sw_rows.specs.Texts.{AreTexts, text_at, text_of}
-use Rattle.sw_rows.proofs.DomainLaws.{kinds_of_texts}
+use Rattle.sw_rows.specs.Texts.{AreTexts, code_of, text_at, text_of, with_texts}
+use Rattle.sw_rows.proofs.ColumnLemmas.{no_texts}
+use Rattle.sw_rows.proofs.DomainLaws.{holding_again, holding_kinds, holding_of_texts, kinds_of_texts, schema_holding, texts_of_holding}
 use Rattle.sw_rows.proofs.HeaderSpelling.{header_read_back}
-use Rattle.sw_rows.proofs.TextLaws.{coded_at}
-use Rattle.sw_lang.specs.Learning.{learned}
+use Rattle.sw_rows.proofs.TextLaws.{code_there, coded_at, text_sound, with_more}
+use Rattle.sw_lang.specs.Learning.{knowing, learned, texts_in_line}
+use Rattle.sw_lang.proofs.Knowing.{nothing_more}
 use Rattle.sw_spine.proofs.PrintedLemmas.{AreSound, kinds_sound}
 use Rattle.sw_lang.specs.Grammar.{IsLine}
 use Rattle.sw_lang.specs.PrintedCalls.{call_text}
@@ -39,15 +40,19 @@ use Rattle.sw_spine.specs.declared.history.State.{State}
 use Rattle.sw_rows.specs.declared.table.TheConstants.{MOST_ROWS}
 use Rattle.sw_spine.specs.declared.history.State.TheVariants as state
 use Rattle.sw_spine.specs.declared.spine.TheConstants.{MOST_ENTRIES, MOST_SESSIONS}
-use Rattle.sw_histories.specs.RecordReading.{cell_in, cells_after, cells_of, has_format, header_in, in_range, items_list, number_in, of_kind, row_in, row_texts, rows_after, rows_in, rows_up_to, state_of, texts_after, with_row}
+use Rattle.sw_histories.specs.RecordReading.{cell_in, cells_after, cells_of, has_format, header_in, in_range, items_list, number_in, of_kind, row_in, row_texts, rows_after, rows_in, rows_up_to, state_of, text_in, texts_after, with_row}
 use Rattle.sw_histories.specs.RecordRelation.{AreEntries, IsEntry, IsRecord}
-use Rattle.sw_histories.specs.RecordText.{attribute_text, cell_data, cells_data, entry_data, list_data, record_data, record_text, row_data, state_data}
+use Rattle.sw_histories.specs.RecordText.{attribute_text, cell_data, cells_data, entry_data, format_of, list_data, record_data, record_text, row_data, state_data}
 use Rattle.sw_histories.specs.ReadBack.{AreCells, HasCells, HasWords, IsCalled, IsCellOf, IsOfRun, IsStateOf, IsWord, RecordsAreReadBack, entry_in_lines, in_lines, with_lines}
-use Rattle.sw_histories.proofs.LearnedTexts.{none_known}
+use Rattle.sw_histories.proofs.LearnedTexts.{none_known, numbers_held, one_more, texts_known}
+use Rattle.sw_histories.proofs.NarrowedLines.{coded_in, line_narrowed}
 use Rattle.sw_histories.proofs.RecordBack.{record_read}
 use Rattle.sw_histories.proofs.RecordLaws.{record_only}
 use Rattle.sw_histories.proofs.RecordReadingLemmas.{list_items}
 use Rattle.sw_histories.proofs.RecordTexts.{record_utf8}
+
+abbrev Texts : Type 0
+Texts = List (List ℕ)
 
 -- ---- texts
 
@@ -60,33 +65,40 @@ texts_back ts = ap (texts_after []) (list_items (map (λ t. string t) ts)) ∙ t
 
 -- ---- the header
 
-fresh_numbers : (d : Domain) → IsDomain d → is_of_texts d ≡ false → IsFresh d
-fresh_numbers kind.Int s h = tt
-fresh_numbers (kind.Fix places) s h = s
-fresh_numbers kind.Flag s h = tt
-fresh_numbers (kind.Text texts) s h = absurd (true≢false h)
+kind_again : (k : Domain) → kind_text (over [] k) ≡ kind_text k
+kind_again kind.Int = refl
+kind_again (kind.Fix places) = refl
+kind_again kind.Flag = refl
+kind_again (kind.Text texts) = refl
 
-columns_written : (cs : List Column) → list_all (λ c. is_name c.0) cs ≡ true → All (λ c. IsDomain c.1) cs → has_texts cs ≡ false → WriteColumns (map attribute_text cs) cs
-columns_written [] h p none = tt
-columns_written (c ∷ cs) h p none =
+fresh_again : (k : Domain) → IsDomain k → IsFresh (over [] k)
+fresh_again kind.Int s = tt
+fresh_again (kind.Fix places) s = s
+fresh_again kind.Flag s = tt
+fresh_again (kind.Text texts) s = refl
+
+columns_written : (cs : List Column) → list_all (λ c. is_name c.0) cs ≡ true → All (λ c. IsDomain c.1) cs → WriteColumns (map attribute_text cs) (holding [] cs)
+columns_written [] h p = tt
+columns_written (c ∷ cs) h p =
     let parts = and_parts (is_name c.0) (list_all (λ d. is_name d.0) cs) h in
-    let numbers = or_parts (is_of_texts c.1) (has_texts cs) none in
-    ((parts.0, fresh_numbers c.1 (All-head (λ d. IsDomain d.1) c cs p) numbers.0, inr refl), columns_written cs parts.1 (All-tail (λ d. IsDomain d.1) c cs p) numbers.1)
+    let text : attribute_text c ≡ attribute_text (c.0, over [] c.1) = ap (λ t. c.0 ++ (codes ":" ++ t)) (sym (kind_again c.1)) in
+    ((parts.0, fresh_again c.1 (All-head (λ d. IsDomain d.1) c cs p), inr text), columns_written cs parts.1 (All-tail (λ d. IsDomain d.1) c cs p))
 
-header_back : (cs : List Column) → IsSchema cs → has_texts cs ≡ false → header_of (map attribute_text cs) ≡ Ok cs
-header_back cs ok none =
+header_back : (cs : List Column) → IsSchema cs → header_of (map attribute_text cs) ≡ Ok (holding [] cs)
+header_back cs ok =
     let long : length (map attribute_text cs) ≡ length cs = length-map cs attribute_text in
-    header_read_back (map attribute_text cs) cs (record {
+    let named = schema_holding [] cs ok.some ok.sound no_texts (λ none. refl) in
+    header_read_back (map attribute_text cs) (holding [] cs) (record {
       some = subst (λ n. 0 < n) (sym long) ok.some;
       few = subst (λ n. n ≤ 8) (sym long) ok.sound.few;
-      fields_are = columns_written cs ok.sound.names ok.sound.domains none;
-      distinct = ok.sound.distinct;
+      fields_are = columns_written cs ok.sound.names ok.sound.domains;
+      distinct = named.0.sound.distinct;
     })
 
-columns_back : (h : History) → IsSchema h.columns → has_texts h.columns ≡ false → header_in (record_data h) ≡ Some h.columns
-columns_back h ok none =
+columns_back : (h : History) → IsSchema h.columns → header_in (record_data h) ≡ Some (holding [] h.columns)
+columns_back h ok =
     ap (option_and_then (λ ts. result_ok (header_of ts))) (texts_back (map attribute_text h.columns))
-    ∙ ap (λ r. result_ok r) (header_back h.columns ok none)
+    ∙ ap (λ r. result_ok r) (header_back h.columns ok)
 
 -- ---- numbers
 
@@ -95,12 +107,37 @@ within least most n low high =
     ap (λ b. cond (b && nat_le n most) (Some n) None) (le-leb least n low)
     ∙ ap (λ b. cond b (Some n) None) (le-leb n most high)
 
-format_back : (h : History) → has_format h.columns (record_data h) ≡ true
-format_back h = by_test (has_texts h.columns)
+format_back : (h : History) → has_format (holding [] h.columns) (record_data h) ≡ true
+format_back h = ap (λ b. is_some (option_and_then (in_range (if b then 2 else 1) 2) (Some (format_of h.columns)))) (holding_of_texts [] h.columns) ∙ by_test (has_texts h.columns)
   where
     by_test : (b : Bool) → is_some (option_and_then (in_range (if b then 2 else 1) 2) (Some (if b then 2 else 1))) ≡ true
     by_test true = refl
     by_test false = refl
+
+-- ---- what is known
+
+-- attributes that know some texts, and then further ones
+knowing_held : (cs : List Column) (ts more : Texts) → knowing more (holding ts cs) ≡ holding (with_texts ts more) cs
+knowing_held cs ts more = by_test (has_texts cs) refl
+  where
+    by_test : (b : Bool) → has_texts cs ≡ b → knowing more (holding ts cs) ≡ holding (with_texts ts more) cs
+    by_test true some =
+        ap (λ us. holding (with_texts us more) (holding ts cs)) (texts_of_holding ts cs (λ none. absurd (true≢false (sym some ∙ none))))
+        ∙ holding_again ts (with_texts ts more) cs
+    by_test false none =
+        let few = numbers_held ts cs none in
+        ap (knowing more) few ∙ none_known cs more none ∙ sym (numbers_held (with_texts ts more) cs none)
+
+learned_held : (cs : List Column) (ts : Texts) (text : List ℕ) → learned (holding ts cs) text ≡ holding (with_texts ts (texts_in_line text)) cs
+learned_held cs ts text = by_test (has_texts cs) refl
+  where
+    by_test : (b : Bool) → has_texts cs ≡ b → learned (holding ts cs) text ≡ holding (with_texts ts (texts_in_line text)) cs
+    by_test true some =
+        ap (λ b. if b then knowing (texts_in_line text) (holding ts cs) else holding ts cs) (holding_of_texts ts cs ∙ some)
+        ∙ knowing_held cs ts (texts_in_line text)
+    by_test false none =
+        ap (λ b. if b then knowing (texts_in_line text) (holding ts cs) else holding ts cs) (holding_of_texts ts cs ∙ none)
+        ∙ numbers_held ts cs none ∙ sym (numbers_held (with_texts ts (texts_in_line text)) cs none)
 
 -- ---- rows
 
@@ -112,20 +149,67 @@ flag_back : (z : ℤ) → (z ≡ pos 0) ⊎ (z ≡ pos 1) → number_in kind.Fla
 flag_back z (inl none) = rw none refl
 flag_back z (inr one) = rw one refl
 
-cell_back : (k : Domain) (z : ℤ) → is_of_texts k ≡ false → IsCellOf k z → cell_in k (cell_data k z) ≡ Some z
-cell_back kind.Int z none h = number_back kind.Int z h refl
-cell_back (kind.Fix places) z none h = number_back (kind.Fix places) z h refl
-cell_back kind.Flag z none h = flag_back z h
-cell_back (kind.Text texts) z none h = absurd (true≢false none)
+-- the text of a cell of texts
+text_there : (texts : Texts) (z : ℤ) → IsSome (text_at texts z) → (code : ℕ) × (t : List ℕ) × (z ≡ pos code) × (text_of texts code ≡ Some t)
+text_there texts (negsuc n) h = absurd (false≢true h)
+text_there texts (pos code) h = by_text (text_of texts code) refl h
+  where
+    by_text : (o : Option (List ℕ)) → text_of texts code ≡ o → IsSome o → (c : ℕ) × (t : List ℕ) × (pos code ≡ pos c) × (text_of texts c ≡ Some t)
+    by_text None e k = absurd (false≢true k)
+    by_text (Some t) e k = (code, t, refl, e)
 
-cells_again : (done : List ℤ) (ks : List Domain) (zs : List ℤ) → list_any is_of_texts ks ≡ false → AreCells ks zs → cells_after done ks (cells_data ks zs) ≡ Some (done ++ zs)
-cells_again done [] [] none h = ap (λ l. Some l) (sym (append-nil done))
-cells_again done [] (z ∷ zs) none h = absurd h
-cells_again done (k ∷ ks) [] none h = absurd h
-cells_again done (k ∷ ks) (z ∷ zs) none h =
-    let numbers = or_parts (is_of_texts k) (list_any is_of_texts ks) none in
-    ap (option_and_then (λ y. cells_after (done ++ y ∷ []) ks (cells_data ks zs))) (cell_back k z numbers.0 h.0)
-    ∙ cells_again (done ++ z ∷ []) ks zs numbers.1 h.1
+text_shown : (texts : Texts) (code : ℕ) (t : List ℕ) → AreTexts texts → text_of texts code ≡ Some t → text_in (string (unwrap_or (text_of texts code) [])) ≡ Some t
+text_shown texts code t sound e =
+    ap (λ o. text_in (string (unwrap_or o []))) e
+    ∙ ap (λ b. if b then Some t else None) (text_sound texts code t sound e)
+
+code_back : (all ts pre post rest known : Texts) (z : ℤ) → AreTexts all → with_texts (with_texts ts known) rest ≡ all → known ≡ pre ++ cons_option (text_in (cell_data (kind.Text all) z)) post → IsSome (text_at all z)
+    → cell_in (kind.Text (with_texts ts known)) (cell_data (kind.Text all) z) ≡ Some z
+code_back all ts pre post rest known z sound h parts some =
+    let (code, t, same, there) = text_there all z some in
+    let us = with_texts ts known in
+    let seen : text_in (cell_data (kind.Text all) z) ≡ Some t = ap (λ y. text_in (cell_data (kind.Text all) y)) same ∙ text_shown all code t sound there in
+    let split : known ≡ pre ++ t ∷ post = parts ∙ ap (λ o. pre ++ cons_option o post) seen in
+    let later : code_of (with_texts (with_texts ts (pre ++ t ∷ post)) rest) t ≡ Some code = ap (λ k. code_of (with_texts (with_texts ts k) rest) t) (sym split) ∙ ap (λ vs. code_of vs t) h ∙ code_there all code t sound.distinct there in
+    let coded : code_of us t ≡ Some code = ap (λ k. code_of (with_texts ts k) t) split ∙ coded_in ts pre post rest t code later in
+    ap (option_and_then (λ x. option_map pos (code_of us x))) seen
+    ∙ ap (option_map pos) coded
+    ∙ ap (λ y. Some y) (sym same)
+
+cell_back : (all ts pre post rest known : Texts) (k : Domain) (z : ℤ) → AreTexts all → (is_of_texts k ≡ true → with_texts (with_texts ts known) rest ≡ all) → known ≡ pre ++ cons_option (text_in (cell_data k z)) post → IsOver all k → IsCellOf k z
+    → cell_in (over (with_texts ts known) k) (cell_data k z) ≡ Some z
+cell_back all ts pre post rest known kind.Int z sound h parts o c = number_back kind.Int z c refl
+cell_back all ts pre post rest known (kind.Fix places) z sound h parts o c = number_back (kind.Fix places) z c refl
+cell_back all ts pre post rest known kind.Flag z sound h parts o c = flag_back z c
+cell_back all ts pre post rest known (kind.Text own) z sound h parts o c =
+    let parted : known ≡ pre ++ cons_option (text_in (cell_data (kind.Text all) z)) post = subst (λ vs. known ≡ pre ++ cons_option (text_in (cell_data (kind.Text vs) z)) post) o parts in
+    let some : IsSome (text_at all z) = subst (λ vs. IsSome (text_at vs z)) o c in
+    subst (λ vs. cell_in (kind.Text (with_texts ts known)) (cell_data (kind.Text vs) z) ≡ Some z) (sym o) (code_back all ts pre post rest known z sound (h refl) parted some)
+
+or_right : (a b : Bool) → b ≡ true → (a || b) ≡ true
+or_right true b h = refl
+or_right false b h = h
+
+or_left : (a b : Bool) → a ≡ true → (a || b) ≡ true
+or_left true b h = refl
+or_left false b h = absurd (false≢true h)
+
+-- domains over all texts
+abbrev AreOver : Texts → List Domain → Type 0
+AreOver all ks = AllByRecursion (IsOver all) ks
+
+cells_again : (all ts pre rest known : Texts) (done : List ℤ) (ks : List Domain) (zs : List ℤ) → AreTexts all → (list_any is_of_texts ks ≡ true → with_texts (with_texts ts known) rest ≡ all) → known ≡ pre ++ filter_map text_in (cells_data ks zs) → AreOver all ks → AreCells ks zs
+    → cells_after done (under (with_texts ts known) ks) (cells_data ks zs) ≡ Some (done ++ zs)
+cells_again all ts pre rest known done [] [] sound h parts o c = ap (λ l. Some l) (sym (append-nil done))
+cells_again all ts pre rest known done [] (z ∷ zs) sound h parts o c = absurd c
+cells_again all ts pre rest known done (k ∷ ks) [] sound h parts o c = absurd c
+cells_again all ts pre rest known done (k ∷ ks) (z ∷ zs) sound h parts o c =
+    let us = with_texts ts known in
+    let seen = text_in (cell_data k z) in
+    let post = filter_map text_in (cells_data ks zs) in
+    let further : known ≡ (pre ++ cons_option seen []) ++ post = parts ∙ ap (λ l. pre ++ l) (one_more seen post) ∙ sym (append_assoc pre (cons_option seen []) post) in
+    ap (option_and_then (λ y. cells_after (done ++ y ∷ []) (under us ks) (cells_data ks zs))) (cell_back all ts pre post rest known k z sound (λ e. h (or_left (is_of_texts k) (list_any is_of_texts ks) e)) parts o.0 c.0)
+    ∙ cells_again all ts (pre ++ cons_option seen []) rest known (done ++ z ∷ []) ks zs sound (λ e. h (or_right (is_of_texts k) (list_any is_of_texts ks) e)) further o.1 c.1
     ∙ ap (λ l. Some l) (append_assoc done (z ∷ []) zs)
 
 same_length : (n m : ℕ) → n ≡ m → nat_eq n m ≡ true
@@ -137,12 +221,6 @@ cells_long [] (z ∷ zs) h = absurd h
 cells_long (k ∷ ks) [] h = absurd h
 cells_long (k ∷ ks) (z ∷ zs) h = ap suc (cells_long ks zs h.1)
 
-cells_back : (ks : List Domain) (zs : List ℤ) → list_any is_of_texts ks ≡ false → AreCells ks zs → row_in ks (list_data (cells_data ks zs)) ≡ Some (padded zs)
-cells_back ks zs none h =
-    ap (cells_of ks) (list_items (cells_data ks zs))
-    ∙ ap (λ b. cond b (option_map padded (cells_after [] ks (cells_data ks zs))) None) (same_length (length (cells_data ks zs)) (length ks) (cells_long ks zs h))
-    ∙ ap (option_map padded) (cells_again [] ks zs none h)
-
 -- cells past the last kind are not shown
 shown : (ks : List Domain) (zs ys : List ℤ) → AreCells ks zs → cells_data ks (zs ++ ys) ≡ cells_data ks zs
 shown [] [] ys h = refl
@@ -150,33 +228,74 @@ shown [] (z ∷ zs) ys h = absurd h
 shown (k ∷ ks) [] ys h = absurd h
 shown (k ∷ ks) (z ∷ zs) ys h = ap (λ l. cell_data k z ∷ l) (shown ks zs ys h.1)
 
-row_back : (ks : List Domain) (r : Row) → list_any is_of_texts ks ≡ false → HasCells ks r → row_in ks (row_data ks r) ≡ Some r.cells
-row_back ks r none (zs, h, is) =
-    let seen : cells_data ks r.cells ≡ cells_data ks zs = ap (cells_data ks) is ∙ shown ks zs (replicate (8 - length zs) (pos 0)) h in
-    ap (λ l. row_in ks (list_data l)) seen ∙ cells_back ks zs none h ∙ ap (λ l. Some l) (sym is)
+overs : (all : Texts) (cs : List Column) → All (λ c. IsOver all c.1) cs → AreOver all (kinds_of cs)
+overs all [] h = tt
+overs all (c ∷ cs) h = (All-head (λ d. IsOver all d.1) c cs h, overs all cs (All-tail (λ d. IsOver all d.1) c cs h))
 
-rows_again : (cs : List Column) (next : ℕ) (done rs : List Row) → has_texts cs ≡ false → next ≡ length done + 1 → is_numbered next rs ≡ true → All (HasCells (kinds_of cs)) rs → rows_after cs done (map (row_data (kinds_of cs)) rs) ≡ Some (cs, done ++ rs)
-rows_again cs next done [] none here h a = ap (λ l. Some (cs, l)) (sym (append-nil done))
-rows_again cs next done (r ∷ rs) none here h a =
+-- the texts of rows, as a file has them
+abbrev shown_texts : List Column → List Row → Texts
+shown_texts cs rs = flat_map (λ r. row_texts (row_data (kinds_of cs) r)) rs
+
+row_back : (cs : List Column) (ts rest : Texts) (r : Row) → IsSchema cs → (has_texts cs ≡ true → with_texts (with_texts ts (row_texts (row_data (kinds_of cs) r))) rest ≡ texts_of cs) → HasCells (kinds_of cs) r
+    → row_in (kinds_of (holding (with_texts ts (row_texts (row_data (kinds_of cs) r))) cs)) (row_data (kinds_of cs) r) ≡ Some r.cells
+row_back cs ts rest r ok h (zs, c, is) =
+    let ks = kinds_of cs in
+    let known = row_texts (row_data ks r) in
+    let us = with_texts ts known in
+    let seen : cells_data ks r.cells ≡ cells_data ks zs = ap (cells_data ks) is ∙ shown ks zs (replicate (8 - length zs) (pos 0)) c in
+    let parts : known ≡ filter_map text_in (cells_data ks zs) = ap (filter_map text_in) (list_items (cells_data ks r.cells) ∙ seen) in
+    let long : length (cells_data ks zs) ≡ length (under us ks) = cells_long ks zs c ∙ sym (length-map ks (over us)) in
+    let all_known : list_any is_of_texts ks ≡ true → with_texts us rest ≡ texts_of cs = λ e. h (sym (kinds_of_texts cs) ∙ e) in
+    ap (λ l. row_in l (row_data ks r)) (holding_kinds us cs)
+    ∙ ap (λ l. row_in (under us ks) (list_data l)) seen
+    ∙ ap (cells_of (under us ks)) (list_items (cells_data ks zs))
+    ∙ ap (λ b. cond b (option_map padded (cells_after [] (under us ks) (cells_data ks zs))) None) (same_length (length (cells_data ks zs)) (length (under us ks)) long)
+    ∙ ap (option_map padded) (cells_again (texts_of cs) ts [] rest known [] ks zs (texts_known cs ok.sound.domains) all_known parts (overs (texts_of cs) cs ok.shared) c)
+    ∙ ap (λ l. Some l) (sym is)
+
+rows_again : (cs : List Column) (ts rest : Texts) (next : ℕ) (done rs : List Row) → IsSchema cs → (has_texts cs ≡ true → with_texts (with_texts ts (shown_texts cs rs)) rest ≡ texts_of cs) → next ≡ length done + 1 → is_numbered next rs ≡ true → All (HasCells (kinds_of cs)) rs
+    → rows_after (holding ts cs) done (map (row_data (kinds_of cs)) rs) ≡ Some (holding (with_texts ts (shown_texts cs rs)) cs, done ++ rs)
+rows_again cs ts rest next done [] ok h here n a = ap (λ l. Some (holding ts cs, l)) (sym (append-nil done))
+rows_again cs ts rest next done (r ∷ rs) ok h here n a =
     let ks = kinds_of cs in
     let d = row_data ks r in
-    let parts = and_parts (r.key == next) (is_numbered (next + 1) rs) h in
+    let one = row_texts d in
+    let us = with_texts ts one in
+    let left = shown_texts cs rs in
+    let ds = map (row_data ks) rs in
+    let split : with_texts ts (one ++ left) ≡ with_texts us left = with_more ts one left in
+    let then_known : has_texts cs ≡ true → with_texts (with_texts us left) rest ≡ texts_of cs = λ some. ap (λ vs. with_texts vs rest) (sym split) ∙ h some in
+    let now_known : has_texts cs ≡ true → with_texts us (left ++ rest) ≡ texts_of cs = λ some. with_more us left rest ∙ then_known some in
+    let parts = and_parts (r.key == next) (is_numbered (next + 1) rs) n in
     let key : length done + 1 ≡ r.key = sym here ∙ sym (eqb-true r.key next parts.0) in
     let more : next + 1 ≡ length (done ++ r ∷ []) + 1 = omega (arith, here, length-append done (r ∷ [])) in
-    ap (λ us. option_and_then (λ cells. rows_after us (with_row done cells) (map (row_data ks) rs)) (row_in (kinds_of us) d)) (none_known cs (row_texts d) none)
-    ∙ ap (option_and_then (λ cells. rows_after cs (done ++ row_of (length done + 1) cells ∷ []) (map (row_data ks) rs))) (row_back ks r (kinds_of_texts cs ∙ none) (All-head (HasCells ks) r rs a))
-    ∙ ap (λ k. rows_after cs (done ++ row_of k r.cells ∷ []) (map (row_data ks) rs)) key
-    ∙ rows_again cs (next + 1) (done ++ r ∷ []) rs none more parts.1 (All-tail (HasCells ks) r rs a)
-    ∙ ap (λ l. Some (cs, l)) (append_assoc done (r ∷ []) rs)
+    ap (λ vs. option_and_then (λ cells. rows_after vs (with_row done cells) ds) (row_in (kinds_of vs) d)) (knowing_held cs ts one)
+    ∙ ap (option_and_then (λ cells. rows_after (holding us cs) (done ++ row_of (length done + 1) cells ∷ []) ds)) (row_back cs ts (left ++ rest) r ok now_known (All-head (HasCells ks) r rs a))
+    ∙ ap (λ k. rows_after (holding us cs) (done ++ row_of k r.cells ∷ []) ds) key
+    ∙ rows_again cs us rest (next + 1) (done ++ r ∷ []) rs ok then_known more parts.1 (All-tail (HasCells ks) r rs a)
+    ∙ ap (λ vs. Some (holding vs cs, (done ++ r ∷ []) ++ rs)) (sym split)
+    ∙ ap (λ l. Some (holding (with_texts ts (one ++ left)) cs, l)) (append_assoc done (r ∷ []) rs)
 
-rows_back : (h : History) → IsOfRun h → rows_in h.columns h.limit (record_data h) ≡ Some (h.columns, h.rows)
+-- the texts of the calls, as a file has them
+abbrev called_texts : List Column → List Entry → Texts
+called_texts cs es = flat_map (λ e. texts_in_line (call_text cs e.call)) es
+
+-- the attributes that know the texts of the rows
+abbrev after_rows : History → List Column
+after_rows h = holding (with_texts [] (shown_texts h.columns h.rows)) h.columns
+
+all_known : (h : History) → IsOfRun h → has_texts h.columns ≡ true → with_texts (with_texts [] (shown_texts h.columns h.rows)) (called_texts h.columns h.entries) ≡ texts_of h.columns
+all_known h r some = sym (with_more [] (shown_texts h.columns h.rows) (called_texts h.columns h.entries)) ∙ sym (r.in_order some)
+
+rows_back : (h : History) → IsOfRun h → rows_in (holding [] h.columns) h.limit (record_data h) ≡ Some (after_rows h, h.rows)
 rows_back h r =
+    let named = holding [] h.columns in
     let ks = kinds_of h.columns in
     let ds = map (row_data ks) h.rows in
     let few : nat_le (length ds) h.limit ≡ true = le-leb (length ds) h.limit (subst (λ n. n ≤ h.limit) (sym (length-map h.rows (row_data ks))) r.sound.few) in
-    ap (rows_up_to h.columns h.limit) (list_items ds)
-    ∙ ap (λ b. cond b (rows_after h.columns [] ds) None) few
-    ∙ rows_again h.columns 1 [] h.rows r.numbers refl r.sound.numbered r.cells
+    ap (rows_up_to named h.limit) (list_items ds)
+    ∙ ap (λ b. cond b (rows_after named [] ds) None) few
+    ∙ rows_again h.columns [] (called_texts h.columns h.entries) 1 [] h.rows r.schema (all_known h r) refl r.sound.numbered r.cells
 
 -- ---- entries
 
@@ -190,25 +309,42 @@ state_back columns c (state.Lines ls) h = ap (option_map (λ ls. state.Lines ls)
 state_back columns c state.Open h = rw h refl
 state_back columns c state.Void h = rw h refl
 
-learned_none : (columns : List Column) (text : List ℕ) → has_texts columns ≡ false → learned columns text ≡ columns
-learned_none columns text none = rw none refl
+-- the line of a call, where its texts are known and perhaps not yet those of later calls
+line_known : (cs : List Column) (ts rest : Texts) (text : List ℕ) (c : Call) → IsSchema cs → (has_texts cs ≡ true → with_texts (with_texts ts (texts_in_line text)) rest ≡ texts_of cs) → IsLine cs text (Some c) → IsLine (learned (holding ts cs) text) text (Some c)
+line_known cs ts rest text c ok h is = subst (λ vs. IsLine vs text (Some c)) (sym (learned_held cs ts text)) (by_test (has_texts cs) refl)
+  where
+    by_test : (b : Bool) → has_texts cs ≡ b → IsLine (holding (with_texts ts (texts_in_line text)) cs) text (Some c)
+    by_test true some = line_narrowed ts rest cs text c ok.shared (h some) is
+    by_test false none = subst (λ vs. IsLine vs text (Some c)) (sym (numbers_held (with_texts ts (texts_in_line text)) cs none)) is
 
-entry_back : (columns : List Column) (e : Entry) → IsSchema columns → has_texts columns ≡ false → IsCalled columns e → IsEntry columns (entry_data columns e) (entry_in_lines columns e)
-entry_back columns e ok none i = record {
+entry_back : (cs : List Column) (ts rest : Texts) (e : Entry) → IsSchema cs → (has_texts cs ≡ true → with_texts (with_texts ts (texts_in_line (call_text cs e.call))) rest ≡ texts_of cs) → IsCalled cs e → IsEntry (holding ts cs) (entry_data cs e) (entry_in_lines cs e)
+entry_back cs ts rest e ok h i = record {
   members = refl;
-  text = call_text columns e.call;
+  text = call_text cs e.call;
   text_is = refl;
-  call = subst (λ cs. IsLine cs (call_text columns e.call) (Some e.call)) (sym (learned_none columns (call_text columns e.call) none)) (line_back columns i.line e.call ok i.call);
+  call = line_known cs ts rest (call_text cs e.call) e.call ok h (line_back cs i.line e.call ok i.call);
   session = within 1 MOST_SESSIONS e.session (omega (arith, i.first)) i.last;
-  state = state_back columns e.call e.state i.state;
+  state = state_back cs e.call e.state i.state;
 }
 
-entries_back : (columns : List Column) (es : List Entry) → IsSchema columns → has_texts columns ≡ false → All (IsCalled columns) es → AreEntries columns (map (entry_data columns) es) columns (map (entry_in_lines columns) es)
-entries_back columns [] ok none h = refl
-entries_back columns (e ∷ es) ok none h =
-    let rest = entries_back columns es ok none (All-tail (IsCalled columns) e es h) in (
-      entry_back columns e ok none (All-head (IsCalled columns) e es h),
-      subst (λ cs. AreEntries cs (map (entry_data columns) es) columns (map (entry_in_lines columns) es)) (sym (learned_none columns (call_text columns e.call) none)) rest,
+last_known : (cs : List Column) (ts : Texts) → IsSchema cs → (has_texts cs ≡ true → ts ≡ texts_of cs) → cs ≡ holding ts cs
+last_known cs ts ok h = by_test (has_texts cs) refl
+  where
+    by_test : (b : Bool) → has_texts cs ≡ b → cs ≡ holding ts cs
+    by_test true some = sym (ap (λ vs. holding vs cs) (h some) ∙ nothing_more cs ok)
+    by_test false none = sym (numbers_held ts cs none)
+
+entries_back : (cs : List Column) (ts : Texts) (es : List Entry) → IsSchema cs → (has_texts cs ≡ true → with_texts ts (called_texts cs es) ≡ texts_of cs) → All (IsCalled cs) es → AreEntries (holding ts cs) (map (entry_data cs) es) cs (map (entry_in_lines cs) es)
+entries_back cs ts [] ok h a = last_known cs ts ok h
+entries_back cs ts (e ∷ es) ok h a =
+    let text = call_text cs e.call in
+    let one = texts_in_line text in
+    let us = with_texts ts one in
+    let left = called_texts cs es in
+    let then_known : has_texts cs ≡ true → with_texts us left ≡ texts_of cs = λ some. sym (with_more ts one left) ∙ h some in
+    let rest = entries_back cs us es ok then_known (All-tail (IsCalled cs) e es a) in (
+      entry_back cs ts left e ok then_known (All-head (IsCalled cs) e es a),
+      subst (λ vs. AreEntries vs (map (entry_data cs) es) cs (map (entry_in_lines cs) es)) (sym (learned_held cs ts text)) rest,
     )
 
 -- ---- words
@@ -220,16 +356,12 @@ sessions_words columns (e ∷ es) h =
     let small : e.session < 2 ^ 64 = omega (arith, i.last) in
     All-cons (λ e. e.session < 2 ^ 64) e es small (sessions_words columns es (All-tail (IsCalled columns) e es h))
 
-code_word : (texts : List (List ℕ)) (z : ℤ) → AreTexts texts → IsSome (text_at texts z) → IsWord z
-code_word texts (negsuc n) s h = absurd (false≢true h)
-code_word texts (pos code) s h = by_text (text_of texts code) refl h
-  where
-    by_text : (o : Option (List ℕ)) → text_of texts code ≡ o → IsSome o → code < 2 ^ 63
-    by_text None e k = absurd (false≢true k)
-    by_text (Some t) e k =
-        let at = coded_at texts code t e in
-        let inside : at.0 < length texts = slice_get_within texts at.0 t at.2 in
-        omega (arith, at.1, inside, s.few)
+code_word : (texts : Texts) (z : ℤ) → AreTexts texts → IsSome (text_at texts z) → IsWord z
+code_word texts z s h =
+    let (code, t, same, there) = text_there texts z h in
+    let at = coded_at texts code t there in
+    let inside : at.0 < length texts = slice_get_within texts at.0 t at.2 in
+    subst IsWord (sym same) (omega (arith, at.1, inside, s.few))
 
 cell_word : (k : Domain) (z : ℤ) → IsDomain k → IsCellOf k z → IsWord z
 cell_word kind.Int z s h = h
@@ -269,16 +401,16 @@ written h r = record {
   value = record_data h;
   json = record_read h (has_words h r);
   members = refl;
-  named = h.columns;
-  header = columns_back h r.schema r.numbers;
+  named = holding [] h.columns;
+  header = columns_back h r.schema;
   format = format_back h;
   limit = within 1 MOST_ROWS h.limit (let some = r.sound.some in omega (arith, some)) r.sound.most;
-  known = h.columns;
+  known = after_rows h;
   rows = rows_back h r;
   items = map (entry_data h.columns) h.entries;
   items_are = ap (λ l. Some l) (list_items (map (entry_data h.columns) h.entries));
   few = subst (λ n. n ≤ MOST_ENTRIES) (sym (length-map h.entries (entry_data h.columns))) r.sound.short;
-  entries = entries_back h.columns h.entries r.schema r.numbers r.calls;
+  entries = entries_back h.columns (with_texts [] (shown_texts h.columns h.rows)) h.entries r.schema (all_known h r) r.calls;
 }
 
 pub records_read_back : RecordsAreReadBack

@@ -49,7 +49,7 @@ visited first second = record {
   limit = 1048576;
   entries =
       entry 1 (asking_where want.Count (cond 0 (at_least (pos 1)) (at_most (pos 1)) ∷ [])) first
-      ∷ entry 1 (call.Insert (pos 3 ∷ pos 4 ∷ [])) second ∷ [];
+      ∷ entry 1 (call.Insert (padded (pos 3 ∷ pos 4 ∷ []))) second ∷ [];
 }
 
 abbrev pub visited_file : List ℕ

@@ -1,22 +1,24 @@
 -- Records whose text is read again.
-use Rattle.std.specs.Prelude.{◌≡◌, ◌<◌, ◌≤◌, ◌^◌, ◌⊎◌, IsUtf8, ℕ, ℤ, pos, negsuc, true, false, List, [], ◌∷◌, All, map, IsSome, Some, Ok}
+use Rattle.std.specs.Prelude.{◌≡◌, ◌<◌, ◌≤◌, ◌^◌, ◌⊎◌, IsUtf8, ℕ, ℤ, pos, negsuc, true, List, [], ◌∷◌, ◌++◌, flat_map, All, map, IsSome, Some, Ok}
 use Rattle.serde_json.specs.Read.{read}
-use Rattle.sw_rows.specs.Header.{Column, IsSchema, has_texts, kinds_of}
+use Rattle.sw_rows.specs.Header.{Column, IsSchema, has_texts, kinds_of, texts_of}
 use Rattle.sw_rows.specs.Tables.{padded}
 use Rattle.sw_rows.specs.Domains.{Domain}
 use Rattle.sw_rows.specs.Domains as kind
-use Rattle.sw_rows.specs.Texts.{text_at}
+use Rattle.sw_rows.specs.Texts.{text_at, with_texts}
 use Rattle.sw_table.specs.declared.row.Row.{Row}
 use Rattle.sw_rows.specs.declared.query.Call.{Call}
 use Rattle.sw_lang.specs.Grammar.{IsLine}
+use Rattle.sw_lang.specs.Learning.{texts_in_line}
+use Rattle.sw_lang.specs.PrintedCalls.{call_text}
 use Rattle.sw_lang.specs.Replies.{reply_lines}
 use Rattle.sw_spine.specs.History.{History, IsSound, entry, is_select}
 use Rattle.sw_spine.specs.declared.history.Entry.{Entry}
 use Rattle.sw_spine.specs.declared.history.State.{State}
 use Rattle.sw_spine.specs.declared.history.State.TheVariants as state
 use Rattle.sw_spine.specs.declared.spine.TheConstants.{MOST_SESSIONS}
-use Rattle.sw_histories.specs.RecordReading.{record_at}
-use Rattle.sw_histories.specs.RecordText.{record_data, record_text}
+use Rattle.sw_histories.specs.RecordReading.{record_at, row_texts}
+use Rattle.sw_histories.specs.RecordText.{record_data, record_text, row_data}
 
 -- a number of 64 signed bits
 abbrev pub IsWord : ℤ → Type 0
@@ -68,14 +70,20 @@ pub record IsCalled (columns : List Column) (e : Entry) : Type 0 where
   pub last : e.session ≤ MOST_SESSIONS
   pub state : IsStateOf e.call e.state
 
--- what holds of the record of a run: it is sound, of a table that was read, which has no attribute of texts, since no
--- header names one, and its calls are those of lines
+-- the texts in a record's file, as they are seen: those of the rows, and then those of the calls
+abbrev pub texts_in_file : History → List (List ℕ)
+texts_in_file h =
+    flat_map (λ r. row_texts (row_data (kinds_of h.columns) r)) h.rows
+    ++ flat_map (λ e. texts_in_line (call_text h.columns e.call)) h.entries
+
+-- what holds of the record of a run: it is sound, of a table that was read, and its calls are those of lines; where an
+-- attribute is of texts, these are just the texts in the file, each once, in the order in which they are first seen
 pub record IsOfRun (h : History) : Type 0 where
   pub sound : IsSound h
   pub schema : IsSchema h.columns
-  pub numbers : has_texts h.columns ≡ false
   pub cells : All (HasCells (kinds_of h.columns)) h.rows
   pub calls : All (IsCalled h.columns) h.entries
+  pub in_order : has_texts h.columns ≡ true → texts_of h.columns ≡ with_texts [] (texts_in_file h)
 
 -- a reply as the lines that are printed for it
 abbrev pub in_lines : List Column → Call → State → State

@@ -20,10 +20,14 @@ pub fn one_count()
     ensures read { record_at counted_file ≡ Ok (counted (State.Lines (codes "4" ∷ []))) }
 {}
 
-/// Two calls on a table of texts: its file has format 2, and shows cells and calls with their texts.
+/// Two calls on a table of texts: its file has format 2, and shows cells and calls with their texts, which get the same
+/// codes when it is read.
 pub fn two_calls_on_cities()
     ensures written { record_text (visited (State.Answered (Reply.Count 2)) (State.Answered (Reply.Inserted 4)))
         ≡ visited_file }
     ensures again { record_text (visited (State.Lines (codes "2" ∷ [])) (State.Lines (codes "key 4" ∷ [])))
         ≡ visited_file }
+    ensures of_run { IsOfRun (visited (State.Answered (Reply.Count 2)) (State.Answered (Reply.Inserted 4))) }
+    ensures read { record_at visited_file
+        ≡ Ok (visited (State.Lines (codes "2" ∷ [])) (State.Lines (codes "key 4" ∷ []))) }
 {}

@@ -24,7 +24,7 @@ use Rattle.sw_lang.proofs.Lines.{line_found, line_read}
 abbrev Texts : Type 0
 Texts = List (List ℕ)
 
-abbrev AreOver : Texts → List Column → Type 0
+abbrev pub AreOver : Texts → List Column → Type 0
 AreOver ts cs = All (λ c. IsOver ts c.1) cs
 
 -- ---- values
@@ -49,7 +49,7 @@ value_kept ts more (kind.Text own) t z o (inr (text, e, of, k)) = inr (text, e, 
 
 -- ---- attributes
 
-kind_held : (us : Texts) (s : List Column) (a : ℕ) → kind_at (holding us s) a ≡ over us (kind_at s a)
+pub kind_held : (us : Texts) (s : List Column) (a : ℕ) → kind_at (holding us s) a ≡ over us (kind_at s a)
 kind_held us [] a = by_place a
   where
     by_place : (n : ℕ) → kind_at [] n ≡ over us (kind_at [] n)
@@ -58,16 +58,16 @@ kind_held us [] a = by_place a
 kind_held us (c ∷ cs) zero = refl
 kind_held us (c ∷ cs) (suc a) = kind_held us cs a
 
-over_at : (ts : Texts) (cs : List Column) (a : ℕ) → AreOver ts cs → IsOver ts (kind_at cs a)
+pub over_at : (ts : Texts) (cs : List Column) (a : ℕ) → AreOver ts cs → IsOver ts (kind_at cs a)
 over_at ts [] zero h = tt
 over_at ts [] (suc a) h = tt
 over_at ts (c ∷ cs) zero h = h 0 c (omega arith)
 over_at ts (c ∷ cs) (suc a) h = over_at ts cs a (λ k d lt. h (suc k) d (omega (arith, lt)))
 
-name_kept : (us : Texts) (s : List Column) (t : Tok) (a : ℕ) → IsName s t a → IsName (holding us s) t a
+pub name_kept : (us : Texts) (s : List Column) (t : Tok) (a : ℕ) → IsName s t a → IsName (holding us s) t a
 name_kept us s t a (w, e, h) = (w, e, ap (λ ns. slice_get ns a) (holding_names us s) ∙ h)
 
-numbers_kept : (us : Texts) (s : List Column) (t : Tok) (a : ℕ) → IsNumbersName s t a → IsNumbersName (holding us s) t a
+pub numbers_kept : (us : Texts) (s : List Column) (t : Tok) (a : ℕ) → IsNumbersName s t a → IsNumbersName (holding us s) t a
 numbers_kept us s t a (name, h) = (name_kept us s t a name, ap is_of_texts (kind_held us s a) ∙ of_texts_over us (kind_at s a) ∙ h)
 
 -- ---- the parts of a line
@@ -106,7 +106,7 @@ values_kept ts more [] tokens zs o is = is
 values_kept ts more (c ∷ cs) tokens [] o is = is
 values_kept ts more (c ∷ cs) tokens (z ∷ zs) o (a, rest, e, is, others) = (a, rest, e, value_kept ts more c.1 a z (o 0 c (omega arith)) is, more_kept ts more cs rest zs (λ k d lt. o (suc k) d (omega (arith, lt))) others)
 
-want_kept : (us : Texts) (s : List Column) (tokens : List Tok) (want : Want) → IsWant s tokens want → IsWant (holding us s) tokens want
+pub want_kept : (us : Texts) (s : List Column) (tokens : List Tok) (want : Want) → IsWant s tokens want → IsWant (holding us s) tokens want
 want_kept us s tokens (Rows names) (rest, e, is, few) = (rest, e, names_kept us s rest names is, few)
 want_kept us s tokens Count is = is
 want_kept us s tokens (Sum a) (t, e, is) = (t, e, numbers_kept us s t a is)
