@@ -249,10 +249,7 @@ pub(crate) fn op_at<'a>(values: AttrValues, text: &'a [u8]) -> Result<(Op, &'a [
 }
 
 #[tactic(auto, unfolding(crate::specs::Reading::first_by))]
-pub(crate) fn value_at<'a>(
-    values: AttrValues,
-    text: &'a [u8],
-) -> Result<(i64, &'a [u8]), Fault>
+pub(crate) fn value_at<'a>(values: AttrValues, text: &'a [u8]) -> Result<(i64, &'a [u8]), Fault>
     requires { AreSound values }
     ensures gives { Tells (λ p. (p.0, tokens p.1.now)) result
         (first_by (value_of (domain_of values.entry)) (tokens text.now)) }

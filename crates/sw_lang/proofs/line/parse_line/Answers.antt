@@ -1,4 +1,4 @@
-use Rattle.std.proofs.Common.{◌≡◌, ◌∙◌, ap, length, take, List}
+use Rattle.std.proofs.Common.{◌∙◌, ap, length, take, List}
 use Rattle.sw_rows.specs.Header.{Column, holding, texts_of}
 use Rattle.sw_lang.proofs.Knowing.{line_forgotten}
 use Rattle.sw_lang.proofs.line.parse_line.Goals as goal
