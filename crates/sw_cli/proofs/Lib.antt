@@ -7,5 +7,7 @@ pub mod Ran
 pub mod Records
 pub mod RefusedLines
 pub mod Going
+pub mod Learned
 pub mod Starts
+pub mod TextCalls
 pub mod Waiting

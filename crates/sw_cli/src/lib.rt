@@ -7,6 +7,7 @@ mod buffered;
 mod ended;
 mod fault;
 pub mod fault_examples;
+mod law;
 mod looking_on;
 mod noting;
 mod running;
@@ -19,6 +20,7 @@ mod watching;
 
 pub use boxes::blank_boxes;
 pub use fault::{status, write_fault};
+pub use law::runs_are_over_texts;
 pub use looking_on::{Nobody, Onlooker};
 pub use noting::Noting;
 pub use running::{Options, run, run_told, run_with};
