@@ -10,4 +10,5 @@ pub mod Going
 pub mod Learned
 pub mod Starts
 pub mod TextCalls
+pub mod TextReplies
 pub mod Waiting

@@ -1,0 +1,168 @@
+-- What calls over texts are replied is over texts.
+use Rattle.std.proofs.Common.{◌≡◌, sym, subst, refl, ℕ, ◌+◌, ◌-◌, ◌<◌, ◌==◌, ◌&&◌, Bool, true, false, not, cond, true≢false, All, List, [], ◌∷◌, ◌++◌, length, map, get_or, arith, Option, Ok, Err}
+use Rattle.std.proofs.lemmas.Bool.Decides.{nat_tests}
+use Rattle.std.proofs.lemmas.List.{append-nil, get_or-map, length-map}
+use Rattle.std.proofs.lemmas.List.Elements.{All-cons, All-filter, All-head, All-nil, All-push, All-tail}
+use Rattle.sw_table.specs.Updates.{has_key, rows_of}
+use Rattle.sw_table.specs.declared.row.Row.{Row}
+use Rattle.sw_table.specs.declared.row.Update.{Update}
+use Rattle.sw_table.specs.declared.row.Update.TheVariants as update
+use Rattle.sw_rows.specs.Header.{Column, IsSchema, kinds_of}
+use Rattle.sw_rows.specs.TextRows.{AreCoded, IsRowCoded}
+use Rattle.sw_rows.specs.declared.query.Call.{Call}
+use Rattle.sw_rows.specs.declared.query.Call.TheVariants.{Select, Insert, Delete}
+use Rattle.sw_rows.specs.declared.reply.Reply.{Reply}
+use Rattle.sw_rows.proofs.TextRowLaws.{answer_over_texts}
+use Rattle.sw_spine.specs.History.{Agrees, AllAgree, History, all_given, is_given, is_select, mine, with_answer}
+use Rattle.sw_spine.specs.Table.{inserts, opened, reply_to, row, updates_then}
+use Rattle.sw_spine.specs.declared.history.Entry.{Entry}
+use Rattle.sw_spine.specs.declared.history.State.{State}
+use Rattle.sw_spine.specs.declared.history.State.TheVariants.{Answered, Lines, Open, Void}
+use Rattle.sw_spine.proofs.Histories.{mine_absent}
+use Rattle.sw_spine.proofs.StoreLemmas.{rows_of_opened, rows_push}
+use Rattle.sw_cli.specs.Outcomes.{Outcome, answered, calls_of}
+use Rattle.sw_cli.specs.Run.{Leaves, Start, is_session, start_of}
+use Rattle.sw_cli.specs.TextCalls.{AreEntriesOverTexts, AreRepliesOverTexts, GivesOverTexts, IsOverTexts, IsReplyOverTexts}
+use Rattle.sw_cli.proofs.TextCalls.{start_over}
+
+-- ---- rows stay coded
+
+abbrev HasCoded : List Column → List Update → Type 0
+HasCoded columns us = AreCoded (kinds_of columns) (rows_of us)
+
+none-keeps : (columns : List Column) (us : List Update) → HasCoded columns us → HasCoded columns (us ++ [])
+none-keeps columns us h = subst (HasCoded columns) (sym (append-nil us)) h
+
+insert-keeps : (columns : List Column) (us : List Update) (r : Row) → HasCoded columns us → IsRowCoded (kinds_of columns) r → HasCoded columns (us ++ update.Insert r ∷ [])
+insert-keeps columns us r h coded = subst (AreCoded (kinds_of columns)) (sym (rows_push us (update.Insert r))) (All-push (IsRowCoded (kinds_of columns)) (rows_of us) r h coded)
+
+remove-keeps : (columns : List Column) (us : List Update) (key : ℕ) → HasCoded columns us → HasCoded columns (us ++ update.Remove key ∷ [])
+remove-keeps columns us key h = subst (AreCoded (kinds_of columns)) (sym (rows_push us (update.Remove key))) (All-filter (λ r. not (r.key == key)) (IsRowCoded (kinds_of columns)) (rows_of us) h)
+
+pub call_keeps : (columns : List Column) (limit : ℕ) (us : List Update) (c : Call) → AreCoded (kinds_of columns) (rows_of us) → IsOverTexts columns c → AreCoded (kinds_of columns) (rows_of (updates_then limit us c))
+call_keeps columns limit us (Select q) h over = none-keeps columns us h
+call_keeps columns limit us (Insert cells) h over = by_room (inserts us == limit)
+  where
+    by_room : (b : Bool) → HasCoded columns (us ++ cond b [] (update.Insert (row (inserts us + 1) cells) ∷ []))
+    by_room true = none-keeps columns us h
+    by_room false = insert-keeps columns us (row (inserts us + 1) cells) h (over (inserts us + 1))
+call_keeps columns limit us (Delete key) h over = by_key (has_key key (rows_of us))
+  where
+    by_key : (b : Bool) → HasCoded columns (us ++ cond b (update.Remove key ∷ []) [])
+    by_key true = remove-keeps columns us key h
+    by_key false = none-keeps columns us h
+
+-- ---- replies of the plain table
+
+reply-over : (columns : List Column) (limit : ℕ) (us : List Update) (c : Call) → IsSchema columns → HasCoded columns us → IsOverTexts columns c → IsReplyOverTexts columns (rows_of us) c (reply_to limit us c)
+reply-over columns limit us (Select q) is h over = sym (answer_over_texts columns (rows_of us) q is h over)
+reply-over columns limit us (Insert cells) is h over = tt
+reply-over columns limit us (Delete key) is h over = tt
+
+pub replies_over : (columns : List Column) (limit : ℕ) (us : List Update) (calls : List Call) → IsSchema columns → AreCoded (kinds_of columns) (rows_of us) → All (IsOverTexts columns) calls → AreRepliesOverTexts columns limit us calls
+replies_over columns limit us [] is h over = tt
+replies_over columns limit us (c ∷ cs) is h over =
+    let first = All-head (IsOverTexts columns) c cs over in
+    (reply-over columns limit us c is h first, replies_over columns limit (updates_then limit us c) cs is (call_keeps columns limit us c h first) (All-tail (IsOverTexts columns) c cs over))
+
+opened-coded : (columns : List Column) (rs : List Row) → AreCoded (kinds_of columns) rs → HasCoded columns (opened rs)
+opened-coded columns rs h = subst (AreCoded (kinds_of columns)) (sym (rows_of_opened rs)) h
+
+pub run_over : (limit : ℕ) (cuts table script : List ℕ) (s : Start) (calls : List Call) → start_of limit cuts table script ≡ Ok s → s.blocks ≡ calls ∷ [] → AreRepliesOverTexts s.columns limit (opened s.rows) calls
+run_over limit cuts table script s calls h one =
+    let o = start_over limit cuts table script s h in
+    let over : All (All (IsOverTexts s.columns)) (calls ∷ []) = subst (All (All (IsOverTexts s.columns))) one o.calls in
+    replies_over s.columns limit (opened s.rows) calls o.schema (opened-coded s.columns s.rows o.rows) (All-head (All (IsOverTexts s.columns)) calls [] over)
+
+-- ---- replies of a record
+
+-- an answered call is over texts
+abbrev Over : List Column → Call × Reply → Type 0
+Over columns m = IsOverTexts columns m.0
+
+-- so are those of each session
+abbrev AllMine : List Column → List Entry → Type 0
+AllMine columns es = (session : ℕ) → All (Over columns) (mine session es)
+
+rest-mine : (columns : List Column) (e : Entry) (es : List Entry) → AllMine columns (e ∷ es) → AllMine columns es
+rest-mine columns e es over session = by_test (e.session == session) (over session)
+  where
+    by_state : (st : State) → All (Over columns) (with_answer e.call st (mine session es)) → All (Over columns) (mine session es)
+    by_state (Answered r) h = All-tail (Over columns) (e.call, r) (mine session es) h
+    by_state (Lines ls) h = h
+    by_state Open h = h
+    by_state Void h = h
+
+    by_test : (b : Bool) → All (Over columns) (cond b (with_answer e.call e.state (mine session es)) (mine session es)) → All (Over columns) (mine session es)
+    by_test true h = by_state e.state h
+    by_test false h = h
+
+-- those of the session of an entry begin with its own
+first-mine : (columns : List Column) (e : Entry) (es : List Entry) → AllMine columns (e ∷ es) → All (Over columns) (with_answer e.call e.state (mine e.session es))
+first-mine columns e es over = subst (λ (b : Bool). All (Over columns) (cond b (with_answer e.call e.state (mine e.session es)) (mine e.session es))) (let t : (e.session == e.session) ≡ true = grind (arith, nat_tests) in t) (over e.session)
+
+select-keeps : (columns : List Column) (limit : ℕ) (us : List Update) (c : Call) → is_select c ≡ true → HasCoded columns us → HasCoded columns (updates_then limit us c)
+select-keeps columns limit us (Select q) is h = none-keeps columns us h
+select-keeps columns limit us (Insert cells) is h = absurd (true≢false (sym is))
+select-keeps columns limit us (Delete key) is h = absurd (true≢false (sym is))
+
+-- an entry gives a reply over texts, where it gives one, and rows stay coded
+entry-over : (columns : List Column) (limit : ℕ) (us : List Update) (c : Call) (st : State) (rest : List (Call × Reply)) → IsSchema columns → HasCoded columns us → Agrees columns limit us c st → is_given st ≡ true → All (Over columns) (with_answer c st rest) → GivesOverTexts columns (rows_of us) c st × HasCoded columns (updates_then limit us c)
+entry-over columns limit us c (Answered r) rest is h agrees given mine_are =
+    let over : IsOverTexts columns c = All-head (Over columns) (c, r) rest mine_are in
+    (subst (IsReplyOverTexts columns (rows_of us) c) (sym agrees) (reply-over columns limit us c is h over), call_keeps columns limit us c h over)
+entry-over columns limit us c (Lines ls) rest is h agrees given mine_are = absurd (true≢false (sym given))
+entry-over columns limit us c Open rest is h agrees given mine_are = (tt, select-keeps columns limit us c agrees h)
+entry-over columns limit us c Void rest is h agrees given mine_are = (tt, select-keeps columns limit us c agrees h)
+
+and-left : (a b : Bool) → (a && b) ≡ true → a ≡ true
+and-left true b h = refl
+and-left false b h = absurd cc
+
+and-right : (a b : Bool) → (a && b) ≡ true → b ≡ true
+and-right true b h = h
+and-right false b h = absurd cc
+
+entries-over : (columns : List Column) (limit : ℕ) (us : List Update) (es : List Entry) → IsSchema columns → HasCoded columns us → AllAgree columns limit us es → all_given es ≡ true → AllMine columns es → AreEntriesOverTexts columns limit us es
+entries-over columns limit us [] is h agree given over = tt
+entries-over columns limit us (e ∷ es) is h agree given over =
+    let first = entry-over columns limit us e.call e.state (mine e.session es) is h agree.0 (and-left (is_given e.state) (all_given es) given) (first-mine columns e es over) in
+    (first.0, entries-over columns limit (updates_then limit us e.call) es is first.1 agree.1 (and-right (is_given e.state) (all_given es) given) (rest-mine columns e es over))
+
+-- the answered ones of calls over texts are
+answered-over : (columns : List Column) (os : List Outcome) → All (IsOverTexts columns) (calls_of os) → All (Over columns) (answered os)
+answered-over columns [] h = All-nil (Over columns)
+answered-over columns ((c, Ok r) ∷ os) h = All-cons (Over columns) (c, r) (answered os) (All-head (IsOverTexts columns) c (calls_of os) h) (answered-over columns os (All-tail (IsOverTexts columns) c (calls_of os) h))
+answered-over columns ((c, Err e) ∷ os) h = answered-over columns os (All-tail (IsOverTexts columns) c (calls_of os) h)
+
+-- the calls of a block of outcomes are those of the start's block
+block-over : (limit : ℕ) (s : Start) (told : List (List Outcome)) (old new : Option (List ℕ)) (h : History) (i : ℕ) → Leaves limit s told old new h → All (All (IsOverTexts s.columns)) s.blocks → i < length told → All (Over s.columns) (answered (get_or told i []))
+block-over limit s told old new h i l over less =
+    let all : All (All (IsOverTexts s.columns)) (map calls_of told) = subst (All (All (IsOverTexts s.columns))) (sym l.calls) over in
+    let many : length (map calls_of told) ≡ length told = length-map told calls_of in
+    let here : All (IsOverTexts s.columns) (get_or (map calls_of told) i []) = all i [] (omega (arith, many, less)) in
+    answered-over s.columns (get_or told i []) (subst (All (IsOverTexts s.columns)) (get_or-map calls_of told i [] [] less) here)
+
+-- each session has the calls of its block, or none
+mine-over : (limit : ℕ) (s : Start) (told : List (List Outcome)) (old new : Option (List ℕ)) (h : History) → Leaves limit s told old new h → All (All (IsOverTexts s.columns)) s.blocks → AllMine s.columns h.entries
+mine-over limit s told old new h l over session = by_session (is_session (length told) session) refl
+  where
+    Mine : List (Call × Reply) → Type 0
+    Mine ms = All (Over s.columns) ms
+
+    by_session : (b : Bool) → is_session (length told) session ≡ b → Mine (mine session h.entries)
+    by_session false e = subst Mine (sym (mine_absent session h.entries (l.record_is.alone session e))) (All-nil (Over s.columns))
+    by_session true e =
+        let inside : session - 1 < length told = grind (arith, nat_tests, e) in
+        let number : session - 1 + 1 ≡ session = grind (arith, nat_tests, e) in
+        subst (λ (n : ℕ). Mine (mine n h.entries)) number (subst Mine (sym (l.record_is.answered_are (session - 1) inside)) (block-over limit s told old new h (session - 1) l over inside))
+
+legal-from : (c d : List Column) (m n : ℕ) (x y : List Row) (h : History) → c ≡ d → m ≡ n → x ≡ y → AllAgree c m (opened x) h.entries → AllAgree d n (opened y) h.entries
+legal-from c d m n x y h ec em ex a = subst (λ (d : List Column). AllAgree d n (opened y) h.entries) ec (subst (λ (n : ℕ). AllAgree c n (opened y) h.entries) em (subst (λ (y : List Row). AllAgree c m (opened y) h.entries) ex a))
+
+pub record_over : (limit : ℕ) (cuts table script : List ℕ) (s : Start) (told : List (List Outcome)) (old new : Option (List ℕ)) (h : History) → start_of limit cuts table script ≡ Ok s → Leaves limit s told old new h → AreEntriesOverTexts s.columns limit (opened s.rows) h.entries
+record_over limit cuts table script s told old new h read l =
+    let o = start_over limit cuts table script s read in
+    let r = l.record_is in
+    let agree : AllAgree s.columns limit (opened s.rows) h.entries = legal-from h.columns s.columns h.limit limit h.rows s.rows h r.columns_are r.limit_is r.rows_are r.legal in
+    entries-over s.columns limit (opened s.rows) h.entries o.schema (opened-coded s.columns s.rows o.rows) agree r.given (mine-over limit s told old new h l o.calls)
