@@ -1,6 +1,6 @@
 #!/usr/bin/env bash
 # Times whole runs over a table with an attribute of TEXTS different texts and one of whole numbers, beside the same table with the texts' codes as
-# whole numbers in their place, by turns; medians of ROUNDS. The first script is one count, so that it times the load; the second has 1,000 counts of
+# whole numbers in their place, by turns; medians of ROUNDS. The first script is one count, so that it times the load; the second has 20,000 counts of
 # one text each, of which the time of the first is taken off. Texts are of 4 to 8 bytes, and then of 16.
 # Usage: bench/run/texts.sh [ROWS [ROUNDS [TEXTS]]]
 set -euo pipefail
@@ -25,7 +25,7 @@ with open(work + "/text.csv", "w") as texts, open(work + "/code.csv", "w") as nu
     for _ in range(rows):
         name, n = R.choice(names), R.randrange(1 << 30)
         texts.write(f"{name},{n}\n"); numbers.write(f"{codes.setdefault(name, len(codes) + 1)},{n}\n")
-asked = [R.choice(list(codes)) for _ in range(1000)]
+asked = [R.choice(list(codes)) for _ in range(20000)]
 for script, text, code in [("one", "count\n", "count\n"),
                            ("equal", "".join(f"count where city = '{a}'\n" for a in asked), "".join(f"count where city = {codes[a]}\n" for a in asked))]:
     open(f"{work}/{script}.text", "w").write(text); open(f"{work}/{script}.code", "w").write(code)
@@ -41,6 +41,6 @@ of = {key: statistics.median(values) for key, values in times.items()}
 load, plain = of["one", "text"], of["one", "code"]
 counts, numbers = of["equal", "text"] - load, of["equal", "code"] - plain
 print(f"texts of {lengths} bytes: load {load:.3f} s, codes {plain:.3f} s, ratio {load / plain:.2f} (least "
-      f"{min(times['one', 'text']) / min(times['one', 'code']):.2f}); 1,000 counts {counts:.3f} s, over numbers {numbers:.3f} s, ratio {counts / numbers:.2f}", flush=True)
+      f"{min(times['one', 'text']) / min(times['one', 'code']):.2f}); 20,000 counts {counts:.3f} s, over numbers {numbers:.3f} s, ratio {counts / numbers:.2f}", flush=True)
 PY
 done
