@@ -55,11 +55,27 @@ is_over ts (kind.Fix places) = tt
 is_over ts kind.Flag = tt
 is_over ts (kind.Text own) = refl
 
+own_over : (ts : Texts) (d : Domain) → IsOver ts d → over ts d ≡ d
+own_over ts kind.Int h = refl
+own_over ts (kind.Fix places) h = refl
+own_over ts kind.Flag h = refl
+own_over ts (kind.Text own) h = ap kind.Text (sym h)
+
 -- ---- attributes
 
 pub holding_again : (ts us : Texts) (cs : List Column) → holding us (holding ts cs) ≡ holding us cs
 holding_again ts us [] = refl
 holding_again ts us (c ∷ cs) = ap (λ d. (c.0, d) ∷ holding us (holding ts cs)) (over_over ts us c.1) ∙ ap (λ ds. (c.0, over us c.1) ∷ ds) (holding_again ts us cs)
+
+own_held : (ts : Texts) (cs : List Column) → All (λ c. IsOver ts c.1) cs → holding ts cs ≡ cs
+own_held ts [] h = refl
+own_held ts (c ∷ cs) h =
+    ap (λ d. (c.0, d) ∷ holding ts cs) (own_over ts c.1 (All-head (λ c. IsOver ts c.1) c cs h))
+    ∙ ap (λ ds. c ∷ ds) (own_held ts cs (All-tail (λ c. IsOver ts c.1) c cs h))
+
+-- a schema stands over its own texts
+pub schema_held : (s : List Column) → IsSchema s → holding (texts_of s) s ≡ s
+schema_held s is = own_held (texts_of s) s is.shared
 
 pub holding_long : (ts : Texts) (cs : List Column) → length (holding ts cs) ≡ length cs
 holding_long ts [] = refl

@@ -101,6 +101,10 @@ code_counted ts (suc i) some few =
 
 -- ---- more texts
 
+-- where there are as many texts as there may be, a further one changes nothing
+pub none_at_full : (ts : Texts) (t : List ℕ) → are_full ts ≡ true → with_text ts t ≡ ts
+none_at_full ts t full = cond-true (has_text ts t || are_full ts) ts (ts ++ t ∷ []) (or_right (has_text ts t) (are_full ts) full)
+
 step : (ts : Texts) (t : List ℕ) → (rest : Texts) × (with_text ts t ≡ ts ++ rest)
 step ts t = by_test (has_text ts t || are_full ts)
   where
@@ -200,7 +204,7 @@ never_given ts t more e h = by_code (code_of ts t) refl h
   where
     stays : (us : Texts) (xs : Texts) → are_full us ≡ true → with_texts us xs ≡ us
     stays us [] full = refl
-    stays us (x ∷ xs) full = ap (λ vs. with_texts vs xs) (cond-true (has_text us x || are_full us) us (us ++ x ∷ []) (or_right (has_text us x) (are_full us) full)) ∙ stays us xs full
+    stays us (x ∷ xs) full = ap (λ vs. with_texts vs xs) (none_at_full us x full) ∙ stays us xs full
 
     by_full : (b : Bool) → are_full ts ≡ b → code_of ts t ≡ None → cond b (Err (too_many MOST_TEXTS)) (Ok (length ts + 1)) ≡ Err e → (code_of (with_texts ts more) t ≡ None) × (e ≡ too_many MOST_TEXTS)
     by_full true f n k = (ap (λ us. code_of us t) (stays ts more f) ∙ n, same_Err e k)
