@@ -27,9 +27,7 @@ use json::{Reader, Scratch};
 use serde_json::{Map, Value};
 use std::alloc::{AllocError, Global};
 use sw_lang::parse_line;
-use sw_rows::{
-    Call, Kind, MOST_ROWS, MOST_TEXTS, PackedRows, Refusal, Row, Schema, Why, read_text,
-};
+use sw_rows::{Call, Kind, MOST_ROWS, PackedRows, Refusal, Row, Schema, Why, read_text};
 use sw_spine::{Entry, Lines, MOST_ENTRIES, MOST_SESSIONS, Record, State};
 
 fn no_history(line: u32) -> Refusal
@@ -137,13 +135,7 @@ fn learn_value(schema: &mut Schema, value: &Value) -> Result<(), AllocError>
     let Some(text) = text_in(value) else {
         return Ok(());
     };
-    if schema.texts_known() as u64 >= MOST_TEXTS {
-        return Ok(());
-    }
-    match schema.add_text(text) {
-        Ok(_) => Ok(()),
-        Err(_) => Err(AllocError),
-    }
+    schema.learn_text(text)
 }
 
 fn learn_values(schema: &mut Schema, items: &[Value]) -> Result<(), AllocError>

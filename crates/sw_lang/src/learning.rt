@@ -9,7 +9,7 @@ ghost use Rattle.sw_lang.specs.Tokens.{tok, tokens};
 use crate::parse::{MOST_LINE, is_comment};
 use crate::quotes::undoubled;
 use crate::token::{Token, next_token};
-use sw_rows::{MOST_BYTES_OF_TEXT, MOST_TEXTS, Refusal, Schema, read_text};
+use sw_rows::{MOST_BYTES_OF_TEXT, Refusal, Schema, read_text};
 
 /// The text of a quoted token, in this buffer, where it may be the text of a cell.
 fn quoted_text<'b>(token: Token, buffer: &'b mut [u8; MOST_BYTES_OF_TEXT]) -> Option<&'b str>
@@ -36,11 +36,8 @@ fn learn_token(schema: &mut Schema, token: Token) -> Result<(), Refusal>
     let Some(text) = quoted_text(token, &mut buffer) else {
         return Ok(());
     };
-    if schema.texts_known() as u64 >= MOST_TEXTS {
-        return Ok(());
-    }
-    match schema.add_text(text) {
-        Ok(_) => Ok(()),
+    match schema.learn_text(text) {
+        Ok(()) => Ok(()),
         Err(_) => Err(Refusal::NoMemory),
     }
 }
