@@ -21,13 +21,14 @@ use Rattle.sw_lang.specs.declared.fault.Fault.{Fault as LineFault}
 use Rattle.sw_lang.specs.declared.parse.TheConstants.{MOST_LINE}
 use Rattle.sw_lang.proofs.Fit.{line_fits}
 use Rattle.sw_lang.proofs.FitTexts.{asks_of_texts, row_of_codes}
+use Rattle.sw_lang.proofs.Knowing.{learned_schema}
 use Rattle.sw_lang.proofs.Lines.{line_found}
 use Rattle.sw_histories.specs.Told.{◌>>=◌}
 use Rattle.sw_cli.specs.Run.{Start, cuts_of, or_refusal, refusal_of, rows_within, script_of, start_of}
 use Rattle.sw_cli.specs.Script.{Script, SoFar, all_blocks, blocks_of, call_of_line, calls_in, is_divider, learning, script_lines, so_far, whole, with_block, with_call, with_line, with_lines}
 use Rattle.sw_cli.specs.TextCalls.{IsOverTexts}
 use Rattle.sw_cli.specs.declared.script.TheConstants.{MOST_BLOCKS, MOST_CALLS}
-use Rattle.sw_cli.proofs.Learned.{IsRead, coded_after, learned_schema, read_after}
+use Rattle.sw_cli.proofs.Learned.{IsRead, coded_after, read_after}
 
 -- ---- answers of several steps
 

@@ -25,7 +25,7 @@ use Rattle.sw_spine.specs.History.{IsSound, entry}
 use Rattle.sw_spine.specs.declared.history.State.TheVariants as state
 use Rattle.sw_histories.specs.FileExamples.{cities, counted, row_abc, row_of_city, visited}
 use Rattle.sw_histories.specs.ReadBack.{HasCells, IsCalled, IsOfRun}
-use Rattle.sw_histories.proofs.LearnedTexts.{knowing_schema}
+use Rattle.sw_lang.proofs.Knowing.{knowing_schema}
 
 three : (key a b c : ℕ) → a < 2 ^ 63 → b < 2 ^ 63 → c < 2 ^ 63 → HasCells (kinds_of abc) (row_abc key (pos a) (pos b) (pos c))
 three key a b c ha hb hc = (pos a ∷ pos b ∷ pos c ∷ [], (ha, (hb, (hc, tt))), refl)

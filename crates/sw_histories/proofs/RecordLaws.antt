@@ -27,7 +27,8 @@ use Rattle.sw_spine.specs.declared.spine.TheConstants.{MOST_ENTRIES, MOST_SESSIO
 use Rattle.sw_histories.specs.Told.{◌>>=◌}
 use Rattle.sw_histories.specs.RecordReading.{Frame, array_at, call_in, columns_in, columns_under, entries_after, entries_of, entry_in, entry_learned, entry_with, frame, frame_by, frame_in, frame_of, frame_with, frame_within, has_call, has_format, has_members, header_in, history_of, history_with, in_range, json_of, limit_in, number_at, or_fault, record_at, row_in, row_learned, rows_after, rows_in, rows_up_to, session_in, state_in, state_of, text_at, texts_after, with_row}
 use Rattle.sw_histories.specs.RecordRelation.{AreEntries, IsEntry, IsRecord}
-use Rattle.sw_histories.proofs.LearnedTexts.{learned_schema, row_schema}
+use Rattle.sw_lang.proofs.Knowing.{learned_schema}
+use Rattle.sw_histories.proofs.LearnedTexts.{row_schema}
 use Rattle.sw_histories.proofs.RecordReadingLemmas.{map_some, record_ok}
 
 then_ok : {A B : Type 0} (r : Result A Refusal) (f : A → Result B Refusal) (y : B) → (r >>= f) ≡ Ok y → (x : A) × (r ≡ Ok x) × (f x ≡ Ok y)

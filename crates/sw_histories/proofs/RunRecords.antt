@@ -25,7 +25,7 @@ use Rattle.sw_rows.proofs.DomainLaws.{holding_again, holding_kinds, holding_of_t
 use Rattle.sw_rows.proofs.HeaderSpelling.{header_read_back}
 use Rattle.sw_rows.proofs.TextLaws.{code_there, coded_at, text_sound, with_more}
 use Rattle.sw_lang.specs.Learning.{knowing, learned, texts_in_line}
-use Rattle.sw_lang.proofs.Knowing.{nothing_more}
+use Rattle.sw_lang.proofs.Knowing.{none_known, nothing_more, numbers_held, texts_known}
 use Rattle.sw_spine.proofs.PrintedLemmas.{AreSound, kinds_sound}
 use Rattle.sw_lang.specs.Grammar.{IsLine}
 use Rattle.sw_lang.specs.PrintedCalls.{call_text}
@@ -44,7 +44,7 @@ use Rattle.sw_histories.specs.RecordReading.{cell_in, cells_after, cells_of, has
 use Rattle.sw_histories.specs.RecordRelation.{AreEntries, IsEntry, IsRecord}
 use Rattle.sw_histories.specs.RecordText.{attribute_text, cell_data, cells_data, entry_data, format_of, list_data, record_data, record_text, row_data, state_data}
 use Rattle.sw_histories.specs.ReadBack.{AreCells, HasCells, HasWords, IsCalled, IsCellOf, IsOfRun, IsStateOf, IsWord, RecordsAreReadBack, entry_in_lines, in_lines, with_lines}
-use Rattle.sw_histories.proofs.LearnedTexts.{none_known, numbers_held, one_more, texts_known}
+use Rattle.sw_histories.proofs.LearnedTexts.{one_more}
 use Rattle.sw_histories.proofs.NarrowedLines.{coded_in, line_narrowed}
 use Rattle.sw_histories.proofs.RecordBack.{record_read}
 use Rattle.sw_histories.proofs.RecordLaws.{record_only}

@@ -1,44 +1,40 @@
--- A schema that learns the texts of tokens, one after another.
-use Rattle.std.proofs.Common.{◌≡◌, ◌∙◌, ap, sym, refl, ℕ, suc, ◌≤◌, All, Bool, true, false, true≢false, List, [], ◌∷◌, ◌++◌, length, take, nat_lt, arith, if◌then◌else◌, append_assoc, append-nil, ◌||◌, le_refl, take_all}
-use Rattle.std.proofs.lemmas.Bool.{le-leb}
-use Rattle.sw_rows.specs.Domains.{Domain, IsOver, over}
+-- A schema that learns the texts of tokens, one after another, and of a line.
+use Rattle.std.proofs.Common.{◌≡◌, ◌∙◌, ap, sym, refl, subst, ℕ, All, Bool, true, false, true≢false, List, [], ◌∷◌, ◌++◌, length, take, nat_lt, if◌then◌else◌, append_assoc, append-nil, le_refl, take_all}
+use Rattle.std.proofs.lemmas.Bool.{and_from, or_parts}
+use Rattle.std.proofs.lemmas.List.Elements.{All-head, All-tail}
+use Rattle.std.proofs.lemmas.List.Folds.{list_all-append}
+use Rattle.std.specs.List.{list_all}
+use Rattle.sw_rows.specs.Domains.{Domain, IsDomain, is_of_texts}
 use Rattle.sw_rows.specs.Domains as kind
-use Rattle.sw_rows.specs.Header.{Column, IsSchema, has_texts, holding, texts_of}
-use Rattle.sw_rows.specs.Texts.{are_full, has_text, with_texts}
-use Rattle.sw_rows.specs.declared.texts.TheConstants.{MOST_TEXTS}
-use Rattle.sw_rows.proofs.DomainLaws.{holding_again, holding_long, holding_of_texts, texts_of_holding}
+use Rattle.sw_rows.specs.Header.{Column, IsSchema, has_texts, holding, texts_of, texts_or}
+use Rattle.sw_rows.specs.Texts.{AreTexts, is_text, with_texts}
+use Rattle.sw_rows.proofs.ColumnLemmas.{no_texts}
+use Rattle.sw_rows.proofs.DomainLaws.{holding_again, holding_long, holding_of_texts, over_numbers, schema_held, schema_holding, texts_of_holding}
 use Rattle.sw_rows.proofs.TextLaws.{taken_back, with_more}
-use Rattle.sw_lang.specs.Learning.{knowing, learned, quoted_texts, texts_in_line}
+use Rattle.sw_rows.proofs.TextLemmas.{texts_sound}
+use Rattle.sw_lang.specs.Learning.{knowing, learned, quoted_text, quoted_texts, texts_in_line}
 use Rattle.sw_lang.specs.Reading.{is_comment}
-use Rattle.sw_lang.specs.Tokens.{tokens}
+use Rattle.sw_lang.specs.Tokens.{Tok, comma, op, quoted, stray, tokens, word}
 use Rattle.sw_lang.specs.declared.parse.TheConstants.{MOST_LINE}
 
 abbrev Texts : Type 0
 Texts = List (List ℕ)
 
--- ---- a schema stands over its own texts
+-- ---- no further texts
 
-own_over : (ts : Texts) (d : Domain) → IsOver ts d → over ts d ≡ d
-own_over ts kind.Int h = refl
-own_over ts (kind.Fix places) h = refl
-own_over ts kind.Flag h = refl
-own_over ts (kind.Text own) h = ap kind.Text (sym h)
-
-all_over : (ts : Texts) (cs : List Column) → All (λ c. IsOver ts c.1) cs → holding ts cs ≡ cs
-all_over ts [] h = refl
-all_over ts (c ∷ cs) h = ap (λ d. (c.0, d) ∷ holding ts cs) (own_over ts c.1 (h 0 c (omega arith))) ∙ ap (λ ds. c ∷ ds) (all_over ts cs (λ k d lt. h (suc k) d (omega (arith, lt))))
-
+-- a schema stands over its own texts
 pub nothing_more : (s : List Column) → IsSchema s → knowing [] s ≡ s
-nothing_more s is = all_over (texts_of s) s is.shared
+nothing_more s is = schema_held s is
 
--- where there are as many texts as there may be, a further one changes nothing
-pub none_at_full : (s : List Column) (t : List ℕ) → IsSchema s → MOST_TEXTS ≤ length (texts_of s) → knowing (t ∷ []) s ≡ s
-none_at_full s t is full = ap (λ us. holding us s) (by_tests (has_text (texts_of s) t) (are_full (texts_of s)) (le-leb _ _ full)) ∙ nothing_more s is
-  where
-    by_tests : (b f : Bool) → f ≡ true → (if b || f then texts_of s else texts_of s ++ t ∷ []) ≡ texts_of s
-    by_tests true f h = refl
-    by_tests false true h = refl
-    by_tests false false h = absurd (true≢false (sym h))
+pub numbers_held : (us : Texts) (cs : List Column) → has_texts cs ≡ false → holding us cs ≡ cs
+numbers_held us [] h = refl
+numbers_held us (c ∷ cs) h =
+    let parts = or_parts (is_of_texts c.1) (has_texts cs) h in
+    ap (λ d. (c.0, d) ∷ holding us cs) (over_numbers us c.1 parts.0) ∙ ap (λ ds. c ∷ ds) (numbers_held us cs parts.1)
+
+-- where no attribute is of texts, none is made known
+pub none_known : (s : List Column) (more : Texts) → has_texts s ≡ false → knowing more s ≡ s
+none_known s more none = numbers_held (with_texts (texts_of s) more) s none
 
 -- ---- further texts, and then others
 
@@ -127,3 +123,57 @@ none_of_a_long_line s text is h = passed_over s (texts_in_line text) is (none_if
 
 pub none_of_a_comment : (s : List Column) (text : List ℕ) → IsSchema s → is_comment text ≡ true → s ≡ learned s text
 none_of_a_comment s text is h = passed_over s (texts_in_line text) is (none_if_comment text (nat_lt MOST_LINE (length text)) (is_comment text) h)
+
+-- ---- a schema that learned is one still
+
+-- the texts of sound attributes are sound
+pub texts_known : (cs : List Column) → All (λ c. IsDomain c.1) cs → AreTexts (texts_of cs)
+texts_known [] h = no_texts
+texts_known (c ∷ cs) h = by_domain c.1 (All-head (λ c. IsDomain c.1) c cs h) (texts_known cs (All-tail (λ c. IsDomain c.1) c cs h))
+  where
+    by_domain : (d : Domain) → IsDomain d → AreTexts (texts_of cs) → AreTexts (texts_or d (texts_of cs))
+    by_domain kind.Int s more = more
+    by_domain (kind.Fix places) s more = more
+    by_domain kind.Flag s more = more
+    by_domain (kind.Text own) s more = s
+
+pub knowing_schema : (s : List Column) (more : Texts) → IsSchema s → list_all is_text more ≡ true → IsSchema (knowing more s)
+knowing_schema s more is sound = by_test (has_texts s) refl
+  where
+    by_test : (b : Bool) → has_texts s ≡ b → IsSchema (knowing more s)
+    by_test true some = (schema_holding (with_texts (texts_of s) more) s is.some is.sound (texts_sound (texts_of s) more (texts_known s is.sound.domains) sound) (λ none. absurd (true≢false (sym some ∙ none)))).0
+    by_test false none = subst IsSchema (sym (none_known s more none)) is
+
+-- the texts of a line may be those of cells
+one_sound : (text : List ℕ) → list_all is_text (quoted_text (quoted text)) ≡ true
+one_sound text = by_test (is_text text) refl
+  where
+    by_test : (b : Bool) → is_text text ≡ b → list_all is_text (if b then text ∷ [] else []) ≡ true
+    by_test true h = rw h refl
+    by_test false h = refl
+
+token_sound : (t : Tok) → list_all is_text (quoted_text t) ≡ true
+token_sound (word w) = refl
+token_sound (op o) = refl
+token_sound comma = refl
+token_sound (quoted text) = one_sound text
+token_sound stray = refl
+
+tokens_sound : (ts : List Tok) → list_all is_text (quoted_texts ts) ≡ true
+tokens_sound [] = refl
+tokens_sound (t ∷ ts) = list_all-append is_text (quoted_text t) (quoted_texts ts) ∙ and_from (list_all is_text (quoted_text t)) (list_all is_text (quoted_texts ts)) (token_sound t) (tokens_sound ts)
+
+pub line_sound : (text : List ℕ) → list_all is_text (texts_in_line text) ≡ true
+line_sound text = by_tests (nat_lt MOST_LINE (length text)) (is_comment text)
+  where
+    by_tests : (long comment : Bool) → list_all is_text (if long then [] else if comment then [] else quoted_texts (tokens text)) ≡ true
+    by_tests true comment = refl
+    by_tests false true = refl
+    by_tests false false = tokens_sound (tokens text)
+
+pub learned_schema : (s : List Column) (text : List ℕ) → IsSchema s → IsSchema (learned s text)
+learned_schema s text is = by_test (has_texts s)
+  where
+    by_test : (b : Bool) → IsSchema (if b then knowing (texts_in_line text) s else s)
+    by_test true = knowing_schema s (texts_in_line text) is (line_sound text)
+    by_test false = is
