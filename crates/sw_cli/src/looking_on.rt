@@ -2,8 +2,8 @@
 
 use sw_rows::Call;
 
-/// Who looks on while a run makes its calls, in any of its threads. It is told of each call before and after, and can touch
-/// neither the calls nor what comes of them. No clause speaks of what it sees.
+/// Who looks on while a run makes its calls, in any of its threads. It is told of each call before and after, and can
+/// touch neither the calls nor what comes of them. No clause speaks of what it sees.
 pub trait Onlooker: Sync {
     /// A call begins. The number comes back when the call has ended.
     fn begins(&self, call: &Call) -> u64;

@@ -137,8 +137,8 @@ where
     Ok(Outgoing { memory, ended })
 }
 
-/// Makes the blocks as `make_with` does. Here the names of the books stand for any, but what a viewer's copy makes of an update is
-/// known, which a bound of `make_with` asks for.
+/// Makes the blocks as `make_with` does. Here the names of the books stand for any, but what a viewer's copy makes of
+/// an update is known, which a bound of `make_with` asks for.
 fn make<J: Naming + Send + Sync, M: CrackerMap, O: Onlooker, R: Threads + Wait + Sync>(
     rt: &R,
     alloc: Global,
@@ -201,12 +201,12 @@ fn make_and_write<M: CrackerMap, O: Onlooker, R: Threads + Wait + Sync, W: Sink>
 /// of what came of them, with a line `---` between two blocks. The maps are boxes: box i, from 0, is dealt to the head
 /// of attribute i mod n, where there are n attributes.
 ///
-/// The table is read first, then the script, then the cuts; then the rows are held against the limit. The first fault in
-/// that order refuses the run before any call: `BadTable`, `BadLine`, `UnknownAttribute`, `TooMany`, `Input` where a
-/// source failed, or `NoMemory`; nothing was written then. Blocks run one after another, or each in a thread of its own;
-/// their lines go out in the order of the script when all have ended. A call that is refused writes `refused` and the
-/// refusal's number, changes no row, and the calls after it are made. `Output` comes only where the sink failed. The
-/// caller's conditions: the limit is 1 to 1,048,576, and the boxes are blank.
+/// The table is read first, then the script, then the cuts; then the rows are held against the limit. The first fault
+/// in that order refuses the run before any call: `BadTable`, `BadLine`, `UnknownAttribute`, `TooMany`, `Input` where a
+/// source failed, or `NoMemory`; nothing was written then. Blocks run one after another, or each in a thread of its
+/// own; their lines go out in the order of the script when all have ended. A call that is refused writes `refused` and
+/// the refusal's number, changes no row, and the calls after it are made. `Output` comes only where the sink failed.
+/// The caller's conditions: the limit is 1 to 1,048,576, and the boxes are blank.
 pub fn run_with<M: CrackerMap, R: Threads + Wait + Sync, T: Source, S: Source, W: Sink>(
     rt: &R,
     alloc: Global,
@@ -230,8 +230,8 @@ pub fn run_with<M: CrackerMap, R: Threads + Wait + Sync, T: Source, S: Source, W
     )
 }
 
-/// `run_with` that also adds what each head tells of itself when all calls were made, and lets somebody look on. No clause
-/// speaks of that list, nor of what the onlooker sees.
+/// `run_with` that also adds what each head tells of itself when all calls were made, and lets somebody look on. No
+/// clause speaks of that list, nor of what the onlooker sees.
 pub fn run_told<
     M: CrackerMap,
     O: Onlooker,

@@ -56,7 +56,8 @@ fn read_cuts(alloc: Global, schema: &Schema, text: &str) -> Result<Cuts, Refusal
     parse_cuts(alloc, schema, text)
 }
 
-/// Reads a table, a long one by threads, then a script, then the text of the cuts, and holds the rows against the limit.
+/// Reads a table, a long one by threads, then a script, then the text of the cuts, and holds the rows against the
+/// limit.
 pub(crate) fn read_start<R: Threads + Sync, T: Source, S: Source>(
     rt: &R,
     alloc: Global,

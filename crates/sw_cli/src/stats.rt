@@ -66,8 +66,8 @@ pub fn write_stats_title<W: Sink>(out: &mut W) -> Result<(), Refusal>
     )
 }
 
-/// Writes the line of a head: the name of its attribute, its numbers in the order of the first line, and the milliseconds
-/// that the caller measured.
+/// Writes the line of a head: the name of its attribute, its numbers in the order of the first line, and the
+/// milliseconds that the caller measured.
 ///
 /// Takes no memory. Refused `Output` where the sink fails; then a beginning of the line went out.
 pub fn write_stats_line<W: Sink>(

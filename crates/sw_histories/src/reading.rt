@@ -635,8 +635,8 @@ fn read_record_text(alloc: Global, text: &str) -> Result<Record, Refusal>
     }
 }
 
-/// The record of a file's bytes. Its attributes know the texts of the rows, one row after another and each from the left,
-/// and then those of the calls.
+/// The record of a file's bytes. Its attributes know the texts of the rows, one row after another and each from the
+/// left, and then those of the calls.
 ///
 /// Refused `BadLine` of line 0 and why `History` where the bytes are no such JSON outside the entries; then `TooMany`
 /// of 1,048,576 where there are more entries; then for the first entry, from 1, that is none `BadLine` with its number:

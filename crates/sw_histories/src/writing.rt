@@ -278,8 +278,8 @@ fn record_bytes(alloc: Global, history: &Record) -> Result<Vec<u8>, AllocError>
 }
 
 /// Writes the text of a record's file: one JSON object without blanks, in which keys ascend. An answered entry is
-/// written with the lines of its reply, and a cell of texts as its text. The format is 2 where an attribute is of texts,
-/// and 1 elsewhere.
+/// written with the lines of its reply, and a cell of texts as its text. The format is 2 where an attribute is of
+/// texts, and 1 elsewhere.
 ///
 /// Refused `NoMemory`, and then nothing was written, or `Output` where the sink fails, and then a beginning of the text
 /// was.

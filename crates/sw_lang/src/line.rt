@@ -15,12 +15,12 @@ use sw_rows::{Call, Refusal, Schema};
 
 /// The call of a line of a script, and None of an empty line or a comment.
 ///
-/// The text is the line without its end. Its quoted texts become known first, where the table has an attribute of texts,
-/// and are read as their codes; so does the text of a condition that no row meets. Refused `BadLine` with the line's
-/// number, from 1, as it is given: why `Length` where the text is longer than 4,096 bytes; else `Word`, `End` or `Value`
-/// for the first token from the left that cannot stand where it does. `UnknownAttribute` where that token is a well-formed
-/// name that no attribute has; `TooMany` of `sw_rows::MOST_TEXTS` where it is a text that is one too many; `NoMemory`. After
-/// a refusal the schema is as it was.
+/// The text is the line without its end. Its quoted texts become known first, where the table has an attribute of
+/// texts, and are read as their codes; so does the text of a condition that no row meets. Refused `BadLine` with the
+/// line's number, from 1, as it is given: why `Length` where the text is longer than 4,096 bytes; else `Word`, `End` or
+/// `Value` for the first token from the left that cannot stand where it does. `UnknownAttribute` where that token is a
+/// well-formed name that no attribute has; `TooMany` of `sw_rows::MOST_TEXTS` where it is a text that is one too many;
+/// `NoMemory`. After a refusal the schema is as it was.
 pub fn parse_line(
     alloc: Global,
     schema: &mut Schema,

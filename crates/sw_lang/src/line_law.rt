@@ -43,8 +43,8 @@ pub fn examples_of_cuts()
     ensures kinds { map (λ e. cuts_at mixed e.0) mixed_cuts ≡ map (λ e. e.1) mixed_cuts }
 {}
 
-/// Terms that are met one after another, each narrowing the condition on its attribute or adding one, make the conditions
-/// that all of them make at once.
+/// Terms that are met one after another, each narrowing the condition on its attribute or adding one, make the
+/// conditions that all of them make at once.
 pub fn terms_make_conditions()
     ensures { (terms : List Term) → fold add_term [] terms ≡ conditions terms }
 {}
@@ -55,8 +55,8 @@ pub fn lines_are_read_as_related()
     ensures only { FindsAllRelated line_at IsLine }
 {}
 
-/// What is read of a line under a schema is read of it under the schema that knows more texts, as that which has learned
-/// further lines.
+/// What is read of a line under a schema is read of it under the schema that knows more texts, as that which has
+/// learned further lines.
 pub fn lines_keep_their_calls()
     ensures { (schema : List Column) (more : List (List ℕ)) (text : List ℕ) (call : Option Call)
         → IsSchema schema → IsSchema (knowing more schema) → line_at schema text ≡ Ok call
@@ -70,8 +70,8 @@ pub fn printed_calls_are_read()
     ensures read { PrintedCallsAreRead }
 {}
 
-/// What `write_quoted` writes of a text is one token of a line, a quoted text of just these bytes, whatever follows but a
-/// quote. It is at most twice as long as the text, its two quotes aside.
+/// What `write_quoted` writes of a text is one token of a line, a quoted text of just these bytes, whatever follows but
+/// a quote. It is at most twice as long as the text, its two quotes aside.
 pub fn quoted_texts_are_read_back()
     ensures read { (text rest : List ℕ) → (slice_index rest 0 == 39) ≡ false
         → tokens (quoted_text text ++ rest) ≡ quoted text ∷ tokens rest }

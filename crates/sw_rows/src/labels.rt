@@ -26,7 +26,8 @@ fn listed(alloc: Global, many: usize, keys: &[u64]) -> Result<Vec<(u64, usize)>,
     Ok(labels)
 }
 
-/// The keys of rows in their order, each with how many cells its row shows. Those numbers take no memory while they are equal.
+/// The keys of rows in their order, each with how many cells its row shows. Those numbers take no memory while they are
+/// equal.
 #[derive(Debug, Drop)]
 pub(crate) struct Labels {
     form: Form,

@@ -29,8 +29,8 @@ fn zeros(alloc: Global, many: usize) -> Result<Vec<u8>, AllocError>
 
 /// Reads a source to its end.
 ///
-/// Refused `TooMany` of `limit` where it gives more bytes than that, `Input` where it failed in this call, and `NoMemory`.
-/// What it gave before a refusal is lost.
+/// Refused `TooMany` of `limit` where it gives more bytes than that, `Input` where it failed in this call, and
+/// `NoMemory`. What it gave before a refusal is lost.
 pub fn read_all<R: Source>(alloc: Global, source: &mut R, limit: usize) -> Result<Vec<u8>, Refusal>
     ensures spelled { IfSome (R.left source.old) (IsAllRead limit (R.failed source.old) (R.failed source.new) result) }
     ensures short { IfOk result (λ bytes. length bytes.items ≤ limit) }
@@ -59,15 +59,15 @@ pub fn read_all<R: Source>(alloc: Global, source: &mut R, limit: usize) -> Resul
     })
 }
 
-/// Reads a table from a source, to the source's end: the attributes of its header, and its rows with the keys 1, 2, 3 and
-/// so on, packed to as many cells a row as there are attributes.
+/// Reads a table from a source, to the source's end: the attributes of its header, and its rows with the keys 1, 2, 3
+/// and so on, packed to as many cells a row as there are attributes.
 ///
-/// The first fault refuses it: `TooMany` of 268,435,456 bytes, before anything is split; `BadTable` of record 0, field 0
-/// where there is no header; `TooMany` of 8 attributes; `BadTable` at the first field of the header that is none; then record
-/// by record `TooMany` of 1,048,576 rows, `BadTable` at the first field that is missing or too many, `BadTable` at the
-/// first cell that is none of its kind, or `TooMany` of 1,048,576 texts at a cell whose text would be one more. What is
-/// answered is the table of some bytes, also where the source does not tell its own. `Input` comes only where the source
-/// failed in this call.
+/// The first fault refuses it: `TooMany` of 268,435,456 bytes, before anything is split; `BadTable` of record 0, field
+/// 0 where there is no header; `TooMany` of 8 attributes; `BadTable` at the first field of the header that is none;
+/// then record by record `TooMany` of 1,048,576 rows, `BadTable` at the first field that is missing or too many,
+/// `BadTable` at the first cell that is none of its kind, or `TooMany` of 1,048,576 texts at a cell whose text would be
+/// one more. What is answered is the table of some bytes, also where the source does not tell its own. `Input` comes
+/// only where the source failed in this call.
 pub fn load<R: Source>(alloc: Global, source: &mut R) -> Result<(Schema, PackedRows), Refusal>
     ensures spelled { IfSome (R.left source.old) (IsLoaded (R.failed source.old) (R.failed source.new) result) }
     ensures steady { OnOk result (R.failed source.new ≡ R.failed source.old) }

@@ -144,8 +144,9 @@ fn select<P: Places>(
     Ok(found)
 }
 
-/// What a query is answered over the live rows, by a pass over all places: those that meet all its conditions, in the order of
-/// their places, as their keys and the cells asked for; or their number; or the sum, the least or the greatest of one attribute.
+/// What a query is answered over the live rows, by a pass over all places: those that meet all its conditions, in the
+/// order of their places, as their keys and the cells asked for; or their number; or the sum, the least or the greatest
+/// of one attribute.
 ///
 /// The one refusal is `NoMemory`, and only where rows are asked for. The caller's condition: attributes are below 8.
 pub fn scan<P: Places>(alloc: Global, rows: &P, query: &Query) -> Result<Reply, Refusal>
@@ -167,8 +168,8 @@ pub fn scan<P: Places>(alloc: Global, rows: &P, query: &Query) -> Result<Reply, 
     }
 }
 
-/// What a query is answered over a list of rows: those that meet all its conditions, in the list's order, as their keys and
-/// the cells asked for; or their number; or the sum, the least or the greatest of one attribute.
+/// What a query is answered over a list of rows: those that meet all its conditions, in the list's order, as their keys
+/// and the cells asked for; or their number; or the sum, the least or the greatest of one attribute.
 ///
 /// The one refusal is `NoMemory`, and only where rows are asked for. The caller's condition: attributes are below 8.
 pub fn answer(alloc: Global, rows: &[Row], query: &Query) -> Result<Reply, Refusal>

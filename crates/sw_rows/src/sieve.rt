@@ -9,8 +9,8 @@ use crate::places::Places;
 use crate::query::Cond;
 use std::marker::Model;
 
-/// A query's conditions with the first of them at hand, which a pass over many rows reads once and not at each row. Contracts
-/// see the conditions.
+/// A query's conditions with the first of them at hand, which a pass over many rows reads once and not at each row.
+/// Contracts see the conditions.
 #[derive(Drop)]
 pub(crate) struct Sieve<'a> {
     first: Cond,

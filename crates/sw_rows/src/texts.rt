@@ -110,8 +110,8 @@ impl Texts {
 
     /// The code of a text, which comes last where it is new. A known one changes nothing.
     ///
-    /// Refused `TooMany` of limit `MOST_TEXTS` where the text is new and there are as many, and `NoMemory` where there is
-    /// no memory for a new one: nothing has changed then. A known text is never refused.
+    /// Refused `TooMany` of limit `MOST_TEXTS` where the text is new and there are as many, and `NoMemory` where there
+    /// is no memory for a new one: nothing has changed then. A known text is never refused.
     #[tactic(auto, using(crate::proofs::TextLemmas::text_inserted))]
     pub fn add(&mut self, text: &str) -> Result<u64, Refusal>
         requires { is_text text.now ≡ true }
