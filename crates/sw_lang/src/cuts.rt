@@ -9,7 +9,7 @@ ghost use Rattle.sw_lang.specs.Cuts.{FitCuts, IsCuts, cuts_on};
 ghost use Rattle.sw_lang.specs.CutsReading.{before, cut_name, cut_split, cut_value, cuts_after, cuts_at, equals_at, is_divider, no_cuts, parts_after, with_cut, with_room};
 ghost use Rattle.sw_lang.specs.Reading.{attr_of, refused, Answers, Gives};
 
-use crate::domain::{AttrValues, values_at};
+use crate::domain::{AttrValues, attr_values};
 use crate::fault::{Fault, ParseError, bad};
 use crate::single::{attr_of, read_word};
 use std::alloc::{AllocError, Global};
@@ -183,7 +183,7 @@ fn add_part(alloc: Global, schema: &Schema, cuts: &mut Cuts, part: &[u8]) -> Res
 {
     let equals = equals_at(part);
     let attr = cut_name(alloc, schema, cuts, before(part, equals))?;
-    let value = cut_value(values_at(schema, attr), part, equals)?;
+    let value = cut_value(attr_values(schema, attr), part, equals)?;
     add_cut(cuts, attr, value)?;
     Ok(())
 }

@@ -14,7 +14,7 @@ pub(crate) enum AttrValues<'a> {
 }
 
 /// The values of an attribute.
-pub(crate) fn values_at(schema: &Schema, attr: usize) -> AttrValues<'_>
+pub(crate) fn attr_values(schema: &Schema, attr: usize) -> AttrValues<'_>
     requires { attr < length schema.now }
     ensures domain { domain_of result ≡ kind_at schema.now attr }
     ensures sound { AreSound result }
@@ -31,7 +31,7 @@ pub(crate) fn values_or_int(schema: &Schema, attr: usize) -> AttrValues<'_>
     ensures sound { AreSound result }
 {
     if attr < schema.len() {
-        values_at(schema, attr)
+        attr_values(schema, attr)
     } else {
         AttrValues::Numbers(Kind::Int)
     }

@@ -9,7 +9,7 @@ ghost use Rattle.sw_lang.specs.Grammar.{IsLine};
 ghost use Rattle.sw_lang.specs.Fits.{FitsCall};
 ghost use Rattle.sw_rows.specs.Header.{IsSchema};
 
-use crate::domain::{AttrValues, values_at};
+use crate::domain::{AttrValues, attr_values};
 use crate::fault::{Fault, ParseError, bad};
 use crate::single::{is_comma, is_word, key_at, name_at, number_name_at, op_at, value_at};
 use crate::term::{Term, add_term};
@@ -30,7 +30,7 @@ fn term_at<'a>(
     ensures shorter { IfOk result (λ p. length p.1.now < length text.now) }
 {
     let (attr, rest) = name_at(alloc, schema, text)?;
-    let values = values_at(schema, attr);
+    let values = attr_values(schema, attr);
     let (op, rest) = op_at(values, rest)?;
     let (value, rest) = value_at(values, rest)?;
     Ok((Term { attr, op, value }, rest))
@@ -194,7 +194,7 @@ fn cells_at(schema: &Schema, text: &[u8]) -> Result<[i64; 8], Fault>
     let mut cells = [0; 8];
     let mut rest = text;
     for attr in 0..schema.len() {
-        let (value, after) = next_value(attr == 0, values_at(schema, attr), rest)?;
+        let (value, after) = next_value(attr == 0, attr_values(schema, attr), rest)?;
         cells[attr] = value;
         rest = after;
     }

@@ -9,7 +9,7 @@ ghost use Rattle.sw_rows.specs.Header.{is_name};
 ghost use Rattle.sw_lang.specs.Reading.{attr_of, first_by, is_comma, is_word, key_of, key_value, name_of, number_name, op_for, op_of, quoted_value, value_of, word_value, Gives, Tells};
 ghost use Rattle.sw_lang.specs.Tokens.{tok, tokens, undoubled};
 
-use crate::domain::{AttrValues, values_at};
+use crate::domain::{AttrValues, attr_values};
 use crate::fault::{Fault, ParseError, bad};
 use crate::quotes::undoubled;
 use crate::token::{Op, Token, next_token};
@@ -70,7 +70,7 @@ fn number_name(alloc: Global, schema: &Schema, token: Token) -> Result<usize, Pa
     ensures { Gives (λ i. i) result (number_name schema.now (tok token.entry)) }
 {
     let attr = name_of(alloc, schema, token)?;
-    if are_texts(values_at(schema, attr)) {
+    if are_texts(attr_values(schema, attr)) {
         return Err(bad(Why::Word));
     }
     Ok(attr)

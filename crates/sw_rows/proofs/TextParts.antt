@@ -15,7 +15,7 @@ use Rattle.sw_rows.specs.Domains.{Domain, domain, is_of_texts, over, under}
 use Rattle.sw_rows.specs.Domains as kind
 use Rattle.csv.specs.Reading.{default_config, records}
 use Rattle.sw_rows.specs.Header.{Column, bad_table, holding, kinds_of, too_many}
-use Rattle.sw_rows.specs.Parts.{AreCodes, AreRecordsOfBoth, IsPart, IsRead, cells_coded, row_coded, rows_behind, rows_joined}
+use Rattle.sw_rows.specs.Parts.{AreCodes, AreRecordsOfBoth, IsPart, IsRead, cells_exchanged, row_exchanged, rows_behind, rows_joined}
 use Rattle.sw_rows.specs.Tables.{◌>>=◌, cells_after, cells_of, fault_at, or_bad, padded, row_of, rows_after, seeing, table_with, text_fields, texts_in, then_padded}
 use Rattle.sw_rows.specs.Texts.{are_full, code_given, code_of, has_text, is_text, text_of, with_text, with_texts}
 use Rattle.sw_rows.specs.declared.table.TheConstants.{MOST_ROWS}
@@ -137,72 +137,72 @@ cell_coded ts us codes (kind.Text own) t z h e =
         ap (option_map pos) new.1 ∙ ap (λ y. Some y) (sym (exchanged_is codes at.0 new.0 new.2) ∙ ap (λ n. exchanged codes (pos n)) at.1 ∙ ap (exchanged codes) (same_Some (pos c) z f))
 
 cells_coded_after : (ts us : Texts) (codes : List ℤ) → AreCodes ts us codes → (rec : ℕ) (done new : List ℤ) (ds : List Domain) (fields : List (List ℕ)) (cells : List ℤ) → cells_after rec done (under ts ds) fields ≡ Ok cells
-    → (rest : List ℤ) × (cells ≡ done ++ rest) × (cells_after rec new (under us ds) fields ≡ Ok (new ++ cells_coded ds codes rest))
+    → (rest : List ℤ) × (cells ≡ done ++ rest) × (cells_after rec new (under us ds) fields ≡ Ok (new ++ cells_exchanged ds codes rest))
 cells_coded_after ts us codes h rec done new [] fields cells e = ([], sym (same_Ok done cells e) ∙ sym (append-nil done), ap (λ v. Ok v) (sym (append-nil new)))
 cells_coded_after ts us codes h rec done new (d ∷ ds) [] cells e = ([], sym (same_Ok done cells e) ∙ sym (append-nil done), ap (λ v. Ok v) (sym (append-nil new)))
 cells_coded_after ts us codes h rec done new (d ∷ ds) (t ∷ fields) cells e =
     by_value (cell_value (over ts d) t) refl e (λ z e'. cells_coded_after ts us codes h rec (done ++ z ∷ []) (new ++ cond (is_of_texts d) (exchanged codes z) z ∷ []) ds fields cells e')
   where
     Given : ℤ → Type 0
-    Given z = (rest : List ℤ) × (cells ≡ (done ++ z ∷ []) ++ rest) × (cells_after rec (new ++ cond (is_of_texts d) (exchanged codes z) z ∷ []) (under us ds) fields ≡ Ok ((new ++ cond (is_of_texts d) (exchanged codes z) z ∷ []) ++ cells_coded ds codes rest))
+    Given z = (rest : List ℤ) × (cells ≡ (done ++ z ∷ []) ++ rest) × (cells_after rec (new ++ cond (is_of_texts d) (exchanged codes z) z ∷ []) (under us ds) fields ≡ Ok ((new ++ cond (is_of_texts d) (exchanged codes z) z ∷ []) ++ cells_exchanged ds codes rest))
 
     by_value : (o : Option ℤ) → cell_value (over ts d) t ≡ o → or_bad (fault_at rec (length done + 1) (over ts d) t) o (λ z. cells_after rec (done ++ z ∷ []) (under ts ds) fields) ≡ Ok cells
         → ((z : ℤ) → cells_after rec (done ++ z ∷ []) (under ts ds) fields ≡ Ok cells → Given z)
-        → (rest : List ℤ) × (cells ≡ done ++ rest) × (or_bad (fault_at rec (length new + 1) (over us d) t) (cell_value (over us d) t) (λ z. cells_after rec (new ++ z ∷ []) (under us ds) fields) ≡ Ok (new ++ cells_coded (d ∷ ds) codes rest))
+        → (rest : List ℤ) × (cells ≡ done ++ rest) × (or_bad (fault_at rec (length new + 1) (over us d) t) (cell_value (over us d) t) (λ z. cells_after rec (new ++ z ∷ []) (under us ds) fields) ≡ Ok (new ++ cells_exchanged (d ∷ ds) codes rest))
     by_value None k f more = absurd (err-ok (fault_at rec (length done + 1) (over ts d) t) cells f)
     by_value (Some z) k f more =
         let next = more z f in
         let y = cond (is_of_texts d) (exchanged codes z) z in (
           z ∷ next.0,
           next.1 ∙ append_assoc done (z ∷ []) next.0,
-          ap (λ o. or_bad (fault_at rec (length new + 1) (over us d) t) o (λ x. cells_after rec (new ++ x ∷ []) (under us ds) fields)) (cell_coded ts us codes d t z h k) ∙ next.2 ∙ ap (λ v. Ok v) (append_assoc new (y ∷ []) (cells_coded ds codes next.0)),
+          ap (λ o. or_bad (fault_at rec (length new + 1) (over us d) t) o (λ x. cells_after rec (new ++ x ∷ []) (under us ds) fields)) (cell_coded ts us codes d t z h k) ∙ next.2 ∙ ap (λ v. Ok v) (append_assoc new (y ∷ []) (cells_exchanged ds codes next.0)),
         )
 
 under_long : (ts us : Texts) (ds : List Domain) → length (under ts ds) ≡ length (under us ds)
 under_long ts us ds = length-map ds (over ts) ∙ sym (length-map ds (over us))
 
 cells_of_coded : (ts us : Texts) (codes : List ℤ) → AreCodes ts us codes → (rec : ℕ) (ds : List Domain) (fields : List (List ℕ)) (cells : List ℤ) → cells_of rec (under ts ds) fields ≡ Ok cells
-    → cells_of rec (under us ds) fields ≡ Ok (cells_coded ds codes cells)
+    → cells_of rec (under us ds) fields ≡ Ok (cells_exchanged ds codes cells)
 cells_of_coded ts us codes h rec ds fields cells e =
     let parts = if_ok (nat_eq (length fields) (length (under ts ds))) (cells_after rec [] (under ts ds) fields) (bad_table rec (min (length fields) (length (under ts ds)) + 1)) cells e in
     let read = cells_coded_after ts us codes h rec [] [] ds fields cells parts.1 in
     cond-true (nat_eq (length fields) (length (under us ds))) (cells_after rec [] (under us ds) fields) (Err (bad_table rec (min (length fields) (length (under us ds)) + 1))) (ap (nat_eq (length fields)) (under_long us ts ds) ∙ parts.0)
-    ∙ read.2 ∙ ap (λ v. Ok (cells_coded ds codes v)) (sym read.1)
+    ∙ read.2 ∙ ap (λ v. Ok (cells_exchanged ds codes v)) (sym read.1)
 
 zero_coded : (b : Bool) (codes : List ℤ) → cond b (exchanged codes (pos 0)) (pos 0) ≡ pos 0
 zero_coded true codes = refl
 zero_coded false codes = refl
 
-zeros_coded : (ds : List Domain) (codes : List ℤ) (m : ℕ) → cells_coded ds codes (replicate m (pos 0)) ≡ replicate m (pos 0)
+zeros_coded : (ds : List Domain) (codes : List ℤ) (m : ℕ) → cells_exchanged ds codes (replicate m (pos 0)) ≡ replicate m (pos 0)
 zeros_coded [] codes m = refl
 zeros_coded (d ∷ ds) codes zero = refl
-zeros_coded (d ∷ ds) codes (suc m) = ap (λ z. z ∷ cells_coded ds codes (replicate m (pos 0))) (zero_coded (is_of_texts d) codes) ∙ ap (λ zs. pos 0 ∷ zs) (zeros_coded ds codes m)
+zeros_coded (d ∷ ds) codes (suc m) = ap (λ z. z ∷ cells_exchanged ds codes (replicate m (pos 0))) (zero_coded (is_of_texts d) codes) ∙ ap (λ zs. pos 0 ∷ zs) (zeros_coded ds codes m)
 
-coded_pad : (ds : List Domain) (codes cells : List ℤ) (m : ℕ) → cells_coded ds codes (cells ++ replicate m (pos 0)) ≡ cells_coded ds codes cells ++ replicate m (pos 0)
+coded_pad : (ds : List Domain) (codes cells : List ℤ) (m : ℕ) → cells_exchanged ds codes (cells ++ replicate m (pos 0)) ≡ cells_exchanged ds codes cells ++ replicate m (pos 0)
 coded_pad [] codes cells m = refl
 coded_pad (d ∷ ds) codes [] m = zeros_coded (d ∷ ds) codes m
 coded_pad (d ∷ ds) codes (z ∷ zs) m = ap (λ v. cond (is_of_texts d) (exchanged codes z) z ∷ v) (coded_pad ds codes zs m)
 
-coded_long : (ds : List Domain) (codes cells : List ℤ) → length (cells_coded ds codes cells) ≡ length cells
+coded_long : (ds : List Domain) (codes cells : List ℤ) → length (cells_exchanged ds codes cells) ≡ length cells
 coded_long [] codes cells = refl
 coded_long (d ∷ ds) codes [] = refl
 coded_long (d ∷ ds) codes (z ∷ zs) = ap suc (coded_long ds codes zs)
 
-padded_coded : (ds : List Domain) (codes cells : List ℤ) → padded (cells_coded ds codes cells) ≡ cells_coded ds codes (padded cells)
-padded_coded ds codes cells = ap (λ n. cells_coded ds codes cells ++ replicate (8 - n) (pos 0)) (coded_long ds codes cells) ∙ sym (coded_pad ds codes cells (8 - length cells))
+padded_coded : (ds : List Domain) (codes cells : List ℤ) → padded (cells_exchanged ds codes cells) ≡ cells_exchanged ds codes (padded cells)
+padded_coded ds codes cells = ap (λ n. cells_exchanged ds codes cells ++ replicate (8 - n) (pos 0)) (coded_long ds codes cells) ∙ sym (coded_pad ds codes cells (8 - length cells))
 
 record_coded : (ts us : Texts) (codes : List ℤ) → AreCodes ts us codes → (rec : ℕ) (ds : List Domain) (fields : List (List ℕ)) (cells : List ℤ) → then_padded (cells_of rec (under ts ds) fields) ≡ Ok cells
-    → then_padded (cells_of rec (under us ds) fields) ≡ Ok (cells_coded ds codes cells)
+    → then_padded (cells_of rec (under us ds) fields) ≡ Ok (cells_exchanged ds codes cells)
 record_coded ts us codes h rec ds fields cells e =
     let read = then_ok (cells_of rec (under ts ds) fields) (λ (v : List ℤ). Ok (padded v)) cells e in
-    ap then_padded (cells_of_coded ts us codes h rec ds fields read.0 read.1) ∙ ap (λ v. Ok v) (padded_coded ds codes read.0 ∙ ap (cells_coded ds codes) (same_Ok (padded read.0) cells read.2))
+    ap then_padded (cells_of_coded ts us codes h rec ds fields read.0 read.1) ∙ ap (λ v. Ok v) (padded_coded ds codes read.0 ∙ ap (cells_exchanged ds codes) (same_Ok (padded read.0) cells read.2))
 
 -- the rows of records over other texts
 pub rows_coded : (ts us : Texts) (codes : List ℤ) → AreCodes ts us codes → (ds : List Domain) (ys : List (List (List ℕ))) (done rows : List Row) → rows_after (under ts ds) done ys ≡ Ok rows
-    → rows_after (under us ds) (map (row_coded ds codes) done) ys ≡ Ok (map (row_coded ds codes) rows)
-rows_coded ts us codes h ds [] done rows e = ap (λ v. Ok (map (row_coded ds codes) v)) (same_Ok done rows e)
+    → rows_after (under us ds) (map (row_exchanged ds codes) done) ys ≡ Ok (map (row_exchanged ds codes) rows)
+rows_coded ts us codes h ds [] done rows e = ap (λ v. Ok (map (row_exchanged ds codes) v)) (same_Ok done rows e)
 rows_coded ts us codes h ds (y ∷ ys) done rows e =
-    let f = row_coded ds codes in
+    let f = row_exchanged ds codes in
     let ks = under ts ds in
     let js = under us ds in
     let new = map f done in
@@ -211,8 +211,8 @@ rows_coded ts us codes h ds (y ∷ ys) done rows e =
     let read = then_ok (then_padded (cells_of (length done + 1) ks y)) (λ (cells : List ℤ). rows_after ks (done ++ row_of (length done + 1) cells ∷ []) ys) rows parts.1 in
     let lt : length new < MOST_ROWS = let there = parts.0 in grind (arith, nat_tests, there, same) in
     let one = ap (λ n. then_padded (cells_of (n + 1) js y)) same ∙ record_coded ts us codes h (length done + 1) ds y read.0 read.1 in
-    rows_step js new y ys (cells_coded ds codes read.0) lt one
-    ∙ ap (λ n. rows_after js (new ++ row_of (n + 1) (cells_coded ds codes read.0) ∷ []) ys) same
+    rows_step js new y ys (cells_exchanged ds codes read.0) lt one
+    ∙ ap (λ n. rows_after js (new ++ row_of (n + 1) (cells_exchanged ds codes read.0) ∷ []) ys) same
     ∙ ap (λ v. rows_after js v ys) (sym (map-append f done (row_of (length done + 1) read.0 ∷ [])))
     ∙ rows_coded ts us codes h ds ys (done ++ row_of (length done + 1) read.0 ∷ []) rows read.2
 
@@ -220,7 +220,7 @@ rows_coded ts us codes h ds (y ∷ ys) done rows e =
 
 -- the cell of one attribute more
 coded_text : (ds : List Domain) (codes cells : List ℤ) (i : ℕ) (d : Domain) → slice_get ds i ≡ Some d → is_of_texts d ≡ true
-    → cells_coded (take (suc i) ds) codes cells ≡ set (cells_coded (take i ds) codes cells) i (exchanged codes (get_or (cells_coded (take i ds) codes cells) i (pos 0)))
+    → cells_exchanged (take (suc i) ds) codes cells ≡ set (cells_exchanged (take i ds) codes cells) i (exchanged codes (get_or (cells_exchanged (take i ds) codes cells) i (pos 0)))
 coded_text [] codes cells i d e h = absurd (none-some d e)
 coded_text (b ∷ ds) codes [] zero d e h = refl
 coded_text (b ∷ ds) codes (z ∷ zs) zero d e h = ap (λ x. cond x (exchanged codes z) z ∷ zs) (ap is_of_texts (same_Some b d e) ∙ h)
@@ -229,7 +229,7 @@ coded_text (b ∷ ds) codes (z ∷ zs) (suc i) d e h = ap (λ v. cond (is_of_tex
 
 -- or one that is not of texts
 coded_number : (ds : List Domain) (codes cells : List ℤ) (i : ℕ) (d : Domain) → slice_get ds i ≡ Some d → is_of_texts d ≡ false
-    → cells_coded (take (suc i) ds) codes cells ≡ cells_coded (take i ds) codes cells
+    → cells_exchanged (take (suc i) ds) codes cells ≡ cells_exchanged (take i ds) codes cells
 coded_number [] codes cells i d e h = absurd (none-some d e)
 coded_number (b ∷ ds) codes [] zero d e h = refl
 coded_number (b ∷ ds) codes (z ∷ zs) zero d e h = ap (λ x. cond x (exchanged codes z) z ∷ zs) (ap is_of_texts (same_Some b d e) ∙ h)
@@ -240,34 +240,34 @@ abbrev with_cells : Row → List ℤ → Row
 with_cells r cells = record r { cells = cells }
 
 pub text_further : (ds : List Domain) (codes : List ℤ) (rs : List Row) (i : ℕ) (d : Domain) → slice_get ds i ≡ Some d → is_of_texts d ≡ true
-    → map (with_exchanged i codes) (map (row_coded (take i ds) codes) rs) ≡ map (row_coded (take (i + 1) ds) codes) rs
+    → map (with_exchanged i codes) (map (row_exchanged (take i ds) codes) rs) ≡ map (row_exchanged (take (i + 1) ds) codes) rs
 text_further ds codes [] i d e h = refl
 text_further ds codes (r ∷ rs) i d e h =
     let next : suc i ≡ i + 1 = omega arith in
-    ap (λ v. with_cells r v ∷ map (with_exchanged i codes) (map (row_coded (take i ds) codes) rs)) (sym (coded_text ds codes r.cells i d e h) ∙ ap (λ n. cells_coded (take n ds) codes r.cells) next)
-    ∙ ap (λ v. row_coded (take (i + 1) ds) codes r ∷ v) (text_further ds codes rs i d e h)
+    ap (λ v. with_cells r v ∷ map (with_exchanged i codes) (map (row_exchanged (take i ds) codes) rs)) (sym (coded_text ds codes r.cells i d e h) ∙ ap (λ n. cells_exchanged (take n ds) codes r.cells) next)
+    ∙ ap (λ v. row_exchanged (take (i + 1) ds) codes r ∷ v) (text_further ds codes rs i d e h)
 
 pub number_further : (ds : List Domain) (codes : List ℤ) (rs : List Row) (i : ℕ) (d : Domain) → slice_get ds i ≡ Some d → is_of_texts d ≡ false
-    → map (row_coded (take i ds) codes) rs ≡ map (row_coded (take (i + 1) ds) codes) rs
+    → map (row_exchanged (take i ds) codes) rs ≡ map (row_exchanged (take (i + 1) ds) codes) rs
 number_further ds codes [] i d e h = refl
 number_further ds codes (r ∷ rs) i d e h =
     let next : suc i ≡ i + 1 = omega arith in
-    ap (λ v. with_cells r v ∷ map (row_coded (take i ds) codes) rs) (sym (coded_number ds codes r.cells i d e h) ∙ ap (λ n. cells_coded (take n ds) codes r.cells) next)
-    ∙ ap (λ v. row_coded (take (i + 1) ds) codes r ∷ v) (number_further ds codes rs i d e h)
+    ap (λ v. with_cells r v ∷ map (row_exchanged (take i ds) codes) rs) (sym (coded_number ds codes r.cells i d e h) ∙ ap (λ n. cells_exchanged (take n ds) codes r.cells) next)
+    ∙ ap (λ v. row_exchanged (take (i + 1) ds) codes r ∷ v) (number_further ds codes rs i d e h)
 
-pub none_coded : (codes : List ℤ) (rs : List Row) → map (row_coded [] codes) rs ≡ rs
+pub none_coded : (codes : List ℤ) (rs : List Row) → map (row_exchanged [] codes) rs ≡ rs
 none_coded codes [] = refl
 none_coded codes (r ∷ rs) = ap (λ v. r ∷ v) (none_coded codes rs)
 
-keys_low : (ds : List Domain) (codes : List ℤ) (rs : List Row) → All (λ r. r.key < 2 ^ 63) rs → All (λ r. r.key < 2 ^ 63) (map (row_coded ds codes) rs)
+keys_low : (ds : List Domain) (codes : List ℤ) (rs : List Row) → All (λ r. r.key < 2 ^ 63) rs → All (λ r. r.key < 2 ^ 63) (map (row_exchanged ds codes) rs)
 keys_low ds codes [] h i d lt = absurd (omega (arith, lt))
 keys_low ds codes (r ∷ rs) h zero d lt = h zero d (omega arith)
 keys_low ds codes (r ∷ rs) h (suc i) d lt = keys_low ds codes rs (λ k e le. h (suc k) e (omega (arith, le))) i d (omega (arith, lt))
 
 -- a part whose cells were exchanged
-pub part_coded : (ds : List Domain) (codes : List ℤ) (n : ℕ) (old new : Packed) → IsPart n old → new ≡ record old { items = map (row_coded ds codes) old.items } → IsPart n new
+pub part_coded : (ds : List Domain) (codes : List ℤ) (n : ℕ) (old new : Packed) → IsPart n old → new ≡ record old { items = map (row_exchanged ds codes) old.items } → IsPart n new
 part_coded ds codes n old new h e = subst (λ p. IsPart n p) (sym e) (record {
-  few = let long = length-map old.items (row_coded ds codes) in let few = h.few in omega (arith, long, few);
+  few = let long = length-map old.items (row_exchanged ds codes) in let few = h.few in omega (arith, long, few);
   keys = keys_low ds codes old.items h.keys;
   width = h.width;
 })
@@ -285,15 +285,15 @@ texts_joined ds xs ys ts us first rest room =
     ap (with_texts ts) rest ∙ gathered ts [] (texts_in ds ys) (ap are_full (sym rest) ∙ room) ∙ ap (λ v. with_texts v (texts_in ds ys)) first ∙ sym (with_more [] (texts_in ds xs) (texts_in ds ys)) ∙ ap (with_texts []) (sym (texts_in_both ds xs ys))
 
 rows_both : (ds : List Domain) (xs ys : List (List (List ℕ))) (ts us more : Texts) (codes : List ℤ) (r s all : List Row) → ((m : Texts) → rows_after (under (with_texts ts m) ds) [] xs ≡ Ok r) → ((m : Texts) → rows_after (under (with_texts us m) ds) [] ys ≡ Ok s) → AreCodes us (with_texts ts us) codes
-    → rows_behind r (Ok (map (row_coded ds codes) s)) ≡ Ok all → rows_after (under (with_texts (with_texts ts us) more) ds) [] (xs ++ ys) ≡ Ok all
+    → rows_behind r (Ok (map (row_exchanged ds codes) s)) ≡ Ok all → rows_after (under (with_texts (with_texts ts us) more) ds) [] (xs ++ ys) ≡ Ok all
 rows_both ds xs ys ts us more codes r s all first rest h e =
     let seen = with_texts (with_texts ts us) more in
     let one : rows_after (under seen ds) [] xs ≡ Ok r = ap (λ v. rows_after (under v ds) [] xs) (sym (with_more ts us more)) ∙ first (us ++ more) in
-    let other : rows_after (under seen ds) [] ys ≡ Ok (map (row_coded ds codes) s) = rows_coded us seen codes (codes_kept us (with_texts ts us) more codes h) ds ys [] s (rest []) in
+    let other : rows_after (under seen ds) [] ys ≡ Ok (map (row_exchanged ds codes) s) = rows_coded us seen codes (codes_kept us (with_texts ts us) more codes h) ds ys [] s (rest []) in
     rows_cut (under seen ds) xs ys ∙ ap (λ o. rows_joined o (rows_after (under seen ds) [] ys)) one ∙ ap (rows_behind r) other ∙ e
 
 pub parts_joined : (cs : List Column) (a b whole : List ℕ) (first rest all : Part) (codes : List ℤ) → AreRecordsOfBoth a b whole → IsRead cs a first → IsRead cs b rest → are_full rest.texts ≡ false
-    → all.texts ≡ with_texts first.texts rest.texts → AreCodes rest.texts all.texts codes → rows_behind first.rows.items (Ok (map (row_coded (kinds_of cs) codes) rest.rows.items)) ≡ Ok all.rows.items → all.rows.width ≡ length cs
+    → all.texts ≡ with_texts first.texts rest.texts → AreCodes rest.texts all.texts codes → rows_behind first.rows.items (Ok (map (row_exchanged (kinds_of cs) codes) rest.rows.items)) ≡ Ok all.rows.items → all.rows.width ≡ length cs
     → IsRead cs whole all
 parts_joined cs a b whole first rest all codes both one other room texts given rows width =
     let ds = kinds_of cs in

@@ -29,6 +29,7 @@ kind_in (Text texts) = word.Text
 abbrev pub over : List (List ℕ) → Domain → Domain
 over texts d = domain texts (kind_in d)
 
+-- the same of each domain
 abbrev pub under : List (List ℕ) → List Domain → List Domain
 under texts ds = map (over texts) ds
 

@@ -73,10 +73,10 @@ AreCodes texts others codes = (place : ℕ) (text : List ℕ) → slice_get text
     → (code : ℕ) × (code_of others text ≡ Some code) × (slice_get codes place ≡ Some (pos code))
 
 -- cells with those of texts exchanged for other codes
-abbrev pub cells_coded : List Domain → List ℤ → List ℤ → List ℤ
-cells_coded [] codes cells = cells
-cells_coded (d ∷ ds) codes [] = []
-cells_coded (d ∷ ds) codes (z ∷ zs) = (if is_of_texts d then exchanged codes z else z) ∷ cells_coded ds codes zs
+abbrev pub cells_exchanged : List Domain → List ℤ → List ℤ → List ℤ
+cells_exchanged [] codes cells = cells
+cells_exchanged (d ∷ ds) codes [] = []
+cells_exchanged (d ∷ ds) codes (z ∷ zs) = (if is_of_texts d then exchanged codes z else z) ∷ cells_exchanged ds codes zs
 
-abbrev pub row_coded : List Domain → List ℤ → Row → Row
-row_coded ds codes r = record r { cells = cells_coded ds codes r.cells }
+abbrev pub row_exchanged : List Domain → List ℤ → Row → Row
+row_exchanged ds codes r = record r { cells = cells_exchanged ds codes r.cells }

@@ -4,7 +4,7 @@ ghost use Rattle.std.specs.Prelude.{◌≡◌, ◌<◌, ℕ, List, true, length,
 ghost use Rattle.std.specs.Thread.{IsSync};
 ghost use Rattle.csv.specs.Reading.{default_config, records};
 ghost use Rattle.sw_rows.specs.Header.{has_texts, kinds_of};
-ghost use Rattle.sw_rows.specs.Parts.{AreCodes, AreRecordsOfBoth, IsPart, IsRead, begins_plain, row_coded};
+ghost use Rattle.sw_rows.specs.Parts.{AreCodes, AreRecordsOfBoth, IsPart, IsRead, begins_plain, row_exchanged};
 ghost use Rattle.sw_rows.specs.Tables.{seeing, shown_packed, table_with};
 ghost use Rattle.sw_rows.specs.Texts.{with_texts};
 
@@ -64,7 +64,8 @@ fn add_texts(alloc: Global, texts: &mut Texts, more: &Texts) -> Option<Vec<i64>>
 /// Exchanges the cells of all attributes of texts for other codes.
 fn exchange_texts(columns: &Columns, rows: &mut PackedRows, codes: &[i64])
     requires { rows.old.width ≡ length columns.now }
-    ensures { rows.new ≡ record rows.old { items = map (row_coded (kinds_of columns.now) codes.now) rows.old.items } }
+    ensures { rows.new
+        ≡ record rows.old { items = map (row_exchanged (kinds_of columns.now) codes.now) rows.old.items } }
 {
     for attr in 0..columns.len() {
         if let Kind::Text = columns.kind(attr) {

@@ -10,7 +10,7 @@ returns-in_err-value c =
     let i = c.loop-attr.attr in
     let p = err_from_is_err_and c.from_residual.result c.from_residual.ensures.1 in
     let len : length (take i c.loop-attr.cells) ≡ i = grind (arith, common_steps) in
-    rw (p.1, p.2) (value_ends c.in_err-value.field-0.0 c.args.schema.now (take i c.loop-attr.cells) i _ (tokens c.args.text.now) (tokens c.loop-attr.rest.now) (omega arith) c.values_at.ensures.domain c.loop-attr.invariant.read
+    rw (p.1, p.2) (value_ends c.in_err-value.field-0.0 c.args.schema.now (take i c.loop-attr.cells) i _ (tokens c.args.text.now) (tokens c.loop-attr.rest.now) (omega arith) c.attr_values.ensures.domain c.loop-attr.invariant.read
     (c.in_err-value.ensures (take i c.loop-attr.cells) (ap (λ n. nat_eq n 0) (sym len))))
 
 pub returns-in_err-nothing_left : goal.returns-in_err-nothing_left
