@@ -38,7 +38,7 @@ pub use places::Places;
 pub use query::{Call, Cond, Conds, Names, Query, Want};
 pub use refusal::{Refusal, Why};
 pub use reply::{Cells, Reply, ReplyRow, ReplyRows, RowsLeft};
-pub use scanning::{answer, scan};
+pub use scanning::{answer, matching_keys, scan};
 pub use schema::{Schema, is_name};
 pub use source::{Counted, Sink, Source};
 pub use sw_table::{LiveTable, PackedRows, Row, Update, has_key, update, update_all};

@@ -1,12 +1,13 @@
 //! The plain scan.
 
-ghost use Rattle.std.specs.Prelude.{◌≡◌, ◌<◌, ◌++◌, ◌∷◌, [], length, slice_index_or, All, IfOk, IsOk, IsOkUnless, OnOk, OnErr};
+ghost use Rattle.std.specs.Prelude.{◌≡◌, ◌<◌, ◌++◌, ◌∷◌, [], length, slice_index_or, All, IfOk, IsOk, IsOkUnless, OnOk, OnErr, map};
 ghost use Rattle.sw_rows.specs.Scan.{meets_all, answer, column, greatest, is_match, least, matching, selected, total, AsksBelow, CondsBelow, ShowsCells, ShowsRow, TakesMemory};
 ghost use Rattle.sw_table.specs.Kept.{kept};
+ghost use Rattle.sw_table.specs.Live.{key_of};
 ghost use Rattle.sw_table.specs.declared.row.Row.{Row};
 
 use crate::places::{AllLive, Places};
-use crate::query::{Query, Want};
+use crate::query::{Cond, Query, Want};
 use crate::refusal::Refusal;
 use crate::reply::{Cells, Reply, ReplyRow, ReplyRows};
 use crate::sieve::Sieve;
@@ -142,6 +143,36 @@ fn select<P: Places>(
         }
     }
     Ok(found)
+}
+
+/// The keys of the live rows that meet each condition.
+fn keys<P: Places>(alloc: Global, rows: &P, sieve: &Sieve<'_>) -> Result<Vec<u64>, AllocError>
+    requires { CondsBelow 8 sieve.now }
+    ensures { IfOk result (λ found. found.items ≡ map key_of (matching sieve.now
+        (kept (P.flags rows.now) (P.rows rows.now)))) }
+{
+    let mut found = Vec::new(alloc);
+    for place in 0..rows.places() {
+        if sieve.takes(rows, place) {
+            found.push(rows.key(place))?;
+        }
+    }
+    Ok(found)
+}
+
+/// The keys of the live rows that meet each condition, in the order of their places, by one pass over all places.
+///
+/// The one error is that there is no memory for the keys. The caller's condition: attributes are below 8.
+pub fn matching_keys<P: Places>(
+    alloc: Global,
+    rows: &P,
+    conds: &[Cond],
+) -> Result<Vec<u64>, AllocError>
+    requires { CondsBelow 8 conds.now }
+    ensures { IfOk result (λ found. found.items ≡ map key_of (matching conds.now
+        (kept (P.flags rows.now) (P.rows rows.now)))) }
+{
+    keys(alloc, rows, &Sieve::new(conds))
 }
 
 /// What a query is answered over the live rows, by a pass over all places: those that meet all its conditions, in the
