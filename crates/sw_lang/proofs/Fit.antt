@@ -1,5 +1,5 @@
 -- What the grammar relates to a line fits the table.
-use Rattle.std.proofs.Common.{◌≡◌, ap, sym, refl, subst, ℕ, zero, suc, ℤ, pos, negsuc, ◌-◌, ◌<◌, ◌≤◌, inl, inr, int_lt, Bool, true, false, not, cond, eqb, ◌&&◌, List, [], ◌∷◌, ◌++◌, length, map, replicate, Option, Some, None, IfSome, nat_eq, nat_lt, arith}
+use Rattle.std.proofs.Common.{◌≡◌, ap, sym, refl, subst, ℕ, zero, suc, ℤ, pos, negsuc, ◌-◌, ◌<◌, ◌≤◌, inl, inr, int_lt, Bool, true, false, not, cond, eqb, ◌&&◌, ◌||◌, is_some, List, [], ◌∷◌, ◌++◌, length, map, replicate, Option, Some, None, IfSome, nat_eq, nat_lt, arith}
 use Rattle.std.specs.Prelude.{bytes_eq, codes}
 use Rattle.std.specs.List.{AllByRecursion, IsDistinct}
 use Rattle.std.proofs.lemmas.Bool.{false≢true, le-ltb, ltb-true}
@@ -13,12 +13,12 @@ use Rattle.sw_rows.specs.Bounds.{bound_below, greater, lesser}
 use Rattle.sw_rows.specs.Header.{Column, kinds_of, names_of}
 use Rattle.sw_rows.specs.declared.bound.Bound.{Bound}
 use Rattle.sw_rows.specs.declared.bound.Bound.TheVariants.{Before, After}
-use Rattle.sw_rows.specs.Scan.{WantsBelow}
+use Rattle.sw_rows.specs.Scan.{WantsBelow, counting}
 use Rattle.sw_rows.specs.Domains.{Domain, is_of_texts}
 use Rattle.sw_rows.specs.Domains as kind
 use Rattle.sw_rows.specs.declared.query.Cond.{Cond}
 use Rattle.sw_rows.specs.declared.query.Call.{Call}
-use Rattle.sw_rows.specs.declared.query.Call.TheVariants.{Select, Insert, Delete}
+use Rattle.sw_rows.specs.declared.query.Call.TheVariants.{Select, Insert, Delete, DeleteWhere}
 use Rattle.sw_rows.specs.declared.query.Want.{Want}
 use Rattle.sw_rows.specs.declared.query.Want.TheVariants.{Rows, Count, Sum, Min, Max}
 use Rattle.sw_lang.specs.declared.term.Term.{Term}
@@ -27,9 +27,9 @@ use Rattle.sw_lang.specs.declared.token.Op.TheVariants.{Lt, Le, Eq, Ge, Gt}
 use Rattle.sw_lang.specs.Replies.{kind_at}
 use Rattle.sw_lang.specs.Terms.{add_term, attrs_after, cond_of, conditions, lower_of, narrowed, upper_of, with_attr}
 use Rattle.sw_lang.specs.Tokens.{Tok}
-use Rattle.sw_lang.specs.Fits.{AreEqualBounds, FitsCall, FitsCells, FitsQuery, HasBoundsOfKind, HasFewNames, IsBoundOfKind, IsEqualOnTexts, IsOfKind, TakesNumbers}
+use Rattle.sw_lang.specs.Fits.{AreEqualBounds, FitsCall, FitsCells, FitsConds, FitsQuery, HasBoundsOfKind, HasFewNames, IsBound, IsBoundOfKind, IsEqualOnTexts, IsOfKind, TakesNumbers, is_bound}
 use Rattle.sw_lang.specs.Reading.{is_equality}
-use Rattle.sw_lang.specs.Grammar.{IsCall, IsLine, IsName, IsNames, IsTerm, IsTerms, IsValue, IsValues, IsWant, IsWhere, MoreValues}
+use Rattle.sw_lang.specs.Grammar.{HasTerms, IsCall, IsLine, IsName, IsNames, IsTerm, IsTerms, IsValue, IsValues, IsWant, IsWhere, MoreValues}
 use Rattle.sw_lang.proofs.Names.{Serves}
 use Rattle.sw_lang.proofs.Merge.{Distinct, conds_from, conds_from-conditions, distinct-more, eqb-turned, has, or-false}
 
@@ -71,7 +71,7 @@ terms_fit schema ts (t ∷ []) (a, b, c, e, is) = (term_fits schema a b c t is, 
 terms_fit schema ts (t ∷ u ∷ us) (a, b, c, rest, e, is, more) = (term_fits schema a b c t is, terms_fit schema rest (u ∷ us) more)
 
 abbrev CondFits : List Column → Cond → Type 0
-CondFits schema c = (c.attr < length schema) × HasBoundsOfKind schema c × IsEqualOnTexts schema c
+CondFits schema c = (c.attr < length schema) × HasBoundsOfKind schema c × IsEqualOnTexts schema c × IsBound c
 
 abbrev CondsFit : List Column → List Cond → Type 0
 CondsFit schema [] = Unit {0}
@@ -104,6 +104,35 @@ upper_kind k Le z h = h
 upper_kind k Eq z h = h
 upper_kind k Ge z h = tt
 upper_kind k Gt z h = tt
+
+pub term_bound : (o : Op) (z : ℤ) → is_bound (lower_of o z) (upper_of o z) ≡ true
+term_bound Lt z = refl
+term_bound Le z = refl
+term_bound Eq z = refl
+term_bound Ge z = refl
+term_bound Gt z = refl
+
+some_if : (v : Bool) (a b : Bound) → is_some (cond v (Some a) (Some b)) ≡ true
+some_if true a b = refl
+some_if false a b = refl
+
+greater_some : (a : Bound) (m : Option Bound) → is_some (greater (Some a) m) ≡ true
+greater_some a None = refl
+greater_some a (Some b) = some_if (bound_below a b) b a
+
+lesser_some : (a : Bound) (m : Option Bound) → is_some (lesser (Some a) m) ≡ true
+lesser_some a None = refl
+lesser_some a (Some b) = some_if (bound_below a b) a b
+
+or-true : (p : Bool) → (p || true) ≡ true
+or-true true = refl
+or-true false = refl
+
+-- bounds that are narrowed are bounds
+pub still_bound : (lower upper l u : Option Bound) → is_bound lower upper ≡ true → is_bound (greater lower l) (lesser upper u) ≡ true
+still_bound None None l u h = absurd cc
+still_bound (Some a) upper l u h = rw (greater_some a l) refl
+still_bound None (Some b) l u h = rw (lesser_some b u) (or-true (is_some l))
 
 -- ---- bounds of equality
 
@@ -162,14 +191,14 @@ add-by true schema c cs t e h f ih =
     let on_texts : is_of_texts k ≡ true → is_equality t.op ≡ true =
     λ texts. served (is_of_texts k) (is_equality t.op) (subst (λ (a : ℕ). Serves (kind_at schema a) t.op) same f.2) texts in
     let equal : IsEqualOnTexts schema (narrowed c t) = λ texts. equal_more c.lower c.upper t.op t.value (on_texts texts) (h.0.2 texts) in
-    rw e ((h.0.0, bounds, equal), h.1)
+    rw e ((h.0.0, bounds, equal, still_bound c.lower c.upper (lower_of t.op t.value) (upper_of t.op t.value) h.0.3), h.1)
 add-by false schema c cs t e h f ih = rw e (h.0, ih)
 
 add_fits : (schema : List Column) (cs : List Cond) (t : Term) → CondsFit schema cs → TermFits schema t → CondsFit schema (add_term cs t)
 add_fits schema [] t h f =
     let k = kind_at schema t.attr in
     let equal : IsEqualOnTexts schema (cond_of t) = λ texts. equal_new t.op t.value (served (is_of_texts k) (is_equality t.op) f.2 texts) in
-    ((f.0, (lower_kind k t.op t.value f.1, upper_kind k t.op t.value f.1), equal), tt)
+    ((f.0, (lower_kind k t.op t.value f.1, upper_kind k t.op t.value f.1), equal, term_bound t.op t.value), tt)
 add_fits schema (c ∷ cs) t h f = add-by (eqb c.attr t.attr) schema c cs t refl h f (add_fits schema cs t h.1 f)
 
 from_fits : (schema : List Column) (cs : List Cond) (ts : List Term) → CondsFit schema cs → TermsFit schema ts → CondsFit schema (conds_from cs ts)
@@ -224,6 +253,10 @@ equals : (schema : List Column) (cs : List Cond) → CondsFit schema cs → AllB
 equals schema [] h = tt
 equals schema (c ∷ cs) h = (h.0.2, equals schema cs h.1)
 
+bounds : (schema : List Column) (cs : List Cond) → CondsFit schema cs → AllByRecursion IsBound cs
+bounds schema [] h = tt
+bounds schema (c ∷ cs) h = (h.0.3, bounds schema cs h.1)
+
 pub names_below : (schema : List Column) (ts : List Tok) (is : List ℕ) → IsNames schema ts is → AllByRecursion (λ a. a < length schema) is
 names_below schema ts [] h = absurd h
 names_below schema ts (i ∷ []) (a, e, is) = (name_within schema a i is, tt)
@@ -268,10 +301,38 @@ values_fit [] ts zs n (none, no_values) = rw no_values (zeros n)
 values_fit (k ∷ ks) ts [] n h = absurd h
 values_fit (k ∷ ks) ts (z ∷ zs) n (a, rest, e, is, more) = (value_kind k a z is, more_fit ks rest zs n more)
 
+-- ---- conditions of a delete
+
+more_terms : (cs : List Cond) (t : Term) → 1 ≤ length (add_term cs t)
+more_terms [] t = omega arith
+more_terms (c ∷ cs) t = by_attr (eqb c.attr t.attr)
+  where
+    by_attr : (b : Bool) → 1 ≤ length (cond b (narrowed c t ∷ cs) (c ∷ add_term cs t))
+    by_attr true = omega arith
+    by_attr false = omega arith
+
+from_some : (cs : List Cond) (ts : List Term) → 1 ≤ length cs → 1 ≤ length (conds_from cs ts)
+from_some cs [] h = h
+from_some cs (t ∷ ts) h = from_some (add_term cs t) ts (more_terms cs t)
+
+pub some_conds : (schema : List Column) (ts : List Tok) (terms : List Term) → IsTerms schema ts terms → 1 ≤ length (conditions terms)
+some_conds schema ts [] h = absurd h
+some_conds schema ts (t ∷ terms) h = subst (λ (w : List Cond). 1 ≤ length w) (conds_from-conditions (t ∷ terms)) (from_some (add_term [] t) terms (more_terms [] t))
+
+conds_fit : (schema : List Column) (ts : List Tok) (conds : List Cond) → HasTerms schema ts conds → FitsConds schema conds
+conds_fit schema ts conds (terms, rest, e, is, made) =
+    let h = where_fits schema ts conds (inr (terms, rest, e, is, made)) in
+    record {
+      query = question_fits schema conds Count h tt tt tt;
+      some = subst (λ (w : List Cond). 1 ≤ length w) (sym made) (some_conds schema rest terms is);
+      bound = All-from_recursion IsBound conds (bounds schema conds h.fit);
+    }
+
 pub call_fits : (schema : List Column) (ts : List Tok) (c : Call) → IsCall schema ts c → FitsCall schema c
 call_fits schema ts (Select q) (front, rest, parts, is, h) = want_fits schema front q.conds q.want is (where_fits schema rest q.conds h)
 call_fits schema ts (Insert cells) (zs, rest, e, is, pad) = subst (λ (w : List ℤ). FitsCells (kinds_of schema) w) (sym pad) (values_fit (kinds_of schema) rest zs (8 - length zs) is)
 call_fits schema ts (Delete key) h = tt
+call_fits schema ts (DeleteWhere conds) (rest, e, given) = conds_fit schema rest conds given
 
 pub line_fits : (schema : List Column) (text : List ℕ) (call : Option Call) → IsLine schema text call → IfSome call (λ c. FitsCall schema c)
 line_fits schema text None h = tt

@@ -9,7 +9,7 @@ use Rattle.sw_rows.specs.Domains as kind
 use Rattle.sw_rows.specs.Header.{Column, IsSchema, holding, kinds_of, texts_of}
 use Rattle.sw_rows.specs.Texts.{code_of, is_text, with_texts}
 use Rattle.sw_rows.specs.declared.query.Call.{Call}
-use Rattle.sw_rows.specs.declared.query.Call.TheVariants.{Select, Insert, Delete}
+use Rattle.sw_rows.specs.declared.query.Call.TheVariants.{Select, Insert, Delete, DeleteWhere}
 use Rattle.sw_rows.specs.declared.query.Cond.{Cond}
 use Rattle.sw_rows.specs.declared.query.Want.{Want}
 use Rattle.sw_rows.specs.declared.query.Want.TheVariants.{Rows, Count, Sum, Min, Max}
@@ -164,6 +164,9 @@ call_kept ts us s toks (Insert cells) o k (zs, rest, e, is, pad) =
     let here = subst (AreCodedToks ts us) e k in
     (zs, rest, e, values_kept ts us s rest zs o here.1 is, pad)
 call_kept ts us s toks (Delete key) o k is = is
+call_kept ts us s toks (DeleteWhere conds) o k (later, e, (terms, rest, f, is, make)) =
+    let here = subst (AreCodedToks ts us) f (subst (AreCodedToks ts us) e k).1 in
+    (later, e, (terms, rest, f, terms_kept ts us s rest terms o here.1 is, make))
 
 -- ---- a line where more texts are known
 

@@ -17,16 +17,16 @@ use Rattle.sw_rows.specs.declared.query.Cond.{Cond}
 use Rattle.sw_lang.specs.declared.term.Term.{Term}
 use Rattle.sw_lang.specs.declared.token.Op.{Op}
 use Rattle.sw_lang.specs.declared.token.Op.TheVariants.{Lt, Le, Eq, Ge, Gt}
-use Rattle.sw_lang.specs.Fits.{AreEqualBounds, IsEqualOnTexts}
+use Rattle.sw_lang.specs.Fits.{AreEqualBounds, IsEqualOnTexts, is_bound}
 use Rattle.sw_lang.specs.Reading.{is_equality}
 use Rattle.sw_lang.specs.Grammar.{IsTerm, IsTerms, IsValue, IsWhere}
 use Rattle.sw_lang.specs.Replies.{kind_at}
 use Rattle.sw_lang.specs.Terms.{add_term, attrs_after, cond_of, conditions, lower_of, narrowed, upper_of}
 use Rattle.sw_lang.specs.Tokens.{Tok}
-use Rattle.sw_lang.proofs.Fit.{attrs-conditions, attrs_distinct, name_within}
+use Rattle.sw_lang.proofs.Fit.{attrs-conditions, attrs_distinct, name_within, still_bound, term_bound}
 use Rattle.sw_lang.proofs.Merge.{Distinct, conds_from, conds_from-conditions}
 use Rattle.sw_lang.proofs.PrintedCells.{IsCell, cell_stored, word_is}
-use Rattle.sw_lang.proofs.PrintedMerge.{AllBound, attrs, is_bound}
+use Rattle.sw_lang.proofs.PrintedMerge.{AllBound, attrs}
 use Rattle.sw_lang.proofs.PrintedTerms.{AreGood, IsGood, equal_term, equal_terms_of, lower_term, printed, printed_all, text_terms_of, upper_term}
 
 pub kind_places : (schema : List Column) (a : ℕ) → IsSchema schema → a < length schema → IsDomain (kind_at schema a)
@@ -84,35 +84,6 @@ upper_cell k Le z h = h
 upper_cell k Eq z h = h
 upper_cell k Ge z h = tt
 upper_cell k Gt z h = tt
-
-term_bound : (o : Op) (z : ℤ) → is_bound (lower_of o z) (upper_of o z) ≡ true
-term_bound Lt z = refl
-term_bound Le z = refl
-term_bound Eq z = refl
-term_bound Ge z = refl
-term_bound Gt z = refl
-
-some_if : (v : Bool) (a b : Bound) → is_some (cond v (Some a) (Some b)) ≡ true
-some_if true a b = refl
-some_if false a b = refl
-
-greater_some : (a : Bound) (m : Option Bound) → is_some (greater (Some a) m) ≡ true
-greater_some a None = refl
-greater_some a (Some b) = some_if (bound_below a b) b a
-
-lesser_some : (a : Bound) (m : Option Bound) → is_some (lesser (Some a) m) ≡ true
-lesser_some a None = refl
-lesser_some a (Some b) = some_if (bound_below a b) a b
-
-or-true : (p : Bool) → (p || true) ≡ true
-or-true true = refl
-or-true false = refl
-
--- bounds that are narrowed are bounds
-still_bound : (lower upper l u : Option Bound) → is_bound lower upper ≡ true → is_bound (greater lower l) (lesser upper u) ≡ true
-still_bound None None l u h = absurd cc
-still_bound (Some a) upper l u h = rw (greater_some a l) refl
-still_bound None (Some b) l u h = rw (lesser_some b u) (or-true (is_some l))
 
 no_texts : (a b : Bool) → a ≡ false → (a && b) ≡ false
 no_texts a b h = rw h refl

@@ -1,12 +1,12 @@
 -- Lines: the reading finds the call that the grammar relates to a line, and no other.
 use Rattle.std.proofs.Common.{◌≡◌, ◌∙◌, ap, sym, refl, subst, ℕ, ◌≤◌, ◌⊎◌, inl, inr, Bool, true, false, cond, List, [], ◌∷◌, ◌++◌, length, Option, Some, None, Result, Ok, Err, arith, nat_lt, if◌then◌else◌}
-use Rattle.std.specs.Prelude.{codes}
+use Rattle.std.specs.Prelude.{bytes_eq, codes}
 use Rattle.std.proofs.lemmas.Bool.{le-ltb, ltb-false}
 use Rattle.sw_rows.specs.Header.{Column, IsSchema, kinds_of}
 use Rattle.sw_rows.specs.Tables.{padded}
 use Rattle.sw_rows.specs.declared.query.Cond.{Cond}
 use Rattle.sw_rows.specs.declared.query.Call.{Call}
-use Rattle.sw_rows.specs.declared.query.Call.TheVariants.{Select, Insert, Delete}
+use Rattle.sw_rows.specs.declared.query.Call.TheVariants.{Select, Insert, Delete, DeleteWhere}
 use Rattle.sw_rows.specs.declared.query.Want.{Want}
 use Rattle.sw_rows.specs.declared.query.Want.TheVariants.{Rows, Count, Sum, Min, Max}
 use Rattle.sw_rows.specs.declared.refusal.Why.TheVariants as why
@@ -14,10 +14,10 @@ use Rattle.sw_lang.specs.declared.fault.Fault.{Fault}
 use Rattle.sw_lang.specs.declared.fault.Fault.TheVariants.{Bad}
 use Rattle.sw_lang.specs.declared.parse.TheConstants.{MOST_LINE}
 use Rattle.sw_lang.specs.Tokens.{Tok, word, tokens}
-use Rattle.sw_lang.specs.Reading.{aggregate_at, asked, call_at, call_of, cells_at, delete_at, first_by, insert_at, is_comment, is_word, key_of, line_at, names_at, nothing_left, number_name, select_at, values_at, where_at}
-use Rattle.sw_lang.specs.Grammar.{IsCall, IsLine, IsNames, IsNumbersName, IsWant, IsWhere}
-use Rattle.sw_lang.proofs.Names.{key_found, key_read, number_found, number_read, word_is}
-use Rattle.sw_lang.proofs.Relates.{bind_ok, first_is, first_read, names_found, names_read, same_ok, values_found, values_read, where-NoComma, where_found, where_read}
+use Rattle.sw_lang.specs.Reading.{aggregate_at, asked, call_at, call_of, cells_at, delete_at, delete_key, delete_where, first_by, insert_at, is_comment, is_word, key_of, key_value, line_at, names_at, nothing_left, number_name, select_at, terms_at, values_at, where_at}
+use Rattle.sw_lang.specs.Grammar.{HasTerms, IsCall, IsKey, IsLine, IsNames, IsNumbersName, IsWant, IsWhere}
+use Rattle.sw_lang.proofs.Names.{key_found, key_read, number_found, number_read, same_bytes, word_is}
+use Rattle.sw_lang.proofs.Relates.{bind_ok, first_is, first_read, given_found, given_read, names_found, names_read, same_ok, values_found, values_read, where-NoComma, where_found, where_read}
 
 abbrev selected : List Cond → Want → Call
 selected conds want = Select (record { conds = conds; want = want })
@@ -49,11 +49,23 @@ want_read schema (Sum a) conds ts front rest ok parts (t, e, is) h = rw (parts, 
 want_read schema (Min a) conds ts front rest ok parts (t, e, is) h = rw (parts, e, aggregate_read schema Min t a rest conds ok is h) refl
 want_read schema (Max a) conds ts front rest ok parts (t, e, is) h = rw (parts, e, aggregate_read schema Max t a rest conds ok is h) refl
 
+-- a key is not the word "where"
+no_where : (t : Tok) (key : ℕ) → IsKey t key → is_word (codes "where") t ≡ false
+no_where t key (w, is, value) = rw is (by_test (bytes_eq w (codes "where")) refl)
+  where
+    by_test : (b : Bool) → bytes_eq w (codes "where") ≡ b → bytes_eq w (codes "where") ≡ false
+    by_test false h = h
+    by_test true h =
+        let same : w ≡ codes "where" = same_bytes w (codes "where") h in
+        let none : None ≡ Some key = subst (λ (v : List ℕ). key_value v ≡ Some key) same value in
+        absurd cc
+
 pub call_read : (schema : List Column) (ts : List Tok) (c : Call) → IsSchema schema → IsCall schema ts c → ReadsCall schema ts c
-unfolding call_at call_of cells_at delete_at
+unfolding call_at call_of cells_at delete_at delete_key delete_where
 call_read schema ts (Select q) ok (front, rest, parts, is, h) = want_read schema q.want q.conds ts front rest ok parts is h
 call_read schema ts (Insert cells) ok (zs, rest, e, is, pad) = rw (e, values_read (kinds_of schema) rest zs is, pad) refl
-call_read schema ts (Delete key) ok (t, e, is) = rw (e, first_read key_of t key [] (key_read t key is)) refl
+call_read schema ts (Delete key) ok (t, e, is) = rw (e, no_where t key is, first_read key_of t key [] (key_read t key is)) refl
+call_read schema ts (DeleteWhere conds) ok (more, e, (terms, rest, f, is, made)) = rw (e, f, given_read schema rest terms ok is, made) refl
 
 no_call : (schema : List Column) (v : Bool) → ◌≡◌ {A = Result (Option Call) Fault} (cond v (Ok None) (call_at schema [])) (Ok None)
 unfolding call_at
@@ -137,14 +149,30 @@ left_none : {A : Type 0} (x y : A) (ts : List Tok) → nothing_left x ts ≡ Ok 
 left_none x y [] e = (refl, cc)
 left_none x y (t ∷ ts) e = absurd cc
 
-from_delete : (schema : List Column) (t : Tok) (ts : List Tok) (c : Call) → is_word (codes "delete") t ≡ true → delete_at ts ≡ Ok c → IsCall schema (t ∷ ts) c
-unfolding delete_at
-from_delete schema t ts c h e =
+from_key : (schema : List Column) (t : Tok) (ts : List Tok) (c : Call) → is_word (codes "delete") t ≡ true → delete_key ts ≡ Ok c → IsCall schema (t ∷ ts) c
+unfolding delete_key
+from_key schema t ts c h e =
     let b = bind_ok (first_by key_of ts) (λ key. nothing_left (Delete key.0) key.1) c e in
     let f = first_is key_of ts b.0.0 b.0.1 b.1 in
     let l = left_none (Delete b.0.0) c b.0.1 b.2 in
     let parts : t ∷ ts ≡ word (codes "delete") ∷ f.0 ∷ [] = ap (λ (w : Tok). w ∷ ts) (word_is (codes "delete") t h) ∙ ap (λ (w : List Tok). word (codes "delete") ∷ w) (f.1 ∙ ap (λ (w : List Tok). f.0 ∷ w) l.0) in
     subst (λ (w : Call). IsCall schema (t ∷ ts) w) l.1 (f.0, parts, key_found f.0 b.0.0 f.2)
+
+from_where : (schema : List Column) (t w : Tok) (ts : List Tok) (c : Call) → is_word (codes "delete") t ≡ true → is_word (codes "where") w ≡ true → delete_where schema ts ≡ Ok c → IsCall schema (t ∷ w ∷ ts) c
+unfolding delete_where
+from_where schema t w ts c h k e =
+    let b = bind_ok (terms_at schema [] ts) (λ conds. Ok (DeleteWhere conds)) c e in
+    let given : HasTerms schema (w ∷ ts) b.0 = given_found schema w ts b.0 k b.1 in
+    subst (λ (x : Call). IsCall schema (t ∷ w ∷ ts) x) (same_ok (DeleteWhere b.0) c b.2) (w ∷ ts, ap (λ (x : Tok). x ∷ w ∷ ts) (word_is (codes "delete") t h), given)
+
+from_delete : (schema : List Column) (t : Tok) (ts : List Tok) (c : Call) → is_word (codes "delete") t ≡ true → delete_at schema ts ≡ Ok c → IsCall schema (t ∷ ts) c
+unfolding delete_at
+from_delete schema t [] c h e = absurd cc
+from_delete schema t (w ∷ ts) c h e = by_test (is_word (codes "where") w) refl e
+  where
+    by_test : (b : Bool) → is_word (codes "where") w ≡ b → cond b (delete_where schema ts) (delete_key (w ∷ ts)) ≡ Ok c → IsCall schema (t ∷ w ∷ ts) c
+    by_test true k x = from_where schema t w ts c h k x
+    by_test false k x = from_key schema t (w ∷ ts) c h x
 
 -- ---- the first word decides
 
@@ -155,11 +183,11 @@ pick false x y c e = inr e
 abbrev Reads : List Column → Tok → List Tok → Call → Type 0
 Reads schema t ts c = IsCall schema (t ∷ ts) c
 
-abbrev rest7 : Tok → List Tok → Result Call Fault
-rest7 t ts = if is_word (codes "delete") t then delete_at ts else Err (Bad why.Word)
+abbrev rest7 : List Column → Tok → List Tok → Result Call Fault
+rest7 schema t ts = if is_word (codes "delete") t then delete_at schema ts else Err (Bad why.Word)
 
 abbrev rest6 : List Column → Tok → List Tok → Result Call Fault
-rest6 schema t ts = if is_word (codes "insert") t then insert_at schema ts else rest7 t ts
+rest6 schema t ts = if is_word (codes "insert") t then insert_at schema ts else rest7 schema t ts
 
 abbrev rest5 : List Column → Tok → List Tok → Result Call Fault
 rest5 schema t ts = if is_word (codes "max") t then aggregate_at schema Max ts else rest6 schema t ts
@@ -187,8 +215,8 @@ call_found schema t ts c e =
     either_of (λ (h, x). from_max schema t ts c h x) (λ e6.
     either_of (λ (h, x). from_insert schema t ts c h x) (λ e7.
     either_of (λ (h, x). from_delete schema t ts c h x) (λ e8. absurd (none c e8))
-    (pick (is_word (codes "delete") t) (delete_at ts) (Err (Bad why.Word)) c e7))
-    (pick (is_word (codes "insert") t) (insert_at schema ts) (rest7 t ts) c e6))
+    (pick (is_word (codes "delete") t) (delete_at schema ts) (Err (Bad why.Word)) c e7))
+    (pick (is_word (codes "insert") t) (insert_at schema ts) (rest7 schema t ts) c e6))
     (pick (is_word (codes "max") t) (aggregate_at schema Max ts) (rest6 schema t ts) c e5))
     (pick (is_word (codes "min") t) (aggregate_at schema Min ts) (rest5 schema t ts) c e4))
     (pick (is_word (codes "sum") t) (aggregate_at schema Sum ts) (rest4 schema t ts) c e3))

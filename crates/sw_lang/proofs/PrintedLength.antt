@@ -1,5 +1,5 @@
 -- The printed text of a call that a line gives is not long.
-use Rattle.std.proofs.Common.{◌≡◌, ap, refl, ℕ, ℤ, pos, ◌-◌, ◌*◌, ◌^◌, ◌<◌, ◌≤◌, Bool, true, false, ◌||◌, eqb, List, [], ◌∷◌, ◌++◌, length, map, replicate, codes, decimal, Option, Some, None, length-append, arith}
+use Rattle.std.proofs.Common.{◌≡◌, ap, refl, ℕ, ℤ, pos, ◌-◌, ◌*◌, ◌^◌, ◌<◌, ◌≤◌, Bool, true, false, ◌||◌, eqb, List, [], ◌∷◌, ◌++◌, inr, length, map, replicate, codes, decimal, Option, Some, None, length-append, arith}
 use Rattle.std.specs.List.{list_any}
 use Rattle.std.proofs.lemmas.Bool.Decides.{Decides-eqb}
 use Rattle.std.proofs.lemmas.Fmt.{length-decimal-le}
@@ -13,7 +13,7 @@ use Rattle.sw_rows.specs.declared.bound.Bound.TheVariants.{Before, After}
 use Rattle.std.specs.Ordering.{int_eq}
 use Rattle.sw_rows.specs.Domains.{Domain, is_of_texts}
 use Rattle.sw_rows.specs.declared.query.Call.{Call}
-use Rattle.sw_rows.specs.declared.query.Call.TheVariants.{Select, Insert, Delete}
+use Rattle.sw_rows.specs.declared.query.Call.TheVariants.{Select, Insert, Delete, DeleteWhere}
 use Rattle.sw_rows.specs.declared.query.Cond.{Cond}
 use Rattle.sw_rows.specs.declared.query.Want.{Want}
 use Rattle.sw_rows.specs.declared.query.Want.TheVariants.{Rows, Count, Sum, Min, Max}
@@ -176,3 +176,5 @@ call_short schema ts (Delete key) ok (t, e, (w, word_is, value)) =
     let fits : key < 2 ^ 64 = key_fits w key value in
     let short : length (decimal key) ≤ 20 = length-decimal-le 20 key (omega arith) (omega arith) fits in
     omega (arith, short)
+call_short schema ts (DeleteWhere conds) ok (rest, e, given) =
+    omega (arith, where_short schema conds ok (where_conds schema rest conds ok (inr given)))

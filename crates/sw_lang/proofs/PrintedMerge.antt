@@ -10,7 +10,7 @@ use Rattle.sw_rows.specs.declared.bound.Bound.TheVariants.{Before, After}
 use Rattle.sw_rows.specs.declared.query.Cond.{Cond}
 use Rattle.sw_lang.specs.declared.term.Term.{Term}
 use Rattle.sw_lang.specs.declared.token.Op.TheVariants.{Lt, Le, Eq, Ge, Gt}
-use Rattle.sw_lang.specs.Fits.{AreEqualBounds, IsEqualOnTexts}
+use Rattle.sw_lang.specs.Fits.{AreEqualBounds, IsEqualOnTexts, is_bound}
 use Rattle.sw_lang.specs.Replies.{kind_at}
 use Rattle.sw_lang.specs.Terms.{add_term, cond_of, conditions, narrowed}
 use Rattle.sw_lang.proofs.Merge.{Distinct, conds_from, conds_from-conditions, eqb-turned, has, has-last, or-false}
@@ -18,9 +18,6 @@ use Rattle.sw_lang.proofs.PrintedTerms.{equal_terms_of, lower_term, printed, pri
 
 abbrev pub attrs : List Cond → List ℕ
 attrs cs = map (λ c. c.attr) cs
-
-abbrev pub is_bound : Option Bound → Option Bound → Bool
-is_bound lower upper = is_some lower || is_some upper
 
 -- a condition has a bound, and on texts the bounds of equality
 abbrev pub AllBound : List Column → List Cond → Type 0

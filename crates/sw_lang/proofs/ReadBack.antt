@@ -1,21 +1,22 @@
 -- A call that a line gives is the call of its printed text.
-use Rattle.std.proofs.Common.{◌≡◌, ◌∙◌, ap, sym, refl, subst, ℕ, ℤ, pos, ◌-◌, ◌^◌, ◌<◌, false, List, [], ◌∷◌, ◌++◌, length, map, replicate, codes, decimal, append_assoc, append-nil, arith}
+use Rattle.std.proofs.Common.{◌≡◌, ◌∙◌, ap, sym, refl, subst, ℕ, ℤ, pos, ◌-◌, ◌^◌, ◌<◌, ◌≤◌, inl, inr, false, List, [], ◌∷◌, ◌++◌, length, map, replicate, codes, decimal, append_assoc, append-nil, arith}
 use Rattle.std.specs.List.{AllByRecursion}
 use Rattle.std.proofs.lemmas.List.Elements.{recursion_from_All}
 use Rattle.sw_rows.specs.Domains.{IsDomain}
 use Rattle.sw_rows.specs.Header.{Column, IsSchema, kinds_of}
 use Rattle.sw_rows.specs.Domains.{Domain}
 use Rattle.sw_rows.specs.declared.query.Call.{Call}
-use Rattle.sw_rows.specs.declared.query.Call.TheVariants.{Select, Insert, Delete}
+use Rattle.sw_rows.specs.declared.query.Call.TheVariants.{Select, Insert, Delete, DeleteWhere}
 use Rattle.sw_rows.specs.declared.query.Cond.{Cond}
 use Rattle.sw_rows.specs.declared.query.Want.{Want}
 use Rattle.sw_rows.specs.declared.query.Want.TheVariants.{Rows, Count, Sum, Min, Max}
-use Rattle.sw_lang.specs.Grammar.{IsCall, IsNames, IsValues, IsWant, IsWhere, MoreValues}
+use Rattle.sw_lang.specs.Grammar.{HasTerms, IsCall, IsNames, IsValues, IsWant, IsWhere, MoreValues}
 use Rattle.sw_lang.specs.PrintedCalls.{call_text, more_names, name_at, names_text, want_text, where_text}
 use Rattle.sw_lang.specs.Reading.{is_comment}
 use Rattle.sw_lang.specs.Replies.{cells_text, more_cells}
+use Rattle.sw_lang.specs.Terms.{conditions}
 use Rattle.sw_lang.specs.Tokens.{Tok, word, comma, tokens}
-use Rattle.sw_lang.proofs.Fit.{name_within, names_below}
+use Rattle.sw_lang.proofs.Fit.{name_within, names_below, some_conds}
 use Rattle.sw_lang.proofs.LineConds.{all_bound, printed_good, value_stored, where_conds}
 use Rattle.sw_lang.proofs.PrintedCells.{Ends, cell_printed, digits_word, value_tok}
 use Rattle.sw_lang.proofs.PrintedDigits.{decimal_writes, key_back, key_fits}
@@ -93,6 +94,20 @@ where_back schema ts conds ok h =
     let c = where_conds schema ts conds ok h in
     where_is schema conds ok (printed_good schema conds c.stored) (printed_make schema conds c.once (all_bound schema conds c.stored))
 
+delete_run : IsRun (codes "delete")
+delete_run = record { some = omega arith; bytes = refl }
+
+-- conditions that are there are printed as terms
+given_back : (schema : List Column) (ts : List Tok) (conds : List Cond) → IsSchema schema → HasTerms schema ts conds → HasTerms schema (tokens (where_text schema false conds)) conds
+given_back schema ts conds ok (terms, rest, e, is, made) = some_given (where_back schema ts conds ok (inr (terms, rest, e, is, made)))
+  where
+    some_given : IsWhere schema (tokens (where_text schema false conds)) conds → HasTerms schema (tokens (where_text schema false conds)) conds
+    some_given (inl (none, no_conds)) =
+        let some : 1 ≤ length (conditions terms) = some_conds schema rest terms is in
+        let empty : length (conditions terms) ≡ 0 = ap (λ (w : List Cond). length w) (sym made ∙ no_conds) in
+        absurd (omega (arith, some, empty))
+    some_given (inr given) = given
+
 -- ---- rows
 
 abbrev pub AllPlaces : List Domain → Type 0
@@ -151,6 +166,9 @@ call_back schema ts (Delete key) ok (t, e, (w, word_is, value)) =
     let fits = key_fits w key value in
     let one : tokens (decimal key) ≡ word (decimal key) ∷ [] = ap tokens (sym (append-nil (decimal key))) ∙ front_word (decimal key) [] (key_run key fits) refl in
     (word (decimal key), ap (λ l. word (codes "delete") ∷ l) one, (decimal key, refl, key_back key fits))
+call_back schema ts (DeleteWhere conds) ok (rest, e, given) =
+    let more : List ℕ = where_text schema false conds in
+    (tokens more, front_word (codes "delete") more delete_run (where_stops schema conds), given_back schema rest conds ok given)
 
 pub no_comment : (schema : List Column) (c : Call) → is_comment (call_text schema c) ≡ false
 no_comment schema (Select q) = by_want q.want
@@ -163,3 +181,4 @@ no_comment schema (Select q) = by_want q.want
     by_want (Max a) = refl
 no_comment schema (Insert cells) = refl
 no_comment schema (Delete key) = refl
+no_comment schema (DeleteWhere conds) = refl

@@ -10,10 +10,10 @@ use Rattle.sw_lang.specs.declared.fault.Fault.{Fault}
 use Rattle.sw_lang.specs.declared.fault.Fault.TheVariants.{Bad}
 use Rattle.sw_lang.specs.declared.term.Term.{Term}
 use Rattle.sw_lang.specs.Replies.{kind_at}
-use Rattle.sw_lang.specs.Terms.{add_term}
+use Rattle.sw_lang.specs.Terms.{conditions, add_term}
 use Rattle.sw_lang.specs.Tokens.{Tok, word, comma}
 use Rattle.sw_lang.specs.Reading.{◌>>=◌, first_by, is_word, is_comma, name_of, names_at, next_value, nothing_left, op_for, past_comma, term_at, terms_at, value_of, values_at, where_at}
-use Rattle.sw_lang.specs.Grammar.{IsName, IsNames, IsTerm, IsTerms, IsValues, IsWhere, MoreValues}
+use Rattle.sw_lang.specs.Grammar.{HasTerms, IsName, IsNames, IsTerm, IsTerms, IsValues, IsWhere, MoreValues}
 use Rattle.sw_lang.proofs.Merge.{conds_from, conds_from-conditions}
 use Rattle.sw_lang.proofs.Names.{comma_is, name_found, name_read, op_found, op_read, value_found, value_read, word_is}
 use Rattle.sw_lang.proofs.Steps.{more_names, more_terms, names_step, terms_step}
@@ -109,23 +109,25 @@ terms_found (suc n) schema conds ts cs short e =
 
 -- ---- conditions
 
+pub given_read : (schema : List Column) (ts : List Tok) (terms : List Term) → IsSchema schema → IsTerms schema ts terms → terms_at schema [] ts ≡ Ok (conditions terms)
+given_read schema ts terms ok is = terms_read schema [] ts terms ok is ∙ ap (λ (w : List Cond). Ok w) (conds_from-conditions terms)
+
 pub where_read : (schema : List Column) (ts : List Tok) (conds : List Cond) → IsSchema schema → IsWhere schema ts conds → where_at schema ts ≡ Ok conds
 unfolding where_at
 where_read schema ts conds ok (inl (none, no_conds)) = rw (none, no_conds) refl
-where_read schema ts conds ok (inr (terms, rest, e, is, made)) =
-    rw (e, made) (terms_read schema [] rest terms ok is ∙ ap (λ (w : List Cond). Ok w) (conds_from-conditions terms))
+where_read schema ts conds ok (inr (terms, rest, e, is, made)) = rw (e, made) (given_read schema rest terms ok is)
 
-where_is : (schema : List Column) (t : Tok) (rest : List Tok) (conds : List Cond) → is_word (codes "where") t ≡ true → terms_at schema [] rest ≡ Ok conds → IsWhere schema (t ∷ rest) conds
-where_is schema t rest conds h e =
+pub given_found : (schema : List Column) (t : Tok) (rest : List Tok) (conds : List Cond) → is_word (codes "where") t ≡ true → terms_at schema [] rest ≡ Ok conds → HasTerms schema (t ∷ rest) conds
+given_found schema t rest conds h e =
     let f = terms_found (length rest) schema [] rest conds (omega arith) e in
-    inr (f.0 ∷ f.1, rest, ap (λ (w : Tok). w ∷ rest) (word_is (codes "where") t h), f.2, f.3 ∙ conds_from-conditions (f.0 ∷ f.1))
+    (f.0 ∷ f.1, rest, ap (λ (w : Tok). w ∷ rest) (word_is (codes "where") t h), f.2, f.3 ∙ conds_from-conditions (f.0 ∷ f.1))
 
 pub where_found : (schema : List Column) (ts : List Tok) (conds : List Cond) → where_at schema ts ≡ Ok conds → IsWhere schema ts conds
 unfolding where_at
 where_found schema [] conds e = inl (refl, sym (same_ok [] conds e))
 where_found schema (t ∷ rest) conds e =
     let j = joined_is (is_word (codes "where") t) (terms_at schema [] rest) conds e in
-    where_is schema t rest conds j.0 j.1
+    inr (given_found schema t rest conds j.0 j.1)
 
 -- ---- names
 

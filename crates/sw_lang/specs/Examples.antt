@@ -5,7 +5,7 @@ use Rattle.sw_rows.specs.declared.bound.Bound.{Bound}
 use Rattle.sw_rows.specs.Domains as kind
 use Rattle.sw_rows.specs.declared.query.Cond.{Cond}
 use Rattle.sw_rows.specs.declared.query.Call.{Call}
-use Rattle.sw_rows.specs.declared.query.Call.TheVariants.{Select, Insert, Delete}
+use Rattle.sw_rows.specs.declared.query.Call.TheVariants.{Select, Insert, Delete, DeleteWhere}
 use Rattle.sw_rows.specs.declared.query.Want.{Want}
 use Rattle.sw_rows.specs.declared.query.Want.TheVariants.{Rows, Count, Sum, Min, Max}
 use Rattle.sw_rows.specs.declared.refusal.Why.TheVariants as why
@@ -40,6 +40,10 @@ counts_where a lower upper = asks Count (on a lower upper ∷ [])
 abbrev pub inserts : ℤ → ℤ → ℤ → Result (Option Call) Fault
 inserts x y z = Ok (Some (Insert (x ∷ y ∷ z ∷ pos 0 ∷ pos 0 ∷ pos 0 ∷ pos 0 ∷ pos 0 ∷ [])))
 
+-- a delete of the rows under conditions
+abbrev pub deletes_where : List Cond → Result (Option Call) Fault
+deletes_where conds = Ok (Some (DeleteWhere conds))
+
 -- over the mixed table
 abbrev pub calls : List Example
 calls =
@@ -55,6 +59,11 @@ calls =
     ∷ (codes "insert -1, +2.5, true", inserts (neg_ℤ (pos 1)) (pos 250) (pos 1))
     ∷ (codes "delete 18446744073709551615", Ok (Some (Delete 18446744073709551615)))
     ∷ (codes "delete 00000000000000000007", Ok (Some (Delete 7)))
+    ∷ (codes "delete where a = 12", deletes_where (on 0 (at_least (pos 12)) (at_most (pos 12)) ∷ []))
+    ∷ (
+      codes "delete  where b<9.5 and c=true and b>0",
+      deletes_where (on 1 (above (pos 0)) (below (pos 950)) ∷ on 2 (at_least (pos 1)) (at_most (pos 1)) ∷ []),
+    )
     ∷ (codes "select a, a, a, a, a, a, a, a", asks (Rows (0 ∷ 0 ∷ 0 ∷ 0 ∷ 0 ∷ 0 ∷ 0 ∷ 0 ∷ [])) [])
     ∷ (codes "min b where c=true", asks (Min 1) (on 2 (at_least (pos 1)) (at_most (pos 1)) ∷ []))
     ∷ (codes "max a", asks (Max 0) [])
@@ -120,6 +129,16 @@ refusals =
     ∷ (codes "insert 1, x, 3", Err (Bad why.Value))
     ∷ (codes "delete", Err (Bad why.End))
     ∷ (codes "delete 1 2", Err (Bad why.Word))
+    ∷ (codes "delete where", Err (Bad why.End))
+    ∷ (codes "delete where a", Err (Bad why.End))
+    ∷ (codes "delete where a = 1 and", Err (Bad why.End))
+    ∷ (codes "delete where where", Err (Bad why.Word))
+    ∷ (codes "delete where 1", Err (Bad why.Word))
+    ∷ (codes "delete where d = 1", Err (Unknown (codes "d")))
+    ∷ (codes "delete where a = x", Err (Bad why.Value))
+    ∷ (codes "delete 1 where a = 1", Err (Bad why.Word))
+    ∷ (codes "delete a = 1", Err (Bad why.Value))
+    ∷ (codes "delete 'where' a = 1", Err (Bad why.Value))
     ∷ (codes "delete +1", Err (Bad why.Value))
     ∷ (codes "delete 000000000000000000007", Err (Bad why.Value))
     ∷ (codes "delete ,", Err (Bad why.Word))
@@ -162,6 +181,8 @@ printed_lines =
       codes "insert -9223372036854775808, -92233720368547758.08, false",
     )
     ∷ (codes "delete 007", codes "delete 7")
+    ∷ (codes "delete where a=12", codes "delete where a >= 12 and a <= 12")
+    ∷ (codes "delete where b<9.5 and c=true and a>-1", codes "delete where b < 9.50 and c >= true and c <= true and a > -1")
     ∷ []
 
 -- what is printed of a line's call; nothing where there is none
@@ -187,6 +208,8 @@ text_lines =
     )
     ∷ (codes "select city where n >= 2", asks (Rows (0 ∷ [])) (on 1 (at_least (pos 2)) None ∷ []))
     ∷ (codes "max n", asks (Max 1) [])
+    ∷ (codes "delete where city = 'it''s'", deletes_where (on 0 (at_least (pos 2)) (at_most (pos 2)) ∷ []))
+    ∷ (codes "delete where city < 'Oslo'", Err (Bad why.Word))
     ∷ (codes "count where city < 'Oslo'", Err (Bad why.Word))
     ∷ (codes "count where city >= 'Oslo'", Err (Bad why.Word))
     ∷ (codes "max city", Err (Bad why.Word))
@@ -204,6 +227,7 @@ text_printed =
     (codes "count where city='Oslo'", codes "count where city = 'Oslo'")
     ∷ (codes "count where city='Oslo' and city='it''s'", codes "count where city = 'it''s' and city = 'Oslo'")
     ∷ (codes "insert 'it''s',4", codes "insert 'it''s', 4")
+    ∷ (codes "delete where city='it''s'and n<5", codes "delete where city = 'it''s' and n < 5")
     ∷ []
 
 -- ---- cuts over the table of whole numbers

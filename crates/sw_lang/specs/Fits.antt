@@ -1,8 +1,8 @@
 -- What holds of each call that a line gives, beside the line's own text.
-use Rattle.std.specs.Prelude.{◌≡◌, ◌≤◌, ◌⊎◌, ℕ, ℤ, pos, true, false, int_lt, List, [], ◌∷◌, length, map, nat_eq, replicate, Option, Some, None, All}
+use Rattle.std.specs.Prelude.{◌≡◌, ◌≤◌, ◌⊎◌, ◌||◌, ℕ, ℤ, pos, Bool, true, false, int_lt, is_some, List, [], ◌∷◌, length, map, nat_eq, replicate, Option, Some, None, All}
 use Rattle.std.specs.List.{IsDistinct}
 use Rattle.sw_rows.specs.Header.{Column, kinds_of}
-use Rattle.sw_rows.specs.Scan.{AsksBelow}
+use Rattle.sw_rows.specs.Scan.{AsksBelow, counting}
 use Rattle.sw_rows.specs.Texts.{text_of}
 use Rattle.sw_rows.specs.declared.bound.Bound.{Bound}
 use Rattle.sw_rows.specs.declared.bound.Bound.TheVariants.{Before, After}
@@ -10,7 +10,7 @@ use Rattle.sw_rows.specs.Domains.{Domain, is_of_texts}
 use Rattle.sw_rows.specs.Domains as kind
 use Rattle.sw_rows.specs.declared.query.Cond.{Cond}
 use Rattle.sw_rows.specs.declared.query.Call.{Call}
-use Rattle.sw_rows.specs.declared.query.Call.TheVariants.{Select, Insert, Delete}
+use Rattle.sw_rows.specs.declared.query.Call.TheVariants.{Select, Insert, Delete, DeleteWhere}
 use Rattle.sw_rows.specs.declared.query.Query.{Query}
 use Rattle.sw_rows.specs.declared.query.Want.{Want}
 use Rattle.sw_rows.specs.declared.query.Want.TheVariants.{Rows, Count, Sum, Min, Max}
@@ -70,6 +70,19 @@ pub record FitsQuery (schema : List Column) (q : Query) : Type 0 where
   pub numbers : TakesNumbers schema q.want
   pub names : HasFewNames q.want
 
+-- a bound is there
+abbrev pub is_bound : Option Bound → Option Bound → Bool
+is_bound lower upper = is_some lower || is_some upper
+
+abbrev pub IsBound : Cond → Type 0
+IsBound c = is_bound c.lower c.upper ≡ true
+
+-- conditions as those of a query, one at least, each of them with a bound
+pub record FitsConds (schema : List Column) (conds : List Cond) : Type 0 where
+  pub query : FitsQuery schema (counting conds)
+  pub some : 1 ≤ length conds
+  pub bound : All IsBound conds
+
 -- cells of these kinds, and zeros after them
 abbrev pub FitsCells : List Domain → List ℤ → Type 0
 FitsCells [] cells = cells ≡ replicate (length cells) (pos 0)
@@ -81,3 +94,4 @@ abbrev pub FitsCall : List Column → Call → Type 0
 FitsCall schema (Select q) = FitsQuery schema q
 FitsCall schema (Insert cells) = FitsCells (kinds_of schema) cells
 FitsCall schema (Delete key) = Unit {0}
+FitsCall schema (DeleteWhere conds) = FitsConds schema conds

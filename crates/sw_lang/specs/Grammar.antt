@@ -6,7 +6,7 @@ use Rattle.sw_rows.specs.Tables.{padded}
 use Rattle.sw_rows.specs.Domains.{Domain, is_of_texts}
 use Rattle.sw_rows.specs.declared.query.Cond.{Cond}
 use Rattle.sw_rows.specs.declared.query.Call.{Call}
-use Rattle.sw_rows.specs.declared.query.Call.TheVariants.{Select, Insert, Delete}
+use Rattle.sw_rows.specs.declared.query.Call.TheVariants.{Select, Insert, Delete, DeleteWhere}
 use Rattle.sw_rows.specs.declared.query.Want.{Want}
 use Rattle.sw_rows.specs.declared.query.Want.TheVariants.{Rows, Count, Sum, Min, Max}
 use Rattle.sw_lang.specs.declared.parse.TheConstants.{MOST_LINE}
@@ -45,12 +45,15 @@ IsTerms schema ts (t ∷ u ∷ us) =
     (a b c : Tok) × (rest : List Tok) × (ts ≡ a ∷ b ∷ c ∷ word (codes "and") ∷ rest)
     × IsTerm schema a b c t × IsTerms schema rest (u ∷ us)
 
--- nothing, or "where" and terms, which make the conditions
+-- "where" and terms, which make the conditions
+abbrev pub HasTerms : List Column → List Tok → List Cond → Type 0
+HasTerms schema ts conds =
+    (terms : List Term) × (rest : List Tok) × (ts ≡ word (codes "where") ∷ rest)
+    × IsTerms schema rest terms × (conds ≡ conditions terms)
+
+-- nothing, or "where" and terms
 abbrev pub IsWhere : List Column → List Tok → List Cond → Type 0
-IsWhere schema ts conds =
-    ((ts ≡ []) × (conds ≡ []))
-    ⊎ ((terms : List Term) × (rest : List Tok) × (ts ≡ word (codes "where") ∷ rest)
-    × IsTerms schema rest terms × (conds ≡ conditions terms))
+IsWhere schema ts conds = ((ts ≡ []) × (conds ≡ [])) ⊎ HasTerms schema ts conds
 
 -- one name or more, with commas between
 abbrev pub IsNames : List Column → List Tok → List ℕ → Type 0
@@ -86,7 +89,8 @@ IsWant schema ts (Sum a) = (t : Tok) × (ts ≡ word (codes "sum") ∷ t ∷ [])
 IsWant schema ts (Min a) = (t : Tok) × (ts ≡ word (codes "min") ∷ t ∷ []) × IsNumbersName schema t a
 IsWant schema ts (Max a) = (t : Tok) × (ts ≡ word (codes "max") ∷ t ∷ []) × IsNumbersName schema t a
 
--- a question and perhaps conditions; "insert" and one value for each attribute; or "delete" and a key
+-- a question and perhaps conditions; "insert" and one value for each attribute; or "delete" and a key, or "where" and
+-- terms
 abbrev pub IsCall : List Column → List Tok → Call → Type 0
 IsCall schema ts (Select q) =
     (front rest : List Tok) × (ts ≡ front ++ rest) × IsWant schema front q.want × IsWhere schema rest q.conds
@@ -94,6 +98,8 @@ IsCall schema ts (Insert cells) =
     (zs : List ℤ) × (rest : List Tok) × (ts ≡ word (codes "insert") ∷ rest)
     × IsValues (kinds_of schema) rest zs × (cells ≡ padded zs)
 IsCall schema ts (Delete key) = (t : Tok) × (ts ≡ word (codes "delete") ∷ t ∷ []) × IsKey t key
+IsCall schema ts (DeleteWhere conds) =
+    (rest : List Tok) × (ts ≡ word (codes "delete") ∷ rest) × HasTerms schema rest conds
 
 -- a line of at most 4,096 bytes: a comment or a line without tokens, which is no call, or a call
 abbrev pub IsLine : List Column → List ℕ → Option Call → Type 0

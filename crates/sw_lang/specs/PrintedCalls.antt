@@ -80,8 +80,9 @@ want_text columns (want.Sum a) = codes "sum " ++ name_at columns a
 want_text columns (want.Min a) = codes "min " ++ name_at columns a
 want_text columns (want.Max a) = codes "max " ++ name_at columns a
 
--- a call; an inserted row has a cell for each attribute
+-- a call; an inserted row has a cell for each attribute, and conditions of a delete have bounds
 abbrev pub call_text : List Column → Call → List ℕ
 call_text columns (call.Select q) = want_text columns q.want ++ where_text columns false q.conds
 call_text columns (call.Insert cells) = codes "insert " ++ cells_text (kinds_of columns) cells
 call_text columns (call.Delete key) = codes "delete " ++ decimal key
+call_text columns (call.DeleteWhere conds) = codes "delete" ++ where_text columns false conds

@@ -6,7 +6,7 @@ use Rattle.sw_rows.specs.Tables.{padded}
 use Rattle.sw_rows.specs.Domains.{Domain, is_of_texts}
 use Rattle.sw_rows.specs.declared.query.Cond.{Cond}
 use Rattle.sw_rows.specs.declared.query.Call.{Call}
-use Rattle.sw_rows.specs.declared.query.Call.TheVariants.{Select, Insert, Delete}
+use Rattle.sw_rows.specs.declared.query.Call.TheVariants.{Select, Insert, Delete, DeleteWhere}
 use Rattle.sw_rows.specs.declared.query.Want.{Want}
 use Rattle.sw_rows.specs.declared.query.Want.TheVariants.{Rows, Count, Sum, Min, Max}
 use Rattle.sw_rows.specs.declared.refusal.Refusal.{Refusal}
@@ -205,8 +205,17 @@ cells_at schema ts = values_at [] (kinds_of schema) ts >>= λ values. Ok (padded
 abbrev pub insert_at : List Column → List Tok → Result Call Fault
 insert_at schema ts = cells_at schema ts >>= λ cells. Ok (Insert cells)
 
-unfoldable pub delete_at : List Tok → Result Call Fault
-delete_at ts = first_by key_of ts >>= λ key. nothing_left (Delete key.0) key.1
+unfoldable pub delete_key : List Tok → Result Call Fault
+delete_key ts = first_by key_of ts >>= λ key. nothing_left (Delete key.0) key.1
+
+-- terms, one at least
+unfoldable pub delete_where : List Column → List Tok → Result Call Fault
+delete_where schema ts = terms_at schema [] ts >>= λ conds. Ok (DeleteWhere conds)
+
+-- "where" and terms, or a key
+unfoldable pub delete_at : List Column → List Tok → Result Call Fault
+delete_at schema [] = Err (Bad why.End)
+delete_at schema (t ∷ ts) = if is_word (codes "where") t then delete_where schema ts else delete_key (t ∷ ts)
 
 -- the call that begins with this token
 unfoldable pub call_of : List Column → Tok → List Tok → Result Call Fault
@@ -217,7 +226,7 @@ call_of schema t ts =
     else if is_word (codes "min") t then aggregate_at schema Min ts
     else if is_word (codes "max") t then aggregate_at schema Max ts
     else if is_word (codes "insert") t then insert_at schema ts
-    else if is_word (codes "delete") t then delete_at ts
+    else if is_word (codes "delete") t then delete_at schema ts
     else Err (Bad why.Word)
 
 -- ---- lines

@@ -74,6 +74,10 @@ row_line kinds r = decimal r.key ++ (codes ": " ++ cells_text kinds r.cells)
 abbrev pub rows_line : ℕ → List ℕ
 rows_line n = codes "(" ++ (decimal n ++ codes " rows)")
 
+-- how many rows are gone
+abbrev pub removed_line : ℕ → List ℕ
+removed_line n = codes "(" ++ (decimal n ++ codes " removed)")
+
 -- the kinds of the cells that are shown, or of the attribute that is summed or compared
 abbrev pub kinds_wanted : List Column → Want → List Domain
 kinds_wanted columns (want.Rows names) = map (kind_at columns) names
@@ -86,6 +90,7 @@ abbrev pub kinds_called : List Column → Call → List Domain
 kinds_called columns (call.Select q) = kinds_wanted columns q.want
 kinds_called columns (call.Insert cells) = []
 kinds_called columns (call.Delete key) = []
+kinds_called columns (call.DeleteWhere conds) = []
 
 abbrev pub first_kind : List Domain → Domain
 first_kind ks = slice_index_or ks 0 kind.Int
@@ -104,6 +109,7 @@ lines_of kinds (reply.Inserted k) = (codes "key " ++ decimal k) ∷ []
 lines_of kinds reply.Full = codes "full" ∷ []
 lines_of kinds reply.Removed = codes "removed" ∷ []
 lines_of kinds reply.NoSuchKey = codes "no such key" ∷ []
+lines_of kinds (reply.RemovedMany n) = removed_line n ∷ []
 
 -- the lines of the reply to a call
 abbrev pub reply_lines : List Column → Call → Reply → List (List ℕ)

@@ -3,7 +3,7 @@
 ghost use Rattle.std.specs.Prelude.{◌≡◌, ◌<◌, ◌≤◌, [], ℤ, List, length, IfOk, IfSome, ◌==◌};
 ghost use Rattle.sw_lang.specs.Shown.{AreSound, domain_of};
 ghost use Rattle.sw_lang.specs.Agreement.{AnswersRelated};
-ghost use Rattle.sw_lang.specs.Reading.{aggregate_at, asked, call_at, call_of, cells_at, delete_at, first_by, insert_at, is_comment, line_at, name_of, names_at, next_value, nothing_left, past_comma, refused, select_at, term_at, terms_at, where_at, Answers, Gives, Tells};
+ghost use Rattle.sw_lang.specs.Reading.{aggregate_at, asked, call_at, call_of, cells_at, delete_at, delete_key, delete_where, first_by, insert_at, is_comment, line_at, name_of, names_at, next_value, nothing_left, past_comma, refused, select_at, term_at, terms_at, where_at, Answers, Gives, Tells};
 ghost use Rattle.sw_lang.specs.Tokens.{tok, tokens};
 ghost use Rattle.sw_lang.specs.Grammar.{IsLine};
 ghost use Rattle.sw_lang.specs.Fits.{FitsCall};
@@ -209,13 +209,35 @@ fn insert_at(schema: &Schema, text: &[u8]) -> Result<Call, Fault>
     Ok(Call::Insert(cells))
 }
 
-#[tactic(auto, unfolding(crate::specs::Reading::delete_at))]
-fn delete_at(text: &[u8]) -> Result<Call, Fault>
-    ensures { Tells (λ c. c) result (delete_at (tokens text.now)) }
+#[tactic(auto, unfolding(crate::specs::Reading::delete_key))]
+fn delete_key(text: &[u8]) -> Result<Call, Fault>
+    ensures { Tells (λ c. c) result (delete_key (tokens text.now)) }
 {
     let (key, rest) = key_at(text)?;
     nothing_left(rest)?;
     Ok(Call::Delete(key))
+}
+
+#[tactic(auto, unfolding(crate::specs::Reading::delete_where))]
+fn delete_where(alloc: Global, schema: &Schema, text: &[u8]) -> Result<Call, ParseError>
+    ensures { Gives (λ c. c) result (delete_where schema.now (tokens text.now)) }
+{
+    let mut conds = Conds::new(alloc);
+    add_terms(alloc, schema, text, &mut conds)?;
+    Ok(Call::DeleteWhere(conds))
+}
+
+#[tactic(auto, unfolding(crate::specs::Reading::delete_at))]
+fn delete_at(alloc: Global, schema: &Schema, text: &[u8]) -> Result<Call, ParseError>
+    ensures { Gives (λ c. c) result (delete_at schema.now (tokens text.now)) }
+{
+    let Some((token, rest)) = next_token(text) else {
+        return Err(bad(Why::End));
+    };
+    if is_word(token, b"where") {
+        return delete_where(alloc, schema, rest);
+    }
+    Ok(delete_key(text)?)
 }
 
 /// The call that begins with this token.
@@ -242,7 +264,7 @@ fn call_of(alloc: Global, schema: &Schema, first: Token, text: &[u8]) -> Result<
         return Ok(insert_at(schema, text)?);
     }
     if is_word(first, b"delete") {
-        return Ok(delete_at(text)?);
+        return delete_at(alloc, schema, text);
     }
     Err(bad(Why::Word))
 }

@@ -322,6 +322,14 @@ fn write_delete<W: Sink>(key: u64, out: &mut W) -> Result<(), Refusal>
     write_number(key, out)
 }
 
+fn write_delete_where<W: Sink>(schema: &Schema, conds: &[Cond], out: &mut W) -> Result<(), Refusal>
+    ensures { Writes (W.taken out.old) (W.taken out.new) (W.failed out.old) (W.failed out.new) result
+        (codes "delete" ++ where_text schema.now false conds.now) }
+{
+    write_all(out, b"delete")?;
+    write_where(schema, conds, out)
+}
+
 /// Writes a call as a line without its end.
 ///
 /// Conditions stand in their order, each as a comparison for its lower bound and one for its upper bound; one on texts
@@ -335,5 +343,6 @@ pub fn write_call<W: Sink>(schema: &Schema, call: &Call, out: &mut W) -> Result<
         Call::Select(query) => write_query(schema, query, out),
         Call::Insert(cells) => write_insert(schema, cells, out),
         Call::Delete(key) => write_delete(*key, out),
+        Call::DeleteWhere(conds) => write_delete_where(schema, conds.as_slice(), out),
     }
 }

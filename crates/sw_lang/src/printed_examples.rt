@@ -54,6 +54,7 @@ pub fn single_lines()
     ensures full { reply_bytes abc (Call.Insert []) Reply.Full ≡ codes "full\n" }
     ensures removed { reply_bytes abc (Call.Delete 2) Reply.Removed ≡ codes "removed\n" }
     ensures no_such_key { reply_bytes abc (Call.Delete 0) Reply.NoSuchKey ≡ codes "no such key\n" }
+    ensures many { reply_bytes abc (Call.DeleteWhere []) (Reply.RemovedMany 2) ≡ codes "(2 removed)\n" }
 {}
 
 /// A condition is printed by its bounds, the lower one first.
@@ -71,7 +72,7 @@ pub fn conditions_as_comparisons()
         ≡ codes "sum price where ok >= true and ok <= true and price < 0.20" }
 {}
 
-/// Inserts have a cell for each attribute, deletes a key.
+/// Inserts have a cell for each attribute, deletes a key or conditions.
 pub fn updates_as_words()
     ensures insert { call_text abc
         (Call.Insert (pos 1 ∷ pos 9 ∷ pos 0 ∷ pos 0 ∷ pos 0 ∷ pos 0 ∷ pos 0 ∷ pos 0 ∷ []))
@@ -80,4 +81,7 @@ pub fn updates_as_words()
         (Call.Insert (pos 750 ∷ pos 1 ∷ pos 0 ∷ pos 0 ∷ pos 0 ∷ pos 0 ∷ pos 0 ∷ pos 0 ∷ []))
         ≡ codes "insert 7.50, true" }
     ensures delete { call_text abc (Call.Delete 18446744073709551615) ≡ codes "delete 18446744073709551615" }
+    ensures conditions { call_text abc
+        (Call.DeleteWhere (cond 0 (at_least (pos 12)) (at_most (pos 12)) ∷ cond 1 None (below (pos 6)) ∷ []))
+        ≡ codes "delete where a >= 12 and a <= 12 and b < 6" }
 {}

@@ -1,7 +1,7 @@
 //! Replies go out as lines.
 
 ghost use Rattle.std.specs.Prelude.{◌≡◌, ◌++◌, ◌∷◌, [], codes, decimal, length, map};
-ghost use Rattle.sw_lang.specs.Replies.{extreme_text, first_kind, kinds_called, kinds_wanted, reply_bytes, row_line, rows_line, sum_text, with_ends};
+ghost use Rattle.sw_lang.specs.Replies.{extreme_text, first_kind, kinds_called, kinds_wanted, removed_line, reply_bytes, row_line, rows_line, sum_text, with_ends};
 ghost use Rattle.sw_lang.specs.Sinks.{Writes};
 ghost use Rattle.sw_lang.specs.Shown.{AreSound, domain_of};
 
@@ -32,7 +32,7 @@ fn values_called<'a>(schema: &'a Schema, call: &Call) -> AttrValues<'a>
 {
     match call {
         Call::Select(query) => values_wanted(schema, &query.want),
-        Call::Insert(_) | Call::Delete(_) => AttrValues::Numbers(Kind::Int),
+        Call::Insert(_) | Call::Delete(_) | Call::DeleteWhere(_) => AttrValues::Numbers(Kind::Int),
     }
 }
 
@@ -66,7 +66,9 @@ fn write_rows_called<W: Sink>(
 {
     match call {
         Call::Select(query) => write_rows_wanted(schema, &query.want, rows, out),
-        Call::Insert(_) | Call::Delete(_) => write_rows(schema, &[], rows, out),
+        Call::Insert(_) | Call::Delete(_) | Call::DeleteWhere(_) => {
+            write_rows(schema, &[], rows, out)
+        }
     }
 }
 
@@ -109,6 +111,24 @@ fn write_key_line<W: Sink>(key: u64, out: &mut W) -> Result<(), Refusal>
     write_number_line(key, out)
 }
 
+/// How many rows are gone, without the bracket before it.
+fn write_removed_end<W: Sink>(many: u64, out: &mut W) -> Result<(), Refusal>
+    ensures { Writes (W.taken out.old) (W.taken out.new) (W.failed out.old) (W.failed out.new) result
+        ((decimal many ++ codes " removed)") ++ codes "\n") }
+{
+    write_number(many, out)?;
+    write_all(out, b" removed)\n")
+}
+
+/// How many rows are gone, as a line.
+fn write_removed_line<W: Sink>(many: u64, out: &mut W) -> Result<(), Refusal>
+    ensures { Writes (W.taken out.old) (W.taken out.new) (W.failed out.old) (W.failed out.new) result
+        (removed_line many ++ codes "\n") }
+{
+    write_all(out, b"(")?;
+    write_removed_end(many, out)
+}
+
 /// Writes the lines of the reply to a call.
 ///
 /// Cells are written by the kinds of the attributes that the call names. Refused `Output` where the sink fails; then a
@@ -131,5 +151,6 @@ pub fn write_reply<W: Sink>(
         Reply::Full => write_all(out, b"full\n"),
         Reply::Removed => write_all(out, b"removed\n"),
         Reply::NoSuchKey => write_all(out, b"no such key\n"),
+        Reply::RemovedMany(many) => write_removed_line(*many, out),
     }
 }

@@ -13,4 +13,5 @@ returns c = record {
   full = refl;
   removed = refl;
   no_such_key = refl;
+  many = refl;
 }

@@ -8,4 +8,5 @@ returns c = record {
   insert = refl;
   kinds = refl;
   delete = refl;
+  conditions = refl;
 }
