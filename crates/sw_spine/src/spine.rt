@@ -1,10 +1,10 @@
 //! The spine.
 
 ghost use Rattle.std.specs.Prelude.{ℕ, ◌≡◌, ◌<◌, ◌≤◌, ◌-◌, ◌++◌, [], true, false, Some, None, drop, length, slice_index_or, slice_set, IfErr, IfOk, IfSome, IsSome, IsSomeAnd, MatchResult, OnErr, OnOk};
-ghost use Rattle.sw_rows.specs.Scan.{AsksBelow};
-ghost use Rattle.sw_rows.specs.declared.query.Call.TheVariants.{Select, Insert, Delete};
+ghost use Rattle.sw_rows.specs.Scan.{AsksBelow, CondsBelow};
+ghost use Rattle.sw_rows.specs.declared.query.Call.TheVariants.{Select, Insert, Delete, DeleteWhere};
 ghost use Rattle.sw_spine.specs.Table.{inserted, is_numbered, removed, reply_to, updates_then};
-ghost use Rattle.sw_spine.specs.History.{IsLegal, IsSound, all_given, is_absent, is_select, mine, open_place, settled};
+ghost use Rattle.sw_spine.specs.History.{CallsBelow, IsLegal, IsSound, all_given, is_absent, is_select, mine, open_place, settled};
 ghost use Rattle.sw_spine.specs.Receivable.{AreUpdates};
 ghost use Rattle.sw_spine.specs.Rest.{none_open};
 ghost use Rattle.sw_rows.specs.declared.table.TheConstants.{MOST_ROWS};
@@ -15,7 +15,7 @@ use crate::history::{Entry, Record, State};
 use crate::store::Store;
 use std::alloc::{AllocError, Global};
 use std::marker::Model;
-use sw_rows::{Call, PackedRows, Query, Refusal, Reply, Schema, Update};
+use sw_rows::{Call, Conds, PackedRows, Query, Refusal, Reply, Schema, Update};
 
 /// The greatest number of entries of a history.
 pub const MOST_ENTRIES: usize = 1048576;
@@ -293,11 +293,13 @@ impl Spine {
     /// An insert or a delete is answered at the end of the history, with the plain table's reply there.
     ///
     /// Refused `HistoryFull` where the history has 1,048,576 entries, `NoMemory` otherwise; after a refusal nothing has
-    /// changed. The caller's conditions: the call is no select, and the session was opened and has no open entry.
+    /// changed. The caller's conditions: the call is no select, its conditions name attributes of the table, and the session
+    /// was opened and has no open entry.
     pub fn commit(&mut self, session: u64, call: Call) -> Result<Reply, Refusal>
         requires opened { is_opened session self.old ≡ true }
         requires rest { waits_for session self.old ≡ None }
         requires changes { is_select call ≡ false }
+        requires below { CallsBelow (length self.old.columns) call }
         ensures committed { IfOk result (HasAnswered session call self.old self.new) }
         ensures room { OnOk result (length self.old.entries < MOST_ENTRIES) }
         ensures refused { IfErr result (IsRefusedBy RefusesEntry self.old self.new) }
@@ -324,12 +326,14 @@ impl Spine {
         requires opened { is_opened session self.old ≡ true }
         requires rest { waits_for session self.old ≡ None }
         requires changes { is_select call ≡ false }
+        requires below { CallsBelow (length self.old.columns) call }
         requires room { length self.old.entries < MOST_ENTRIES }
         ensures { MatchResult result (HasAnswered session call self.old self.new) (λ _. self.new ≡ self.old) }
     {
         match call {
             Call::Insert(cells) => self.insert(session, cells),
             Call::Delete(key) => self.delete(session, key),
+            Call::DeleteWhere(conds) => self.delete_where(session, conds),
             Call::Select(_) => unreachable!(),
         }
     }
@@ -364,6 +368,25 @@ impl Spine {
             state: State::Answered(removed(found)),
         });
         Ok(removed(found))
+    }
+
+    fn delete_where(&mut self, session: u64, conds: Conds) -> Result<Reply, AllocError>
+        requires opened { is_opened session self.old ≡ true }
+        requires rest { waits_for session self.old ≡ None }
+        requires below { CondsBelow (length self.old.columns) conds }
+        requires room { length self.old.entries < MOST_ENTRIES }
+        ensures { MatchResult result (HasAnswered session (DeleteWhere conds) self.old self.new) (λ _. self.new ≡ self.old) }
+    {
+        // for the prover: there are eight attributes at most
+        let _width = self.schema.len();
+        self.entries.reserve(1)?;
+        let many = self.store.delete_where(conds.as_slice())?;
+        self.entries.push_reserved(Entry {
+            session,
+            call: Call::DeleteWhere(conds),
+            state: State::Answered(Reply::RemovedMany(many)),
+        });
+        Ok(Reply::RemovedMany(many))
     }
 
     /// How many updates the history has, the opening rows counted.
