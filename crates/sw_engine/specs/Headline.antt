@@ -1,15 +1,15 @@
 -- The headline, as a claim of the record that `close` answers.
 --
--- Whatever selects, inserts and deletes any number of sessions make from their threads, however maps are made, aligned,
--- cracked, cleared and dropped meanwhile, the history that the engine keeps is the history of one thread over a plain
--- list of rows: every answered call stands in it once, in its session's order, with the reply that was given and that
--- the list gives there.
+-- Whatever selects, inserts and deletes, of a key or under conditions, any number of sessions make from their threads,
+-- however maps are made, aligned, cracked, cleared and dropped meanwhile, the history that the engine keeps is the
+-- history of one thread over a plain list of rows: every answered call stands in it once, in its session's order, with
+-- the reply that was given and that the list gives there.
 --
 -- Premises: all sessions have ended, and their tickets, which are this engine's by their type, are handed to `close`;
 -- the calls are those that returned; the maps handed in keep the contract of `CrackerMap`. A ticket shows its session's
 -- number and the calls that were answered to it, each with the reply that was given, in the order made: `select`,
--- `insert` and `delete`, where they answer, make that list longer by just the call and the reply, and where they are
--- refused leave it.
+-- `insert`, `delete` and `delete_where`, where they answer, make that list longer by just the call and the reply, and
+-- where they are refused leave it.
 use Rattle.std.specs.Prelude.{ℕ, ◌≡◌, ◌⊎◌, List, true, All}
 use Rattle.sw_rows.specs.Header.{Column}
 use Rattle.sw_table.specs.declared.row.Row.{Row}

@@ -70,8 +70,8 @@ pub record Receipted : Type 0 where
   pub given : List Update
   pub published : List Update
 
--- an insert, a delete or a meeting that is answered gives the receipt of what is published then, which begins with the
--- one before; refused, the receipt stays
+-- a call that is no select, or a meeting, where it is answered, gives the receipt of what is published then, which
+-- begins with the one before; refused, the receipt stays
 abbrev pub GivesReceipt : {A E : Type 0} → Result A E → Receipted → Receipted → Type 0
 GivesReceipt told old new =
     MatchResult told (λ _. (new.given ≡ new.published) × IsPrefix old.given new.given) (λ _. new.given ≡ old.given)
@@ -81,6 +81,7 @@ abbrev pub CallGives : {A E : Type 0} → Call → Result A E → Receipted → 
 CallGives (call.Select q) told old new = new.given ≡ old.given
 CallGives (call.Insert cells) told old new = GivesReceipt told old new
 CallGives (call.Delete key) told old new = GivesReceipt told old new
+CallGives (call.DeleteWhere conds) told old new = GivesReceipt told old new
 
 -- the session's share waits for nothing, and what the session has the receipt of begins what the share shows as
 -- published

@@ -5,7 +5,7 @@ ghost use Rattle.sw_rows.specs.Scan.{AsksBelow};
 ghost use Rattle.sw_rows.specs.declared.query.Call.TheVariants.{Select};
 ghost use Rattle.sw_rows.specs.declared.table.TheConstants.{MOST_ROWS};
 ghost use Rattle.sw_spine.specs.Table.{is_numbered, opened, reply_to, updates_then};
-ghost use Rattle.sw_spine.specs.History.{is_select, mine};
+ghost use Rattle.sw_spine.specs.History.{CallsBelow, is_select, mine};
 ghost use Rattle.sw_spine.specs.Books.{RefusesRows, RefusesSession, new_books, updates, waits_for, with_answered, with_published, with_session, with_settled};
 ghost use Rattle.sw_spine.specs.declared.history.State.TheVariants.{Answered, Void};
 ghost use mathlib.Core.List.{IsPrefix};
@@ -274,7 +274,7 @@ impl<J: Naming> Desk<J> {
         sessions.set(share, Snapshot::of(spine));
     }
 
-    /// An insert or a delete is answered at the end of the history. Refused, the history is as it was.
+    /// A call that is no select is answered at the end of the history. Refused, the history is as it was.
     pub fn commit(
         &mut self,
         number: u64,
@@ -283,6 +283,7 @@ impl<J: Naming> Desk<J> {
     ) -> Result<Reply, Refusal>
         requires rest { IsAtRest J.sessions number share.old }
         requires changes { is_select call ≡ false }
+        requires below { CallsBelow (length J.columns) call }
         ensures rest { IsAtRest J.sessions number share.new }
         ensures mine { IfOk result (λ reply. IsTold number call reply share.old.value share.new.value) }
         ensures err { OnErr result (mine number share.new.value.entries ≡ mine number share.old.value.entries) }

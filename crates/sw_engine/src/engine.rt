@@ -1,8 +1,8 @@
 //! Heads under their latches, the history under its lock, and the sessions.
 
 ghost use Rattle.std.specs.Prelude.{◌≡◌, ◌<◌, ◌≤◌, ◌+◌, ◌++◌, ◌∷◌, [], ℕ, true, drop, length, take, vec_len, IfErr, IfOk, IsOkUnless, MatchResult, OnErr, OnOk, false};
-ghost use Rattle.sw_rows.specs.Scan.{AsksBelow};
-ghost use Rattle.sw_rows.specs.declared.query.Call.TheVariants.{Select, Insert, Delete};
+ghost use Rattle.sw_rows.specs.Scan.{AsksBelow, CondsBelow};
+ghost use Rattle.sw_rows.specs.declared.query.Call.TheVariants.{Select, Insert, Delete, DeleteWhere};
 ghost use Rattle.sw_rows.specs.declared.refusal.Refusal.TheVariants.{NoMemory};
 ghost use Rattle.sw_rows.specs.declared.table.TheConstants.{MOST_ROWS};
 ghost use Rattle.sw_lang.specs.Cuts.{AreCuts, cuts_on};
@@ -18,6 +18,7 @@ ghost use Rattle.sw_versions.specs.Refused.{IsAhead};
 ghost use Rattle.sw_engine.specs.Published.{CallGives, GivesReceipt, RefusesViewing, published_of};
 ghost use Rattle.sw_engine.specs.Headline.{IsHistoryOfOneThread};
 
+use crate::conds::add_all;
 use crate::counting::HeadStats;
 use crate::desk::{Blank, Desk, Ticket};
 use crate::latch::{LatchedHead, head_of};
@@ -32,7 +33,7 @@ use std::sync::{Mutex, MutexGuard, Wait};
 use std::thread::Threads;
 use sw_lang::Cuts;
 use sw_map::CrackerMap;
-use sw_rows::{Call, PackedRows, Query, Refusal, Reply, Schema, Update};
+use sw_rows::{Call, Cond, Conds, PackedRows, Query, Refusal, Reply, Schema, Update};
 use sw_spine::{Record, Spine};
 use sw_tie::Share;
 use sw_versions::{Live, Naming, Op};
@@ -462,6 +463,7 @@ where
     ) -> Result<Reply, Refusal>
         requires rest { IsAtRest J.sessions number share.old }
         requires changes { is_select call ≡ false }
+        requires below { CallsBelow (length J.columns) call }
         ensures rest { IsAtRest J.sessions number share.new }
         ensures mine { IfOk result (λ r. IsTold number call r share.old.value share.new.value) }
         ensures err { OnErr result (mine number share.new.value.entries ≡ mine number share.old.value.entries) }
@@ -532,10 +534,12 @@ where
         self.engine.select(rt, self.number, &mut self.share, query)
     }
 
-    /// Inserts a row.
-    pub fn insert<R: Wait>(&mut self, rt: &R, cells: [i64; 8]) -> Result<Reply, Refusal>
+    /// Commits a call that is no select, and has the receipt of what is published then.
+    fn commit<R: Wait>(&mut self, rt: &R, call: Call) -> Result<Reply, Refusal>
+        requires changes { is_select call ≡ false }
+        requires below { CallsBelow (length J.columns) call }
         ensures number { self.new.0 ≡ self.old.0 }
-        ensures mine { IfOk result (λ r. self.new.1 ≡ self.old.1 ++ (Insert cells, r) ∷ []) }
+        ensures mine { IfOk result (λ r. self.new.1 ≡ self.old.1 ++ (call, r) ∷ []) }
         ensures err { OnErr result (self.new.1 ≡ self.old.1) }
         ensures receipt { GivesReceipt result self.old.2 self.new.2 }
         ensures refused { IfErr result (λ e. RefusesCall e) }
@@ -546,7 +550,18 @@ where
             share,
             receipt,
         } = self;
-        engine.commit(rt, *number, share, receipt, Call::Insert(cells))
+        engine.commit(rt, *number, share, receipt, call)
+    }
+
+    /// Inserts a row.
+    pub fn insert<R: Wait>(&mut self, rt: &R, cells: [i64; 8]) -> Result<Reply, Refusal>
+        ensures number { self.new.0 ≡ self.old.0 }
+        ensures mine { IfOk result (λ r. self.new.1 ≡ self.old.1 ++ (Insert cells, r) ∷ []) }
+        ensures err { OnErr result (self.new.1 ≡ self.old.1) }
+        ensures receipt { GivesReceipt result self.old.2 self.new.2 }
+        ensures refused { IfErr result (λ e. RefusesCall e) }
+    {
+        self.commit(rt, Call::Insert(cells))
     }
 
     /// Deletes the row of a key.
@@ -557,13 +572,27 @@ where
         ensures receipt { GivesReceipt result self.old.2 self.new.2 }
         ensures refused { IfErr result (λ e. RefusesCall e) }
     {
-        let Session {
-            engine,
-            number,
-            share,
-            receipt,
-        } = self;
-        engine.commit(rt, *number, share, receipt, Call::Delete(key))
+        self.commit(rt, Call::Delete(key))
+    }
+
+    /// Deletes all rows that meet the conditions, as one call, and tells how many. The conditions are copied.
+    ///
+    /// Refused `NoMemory`, or `HistoryFull`; then nothing has changed. The caller's condition: the conditions name attributes of
+    /// the table. The call has a line in a history file where there is a condition, and each has a bound and an attribute
+    /// of its own.
+    pub fn delete_where<R: Wait>(&mut self, rt: &R, conds: &[Cond]) -> Result<Reply, Refusal>
+        requires { CondsBelow (length J.columns) conds.now }
+        ensures number { self.new.0 ≡ self.old.0 }
+        ensures mine { IfOk result (λ r. self.new.1 ≡ self.old.1 ++ (DeleteWhere conds.now, r) ∷ []) }
+        ensures err { OnErr result (self.new.1 ≡ self.old.1) }
+        ensures receipt { GivesReceipt result self.old.2 self.new.2 }
+        ensures refused { IfErr result (λ e. RefusesCall e) }
+    {
+        let mut asked = Conds::new(self.engine.alloc);
+        if add_all(&mut asked, conds).is_err() {
+            return Err(Refusal::NoMemory);
+        }
+        self.commit(rt, Call::DeleteWhere(asked))
     }
 
     /// Makes a call.
@@ -579,11 +608,12 @@ where
             Call::Select(query) => self.select(rt, query),
             Call::Insert(cells) => self.insert(rt, *cells),
             Call::Delete(key) => self.delete(rt, *key),
+            Call::DeleteWhere(conds) => self.delete_where(rt, conds.as_slice()),
         }
     }
 
-    /// The receipt of the list that was published when the session was opened, or at its last insert, delete or meeting
-    /// that was answered. Each begins with the one before. It takes no memory, and waits for nobody.
+    /// The receipt of the list that was published when the session was opened, or at its last insert, delete, delete under
+    /// conditions or meeting that was answered. Each begins with the one before. It takes no memory, and waits for nobody.
     pub fn receipt(&self) -> Receipt<J>
         ensures { result ≡ self.now.2.given }
     {

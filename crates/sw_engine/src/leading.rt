@@ -7,6 +7,7 @@ ghost use Rattle.sw_rows.specs.declared.refusal.Refusal.TheVariants.{NoMemory};
 ghost use Rattle.sw_chunks.specs.Heads.{IsSameHead};
 ghost use Rattle.sw_engine.specs.Leading.{led_by};
 
+use crate::conds::add_all;
 use std::alloc::{AllocError, Global};
 use sw_chunks::Head;
 use sw_map::CrackerMap;
@@ -16,16 +17,13 @@ use sw_rows::{Cond, Conds, Query, Refusal, Reply};
 fn led_by(alloc: Global, attribute: u8, query: &Query) -> Result<Query, AllocError>
     ensures { IfOk result (λ q. q ≡ led_by attribute query.now) }
 {
-    let asked = query.conds.as_slice();
     let mut conds = Conds::new(alloc);
     conds.push(Cond {
         attr: usize::from(attribute),
         lower: None,
         upper: None,
     })?;
-    for cond in asked {
-        conds.push(*cond)?;
-    }
+    add_all(&mut conds, query.conds.as_slice())?;
     let want = query.want.copied(alloc)?;
     Ok(Query { conds, want })
 }

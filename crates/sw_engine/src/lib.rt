@@ -1,6 +1,7 @@
 //! The engine: one history under a lock, heads under their latches, and sessions on threads.
 #![tactic(auto)]
 
+mod conds;
 mod counting;
 mod dealing;
 mod desk;

@@ -6,7 +6,7 @@ ghost use Rattle.sw_rows.specs.Scan.{AsksBelow};
 ghost use Rattle.sw_rows.specs.declared.query.Call.TheVariants.{Select};
 ghost use Rattle.sw_rows.specs.declared.table.TheConstants.{MOST_ROWS};
 ghost use Rattle.sw_spine.specs.Table.{is_numbered, reply_to};
-ghost use Rattle.sw_spine.specs.History.{is_select, mine};
+ghost use Rattle.sw_spine.specs.History.{CallsBelow, is_select, mine};
 ghost use Rattle.sw_spine.specs.Books.{RefusesSession, new_books, waits_for, with_published, with_session, with_settled};
 ghost use Rattle.sw_spine.specs.declared.history.State.TheVariants.{Answered, Void};
 ghost use Rattle.sw_versions.specs.Pending.{IsPlain};
@@ -186,7 +186,7 @@ where
         self.desk.void(number, share);
     }
 
-    /// An insert or a delete is answered at the end of the history. Then all updates that are not published yet are published at
+    /// A call that is no select is answered at the end of the history. Then all updates that are not published yet are published at
     /// once, or none of them: where there is no memory for it, or a viewer still reads the copy that would be written, a later
     /// commit or meeting publishes them. Refused, nothing has changed.
     pub fn commit<R: Wait>(
@@ -198,6 +198,7 @@ where
     ) -> Result<(Reply, Front<J>), Refusal>
         requires rest { IsAtRest J.sessions number share.old }
         requires changes { is_select call ≡ false }
+        requires below { CallsBelow (length J.columns) call }
         ensures rest { IsAtRest J.sessions number share.new }
         ensures mine { IfOk result (λ r. IsTold number call r.0 share.old.value share.new.value) }
         ensures err { OnErr result (mine number share.new.value.entries ≡ mine number share.old.value.entries) }

@@ -3,7 +3,7 @@ use Rattle.sw_rows.specs.declared.query.Call.{Call}
 use Rattle.sw_rows.specs.declared.reply.Reply.{Reply}
 use Rattle.sw_engine.specs.Published.{GivesReceipt, Receipted, published_of}
 use Rattle.sw_engine.proofs.Published.{gives_after, held_after}
-use Rattle.sw_engine.proofs.engine.Session.delete.Goals as goal
+use Rattle.sw_engine.proofs.engine.Session.commit.Goals as goal
 
 pub invariant_of-self : goal.invariant_of-self
 invariant_of-self g c =
