@@ -82,6 +82,7 @@ select_keeps : (limit : ℕ) (us : List Update) (c : Call) → is_select c ≡ t
 select_keeps limit us (call.Select q) h = append-nil us
 select_keeps limit us (call.Insert cells) h = absurd cc
 select_keeps limit us (call.Delete key) h = absurd cc
+select_keeps limit us (call.DeleteWhere conds) h = absurd cc
 
 step : (columns : List Column) (limit : ℕ) (us : List Update) (c : Call) (st : State) (rest : List (Call × Reply)) → Agrees columns limit us c st → is_given st ≡ true → not (is_open st) ≡ true
     → block_bytes columns (all_answered rest) ≡ replies_bytes columns limit (updates_then limit us c) (map (λ m. m.0) rest)

@@ -4,11 +4,12 @@ use Rattle.std.proofs.lemmas.List.Elements.{All-nil, All-push, All-weaker}
 use Rattle.std.specs.Str.{is_utf8}
 use Rattle.sw_table.specs.declared.row.Row.{Row}
 use Rattle.sw_rows.specs.Header.{Column, Fault, IsSchema, kinds_of}
+use Rattle.sw_rows.specs.Scan.{counting}
 use Rattle.sw_rows.specs.Tables.{bytes_within, table_of}
 use Rattle.sw_rows.specs.TextRows.{AreCoded}
 use Rattle.sw_rows.specs.declared.loading.TheConstants.{MOST_BYTES}
 use Rattle.sw_rows.specs.declared.query.Call.{Call}
-use Rattle.sw_rows.specs.declared.query.Call.TheVariants.{Select, Insert, Delete}
+use Rattle.sw_rows.specs.declared.query.Call.TheVariants.{Select, Insert, Delete, DeleteWhere}
 use Rattle.sw_rows.specs.declared.refusal.Refusal.{Refusal}
 use Rattle.sw_rows.specs.declared.refusal.Refusal.TheVariants.{BadLine, TooMany}
 use Rattle.sw_rows.specs.declared.refusal.Why.TheVariants as why
@@ -128,6 +129,7 @@ read-over columns c (text, read) = by_call c (line_fits columns text (Some c) (l
     by_call (Select q) fits = asks_of_texts columns q fits
     by_call (Insert cells) fits = λ key. row_of_codes columns key cells fits
     by_call (Delete key) fits = tt
+    by_call (DeleteWhere conds) fits = asks_of_texts columns (counting conds) fits.query
 
 -- ---- scripts and runs
 

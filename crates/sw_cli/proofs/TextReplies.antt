@@ -1,5 +1,5 @@
 -- What calls over texts are replied is over texts.
-use Rattle.std.proofs.Common.{◌≡◌, sym, subst, refl, ℕ, ◌+◌, ◌-◌, ◌<◌, ◌==◌, ◌&&◌, Bool, true, false, not, cond, true≢false, All, List, [], ◌∷◌, ◌++◌, length, map, get_or, arith, Option, Ok, Err}
+use Rattle.std.proofs.Common.{◌≡◌, ◌∙◌, ap, sym, subst, refl, append_assoc, ℕ, ◌+◌, ◌-◌, ◌<◌, ◌==◌, ◌&&◌, Bool, true, false, not, cond, true≢false, All, List, [], ◌∷◌, ◌++◌, length, map, get_or, arith, Option, Ok, Err}
 use Rattle.std.proofs.lemmas.Bool.Decides.{nat_tests}
 use Rattle.std.proofs.lemmas.List.{append-nil, get_or-map, length-map}
 use Rattle.std.proofs.lemmas.List.Elements.{All-cons, All-filter, All-head, All-nil, All-push, All-tail}
@@ -8,13 +8,16 @@ use Rattle.sw_table.specs.declared.row.Row.{Row}
 use Rattle.sw_table.specs.declared.row.Update.{Update}
 use Rattle.sw_table.specs.declared.row.Update.TheVariants as update
 use Rattle.sw_rows.specs.Header.{Column, IsSchema, kinds_of}
-use Rattle.sw_rows.specs.TextRows.{AreCoded, IsRowCoded}
+use Rattle.sw_rows.specs.Scan.{counting, matching}
+use Rattle.sw_rows.specs.TextRows.{AreCoded, AsksOfTexts, IsRowCoded, conds_seen, matching_seen, row_seen, rows_seen}
 use Rattle.sw_rows.specs.declared.query.Call.{Call}
-use Rattle.sw_rows.specs.declared.query.Call.TheVariants.{Select, Insert, Delete}
+use Rattle.sw_rows.specs.declared.query.Call.TheVariants.{Select, Insert, Delete, DeleteWhere}
+use Rattle.sw_rows.specs.declared.query.Cond.{Cond}
 use Rattle.sw_rows.specs.declared.reply.Reply.{Reply}
-use Rattle.sw_rows.proofs.TextRowLaws.{answer_over_texts}
+use Rattle.sw_rows.specs.declared.reply.Reply.TheVariants.{RemovedMany}
+use Rattle.sw_rows.proofs.TextRowLaws.{answer_over_texts, matching_over_texts}
 use Rattle.sw_spine.specs.History.{Agrees, AllAgree, History, all_given, is_given, is_select, mine, with_answer}
-use Rattle.sw_spine.specs.Table.{inserts, opened, reply_to, row, updates_then}
+use Rattle.sw_spine.specs.Table.{inserts, opened, removals, reply_to, row, updates_then}
 use Rattle.sw_spine.specs.declared.history.Entry.{Entry}
 use Rattle.sw_spine.specs.declared.history.State.{State}
 use Rattle.sw_spine.specs.declared.history.State.TheVariants.{Answered, Lines, Open, Void}
@@ -39,6 +42,10 @@ insert-keeps columns us r h coded = subst (AreCoded (kinds_of columns)) (sym (ro
 remove-keeps : (columns : List Column) (us : List Update) (key : ℕ) → HasCoded columns us → HasCoded columns (us ++ update.Remove key ∷ [])
 remove-keeps columns us key h = subst (AreCoded (kinds_of columns)) (sym (rows_push us (update.Remove key))) (All-filter (λ r. not (r.key == key)) (IsRowCoded (kinds_of columns)) (rows_of us) h)
 
+removals-keep : (columns : List Column) (us : List Update) (rs : List Row) → HasCoded columns us → HasCoded columns (us ++ removals rs)
+removals-keep columns us [] h = none-keeps columns us h
+removals-keep columns us (r ∷ rs) h = subst (HasCoded columns) (append_assoc us (update.Remove r.key ∷ []) (removals rs)) (removals-keep columns (us ++ update.Remove r.key ∷ []) rs (remove-keeps columns us r.key h))
+
 pub call_keeps : (columns : List Column) (limit : ℕ) (us : List Update) (c : Call) → AreCoded (kinds_of columns) (rows_of us) → IsOverTexts columns c → AreCoded (kinds_of columns) (rows_of (updates_then limit us c))
 call_keeps columns limit us (Select q) h over = none-keeps columns us h
 call_keeps columns limit us (Insert cells) h over = by_room (inserts us == limit)
@@ -51,13 +58,19 @@ call_keeps columns limit us (Delete key) h over = by_key (has_key key (rows_of u
     by_key : (b : Bool) → HasCoded columns (us ++ cond b (update.Remove key ∷ []) [])
     by_key true = remove-keeps columns us key h
     by_key false = none-keeps columns us h
+call_keeps columns limit us (DeleteWhere conds) h over = removals-keep columns us (matching conds (rows_of us)) h
 
 -- ---- replies of the plain table
+
+-- as many rows of texts meet conditions as rows of codes do
+removed-over : (columns : List Column) (rs : List Row) (conds : List Cond) → IsSchema columns → AreCoded (kinds_of columns) rs → AsksOfTexts (kinds_of columns) (counting conds) → length (matching conds rs) ≡ length (matching_seen (conds_seen (kinds_of columns) conds) (rows_seen (kinds_of columns) rs))
+removed-over columns rs conds is h over = sym (ap length (matching_over_texts columns rs (counting conds) is h over) ∙ length-map (matching conds rs) (row_seen (kinds_of columns)))
 
 reply-over : (columns : List Column) (limit : ℕ) (us : List Update) (c : Call) → IsSchema columns → HasCoded columns us → IsOverTexts columns c → IsReplyOverTexts columns (rows_of us) c (reply_to limit us c)
 reply-over columns limit us (Select q) is h over = sym (answer_over_texts columns (rows_of us) q is h over)
 reply-over columns limit us (Insert cells) is h over = tt
 reply-over columns limit us (Delete key) is h over = tt
+reply-over columns limit us (DeleteWhere conds) is h over = ap (λ (n : ℕ). RemovedMany n) (removed-over columns (rows_of us) conds is h over)
 
 pub replies_over : (columns : List Column) (limit : ℕ) (us : List Update) (calls : List Call) → IsSchema columns → AreCoded (kinds_of columns) (rows_of us) → All (IsOverTexts columns) calls → AreRepliesOverTexts columns limit us calls
 replies_over columns limit us [] is h over = tt
@@ -105,6 +118,7 @@ select-keeps : (columns : List Column) (limit : ℕ) (us : List Update) (c : Cal
 select-keeps columns limit us (Select q) is h = none-keeps columns us h
 select-keeps columns limit us (Insert cells) is h = absurd (true≢false (sym is))
 select-keeps columns limit us (Delete key) is h = absurd (true≢false (sym is))
+select-keeps columns limit us (DeleteWhere conds) is h = absurd (true≢false (sym is))
 
 -- an entry gives a reply over texts, where it gives one, and rows stay coded
 entry-over : (columns : List Column) (limit : ℕ) (us : List Update) (c : Call) (st : State) (rest : List (Call × Reply)) → IsSchema columns → HasCoded columns us → Agrees columns limit us c st → is_given st ≡ true → All (Over columns) (with_answer c st rest) → GivesOverTexts columns (rows_of us) c st × HasCoded columns (updates_then limit us c)

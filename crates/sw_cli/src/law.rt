@@ -13,10 +13,10 @@ ghost use Rattle.sw_table.specs.Updates.{rows_of};
 ghost use Rattle.sw_table.specs.declared.row.Update.{Update};
 
 /// A run starts from a schema and from rows whose cells are codes of its texts, where they are of texts. Its calls
-/// insert such rows, and what they ask of texts is equality.
+/// insert such rows, and what selects and deletes under conditions ask of texts is equality.
 ///
-/// So over such rows the answer to a select is the answer over texts (`sw_rows::text_answers`). The function does
-/// nothing.
+/// So over such rows the answer to a select is the answer over texts, and the rows that meet the conditions of a delete
+/// are those whose texts meet them (`sw_rows::text_answers`). The function does nothing.
 pub fn runs_are_over_texts()
     ensures schema { (limit : ℕ) (cuts table script : List ℕ) (s : Start) → start_of limit cuts table script ≡ Ok s
         → IsSchema s.columns }
@@ -27,8 +27,8 @@ pub fn runs_are_over_texts()
 {}
 
 /// Rows stay coded as such calls come. So each reply to a select is, with codes seen as their texts, the answer over
-/// rows of texts: the plain table's to such calls and to those of a script of one block, and each that the record of a
-/// run gives.
+/// rows of texts, and each reply to a delete under conditions how many rows of texts meet them: the plain table's to such
+/// calls and to those of a script of one block, and each that the record of a run gives.
 ///
 /// The function does nothing.
 pub fn replies_are_over_texts()
