@@ -52,10 +52,10 @@ refused 3 line L why W: a line of the script is no call. Lines are counted from 
   too many; texts are compared by = alone, and not summed. End: the line ends too early. Value: a value or a key is wanted,
   and the word is none of that kind; a text stands in quotes, 'it''s', and nothing else does.
   Cuts, with line 0: the text of --cuts is not name=value;name=value with rising values, or cuts an attribute of texts.
-  History: the file that was to be checked is no history, or the entry of that number is none; 0 is the whole text.
+  History: the file that was to be checked is no history, or that entry is none in the file's format; 0 is the whole text.
   What to do: mend the line. Calls look like this:
     select a, b where a >= 5 and b < 7    count    sum b where a = 5    min b    max b    insert 5, 7, 1    delete 3
-    count where city = 'Oslo'    insert 'it''s', 4
+    delete where b < 7    count where city = 'Oslo'    insert 'it''s', 4
 ";
 
 const UNKNOWN_ATTRIBUTE: &str = "\
