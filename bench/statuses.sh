@@ -50,6 +50,7 @@ printf '%s4%s' "$front" "$back" >legal.json
 printf '%s5%s' "$front" "$back" >illegal.json
 head -c 20 legal.json >cut.json
 printf 'count where a >= 10\n---\ncount where b >= 6\n' >blocks.txt
+printf 'delete where a = 12\nselect a\ndelete where a = 12\ninsert 1, 1, 1\n' >updates.txt
 mkdir folder
 
 # How many refusals are explained, each beginning with its number.
@@ -74,11 +75,15 @@ case_of 'the two are the same bytes' 0 '' '' cmp kept.json legal.json
 case_of 'blocks in threads' 0 "$(printf '3\n---\n2')" '' "$program" run --table t.csv --script blocks.txt --threads --cuts 'a=12;b=7'
 case_of 'a run without cells' 0 4 '' run --budget 0
 case_of 'a run without maps' 0 4 '' run --maps 0
+case_of 'rows deleted under conditions' 0 "$(printf '(2 removed)\n2: 3\n4: 20\n(2 rows)\n(0 removed)\nkey 5')" '' "$program" run --table t.csv --script updates.txt --history updated.json
+case_of 'their history' 0 'legal: 4 entries' '' "$program" check updated.json
+sed 's/"format":3/"format":2/' updated.json >older.json
+case_of 'such a call in an older file' 2 '' 'sideways: refused 3 line 1 why History' "$program" check older.json
 
 
 # What the heads tell of themselves: the table is on standard error alone; asked the same ranges again a head has no piece and
-# no entry more; without maps it scans; a head that was not asked has no area. The last column is the clock's, and
-# is not compared, but that twenty scans of 200,000 rows take time and no scan takes none.
+# no entry more; without maps it scans; a head that was not asked has no area; seventy removals begin its area anew once. The
+# last column is the clock's, and is not compared, but that twenty scans of 200,000 rows take time and no scan takes none.
 ranges='count where a >= 10 and a < 13\nselect c where a < 13\nsum b where b > 5\n'
 printf "$ranges" >once.txt
 printf "$ranges$ranges" >twice.txt
@@ -100,6 +105,13 @@ case_of 'the milliseconds are those of the head that scanned' 0 "$(printf 'a 1\n
 case_of 'ranges asked once' 0 "$(printf 'head queries areas pieces entries restarts maps cells scans\na 2 1 3 2 0 2 128 0\nb 1 1 2 2 0 1 64 0\nc 0 0 0 0 0 0 0 0')" '' stats once.txt
 case_of 'ranges asked twice' 0 "$(printf 'head queries areas pieces entries restarts maps cells scans\na 4 1 3 2 0 2 128 0\nb 2 1 2 2 0 1 64 0\nc 0 0 0 0 0 0 0 0')" '' stats twice.txt
 case_of 'ranges without maps' 0 "$(printf 'head queries areas pieces entries restarts maps cells scans\na 4 1 1 1 0 0 0 4\nb 2 1 1 1 0 0 0 2\nc 0 0 0 0 0 0 0 0')" '' stats twice.txt --maps 0
+seq 0 100 | sed '1s/.*/a/' >hundred.csv
+printf 'count where a <= 50\ndelete where a <= 70\ncount\n' >seventy.txt
+removals_heads() {
+    "$program" run --table hundred.csv --script seventy.txt --stats 2>heads
+    cut -d ' ' -f 1-9 heads
+}
+case_of 'an area begins anew once for many removals' 0 "$(printf '50\n(70 removed)\n30\nhead queries areas pieces entries restarts maps cells scans\na 2 1 1 1 1 1 64 0')" '' removals_heads
 case_of 'stats to a full device' 3 4 '' to_full_errors run --stats
 
 # How far a run is: a script, and then a table, come after more than a second through a pipe. Where standard error is a terminal a
@@ -191,7 +203,7 @@ refused_in_turn() {
     printf '%s: %s: %s allocations refused with status 3, else status %s\n' "$verdict" "$name" "$told" "$plain"
 }
 
-printf 'select b where a >= 10\ninsert 1, 2, 3\n---\ncount\n' >calls.txt
+printf 'select b where a >= 10\ninsert 1, 2, 3\ndelete where b > 5\n---\ncount\n' >calls.txt
 if ${CC:-cc} -O1 -shared -fPIC -o refusing.so "$top/bench/refusing.c" -ldl 2>/dev/null; then
     refused_in_turn 'a run' 0 "$program" run --table t.csv --script calls.txt --history turn.json
     refused_in_turn 'a check' 0 "$program" check legal.json
