@@ -1,11 +1,12 @@
--- A query of a schema's attributes is one of attributes below 8.
+-- A query of a schema's attributes is one of attributes below 8, and so are a deletion's conditions.
 use Rattle.std.proofs.Common.{ℕ, List, ◌≤◌, arith, length}
 use Rattle.sw_rows.specs.Header.{Column, IsSchema}
-use Rattle.sw_rows.specs.Scan.{AsksBelow, WantsBelow}
+use Rattle.sw_rows.specs.Scan.{AsksBelow, CondsBelow, WantsBelow, counting}
+use Rattle.sw_rows.specs.declared.query.Cond.{Cond}
 use Rattle.sw_rows.specs.declared.query.Query.{Query}
 use Rattle.sw_rows.specs.declared.query.Want.{Want}
 use Rattle.sw_rows.specs.declared.query.Want.TheVariants as want
-use Rattle.sw_lang.specs.Fits.{FitsQuery}
+use Rattle.sw_lang.specs.Fits.{FitsConds, FitsQuery}
 
 wants_below : (n : ℕ) (w : Want) → n ≤ 8 → WantsBelow n w → WantsBelow 8 w
 wants_below n (want.Rows names) le h = λ i d lt. let a = h i d lt in omega arith
@@ -19,3 +20,6 @@ asks_below n q le h = record { conds = λ i d lt. let a = h.conds i d lt in omeg
 
 pub query_asks : (schema : List Column) (q : Query) → IsSchema schema → FitsQuery schema q → AsksBelow 8 q
 query_asks schema q s f = asks_below (length schema) q s.sound.few f.attrs
+
+pub conds_ask : (schema : List Column) (conds : List Cond) → IsSchema schema → FitsConds schema conds → CondsBelow 8 conds
+conds_ask schema conds s f = (query_asks schema (counting conds) s f.query).conds

@@ -121,6 +121,7 @@ fn of_table(
     let Table { schema, rows, .. } = table;
     match word {
         "ask" => replies::asked(alloc, schema, rows.as_slice(), text),
+        "keys" => replies::keys(alloc, schema, rows.as_slice(), text),
         "asksink" => replies::failing(alloc, schema, rows.as_slice(), args, text),
         "has" => held(format!(in alloc; "{}", has_key(rows.as_slice(), number(text)))),
         _ => of_line(alloc, schema, word, args, text),

@@ -46,11 +46,18 @@ fn query_parts(alloc: Global, query: &Query) -> Result<String, AllocError> {
     Ok(text)
 }
 
+fn deletion_parts(alloc: Global, conds: &Conds) -> Result<String, AllocError> {
+    let mut text = String::from_str(alloc, "delete")?;
+    push_conds(alloc, &mut text, conds.as_slice())?;
+    Ok(text)
+}
+
 fn call_parts(alloc: Global, call: &Call) -> Result<String, AllocError> {
     match call {
         Call::Select(query) => query_parts(alloc, query),
         Call::Insert(cells) => format!(in alloc; "insert {cells:?}"),
         Call::Delete(key) => format!(in alloc; "delete {key}"),
+        Call::DeleteWhere(conds) => deletion_parts(alloc, conds),
     }
 }
 

@@ -9,8 +9,8 @@ use crate::words::{cell, number};
 use std::alloc::{AllocError, Global};
 use sw_lang::{parse_line, write_reply};
 use sw_rows::{
-    Call, Cells, Conds, Counted, Names, Query, Refusal, Reply, ReplyRows, Row, Schema, Sink, Want,
-    answer,
+    Call, Cells, Conds, Counted, Names, PackedRows, Query, Refusal, Reply, ReplyRows, Row, Schema,
+    Sink, Want, answer, matching_keys,
 };
 
 /// The call of a line; of a line without one the deletion of key 0.
@@ -23,13 +23,29 @@ fn call_of(alloc: Global, schema: &mut Schema, text: &str) -> Result<Call, Refus
     }
 }
 
-/// What a select is answered over rows.
+/// The keys of the rows that a call deletes by conditions, in the order in which they go.
+fn deleted(alloc: Global, schema: &Schema, rows: &[Row], call: &Call) -> Result<Vec<u64>, Refusal>
+    requires { FitsCall schema.now call.now }
+{
+    let _ = schema.len();
+    let rows = held(PackedRows::of(alloc, rows))?;
+    match call {
+        Call::DeleteWhere(conds) => held(matching_keys(alloc, &rows, conds.as_slice())),
+        _ => Ok(Vec::new(alloc)),
+    }
+}
+
+/// What a select is answered over rows, or a call that deletes rows by conditions; the rows stay.
 fn answered(alloc: Global, schema: &Schema, rows: &[Row], call: &Call) -> Result<Reply, Refusal>
     requires { FitsCall schema.now call.now }
 {
     let _ = schema.len();
     match call {
         Call::Select(query) => answer(alloc, rows, query),
+        Call::DeleteWhere(_) => {
+            let keys = deleted(alloc, schema, rows, call)?;
+            Ok(Reply::RemovedMany(keys.len() as u64))
+        }
         _ => Ok(Reply::NoSuchKey),
     }
 }
@@ -65,7 +81,19 @@ fn copied_lines(
     lines(alloc, schema, call, &copy)
 }
 
-/// What a select is answered over the rows of a table.
+/// The keys of the rows of a table that a line deletes by its conditions.
+pub(crate) fn keys(
+    alloc: Global,
+    schema: &mut Schema,
+    rows: &[Row],
+    text: &str,
+) -> Result<String, Refusal> {
+    let call = call_of(alloc, schema, text)?;
+    let keys = deleted(alloc, schema, rows, &call)?;
+    held(format!(in alloc; "{:?}", keys.as_slice()))
+}
+
+/// What a call is answered over the rows of a table.
 pub(crate) fn asked(
     alloc: Global,
     schema: &mut Schema,
@@ -124,12 +152,13 @@ pub(crate) fn failing(
     held(sent(alloc, schema, &call, &reply, number(writes)))
 }
 
-/// The reply of a word.
+/// The reply of a word, with its key or how many rows are gone.
 fn update_reply(word: &str, key: u64) -> Reply {
     match word {
         "inserted" => Reply::Inserted(key),
         "full" => Reply::Full,
         "removed" => Reply::Removed,
+        "many" => Reply::RemovedMany(key),
         _ => Reply::NoSuchKey,
     }
 }
