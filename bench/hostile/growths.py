@@ -25,6 +25,7 @@ SCRIPTS = {
     "a second tail": [RANGE, "select b, c where a >= 10 and a <= 15"],
     "a row that comes": [RANGE, "insert 1, 9, 0", "count where a < 10"],
     "a row that goes": [RANGE, "delete 2", "select a where a >= 10"],
+    "rows that go by conditions": [RANGE, "delete where a >= 12 and b < 6", "select a where a >= 10", "delete where c = 0", "count where a < 20"],
     "keys that are not there": ["delete 2", "delete 2", "delete 0"],
     "no rows": ["select b where a >= 15 and a <= 10"],
     "ranges below and from a cut": ["select b where a < 12", "select b where a >= 12", "select b where a < 12", "select b where a <= 12"],

@@ -128,7 +128,7 @@ def outside(outer):
     if not texts(outer["attributes"]) or not outer["attributes"] or type(outer["entries"]) is not list:
         raise NoJson
     schema, rows, limit = schema_of([name.encode() for name in outer["attributes"]]), outer["rows"], outer["limit"]
-    if not whole(outer["format"], 2 if any(kind == b"text" for _, kind in schema) else 1, 2) or not whole(limit, 1, MOST_ROWS) or type(rows) is not list:
+    if not whole(outer["format"], 2 if any(kind == b"text" for _, kind in schema) else 1, 3) or not whole(limit, 1, MOST_ROWS) or type(rows) is not list:
         raise NoJson
     if len(rows) > limit or not all(is_row(schema, row) for row in rows):
         raise NoJson
@@ -136,14 +136,14 @@ def outside(outer):
     return schema
 
 
-def read_entry(schema, line, entry):
+def read_entry(schema, of_format, line, entry):
     """The call of an entry and its reply."""
     fault = bad_line(line, "History")
     if type(entry) is not dict or set(entry) != {"call", "reply", "session"} or type(entry["call"]) is not str:
         raise fault
     call, reply = parse_line(schema, line, entry["call"].encode()), entry["reply"]
-    is_select = call is not None and call[0] not in ("insert", "delete")
-    if call is None or not whole(entry["session"], 1, 1024):
+    is_select = call is not None and call[0] not in ("insert", "delete", "delete where")
+    if call is None or (call[0] == "delete where" and of_format < 3) or not whole(entry["session"], 1, 1024):
         raise fault
     if not (is_select and type(reply) is str and reply in ("void", "open")) and not texts(reply):
         raise fault
@@ -160,7 +160,7 @@ def check(data):
             raise bad_line(0, "History") from None
         if len(outer["entries"]) > 1048576:
             raise Fault("5 limit 1048576")
-        entries = [read_entry(schema, line, entry) for line, entry in enumerate(outer["entries"], 1)]
+        entries = [read_entry(schema, outer["format"], line, entry) for line, entry in enumerate(outer["entries"], 1)]
     except Fault as fault:
         return 2, "", "sideways: refused %s\n" % fault
     store = Store(schema, outer["rows"], outer["limit"])

@@ -99,21 +99,23 @@ def spaced(rng, tokens):
     return line + rng.choice([b"", b"", b" ", b"\t"])
 
 
-def conditions(rng, schema, spread, most):
+def conditions(rng, schema, spread, most, least=0):
     tokens = []
-    for number in range(rng.choice([0, 1, 1, 1, 2, 2, 3, most])):
+    for number in range(rng.choice([least, 1, 1, 1, 2, 2, 3, most])):
         name, kind = rng.choice(schema)
         sign = rng.choice([b"<", b"<=", b"=", b">=", b">"]) if kind != b"text" else b"="
         tokens += [b"where" if number == 0 else b"and", name, sign, quoted(rng, kind, number_of(rng, kind, spread))]
     return tokens
 
 
-def call_for(rng, schema, spread, keys, updates=0.3, most=6):
-    """The tokens of a random call: so great a share of updates, keys up to a number."""
+def call_for(rng, schema, spread, keys, updates=0.3, most=6, many=0.2):
+    """The tokens of a random call: so great a share of updates, and of deletes so great a share by conditions; keys up to a number."""
     if chance(rng, updates):
         if chance(rng, 0.5):
             values = [quoted(rng, kind, number_of(rng, kind, spread)) for _, kind in schema]
             return [b"insert", values[0]] + [token for value in values[1:] for token in (b",", value)]
+        if chance(rng, many):
+            return [b"delete"] + conditions(rng, schema, spread, most, 1)
         return [b"delete", b"%d" % rng.choice([rng.randint(0, keys), rng.randint(1, keys), rng.choice([0, keys + 9, 2**64 - 1])])]
     numbers = [one for one in schema if one[1] != b"text"]
     verb = rng.choice([b"select", b"select", b"count"] + [b"sum", b"min", b"max"] * bool(numbers))
@@ -123,7 +125,7 @@ def call_for(rng, schema, spread, keys, updates=0.3, most=6):
     return [verb] + listed + conditions(rng, schema, spread, most)
 
 
-def script_for(rng, schema, calls, spread=20, keys=20, updates=0.3, divided=0.02):
+def script_for(rng, schema, calls, spread=20, keys=20, updates=0.3, divided=0.02, many=0.2):
     """The lines of a script of so many calls, with comments, empty lines and dividers among them."""
     lines = []
     for _ in range(calls):
@@ -131,5 +133,5 @@ def script_for(rng, schema, calls, spread=20, keys=20, updates=0.3, divided=0.02
             lines.append(rng.choice([b"", b"  \t", b"# a comment", b" \t#", "# caf\u00e9".encode()]))
         if chance(rng, divided):
             lines.append(b"---" + rng.choice([b"", b" ", b"\t "]))
-        lines.append(spaced(rng, call_for(rng, schema, spread, keys, updates)))
+        lines.append(spaced(rng, call_for(rng, schema, spread, keys, updates, many=many)))
     return b"".join(line + rng.choice([b"\n", b"\n", b"\n", b"\r\n"]) for line in lines)

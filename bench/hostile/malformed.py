@@ -13,13 +13,21 @@ from running import Holder, ended, options, wrong
 TABLE = b"a:int,b:int,c:int\n12,7,1\n3,8,0\n12,5,1\n20,2,0\n"
 MIXED = b'price:fix2,"ok:flag",n\r\n+007.5,true,-0\n"-0.25",false,9223372036854775807\r"3","true",-9223372036854775808'
 SCRIPT = (b"count\r\n# of b\n\tselect b,c where a>=10 and a <= 15\n\n--- \ninsert -1, +2, 003\nsum b where c=0\n"
-          b"delete 18446744073709551615\n---\nmin a where b < 9 and b > 2\nmax c")
+          b"delete 18446744073709551615\n---\nmin a where b < 9 and b > 2\nmax c\ndelete where a>3 and b<=7\n")
 CITIES = b'city:text,n\nOslo,1\n"Bergen, N",2\n'
 CITY_SCRIPT = (b"count where city = 'Oslo'\ninsert 'it''s', 4\n---\nselect city, n where city='it''s' and n>1\n"
                b"sum n where city = '' and city = 'x'")
+WHERE_SCRIPT = b"delete where city = 'Oslo'\ncount\ndelete where n >= 2 and city = 'x'"
 # Bytes of a table and what its reading gives, worked out by hand.
 CUT_BY_HAND = {0: "2 record 0 field 0", 6: "2 record 0 field 2", 40: "2 record 4 field 2", 42: "2 record 4 field 3", 43: "2 record 4 field 3",
                7: 0, 31: 2, 44: 4, 45: 4}
+# Lines over that table and what they are refused with, or what they are answered there, worked out by hand.
+LINES_BY_HAND = {b"delete where": "3 line 1 why End", b"delete where a": "3 line 1 why End", b"delete where a = 1 and": "3 line 1 why End",
+                 b"delete where where": "3 line 1 why Word", b"delete where 1": "3 line 1 why Word", b"delete 1 where a = 1": "3 line 1 why Word",
+                 b"delete where a = 1, b = 2": "3 line 1 why Word", b"delete a = 1": "3 line 1 why Value", b"delete Where a = 1": "3 line 1 why Value",
+                 b"delete where a = x": "3 line 1 why Value", b"delete 'where' a = 1": "3 line 1 why Value", b"delete where d = 1": "4 name d",
+                 b"delete where a = 12": "(2 removed)\n", b"delete where a > 12 and b < 9": "(1 removed)\n", b"delete where a > 20": "(0 removed)\n",
+                 b"delete where a = 12\nselect a\ndelete where a=12\ninsert 1, 1, 1": "(2 removed)\n2: 3\n4: 20\n(2 rows)\n(0 removed)\nkey 5\n"}
 
 
 def of_run(name, table, script, cuts=b"", limit=None):
@@ -54,7 +62,7 @@ def around(kind, make, data, pieces):
 
 
 def by_hand():
-    """The table of results that was worked out by hand, held against the reader itself."""
+    """The results that were worked out by hand, held against the reader and the model themselves."""
     for kept, expected in CUT_BY_HAND.items():
         try:
             got = len(load(TABLE[:kept])[1])
@@ -62,6 +70,14 @@ def by_hand():
             got = str(fault)
         if got != expected:
             wrong("the reader, of the table cut after %d bytes" % kept, {}, [], expected, got)
+    for line, expected in LINES_BY_HAND.items():
+        _, out, fault, _ = run(TABLE, line)
+        if out + fault not in (expected, "sideways: refused %s\n" % expected):
+            wrong("the reader, of the line %r" % line, {}, [], expected, out + fault)
+    history = run(TABLE, b"delete where a = 12")[3]
+    first = b'{"call":"delete where a >= 12 and a <= 12","reply":["(2 removed)"],"session":1}'
+    if first not in history or [check(history.replace(b'"format":3', b'"format":%d' % of))[0] for of in range(5)] != [2, 2, 2, 0, 2]:
+        wrong("the reader, of a history of format 3", {}, [], first, history)
 
 
 def random_tables(rng, count):
@@ -144,7 +160,7 @@ def variants_of_history():
             yield of_check("a member more, of %d brackets" % depth, good[:-1] + b',"more":' + nest + b"}")
     numbers = [b"1e0", b"1.0", b"-0", b"-1", b"01", b"+1", b"1E0", b"1e-1", b"0x1", b"9223372036854775807", b"9223372036854775808",
                b"-9223372036854775808", b"-9223372036854775809", b"18446744073709551615", b"18446744073709551616", b"1e999", b"NaN",
-               b"-Infinity", b'"1"', b"true", b"null", b"[1]", b"1.", b".5", b"1e", b"-", b"", b"1 ", b" 1\n", b"1" * 1000, b"0", b"2", b"1024", b"1025",
+               b"-Infinity", b'"1"', b"true", b"null", b"[1]", b"1.", b".5", b"1e", b"-", b"", b"1 ", b" 1\n", b"1" * 1000, b"0", b"2", b"3", b"4", b"1024", b"1025",
                b"1048576", b"1048577"]
     for number in numbers:
         for before, after in ((b'"session":', b"1}"), (b'"format":', b"1,"), (b'"limit":', b"9,"), (b"[[", b"7,"), (b",", b"1]]")):
@@ -158,13 +174,16 @@ def variants_of_history():
     for more in (b'"session":2', b'"session":0', b'"reply":["2"]', b'"reply":"void"', b'"reply":"open"', b'"call":"count where"', b'"more":1', b'"call":7'):
         yield of_check("a member doubled behind: %r" % more, good.replace(entry, entry + b"," + more))
         yield of_check("a member doubled before: %r" % more, good.replace(entry, more + b"," + entry))
-    for more in (b'"limit":0', b'"rows":[]', b'"entries":[]', b'"entries":7', b'"format":2', b'"attributes":["c"]', b'"ROWS":[]'):
+    for more in (b'"limit":0', b'"rows":[]', b'"entries":[]', b'"entries":7', b'"format":2', b'"format":3', b'"attributes":["c"]', b'"ROWS":[]'):
         yield of_check("an outer member doubled behind: %r" % more, good[:-1] + b"," + more + b"}")
         yield of_check("an outer member doubled before: %r" % more, b"{" + more + b"," + good[1:])
-    calls = [b"count where", b"count where d = 1", b"---", b"", b"# count", b"delete 2", b"count\\n", b"count" + b" " * 4092, b"count\\u0009", b"\xc3\xa9"]
+    calls = [b"count where", b"count where d = 1", b"---", b"", b"# count", b"delete 2", b"count\\n", b"count" + b" " * 4092, b"count\\u0009", b"\xc3\xa9",
+             b"delete where a = 7", b"delete where  b=true and a<7", b"delete where", b"delete where d = 1", b"delete where a = 7 b = 1", b" delete\\twhere a>=0"]
     for call in calls:
-        for reply in (b'["1"]', b'"void"', b'"open"', b'["no such key"]', b'"other"'):
-            yield of_check("call %r" % call, good.replace(b'"count"', b'"' + call + b'"').replace(b'["1"]', reply))
+        for reply in (b'["1"]', b'"void"', b'"open"', b'["no such key"]', b'["(1 removed)"]', b'["(0 removed)"]', b'"other"'):
+            for of_format in (b"1", b"2", b"3"):
+                data = good.replace(b'"count"', b'"' + call + b'"').replace(b'["1"]', reply).replace(b'"format":1', b'"format":' + of_format)
+                yield of_check("call %r under format %s" % (call, of_format.decode()), data)
     yield of_check("a byte order mark", b"\xef\xbb\xbf" + good)
     yield of_check("blanks", good.replace(b",", b" ,\r\n\t ").replace(b":[", b" : [ ") + b"\n \n")
     yield of_check("two texts", good + good)
@@ -184,6 +203,8 @@ def main():
                 around("the script over texts", lambda name, data: of_run(name, CITIES, data), CITY_SCRIPT, [b"'", b"''", b"\xff", b" "]))
     holder.hold("a history of texts around every byte",
                 around("the history of texts", of_check, run(CITIES, CITY_SCRIPT)[3], [b'"', b"'", b"\\", b"\\u00e9", b"\\u0007"]))
+    holder.hold("a history of deletes by conditions around every byte",
+                around("the history of deletes", of_check, run(CITIES, WHERE_SCRIPT)[3], [b'"', b"'", b"0", b"3", b" "]))
     holder.hold("lines by their length", lines_by_length())
     holder.hold("dividers", dividers())
     history = run(TABLE, b"count")[3]

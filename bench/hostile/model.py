@@ -32,7 +32,7 @@ def show_call(schema, call):
         for bound, signs in zip(bounds, ((">=", ">"), ("<", "<="))):
             if bound is not None:
                 terms.append("%s %s %s" % (name, signs[bound[1]], show(kind, bound[0])))
-    head = " ".join([verb] + [", ".join(schema[attr][0].decode() for attr in call[1])]).strip()
+    head = " ".join([verb.split()[0]] + [", ".join(schema[attr][0].decode() for attr in call[1])]).strip()
     return head + (" where " + " and ".join(terms) if terms else "")
 
 
@@ -64,6 +64,10 @@ class Store:
         if verb == "delete":
             return ["no such key" if self.rows.pop(call[1], None) is None else "removed"]
         rows = self.chosen(call[2])
+        if verb == "delete where":
+            for key, _ in rows:
+                del self.rows[key]
+            return ["(%d removed)" % len(rows)]
         if verb == "count":
             return [str(len(rows))]
         kinds = [schema[attr][1] for attr in call[1]]
@@ -83,9 +87,10 @@ def entry_of(schema, call, lines, session):
 def history_text(schema, rows, limit, entries):
     """The bytes of a history file."""
     is_text = any(kind == b"text" for _, kind in schema)
+    is_where = any(entry["call"].startswith("delete where ") for entry in entries)
     shown = [[cell.text if isinstance(cell, Coded) else cell for cell in row] for row in rows]
     outer = {"attributes": [(name + b":" + kind).decode() for name, kind in schema], "entries": entries,
-             "format": 2 if is_text else 1, "limit": limit, "rows": shown}
+             "format": 3 if is_where else 2 if is_text else 1, "limit": limit, "rows": shown}
     return json.dumps(outer, separators=(",", ":"), sort_keys=True, ensure_ascii=False).encode()
 
 

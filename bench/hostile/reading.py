@@ -145,8 +145,9 @@ def load(data):
     return schema, rows
 
 
-# Calls: ("select", names, conditions), ("count", [], conditions), ("sum", [name], conditions) and so on, ("insert", cells)
-# and ("delete", key); names are numbers of attributes, and conditions a dictionary of attributes to their bounds.
+# Calls: ("select", names, conditions), ("count", [], conditions), ("sum", [name], conditions) and so on, ("insert", cells),
+# ("delete", key) and ("delete where", [], conditions); names are numbers of attributes, and conditions a dictionary of attributes
+# to their bounds.
 
 class Line:
     """The tokens of a line, from the left."""
@@ -249,6 +250,8 @@ class Line:
                 self.wanted(b",")
                 cells.append(self.value(attr))
             made = (verb, cells)
+        elif verb == "delete" and self.tokens[:1] == [b"where"]:
+            return "delete where", [], self.conditions()
         elif verb == "delete":
             word, is_quoted = self.word_or_text()
             if is_quoted or not re.fullmatch(rb"[0-9]{1,20}", word) or int(word) >= 2**64:

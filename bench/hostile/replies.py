@@ -39,7 +39,7 @@ def tampered(rng, data):
     lines = outer["entries"][entry]["reply"]
     at = rng.randrange(len(lines))
     line = lines[at]
-    new = rng.choice([line + " ", line + "0", "9" + line, line[:-1], "", "none", "(0 rows)", "key 1", "removed", "full", "0"])
+    new = rng.choice([line + " ", line + "0", "9" + line, line[:-1], "", "none", "(0 rows)", "key 1", "removed", "full", "0", "(0 removed)", "(1 removed)"])
     if chance(rng, 0.2):
         lines[at:at + 1] = rng.choice([[], [line, line]])
     elif new != line:
@@ -125,7 +125,8 @@ def random_runs(rng, count, calls, most_rows, spreads, with_threads=False):
         rows = rng.choice([0, 1, most_rows, rng.randrange(most_rows + 1)])
         table = separated(rng, table_for(rng, schema, rows, spread))
         updates = rng.choice([0, 0.1, 0.3, 0.6])
-        script = script_for(rng, schema, calls, spread, rows + calls // 10, updates, 0.02 if with_threads else rng.choice([0, 0.01]))
+        divided, many = 0.02 if with_threads else rng.choice([0, 0.01]), rng.choice([0, 0, 0.05, 0.3])
+        script = script_for(rng, schema, calls, spread, rows + calls // 10, updates, divided, many)
         words, limit = settings_for(rng, schema, rows, spread)
         look = (as_some_order if with_threads else as_the_model)(table, script, limit)
         kind = "with threads" if with_threads else "in turn"

@@ -21,6 +21,9 @@ VIEWED = {
     "two viewers, and rows that go": [
         "viewer", "viewer", "insert 1, 9, 0", "learn", "view count where a < 10", "delete 2", "learn", "view count where a < 10",
         "delete 2", "view count", "delete 5", "learn", "view count", "insert 1, 9, 0", "learn", "view count"],
+    "a viewer, and rows that go by conditions": [
+        "viewer", "delete where a = 12", "learn", "view count", "view sum a", "insert 12, 9, 0", "delete where a >= 12 and b < 6", "learn",
+        "view count", "delete where a = 12", "view sum a", "insert 1, 9, 0", "learn", "view count"],
     "changes before the first viewer": [
         "insert 1, 9, 0", "delete 2", "viewer", "view count where a < 10", "insert 2, 9, 0", "learn", "view count", "insert 3, 9, 0", "view count"],
     "selects beside viewers": [
@@ -38,6 +41,12 @@ ASKED = {
     "sum a": lambda rows: str(sum(cells[0] for cells in rows.values())),
     "select b where a < 10": lambda rows: listed(rows, lambda a: a < 10),
     "select b where a >= 10 and a <= 15": lambda rows: listed(rows, lambda a: 10 <= a <= 15),
+}
+
+# Which rows go by conditions, by their cells.
+GO = {
+    "where a = 12": lambda a, b, c: a == 12,
+    "where a >= 12 and b < 6": lambda a, b, c: a >= 12 and b < 6,
 }
 
 # Boxes, cells and cuts.
@@ -65,6 +74,10 @@ def replies(lines, late=None):
         elif word == "insert":
             key += 1
             rows[key], reply = tuple(int(cell) for cell in rest.split(", ")), "key %d" % key
+        elif rest in GO:
+            gone = [key for key, cells in rows.items() if GO[rest](*cells)]
+            rows = {key: cells for key, cells in rows.items() if key not in gone}
+            reply = "(%d removed)" % len(gone)
         elif word == "delete":
             reply = "removed" if rows.pop(int(rest), None) else "no such key"
         elif word != "learn":
