@@ -19,11 +19,11 @@ use sw_spine::{Entry, Record, Spine, State};
 pub(crate) type Text = Counted<Vec<u8>>;
 
 /// What is done with the spine.
-pub(crate) enum Step {
+pub(crate) enum Step<'t> {
     /// Session 1 makes the change of this line.
-    Change(&'static str),
+    Change(&'t str),
     /// Session 2 asks for head 0, and session 1 makes a change before the answer.
-    Around(&'static str, &'static str),
+    Around(&'t str, &'t str),
 }
 
 /// A row of a key and three cells.
@@ -92,7 +92,7 @@ pub(crate) fn opened(alloc: Global, rows: &[Row], limit: u64) -> Result<Spine, R
 
 /// The call of a line.
 #[tactic(auto, using(crate::proofs::Benches::fits_below))]
-fn call_of(alloc: Global, schema: &Schema, line: &str) -> Result<Call, Refusal>
+pub(crate) fn call_of(alloc: Global, schema: &Schema, line: &str) -> Result<Call, Refusal>
     ensures { IfOk result (CallsBelow (length schema.now)) }
 {
     match parse_known(alloc, schema, 1, line) {
@@ -103,12 +103,13 @@ fn call_of(alloc: Global, schema: &Schema, line: &str) -> Result<Call, Refusal>
 }
 
 /// Commits a change as session 1.
-fn committed(spine: &mut Spine, rows: &[Row], call: Call) -> Result<Reply, Refusal>
+pub(crate) fn committed(spine: &mut Spine, rows: &[Row], call: Call) -> Result<Reply, Refusal>
     requires rest { IsAtRest spine.old rows.now }
+    requires asks { CallsBelow 3 call }
     ensures { OnOk result (IsAtRest spine.new rows.now) }
 {
     match &call {
-        Call::Insert(_) | Call::Delete(_) => spine.commit(1, call),
+        Call::Insert(_) | Call::Delete(_) | Call::DeleteWhere(_) => spine.commit(1, call),
         Call::Select(_) => Err(Refusal::Input),
     }
 }
@@ -159,6 +160,7 @@ fn begun(
 fn finished(spine: &mut Spine, rows: &[Row], reply: Reply, between: Call) -> Result<(), Refusal>
     requires asked { IsAsked reply spine.old rows.now }
     requires changes { is_select between ≡ false }
+    requires asks { CallsBelow 3 between }
     ensures { OnOk result (IsAtRest spine.new rows.now) }
 {
     match spine.commit(1, between) {
@@ -180,10 +182,11 @@ fn ask(
 ) -> Result<(), Refusal>
     requires rest { IsAtRest spine.old rows.old.items }
     requires asks { CallsBelow 3 asked.now }
+    requires changes { CallsBelow 3 between }
     ensures { OnOk result (IsAtRest spine.new rows.new.items) }
 {
     match (asked, &between) {
-        (Call::Select(query), Call::Insert(_) | Call::Delete(_)) => {
+        (Call::Select(query), Call::Insert(_) | Call::Delete(_) | Call::DeleteWhere(_)) => {
             let reply = begun(alloc, spine, rows, query)?;
             finished(spine, rows.as_slice(), reply, between)
         }
@@ -192,11 +195,11 @@ fn ask(
 }
 
 /// Does what a step says.
-fn make(
+pub(crate) fn make(
     alloc: Global,
     spine: &mut Spine,
     rows: &mut Vec<Row>,
-    step: &Step,
+    step: &Step<'_>,
     text: &mut Text,
 ) -> Result<(), Refusal>
     requires rest { IsAtRest spine.old rows.old.items }
@@ -217,7 +220,7 @@ pub(crate) fn make_all(
     alloc: Global,
     spine: &mut Spine,
     rows: &mut Vec<Row>,
-    steps: &[Step],
+    steps: &[Step<'_>],
     text: &mut Text,
 ) -> Result<(), Refusal>
     requires rest { IsAtRest spine.old rows.old.items }

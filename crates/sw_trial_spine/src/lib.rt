@@ -4,4 +4,6 @@
 #[cfg(test)]
 mod bench;
 #[cfg(test)]
+mod random;
+#[cfg(test)]
 mod tests;

@@ -3,7 +3,9 @@
 ghost use Rattle.sw_rows.specs.Scan.{AsksBelow};
 ghost use Rattle.sw_trial_spine.specs.Benches.{IsAtRest};
 
-use crate::bench::{Step, Text, four_rows, give_up, make_all, opened, schema, tell};
+use crate::bench::{
+    Step, Text, call_of, committed, four_rows, give_up, make_all, opened, schema, tell,
+};
 use std::alloc::{AllocError, Global};
 use sw_rows::{Call, Conds, Counted, MOST_ROWS, PackedRows, Query, Refusal, Row, Update, Want};
 use sw_spine::{
@@ -12,7 +14,7 @@ use sw_spine::{
 };
 
 /// A table of so many rows at most, what is done, and what is told of it.
-type Case = (u64, &'static [Step], &'static str);
+type Case = (u64, &'static [Step<'static>], &'static str);
 
 const CASES: &[Case] = &[
     // An inserted row is seen; a key that is not there changes nothing.
@@ -61,10 +63,49 @@ const CASES: &[Case] = &[
         ],
         "6 updates, at most 1048576; 4\nkey 5\n5\nremoved\n4 rows of 1048576 with 3 attributes\n",
     ),
+    // All rows that meet conditions go in one entry, as many updates as rows; then there are none.
+    (
+        1048576,
+        &[
+            Step::Change("delete where a = 12"),
+            Step::Around("select a", "delete where a = 12"),
+            Step::Change("insert 1,1,1"),
+        ],
+        "(2 removed)\nkey 5\n7 updates, at most 1048576; (2 removed)\n2: 3\n4: 20\n(2 rows)\n(0 removed)\nkey 5\n4 rows of 1048576 with 3 attributes\n",
+    ),
+    // Such a delete comes after a select that began before it, takes rows that were inserted, and passes over those that are gone.
+    (
+        1048576,
+        &[
+            Step::Around("count where a >= 12", "insert 12,9,0"),
+            Step::Change("delete 3"),
+            Step::Around("count where a >= 12", "delete where a <= 12 and b > 5"),
+            Step::Around("select b", "delete where b <= 2"),
+            Step::Change("delete 5"),
+            Step::Around("count", "delete where a > 12"),
+        ],
+        "removed\nno such key\n10 updates, at most 1048576; 3\nkey 5\nremoved\n3\n(3 removed)\n4: 2\n(1 rows)\n(1 removed)\nno such key\n0\n(0 removed)\n4 rows of 1048576 with 3 attributes\n",
+    ),
+    // Rows that are gone count for the limit, and their keys are not given again.
+    (
+        5,
+        &[
+            Step::Change("delete where a >= 0"),
+            Step::Change("insert 1,1,1"),
+            Step::Change("insert 2,2,2"),
+            Step::Around("select a", "delete where c = 1"),
+        ],
+        "(4 removed)\nkey 5\nfull\n10 updates, at most 5; (4 removed)\nkey 5\nfull\n5: 1\n(1 rows)\n(1 removed)\n4 rows of 5 with 3 attributes\n",
+    ),
 ];
 
 /// Tells a case.
-fn tell_case(alloc: Global, limit: u64, steps: &[Step], text: &mut Text) -> Result<(), Refusal> {
+fn tell_case(
+    alloc: Global,
+    limit: u64,
+    steps: &[Step<'_>],
+    text: &mut Text,
+) -> Result<(), Refusal> {
     if limit < 4 || limit > MOST_ROWS {
         return Err(Refusal::Input);
     }
@@ -104,6 +145,25 @@ fn give_up_twice(alloc: Global, spine: &mut Spine, rows: &[Row]) -> Result<bool,
     let first = give_up(spine, rows, all_counted(alloc), &mut inbox)?;
     let second = give_up(spine, rows, all_counted(alloc), &mut inbox)?;
     Ok(first && second && matches!(inbox.as_slice(), [Update::Remove(2)]))
+}
+
+/// The rows whose a is 12 are deleted at once, and then session 2 gives up a select for head 7. It is said whether the head
+/// was handed their removals, in the order of their keys.
+fn take_removals(alloc: Global, spine: &mut Spine, rows: &[Row]) -> Result<bool, Refusal>
+    requires rest { IsAtRest spine.old rows.now }
+{
+    let call = call_of(alloc, spine.schema(), "delete where a = 12")?;
+    let _ = committed(spine, rows, call)?;
+    let mut inbox = Vec::new(alloc);
+    let is_given_up = give_up(spine, rows, all_counted(alloc), &mut inbox)?;
+    Ok(is_given_up && matches!(inbox.as_slice(), [Update::Remove(1), Update::Remove(3)]))
+}
+
+/// Whether head 7 takes removals that were made at once in the order of their keys.
+fn takes_in_order(alloc: Global) -> Result<bool, Refusal> {
+    let rows = four_rows(alloc)?;
+    let mut spine = opened(alloc, rows.as_slice(), 1048576)?;
+    take_removals(alloc, &mut spine, rows.as_slice())
 }
 
 /// Says that all updates are published. It is said whether four were before, and five are then.
@@ -165,6 +225,7 @@ fn lines_kept(alloc: Global) -> Result<usize, AllocError> {
 fn limits_hold_and_heads_take_once(rt: HostRuntime) -> Result<(), Refusal> {
     let alloc = rt.alloc();
     assert!(rt; takes_once(alloc)?);
+    assert!(rt; takes_in_order(alloc)?);
     assert!(rt; are_limited(alloc)?);
     assert!(rt; are_refused(alloc)?);
     assert!(rt; matches!(lines_kept(alloc), Ok(1)));

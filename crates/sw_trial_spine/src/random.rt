@@ -1,0 +1,137 @@
+//! Random visits, whose record is checked, which makes its calls again on another plain table.
+
+ghost use Rattle.std.specs.Prelude.{OnOk};
+ghost use Rattle.sw_trial_spine.specs.Benches.{IsAtRest};
+
+use crate::bench::{Step, Text, four_rows, make, opened};
+use std::alloc::{AllocError, Global};
+use sw_rows::{Counted, Refusal, Row};
+use sw_spine::Spine;
+
+/// How many visits of each kind there are.
+const TURNS: usize = 200;
+
+/// Seeds, and limits of rows.
+const TRIALS: &[(u64, u64)] = &[
+    (7_000_001, 1_048_576),
+    (7_000_003, 120),
+    (7_000_005, 1_048_576),
+];
+
+const SIGNS: [&str; 5] = ["<", "<=", "=", ">=", ">"];
+
+/// A fixed sequence of numbers, and the lines of calls that it makes.
+#[derive(Drop)]
+struct Dice {
+    state: u64,
+}
+
+impl Dice {
+    /// The next number below a limit, or 0.
+    fn roll(&mut self, below: u64) -> u64 {
+        let mut x = self.state;
+        x ^= x << 13;
+        x ^= x >> 7;
+        x ^= x << 17;
+        self.state = x;
+        (x >> 32) % below.max(1)
+    }
+
+    /// A condition on an attribute, after a word.
+    fn push_cond(&mut self, word: &str, name: &str, line: &mut String) -> Result<(), AllocError> {
+        let sign = SIGNS[(self.roll(5) % 5) as usize];
+        write!(line, " {word} {name} {sign} {}", self.roll(12))
+    }
+
+    /// Two conditions.
+    fn push_conds(&mut self, line: &mut String) -> Result<(), AllocError> {
+        self.push_cond("where", "b", line)?;
+        self.push_cond("and", "a", line)
+    }
+
+    /// A row that comes.
+    fn push_row(&mut self, line: &mut String) -> Result<(), AllocError> {
+        let (a, b, c) = (self.roll(12), self.roll(12), self.roll(2));
+        write!(line, "insert {a}, {b}, {c}")
+    }
+
+    /// A change: a row comes, one goes, or all go that meet a condition or two.
+    fn push_change(&mut self, line: &mut String) -> Result<(), AllocError> {
+        match self.roll(12) {
+            0 => {
+                line.push_str("delete")?;
+                self.push_cond("where", "a", line)
+            }
+            1 | 2 => {
+                line.push_str("delete")?;
+                self.push_conds(line)
+            }
+            3 | 4 => write!(line, "delete {}", self.roll(60)),
+            _ => self.push_row(line),
+        }
+    }
+}
+
+/// The line of a change.
+fn change_of(alloc: Global, dice: &mut Dice) -> Result<String, Refusal> {
+    let mut line = String::new(alloc);
+    match dice.push_change(&mut line) {
+        Ok(()) => Ok(line),
+        Err(_) => Err(Refusal::NoMemory),
+    }
+}
+
+/// A change, and a select with a change before its answer.
+fn visit(
+    alloc: Global,
+    spine: &mut Spine,
+    rows: &mut Vec<Row>,
+    dice: &mut Dice,
+    text: &mut Text,
+) -> Result<(), Refusal>
+    requires rest { IsAtRest spine.old rows.old.items }
+    ensures { OnOk result (IsAtRest spine.new rows.new.items) }
+{
+    let line = change_of(alloc, dice)?;
+    make(alloc, spine, rows, &Step::Change(line.as_str()), text)?;
+    let line = change_of(alloc, dice)?;
+    let step = Step::Around("select a, b, c where a >= 3", line.as_str());
+    make(alloc, spine, rows, &step, text)
+}
+
+/// Such visits one after the other.
+fn visit_all(
+    alloc: Global,
+    spine: &mut Spine,
+    rows: &mut Vec<Row>,
+    dice: &mut Dice,
+    text: &mut Text,
+) -> Result<(), Refusal>
+    requires rest { IsAtRest spine.old rows.old.items }
+{
+    for _turn in 0..TURNS {
+        visit(alloc, spine, rows, dice, text)?;
+    }
+    Ok(())
+}
+
+/// Whether the record of random visits, of so many rows at most, is found legal.
+fn is_legal(alloc: Global, seed: u64, limit: u64) -> Result<bool, Refusal> {
+    if limit < 4 || limit > 1048576 {
+        return Err(Refusal::Input);
+    }
+    let mut rows = four_rows(alloc)?;
+    let mut spine = opened(alloc, rows.as_slice(), limit)?;
+    let mut text = Counted::new(Vec::new(alloc));
+    let mut dice = Dice { state: seed | 1 };
+    visit_all(alloc, &mut spine, &mut rows, &mut dice, &mut text)?;
+    Ok(spine.into_record().check().is_ok())
+}
+
+#[test]
+fn random_visits_are_legal(rt: HostRuntime) -> Result<(), Refusal> {
+    for (seed, limit) in TRIALS {
+        assert!(rt; is_legal(rt.alloc(), *seed, *limit)?);
+    }
+    Ok(())
+}
