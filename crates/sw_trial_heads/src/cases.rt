@@ -416,6 +416,62 @@ const REMOVALS_ARE_COUNTED_BY_AREA: &[(Step<'static>, &str)] = &[
     (Step::At(1, View::Restarts), "0"),
 ];
 
+/// 70 rows that go by one call.
+const SEVENTY_ROWS_OF_ONE_CALL: &[(Step<'static>, &str)] = &[
+    (Step::Call("count where a <= 50"), "50\n"),
+    (Step::Call("delete where a <= 70"), "(70 removed)\n"),
+    (Step::At(0, View::Sizes), "3 boxes, 2 entries"),
+    (Step::Counts, "1 begins, 2 steps, 0 tails"),
+    (Step::Call("count"), "30\n"),
+    (Step::At(0, View::Sizes), "3 boxes, 1 entries"),
+    (Step::At(0, View::Restarts), "1"),
+    // the key map of the load alone
+    (Step::Counts, "1 begins, 1 steps, 0 tails"),
+    (Step::Used, "64"),
+    (Step::Call("delete where a <= 70"), "(0 removed)\n"),
+    (Step::Call("select a where a < 73"), "71: 71\n72: 72\n(2 rows)\n"),
+];
+
+/// 66 rows that go by two calls, of which one came between them.
+const SIXTY_SIX_ROWS_OF_TWO_CALLS: &[(Step<'static>, &str)] = &[
+    (Step::Call("count where a <= 50"), "50\n"),
+    (Step::Call("delete where a <= 64"), "(64 removed)\n"),
+    (Step::Call("insert 1"), "key 101\n"),
+    (Step::Call("delete where a <= 65"), "(2 removed)\n"),
+    (Step::Call("insert 2"), "key 102\n"),
+    (Step::Merge("count"), ""),
+    (Step::At(0, View::Sizes), "3 boxes, 1 entries"),
+    (Step::At(0, View::Restarts), "1"),
+    (Step::Call("select a where a < 67"), "66: 66\n102: 2\n(2 rows)\n"),
+];
+
+/// 64 rows that go by one call, each of which is logged.
+const SIXTY_FOUR_ROWS_OF_ONE_CALL: &[(Step<'static>, &str)] = &[
+    (Step::Call("count where a <= 50"), "50\n"),
+    (Step::Call("delete where a > 36"), "(64 removed)\n"),
+    (Step::Call("count"), "36\n"),
+    (Step::At(0, View::Sizes), "3 boxes, 66 entries"),
+    (Step::At(0, View::Restarts), "0"),
+];
+
+/// 70 rows that go by one call, of which 35 are in each of two areas.
+const ROWS_OF_ONE_CALL_IN_TWO_AREAS: &[(Step<'static>, &str)] = &[
+    (Step::Call("count where a <= 50"), "50\n"),
+    (Step::Call("delete where a <= 70"), "(70 removed)\n"),
+    (Step::Call("count"), "30\n"),
+    (Step::At(0, View::Sizes), "3 boxes, 36 entries"),
+    (Step::At(1, View::Sizes), "3 boxes, 37 entries"),
+    (Step::At(0, View::Restarts), "0"),
+    (Step::At(1, View::Restarts), "0"),
+    // then 70 that came to one of them, which begins anew
+    (Step::Calls(70, "insert 36"), "key 170\n"),
+    (Step::Call("delete where a >= 36 and a <= 36"), "(70 removed)\n"),
+    (Step::Call("count where a >= 36"), "30\n"),
+    (Step::At(0, View::Restarts), "0"),
+    (Step::At(1, View::Restarts), "1"),
+    (Step::At(1, View::Sizes), "3 boxes, 1 entries"),
+];
+
 /// Removals of many of 100 rows whose a is the key: names, cuts, how many boxes there are, and steps.
 const MANY_REMOVALS: &[(&str, &[i64], usize, &[(Step<'static>, &str)])] = &[
     (
@@ -436,6 +492,30 @@ const MANY_REMOVALS: &[(&str, &[i64], usize, &[(Step<'static>, &str)])] = &[
         &[36],
         6,
         REMOVALS_ARE_COUNTED_BY_AREA,
+    ),
+    (
+        "seventy_rows_of_one_call",
+        &[],
+        3,
+        SEVENTY_ROWS_OF_ONE_CALL,
+    ),
+    (
+        "sixty_six_rows_of_two_calls",
+        &[],
+        3,
+        SIXTY_SIX_ROWS_OF_TWO_CALLS,
+    ),
+    (
+        "sixty_four_rows_of_one_call",
+        &[],
+        3,
+        SIXTY_FOUR_ROWS_OF_ONE_CALL,
+    ),
+    (
+        "rows_of_one_call_in_two_areas",
+        &[36],
+        6,
+        ROWS_OF_ONE_CALL_IN_TWO_AREAS,
     ),
 ];
 

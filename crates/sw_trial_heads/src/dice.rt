@@ -91,6 +91,17 @@ impl Dice {
         }
     }
 
+    /// The deletion of all rows that meet a condition, and rarely others.
+    pub(crate) fn push_deletion(&mut self, line: &mut String) -> Result<(), AllocError> {
+        line.push_str("delete where ")?;
+        self.push_cond(self.name(), line)?;
+        if self.is_one_in(3) {
+            line.push_str(" and ")?;
+            self.push_cond(self.name(), line)?;
+        }
+        Ok(())
+    }
+
     /// What is wanted.
     fn push_want(&mut self, line: &mut String) -> Result<(), AllocError> {
         let name = self.name();

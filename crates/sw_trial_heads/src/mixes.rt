@@ -22,12 +22,13 @@ enum Scanned {
     JustWhereSomeLack,
 }
 
-/// What a mix is made of: how many rows come and how many go among ten calls, how many rows there may be at first,
-/// whether boxes come and go, and how many calls there are.
+/// What a mix is made of: how many rows come and how many go among ten calls, in how many of them all rows go that meet
+/// conditions, how many rows there may be at first, whether boxes come and go, and how many calls there are.
 #[derive(Clone, Copy)]
 struct Recipe {
     come: u32,
     go: u32,
+    many_go: u32,
     rows: u32,
     boxes_go: bool,
     calls: u64,
@@ -38,6 +39,7 @@ struct Recipe {
 const QUERIES: Recipe = Recipe {
     come: 0,
     go: 0,
+    many_go: 0,
     rows: 120,
     boxes_go: false,
     calls: 150,
@@ -48,6 +50,7 @@ const QUERIES: Recipe = Recipe {
 const MORE_COME: Recipe = Recipe {
     come: 3,
     go: 2,
+    many_go: 0,
     rows: 80,
     boxes_go: true,
     calls: 1000,
@@ -58,9 +61,21 @@ const MORE_COME: Recipe = Recipe {
 const ROWS_COME: Recipe = Recipe {
     come: 5,
     go: 0,
+    many_go: 0,
     rows: 60,
     boxes_go: false,
     calls: 400,
+    scanned: Scanned::Any,
+};
+
+/// All rows go that meet conditions, in one of ten calls, of many rows at first.
+const MANY_GO: Recipe = Recipe {
+    come: 3,
+    go: 1,
+    many_go: 1,
+    rows: 600,
+    boxes_go: true,
+    calls: 60,
     scanned: Scanned::Any,
 };
 
@@ -198,6 +213,7 @@ const OF_FULL_TAPES: &[Group<'static>] = &[Group {
     recipe: Recipe {
         come: 4,
         go: 4,
+        many_go: 0,
         rows: 80,
         boxes_go: false,
         calls: 12_000,
@@ -208,6 +224,34 @@ const OF_FULL_TAPES: &[Group<'static>] = &[Group {
     capacities: &[1 << 20],
     boxes: &[1, 2, 6],
 }];
+
+/// Heads of which many rows go at once: more than are merged one by one, and fewer.
+const OF_MANY_THAT_GO: &[Group<'static>] = &[
+    Group {
+        seed: 41,
+        recipe: MANY_GO,
+        cuts: 0,
+        troubles: NO_TROUBLE,
+        capacities: CAPACITIES,
+        boxes: &[0, 1, 3, 6],
+    },
+    Group {
+        seed: 42,
+        recipe: MANY_GO,
+        cuts: 3,
+        troubles: REFUSING,
+        capacities: CAPACITIES,
+        boxes: &[12],
+    },
+    Group {
+        seed: 43,
+        recipe: MANY_GO,
+        cuts: 15,
+        troubles: GROWING,
+        capacities: &[448, 4096],
+        boxes: &[5, 40],
+    },
+];
 
 /// A mix that is made: its recipe, its dice, up to how many cuts there are, and how many areas were scanned.
 #[derive(Drop)]
@@ -240,6 +284,8 @@ fn push_call<M: CrackerMap>(
         mix.dice.push_row(line)
     } else if kind - mix.recipe.come < mix.recipe.go {
         write!(line, "delete {}", some_key(trial, &mut mix.dice))
+    } else if kind - mix.recipe.come - mix.recipe.go < mix.recipe.many_go {
+        mix.dice.push_deletion(line)
     } else {
         mix.dice.push_query(head, line)
     }
@@ -422,6 +468,14 @@ fn refused_steps_and_begins_leave_the_replies(rt: HostRuntime) -> Result<(), Fai
 fn tapes_that_fill_again_and_again_leave_the_replies(rt: HostRuntime) -> Result<(), Fail> {
     let mut text = String::new(rt.alloc());
     mix_all(&rt, rt.alloc(), OF_FULL_TAPES, &mut text)?;
+    assert_eq!(rt; text.as_str(), "");
+    Ok(())
+}
+
+#[test]
+fn many_rows_that_go_leave_the_replies(rt: HostRuntime) -> Result<(), Fail> {
+    let mut text = String::new(rt.alloc());
+    mix_all(&rt, rt.alloc(), OF_MANY_THAT_GO, &mut text)?;
     assert_eq!(rt; text.as_str(), "");
     Ok(())
 }

@@ -6,7 +6,7 @@ use std::test::Fail;
 use std::thread::Threads;
 use sw_lang::{parse_known, write_reply};
 use sw_map::CrackerMap;
-use sw_rows::{Call, Counted, Refusal, Reply, Row, Schema, answer, has_key};
+use sw_rows::{Call, Cond, Counted, Refusal, Reply, Row, Schema, answer, has_key, is_within};
 use sw_trial_areas::numbered;
 
 /// What a head is opened with.
@@ -80,6 +80,53 @@ fn remove<M: CrackerMap>(trial: &mut Trial<M>, key: u64) -> Result<(bool, bool),
     Ok((gone, plain))
 }
 
+/// Whether a row meets conditions.
+fn meets(row: &Row, conds: &[Cond]) -> bool {
+    for cond in conds {
+        match row.cells.get(cond.attr) {
+            Some(cell) if is_within(cond.lower, cond.upper, *cell) => {}
+            _ => return false,
+        }
+    }
+    true
+}
+
+/// The keys of the rows of the plain list that meet conditions.
+fn met<M: CrackerMap>(
+    alloc: Global,
+    trial: &Trial<M>,
+    conds: &[Cond],
+) -> Result<Vec<u64>, Refusal> {
+    let mut keys = Vec::new(alloc);
+    for row in &trial.rows {
+        if meets(row, conds) && keys.push(row.key).is_err() {
+            return Err(Refusal::NoMemory);
+        }
+    }
+    Ok(keys)
+}
+
+/// Removes the rows of keys one after another, and tells how many the head had.
+fn remove_each<M: CrackerMap>(trial: &mut Trial<M>, keys: &[u64]) -> Result<u64, Refusal> {
+    let mut had: u64 = 0;
+    for key in keys {
+        let (gone, _) = remove(trial, *key)?;
+        had = had.wrapping_add(u64::from(gone));
+    }
+    Ok(had)
+}
+
+/// Removes all rows that meet conditions, and tells how many the head had, and how many the plain list.
+fn remove_where<M: CrackerMap>(
+    alloc: Global,
+    trial: &mut Trial<M>,
+    conds: &[Cond],
+) -> Result<(u64, u64), Refusal> {
+    let keys = met(alloc, trial, conds)?;
+    let had = remove_each(trial, keys.as_slice())?;
+    Ok((had, keys.len() as u64))
+}
+
 /// The reply to a removal.
 fn gone(is_gone: bool) -> Reply {
     if is_gone {
@@ -109,6 +156,10 @@ pub(crate) fn replies<R: Threads + Sync, M: CrackerMap>(
         Call::Delete(key) => {
             let (has, had) = remove(trial, *key)?;
             Ok((gone(has), gone(had)))
+        }
+        Call::DeleteWhere(conds) => {
+            let (has, had) = remove_where(alloc, trial, conds.as_slice())?;
+            Ok((Reply::RemovedMany(has), Reply::RemovedMany(had)))
         }
     }
 }

@@ -107,6 +107,20 @@ const TOLD: &[Told<'static>] = &[
         ABC,
         &FOUR_ROWS,
         &[
+            RANGE,
+            ("delete where a = 12", "(2 removed)\n"),
+            ("select a", "2: 3\n4: 20\n(2 rows)\n"),
+            ("delete where a = 12", "(0 removed)\n"),
+            ("insert 1, 1, 1", "key 5\n"),
+            ("delete where b > 2 and c = 0", "(1 removed)\n"),
+            ("select c where a < 20", "5: 1\n(1 rows)\n"),
+            ("count", "2\n"),
+        ],
+    ),
+    (
+        ABC,
+        &FOUR_ROWS,
+        &[
             ("select b where a >= 15 and a <= 10", "(0 rows)\n"),
             (
                 "count where a >= -9223372036854775808 and a <= 9223372036854775807",
