@@ -1,4 +1,4 @@
-//! Runs of scripts on an engine, and what its record tells.
+//! The table and the scripts of trials, and maps that are made blank.
 
 ghost use Rattle.std.specs.Prelude.{◌≡◌, ◌≤◌, true, length, All, IfOk, IfSome};
 ghost use Rattle.sw_rows.specs.declared.table.TheConstants.{MOST_ROWS};
@@ -6,11 +6,10 @@ ghost use Rattle.sw_map.specs.Held.{blank};
 ghost use Rattle.sw_spine.specs.Table.{is_numbered};
 ghost use Rattle.sw_spine.specs.History.{CallsBelow};
 
-use std::alloc::{AllocError, Global};
+use std::alloc::Global;
 use sw_lang::parse_known;
 use sw_map::{CrackerMap, push_blank};
-use sw_rows::{Call, PackedRows, Refusal, Reply, ReplyRows, Row, Schema};
-use sw_spine::{Record, State};
+use sw_rows::{Call, PackedRows, Refusal, Row, Schema};
 
 /// The rows of a table, its cuts, and the limit of rows.
 #[derive(Clone, Copy)]
@@ -19,6 +18,23 @@ pub(crate) struct Trial<'a> {
     pub cuts: &'a str,
     pub limit: u64,
 }
+
+/// Four rows of the attributes a, b and c.
+pub(crate) const ROWS: [[i64; 8]; 4] = [
+    [12, 7, 1, 0, 0, 0, 0, 0],
+    [3, 8, 0, 0, 0, 0, 0, 0],
+    [12, 5, 1, 0, 0, 0, 0, 0],
+    [20, 2, 0, 0, 0, 0, 0, 0],
+];
+
+pub(crate) const HEADER: [&str; 3] = ["a:int", "b:int", "c:int"];
+
+/// The four rows, no cuts, and more rows than come.
+pub(crate) const TABLE: Trial<'static> = Trial {
+    rows: &ROWS,
+    cuts: "",
+    limit: 1000,
+};
 
 /// Rows of these cells in a list, by the keys 1, 2, 3 and so on. Refused `NoMemory` alone.
 #[tactic(auto, using(crate::proofs::Readings::numbered_push))]
@@ -65,22 +81,21 @@ pub(crate) fn add_call(
     requires { All (λ c. CallsBelow (length schema.now) c) calls.old.items }
     ensures { All (λ c. CallsBelow (length schema.now) c) calls.new.items }
 {
-    let Some(call) = call_of(alloc, schema, line)? else {
-        return Ok(());
-    };
     if calls.reserve(1).is_err() {
         return Err(Refusal::NoMemory);
     }
-    calls.push_reserved(call);
+    if let Some(call) = call_of(alloc, schema, line)? {
+        calls.push_reserved(call);
+    }
     Ok(())
 }
 
-/// The call of each line.
-pub(crate) fn calls(alloc: Global, schema: &Schema, lines: &[&str]) -> Result<Vec<Call>, Refusal>
+/// The call of each line; lines are divided by |.
+pub(crate) fn calls(alloc: Global, schema: &Schema, lines: &str) -> Result<Vec<Call>, Refusal>
     ensures { IfOk result (λ v. All (λ c. CallsBelow (length schema.now) c) v.items) }
 {
     let mut calls = Vec::new(alloc);
-    for line in lines {
+    for line in lines.split('|') {
         add_call(alloc, schema, &mut calls, line)?;
     }
     Ok(calls)
@@ -104,17 +119,14 @@ pub(crate) fn add_block(
     Ok(())
 }
 
-/// The calls of one session's lines.
-pub(crate) fn one_block(
-    alloc: Global,
-    schema: &Schema,
-    lines: &[&str],
-) -> Result<Vec<Vec<Call>>, Refusal>
+/// The calls of sessions, a block each; the lines of two are divided by ||.
+pub(crate) fn blocks(alloc: Global, schema: &Schema, lines: &str) -> Result<Vec<Vec<Call>>, Refusal>
     ensures { IfOk result (λ v. All (λ b. All (λ c. CallsBelow (length schema.now) c) b.items) v.items) }
 {
     let mut blocks = Vec::new(alloc);
-    let block = calls(alloc, schema, lines)?;
-    add_block(schema, &mut blocks, block)?;
+    for block in lines.split('&') {
+        add_block(schema, &mut blocks, calls(alloc, schema, block)?)?;
+    }
     Ok(blocks)
 }
 
@@ -135,54 +147,4 @@ pub(crate) fn cleared<M: CrackerMap>(alloc: Global, maps: Vec<M>) -> Result<Vec<
         }
     }
     Ok(into)
-}
-
-/// A row of a reply as text.
-fn shown_row(alloc: Global, key: u64, cells: &[i64]) -> Result<String, AllocError> {
-    let mut text = format!(in alloc; "{key}:")?;
-    for cell in cells {
-        text.push_str(format!(in alloc; " {cell}")?.as_str())?;
-    }
-    text.push_str(", ")?;
-    Ok(text)
-}
-
-/// A reply of rows as text.
-fn shown_rows(alloc: Global, rows: &ReplyRows) -> Result<String, AllocError> {
-    let mut text = String::new(alloc);
-    let mut left = rows.left();
-    while let Some((key, cells)) = left.next() {
-        text.push_str(shown_row(alloc, key, cells)?.as_str())?;
-    }
-    text.push_str(format!(in alloc; "{} rows", rows.len())?.as_str())?;
-    Ok(text)
-}
-
-/// A reply as text.
-pub(crate) fn shown(alloc: Global, reply: &Reply) -> Result<String, AllocError> {
-    match reply {
-        Reply::Rows(rows) => shown_rows(alloc, rows),
-        Reply::Count(n) => Ok(format!(in alloc; "{n}")?),
-        Reply::Sum(sum) => Ok(format!(in alloc; "{sum}")?),
-        Reply::Least(Some(cell)) => Ok(format!(in alloc; "{cell}")?),
-        Reply::Inserted(key) => Ok(format!(in alloc; "key {key}")?),
-        Reply::Least(None) => Ok(format!(in alloc; "none")?),
-        Reply::Full => Ok(format!(in alloc; "full")?),
-        Reply::Removed => Ok(format!(in alloc; "removed")?),
-        Reply::NoSuchKey => Ok(format!(in alloc; "no such key")?),
-    }
-}
-
-/// The replies to a session, in the record's order.
-pub(crate) fn told(alloc: Global, record: &Record, session: u64) -> Result<String, AllocError> {
-    let mut text = String::new(alloc);
-    for entry in record.entries.as_slice() {
-        if entry.session == session {
-            if let State::Answered(reply) = &entry.state {
-                text.push_str(shown(alloc, reply)?.as_str())?;
-                text.push_str("; ")?;
-            }
-        }
-    }
-    Ok(text)
 }

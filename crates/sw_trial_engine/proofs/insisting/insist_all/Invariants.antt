@@ -1,5 +1,0 @@
-use Rattle.sw_trial_engine.proofs.insisting.insist_all.Given as goal
-
--- the books that were just made, and the table
-abbrev pub ghosts-insist_picked : goal.ghosts-insist_picked
-ghosts-insist_picked g a = record { book = a.books.list.seen.book; sessions = a.books.sessions.name; heads = a.books.heads.name; columns = a.table.schema; opening = a.table.rows.items; limit = a.table.limit }

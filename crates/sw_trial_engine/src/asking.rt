@@ -1,0 +1,379 @@
+//! Sessions that are asked for one by one, viewers beside them, boxes that are dropped, and tickets that are missing.
+
+ghost use Rattle.std.specs.Prelude.{◌≡◌, ◌<◌, ◌≤◌, length, IfOk};
+ghost use Rattle.sw_rows.specs.Scan.{AsksBelow};
+ghost use Rattle.sw_versions.specs.Pending.{IsPlain};
+
+use crate::boxes::{Refusing, refusing};
+use crate::opening::{Boxes, Table, supply};
+use crate::running::{HEADER, TABLE};
+use crate::told::{held, show};
+use left_right::Absorb;
+use std::alloc::{AllocError, Global};
+use std::marker::Brand;
+use std::sync::Wait;
+use sw_engine::{Blank, Engine, Naming, Session, Ticket, Viewer};
+use sw_map::CrackerMap;
+use sw_rows::{Bound, Cond, Conds, Names, Query, Refusal, Schema, Update, Want};
+use sw_versions::{Live, Op};
+
+/// How many viewers there are at most.
+const VIEWERS: usize = 16;
+
+/// Asks how many rows there are.
+pub(crate) fn count_all(alloc: Global) -> Query
+    ensures { AsksBelow 8 result }
+{
+    Query {
+        conds: Conds::new(alloc),
+        want: Want::Count,
+    }
+}
+
+/// Asks how many rows have an a below a cell.
+fn count_below(alloc: Global, cell: i64) -> Result<Query, AllocError>
+    ensures { IfOk result (λ q. AsksBelow 8 q) }
+{
+    let mut conds = Conds::new(alloc);
+    conds.push(Cond {
+        attr: 0,
+        lower: None,
+        upper: Some(Bound::Before(cell)),
+    })?;
+    Ok(Query {
+        conds,
+        want: Want::Count,
+    })
+}
+
+/// Asks for all rows, with their cells of b.
+fn rows_all(alloc: Global) -> Result<Query, AllocError>
+    ensures { IfOk result (λ q. AsksBelow 8 q) }
+{
+    let mut names = Names::new(alloc);
+    names.push(1)?;
+    Ok(Query {
+        conds: Conds::new(alloc),
+        want: Want::Rows(names),
+    })
+}
+
+/// Tells what a viewer answers.
+fn tell_answer<J: Naming>(
+    text: &mut String,
+    viewer: &mut Viewer<'_, J>,
+    query: &Query,
+) -> Result<(), Refusal>
+    requires { AsksBelow 8 query.now }
+{
+    let reply = viewer.answer(query)?;
+    held(show(text, &reply))
+}
+
+/// Tells what a viewer answers: how many rows there are, and how many have an a below 10.
+fn look<J: Naming>(
+    alloc: Global,
+    text: &mut String,
+    viewer: &mut Viewer<'_, J>,
+) -> Result<(), Refusal> {
+    tell_answer(text, viewer, &count_all(alloc))?;
+    held(text.push_str(" "))?;
+    tell_answer(text, viewer, &held(count_below(alloc, 10))?)?;
+    held(text.push_str("; "))
+}
+
+/// Opens viewers until one is refused, and tells how many there were, and the refusal.
+fn open_all<J: Naming, M: CrackerMap, R: Wait>(
+    rt: &R,
+    engine: &Engine<J, M>,
+    text: &mut String,
+) -> Result<(), AllocError>
+where
+    Live<J>: Absorb<Op<J>, State = [Update; 0]>,
+{
+    for many in 0..2 * VIEWERS {
+        if let Err(refusal) = engine.viewer(rt) {
+            return write!(text, "{many} more, then {refusal}");
+        }
+    }
+    text.push_str("no end")
+}
+
+/// A viewer looks before an insertion and, when it has learnt the receipt, after it.
+fn look_around<J: Naming, M: CrackerMap, R: Wait>(
+    rt: &R,
+    alloc: Global,
+    one: &mut Session<'_, J, M>,
+    viewer: &mut Viewer<'_, J>,
+    text: &mut String,
+) -> Result<(), Refusal>
+where
+    Live<J>: Absorb<Op<J>, State = [Update; 0]>,
+{
+    look(alloc, text, viewer)?;
+    one.insert(rt, [1, 9, 0, 0, 0, 0, 0, 0])?;
+    viewer.learn(one.receipt());
+    look(alloc, text, viewer)
+}
+
+/// A later viewer looks, is met and learns the receipt of before a deletion; the first is met after it and looks; then the later one
+/// learns the receipt of the deletion and looks.
+fn look_in_turn<J: Naming, M: CrackerMap, R: Wait>(
+    rt: &R,
+    alloc: Global,
+    two: &mut Session<'_, J, M>,
+    viewer: &mut Viewer<'_, J>,
+    later: &mut Viewer<'_, J>,
+    text: &mut String,
+) -> Result<(), Refusal>
+where
+    Live<J>: Absorb<Op<J>, State = [Update; 0]>,
+{
+    look(alloc, text, later)?;
+    let receipt = two.meet(rt, later)?;
+    two.delete(rt, 2)?;
+    later.learn(receipt);
+    two.meet(rt, viewer)?;
+    look(alloc, text, viewer)?;
+    later.learn(two.receipt());
+    look(alloc, text, later)
+}
+
+/// A later viewer is opened, and both look; then viewers are opened until one is refused.
+fn look_later<J: Naming, M: CrackerMap, R: Wait>(
+    rt: &R,
+    alloc: Global,
+    engine: &Engine<J, M>,
+    two: &mut Session<'_, J, M>,
+    viewer: &mut Viewer<'_, J>,
+    text: &mut String,
+) -> Result<(), Refusal>
+where
+    Live<J>: Absorb<Op<J>, State = [Update; 0]>,
+{
+    let mut later = engine.viewer(rt)?;
+    look_in_turn(rt, alloc, two, viewer, &mut later, text)?;
+    held(open_all(rt, engine, text))
+}
+
+/// A viewer is opened and looks while two sessions write in turn, the first one and then the second.
+fn look_beside<J: Naming, M: CrackerMap, R: Wait>(
+    rt: &R,
+    alloc: Global,
+    engine: &Engine<J, M>,
+    one: &mut Session<'_, J, M>,
+    two: &mut Session<'_, J, M>,
+    text: &mut String,
+) -> Result<(), Refusal>
+where
+    Live<J>: Absorb<Op<J>, State = [Update; 0]>,
+{
+    let mut viewer = engine.viewer(rt)?;
+    look_around(rt, alloc, one, &mut viewer, text)?;
+    look_later(rt, alloc, engine, two, &mut viewer, text)
+}
+
+/// Two sessions write in turn, and viewers look between: the first viewer learns a receipt and is met, the second is opened later.
+/// Tells what they see and how many further viewers there were, and adds the sessions' tickets.
+fn look_on<J: Naming, M: CrackerMap, R: Wait>(
+    rt: &R,
+    alloc: Global,
+    engine: &Engine<J, M>,
+    tickets: &mut Vec<Ticket<J>>,
+    text: &mut String,
+) -> Result<(), Refusal>
+where
+    Live<J>: Absorb<Op<J>, State = [Update; 0]>,
+{
+    let mut one = engine.session(rt)?;
+    let mut two = engine.session(rt)?;
+    look_beside(rt, alloc, engine, &mut one, &mut two, text)?;
+    held(tickets.push(one.end()))?;
+    held(tickets.push(two.end()))
+}
+
+/// A viewer that is opened after an insertion and a deletion looks, and is asked for all rows.
+fn look_after<J: Naming, M: CrackerMap, R: Wait>(
+    rt: &R,
+    alloc: Global,
+    engine: &Engine<J, M>,
+    text: &mut String,
+) -> Result<(), Refusal>
+where
+    Live<J>: Absorb<Op<J>, State = [Update; 0]>,
+{
+    let mut viewer = engine.viewer(rt)?;
+    look(alloc, text, &mut viewer)?;
+    tell_answer(text, &mut viewer, &held(rows_all(alloc))?)
+}
+
+/// A session writes before there is a viewer, which looks then. Tells what it sees, and adds the session's ticket.
+fn look_late<J: Naming, M: CrackerMap, R: Wait>(
+    rt: &R,
+    alloc: Global,
+    engine: &Engine<J, M>,
+    tickets: &mut Vec<Ticket<J>>,
+    text: &mut String,
+) -> Result<(), Refusal>
+where
+    Live<J>: Absorb<Op<J>, State = [Update; 0]>,
+{
+    let mut one = engine.session(rt)?;
+    one.insert(rt, [1, 9, 0, 0, 0, 0, 0, 0])?;
+    one.delete(rt, 2)?;
+    look_after(rt, alloc, engine, text)?;
+    held(tickets.push(one.end()))
+}
+
+/// Takes up to five boxes back from the first head, and tells how many went. Adds the tickets of a session that inserts a row of
+/// zeros and deletes the row of key 1, and of one that makes no call.
+fn shed<J: Naming, M: CrackerMap, R: Wait>(
+    rt: &R,
+    engine: &Engine<J, M>,
+    tickets: &mut Vec<Ticket<J>>,
+    text: &mut String,
+) -> Result<(), Refusal>
+where
+    Live<J>: Absorb<Op<J>, State = [Update; 0]>,
+    requires { 1 < length J.columns }
+{
+    held(write!(text, "{} boxes", engine.shed(rt, 0, 5)))?;
+    let mut session = engine.session(rt)?;
+    session.insert(rt, [0; 8])?;
+    session.delete(rt, 1)?;
+    held(tickets.push(session.end()))?;
+    let other = engine.session(rt)?.end();
+    held(tickets.push(other))
+}
+
+/// Tells how many entries the record has where the engine is closed with these tickets.
+fn close_with<J: Naming, M: CrackerMap, R: Wait>(
+    rt: &R,
+    engine: Engine<J, M>,
+    tickets: Vec<Ticket<J>>,
+    text: &mut String,
+) -> Result<(), Refusal>
+where
+    Live<J>: Absorb<Op<J>, State = [Update; 0]>,
+{
+    match engine.close(rt, tickets) {
+        Ok(record) => held(write!(text, "; {} entries", record.entries.as_slice().len())),
+        Err(_) => held(text.push_str("; refused with both tickets")),
+    }
+}
+
+/// Tells what `close` says without the last of the tickets, and then with it.
+fn close_twice<J: Naming, M: CrackerMap, R: Wait>(
+    rt: &R,
+    engine: Engine<J, M>,
+    tickets: Vec<Ticket<J>>,
+    text: &mut String,
+) -> Result<(), Refusal>
+where
+    Live<J>: Absorb<Op<J>, State = [Update; 0]>,
+{
+    let mut tickets = tickets;
+    let Some(other) = tickets.pop() else {
+        return Err(Refusal::Input);
+    };
+    match engine.close(rt, tickets) {
+        Ok(_) => held(text.push_str("; a record with a ticket missing")),
+        Err((engine, tickets, refusal)) => {
+            let mut tickets = tickets;
+            held(write!(text, "; {refusal}"))?;
+            held(tickets.push(other))?;
+            close_with(rt, engine, tickets, text)
+        }
+    }
+}
+
+/// What is asked of an engine.
+#[derive(Clone, Copy)]
+pub(crate) enum Asked {
+    /// How many boxes go.
+    Boxes,
+    /// What viewers see between the calls of two sessions.
+    Views,
+    /// What a viewer sees that is opened behind the calls of a session.
+    LateViews,
+}
+
+/// Asks it, and closes the engine, first without the last ticket.
+fn ask_at<J: Naming, M: CrackerMap, R: Wait>(
+    rt: &R,
+    alloc: Global,
+    engine: Engine<J, M>,
+    asked: Asked,
+    text: &mut String,
+) -> Result<(), Refusal>
+where
+    Live<J>: Absorb<Op<J>, State = [Update; 0]>,
+    requires { 1 < length J.columns }
+{
+    let mut tickets = Vec::new(alloc);
+    match asked {
+        Asked::Boxes => shed(rt, &engine, &mut tickets, text)?,
+        Asked::Views => look_on(rt, alloc, &engine, &mut tickets, text)?,
+        Asked::LateViews => look_late(rt, alloc, &engine, &mut tickets, text)?,
+    }
+    close_twice(rt, engine, tickets, text)
+}
+
+/// Asks it of an engine that is opened and given its boxes.
+fn ask_on<J: Naming, M: CrackerMap, R: Wait>(
+    rt: &R,
+    alloc: Global,
+    books: Blank,
+    table: Table,
+    boxes: Boxes<M>,
+    asked: Asked,
+    text: &mut String,
+) -> Result<(), Refusal>
+where
+    Live<J>: Absorb<Op<J>, State = [Update; 0]>,
+    requires books { (books.sessions.name ≡ J.sessions) × (books.heads.name ≡ J.heads) }
+    requires list { books.list.seen.book ≡ J.book }
+    requires plain { IsPlain ⟦<Live<J> as Absorb<Op<J>>>⟧.state ⟦<Live<J> as Absorb<Op<J>>>⟧.applied }
+    requires table { (table.schema ≡ J.columns) × (table.rows.items ≡ J.opening) × (table.limit ≡ J.limit) }
+{
+    let Table {
+        schema,
+        rows,
+        cuts,
+        limit,
+        ..
+    } = table;
+    let engine = Engine::<J, M>::open(alloc, books, schema, rows, cuts, limit)?;
+    supply(rt, &engine, boxes)?;
+    ask_at(rt, alloc, engine, asked, text)
+}
+
+/// The same where the names are picked: what a copy of the rows makes of an update is known here, as it is not under a bound.
+fn ask_picked<J: Naming, M: CrackerMap, R: Wait>(
+    rt: &R,
+    alloc: Global,
+    books: Blank,
+    table: Table,
+    boxes: Boxes<M>,
+    asked: Asked,
+    text: &mut String,
+) -> Result<(), Refusal>
+    requires books { (books.sessions.name ≡ J.sessions) × (books.heads.name ≡ J.heads) }
+    requires list { books.list.seen.book ≡ J.book }
+    requires table { (table.schema ≡ J.columns) × (table.rows.items ≡ J.opening) × (table.limit ≡ J.limit) }
+{
+    ask_on::<J, M, R>(rt, alloc, books, table, boxes, asked, text)
+}
+
+/// The same over the four rows, with two boxes at the first head.
+pub(crate) fn ask<R: Wait>(
+    rt: &R,
+    alloc: Global,
+    asked: Asked,
+    text: &mut String,
+) -> Result<(), Refusal> {
+    let boxes = Boxes::first(alloc, refusing(alloc, 2, 1 << 20, 0)?)?;
+    let schema = Schema::of(alloc, &HEADER)?;
+    let table = Table::of(alloc, TABLE, schema)?;
+    ask_picked::<Brand, Refusing, R>(rt, alloc, Blank::new(), table, boxes, asked, text)
+}

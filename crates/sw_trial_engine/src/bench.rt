@@ -1,0 +1,117 @@
+//! Which trial a line is.
+
+use crate::asking::{Asked, ask};
+use crate::runs::{begun, met_in_run};
+use crate::sessions::{among, counted, crowded, insisted, mixed, told_of, waited};
+use std::alloc::{AllocError, Global};
+use std::sync::Wait;
+use std::thread::Threads;
+use sw_rows::Refusal;
+
+/// What stands before the first of a mark, and what stands after it; all of a text without one, and nothing.
+fn split(text: &str, mark: char) -> (&str, &str) {
+    match text.split_once(mark) {
+        Some(parts) => parts,
+        None => (text, ""),
+    }
+}
+
+/// A word as a number, 0 where it is none.
+fn number(word: &str) -> u64 {
+    match word.parse::<u64>() {
+        Ok(n) => n,
+        Err(_) => 0,
+    }
+}
+
+/// The first word of a text as a number, and the rest.
+fn numbered(text: &str) -> (u64, &str) {
+    let (word, rest) = split(text, ' ');
+    (number(word), rest)
+}
+
+/// The first five words of a text as numbers.
+fn five(text: &str) -> [u64; 5] {
+    let (one, rest) = numbered(text);
+    let (two, rest) = numbered(rest);
+    let (three, rest) = numbered(rest);
+    let (four, rest) = numbered(rest);
+    let (five, _) = numbered(rest);
+    [one, two, three, four, five]
+}
+
+/// Makes a trial to which something is given.
+fn tell<R: Threads + Wait + Sync>(
+    rt: &R,
+    alloc: Global,
+    cuts: &str,
+    word: &str,
+    given: &str,
+    text: &mut String,
+) -> Result<(), Refusal> {
+    let (first, rest) = numbered(given);
+    let many = first as usize;
+    match word {
+        "told" => told_of(rt, alloc, many, 1, cuts, rest, text),
+        "insisted" => insisted(rt, alloc, many, rest, text),
+        "counted" => counted(rt, alloc, many, rest, text),
+        "waited" => waited(rt, alloc, many, rest, text),
+        "mixed" => mixed(rt, alloc, five(given), cuts, text),
+        "among" => among(rt, alloc, first, number(rest), cuts, text),
+        "begun" => begun(rt, alloc, many, cuts, rest, text),
+        _ => tell_fixed(rt, alloc, word, text),
+    }
+}
+
+/// Makes a trial to which nothing is given.
+fn tell_fixed<R: Threads + Wait + Sync>(
+    rt: &R,
+    alloc: Global,
+    word: &str,
+    text: &mut String,
+) -> Result<(), Refusal> {
+    match word {
+        "closed" => ask(rt, alloc, Asked::Boxes, text),
+        "viewed" => ask(rt, alloc, Asked::Views, text),
+        "viewed-late" => ask(rt, alloc, Asked::LateViews, text),
+        "crowded" => crowded(rt, alloc, text),
+        "met-in-run" => met_in_run(rt, alloc, text),
+        _ => Ok(()),
+    }
+}
+
+/// The cuts of the trials that come, and what the last one tells.
+#[derive(Drop)]
+pub(crate) struct Bench {
+    cuts: String,
+    pub text: String,
+}
+
+impl Bench {
+    /// No cuts, and nothing told.
+    pub(crate) fn new(alloc: Global) -> Self {
+        Bench {
+            cuts: String::new(alloc),
+            text: String::new(alloc),
+        }
+    }
+
+    /// Takes the cuts of a line, or makes its trial. Where that is refused, its refusal stands behind what was told before.
+    pub(crate) fn take<R: Threads + Wait + Sync>(
+        &mut self,
+        rt: &R,
+        alloc: Global,
+        line: &str,
+    ) -> Result<(), AllocError> {
+        self.text.clear();
+        let (word, given) = split(line, ' ');
+        if word == "cuts" {
+            self.cuts.clear();
+            return self.cuts.push_str(given);
+        }
+        match tell(rt, alloc, self.cuts.as_str(), word, given, &mut self.text) {
+            Ok(()) => Ok(()),
+            Err(refusal) => write!(self.text, "refused {refusal}"),
+        }
+    }
+}

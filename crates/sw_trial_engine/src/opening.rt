@@ -1,0 +1,170 @@
+//! What an engine is opened over, and the boxes that it is given.
+
+ghost use Rattle.std.specs.Prelude.{◌≡◌, ◌<◌, ◌≤◌, ◌×◌, ℕ, true, length, All, IfOk};
+ghost use Rattle.sw_rows.specs.declared.table.TheConstants.{MOST_ROWS};
+ghost use Rattle.sw_lang.specs.Cuts.{AreCuts, cuts_on};
+ghost use Rattle.sw_map.specs.Held.{blank};
+ghost use Rattle.sw_spine.specs.Table.{is_numbered};
+ghost use Rattle.sw_versions.specs.Pending.{IsPlain};
+
+use crate::running::{Trial, cleared, numbered};
+use left_right::Absorb;
+use std::alloc::Global;
+use std::sync::Wait;
+use sw_engine::{Blank, Engine, Naming, Ticket, deal};
+use sw_lang::{Cuts, parse_cuts};
+use sw_map::CrackerMap;
+use sw_rows::{PackedRows, Refusal, Schema, Update};
+use sw_versions::{Live, Op};
+
+/// What an engine is opened over.
+#[derive(Drop)]
+pub(crate) struct Table {
+    pub schema: Schema,
+    pub rows: PackedRows,
+    pub cuts: Cuts,
+    pub limit: u64,
+    ghost some: { 0 < limit },
+    ghost most: { limit ≤ MOST_ROWS },
+    ghost numbered: { is_numbered 1 rows.items ≡ true },
+    ghost lists: { length cuts ≡ length schema },
+    ghost lawful: { (a : ℕ) → a < length schema → AreCuts (cuts_on cuts a) },
+}
+
+impl Table {
+    /// The rows of a trial by the keys 1, 2, 3 and so on, and its cuts.
+    pub(crate) fn of(alloc: Global, trial: Trial<'_>, schema: Schema) -> Result<Table, Refusal>
+        requires few { length trial.rows.now ≤ MOST_ROWS }
+        requires some { 0 < trial.limit }
+        requires most { trial.limit ≤ MOST_ROWS }
+        ensures { IfOk result (λ t. t.schema ≡ schema) }
+    {
+        let rows = numbered(alloc, trial.rows)?;
+        let cuts = parse_cuts(alloc, &schema, trial.cuts)?;
+        Ok(Table {
+            schema,
+            rows,
+            cuts,
+            limit: trial.limit,
+        })
+    }
+}
+
+/// Boxes for an engine, all blank: those that are dealt out to all heads, those of the first head, and those of the second.
+#[derive(Drop)]
+pub(crate) struct Boxes<M: CrackerMap> {
+    dealt: Vec<M>,
+    first: Vec<M>,
+    second: Vec<M>,
+    ghost dealt_blank: { All (λ m. M.held m ≡ blank) dealt.items },
+    ghost first_blank: { All (λ m. M.held m ≡ blank) first.items },
+    ghost second_blank: { All (λ m. M.held m ≡ blank) second.items },
+}
+
+impl<M: CrackerMap> Boxes<M> {
+    /// Boxes that are dealt out, made blank.
+    pub(crate) fn dealt(alloc: Global, maps: Vec<M>) -> Result<Boxes<M>, Refusal> {
+        let dealt = cleared(alloc, maps)?;
+        Ok(Boxes {
+            dealt,
+            first: Vec::new(alloc),
+            second: Vec::new(alloc),
+        })
+    }
+
+    /// Boxes of the first head, made blank.
+    pub(crate) fn first(alloc: Global, maps: Vec<M>) -> Result<Boxes<M>, Refusal> {
+        let first = cleared(alloc, maps)?;
+        Ok(Boxes {
+            dealt: Vec::new(alloc),
+            first,
+            second: Vec::new(alloc),
+        })
+    }
+
+    /// The same with boxes of the second head, made blank.
+    pub(crate) fn and_second(self, alloc: Global, maps: Vec<M>) -> Result<Boxes<M>, Refusal> {
+        let second = cleared(alloc, maps)?;
+        let Boxes { dealt, first, .. } = self;
+        Ok(Boxes {
+            dealt,
+            first,
+            second,
+        })
+    }
+}
+
+/// Gives boxes to a head.
+fn hand<J: Naming, M: CrackerMap, R: Wait>(
+    rt: &R,
+    engine: &Engine<J, M>,
+    head: usize,
+    maps: Vec<M>,
+) -> Result<(), Refusal>
+where
+    Live<J>: Absorb<Op<J>, State = [Update; 0]>,
+    requires place { head < length J.columns }
+    requires blank { All (λ m. M.held m ≡ blank) maps.items }
+{
+    for it in maps {
+        if engine.supply(rt, head, it).is_err() {
+            return Err(Refusal::NoMemory);
+        }
+    }
+    Ok(())
+}
+
+/// Gives an engine its boxes. `Input` where it has fewer than two heads.
+pub(crate) fn supply<J: Naming, M: CrackerMap, R: Wait>(
+    rt: &R,
+    engine: &Engine<J, M>,
+    boxes: Boxes<M>,
+) -> Result<(), Refusal>
+where
+    Live<J>: Absorb<Op<J>, State = [Update; 0]>,
+    ensures { IfOk result (λ _. 1 < length J.columns) }
+{
+    let columns = engine.heads();
+    if columns < 2 {
+        return Err(Refusal::Input);
+    }
+    let Boxes {
+        dealt,
+        first,
+        second,
+    } = boxes;
+    deal(rt, engine, columns, dealt)?;
+    hand(rt, engine, 0, first)?;
+    hand(rt, engine, 1, second)
+}
+
+/// Opens an engine for so many sessions, and gives it its boxes. `Input` where it has fewer than two heads.
+pub(crate) fn opened<J: Naming, M: CrackerMap, R: Wait>(
+    rt: &R,
+    alloc: Global,
+    books: Blank,
+    table: Table,
+    boxes: Boxes<M>,
+    sessions: usize,
+) -> Result<(Engine<J, M>, Vec<Ticket<J>>), Refusal>
+where
+    Live<J>: Absorb<Op<J>, State = [Update; 0]>,
+    requires books { (books.sessions.name ≡ J.sessions) × (books.heads.name ≡ J.heads) }
+    requires list { books.list.seen.book ≡ J.book }
+    requires plain { IsPlain ⟦<Live<J> as Absorb<Op<J>>>⟧.state ⟦<Live<J> as Absorb<Op<J>>>⟧.applied }
+    requires table { (table.schema ≡ J.columns) × (table.rows.items ≡ J.opening) × (table.limit ≡ J.limit) }
+    ensures { IfOk result (λ _. 1 < length J.columns) }
+{
+    let Table {
+        schema,
+        rows,
+        cuts,
+        limit,
+        ..
+    } = table;
+    let (engine, tickets) = Engine::<J, M>::open_for(
+        alloc, books, schema, rows, cuts, limit, sessions,
+    )?;
+    supply(rt, &engine, boxes)?;
+    Ok((engine, tickets))
+}

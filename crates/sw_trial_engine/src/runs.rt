@@ -1,0 +1,88 @@
+//! Runs of a table and a script over maps that wait for one another, and over maps that count.
+
+use crate::boxes::{Sights, Signals, Watching, crossed, watching};
+use crate::running::cleared;
+use crate::told::held;
+use std::alloc::{AllocError, Global};
+use std::sync::Wait;
+use std::sync::atomic::Ordering;
+use std::thread::Threads;
+use sw_cli::{Options, run_with};
+use sw_rows::{Counted, Refusal};
+
+const SCHEMA_AND_ROWS: &[u8] = b"a:int,b:int,c:int\n12,7,1\n3,8,0\n12,5,1\n20,2,0\n";
+
+/// The lines of a script, which are divided by |.
+fn script(alloc: Global, lines: &str) -> Result<Vec<u8>, AllocError> {
+    let mut bytes = Vec::new(alloc);
+    for &byte in lines.as_bytes() {
+        bytes.push(if byte == b'|' { b'\n' } else { byte })?;
+    }
+    bytes.push(b'\n')?;
+    Ok(bytes)
+}
+
+/// Adds bytes of lines to a text, in which / stands for the end of a line.
+fn add_lines(text: &mut String, bytes: &[u8]) -> Result<(), AllocError> {
+    for &byte in bytes {
+        text.push(if byte == b'\n' { '/' } else { byte as char })?;
+    }
+    Ok(())
+}
+
+/// Tells what a run with threads writes over maps, which are made blank and dealt out from the last.
+fn tell_run<R: Threads + Wait + Sync>(
+    rt: &R,
+    alloc: Global,
+    script: &[u8],
+    cuts: &str,
+    maps: Vec<Watching>,
+    text: &mut String,
+) -> Result<(), Refusal> {
+    let options = Options {
+        limit: 1000,
+        cuts,
+        threads: true,
+    };
+    let maps = cleared(alloc, maps)?;
+    let mut out = Counted::new(Vec::new(alloc));
+    let mut table = Counted::new(SCHEMA_AND_ROWS);
+    let mut script = Counted::new(script);
+    let _record = run_with(rt, alloc, &mut table, &mut script, &mut out, &options, maps)?;
+    held(add_lines(text, out.inner.as_slice()))
+}
+
+/// Two blocks, of which each one's map waits in its first step for that of the other. Tells what was written, and whether a wait came
+/// to its limit.
+pub(crate) fn met_in_run<R: Threads + Wait + Sync>(
+    rt: &R,
+    alloc: Global,
+    text: &mut String,
+) -> Result<(), Refusal> {
+    let sights = held(Sights::new(alloc))?;
+    let signals = held(Signals::new(alloc, false))?;
+    let maps = crossed(alloc, &signals, &sights)?;
+    let script = b"count where a >= 10\n---\ncount where b >= 6\n";
+    tell_run(rt, alloc, script.as_slice(), "", maps, text)?;
+    if sights.overran.load(Ordering::SeqCst) {
+        return held(text.push_str("late"));
+    }
+    Ok(())
+}
+
+/// Tells what a run writes over so many counting maps, and how often they were begun.
+pub(crate) fn begun<R: Threads + Wait + Sync>(
+    rt: &R,
+    alloc: Global,
+    many: usize,
+    cuts: &str,
+    lines: &str,
+    text: &mut String,
+) -> Result<(), Refusal> {
+    let sights = held(Sights::new(alloc))?;
+    let maps = watching(alloc, many, &held(Signals::new(alloc, true))?, &sights)?;
+    let script = held(script(alloc, lines))?;
+    tell_run(rt, alloc, script.as_slice(), cuts, maps, text)?;
+    let begins = sights.counts.begins.load(Ordering::SeqCst);
+    held(write!(text, " {begins} begun"))
+}

@@ -1,0 +1,297 @@
+//! What sessions are told, and what the record keeps; what sessions make of the maps of heads; and what viewers see beside them.
+
+ghost use Rattle.std.specs.Prelude.{◌≡◌, ◌<◌, ◌≤◌, All, IfOk, length};
+ghost use Rattle.sw_rows.specs.Scan.{AsksBelow};
+ghost use Rattle.sw_rows.specs.declared.table.TheConstants.{MOST_ROWS};
+ghost use Rattle.sw_spine.specs.History.{CallsBelow, IsLegal};
+
+use crate::beginnings::{Beginnings, show_seen, tell_looks};
+use crate::boxes::{Refusing, Sights, Signals, refusing, watching};
+use crate::opening::Boxes;
+use crate::playing::{Plan, Played, play};
+use crate::random::random_blocks;
+use crate::running::{HEADER, ROWS, TABLE, Trial, blocks};
+use crate::told::{held, tell_counts, tell_replies, tell_right};
+use std::alloc::Global;
+use std::sync::Wait;
+use std::sync::atomic::Ordering;
+use std::thread::Threads;
+use sw_map::CrackerMap;
+use sw_rows::{Call, Conds, Query, Refusal, Schema, Want};
+
+/// How often a script is begun where something else than a call is refused, and how often a call is made that is refused.
+const TURNS: usize = 3;
+
+const EIGHT: [&str; 8] = [
+    "a:int", "b:int", "c:int", "d:int", "e:int", "f:int", "g:int", "h:int",
+];
+
+/// Viewers, which ask for the sum of b or count, and look once for each that there are or twenty times; each call is made once.
+fn plan(alloc: Global, viewers: usize, sums: bool, signals: Signals) -> Plan
+    ensures { AsksBelow 8 result.query }
+{
+    Plan {
+        viewers,
+        looks: if sums { 20 } else { 1 },
+        query: Query {
+            conds: Conds::new(alloc),
+            want: if sums { Want::Sum(1) } else { Want::Count },
+        },
+        turns: 1,
+        signals,
+    }
+}
+
+/// Plays blocks. Tells whether all was answered, the record is legal, no more entries are void than calls were refused, and the other
+/// entries of each session are its calls.
+fn played<M: CrackerMap, R: Threads + Wait + Sync>(
+    rt: &R,
+    alloc: Global,
+    trial: Trial<'_>,
+    schema: Schema,
+    boxes: Boxes<M>,
+    blocks: &[Vec<Call>],
+    later: &mut Vec<M>,
+    plan: Plan,
+    text: &mut String,
+) -> Result<Played, Refusal>
+    requires few { length trial.rows.now ≤ MOST_ROWS }
+    requires some { 0 < trial.limit }
+    requires most { trial.limit ≤ MOST_ROWS }
+    requires below { All (λ b. All (λ c. CallsBelow (length schema) c) b.items) blocks.now }
+    requires asks { AsksBelow 8 plan.query }
+    ensures { IfOk result (λ p. IsLegal p.record) }
+{
+    let played = play(rt, alloc, trial, schema, boxes, blocks, later, plan)?;
+    held(tell_right(alloc, text, &played, blocks))?;
+    Ok(played)
+}
+
+/// Plays the lines of sessions over the four rows, and tells the replies to the first two as well.
+fn play_lines<M: CrackerMap, R: Threads + Wait + Sync>(
+    rt: &R,
+    alloc: Global,
+    cuts: &str,
+    boxes: Boxes<M>,
+    lines: &str,
+    plan: Plan,
+    text: &mut String,
+) -> Result<Played, Refusal>
+    requires { AsksBelow 8 plan.query }
+    ensures { IfOk result (λ p. IsLegal p.record) }
+{
+    let mut later = Vec::new(alloc);
+    let trial = Trial { cuts, ..TABLE };
+    let schema = Schema::of(alloc, &HEADER)?;
+    let blocks = blocks(alloc, &schema, lines)?;
+    let played = played(
+        rt,
+        alloc,
+        trial,
+        schema,
+        boxes,
+        blocks.as_slice(),
+        &mut later,
+        plan,
+        text,
+    )?;
+    held(tell_replies(text, &played.record))?;
+    Ok(played)
+}
+
+/// Sessions make the calls of lines over so many boxes, each call at most so often. Tells what they are told.
+pub(crate) fn told_of<R: Threads + Wait + Sync>(
+    rt: &R,
+    alloc: Global,
+    many: usize,
+    turns: usize,
+    cuts: &str,
+    lines: &str,
+    text: &mut String,
+) -> Result<(), Refusal> {
+    let boxes = Boxes::dealt(alloc, refusing(alloc, many, 1 << 20, 0)?)?;
+    let mut plan = plan(alloc, 0, false, held(Signals::new(alloc, true))?);
+    plan.turns = turns;
+    let _ = play_lines(rt, alloc, cuts, boxes, lines, plan, text)?;
+    Ok(())
+}
+
+/// The same where each call is made until it is answered, and all is begun again where something else is refused.
+pub(crate) fn insisted<R: Threads + Wait + Sync>(
+    rt: &R,
+    alloc: Global,
+    many: usize,
+    lines: &str,
+    text: &mut String,
+) -> Result<(), Refusal> {
+    for _ in 1..TURNS {
+        text.clear();
+        if told_of(rt, alloc, many, TURNS, "", lines, text).is_ok() {
+            return Ok(());
+        }
+    }
+    text.clear();
+    told_of(rt, alloc, many, TURNS, "", lines, text)
+}
+
+/// One session makes the calls of lines over so many boxes. Tells what it is told, and how often the maps were begun, stepped and
+/// asked.
+pub(crate) fn counted<R: Threads + Wait + Sync>(
+    rt: &R,
+    alloc: Global,
+    many: usize,
+    lines: &str,
+    text: &mut String,
+) -> Result<(), Refusal> {
+    let sights = held(Sights::new(alloc))?;
+    let signals = held(Signals::new(alloc, true))?;
+    let boxes = Boxes::dealt(alloc, watching(alloc, many, &signals, &sights)?)?;
+    let plan = plan(alloc, 0, false, signals);
+    let _ = play_lines(rt, alloc, "", boxes, lines, plan, text)?;
+    held(tell_counts(text, &sights.counts))
+}
+
+/// Two boxes of the first head, which wait in their first step until a call is answered.
+pub(crate) fn waited<R: Threads + Wait + Sync>(
+    rt: &R,
+    alloc: Global,
+    viewers: usize,
+    lines: &str,
+    text: &mut String,
+) -> Result<(), Refusal> {
+    let sights = held(Sights::new(alloc))?;
+    let signals = held(Signals::new(alloc, false))?;
+    let boxes = Boxes::first(alloc, watching(alloc, 2, &signals, &sights)?)?;
+    let free = watching(alloc, 2, &held(Signals::new(alloc, true))?, &sights)?;
+    let boxes = boxes.and_second(alloc, free)?;
+    let plan = plan(alloc, viewers, false, signals);
+    let played = play_lines(rt, alloc, "", boxes, lines, plan, text)?;
+    held(show_seen(text, played.seen.as_slice()))?;
+    if sights.overran.load(Ordering::SeqCst) {
+        return held(text.push_str("; late"));
+    }
+    Ok(())
+}
+
+/// So many attributes; so many sessions, of which each of the first four makes random calls, two if there are three; and a first number
+/// for these calls.
+#[derive(Clone, Copy)]
+struct Chance {
+    attributes: u64,
+    sessions: usize,
+    state: u64,
+}
+
+/// Sessions make random calls at once.
+fn play_random<R: Threads + Wait + Sync>(
+    rt: &R,
+    alloc: Global,
+    trial: Trial<'_>,
+    chance: Chance,
+    boxes: Boxes<Refusing>,
+    later: &mut Vec<Refusing>,
+    plan: Plan,
+    text: &mut String,
+) -> Result<Played, Refusal>
+    requires few { length trial.rows.now ≤ MOST_ROWS }
+    requires some { 0 < trial.limit }
+    requires most { trial.limit ≤ MOST_ROWS }
+    requires asks { AsksBelow 8 plan.query }
+    ensures { IfOk result (λ p. IsLegal p.record) }
+{
+    let Chance {
+        attributes,
+        sessions,
+        state,
+    } = chance;
+    let schema = Schema::of(alloc, &EIGHT[..attributes.min(8) as usize])?;
+    let blocks = random_blocks(alloc, &schema, state, attributes, sessions)?;
+    played(
+        rt,
+        alloc,
+        trial,
+        schema,
+        boxes,
+        blocks.as_slice(),
+        later,
+        plan,
+        text,
+    )
+}
+
+/// How many attributes, the limit of rows, the boxes, the cells of the budget, and which step of a map is refused. Four sessions
+/// make random calls at once.
+pub(crate) fn mixed<R: Threads + Wait + Sync>(
+    rt: &R,
+    alloc: Global,
+    mix: [u64; 5],
+    cuts: &str,
+    text: &mut String,
+) -> Result<(), Refusal> {
+    let [attributes, limit, many, cells, every] = mix;
+    let trial = Trial {
+        rows: &ROWS,
+        cuts,
+        limit: limit.clamp(4, 1000),
+    };
+    let chance = Chance {
+        attributes,
+        sessions: 4,
+        state: limit ^ (cells << 8) ^ (every << 40) | 1,
+    };
+    let mut none = Vec::new(alloc);
+    let boxes = Boxes::dealt(alloc, refusing(alloc, many as usize, cells, every)?)?;
+    let plan = plan(alloc, 0, false, held(Signals::new(alloc, true))?);
+    let _ = play_random(rt, alloc, trial, chance, boxes, &mut none, plan, text)?;
+    Ok(())
+}
+
+/// Two sessions make random calls at once, while boxes come and go on a third thread.
+pub(crate) fn among<R: Threads + Wait + Sync>(
+    rt: &R,
+    alloc: Global,
+    cells: u64,
+    every: u64,
+    cuts: &str,
+    text: &mut String,
+) -> Result<(), Refusal> {
+    let trial = Trial {
+        rows: &ROWS,
+        cuts,
+        limit: 200,
+    };
+    let chance = Chance {
+        attributes: 2,
+        sessions: 3,
+        state: cells | 1,
+    };
+    let boxes = Boxes::first(alloc, refusing(alloc, 4, cells, every)?)?;
+    let boxes = boxes.and_second(alloc, refusing(alloc, 4, cells, every)?)?;
+    let mut later = refusing(alloc, 200, cells, every)?;
+    let plan = plan(alloc, 0, false, held(Signals::new(alloc, true))?);
+    let _ = play_random(rt, alloc, trial, chance, boxes, &mut later, plan, text)?;
+    Ok(())
+}
+
+/// Sixteen viewers look twenty times each while four sessions make random calls, each on a thread of its own. Tells what they saw.
+pub(crate) fn crowded<R: Threads + Wait + Sync>(
+    rt: &R,
+    alloc: Global,
+    text: &mut String,
+) -> Result<(), Refusal> {
+    let trial = Trial {
+        limit: 200,
+        ..TABLE
+    };
+    let chance = Chance {
+        attributes: 4,
+        sessions: 4,
+        state: 77,
+    };
+    let mut none = Vec::new(alloc);
+    let boxes = Boxes::dealt(alloc, Vec::new(alloc))?;
+    let plan = plan(alloc, 16, true, held(Signals::new(alloc, true))?);
+    let played = play_random(rt, alloc, trial, chance, boxes, &mut none, plan, text)?;
+    let beginnings = held(Beginnings::of(alloc, &ROWS, &played.record))?;
+    held(tell_looks(text, played.seen.as_slice(), &beginnings))
+}
