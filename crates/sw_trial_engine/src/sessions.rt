@@ -27,7 +27,7 @@ const EIGHT: [&str; 8] = [
 ];
 
 /// Viewers, which ask for the sum of b or count, and look once for each that there are or twenty times; each call is made once.
-fn plan(alloc: Global, viewers: usize, sums: bool, signals: Signals) -> Plan
+fn planned(alloc: Global, viewers: usize, sums: bool, signals: Signals) -> Plan
     ensures { AsksBelow 8 result.query }
 {
     Plan {
@@ -44,7 +44,7 @@ fn plan(alloc: Global, viewers: usize, sums: bool, signals: Signals) -> Plan
 
 /// Plays blocks. Tells whether all was answered, the record is legal, no more entries are void than calls were refused, and the other
 /// entries of each session are its calls.
-fn played<M: CrackerMap, R: Threads + Wait + Sync>(
+fn play_told<M: CrackerMap, R: Threads + Wait + Sync>(
     rt: &R,
     alloc: Global,
     trial: Trial<'_>,
@@ -84,7 +84,7 @@ fn play_lines<M: CrackerMap, R: Threads + Wait + Sync>(
     let trial = Trial { cuts, ..TABLE };
     let schema = Schema::of(alloc, &HEADER)?;
     let blocks = blocks(alloc, &schema, lines)?;
-    let played = played(
+    let played = play_told(
         rt,
         alloc,
         trial,
@@ -110,7 +110,7 @@ pub(crate) fn told_of<R: Threads + Wait + Sync>(
     text: &mut String,
 ) -> Result<(), Refusal> {
     let boxes = Boxes::dealt(alloc, refusing(alloc, many, 1 << 20, 0)?)?;
-    let mut plan = plan(alloc, 0, false, held(Signals::new(alloc, true))?);
+    let mut plan = planned(alloc, 0, false, held(Signals::new(alloc, true))?);
     plan.turns = turns;
     let _ = play_lines(rt, alloc, cuts, boxes, lines, plan, text)?;
     Ok(())
@@ -146,7 +146,7 @@ pub(crate) fn counted<R: Threads + Wait + Sync>(
     let sights = held(Sights::new(alloc))?;
     let signals = held(Signals::new(alloc, true))?;
     let boxes = Boxes::dealt(alloc, watching(alloc, many, &signals, &sights)?)?;
-    let plan = plan(alloc, 0, false, signals);
+    let plan = planned(alloc, 0, false, signals);
     let _ = play_lines(rt, alloc, "", boxes, lines, plan, text)?;
     held(tell_counts(text, &sights.counts))
 }
@@ -164,7 +164,7 @@ pub(crate) fn waited<R: Threads + Wait + Sync>(
     let boxes = Boxes::first(alloc, watching(alloc, 2, &signals, &sights)?)?;
     let free = watching(alloc, 2, &held(Signals::new(alloc, true))?, &sights)?;
     let boxes = boxes.and_second(alloc, free)?;
-    let plan = plan(alloc, viewers, false, signals);
+    let plan = planned(alloc, viewers, false, signals);
     let played = play_lines(rt, alloc, "", boxes, lines, plan, text)?;
     held(show_seen(text, played.seen.as_slice()))?;
     if sights.overran.load(Ordering::SeqCst) {
@@ -206,7 +206,7 @@ fn play_random<R: Threads + Wait + Sync>(
     } = chance;
     let schema = Schema::of(alloc, &EIGHT[..attributes.min(8) as usize])?;
     let blocks = random_blocks(alloc, &schema, state, attributes, sessions)?;
-    played(
+    play_told(
         rt,
         alloc,
         trial,
@@ -241,7 +241,7 @@ pub(crate) fn mixed<R: Threads + Wait + Sync>(
     };
     let mut none = Vec::new(alloc);
     let boxes = Boxes::dealt(alloc, refusing(alloc, many as usize, cells, every)?)?;
-    let plan = plan(alloc, 0, false, held(Signals::new(alloc, true))?);
+    let plan = planned(alloc, 0, false, held(Signals::new(alloc, true))?);
     let _ = play_random(rt, alloc, trial, chance, boxes, &mut none, plan, text)?;
     Ok(())
 }
@@ -268,7 +268,7 @@ pub(crate) fn among<R: Threads + Wait + Sync>(
     let boxes = Boxes::first(alloc, refusing(alloc, 4, cells, every)?)?;
     let boxes = boxes.and_second(alloc, refusing(alloc, 4, cells, every)?)?;
     let mut later = refusing(alloc, 200, cells, every)?;
-    let plan = plan(alloc, 0, false, held(Signals::new(alloc, true))?);
+    let plan = planned(alloc, 0, false, held(Signals::new(alloc, true))?);
     let _ = play_random(rt, alloc, trial, chance, boxes, &mut later, plan, text)?;
     Ok(())
 }
@@ -290,7 +290,7 @@ pub(crate) fn crowded<R: Threads + Wait + Sync>(
     };
     let mut none = Vec::new(alloc);
     let boxes = Boxes::dealt(alloc, Vec::new(alloc))?;
-    let plan = plan(alloc, 16, true, held(Signals::new(alloc, true))?);
+    let plan = planned(alloc, 16, true, held(Signals::new(alloc, true))?);
     let played = play_random(rt, alloc, trial, chance, boxes, &mut none, plan, text)?;
     let beginnings = held(Beginnings::of(alloc, &ROWS, &played.record))?;
     held(tell_looks(text, played.seen.as_slice(), &beginnings))
