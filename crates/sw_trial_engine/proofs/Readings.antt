@@ -15,6 +15,7 @@ call_below : (schema : List Column) (c : Call) → FitsCall schema c → CallsBe
 call_below schema (call.Select q) h = h.attrs
 call_below schema (call.Insert cells) h = tt
 call_below schema (call.Delete key) h = tt
+call_below schema (call.DeleteWhere conds) h = h.query.attrs.conds
 
 some_below : (schema : List Column) (o : Option Call) → IfSome o (FitsCall schema) → IfSome o (CallsBelow (length schema))
 some_below schema None h = tt

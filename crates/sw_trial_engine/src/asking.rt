@@ -225,6 +225,49 @@ where
     held(tickets.push(one.end()))
 }
 
+/// A viewer looks before the rows whose a is 12 are deleted by one call and, when it has learnt the receipt, after it, and is asked
+/// for all rows.
+fn look_around_deletion<J: Naming, M: CrackerMap, R: Wait>(
+    rt: &R,
+    alloc: Global,
+    one: &mut Session<'_, J, M>,
+    viewer: &mut Viewer<'_, J>,
+    text: &mut String,
+) -> Result<(), Refusal>
+where
+    Live<J>: Absorb<Op<J>, State = [Update; 0]>,
+    requires { 1 < length J.columns }
+{
+    let twelve = Cond {
+        attr: 0,
+        lower: Some(Bound::Before(12)),
+        upper: Some(Bound::After(12)),
+    };
+    look(alloc, text, viewer)?;
+    one.delete_where(rt, &[twelve])?;
+    viewer.learn(one.receipt());
+    look(alloc, text, viewer)?;
+    tell_answer(text, viewer, &held(rows_all(alloc))?)
+}
+
+/// A viewer looks around such a deletion. Tells what it sees, and adds the session's ticket.
+fn look_at_deletion<J: Naming, M: CrackerMap, R: Wait>(
+    rt: &R,
+    alloc: Global,
+    engine: &Engine<J, M>,
+    tickets: &mut Vec<Ticket<J>>,
+    text: &mut String,
+) -> Result<(), Refusal>
+where
+    Live<J>: Absorb<Op<J>, State = [Update; 0]>,
+    requires { 1 < length J.columns }
+{
+    let mut one = engine.session(rt)?;
+    let mut viewer = engine.viewer(rt)?;
+    look_around_deletion(rt, alloc, &mut one, &mut viewer, text)?;
+    held(tickets.push(one.end()))
+}
+
 /// Takes up to five boxes back from the first head, and tells how many went. Adds the tickets of a session that inserts a row of
 /// zeros and deletes the row of key 1, and of one that makes no call.
 fn shed<J: Naming, M: CrackerMap, R: Wait>(
@@ -296,6 +339,8 @@ pub(crate) enum Asked {
     Views,
     /// What a viewer sees that is opened behind the calls of a session.
     LateViews,
+    /// What a viewer sees around a call that deletes several rows.
+    DeletionViews,
 }
 
 /// Asks it, and closes the engine, first without the last ticket.
@@ -315,6 +360,7 @@ where
         Asked::Boxes => shed(rt, &engine, &mut tickets, text)?,
         Asked::Views => look_on(rt, alloc, &engine, &mut tickets, text)?,
         Asked::LateViews => look_late(rt, alloc, &engine, &mut tickets, text)?,
+        Asked::DeletionViews => look_at_deletion(rt, alloc, &engine, &mut tickets, text)?,
     }
     close_twice(rt, engine, tickets, text)
 }

@@ -1,7 +1,7 @@
 //! What viewers see beside sessions: beginnings of the history alone.
 
 use std::alloc::{AllocError, Global};
-use sw_rows::{Call, Reply};
+use sw_rows::{Call, Cond, Reply, is_within};
 use sw_spine::{Entry, Record, State};
 
 /// What a viewer was answered, a count or a sum, and the key of the row of whose insertion it had learnt last, 0 for none.
@@ -11,14 +11,29 @@ pub(crate) struct Seen {
     pub reply: i128,
 }
 
-/// A row that was ever in: its cell of b, and how many updates there were once it was in.
+/// A row that was ever in: its cells, whether it is in, and how many entries had changed rows once it was.
 #[derive(Clone, Copy)]
 struct Came {
-    cell: i64,
+    cells: [i64; 8],
+    is_in: bool,
     place: usize,
 }
 
-/// The rows that were ever in, by key, and the sum of b after each beginning of a history's updates.
+impl Came {
+    /// Whether it is in and meets conditions.
+    fn meets(&self, conds: &[Cond]) -> bool {
+        for cond in conds {
+            match self.cells.get(cond.attr) {
+                Some(cell) if is_within(cond.lower, cond.upper, *cell) => {}
+                _ => return false,
+            }
+        }
+        self.is_in
+    }
+}
+
+/// The rows that were ever in, by key, and the sum of b after each beginning of a history's entries that change rows: a deletion
+/// of many rows is one entry.
 #[derive(Drop)]
 pub(crate) struct Beginnings {
     rows: Vec<Came>,
@@ -27,35 +42,61 @@ pub(crate) struct Beginnings {
 }
 
 impl Beginnings {
-    /// A row of this cell is in; `place` is how many updates there are with it.
-    fn insert(&mut self, cell: i64, place: usize) -> Result<(), AllocError> {
-        self.sum = self.sum.wrapping_add(cell as i128);
-        self.rows.push(Came { cell, place })?;
+    /// A row of these cells is in; `place` is how many entries have changed rows with it.
+    fn insert(&mut self, cells: [i64; 8], place: usize) -> Result<(), AllocError> {
+        self.sum = self.sum.wrapping_add(cells[1] as i128);
+        self.rows.push(Came {
+            cells,
+            is_in: true,
+            place,
+        })?;
         Ok(())
     }
 
     /// The row of a key is gone.
     fn remove(&mut self, key: u64) {
-        if let Some(row) = self.rows.as_slice().get((key as usize).wrapping_sub(1)) {
-            self.sum = self.sum.wrapping_sub(row.cell as i128);
+        if let Some(row) = self.rows.get_mut((key as usize).wrapping_sub(1)) {
+            row.is_in = false;
+            self.sum = self.sum.wrapping_sub(row.cells[1] as i128);
         }
     }
 
-    /// An entry of the history, which is an update where it inserted a row or removed one.
+    /// The row of a key is gone, if it meets conditions.
+    fn remove_met(&mut self, key: u64, conds: &[Cond]) {
+        let is_met = match self.rows.as_slice().get((key as usize).wrapping_sub(1)) {
+            Some(row) => row.meets(conds),
+            None => false,
+        };
+        if is_met {
+            self.remove(key);
+        }
+    }
+
+    /// The rows that meet conditions are gone.
+    fn remove_where(&mut self, conds: &[Cond]) {
+        for before in 0..self.rows.len() as u64 {
+            self.remove_met(before.wrapping_add(1), conds);
+        }
+    }
+
+    /// An entry of the history, which changes rows where it inserted one, removed one, or removed those that met conditions.
     fn add(&mut self, entry: &Entry) -> Result<(), AllocError> {
         let place = self.sums.len();
         match (&entry.call, &entry.state) {
             (Call::Insert(cells), State::Answered(Reply::Inserted(_))) => {
-                self.insert(cells[1], place)?;
+                self.insert(*cells, place)?;
             }
             (Call::Delete(key), State::Answered(Reply::Removed)) => self.remove(*key),
+            (Call::DeleteWhere(conds), State::Answered(Reply::RemovedMany(_))) => {
+                self.remove_where(conds.as_slice());
+            }
             _ => return Ok(()),
         }
         self.sums.push(self.sum)?;
         Ok(())
     }
 
-    /// Those of the opening rows: of no update.
+    /// Those of the opening rows: of no entry.
     fn opening(alloc: Global, rows: &[[i64; 8]]) -> Result<Beginnings, AllocError> {
         let mut beginnings = Beginnings {
             rows: Vec::new(alloc),
@@ -63,7 +104,7 @@ impl Beginnings {
             sum: 0,
         };
         for row in rows {
-            beginnings.insert(row[1], 0)?;
+            beginnings.insert(*row, 0)?;
         }
         beginnings.sums.push(beginnings.sum)?;
         Ok(beginnings)
@@ -82,7 +123,7 @@ impl Beginnings {
         Ok(beginnings)
     }
 
-    /// The first beginning of this sum, of at least so many updates.
+    /// The first beginning of this sum, of at least so many entries.
     fn next(&self, from: usize, sum: i128) -> Option<usize> {
         let sums = self.sums.as_slice();
         for place in from..sums.len() {

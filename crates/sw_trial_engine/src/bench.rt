@@ -2,7 +2,7 @@
 
 use crate::asking::{Asked, ask};
 use crate::runs::{begun, met_in_run};
-use crate::sessions::{among, counted, crowded, insisted, mixed, told_of, waited};
+use crate::sessions::{among, counted, crowded, insisted, mixed, raced, told_of, waited};
 use std::alloc::{AllocError, Global};
 use std::sync::Wait;
 use std::thread::Threads;
@@ -53,6 +53,7 @@ fn tell<R: Threads + Wait + Sync>(
     let many = first as usize;
     match word {
         "told" => told_of(rt, alloc, many, 1, cuts, rest, text),
+        "raced" => raced(rt, alloc, many, cuts, rest, text),
         "insisted" => insisted(rt, alloc, many, rest, text),
         "counted" => counted(rt, alloc, many, rest, text),
         "waited" => waited(rt, alloc, many, rest, text),
@@ -74,6 +75,7 @@ fn tell_fixed<R: Threads + Wait + Sync>(
         "closed" => ask(rt, alloc, Asked::Boxes, text),
         "viewed" => ask(rt, alloc, Asked::Views, text),
         "viewed-late" => ask(rt, alloc, Asked::LateViews, text),
+        "viewed-many" => ask(rt, alloc, Asked::DeletionViews, text),
         "crowded" => crowded(rt, alloc, text),
         "met-in-run" => met_in_run(rt, alloc, text),
         _ => Ok(()),

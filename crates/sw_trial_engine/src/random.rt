@@ -36,12 +36,14 @@ fn add_line(text: &mut String, dice: &mut Dice, attributes: u64) -> Result<(), A
     let name = NAMES[(dice.roll(attributes) % 8) as usize];
     let other = NAMES[(dice.roll(attributes) % 8) as usize];
     let cell = dice.roll(24);
-    match dice.roll(6) {
+    match dice.roll(8) {
         0 => write!(text, "count where {name} >= {cell}"),
         1 => write!(text, "select {other} where {name} < {cell}"),
         2 => write!(text, "sum {other} where {name} = {cell}"),
         3 => write!(text, "max {name}"),
         4 => write!(text, "delete {cell}"),
+        5 => write!(text, "delete where {name} = {cell}"),
+        6 => write!(text, "delete where {name} >= {cell} and {other} < 6"),
         _ => add_insert(text, dice, attributes),
     }
 }

@@ -116,7 +116,37 @@ pub(crate) fn told_of<R: Threads + Wait + Sync>(
     Ok(())
 }
 
-/// The same where each call is made until it is answered, and all is begun again where something else is refused.
+/// Sessions make the calls of lines at once over so many boxes. Their replies hang on the order of their calls, so what is told
+/// besides is how many entries there are.
+pub(crate) fn raced<R: Threads + Wait + Sync>(
+    rt: &R,
+    alloc: Global,
+    many: usize,
+    cuts: &str,
+    lines: &str,
+    text: &mut String,
+) -> Result<(), Refusal> {
+    let mut none = Vec::new(alloc);
+    let trial = Trial { cuts, ..TABLE };
+    let schema = Schema::of(alloc, &HEADER)?;
+    let blocks = blocks(alloc, &schema, lines)?;
+    let boxes = Boxes::dealt(alloc, refusing(alloc, many, 1 << 20, 0)?)?;
+    let plan = planned(alloc, 0, false, held(Signals::new(alloc, true))?);
+    let played = play_told(
+        rt,
+        alloc,
+        trial,
+        schema,
+        boxes,
+        blocks.as_slice(),
+        &mut none,
+        plan,
+        text,
+    )?;
+    held(write!(text, "; {} entries", played.record.entries.as_slice().len()))
+}
+
+/// What `told_of` does where each call is made until it is answered, and all is begun again where something else is refused.
 pub(crate) fn insisted<R: Threads + Wait + Sync>(
     rt: &R,
     alloc: Global,

@@ -45,6 +45,7 @@ pub(crate) fn show(text: &mut String, reply: &Reply) -> Result<(), AllocError> {
         Reply::Full => text.push_str("full"),
         Reply::Removed => text.push_str("removed"),
         Reply::NoSuchKey => text.push_str("no such key"),
+        Reply::RemovedMany(n) => write!(text, "({n} removed)"),
     }
 }
 
