@@ -1,5 +1,5 @@
 -- The rows of a history stand in the order of their keys, which rise.
-use Rattle.std.proofs.Common.{◌≡◌, ◌<◌, ◌≤◌, ◌+◌, ◌++◌, ◌==◌, ◌&&◌, ◌||◌, ℕ, Bool, true, false, not, cond, List, [], ◌∷◌, filter, length, map, refl, sym, ap, subst, ◌∙◌, arith, append_assoc}
+use Rattle.std.proofs.Common.{◌≡◌, ◌<◌, ◌≤◌, ◌+◌, ◌++◌, ◌==◌, ℕ, Bool, true, false, not, cond, List, [], ◌∷◌, filter, length, refl, sym, subst, ◌∙◌, arith, append_assoc}
 use Rattle.std.proofs.lemmas.Bool.Decides.{nat_tests}
 use Rattle.std.proofs.lemmas.List.{append-nil}
 use Rattle.std.specs.List.{AllByRecursion}
@@ -12,7 +12,7 @@ use Rattle.sw_table.specs.Updates.{has_key, rows_of, without}
 use Rattle.sw_table.specs.declared.row.Row.{Row}
 use Rattle.sw_table.specs.declared.row.Update.{Update}
 use Rattle.sw_table.specs.declared.row.Update.TheVariants as update
-use Rattle.sw_spine.specs.History.{History, updates_after, updates_of}
+use Rattle.sw_spine.specs.History.{updates_after}
 use Rattle.sw_spine.specs.Table.{inserts, is_numbered, opened, removals, row, updates_then}
 use Rattle.sw_spine.specs.Visits.{RowsRise}
 use Rattle.sw_spine.specs.declared.history.Entry.{Entry}

@@ -1,8 +1,7 @@
-use Rattle.std.proofs.Common.{◌≡◌, ◌∙◌, ap, sym, subst, length, map, ℕ, List, rules}
-use Rattle.sw_rows.specs.Scan.{matching}
+use Rattle.std.proofs.Common.{◌≡◌, ◌∙◌, ap, sym, subst, length, ℕ, List, rules}
 use Rattle.sw_rows.specs.declared.query.Call.TheVariants.{DeleteWhere}
 use Rattle.sw_rows.specs.declared.reply.Reply.TheVariants.{RemovedMany}
-use Rattle.sw_table.specs.Live.{key_of, live_rows}
+use Rattle.sw_table.specs.Live.{live_rows}
 use Rattle.sw_table.specs.declared.row.Row.{Row}
 use Rattle.sw_spine.specs.Replays.{Replayed, StandsAfter, replayed, rows_without}
 use Rattle.sw_spine.specs.Table.{reply_to, updates_then}

@@ -1,4 +1,4 @@
-use Rattle.std.proofs.Common.{◌≡◌, ◌<◌, ◌≤◌, ◌∷◌, [], ◌++◌, true, length, sym, ◌∙◌, ap, subst, arith, List}
+use Rattle.std.proofs.Common.{◌≡◌, ◌<◌, ◌∷◌, [], ◌++◌, true, length, sym, ◌∙◌, ap, subst, List}
 use Rattle.std.specs.Prelude.{None}
 use Rattle.sw_rows.specs.Scan.{CondsBelow}
 use Rattle.sw_rows.specs.declared.query.Call.TheVariants.{DeleteWhere}
