@@ -3,3 +3,4 @@ pub mod Heads
 pub mod Turns
 pub mod Parts
 pub mod Published
+pub mod Whole

@@ -14,7 +14,7 @@ use Rattle.sw_versions.proofs.Prefixes.{prefix_length, prefix_taken, prefix_tran
 use Rattle.sw_spine.specs.Books.{Books, new_books, updates, with_published, with_session}
 use Rattle.sw_spine.specs.Table.{opened}
 use Rattle.sw_spine.proofs.StoreLemmas.{rows_of_opened}
-use Rattle.sw_engine.specs.Published.{AreBehind, GivesReceipt, IsShelfOf, Receipted, later, no_versions, published_of}
+use Rattle.sw_engine.specs.Published.{AreBehind, GivesReceipt, IsShelfOf, IsWhole, Receipted, later, no_versions, published_of}
 use Rattle.sw_engine.specs.Desk.{IsShown, IsTied}
 use Rattle.sw_engine.proofs.Ties.{get_set, length_push}
 
@@ -34,17 +34,17 @@ published_more opening s s' more p u le = ap (λ (us : List Update). drop (lengt
 -- ---- rows of the sessions' book
 
 -- the session's row goes to the new state
-pub behind_set : (opening : List Row) (s s' x : Books) (rows rows' : List (Books × Bool)) (k : ℕ) → AreBehind opening s rows → IsPrefix (published_of opening s) (published_of opening s') → x ≡ s' → rows' ≡ set rows k (x, false) → AreBehind opening s' rows'
-behind_set opening s s' x rows rows' k behind grows new are j r e = ⊎_elim
-    (λ p. subst (λ (u : Books × Bool). IsPrefix (published_of opening u.0) (published_of opening s')) p.1 (prefix_same (published_of opening x) (published_of opening s') (ap (published_of opening) new)))
-    (λ p. prefix_trans (published_of opening r.0) (published_of opening s) (published_of opening s') (behind j r p.1) grows)
+pub behind_set : (limit : ℕ) (opening : List Row) (s s' x : Books) (rows rows' : List (Books × Bool)) (k : ℕ) → AreBehind limit opening s rows → IsPrefix (published_of opening s) (published_of opening s') → IsWhole limit opening s' → x ≡ s' → rows' ≡ set rows k (x, false) → AreBehind limit opening s' rows'
+behind_set limit opening s s' x rows rows' k behind grows whole new are j r e = ⊎_elim
+    (λ p. subst (λ (u : Books × Bool). IsPrefix (published_of opening u.0) (published_of opening s') × IsWhole limit opening u.0) p.1 (prefix_same (published_of opening x) (published_of opening s') (ap (published_of opening) new), subst (IsWhole limit opening) (sym new) whole))
+    (λ p. (prefix_trans (published_of opening r.0) (published_of opening s) (published_of opening s') (behind j r p.1).0 grows, (behind j r p.1).1))
     (get_set rows k j (x, false) r (sym (ap (λ (l : List (Books × Bool)). slice_get l j) are) ∙ e))
 
 -- the session's share goes from what it showed to the new state
-pub share_grows : (opening : List Row) (s s' a x : Books) (rows : List (Books × Bool)) (k : ℕ) → AreBehind opening s rows → slice_get rows k ≡ Some (a, false) → IsPrefix (published_of opening s) (published_of opening s') → x ≡ s' → IsPrefix (published_of opening a) (published_of opening x)
-share_grows opening s s' a x rows k behind at grows new =
+pub share_grows : (limit : ℕ) (opening : List Row) (s s' a x : Books) (rows : List (Books × Bool)) (k : ℕ) → AreBehind limit opening s rows → slice_get rows k ≡ Some (a, false) → IsPrefix (published_of opening s) (published_of opening s') → x ≡ s' → IsPrefix (published_of opening a) (published_of opening x)
+share_grows limit opening s s' a x rows k behind at grows new =
     subst (λ (b : Books). IsPrefix (published_of opening a) (published_of opening b)) (sym new)
-    (prefix_trans (published_of opening a) (published_of opening s) (published_of opening s') (behind k (a, false) at) grows)
+    (prefix_trans (published_of opening a) (published_of opening s) (published_of opening s') (behind k (a, false) at).0 grows)
 
 -- what stands in a list with one more at its end
 get_push : {A : Type 0} (xs : List A) (k : ℕ) (x y : A) → slice_get (xs ++ x ∷ []) k ≡ Some y → (slice_get xs k ≡ Some y) ⊎ (x ≡ y)
@@ -66,16 +66,16 @@ enrol_tied s s' x rows rows' heads t is new are = rw (are, new, is) record {
 }
 
 -- one more session
-pub behind_push : (opening : List Row) (s s' x : Books) (rows rows' : List (Books × Bool)) → AreBehind opening s rows → published_of opening s ≡ published_of opening s' → x ≡ s' → rows' ≡ rows ++ (x, false) ∷ [] → AreBehind opening s' rows'
-behind_push opening s s' x rows rows' behind same new are j r e = ⊎_elim
-    (λ at. subst (λ (us : List Update). IsPrefix (published_of opening r.0) us) same (behind j r at))
-    (λ is. subst (λ (u : Books × Bool). IsPrefix (published_of opening u.0) (published_of opening s')) is (prefix_same (published_of opening x) (published_of opening s') (ap (published_of opening) new)))
+pub behind_push : (limit : ℕ) (opening : List Row) (s s' x : Books) (rows rows' : List (Books × Bool)) → AreBehind limit opening s rows → published_of opening s ≡ published_of opening s' → IsWhole limit opening s' → x ≡ s' → rows' ≡ rows ++ (x, false) ∷ [] → AreBehind limit opening s' rows'
+behind_push limit opening s s' x rows rows' behind same whole new are j r e = ⊎_elim
+    (λ at. (subst (λ (us : List Update). IsPrefix (published_of opening r.0) us) same (behind j r at).0, (behind j r at).1))
+    (λ is. subst (λ (u : Books × Bool). IsPrefix (published_of opening u.0) (published_of opening s') × IsWhole limit opening u.0) is (prefix_same (published_of opening x) (published_of opening s') (ap (published_of opening) new), subst (IsWhole limit opening) (sym new) whole))
     (get_push rows j (x, false) r (sym (ap (λ (l : List (Books × Bool)). slice_get l j) are) ∙ e))
 
 -- a share that came back keeps its row
-pub behind_given : (opening : List Row) (s a : Books) (rows rows' : List (Books × Bool)) (k : ℕ) → AreBehind opening s rows → slice_get rows k ≡ Some (a, false) → rows' ≡ set rows k (a, true) → AreBehind opening s rows'
-behind_given opening s a rows rows' k behind at are j r e = ⊎_elim
-    (λ p. subst (λ (u : Books × Bool). IsPrefix (published_of opening u.0) (published_of opening s)) p.1 (behind k (a, false) at))
+pub behind_given : (limit : ℕ) (opening : List Row) (s a : Books) (rows rows' : List (Books × Bool)) (k : ℕ) → AreBehind limit opening s rows → slice_get rows k ≡ Some (a, false) → rows' ≡ set rows k (a, true) → AreBehind limit opening s rows'
+behind_given limit opening s a rows rows' k behind at are j r e = ⊎_elim
+    (λ p. subst (λ (u : Books × Bool). IsPrefix (published_of opening u.0) (published_of opening s) × IsWhole limit opening u.0) p.1 (behind k (a, false) at))
     (λ p. behind j r p.1)
     (get_set rows k j (a, true) r (sym (ap (λ (l : List (Books × Bool)). slice_get l j) are) ∙ e))
 

@@ -20,7 +20,7 @@ use Rattle.sw_spine.specs.Receivable.{AreUpdates}
 use Rattle.sw_spine.specs.declared.history.State.TheVariants as state
 use Rattle.sw_spine.specs.declared.spine.TheConstants.{MOST_ENTRIES, MOST_SESSIONS}
 use Rattle.sw_tie.specs.declared.Book.{Book}
-use Rattle.sw_engine.specs.Published.{AreBehind}
+use Rattle.sw_engine.specs.Published.{AreBehind, EndsEntry}
 use Rattle.sw_tie.specs.declared.Share.{Share}
 
 -- what a desk shows: the spine, whether each session's ticket came back, and how many heads have a share
@@ -60,7 +60,7 @@ pub record IsOf (columns : List Column) (rows : List Row) (limit : ℕ) (s : Boo
   pub limit_is : s.limit ≡ limit
 
 -- the books have these names, one row was opened for each session, and both are tied to the spine, which began from
--- this table; no session's row is ahead of what is published
+-- this table; no session's row is ahead of what is published, and that ends with an entry
 pub record IsDesk (sessions_name heads_name : ℕ) (columns : List Column) (rows : List Row) (limit : ℕ)
     (s : Books) (many : ℕ) (sessions heads : Book Books) : Type 0 where
   pub sessions_named : sessions.name ≡ sessions_name
@@ -68,7 +68,8 @@ pub record IsDesk (sessions_name heads_name : ℕ) (columns : List Column) (rows
   pub many_are : many ≡ length sessions.rows
   pub of : IsOf columns rows limit s
   pub tied : IsTied s sessions.rows heads.rows
-  pub behind : AreBehind rows s sessions.rows
+  pub behind : AreBehind limit rows s sessions.rows
+  pub ends : EndsEntry limit rows s.entries s.published
 
 -- the share of a session
 abbrev pub IsShareOf : ℕ → ℕ → Share Books → Type 0

@@ -1,5 +1,5 @@
 -- What the shelf under the lock has of the history's updates, and what the sessions' shares show of it.
-use Rattle.std.specs.Prelude.{ℕ, ◌≡◌, ◌+◌, ◌++◌, List, [], Bool, None, Some, MatchResult, Result, drop, length, slice_get, take}
+use Rattle.std.specs.Prelude.{ℕ, ◌≡◌, ◌≤◌, ◌+◌, ◌++◌, List, [], Bool, None, Some, MatchResult, Result, drop, length, slice_get, take}
 use mathlib.Core.List.{IsPrefix}
 use Rattle.sw_table.specs.declared.row.Row.{Row}
 use Rattle.sw_table.specs.declared.row.Update.{Update}
@@ -9,9 +9,10 @@ use Rattle.sw_rows.specs.declared.query.Call.TheVariants as call
 use Rattle.sw_rows.specs.declared.reply.Reply.{Reply}
 use Rattle.sw_rows.specs.declared.refusal.Refusal.{Refusal}
 use Rattle.sw_rows.specs.declared.refusal.Refusal.TheVariants as refusal
-use Rattle.sw_spine.specs.History.{mine}
+use Rattle.sw_spine.specs.History.{mine, updates_after}
 use Rattle.sw_spine.specs.Books.{Books, updates, waits_for, with_answered, with_published}
 use Rattle.sw_spine.specs.Table.{opened, reply_to}
+use Rattle.sw_spine.specs.declared.history.Entry.{Entry}
 use Rattle.sw_tie.specs.declared.Share.{Share}
 use Rattle.sw_versions.specs.Known.{Known, Shelved}
 use Rattle.sw_versions.specs.declared.viewer.TheConstants.{MOST_VIEWERS}
@@ -24,11 +25,31 @@ later opening b = drop (length opening) (updates b)
 abbrev pub published_of : List Row → Books → List Update
 published_of opening b = drop (length opening) (take b.published (updates b))
 
--- what each row of the sessions' book shows as published begins what is published
-abbrev pub AreBehind : List Row → Books → List (Books × Bool) → Type 0
-AreBehind opening s rows =
+-- the updates of the first so many of some entries, the opening rows first
+abbrev pub updates_first : ℕ → List Row → List Entry → ℕ → List Update
+updates_first limit opening es n = updates_after limit (opened opening) (take n es)
+
+-- a number of updates, the opening rows counted, at which an entry ends: that of all updates of the first so many
+-- entries
+abbrev pub EndsEntry : ℕ → List Row → List Entry → ℕ → Type 0
+EndsEntry limit opening es count = (n : ℕ) × (n ≤ length es) × (count ≡ length (updates_first limit opening es n))
+
+-- updates that, after the opening rows, are all those of the first so many entries, and no other: of each entry all
+-- updates are among them, or none
+abbrev pub IsOfFirst : ℕ → List Row → List Entry → List Update → Type 0
+IsOfFirst limit opening es list =
+    (n : ℕ) × (n ≤ length es) × (opened opening ++ list ≡ updates_first limit opening es n)
+
+-- what is published is so
+abbrev pub IsWhole : ℕ → List Row → Books → Type 0
+IsWhole limit opening b = IsOfFirst limit opening b.entries (published_of opening b)
+
+-- what each row of the sessions' book shows as published begins what is published, and has of each entry all updates or
+-- none
+abbrev pub AreBehind : ℕ → List Row → Books → List (Books × Bool) → Type 0
+AreBehind limit opening s rows =
     (k : ℕ) (r : Books × Bool) → slice_get rows k ≡ Some r
-    → IsPrefix (published_of opening r.0) (published_of opening s)
+    → IsPrefix (published_of opening r.0) (published_of opening s) × IsWhole limit opening r.0
 
 -- what stands in the book of updates, and what is published, begins the updates after the opening rows; and the spine
 -- has the number of those that are published
@@ -65,10 +86,12 @@ RefusesViewing other = ⊥
 
 -- ---- receipts
 
--- what a session shows of them: the list that it has the receipt of, and the one that its share shows as published
+-- what a session shows of them: the list that it has the receipt of; and what its share shows, which is the list that is
+-- published and the entries of the history
 pub record Receipted : Type 0 where
   pub given : List Update
   pub published : List Update
+  pub entries : List Entry
 
 -- a call that is no select, or a meeting, where it is answered, gives the receipt of what is published then, which
 -- begins with the one before; refused, the receipt stays
@@ -83,12 +106,12 @@ CallGives (call.Insert cells) told old new = GivesReceipt told old new
 CallGives (call.Delete key) told old new = GivesReceipt told old new
 CallGives (call.DeleteWhere conds) told old new = GivesReceipt told old new
 
--- the session's share waits for nothing, and what the session has the receipt of begins what the share shows as
--- published
-abbrev pub IsHeld : ℕ → List Row → ℕ → Share Books → List Update → Type 0
-IsHeld name opening session share receipt =
+-- the session's share waits for nothing, what the session has the receipt of begins what the share shows as published,
+-- and that has of each entry all updates or none
+abbrev pub IsHeld : ℕ → ℕ → List Row → ℕ → Share Books → List Update → Type 0
+IsHeld name limit opening session share receipt =
     (share.name ≡ name) × (session ≡ share.number + 1) × (waits_for session share.value ≡ None)
-    × IsPrefix receipt (published_of opening share.value)
+    × IsPrefix receipt (published_of opening share.value) × IsWhole limit opening share.value
 
 -- the share of a session that was just opened
 abbrev pub IsNewShare : ℕ → Books → ℕ → Share Books → Type 0

@@ -9,7 +9,7 @@ ghost use Rattle.sw_spine.specs.History.{CallsBelow, is_select, mine};
 ghost use Rattle.sw_spine.specs.Books.{RefusesRows, RefusesSession, new_books, updates, waits_for, with_answered, with_published, with_session, with_settled};
 ghost use Rattle.sw_spine.specs.declared.history.State.TheVariants.{Answered, Void};
 ghost use mathlib.Core.List.{IsPrefix};
-ghost use Rattle.sw_engine.specs.Published.{IsHeld, IsNewShare, later, published_of};
+ghost use Rattle.sw_engine.specs.Published.{EndsEntry, IsHeld, IsNewShare, IsWhole, later, published_of};
 ghost use Rattle.sw_engine.specs.Desk.{AreGiven, IsAnswered, IsAtRest, IsBegun, IsOf, IsShareOf, IsTold, RefusesCall, latched, new_desk};
 
 use crate::counting::Counters;
@@ -63,12 +63,12 @@ impl<J: Naming> Model for Ticket<J> {
 
     ghost view = { λ t. (t.number, mine t.number t.share.value.entries) };
 
-    ghost invariant = { λ t. IsHeld J.sessions J.opening t.number t.share t.receipt };
+    ghost invariant = { λ t. IsHeld J.sessions J.limit J.opening t.number t.share t.receipt };
 }
 
 impl<J: Naming> Ticket<J> {
     pub(crate) fn new(number: u64, share: Share<Spine>, receipt: Front<J>) -> Ticket<J>
-        requires { IsHeld J.sessions J.opening number share receipt }
+        requires { IsHeld J.sessions J.limit J.opening number share receipt }
         ensures { result ≡ (number, mine number share.value.entries) }
     {
         Ticket {
@@ -161,6 +161,7 @@ impl<J: Naming> Desk<J> {
     /// Refused `TooMany` of limit 1,024 where that many were opened, `NoMemory` otherwise; a refused one opened none.
     pub fn enrol(&mut self) -> Result<(u64, Share<Spine>), Refusal>
         ensures share { IfOk result (λ t. IsNewShare J.sessions self.new.books t.0 t.1) }
+        ensures whole { IfOk result (λ t. IsWhole J.limit J.opening t.1.value) }
         ensures made { OnOk result (self.new.books ≡ with_session self.old.books) }
         ensures given { OnOk result (self.new.given ≡ self.old.given ++ false ∷ []) }
         ensures refused { IfErr result (λ e. (self.new ≡ self.old) × RefusesSession self.old.books e) }
@@ -211,6 +212,7 @@ impl<J: Naming> Desk<J> {
         ensures updates { updates self.new.books ≡ updates self.old.books }
         ensures published { self.new.books.published ≡ self.old.books.published }
         ensures grows { IsPrefix (published_of J.opening share.old.value) (published_of J.opening share.new.value) }
+        ensures whole { IsWhole J.limit J.opening share.new.value }
         ensures same { head.new ≡ record head.old { taken = head.new.taken } }
         ensures refused { IfErr result (λ e. RefusesCall e) }
     {
@@ -243,6 +245,7 @@ impl<J: Naming> Desk<J> {
         ensures finished { self.new.books ≡ with_settled number (Answered reply) self.old.books }
         ensures updates { updates self.new.books ≡ updates self.old.books }
         ensures grows { IsPrefix (published_of J.opening share.old.value) (published_of J.opening share.new.value) }
+        ensures whole { IsWhole J.limit J.opening share.new.value }
     {
         let Desk {
             spine,
@@ -263,6 +266,7 @@ impl<J: Naming> Desk<J> {
         ensures voided { self.new.books ≡ with_settled number Void self.old.books }
         ensures updates { updates self.new.books ≡ updates self.old.books }
         ensures grows { IsPrefix (published_of J.opening share.old.value) (published_of J.opening share.new.value) }
+        ensures whole { IsWhole J.limit J.opening share.new.value }
     {
         let Desk {
             spine,
@@ -291,6 +295,7 @@ impl<J: Naming> Desk<J> {
         ensures kept { OnErr result (self.new.books ≡ self.old.books) }
         ensures updates { OnOk result (updates self.new.books ≡ updates_then J.limit (updates self.old.books) call) }
         ensures grows { IsPrefix (published_of J.opening share.old.value) (published_of J.opening share.new.value) }
+        ensures whole { IsWhole J.limit J.opening share.new.value }
         ensures refused { IfErr result (λ e. RefusesCall e) }
     {
         let Desk {
@@ -307,16 +312,18 @@ impl<J: Naming> Desk<J> {
     }
 
     /// So many of the updates are published, the opening rows counted, and the session's share shows it. Nothing else
-    /// changes.
+    /// changes. Of each entry of the history all updates are published then, or none.
     pub fn publish(&mut self, number: u64, share: &mut Share<Spine>, count: u64)
         requires rest { IsAtRest J.sessions number share.old }
         requires low { self.old.books.published ≤ count }
         requires high { count ≤ length (updates self.old.books) }
+        requires ends { EndsEntry J.limit J.opening self.old.books.entries count }
         ensures rest { IsAtRest J.sessions number share.new }
         ensures mine { mine number share.new.value.entries ≡ mine number share.old.value.entries }
         ensures published { self.new.books ≡ with_published count self.old.books }
         ensures shown { share.new.value ≡ self.new.books }
         ensures grows { IsPrefix (published_of J.opening share.old.value) (published_of J.opening share.new.value) }
+        ensures whole { IsWhole J.limit J.opening share.new.value }
     {
         let Desk {
             spine,
@@ -328,10 +335,12 @@ impl<J: Naming> Desk<J> {
         sessions.set(share, Snapshot::of(spine));
     }
 
-    /// The updates after the opening rows.
+    /// The updates after the opening rows. Of each entry of the history all updates are published, or none.
     pub fn later(&self) -> &[Update]
         ensures later { result.now ≡ later J.opening self.now.books }
         ensures opening { length J.opening ≤ length (updates self.now.books) }
+        ensures whole { IsWhole J.limit J.opening self.now.books }
+        ensures all { EndsEntry J.limit J.opening self.now.books.entries (length (updates self.now.books)) }
     {
         // for the prover: the opening rows are among the updates
         let _count = self.spine.published();

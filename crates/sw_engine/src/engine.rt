@@ -15,7 +15,7 @@ ghost use mathlib.Core.List.{IsPrefix};
 ghost use Rattle.sw_versions.specs.Lists.{IsLonger};
 ghost use Rattle.sw_versions.specs.Pending.{IsPlain};
 ghost use Rattle.sw_versions.specs.Refused.{IsAhead};
-ghost use Rattle.sw_engine.specs.Published.{CallGives, GivesReceipt, RefusesViewing, published_of};
+ghost use Rattle.sw_engine.specs.Published.{CallGives, GivesReceipt, IsOfFirst, IsWhole, RefusesViewing, published_of};
 ghost use Rattle.sw_engine.specs.Headline.{IsHistoryOfOneThread};
 
 use crate::conds::add_all;
@@ -411,10 +411,12 @@ where
     ) -> Result<Reply, Refusal>
         requires rest { IsAtRest J.sessions number share.old }
         requires asks { AsksBelow (length J.columns) query.now }
+        requires whole { IsWhole J.limit J.opening share.old.value }
         ensures rest { IsAtRest J.sessions number share.new }
         ensures mine { IfOk result (λ r. IsTold number (Select query.now) r share.old.value share.new.value) }
         ensures err { OnErr result (mine number share.new.value.entries ≡ mine number share.old.value.entries) }
         ensures grows { IsPrefix (published_of J.opening share.old.value) (published_of J.opening share.new.value) }
+        ensures whole { IsWhole J.limit J.opening share.new.value }
         ensures refused { IfErr result (λ e. RefusesCall e) }
     {
         let Ok(asked) = query.copied(self.alloc) else {
@@ -444,6 +446,7 @@ where
         ensures rest { IsAtRest J.sessions number share.new }
         ensures mine { mine number share.new.value.entries ≡ mine number share.old.value.entries }
         ensures grows { IsPrefix (published_of J.opening share.old.value) (published_of J.opening share.new.value) }
+        ensures whole { IsWhole J.limit J.opening share.new.value }
         ensures receipt { IfOk result (λ r. r ≡ published_of J.opening share.new.value) }
         ensures met { IfOk result (λ r. IsPrefix reader.old.seen r × IsLonger reader.old.told r reader.new.told) }
         ensures seen { reader.new.seen ≡ reader.old.seen }
@@ -468,6 +471,7 @@ where
         ensures mine { IfOk result (λ r. IsTold number call r share.old.value share.new.value) }
         ensures err { OnErr result (mine number share.new.value.entries ≡ mine number share.old.value.entries) }
         ensures grows { IsPrefix (published_of J.opening share.old.value) (published_of J.opening share.new.value) }
+        ensures whole { IsWhole J.limit J.opening share.new.value }
         ensures receipt { OnOk result (receipt.new ≡ published_of J.opening share.new.value) }
         ensures kept { OnErr result (receipt.new ≡ receipt.old) }
         ensures refused { IfErr result (λ e. RefusesCall e) }
@@ -506,10 +510,10 @@ where
     ghost view = { λ s. (
       s.number,
       mine s.number s.share.value.entries,
-      record { given = s.receipt; published = published_of J.opening s.share.value },
+      record { given = s.receipt; published = published_of J.opening s.share.value; entries = s.share.value.entries },
     ) };
 
-    ghost invariant = { λ s. IsHeld J.sessions J.opening s.number s.share s.receipt };
+    ghost invariant = { λ s. IsHeld J.sessions J.limit J.opening s.number s.share s.receipt };
 }
 
 impl<'e, J: Naming, M: CrackerMap> Session<'e, J, M>
@@ -614,8 +618,12 @@ where
 
     /// The receipt of the list that was published when the session was opened, or at its last insert, delete, delete under
     /// conditions or meeting that was answered. Each begins with the one before. It takes no memory, and waits for nobody.
+    ///
+    /// Of each entry of the history, what the session's share shows as published has all updates or none.
     pub fn receipt(&self) -> Receipt<J>
-        ensures { result ≡ self.now.2.given }
+        ensures given { result ≡ self.now.2.given }
+        ensures whole { IsOfFirst J.limit J.opening self.now.2.entries self.now.2.published }
+        ensures mine { self.now.1 ≡ mine self.now.0 self.now.2.entries }
     {
         self.receipt.again()
     }

@@ -14,7 +14,7 @@ ghost use Rattle.sw_versions.specs.Lists.{IsLonger};
 ghost use Rattle.sw_versions.specs.Refused.{IsAhead, RefusesViewer};
 ghost use Rattle.sw_versions.specs.declared.viewer.TheConstants.{MOST_VIEWERS};
 ghost use Rattle.sw_engine.specs.Desk.{InOrder, IsAnswered, IsAtRest, IsBegun, IsShareOf, IsTold, RefusesCall, RefusesMany};
-ghost use Rattle.sw_engine.specs.Published.{IsNewShare, later, new_viewer, no_versions, published_of, with_committed, with_viewer};
+ghost use Rattle.sw_engine.specs.Published.{IsNewShare, IsOfFirst, IsWhole, later, new_viewer, no_versions, published_of, with_committed, with_viewer};
 
 use crate::desk::{Desk, Ticket};
 use crate::latch::LatchedHead;
@@ -83,6 +83,7 @@ where
         ensures share { IfOk result (λ t. IsNewShare J.sessions self.new.desk.books t.0 t.1) }
         ensures receipt { IfOk result (λ t. t.2 ≡ self.old.shelf.published) }
         ensures shown { IfOk result (λ t. t.2 ≡ published_of J.opening t.1.value) }
+        ensures whole { IfOk result (λ t. IsWhole J.limit J.opening t.1.value) }
         ensures made { OnOk result (self.new.desk.books ≡ with_session self.old.desk.books) }
         ensures shelf { self.new.shelf ≡ self.old.shelf }
         ensures refused { IfErr result (λ e. (self.new ≡ self.old) × RefusesSession self.old.desk.books e) }
@@ -149,6 +150,7 @@ where
         ensures waits { OnOk result (waits_for number share.new.value ≡ Some (Select query, head.new.taken)) }
         ensures rest { OnErr result (waits_for number share.new.value ≡ None) }
         ensures grows { IsPrefix (published_of J.opening share.old.value) (published_of J.opening share.new.value) }
+        ensures whole { IsWhole J.limit J.opening share.new.value }
         ensures begun { OnOk result (IsBegun number query self.old.desk.books self.new.desk.books) }
         ensures kept { OnErr result (self.new.desk.books ≡ self.old.desk.books) }
         ensures shelf { self.new.shelf ≡ self.old.shelf }
@@ -166,6 +168,7 @@ where
         ensures rest { IsAtRest J.sessions number share.new }
         ensures mine { IsAnswered number reply share.old.value share.new.value }
         ensures grows { IsPrefix (published_of J.opening share.old.value) (published_of J.opening share.new.value) }
+        ensures whole { IsWhole J.limit J.opening share.new.value }
         ensures finished { self.new.desk.books ≡ with_settled number (Answered reply) self.old.desk.books }
         ensures shelf { self.new.shelf ≡ self.old.shelf }
     {
@@ -180,6 +183,7 @@ where
         ensures rest { IsAtRest J.sessions number share.new }
         ensures mine { mine number share.new.value.entries ≡ mine number share.old.value.entries }
         ensures grows { IsPrefix (published_of J.opening share.old.value) (published_of J.opening share.new.value) }
+        ensures whole { IsWhole J.limit J.opening share.new.value }
         ensures voided { self.new.desk.books ≡ with_settled number Void self.old.desk.books }
         ensures shelf { self.new.shelf ≡ self.old.shelf }
     {
@@ -203,6 +207,7 @@ where
         ensures mine { IfOk result (λ r. IsTold number call r.0 share.old.value share.new.value) }
         ensures err { OnErr result (mine number share.new.value.entries ≡ mine number share.old.value.entries) }
         ensures grows { IsPrefix (published_of J.opening share.old.value) (published_of J.opening share.new.value) }
+        ensures whole { IsWhole J.limit J.opening share.new.value }
         ensures shown { OnOk result (share.new.value ≡ self.new.desk.books) }
         ensures receipt { IfOk result (λ r. r.1 ≡ self.new.shelf.published) }
         ensures told { IfOk result (λ r. r.1 ≡ published_of J.opening share.new.value) }
@@ -210,6 +215,7 @@ where
             ≡ with_committed J.opening number call self.new.shelf self.old.desk.books) }
         ensures published { (self.new.shelf.published ≡ self.old.shelf.published)
             ⊎ (self.new.shelf.published ≡ later J.opening self.new.desk.books) }
+        ensures entries { OnOk result (IsOfFirst J.limit J.opening self.new.desk.books.entries self.new.shelf.published) }
         ensures longer { IsPrefix self.old.shelf.published self.new.shelf.published }
         ensures viewers { self.new.shelf.viewers ≡ self.old.shelf.viewers }
         ensures kept { OnErr result ((self.new.desk.books ≡ self.old.desk.books) × (self.new.shelf ≡ self.old.shelf)) }
@@ -241,11 +247,13 @@ where
         ensures rest { IsAtRest J.sessions number share.new }
         ensures mine { mine number share.new.value.entries ≡ mine number share.old.value.entries }
         ensures grows { IsPrefix (published_of J.opening share.old.value) (published_of J.opening share.new.value) }
+        ensures whole { IsWhole J.limit J.opening share.new.value }
         ensures shown { published_of J.opening share.new.value ≡ self.new.shelf.published }
         ensures books { self.new.desk.books
             ≡ with_published (length J.opening + length self.new.shelf.published) self.old.desk.books }
         ensures published { (self.new.shelf.published ≡ self.old.shelf.published)
             ⊎ (self.new.shelf.published ≡ later J.opening self.new.desk.books) }
+        ensures entries { IsOfFirst J.limit J.opening self.new.desk.books.entries self.new.shelf.published }
         ensures longer { IsPrefix self.old.shelf.published self.new.shelf.published }
         ensures viewers { self.new.shelf.viewers ≡ self.old.shelf.viewers }
         ensures receipt { IfOk result (λ r. r ≡ self.new.shelf.published) }
@@ -269,6 +277,7 @@ where
     pub fn viewer(&mut self) -> Result<Viewer<J>, Refusal>
         ensures few { OnOk result (self.old.shelf.viewers < MOST_VIEWERS) }
         ensures opened { IfOk result (λ v. v ≡ new_viewer self.old.shelf) }
+        ensures entries { IfOk result (λ v. IsOfFirst J.limit J.opening self.new.desk.books.entries v.seen) }
         ensures counted { OnOk result (self.new ≡ record self.old { shelf = with_viewer self.old.shelf }) }
         ensures refused { IfErr result (λ e. (self.new ≡ self.old) × RefusesViewer self.old.shelf.viewers e) }
     {

@@ -11,8 +11,8 @@ use std::marker::{Model, PhantomData};
 use sw_rows::{Query, Refusal, Reply};
 use sw_versions::{Front, Naming};
 
-/// The list of updates that was published when it was given, to be learnt by a viewer. It takes no memory, however
-/// long the list is, and can be copied.
+/// The list of updates that was published when it was given, to be learnt by a viewer. Of each entry of the history it
+/// has all updates, or none. It takes no memory, however long it is, and can be copied.
 pub type Receipt<J> = Front<J>;
 
 /// A reader of an engine's live rows, which takes no lock and waits for nobody. It does not outlive its engine.

@@ -5,8 +5,10 @@ use Rattle.sw_spine.specs.History.{mine}
 use Rattle.sw_spine.specs.Books.{Books, took, waits_for}
 use Rattle.sw_spine.specs.Receivable.{AreUpdates}
 use Rattle.sw_engine.specs.Desk.{received_by}
+use Rattle.sw_engine.specs.Published.{IsWhole}
 use Rattle.sw_engine.proofs.Ties.{all_taken, begin_tied, head_below, is_of_same, length_set, mine_is, waits_is}
 use Rattle.sw_engine.proofs.Published.{behind_set, prefix_same, published_kept, share_grows}
+use Rattle.sw_engine.proofs.Whole.{ends_open, whole_after}
 use Rattle.sw_engine.proofs.desk.Desk.begin.Goals as goal
 
 pub begin-requires-clause-rest : goal.begin-requires-clause-rest
@@ -30,6 +32,7 @@ invariant_of-self-2 g c =
     let alike = c.agree-2.ensures.same in
     let x = c.begin.new.self in
     let done = c.in_ok-begin.ensures.begun in
+    let ends = ends_open g.J.Naming.limit g.J.Naming.opening c.args.number c.args.query c.head.inside.number s.spine x done c.self.invariant.ends in
     let rows : c.set.new.self.rows ≡ set s.sessions.rows h.number (c.of.result.value, false) = c.set.ensures.rows ∙ (λ i. set (same.0 i).rows (same.1 i).number (c.of.result.value, false)) in
     let heads : c.set-2.new.self.rows ≡ set s.heads.rows m.number (c.of-2.result.value, false) = c.set-2.ensures.rows ∙ (λ i. set (alike.0 i).rows (alike.1 i).number (c.of-2.result.value, false)) in record {
       sessions_named = c.set.ensures.name.0 ∙ ap (λ b. b.name) same.0 ∙ c.self.invariant.sessions_named;
@@ -37,7 +40,8 @@ invariant_of-self-2 g c =
       many_are = c.self.invariant.many_are ∙ sym (ap length rows ∙ length_set s.sessions.rows h.number (c.of.result.value, false));
       of = is_of_same g.J.Naming.columns g.J.Naming.opening g.J.Naming.limit s.spine x c.self.invariant.of (ap (λ (b : Books). b.columns) done) (ap (λ (b : Books). b.rows) done) (ap (λ (b : Books). b.limit) done);
       tied = begin_tied s.spine x s.sessions.rows c.set.new.self.rows s.heads.rows c.set-2.new.self.rows h.number c.args.number m.number c.head.inside.number c.of.result.value c.of-2.result.value c.self.invariant.tied c.requires.rest.1 c.head.invariant.number_is c.begin.ensures.others c.begin.ensures.heads (ap (λ (b : Books). b.sessions) done) c.of.ensures c.of-2.ensures rows heads;
-      behind = behind_set g.J.Naming.opening s.spine x c.of.result.value s.sessions.rows c.set.new.self.rows h.number c.self.invariant.behind (prefix_same _ _ (sym (published_kept g.J.Naming.opening s.spine x (ap (λ (b : Books). b.published) done) c.begin.ensures.updates))) c.of.ensures rows;
+      behind = behind_set g.J.Naming.limit g.J.Naming.opening s.spine x c.of.result.value s.sessions.rows c.set.new.self.rows h.number c.self.invariant.behind (prefix_same _ _ (sym (published_kept g.J.Naming.opening s.spine x (ap (λ (b : Books). b.published) done) c.begin.ensures.updates))) (whole_after g.J.Naming.columns g.J.Naming.opening g.J.Naming.limit s.spine x c.self.invariant.of (ap (λ (b : Books). b.columns) done) (ap (λ (b : Books). b.rows) done) (ap (λ (b : Books). b.limit) done) ends) c.of.ensures rows;
+      ends = ends;
     }
 
 pub invariant_of-head-2 : goal.invariant_of-head-2
@@ -78,4 +82,12 @@ returns-clause-grows g c =
     let h = c.args.share.now in
     let x = c.begin.new.self in
     let kept = published_kept g.J.Naming.opening s.spine x (ap (λ (b : Books). b.published) c.in_ok-begin.ensures.begun) c.begin.ensures.updates in
-    share_grows g.J.Naming.opening s.spine x h.value c.set.new.share.value s.sessions.rows h.number c.self.invariant.behind c.agree.ensures.value (prefix_same _ _ (sym kept)) (c.set.ensures.value ∙ c.of.ensures)
+    share_grows g.J.Naming.limit g.J.Naming.opening s.spine x h.value c.set.new.share.value s.sessions.rows h.number c.self.invariant.behind c.agree.ensures.value (prefix_same _ _ (sym kept)) (c.set.ensures.value ∙ c.of.ensures)
+
+pub returns-clause-whole : goal.returns-clause-whole
+returns-clause-whole g c =
+    let s = c.self.inside in
+    let x = c.begin.new.self in
+    let done = c.in_ok-begin.ensures.begun in
+    let ends = ends_open g.J.Naming.limit g.J.Naming.opening c.args.number c.args.query c.head.inside.number s.spine x done c.self.invariant.ends in
+    subst (IsWhole g.J.Naming.limit g.J.Naming.opening) (sym (c.set.ensures.value ∙ c.of.ensures)) (whole_after g.J.Naming.columns g.J.Naming.opening g.J.Naming.limit s.spine x c.self.invariant.of (ap (λ (b : Books). b.columns) done) (ap (λ (b : Books). b.rows) done) (ap (λ (b : Books). b.limit) done) ends)

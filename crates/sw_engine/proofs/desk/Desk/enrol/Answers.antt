@@ -1,8 +1,9 @@
-use Rattle.std.proofs.Common.{◌≡◌, ◌+◌, length, false, sym, ap, ◌∙◌}
+use Rattle.std.proofs.Common.{◌≡◌, ◌+◌, length, false, sym, subst, ap, ◌∙◌}
 use Rattle.sw_spine.specs.Books.{Books, with_session}
-use Rattle.sw_engine.specs.Published.{published_of}
+use Rattle.sw_engine.specs.Published.{IsWhole, published_of}
 use Rattle.sw_engine.proofs.Published.{behind_push, enrol_tied}
 use Rattle.sw_engine.proofs.Ties.{is_of_same, length_push}
+use Rattle.sw_engine.proofs.Whole.{ends_session, whole_after}
 use Rattle.sw_engine.proofs.desk.Desk.enrol.Goals as goal
 
 pub invariant_of-self-2 : goal.invariant_of-self-2
@@ -10,11 +11,21 @@ invariant_of-self-2 g c =
     let s = c.self.inside in
     let x = c.open_session.new.self in
     let is : x ≡ with_session s.spine = c.in_ok-number.ensures.opened.2 in
+    let ends = ends_session g.J.Naming.limit g.J.Naming.opening s.spine x is c.self.invariant.ends in
     let rows = c.open-share.ensures.rows in record {
       sessions_named = c.open-share.ensures.name.0 ∙ c.self.invariant.sessions_named;
       heads_named = c.self.invariant.heads_named;
       many_are = ap (λ n. n + 1) c.self.invariant.many_are ∙ sym (ap length rows ∙ length_push s.sessions.rows (c.of.result.value, false));
       of = is_of_same g.J.Naming.columns g.J.Naming.opening g.J.Naming.limit s.spine x c.self.invariant.of (ap (λ (b : Books). b.columns) is) (ap (λ (b : Books). b.rows) is) (ap (λ (b : Books). b.limit) is);
       tied = enrol_tied s.spine x c.of.result.value s.sessions.rows c.open-share.new.self.rows s.heads.rows c.self.invariant.tied is c.of.ensures rows;
-      behind = behind_push g.J.Naming.opening s.spine x c.of.result.value s.sessions.rows c.open-share.new.self.rows c.self.invariant.behind (sym (ap (published_of g.J.Naming.opening) is)) c.of.ensures rows;
+      behind = behind_push g.J.Naming.limit g.J.Naming.opening s.spine x c.of.result.value s.sessions.rows c.open-share.new.self.rows c.self.invariant.behind (sym (ap (published_of g.J.Naming.opening) is)) (whole_after g.J.Naming.columns g.J.Naming.opening g.J.Naming.limit s.spine x c.self.invariant.of (ap (λ (b : Books). b.columns) is) (ap (λ (b : Books). b.rows) is) (ap (λ (b : Books). b.limit) is) ends) c.of.ensures rows;
+      ends = ends;
     }
+
+pub returns-clause-whole : goal.returns-clause-whole
+returns-clause-whole g c =
+    let s = c.self.inside in
+    let x = c.open_session.new.self in
+    let is : x ≡ with_session s.spine = c.in_ok-number.ensures.opened.2 in
+    let ends = ends_session g.J.Naming.limit g.J.Naming.opening s.spine x is c.self.invariant.ends in
+    subst (IsWhole g.J.Naming.limit g.J.Naming.opening) (sym (c.open-share.ensures.share.1 ∙ c.of.ensures)) (whole_after g.J.Naming.columns g.J.Naming.opening g.J.Naming.limit s.spine x c.self.invariant.of (ap (λ (b : Books). b.columns) is) (ap (λ (b : Books). b.rows) is) (ap (λ (b : Books). b.limit) is) ends)

@@ -13,13 +13,14 @@ invariant_of-self g c =
       c.commit.ensures.rest.1,
       c.commit.ensures.rest.2,
       held_after c.commit.result s.receipt c.commit.new.receipt (published_of opening s.share.value) (published_of opening c.commit.new.share.value) c.self.invariant.3 c.commit.ensures.grows c.commit.ensures.receipt c.commit.ensures.kept,
+      c.commit.ensures.whole,
     )
 
 pub returns-clause-receipt : goal.returns-clause-receipt
 returns-clause-receipt g c =
     let s = c.self.inside in
     let opening = g.J.Naming.opening in
-    let old : Receipted = record { given = s.receipt; published = published_of opening s.share.value } in
-    let new : Receipted = record { given = c.commit.new.receipt; published = published_of opening c.commit.new.share.value } in
+    let old : Receipted = record { given = s.receipt; published = published_of opening s.share.value; entries = s.share.value.entries } in
+    let new : Receipted = record { given = c.commit.new.receipt; published = published_of opening c.commit.new.share.value; entries = c.commit.new.share.value.entries } in
     subst (λ (o : Receipted). GivesReceipt c.commit.result o new) (ap (λ (v : ℕ × List (Call × Reply) × Receipted). v.2) c.self.view_is)
     (gives_after c.commit.result old new c.self.invariant.3 c.commit.ensures.grows c.commit.ensures.receipt c.commit.ensures.kept)
