@@ -13,7 +13,7 @@ use Rattle.sw_rows.specs.Bounds.{bound_below, greater, lesser}
 use Rattle.sw_rows.specs.Header.{Column, kinds_of, names_of}
 use Rattle.sw_rows.specs.declared.bound.Bound.{Bound}
 use Rattle.sw_rows.specs.declared.bound.Bound.TheVariants.{Before, After}
-use Rattle.sw_rows.specs.Scan.{WantsBelow, counting}
+use Rattle.sw_rows.specs.Scan.{WantsBelow}
 use Rattle.sw_rows.specs.Domains.{Domain, is_of_texts}
 use Rattle.sw_rows.specs.Domains as kind
 use Rattle.sw_rows.specs.declared.query.Cond.{Cond}

@@ -1,5 +1,5 @@
 -- The comparisons that conditions are printed by make those conditions again.
-use Rattle.std.proofs.Common.{◌≡◌, ◌∙◌, ap, sym, refl, ℕ, ℤ, int_lt, Bool, true, false, ◌||◌, eqb, List, [], ◌∷◌, ◌++◌, map, is_some, Option, Some, None, append_assoc, append-nil, subst}
+use Rattle.std.proofs.Common.{◌≡◌, ◌∙◌, ap, sym, refl, ℕ, ℤ, int_lt, Bool, true, false, eqb, List, [], ◌∷◌, ◌++◌, map, Option, Some, None, append_assoc, append-nil, subst}
 use Rattle.std.proofs.lemmas.Bool.Decides.{Decides-eqb, Decides-int_eq}
 use Rattle.std.proofs.lemmas.List.{map-append}
 use Rattle.std.specs.Ordering.{int_eq}
