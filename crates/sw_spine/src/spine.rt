@@ -293,8 +293,8 @@ impl Spine {
     /// An insert or a delete is answered at the end of the history, with the plain table's reply there.
     ///
     /// Refused `HistoryFull` where the history has 1,048,576 entries, `NoMemory` otherwise; after a refusal nothing has
-    /// changed. The caller's conditions: the call is no select, its conditions name attributes of the table, and the session
-    /// was opened and has no open entry.
+    /// changed. The caller's conditions: the call is no select, its conditions name attributes of the table, and the
+    /// session was opened and has no open entry.
     pub fn commit(&mut self, session: u64, call: Call) -> Result<Reply, Refusal>
         requires opened { is_opened session self.old ≡ true }
         requires rest { waits_for session self.old ≡ None }
@@ -375,7 +375,9 @@ impl Spine {
         requires rest { waits_for session self.old ≡ None }
         requires below { CondsBelow (length self.old.columns) conds }
         requires room { length self.old.entries < MOST_ENTRIES }
-        ensures { MatchResult result (HasAnswered session (DeleteWhere conds) self.old self.new) (λ _. self.new ≡ self.old) }
+        ensures { MatchResult result
+            (HasAnswered session (DeleteWhere conds) self.old self.new)
+            (λ _. self.new ≡ self.old) }
     {
         // for the prover: there are eight attributes at most
         let _width = self.schema.len();
