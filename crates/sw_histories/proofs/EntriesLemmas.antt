@@ -27,7 +27,7 @@ use Rattle.sw_spine.specs.declared.history.Entry.{Entry}
 use Rattle.sw_spine.specs.declared.spine.TheConstants.{MOST_ENTRIES}
 use Rattle.sw_histories.specs.Told.{◌>>=◌}
 use Rattle.sw_histories.specs.RecordReading.{Frame, array_at, columns_in, entries_after, entries_of, entry_in, entry_learned, frame, frame_of, has_members, history_of, history_with, in_range, limit_in, items_list, or_fault, record_at, rows_up_to, texts_after}
-use Rattle.sw_histories.specs.RecordText.{format_of}
+use Rattle.sw_histories.specs.RecordText.{least_format}
 use Rattle.sw_histories.specs.FromTokens.{IsCount}
 use Rattle.sw_histories.specs.Outlines.{AreRows, IsOutlineOf, Stands, after_brace, emptied, front_as, front_of, outline_at, outline_of, outside_in, outside_of, record_in, values_after, values_at, without_items}
 use Rattle.sw_histories.specs.declared.outline.ItemsAt.{ItemsAt}
@@ -65,28 +65,28 @@ answers_bind refusal.NoMemory said f h = tt
 answers_bind {A} e said f h = ap (λ (r : Result A Refusal). r >>= f) h
 
 -- an entry's fault is that of the entries from there on
-pub entry_fault : (columns : List Column) (es : List Entry) (d : Data) (ds : List Data) (n : ℕ) (e : Refusal) → n ≡ length es + 1 → Answers {A = Entry} (Err e) (entry_in columns n d) → Answers {A = List Column × List Entry} (Err e) (entries_after columns es (d ∷ ds))
-entry_fault columns es d ds n e place h =
+pub entry_fault : (format : ℕ) (columns : List Column) (es : List Entry) (d : Data) (ds : List Data) (n : ℕ) (e : Refusal) → n ≡ length es + 1 → Answers {A = Entry} (Err e) (entry_in format columns n d) → Answers {A = List Column × List Entry} (Err e) (entries_after format columns es (d ∷ ds))
+entry_fault format columns es d ds n e place h =
     let now = entry_learned columns d in
-    subst (λ m. Answers {A = List Column × List Entry} (Err e) (entry_in columns m d >>= λ x. entries_after now (es ++ x ∷ []) ds)) place (answers_bind {A = Entry} {B = List Column × List Entry} e (entry_in columns n d) (λ x. entries_after now (es ++ x ∷ []) ds) h)
+    subst (λ m. Answers {A = List Column × List Entry} (Err e) (entry_in format columns m d >>= λ x. entries_after format now (es ++ x ∷ []) ds)) place (answers_bind {A = Entry} {B = List Column × List Entry} e (entry_in format columns n d) (λ x. entries_after format now (es ++ x ∷ []) ds) h)
 
 -- ---- the part outside the entries
 
-abbrev frame_from : Option (List Column) → Option ℕ → Option (List Data) → Option (List Data) → Option Frame
+abbrev frame_from : Option (List Column × ℕ) → Option ℕ → Option (List Data) → Option (List Data) → Option Frame
 frame_from cs l rs es =
-    option_and_then (λ columns. option_and_then (λ limit. option_and_then (λ r. option_map (λ items. frame r.0 limit r.1 items) es) (option_and_then (rows_up_to columns limit) rs)) l) cs
+    option_and_then (λ c. option_and_then (λ limit. option_and_then (λ r. option_map (λ items. frame r.0 c.1 limit r.1 items) es) (option_and_then (rows_up_to c.0 limit) rs)) l) cs
 
 abbrev with_items : List Data → Frame → Frame
-with_items ds f = frame f.columns f.limit f.rows ds
+with_items ds f = frame f.columns f.format f.limit f.rows ds
 
-nothing_in : (limit : ℕ) (rs : Option (List Column × List Row)) → option_and_then (λ r. option_map {T = List Data} {U = Frame} (λ items. frame r.0 limit r.1 items) None) rs ≡ None
-nothing_in limit None = refl
-nothing_in limit (Some r) = refl
+nothing_in : (format limit : ℕ) (rs : Option (List Column × List Row)) → option_and_then (λ r. option_map {T = List Data} {U = Frame} (λ items. frame r.0 format limit r.1 items) None) rs ≡ None
+nothing_in format limit None = refl
+nothing_in format limit (Some r) = refl
 
-from_none : (cs : Option (List Column)) (l : Option ℕ) (rs : Option (List Data)) → frame_from cs l rs None ≡ None
+from_none : (cs : Option (List Column × ℕ)) (l : Option ℕ) (rs : Option (List Data)) → frame_from cs l rs None ≡ None
 from_none None l rs = refl
-from_none (Some columns) None rs = refl
-from_none (Some columns) (Some limit) rs = nothing_in limit (option_and_then (rows_up_to columns limit) rs)
+from_none (Some c) None rs = refl
+from_none (Some c) (Some limit) rs = nothing_in c.1 limit (option_and_then (rows_up_to c.0 limit) rs)
 
 same_map : (f : Data → Data) (o : Option Data) → ((d : Data) → f d ≡ d) → option_map f o ≡ o
 same_map f None h = refl
@@ -109,13 +109,13 @@ is_array_kept (Some (object ms)) = refl
 same_test : (ms : Members) → has_members 5 (object (outline_of ms)) ≡ has_members 5 (object ms)
 same_test ms = ap (λ n. n == 5) (outline_long ms)
 
--- the attributes of these members, if they are there
-abbrev columns_from : Option Data → Option Data → Option (List Column)
+-- the attributes and the format of these members, if they are there
+abbrev columns_from : Option Data → Option Data → Option (List Column × ℕ)
 columns_from names format =
-    option_and_then (λ columns. cond (is_some (option_and_then (in_range (format_of columns) 2) (option_and_then as_u64 (option_and_then as_number format)))) (Some columns) None)
+    option_and_then (λ columns. option_map (λ n. (columns, n)) (option_and_then (in_range (least_format columns) 3) (option_and_then as_u64 (option_and_then as_number format))))
     (option_and_then (λ ts. result_ok (header_of ts)) (option_and_then (texts_after []) (option_map items_list (option_and_then as_array names))))
 
-abbrev front_from : Bool → Bool → Option (List Column) → Option ℕ → Option (List Column × ℕ)
+abbrev front_from : Bool → Bool → Option (List Column × ℕ) → Option ℕ → Option ((List Column × ℕ) × ℕ)
 front_from b some cs l = option_and_then (λ limit. option_map (λ columns. (columns, limit)) cs) (cond b (cond some l None) None)
 
 -- the front is that of the outline
@@ -136,22 +136,22 @@ same_front ms =
     ∙ ap (λ l. front_from (has_members 5 d) (is_some (array_at (codes "entries") d)) (columns_in d) l) limit
 
 -- what the front and the values of rows make of the part outside the entries
-abbrev pub outer_from : List Data → List Column × ℕ → Option Frame
-outer_from ds f = option_map (λ r. frame r.0 f.1 r.1 []) (rows_up_to f.0 f.1 ds)
+abbrev pub outer_from : List Data → (List Column × ℕ) × ℕ → Option Frame
+outer_from ds f = option_map (λ r. frame r.0 f.0.1 f.1 r.1 []) (rows_up_to f.0.0 f.1 ds)
 
-rows_without : (limit : ℕ) (es : List Data) (rs : Option (List Column × List Row))
-    → option_map without_items (option_and_then (λ r. option_map (λ items. frame r.0 limit r.1 items) (Some es)) rs) ≡ option_map (λ r. frame r.0 limit r.1 []) rs
-rows_without limit es None = refl
-rows_without limit es (Some r) = refl
+rows_without : (format limit : ℕ) (es : List Data) (rs : Option (List Column × List Row))
+    → option_map without_items (option_and_then (λ r. option_map (λ items. frame r.0 format limit r.1 items) (Some es)) rs) ≡ option_map (λ r. frame r.0 format limit r.1 []) rs
+rows_without format limit es None = refl
+rows_without format limit es (Some r) = refl
 
-outer_is : (b : Bool) (cs : Option (List Column)) (l : Option ℕ) (es : Option (List Data)) (ds : List Data)
+outer_is : (b : Bool) (cs : Option (List Column × ℕ)) (l : Option ℕ) (es : Option (List Data)) (ds : List Data)
     → option_map without_items (cond b (frame_from cs l (Some ds) es) None) ≡ option_and_then (outer_from ds) (front_from b (is_some es) cs l)
 outer_is false cs l es ds = refl
 outer_is true cs l None ds = ap (option_map without_items) (from_none cs l (Some ds))
 outer_is true None None (Some xs) ds = refl
 outer_is true None (Some limit) (Some xs) ds = refl
-outer_is true (Some columns) None (Some xs) ds = refl
-outer_is true (Some columns) (Some limit) (Some xs) ds = rows_without limit xs (rows_up_to columns limit ds)
+outer_is true (Some c) None (Some xs) ds = refl
+outer_is true (Some c) (Some limit) (Some xs) ds = rows_without c.1 limit xs (rows_up_to c.0 limit ds)
 
 abbrev outer_by : Members → Option (List Data) → Option (List Data) → Option Frame
 outer_by ms rs es = cond (has_members 5 (object ms)) (frame_from (columns_in (object ms)) (limit_in (object ms)) rs es) None
@@ -175,18 +175,18 @@ no_entries ms h =
     ∙ ap (λ f. cond (has_members 5 (object ms)) f None) (from_none (columns_in (object ms)) (limit_in (object ms)) rs)
     ∙ none_either (has_members 5 (object ms))
 
-items_put : (limit : ℕ) (ds : List Data) (rs : Option (List Column × List Row))
-    → option_and_then (λ r. option_map (λ items. frame r.0 limit r.1 items) (Some ds)) rs
-    ≡ option_map (with_items ds) (option_map without_items (option_and_then (λ r. option_map (λ items. frame r.0 limit r.1 items) (Some ds)) rs))
-items_put limit ds None = refl
-items_put limit ds (Some r) = refl
+items_put : (format limit : ℕ) (ds : List Data) (rs : Option (List Column × List Row))
+    → option_and_then (λ r. option_map (λ items. frame r.0 format limit r.1 items) (Some ds)) rs
+    ≡ option_map (with_items ds) (option_map without_items (option_and_then (λ r. option_map (λ items. frame r.0 format limit r.1 items) (Some ds)) rs))
+items_put format limit ds None = refl
+items_put format limit ds (Some r) = refl
 
-with_entries : (b : Bool) (cs : Option (List Column)) (l : Option ℕ) (rs : Option (List Data)) (ds : List Data)
+with_entries : (b : Bool) (cs : Option (List Column × ℕ)) (l : Option ℕ) (rs : Option (List Data)) (ds : List Data)
     → cond b (frame_from cs l rs (Some ds)) None ≡ option_map (with_items ds) (option_map without_items (cond b (frame_from cs l rs (Some ds)) None))
 with_entries false cs l rs ds = refl
 with_entries true None l rs ds = refl
-with_entries true (Some columns) None rs ds = refl
-with_entries true (Some columns) (Some limit) rs ds = items_put limit ds (option_and_then (rows_up_to columns limit) rs)
+with_entries true (Some c) None rs ds = refl
+with_entries true (Some c) (Some limit) rs ds = items_put c.1 limit ds (option_and_then (rows_up_to c.0 limit) rs)
 
 -- the frame is the part outside the entries, with the entries
 frame_outside : (ms : Members) (ds : List Data) → array_at (codes "entries") (object ms) ≡ Some ds → frame_of (object ms) ≡ option_map (with_items ds) (outside_of (object ms))
@@ -197,8 +197,8 @@ frame_outside ms ds h =
     ∙ ap (λ es. option_map (with_items ds) (option_map without_items (by es))) (sym h)
 
 -- what was read of the part outside the entries is the frame's
-pub outer_some : (ms : Members) (ds : List Data) (columns : List Column) (limit : ℕ) (rows : List Row) → array_at (codes "entries") (object ms) ≡ Some ds → Some (frame columns limit rows []) ≡ outside_of (object ms) → frame_of (object ms) ≡ Some (frame columns limit rows ds)
-outer_some ms ds columns limit rows there h = frame_outside ms ds there ∙ ap (option_map (with_items ds)) (sym h)
+pub outer_some : (ms : Members) (ds : List Data) (columns : List Column) (format limit : ℕ) (rows : List Row) → array_at (codes "entries") (object ms) ≡ Some ds → Some (frame columns format limit rows []) ≡ outside_of (object ms) → frame_of (object ms) ≡ Some (frame columns format limit rows ds)
+outer_some ms ds columns format limit rows there h = frame_outside ms ds there ∙ ap (option_map (with_items ds)) (sym h)
 
 pub outer_none : (ms : Members) (ds : List Data) → array_at (codes "entries") (object ms) ≡ Some ds → None ≡ outside_of (object ms) → frame_of (object ms) ≡ None
 outer_none ms ds there h = frame_outside ms ds there ∙ ap (option_map (with_items ds)) (sym h)
@@ -214,7 +214,7 @@ record_is text ms f is there = ap (λ o. or_fault 0 o >>= history_of) is ∙ ap 
 pub too_many : (f : Frame) → MOST_ENTRIES < length f.items → entries_of f ≡ Err (TooMany MOST_ENTRIES)
 too_many f many = let test : nat_le (length f.items) MOST_ENTRIES ≡ false = grind (arith, nat_tests, many) in rw test refl
 
-pub few_enough : (f : Frame) → length f.items ≤ MOST_ENTRIES → entries_of f ≡ (entries_after f.columns [] f.items >>= λ r. Ok (history_with f r))
+pub few_enough : (f : Frame) → length f.items ≤ MOST_ENTRIES → entries_of f ≡ (entries_after f.format f.columns [] f.items >>= λ r. Ok (history_with f r))
 few_enough f few = let test : nat_le (length f.items) MOST_ENTRIES ≡ true = grind (arith, nat_tests, few) in rw test refl
 
 pub text_record : (bytes : List ℕ) → IsUtf8 bytes → record_at bytes ≡ record_in bytes

@@ -19,11 +19,11 @@ use Rattle.sw_table.specs.declared.row.Row.{Row}
 use Rattle.sw_rows.proofs.SchemaLaws.{header-schema}
 use Rattle.sw_lang.specs.Grammar.{IsLine}
 use Rattle.sw_lang.specs.PrintedExamples.{abc, asking, asking_where, at_least, at_most, cond}
-use Rattle.sw_lang.specs.Reading.{call_at, call_of, cells_at, first_by, line_at, name_of, next_value, op_for, op_of, past_comma, term_at, terms_at, value_of, where_at}
+use Rattle.sw_lang.specs.Reading.{call_at, call_of, cells_at, delete_at, delete_where, first_by, line_at, name_of, next_value, op_for, op_of, past_comma, term_at, terms_at, value_of, where_at}
 use Rattle.sw_lang.proofs.Lines.{line_found}
 use Rattle.sw_spine.specs.History.{IsSound, entry}
 use Rattle.sw_spine.specs.declared.history.State.TheVariants as state
-use Rattle.sw_histories.specs.FileExamples.{cities, counted, row_abc, row_of_city, visited}
+use Rattle.sw_histories.specs.FileExamples.{cities, counted, deleted, row_abc, row_of_city, visited}
 use Rattle.sw_histories.specs.ReadBack.{HasCells, IsCalled, IsOfRun}
 use Rattle.sw_lang.proofs.Knowing.{knowing_schema}
 
@@ -60,6 +60,35 @@ counted_of_run = record {
   schema = abc_schema;
   cells = rows_have;
   calls = All-cons (IsCalled abc) (entry 1 (asking want.Count) (state.Answered (reply.Count 4))) [] count_called (All-nil (IsCalled abc));
+  in_order = λ some. absurd (false≢true some);
+}
+
+abbrev deleting : Call
+deleting = call.DeleteWhere (cond 0 (at_least (pos 12)) (at_most (pos 12)) ∷ [])
+
+deleting_line : IsLine abc (codes "delete where a >= 12 and a <= 12") (Some deleting)
+unfolding line_at call_at call_of delete_at delete_where terms_at term_at first_by value_of op_for op_of name_of
+deleting_line = line_found abc (codes "delete where a >= 12 and a <= 12") (Some deleting) refl
+
+deleting_called : IsCalled abc (entry 1 deleting (state.Answered (reply.RemovedMany 2)))
+deleting_called = record { line = codes "delete where a >= 12 and a <= 12"; call = deleting_line; first = omega arith; last = omega arith; state = tt }
+
+delete_sound : IsSound (deleted (state.Answered (reply.RemovedMany 2)))
+delete_sound = record {
+  some = omega arith;
+  most = omega arith;
+  few = omega arith;
+  numbered = refl;
+  short = omega arith;
+  below = (All-from_recursion (λ (c : Cond). c.attr < 3) (cond 0 (at_least (pos 12)) (at_most (pos 12)) ∷ []) (omega arith, tt), tt);
+}
+
+pub deleted_of_run : IsOfRun (deleted (state.Answered (reply.RemovedMany 2)))
+deleted_of_run = record {
+  sound = delete_sound;
+  schema = abc_schema;
+  cells = rows_have;
+  calls = All-cons (IsCalled abc) (entry 1 deleting (state.Answered (reply.RemovedMany 2))) [] deleting_called (All-nil (IsCalled abc));
   in_order = λ some. absurd (false≢true some);
 }
 

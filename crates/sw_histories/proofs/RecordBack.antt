@@ -16,7 +16,7 @@ use Rattle.sw_spine.specs.declared.history.Entry.{Entry}
 use Rattle.sw_spine.specs.declared.history.State.{State}
 use Rattle.sw_spine.specs.declared.history.State.TheVariants as state
 use Rattle.sw_lang.specs.Replies.{reply_lines}
-use Rattle.sw_histories.specs.RecordText.{attribute_text, cell_data, cells_data, entry_data, format_of, list_data, record_data, record_text, row_data, state_data, texts_data}
+use Rattle.sw_histories.specs.RecordText.{attribute_text, cell_data, cells_data, entry_data, format_of, has_delete_where, list_data, record_data, record_text, row_data, state_data, texts_data}
 use Rattle.sw_histories.specs.ReadBack.{HasWords, IsWord, TextsAreJson}
 use Rattle.sw_histories.proofs.TextReading.{IsPlain, IsWhole, text_read_back}
 
@@ -71,12 +71,13 @@ rows_flat : (ks : List Domain) (rs : List Row) → items_depth (items_of (map (r
 rows_flat ks [] = omega arith
 rows_flat ks (r ∷ rs) = max-le (cells_flat ks r.cells) (rows_flat ks rs)
 
-format_small : (columns : List Column) → format_of columns < 2 ^ 64
-format_small columns = by_test (has_texts columns)
+format_small : (columns : List Column) (es : List Entry) → format_of columns es < 2 ^ 64
+format_small columns es = by_tests (has_delete_where es) (has_texts columns)
   where
-    by_test : (b : Bool) → (if b then 2 else 1) < 2 ^ 64
-    by_test true = omega arith
-    by_test false = omega arith
+    by_tests : (a b : Bool) → (if a then 3 else if b then 2 else 1) < 2 ^ 64
+    by_tests true b = omega arith
+    by_tests false true = omega arith
+    by_tests false false = omega arith
 
 state_plain : (columns : List Column) (c : Call) (st : State) → IsPlain (state_data columns c st)
 state_plain columns c (state.Answered r) = texts_plain (reply_lines columns c r)
@@ -108,7 +109,7 @@ entries_flat columns [] = omega arith
 entries_flat columns (e ∷ es) = max-le (entry_flat columns e) (entries_flat columns es)
 
 record_plain : (h : History) → HasWords h → IsPlain (record_data h)
-record_plain h w = ((texts_plain (map attribute_text h.columns), (entries_plain h.columns h.entries w.sessions, (format_small h.columns, (w.limit, (rows_plain (kinds_of h.columns) h.rows w.cells, tt))))), refl)
+record_plain h w = ((texts_plain (map attribute_text h.columns), (entries_plain h.columns h.entries w.sessions, (format_small h.columns h.entries, (w.limit, (rows_plain (kinds_of h.columns) h.rows w.cells, tt))))), refl)
 
 record_flat : (h : History) → depth (record_data h) ≤ 127
 record_flat h =

@@ -188,13 +188,13 @@ rows_in_sound columns limit d r h =
 pub frame_sound : (d : Data) (f : Frame) → frame_of d ≡ Some f → IsFrame f
 frame_sound d f h =
     let inside = if_some {A = Frame} (has_members 5 d) (frame_in d) f h in
-    let a = then_some {A = List Column} {B = Frame} (frame_by d) (columns_in d) f inside.1 in
+    let a = then_some {A = List Column × ℕ} {B = Frame} (frame_by d) (columns_in d) f inside.1 in
     let b = then_some {A = ℕ} {B = Frame} (frame_within d a.0) (limit_in d) f a.2 in
-    let r = then_some {A = List Column × List Row} {B = Frame} (frame_with d b.0) (rows_in a.0 b.0 d) f b.2 in
-    let e = map_some {A = List Data} {B = Frame} (λ items. frame r.0.0 b.0 r.0.1 items) (array_at (codes "entries") d) f r.2 in
+    let r = then_some {A = List Column × List Row} {B = Frame} (frame_with d a.0.1 b.0) (rows_in a.0.0 b.0 d) f b.2 in
+    let e = map_some {A = List Data} {B = Frame} (λ items. frame r.0.0 a.0.1 b.0 r.0.1 items) (array_at (codes "entries") d) f r.2 in
     let limit = limit_sound d b.0 b.1 in
-    let rows = rows_in_sound a.0 b.0 d r.0 r.1 in
-    subst IsFrame {x = frame r.0.0 b.0 r.0.1 e.0} e.2 (record { some = limit.0; most = limit.1; few = rows.few; numbered = rows.numbered })
+    let rows = rows_in_sound a.0.0 b.0 d r.0 r.1 in
+    subst IsFrame {x = frame r.0.0 a.0.1 b.0 r.0.1 e.0} e.2 (record { some = limit.0; most = limit.1; few = rows.few; numbered = rows.numbered })
 
 -- ---- rows
 
@@ -215,12 +215,12 @@ rows_step columns next rs more d ds cells n all before place is known grown =
 
 -- ---- entries
 
-pub entries_step : (columns next : List Column) (es more : List Entry) (d : Data) (ds : List Data) (e : Entry) (n : ℕ) (all : Result (List Column × List Entry) Refusal)
-    → all ≡ entries_after columns es (d ∷ ds) → n ≡ length es + 1 → entry_in columns n d ≡ Ok e → next ≡ entry_learned columns d → more ≡ es ++ e ∷ [] → all ≡ entries_after next more ds
-entries_step columns next es more d ds e n all before place is known grown =
+pub entries_step : (format : ℕ) (columns next : List Column) (es more : List Entry) (d : Data) (ds : List Data) (e : Entry) (n : ℕ) (all : Result (List Column × List Entry) Refusal)
+    → all ≡ entries_after format columns es (d ∷ ds) → n ≡ length es + 1 → entry_in format columns n d ≡ Ok e → next ≡ entry_learned columns d → more ≡ es ++ e ∷ [] → all ≡ entries_after format next more ds
+entries_step format columns next es more d ds e n all before place is known grown =
     let now = entry_learned columns d in
     before
-    ∙ ap (λ m. entry_in columns m d >>= λ x. entries_after now (es ++ x ∷ []) ds) (sym place)
-    ∙ ap (λ r. r >>= λ x. entries_after now (es ++ x ∷ []) ds) is
-    ∙ ap (λ cs. entries_after cs (es ++ e ∷ []) ds) (sym known)
-    ∙ ap (λ l. entries_after next l ds) (sym grown)
+    ∙ ap (λ m. entry_in format columns m d >>= λ x. entries_after format now (es ++ x ∷ []) ds) (sym place)
+    ∙ ap (λ r. r >>= λ x. entries_after format now (es ++ x ∷ []) ds) is
+    ∙ ap (λ cs. entries_after format cs (es ++ e ∷ []) ds) (sym known)
+    ∙ ap (λ l. entries_after format next l ds) (sym grown)

@@ -148,6 +148,7 @@ call_shown : (columns : List Column) (c : Call) → IsSchema columns → is_line
 call_shown columns (call.Select q) good = joined (want_text columns q.want) (where_text columns false q.conds) (want_shown columns q.want good.sound.names) (terms_shown false (flat_map (cond_terms columns) q.conds) (conds_shown columns q.conds good))
 call_shown columns (call.Insert cells) good = joined (codes "insert ") (cells_text (kinds_of columns) cells) (printed (codes "insert ") refl) (cells_shown (kinds_of columns) cells (kinds_sound columns good))
 call_shown columns (call.Delete key) good = joined (codes "delete ") (decimal key) (printed (codes "delete ") refl) (decimal_shown key)
+call_shown columns (call.DeleteWhere conds) good = joined (codes "delete") (where_text columns false conds) (printed (codes "delete") refl) (terms_shown false (flat_map (cond_terms columns) conds) (conds_shown columns conds good))
 
 -- a call is printed as text
 pub call_utf8 : (columns : List Column) (c : Call) → IsSchema columns → IsUtf8 (call_text columns c)
@@ -300,6 +301,6 @@ record_parts h =
     let a = texts_data (map attribute_text h.columns) in
     let e = list_data (map (entry_data h.columns) h.entries) in
     let r = list_data (map (row_data (kinds_of h.columns)) h.rows) in
-    let f = format_of h.columns in
+    let f = format_of h.columns h.entries in
     flat (codes "{\"attributes\":") (compact_text a) (codes ",\"entries\":") (compact_text e) (codes ",\"format\":") (decimal f) (codes ",\"limit\":") (decimal h.limit) (codes ",\"rows\":") (compact_text r) (125 ∷ [])
     ∙ sym (whole_text a e r f h.limit)

@@ -1,6 +1,6 @@
 -- The text of a run's record is read as that record.
 use Rattle.std.proofs.Common.{◌≡◌, ◌∙◌, sym, ap, refl, subst, ℕ, ℤ, pos, negsuc, suc, ◌+◌, ◌-◌, ◌<◌, ◌≤◌, ◌^◌, ◌==◌, ◌&&◌, ◌||◌, ◌⊎◌, Bool, true, false, true≢false, cond, if◌then◌else◌, List, [], ◌∷◌, ◌++◌, arith, codes, length, map, replicate, All, Option, Some, None, Ok, nat_eq, nat_le, inl, inr, append_assoc, append-nil, length-append, eqb-true, le-leb, lt-ltb}
-use Rattle.std.specs.Prelude.{IsSome, filter_map, flat_map, is_some, option_and_then, option_map, unwrap_or}
+use Rattle.std.specs.Prelude.{IsSome, filter_map, flat_map, not, option_and_then, option_map, unwrap_or}
 use Rattle.std.specs.List.{AllByRecursion, cons_option, list_all, list_any}
 use Rattle.std.specs.Result.{result_ok}
 use Rattle.std.proofs.lemmas.Bool.{and_parts, false≢true}
@@ -26,7 +26,7 @@ use Rattle.sw_rows.proofs.HeaderSpelling.{header_read_back}
 use Rattle.sw_rows.proofs.TextLaws.{code_there, coded_at, text_sound, with_more}
 use Rattle.sw_lang.specs.Learning.{knowing, learned, texts_in_line}
 use Rattle.sw_lang.proofs.Knowing.{none_known, nothing_more, numbers_held, texts_known}
-use Rattle.sw_spine.proofs.PrintedLemmas.{AreSound, kinds_sound}
+use Rattle.sw_spine.proofs.PrintedLemmas.{AreSound, both, kinds_sound}
 use Rattle.sw_lang.specs.Grammar.{IsLine}
 use Rattle.sw_lang.specs.PrintedCalls.{call_text}
 use Rattle.sw_lang.specs.Replies.{reply_lines}
@@ -40,9 +40,9 @@ use Rattle.sw_spine.specs.declared.history.State.{State}
 use Rattle.sw_rows.specs.declared.table.TheConstants.{MOST_ROWS}
 use Rattle.sw_spine.specs.declared.history.State.TheVariants as state
 use Rattle.sw_spine.specs.declared.spine.TheConstants.{MOST_ENTRIES, MOST_SESSIONS}
-use Rattle.sw_histories.specs.RecordReading.{cell_in, cells_after, cells_of, has_format, header_in, in_range, items_list, number_in, of_kind, row_in, row_texts, rows_after, rows_in, rows_up_to, state_of, text_in, texts_after, with_row}
+use Rattle.sw_histories.specs.RecordReading.{cell_in, cells_after, cells_of, format_in, header_in, in_range, items_list, may_stand, number_in, of_kind, row_in, row_texts, rows_after, rows_in, rows_up_to, state_of, text_in, texts_after, with_row}
 use Rattle.sw_histories.specs.RecordRelation.{AreEntries, IsEntry, IsRecord}
-use Rattle.sw_histories.specs.RecordText.{attribute_text, cell_data, cells_data, entry_data, format_of, list_data, record_data, record_text, row_data, state_data}
+use Rattle.sw_histories.specs.RecordText.{attribute_text, cell_data, cells_data, entry_data, format_of, has_delete_where, is_delete_where, least_format, list_data, record_data, record_text, row_data, state_data}
 use Rattle.sw_histories.specs.ReadBack.{AreCells, HasCells, HasWords, IsCalled, IsCellOf, IsOfRun, IsStateOf, IsWord, RecordsAreReadBack, entry_in_lines, in_lines, with_lines}
 use Rattle.sw_histories.proofs.LearnedTexts.{one_more}
 use Rattle.sw_histories.proofs.NarrowedLines.{coded_in, line_narrowed}
@@ -107,12 +107,16 @@ within least most n low high =
     ap (λ b. cond (b && nat_le n most) (Some n) None) (le-leb least n low)
     ∙ ap (λ b. cond b (Some n) None) (le-leb n most high)
 
-format_back : (h : History) → has_format (holding [] h.columns) (record_data h) ≡ true
-format_back h = ap (λ b. is_some (option_and_then (in_range (if b then 2 else 1) 2) (Some (format_of h.columns)))) (holding_of_texts [] h.columns) ∙ by_test (has_texts h.columns)
+format_back : (h : History) → format_in (holding [] h.columns) (record_data h) ≡ Some (format_of h.columns h.entries)
+format_back h =
+    ap (λ b. in_range (if b then 2 else 1) 3 (format_of h.columns h.entries)) (holding_of_texts [] h.columns)
+    ∙ by_tests (has_delete_where h.entries) (has_texts h.columns)
   where
-    by_test : (b : Bool) → is_some (option_and_then (in_range (if b then 2 else 1) 2) (Some (if b then 2 else 1))) ≡ true
-    by_test true = refl
-    by_test false = refl
+    by_tests : (a b : Bool) → in_range (if b then 2 else 1) 3 (if a then 3 else if b then 2 else 1) ≡ Some (if a then 3 else if b then 2 else 1)
+    by_tests true true = refl
+    by_tests true false = refl
+    by_tests false true = refl
+    by_tests false false = refl
 
 -- ---- what is known
 
@@ -297,6 +301,33 @@ rows_back h r =
     ∙ ap (λ b. cond b (rows_after named [] ds) None) few
     ∙ rows_again h.columns [] (called_texts h.columns h.entries) 1 [] h.rows r.schema (all_known h r) refl r.sound.numbered r.cells
 
+-- ---- calls that may stand
+
+abbrev all_stand_under : ℕ → List Entry → Bool
+all_stand_under format es = list_all (λ e. may_stand format e.call) es
+
+stand_under_3 : (es : List Entry) → all_stand_under 3 es ≡ true
+stand_under_3 [] = refl
+stand_under_3 (e ∷ es) = both (may_stand 3 e.call) (all_stand_under 3 es) (or_right (not (is_delete_where e.call)) true refl) (stand_under_3 es)
+
+neither : (a b : Bool) → (a || b) ≡ false → (a ≡ false) × (b ≡ false)
+neither true b h = absurd (true≢false h)
+neither false b h = (refl, h)
+
+stand_without : (format : ℕ) (es : List Entry) → has_delete_where es ≡ false → all_stand_under format es ≡ true
+stand_without format [] h = refl
+stand_without format (e ∷ es) h =
+    let parts = neither (is_delete_where e.call) (has_delete_where es) h in
+    both (may_stand format e.call) (all_stand_under format es) (ap (λ b. not b || format == 3) parts.0) (stand_without format es parts.1)
+
+-- calls may stand in a file of the format in which they are written
+all_stand : (cs : List Column) (es : List Entry) → all_stand_under (format_of cs es) es ≡ true
+all_stand cs es = by_test (has_delete_where es) refl
+  where
+    by_test : (b : Bool) → has_delete_where es ≡ b → all_stand_under (if b then 3 else least_format cs) es ≡ true
+    by_test true some = stand_under_3 es
+    by_test false none = stand_without (least_format cs) es none
+
 -- ---- entries
 
 line_back : (columns : List Column) (text : List ℕ) (c : Call) → IsSchema columns → IsLine columns text (Some c) → IsLine columns (call_text columns c) (Some c)
@@ -317,12 +348,13 @@ line_known cs ts rest text c ok h is = subst (λ vs. IsLine vs text (Some c)) (s
     by_test true some = line_narrowed ts rest cs text c ok.shared (h some) is
     by_test false none = subst (λ vs. IsLine vs text (Some c)) (sym (numbers_held (with_texts ts (texts_in_line text)) cs none)) is
 
-entry_back : (cs : List Column) (ts rest : Texts) (e : Entry) → IsSchema cs → (has_texts cs ≡ true → with_texts (with_texts ts (texts_in_line (call_text cs e.call))) rest ≡ texts_of cs) → IsCalled cs e → IsEntry (holding ts cs) (entry_data cs e) (entry_in_lines cs e)
-entry_back cs ts rest e ok h i = record {
+entry_back : (format : ℕ) (cs : List Column) (ts rest : Texts) (e : Entry) → may_stand format e.call ≡ true → IsSchema cs → (has_texts cs ≡ true → with_texts (with_texts ts (texts_in_line (call_text cs e.call))) rest ≡ texts_of cs) → IsCalled cs e → IsEntry format (holding ts cs) (entry_data cs e) (entry_in_lines cs e)
+entry_back format cs ts rest e stands ok h i = record {
   members = refl;
   text = call_text cs e.call;
   text_is = refl;
   call = line_known cs ts rest (call_text cs e.call) e.call ok h (line_back cs i.line e.call ok i.call);
+  stands = stands;
   session = within 1 MOST_SESSIONS e.session (omega (arith, i.first)) i.last;
   state = state_back cs e.call e.state i.state;
 }
@@ -334,17 +366,18 @@ last_known cs ts ok h = by_test (has_texts cs) refl
     by_test true some = sym (ap (λ vs. holding vs cs) (h some) ∙ nothing_more cs ok)
     by_test false none = sym (numbers_held ts cs none)
 
-entries_back : (cs : List Column) (ts : Texts) (es : List Entry) → IsSchema cs → (has_texts cs ≡ true → with_texts ts (called_texts cs es) ≡ texts_of cs) → All (IsCalled cs) es → AreEntries (holding ts cs) (map (entry_data cs) es) cs (map (entry_in_lines cs) es)
-entries_back cs ts [] ok h a = last_known cs ts ok h
-entries_back cs ts (e ∷ es) ok h a =
+entries_back : (format : ℕ) (cs : List Column) (ts : Texts) (es : List Entry) → all_stand_under format es ≡ true → IsSchema cs → (has_texts cs ≡ true → with_texts ts (called_texts cs es) ≡ texts_of cs) → All (IsCalled cs) es → AreEntries format (holding ts cs) (map (entry_data cs) es) cs (map (entry_in_lines cs) es)
+entries_back format cs ts [] stand ok h a = last_known cs ts ok h
+entries_back format cs ts (e ∷ es) stand ok h a =
     let text = call_text cs e.call in
     let one = texts_in_line text in
     let us = with_texts ts one in
     let left = called_texts cs es in
     let then_known : has_texts cs ≡ true → with_texts us left ≡ texts_of cs = λ some. sym (with_more ts one left) ∙ h some in
-    let rest = entries_back cs us es ok then_known (All-tail (IsCalled cs) e es a) in (
-      entry_back cs ts left e ok then_known (All-head (IsCalled cs) e es a),
-      subst (λ vs. AreEntries vs (map (entry_data cs) es) cs (map (entry_in_lines cs) es)) (sym (learned_held cs ts text)) rest,
+    let stands = and_parts (may_stand format e.call) (all_stand_under format es) stand in
+    let rest = entries_back format cs us es stands.1 ok then_known (All-tail (IsCalled cs) e es a) in (
+      entry_back format cs ts left e stands.0 ok then_known (All-head (IsCalled cs) e es a),
+      subst (λ vs. AreEntries format vs (map (entry_data cs) es) cs (map (entry_in_lines cs) es)) (sym (learned_held cs ts text)) rest,
     )
 
 -- ---- words
@@ -403,14 +436,15 @@ written h r = record {
   members = refl;
   named = holding [] h.columns;
   header = columns_back h r.schema;
-  format = format_back h;
+  format = format_of h.columns h.entries;
+  format_is = format_back h;
   limit = within 1 MOST_ROWS h.limit (let some = r.sound.some in omega (arith, some)) r.sound.most;
   known = after_rows h;
   rows = rows_back h r;
   items = map (entry_data h.columns) h.entries;
   items_are = ap (λ l. Some l) (list_items (map (entry_data h.columns) h.entries));
   few = subst (λ n. n ≤ MOST_ENTRIES) (sym (length-map h.entries (entry_data h.columns))) r.sound.short;
-  entries = entries_back h.columns (with_texts [] (shown_texts h.columns h.rows)) h.entries r.schema (all_known h r) r.calls;
+  entries = entries_back (format_of h.columns h.entries) h.columns (with_texts [] (shown_texts h.columns h.rows)) h.entries (all_stand h.columns h.entries) r.schema (all_known h r) r.calls;
 }
 
 pub records_read_back : RecordsAreReadBack

@@ -1,9 +1,10 @@
--- The file of a table of three attributes and four rows after one count, and that of a table of texts after two calls.
+-- The files of a table of three attributes and four rows after one call, and that of a table of texts after two calls.
 use Rattle.std.specs.Prelude.{◌++◌, ℕ, ℤ, pos, List, [], ◌∷◌, codes}
 use Rattle.sw_rows.specs.Domains as kind
 use Rattle.sw_rows.specs.Header.{Column}
 use Rattle.sw_rows.specs.Tables.{padded, row_of}
 use Rattle.sw_table.specs.declared.row.Row.{Row}
+use Rattle.sw_rows.specs.declared.query.Call.{Call}
 use Rattle.sw_rows.specs.declared.query.Call.TheVariants as call
 use Rattle.sw_rows.specs.declared.query.Want.TheVariants as want
 use Rattle.sw_lang.specs.PrintedExamples.{abc, asking, asking_where, at_least, at_most, cond}
@@ -13,22 +14,38 @@ use Rattle.sw_spine.specs.declared.history.State.{State}
 abbrev pub row_abc : ℕ → ℤ → ℤ → ℤ → Row
 row_abc key a b c = row_of key (padded (a ∷ b ∷ c ∷ []))
 
--- one session counted, and this became of its call
-abbrev pub counted : State → History
-counted st = record {
+-- one session made a call, and this became of it
+abbrev pub called_once : Call → State → History
+called_once c st = record {
   columns = abc;
   rows =
       row_abc 1 (pos 12) (pos 7) (pos 1) ∷ row_abc 2 (pos 3) (pos 8) (pos 0)
       ∷ row_abc 3 (pos 12) (pos 5) (pos 1) ∷ row_abc 4 (pos 20) (pos 2) (pos 0) ∷ [];
   limit = 1048576;
-  entries = entry 1 (asking want.Count) st ∷ [];
+  entries = entry 1 c st ∷ [];
 }
 
-abbrev pub counted_file : List ℕ
-counted_file =
+-- it counted
+abbrev pub counted : State → History
+counted st = called_once (asking want.Count) st
+
+-- the file, under a number of the format
+abbrev pub counted_under : List ℕ → List ℕ
+counted_under format =
     codes "{\"attributes\":[\"a:int\",\"b:int\",\"c:int\"],"
     ++ codes "\"entries\":[{\"call\":\"count\",\"reply\":[\"4\"],\"session\":1}],"
-    ++ codes "\"format\":1,\"limit\":1048576,"
+    ++ codes "\"format\":" ++ format ++ codes ",\"limit\":1048576,"
+    ++ codes "\"rows\":[[12,7,1],[3,8,0],[12,5,1],[20,2,0]]}"
+
+-- it deleted the rows of which the first attribute is 12
+abbrev pub deleted : State → History
+deleted st = called_once (call.DeleteWhere (cond 0 (at_least (pos 12)) (at_most (pos 12)) ∷ [])) st
+
+abbrev pub deleted_under : List ℕ → List ℕ
+deleted_under format =
+    codes "{\"attributes\":[\"a:int\",\"b:int\",\"c:int\"],"
+    ++ codes "\"entries\":[{\"call\":\"delete where a >= 12 and a <= 12\",\"reply\":[\"(2 removed)\"],\"session\":1}],"
+    ++ codes "\"format\":" ++ format ++ codes ",\"limit\":1048576,"
     ++ codes "\"rows\":[[12,7,1],[3,8,0],[12,5,1],[20,2,0]]}"
 
 -- ---- texts

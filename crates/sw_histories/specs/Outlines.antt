@@ -176,7 +176,7 @@ pub record IsOutlineOf (text : List ℕ) (o : Outline) : Type 0 where
 
 -- the part outside the entries alone
 abbrev pub without_items : Frame → Frame
-without_items f = frame f.columns f.limit f.rows []
+without_items f = frame f.columns f.format f.limit f.rows []
 
 -- that part of a value, if it is a history's
 abbrev pub outside_of : Data → Option Frame
@@ -188,20 +188,20 @@ outside_in text = option_and_then outside_of (read text)
 
 -- what was read of that part
 abbrev pub read_as : Outer → Frame
-read_as o = frame o.schema o.limit o.rows.items []
+read_as o = frame o.schema o.format o.limit o.rows.items []
 
 -- the limit, where the members and the place of the entries are a history's
 abbrev pub limit_of : Data → Option ℕ
 limit_of d =
     if has_members 5 d then (if is_some (array_at (codes "entries") d) then limit_in d else None) else None
 
--- the attributes and that limit
-abbrev pub front_of : Data → Option (List Column × ℕ)
+-- the attributes and the format, and that limit
+abbrev pub front_of : Data → Option ((List Column × ℕ) × ℕ)
 front_of d = option_and_then (λ limit. option_map (λ columns. (columns, limit)) (columns_in d)) (limit_of d)
 
 -- what was read of these
-abbrev pub front_as : Front → List Column × ℕ
-front_as f = (f.schema, f.limit)
+abbrev pub front_as : Front → (List Column × ℕ) × ℕ
+front_as f = ((f.schema, f.format), f.limit)
 
 -- a limit that was read is within the most rows
 abbrev pub IsWithinMost : Option Front → Type 0
@@ -219,10 +219,11 @@ ReadsRows old new o read = IfSome o (λ ds. AreRows (rows_after old [] ds) new r
 abbrev pub ReadsRowsUpTo : List Column → List Column → ℕ → Option (List Data) → Option Packed → Type 0
 ReadsRowsUpTo old new limit o read = IfSome o (λ ds. AreRows (rows_up_to old limit ds) new read)
 
--- the entries of values are answered, and with them the attributes then, or their first fault, where there are values
-abbrev pub ReadsEntries : List Column → List Column → Option (List Data) → Result (Vec Entry) Refusal → Type 0
-ReadsEntries old new o result =
-    IfSome o (λ ds. Reads (λ entries. (new, entries.items)) result (entries_after old [] ds))
+-- the entries of values in a file of this format are answered, and with them the attributes then, or their first fault,
+-- where there are values
+abbrev pub ReadsEntries : ℕ → List Column → List Column → Option (List Data) → Result (Vec Entry) Refusal → Type 0
+ReadsEntries format old new o result =
+    IfSome o (λ ds. Reads (λ entries. (new, entries.items)) result (entries_after format old [] ds))
 
 -- the record of a text, or its first fault
 abbrev pub record_in : List ℕ → Result History Refusal

@@ -1,5 +1,5 @@
 -- Which text is a record's file, and what is the first fault of another one. Line 0 is what stands outside the entries.
-use Rattle.std.specs.Prelude.{◌≡◌, ◌<◌, ◌≤◌, ◌+◌, ◌++◌, ◌==◌, ◌&&◌, ◌||◌, ℕ, ℤ, pos, Bool, true, false, List, [], ◌∷◌, bytes_eq, codes, filter_map, length, nat_le, Option, Some, None, Result, Ok, Err, option_and_then, option_map, is_some, unwrap_or, if◌then◌else◌}
+use Rattle.std.specs.Prelude.{◌≡◌, ◌<◌, ◌≤◌, ◌+◌, ◌++◌, ◌==◌, ◌&&◌, ◌||◌, ℕ, ℤ, pos, Bool, true, false, not, List, [], ◌∷◌, bytes_eq, codes, filter_map, length, nat_le, Option, Some, None, Result, Ok, Err, option_and_then, option_map, unwrap_or, if◌then◌else◌}
 use Rattle.std.specs.Ordering.{int_eq}
 use Rattle.std.specs.Result.{result_ok}
 use Rattle.std.specs.Str.{is_utf8}
@@ -26,7 +26,7 @@ use Rattle.sw_spine.specs.History.{History, entry, is_select}
 use Rattle.sw_spine.specs.declared.history.Entry.{Entry}
 use Rattle.sw_spine.specs.declared.history.State.{State}
 use Rattle.sw_spine.specs.declared.history.State.TheVariants as state
-use Rattle.sw_histories.specs.RecordText.{format_of}
+use Rattle.sw_histories.specs.RecordText.{is_delete_where, least_format}
 use Rattle.sw_histories.specs.Told.{◌>>=◌}
 
 -- ---- parts of a value
@@ -74,15 +74,15 @@ in_range least most n = if nat_le least n && nat_le n most then Some n else None
 abbrev pub limit_in : Data → Option ℕ
 limit_in d = option_and_then (in_range 1 MOST_ROWS) (number_at (codes "limit") d)
 
--- the number 1 or 2, and 2 where an attribute is of texts
-abbrev pub has_format : List Column → Data → Bool
-has_format columns d = is_some (option_and_then (in_range (format_of columns) 2) (number_at (codes "format") d))
+-- the number of the format: 1, 2 or 3, and not 1 where an attribute is of texts
+abbrev pub format_in : List Column → Data → Option ℕ
+format_in columns d = option_and_then (in_range (least_format columns) 3) (number_at (codes "format") d)
 
-abbrev pub columns_under : Data → List Column → Option (List Column)
-columns_under d columns = if has_format columns d then Some columns else None
+abbrev pub columns_under : Data → List Column → Option (List Column × ℕ)
+columns_under d columns = option_map (λ format. (columns, format)) (format_in columns d)
 
--- those attributes, where the format is one for them
-abbrev pub columns_in : Data → Option (List Column)
+-- those attributes beside the format, where it is one for them
+abbrev pub columns_in : Data → Option (List Column × ℕ)
 columns_in d = option_and_then (columns_under d) (header_in d)
 
 -- ---- rows
@@ -149,27 +149,29 @@ rows_in columns limit d = option_and_then (rows_up_to columns limit) (array_at (
 
 -- ---- the part outside the entries
 
--- the table, the limit, and the entries that are not read yet
+-- the table, the format, the limit, and the entries that are not read yet
 pub record Frame : Type 0 where
   pub columns : List Column
+  pub format : ℕ
   pub limit : ℕ
   pub rows : List Row
   pub items : List Data
 
-abbrev pub frame : List Column → ℕ → List Row → List Data → Frame
-frame columns limit rows items = record { columns = columns; limit = limit; rows = rows; items = items }
+abbrev pub frame : List Column → ℕ → ℕ → List Row → List Data → Frame
+frame columns format limit rows items =
+    record { columns = columns; format = format; limit = limit; rows = rows; items = items }
 
--- the frame of this limit, and of these rows beside the attributes that know their texts
-abbrev pub frame_with : Data → ℕ → List Column × List Row → Option Frame
-frame_with d limit r = option_map (λ items. frame r.0 limit r.1 items) (array_at (codes "entries") d)
+-- the frame of this format and this limit, and of these rows beside the attributes that know their texts
+abbrev pub frame_with : Data → ℕ → ℕ → List Column × List Row → Option Frame
+frame_with d format limit r = option_map (λ items. frame r.0 format limit r.1 items) (array_at (codes "entries") d)
 
--- of these columns and this limit
-abbrev pub frame_within : Data → List Column → ℕ → Option Frame
-frame_within d columns limit = option_and_then (frame_with d limit) (rows_in columns limit d)
+-- of these columns, this format and this limit
+abbrev pub frame_within : Data → List Column × ℕ → ℕ → Option Frame
+frame_within d c limit = option_and_then (frame_with d c.1 limit) (rows_in c.0 limit d)
 
--- of these columns
-abbrev pub frame_by : Data → List Column → Option Frame
-frame_by d columns = option_and_then (frame_within d columns) (limit_in d)
+-- of these columns and this format
+abbrev pub frame_by : Data → List Column × ℕ → Option Frame
+frame_by d c = option_and_then (frame_within d c) (limit_in d)
 
 abbrev pub frame_in : Data → Option Frame
 frame_in d = option_and_then (frame_by d) (columns_in d)
@@ -196,9 +198,18 @@ session_call d = option_and_then (λ s. text_at (codes "call") d) (get (codes "s
 abbrev pub has_call : Data → Option (List ℕ)
 has_call d = if has_members 3 d then option_and_then (λ r. session_call d) (get (codes "reply") d) else None
 
--- the call of a line, whose texts are made known first; a line that is no call is no entry's
-abbrev pub call_in : List Column → ℕ → List ℕ → Result Call Refusal
-call_in columns n text = refused n (line_at (learned columns text) text) >>= or_fault n
+-- whether a call may stand in a file of this format: one that deletes the rows under conditions does so in format 3
+abbrev pub may_stand : ℕ → Call → Bool
+may_stand format c = not (is_delete_where c) || format == 3
+
+abbrev pub under_format : ℕ → Call → Option Call
+under_format format c = if may_stand format c then Some c else None
+
+-- the call of a line, whose texts are made known first; a line that is no call is no entry's, nor is a call that may
+-- not stand there
+abbrev pub call_in : ℕ → List Column → ℕ → List ℕ → Result Call Refusal
+call_in format columns n text =
+    refused n (line_at (learned columns text) text) >>= or_fault n >>= λ c. or_fault n (under_format format c)
 
 -- from 1 to 1,024
 abbrev pub session_in : Data → Option ℕ
@@ -227,18 +238,20 @@ abbrev pub entry_with : Call → Data → Option Entry
 entry_with c d = option_and_then (λ s. option_map (λ st. entry s c st) (state_in c d)) (session_in d)
 
 -- its members, then its call, then its session and its reply
-abbrev pub entry_in : List Column → ℕ → Data → Result Entry Refusal
-entry_in columns n d = or_fault n (has_call d) >>= λ text. (call_in columns n text >>= λ c. or_fault n (entry_with c d))
+abbrev pub entry_in : ℕ → List Column → ℕ → Data → Result Entry Refusal
+entry_in format columns n d =
+    or_fault n (has_call d) >>= λ text. (call_in format columns n text >>= λ c. or_fault n (entry_with c d))
 
 -- attributes that know the texts of an entry's call
 abbrev pub entry_learned : List Column → Data → List Column
 entry_learned columns d = learned columns (unwrap_or (text_at (codes "call") d) [])
 
 -- entries, after those that stand before, beside the attributes that know the texts of their calls
-abbrev pub entries_after : List Column → List Entry → List Data → Result (List Column × List Entry) Refusal
-entries_after columns done [] = Ok (columns, done)
-entries_after columns done (d ∷ ds) =
-    entry_in columns (length done + 1) d >>= λ e. entries_after (entry_learned columns d) (done ++ e ∷ []) ds
+abbrev pub entries_after : ℕ → List Column → List Entry → List Data → Result (List Column × List Entry) Refusal
+entries_after format columns done [] = Ok (columns, done)
+entries_after format columns done (d ∷ ds) =
+    entry_in format columns (length done + 1) d >>= λ e.
+    entries_after format (entry_learned columns d) (done ++ e ∷ []) ds
 
 -- ---- the file
 
@@ -249,7 +262,7 @@ history_with f r = record { columns = r.0; rows = f.rows; limit = f.limit; entri
 abbrev pub entries_of : Frame → Result History Refusal
 entries_of f =
     if nat_le (length f.items) MOST_ENTRIES
-    then (entries_after f.columns [] f.items >>= λ r. Ok (history_with f r))
+    then (entries_after f.format f.columns [] f.items >>= λ r. Ok (history_with f r))
     else Err (TooMany MOST_ENTRIES)
 
 abbrev pub history_of : Data → Result History Refusal

@@ -1,5 +1,6 @@
 -- The text of a record: a JSON object, in which numbers are whole.
-use Rattle.std.specs.Prelude.{◌≡◌, ◌++◌, Bool, ℕ, ℤ, List, [], ◌∷◌, codes, decimal, map, unwrap_or, if◌then◌else◌, Option, Result, IfErr, OnOk}
+use Rattle.std.specs.Prelude.{◌≡◌, ◌++◌, Bool, ℕ, ℤ, List, [], ◌∷◌, codes, decimal, map, true, false, unwrap_or, if◌then◌else◌, Option, Result, IfErr, OnOk}
+use Rattle.std.specs.List.{list_any}
 use Rattle.serde_json.specs.Data.{Data, array, member, no_members, number, object, string, unsigned}
 use Rattle.serde_json.specs.Find.{of_integer}
 use Rattle.serde_json.specs.View.{items_of}
@@ -11,6 +12,7 @@ use Rattle.sw_rows.specs.Spelling.{kind_text}
 use Rattle.sw_rows.specs.Texts.{text_at}
 use Rattle.sw_table.specs.declared.row.Row.{Row}
 use Rattle.sw_rows.specs.declared.query.Call.{Call}
+use Rattle.sw_rows.specs.declared.query.Call.TheVariants as call
 use Rattle.sw_rows.specs.Gives.{Raised}
 use Rattle.sw_rows.specs.declared.refusal.Refusal.{Refusal}
 use Rattle.sw_rows.specs.declared.refusal.Refusal.TheVariants as refusal
@@ -55,9 +57,24 @@ row_data kinds r = list_data (cells_data kinds r.cells)
 abbrev pub rows_data : List Domain → List Row → Data
 rows_data kinds rs = list_data (map (row_data kinds) rs)
 
--- the number of the format, which tells whether cells may be texts
-abbrev pub format_of : List Column → ℕ
-format_of columns = if has_texts columns then 2 else 1
+-- the least number of the format for a table of these attributes, which tells whether cells may be texts
+abbrev pub least_format : List Column → ℕ
+least_format columns = if has_texts columns then 2 else 1
+
+-- whether a call deletes the rows under conditions
+abbrev pub is_delete_where : Call → Bool
+is_delete_where (call.Select q) = false
+is_delete_where (call.Insert cells) = false
+is_delete_where (call.Delete key) = false
+is_delete_where (call.DeleteWhere conds) = true
+
+-- whether the call of an entry does
+abbrev pub has_delete_where : List Entry → Bool
+has_delete_where es = list_any (λ e. is_delete_where e.call) es
+
+-- the number of the format: 3 where a call deletes the rows under conditions, and the least one elsewhere
+abbrev pub format_of : List Column → List Entry → ℕ
+format_of columns es = if has_delete_where es then 3 else least_format columns
 
 -- the lines of a reply, or the word for a call that has none
 abbrev pub state_data : List Column → Call → State → Data
@@ -87,7 +104,7 @@ whole_data attributes entries format limit rows =
 abbrev pub record_data : History → Data
 record_data h =
     whole_data (attributes_data h.columns) (entries_data h.columns h.entries)
-    (format_of h.columns) h.limit (rows_data (kinds_of h.columns) h.rows)
+    (format_of h.columns h.entries) h.limit (rows_data (kinds_of h.columns) h.rows)
 
 -- the bytes of a record's file: no blanks, and in each object the keys ascend
 unfoldable pub record_text : History → List ℕ
@@ -98,7 +115,7 @@ abbrev pub front_text : List ℕ → History → List ℕ
 front_text before h =
     before ++ codes "{\"attributes\":" ++ compact_text (attributes_data h.columns)
     ++ codes ",\"entries\":" ++ compact_text (entries_data h.columns h.entries)
-    ++ codes ",\"format\":" ++ decimal (format_of h.columns) ++ codes ",\"limit\":" ++ decimal h.limit
+    ++ codes ",\"format\":" ++ decimal (format_of h.columns h.entries) ++ codes ",\"limit\":" ++ decimal h.limit
 
 -- an item of an array: a comma, where one stands before it, and its text
 abbrev pub item_text : Bool → Data → List ℕ

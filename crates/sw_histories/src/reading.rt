@@ -18,11 +18,11 @@ ghost use Rattle.sw_spine.specs.declared.spine.TheConstants.{MOST_ENTRIES};
 ghost use Rattle.sw_histories.specs.FromTokens.{AreCounted, AreFew};
 ghost use Rattle.sw_histories.specs.Outlines.{IsOutlineOf, IsWithinMost, ReadsEntries, ReadsRows, ReadsRowsUpTo, front_as, front_of, limit_of, outside_in, read_as, record_in, values_at, values_in};
 ghost use Rattle.sw_histories.specs.Told.{Reads, TellsText};
-ghost use Rattle.sw_histories.specs.RecordReading.{array_at, call_in, cell_in, cells_of, columns_in, entry_in, entry_learned, has_call, has_members, header_in, in_range, number_at, number_in, of_kind, record_at, row_in, row_learned, state_in, text_at, text_in, texts_after, word_in};
+ghost use Rattle.sw_histories.specs.RecordReading.{array_at, call_in, cell_in, cells_of, entry_in, entry_learned, has_call, has_members, header_in, in_range, may_stand, number_at, number_in, of_kind, record_at, row_in, row_learned, state_in, text_at, text_in, texts_after, word_in};
 
 use crate::outline::{ItemsAt, Outline, enter, read_outline};
 use crate::values::{NoValue, read};
-use crate::writing::format_of;
+use crate::writing::{is_delete_where, least_format};
 use json::{Reader, Scratch};
 use serde_json::{Map, Value};
 use std::alloc::{AllocError, Global};
@@ -101,19 +101,6 @@ fn read_header(alloc: Global, value: &Value) -> Result<Option<Schema>, AllocErro
         Err(Refusal::NoMemory) => Err(AllocError),
         Err(_) => Ok(None),
     }
-}
-
-/// The same, where the format is one for them.
-fn read_columns(alloc: Global, value: &Value) -> Result<Option<Schema>, AllocError>
-    ensures { IfOk result (λ o. o ≡ columns_in (view value.now)) }
-{
-    let Some(schema) = read_header(alloc, value)? else {
-        return Ok(None);
-    };
-    if number_at(value, "format", format_of(&schema), 2).is_none() {
-        return Ok(None);
-    }
-    Ok(Some(schema))
 }
 
 /// The text that a value is, where it may be the text of a cell.
@@ -316,6 +303,7 @@ fn read_rows_up_to(
 #[derive(Drop)]
 struct Front {
     schema: Schema,
+    format: u64,
     limit: u64,
 }
 
@@ -333,7 +321,7 @@ fn read_limit(value: &Value) -> Option<u64>
     }
 }
 
-/// The attributes and the limit; None where they are no history's.
+/// The attributes, the format and the limit; None where they are no history's.
 fn read_front(alloc: Global, value: &Value) -> Result<Option<Front>, AllocError>
     ensures told { IfOk result (λ o. option_map front_as o ≡ front_of (view value.now)) }
     ensures most { IfOk result IsWithinMost }
@@ -341,10 +329,17 @@ fn read_front(alloc: Global, value: &Value) -> Result<Option<Front>, AllocError>
     let Some(limit) = read_limit(value) else {
         return Ok(None);
     };
-    let Some(schema) = read_columns(alloc, value)? else {
+    let Some(schema) = read_header(alloc, value)? else {
         return Ok(None);
     };
-    Ok(Some(Front { schema, limit }))
+    let Some(format) = number_at(value, "format", least_format(&schema), 3) else {
+        return Ok(None);
+    };
+    Ok(Some(Front {
+        schema,
+        format,
+        limit,
+    }))
 }
 
 /// The same of an object's members, which are let go.
@@ -360,6 +355,7 @@ fn take_front(alloc: Global, members: Map<String, Value>) -> Result<Option<Front
 #[derive(Drop)]
 struct Outer {
     schema: Schema,
+    format: u64,
     limit: u64,
     rows: PackedRows,
 }
@@ -380,10 +376,15 @@ fn read_outside(
     let Some(front) = take_front(alloc, outline.members)? else {
         return Ok(None);
     };
-    let Front { mut schema, limit } = front;
+    let Front {
+        mut schema,
+        format,
+        limit,
+    } = front;
     match read_rows_up_to(alloc, &mut schema, limit, text, scratch, at) {
         Ok(Some(rows)) => Ok(Some(Outer {
             schema,
+            format,
             limit,
             rows,
         })),
@@ -414,15 +415,34 @@ fn text_of_call<'a>(value: &'a Value) -> Option<&'a str>
     text_at(value, "call")
 }
 
-/// The call of a line, whose texts are made known.
-fn read_call(alloc: Global, schema: &mut Schema, line: u32, text: &str) -> Result<Call, Refusal>
-    ensures answers { Reads (λ call. call) result (call_in schema.old line text.now) }
+/// Whether a call may stand in a file of this format.
+fn may_stand(format: u64, call: &Call) -> bool
+    ensures { result ≡ may_stand format call.now }
+{
+    !is_delete_where(call) || format == 3
+}
+
+/// The call of a line in a file of this format. The texts of the line are made known.
+fn read_call(
+    alloc: Global,
+    format: u64,
+    schema: &mut Schema,
+    line: u32,
+    text: &str,
+) -> Result<Call, Refusal>
+    ensures answers { Reads (λ call. call) result (call_in format schema.old line text.now) }
     ensures learned { OnOk result (schema.new ≡ learned schema.old text.now) }
     ensures below { IfOk result (CallsBelow (length schema.new)) }
     ensures why { IfErr result TellsText }
 {
     match parse_line(alloc, schema, line, text) {
-        Ok(Some(call)) => Ok(call),
+        Ok(Some(call)) => {
+            if may_stand(format, &call) {
+                Ok(call)
+            } else {
+                Err(no_history(line))
+            }
+        }
         Ok(None) => Err(no_history(line)),
         Err(e) => Err(e),
     }
@@ -480,15 +500,16 @@ fn read_state(alloc: Global, call: &Call, value: &Value) -> Result<Option<State>
     }
 }
 
-/// The entry of a line: its members are looked at first, then its call, whose texts are made known, then its session
-/// and its reply.
+/// The entry of a line in a file of this format: its members are looked at first, then its call, whose texts are made
+/// known, then its session and its reply.
 fn read_entry(
     alloc: Global,
+    format: u64,
     schema: &mut Schema,
     line: u32,
     value: &Value,
 ) -> Result<Entry, Refusal>
-    ensures answers { Reads (λ e. e) result (entry_in schema.old line (view value.now)) }
+    ensures answers { Reads (λ e. e) result (entry_in format schema.old line (view value.now)) }
     ensures learned { OnOk result (schema.new ≡ entry_learned schema.old (view value.now)) }
     ensures below { IfOk result (λ e. CallsBelow (length schema.new) e.call) }
     ensures why { IfErr result TellsText }
@@ -496,7 +517,7 @@ fn read_entry(
     let Some(text) = text_of_call(value) else {
         return Err(no_history(line));
     };
-    let call = match read_call(alloc, schema, line, text) {
+    let call = match read_call(alloc, format, schema, line, text) {
         Ok(call) => call,
         Err(e) => return Err(e),
     };
@@ -515,23 +536,31 @@ fn read_entry(
 }
 
 /// The entry of a line, whose value is let go.
-fn take_entry(alloc: Global, schema: &mut Schema, line: u32, value: Value) -> Result<Entry, Refusal>
-    ensures answers { Reads (λ e. e) result (entry_in schema.old line (view value)) }
+fn take_entry(
+    alloc: Global,
+    format: u64,
+    schema: &mut Schema,
+    line: u32,
+    value: Value,
+) -> Result<Entry, Refusal>
+    ensures answers { Reads (λ e. e) result (entry_in format schema.old line (view value)) }
     ensures learned { OnOk result (schema.new ≡ entry_learned schema.old (view value)) }
     ensures below { IfOk result (λ e. CallsBelow (length schema.new) e.call) }
     ensures why { IfErr result TellsText }
 {
-    read_entry(alloc, schema, line, &value)
+    read_entry(alloc, format, schema, line, &value)
 }
 
-/// Entries in order, up to the end of their array; they count from 1. The texts of their calls are known then.
+/// Entries of a file of this format in order, up to the end of their array; they count from 1. The texts of their calls
+/// are known then.
 fn read_entries(
     alloc: Global,
+    format: u64,
     schema: &mut Schema,
     reader: &mut Reader<'_>,
 ) -> Result<Vec<Entry>, Refusal>
     requires { AreFew (values_in reader.old) }
-    ensures answers { ReadsEntries schema.old schema.new (values_in reader.old) result }
+    ensures answers { ReadsEntries format schema.old schema.new (values_in reader.old) result }
     ensures below { IfOk result (λ entries. AllBelow (length schema.new) entries.items) }
     ensures few { IfOk result (λ entries. length entries.items ≤ MOST_ENTRIES) }
     ensures why { IfErr result TellsText }
@@ -547,7 +576,7 @@ fn read_entries(
             return Err(Refusal::NoMemory);
         }
         let line = entries.len() as u32 + 1;
-        let entry = match take_entry(alloc, schema, line, value) {
+        let entry = match take_entry(alloc, format, schema, line, value) {
             Ok(entry) => entry,
             Err(e) => return Err(e),
         };
@@ -559,13 +588,14 @@ fn read_entries(
 /// The entries of a text's object, of which the array is the value of the member after so many others.
 fn read_entries_at(
     alloc: Global,
+    format: u64,
     schema: &mut Schema,
     text: &str,
     scratch: &mut Scratch,
     place: usize,
 ) -> Result<Vec<Entry>, Refusal>
     requires { AreFew (values_at place (tokens text.now)) }
-    ensures answers { ReadsEntries schema.old schema.new (values_at place (tokens text.now)) result }
+    ensures answers { ReadsEntries format schema.old schema.new (values_at place (tokens text.now)) result }
     ensures below { IfOk result (λ entries. AllBelow (length schema.new) entries.items) }
     ensures few { IfOk result (λ entries. length entries.items ≤ MOST_ENTRIES) }
     ensures why { IfErr result TellsText }
@@ -574,7 +604,7 @@ fn read_entries_at(
         return Err(Refusal::NoMemory);
     };
     match enter(&mut reader, place) {
-        Ok(()) => read_entries(alloc, schema, &mut reader),
+        Ok(()) => read_entries(alloc, format, schema, &mut reader),
         Err(_) => unreachable!(),
     }
 }
@@ -607,10 +637,11 @@ fn read_outlined(
     }
     let Outer {
         mut schema,
+        format,
         limit,
         rows,
     } = outer;
-    match read_entries_at(alloc, &mut schema, text, scratch, entries.place) {
+    match read_entries_at(alloc, format, &mut schema, text, scratch, entries.place) {
         Ok(entries) => Ok(Record {
             schema,
             rows,
@@ -640,8 +671,9 @@ fn read_record_text(alloc: Global, text: &str) -> Result<Record, Refusal>
 ///
 /// Refused `BadLine` of line 0 and why `History` where the bytes are no such JSON outside the entries; then `TooMany`
 /// of 1,048,576 where there are more entries; then for the first entry, from 1, that is none `BadLine` with its number:
-/// why `History` for its members, its session and its reply, or what `parse_line` finds in its call,
-/// `UnknownAttribute` and `TooMany` of `sw_rows::MOST_TEXTS` among it. `NoMemory` otherwise.
+/// why `History` for its members, its session, its reply, and a call that deletes the rows under conditions where the
+/// format is not 3; or what `parse_line` finds in its call, `UnknownAttribute` and `TooMany` of `sw_rows::MOST_TEXTS`
+/// among it. `NoMemory` otherwise.
 pub fn read_record(alloc: Global, bytes: &[u8]) -> Result<Record, Refusal>
     ensures answers { Reads (λ h. h) result (record_at bytes.now) }
     ensures why { IfErr result TellsText }

@@ -8,7 +8,7 @@ ghost use Rattle.sw_rows.specs.Cells.{HasPlaces};
 ghost use Rattle.sw_rows.specs.Domains.{domain};
 ghost use Rattle.sw_rows.specs.Header.{kinds_of, texts_of};
 ghost use Rattle.sw_rows.specs.Spelling.{kind_text};
-ghost use Rattle.sw_histories.specs.RecordText.{Puts, WritesText, attribute_text, attributes_data, cell_data, entries_data, entry_data, format_of, front_text, item_text, record_text, row_data, rows_data, state_data, texts_data};
+ghost use Rattle.sw_histories.specs.RecordText.{Puts, WritesText, attribute_text, attributes_data, cell_data, entries_data, entry_data, format_of, front_text, has_delete_where, is_delete_where, item_text, least_format, record_text, row_data, rows_data, state_data, texts_data};
 
 use serde_json::{Value, json};
 use std::alloc::{AllocError, Global};
@@ -79,11 +79,46 @@ fn attributes_value(alloc: Global, schema: &Schema) -> Result<Value, AllocError>
     Ok(Value::Array(items))
 }
 
-/// The number of the format in which a record of these attributes is written.
-pub(crate) fn format_of(schema: &Schema) -> u64
-    ensures { result ≡ format_of schema.now }
+/// The least number of the format for a record of these attributes.
+pub(crate) fn least_format(schema: &Schema) -> u64
+    ensures { result ≡ least_format schema.now }
 {
     if schema.has_texts() { 2 } else { 1 }
+}
+
+/// Whether a call deletes the rows under conditions.
+pub(crate) fn is_delete_where(call: &Call) -> bool
+    ensures { result ≡ is_delete_where call.now }
+{
+    match call {
+        Call::DeleteWhere(_) => true,
+        Call::Select(_) | Call::Insert(_) | Call::Delete(_) => false,
+    }
+}
+
+/// Whether the call of an entry deletes the rows under conditions.
+fn has_delete_where(entries: &[Entry]) -> bool
+    ensures { result ≡ has_delete_where entries.now }
+{
+    let mut rest = entries;
+    while let Some((entry, later)) = rest.split_first() {
+        if is_delete_where(&entry.call) {
+            return true;
+        }
+        rest = later;
+    }
+    false
+}
+
+/// The number of the format in which a record of these attributes and entries is written.
+fn format_of(schema: &Schema, entries: &[Entry]) -> u64
+    ensures { result ≡ format_of schema.now entries.now }
+{
+    if has_delete_where(entries) {
+        3
+    } else {
+        least_format(schema)
+    }
 }
 
 /// A cell as a number or, of texts, as its text.
@@ -260,7 +295,8 @@ fn put_front(alloc: Global, history: &Record, text: &mut Vec<u8>) -> Result<(), 
     text.extend_from_slice(b",\"entries\":")?;
     put_entries(alloc, &history.schema, history.entries.as_slice(), text)?;
     text.extend_from_slice(b",\"format\":")?;
-    put_number(alloc, format_of(&history.schema), text)?;
+    let format = format_of(&history.schema, history.entries.as_slice());
+    put_number(alloc, format, text)?;
     text.extend_from_slice(b",\"limit\":")?;
     put_number(alloc, history.limit, text)?;
     Ok(())
@@ -278,8 +314,8 @@ fn record_bytes(alloc: Global, history: &Record) -> Result<Vec<u8>, AllocError>
 }
 
 /// Writes the text of a record's file: one JSON object without blanks, in which keys ascend. An answered entry is
-/// written with the lines of its reply, and a cell of texts as its text. The format is 2 where an attribute is of
-/// texts, and 1 elsewhere.
+/// written with the lines of its reply, and a cell of texts as its text. The format is 3 where a call deletes the rows
+/// under conditions; elsewhere it is 2 where an attribute is of texts, and 1 where none is.
 ///
 /// Refused `NoMemory`, and then nothing was written, or `Output` where the sink fails, and then a beginning of the text
 /// was.

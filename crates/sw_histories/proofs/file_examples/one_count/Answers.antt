@@ -15,4 +15,6 @@ returns c = record {
   again = refl;
   of_run = counted_of_run;
   read = refl;
+  newer = refl;
+  unknown = refl;
 }

@@ -32,8 +32,8 @@ returns-in-Err-clause-answers c =
     let less : length r < length l.reader = rw (← going.1) done.shorter in
     let more = value_more (value 125) l.invariant.0 l.reader r d l.invariant.1 (omega (arith, l.invariant.2, less)) going.0 (rw (← going.1) done.ok) l.invariant.3 in
     let place : c.len.result + 1 ≡ length es + 1 = ap (λ n. n + 1) (search rules) in
-    let fault = entry_fault columns es d more.0 (c.len.result + 1) c.in-Err.e place c.in-Err.ensures.answers in
-    IfSome_then (values_in c.args.reader.now) l.invariant.6 (λ ds h. subst (λ said. Answers {A = List Column × List Entry} (Err c.in-Err.e) said) (sym (h ∙ ap (entries_after columns es) more.1)) fault)
+    let fault = entry_fault c.args.format columns es d more.0 (c.len.result + 1) c.in-Err.e place c.in-Err.ensures.answers in
+    IfSome_then (values_in c.args.reader.now) l.invariant.6 (λ ds h. subst (λ said. Answers {A = List Column × List Entry} (Err c.in-Err.e) said) (sym (h ∙ ap (entries_after c.args.format columns es) more.1)) fault)
 
 pub entries-preserved : goal.entries-preserved
 entries-preserved c =
@@ -60,11 +60,11 @@ entries-preserved c =
       more.2,
       omega (arith, l.invariant.4, ap length grown ∙ length-append es (e ∷ []), ap length more.1),
       rw grown (below_push (length next) es e below c.in-Ok-take_entry.ensures.below),
-      IfSome_then (values_in c.args.reader.now) l.invariant.6 (λ ds h. entries_step columns next es c.push_reserved.new.self.items d more.0 e (c.len.result + 1) (entries_after c.args.schema.now [] ds) (h ∙ ap (entries_after columns es) more.1) place c.in-Ok-take_entry.ensures.answers known grown),
+      IfSome_then (values_in c.args.reader.now) l.invariant.6 (λ ds h. entries_step c.args.format columns next es c.push_reserved.new.self.items d more.0 e (c.len.result + 1) (entries_after c.args.format c.args.schema.now [] ds) (h ∙ ap (entries_after c.args.format columns es) more.1) place c.in-Ok-take_entry.ensures.answers known grown),
     )
 
 pub returns-clause-answers : goal.returns-clause-answers
 returns-clause-answers c =
     let l = c.entries in
     let over = values_over (value 125) l.invariant.0 l.reader c.take_end_array.new.self l.invariant.1 l.invariant.2 (grind arith) l.invariant.3 in
-    IfSome_then (values_in c.args.reader.now) l.invariant.6 (λ ds h. h ∙ ap (entries_after l.schema l.entries.items) over)
+    IfSome_then (values_in c.args.reader.now) l.invariant.6 (λ ds h. h ∙ ap (entries_after c.args.format l.schema l.entries.items) over)

@@ -16,7 +16,7 @@ invariant-entries l =
     × (listed (converted of_items (items (value 125) n l.reader)) ≡ Some left)
     × (length l.entries.items + length left ≤ MOST_ENTRIES)
     × AllBelow (length l.schema) l.entries.items
-    × IfSome (values_in l.initial.reader) (λ ds. entries_after l.fn.schema [] ds ≡ entries_after l.schema l.entries.items left)
+    × IfSome (values_in l.initial.reader) (λ ds. entries_after l.format l.fn.schema [] ds ≡ entries_after l.format l.schema l.entries.items left)
 
 abbrev pub decreases-entries : goal.decreases-entries
 decreases-entries l = length l.reader

@@ -33,10 +33,10 @@ returns-then-entries-gt-MOST_ENTRIES-clause-answers c =
     let o = c.in-Some-read.outer in
     let at = stood c.args.text.now c.args.outline c.in-Some.entries h c.in-Some.is in
     let seen : option_map read_as c.in-Ok.read ≡ outside_of (object h.all) = c.in-Ok.ensures ∙ ap (option_and_then outside_of) h.read in
-    let some : Some (frame o.schema o.limit o.rows.items []) ≡ outside_of (object h.all) = sym (ap (option_map read_as) c.in-Some-read.is) ∙ seen in
-    let f = frame o.schema o.limit o.rows.items at.values in
+    let some : Some (frame o.schema o.format o.limit o.rows.items []) ≡ outside_of (object h.all) = sym (ap (option_map read_as) c.in-Some-read.is) ∙ seen in
+    let f = frame o.schema o.format o.limit o.rows.items at.values in
     let many : MOST_ENTRIES < length at.values = at.counted.1 (omega arith) in
-    record_is c.args.text.now h.all f h.read (outer_some h.all at.values o.schema o.limit o.rows.items at.there some) ∙ too_many f many
+    record_is c.args.text.now h.all f h.read (outer_some h.all at.values o.schema o.format o.limit o.rows.items at.there some) ∙ too_many f many
 
 pub invariant_of-result : goal.invariant_of-result
 invariant_of-result c =
@@ -44,8 +44,8 @@ invariant_of-result c =
     let o = c.in-Some-read.outer in
     let at = stood c.args.text.now c.args.outline c.in-Some.entries h c.in-Some.is in
     let seen : option_map read_as c.in-Ok.read ≡ outside_of (object h.all) = c.in-Ok.ensures ∙ ap (option_and_then outside_of) h.read in
-    let some : Some (frame o.schema o.limit o.rows.items []) ≡ outside_of (object h.all) = sym (ap (option_map read_as) c.in-Some-read.is) ∙ seen in
-    let sound = frame_sound (object h.all) (frame o.schema o.limit o.rows.items at.values) (outer_some h.all at.values o.schema o.limit o.rows.items at.there some) in
+    let some : Some (frame o.schema o.format o.limit o.rows.items []) ≡ outside_of (object h.all) = sym (ap (option_map read_as) c.in-Some-read.is) ∙ seen in
+    let sound = frame_sound (object h.all) (frame o.schema o.format o.limit o.rows.items at.values) (outer_some h.all at.values o.schema o.format o.limit o.rows.items at.there some) in
     record {
       some = sound.some;
       most = sound.most;
@@ -61,12 +61,12 @@ returns-in-Ok-read_entries_at-clause-answers c =
     let o = c.in-Some-read.outer in
     let at = stood c.args.text.now c.args.outline c.in-Some.entries h c.in-Some.is in
     let seen : option_map read_as c.in-Ok.read ≡ outside_of (object h.all) = c.in-Ok.ensures ∙ ap (option_and_then outside_of) h.read in
-    let some : Some (frame o.schema o.limit o.rows.items []) ≡ outside_of (object h.all) = sym (ap (option_map read_as) c.in-Some-read.is) ∙ seen in
-    let f = frame o.schema o.limit o.rows.items at.values in
+    let some : Some (frame o.schema o.format o.limit o.rows.items []) ≡ outside_of (object h.all) = sym (ap (option_map read_as) c.in-Some-read.is) ∙ seen in
+    let f = frame o.schema o.format o.limit o.rows.items at.values in
     let count : c.in-Some.entries.count ≤ MOST_ENTRIES = omega arith in
     let few : length at.values ≤ MOST_ENTRIES = omega (arith, at.counted.0 count, count) in
     let read = some_at _ at.values _ at.stands c.in-Ok-read_entries_at.ensures.answers in
-    record_is c.args.text.now h.all f h.read (outer_some h.all at.values o.schema o.limit o.rows.items at.there some) ∙ few_enough f few ∙ ap (λ r. r >>= λ x. Ok (history_with f x)) read
+    record_is c.args.text.now h.all f h.read (outer_some h.all at.values o.schema o.format o.limit o.rows.items at.there some) ∙ few_enough f few ∙ ap (λ r. r >>= λ x. Ok (history_with f x)) read
 
 pub returns-in-Err-clause-answers : goal.returns-in-Err-clause-answers
 returns-in-Err-clause-answers c =
@@ -74,10 +74,10 @@ returns-in-Err-clause-answers c =
     let o = c.in-Some-read.outer in
     let at = stood c.args.text.now c.args.outline c.in-Some.entries h c.in-Some.is in
     let seen : option_map read_as c.in-Ok.read ≡ outside_of (object h.all) = c.in-Ok.ensures ∙ ap (option_and_then outside_of) h.read in
-    let some : Some (frame o.schema o.limit o.rows.items []) ≡ outside_of (object h.all) = sym (ap (option_map read_as) c.in-Some-read.is) ∙ seen in
-    let f = frame o.schema o.limit o.rows.items at.values in
+    let some : Some (frame o.schema o.format o.limit o.rows.items []) ≡ outside_of (object h.all) = sym (ap (option_map read_as) c.in-Some-read.is) ∙ seen in
+    let f = frame o.schema o.format o.limit o.rows.items at.values in
     let count : c.in-Some.entries.count ≤ MOST_ENTRIES = omega arith in
     let few : length at.values ≤ MOST_ENTRIES = omega (arith, at.counted.0 count, count) in
     let read = some_at _ at.values _ at.stands c.in-Err.ensures.answers in
-    let is = record_is c.args.text.now h.all f h.read (outer_some h.all at.values o.schema o.limit o.rows.items at.there some) ∙ few_enough f few in
-    subst (λ said. Answers {A = History} (Err c.in-Err.e) said) (sym is) (answers_bind {A = List Column × List Entry} {B = History} c.in-Err.e (entries_after o.schema [] at.values) (λ x. Ok (history_with f x)) read)
+    let is = record_is c.args.text.now h.all f h.read (outer_some h.all at.values o.schema o.format o.limit o.rows.items at.there some) ∙ few_enough f few in
+    subst (λ said. Answers {A = History} (Err c.in-Err.e) said) (sym is) (answers_bind {A = List Column × List Entry} {B = History} c.in-Err.e (entries_after o.format o.schema [] at.values) (λ x. Ok (history_with f x)) read)

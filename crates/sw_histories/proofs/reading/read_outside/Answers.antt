@@ -21,11 +21,12 @@ returns-in-Ok-Some c =
     let at = rows_stood c.args.text.now c.args.outline i h c.in-Some.is in
     let all = outer_read c.args.text.now c.args.outline i c.in_ok-front.field-0 h at c.in_ok-front.ensures.told in
     let schema = c.in-Some-2.front.schema in
+    let format = c.in-Some-2.front.format in
     let limit = c.in-Some-2.front.limit in
     let now = c.read_rows_up_to.new.schema in
     let rows = some_at (values_at i.place (tokens c.args.text.now)) at.values (λ ds. AreRows (rows_up_to schema limit ds) now c.in-Ok-Some.field-0) at.stands c.in-Ok-Some.ensures in
     let said = rows_said (rows_up_to schema limit at.values) now c.in-Ok-Some.field-0 (Some c.in-Ok-Some.rows) rows c.in-Ok-Some.field-0-is in
-    ap (option_map (λ r. frame r.0 limit r.1 [])) said
+    ap (option_map (λ r. frame r.0 format limit r.1 [])) said
     ∙ sym (all ∙ ap (λ f. option_and_then (outer_from at.values) (option_map front_as f)) c.in-Some-2.is)
 
 pub returns-in-Ok-None : goal.returns-in-Ok-None
@@ -35,9 +36,10 @@ returns-in-Ok-None c =
     let at = rows_stood c.args.text.now c.args.outline i h c.in-Some.is in
     let all = outer_read c.args.text.now c.args.outline i c.in_ok-front.field-0 h at c.in_ok-front.ensures.told in
     let schema = c.in-Some-2.front.schema in
+    let format = c.in-Some-2.front.format in
     let limit = c.in-Some-2.front.limit in
     let now = c.read_rows_up_to.new.schema in
     let rows = some_at (values_at i.place (tokens c.args.text.now)) at.values (λ ds. AreRows (rows_up_to schema limit ds) now c.in-Ok-None.field-0) at.stands c.in-Ok-None.ensures in
     let said = rows_said (rows_up_to schema limit at.values) now c.in-Ok-None.field-0 None rows c.in-Ok-None.field-0-is in
-    ap (option_map (λ r. frame r.0 limit r.1 [])) said
+    ap (option_map (λ r. frame r.0 format limit r.1 [])) said
     ∙ sym (all ∙ ap (λ f. option_and_then (outer_from at.values) (option_map front_as f)) c.in-Some-2.is)
