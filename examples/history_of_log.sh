@@ -17,7 +17,7 @@ SELECT json_object(
       'reply', json('["' || replace(reply, char(10), '","') || '"]'),
       'session', CAST(session AS INTEGER)))
     FROM (SELECT session, call, reply FROM log ORDER BY rowid)),
-  'format', 1,
+  'format', 3,
   'limit', 1048576,
   'rows', json('[$rows]'));
 SQL
