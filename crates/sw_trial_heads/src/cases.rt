@@ -429,7 +429,10 @@ const SEVENTY_ROWS_OF_ONE_CALL: &[(Step<'static>, &str)] = &[
     (Step::Counts, "1 begins, 1 steps, 0 tails"),
     (Step::Used, "64"),
     (Step::Call("delete where a <= 70"), "(0 removed)\n"),
-    (Step::Call("select a where a < 73"), "71: 71\n72: 72\n(2 rows)\n"),
+    (
+        Step::Call("select a where a < 73"),
+        "71: 71\n72: 72\n(2 rows)\n",
+    ),
 ];
 
 /// 66 rows that go by two calls, of which one came between them.
@@ -442,7 +445,10 @@ const SIXTY_SIX_ROWS_OF_TWO_CALLS: &[(Step<'static>, &str)] = &[
     (Step::Merge("count"), ""),
     (Step::At(0, View::Sizes), "3 boxes, 1 entries"),
     (Step::At(0, View::Restarts), "1"),
-    (Step::Call("select a where a < 67"), "66: 66\n102: 2\n(2 rows)\n"),
+    (
+        Step::Call("select a where a < 67"),
+        "66: 66\n102: 2\n(2 rows)\n",
+    ),
 ];
 
 /// 64 rows that go by one call, each of which is logged.
@@ -465,7 +471,10 @@ const ROWS_OF_ONE_CALL_IN_TWO_AREAS: &[(Step<'static>, &str)] = &[
     (Step::At(1, View::Restarts), "0"),
     // then 70 that came to one of them, which begins anew
     (Step::Calls(70, "insert 36"), "key 170\n"),
-    (Step::Call("delete where a >= 36 and a <= 36"), "(70 removed)\n"),
+    (
+        Step::Call("delete where a >= 36 and a <= 36"),
+        "(70 removed)\n",
+    ),
     (Step::Call("count where a >= 36"), "30\n"),
     (Step::At(0, View::Restarts), "0"),
     (Step::At(1, View::Restarts), "1"),
@@ -493,12 +502,7 @@ const MANY_REMOVALS: &[(&str, &[i64], usize, &[(Step<'static>, &str)])] = &[
         6,
         REMOVALS_ARE_COUNTED_BY_AREA,
     ),
-    (
-        "seventy_rows_of_one_call",
-        &[],
-        3,
-        SEVENTY_ROWS_OF_ONE_CALL,
-    ),
+    ("seventy_rows_of_one_call", &[], 3, SEVENTY_ROWS_OF_ONE_CALL),
     (
         "sixty_six_rows_of_two_calls",
         &[],

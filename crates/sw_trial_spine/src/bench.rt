@@ -19,6 +19,7 @@ use sw_spine::{Entry, Record, Spine, State};
 pub(crate) type Text = Counted<Vec<u8>>;
 
 /// What is done with the spine.
+#[derive(Clone, Copy)]
 pub(crate) enum Step<'t> {
     /// Session 1 makes the change of this line.
     Change(&'t str),
