@@ -93,11 +93,12 @@ impl Dice {
 
     /// The deletion of all rows that meet a condition, and rarely others.
     pub(crate) fn push_deletion(&mut self, line: &mut String) -> Result<(), AllocError> {
+        let (first, other) = (self.name(), self.name());
         line.push_str("delete where ")?;
-        self.push_cond(self.name(), line)?;
+        self.push_cond(first, line)?;
         if self.is_one_in(3) {
             line.push_str(" and ")?;
-            self.push_cond(self.name(), line)?;
+            self.push_cond(other, line)?;
         }
         Ok(())
     }
