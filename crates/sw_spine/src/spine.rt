@@ -290,7 +290,7 @@ impl Spine {
         settle(&mut self.entries, &mut self.places, session, State::Void);
     }
 
-    /// An insert or a delete is answered at the end of the history, with the plain table's reply there.
+    /// A call that is no select is answered at the end of the history, with the plain table's reply there.
     ///
     /// Refused `HistoryFull` where the history has 1,048,576 entries, `NoMemory` otherwise; after a refusal nothing has
     /// changed. The caller's conditions: the call is no select, its conditions name attributes of the table, and the
