@@ -390,7 +390,7 @@ where
         ..
     } = table;
     let engine = Engine::<J, M>::open(alloc, books, schema, rows, cuts, limit)?;
-    supply(rt, &engine, boxes)?;
+    supply(rt, alloc, &engine, boxes)?;
     ask_at(rt, alloc, engine, asked, text)
 }
 
@@ -418,7 +418,7 @@ pub(crate) fn ask<R: Wait>(
     asked: Asked,
     text: &mut String,
 ) -> Result<(), Refusal> {
-    let boxes = Boxes::first(alloc, refusing(alloc, 2, 1 << 20, 0)?)?;
+    let boxes = Boxes::at(alloc, refusing(alloc, 2, 1 << 20, 0)?, Vec::new(alloc));
     let schema = Schema::of(alloc, &HEADER)?;
     let table = Table::of(alloc, TABLE, schema)?;
     ask_picked::<Brand, Refusing, R>(rt, alloc, Blank::new(), table, boxes, asked, text)

@@ -1,9 +1,8 @@
 //! What an engine is opened over, and the boxes that it is given.
 
-ghost use Rattle.std.specs.Prelude.{◌≡◌, ◌<◌, ◌≤◌, ℕ, true, length, All, IfOk};
+ghost use Rattle.std.specs.Prelude.{◌≡◌, ◌<◌, ◌≤◌, ℕ, true, length, IfOk};
 ghost use Rattle.sw_rows.specs.declared.table.TheConstants.{MOST_ROWS};
 ghost use Rattle.sw_lang.specs.Cuts.{AreCuts, cuts_on};
-ghost use Rattle.sw_map.specs.Held.{blank};
 ghost use Rattle.sw_spine.specs.Table.{is_numbered};
 ghost use Rattle.sw_versions.specs.Pending.{IsPlain};
 
@@ -50,51 +49,35 @@ impl Table {
     }
 }
 
-/// Boxes for an engine, all blank: those that are dealt out to all heads, those of the first head, and those of the second.
+/// Boxes for an engine: those that are dealt out to all heads, those of the first head, and those of the second.
 #[derive(Drop)]
 pub(crate) struct Boxes<M: CrackerMap> {
     dealt: Vec<M>,
     first: Vec<M>,
     second: Vec<M>,
-    ghost dealt_blank: { All (λ m. M.held m ≡ blank) dealt.items },
-    ghost first_blank: { All (λ m. M.held m ≡ blank) first.items },
-    ghost second_blank: { All (λ m. M.held m ≡ blank) second.items },
 }
 
 impl<M: CrackerMap> Boxes<M> {
-    /// Boxes that are dealt out, made blank.
-    pub(crate) fn dealt(alloc: Global, maps: Vec<M>) -> Result<Boxes<M>, Refusal> {
-        let dealt = cleared(alloc, maps)?;
-        Ok(Boxes {
-            dealt,
+    /// Boxes that are dealt out, from the last.
+    pub(crate) fn dealt(alloc: Global, maps: Vec<M>) -> Boxes<M> {
+        Boxes {
+            dealt: maps,
             first: Vec::new(alloc),
             second: Vec::new(alloc),
-        })
+        }
     }
 
-    /// Boxes of the first head, made blank.
-    pub(crate) fn first(alloc: Global, maps: Vec<M>) -> Result<Boxes<M>, Refusal> {
-        let first = cleared(alloc, maps)?;
-        Ok(Boxes {
+    /// Boxes of the first two heads.
+    pub(crate) fn at(alloc: Global, first: Vec<M>, second: Vec<M>) -> Boxes<M> {
+        Boxes {
             dealt: Vec::new(alloc),
             first,
-            second: Vec::new(alloc),
-        })
-    }
-
-    /// The same with boxes of the second head, made blank.
-    pub(crate) fn and_second(self, alloc: Global, maps: Vec<M>) -> Result<Boxes<M>, Refusal> {
-        let second = cleared(alloc, maps)?;
-        let Boxes { dealt, first, .. } = self;
-        Ok(Boxes {
-            dealt,
-            first,
             second,
-        })
+        }
     }
 }
 
-/// Gives boxes to a head.
+/// Gives boxes to a head, made blank.
 fn hand<J: Naming, M: CrackerMap, R: Wait>(
     rt: &R,
     engine: &Engine<J, M>,
@@ -103,10 +86,11 @@ fn hand<J: Naming, M: CrackerMap, R: Wait>(
 ) -> Result<(), Refusal>
 where
     Live<J>: Absorb<Op<J>, State = [Update; 0]>,
-    requires place { head < length J.columns }
-    requires blank { All (λ m. M.held m ≡ blank) maps.items }
+    requires { head < length J.columns }
 {
     for it in maps {
+        let mut it = it;
+        it.clear();
         if engine.supply(rt, head, it).is_err() {
             return Err(Refusal::NoMemory);
         }
@@ -114,9 +98,10 @@ where
     Ok(())
 }
 
-/// Gives an engine its boxes. `Input` where it has fewer than two heads.
+/// Gives an engine its boxes, made blank. `Input` where it has fewer than two heads.
 pub(crate) fn supply<J: Naming, M: CrackerMap, R: Wait>(
     rt: &R,
+    alloc: Global,
     engine: &Engine<J, M>,
     boxes: Boxes<M>,
 ) -> Result<(), Refusal>
@@ -133,7 +118,7 @@ where
         first,
         second,
     } = boxes;
-    deal(rt, engine, columns, dealt)?;
+    deal(rt, engine, columns, cleared(alloc, dealt)?)?;
     hand(rt, engine, 0, first)?;
     hand(rt, engine, 1, second)
 }
@@ -165,6 +150,6 @@ where
     let (engine, tickets) = Engine::<J, M>::open_for(
         alloc, books, schema, rows, cuts, limit, sessions,
     )?;
-    supply(rt, &engine, boxes)?;
+    supply(rt, alloc, &engine, boxes)?;
     Ok((engine, tickets))
 }

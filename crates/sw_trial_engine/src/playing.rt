@@ -274,7 +274,9 @@ where
         rt,
         sides,
         &|side: Side<'_, J, M>| -> Came<J>
-            requires { (1 < length J.columns) × AsksBelow 8 board.now.plan.query × All (λ c. CallsBelow (length J.columns) c) side.calls.now }
+            requires place { 1 < length J.columns }
+            requires asks { AsksBelow 8 board.now.plan.query }
+            requires calls { All (λ c. CallsBelow (length J.columns) c) side.calls.now }
             ensures { result.tally ≡ result.tally }
         { take_side(rt, engine, board, side) },
     )

@@ -119,7 +119,7 @@ pub(crate) fn add_block(
     Ok(())
 }
 
-/// The calls of sessions, a block each; the lines of two are divided by ||.
+/// The calls of sessions, a block each; the lines of two are divided by &.
 pub(crate) fn blocks(alloc: Global, schema: &Schema, lines: &str) -> Result<Vec<Vec<Call>>, Refusal>
     ensures { IfOk result (λ v. All (λ b. All (λ c. CallsBelow (length schema.now) c) b.items) v.items) }
 {

@@ -5,6 +5,7 @@ ghost use Rattle.sw_rows.specs.Scan.{AsksBelow};
 ghost use Rattle.sw_rows.specs.declared.table.TheConstants.{MOST_ROWS};
 ghost use Rattle.sw_spine.specs.History.{CallsBelow, IsLegal};
 
+use crate::asking::count_all;
 use crate::beginnings::{Beginnings, show_seen, tell_looks};
 use crate::boxes::{Refusing, Sights, Signals, refusing, watching};
 use crate::opening::Boxes;
@@ -26,17 +27,36 @@ const EIGHT: [&str; 8] = [
     "a:int", "b:int", "c:int", "d:int", "e:int", "f:int", "g:int", "h:int",
 ];
 
-/// Viewers, which ask for the sum of b or count, and look once for each that there are or twenty times; each call is made once.
+/// Asks for the sum of b, or counts.
+fn asked(alloc: Global, sums: bool) -> Query
+    ensures { AsksBelow 8 result }
+{
+    if sums {
+        sum_of_b(alloc)
+    } else {
+        count_all(alloc)
+    }
+}
+
+/// Asks for the sum of b.
+fn sum_of_b(alloc: Global) -> Query
+    ensures { AsksBelow 8 result }
+{
+    Query {
+        conds: Conds::new(alloc),
+        want: Want::Sum(1),
+    }
+}
+
+/// So many viewers, of which each asks for the sum of b twenty times, or counts once; each call is made once.
 fn planned(alloc: Global, viewers: usize, sums: bool, signals: Signals) -> Plan
     ensures { AsksBelow 8 result.query }
 {
+    let query = asked(alloc, sums);
     Plan {
         viewers,
         looks: if sums { 20 } else { 1 },
-        query: Query {
-            conds: Conds::new(alloc),
-            want: if sums { Want::Sum(1) } else { Want::Count },
-        },
+        query,
         turns: 1,
         signals,
     }
@@ -109,7 +129,7 @@ pub(crate) fn told_of<R: Threads + Wait + Sync>(
     lines: &str,
     text: &mut String,
 ) -> Result<(), Refusal> {
-    let boxes = Boxes::dealt(alloc, refusing(alloc, many, 1 << 20, 0)?)?;
+    let boxes = Boxes::dealt(alloc, refusing(alloc, many, 1 << 20, 0)?);
     let mut plan = planned(alloc, 0, false, held(Signals::new(alloc, true))?);
     plan.turns = turns;
     let _ = play_lines(rt, alloc, cuts, boxes, lines, plan, text)?;
@@ -130,7 +150,7 @@ pub(crate) fn raced<R: Threads + Wait + Sync>(
     let trial = Trial { cuts, ..TABLE };
     let schema = Schema::of(alloc, &HEADER)?;
     let blocks = blocks(alloc, &schema, lines)?;
-    let boxes = Boxes::dealt(alloc, refusing(alloc, many, 1 << 20, 0)?)?;
+    let boxes = Boxes::dealt(alloc, refusing(alloc, many, 1 << 20, 0)?);
     let plan = planned(alloc, 0, false, held(Signals::new(alloc, true))?);
     let played = play_told(
         rt,
@@ -175,7 +195,7 @@ pub(crate) fn counted<R: Threads + Wait + Sync>(
 ) -> Result<(), Refusal> {
     let sights = held(Sights::new(alloc))?;
     let signals = held(Signals::new(alloc, true))?;
-    let boxes = Boxes::dealt(alloc, watching(alloc, many, &signals, &sights)?)?;
+    let boxes = Boxes::dealt(alloc, watching(alloc, many, &signals, &sights)?);
     let plan = planned(alloc, 0, false, signals);
     let _ = play_lines(rt, alloc, "", boxes, lines, plan, text)?;
     held(tell_counts(text, &sights.counts))
@@ -191,9 +211,9 @@ pub(crate) fn waited<R: Threads + Wait + Sync>(
 ) -> Result<(), Refusal> {
     let sights = held(Sights::new(alloc))?;
     let signals = held(Signals::new(alloc, false))?;
-    let boxes = Boxes::first(alloc, watching(alloc, 2, &signals, &sights)?)?;
+    let gated = watching(alloc, 2, &signals, &sights)?;
     let free = watching(alloc, 2, &held(Signals::new(alloc, true))?, &sights)?;
-    let boxes = boxes.and_second(alloc, free)?;
+    let boxes = Boxes::at(alloc, gated, free);
     let plan = planned(alloc, viewers, false, signals);
     let played = play_lines(rt, alloc, "", boxes, lines, plan, text)?;
     held(show_seen(text, played.seen.as_slice()))?;
@@ -270,7 +290,7 @@ pub(crate) fn mixed<R: Threads + Wait + Sync>(
         state: limit ^ (cells << 8) ^ (every << 40) | 1,
     };
     let mut none = Vec::new(alloc);
-    let boxes = Boxes::dealt(alloc, refusing(alloc, many as usize, cells, every)?)?;
+    let boxes = Boxes::dealt(alloc, refusing(alloc, many as usize, cells, every)?);
     let plan = planned(alloc, 0, false, held(Signals::new(alloc, true))?);
     let _ = play_random(rt, alloc, trial, chance, boxes, &mut none, plan, text)?;
     Ok(())
@@ -295,8 +315,8 @@ pub(crate) fn among<R: Threads + Wait + Sync>(
         sessions: 3,
         state: cells | 1,
     };
-    let boxes = Boxes::first(alloc, refusing(alloc, 4, cells, every)?)?;
-    let boxes = boxes.and_second(alloc, refusing(alloc, 4, cells, every)?)?;
+    let first = refusing(alloc, 4, cells, every)?;
+    let boxes = Boxes::at(alloc, first, refusing(alloc, 4, cells, every)?);
     let mut later = refusing(alloc, 200, cells, every)?;
     let plan = planned(alloc, 0, false, held(Signals::new(alloc, true))?);
     let _ = play_random(rt, alloc, trial, chance, boxes, &mut later, plan, text)?;
@@ -319,7 +339,7 @@ pub(crate) fn crowded<R: Threads + Wait + Sync>(
         state: 77,
     };
     let mut none = Vec::new(alloc);
-    let boxes = Boxes::dealt(alloc, Vec::new(alloc))?;
+    let boxes = Boxes::dealt(alloc, Vec::new(alloc));
     let plan = planned(alloc, 16, true, held(Signals::new(alloc, true))?);
     let played = play_random(rt, alloc, trial, chance, boxes, &mut none, plan, text)?;
     let beginnings = held(Beginnings::of(alloc, &ROWS, &played.record))?;
