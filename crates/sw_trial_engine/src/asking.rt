@@ -31,15 +31,18 @@ pub(crate) fn count_all(alloc: Global) -> Query
 }
 
 /// Asks how many rows have an a below a cell.
-fn count_below(alloc: Global, cell: i64) -> Result<Query, AllocError>
+fn count_below(alloc: Global, cell: i64) -> Result<Query, Refusal>
     ensures { IfOk result (λ q. AsksBelow 8 q) }
 {
     let mut conds = Conds::new(alloc);
-    conds.push(Cond {
+    let below = Cond {
         attr: 0,
         lower: None,
         upper: Some(Bound::Before(cell)),
-    })?;
+    };
+    if conds.push(below).is_err() {
+        return Err(Refusal::NoMemory);
+    }
     Ok(Query {
         conds,
         want: Want::Count,
@@ -47,11 +50,13 @@ fn count_below(alloc: Global, cell: i64) -> Result<Query, AllocError>
 }
 
 /// Asks for all rows, with their cells of b.
-fn rows_all(alloc: Global) -> Result<Query, AllocError>
+fn rows_all(alloc: Global) -> Result<Query, Refusal>
     ensures { IfOk result (λ q. AsksBelow 8 q) }
 {
     let mut names = Names::new(alloc);
-    names.push(1)?;
+    if names.push(1).is_err() {
+        return Err(Refusal::NoMemory);
+    }
     Ok(Query {
         conds: Conds::new(alloc),
         want: Want::Rows(names),
@@ -78,7 +83,7 @@ fn look<J: Naming>(
 ) -> Result<(), Refusal> {
     tell_answer(text, viewer, &count_all(alloc))?;
     held(text.push_str(" "))?;
-    tell_answer(text, viewer, &held(count_below(alloc, 10))?)?;
+    tell_answer(text, viewer, &count_below(alloc, 10)?)?;
     held(text.push_str("; "))
 }
 
@@ -204,7 +209,7 @@ where
 {
     let mut viewer = engine.viewer(rt)?;
     look(alloc, text, &mut viewer)?;
-    tell_answer(text, &mut viewer, &held(rows_all(alloc))?)
+    tell_answer(text, &mut viewer, &rows_all(alloc)?)
 }
 
 /// A session writes before there is a viewer, which looks then. Tells what it sees, and adds the session's ticket.
@@ -247,7 +252,7 @@ where
     one.delete_where(rt, &[twelve])?;
     viewer.learn(one.receipt());
     look(alloc, text, viewer)?;
-    tell_answer(text, viewer, &held(rows_all(alloc))?)
+    tell_answer(text, viewer, &rows_all(alloc)?)
 }
 
 /// A viewer looks around such a deletion. Tells what it sees, and adds the session's ticket.
