@@ -581,9 +581,9 @@ where
 
     /// Deletes all rows that meet the conditions, as one call, and tells how many. The conditions are copied.
     ///
-    /// Refused `NoMemory`, or `HistoryFull`; then nothing has changed. The caller's condition: the conditions name attributes of
-    /// the table. The call has a line in a history file where there is a condition, and each has a bound and an attribute
-    /// of its own.
+    /// Refused `NoMemory`, or `HistoryFull`; then nothing has changed. The caller's condition: the conditions name
+    /// attributes of the table. With none of them all rows go. The call has a line in a history file where there is a
+    /// condition, and each has a bound and an attribute of its own.
     pub fn delete_where<R: Wait>(&mut self, rt: &R, conds: &[Cond]) -> Result<Reply, Refusal>
         requires { CondsBelow (length J.columns) conds.now }
         ensures number { self.new.0 ≡ self.old.0 }
@@ -616,8 +616,9 @@ where
         }
     }
 
-    /// The receipt of the list that was published when the session was opened, or at its last insert, delete, delete under
-    /// conditions or meeting that was answered. Each begins with the one before. It takes no memory, and waits for nobody.
+    /// The receipt of the list that was published when the session was opened, or at its last insert, delete, delete
+    /// under conditions or meeting that was answered. Each begins with the one before. It takes no memory, and waits for
+    /// nobody.
     ///
     /// Of each entry of the history, what the session's share shows as published has all updates or none.
     pub fn receipt(&self) -> Receipt<J>

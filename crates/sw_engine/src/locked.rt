@@ -215,7 +215,8 @@ where
             ≡ with_committed J.opening number call self.new.shelf self.old.desk.books) }
         ensures published { (self.new.shelf.published ≡ self.old.shelf.published)
             ⊎ (self.new.shelf.published ≡ later J.opening self.new.desk.books) }
-        ensures entries { OnOk result (IsOfFirst J.limit J.opening self.new.desk.books.entries self.new.shelf.published) }
+        ensures entries { OnOk result
+            (IsOfFirst J.limit J.opening self.new.desk.books.entries self.new.shelf.published) }
         ensures longer { IsPrefix self.old.shelf.published self.new.shelf.published }
         ensures viewers { self.new.shelf.viewers ≡ self.old.shelf.viewers }
         ensures kept { OnErr result ((self.new.desk.books ≡ self.old.desk.books) × (self.new.shelf ≡ self.old.shelf)) }
