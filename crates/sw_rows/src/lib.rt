@@ -22,6 +22,7 @@ mod scanning;
 mod schema;
 mod sieve;
 mod source;
+mod span;
 pub mod spelling;
 mod table;
 pub mod text_answers;

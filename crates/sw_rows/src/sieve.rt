@@ -1,32 +1,37 @@
 //! Conditions made ready for a pass over many rows.
 
 ghost use Rattle.std.specs.Prelude.{◌≡◌, ◌<◌, length, slice_index_or};
+ghost use Rattle.sw_rows.specs.Bounds.{is_within};
 ghost use Rattle.sw_rows.specs.Scan.{first_of, is_match, meets_all, CondsBelow};
 ghost use Rattle.sw_table.specs.declared.row.Row.{Row};
 
 use crate::bound::is_within;
 use crate::places::Places;
 use crate::query::Cond;
+use crate::span::Span;
 use std::marker::Model;
 
-/// A query's conditions with the first of them at hand, which a pass over many rows reads once and not at each row.
-/// Contracts see the conditions.
+/// A query's conditions with the attribute of the first of them at hand, and the cells that it takes, which a pass over
+/// many rows works out once and not at each row. Contracts see the conditions.
 #[derive(Drop)]
 pub(crate) struct Sieve<'a> {
-    first: Cond,
+    attr: usize,
+    span: Span,
     conds: &'a [Cond],
 }
 
 impl<'a> Model for Sieve<'a> {
     ghost use Rattle.std.specs.Prelude.{◌≡◌, List};
     ghost use Rattle.sw_rows.specs.Scan.{first_of};
+    ghost use Rattle.sw_rows.specs.Spans.{IsSpanOf};
     ghost use Rattle.sw_rows.specs.declared.query.Cond.{Cond};
 
     ghost Value = { List Cond };
 
     ghost view = { λ s. s.conds.now };
 
-    ghost invariant = { λ s. s.first ≡ first_of s.conds.now };
+    ghost invariant = { λ s. (s.attr ≡ (first_of s.conds.now).attr)
+        × IsSpanOf (first_of s.conds.now).lower (first_of s.conds.now).upper s.span.low s.span.high };
 }
 
 /// Whether the row at a place meets each condition.
@@ -54,7 +59,19 @@ impl<'a> Sieve<'a> {
         } else {
             conds[0]
         };
-        Sieve { first, conds }
+        Sieve {
+            attr: first.attr,
+            span: Span::of(first.lower, first.upper),
+            conds,
+        }
+    }
+
+    /// Whether a cell of the first condition's attribute meets that condition.
+    #[inline]
+    fn takes_cell(&self, cell: i64) -> bool
+        ensures { result ≡ is_within (first_of self.now).lower (first_of self.now).upper cell }
+    {
+        self.span.takes(cell)
     }
 
     /// Whether the row at a place is live and meets each condition.
@@ -64,9 +81,9 @@ impl<'a> Sieve<'a> {
         requires conds { CondsBelow 8 self.now }
         ensures { (d : Row) → result ≡ is_match self.now (P.flags rows.now) (P.rows rows.now) place d }
     {
-        let cell = rows.cell(place, self.first.attr);
+        let cell = rows.cell(place, self.attr);
         rows.is_live(place)
-            && is_within(self.first.lower, self.first.upper, cell)
+            && self.takes_cell(cell)
             && (self.conds.len() <= 1 || meets_at(rows, place, self.conds))
     }
 }
