@@ -6,7 +6,7 @@ use Rattle.sw_table.specs.declared.row.Row.{Row}
 use Rattle.sw_spine.specs.Replays.{Replayed, StandsAfter, replayed, rows_without}
 use Rattle.sw_spine.specs.Table.{reply_to, updates_then}
 use Rattle.sw_spine.proofs.ReplayLemmas.{deletes_where}
-use Rattle.sw_spine.proofs.replay.Replay.delete_where.Goals as goal
+use Rattle.sw_spine.proofs.replay.Replay.drop_matching.Goals as goal
 
 pub returns-clause-made : goal.returns-clause-made
 returns-clause-made c us stands =
