@@ -1,7 +1,7 @@
 -- Beginnings of one list.
 use Rattle.std.proofs.lemmas.Bool.{leb-true, leb-false}
 use Rattle.std.specs.Prelude.{MatchBool, Bool, true, false, leb, ◌<◌}
-use Rattle.std.proofs.Common.{◌≡◌, ℕ, zero, suc, ◌≤◌, List, [], ◌∷◌, ◌++◌, length, Some, slice_get, take, refl, ap, sym, ◌∙◌, arith, append_assoc, length-append}
+use Rattle.std.proofs.Common.{◌≡◌, ℕ, zero, suc, ◌≤◌, List, [], ◌∷◌, ◌++◌, length, Some, slice_get, take, drop, refl, ap, sym, ◌∙◌, arith, append_assoc, length-append}
 use mathlib.Core.List.{IsPrefix}
 
 -- each list begins with itself
@@ -33,16 +33,6 @@ prefix_whole (x ∷ xs) (y ∷ ys) p le =
 pub prefix_length : {A : Type 0} (xs ys : List A) → IsPrefix xs ys → length xs ≤ length ys
 prefix_length xs ys p = omega (arith, sym (ap length p.1) ∙ length-append xs p.0)
 
--- what stands in a beginning stands in the whole, at the same place
-pub prefix_get : {A : Type 0} (xs ys : List A) (k : ℕ) (x : A) → IsPrefix xs ys → slice_get xs k ≡ Some x → slice_get ys k ≡ Some x
-prefix_get [] ys k x p h = absurd cc
-prefix_get (y ∷ xs) [] k x p h = absurd (cc (p.1))
-prefix_get (y ∷ xs) (z ∷ ys) zero x p h = cc (p.1, h)
-prefix_get (y ∷ xs) (z ∷ ys) (suc k) x p h = prefix_get xs ys k x (p.0, cc (p.1)) h
-
-pub prefix_empty : {A : Type 0} (ys : List A) → IsPrefix [] ys
-prefix_empty ys = (ys, refl)
-
 -- of two beginnings of one list the one that is not longer begins the other
 pub either_begins : {A : Type 0} (xs ys both : List A) → IsPrefix xs both → IsPrefix ys both → (m n : ℕ) → m ≡ length xs → n ≡ length ys → (b : Bool) → leb m n ≡ b
     → MatchBool b (IsPrefix xs ys) (IsPrefix ys xs × (length ys < length xs))
@@ -55,3 +45,9 @@ prefix_taken [] [] p = refl
 prefix_taken [] (y ∷ ys) p = refl
 prefix_taken (x ∷ xs) [] p = absurd (cc (p.1))
 prefix_taken (x ∷ xs) (y ∷ ys) p = cc (p.1, prefix_taken xs ys (p.0, cc (p.1)))
+
+-- a beginning with what comes after it is the whole
+pub prefix_rest : {A : Type 0} (xs ys : List A) → IsPrefix xs ys → xs ++ drop (length xs) ys ≡ ys
+prefix_rest [] ys p = refl
+prefix_rest (x ∷ xs) [] p = absurd (cc (p.1))
+prefix_rest (x ∷ xs) (y ∷ ys) p = cc (p.1, prefix_rest xs ys (p.0, cc (p.1)))

@@ -1,6 +1,6 @@
 //! The one list of updates, which the code keeps as its length alone, and its beginnings.
 
-ghost use Rattle.std.specs.Prelude.{◌≡◌, ◌+◌, ◌==◌, ◌<◌, ◌≤◌, ◌^◌, ◌++◌, ◌∷◌, [], length, MatchBool};
+ghost use Rattle.std.specs.Prelude.{◌≡◌, ◌+◌, ◌==◌, ◌<◌, ◌≤◌, ◌^◌, ◌++◌, [], length, MatchBool};
 ghost use mathlib.Core.List.{IsPrefix};
 ghost use Rattle.sw_versions.specs.Lists.{BeginsOr, IsLonger};
 ghost use Rattle.sw_versions.specs.Rules.{head_of};
@@ -12,7 +12,9 @@ use sw_table::Update;
 /// The rule of the book.
 pub struct Law;
 
-impl Rule<Update, u64> for Law {
+// An entry of the log is the list of updates that one step added. No value of its type is made: it is `[Update; 0]` since
+// a clause reads an array as a list, of any length.
+impl Rule<[Update; 0], u64> for Law {
     ghost use Rattle.std.specs.Prelude.{[]};
     ghost use base.Fml.{ftrue};
     ghost use Rattle.sw_versions.specs.Rules.{IsKept};
@@ -33,28 +35,28 @@ impl Rule<Update, u64> for Law {
 /// Callers trade nothing.
 struct Nothing;
 
-impl Gain<Update, u64> for Nothing {
+impl Gain<[Update; 0], u64> for Nothing {
     ghost use base.Fml.{ftrue};
 
     ghost after = { λ names about answer. ftrue };
 }
 
-/// A step that adds an update.
+/// A step that adds updates.
 struct Add;
 
-impl Play<Update, u64> for Add {
+impl Play<[Update; 0], u64> for Add {
     ghost use Rattle.sw_versions.specs.Rules.{Adds};
 
     ghost then = { Adds };
 }
 
-/// What a step asks for: the update.
-impl Plain<Update, Update, u64> for Add {
+/// What a step asks for: the updates.
+impl Plain<&[Update], [Update; 0], u64> for Add {
     ghost use Rattle.std.specs.Prelude.{None};
 
-    ghost ask = { λ update. update };
+    ghost ask = { λ updates. updates.now };
 
-    ghost state = { λ update. None };
+    ghost state = { λ updates. None };
 }
 
 /// What an engine is named by: which list of updates it has, the names of the books of its sessions and of its heads, and the
@@ -97,8 +99,8 @@ impl Naming for Brand {
 /// A book with an empty list, which has no name yet.
 #[derive(Drop)]
 pub struct Opened {
-    head: Word<Update, u64, Law>,
-    seen: Seen<Update, u64, Law>,
+    head: Word<[Update; 0], u64, Law>,
+    seen: Seen<[Update; 0], u64, Law>,
     pub ghost empty: { seen.log ≡ [] },
     pub ghost head_is: { head ≡ head_of seen.book },
 }
@@ -138,7 +140,7 @@ impl Opened {
 /// The word that all threads share: the length of the list.
 #[derive(Drop)]
 pub struct Book<J: Naming> {
-    head: Word<Update, u64, Law>,
+    head: Word<[Update; 0], u64, Law>,
     opening: u64,
     of: PhantomData<J>,
     ghost head_is: { head ≡ head_of J.book },
@@ -159,20 +161,21 @@ impl<J: Naming> Book<J> {
 #[derive(Drop)]
 pub struct Front<J: Naming> {
     count: u64,
-    seen: Seen<Update, u64, Law>,
+    seen: Seen<[Update; 0], u64, Law>,
     of: PhantomData<J>,
 }
 
 impl<J: Naming> Model for Front<J> {
     ghost use Rattle.std.specs.Prelude.{◌≡◌, List, length};
     ghost use Rattle.sw_table.specs.declared.row.Update.{Update};
-    ghost use Rattle.sw_versions.specs.Rules.{IsShort};
+    ghost use Rattle.sw_versions.specs.Rules.{IsShort, updates_in};
 
     ghost Value = { List Update };
 
-    ghost view = { λ f. f.seen.log };
+    ghost view = { λ f. updates_in f.seen.log };
 
-    ghost invariant = { λ f. (f.count ≡ length f.seen.log) × (f.seen.book ≡ J.book) × IsShort f.seen.log };
+    ghost invariant = { λ f. (f.count ≡ length (updates_in f.seen.log)) × (f.seen.book ≡ J.book)
+        × IsShort (updates_in f.seen.log) };
 }
 
 impl<J: Naming> Front<J> {
@@ -215,28 +218,30 @@ impl<J: Naming> Front<J> {
         }
     }
 
-    /// Adds an update to all that was seen, and says whether it did. It did not where the list is longer, or full.
-    pub(crate) fn add(&mut self, book: &Book<J>, update: Update) -> bool
-        ensures { MatchBool result (self.new ≡ self.old ++ update ∷ []) (IsPrefix self.old self.new) }
+    /// Adds updates to all that was seen, by one exchange, and says whether it did. It did not where the list
+    /// is longer by now, or would have more than 2 to the 62nd.
+    pub(crate) fn add(&mut self, book: &Book<J>, updates: &[Update]) -> bool
+        ensures { MatchBool result (self.new ≡ self.old ++ updates.now) (IsPrefix self.old self.new) }
     {
-        if self.count >= 1 << 62 {
+        let count = self.count;
+        let more = updates.len() as u64;
+        if more > (1 << 62) - count {
             return false;
         }
-        let mut offer: Offer<Update, u64, Law, Nothing> = self
+        let mut offer: Offer<[Update; 0], u64, Law, Nothing> = self
             .seen
-            .plain::<Nothing, Update, Add>(&update);
+            .plain::<Nothing, &[Update], Add>(&updates);
         let mut pen = self.seen.no_pen();
-        let count = self.count;
         let found = book
             .head
             .compare_exchange::<Add, Nothing>(
                 count,
-                count + 1,
+                count + more,
                 &mut self.seen,
                 &mut offer,
                 &mut pen,
             );
-        self.count = if found == count { count + 1 } else { found };
+        self.count = if found == count { count + more } else { found };
         found == count
     }
 }

@@ -62,27 +62,26 @@ fn book_next<J: Naming>(booked: &mut Front<J>, book: &Book<J>, updates: &[Update
     }
     let update = updates[next];
     let mut longer = booked.again();
-    if !longer.add(book, update) {
+    if !longer.add(book, &[update]) {
         return None;
     }
     *booked = longer;
     Some(update)
 }
 
-/// All updates that the book lacks go into it: the list, if all were written.
-#[tactic(auto, using(crate::proofs::Prefixes::prefix_whole))]
+/// All updates that the book lacks go into it, by one exchange, which adds them all or none: the list, if they were written.
+#[tactic(auto, using(crate::proofs::Prefixes::prefix_rest))]
 fn book_all<J: Naming>(booked: &Front<J>, book: &Book<J>, updates: &[Update]) -> Option<Front<J>>
     requires { IsPrefix booked.now updates.now }
     ensures { IfSome result (λ all. all ≡ updates.now) }
 {
     let mut all = booked.again();
-    for _ in booked.len()..updates.len() as u64 {
-        book_next(&mut all, book, updates)?;
+    let lacked = &updates[booked.len() as usize..];
+    if lacked.is_empty() || all.add(book, lacked) {
+        Some(all)
+    } else {
+        None
     }
-    if all.len() < updates.len() as u64 {
-        return None;
-    }
-    Some(all)
 }
 
 /// The update that waits, or else the next one by way of the book, goes to the writer: whether it did.
