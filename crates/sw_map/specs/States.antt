@@ -10,7 +10,7 @@ use Rattle.sw_map.specs.Held.{Held, blank}
 
 -- what it holds; its cells are those that its lease holds
 abbrev pub held_by : Home → Held
-held_by (Blank purse) = blank
+held_by (Blank idle) = blank
 held_by (Active a) = record {
   is_blank = false;
   head = a.head;
@@ -33,7 +33,7 @@ held_with k cells = record {
 
 -- its seat at the budget
 abbrev pub seat_of : Home → Account
-seat_of (Blank purse) = purse
+seat_of (Blank idle) = idle.purse
 seat_of (Active a) = a.lease
 
 -- it holds this, and this is its seat

@@ -14,7 +14,7 @@ use sw_tape::Entry;
 /// A two-column table that replays the tape of an area. Contracts see what it holds.
 ///
 /// A blank map has no head, no pairs and no lease. `begin` gives it a lease and a head and tail, each `step` replays the
-/// next entry of the tape, `grow` may give it more cells in place, and `clear` makes it blank again.
+/// next entry of the tape, `grow` may give it more cells in place, and `clear` or `reset` makes it blank again.
 pub trait CrackerMap: Send + Drop {
     ghost held: { Self → Held };
 
@@ -96,9 +96,23 @@ pub trait CrackerMap: Send + Drop {
         requires room { pairs_in (after (step_of entry.now) (held self.old)) ≤ (held self.old).cells }
         ensures { HasReplayedOr result (step_of entry.now) (held self.old) (held self.new) };
 
-    /// Makes the map blank; its lease is given back. It takes no memory.
+    /// Makes the map blank; its lease is given back, and all memory. It takes no memory.
     fn clear(&mut self)
         ensures { held self.new ≡ blank };
+
+    /// Makes the map blank; its lease is given back. Memory may stay with it for the next `begin`, until `trim`; by default
+    /// none does. It takes no memory.
+    fn reset(&mut self)
+        ensures { held self.new ≡ blank }
+    {
+        self.clear();
+    }
+
+    /// Gives back the memory that stayed with a blank map at its reset; what the map holds is as it was. By default nothing
+    /// is done.
+    fn trim(&mut self)
+        ensures { held self.new ≡ held self.old }
+    {}
 }
 
 impl CrackerMap for Box<dyn CrackerMap> {
@@ -158,5 +172,13 @@ impl CrackerMap for Box<dyn CrackerMap> {
 
     fn clear(&mut self) {
         (**self).clear();
+    }
+
+    fn reset(&mut self) {
+        (**self).reset();
+    }
+
+    fn trim(&mut self) {
+        (**self).trim();
     }
 }

@@ -6,7 +6,7 @@ ghost use Rattle.sw_map.specs.Refusals.{HasBegunOr, HasGrownOr};
 ghost use Rattle.sw_map.specs.States.{HasLeasedAnew, HasLeasedOr, IsGivenBack, IsHome, cleared, held_by, held_with, seat_of};
 
 use crate::active::Active;
-use crate::pairs::Pairs;
+use crate::pairs::{Lists, Pairs};
 use crate::tail::Tail;
 use std::alloc::Global;
 use sw_budget::{Lease, Purse};
@@ -15,8 +15,24 @@ use sw_rows::Refusal;
 /// A purse while the map is blank, else a lease and pairs.
 #[derive(Drop)]
 pub enum Home {
-    Blank(Purse),
+    Blank(Idle),
     Active(Active),
+}
+
+/// What a blank map has: its purse, and after a reset the lists of the map that it was.
+#[derive(Drop)]
+pub struct Idle {
+    pub purse: Purse,
+    pub lists: Option<Lists>,
+}
+
+impl Idle {
+    /// A purse alone.
+    pub(crate) fn new(purse: Purse) -> Idle
+        ensures { result.purse ≡ purse }
+    {
+        Idle { purse, lists: None }
+    }
 }
 
 /// What a map is begun with.
@@ -28,13 +44,14 @@ pub struct Plan {
     pub cells: u64,
 }
 
-/// Gives a lease lists of its room; where they find no memory, the lease is given back.
-fn furnish(lease: Lease, plan: Plan) -> (Home, Result<(), Refusal>)
+/// Gives a lease lists of its room, those of an earlier map where they serve; where they find no memory, the lease is
+/// given back.
+fn furnish(lease: Lease, plan: Plan, lists: Option<Lists>) -> (Home, Result<(), Refusal>)
     requires { lease.held ≡ plan.cells }
     ensures ok { OnOk result.1 (IsHome (begun plan.head plan.tail plan.cells) lease result.0) }
     ensures err { IfErr result.1 (IsGivenBack lease result.0) }
 {
-    match Pairs::with_room(plan.alloc, plan.cells as usize) {
+    match Pairs::new(plan.alloc, plan.cells as usize, lists) {
         Ok(pairs) => {
             let active = Active {
                 lease,
@@ -45,7 +62,7 @@ fn furnish(lease: Lease, plan: Plan) -> (Home, Result<(), Refusal>)
             };
             (Home::Active(active), Ok(()))
         }
-        Err(refusal) => (Home::Blank(lease.give_back()), Err(refusal)),
+        Err(refusal) => (Home::Blank(Idle::new(lease.give_back())), Err(refusal)),
     }
 }
 
@@ -83,7 +100,7 @@ fn refurnish(lease: Lease, kept: Kept, cells: u64) -> (Home, Result<bool, Refusa
             };
             (Home::Active(active), Ok(true))
         }
-        Err(refusal) => (Home::Blank(lease.give_back()), Err(refusal)),
+        Err(refusal) => (Home::Blank(Idle::new(lease.give_back())), Err(refusal)),
     }
 }
 
@@ -95,9 +112,9 @@ impl Home {
         ensures seat { HasLeasedOr result.1 (seat_of self) plan.cells (seat_of result.0) }
     {
         match self {
-            Home::Blank(purse) => match purse.lease(plan.cells) {
-                Ok(lease) => furnish(lease, plan),
-                Err((purse, refusal)) => (Home::Blank(purse), Err(refusal)),
+            Home::Blank(Idle { purse, lists }) => match purse.lease(plan.cells) {
+                Ok(lease) => furnish(lease, plan, lists),
+                Err((purse, refusal)) => (Home::Blank(Idle::new(purse)), Err(refusal)),
             },
             Home::Active(_) => unreachable!(),
         }
@@ -131,22 +148,39 @@ impl Home {
                 };
                 match lease.give_back().lease(cells) {
                     Ok(lease) => refurnish(lease, kept, cells),
-                    Err((purse, refusal)) => (Home::Blank(purse), Err(refusal)),
+                    Err((purse, refusal)) => (Home::Blank(Idle::new(purse)), Err(refusal)),
                 }
             }
         }
     }
 
-    /// Makes it blank; the lease, if there is one, is given back. It takes no memory.
+    /// Makes it blank; the lease, if there is one, is given back, and all memory. It takes no memory.
     pub(crate) fn clear(self) -> Home
         ensures blank { held_by result ≡ blank }
         ensures seat { seat_of result ≡ cleared (seat_of self) (held_by self).is_blank }
     {
         match self {
-            Home::Blank(purse) => Home::Blank(purse),
+            Home::Blank(Idle { purse, .. }) => Home::Blank(Idle::new(purse)),
             Home::Active(active) => {
                 let Active { lease, .. } = active;
-                Home::Blank(lease.give_back())
+                Home::Blank(Idle::new(lease.give_back()))
+            }
+        }
+    }
+
+    /// Makes it blank; the lease, if there is one, is given back, and the lists stay for the next map. It takes no memory.
+    pub(crate) fn reset(self) -> Home
+        ensures blank { held_by result ≡ blank }
+        ensures seat { seat_of result ≡ cleared (seat_of self) (held_by self).is_blank }
+    {
+        match self {
+            Home::Blank(idle) => Home::Blank(idle),
+            Home::Active(active) => {
+                let Active { lease, pairs, .. } = active;
+                Home::Blank(Idle {
+                    purse: lease.give_back(),
+                    lists: Some(pairs.into_lists()),
+                })
             }
         }
     }

@@ -5,7 +5,7 @@ ghost use Rattle.sw_map.specs.Held.{blank};
 ghost use Rattle.sw_map.specs.States.{seat_of};
 
 use crate::cracker::CrackerMap;
-use crate::home::{Home, Plan};
+use crate::home::{Home, Idle, Plan};
 use crate::tail::Tail;
 use core::mem::replace_with;
 use std::alloc::Global;
@@ -29,7 +29,7 @@ impl PairMap {
     {
         PairMap {
             alloc,
-            home: Home::Blank(purse),
+            home: Home::Blank(Idle::new(purse)),
         }
     }
 }
@@ -116,8 +116,8 @@ impl CrackerMap for PairMap {
         }
     }
 
-    /// Its lists have room for just as many pairs as the lease has cells. Where it is refused it has its purse again, and no
-    /// memory.
+    /// Its lists have room for just as many pairs as the lease has cells, or those that a reset left it for a few more. Where
+    /// it is refused it has its purse again, and no memory.
     fn begin(&mut self, head: u8, tail: Tail, cells: u64) -> Result<(), Refusal>
         requires { held_by self.old.home ≡ blank }
         ensures held { HasBegunOr result head tail cells (held_by self.new.home) }
@@ -172,5 +172,23 @@ impl CrackerMap for PairMap {
         ensures seat { seat_of self.new.home ≡ cleared (seat_of self.old.home) (held_by self.old.home).is_blank }
     {
         replace_with(&mut self.home, (), |home: Home, _: ()| (home.clear(), ()));
+    }
+
+    /// Its lease, if it has one, is given back, once. It keeps its lists, with no pairs.
+    fn reset(&mut self)
+        ensures held { held_by self.new.home ≡ blank }
+        ensures seat { seat_of self.new.home ≡ cleared (seat_of self.old.home) (held_by self.old.home).is_blank }
+    {
+        replace_with(&mut self.home, (), |home: Home, _: ()| (home.reset(), ()));
+    }
+
+    /// It keeps no list.
+    fn trim(&mut self)
+        ensures held { held_by self.new.home ≡ held_by self.old.home }
+        ensures seat { seat_of self.new.home ≡ seat_of self.old.home }
+    {
+        if let Home::Blank(idle) = &mut self.home {
+            idle.lists = None;
+        }
     }
 }

@@ -124,16 +124,76 @@ fn make_room(values: &mut Vec<i64>, room: usize) -> Result<(), Refusal>
     if room <= values.capacity() {
         return Ok(());
     }
-    let ample = room.saturating_add(room / PART_TO_SPARE);
-    match values.reserve_exact(ample - values.len()) {
+    match values.reserve_exact(ample(room) - values.len()) {
         Ok(()) => Ok(()),
         Err(_) => Err(Refusal::NoMemory),
     }
 }
 
+/// The lists of a map that was reset, for the next one. Contracts see nothing of them.
+#[derive(Drop)]
+pub struct Lists {
+    head: Vec<i64>,
+    tail: Vec<i64>,
+}
+
+/// The room of lists of so many values at most: one in `PART_TO_SPARE` more.
+fn ample(room: usize) -> usize
+    ensures { room ≤ result }
+{
+    room.saturating_add(room / PART_TO_SPARE)
+}
+
+impl Lists {
+    /// Whether neither list has memory for more than a few values above so many.
+    fn suit(&self, room: usize) -> bool {
+        self.head.capacity() <= ample(room) && self.tail.capacity() <= ample(room)
+    }
+}
+
 impl Pairs {
+    /// No pairs, and room for so many in head and tail, in the lists of an earlier map where these are not much longer. It
+    /// is refused `NoMemory` alone, and then keeps no memory.
+    pub(crate) fn new(alloc: Global, room: usize, lists: Option<Lists>) -> Result<Pairs, Refusal>
+        ensures { MatchResult result (λ p. p ≡ record { pieces = last []; room = room }) (λ e. e ≡ NoMemory) }
+    {
+        match lists {
+            Some(lists) => {
+                if lists.suit(room) {
+                    Pairs::in_lists(alloc, room, lists)
+                } else {
+                    drop(lists);
+                    Pairs::with_room(alloc, room)
+                }
+            }
+            None => Pairs::with_room(alloc, room),
+        }
+    }
+
+    /// No pairs, and room for so many in these lists. It is refused `NoMemory` alone, and then keeps no memory.
+    fn in_lists(alloc: Global, room: usize, lists: Lists) -> Result<Pairs, Refusal>
+        ensures { MatchResult result (λ p. p ≡ record { pieces = last []; room = room }) (λ e. e ≡ NoMemory) }
+    {
+        let Lists { mut head, mut tail } = lists;
+        head.clear();
+        tail.clear();
+        let none = Pairs {
+            head,
+            tail,
+            marks: Vec::new(alloc),
+            room: 0,
+        };
+        none.grown(room)
+    }
+
+    /// Its lists, for the next map.
+    pub(crate) fn into_lists(self) -> Lists {
+        let Pairs { head, tail, .. } = self;
+        Lists { head, tail }
+    }
+
     /// No pairs, and room for so many in head and tail. It is refused `NoMemory` alone, and then keeps no memory.
-    pub(crate) fn with_room(alloc: Global, room: usize) -> Result<Pairs, Refusal>
+    fn with_room(alloc: Global, room: usize) -> Result<Pairs, Refusal>
         ensures { MatchResult result (λ p. p ≡ record { pieces = last []; room = room }) (λ e. e ≡ NoMemory) }
     {
         let Ok(head) = Vec::with_capacity(alloc, room) else {

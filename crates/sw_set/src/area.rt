@@ -222,6 +222,13 @@ impl<M: CrackerMap> Area<M> {
         );
     }
 
+    /// Gives back the memory that stayed with blank boxes while the area began anew.
+    pub(crate) fn trim(&mut self)
+        ensures { self.new ≡ self.old }
+    {
+        trim_all(self.boxes.as_mut_slice());
+    }
+
     /// The allocator that the area's collections use.
     pub(crate) fn alloc(&self) -> Global {
         self.alloc
@@ -308,7 +315,7 @@ impl<M: CrackerMap> Area<M> {
         let width = load_of(&self.tape).width();
         let all = LiveRows::all(self.alloc, width, live.count())?;
         self.tape.restart_live(live.later(), live.flags())?;
-        clear_all(self.boxes.as_mut_slice());
+        reset_all(self.boxes.as_mut_slice());
         self.live = all;
         self.restarts = self.restarts.saturating_add(1);
         Ok(())
@@ -736,12 +743,28 @@ fn clear_box<M: CrackerMap>(it: &mut M)
     it.clear();
 }
 
-fn clear_all<M: CrackerMap>(boxes: &mut [M])
+fn reset_box<M: CrackerMap>(it: &mut M)
+    ensures { M.held it.new ≡ blank }
+{
+    it.reset();
+}
+
+/// Makes all boxes blank. Their memory may stay with them until they are trimmed.
+fn reset_all<M: CrackerMap>(boxes: &mut [M])
     ensures blank { All (λ m. M.held m ≡ blank) boxes.new }
     ensures many { length boxes.new ≡ length boxes.old }
 {
     for it in boxes.iter_mut() {
-        clear_box(it);
+        reset_box(it);
+    }
+}
+
+/// Takes the memory from all boxes that stayed with them while they were blank.
+fn trim_all<M: CrackerMap>(boxes: &mut [M])
+    ensures { map M.held boxes.new ≡ map M.held boxes.old }
+{
+    for at in 0..boxes.len() {
+        boxes[at].trim();
     }
 }
 
@@ -753,7 +776,7 @@ fn begin_box<M: CrackerMap>(
 ) -> Result<(), Refusal>
     ensures { HasBegunOr result attribute tail cells (M.held it.new) }
 {
-    it.clear();
+    it.reset();
     it.begin(attribute, tail, cells)
 }
 

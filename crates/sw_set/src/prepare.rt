@@ -163,16 +163,21 @@ impl<M: CrackerMap> Area<M> {
         let boxes = self.boxes() as u64;
         let needed = needed_maps(self.attribute(), query) as u64;
         if boxes < needed {
+            self.trim();
             return Err(Refusal::NoBlank { boxes, needed });
         }
         let tails = match needed_tails(self.alloc(), self.attribute(), query) {
             Ok(tails) => tails,
-            Err(e) => return Err(e),
+            Err(e) => {
+                self.trim();
+                return Err(e);
+            }
         };
         let lower = lower_from(edge(self.from()), lower_of(&query.conds));
         let upper = upper_upto(edge(self.below()), upper_of(&query.conds));
         let done = prepare_range(rt, self, lower, upper, tails.as_slice());
         self.stamp(tails.as_slice());
+        self.trim();
         done
     }
 

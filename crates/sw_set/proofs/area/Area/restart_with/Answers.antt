@@ -15,9 +15,9 @@ pub invariant_of-self-2 : goal.invariant_of-self-2
 invariant_of-self-2 g c =
     let s = c.self.inside in
     let live = c.args.live in
-    let ys = c.clear_all.new.boxes in
+    let ys = c.reset_all.new.boxes in
     let value = ap length c.as_mut_slice.ensures.value in
-    let many = c.clear_all.ensures.many in
+    let many = c.reset_all.ensures.many in
     let n : s.boxes.len ≡ length ys = omega arith in
     let rows = live_among (first_rows s.tape) live in
     let flags : length live.flags ≡ length (first_rows s.tape ++ live.later) = subst (λ (v : AreaState). length live.flags ≡ length (first_rows v.tape ++ live.later)) (sym c.self.view_is) c.requires.many in
@@ -29,7 +29,7 @@ invariant_of-self-2 g c =
     let rise : Rises key_of rows = subst (λ (v : AreaState). Rises key_of (live_among (first_rows v.tape) live)) (sym c.self.view_is) c.requires.rise in
     let within : All (λ (r : Row). lies_within s.attribute s.from s.below r ≡ true) rows = subst (λ (v : AreaState). All (λ (r : Row). lies_within v.attribute v.from v.below r ≡ true) (live_among (first_rows v.tape) live)) (sym c.self.view_is) c.requires.within in
     let receivable : AreReceivable s.attribute s.from s.below rows rows s.inbox.items = subst (λ (v : AreaState). AreReceivable v.attribute v.from v.below (live_among (first_rows v.tape) live) (live_among (first_rows v.tape) live) v.inbox) (sym c.self.view_is) c.requires.receivable in (
-      rw (written s.boxes.len ys s.boxes.items n, tape) (area-begun s.attribute s.from s.below s.inbox.items _ rows (map g.M.CrackerMap.held ys) c.self.invariant.0.attribute keys rise within (held-all g.M.CrackerMap.held (λ (m : Held). m ≡ blank) ys c.clear_all.ensures.blank) receivable),
+      rw (written s.boxes.len ys s.boxes.items n, tape) (area-begun s.attribute s.from s.below s.inbox.items _ rows (map g.M.CrackerMap.held ys) c.self.invariant.0.attribute keys rise within (held-all g.M.CrackerMap.held (λ (m : Held). m ≡ blank) ys c.reset_all.ensures.blank) receivable),
       c.self.invariant.1,
       rw (tape, c.in_ok-all.ensures) (tied-loaded s.attribute rows c.count.result count),
     )
@@ -38,11 +38,11 @@ pub returns : goal.returns
 returns g c =
     let s = c.self.inside in
     let live = c.args.live in
-    let ys = c.clear_all.new.boxes in
+    let ys = c.reset_all.new.boxes in
     let value = ap length c.as_mut_slice.ensures.value in
-    let many = c.clear_all.ensures.many in
+    let many = c.reset_all.ensures.many in
     let n : s.boxes.len ≡ length ys = omega arith in
     let rows = live_among (first_rows c.args.self.now.tape) live in
     let tape : c.restart_live.new.self ≡ loaded (live_among (first_rows s.tape) live) ∷ [] = rw (c.later.ensures, c.flags.ensures) at c.in_ok-restart_live.ensures.ok in
     let loads : c.restart_live.new.self ≡ loaded rows ∷ [] = tape ∙ ap (λ (v : AreaState). loaded (live_among (first_rows v.tape) live) ∷ []) c.self.view_is in
-    rw (written s.boxes.len ys s.boxes.items n) (begun-shell g.M.CrackerMap.held _ _ _ _ _ _ _ _ rows s.boxes.items ys c.self.view_is loads (omega arith) c.clear_all.ensures.blank)
+    rw (written s.boxes.len ys s.boxes.items n) (begun-shell g.M.CrackerMap.held _ _ _ _ _ _ _ _ rows s.boxes.items ys c.self.view_is loads (omega arith) c.reset_all.ensures.blank)

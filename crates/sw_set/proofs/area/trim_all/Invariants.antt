@@ -1,0 +1,6 @@
+use Rattle.std.proofs.Common.{◌≡◌, map, length}
+use Rattle.sw_set.proofs.area.trim_all.Given as goal
+
+-- what the boxes hold is as it was
+abbrev pub invariant-loop-at : goal.invariant-loop-at
+invariant-loop-at g l = map g.M.CrackerMap.held l.boxes ≡ map g.M.CrackerMap.held l.initial.boxes
