@@ -23,7 +23,9 @@ fn scan_one<M: CrackerMap>(area: &mut Area<M>, query: &Query) -> Result<Reply, R
     ensures answered { IfOk result (λ r. r ≡ answer (rows_in area.old) query.now) }
     ensures refused { IsOkUnless result NoMemory }
 {
-    area.merge()?;
+    let merged = area.merge();
+    area.trim();
+    merged?;
     area.scan(query)
 }
 

@@ -1,5 +1,5 @@
 -- What a map's box has: a purse while it is blank, a lease and pairs while it is in use.
-use Rattle.std.specs.Prelude.{◌≡◌, ◌+◌, ◌≤◌, ℕ, Bool, true, false, Result, MatchResult}
+use Rattle.std.specs.Prelude.{◌≡◌, ◌+◌, ◌≤◌, ℕ, Bool, true, false, None, Result, MatchResult}
 use Rattle.sw_rows.specs.declared.refusal.Refusal.{Refusal}
 use Rattle.sw_rows.specs.declared.refusal.Refusal.TheVariants.{NoMemory}
 use Rattle.sw_budget.specs.Account.{Account, Refused, asked, returned}
@@ -35,6 +35,11 @@ held_with k cells = record {
 abbrev pub seat_of : Home → Account
 seat_of (Blank idle) = idle.purse
 seat_of (Active a) = a.lease
+
+-- if it is blank, no lists stay with it
+abbrev pub IsBare : Home → Type 0
+IsBare (Blank idle) = idle.lists ≡ None
+IsBare (Active a) = Unit {0}
 
 -- it holds this, and this is its seat
 abbrev pub IsHome : Held → Account → Home → Type 0

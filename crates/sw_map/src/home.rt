@@ -1,9 +1,9 @@
 //! What a map's box has of its budget, and its pairs.
 
-ghost use Rattle.std.specs.Prelude.{◌≡◌, ◌<◌, ◌≤◌, IfErr, IfOk, OnOk, false, true};
+ghost use Rattle.std.specs.Prelude.{◌≡◌, ◌<◌, ◌≤◌, IfErr, IfOk, None, OnErr, OnOk, false, true};
 ghost use Rattle.sw_map.specs.Held.{begun, blank};
 ghost use Rattle.sw_map.specs.Refusals.{HasBegunOr, HasGrownOr};
-ghost use Rattle.sw_map.specs.States.{HasLeasedAnew, HasLeasedOr, IsGivenBack, IsHome, cleared, held_by, held_with, seat_of};
+ghost use Rattle.sw_map.specs.States.{HasLeasedAnew, HasLeasedOr, IsBare, IsGivenBack, IsHome, cleared, held_by, held_with, seat_of};
 
 use crate::active::Active;
 use crate::pairs::{Lists, Pairs};
@@ -12,14 +12,14 @@ use std::alloc::Global;
 use sw_budget::{Lease, Purse};
 use sw_rows::Refusal;
 
-/// A purse while the map is blank, else a lease and pairs.
+/// A purse while the map is blank, with lists after a reset, else a lease and pairs.
 #[derive(Drop)]
 pub enum Home {
     Blank(Idle),
     Active(Active),
 }
 
-/// What a blank map has: its purse, and after a reset the lists of the map that it was.
+/// What a blank map has: its purse, and the lists that a reset left it.
 #[derive(Drop)]
 pub struct Idle {
     pub purse: Purse,
@@ -29,7 +29,8 @@ pub struct Idle {
 impl Idle {
     /// A purse alone.
     pub(crate) fn new(purse: Purse) -> Idle
-        ensures { result.purse ≡ purse }
+        ensures purse { result.purse ≡ purse }
+        ensures bare { result.lists ≡ None }
     {
         Idle { purse, lists: None }
     }
@@ -50,6 +51,7 @@ fn furnish(lease: Lease, plan: Plan, lists: Option<Lists>) -> (Home, Result<(), 
     requires { lease.held ≡ plan.cells }
     ensures ok { OnOk result.1 (IsHome (begun plan.head plan.tail plan.cells) lease result.0) }
     ensures err { IfErr result.1 (IsGivenBack lease result.0) }
+    ensures bare { OnErr result.1 (IsBare result.0) }
 {
     match Pairs::new(plan.alloc, plan.cells as usize, lists) {
         Ok(pairs) => {
@@ -82,6 +84,7 @@ fn refurnish(lease: Lease, kept: Kept, cells: u64) -> (Home, Result<bool, Refusa
     ensures grew { IfOk result.1 (λ grew. grew ≡ true) }
     ensures ok { OnOk result.1 (IsHome (held_with kept cells) lease result.0) }
     ensures err { IfErr result.1 (IsGivenBack lease result.0) }
+    ensures bare { OnErr result.1 (IsBare result.0) }
 {
     let Kept {
         head,
@@ -110,6 +113,7 @@ impl Home {
         requires { held_by self ≡ blank }
         ensures held { HasBegunOr result.1 plan.head plan.tail plan.cells (held_by result.0) }
         ensures seat { HasLeasedOr result.1 (seat_of self) plan.cells (seat_of result.0) }
+        ensures bare { OnErr result.1 (IsBare result.0) }
     {
         match self {
             Home::Blank(Idle { purse, lists }) => match purse.lease(plan.cells) {
@@ -128,6 +132,7 @@ impl Home {
         ensures held { HasGrownOr result.1 cells (held_by self) (held_by result.0) }
         ensures grew { IfOk result.1 (λ grew. grew ≡ true) }
         ensures seat { HasLeasedAnew result.1 (seat_of self) cells (seat_of result.0) }
+        ensures bare { OnErr result.1 (IsBare result.0) }
     {
         match self {
             Home::Blank(_) => unreachable!(),
@@ -158,6 +163,7 @@ impl Home {
     pub(crate) fn clear(self) -> Home
         ensures blank { held_by result ≡ blank }
         ensures seat { seat_of result ≡ cleared (seat_of self) (held_by self).is_blank }
+        ensures bare { IsBare result }
     {
         match self {
             Home::Blank(Idle { purse, .. }) => Home::Blank(Idle::new(purse)),

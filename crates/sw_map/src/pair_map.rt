@@ -35,13 +35,13 @@ impl PairMap {
 }
 
 impl CrackerMap for PairMap {
-    ghost use Rattle.std.specs.Prelude.{◌≡◌, ◌<◌, ◌≤◌, IfOk, IsOk, false, true};
+    ghost use Rattle.std.specs.Prelude.{◌≡◌, ◌<◌, ◌≤◌, IfOk, IsOk, OnErr, false, true};
     ghost use Rattle.sw_tape.specs.Entries.{step_of};
     ghost use Rattle.sw_tape.specs.declared.tape.TheConstants.{MAX_ENTRIES};
     ghost use Rattle.sw_map.specs.Held.{KeysFit, MayReplay, after, begun, blank, pairs_in};
     ghost use Rattle.sw_map.specs.Pieces.{TakesNoMemory};
     ghost use Rattle.sw_map.specs.Refusals.{HasBegunOr, HasGrownOr, HasReplayedOr};
-    ghost use Rattle.sw_map.specs.States.{HasLeasedAnew, HasLeasedOr, cleared, held_by, seat_of};
+    ghost use Rattle.sw_map.specs.States.{HasLeasedAnew, HasLeasedOr, IsBare, cleared, held_by, seat_of};
 
     ghost held = { λ m. held_by m.home };
 
@@ -116,12 +116,13 @@ impl CrackerMap for PairMap {
         }
     }
 
-    /// Its lists have room for just as many pairs as the lease has cells, or those that a reset left it for a few more. Where
-    /// it is refused it has its purse again, and no memory.
+    /// New lists have room for just as many pairs as the lease has cells; those that a reset left it, for a 64th more at most.
+    /// Where it is refused it has its purse again, and no memory.
     fn begin(&mut self, head: u8, tail: Tail, cells: u64) -> Result<(), Refusal>
         requires { held_by self.old.home ≡ blank }
         ensures held { HasBegunOr result head tail cells (held_by self.new.home) }
         ensures seat { HasLeasedOr result (seat_of self.old.home) cells (seat_of self.new.home) }
+        ensures bare { OnErr result (IsBare self.new.home) }
     {
         let plan = Plan {
             alloc: self.alloc,
@@ -141,6 +142,7 @@ impl CrackerMap for PairMap {
         ensures held { HasGrownOr result cells (held_by self.old.home) (held_by self.new.home) }
         ensures grew { IfOk result (λ grew. grew ≡ true) }
         ensures seat { HasLeasedAnew result (seat_of self.old.home) cells (seat_of self.new.home) }
+        ensures bare { OnErr result (IsBare self.new.home) }
     {
         replace_with(&mut self.home, cells, Home::grow)
     }
@@ -166,10 +168,11 @@ impl CrackerMap for PairMap {
         }
     }
 
-    /// Its lease, if it has one, is given back, once.
+    /// Its lease, if it has one, is given back, once, and its lists.
     fn clear(&mut self)
         ensures held { held_by self.new.home ≡ blank }
         ensures seat { seat_of self.new.home ≡ cleared (seat_of self.old.home) (held_by self.old.home).is_blank }
+        ensures bare { IsBare self.new.home }
     {
         replace_with(&mut self.home, (), |home: Home, _: ()| (home.clear(), ()));
     }
@@ -186,6 +189,7 @@ impl CrackerMap for PairMap {
     fn trim(&mut self)
         ensures held { held_by self.new.home ≡ held_by self.old.home }
         ensures seat { seat_of self.new.home ≡ seat_of self.old.home }
+        ensures bare { IsBare self.new.home }
     {
         if let Home::Blank(idle) = &mut self.home {
             idle.lists = None;

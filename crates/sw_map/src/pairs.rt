@@ -137,7 +137,7 @@ pub struct Lists {
     tail: Vec<i64>,
 }
 
-/// The room of lists of so many values at most: one in `PART_TO_SPARE` more.
+/// How many values a list that grows to so many gets memory for: one in `PART_TO_SPARE` more.
 fn ample(room: usize) -> usize
     ensures { room ≤ result }
 {
@@ -145,7 +145,7 @@ fn ample(room: usize) -> usize
 }
 
 impl Lists {
-    /// Whether neither list has memory for more than a few values above so many.
+    /// Whether neither list has memory for more values than one that grows to so many gets.
     fn suit(&self, room: usize) -> bool {
         self.head.capacity() <= ample(room) && self.tail.capacity() <= ample(room)
     }

@@ -222,8 +222,9 @@ impl<M: CrackerMap> Area<M> {
         );
     }
 
-    /// Gives back the memory that stayed with blank boxes while the area began anew.
-    pub(crate) fn trim(&mut self)
+    /// Gives back the memory that stayed with blank boxes when the area began anew. `prepare` does so at its end; who merges
+    /// and does not prepare calls it. Nothing that contracts see changes.
+    pub fn trim(&mut self)
         ensures { self.new ≡ self.old }
     {
         trim_all(self.boxes.as_mut_slice());
@@ -689,7 +690,7 @@ impl<M: CrackerMap> Area<M> {
         grow_box(&mut self.boxes[at], cells)
     }
 
-    /// Clears the box at a place and begins a map of some cells in it. Refused, it is blank.
+    /// Resets the box at a place and begins a map of some cells in it. Refused, it is blank.
     pub(crate) fn make(&mut self, at: usize, tail: Tail, cells: u64) -> Result<(), Refusal>
         requires within { at < length self.old.boxes }
         requires fresh { IsFreshBut at tail self.old.boxes }
@@ -759,7 +760,7 @@ fn reset_all<M: CrackerMap>(boxes: &mut [M])
     }
 }
 
-/// Takes the memory from all boxes that stayed with them while they were blank.
+/// Takes from all boxes the memory that stayed with them when they were reset.
 fn trim_all<M: CrackerMap>(boxes: &mut [M])
     ensures { map M.held boxes.new ≡ map M.held boxes.old }
 {
