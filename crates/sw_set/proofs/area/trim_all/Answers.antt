@@ -1,4 +1,4 @@
-use Rattle.std.proofs.Common.{◌≡◌, ◌∙◌}
+use Rattle.std.proofs.Common.{◌∙◌}
 use Rattle.std.proofs.Math.Seq.{map-set_same}
 use Rattle.sw_set.proofs.area.trim_all.Goals as goal
 

@@ -1,4 +1,4 @@
-use Rattle.std.proofs.Common.{◌≡◌, map, length}
+use Rattle.std.proofs.Common.{◌≡◌, map}
 use Rattle.sw_set.proofs.area.trim_all.Given as goal
 
 -- what the boxes hold is as it was
