@@ -4,3 +4,4 @@ pub mod Turns
 pub mod Parts
 pub mod Published
 pub mod Whole
+pub mod Shelves

@@ -1,20 +1,19 @@
 -- What is published stays, or grows.
-use Rattle.std.proofs.Common.{◌≡◌, ◌⊎◌, ⊎_elim, inl, inr, ℕ, zero, suc, ◌+◌, ◌≤◌, List, [], ◌∷◌, ◌++◌, length, take, drop, set, Bool, true, false, Some, refl, sym, ◌∙◌, ap, subst, arith, fold}
+use Rattle.std.proofs.Common.{◌≡◌, ◌⊎◌, ⊎_elim, inl, inr, ℕ, zero, suc, ◌+◌, ◌≤◌, List, [], ◌∷◌, ◌++◌, length, take, drop, set, Bool, false, Some, refl, sym, ◌∙◌, ap, subst, arith, fold}
 use Rattle.std.specs.Prelude.{Err, Ok, OnErr, OnOk, Result, slice_get}
-use Rattle.std.proofs.lemmas.List.{append-nil, drop-take, length-drop, take-append-le}
+use Rattle.std.proofs.lemmas.List.{append-nil, take-append-le}
 use Rattle.std.proofs.lemmas.List.Sums.{fold-append}
 use mathlib.Core.List.{IsPrefix}
-use Rattle.sw_rows.specs.Header.{Column}
 use Rattle.sw_table.specs.declared.row.Row.{Row}
 use Rattle.sw_table.specs.declared.row.Update.{Update}
 use Rattle.sw_table.specs.Updates.{rows_of, rows_then}
-use Rattle.sw_versions.specs.Known.{Shelved}
 use Rattle.sw_versions.specs.Lists.{rows_after}
-use Rattle.sw_versions.proofs.Prefixes.{prefix_length, prefix_taken, prefix_trans}
-use Rattle.sw_spine.specs.Books.{Books, new_books, updates, with_published, with_session}
+use Rattle.sw_versions.specs.Rules.{updates_in}
+use Rattle.sw_versions.proofs.Prefixes.{prefix_trans}
+use Rattle.sw_spine.specs.Books.{Books, updates, with_session}
 use Rattle.sw_spine.specs.Table.{opened}
 use Rattle.sw_spine.proofs.StoreLemmas.{rows_of_opened}
-use Rattle.sw_engine.specs.Published.{AreBehind, GivesReceipt, IsShelfOf, IsWhole, Receipted, later, no_versions, published_of}
+use Rattle.sw_engine.specs.Published.{AreBehind, GivesReceipt, IsWhole, Receipted, published_of}
 use Rattle.sw_engine.specs.Desk.{IsShown, IsTied}
 use Rattle.sw_engine.proofs.Ties.{get_set, length_push}
 
@@ -72,13 +71,6 @@ behind_push limit opening s s' x rows rows' behind same whole new are j r e = �
     (λ is. subst (λ (u : Books × Bool). IsPrefix (published_of opening u.0) (published_of opening s') × IsWhole limit opening u.0) is (prefix_same (published_of opening x) (published_of opening s') (ap (published_of opening) new), subst (IsWhole limit opening) (sym new) whole))
     (get_push rows j (x, false) r (sym (ap (λ (l : List (Books × Bool)). slice_get l j) are) ∙ e))
 
--- a share that came back keeps its row
-pub behind_given : (limit : ℕ) (opening : List Row) (s a : Books) (rows rows' : List (Books × Bool)) (k : ℕ) → AreBehind limit opening s rows → slice_get rows k ≡ Some (a, false) → rows' ≡ set rows k (a, true) → AreBehind limit opening s rows'
-behind_given limit opening s a rows rows' k behind at are j r e = ⊎_elim
-    (λ p. subst (λ (u : Books × Bool). IsPrefix (published_of opening u.0) (published_of opening s) × IsWhole limit opening u.0) p.1 (behind k (a, false) at))
-    (λ p. behind j r p.1)
-    (get_set rows k j (a, true) r (sym (ap (λ (l : List (Books × Bool)). slice_get l j) are) ∙ e))
-
 take_grows : {A : Type 0} (n m : ℕ) (xs : List A) → n ≤ m → IsPrefix (take n xs) (take m xs)
 take_grows zero m [] le = (take m [], refl)
 take_grows zero m (x ∷ xs) le = (take m (x ∷ xs), refl)
@@ -97,72 +89,6 @@ drop_grows (suc m) (x ∷ xs) (y ∷ ys) p = drop_grows m xs ys (p.0, cc (p.1))
 pub published_grows : (opening : List Row) (b : Books) (n : ℕ) → b.published ≤ n → IsPrefix (published_of opening b) (published_of opening (record b { published = n }))
 published_grows opening b n le = drop_grows (length opening) (take b.published (updates b)) (take n (updates b)) (take_grows b.published n (updates b) le)
 
--- ---- the shelf
-
-prefix_more : {A : Type 0} (m : ℕ) (us ys xs : List A) → IsPrefix xs (drop m us) → IsPrefix xs (drop m (us ++ ys))
-prefix_more zero us ys xs p = prefix_trans xs us (us ++ ys) p (ys, refl)
-prefix_more (suc m) [] ys [] p = (drop (suc m) ys, refl)
-prefix_more (suc m) [] ys (x ∷ xs) p = absurd (cc (p.1))
-prefix_more (suc m) (u ∷ us) ys xs p = prefix_more m us ys xs p
-
--- a shelf that was just made
-pub shelf_new : (columns : List Column) (opening : List Row) (limit : ℕ) (b : Books) → b ≡ new_books columns opening limit → IsShelfOf opening b no_versions
-shelf_new columns opening limit b e = record {
-  booked = (later opening b, refl);
-  published = (later opening b, refl);
-  counted = ap (λ (x : Books). x.published) e ∙ (let n : length opening ≡ length opening + 0 = omega arith in n);
-}
-
--- no update more
-pub shelf_kept : (opening : List Row) (b b' : Books) (s : Shelved) → IsShelfOf opening b s → updates b' ≡ updates b → b'.published ≡ b.published → IsShelfOf opening b' s
-shelf_kept opening b b' s is u p = record {
-  booked = subst (λ (us : List Update). IsPrefix s.booked (drop (length opening) us)) (sym u) is.booked;
-  published = subst (λ (us : List Update). IsPrefix s.published (drop (length opening) us)) (sym u) is.published;
-  counted = p ∙ is.counted;
-}
-
--- some updates more
-pub shelf_more : (opening : List Row) (b b' : Books) (s : Shelved) (more : List Update) → IsShelfOf opening b s → updates b' ≡ updates b ++ more → b'.published ≡ b.published → IsShelfOf opening b' s
-shelf_more opening b b' s more is u p = record {
-  booked = subst (λ (us : List Update). IsPrefix s.booked (drop (length opening) us)) (sym u) (prefix_more (length opening) (updates b) more s.booked is.booked);
-  published = subst (λ (us : List Update). IsPrefix s.published (drop (length opening) us)) (sym u) (prefix_more (length opening) (updates b) more s.published is.published);
-  counted = p ∙ is.counted;
-}
-
--- what is published after a commit: what was, or all updates
-pub caught_up : (opening : List Row) (b : Books) (s : Shelved) (p all : List Update) → IsShelfOf opening b s → all ≡ later opening b → (p ≡ s.published) ⊎ (p ≡ all) → IsPrefix p (later opening b)
-caught_up opening b s p all is every either = ⊎_elim
-    (λ same. subst (λ (l : List Update). IsPrefix l (later opening b)) (sym same) is.published)
-    (λ whole. prefix_same p (later opening b) (whole ∙ every))
-    either
-
--- what a commit leaves: some updates more, the shelf caught up, and the spine with the number of what is published
-pub after_commit : (opening : List Row) (had b b' : Books) (s v : Shelved) (more all : List Update) (n : ℕ) → IsShelfOf opening had s → updates b ≡ updates had ++ more → b.published ≡ had.published → all ≡ later opening b → IsPrefix v.booked all → (v.published ≡ s.published) ⊎ (v.published ≡ all) → b' ≡ with_published n b → n ≡ length opening + length v.published → IsShelfOf opening b' v
-after_commit opening had b b' s v more all n is u p every booked either set count =
-    let begins = caught_up opening b s v.published all (shelf_more opening had b s more is u p) every either in record {
-      booked = subst (λ (x : Books). IsPrefix v.booked (later opening x)) (sym set) (subst (λ (l : List Update). IsPrefix v.booked l) every booked);
-      published = subst (λ (x : Books). IsPrefix v.published (later opening x)) (sym set) begins;
-      counted = ap (λ (x : Books). x.published) set ∙ count;
-    }
-
--- what a meeting leaves: no update more
-pub after_meeting : (opening : List Row) (b b' : Books) (s v : Shelved) (all : List Update) (n : ℕ) → IsShelfOf opening b s → all ≡ later opening b → IsPrefix v.booked all → (v.published ≡ s.published) ⊎ (v.published ≡ all) → b' ≡ with_published n b → n ≡ length opening + length v.published → IsShelfOf opening b' v
-after_meeting opening b b' s v all n is every booked either set count =
-    after_commit opening b b b' s v [] all n is (sym (append-nil (updates b))) refl every booked either set count
-
--- what the spine has as published is what the shelf has
-pub published_is : (opening : List Row) (b : Books) (s : Shelved) → IsShelfOf opening b s → published_of opening b ≡ s.published
-published_is opening b s is =
-    ap (λ (n : ℕ). drop (length opening) (take n (updates b))) is.counted
-    ∙ (drop-take (length opening) (length s.published) (updates b) ∙ prefix_taken s.published (later opening b) is.published)
-
--- as many updates as are published, the opening rows counted, are there
-pub published_high : (opening : List Row) (b : Books) (p : List Update) → IsPrefix p (later opening b) → length opening ≤ length (updates b) → length opening + length p ≤ length (updates b)
-published_high opening b p is le =
-    let short = prefix_length p (later opening b) is in
-    let long = length-drop (length opening) (updates b) in
-    omega (arith, short, long, le)
-
 -- ---- receipts
 
 -- a call that gives the receipt of what is published, or else leaves the one that was given
@@ -173,6 +99,11 @@ held_after (Err e) r r' p p' had grows ok err = subst (λ (l : List Update). IsP
 pub gives_after : {A E : Type 0} (told : Result A E) (old new : Receipted) → IsPrefix old.given old.published → IsPrefix old.published new.published → OnOk told (new.given ≡ new.published) → OnErr told (new.given ≡ old.given) → GivesReceipt told old new
 gives_after (Ok a) old new had grows ok err = (ok, subst (λ (l : List Update). IsPrefix old.given l) (sym ok) (prefix_trans old.given old.published new.published had grows))
 gives_after (Err e) old new had grows ok err = err
+
+-- a receipt that is kept has the same updates
+pub kept_updates : {A E : Type 0} (told : Result A E) (r r' : List (List Update)) → OnErr told (r' ≡ r) → OnErr told (updates_in r' ≡ updates_in r)
+kept_updates (Ok a) r r' same = tt
+kept_updates (Err e) r r' same = ap updates_in same
 
 -- ---- viewers
 

@@ -1,7 +1,7 @@
 -- Where entries end, and that of each entry all updates are published or none.
-use Rattle.std.proofs.Common.{◌≡◌, ◌⊎◌, ⊎_elim, ℕ, zero, suc, ◌+◌, ◌≤◌, List, [], ◌∷◌, ◌++◌, length, take, drop, Bool, true, false, refl, sym, ◌∙◌, ap, subst, arith, append_assoc, length-append}
+use Rattle.std.proofs.Common.{◌≡◌, ℕ, zero, suc, List, [], ◌∷◌, ◌++◌, length, take, drop, Bool, true, false, refl, sym, ◌∙◌, ap, subst, arith}
 use Rattle.std.specs.Prelude.{if◌then◌else◌}
-use Rattle.std.proofs.lemmas.List.{length-drop, take-append-le}
+use Rattle.std.proofs.lemmas.List.{take-append-le}
 use Rattle.std.proofs.Math.Seq.{drop-append_seam, take-length}
 use mathlib.Core.List.{IsPrefix}
 use Rattle.sw_rows.specs.Header.{Column}
@@ -10,7 +10,6 @@ use Rattle.sw_rows.specs.declared.query.Call.TheVariants as call
 use Rattle.sw_rows.specs.declared.query.Query.{Query}
 use Rattle.sw_table.specs.declared.row.Row.{Row}
 use Rattle.sw_table.specs.declared.row.Update.{Update}
-use Rattle.sw_versions.specs.Known.{Shelved}
 use Rattle.sw_versions.proofs.Prefixes.{prefix_self, prefix_taken, prefix_trans}
 use Rattle.sw_spine.specs.Table.{opened, update_by, updates_then}
 use Rattle.sw_spine.specs.History.{entry, settled, updates_after, waits}
@@ -20,9 +19,8 @@ use Rattle.sw_spine.specs.declared.history.State.{State}
 use Rattle.sw_spine.specs.declared.history.State.TheVariants as state
 use Rattle.sw_spine.proofs.Histories.{length_settled}
 use Rattle.sw_spine.proofs.StoreLemmas.{length_opened}
-use Rattle.sw_engine.specs.Published.{EndsEntry, IsOfFirst, IsShelfOf, IsWhole, later, published_of, updates_first}
+use Rattle.sw_engine.specs.Published.{EndsEntry, IsOfFirst, IsWhole, later, published_of, updates_first}
 use Rattle.sw_engine.specs.Desk.{IsOf}
-use Rattle.sw_engine.proofs.Published.{published_is}
 use Rattle.sw_engine.proofs.Ties.{is_of_same, length_push}
 
 -- ---- what a visit leaves
@@ -40,7 +38,7 @@ first_at true limit us x y es ys n same rest = ap (λ (c : Call). updates_after 
 first_at false limit us x y es ys n same rest = rest
 
 -- the first entries leave the same updates where one is settled
-first_settled : (s : ℕ) (st : State) (limit : ℕ) (us : List Update) (es : List Entry) (n : ℕ) → updates_after limit us (take n (settled s st es)) ≡ updates_after limit us (take n es)
+pub first_settled : (s : ℕ) (st : State) (limit : ℕ) (us : List Update) (es : List Entry) (n : ℕ) → updates_after limit us (take n (settled s st es)) ≡ updates_after limit us (take n es)
 first_settled s st limit us es zero = refl
 first_settled s st limit us [] (suc n) = refl
 first_settled s st limit us (x ∷ es) (suc n) = first_at (waits s x) limit us x (entry x.session x.call st) es (settled s st es) n refl (first_settled s st limit (updates_then limit us x.call) es n)
@@ -109,23 +107,11 @@ all_end columns opening limit b of = (
   (λ i. length (updates_after (of.limit_is i) (opened (of.rows_are i)) (sym (take-length b.entries) i))),
 )
 
--- what is published, or all updates, end with an entry
-pub caught_up_ends : (limit : ℕ) (opening : List Row) (b : Books) (s : Shelved) (p all : List Update) (n : ℕ) → IsShelfOf opening b s → IsWhole limit opening b → EndsEntry limit opening b.entries (length (updates b)) → length opening ≤ length (updates b) → all ≡ later opening b → (p ≡ s.published) ⊎ (p ≡ all) → n ≡ length opening + length p → EndsEntry limit opening b.entries n
-caught_up_ends limit opening b s p all n is whole ends low every either count = ⊎_elim
-    (λ same. (
-      whole.0,
-      whole.1,
-      count ∙ (ap (λ (l : List Update). length opening + length l) (same ∙ sym (published_is opening b s is)) ∙ (joined (published_of opening b) ∙ ap (λ (l : List Update). length l) whole.2)),
-    ))
-    (λ full. subst (λ (m : ℕ). EndsEntry limit opening b.entries m) (sym (count ∙ (ap (λ (l : List Update). length opening + length l) (full ∙ every) ∙ lengths))) ends)
-    either
-  where
-    joined : (l : List Update) → length opening + length l ≡ length (opened opening ++ l)
-    joined l = ap (λ m. m + length l) (sym (length_opened opening)) ∙ sym (length-append (opened opening) l)
-
-    lengths : length opening + length (later opening b) ≡ length (updates b)
-    lengths = let long = length-drop (length opening) (updates b) in omega (arith, long, low)
-
--- what is published of books is what a shelf has, so that too has of each entry all updates or none
-pub shelf_whole : (limit : ℕ) (opening : List Row) (b : Books) (s : Shelved) → IsShelfOf opening b s → IsWhole limit opening b → IsOfFirst limit opening b.entries s.published
-shelf_whole limit opening b s is whole = subst (IsOfFirst limit opening b.entries) (published_is opening b s is) whole
+-- all updates after the opening rows are those of all entries
+pub all_first : (columns : List Column) (opening : List Row) (limit : ℕ) (b : Books) → IsOf columns opening limit b → IsOfFirst limit opening b.entries (later opening b)
+all_first columns opening limit b of =
+    let full : Books = record b { published = length (updates b) } in
+    let same : published_of opening full ≡ later opening b = ap (λ (us : List Update). drop (length opening) us) (take-length (updates b)) in
+    subst (IsOfFirst limit opening b.entries) same (whole_list columns opening limit full
+    record { columns_are = of.columns_are; rows_are = of.rows_are; limit_is = of.limit_is }
+    (all_end columns opening limit b of))

@@ -15,6 +15,7 @@ use Rattle.sw_spine.specs.Table.{opened, reply_to}
 use Rattle.sw_spine.specs.declared.history.Entry.{Entry}
 use Rattle.sw_tie.specs.declared.Share.{Share}
 use Rattle.sw_versions.specs.Known.{Known, Shelved}
+use Rattle.sw_versions.specs.Rules.{updates_in}
 use Rattle.sw_versions.specs.declared.viewer.TheConstants.{MOST_VIEWERS}
 
 -- the updates after the opening rows
@@ -40,7 +41,11 @@ abbrev pub IsOfFirst : ℕ → List Row → List Entry → List Update → Type 
 IsOfFirst limit opening es list =
     (n : ℕ) × (n ≤ length es) × (opened opening ++ list ≡ updates_first limit opening es n)
 
--- what is published is so
+-- batches, of which each ends where an entry ends: of each entry all updates are in one of them, or in none
+abbrev pub EndWithEntries : ℕ → List Row → List Entry → List (List Update) → Type 0
+EndWithEntries limit opening es batches = (k : ℕ) → IsOfFirst limit opening es (updates_in (take k batches))
+
+-- what is published of books is so
 abbrev pub IsWhole : ℕ → List Row → Books → Type 0
 IsWhole limit opening b = IsOfFirst limit opening b.entries (published_of opening b)
 
@@ -51,12 +56,13 @@ AreBehind limit opening s rows =
     (k : ℕ) (r : Books × Bool) → slice_get rows k ≡ Some r
     → IsPrefix (published_of opening r.0) (published_of opening s) × IsWhole limit opening r.0
 
--- what stands in the book of updates, and what is published, begins the updates after the opening rows; and the spine
--- has the number of those that are published
-pub record IsShelfOf (opening : List Row) (b : Books) (s : Shelved) : Type 0 where
-  pub booked : IsPrefix s.booked (later opening b)
-  pub published : IsPrefix s.published (later opening b)
-  pub counted : b.published ≡ length opening + length s.published
+-- what stands in the book of updates begins the updates after the opening rows, and each batch of it ends where an entry
+-- ends; what is published is some of its first batches; and the spine has the number of the updates that are published
+pub record IsShelfOf (limit : ℕ) (opening : List Row) (b : Books) (s : Shelved) : Type 0 where
+  pub booked : IsPrefix (updates_in s.booked) (later opening b)
+  pub ends : EndWithEntries limit opening b.entries s.booked
+  pub published : IsPrefix s.published s.booked
+  pub counted : b.published ≡ length opening + length (updates_in s.published)
 
 -- nothing stands in the book, nothing is published, and no viewer was opened
 abbrev pub no_versions : Shelved
@@ -64,7 +70,8 @@ no_versions = record { booked = []; published = []; viewers = 0 }
 
 -- a call is answered at the end of the history, and the spine has the number of the updates that are published
 abbrev pub with_committed : List Row → ℕ → Call → Shelved → Books → Books
-with_committed opening session c s b = with_published (length opening + length s.published) (with_answered session c b)
+with_committed opening session c s b =
+    with_published (length opening + length (updates_in s.published)) (with_answered session c b)
 
 -- a new viewer has seen, and was told, what is published
 abbrev pub new_viewer : Shelved → Known

@@ -15,7 +15,8 @@ ghost use mathlib.Core.List.{IsPrefix};
 ghost use Rattle.sw_versions.specs.Lists.{IsLonger};
 ghost use Rattle.sw_versions.specs.Pending.{IsPlain};
 ghost use Rattle.sw_versions.specs.Refused.{IsAhead};
-ghost use Rattle.sw_engine.specs.Published.{CallGives, GivesReceipt, IsOfFirst, IsWhole, RefusesViewing, published_of};
+ghost use Rattle.sw_versions.specs.Rules.{updates_in};
+ghost use Rattle.sw_engine.specs.Published.{CallGives, EndWithEntries, GivesReceipt, IsOfFirst, IsWhole, RefusesViewing, published_of};
 ghost use Rattle.sw_engine.specs.Headline.{IsHistoryOfOneThread};
 
 use crate::conds::add_all;
@@ -447,11 +448,13 @@ where
         ensures mine { mine number share.new.value.entries ≡ mine number share.old.value.entries }
         ensures grows { IsPrefix (published_of J.opening share.old.value) (published_of J.opening share.new.value) }
         ensures whole { IsWhole J.limit J.opening share.new.value }
-        ensures receipt { IfOk result (λ r. r ≡ published_of J.opening share.new.value) }
+        ensures receipt { IfOk result (λ r. updates_in r ≡ published_of J.opening share.new.value) }
+        ensures entries { IfOk result (λ r. EndWithEntries J.limit J.opening share.new.value.entries r) }
         ensures met { IfOk result (λ r. IsPrefix reader.old.seen r × IsLonger reader.old.told r reader.new.told) }
         ensures seen { reader.new.seen ≡ reader.old.seen }
         ensures kept { OnErr result (reader.new ≡ reader.old) }
-        ensures refused { IfErr result (IsAhead J.opening reader.old.seen (published_of J.opening share.new.value)) }
+        ensures refused { IfErr result
+            (IsAhead J.opening (updates_in reader.old.seen) (published_of J.opening share.new.value)) }
     {
         self.visit(rt).meet(rt, number, share, reader)
     }
@@ -472,7 +475,7 @@ where
         ensures err { OnErr result (mine number share.new.value.entries ≡ mine number share.old.value.entries) }
         ensures grows { IsPrefix (published_of J.opening share.old.value) (published_of J.opening share.new.value) }
         ensures whole { IsWhole J.limit J.opening share.new.value }
-        ensures receipt { OnOk result (receipt.new ≡ published_of J.opening share.new.value) }
+        ensures receipt { OnOk result (updates_in receipt.new ≡ published_of J.opening share.new.value) }
         ensures kept { OnErr result (receipt.new ≡ receipt.old) }
         ensures refused { IfErr result (λ e. RefusesCall e) }
     {
@@ -504,16 +507,21 @@ where
     ghost use Rattle.sw_rows.specs.declared.reply.Reply.{Reply};
     ghost use Rattle.sw_spine.specs.History.{mine};
     ghost use Rattle.sw_engine.specs.Published.{IsHeld, Receipted, published_of};
+    ghost use Rattle.sw_versions.specs.Rules.{updates_in};
 
     ghost Value = { ℕ × List (Call × Reply) × Receipted };
 
     ghost view = { λ s. (
       s.number,
       mine s.number s.share.value.entries,
-      record { given = s.receipt; published = published_of J.opening s.share.value; entries = s.share.value.entries },
+      record {
+        given = updates_in s.receipt;
+        published = published_of J.opening s.share.value;
+        entries = s.share.value.entries;
+      },
     ) };
 
-    ghost invariant = { λ s. IsHeld J.sessions J.limit J.opening s.number s.share s.receipt };
+    ghost invariant = { λ s. IsHeld J.sessions J.limit J.opening s.number s.share (updates_in s.receipt) };
 }
 
 impl<'e, J: Naming, M: CrackerMap> Session<'e, J, M>
@@ -622,7 +630,7 @@ where
     ///
     /// Of each entry of the history, what the session's share shows as published has all updates or none.
     pub fn receipt(&self) -> Receipt<J>
-        ensures given { result ≡ self.now.2.given }
+        ensures given { updates_in result ≡ self.now.2.given }
         ensures whole { IsOfFirst J.limit J.opening self.now.2.entries self.now.2.published }
         ensures mine { self.now.1 ≡ mine self.now.0 self.now.2.entries }
     {
@@ -632,6 +640,9 @@ where
     /// A viewer learns what is published, and the session has the receipt of it. What an earlier call could not publish, since
     /// viewers read or there was no memory, is published before; for that it waits for viewers that read, and does without where
     /// there is no memory.
+    ///
+    /// Where it is answered, the viewer saw at its last answer of each entry of the history all updates, or none: so it is of
+    /// every answer, since one that is met later is no other.
     ///
     /// Refused `Ahead` where the viewer has seen more updates than are published, both counted with the opening rows; then the
     /// viewer and the session's receipt are as they were.
@@ -643,11 +654,13 @@ where
         ensures number { self.new.0 ≡ self.old.0 }
         ensures mine { self.new.1 ≡ self.old.1 }
         ensures receipt { GivesReceipt result self.old.2 self.new.2 }
-        ensures told { IfOk result (λ r. r ≡ self.new.2.given) }
+        ensures told { IfOk result (λ r. updates_in r ≡ self.new.2.given) }
+        ensures entries { IfOk result (λ r. EndWithEntries J.limit J.opening self.new.2.entries r) }
+        ensures whole { IfOk result (λ _. EndWithEntries J.limit J.opening self.new.2.entries viewer.new.seen) }
         ensures met { IfOk result (λ r. IsPrefix viewer.old.seen r × IsLonger viewer.old.told r viewer.new.told) }
         ensures seen { viewer.new.seen ≡ viewer.old.seen }
         ensures kept { OnErr result (viewer.new ≡ viewer.old) }
-        ensures refused { IfErr result (IsAhead J.opening viewer.old.seen self.new.2.published) }
+        ensures refused { IfErr result (IsAhead J.opening (updates_in viewer.old.seen) self.new.2.published) }
     {
         let Session {
             engine,

@@ -9,12 +9,13 @@ ghost use Rattle.sw_spine.specs.Table.{is_numbered, reply_to};
 ghost use Rattle.sw_spine.specs.History.{CallsBelow, is_select, mine};
 ghost use Rattle.sw_spine.specs.Books.{RefusesSession, new_books, waits_for, with_published, with_session, with_settled};
 ghost use Rattle.sw_spine.specs.declared.history.State.TheVariants.{Answered, Void};
-ghost use Rattle.sw_versions.specs.Pending.{IsPlain};
+ghost use Rattle.sw_versions.specs.Pending.{HasShownOr, IsPlain};
 ghost use Rattle.sw_versions.specs.Lists.{IsLonger};
 ghost use Rattle.sw_versions.specs.Refused.{IsAhead, RefusesViewer};
+ghost use Rattle.sw_versions.specs.Rules.{updates_in};
 ghost use Rattle.sw_versions.specs.declared.viewer.TheConstants.{MOST_VIEWERS};
 ghost use Rattle.sw_engine.specs.Desk.{InOrder, IsAnswered, IsAtRest, IsBegun, IsShareOf, IsTold, RefusesCall, RefusesMany};
-ghost use Rattle.sw_engine.specs.Published.{IsNewShare, IsOfFirst, IsWhole, later, new_viewer, no_versions, published_of, with_committed, with_viewer};
+ghost use Rattle.sw_engine.specs.Published.{EndWithEntries, IsNewShare, IsWhole, later, new_viewer, no_versions, published_of, with_committed, with_viewer};
 
 use crate::desk::{Desk, Ticket};
 use crate::latch::LatchedHead;
@@ -52,7 +53,7 @@ where
 
     ghost view = { λ l. record { desk = l.desk; shelf = l.shelf } };
 
-    ghost invariant = { λ l. IsShelfOf J.opening l.desk.books l.shelf × RisesFrom 0 J.opening };
+    ghost invariant = { λ l. IsShelfOf J.limit J.opening l.desk.books l.shelf × RisesFrom 0 J.opening };
 }
 
 impl<J: Naming> LockedDesk<J>
@@ -78,11 +79,10 @@ where
     }
 
     /// The next session's number and share, and the receipt of what is published.
-    #[tactic(auto, using(crate::proofs::Published::shelf_kept))]
     pub fn enrol(&mut self) -> Result<(u64, Share<Spine>, Front<J>), Refusal>
         ensures share { IfOk result (λ t. IsNewShare J.sessions self.new.desk.books t.0 t.1) }
         ensures receipt { IfOk result (λ t. t.2 ≡ self.old.shelf.published) }
-        ensures shown { IfOk result (λ t. t.2 ≡ published_of J.opening t.1.value) }
+        ensures shown { IfOk result (λ t. updates_in t.2 ≡ published_of J.opening t.1.value) }
         ensures whole { IfOk result (λ t. IsWhole J.limit J.opening t.1.value) }
         ensures made { OnOk result (self.new.desk.books ≡ with_session self.old.desk.books) }
         ensures shelf { self.new.shelf ≡ self.old.shelf }
@@ -135,7 +135,6 @@ where
     }
 
     /// A select begins at the desk.
-    #[tactic(auto, using(crate::proofs::Published::shelf_kept))]
     pub fn begin<M: CrackerMap>(
         &mut self,
         number: u64,
@@ -161,7 +160,6 @@ where
     }
 
     /// The session's open select is answered at the desk.
-    #[tactic(auto, using(crate::proofs::Published::shelf_kept))]
     pub fn finish(&mut self, number: u64, share: &mut Share<Spine>, reply: Reply)
         requires share { IsShareOf J.sessions number share.old }
         requires reply { IsSomeAnd (waits_for number share.old.value) (λ w. reply ≡ reply_to J.limit w.1 w.0) }
@@ -176,7 +174,6 @@ where
     }
 
     /// The session's open select is given up at the desk.
-    #[tactic(auto, using(crate::proofs::Published::shelf_kept))]
     pub fn void(&mut self, number: u64, share: &mut Share<Spine>)
         requires share { IsShareOf J.sessions number share.old }
         requires waits { IsSome (waits_for number share.old.value) }
@@ -188,6 +185,39 @@ where
         ensures shelf { self.new.shelf ≡ self.old.shelf }
     {
         self.desk.void(number, share);
+    }
+
+    /// All updates that are not published yet are published at once, or none of them: where there is no memory for it, or a
+    /// viewer still reads the copy that would be written and is not waited for. Either way the session's share shows what is
+    /// published, of which this is the receipt.
+    fn publish<R: Wait>(
+        &mut self,
+        rt: &R,
+        number: u64,
+        share: &mut Share<Spine>,
+        while_read: WhileRead,
+    ) -> Front<J>
+        requires rest { IsAtRest J.sessions number share.old }
+        ensures rest { IsAtRest J.sessions number share.new }
+        ensures mine { mine number share.new.value.entries ≡ mine number share.old.value.entries }
+        ensures grows { IsPrefix (published_of J.opening share.old.value) (published_of J.opening share.new.value) }
+        ensures whole { IsWhole J.limit J.opening share.new.value }
+        ensures shown { share.new.value ≡ self.new.desk.books }
+        ensures receipt { result ≡ self.new.shelf.published }
+        ensures told { updates_in result ≡ published_of J.opening share.new.value }
+        ensures books { self.new.desk.books
+            ≡ with_published (length J.opening + length (updates_in self.new.shelf.published)) self.old.desk.books }
+        ensures published { HasShownOr (later J.opening self.new.desk.books) self.old.shelf self.new.shelf }
+        ensures entries { EndWithEntries J.limit J.opening self.new.desk.books.entries self.new.shelf.published }
+        ensures longer { IsPrefix self.old.shelf.published self.new.shelf.published }
+        ensures viewers { self.new.shelf.viewers ≡ self.old.shelf.viewers }
+    {
+        let LockedDesk { desk, shelf, book } = self;
+        shelf.catch_up(rt, book, desk.later(), while_read);
+        let receipt = shelf.published();
+        let count = book.count(&receipt);
+        desk.publish(number, share, count);
+        receipt
     }
 
     /// A call that is no select is answered at the end of the history. Then all updates that are not published yet are published at
@@ -210,24 +240,19 @@ where
         ensures whole { IsWhole J.limit J.opening share.new.value }
         ensures shown { OnOk result (share.new.value ≡ self.new.desk.books) }
         ensures receipt { IfOk result (λ r. r.1 ≡ self.new.shelf.published) }
-        ensures told { IfOk result (λ r. r.1 ≡ published_of J.opening share.new.value) }
+        ensures told { IfOk result (λ r. updates_in r.1 ≡ published_of J.opening share.new.value) }
         ensures answered { OnOk result (self.new.desk.books
             ≡ with_committed J.opening number call self.new.shelf self.old.desk.books) }
-        ensures published { (self.new.shelf.published ≡ self.old.shelf.published)
-            ⊎ (self.new.shelf.published ≡ later J.opening self.new.desk.books) }
+        ensures published { HasShownOr (later J.opening self.new.desk.books) self.old.shelf self.new.shelf }
         ensures entries { OnOk result
-            (IsOfFirst J.limit J.opening self.new.desk.books.entries self.new.shelf.published) }
+            (EndWithEntries J.limit J.opening self.new.desk.books.entries self.new.shelf.published) }
         ensures longer { IsPrefix self.old.shelf.published self.new.shelf.published }
         ensures viewers { self.new.shelf.viewers ≡ self.old.shelf.viewers }
         ensures kept { OnErr result ((self.new.desk.books ≡ self.old.desk.books) × (self.new.shelf ≡ self.old.shelf)) }
         ensures refused { IfErr result (λ e. RefusesCall e) }
     {
-        let LockedDesk { desk, shelf, book } = self;
-        let reply = desk.commit(number, share, call)?;
-        shelf.catch_up(rt, book, desk.later(), WhileRead::PutsOff);
-        let receipt = shelf.published();
-        let count = book.count(&receipt);
-        desk.publish(number, share, count);
+        let reply = self.desk.commit(number, share, call)?;
+        let receipt = self.publish(rt, number, share, WhileRead::PutsOff);
         Ok((reply, receipt))
     }
 
@@ -249,26 +274,24 @@ where
         ensures mine { mine number share.new.value.entries ≡ mine number share.old.value.entries }
         ensures grows { IsPrefix (published_of J.opening share.old.value) (published_of J.opening share.new.value) }
         ensures whole { IsWhole J.limit J.opening share.new.value }
-        ensures shown { published_of J.opening share.new.value ≡ self.new.shelf.published }
+        ensures shown { share.new.value ≡ self.new.desk.books }
+        ensures told { updates_in self.new.shelf.published ≡ published_of J.opening share.new.value }
         ensures books { self.new.desk.books
-            ≡ with_published (length J.opening + length self.new.shelf.published) self.old.desk.books }
-        ensures published { (self.new.shelf.published ≡ self.old.shelf.published)
-            ⊎ (self.new.shelf.published ≡ later J.opening self.new.desk.books) }
-        ensures entries { IsOfFirst J.limit J.opening self.new.desk.books.entries self.new.shelf.published }
+            ≡ with_published (length J.opening + length (updates_in self.new.shelf.published)) self.old.desk.books }
+        ensures published { HasShownOr (later J.opening self.new.desk.books) self.old.shelf self.new.shelf }
+        ensures entries { EndWithEntries J.limit J.opening self.new.desk.books.entries self.new.shelf.published }
         ensures longer { IsPrefix self.old.shelf.published self.new.shelf.published }
         ensures viewers { self.new.shelf.viewers ≡ self.old.shelf.viewers }
         ensures receipt { IfOk result (λ r. r ≡ self.new.shelf.published) }
+        ensures ends { IfOk result (λ r. EndWithEntries J.limit J.opening share.new.value.entries r) }
         ensures met { IfOk result (λ r. IsPrefix viewer.old.seen r × IsLonger viewer.old.told r viewer.new.told) }
         ensures seen { viewer.new.seen ≡ viewer.old.seen }
         ensures kept { OnErr result (viewer.new ≡ viewer.old) }
-        ensures refused { IfErr result (IsAhead J.opening viewer.old.seen self.new.shelf.published) }
+        ensures refused { IfErr result
+            (IsAhead J.opening (updates_in viewer.old.seen) (updates_in self.new.shelf.published)) }
     {
-        let LockedDesk { desk, shelf, book } = self;
-        shelf.catch_up(rt, book, desk.later(), WhileRead::Waits);
-        let receipt = shelf.published();
-        let count = book.count(&receipt);
-        desk.publish(number, share, count);
-        shelf.meet(book, viewer)
+        let _receipt = self.publish(rt, number, share, WhileRead::Waits);
+        self.shelf.meet(&self.book, viewer)
     }
 
     /// A viewer, which has learnt what is published. The first one has the two copies of the rows made.
@@ -278,7 +301,7 @@ where
     pub fn viewer(&mut self) -> Result<Viewer<J>, Refusal>
         ensures few { OnOk result (self.old.shelf.viewers < MOST_VIEWERS) }
         ensures opened { IfOk result (λ v. v ≡ new_viewer self.old.shelf) }
-        ensures entries { IfOk result (λ v. IsOfFirst J.limit J.opening self.new.desk.books.entries v.seen) }
+        ensures entries { IfOk result (λ v. EndWithEntries J.limit J.opening self.new.desk.books.entries v.seen) }
         ensures counted { OnOk result (self.new ≡ record self.old { shelf = with_viewer self.old.shelf }) }
         ensures refused { IfErr result (λ e. (self.new ≡ self.old) × RefusesViewer self.old.shelf.viewers e) }
     {

@@ -6,18 +6,20 @@ ghost use Rattle.sw_rows.specs.Scan.{AsksBelow};
 ghost use Rattle.sw_engine.specs.Published.{answer_after};
 ghost use Rattle.sw_versions.specs.Lists.{IsLonger};
 ghost use Rattle.sw_versions.specs.Refused.{RefusesAnswer};
+ghost use Rattle.sw_versions.specs.Rules.{updates_in};
 
 use std::marker::{Model, PhantomData};
 use sw_rows::{Query, Refusal, Reply};
 use sw_versions::{Front, Naming};
 
-/// The list of updates that was published when it was given, to be learnt by a viewer. Of each entry of the history it
-/// has all updates, or none. It takes no memory, however long it is, and can be copied.
+/// The list of batches of updates that was published when it was given, to be learnt by a viewer. A batch is all updates of
+/// an entry of the history, or of several. It takes no memory, however long it is, and can be copied.
 pub type Receipt<J> = Front<J>;
 
 /// A reader of an engine's live rows, which takes no lock and waits for nobody. It does not outlive its engine.
 ///
-/// Contracts see the list of updates that it saw last, and the one that it was told of, the opening rows left out.
+/// Contracts see the list of batches that it saw last, and the one that it was told of, the opening rows left out: of each
+/// batch it saw all updates, or none.
 #[derive(Drop)]
 pub struct Viewer<'e, J: Naming> {
     pub(crate) reader: sw_versions::Viewer<J>,
@@ -34,13 +36,15 @@ impl<'e, J: Naming> Model for Viewer<'e, J> {
 
 impl<'e, J: Naming> Viewer<'e, J> {
     /// What a query is answered over the rows of the list that is then seen, which begins with all that was seen before
-    /// and with all that was told: the reply of the plain table there. It takes memory for a list of rows alone.
+    /// and with all that was told, batch by batch: the reply of the plain table there. It takes memory for a list of rows
+    /// alone.
     ///
     /// Refused `NoMemory`, or `TooMany` of limit 16 where its reader has no place any more; after a refusal it has seen
     /// and was told what it had. The caller's condition: attributes are below 8.
     pub fn answer(&mut self, query: &Query) -> Result<Reply, Refusal>
         requires { AsksBelow 8 query.now }
-        ensures answered { IfOk result (λ r. r ≡ answer_after J.limit J.opening self.new.seen query.now) }
+        ensures answered { IfOk result (λ r. r
+            ≡ answer_after J.limit J.opening (updates_in self.new.seen) query.now) }
         ensures seen { IfOk result (λ _. IsPrefix self.old.seen self.new.seen) }
         ensures told { IfOk result (λ _. IsPrefix self.old.told self.new.seen) }
         ensures same { self.new.told ≡ self.old.told }

@@ -1,3 +1,4 @@
+pub mod Batches
 pub mod Adding
 pub mod Prefixes
 pub mod Writing

@@ -1,21 +1,19 @@
--- Lists of updates as they grow, and the rows that they leave.
-use Rattle.std.specs.Prelude.{◌≡◌, ◌⊎◌, ◌<◌, ◌-◌, ◌++◌, ◌∷◌, [], Bool, List, MatchBool, fold, length, take}
+-- Lists of batches of updates as they grow, and the rows that they leave.
+use Rattle.std.specs.Prelude.{◌≡◌, ◌⊎◌, ◌<◌, Bool, List, MatchBool, fold, length}
 use mathlib.Core.List.{IsPrefix}
 use Rattle.sw_table.specs.Updates.{rows_then}
 use Rattle.sw_table.specs.declared.row.Row.{Row}
 use Rattle.sw_table.specs.declared.row.Update.{Update}
+use Rattle.sw_versions.specs.Rules.{updates_in}
 
 -- the rows that updates leave of the opening rows
 abbrev pub rows_after : List Row → List Update → List Row
 rows_after opening us = fold rows_then opening us
 
--- the list ends with this entry
-abbrev pub EndsWith : {A : Type 0} → List A → A → Type 0
-EndsWith xs x = xs ≡ take (length xs - 1) xs ++ x ∷ []
-
--- one list begins the other; or else the other, which is shorter, begins it
-abbrev pub BeginsOr : {A : Type 0} → Bool → List A → List A → Type 0
-BeginsOr begins one other = MatchBool begins (IsPrefix one other) (IsPrefix other one × (length other < length one))
+-- one list of batches begins the other; or else the other, which has fewer updates, begins it
+abbrev pub BeginsOr : Bool → List (List Update) → List (List Update) → Type 0
+BeginsOr begins one other =
+    MatchBool begins (IsPrefix one other) (IsPrefix other one × (length (updates_in other) < length (updates_in one)))
 
 -- one of two lists, which both of them begin
 pub record IsLonger {A : Type 0} (one other longer : List A) : Type 0 where

@@ -1,9 +1,9 @@
-//! The one list of updates, which the code keeps as its length alone, and its beginnings.
+//! The one list of batches of updates, of which the code keeps the number of updates alone, and its beginnings.
 
-ghost use Rattle.std.specs.Prelude.{◌≡◌, ◌+◌, ◌==◌, ◌<◌, ◌≤◌, ◌^◌, ◌++◌, [], length, MatchBool};
+ghost use Rattle.std.specs.Prelude.{◌≡◌, ◌+◌, ◌==◌, ◌<◌, ◌≤◌, ◌^◌, ◌++◌, ◌∷◌, [], length, MatchBool};
 ghost use mathlib.Core.List.{IsPrefix};
 ghost use Rattle.sw_versions.specs.Lists.{BeginsOr, IsLonger};
-ghost use Rattle.sw_versions.specs.Rules.{head_of};
+ghost use Rattle.sw_versions.specs.Rules.{head_of, updates_in};
 
 use logbook::{Gain, Offer, Plain, Play, Rule, Seen, Start, Word};
 use std::marker::{Brand, Model, PhantomData};
@@ -12,8 +12,8 @@ use sw_table::Update;
 /// The rule of the book.
 pub struct Law;
 
-// An entry of the log is the list of updates that one step added. No value of its type is made: it is `[Update; 0]` since
-// a clause reads an array as a list, of any length.
+// An entry of the log is a batch, the list of updates that one step added. No value of its type is made: it is
+// `[Update; 0]` since a clause reads an array as a list, of any length.
 impl Rule<[Update; 0], u64> for Law {
     ghost use Rattle.std.specs.Prelude.{[]};
     ghost use base.Fml.{ftrue};
@@ -41,7 +41,7 @@ impl Gain<[Update; 0], u64> for Nothing {
     ghost after = { λ names about answer. ftrue };
 }
 
-/// A step that adds updates.
+/// A step that adds a batch.
 struct Add;
 
 impl Play<[Update; 0], u64> for Add {
@@ -137,7 +137,7 @@ impl Opened {
     }
 }
 
-/// The word that all threads share: the length of the list.
+/// The word that all threads share: how many updates the list has.
 #[derive(Drop)]
 pub struct Book<J: Naming> {
     head: Word<[Update; 0], u64, Law>,
@@ -151,13 +151,14 @@ pub struct Book<J: Naming> {
 impl<J: Naming> Book<J> {
     /// How many updates a beginning of the list has, the opening rows counted.
     pub fn count(&self, front: &Front<J>) -> u64
-        ensures { result ≡ length J.opening + length front.now }
+        ensures { result ≡ length J.opening + length (updates_in front.now) }
     {
         self.opening + front.len()
     }
 }
 
-/// A beginning of the list. It takes no more memory than its length, and is copied without a step. A receipt is one.
+/// A beginning of the list: so many batches, each with all its updates. It takes no more memory than the number of the
+/// updates, and is copied without a step. A receipt is one.
 #[derive(Drop)]
 pub struct Front<J: Naming> {
     count: u64,
@@ -168,20 +169,20 @@ pub struct Front<J: Naming> {
 impl<J: Naming> Model for Front<J> {
     ghost use Rattle.std.specs.Prelude.{◌≡◌, List, length};
     ghost use Rattle.sw_table.specs.declared.row.Update.{Update};
-    ghost use Rattle.sw_versions.specs.Rules.{IsShort, updates_in};
+    ghost use Rattle.sw_versions.specs.Rules.{AreFilled, IsShort, updates_in};
 
-    ghost Value = { List Update };
+    ghost Value = { List (List Update) };
 
-    ghost view = { λ f. updates_in f.seen.log };
+    ghost view = { λ f. f.seen.log };
 
     ghost invariant = { λ f. (f.count ≡ length (updates_in f.seen.log)) × (f.seen.book ≡ J.book)
-        × IsShort (updates_in f.seen.log) };
+        × IsShort (updates_in f.seen.log) × AreFilled f.seen.log };
 }
 
 impl<J: Naming> Front<J> {
     /// How many updates it has.
     pub fn len(&self) -> u64
-        ensures length { result ≡ length self.now }
+        ensures length { result ≡ length (updates_in self.now) }
         ensures short { result ≤ 2 ^ 62 }
     {
         self.count
@@ -198,7 +199,8 @@ impl<J: Naming> Front<J> {
         }
     }
 
-    /// Whether it is no longer than another one. Of two beginnings the shorter one begins the longer one.
+    /// Whether it has no more updates than another one. Of two beginnings the shorter one begins the longer one, batch by
+    /// batch.
     pub fn begins(&self, other: &Front<J>) -> bool
         ensures { BeginsOr result self.now other.now }
     {
@@ -218,10 +220,11 @@ impl<J: Naming> Front<J> {
         }
     }
 
-    /// Adds updates to all that was seen, by one exchange, and says whether it did. It did not where the list
-    /// is longer by now, or would have more than 2 to the 62nd.
+    /// Adds updates, as one batch, to all that was seen, by one exchange, and says whether it did. It did not where the
+    /// list is longer by now, or would have more than 2 to the 62nd. The caller's condition: there is one update at least.
     pub(crate) fn add(&mut self, book: &Book<J>, updates: &[Update]) -> bool
-        ensures { MatchBool result (self.new ≡ self.old ++ updates.now) (IsPrefix self.old self.new) }
+        requires { 0 < length updates.now }
+        ensures { MatchBool result (self.new ≡ self.old ++ updates.now ∷ []) (IsPrefix self.old self.new) }
     {
         let count = self.count;
         let more = updates.len() as u64;

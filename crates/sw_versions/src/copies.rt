@@ -1,10 +1,11 @@
 //! The two copies of the rows that readers take, with the writer of both.
 
-ghost use Rattle.std.specs.Prelude.{◌≡◌, ◌⊎◌, ◌<◌, ◌+◌, ◌++◌, ◌∷◌, [], None, drop, fold, IfOk, IfSome, MatchResult, OnErr, OnOk, is_some, true};
+ghost use Rattle.std.specs.Prelude.{◌≡◌, ◌⊎◌, ◌<◌, ◌+◌, ◌++◌, ◌∷◌, [], None, Some, drop, fold, length, slice_get, IfOk, IfSome, MatchResult, OnErr, OnOk, is_some, true};
 ghost use Rattle.sw_table.specs.Live.{live_rows};
-ghost use Rattle.sw_versions.specs.Lists.{EndsWith, rows_after};
+ghost use Rattle.sw_versions.specs.Lists.{rows_after};
 ghost use Rattle.sw_versions.specs.Known.{wrote};
 ghost use Rattle.sw_versions.specs.Pending.{HasPublishedOr, IsPlain, all_of};
+ghost use Rattle.sw_versions.specs.Rules.{updates_in};
 ghost use Rattle.sw_versions.specs.declared.viewer.TheConstants.{MOST_VIEWERS};
 
 use crate::book::{Front, Naming};
@@ -21,14 +22,16 @@ use std::mem::ManuallyDrop;
 use std::sync::Wait;
 use sw_table::{LiveTable, Update};
 
-/// The writer of the copies, and the operation that it had no memory to take. It is ended by `end` alone: where it is dropped
-/// before, the copies stay where they are.
+/// The writer of the copies, the batches that it published, how many updates it has, and the operation that it had no memory
+/// to take. It is ended by `end` alone: where it is dropped before, the copies stay where they are.
 #[derive(Drop)]
 pub struct Copies<J: Naming>
 where
     Live<J>: Absorb<Op<J>, State = [Update; 0]>,
 {
     writer: ManuallyDrop<Writer<Live<J>, Op<J>, (), Unruled>>,
+    published: Front<J>,
+    many: u64,
     waiting: Option<Op<J>>,
     viewers: u64,
     visitors: Visitors,
@@ -38,20 +41,28 @@ impl<J: Naming> Model for Copies<J>
 where
     Live<J>: Absorb<Op<J>, State = [Update; 0]>,
 {
-    ghost use Rattle.std.specs.Prelude.{drop};
+    ghost use Rattle.std.specs.Prelude.{◌≡◌, drop, length};
     ghost use Rattle.sw_versions.specs.Known.{Written};
-    ghost use Rattle.sw_versions.specs.Pending.{IsPlain};
+    ghost use Rattle.sw_versions.specs.Pending.{IsPlain, all_of};
+    ghost use Rattle.sw_versions.specs.Rules.{updates_in};
 
     ghost Value = { Written };
 
     ghost view = { λ c. record {
-      published = c.writer.value.desk.shown.value;
+      published = c.published;
       pending = drop c.writer.value.behind c.writer.value.log.items;
       waiting = c.waiting;
       viewers = c.viewers;
     } };
 
-    ghost invariant = { λ c. IsPlain ⟦<Live<J> as Absorb<Op<J>>>⟧.state ⟦<Live<J> as Absorb<Op<J>>>⟧.applied };
+    ghost invariant = { λ c. IsPlain ⟦<Live<J> as Absorb<Op<J>>>⟧.state ⟦<Live<J> as Absorb<Op<J>>>⟧.applied
+        × (c.writer.value.desk.shown.value ≡ updates_in c.published)
+        × (c.many ≡ length (all_of record {
+          published = c.published;
+          pending = drop c.writer.value.behind c.writer.value.log.items;
+          waiting = c.waiting;
+          viewers = c.viewers;
+        })) };
 }
 
 /// Publishes all that is pending. After an error readers see what they saw.
@@ -82,8 +93,8 @@ where
         front: &Front<J>,
     ) -> Result<Copies<J>, AllocError>
         requires plain { IsPlain ⟦<Live<J> as Absorb<Op<J>>>⟧.state ⟦<Live<J> as Absorb<Op<J>>>⟧.applied }
-        requires first { live_rows first ≡ rows_after J.opening front.now }
-        requires second { live_rows second ≡ rows_after J.opening front.now }
+        requires first { live_rows first ≡ rows_after J.opening (updates_in front.now) }
+        requires second { live_rows second ≡ rows_after J.opening (updates_in front.now) }
         ensures { IfOk result (λ c. c ≡ wrote front.now) }
     {
         let first = Live::new(first, front.again());
@@ -93,6 +104,8 @@ where
         Ok(Copies {
             // a writer is ended and not dropped
             writer: unsafe { ManuallyDrop::new_unchecked(writer) },
+            published: front.again(),
+            many: front.len(),
             waiting: None,
             viewers: 0,
             visitors,
@@ -103,7 +116,14 @@ where
     pub(crate) fn published(&self) -> Front<J>
         ensures { result ≡ self.now.published }
     {
-        self.writer.published().front().again()
+        self.published.again()
+    }
+
+    /// How many updates it has.
+    pub(crate) fn len(&self) -> u64
+        ensures { result ≡ length (all_of self.now) }
+    {
+        self.many
     }
 
     /// Whether an operation waits for memory.
@@ -113,15 +133,17 @@ where
         self.waiting.is_some()
     }
 
-    /// The last update of a list is to be taken, where none waits.
+    /// The next update of a list is to be taken, where none waits.
     pub(crate) fn put(&mut self, update: Update, front: Front<J>)
         requires none { self.old.waiting ≡ None }
-        requires last { EndsWith front update }
+        requires next { slice_get (updates_in front) (length (all_of self.old)) ≡ Some update }
         ensures all { all_of self.new ≡ all_of self.old ++ update ∷ [] }
         ensures published { self.new.published ≡ self.old.published }
         ensures viewers { self.new.viewers ≡ self.old.viewers }
     {
-        self.waiting = Some(Op::new(update, front));
+        let _most = front.len();
+        self.waiting = Some(Op::new(update, self.many, front));
+        self.many += 1;
     }
 
     /// The writer takes what waits: whether nothing waits now.
@@ -151,15 +173,21 @@ where
         }
     }
 
-    /// Publishes all that the writer has, where nothing waits. Without memory for it readers see what they saw.
-    pub(crate) fn publish<R: Wait>(&mut self, rt: &R)
+    /// Publishes a list, where the writer has all its updates and nothing waits. Without memory for it readers see what
+    /// they saw.
+    pub(crate) fn publish<R: Wait>(&mut self, rt: &R, list: &Front<J>)
         requires none { self.old.waiting ≡ None }
-        ensures published { (self.new.published ≡ self.old.published) ⊎ (self.new.published ≡ all_of self.old) }
+        requires all { all_of self.old ≡ updates_in list.now }
+        ensures published { (self.new.published ≡ self.old.published) ⊎ (self.new.published ≡ list.now) }
         ensures all { all_of self.new ≡ all_of self.old }
         ensures viewers { self.new.viewers ≡ self.old.viewers }
     {
-        let _ = publish(rt, &mut self.writer);
+        let told = publish(rt, &mut self.writer);
         self.visitors.look(self.viewers);
+        match told {
+            Ok(()) => self.published = list.again(),
+            Err(_) => {}
+        }
     }
 
     /// A viewer, which has learnt what is published; none where there were as many as there may be, or where no place for a reader

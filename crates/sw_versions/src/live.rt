@@ -1,10 +1,12 @@
 //! A copy of the rows that readers take, and what is written to both copies.
 
-ghost use Rattle.std.specs.Prelude.{◌≡◌, ◌<◌, ◌++◌, ◌∷◌, [], IfOk, IsOk, IsOkUnless, IsTrue, MatchResult, OnErr, OnOk};
+ghost use Rattle.std.specs.Prelude.{◌≡◌, ◌<◌, ◌++◌, ◌∷◌, [], IfOk, IfSome, IsOk, IsOkUnless, IsTrue, MatchResult, OnErr, OnOk, Some, slice_get};
+ghost use mathlib.Core.List.{IsPrefix};
 ghost use Rattle.sw_rows.specs.Scan.{AsksBelow, TakesMemory, answer};
 ghost use Rattle.sw_table.specs.Live.{RisesFrom, live_rows};
 ghost use Rattle.sw_table.specs.Updates.{rows_then};
-ghost use Rattle.sw_versions.specs.Lists.{EndsWith, rows_after};
+ghost use Rattle.sw_versions.specs.Lists.{rows_after};
+ghost use Rattle.sw_versions.specs.Rules.{updates_in};
 
 use crate::book::{Front, Naming};
 use left_right::Absorb;
@@ -51,80 +53,94 @@ pub(crate) fn table_after(
     Ok(table)
 }
 
-/// An update, with the list that it ends. Contracts see it as the two.
+/// An update, its place among those of a list of batches, and the list. Contracts see it as the three.
 #[derive(Drop)]
 pub struct Op<J: Naming> {
     update: Update,
+    place: u64,
     front: Front<J>,
 }
 
 impl<J: Naming> Model for Op<J> {
-    ghost use Rattle.sw_versions.specs.Known.{Ended};
+    ghost use Rattle.std.specs.Prelude.{◌≡◌, Some, slice_get};
+    ghost use Rattle.sw_versions.specs.Known.{Placed};
+    ghost use Rattle.sw_versions.specs.Rules.{updates_in};
 
-    ghost Value = { Ended };
+    ghost Value = { Placed };
 
-    ghost use Rattle.sw_versions.specs.Lists.{EndsWith};
+    ghost view = { λ o. record { update = o.update; place = o.place; list = o.front } };
 
-    ghost view = { λ o. record { update = o.update; list = o.front } };
-
-    ghost invariant = { λ o. EndsWith o.front o.update };
+    ghost invariant = { λ o. slice_get (updates_in o.front) o.place ≡ Some o.update };
 }
 
-/// The rows that a list of updates leaves of the opening rows. Contracts see it as the list.
+/// The rows that the first so many updates of a list of batches leave of the opening rows. Contracts see it as these updates.
 #[derive(Drop)]
 pub struct Live<J: Naming> {
     table: LiveTable,
+    made: u64,
     front: Front<J>,
 }
 
 impl<J: Naming> Model for Live<J> {
-    ghost use Rattle.std.specs.Prelude.{◌≡◌, List};
+    ghost use Rattle.std.specs.Prelude.{◌≡◌, ◌≤◌, List, length, take};
     ghost use Rattle.sw_table.specs.Live.{live_rows};
     ghost use Rattle.sw_table.specs.declared.row.Update.{Update};
     ghost use Rattle.sw_versions.specs.Lists.{rows_after};
+    ghost use Rattle.sw_versions.specs.Rules.{updates_in};
 
     ghost Value = { List Update };
 
-    ghost view = { λ l. l.front };
+    ghost view = { λ l. take l.made (updates_in l.front) };
 
-    ghost invariant = { λ l. live_rows l.table ≡ rows_after J.opening l.front };
+    ghost invariant = { λ l. (live_rows l.table ≡ rows_after J.opening (take l.made (updates_in l.front)))
+        × (l.made ≤ length (updates_in l.front)) };
 }
 
 impl<J: Naming> Op<J> {
-    /// The last update of a list.
-    pub(crate) fn new(update: Update, front: Front<J>) -> Op<J>
-        requires { EndsWith front update }
-        ensures { result ≡ record { update = update; list = front } }
+    /// The update at a place of a list.
+    pub(crate) fn new(update: Update, place: u64, front: Front<J>) -> Op<J>
+        requires { slice_get (updates_in front) place ≡ Some update }
+        ensures { result ≡ record { update = update; place = place; list = front } }
     {
-        Op { update, front }
+        Op {
+            update,
+            place,
+            front,
+        }
     }
-}
-
-/// Whether an operation is the next after a list.
-fn is_next<J: Naming>(front: &Front<J>, op: &Op<J>) -> bool
-    ensures { IsTrue result → op.now.list ≡ front.now ++ op.now.update ∷ [] }
-{
-    if !front.begins(&op.front) {
-        return false;
-    }
-    let (before, after) = (front.len(), op.front.len());
-    before < after && after - before == 1
 }
 
 impl<J: Naming> Live<J> {
     /// The rows of a list.
+    #[tactic(auto, using(crate::proofs::Batches::all_taken))]
     pub(crate) fn new(table: LiveTable, front: Front<J>) -> Live<J>
-        requires { live_rows table ≡ rows_after J.opening front }
-        ensures { result ≡ front }
+        requires { live_rows table ≡ rows_after J.opening (updates_in front) }
+        ensures { result ≡ updates_in front }
     {
-        Live { table, front }
+        Live {
+            table,
+            made: front.len(),
+            front,
+        }
     }
 
-    /// The list.
-    pub(crate) fn front(&self) -> &Front<J>
-        ensures { result.now ≡ self.now }
+    /// The list, where all its updates were made: it is not within a batch.
+    #[tactic(auto, using(crate::proofs::Batches::all_taken))]
+    pub(crate) fn whole(&self) -> Option<&Front<J>>
+        ensures { IfSome result (λ f. updates_in f.now ≡ self.now) }
     {
-        &self.front
+        if self.made == self.front.len() {
+            Some(&self.front)
+        } else {
+            None
+        }
+    }
+
+    /// Whether an operation is the next after the updates that were made.
+    fn is_next(&self, op: &Op<J>) -> bool
+        ensures { IsTrue result → IsPrefix (self.now ++ op.now.update ∷ []) (updates_in op.now.list) }
+    {
+        op.place == self.made && self.front.begins(&op.front)
     }
 
     /// What a query is answered over the rows.
@@ -138,13 +154,17 @@ impl<J: Naming> Live<J> {
     }
 
     /// Makes the operation's update, if the operation is the next; otherwise, or without memory, nothing changes.
+    #[tactic(auto, using(crate::proofs::Batches::made_more))]
     fn take_in(&mut self, op: &Op<J>) -> Result<(), AllocError>
         ensures { MatchResult result (λ _. self.new ≡ self.old ++ op.now.update ∷ []) (λ _. self.new ≡ self.old) }
     {
-        if !is_next(&self.front, op) {
+        // for the prover: there are few enough updates
+        let _most = self.front.len();
+        if !self.is_next(op) {
             return Err(AllocError);
         }
         make(&mut self.table, &op.update)?;
+        self.made += 1;
         self.front = op.front.again();
         Ok(())
     }

@@ -1,12 +1,13 @@
 //! What lies under the lock: how far the book is written, and the copies, once there is a viewer.
 
-ghost use Rattle.std.specs.Prelude.{◌≡◌, ◌⊎◌, ◌<◌, ◌+◌, ◌++◌, ◌∷◌, [], None, length, IfErr, IfOk, IfSome, OnErr, OnOk};
+ghost use Rattle.std.specs.Prelude.{◌≡◌, ◌⊎◌, ◌<◌, ◌+◌, length, IfErr, IfOk, OnErr, OnOk};
 ghost use mathlib.Core.List.{IsPrefix};
 ghost use Rattle.sw_table.specs.Live.{RisesFrom};
 ghost use Rattle.sw_versions.specs.Known.{wrote};
 ghost use Rattle.sw_versions.specs.Lists.{IsLonger, rows_after};
-ghost use Rattle.sw_versions.specs.Pending.{IsPlain, all_of};
+ghost use Rattle.sw_versions.specs.Pending.{HasBookedOr, HasShownOr, IsPlain, all_of};
 ghost use Rattle.sw_versions.specs.Refused.{IsAhead, RefusesViewer};
+ghost use Rattle.sw_versions.specs.Rules.{updates_in};
 ghost use Rattle.sw_versions.specs.declared.viewer.TheConstants.{MOST_VIEWERS};
 
 use crate::book::{Book, Front, Naming};
@@ -50,89 +51,64 @@ where
         × IsShelved s.booked s.copies };
 }
 
-/// The next update goes into the book: which it is, if there is one and it was written.
-fn book_next<J: Naming>(booked: &mut Front<J>, book: &Book<J>, updates: &[Update]) -> Option<Update>
-    requires { IsPrefix booked.old updates.now }
-    ensures some { IfSome result (λ u. (booked.new ≡ booked.old ++ u ∷ []) × IsPrefix booked.new updates.now) }
-    ensures none { result ≡ None → booked.new ≡ booked.old }
+/// All updates that the book lacks go into it as one batch, by one exchange, which adds them all or none.
+#[tactic(auto, using(crate::proofs::Batches::all_booked, crate::proofs::Prefixes::prefix_self))]
+fn book_all<J: Naming>(booked: &mut Front<J>, book: &Book<J>, updates: &[Update])
+    requires { IsPrefix (updates_in booked.old) updates.now }
+    ensures begins { IsPrefix (updates_in booked.new) updates.now }
+    ensures batch { HasBookedOr updates.now booked.old booked.new }
+    ensures grows { IsPrefix booked.old booked.new }
 {
-    let next = booked.len() as usize;
-    if next >= updates.len() {
-        return None;
-    }
-    let update = updates[next];
-    let mut longer = booked.again();
-    if !longer.add(book, &[update]) {
-        return None;
-    }
-    *booked = longer;
-    Some(update)
-}
-
-/// All updates that the book lacks go into it, by one exchange, which adds them all or none: the list, if they were written.
-#[tactic(auto, using(crate::proofs::Prefixes::prefix_rest))]
-fn book_all<J: Naming>(booked: &Front<J>, book: &Book<J>, updates: &[Update]) -> Option<Front<J>>
-    requires { IsPrefix booked.now updates.now }
-    ensures { IfSome result (λ all. all ≡ updates.now) }
-{
-    let mut all = booked.again();
     let lacked = &updates[booked.len() as usize..];
-    if lacked.is_empty() || all.add(book, lacked) {
-        Some(all)
-    } else {
-        None
+    if lacked.is_empty() {
+        return;
+    }
+    let mut all = booked.again();
+    if all.add(book, lacked) {
+        *booked = all;
     }
 }
 
-/// The update that waits, or else the next one by way of the book, goes to the writer: whether it did.
-fn hand_next<J: Naming>(
-    booked: &mut Front<J>,
-    copies: &mut Copies<J>,
-    book: &Book<J>,
-    updates: &[Update],
-) -> bool
+/// The update that waits, or else the next one of the book, goes to the writer: whether it did.
+#[tactic(auto, using(crate::proofs::Batches::next_at))]
+fn hand_next<J: Naming>(booked: &Front<J>, copies: &mut Copies<J>, updates: &[Update]) -> bool
 where
     Live<J>: Absorb<Op<J>, State = [Update; 0]>,
-    requires begins { IsPrefix booked.old updates.now }
-    requires all { all_of copies.old ≡ booked.old }
-    ensures begins { IsPrefix booked.new updates.now }
-    ensures all { all_of copies.new ≡ booked.new }
+    requires begins { IsPrefix (updates_in booked.now) updates.now }
+    requires all { IsPrefix (all_of copies.old) (updates_in booked.now) }
+    ensures all { IsPrefix (all_of copies.new) (updates_in booked.now) }
     ensures published { copies.new.published ≡ copies.old.published }
     ensures viewers { copies.new.viewers ≡ copies.old.viewers }
 {
     if !copies.waits() {
-        let Some(update) = book_next(booked, book, updates) else {
+        let next = copies.len();
+        if next >= booked.len() {
             return false;
-        };
-        copies.put(update, booked.again());
+        }
+        copies.put(updates[next as usize], booked.again());
     }
     copies.append()
 }
 
-/// All updates that the writer lacks go to it, as far as there is memory.
-fn hand_all<J: Naming>(
-    booked: &mut Front<J>,
-    copies: &mut Copies<J>,
-    book: &Book<J>,
-    updates: &[Update],
-)
+/// All updates of the book that the writer lacks go to it, as far as there is memory.
+fn hand_all<J: Naming>(booked: &Front<J>, copies: &mut Copies<J>, updates: &[Update])
 where
     Live<J>: Absorb<Op<J>, State = [Update; 0]>,
-    requires begins { IsPrefix booked.old updates.now }
-    requires all { all_of copies.old ≡ booked.old }
-    ensures begins { IsPrefix booked.new updates.now }
-    ensures all { all_of copies.new ≡ booked.new }
+    requires begins { IsPrefix (updates_in booked.now) updates.now }
+    requires all { IsPrefix (all_of copies.old) (updates_in booked.now) }
+    ensures all { IsPrefix (all_of copies.new) (updates_in booked.now) }
     ensures published { copies.new.published ≡ copies.old.published }
     ensures viewers { copies.new.viewers ≡ copies.old.viewers }
 {
-    for _ in booked.len()..=updates.len() as u64 {
-        if !hand_next(booked, copies, book, updates) {
+    for _ in copies.len()..=booked.len() {
+        if !hand_next(booked, copies, updates) {
             break;
         }
     }
 }
 
-/// Publishes what the writer has, where that is all and it is time.
+/// Publishes what stands in the book, where that is all and the writer has it, and it is time.
+#[tactic(auto, using(crate::proofs::Prefixes::prefix_whole, crate::proofs::Prefixes::prefix_self))]
 fn publish_all<J: Naming, R: Wait>(
     rt: &R,
     booked: &Front<J>,
@@ -142,15 +118,23 @@ fn publish_all<J: Naming, R: Wait>(
 )
 where
     Live<J>: Absorb<Op<J>, State = [Update; 0]>,
-    requires begins { IsPrefix booked.now updates.now }
-    requires all { all_of copies.old ≡ booked.now }
-    ensures all { all_of copies.new ≡ booked.now }
-    ensures published { (copies.new.published ≡ copies.old.published) ⊎ (copies.new.published ≡ updates.now) }
+    requires begins { IsPrefix (updates_in booked.now) updates.now }
+    requires all { IsPrefix (all_of copies.old) (updates_in booked.now) }
+    requires shown { IsPrefix copies.old.published booked.now }
+    ensures all { IsPrefix (all_of copies.new) (updates_in booked.now) }
+    ensures shown { IsPrefix copies.new.published booked.now }
+    ensures published { (copies.new.published ≡ copies.old.published)
+        ⊎ ((copies.new.published ≡ booked.now) × (updates_in booked.now ≡ updates.now)) }
     ensures grows { IsPrefix copies.old.published copies.new.published }
     ensures viewers { copies.new.viewers ≡ copies.old.viewers }
 {
-    if !copies.waits() && booked.len() == updates.len() as u64 && copies.is_time(while_read) {
-        copies.publish(rt);
+    let many = updates.len() as u64;
+    if !copies.waits()
+        && copies.len() == many
+        && booked.len() == many
+        && copies.is_time(while_read)
+    {
+        copies.publish(rt, booked);
     }
 }
 
@@ -180,12 +164,13 @@ where
         }
     }
 
-    /// All updates of the history that are not published yet are published at once, or none of them. Where a viewer still reads
-    /// the copy from before the last publishing, this waits for it, or leaves them for a later call, as it is told.
+    /// All updates of the history that the book lacks go into it as one batch, and all that are not published yet are published
+    /// at once, or none of them. Where a viewer still reads the copy from before the last publishing, this waits for it, or leaves
+    /// them for a later call, as it is told.
     ///
     /// Refused memory leaves them for a later call too. The caller's condition: what stands in the book begins the updates, which are
     /// those after the opening rows.
-    #[tactic(auto, using(crate::proofs::Prefixes::prefix_self))]
+    #[tactic(auto, using(crate::proofs::Prefixes::prefix_trans, crate::proofs::Prefixes::prefix_self, crate::proofs::Batches::booked_updates))]
     pub fn catch_up<R: Wait>(
         &mut self,
         rt: &R,
@@ -193,23 +178,21 @@ where
         updates: &[Update],
         while_read: WhileRead,
     )
-        requires { IsPrefix self.old.booked updates.now }
-        ensures booked { IsPrefix self.new.booked updates.now }
-        ensures published { (self.new.published ≡ self.old.published) ⊎ (self.new.published ≡ updates.now) }
+        requires { IsPrefix (updates_in self.old.booked) updates.now }
+        ensures booked { IsPrefix (updates_in self.new.booked) updates.now }
+        ensures batch { HasBookedOr updates.now self.old.booked self.new.booked }
+        ensures published { HasShownOr updates.now self.old self.new }
         ensures grows { IsPrefix self.old.published self.new.published }
         ensures viewers { self.new.viewers ≡ self.old.viewers }
     {
         let Shelf { booked, copies, .. } = self;
+        book_all(booked, book, updates);
         match copies {
             Some(copies) => {
-                hand_all(booked, copies, book, updates);
+                hand_all(booked, copies, updates);
                 publish_all(rt, booked, copies, updates, while_read);
             }
-            None => {
-                if let Some(all) = book_all(booked, book, updates) {
-                    *booked = all;
-                }
-            }
+            None => {}
         }
     }
 
@@ -218,7 +201,7 @@ where
     fn begin(&self, opening: &PackedRows, updates: &[Update]) -> Result<Copies<J>, AllocError>
         requires rows { opening.now.items ≡ J.opening }
         requires rise { RisesFrom 0 J.opening }
-        requires begins { IsPrefix self.now.booked updates.now }
+        requires begins { IsPrefix (updates_in self.now.booked) updates.now }
         ensures { IfOk result (λ c. c ≡ wrote self.now.booked) }
     {
         let booked = &updates[..self.booked.len() as usize];
@@ -235,7 +218,7 @@ where
     pub fn viewer(&mut self, opening: &PackedRows, updates: &[Update]) -> Result<Viewer<J>, Refusal>
         requires rows { opening.now.items ≡ J.opening }
         requires rise { RisesFrom 0 J.opening }
-        requires begins { IsPrefix self.old.booked updates.now }
+        requires begins { IsPrefix (updates_in self.old.booked) updates.now }
         ensures few { OnOk result (self.old.viewers < MOST_VIEWERS) }
         ensures opened { IfOk result (λ v. v ≡ record { seen = self.old.published; told = self.old.published }) }
         ensures counted { IfOk result (λ _. self.new ≡ record self.old { viewers = self.old.viewers + 1 }) }
@@ -276,7 +259,7 @@ where
         ensures met { IfOk result (λ r. IsPrefix viewer.old.seen r × IsLonger viewer.old.told r viewer.new.told) }
         ensures seen { viewer.new.seen ≡ viewer.old.seen }
         ensures kept { OnErr result (viewer.new ≡ viewer.old) }
-        ensures refused { IfErr result (IsAhead J.opening viewer.old.seen self.now.published) }
+        ensures refused { IfErr result (IsAhead J.opening (updates_in viewer.old.seen) (updates_in self.now.published)) }
     {
         let published = self.published();
         if viewer.meet(&published) {

@@ -5,6 +5,7 @@ ghost use mathlib.Core.List.{IsPrefix};
 ghost use Rattle.sw_rows.specs.Scan.{AsksBelow, answer};
 ghost use Rattle.sw_versions.specs.Lists.{IsLonger, rows_after};
 ghost use Rattle.sw_versions.specs.Refused.{RefusesAnswer};
+ghost use Rattle.sw_versions.specs.Rules.{updates_in};
 
 use crate::book::{Front, Naming};
 use crate::live::Live;
@@ -19,8 +20,8 @@ use sw_rows::{Query, Refusal, Reply};
 /// How many viewers may ever be opened.
 pub const MOST_VIEWERS: u64 = 16;
 
-/// A reader of the rows, which waits for nobody. Contracts see the list of updates that it saw last, and the one that it was
-/// told of.
+/// A reader of the rows, which waits for nobody. Contracts see the list of batches of updates that it saw last, and the one
+/// that it was told of: of each batch it saw all updates, or none.
 #[derive(Drop)]
 pub struct Viewer<J: Naming> {
     alloc: Global,
@@ -42,7 +43,8 @@ type Home<J> = Reader<Live<J>, (), Unruled>;
 
 type Found<J> = Result<(Reply, Front<J>), Refusal>;
 
-/// What a query is answered over one copy, with its list, where that begins with all that was seen and told.
+/// What a query is answered over one copy, with its list, where all updates of that were made, and it begins with all that
+/// was seen and told. It is always so.
 fn look<J: Naming>(
     alloc: Global,
     live: &Live<J>,
@@ -51,17 +53,21 @@ fn look<J: Naming>(
     query: &Query,
 ) -> Found<J>
     requires { AsksBelow 8 query.now }
-    ensures answered { IfOk result (λ t. t.0 ≡ answer (rows_after J.opening t.1) query.now) }
+    ensures answered { IfOk result (λ t. t.0 ≡ answer (rows_after J.opening (updates_in t.1)) query.now) }
     ensures begins { IfOk result (λ t. IsPrefix seen.now t.1 × IsPrefix told.now t.1) }
     ensures refused { IfErr result (RefusesAnswer query.now.want) }
 {
-    if !seen.begins(live.front()) || !told.begins(live.front()) {
-        return Err(Refusal::TooMany {
-            limit: MOST_VIEWERS,
-        });
+    let refused = Refusal::TooMany {
+        limit: MOST_VIEWERS,
+    };
+    let Some(list) = live.whole() else {
+        return Err(refused);
+    };
+    if !seen.begins(list) || !told.begins(list) {
+        return Err(refused);
     }
     let reply = live.answer(alloc, query)?;
-    Ok((reply, live.front().again()))
+    Ok((reply, list.again()))
 }
 
 /// The same by one enter. The reader comes back.
@@ -73,7 +79,7 @@ fn read<J: Naming>(
     query: &Query,
 ) -> (Home<J>, Found<J>)
     requires { AsksBelow 8 query.now }
-    ensures answered { IfOk result.1 (λ t. t.0 ≡ answer (rows_after J.opening t.1) query.now) }
+    ensures answered { IfOk result.1 (λ t. t.0 ≡ answer (rows_after J.opening (updates_in t.1)) query.now) }
     ensures begins { IfOk result.1 (λ t. IsPrefix seen.now t.1 × IsPrefix told.now t.1) }
     ensures refused { IfErr result.1 (RefusesAnswer query.now.want) }
 {
@@ -112,13 +118,14 @@ impl<J: Naming> Viewer<J> {
     }
 
     /// What a query is answered over the rows of the list that is then seen, which begins with all that was seen before and
-    /// with all that was told. It takes memory for a list of rows alone, and waits for nobody.
+    /// with all that was told, batch by batch. It takes memory for a list of rows alone, and waits for nobody.
     ///
     /// Refused `NoMemory`, or `TooMany` of limit 16 where the reader has no place any more; after a refusal the viewer has seen
     /// and was told what it had. The caller's condition: attributes are below 8.
     pub fn answer(&mut self, query: &Query) -> Result<Reply, Refusal>
         requires { AsksBelow 8 query.now }
-        ensures answered { IfOk result (λ reply. reply ≡ answer (rows_after J.opening self.new.seen) query.now) }
+        ensures answered { IfOk result (λ reply. reply
+            ≡ answer (rows_after J.opening (updates_in self.new.seen)) query.now) }
         ensures seen { IfOk result (λ _. IsPrefix self.old.seen self.new.seen) }
         ensures told { IfOk result (λ _. IsPrefix self.old.told self.new.seen) }
         ensures same { self.new.told ≡ self.old.told }
@@ -152,7 +159,8 @@ impl<J: Naming> Viewer<J> {
         ensures met { result ≡ true → IsPrefix self.old.seen published.now }
         ensures told { result ≡ true → IsLonger self.old.told published.now self.new.told }
         ensures seen { self.new.seen ≡ self.old.seen }
-        ensures ahead { result ≡ false → (self.new ≡ self.old) × (length published.now < length self.old.seen) }
+        ensures ahead { result ≡ false → (self.new ≡ self.old)
+            × (length (updates_in published.now) < length (updates_in self.old.seen)) }
     {
         if self.seen.begins(published) {
             self.told = self.told.longer(published);
