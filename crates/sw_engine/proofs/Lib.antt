@@ -1,3 +1,4 @@
+mod Examples
 pub mod Ties
 pub mod Heads
 pub mod Turns
