@@ -1,5 +1,5 @@
 -- What is published stays, or grows.
-use Rattle.std.proofs.Common.{◌≡◌, ◌⊎◌, ⊎_elim, inl, inr, ℕ, zero, suc, ◌+◌, ◌≤◌, List, [], ◌∷◌, ◌++◌, length, take, drop, set, Bool, false, Some, refl, sym, ◌∙◌, ap, subst, arith, fold}
+use Rattle.std.proofs.Common.{true, ◌≡◌, ◌⊎◌, ⊎_elim, inl, inr, ℕ, zero, suc, ◌+◌, ◌≤◌, List, [], ◌∷◌, ◌++◌, length, take, drop, set, Bool, false, Some, refl, sym, ◌∙◌, ap, subst, arith, fold}
 use Rattle.std.specs.Prelude.{Err, Ok, OnErr, OnOk, Result, slice_get}
 use Rattle.std.proofs.lemmas.List.{append-nil, take-append-le}
 use Rattle.std.proofs.lemmas.List.Sums.{fold-append}
@@ -7,13 +7,13 @@ use mathlib.Core.List.{IsPrefix}
 use Rattle.sw_table.specs.declared.row.Row.{Row}
 use Rattle.sw_table.specs.declared.row.Update.{Update}
 use Rattle.sw_table.specs.Updates.{rows_of, rows_then}
-use Rattle.sw_versions.specs.Lists.{rows_after}
+use Rattle.sw_versions.specs.Lists.{BeginsOr, rows_after}
 use Rattle.sw_versions.specs.Rules.{updates_in}
-use Rattle.sw_versions.proofs.Prefixes.{prefix_trans}
+use Rattle.sw_versions.proofs.Prefixes.{prefix_length, prefix_trans}
 use Rattle.sw_spine.specs.Books.{Books, updates, with_session}
 use Rattle.sw_spine.specs.Table.{opened}
 use Rattle.sw_spine.proofs.StoreLemmas.{rows_of_opened}
-use Rattle.sw_engine.specs.Published.{AreBehind, GivesReceipt, IsWhole, Receipted, published_of}
+use Rattle.sw_engine.specs.Published.{AreBehind, IsWhole, published_of}
 use Rattle.sw_engine.specs.Desk.{IsShown, IsTied}
 use Rattle.sw_engine.proofs.Ties.{get_set, length_push}
 
@@ -92,18 +92,18 @@ published_grows opening b n le = drop_grows (length opening) (take b.published (
 -- ---- receipts
 
 -- a call that gives the receipt of what is published, or else leaves the one that was given
-pub held_after : {A E : Type 0} (told : Result A E) (r r' p p' : List Update) → IsPrefix r p → IsPrefix p p' → OnOk told (r' ≡ p') → OnErr told (r' ≡ r) → IsPrefix r' p'
-held_after (Ok a) r r' p p' had grows ok err = prefix_same r' p' ok
-held_after (Err e) r r' p p' had grows ok err = subst (λ (l : List Update). IsPrefix l p') (sym err) (prefix_trans r p p' had grows)
+pub held_after : {A E : Type 0} (told : Result A E) (r r' : List (List Update)) (p p' : List Update) → IsPrefix (updates_in r) p → IsPrefix p p' → OnOk told (updates_in r' ≡ p') → OnErr told (r' ≡ r) → IsPrefix (updates_in r') p'
+held_after (Ok a) r r' p p' had grows ok err = prefix_same (updates_in r') p' ok
+held_after (Err e) r r' p p' had grows ok err = subst (λ (l : List (List Update)). IsPrefix (updates_in l) p') (sym err) (prefix_trans (updates_in r) p p' had grows)
 
-pub gives_after : {A E : Type 0} (told : Result A E) (old new : Receipted) → IsPrefix old.given old.published → IsPrefix old.published new.published → OnOk told (new.given ≡ new.published) → OnErr told (new.given ≡ old.given) → GivesReceipt told old new
-gives_after (Ok a) old new had grows ok err = (ok, subst (λ (l : List Update). IsPrefix old.given l) (sym ok) (prefix_trans old.given old.published new.published had grows))
-gives_after (Err e) old new had grows ok err = err
-
--- a receipt that is kept has the same updates
-pub kept_updates : {A E : Type 0} (told : Result A E) (r r' : List (List Update)) → OnErr told (r' ≡ r) → OnErr told (updates_in r' ≡ updates_in r)
-kept_updates (Ok a) r r' same = tt
-kept_updates (Err e) r r' same = ap updates_in same
+-- the receipt that is given begins with the one before, batch by batch: it has no fewer updates
+pub begins_longer : (b : Bool) (old new : List (List Update)) (p p' : List Update) → BeginsOr b old new → IsPrefix (updates_in old) p → IsPrefix p p' → updates_in new ≡ p' → IsPrefix old new
+begins_longer true old new p p' begins had grows is = begins
+begins_longer false old new p p' fewer had grows is =
+    let short = prefix_length (updates_in old) p had in
+    let long = prefix_length p p' grows in
+    let same : length (updates_in new) ≡ length p' = ap (λ (us : List Update). length us) is in
+    absurd (omega (arith, short, long, same, fewer.1))
 
 -- ---- viewers
 

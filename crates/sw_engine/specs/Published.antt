@@ -45,7 +45,7 @@ IsOfFirst limit opening es list =
 abbrev pub EndWithEntries : ℕ → List Row → List Entry → List (List Update) → Type 0
 EndWithEntries limit opening es batches = (k : ℕ) → IsOfFirst limit opening es (updates_in (take k batches))
 
--- what is published of books is so
+-- what is published of books is all updates of the first so many entries
 abbrev pub IsWhole : ℕ → List Row → Books → Type 0
 IsWhole limit opening b = IsOfFirst limit opening b.entries (published_of opening b)
 
@@ -93,10 +93,10 @@ RefusesViewing other = ⊥
 
 -- ---- receipts
 
--- what a session shows of them: the list that it has the receipt of; and what its share shows, which is the list that is
--- published and the entries of the history
+-- what a session shows of them: the batches that it has the receipt of; and what its share shows, which is the updates that
+-- are published and the entries of the history
 pub record Receipted : Type 0 where
-  pub given : List Update
+  pub given : List (List Update)
   pub published : List Update
   pub entries : List Entry
 
@@ -104,7 +104,9 @@ pub record Receipted : Type 0 where
 -- begins with the one before; refused, the receipt stays
 abbrev pub GivesReceipt : {A E : Type 0} → Result A E → Receipted → Receipted → Type 0
 GivesReceipt told old new =
-    MatchResult told (λ _. (new.given ≡ new.published) × IsPrefix old.given new.given) (λ _. new.given ≡ old.given)
+    MatchResult told
+    (λ _. (updates_in new.given ≡ new.published) × IsPrefix old.given new.given)
+    (λ _. new.given ≡ old.given)
 
 -- a select leaves it
 abbrev pub CallGives : {A E : Type 0} → Call → Result A E → Receipted → Receipted → Type 0
@@ -115,10 +117,10 @@ CallGives (call.DeleteWhere conds) told old new = GivesReceipt told old new
 
 -- the session's share waits for nothing, what the session has the receipt of begins what the share shows as published,
 -- and that has of each entry all updates or none
-abbrev pub IsHeld : ℕ → ℕ → List Row → ℕ → Share Books → List Update → Type 0
+abbrev pub IsHeld : ℕ → ℕ → List Row → ℕ → Share Books → List (List Update) → Type 0
 IsHeld name limit opening session share receipt =
     (share.name ≡ name) × (session ≡ share.number + 1) × (waits_for session share.value ≡ None)
-    × IsPrefix receipt (published_of opening share.value) × IsWhole limit opening share.value
+    × IsPrefix (updates_in receipt) (published_of opening share.value) × IsWhole limit opening share.value
 
 -- the share of a session that was just opened
 abbrev pub IsNewShare : ℕ → Books → ℕ → Share Books → Type 0

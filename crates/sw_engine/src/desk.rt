@@ -9,7 +9,6 @@ ghost use Rattle.sw_spine.specs.History.{CallsBelow, is_select, mine};
 ghost use Rattle.sw_spine.specs.Books.{RefusesRows, RefusesSession, new_books, updates, waits_for, with_answered, with_published, with_session, with_settled};
 ghost use Rattle.sw_spine.specs.declared.history.State.TheVariants.{Answered, Void};
 ghost use mathlib.Core.List.{IsPrefix};
-ghost use Rattle.sw_versions.specs.Rules.{updates_in};
 ghost use Rattle.sw_engine.specs.Published.{EndsEntry, IsHeld, IsNewShare, IsOfFirst, IsWhole, later, published_of};
 ghost use Rattle.sw_engine.specs.Desk.{AreGiven, IsAnswered, IsAtRest, IsBegun, IsOf, IsShareOf, IsTold, RefusesCall, latched, new_desk};
 
@@ -59,18 +58,17 @@ impl<J: Naming> Model for Ticket<J> {
     ghost use Rattle.sw_rows.specs.declared.reply.Reply.{Reply};
     ghost use Rattle.sw_spine.specs.History.{mine};
     ghost use Rattle.sw_engine.specs.Published.{IsHeld};
-    ghost use Rattle.sw_versions.specs.Rules.{updates_in};
 
     ghost Value = { ℕ × List (Call × Reply) };
 
     ghost view = { λ t. (t.number, mine t.number t.share.value.entries) };
 
-    ghost invariant = { λ t. IsHeld J.sessions J.limit J.opening t.number t.share (updates_in t.receipt) };
+    ghost invariant = { λ t. IsHeld J.sessions J.limit J.opening t.number t.share t.receipt };
 }
 
 impl<J: Naming> Ticket<J> {
     pub(crate) fn new(number: u64, share: Share<Spine>, receipt: Front<J>) -> Ticket<J>
-        requires { IsHeld J.sessions J.limit J.opening number share (updates_in receipt) }
+        requires { IsHeld J.sessions J.limit J.opening number share receipt }
         ensures { result ≡ (number, mine number share.value.entries) }
     {
         Ticket {
@@ -337,13 +335,10 @@ impl<J: Naming> Desk<J> {
         sessions.set(share, Snapshot::of(spine));
     }
 
-    /// The updates after the opening rows, which are those of all entries of the history. Of each entry all updates are
-    /// published, or none.
+    /// The updates after the opening rows, which are those of all entries of the history.
     pub fn later(&self) -> &[Update]
         ensures later { result.now ≡ later J.opening self.now.books }
         ensures opening { length J.opening ≤ length (updates self.now.books) }
-        ensures whole { IsWhole J.limit J.opening self.now.books }
-        ensures all { EndsEntry J.limit J.opening self.now.books.entries (length (updates self.now.books)) }
         ensures entries { IsOfFirst J.limit J.opening self.now.books.entries (later J.opening self.now.books) }
     {
         // for the prover: the opening rows are among the updates

@@ -213,7 +213,7 @@ where
     #[tactic(auto, using(crate::proofs::Published::prefix_same))]
     pub fn session<R: Wait>(&self, rt: &R) -> Result<Session<'_, J, M>, Refusal>
         ensures new { IfOk result (λ s. s.1 ≡ []) }
-        ensures receipt { IfOk result (λ s. s.2.given ≡ s.2.published) }
+        ensures receipt { IfOk result (λ s. updates_in s.2.given ≡ s.2.published) }
         ensures refused { IfErr result (λ e. TooManySessions e) }
     {
         let (number, share, receipt) = self.visit(rt).enrol()?;
@@ -449,7 +449,7 @@ where
         ensures grows { IsPrefix (published_of J.opening share.old.value) (published_of J.opening share.new.value) }
         ensures whole { IsWhole J.limit J.opening share.new.value }
         ensures receipt { IfOk result (λ r. updates_in r ≡ published_of J.opening share.new.value) }
-        ensures entries { IfOk result (λ r. EndWithEntries J.limit J.opening share.new.value.entries r) }
+        ensures ends { IfOk result (λ r. EndWithEntries J.limit J.opening share.new.value.entries r) }
         ensures met { IfOk result (λ r. IsPrefix reader.old.seen r × IsLonger reader.old.told r reader.new.told) }
         ensures seen { reader.new.seen ≡ reader.old.seen }
         ensures kept { OnErr result (reader.new ≡ reader.old) }
@@ -459,6 +459,7 @@ where
         self.visit(rt).meet(rt, number, share, reader)
     }
 
+    #[tactic(auto, using(crate::proofs::Published::begins_longer))]
     fn commit<R: Wait>(
         &self,
         rt: &R,
@@ -470,16 +471,20 @@ where
         requires rest { IsAtRest J.sessions number share.old }
         requires changes { is_select call ≡ false }
         requires below { CallsBelow (length J.columns) call }
+        requires held { IsPrefix (updates_in receipt.old) (published_of J.opening share.old.value) }
         ensures rest { IsAtRest J.sessions number share.new }
         ensures mine { IfOk result (λ r. IsTold number call r share.old.value share.new.value) }
         ensures err { OnErr result (mine number share.new.value.entries ≡ mine number share.old.value.entries) }
         ensures grows { IsPrefix (published_of J.opening share.old.value) (published_of J.opening share.new.value) }
         ensures whole { IsWhole J.limit J.opening share.new.value }
         ensures receipt { OnOk result (updates_in receipt.new ≡ published_of J.opening share.new.value) }
+        ensures longer { OnOk result (IsPrefix receipt.old receipt.new) }
         ensures kept { OnErr result (receipt.new ≡ receipt.old) }
         ensures refused { IfErr result (λ e. RefusesCall e) }
     {
         let (reply, published) = self.visit(rt).commit(rt, number, share, call)?;
+        // for the prover: of two beginnings the one with no more updates begins the other, batch by batch
+        let _begins = receipt.begins(&published);
         *receipt = published;
         Ok(reply)
     }
@@ -507,7 +512,6 @@ where
     ghost use Rattle.sw_rows.specs.declared.reply.Reply.{Reply};
     ghost use Rattle.sw_spine.specs.History.{mine};
     ghost use Rattle.sw_engine.specs.Published.{IsHeld, Receipted, published_of};
-    ghost use Rattle.sw_versions.specs.Rules.{updates_in};
 
     ghost Value = { ℕ × List (Call × Reply) × Receipted };
 
@@ -515,13 +519,13 @@ where
       s.number,
       mine s.number s.share.value.entries,
       record {
-        given = updates_in s.receipt;
+        given = s.receipt;
         published = published_of J.opening s.share.value;
         entries = s.share.value.entries;
       },
     ) };
 
-    ghost invariant = { λ s. IsHeld J.sessions J.limit J.opening s.number s.share (updates_in s.receipt) };
+    ghost invariant = { λ s. IsHeld J.sessions J.limit J.opening s.number s.share s.receipt };
 }
 
 impl<'e, J: Naming, M: CrackerMap> Session<'e, J, M>
@@ -630,7 +634,7 @@ where
     ///
     /// Of each entry of the history, what the session's share shows as published has all updates or none.
     pub fn receipt(&self) -> Receipt<J>
-        ensures given { updates_in result ≡ self.now.2.given }
+        ensures given { result ≡ self.now.2.given }
         ensures whole { IsOfFirst J.limit J.opening self.now.2.entries self.now.2.published }
         ensures mine { self.now.1 ≡ mine self.now.0 self.now.2.entries }
     {
@@ -641,8 +645,8 @@ where
     /// viewers read or there was no memory, is published before; for that it waits for viewers that read, and does without where
     /// there is no memory.
     ///
-    /// Where it is answered, the viewer saw at its last answer of each entry of the history all updates, or none: so it is of
-    /// every answer, since one that is met later is no other.
+    /// Where it is answered, the viewer saw at its last answer of each entry of the history all updates, or none; and so at each
+    /// answer before, since what was seen then begins what it saw last.
     ///
     /// Refused `Ahead` where the viewer has seen more updates than are published, both counted with the opening rows; then the
     /// viewer and the session's receipt are as they were.
@@ -654,9 +658,9 @@ where
         ensures number { self.new.0 ≡ self.old.0 }
         ensures mine { self.new.1 ≡ self.old.1 }
         ensures receipt { GivesReceipt result self.old.2 self.new.2 }
-        ensures told { IfOk result (λ r. updates_in r ≡ self.new.2.given) }
-        ensures entries { IfOk result (λ r. EndWithEntries J.limit J.opening self.new.2.entries r) }
-        ensures whole { IfOk result (λ _. EndWithEntries J.limit J.opening self.new.2.entries viewer.new.seen) }
+        ensures told { IfOk result (λ r. r ≡ self.new.2.given) }
+        ensures ends { IfOk result (λ r. EndWithEntries J.limit J.opening self.new.2.entries r) }
+        ensures saw { IfOk result (λ _. EndWithEntries J.limit J.opening self.new.2.entries viewer.new.seen) }
         ensures met { IfOk result (λ r. IsPrefix viewer.old.seen r × IsLonger viewer.old.told r viewer.new.told) }
         ensures seen { viewer.new.seen ≡ viewer.old.seen }
         ensures kept { OnErr result (viewer.new ≡ viewer.old) }
@@ -669,6 +673,8 @@ where
             receipt,
         } = self;
         let published = engine.meet(rt, *number, share, &mut viewer.reader)?;
+        // for the prover: as in a commit
+        let _begins = receipt.begins(&published);
         *receipt = published.again();
         Ok(published)
     }

@@ -141,6 +141,7 @@ where
         ensures published { self.new.published ≡ self.old.published }
         ensures viewers { self.new.viewers ≡ self.old.viewers }
     {
+        // for the prover: there are few enough updates
         let _most = front.len();
         self.waiting = Some(Op::new(update, self.many, front));
         self.many += 1;

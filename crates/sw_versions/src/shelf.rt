@@ -107,7 +107,7 @@ where
     }
 }
 
-/// Publishes what stands in the book, where that is all and the writer has it, and it is time.
+/// Publishes what stands in the book, where the writer has all updates, and it is time.
 #[tactic(auto, using(crate::proofs::Prefixes::prefix_whole, crate::proofs::Prefixes::prefix_self))]
 fn publish_all<J: Naming, R: Wait>(
     rt: &R,
@@ -129,11 +129,7 @@ where
     ensures viewers { copies.new.viewers ≡ copies.old.viewers }
 {
     let many = updates.len() as u64;
-    if !copies.waits()
-        && copies.len() == many
-        && booked.len() == many
-        && copies.is_time(while_read)
-    {
+    if !copies.waits() && copies.len() == many && copies.is_time(while_read) {
         copies.publish(rt, booked);
     }
 }
@@ -164,8 +160,8 @@ where
         }
     }
 
-    /// All updates of the history that the book lacks go into it as one batch, and all that are not published yet are published
-    /// at once, or none of them. Where a viewer still reads the copy from before the last publishing, this waits for it, or leaves
+    /// All updates of the history that the book lacks go into it as one batch, or none of them; and all that are not published yet
+    /// are published at once, or none of them. Where a viewer still reads the copy from before the last publishing, this waits for it, or leaves
     /// them for a later call, as it is told.
     ///
     /// Refused memory leaves them for a later call too. The caller's condition: what stands in the book begins the updates, which are

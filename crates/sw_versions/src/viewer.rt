@@ -44,7 +44,7 @@ type Home<J> = Reader<Live<J>, (), Unruled>;
 type Found<J> = Result<(Reply, Front<J>), Refusal>;
 
 /// What a query is answered over one copy, with its list, where all updates of that were made, and it begins with all that
-/// was seen and told. It is always so.
+/// was seen and told: by bodies it always is so.
 fn look<J: Naming>(
     alloc: Global,
     live: &Live<J>,
