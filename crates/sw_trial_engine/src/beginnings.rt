@@ -4,19 +4,18 @@ use std::alloc::{AllocError, Global};
 use sw_rows::{Call, Cond, Reply, is_within};
 use sw_spine::{Entry, Record, State};
 
-/// What a viewer was answered, a count or a sum, and the key of the row of whose insertion it had learnt last, 0 for none.
+/// What a viewer was answered, a count or a sum, and how many updates the receipt has that it had learnt last, 0 for none.
 #[derive(Clone, Copy)]
 pub(crate) struct Seen {
-    pub key: u64,
+    pub updates: u64,
     pub reply: i128,
 }
 
-/// A row that was ever in: its cells, whether it is in, and how many entries had changed rows once it was.
+/// A row that was ever in: its cells, and whether it is in.
 #[derive(Clone, Copy)]
 struct Came {
     cells: [i64; 8],
     is_in: bool,
-    place: usize,
 }
 
 impl Came {
@@ -32,32 +31,36 @@ impl Came {
     }
 }
 
-/// The rows that were ever in, by key, and the sum of b after each beginning of a history's entries that change rows: a deletion
-/// of many rows is one entry.
-#[derive(Drop)]
-pub(crate) struct Beginnings {
-    rows: Vec<Came>,
-    sums: Vec<i128>,
+/// A beginning of a history's entries: how many updates it has, and the sum of b after it.
+#[derive(Clone, Copy)]
+struct Beginning {
+    updates: u64,
     sum: i128,
 }
 
+/// The rows that were ever in, by key, and each beginning of a history's entries that change rows: a deletion of many rows is one
+/// entry. The last one is that of the entries so far.
+#[derive(Drop)]
+pub(crate) struct Beginnings {
+    rows: Vec<Came>,
+    all: Vec<Beginning>,
+    last: Beginning,
+}
+
 impl Beginnings {
-    /// A row of these cells is in; `place` is how many entries have changed rows with it.
-    fn insert(&mut self, cells: [i64; 8], place: usize) -> Result<(), AllocError> {
-        self.sum = self.sum.wrapping_add(cells[1] as i128);
-        self.rows.push(Came {
-            cells,
-            is_in: true,
-            place,
-        })?;
+    /// A row of these cells is in.
+    fn insert(&mut self, cells: [i64; 8]) -> Result<(), AllocError> {
+        self.last.sum = self.last.sum.wrapping_add(cells[1] as i128);
+        self.rows.push(Came { cells, is_in: true })?;
         Ok(())
     }
 
-    /// The row of a key is gone.
+    /// The row of a key is gone, by an update.
     fn remove(&mut self, key: u64) {
         if let Some(row) = self.rows.get_mut((key as usize).wrapping_sub(1)) {
             row.is_in = false;
-            self.sum = self.sum.wrapping_sub(row.cells[1] as i128);
+            self.last.sum = self.last.sum.wrapping_sub(row.cells[1] as i128);
+            self.last.updates = self.last.updates.wrapping_add(1);
         }
     }
 
@@ -81,10 +84,10 @@ impl Beginnings {
 
     /// An entry of the history, which changes rows where it inserted one, removed one, or removed those that met conditions.
     fn add(&mut self, entry: &Entry) -> Result<(), AllocError> {
-        let place = self.sums.len();
         match (&entry.call, &entry.state) {
             (Call::Insert(cells), State::Answered(Reply::Inserted(_))) => {
-                self.insert(*cells, place)?;
+                self.insert(*cells)?;
+                self.last.updates = self.last.updates.wrapping_add(1);
             }
             (Call::Delete(key), State::Answered(Reply::Removed)) => self.remove(*key),
             (Call::DeleteWhere(conds), State::Answered(Reply::RemovedMany(_))) => {
@@ -92,7 +95,7 @@ impl Beginnings {
             }
             _ => return Ok(()),
         }
-        self.sums.push(self.sum)?;
+        self.all.push(self.last)?;
         Ok(())
     }
 
@@ -100,13 +103,13 @@ impl Beginnings {
     fn opening(alloc: Global, rows: &[[i64; 8]]) -> Result<Beginnings, AllocError> {
         let mut beginnings = Beginnings {
             rows: Vec::new(alloc),
-            sums: Vec::new(alloc),
-            sum: 0,
+            all: Vec::new(alloc),
+            last: Beginning { updates: 0, sum: 0 },
         };
         for row in rows {
-            beginnings.insert(*row, 0)?;
+            beginnings.insert(*row)?;
         }
-        beginnings.sums.push(beginnings.sum)?;
+        beginnings.all.push(beginnings.last)?;
         Ok(beginnings)
     }
 
@@ -123,25 +126,25 @@ impl Beginnings {
         Ok(beginnings)
     }
 
-    /// The first beginning of this sum, of at least so many entries.
-    fn next(&self, from: usize, sum: i128) -> Option<usize> {
-        let sums = self.sums.as_slice();
-        for place in from..sums.len() {
-            if sums[place] == sum {
+    /// The first beginning from a place on in which a viewer may have seen what it saw: it has the sum that was answered, and at
+    /// least as many updates as the receipt that was learnt.
+    fn next(&self, from: usize, seen: Seen) -> Option<usize> {
+        let all = self.all.as_slice();
+        for place in from..all.len() {
+            let it = all[place];
+            if it.sum == seen.reply && seen.updates <= it.updates {
                 return Some(place);
             }
         }
         None
     }
 
-    /// Whether each sum is that of a beginning which has the row that was learnt of, and none is of an earlier one than that before.
+    /// Whether each sum is that of a beginning which has the updates that were learnt of, and none is of an earlier one than that
+    /// before.
     fn show(&self, seen: &[Seen]) -> bool {
         let mut from = 0usize;
         for one in seen {
-            if let Some(row) = self.rows.as_slice().get((one.key as usize).wrapping_sub(1)) {
-                from = from.max(row.place);
-            }
-            match self.next(from, one.reply) {
+            match self.next(from, *one) {
                 Some(place) => from = place,
                 None => return false,
             }

@@ -28,7 +28,7 @@ use sw_versions::{Live, Op};
 
 /// How often at most a session looks whether a viewer has looked since its last insertion, before its next call; and a viewer
 /// whether a session has posted, before its next look.
-const PAUSE: u64 = 1_000_000;
+const PAUSE: u64 = 20_000;
 
 /// How many viewers there are, how often each looks and what it asks; how often a session makes a call that is refused; and what
 /// those that wait are told.
@@ -48,18 +48,11 @@ pub(crate) struct Tally {
     pub answered: bool,
 }
 
-/// The receipt that a session had after it had inserted the row of a key.
-#[derive(Drop)]
-struct Posted<J: Naming> {
-    receipt: Receipt<J>,
-    key: u64,
-}
-
 /// Where sessions post receipts for viewers: the last one stands; whether one was posted since a viewer was about to look, and
 /// whether a viewer has looked since one was posted.
 #[derive(Drop)]
 struct Board<J: Naming> {
-    last: Mutex<Option<Posted<J>>>,
+    last: Mutex<Option<Receipt<J>>>,
     posted: AtomicBool,
     looked: AtomicBool,
     plan: Plan,
@@ -67,22 +60,22 @@ struct Board<J: Naming> {
 
 impl<J: Naming> Board<J> {
     /// Posts a receipt where there are viewers, and waits a while until one has looked, so that viewers look between the calls.
-    fn post<R: Wait>(&self, rt: &R, receipt: Receipt<J>, key: u64) {
+    fn post<R: Wait>(&self, rt: &R, receipt: Receipt<J>) {
         if self.plan.viewers == 0 {
             return;
         }
-        *self.last.lock(rt) = Some(Posted { receipt, key });
+        *self.last.lock(rt) = Some(receipt);
         self.looked.store(false, Ordering::SeqCst);
         self.posted.store(true, Ordering::SeqCst);
         let _ = Gate::wait_for(&self.looked, PAUSE);
     }
 
-    /// A viewer learns what was posted last. Tells its key, 0 where nothing was posted.
+    /// A viewer learns what was posted last. Tells how many updates that has, 0 where nothing was posted.
     fn teach<R: Wait>(&self, rt: &R, viewer: &mut Viewer<'_, J>) -> u64 {
         match &*self.last.lock(rt) {
-            Some(posted) => {
-                viewer.learn(posted.receipt.again());
-                posted.key
+            Some(receipt) => {
+                viewer.learn(receipt.again());
+                receipt.len()
             }
             None => 0,
         }
@@ -142,7 +135,7 @@ where
 {
     for _ in 0..board.plan.turns {
         match session.call(rt, call) {
-            Ok(Reply::Inserted(key)) => return board.post(rt, session.receipt(), key),
+            Ok(Reply::Inserted(_)) => return board.post(rt, session.receipt()),
             Ok(_) => return,
             Err(_) => tally.refused = tally.refused.wrapping_add(1),
         }
@@ -178,7 +171,7 @@ where
 fn look<J: Naming>(
     viewer: &mut Viewer<'_, J>,
     query: &Query,
-    key: u64,
+    updates: u64,
     seen: &mut Vec<Seen>,
 ) -> bool
     requires { AsksBelow 8 query.now }
@@ -188,7 +181,7 @@ fn look<J: Naming>(
         Ok(Reply::Sum(sum)) => sum,
         _ => return false,
     };
-    seen.push(Seen { key, reply }).is_ok()
+    seen.push(Seen { updates, reply }).is_ok()
 }
 
 /// A viewer waits until a call is under way, and looks as often as it is asked to, each time after it has waited a while for what is
@@ -205,8 +198,8 @@ fn look_on<J: Naming, R: Wait>(
     for _ in 0..board.plan.looks {
         let _ = Gate::wait_for(&board.posted, PAUSE);
         board.posted.store(false, Ordering::SeqCst);
-        let key = board.teach(rt, viewer);
-        answered = look(viewer, &board.plan.query, key, seen) && answered;
+        let updates = board.teach(rt, viewer);
+        answered = look(viewer, &board.plan.query, updates, seen) && answered;
         board.looked.store(true, Ordering::SeqCst);
     }
     board.plan.signals.answered.store(true, Ordering::SeqCst);
