@@ -1,0 +1,19 @@
+#!/usr/bin/env bash
+# What the gate runs after `rt ci`, over the programs that it built: each growth refused in turn, maps that refuse, ends that lose nothing,
+# texts that were picked to collide, and pages that are made from the sources. Some minutes; ends with 1 at the first that fails.
+#
+#     tests/after.sh
+set -u
+top=$(cd "$(dirname "$0")/.." && pwd)
+program() { echo "$top/crates/$1/out/$1"; }
+
+step() {
+    echo "after: $*" >&2
+    "$@" || { echo "after: FAILED: $*" >&2; exit 1; }
+}
+
+step python3 "$top/bench/claims.py" --check
+step python3 "$top/bench/hostile/calls.py" --program "$(program sw_trial_calls)"
+step python3 "$top/bench/hostile/sessions.py" --program "$(program sw_trial_sessions)"
+step python3 "$top/bench/hostile/growths.py" --program "$(program sideways)"
+echo "after: all passed" >&2

@@ -1,0 +1,89 @@
+#!/usr/bin/env python3
+"""Wrong bodies that every contract lets through, and that a test refuses: each is made in a copy of the crates, whose program or tests are
+run without a proof (`rt try`), and must not tell what the unchanged one does, which is made first.
+
+    tests/by_tests.py [NAME..]
+
+Ends with 1 where a wrong body passes, or the unchanged sources fail. Some two minutes of a processor for each."""
+import shutil
+import subprocess
+import sys
+import tempfile
+from pathlib import Path
+
+TOP = Path(__file__).resolve().parents[1]
+ENGINE = "sw_trial_engine"
+# Lines of sw_trial_engine's stdin, and what they tell.
+TRIALS = {
+    "waited 0 count where a >= 10&count where b >= 6": "legal; 3; 2",
+    "met-in-run": "3/---/2/",
+    "counted 12 select b where a >= 10 and a <= 15": "legal; 1: 7, 3: 5, 2 rows; 2 begun, 4 steps, 4 asked",
+    "told 0 insert 1, 9, 0|count where a < 10": "legal; key 5; 2",
+}
+# A name, what is wrong, the file, its text and the wrong one, and the trial or, of another crate, the test that fails.
+BODIES = {
+    "one_latch_for_all": ("Every select takes the latch of the first head, as if one lock lay round everything",
+                          "sw_engine/src/engine.rt", "&self.latches[head_of(query)], SELECT", "&self.latches[head_of(query) & 0], SELECT",
+                          "waited 0 count where a >= 10&count where b >= 6"),
+    "blocks_in_turn": ("A run takes its blocks one after another though threads are asked for",
+                       "sw_cli/src/serving.rt", "    if at_once {\n", "    if at_once && jobs.is_empty() {\n", "met-in-run"),
+    "no_maps": ("A select is answered by a scan of the rows, and no map is made or asked",
+                "sw_engine/src/latch.rt", "let (reply, scans) = ask(rt, alloc, head, query)?;", "let (reply, scans) = (head.scan(query)?, 0usize);",
+                "counted 12 select b where a >= 10 and a <= 15"),
+    "always_no_memory": ("Every insert is refused as if for want of memory",
+                         "sw_engine/src/engine.rt", "        self.commit(rt, Call::Insert(cells))\n",
+                         "        let _ = (rt, cells);\n        Err(Refusal::NoMemory)\n", "told 0 insert 1, 9, 0|count where a < 10"),
+    "one_after_the_other": ("Maps that lack much are stepped one after the other",
+                            "sw_set/src/at_once.rt", "front, many.max(1), &step", "front, 1, &step", "sw_trial_areas"),
+}
+
+
+def copied(folder):
+    for name in ("crates.txt", "HANDLES"):
+        shutil.copy(TOP / name, folder / name)
+    shutil.copytree(TOP / "crates", folder / "crates", ignore=shutil.ignore_patterns("out", "must-fail"))
+
+
+def changed(folder, body):
+    _, file, old, new, _ = body
+    path = folder / "crates" / file
+    text = path.read_text()
+    if text.count(old) != 1:
+        sys.exit(f"by_tests.py: {file} does not have this text once: {old.strip()}")
+    path.write_text(text.replace(old, new))
+
+
+def tried(folder, place):
+    """What the program tells of a trial, or whether the tests of a crate pass."""
+    if place in TRIALS:
+        done = subprocess.run(["rt", "try"], cwd=folder / "crates" / ENGINE, input=place + "\n", capture_output=True, text=True)
+        lines = done.stdout.splitlines()
+        return lines[0] if lines else f"status {done.returncode}"
+    done = subprocess.run(["rt", "try", "--test"], cwd=folder / "crates" / place, capture_output=True, text=True)
+    return "passed" if done.returncode == 0 else f"failed, status {done.returncode}"
+
+
+def made(body=None, place=None):
+    with tempfile.TemporaryDirectory() as name:
+        folder = Path(name)
+        copied(folder)
+        if body:
+            changed(folder, body)
+        return tried(folder, place)
+
+
+def main():
+    names = sys.argv[1:] or list(BODIES)
+    failed = False
+    for name in names:
+        body = BODIES[name]
+        place = body[-1]
+        right, wrong = made(place=place), made(body, place)
+        well = right == TRIALS.get(place, "passed") and wrong != right
+        failed = failed or not well
+        print(f"{'ok' if well else 'FAILED'}: {name}: {body[0]}\n    {place}\n    unchanged: {right}\n    wrong: {wrong}", flush=True)
+    return 1 if failed else 0
+
+
+if __name__ == "__main__":
+    sys.exit(main())
