@@ -107,7 +107,7 @@ refused 11 index I: entry I of a history, from 1, is not what one thread would b
 ";
 
 const INPUT: &str = "\
-refused 12: a file could not be opened or read, or a word of the command line is not UTF-8.
+refused 12: a file could not be opened or read, a word of the command line is not UTF-8, or the system gave no random bytes.
   What to do: look at the path and at whether the file may be read. The exit status is 2.
 ";
 

@@ -23,6 +23,7 @@ use std::fs::File;
 use std::io;
 use std::io::IsTerminal;
 use std::process::ExitCode;
+use std::random::RandomSource;
 use std::rt::{Clock, Env, Files};
 use std::sync::Wait;
 use std::thread::Threads;
@@ -31,7 +32,7 @@ use sw_cli::{
     write_record, write_stats_line, write_stats_title,
 };
 use sw_map::{CrackerMap, PairMap};
-use sw_rows::{Counted, MOST_ROWS, Refusal, Sink, Source, read_all};
+use sw_rows::{Counted, MOST_ROWS, Refusal, Sink, Source, TextKey, read_all};
 use sw_spine::Record;
 
 /// Standard error: the sink to it, and whether it is a terminal.
@@ -85,7 +86,7 @@ fn run_open<R: Threads + Wait + Sync, O: Onlooker, T: Source, S: Source, W: Sink
 }
 
 /// Opens the table, then the script, makes the boxes, and runs.
-fn run_named<R: Files + Clock + Print + Eprint + Threads + Wait + Sync>(
+fn run_named<R: Files + RandomSource + Clock + Print + Eprint + Threads + Wait + Sync>(
     rt: &R,
     alloc: Global,
     table: &str,
@@ -105,6 +106,7 @@ fn run_named<R: Files + Clock + Print + Eprint + Threads + Wait + Sync>(
         limit: settings.limit,
         cuts,
         threads: settings.threads,
+        key: TextKey::new(rt)?,
     };
     run_open(
         rt,
@@ -182,12 +184,10 @@ fn settings_given(given: &ArgMatches) -> Option<Settings> {
 }
 
 /// Runs what was named, and writes the history and what the heads tell where they are asked for.
-fn run_files<R: Files + Clock + Print + Eprint + Threads + Wait + Sync, E: Sink + Drop>(
-    rt: &R,
-    alloc: Global,
-    given: &ArgMatches,
-    errors: &mut Errors<E>,
-) -> Result<u8, Refusal> {
+fn run_files<
+    R: Files + RandomSource + Clock + Print + Eprint + Threads + Wait + Sync,
+    E: Sink + Drop,
+>(rt: &R, alloc: Global, given: &ArgMatches, errors: &mut Errors<E>) -> Result<u8, Refusal> {
     let (Some(table), Some(script), Some(cuts), Some(settings)) = (
         given.get_str("table"),
         given.get_str("script"),
@@ -219,12 +219,22 @@ fn read_file<R: Files>(rt: &R, alloc: Global, path: &str) -> Result<Vec<u8>, Ref
 }
 
 /// Reads a history file and writes the verdict on it.
-fn check_path<R: Files + Print>(rt: &R, alloc: Global, given: &ArgMatches) -> Result<u8, Refusal> {
+fn check_path<R: Files + RandomSource + Print>(
+    rt: &R,
+    alloc: Global,
+    given: &ArgMatches,
+) -> Result<u8, Refusal> {
     let Some(path) = given.get_str("file") else {
         return Ok(2);
     };
     let bytes = read_file(rt, alloc, path)?;
-    check_file(alloc, bytes.as_slice(), &mut Counted::new(io::writer(rt)))
+    let key = TextKey::new(rt)?;
+    check_file(
+        alloc,
+        key,
+        bytes.as_slice(),
+        &mut Counted::new(io::writer(rt)),
+    )
 }
 
 /// Writes what the refusals mean, or the one whose number is given.
@@ -237,7 +247,7 @@ fn explain<R: Print>(rt: &R, given: &ArgMatches) -> Result<u8, Refusal> {
 }
 
 /// Makes what the words ask for.
-fn made<R: Files + Clock + Print + Eprint + Threads + Wait + Sync, E: Sink + Drop>(
+fn made<R: Files + RandomSource + Clock + Print + Eprint + Threads + Wait + Sync, E: Sink + Drop>(
     rt: &R,
     alloc: Global,
     matches: &ArgMatches,
@@ -265,7 +275,7 @@ fn explained<R: Print + Eprint>(rt: &R, error: &Error) -> Result<u8, Refusal> {
 }
 
 /// Takes the words of the command line.
-fn taken<R: Files + Clock + Print + Eprint + Threads + Wait + Sync, E: Sink + Drop>(
+fn taken<R: Files + RandomSource + Clock + Print + Eprint + Threads + Wait + Sync, E: Sink + Drop>(
     rt: &R,
     alloc: Global,
     words: &[String],
@@ -293,11 +303,10 @@ fn given<R: Env>(rt: &R, alloc: Global) -> Result<Vec<String>, Refusal> {
 }
 
 /// Takes the command line and answers the exit status.
-fn asked<R: Env + Files + Clock + Print + Eprint + Threads + Wait + Sync, E: Sink + Drop>(
-    rt: &R,
-    alloc: Global,
-    errors: &mut Errors<E>,
-) -> Result<u8, Refusal> {
+fn asked<
+    R: Env + Files + RandomSource + Clock + Print + Eprint + Threads + Wait + Sync,
+    E: Sink + Drop,
+>(rt: &R, alloc: Global, errors: &mut Errors<E>) -> Result<u8, Refusal> {
     let words = given(rt, alloc)?;
     taken(rt, alloc, words.as_slice(), errors)
 }

@@ -4,7 +4,7 @@ use crate::sources::Faltering;
 use crate::told::{held, or_refused, push_line};
 use crate::words::{number, place, split};
 use std::alloc::{AllocError, Global};
-use sw_rows::{Counted, Refusal, Row, Schema, Source, load, read_all, read_cell};
+use sw_rows::{Counted, Refusal, Row, Schema, Source, TextKey, load, read_all, read_cell};
 
 /// The attributes of a table.
 fn header(alloc: Global, schema: &Schema) -> Result<String, AllocError> {
@@ -43,7 +43,7 @@ pub(crate) fn load_plain<R: Source>(
     alloc: Global,
     source: &mut R,
 ) -> Result<(Schema, Vec<Row>), Refusal> {
-    let (schema, rows) = load(alloc, source)?;
+    let (schema, rows) = load(alloc, TextKey::fixed(), source)?;
     let rows = held(rows.to_rows(alloc))?;
     Ok((schema, rows))
 }
@@ -74,7 +74,7 @@ pub(crate) fn beginnings(alloc: Global, text: &[u8]) -> Result<String, AllocErro
 /// How many rows the table of a text has.
 pub(crate) fn count(alloc: Global, text: &[u8]) -> Result<String, Refusal> {
     let mut source = Counted::new(text);
-    let (_, rows) = load(alloc, &mut source)?;
+    let (_, rows) = load(alloc, TextKey::fixed(), &mut source)?;
     held(format!(in alloc; "{}", rows.len()))
 }
 
@@ -118,7 +118,7 @@ pub(crate) fn failing(alloc: Global, text: &[u8]) -> Result<String, AllocError> 
 /// A text as a cell of a kind.
 pub(crate) fn cell(alloc: Global, kind: &str, text: &str) -> Result<String, Refusal> {
     let field = held(format!(in alloc; "x:{kind}"))?;
-    let schema = Schema::of(alloc, &[field.as_str()])?;
+    let schema = Schema::of(alloc, TextKey::fixed(), &[field.as_str()])?;
     let found = read_cell(schema.kind(0), text);
     held(format!(in alloc; "{found:?}"))
 }
@@ -134,7 +134,7 @@ pub(crate) fn fields(alloc: Global, text: &str) -> Result<String, Refusal> {
     for field in text.split_whitespace() {
         held(push_field(&mut fields, field))?;
     }
-    let schema = Schema::of(alloc, fields.as_slice())?;
+    let schema = Schema::of(alloc, TextKey::fixed(), fields.as_slice())?;
     held(header(alloc, &schema))
 }
 

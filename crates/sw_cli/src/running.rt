@@ -26,7 +26,7 @@ use std::sync::Wait;
 use std::thread::Threads;
 use sw_engine::{Blank, Engine, HeadStats, Naming, deal};
 use sw_map::CrackerMap;
-use sw_rows::{Refusal, Sink, Source, Update};
+use sw_rows::{Refusal, Sink, Source, TextKey, Update};
 use sw_spine::Record;
 use sw_versions::{Live, Op};
 
@@ -39,6 +39,8 @@ pub struct Options<'a> {
     pub cuts: &'a str,
     /// Whether each block of the script has a thread of its own.
     pub threads: bool,
+    /// The key under which texts are hashed.
+    pub key: TextKey,
 }
 
 /// What is to be written, and the memory of a block of bytes.
@@ -258,7 +260,7 @@ pub fn run_told<
         (source_seen (S.left script.old) (S.failed script.old) (S.failed script.new))
         (sink_seen (W.taken out.old) (W.taken out.new) (W.failed out.old) (W.failed out.new)) result }
 {
-    match read_start(rt, alloc, table, script, options.cuts, options.limit) {
+    match read_start(rt, alloc, table, script, options) {
         Ok(opened) => make_and_write(rt, alloc, opened, options, maps, out, stats, onlooker),
         Err(e) => Err(e),
     }

@@ -9,6 +9,7 @@ ghost use Rattle.sw_cli.specs.Script.{AreBlocks, spelled};
 ghost use Rattle.sw_cli.specs.Sides.{EitherFailed, SourcesHeld, source_seen};
 ghost use Rattle.sw_cli.specs.Starts.{IsStart, ReadsScript, ReadsStart, TellsStart, start_seen};
 
+use crate::running::Options;
 use crate::script::{Block, read_blocks};
 use std::alloc::Global;
 use std::thread::Threads;
@@ -63,13 +64,12 @@ pub(crate) fn read_start<R: Threads + Sync, T: Source, S: Source>(
     alloc: Global,
     table: &mut T,
     script: &mut S,
-    cuts: &str,
-    limit: u64,
+    options: &Options<'_>,
 ) -> Result<Inputs, Refusal>
-    ensures spelled { ReadsStart limit cuts.now
+    ensures spelled { ReadsStart options.now.limit options.now.cuts.now
         (source_seen (T.left table.old) (T.failed table.old) (T.failed table.new))
         (source_seen (S.left script.old) (S.failed script.old) (S.failed script.new)) result }
-    ensures sound { IfOk result (λ o. IsStart limit (start_seen o)) }
+    ensures sound { IfOk result (λ o. IsStart options.now.limit (start_seen o)) }
     ensures told { IfErr result (TellsStart (EitherFailed
         (source_seen (T.left table.old) (T.failed table.old) (T.failed table.new))
         (source_seen (S.left script.old) (S.failed script.old) (S.failed script.new)))) }
@@ -77,7 +77,13 @@ pub(crate) fn read_start<R: Threads + Sync, T: Source, S: Source>(
         (source_seen (T.left table.old) (T.failed table.old) (T.failed table.new))
         (source_seen (S.left script.old) (S.failed script.old) (S.failed script.new))) }
 {
-    let (schema, rows) = match load_in_parts(rt, alloc, table) {
+    let Options {
+        limit,
+        cuts,
+        key,
+        ..
+    } = *options;
+    let (schema, rows) = match load_in_parts(rt, alloc, key, table) {
         Ok(found) => found,
         Err(e) => return Err(e),
     };

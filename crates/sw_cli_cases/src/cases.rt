@@ -11,7 +11,7 @@ use std::alloc::{AllocError, Global};
 use std::sync::Wait;
 use std::thread::Threads;
 use sw_cli::{Options, blank_boxes, run_with, write_record};
-use sw_rows::{Counted, MOST_ROWS, Refusal, Sink};
+use sw_rows::{Counted, MOST_ROWS, Refusal, Sink, TextKey};
 use sw_spine::Record;
 
 /// A limit of rows.
@@ -85,6 +85,7 @@ fn run_into<R: Threads + Wait + Sync, W: Sink>(
         limit: limit.rows,
         cuts: way.cuts,
         threads: way.threads,
+        key: TextKey::fixed(),
     };
     let maps = blank_boxes(alloc, way.budget, way.boxes)?;
     run_with(

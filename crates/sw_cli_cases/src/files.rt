@@ -2,7 +2,7 @@
 
 use std::alloc::{AllocError, Global};
 use sw_cli::{check_file, read_record};
-use sw_rows::Counted;
+use sw_rows::{Counted, TextKey};
 
 /// What stands before the entries of the examples' file, and after them.
 const FRONT: &[u8] = b"{\"attributes\":[\"a:int\",\"b:int\",\"c:int\"],\"entries\":[";
@@ -22,7 +22,7 @@ pub(crate) fn file(alloc: Global, entries: &[u8]) -> Result<Vec<u8>, AllocError>
 /// What the check of a file writes and answers, or its refusal.
 pub(crate) fn checked(alloc: Global, text: &[u8]) -> Result<String, AllocError> {
     let mut out = Counted::new(Vec::new(alloc));
-    match check_file(alloc, text, &mut out) {
+    match check_file(alloc, TextKey::fixed(), text, &mut out) {
         Ok(status) => {
             let line = String::from_utf8_lossy(alloc, out.inner.as_slice())?;
             format!(in alloc; "{line}status {status}")
@@ -33,7 +33,7 @@ pub(crate) fn checked(alloc: Global, text: &[u8]) -> Result<String, AllocError> 
 
 /// What reading a file is refused with; nothing where it is not.
 fn refusal(alloc: Global, text: &[u8]) -> Result<String, AllocError> {
-    match read_record(alloc, text) {
+    match read_record(alloc, TextKey::fixed(), text) {
         Ok(_) => Ok(String::new(alloc)),
         Err(e) => format!(in alloc; "refused {e}"),
     }

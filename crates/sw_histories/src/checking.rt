@@ -7,7 +7,7 @@ ghost use Rattle.sw_histories.specs.FileChecks.{ChecksFile, Judges, illegal_line
 use crate::reading::read_record;
 use std::alloc::Global;
 use sw_lang::{write_all, write_number};
-use sw_rows::{Refusal, Sink};
+use sw_rows::{Refusal, Sink, TextKey};
 use sw_spine::Record;
 
 fn write_count<W: Sink>(count: usize, out: &mut W) -> Result<(), Refusal>
@@ -64,10 +64,15 @@ fn judge<W: Sink>(history: &Record, out: &mut W) -> Result<u8, Refusal>
 ///
 /// Refused as `read_record` is where the bytes are no history, and then nothing was written; `Output` where the sink
 /// fails, and then a beginning of the line was; `NoMemory` otherwise.
-pub fn check_file<W: Sink>(alloc: Global, bytes: &[u8], out: &mut W) -> Result<u8, Refusal>
+pub fn check_file<W: Sink>(
+    alloc: Global,
+    key: TextKey,
+    bytes: &[u8],
+    out: &mut W,
+) -> Result<u8, Refusal>
     ensures { ChecksFile bytes.now (W.taken out.old) (W.taken out.new) (W.failed out.old) (W.failed out.new) result }
 {
-    match read_record(alloc, bytes) {
+    match read_record(alloc, key, bytes) {
         Ok(history) => judge(&history, out),
         Err(e) => Err(e),
     }

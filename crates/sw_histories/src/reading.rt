@@ -27,7 +27,7 @@ use json::{Reader, Scratch};
 use serde_json::{Map, Value};
 use std::alloc::{AllocError, Global};
 use sw_lang::parse_line;
-use sw_rows::{Call, Kind, MOST_ROWS, PackedRows, Refusal, Row, Schema, Why, read_text};
+use sw_rows::{Call, Kind, MOST_ROWS, PackedRows, Refusal, Row, Schema, TextKey, Why, read_text};
 use sw_spine::{Entry, Lines, MOST_ENTRIES, MOST_SESSIONS, Record, State};
 
 fn no_history(line: u32) -> Refusal
@@ -87,7 +87,7 @@ fn texts<'a>(alloc: Global, items: &'a [Value]) -> Result<Option<Vec<&'a str>>, 
 }
 
 /// The attributes, where they are those of a header.
-fn read_header(alloc: Global, value: &Value) -> Result<Option<Schema>, AllocError>
+fn read_header(alloc: Global, key: TextKey, value: &Value) -> Result<Option<Schema>, AllocError>
     ensures { IfOk result (λ o. o ≡ header_in (view value.now)) }
 {
     let Some(items) = array_at(value, "attributes") else {
@@ -96,7 +96,7 @@ fn read_header(alloc: Global, value: &Value) -> Result<Option<Schema>, AllocErro
     let Some(fields) = texts(alloc, items)? else {
         return Ok(None);
     };
-    match Schema::of(alloc, fields.as_slice()) {
+    match Schema::of(alloc, key, fields.as_slice()) {
         Ok(schema) => Ok(Some(schema)),
         Err(Refusal::NoMemory) => Err(AllocError),
         Err(_) => Ok(None),
@@ -322,14 +322,14 @@ fn read_limit(value: &Value) -> Option<u64>
 }
 
 /// The attributes, the format and the limit; None where they are no history's.
-fn read_front(alloc: Global, value: &Value) -> Result<Option<Front>, AllocError>
+fn read_front(alloc: Global, key: TextKey, value: &Value) -> Result<Option<Front>, AllocError>
     ensures told { IfOk result (λ o. option_map front_as o ≡ front_of (view value.now)) }
     ensures most { IfOk result IsWithinMost }
 {
     let Some(limit) = read_limit(value) else {
         return Ok(None);
     };
-    let Some(schema) = read_header(alloc, value)? else {
+    let Some(schema) = read_header(alloc, key, value)? else {
         return Ok(None);
     };
     let Some(format) = number_at(value, "format", least_format(&schema), 3) else {
@@ -343,12 +343,16 @@ fn read_front(alloc: Global, value: &Value) -> Result<Option<Front>, AllocError>
 }
 
 /// The same of an object's members, which are let go.
-fn take_front(alloc: Global, members: Map<String, Value>) -> Result<Option<Front>, AllocError>
+fn take_front(
+    alloc: Global,
+    key: TextKey,
+    members: Map<String, Value>,
+) -> Result<Option<Front>, AllocError>
     ensures told { IfOk result (λ o. option_map front_as o ≡ front_of (object (members_view members.entries))) }
     ensures most { IfOk result IsWithinMost }
 {
     let value = Value::Object(members);
-    read_front(alloc, &value)
+    read_front(alloc, key, &value)
 }
 
 /// What stands outside the entries of a file.
@@ -363,6 +367,7 @@ struct Outer {
 /// The part outside the entries of a text whose outline was read; None where it is none.
 fn read_outside(
     alloc: Global,
+    key: TextKey,
     text: &str,
     scratch: &mut Scratch,
     outline: Outline,
@@ -373,7 +378,7 @@ fn read_outside(
     let Some(at) = outline.rows else {
         return Ok(None);
     };
-    let Some(front) = take_front(alloc, outline.members)? else {
+    let Some(front) = take_front(alloc, key, outline.members)? else {
         return Ok(None);
     };
     let Front {
@@ -613,6 +618,7 @@ fn read_entries_at(
 /// then entries in order.
 fn read_outlined(
     alloc: Global,
+    key: TextKey,
     text: &str,
     scratch: &mut Scratch,
     outline: Outline,
@@ -624,7 +630,7 @@ fn read_outlined(
     let Some(entries) = outline.entries else {
         return Err(no_history(0));
     };
-    let Ok(read) = read_outside(alloc, text, scratch, outline) else {
+    let Ok(read) = read_outside(alloc, key, text, scratch, outline) else {
         return Err(Refusal::NoMemory);
     };
     let Some(outer) = read else {
@@ -654,32 +660,32 @@ fn read_outlined(
 
 /// The record of a text. The text is gone through to find what stands where, and then its rows and its entries are read
 /// once the attributes are known, one after another, so that they never stand beside the record as JSON values.
-fn read_record_text(alloc: Global, text: &str) -> Result<Record, Refusal>
+fn read_record_text(alloc: Global, key: TextKey, text: &str) -> Result<Record, Refusal>
     ensures answers { Reads (λ h. h) result (record_in text.now) }
     ensures why { IfErr result TellsText }
 {
     let mut scratch = Scratch::new(alloc);
     match read_outline(alloc, text, &mut scratch) {
-        Ok(outline) => read_outlined(alloc, text, &mut scratch, outline),
+        Ok(outline) => read_outlined(alloc, key, text, &mut scratch, outline),
         Err(NoValue::Invalid) => Err(no_history(0)),
         Err(NoValue::Memory) => Err(Refusal::NoMemory),
     }
 }
 
 /// The record of a file's bytes. Its attributes know the texts of the rows, one row after another and each from the
-/// left, and then those of the calls.
+/// left, and then those of the calls; they are hashed under the key.
 ///
 /// Refused `BadLine` of line 0 and why `History` where the bytes are no such JSON outside the entries; then `TooMany`
 /// of 1,048,576 where there are more entries; then for the first entry, from 1, that is none `BadLine` with its number:
 /// why `History` for its members, its session, its reply, and a call that deletes the rows under conditions where the
 /// format is not 3; or what `parse_line` finds in its call, `UnknownAttribute` and `TooMany` of `sw_rows::MOST_TEXTS`
 /// among it. `NoMemory` otherwise.
-pub fn read_record(alloc: Global, bytes: &[u8]) -> Result<Record, Refusal>
+pub fn read_record(alloc: Global, key: TextKey, bytes: &[u8]) -> Result<Record, Refusal>
     ensures answers { Reads (λ h. h) result (record_at bytes.now) }
     ensures why { IfErr result TellsText }
 {
     match std::str::from_utf8(bytes) {
-        Ok(text) => read_record_text(alloc, text),
+        Ok(text) => read_record_text(alloc, key, text),
         Err(_) => Err(no_history(0)),
     }
 }

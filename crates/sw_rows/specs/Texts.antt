@@ -3,11 +3,10 @@ use Rattle.std.specs.Prelude.{◌≡◌, ◌≤◌, ◌+◌, ◌-◌, ◌==◌, 
 use Rattle.std.specs.List.{list_all, list_any}
 use Rattle.std.specs.Option.{option_map_or}
 use Rattle.std.specs.Str.{is_utf8}
-use Rattle.std.specs.declared.hash.FoldHasher.{FoldHasher}
-use Rattle.std.specs.declared.hash.BuildHasherDefault.{BuildHasherDefault}
 use Rattle.std.specs.declared.alloc.Global.{Global}
 use Rattle.indexmap.specs.IndexSet.{IndexSet}
 use Rattle.sw_rows.specs.Faults.{Fault, too_many}
+use Rattle.sw_rows.specs.declared.text_key.TextKey.{TextKey}
 use Rattle.sw_rows.specs.declared.texts.TheConstants.{MOST_BYTES_OF_TEXT, MOST_TEXTS}
 
 -- any byte but 0 to 31 and 127
@@ -75,5 +74,5 @@ pub record AreTexts (texts : List (List ℕ)) : Type 0 where
   pub distinct : texts_differ texts ≡ true
 
 -- the texts of an indexed set, in its order
-abbrev pub texts_of : IndexSet (String Global) (BuildHasherDefault FoldHasher) → List (List ℕ)
+abbrev pub texts_of : IndexSet (String Global) TextKey → List (List ℕ)
 texts_of s = map string_bytes s.keys

@@ -26,6 +26,7 @@ mod span;
 pub mod spelling;
 mod table;
 pub mod text_answers;
+mod text_key;
 mod text_parts;
 mod texts;
 
@@ -44,4 +45,5 @@ pub use schema::{Schema, is_name};
 pub use source::{Counted, Sink, Source};
 pub use sw_table::{LiveTable, PackedRows, Row, Update, has_key, update, update_all};
 pub use table::MOST_ROWS;
+pub use text_key::TextKey;
 pub use texts::{MOST_BYTES_OF_TEXT, MOST_TEXTS, Texts, read_text};

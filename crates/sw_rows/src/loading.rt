@@ -10,6 +10,7 @@ use crate::refusal::Refusal;
 use crate::schema::Schema;
 use crate::source::Source;
 use crate::table::read_table;
+use crate::text_key::TextKey;
 use std::alloc::{AllocError, Global};
 use std::thread::Threads;
 use sw_table::PackedRows;
@@ -60,7 +61,7 @@ pub fn read_all<R: Source>(alloc: Global, source: &mut R, limit: usize) -> Resul
 }
 
 /// Reads a table from a source, to the source's end: the attributes of its header, and its rows with the keys 1, 2, 3
-/// and so on, packed to as many cells a row as there are attributes.
+/// and so on, packed to as many cells a row as there are attributes. Texts are hashed under the key.
 ///
 /// The first fault refuses it: `TooMany` of 268,435,456 bytes, before anything is split; `BadTable` of record 0, field
 /// 0 where there is no header; `TooMany` of 8 attributes; `BadTable` at the first field of the header that is none;
@@ -68,7 +69,11 @@ pub fn read_all<R: Source>(alloc: Global, source: &mut R, limit: usize) -> Resul
 /// `BadTable` at the first cell that is none of its kind, or `TooMany` of 1,048,576 texts at a cell whose text would be
 /// one more. What is answered is the table of some bytes, also where the source does not tell its own. `Input` comes
 /// only where the source failed in this call.
-pub fn load<R: Source>(alloc: Global, source: &mut R) -> Result<(Schema, PackedRows), Refusal>
+pub fn load<R: Source>(
+    alloc: Global,
+    key: TextKey,
+    source: &mut R,
+) -> Result<(Schema, PackedRows), Refusal>
     ensures spelled { IfSome (R.left source.old) (IsLoaded (R.failed source.old) (R.failed source.new) result) }
     ensures steady { OnOk result (R.failed source.new ≡ R.failed source.old) }
     ensures table { IfOk result (λ t. (bytes : List ℕ) × (table_of bytes ≡ Ok (shown_packed t))) }
@@ -77,7 +82,7 @@ pub fn load<R: Source>(alloc: Global, source: &mut R) -> Result<(Schema, PackedR
     ensures ended { OnOk result (IsAtEnd (R.left source.new)) }
 {
     match read_all(alloc, source, MOST_BYTES) {
-        Ok(bytes) => match read_table(alloc, &bytes) {
+        Ok(bytes) => match read_table(alloc, key, &bytes) {
             Ok(table) => Ok(table),
             Err(e) => Err(e),
         },
@@ -89,6 +94,7 @@ pub fn load<R: Source>(alloc: Global, source: &mut R) -> Result<(Schema, PackedR
 pub fn load_in_parts<T: Threads + Sync, R: Source>(
     rt: &T,
     alloc: Global,
+    key: TextKey,
     source: &mut R,
 ) -> Result<(Schema, PackedRows), Refusal>
     ensures spelled { IfSome (R.left source.old) (IsLoaded (R.failed source.old) (R.failed source.new) result) }
@@ -99,7 +105,7 @@ pub fn load_in_parts<T: Threads + Sync, R: Source>(
     ensures ended { OnOk result (IsAtEnd (R.left source.new)) }
 {
     match read_all(alloc, source, MOST_BYTES) {
-        Ok(bytes) => match read_table_in_parts(rt, alloc, &bytes) {
+        Ok(bytes) => match read_table_in_parts(rt, alloc, key, &bytes) {
             Ok(table) => Ok(table),
             Err(e) => Err(e),
         },

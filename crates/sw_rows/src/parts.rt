@@ -15,8 +15,8 @@ use crate::records;
 use crate::refusal::Refusal;
 use crate::schema::{Columns, Schema, read_header};
 use crate::table::{MOST_ROWS, read_rows, read_table};
+use crate::text_key::TextKey;
 use crate::text_parts::read_text_table;
-use crate::texts::Texts;
 use csv::ByteRecord;
 use std::alloc::Global;
 use std::thread::{Threads, join};
@@ -82,7 +82,7 @@ fn read_part(alloc: Global, columns: &Columns, part: &[u8]) -> Result<PackedRows
     ensures rows { GivesRows result (rows_of_part columns.now part.now) }
     ensures part { IfOk result (IsPart (length columns.now)) }
 {
-    let mut texts = Texts::new(alloc);
+    let mut texts = columns.no_texts(alloc);
     let mut rdr = records::open(alloc, part);
     let mut row = ByteRecord::new(alloc);
     read_rows(alloc, columns, &mut texts, &mut rdr, &mut row)
@@ -211,7 +211,7 @@ fn unmarked(bytes: &[u8]) -> &[u8]
 }
 
 /// The attributes of bytes that are one record, where they are that and it is a header.
-fn read_head(alloc: Global, head: &[u8]) -> Option<Columns>
+fn read_head(alloc: Global, key: TextKey, head: &[u8]) -> Option<Columns>
     requires { begins_plain head.now ≡ true }
     ensures head { IfSome result (λ s. (h : List (List ℕ)) × (records default_config head.now ≡ h ∷ [])
         × (header_of h ≡ Ok s)) }
@@ -226,7 +226,7 @@ fn read_head(alloc: Global, head: &[u8]) -> Option<Columns>
     let Ok(false) = records::next(&mut rdr, &mut more) else {
         return None;
     };
-    match read_header(alloc, &row) {
+    match read_header(alloc, key, &row) {
         Ok(columns) => Some(columns),
         Err(_) => None,
     }
@@ -236,6 +236,7 @@ fn read_head(alloc: Global, head: &[u8]) -> Option<Columns>
 pub(crate) fn read_table_in_parts<R: Threads + Sync>(
     rt: &R,
     alloc: Global,
+    key: TextKey,
     bytes: &[u8],
 ) -> Result<(Schema, PackedRows), Refusal>
     ensures gives { Gives ⊥ shown_packed result (table_in bytes.now) }
@@ -243,24 +244,27 @@ pub(crate) fn read_table_in_parts<R: Threads + Sync>(
 {
     let text = unmarked(bytes);
     if !begins_plain(text) {
-        return read_table(alloc, bytes);
+        return read_table(alloc, key, bytes);
     }
     let Some(at) = cut(text, 0) else {
-        return read_table(alloc, bytes);
+        return read_table(alloc, key, bytes);
     };
     let (head, body) = text.split_at(at);
-    let Some(columns) = read_head(alloc, head) else {
-        return read_table(alloc, bytes);
+    let Some(columns) = read_head(alloc, key, head) else {
+        return read_table(alloc, key, bytes);
     };
     if columns.has_texts() {
         return match read_text_table(rt, alloc, columns, body) {
             Some(table) => Ok(table),
             // in sequence, which tells the first fault
-            None => read_table(alloc, bytes),
+            None => read_table(alloc, key, bytes),
         };
     }
     match read_halves(rt, alloc, &columns, body, HALVINGS) {
-        Ok(rows) => Ok((columns.into_schema(Texts::new(alloc)), rows)),
+        Ok(rows) => {
+            let texts = columns.no_texts(alloc);
+            Ok((columns.into_schema(texts), rows))
+        }
         Err(refusal) => Err(refusal),
     }
 }

@@ -18,6 +18,7 @@ use crate::kind::Kind;
 use crate::records;
 use crate::refusal::Refusal;
 use crate::schema::{Columns, Fields, Schema, read_header};
+use crate::text_key::TextKey;
 use crate::texts::{Texts, cell_of, read_text};
 use csv::{ByteRecord, Reader};
 use std::alloc::Global;
@@ -168,7 +169,7 @@ fn read_under(
         (table_with (seeing columns (records_left rdr.old)) (records_left rdr.old)) }
     ensures width { IfOk result (λ t. t.1.width ≡ length t.0) }
 {
-    let mut texts = Texts::new(alloc);
+    let mut texts = columns.no_texts(alloc);
     match read_rows(alloc, &columns, &mut texts, rdr, row) {
         Ok(rows) => Ok((columns.into_schema(texts), rows)),
         Err(e) => Err(e),
@@ -178,6 +179,7 @@ fn read_under(
 /// Reads the header and the rows that are left.
 fn read_records(
     alloc: Global,
+    key: TextKey,
     rdr: &mut Reader<&[u8]>,
     row: &mut ByteRecord,
 ) -> Result<(Schema, PackedRows), Refusal>
@@ -190,18 +192,22 @@ fn read_records(
         Ok(false) => return Err(Refusal::BadTable { rec: 0, field: 0 }),
         Err(_) => return Err(Refusal::NoMemory),
     }
-    match read_header(alloc, row) {
+    match read_header(alloc, key, row) {
         Ok(columns) => read_under(alloc, columns, rdr, row),
         Err(e) => Err(e),
     }
 }
 
 /// Reads the table that bytes spell.
-pub(crate) fn read_table(alloc: Global, bytes: &[u8]) -> Result<(Schema, PackedRows), Refusal>
+pub(crate) fn read_table(
+    alloc: Global,
+    key: TextKey,
+    bytes: &[u8],
+) -> Result<(Schema, PackedRows), Refusal>
     ensures gives { Gives ⊥ shown_packed result (table_in bytes.now) }
     ensures width { IfOk result (λ t. t.1.width ≡ length t.0) }
 {
     let mut rdr = records::open(alloc, bytes);
     let mut row = ByteRecord::new(alloc);
-    read_records(alloc, &mut rdr, &mut row)
+    read_records(alloc, key, &mut rdr, &mut row)
 }

@@ -32,7 +32,7 @@ fn read_part(alloc: Global, columns: &Columns, part: &[u8]) -> Option<Part>
     requires some { 0 < length columns.now }
     ensures { IfSome result (IsRead columns.now part.now) }
 {
-    let mut texts = Texts::new(alloc);
+    let mut texts = columns.no_texts(alloc);
     let mut rdr = records::open(alloc, part);
     let mut row = ByteRecord::new(alloc);
     match read_rows(alloc, columns, &mut texts, &mut rdr, &mut row) {

@@ -8,6 +8,7 @@ ghost use Rattle.sw_rows.specs.Texts.{code_given, code_of, has_text, is_text, is
 ghost use Rattle.sw_rows.specs.declared.texts.TheConstants.{MOST_TEXTS};
 
 use crate::refusal::Refusal;
+use crate::text_key::TextKey;
 use indexmap::IndexSet;
 use std::alloc::Global;
 use std::marker::Model;
@@ -56,7 +57,7 @@ pub(crate) fn cell_of(code: u64) -> i64
 /// No text stands twice, each may be the text of a cell, and there are at most `MOST_TEXTS` of them.
 #[derive(Drop)]
 pub struct Texts {
-    texts: IndexSet<String>,
+    texts: IndexSet<String, TextKey>,
 }
 
 impl Model for Texts {
@@ -71,12 +72,12 @@ impl Model for Texts {
 }
 
 impl Texts {
-    /// No texts.
-    pub fn new(alloc: Global) -> Self
+    /// No texts. They will be hashed under the key.
+    pub fn new(alloc: Global, key: TextKey) -> Self
         ensures { result ≡ [] }
     {
         Texts {
-            texts: IndexSet::new(alloc),
+            texts: IndexSet::with_hasher(alloc, key),
         }
     }
 

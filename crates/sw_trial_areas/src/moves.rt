@@ -10,7 +10,7 @@ use std::test::Fail;
 use std::thread::Threads;
 use sw_lang::parse_known;
 use sw_map::{CrackerMap, Tail};
-use sw_rows::{Bound, Call, Query, Refusal, Reply, ReplyRows, Schema};
+use sw_rows::{Bound, Call, Query, Refusal, Reply, ReplyRows, Schema, TextKey};
 use sw_set::Area;
 
 /// What is done to an area, or looked at.
@@ -50,7 +50,7 @@ pub(crate) enum Move<'t> {
 
 /// A query as a line of a script, over the attributes a to e.
 fn query(alloc: Global, line: &str) -> Result<Query, Refusal> {
-    let schema = Schema::of(alloc, &["a", "b", "c", "d", "e"])?;
+    let schema = Schema::of(alloc, TextKey::fixed(), &["a", "b", "c", "d", "e"])?;
     match parse_known(alloc, &schema, 1, line) {
         Ok(Some(Call::Select(query))) => Ok(query),
         Err(e) => Err(e),

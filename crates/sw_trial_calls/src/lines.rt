@@ -4,13 +4,13 @@ use crate::telling::{HEADER, TURNS};
 use std::alloc::Global;
 use std::io;
 use sw_lang::{parse_known, write_reply};
-use sw_rows::{Call, Counted, Reply, Schema};
+use sw_rows::{Call, Counted, Reply, Schema, TextKey};
 
 /// The schema of the four rows.
 pub(crate) fn schema_again<R: Print>(rt: &R, alloc: Global) -> io::Result<Option<Schema>> {
     for _turn in 0..TURNS {
         println!(rt; "> schema")?;
-        match Schema::of(alloc, &HEADER) {
+        match Schema::of(alloc, TextKey::fixed(), &HEADER) {
             Ok(schema) => {
                 println!(rt; "done\n= none")?;
                 return Ok(Some(schema));

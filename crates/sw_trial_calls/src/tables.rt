@@ -3,7 +3,7 @@
 use crate::telling::{TABLE, TURNS};
 use std::alloc::Global;
 use std::io;
-use sw_rows::{Counted, PackedRows, Schema, load};
+use sw_rows::{Counted, PackedRows, Schema, TextKey, load};
 
 /// Tells a table.
 fn tell_table<R: Print>(rt: &R, schema: &Schema, rows: &PackedRows) -> io::Result<()> {
@@ -24,7 +24,7 @@ fn tell_table<R: Print>(rt: &R, schema: &Schema, rows: &PackedRows) -> io::Resul
 pub(crate) fn load_side<R: Print>(rt: &R, alloc: Global) -> io::Result<()> {
     for _turn in 0..TURNS {
         println!(rt; "> load")?;
-        match load(alloc, &mut Counted::new(TABLE)) {
+        match load(alloc, TextKey::fixed(), &mut Counted::new(TABLE)) {
             Ok((schema, rows)) => return tell_table(rt, &schema, &rows),
             Err(e) => println!(rt; "refused {e}\n= none")?,
         }

@@ -14,7 +14,7 @@ use std::marker::Brand;
 use std::sync::Wait;
 use sw_engine::{Blank, Engine, Naming, Session, Ticket, Viewer};
 use sw_map::CrackerMap;
-use sw_rows::{Bound, Cond, Conds, Names, Query, Refusal, Schema, Update, Want};
+use sw_rows::{Bound, Cond, Conds, Names, Query, Refusal, Schema, TextKey, Update, Want};
 use sw_versions::{Live, Op};
 
 /// How many viewers there are at most.
@@ -424,7 +424,7 @@ pub(crate) fn ask<R: Wait>(
     text: &mut String,
 ) -> Result<(), Refusal> {
     let boxes = Boxes::at(alloc, refusing(alloc, 2, 1 << 20, 0)?, Vec::new(alloc));
-    let schema = Schema::of(alloc, &HEADER)?;
+    let schema = Schema::of(alloc, TextKey::fixed(), &HEADER)?;
     let table = Table::of(alloc, TABLE, schema)?;
     ask_picked::<Brand, Refusing, R>(rt, alloc, Blank::new(), table, boxes, asked, text)
 }

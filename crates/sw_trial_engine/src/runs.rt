@@ -8,7 +8,7 @@ use std::sync::Wait;
 use std::sync::atomic::Ordering;
 use std::thread::Threads;
 use sw_cli::{Options, run_with};
-use sw_rows::{Counted, Refusal};
+use sw_rows::{Counted, Refusal, TextKey};
 
 const SCHEMA_AND_ROWS: &[u8] = b"a:int,b:int,c:int\n12,7,1\n3,8,0\n12,5,1\n20,2,0\n";
 
@@ -43,6 +43,7 @@ fn tell_run<R: Threads + Wait + Sync>(
         limit: 1000,
         cuts,
         threads: true,
+        key: TextKey::fixed(),
     };
     let maps = cleared(alloc, maps)?;
     let mut out = Counted::new(Vec::new(alloc));

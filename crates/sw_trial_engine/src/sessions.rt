@@ -18,7 +18,7 @@ use std::sync::Wait;
 use std::sync::atomic::Ordering;
 use std::thread::Threads;
 use sw_map::CrackerMap;
-use sw_rows::{Call, Conds, Query, Refusal, Schema, Want};
+use sw_rows::{Call, Conds, Query, Refusal, Schema, TextKey, Want};
 
 /// How often a script is begun where something else than a call is refused, and how often a call is made that is refused.
 const TURNS: usize = 3;
@@ -102,7 +102,7 @@ fn play_lines<M: CrackerMap, R: Threads + Wait + Sync>(
 {
     let mut later = Vec::new(alloc);
     let trial = Trial { cuts, ..TABLE };
-    let schema = Schema::of(alloc, &HEADER)?;
+    let schema = Schema::of(alloc, TextKey::fixed(), &HEADER)?;
     let blocks = blocks(alloc, &schema, lines)?;
     let played = play_told(
         rt,
@@ -148,7 +148,7 @@ pub(crate) fn raced<R: Threads + Wait + Sync>(
 ) -> Result<(), Refusal> {
     let mut none = Vec::new(alloc);
     let trial = Trial { cuts, ..TABLE };
-    let schema = Schema::of(alloc, &HEADER)?;
+    let schema = Schema::of(alloc, TextKey::fixed(), &HEADER)?;
     let blocks = blocks(alloc, &schema, lines)?;
     let boxes = Boxes::dealt(alloc, refusing(alloc, many, 1 << 20, 0)?);
     let plan = planned(alloc, 0, false, held(Signals::new(alloc, true))?);
@@ -254,7 +254,11 @@ fn play_random<R: Threads + Wait + Sync>(
         sessions,
         state,
     } = chance;
-    let schema = Schema::of(alloc, &EIGHT[..attributes.min(8) as usize])?;
+    let schema = Schema::of(
+        alloc,
+        TextKey::fixed(),
+        &EIGHT[..attributes.min(8) as usize],
+    )?;
     let blocks = random_blocks(alloc, &schema, state, attributes, sessions)?;
     play_told(
         rt,

@@ -6,7 +6,9 @@ use std::test::Fail;
 use std::thread::Threads;
 use sw_lang::{parse_known, write_reply};
 use sw_map::CrackerMap;
-use sw_rows::{Call, Cond, Counted, Refusal, Reply, Row, Schema, answer, has_key, is_within};
+use sw_rows::{
+    Call, Cond, Counted, Refusal, Reply, Row, Schema, TextKey, answer, has_key, is_within,
+};
 use sw_trial_areas::numbered;
 
 /// What a head is opened with.
@@ -38,7 +40,7 @@ pub(crate) fn open<M: CrackerMap>(
     many: usize,
 ) -> Result<Trial<M>, Refusal> {
     let mut trial = Trial {
-        schema: Schema::of(alloc, shape.header)?,
+        schema: Schema::of(alloc, TextKey::fixed(), shape.header)?,
         head: GrowingHead::open(alloc, shape.attribute, shape.cuts, shape.cells)?,
         rows: numbered(alloc, shape.cells)?,
         next: 1,

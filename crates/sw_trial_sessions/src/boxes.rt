@@ -16,7 +16,7 @@ use sw_budget::{Budget, Purse};
 use sw_engine::Blank;
 use sw_lang::parse_cuts;
 use sw_map::{CrackerMap, PairMap};
-use sw_rows::{Refusal, Schema};
+use sw_rows::{Refusal, Schema, TextKey};
 use sw_trial_maps::{ContendedMap, CountingMap, Counts, RefusingMap};
 
 /// What is made of what.
@@ -35,7 +35,7 @@ fn table_of(alloc: Global, cuts: &str) -> Result<Table, Refusal>
     ensures lists { IfOk result (λ t. length t.cuts ≡ length t.schema) }
     ensures cuts { IfOk result (λ t. (a : ℕ) → a < length t.schema → AreCuts (cuts_on t.cuts a)) }
 {
-    let schema = Schema::of(alloc, &HEADER)?;
+    let schema = Schema::of(alloc, TextKey::fixed(), &HEADER)?;
     let cuts = parse_cuts(alloc, &schema, cuts)?;
     let rows = rows_of(alloc)?;
     Ok(Table { schema, rows, cuts })
@@ -49,7 +49,7 @@ fn tried<M: CrackerMap, R: Print + Threads + Wait + Sync>(
     maps: Vec<M>,
 ) -> io::Result<bool> {
     let cuts = if task.cuts == "whole" { "" } else { task.cuts };
-    let schema = match Schema::of(alloc, &HEADER) {
+    let schema = match Schema::of(alloc, TextKey::fixed(), &HEADER) {
         Ok(schema) => schema,
         Err(e) => return refused_before(rt, "table", e),
     };

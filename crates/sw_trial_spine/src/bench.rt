@@ -11,7 +11,8 @@ ghost use Rattle.sw_trial_spine.specs.Benches.{IsAsked, IsAtRest};
 use std::alloc::Global;
 use sw_lang::{parse_known, write_all, write_number, write_reply};
 use sw_rows::{
-    Call, Counted, PackedRows, Query, Refusal, Reply, Row, Schema, Update, answer, update_all,
+    Call, Counted, PackedRows, Query, Refusal, Reply, Row, Schema, TextKey, Update, answer,
+    update_all,
 };
 use sw_spine::{Entry, Record, Spine, State};
 
@@ -57,7 +58,7 @@ pub(crate) fn four_rows(alloc: Global) -> Result<Vec<Row>, Refusal>
 pub(crate) fn schema(alloc: Global) -> Result<Schema, Refusal>
     ensures { IfOk result (λ schema. length schema ≡ 3) }
 {
-    let schema = Schema::of(alloc, &["a:int", "b:int", "c:int"])?;
+    let schema = Schema::of(alloc, TextKey::fixed(), &["a:int", "b:int", "c:int"])?;
     if schema.len() == 3 {
         Ok(schema)
     } else {

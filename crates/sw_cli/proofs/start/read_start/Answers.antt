@@ -27,11 +27,11 @@ pub returns-in-Err-read_cuts-clause-spelled : goal.returns-in-Err-read_cuts-clau
 returns-in-Err-read_cuts-clause-spelled g c =
     let t = source_seen (g.T.Source.left c.args.table.now) (g.T.Source.failed c.args.table.now) (g.T.Source.failed c.load_in_parts.new.source) in
     let s = source_seen (g.S.Source.left c.args.script.now) (g.S.Source.failed c.args.script.now) (g.S.Source.failed c.read_script.new.script) in
-    cuts_refuse (FailedInTurn t s) c.args.limit c.args.cuts.now t.left s.left (shown_packed c.in-Ok.found) (spelled c.in-Ok-read_script.read.0 c.in-Ok-read_script.read.1.items) c.in-Err-read_cuts.e c.in-Ok.ensures.spelled c.in-Ok-read_script.ensures.spelled c.in-Err-read_cuts.ensures.why c.in-Err-read_cuts.ensures.answers
+    cuts_refuse (FailedInTurn t s) c.args.options.now.limit c.args.options.now.cuts.now t.left s.left (shown_packed c.in-Ok.found) (spelled c.in-Ok-read_script.read.0 c.in-Ok-read_script.read.1.items) c.in-Err-read_cuts.e c.in-Ok.ensures.spelled c.in-Ok-read_script.ensures.spelled c.in-Err-read_cuts.ensures.why c.in-Err-read_cuts.ensures.answers
 
 -- where the rows are more than the limit
 pub returns-then-len-limit-clause-spelled : goal.returns-then-len-limit-clause-spelled
 returns-then-len-limit-clause-spelled g c =
     let t = shown_packed c.in-Ok.found in
-    let more : nat_lt c.args.limit (length t.rows) ≡ true = exceeds c.args.limit c.len.result (length t.rows) c.len.ensures.many c.if-len-limit.true in
-    rows_refuse c.args.limit c.args.cuts.now (g.T.Source.left c.args.table.now) (g.S.Source.left c.args.script.now) t (spelled c.in-Ok-read_script.read.0 c.in-Ok-read_script.read.1.items) c.in-Ok-read_cuts.cuts c.in-Ok.ensures.spelled c.in-Ok-read_script.ensures.spelled c.in-Ok-read_cuts.ensures.answers more
+    let more : nat_lt c.args.options.now.limit (length t.rows) ≡ true = exceeds c.args.options.now.limit c.len.result (length t.rows) c.len.ensures.many c.if-len-limit.true in
+    rows_refuse c.args.options.now.limit c.args.options.now.cuts.now (g.T.Source.left c.args.table.now) (g.S.Source.left c.args.script.now) t (spelled c.in-Ok-read_script.read.0 c.in-Ok-read_script.read.1.items) c.in-Ok-read_cuts.cuts c.in-Ok.ensures.spelled c.in-Ok-read_script.ensures.spelled c.in-Ok-read_cuts.ensures.answers more

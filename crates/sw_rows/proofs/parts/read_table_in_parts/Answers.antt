@@ -21,7 +21,7 @@ returns-in-Ok-clause-gives g c =
     let numbers = sym c.has_texts.ensures ∙ c.if-has_texts.false in
     table_is c.args.bytes.now c.unmarked-text.result.now c.split_at.result.0.now body c.in-Some.at head.0 cs c.unmarked-text.ensures c.in-Some.ensures.records c.split_at.ensures.front c.split_at.ensures.back head.1 head.2
     ∙ numbers_read cs (records default_config body) c.in-Ok.rows.items numbers c.in-Ok.ensures.rows
-    ∙ ap (λ ds. Ok (record { columns = ds; rows = c.in-Ok.rows.items })) (sym (c.into_schema.ensures.schema ∙ ap (λ ts. holding ts cs) c.new.ensures))
+    ∙ ap (λ ds. Ok (record { columns = ds; rows = c.in-Ok.rows.items })) (sym (c.into_schema.ensures.schema ∙ ap (λ ts. holding ts cs) c.no_texts-texts.ensures))
 
 pub returns-in-Err-clause-gives : goal.returns-in-Err-clause-gives
 returns-in-Err-clause-gives g c =

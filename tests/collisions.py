@@ -1,0 +1,99 @@
+#!/usr/bin/env python3
+"""Texts that are picked so that they collide under the hash of a dictionary with a fixed seed: a table, a script and a history
+file of them may take no more than three times what others of the same length take. Ends with 1 where one takes more.
+
+    python3 tests/collisions.py PROGRAM
+"""
+import itertools, random, string, struct, subprocess, sys, tempfile, time
+from pathlib import Path
+
+# How many texts there are in a table, and in the lines of a script.
+ROWS, LINES = 80_000, 20_000
+MOST_TIMES, TURNS, PATIENCE = 3.0, 3, 120
+
+LETTERS = string.ascii_letters + string.digits
+MASK = 2**64 - 1
+
+# The hash of the kit's default `FoldHasher`, which `IndexSet::new` has, of texts of 32 bytes.
+SEED, MULTIPLIER = 0x243F6A8885A308D3, 0x9E3779B97F4A7C15
+
+
+def folded(a, b):
+    product = a * b
+    return product & MASK ^ product >> 64
+
+
+def step(state, sixteen):
+    low, high = struct.unpack("<QQ", sixteen)
+    return folded(low ^ state, high ^ MULTIPLIER)
+
+
+def hash_of(text):
+    assert len(text) == 32
+    return step(step(SEED + len(text) & MASK, text[:16]), text[16:])
+
+
+def collisions(many, rng):
+    """Texts of 32 bytes with the hash 0. The third word is the state after the first two, so that the last product is one with 0,
+    whatever the fourth word is."""
+    while True:
+        front = "".join(rng.choices(LETTERS, k=16)).encode()
+        word = struct.pack("<Q", step(SEED + 32 & MASK, front))
+        if all(chr(byte) in LETTERS for byte in word):
+            break
+    texts = [front + word + "".join(end).encode() for end in itertools.islice(itertools.product(LETTERS, repeat=8), many)]
+    assert all(hash_of(text) == 0 for text in texts)
+    return texts
+
+
+def others(many, rng):
+    texts = list({"".join(rng.choices(LETTERS, k=32)).encode() for _ in range(many)})
+    assert len(texts) == many
+    return texts
+
+
+def timed(program, folder, words):
+    """The least time of some runs, in seconds."""
+    least = None
+    for _ in range(TURNS):
+        begun = time.monotonic()
+        done = subprocess.run([program] + words, cwd=folder, stdout=subprocess.DEVNULL, stderr=subprocess.PIPE, timeout=PATIENCE)
+        took = time.monotonic() - begun
+        if done.returncode != 0:
+            sys.exit(f"{words}: status {done.returncode}, {done.stderr.decode()}")
+        least = took if least is None else min(least, took)
+    return least
+
+
+def times(program, folder, texts):
+    """The times of a table, of a script and of a history file of these texts."""
+    put = lambda name, lines: (folder / name).write_bytes(b"\n".join(lines) + b"\n")
+    put("table.csv", [b"t:text"] + texts)
+    put("small.csv", [b"t:text,n", b"x,1"])
+    put("count.txt", [b"count"])
+    put("lines.txt", [b"count where t = '%s'" % text for text in texts[:LINES]])
+    table = timed(program, folder, ["run", "--table", "table.csv", "--script", "count.txt"])
+    script = timed(program, folder, ["run", "--table", "small.csv", "--script", "lines.txt", "--history", "history.json"])
+    history = timed(program, folder, ["check", "history.json"])
+    return {"table": table, "script": script, "history": history}
+
+
+def main():
+    program = str(Path(sys.argv[1]).resolve())
+    rng = random.Random(24)
+    with tempfile.TemporaryDirectory() as home:
+        plain = times(program, Path(home), others(ROWS, rng))
+        try:
+            picked = times(program, Path(home), collisions(ROWS, rng))
+        except subprocess.TimeoutExpired as late:
+            sys.exit(f"texts that collide: {late}; others: {plain}")
+    wrong = False
+    for name, other in plain.items():
+        ratio = picked[name] / other
+        wrong = wrong or ratio > MOST_TIMES
+        print(f"{name}: {picked[name]:.3f} s of texts that collide, {other:.3f} s of others, {ratio:.2f} times")
+    sys.exit(1 if wrong else 0)
+
+
+if __name__ == "__main__":
+    main()
