@@ -7,6 +7,7 @@
 mod bound;
 mod cell;
 pub mod examples;
+mod fronts;
 mod kind;
 mod labels;
 mod limits;

@@ -11,10 +11,11 @@ ghost use Rattle.sw_rows.specs.Tables.{shown_packed, table_in};
 ghost use Rattle.sw_rows.specs.declared.table.TheConstants.{MOST_ROWS};
 ghost use Rattle.sw_table.specs.declared.row.Row.{Row};
 
+use crate::fronts::long_at;
 use crate::records;
 use crate::refusal::Refusal;
 use crate::schema::{Columns, Schema, read_header};
-use crate::table::{MOST_ROWS, read_rows, read_table};
+use crate::table::{MOST_ROWS, read_long, read_rows, read_whole};
 use crate::text_key::TextKey;
 use crate::text_parts::read_text_table;
 use csv::ByteRecord;
@@ -29,7 +30,7 @@ pub(crate) const HALVINGS: u32 = 2;
 pub(crate) const LEAST_HALVED: usize = 1_048_576;
 
 /// Whether no byte is a double quote.
-fn has_no_quote(bytes: &[u8]) -> bool
+pub(crate) fn has_no_quote(bytes: &[u8]) -> bool
     ensures { result ≡ has_no_quote bytes.now }
 {
     // Goes on behind a quote, so that many bytes are compared at once.
@@ -41,7 +42,7 @@ fn has_no_quote(bytes: &[u8]) -> bool
 }
 
 /// Where the first line feed is.
-fn feed_at(bytes: &[u8]) -> Option<usize>
+pub(crate) fn feed_at(bytes: &[u8]) -> Option<usize>
     ensures { IfSome result (λ at. (at < length bytes.now) × (get_or bytes.now at 0 ≡ 10)) }
 {
     bytes.iter().position(|c| *c == b'\n')
@@ -233,7 +234,7 @@ fn read_head(alloc: Global, key: TextKey, head: &[u8]) -> Option<Columns>
 }
 
 /// Reads the table that bytes spell, its rows in parts, each in a thread, where it is long.
-pub(crate) fn read_table_in_parts<R: Threads + Sync>(
+fn read_parts<R: Threads + Sync>(
     rt: &R,
     alloc: Global,
     key: TextKey,
@@ -244,20 +245,20 @@ pub(crate) fn read_table_in_parts<R: Threads + Sync>(
 {
     let text = unmarked(bytes);
     if !begins_plain(text) {
-        return read_table(alloc, key, bytes);
+        return read_whole(alloc, key, bytes);
     }
     let Some(at) = cut(text, 0) else {
-        return read_table(alloc, key, bytes);
+        return read_whole(alloc, key, bytes);
     };
     let (head, body) = text.split_at(at);
     let Some(columns) = read_head(alloc, key, head) else {
-        return read_table(alloc, key, bytes);
+        return read_whole(alloc, key, bytes);
     };
     if columns.has_texts() {
         return match read_text_table(rt, alloc, columns, body) {
             Some(table) => Ok(table),
             // in sequence, which tells the first fault
-            None => read_table(alloc, key, bytes),
+            None => read_whole(alloc, key, bytes),
         };
     }
     match read_halves(rt, alloc, &columns, body, HALVINGS) {
@@ -266,5 +267,21 @@ pub(crate) fn read_table_in_parts<R: Threads + Sync>(
             Ok((columns.into_schema(texts), rows))
         }
         Err(refusal) => Err(refusal),
+    }
+}
+
+/// The same, and of a record of too many fields no more than is needed.
+pub(crate) fn read_table_in_parts<R: Threads + Sync>(
+    rt: &R,
+    alloc: Global,
+    key: TextKey,
+    bytes: &[u8],
+) -> Result<(Schema, PackedRows), Refusal>
+    ensures gives { Gives ⊥ shown_packed result (table_in bytes.now) }
+    ensures width { IfOk result (λ t. t.1.width ≡ length t.0) }
+{
+    match long_at(bytes) {
+        Some(at) => read_long(alloc, key, bytes, at),
+        None => read_parts(rt, alloc, key, bytes),
     }
 }

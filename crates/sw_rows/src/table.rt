@@ -14,6 +14,7 @@ ghost use Rattle.sw_rows.specs.declared.table.TheConstants.{MOST_ROWS};
 ghost use Rattle.sw_table.specs.Packed.{zeros};
 
 use crate::cell::read_cell_bytes;
+use crate::fronts::{long_at, refused_at};
 use crate::kind::Kind;
 use crate::records;
 use crate::refusal::Refusal;
@@ -198,8 +199,8 @@ fn read_records(
     }
 }
 
-/// Reads the table that bytes spell.
-pub(crate) fn read_table(
+/// Reads the table that bytes spell, record by record.
+pub(crate) fn read_whole(
     alloc: Global,
     key: TextKey,
     bytes: &[u8],
@@ -210,4 +211,36 @@ pub(crate) fn read_table(
     let mut rdr = records::open(alloc, bytes);
     let mut row = ByteRecord::new(alloc);
     read_records(alloc, key, &mut rdr, &mut row)
+}
+
+/// Reads a table one of whose records has a ninth field there. It is refused before that record is read whole.
+pub(crate) fn read_long(
+    alloc: Global,
+    key: TextKey,
+    bytes: &[u8],
+    at: usize,
+) -> Result<(Schema, PackedRows), Refusal>
+    requires { at ≤ length bytes.now }
+    ensures gives { Gives ⊥ shown_packed result (table_in bytes.now) }
+    ensures width { IfOk result (λ t. t.1.width ≡ length t.0) }
+{
+    match refused_at(alloc, key, bytes, at) {
+        Some(refusal) => Err(refusal),
+        None => read_whole(alloc, key, bytes),
+    }
+}
+
+/// Reads the table that bytes spell, of a record of too many fields no more than is needed.
+pub(crate) fn read_table(
+    alloc: Global,
+    key: TextKey,
+    bytes: &[u8],
+) -> Result<(Schema, PackedRows), Refusal>
+    ensures gives { Gives ⊥ shown_packed result (table_in bytes.now) }
+    ensures width { IfOk result (λ t. t.1.width ≡ length t.0) }
+{
+    match long_at(bytes) {
+        Some(at) => read_long(alloc, key, bytes, at),
+        None => read_whole(alloc, key, bytes),
+    }
 }

@@ -9,7 +9,7 @@ use std::random::RandomSource;
 /// What the hashes of texts hang on. Texts have the same codes under every key; it decides how fast they are found.
 ///
 /// Under a key that nobody knows no one can pick texts whose hashes collide, so that each is looked for among all.
-#[derive(Clone, Copy)]
+#[derive(Clone, Copy, Debug)]
 pub struct TextKey {
     state: Option<RandomState>,
 }

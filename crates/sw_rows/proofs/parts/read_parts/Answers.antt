@@ -3,7 +3,7 @@ use Rattle.csv.specs.Reading.{default_config, records, strip_bom}
 use Rattle.sw_rows.specs.Header.{Column, header_of, holding}
 use Rattle.sw_rows.specs.Tables.{◌>>=◌, seeing, table_in, table_of_records, table_with}
 use Rattle.sw_rows.proofs.TableLemmas.{numbers_fail, numbers_read}
-use Rattle.sw_rows.proofs.parts.read_table_in_parts.Goals as goal
+use Rattle.sw_rows.proofs.parts.read_parts.Goals as goal
 
 -- a header and the records of the rest
 table_is : (bytes text head body : List ℕ) (at : ℕ) (h : List (List ℕ)) (cs : List Column) → text ≡ strip_bom bytes → records default_config text ≡ records default_config (take at text) ++ records default_config (drop at text) → head ≡ take at text → body ≡ drop at text → records default_config head ≡ h ∷ [] → header_of h ≡ Ok cs

@@ -1,0 +1,49 @@
+#!/usr/bin/env python3
+"""A record of far too many fields is refused before it is held in memory field by field: a header and a row of commas, plain and
+with quotes, and behind other rows, take at most twice the file. Ends with 1 at the first that takes more, or is told otherwise.
+
+    python3 tests/long_records.py PROGRAM
+"""
+import os, subprocess, sys, tempfile
+from pathlib import Path
+
+SIZE = 64 * 2**20
+MOST_TIMES = 2.0
+
+ROWS = b"1,2,3\n" * 1000
+QUOTED = b'"\n",' * (SIZE // 4)
+CASES = {
+    "a header of commas": (b"," * SIZE, "refused 5 limit 8"),
+    "a header of quoted fields": (QUOTED, "refused 5 limit 8"),
+    "a row of commas": (b"a,b,c\n" + b"," * SIZE, "refused 2 record 1 field 4"),
+    "a row of commas behind others": (b"a,b,c\n" + ROWS + b"," * SIZE, "refused 2 record 1001 field 4"),
+    "a row of quoted fields": (b"a,b,c\n" + ROWS + QUOTED, "refused 2 record 1001 field 4"),
+    "a row of commas behind texts": (b'a:text,b,c\n"x, y",2,3\n' + b"z" + b"," * SIZE, "refused 2 record 2 field 4"),
+}
+
+
+def ran(program, folder):
+    """The status of a run, its line and the most memory that it had, in bytes."""
+    words = [program, "run", "--table", "t.csv", "--script", "s.txt"]
+    child = subprocess.Popen(words, cwd=folder, stdout=subprocess.DEVNULL, stderr=subprocess.PIPE)
+    line = child.stderr.read().decode().strip()
+    _, status, used = os.wait4(child.pid, 0)
+    return os.waitstatus_to_exitcode(status), line, used.ru_maxrss * 1024
+
+
+def main():
+    program = str(Path(sys.argv[1]).resolve())
+    with tempfile.TemporaryDirectory() as home:
+        folder = Path(home)
+        (folder / "s.txt").write_bytes(b"count\n")
+        for name, (table, refusal) in CASES.items():
+            (folder / "t.csv").write_bytes(table)
+            status, line, used = ran(program, folder)
+            times = used / len(table)
+            print(f"{name}: {line}, {times:.2f} times the file")
+            if (status, line) != (2, "sideways: " + refusal) or times > MOST_TIMES:
+                sys.exit(1)
+
+
+if __name__ == "__main__":
+    main()
