@@ -1,5 +1,6 @@
 -- Binary search among rising marks, and what it finds.
 use Rattle.std.proofs.Common.{◌≡◌, ℕ, suc, zero, ◌+◌, ◌-◌, ◌<◌, ◌≤◌, Bool, true, false, not, cond, None, Some, List, [], ◌∷◌, length, drop, get_or, refl, sym, ap, ◌∙◌, ◌⊎◌, arith, subst, inl, inr}
+use Rattle.std.specs.Bool.{Decides}
 use Rattle.std.specs.List.Sorted.{IsPartitionPoint, IsPartitionedBy}
 use Rattle.std.proofs.lemmas.Bool.{cases_Bool, true≢false}
 use Rattle.sw_rows.specs.declared.bound.Bound.{Bound}
@@ -11,7 +12,7 @@ use Rattle.sw_kernel.specs.Tapes.{IsBelowAll, IsRising}
 use Rattle.sw_kernel.proofs.Marks.{order-end}
 use Rattle.sw_kernel.proofs.Orders.{below-trans, below-new, between-new, same-below}
 use Rattle.sw_map.specs.Held.{place_from, place_of}
-use Rattle.sw_map.specs.Pieces.{bounds_of, mark_of, pieces_between}
+use Rattle.sw_map.specs.Pieces.{IsBefore, bounds_of, mark_of, pieces_between}
 use Rattle.sw_map.proofs.Layouts.{pieces-marks}
 
 -- the first n marks do not stand above the bound
@@ -99,6 +100,10 @@ new-at b (m ∷ (x ∷ xs)) (suc (suc n)) d e r h = elim (cases_Bool (bound_belo
         | inr on ↦ (between-new b m.bound x.bound on r.0.0, ih)
       ]
 ]
+
+-- where no mark before the k-th piece has the bound, the one that stands there has another
+pub not-before : (k : ℕ) (b : Bound) (ms : List Mark) (d : Mark) (r : Bool) → k ≤ length ms → Decides r (IsBefore k b ms) → r ≡ false → 0 < k → same_bound b (get_or ms (k - 1) d).bound ≡ false
+not-before k b ms d r le is off some = not-true (same_bound b (get_or ms (k - 1) d).bound) (λ t. true≢false (sym (is.1 (some, λ e. ap (λ (m : Mark). same_bound b m.bound) (at-any ms (k - 1) e d (omega arith)) ∙ t)) ∙ off))
 
 pub start-at : (i : ℕ) (ms : List Mark) (k : ℕ) (d : Mark) → k < length ms → start_at i ms (suc k) ≡ (get_or ms k d).at
 start-at i [] k d lt = nope k lt

@@ -1,5 +1,5 @@
 -- A map's flat lists as pieces between bounds, and what they always keep.
-use Rattle.std.specs.Prelude.{◌≡◌, ◌<◌, ◌≤◌, ℤ, ℕ, List, [], ◌∷◌, ◌++◌, ◌-◌, count_by, map, length, take, drop, zip, Option, None, Some, Bool, cond, Result, MatchResult, slice_index_or, vec_len, vec_capacity}
+use Rattle.std.specs.Prelude.{◌≡◌, ◌<◌, ◌≤◌, ℤ, ℕ, List, [], ◌∷◌, ◌++◌, ◌-◌, count_by, map, length, take, drop, zip, Option, None, Some, Bool, cond, Result, MatchResult, HoldsAt, true, vec_len, vec_capacity}
 use Rattle.std.specs.Global.{Vec}
 use Rattle.sw_rows.specs.Gives.{IsRefused}
 use Rattle.sw_rows.specs.declared.refusal.Refusal.{Refusal}
@@ -26,9 +26,9 @@ abbrev pub mark_of : Bound → List Mark → Option ℕ
 mark_of b [] = None
 mark_of b (m ∷ ms) = cond (same_bound b m.bound) (Some m.at) (mark_of b ms)
 
--- whether the mark before the k-th piece has the bound; d where there is no such mark
-abbrev pub is_before : ℕ → Bound → List Mark → Mark → Bool
-is_before k b marks d = same_bound b (slice_index_or marks (k - 1) d).bound
+-- there is a mark before the k-th piece, and it has the bound
+abbrev pub IsBefore : ℕ → Bound → List Mark → Type 0
+IsBefore k b marks = (0 < k) × HoldsAt (λ m. same_bound b m.bound ≡ true) marks (k - 1)
 
 -- zs with the places from s up to e partitioned
 abbrev pub parted : {A : Type 0} → (A → Bool) → ℕ → ℕ → List A → List A

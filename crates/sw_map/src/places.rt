@@ -1,10 +1,10 @@
 //! Where a bound's mark stands among rising marks.
 
-ghost use Rattle.std.specs.Prelude.{◌≡◌, ◌-◌, ◌<◌, ◌≤◌, true, false, length};
+ghost use Rattle.std.specs.Prelude.{◌≡◌, ◌≤◌, length, Decides};
 ghost use Rattle.sw_kernel.specs.declared.mark.Mark.{Mark};
 ghost use Rattle.sw_kernel.specs.Flat.{marks_below};
 ghost use Rattle.sw_kernel.specs.Tapes.{IsRising};
-ghost use Rattle.sw_map.specs.Pieces.{bounds_of, is_before, mark_of};
+ghost use Rattle.sw_map.specs.Pieces.{IsBefore, bounds_of, mark_of};
 
 use sw_kernel::Mark;
 use sw_rows::Bound;
@@ -21,9 +21,7 @@ pub(crate) fn marks_below(marks: &[Mark], bound: Bound) -> usize
 /// Whether the mark before the k-th piece has the bound.
 pub(crate) fn is_marked(marks: &[Mark], k: usize, bound: Bound) -> bool
     requires { k ≤ length marks.now }
-    ensures low { result ≡ true → 0 < k }
-    ensures there { result ≡ true → (d : Mark) → (0 < k) × (is_before k bound marks.now d ≡ true) }
-    ensures new { result ≡ false → (d : Mark) → 0 < k → is_before k bound marks.now d ≡ false }
+    ensures { Decides result (IsBefore k bound marks.now) }
 {
     0 < k && bound.is_same(marks[k - 1].bound)
 }
