@@ -257,6 +257,16 @@ abbrev pub refused : {A : Type 0} → ℕ → Result A Fault → Result A Refusa
 refused line (Ok x) = Ok x
 refused line (Err f) = Err (refusal_of line f)
 
+-- the same where no text becomes known: one that is not is no value
+abbrev pub refusal_over_known : ℕ → Fault → Refusal
+refusal_over_known line (Bad why) = BadLine line why
+refusal_over_known line (Unknown name) = UnknownAttribute name
+refusal_over_known line (Excess limit) = BadLine line why.Value
+
+abbrev pub refused_over_known : {A : Type 0} → ℕ → Result A Fault → Result A Refusal
+refused_over_known line (Ok x) = Ok x
+refused_over_known line (Err f) = Err (refusal_over_known line f)
+
 -- the answer is this one, unless memory ran out
 abbrev pub Answers : {A : Type 0} → Result A Refusal → Result A Refusal → Type 0
 Answers (Ok x) answer = answer ≡ Ok x

@@ -9,7 +9,7 @@ ghost use Rattle.sw_lang.specs.Reading.{line_at, refused, Answers};
 ghost use Rattle.sw_rows.specs.Header.{IsSchema};
 
 use crate::learning::learn_line;
-use crate::parse::parse_known;
+use crate::parse::parse_learned;
 use std::alloc::Global;
 use sw_rows::{Call, Refusal, Schema};
 
@@ -42,7 +42,7 @@ pub fn parse_line(
     let known = schema.texts_known();
     learn_line(schema, text)?;
     let _still = schema.len();
-    match parse_known(alloc, schema, line, text) {
+    match parse_learned(alloc, schema, line, text) {
         Ok(call) => Ok(call),
         Err(e) => {
             schema.forget_texts(known);

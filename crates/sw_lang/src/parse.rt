@@ -3,7 +3,7 @@
 ghost use Rattle.std.specs.Prelude.{◌≡◌, ◌<◌, ◌≤◌, [], ℤ, List, length, IfOk, IfSome, ◌==◌};
 ghost use Rattle.sw_lang.specs.Shown.{AreSound, domain_of};
 ghost use Rattle.sw_lang.specs.Agreement.{AnswersRelated};
-ghost use Rattle.sw_lang.specs.Reading.{aggregate_at, asked, call_at, call_of, cells_at, delete_at, delete_key, delete_where, first_by, insert_at, is_comment, line_at, name_of, names_at, next_value, nothing_left, past_comma, refused, select_at, term_at, terms_at, where_at, Answers, Gives, Tells};
+ghost use Rattle.sw_lang.specs.Reading.{aggregate_at, asked, call_at, call_of, cells_at, delete_at, delete_key, delete_where, first_by, insert_at, is_comment, line_at, name_of, names_at, next_value, nothing_left, past_comma, refusal_of, refusal_over_known, refused, refused_over_known, select_at, term_at, terms_at, where_at, Answers, Gives, Tells};
 ghost use Rattle.sw_lang.specs.Tokens.{tok, tokens};
 ghost use Rattle.sw_lang.specs.Grammar.{IsLine};
 ghost use Rattle.sw_lang.specs.Fits.{FitsCall};
@@ -303,16 +303,58 @@ fn line_at(alloc: Global, schema: &Schema, text: &[u8]) -> Result<Option<Call>, 
     Ok(call)
 }
 
-/// The call of a line over the texts that the schema knows, as `parse_line` reads it; for a table that is open, whose
-/// schema stays as it is. A quoted text that the schema does not know is refused as one too many, `TooMany` of
-/// `sw_rows::MOST_TEXTS`.
-pub fn parse_known(
+/// The refusal of a fault in the line of this number.
+fn refusal_of(line: u32, fault: Fault) -> Refusal
+    ensures { result ≡ refusal_of line fault }
+{
+    match fault {
+        Fault::Bad(why) => Refusal::BadLine { line, why },
+        Fault::Unknown(name) => Refusal::UnknownAttribute { name },
+        Fault::Excess(limit) => Refusal::TooMany { limit },
+    }
+}
+
+/// The same where no text becomes known: one that is not is no value.
+fn refusal_over_known(line: u32, fault: Fault) -> Refusal
+    ensures { result ≡ refusal_over_known line fault }
+{
+    match fault {
+        Fault::Excess(_) => Refusal::BadLine {
+            line,
+            why: Why::Value,
+        },
+        fault => refusal_of(line, fault),
+    }
+}
+
+/// The call of a line whose texts became known, as far as there was room.
+pub(crate) fn parse_learned(
     alloc: Global,
     schema: &Schema,
     line: u32,
     text: &str,
 ) -> Result<Option<Call>, Refusal>
     ensures reading { Answers result (refused line (line_at schema.now text.now)) }
+    ensures grammar { IfOk result (IsLine schema.now text.now) }
+    ensures only { IsSchema schema.now → AnswersRelated result (IsLine schema.now text.now) }
+    ensures fits { IfOk result (λ call. IfSome call (FitsCall schema.now)) }
+{
+    match line_at(alloc, schema, text.as_bytes()) {
+        Ok(call) => Ok(call),
+        Err(ParseError::Memory) => Err(Refusal::NoMemory),
+        Err(ParseError::Fault(fault)) => Err(refusal_of(line, fault)),
+    }
+}
+
+/// The call of a line over the texts that the schema knows, as `parse_line` reads it; for a table that is open, whose
+/// schema stays as it is. A quoted text that the schema does not know is no value, `BadLine` with why `Value`.
+pub fn parse_known(
+    alloc: Global,
+    schema: &Schema,
+    line: u32,
+    text: &str,
+) -> Result<Option<Call>, Refusal>
+    ensures reading { Answers result (refused_over_known line (line_at schema.now text.now)) }
 
     // a value comes just where the grammar relates it to the line
     ensures grammar { IfOk result (IsLine schema.now text.now) }
@@ -323,8 +365,6 @@ pub fn parse_known(
     match line_at(alloc, schema, text.as_bytes()) {
         Ok(call) => Ok(call),
         Err(ParseError::Memory) => Err(Refusal::NoMemory),
-        Err(ParseError::Fault(Fault::Bad(why))) => Err(Refusal::BadLine { line, why }),
-        Err(ParseError::Fault(Fault::Unknown(name))) => Err(Refusal::UnknownAttribute { name }),
-        Err(ParseError::Fault(Fault::Excess(limit))) => Err(Refusal::TooMany { limit }),
+        Err(ParseError::Fault(fault)) => Err(refusal_over_known(line, fault)),
     }
 }

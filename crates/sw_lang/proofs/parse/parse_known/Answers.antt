@@ -25,20 +25,8 @@ returns-in-Ok-clause-fits c =
 no_fault : (call : Option Call) (f : Fault) (r : Result (Option Call) Fault) → r ≡ Ok call → r ≡ Err f → ⊥
 no_fault call f r h e = absurd cc
 
-pub returns-in-Err-Fault-Bad-clause-only : goal.returns-in-Err-Fault-Bad-clause-only
-returns-in-Err-Fault-Bad-clause-only c = λ ok call is.
+pub returns-in-Err-Fault-clause-only : goal.returns-in-Err-Fault-clause-only
+returns-in-Err-Fault-clause-only c = λ ok call is.
     let one = line_read c.args.schema.now c.args.text.now call ok is in
-    let failed = rw (c.in-Err-Fault-Bad.field-0-is, c.as_bytes.ensures.value) at c.in-Err-Fault-Bad.ensures in
-    absurd (no_fault call _ (line_at c.args.schema.now c.args.text.now) one failed)
-
-pub returns-in-Err-Fault-Unknown-clause-only : goal.returns-in-Err-Fault-Unknown-clause-only
-returns-in-Err-Fault-Unknown-clause-only c = λ ok call is.
-    let one = line_read c.args.schema.now c.args.text.now call ok is in
-    let failed = rw (c.in-Err-Fault-Unknown.field-0-is, c.as_bytes.ensures.value) at c.in-Err-Fault-Unknown.ensures in
-    absurd (no_fault call _ (line_at c.args.schema.now c.args.text.now) one failed)
-
-pub returns-in-Err-Fault-Excess-clause-only : goal.returns-in-Err-Fault-Excess-clause-only
-returns-in-Err-Fault-Excess-clause-only c = λ ok call is.
-    let one = line_read c.args.schema.now c.args.text.now call ok is in
-    let failed = rw (c.in-Err-Fault-Excess.field-0-is, c.as_bytes.ensures.value) at c.in-Err-Fault-Excess.ensures in
+    let failed = rw (c.in-Err-Fault.field-0-is, c.as_bytes.ensures.value) at c.in-Err-Fault.ensures in
     absurd (no_fault call _ (line_at c.args.schema.now c.args.text.now) one failed)
