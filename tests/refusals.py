@@ -1,0 +1,119 @@
+"""Sorts refusals of wrong bodies by where they came, tries controls, and prints a table for each crate.
+
+A refusal at a line of proofs/ may be one of form alone: that proof was written for the text as it stands. So may one at a goal
+of src/ whose kind a hand-written answer proves in the real body ('by hand'). There a control has to show that the meaning was
+refused: tests/controls/CRATE/NAME.edit, a text of the same meaning in the same place, which is proved; or one that names a
+lemma, by a line 'lemma: NAME FILE', which says that no body does what this one does. Ends with status 1 where a body of
+tests/feared.txt has neither a plain goal nor such a control."""
+
+import glob
+import os
+import re
+import shutil
+import subprocess
+import sys
+import tempfile
+
+TOP = os.path.dirname(os.path.dirname(os.path.abspath(__file__)))
+RT = os.environ.get("RT", "rt").split()
+TOLD = re.compile(r"must-fail (\w+)/([\w.-]+)\.edit: (.*)")
+
+
+def text_of(path):
+    with open(path, encoding="utf-8") as it:
+        return it.read()
+
+
+def kind_of(goal):
+    """What a goal is about: a clause, what a call requires, or the whole answer of a function with one clause."""
+    found = re.search(r"clause-(\w+)$", goal)
+    return found[1] if found else "returns" if goal.startswith("returns") else re.sub(r"-\d+$", "", goal)
+
+
+def where(crate, said):
+    """Where a refusal came, and the goal that stayed open, if it is told."""
+    if not said.startswith("refused"):
+        return said.split(":")[0], ""
+    at, goal = re.search(r"(src|proofs)/([\w/]+)\.\w+:(\d+)", said), re.search(r"\(`([^`)]+)(`?)", said)
+    if not at or at[1] == "proofs":
+        return "proof" if at else "no line", ""
+    name, folder = goal[1] if goal else "", f"{TOP}/crates/{crate}"
+    above = text_of(f"{folder}/src/{at[2]}.rt").split("\n")[: int(at[3])]
+    function = next((it[1] for it in (re.search(r"\bfn (\w+)", line) for line in reversed(above)) if it), "")
+    answers = glob.glob(f"{folder}/proofs/**/{function}/Answers.antt", recursive=True)
+    hands = {kind_of(it) for path in answers if f"/{at[2]}/" in path for it in re.findall(r"^pub (\S+) :", text_of(path), re.M)}
+    return "by hand" if kind_of(name) in hands else "goal", f"`{name}`" if goal and goal[2] else f"`{name}..`"
+
+
+def apply(edit, folder):
+    """Makes the changes of an edit in a copy of its crate."""
+    path = old = ""
+    for line in text_of(edit).split("\n"):
+        key, _, value = line.partition(": ")
+        if key == "file":
+            path = f"{folder}/{value.strip()}"
+        elif key == "old":
+            old = value
+        elif key == "new":
+            text = text_of(path)
+            if text.count(old) != 1:
+                sys.exit(f"{edit}: its old text does not stand once in {path}")
+            with open(path, "w", encoding="utf-8") as it:
+                it.write(text.replace(old, value))
+
+
+def is_proved(crate, edits):
+    """Whether a copy of the crate is proved with these edits."""
+    with tempfile.TemporaryDirectory(prefix="refusals-") as room:
+        shutil.copytree(f"{TOP}/crates", f"{room}/crates", ignore=shutil.ignore_patterns("out"))
+        for name in ("crates.txt", "HANDLES"):
+            shutil.copy(f"{TOP}/{name}", room)
+        folder = f"{room}/crates/{crate}"
+        for edit in edits:
+            apply(edit, folder)
+        return subprocess.run([*RT, "check"], cwd=folder, stdout=subprocess.DEVNULL, stderr=subprocess.STDOUT).returncode == 0
+
+
+def controls_of(crate, names):
+    """What the controls of these wrong bodies come to: all at once, and where that is not proved each by itself."""
+    found = {name: f"{TOP}/tests/controls/{crate}/{name}.edit" for name in names}
+    found = {name: edit for name, edit in found.items() if os.path.isfile(edit)}
+    lemmas = {name: re.search(r"^lemma: (\S+) (\S+)$", text_of(edit), re.M) for name, edit in found.items()}
+    stands = lambda it: f"pub {it[1]} :" in text_of(f"{TOP}/crates/{crate}/{it[2]}")
+    told = {name: "refuted" if stands(it) else "fails" for name, it in lemmas.items() if it}
+    bodies = {name: edit for name, edit in found.items() if name not in told}
+    if bodies and is_proved(crate, bodies.values()):
+        return told | dict.fromkeys(bodies, "passes")
+    return told | {name: "passes" if len(bodies) > 1 and is_proved(crate, [edit]) else "fails" for name, edit in bodies.items()}
+
+
+def main(words):
+    if not words:
+        sys.exit("usage: tests/refusals.sh CRATE.. | --log FILE [CRATE..]")
+    is_log = words[0] == "--log"
+    how = {"cwd": TOP, "stdout": subprocess.PIPE, "stderr": subprocess.STDOUT, "encoding": "utf-8", "errors": "replace"}
+    said = text_of(words[1]) if is_log else subprocess.run([*RT, "must-fail", *words], **how).stdout
+    crates = words[2:] if is_log else words
+    tried, lost = {}, []
+    for crate, name, told in TOLD.findall(said):
+        if not crates or crate in crates:
+            tried.setdefault(crate, {})[name] = where(crate, told)
+    feared = {line.split()[0] for line in text_of(f"{TOP}/tests/feared.txt").split("\n") if line and line[0] != "#"}
+    for crate, places in tried.items():
+        controls = controls_of(crate, [name for name, (place, _) in places.items() if place != "goal"])
+        shown = [name for name, (place, _) in places.items() if place == "goal" or controls.get(name) in ("passes", "refuted")]
+        print(f"\n### {crate}: {len(shown)} of {len(places)}\n\n| Wrong body | Refused by | Where | Goal | Control |\n|---|---|---|---|---|")
+        for name, (place, goal) in places.items():
+            first = text_of(f"{TOP}/crates/{crate}/must-fail/{name}.edit").split("\n")[0]
+            clause = re.sub(r"^.*?[;:] refused (by )?", "", first).rstrip(".")
+            print(f"| {name} | {clause} | {place} | {goal} | {'' if place == 'goal' else controls.get(name, 'none')} |")
+        lost += sorted(it for it in feared if it.split("/")[0] == crate and it.split("/")[1] not in shown)
+    if not tried:
+        sys.exit("nothing was tried: " + said[-400:])
+    for it in lost:
+        print(f"\n{it} shows nothing: it was not tried, or has neither a plain goal nor a control.")
+    return 1 if lost else 0
+
+
+if __name__ == "__main__":
+    sys.exit(main(sys.argv[1:]))
