@@ -17,6 +17,7 @@ loop-key-preserved c =
           ∙ ap (λ (l : List Update). l ++ Remove (get_or ks i 0) ∷ []) c.loop-key.invariant.items
           ∙ append_assoc was (map one (take i ks)) (Remove (get_or ks i 0) ∷ [])
           ∙ ap (λ (l : List Update). was ++ l) (sym (ap (map one) (take_more ks i 0 lt) ∙ map_push one (take i ks) (get_or ks i 0)));
+      listed = λ given some from num l. c.remove.ensures.listed given some from num (c.loop-key.invariant.listed given some from num l);
       slots = λ limit us given s. c.remove.ensures.slots limit us given (c.loop-key.invariant.slots limit us given s);
       room = omega (arith, lt, c.remove.ensures.len, c.remove.ensures.room, c.loop-key.invariant.room);
     }
