@@ -1,10 +1,9 @@
-"""Sorts refusals of wrong bodies by where they came, tries controls, and prints a table for each crate.
+"""Sorts refusals of wrong bodies by where they came, tries controls, and prints a table for each crate (docs/REFUSALS.md).
 
-A refusal at a line of proofs/ may be one of form alone: that proof was written for the text as it stands. So may one at a goal
-of src/ whose kind a hand-written answer proves in the real body ('by hand'). There a control has to show that the meaning was
-refused: tests/controls/CRATE/NAME.edit, a text of the same meaning in the same place, which is proved; or one that names a
-lemma, by a line 'lemma: NAME FILE', which says that no body does what this one does. Ends with status 1 where a body of
-tests/feared.txt has neither a plain goal nor such a control."""
+A control, tests/controls/CRATE/NAME.edit, is a text of the same meaning as the real body at the place of a wrong one, which has
+to be proved; or one line, 'lemma: NAME FILE', names a lemma that no body does what the wrong one does. Ends with status 1 where
+a body of tests/feared.txt is refused elsewhere than at a goal that the search proves in the real body, and has no control that
+is proved, or has one that is not."""
 
 import glob
 import os
@@ -90,23 +89,24 @@ def controls_of(crate, names):
 def main(words):
     if not words:
         sys.exit("usage: tests/refusals.sh CRATE.. | --log FILE [CRATE..]")
-    is_log = words[0] == "--log"
     how = {"cwd": TOP, "stdout": subprocess.PIPE, "stderr": subprocess.STDOUT, "encoding": "utf-8", "errors": "replace"}
-    said = text_of(words[1]) if is_log else subprocess.run([*RT, "must-fail", *words], **how).stdout
-    crates = words[2:] if is_log else words
+    said = text_of(words[1]) if words[0] == "--log" else subprocess.run([*RT, "must-fail", *words], **how).stdout
+    crates = words[2:] if words[0] == "--log" else words
     tried, lost = {}, []
     for crate, name, told in TOLD.findall(said):
         if not crates or crate in crates:
             tried.setdefault(crate, {})[name] = where(crate, told)
     feared = {line.split()[0] for line in text_of(f"{TOP}/tests/feared.txt").split("\n") if line and line[0] != "#"}
     for crate, places in tried.items():
-        controls = controls_of(crate, [name for name, (place, _) in places.items() if place != "goal"])
-        shown = [name for name, (place, _) in places.items() if place == "goal" or controls.get(name) in ("passes", "refuted")]
+        controls = controls_of(crate, places)
+        wanted = {"goal": (None, "passes", "refuted")}
+        shown = [name for name, (place, _) in places.items() if controls.get(name) in wanted.get(place, ("passes", "refuted"))]
         print(f"\n### {crate}: {len(shown)} of {len(places)}\n\n| Wrong body | Refused by | Where | Goal | Control |\n|---|---|---|---|---|")
         for name, (place, goal) in places.items():
             first = text_of(f"{TOP}/crates/{crate}/must-fail/{name}.edit").split("\n")[0]
             clause = re.sub(r"^.*?[;:] refused (by )?", "", first).rstrip(".")
-            print(f"| {name} | {clause} | {place} | {goal} | {'' if place == 'goal' else controls.get(name, 'none')} |")
+            control = controls.get(name, "" if place == "goal" else "none")
+            print(f"| {name} | {clause} | {place} | {goal} | {control} |")
         lost += sorted(it for it in feared if it.split("/")[0] == crate and it.split("/")[1] not in shown)
     if not tried:
         sys.exit("nothing was tried: " + said[-400:])
