@@ -23,6 +23,7 @@ pub mod Positions
 pub mod Ranges
 pub mod Receiving
 pub mod Refined
+pub mod Refused
 pub mod Removals
 pub mod Restarts
 pub mod Rowed

@@ -90,7 +90,7 @@ trying-clear at tails t x0 x y i is li un w = subst (IsTrying at tails t x0) (sy
   fresh = set-each (λ (j : ℕ) (v : Held). j ≢ at → v.is_blank ≡ false → v.tail ≢ t) x.boxes i blank (λ ne b. absurd (true≢false b)) (λ j e nj lj ne b. w.fresh j e lj ne b);
 })
 
-get_or-set_here : {X : Type 0} (xs : List X) (i : ℕ) (y d : X) → i < length xs → get_or (set xs i y) i d ≡ y
+pub get_or-set_here : {X : Type 0} (xs : List X) (i : ℕ) (y d : X) → i < length xs → get_or (set xs i y) i d ≡ y
 get_or-set_here [] i y d lt = let no : i < 0 = lt in absurd (omega arith)
 get_or-set_here (x ∷ xs) zero y d lt = refl
 get_or-set_here (x ∷ xs) (suc i) y d lt = get_or-set_here xs i y d (omega arith)

@@ -46,6 +46,10 @@ pub record IsMapOf (t : Tail) (n : ℕ) (m : Held) : Type 0 where
 abbrev pub IsHeld : Tail → ℕ → List Held → Type 0
 IsHeld t n ms = Any (IsMapOf t n) ms
 
+-- of one of these tails no map has so many cells
+abbrev pub LacksOne : List Tail → ℕ → List Held → Type 0
+LacksOne tails n ms = (t : Tail) × Contains tails t × ¬ IsHeld t n ms
+
 -- where a range's bound stands in a map; an absent one stands at a given place
 abbrev pub IsFoundAt : Option Bound → ℕ → Held → ℕ → Type 0
 IsFoundAt None absent m place = place ≡ absent

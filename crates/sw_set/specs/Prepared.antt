@@ -1,10 +1,10 @@
 -- What `prepare` makes of an area, and why it is refused.
-use Rattle.std.specs.Prelude.{◌≡◌, ◌<◌, ◌+◌, ◌-◌, ◌*◌, ◌/◌, ◌&&◌, ◌⊎◌, ℕ, Bool, true, false, max, List, [], ◌∷◌, ◌++◌, length, Option, Some, None, Any, Contains}
+use Rattle.std.specs.Prelude.{◌≡◌, ◌<◌, ◌+◌, ◌-◌, ◌*◌, ◌/◌, ◌&&◌, ◌⊎◌, ℕ, Bool, true, false, max, List, [], ◌∷◌, ◌++◌, length, Option, Some, None, Result, IsErrAnd, Any, Contains}
 use Rattle.sw_rows.specs.declared.bound.Bound.{Bound}
 use Rattle.sw_table.specs.declared.row.Row.{Row}
 use Rattle.sw_rows.specs.declared.query.Query.{Query}
 use Rattle.sw_rows.specs.declared.refusal.Refusal.{Refusal}
-use Rattle.sw_rows.specs.declared.refusal.Refusal.TheVariants.{NoBlank, Short}
+use Rattle.sw_rows.specs.declared.refusal.Refusal.TheVariants.{Contended, NoBlank, Short}
 use Rattle.sw_kernel.specs.Arrangement.{Arrangement}
 use Rattle.sw_kernel.specs.Replay.{Step, loaded, ranged}
 use Rattle.sw_kernel.specs.Tapes.{is_marked, peak_from}
@@ -14,7 +14,7 @@ use Rattle.sw_map.specs.Lawful.{rows_by}
 use Rattle.sw_map.specs.Refusals.{IsBeginRefusal}
 use Rattle.sw_set.specs.declared.prepare.TheConstants.{CELL_BLOCK}
 use Rattle.sw_set.specs.Needs.{edge, touches, lower_in, upper_in, lower_from, upper_upto, needed}
-pub use Rattle.sw_set.specs.Boxed.{IsOneCleared, IsSameButBoxes, IsShed}
+pub use Rattle.sw_set.specs.Boxed.{IsOneCleared, IsSameButBoxes, IsShed, LacksOne}
 use Rattle.sw_set.specs.Shelf.{AreaState, arranged_rows, tape_rows}
 use Rattle.sw_set.specs.Sought.{AreAllNeeded}
 use Rattle.sw_tape.specs.declared.tape.TheConstants.{MAX_ENTRIES}
@@ -99,34 +99,43 @@ abbrev pub IsPrepareRefusal : ℕ → ℕ → ℕ → Refusal → Type 0
 IsPrepareRefusal boxes many cells (NoBlank has needs) = (has ≡ boxes) × (needs ≡ many) × (has < needs)
 IsPrepareRefusal boxes many cells e = IsBeginRefusal cells e
 
+-- the cells that each map of an area asks for
+abbrev pub cells_asked : AreaState → ℕ
+cells_asked x = cells_for (peak_from 0 x.tape)
+
 -- why x was not prepared for a query, and is y then
 abbrev pub IsWhyUnprepared : Query → AreaState → AreaState → Refusal → Type 0
 IsWhyUnprepared q x y e =
-    IsPrepareRefusal (length x.boxes) (length (needed x.attribute q)) (cells_for (peak_from 0 y.tape)) e
-
--- the refusal says that there are too few boxes
-abbrev pub IsNoBlank : Refusal → Type 0
-IsNoBlank (NoBlank boxes needs) = Unit {0}
-IsNoBlank e = ⊥
+    IsPrepareRefusal (length x.boxes) (length (needed x.attribute q)) (cells_asked y) e
 
 -- the refusal says that the budget has too few cells left
 abbrev pub IsShort : Refusal → Type 0
 IsShort (Short used want capacity) = Unit {0}
 IsShort e = ⊥
 
--- the area has fewer boxes than the query needs maps
+-- the refusal is the budget's: too few cells, or another thread changed its word
+abbrev pub IsOfBudget : Refusal → Type 0
+IsOfBudget (Short used want capacity) = Unit {0}
+IsOfBudget (Contended seen found) = Unit {0}
+IsOfBudget e = ⊥
+
+-- the query touches the area and needs more maps than there are boxes
 abbrev pub HasTooFew : AreaState → Query → Type 0
-HasTooFew x q = length x.boxes < length (needed x.attribute q)
+HasTooFew x q = (is_touched x q ≡ true) × (length x.boxes < length (needed x.attribute q))
 
 -- and how that is told
 abbrev pub no_blank : AreaState → Query → Refusal
 no_blank x q = NoBlank (length x.boxes) (length (needed x.attribute q))
 
--- A refusal comes only where the query touches the area; boxes are counted first; and there are too few cells only
--- where each map that is left is needed.
+-- it was told so, and nothing has changed
+abbrev pub IsToldTooFew : {A : Type 0} → Result A Refusal → Query → AreaState → AreaState → Type 0
+IsToldTooFew r q x y = IsErrAnd r (λ e. e ≡ no_blank x q) × (y ≡ x)
+
+-- A refusal comes only where the query touches the area; the budget's comes only where a needed map is left without its
+-- cells; and there are too few cells only where each map that is left is needed.
 pub record IsHindered (q : Query) (x y : AreaState) (e : Refusal) : Type 0 where
   pub touched : is_touched x q ≡ true
-  pub counted : HasTooFew x q → e ≡ no_blank x q
+  pub lacking : IsOfBudget e → LacksOne (needed x.attribute q) (cells_asked y) y.boxes
   pub spent : IsShort e → AreAllNeeded (needed x.attribute q) y.boxes
 
 -- What is told beside a reply: nothing where the area stands as `prepare` leaves it; otherwise why it could not be
@@ -134,4 +143,5 @@ pub record IsHindered (q : Query) (x y : AreaState) (e : Refusal) : Type 0 where
 abbrev pub IsTold : Query → AreaState → AreaState → Option Refusal → Type 0
 IsTold q x y None = IsNotedFor q x y.tape × ((from : ℕ) × (upto : ℕ) × IsPreparedFor q y from upto)
 IsTold q x y (Some e) =
-    IsPartlyNoted q x y.tape × IsWhyUnprepared q x y e × (IsNoBlank e → y ≡ x) × IsHindered q x y e
+    IsPartlyNoted q x y.tape × IsWhyUnprepared q x y e × IsHindered q x y e
+    × (HasTooFew x q → (e ≡ no_blank x q) × (y ≡ x))

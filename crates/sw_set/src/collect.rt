@@ -146,8 +146,8 @@ fn wanted<M: CrackerMap>(
     }
 }
 
-/// What is wanted of no rows.
-fn nothing(alloc: Global, want: &Want) -> Reply
+/// The reply over no rows.
+pub fn nothing(alloc: Global, want: &Want) -> Reply
     ensures { result ≡ answer_over [] want.now }
 {
     match want {

@@ -23,6 +23,7 @@ mod totals;
 mod window;
 
 pub use area::Area;
+pub use collect::nothing;
 pub use merging::MOST_REMOVALS_MERGED;
 pub use needs::needed_maps;
 pub use ready::Ready;

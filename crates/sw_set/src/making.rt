@@ -1,9 +1,9 @@
 //! Making the maps that a query needs.
 
-ghost use Rattle.std.specs.Prelude.{◌≡◌, ◌<◌, ◌↔◌, false, length, All, Contains, IfErr, IsTrue, slice_index_or};
+ghost use Rattle.std.specs.Prelude.{◌≡◌, ◌<◌, ◌↔◌, false, length, All, Contains, IfErr, IsTrue, OnErr, slice_index_or};
 ghost use Rattle.sw_map.specs.Held.{Held};
-ghost use Rattle.sw_set.specs.Prepared.{IsShort};
-ghost use Rattle.sw_set.specs.Boxed.{AreNeededKept, IsFreshBut, IsSameButBoxes};
+ghost use Rattle.sw_set.specs.Prepared.{IsOfBudget, IsShort};
+ghost use Rattle.sw_set.specs.Boxed.{AreNeededKept, IsFreshBut, IsHeld, IsSameButBoxes, LacksOne};
 ghost use Rattle.sw_set.specs.Preparing.{HasFreeOr, HasMapOr, HasOneMoreOr, HaveMapsOr};
 ghost use Rattle.sw_set.specs.Sought.{AreAllNeeded, LacksMap};
 
@@ -34,6 +34,7 @@ fn begin_again<M: CrackerMap>(
     ensures same { IsSameButBoxes area.old area.new }
     ensures kept { AreNeededKept at tails.now area.old.boxes area.new.boxes }
     ensures ends { HasMapOr result tail cells area.new.boxes }
+    ensures lacking { OnErr result (¬ IsHeld tail cells area.new.boxes) }
     ensures spent { IfErr result (λ e. IsShort e → AreAllNeeded tails.now area.new.boxes) }
 {
     for _turn in 0..area.boxes() {
@@ -51,8 +52,8 @@ fn begin_again<M: CrackerMap>(
     unreachable!()
 }
 
-/// Gives the map in a box so many cells, more than it has: its lease grows in place, or, where it does not or is
-/// refused, it is begun again.
+/// Gives the map in a box so many cells, more than it has: its lease grows in place, or, where it does not, or finds no
+/// memory or too few cells, it is begun again. Where the budget was contended nothing is tried again.
 fn widen<M: CrackerMap>(
     area: &mut Area<M>,
     at: usize,
@@ -68,10 +69,15 @@ fn widen<M: CrackerMap>(
     ensures same { IsSameButBoxes area.old area.new }
     ensures kept { AreNeededKept at tails.now area.old.boxes area.new.boxes }
     ensures ends { HasMapOr result tail cells area.new.boxes }
+    ensures lacking { OnErr result (¬ IsHeld tail cells area.new.boxes) }
     ensures spent { IfErr result (λ e. IsShort e → AreAllNeeded tails.now area.new.boxes) }
 {
-    if let Ok(true) = area.grow_at(at, cells) {
-        return Ok(());
+    match area.grow_at(at, cells) {
+        Ok(true) => return Ok(()),
+        Err(Refusal::Contended { seen, found }) => {
+            return Err(Refusal::Contended { seen, found });
+        }
+        _ => {}
     }
     begin_again(area, at, tails, tail, cells)
 }
@@ -102,6 +108,7 @@ fn ensure_map<M: CrackerMap>(
     requires some { 0 < cells }
     ensures same { IsSameButBoxes area.old area.new }
     ensures ends { HasOneMoreOr result tails.now tail cells area.old.boxes area.new.boxes }
+    ensures lacking { IfErr result (λ e. IsOfBudget e → ¬ IsHeld tail cells area.new.boxes) }
     ensures spent { IfErr result (λ e. IsShort e → AreAllNeeded tails.now area.new.boxes) }
 {
     area.known();
@@ -124,6 +131,7 @@ pub(crate) fn make_all<M: CrackerMap>(
     requires some { 0 < cells }
     ensures same { IsSameButBoxes area.old area.new }
     ensures ends { HaveMapsOr result tails.now cells area.old.boxes area.new.boxes }
+    ensures lacking { IfErr result (λ e. IsOfBudget e → LacksOne tails.now cells area.new.boxes) }
     ensures spent { IfErr result (λ e. IsShort e → AreAllNeeded tails.now area.new.boxes) }
 {
     for i in 0..tails.len() {

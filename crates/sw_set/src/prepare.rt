@@ -1,14 +1,14 @@
 //! Preparing an area for a query: the range is logged, the maps that are needed are made and aligned, and the places of the
 //! range's bounds are found.
 
-ghost use Rattle.std.specs.Prelude.{◌≡◌, ℕ, ◌<◌, ◌≤◌, ◌^◌, [], true, length, false, Contains, IfErr, IfOk, IsErr, IsOk, IsOkUnless, slice_index_or};
+ghost use Rattle.std.specs.Prelude.{◌≡◌, ℕ, ◌<◌, ◌≤◌, ◌^◌, [], true, length, false, Contains, IfErr, IfOk, IsOk, IsOkUnless, slice_index_or};
 ghost use Rattle.sw_rows.specs.Scan.{AsksBelow, answer};
 ghost use Rattle.sw_rows.specs.declared.refusal.Refusal.TheVariants.{NoMemory};
 ghost use Rattle.sw_map.specs.declared.tail.Tail.TheVariants.{Key};
 ghost use Rattle.sw_map.specs.Held.{Held};
 ghost use Rattle.sw_set.specs.Needs.{head_in};
-ghost use Rattle.sw_set.specs.Prepared.{HasTooFew, IsHindered, IsNoBlank, IsPartlyNoted, IsPrepared, IsShort, IsTold, StandReady, cells_for, is_touched, stand_both};
-ghost use Rattle.sw_set.specs.Boxed.{IsFoundAt};
+ghost use Rattle.sw_set.specs.Prepared.{HasTooFew, IsHindered, IsOfBudget, IsPartlyNoted, IsPrepared, IsShort, IsTold, IsToldTooFew, StandReady, cells_asked, cells_for, is_touched, stand_both};
+ghost use Rattle.sw_set.specs.Boxed.{IsFoundAt, LacksOne};
 ghost use Rattle.sw_set.specs.Preparing.{HasNotedOr, HasPreparedOr, HasRangedOr};
 ghost use Rattle.sw_set.specs.Shelf.{IsSameArea, rows_in};
 ghost use Rattle.sw_set.specs.Sought.{AreAllNeeded};
@@ -115,7 +115,7 @@ fn prepare_range<R: Threads + Sync, M: CrackerMap>(
 ) -> Result<Ready, Refusal>
     requires key { Contains tails.now Key }
     requires enough { length tails.now ≤ length area.old.boxes }
-    ensures counted { IfErr result (λ e. IsNoBlank e → area.new ≡ area.old) }
+    ensures lacking { IfErr result (λ e. IsOfBudget e → LacksOne tails.now (cells_asked area.new) area.new.boxes) }
     ensures spent { IfErr result (λ e. IsShort e → AreAllNeeded tails.now area.new.boxes) }
     ensures same { IsSameArea area.old area.new }
     ensures ends { HasRangedOr result lower upper tails.now area.old area.new }
@@ -150,9 +150,8 @@ impl<M: CrackerMap> Area<M> {
     pub fn prepare<R: Threads + Sync>(&mut self, rt: &R, query: &Query) -> Result<Ready, Refusal>
         requires received { self.old.inbox ≡ [] }
         ensures untouched { is_touched self.old query.now ≡ false → IsOk result × (self.new ≡ self.old) }
-        ensures fewer { is_touched self.old query.now ≡ true → HasTooFew self.old query.now → IsErr result }
+        ensures few { HasTooFew self.old query.now → IsToldTooFew result query.now self.old self.new }
         ensures hindered { IfErr result (IsHindered query.now self.old self.new) }
-        ensures counted { IfErr result (λ e. IsNoBlank e → self.new ≡ self.old) }
         ensures same { IsSameArea self.old self.new }
         ensures ends { HasPreparedOr result query.now self.old self.new }
     {

@@ -1,4 +1,5 @@
 use Rattle.sw_set.proofs.Grown.{grown-held, grown-trying}
+use Rattle.sw_set.proofs.Refused.{not_grown}
 use Rattle.sw_set.proofs.Trying.{kept-trans}
 use Rattle.sw_set.proofs.making.widen.Goals as goal
 
@@ -15,3 +16,9 @@ pub returns-clause-kept : goal.returns-clause-kept
 returns-clause-kept g c =
     let now = grown-trying _ _ _ _ _ _ _ c.requires.fresh c.grow_at.ensures in
     kept-trans _ _ _ _ _ now.same.many now.kept c.begin_again.ensures.kept
+
+pub returns-in-Err-Contended-clause-kept : goal.returns-in-Err-Contended-clause-kept
+returns-in-Err-Contended-clause-kept g c = (grown-trying _ _ _ _ _ _ _ c.requires.fresh c.grow_at.ensures).kept
+
+pub returns-in-Err-Contended-clause-lacking : goal.returns-in-Err-Contended-clause-lacking
+returns-in-Err-Contended-clause-lacking g c = not_grown _ _ _ _ _ _ _ c.requires.within c.requires.fresh c.in-Err-Contended.ensures

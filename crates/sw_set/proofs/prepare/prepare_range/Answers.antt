@@ -2,8 +2,9 @@ use Rattle.std.proofs.Common.{sym, ap, ◌∙◌, subst, ◌≡◌, ◌&&◌, tr
 use Rattle.sw_table.specs.declared.row.Row.{Row}
 use Rattle.sw_kernel.specs.Replay.{Step}
 use Rattle.sw_kernel.specs.Tapes.{peak_from}
-use Rattle.sw_set.specs.Prepared.{IsReady, stands_if}
+use Rattle.sw_set.specs.Prepared.{IsReady, cells_for, stands_if}
 use Rattle.sw_set.proofs.Ends.{held-of, noted-stand, ready-made, room-enough, room-made}
+use Rattle.sw_set.proofs.Refused.{told_on}
 use Rattle.sw_set.proofs.prepare.prepare_range.Goals as goal
 
 pub align-requires-clause-room : goal.align-requires-clause-room
@@ -17,3 +18,7 @@ range_of-requires-clause-maps g c κs within =
 pub range_of-requires-clause-stand : goal.range_of-requires-clause-stand
 range_of-requires-clause-stand g c κs within =
     subst (λ (v : List (Step Row)). stands_if c.args.lower v && stands_if c.args.upper v ≡ true) (sym (c.in_ok-align.ensures.tape ∙ c.in_ok-make_all.ensures.same.tape)) (noted-stand c.args.lower c.args.upper _ _ _ c.known.ensures.short c.in_ok-log_range.ensures.ends)
+
+pub returns-in_err-make_all-clause-lacking : goal.returns-in_err-make_all-clause-lacking
+returns-in_err-make_all-clause-lacking g c =
+    told_on _ _ _ _ _ _ c.from_residual-in_err-make_all.ensures.1 c.in_err-make_all.ensures.lacking (c.cells_for-cells.ensures ∙ ap cells_for (c.peak.ensures.peak ∙ ap (peak_from 0) (sym c.make_all.ensures.same.tape)))
