@@ -1,31 +1,42 @@
 -- Maps cleared, one after the other.
 use Rattle.std.proofs.Common.{◌≡◌, ◌≢◌, ◌<◌, ◌≤◌, ◌+◌, ◌⊎◌, inl, inr, nat_eq, ℕ, zero, suc, Bool, true, false, true≢false, cond, List, [], ◌∷◌, length, get_or, min, slice_index_or, slice_set, refl, sym, ap, ◌∙◌, arith, subst, All, Any}
+use Rattle.std.specs.List.{sum_by}
 use Rattle.std.proofs.lemmas.Bool.Decides.{nat_tests}
+use Rattle.std.proofs.lemmas.List.Sums.{sum_by-cons}
 use Rattle.sw_map.specs.Held.{Held, blank}
 use Rattle.sw_set.specs.Prepared.{IsOneCleared, IsSameButBoxes}
 use Rattle.sw_set.specs.Shelf.{AreaState}
-use Rattle.sw_chunks.specs.Cleared.{AreBlankBut, AreClearedBut, AreEach, HasMap, cells_in, cells_of, sum_of}
+use Rattle.sw_set.specs.Figures.{cells_among}
+use Rattle.sw_chunks.specs.Cleared.{AreBlankBut, AreClearedBut, AreEach, HasMap, cells_in}
 use Rattle.sw_chunks.proofs.Asking.{get-any, set-many, set-other, set-same}
 use Rattle.sw_chunks.proofs.Steps.{boxes-alike, boxes-both}
 
 -- ---- sums over lists of which one element changes
-pub sum-set : {A : Type 0} (f : A → ℕ) (xs : List A) (k : ℕ) (v d : A) → k < length xs → sum_of f (slice_set xs k v) + f (get_or xs k d) ≡ sum_of f xs + f v
+pub sum-set : {A : Type 0} (f : A → ℕ) (xs : List A) (k : ℕ) (v d : A) → k < length xs → sum_by f (slice_set xs k v) + f (get_or xs k d) ≡ sum_by f xs + f v
 sum-set f [] k v d lt = absurd (omega (arith, lt))
-sum-set f (x ∷ xs) zero v d lt = let e : (f v + sum_of f xs) + f x ≡ (f x + sum_of f xs) + f v = omega arith in e
+sum-set f (x ∷ xs) zero v d lt =
+    let new = sum_by-cons f v xs in
+    let old = sum_by-cons f x xs in
+    omega (arith, new, old)
 sum-set f (x ∷ xs) (suc k) v d lt =
     let h = sum-set f xs k v d (omega (arith, lt)) in
-    let e : (f x + sum_of f (slice_set xs k v)) + f (get_or xs k d) ≡ (f x + sum_of f xs) + f v = omega (arith, h) in e
+    let new = sum_by-cons f x (slice_set xs k v) in
+    let old = sum_by-cons f x xs in
+    omega (arith, h, new, old)
 
 -- ---- maps of an area
+abbrev cells_of : AreaState → ℕ
+cells_of x = cells_among x.boxes
+
 abbrev pub one-if : Bool → ℕ
 one-if true = 0
 one-if false = 1
 
 abbrev pub maps_of : AreaState → ℕ
-maps_of x = sum_of (λ (m : Held). one-if m.is_blank) x.boxes
+maps_of x = sum_by (λ (m : Held). one-if m.is_blank) x.boxes
 
 abbrev pub maps_in : List AreaState → ℕ
-maps_in xs = sum_of maps_of xs
+maps_in xs = sum_by maps_of xs
 
 record IsLess (x v : AreaState) (cells : ℕ) : Type 0 where
   maps : maps_of v + 1 ≡ maps_of x
@@ -40,16 +51,16 @@ less-map x v cells has (inr one) = record { maps = maps; cells_are = cells_are }
 
     maps : maps_of v + 1 ≡ maps_of x
     maps =
-        let h : sum_of (λ (m : Held). one-if m.is_blank) (slice_set x.boxes one.0 blank) + one-if (get_or x.boxes one.0 has.1).is_blank ≡ maps_of x + 0 = sum-set (λ (m : Held). one-if m.is_blank) x.boxes one.0 blank has.1 one.1 in
-        let e : sum_of (λ (m : Held). one-if m.is_blank) (slice_set x.boxes one.0 blank) + 1 ≡ maps_of x = omega (arith, h, was) in
-        ap (λ l. sum_of (λ (m : Held). one-if m.is_blank) l + 1) one.3 ∙ e
+        let h : sum_by (λ (m : Held). one-if m.is_blank) (slice_set x.boxes one.0 blank) + one-if (get_or x.boxes one.0 has.1).is_blank ≡ maps_of x + 0 = sum-set (λ (m : Held). one-if m.is_blank) x.boxes one.0 blank has.1 one.1 in
+        let e : sum_by (λ (m : Held). one-if m.is_blank) (slice_set x.boxes one.0 blank) + 1 ≡ maps_of x = omega (arith, h, was) in
+        ap (λ l. sum_by (λ (m : Held). one-if m.is_blank) l + 1) one.3 ∙ e
 
     cells_are : cells_of v + cells ≡ cells_of x
     cells_are =
-        let h : sum_of (λ (m : Held). m.cells) (slice_set x.boxes one.0 blank) + (get_or x.boxes one.0 has.1).cells ≡ cells_of x + 0 = sum-set (λ (m : Held). m.cells) x.boxes one.0 blank has.1 one.1 in
+        let h : sum_by (λ (m : Held). m.cells) (slice_set x.boxes one.0 blank) + (get_or x.boxes one.0 has.1).cells ≡ cells_of x + 0 = sum-set (λ (m : Held). m.cells) x.boxes one.0 blank has.1 one.1 in
         let its : cells ≡ (get_or x.boxes one.0 has.1).cells = (one.2 has.1).1 in
-        let e : sum_of (λ (m : Held). m.cells) (slice_set x.boxes one.0 blank) + cells ≡ cells_of x = omega (arith, h, its) in
-        ap (λ l. sum_of (λ (m : Held). m.cells) l + cells) one.3 ∙ e
+        let e : sum_by (λ (m : Held). m.cells) (slice_set x.boxes one.0 blank) + cells ≡ cells_of x = omega (arith, h, its) in
+        ap (λ l. sum_by (λ (m : Held). m.cells) l + cells) one.3 ∙ e
 
 -- maps were cleared; whether enough came back is not said
 pub record AreClearing (but cells : ℕ) (xs ys : List AreaState) (came : ℕ) : Type 0 where

@@ -1,6 +1,7 @@
 -- Boxes that come to areas, and boxes that go.
 use Rattle.std.proofs.Common.{◌≡◌, ◌≢◌, ◌<◌, ◌≤◌, ◌+◌, ◌-◌, ◌++◌, nat_eq, ℕ, suc, Bool, true, false, List, [], ◌∷◌, length, get_or, slice_set, refl, sym, ap, ◌∙◌, arith, subst, Result, Ok, Err, MatchResult}
 use Rattle.std.proofs.lemmas.List.Sorted.{IsPermutation-refl}
+use Rattle.std.proofs.lemmas.List.Sums.{sum_by-cons}
 use Rattle.sw_map.specs.Held.{blank}
 use Rattle.sw_table.specs.declared.row.Row.{Row}
 use Rattle.sw_set.specs.Prepared.{IsShed}
@@ -108,7 +109,8 @@ bare-none : (ys : List AreaState) → ((j : ℕ) (d : AreaState) → j < length 
 bare-none [] h = refl
 bare-none (y ∷ ys) h =
     let here = h 0 y (omega arith) in let rest = bare-none ys (λ j d lt. h (suc j) d (omega (arith, lt))) in
-    let e : length y.boxes + boxes_in ys ≡ 0 = omega (arith, here, rest) in e
+    let e : length y.boxes + boxes_in ys ≡ 0 = omega (arith, here, rest) in
+    sum_by-cons (λ (x : AreaState). length x.boxes) y ys ∙ e
 
 -- all were asked, or as many came as were to
 pub shed-done : (most k : ℕ) (xs ys : List AreaState) (gone : ℕ) → AreShedTo most k xs ys gone → (gone < most → length xs ≤ k) → AreShed most xs ys gone

@@ -1,6 +1,7 @@
 -- Areas after maps were cleared.
-use Rattle.std.specs.Prelude.{◌≡◌, ◌≢◌, ◌≤◌, ◌<◌, ◌+◌, ◌⊎◌, ℕ, List, [], ◌∷◌, true, false, get_or, length, min, All, Any}
+use Rattle.std.specs.Prelude.{◌≡◌, ◌≢◌, ◌≤◌, ◌<◌, ◌+◌, ◌⊎◌, ℕ, List, true, false, get_or, length, min, sum_by, All, Any}
 use Rattle.sw_map.specs.Held.{Held}
+use Rattle.sw_set.specs.Figures.{cells_among}
 use Rattle.sw_set.specs.Shelf.{AreaState}
 use Rattle.sw_set.specs.Prepared.{IsSameButBoxes}
 
@@ -12,18 +13,9 @@ HoldsOfEach P xs ys = (k : ℕ) (d e : AreaState) → k < length xs → P (get_o
 abbrev pub AreEach : (AreaState → AreaState → Type 0) → List AreaState → List AreaState → Type 0
 AreEach P xs ys = (length ys ≡ length xs) × HoldsOfEach P xs ys
 
--- a sum over a list
-abbrev pub sum_of : {A : Type 0} → (A → ℕ) → List A → ℕ
-sum_of f [] = 0
-sum_of f (x ∷ xs) = f x + sum_of f xs
-
--- the cells of the leases that an area holds
-abbrev pub cells_of : AreaState → ℕ
-cells_of x = sum_of (λ (m : Held). m.cells) x.boxes
-
--- and those that areas hold
+-- the cells of the leases that areas hold
 abbrev pub cells_in : List AreaState → ℕ
-cells_in xs = sum_of cells_of xs
+cells_in xs = sum_by (λ (x : AreaState). cells_among x.boxes) xs
 
 abbrev pub HasMap : AreaState → Type 0
 HasMap x = Any (λ (m : Held). m.is_blank ≡ false) x.boxes

@@ -4,7 +4,7 @@ use Rattle.sw_table.specs.declared.row.Row.{Row}
 use Rattle.sw_table.specs.declared.row.Update.{Update}
 use Rattle.sw_table.specs.declared.row.Update.TheVariants as update
 use Rattle.sw_rows.specs.Scan.{cell_of}
-use Rattle.sw_set.specs.Shelf.{AreReceivable, AreaState, came_in, rows_in}
+use Rattle.sw_set.specs.Shelf.{AreaState, MayReceiveAll}
 use Rattle.sw_chunks.specs.Cuts.{place_in}
 
 -- the number of the interval in which a row lies
@@ -56,13 +56,9 @@ sent place [] us = []
 sent place (p ∷ ps) [] = []
 sent place (p ∷ ps) (u ∷ us) = if p == place then u ∷ sent place ps us else sent place ps us
 
--- an area may receive updates
-abbrev pub MayCome : AreaState → List Update → Type 0
-MayCome x us = AreReceivable x.attribute x.from x.below (came_in x) (rows_in x) us
-
--- it may receive what is sent to its place
+-- an area may receive what is sent to its place
 abbrev pub MayBeSent : ℕ → List ℕ → List Update → AreaState → Type 0
-MayBeSent place ps us x = MayCome x (sent place ps us)
+MayBeSent place ps us x = MayReceiveAll (sent place ps us) x
 
 -- and so may each
 abbrev pub MayEachBeSent : List ℕ → List Update → List AreaState → Type 0
@@ -79,6 +75,10 @@ IsSent place ps us x y = y ≡ record x { inbox = x.inbox ++ sent place ps us; s
 -- and so at each place
 abbrev pub AreSent : List ℕ → List Update → List AreaState → List AreaState → Type 0
 AreSent ps us xs ys = (k : ℕ) (d e : AreaState) → k < length xs → IsSent k ps us (get_or xs k d) (get_or ys k e)
+
+-- updates may be routed: each area may receive what goes there by these owners
+abbrev pub MayBeRouted : ℕ → List ℤ → List (ℕ × ℕ) → List Update → List AreaState → Type 0
+MayBeRouted a cuts owners us xs = MayEachBeSent (places_of a cuts owners us) us xs
 
 -- updates were routed: what goes to each area by these owners waits there
 abbrev pub AreRouted : ℕ → List ℤ → List (ℕ × ℕ) → List Update → List AreaState → List AreaState → Type 0

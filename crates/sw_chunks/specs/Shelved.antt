@@ -1,7 +1,6 @@
 -- The boxes of areas.
-use Rattle.std.specs.Prelude.{◌≡◌, ◌≤◌, ◌<◌, ◌+◌, ◌++◌, ℕ, List, get_or, length, IsPermutation}
+use Rattle.std.specs.Prelude.{◌≡◌, ◌≤◌, ◌<◌, ◌+◌, ◌++◌, ℕ, List, get_or, length, sum_by, IsPermutation}
 use Rattle.sw_map.specs.Held.{Held}
-use Rattle.sw_chunks.specs.Cleared.{sum_of}
 use Rattle.sw_set.specs.Shelf.{AreaState}
 
 -- the area at a place has the fewest boxes, and of several it is the lowest
@@ -21,7 +20,7 @@ pub record IsSameButShelf (x y : AreaState) : Type 0 where
 
 -- how many boxes areas have
 abbrev pub boxes_in : List AreaState → ℕ
-boxes_in xs = sum_of (λ (x : AreaState). length x.boxes) xs
+boxes_in xs = sum_by (λ (x : AreaState). length x.boxes) xs
 
 -- the boxes that an area had are those that went and those that are left
 abbrev pub HasParted : AreaState → AreaState → Type 0

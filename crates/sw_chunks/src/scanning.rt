@@ -10,11 +10,11 @@ ghost use Rattle.sw_chunks.specs.Cleared.{AreEach};
 ghost use Rattle.sw_chunks.specs.Heads.{AreUntouchedSame};
 ghost use Rattle.sw_chunks.specs.Asked.{AreaFits, AreasFit, with_all, with_area};
 
-use crate::joining::{join, nothing};
+use crate::joining::join;
 use std::alloc::Global;
 use sw_map::CrackerMap;
 use sw_rows::{Query, Refusal, Reply};
-use sw_set::Area;
+use sw_set::{Area, nothing};
 
 /// Merges an area and scans it.
 fn scan_one<M: CrackerMap>(area: &mut Area<M>, query: &Query) -> Result<Reply, Refusal>
