@@ -1,0 +1,20 @@
+//! The check of a history file.
+
+ghost use Rattle.std.specs.Prelude.{◌≡◌, ◌⊎◌, IfOk};
+
+use std::alloc::Global;
+use std::io;
+use std::rt::Files;
+use sw_cli::check_file;
+use sw_files::read_file;
+use sw_rows::{Counted, Refusal};
+
+/// Reads a history file and writes the verdict on it; answers the exit status, 0 where it is legal, else 1. Refused
+/// `Input` where the file cannot be opened or read, as `check_file` refuses its bytes, and `Output` where the verdict
+/// cannot be written.
+pub fn check_path<R: Files + Print>(rt: &R, alloc: Global, path: &str) -> Result<u8, Refusal>
+    ensures { IfOk result (λ status. (status ≡ 0) ⊎ (status ≡ 1)) }
+{
+    let bytes = read_file(rt, alloc, path)?;
+    check_file(alloc, bytes.as_slice(), &mut Counted::new(io::writer(rt)))
+}
