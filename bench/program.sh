@@ -3,7 +3,7 @@
 top=$(cd "$(dirname "${BASH_SOURCE[0]}")/.." && pwd)
 work=$(mktemp -d "${TMPDIR:-/tmp}/bench.XXXXXX")
 trap 'rm -rf "$work"' EXIT
-"$top/sideways" --help > "$work/build.log" 2>&1 || { tail -n 20 "$work/build.log"; exit 1; }
+"$top/sideways" prove > "$work/build.log" 2>&1 || { tail -n 20 "$work/build.log"; exit 1; }
 program=$top/crates/sideways/out/sideways
 
 # Builds the C++ peer as $work/peer.

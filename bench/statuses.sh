@@ -5,7 +5,7 @@ set -u
 top=$(cd "$(dirname "$0")/.." && pwd) || exit 3
 program=$top/crates/sideways/out/sideways
 if [ ! -x "$program" ]; then
-    "$top/sideways" --help >/dev/null || exit 3
+    "$top/sideways" prove >/dev/null || exit 3
 fi
 work=$(mktemp -d "${TMPDIR:-/tmp}/statuses.XXXXXX") || exit 3
 trap 'rm -rf "$work"' EXIT

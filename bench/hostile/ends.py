@@ -8,14 +8,13 @@ from pathlib import Path
 from histories import check
 from memory import preload, refusing
 from model import run
-from running import ended, options, told, wrong
+from running import TOP, bytes_of, ended, options, told, wrong
 
 TABLE = b"a:int,b:int,c:int\n12,7,1\n3,8,0\n12,5,1\n20,2,0\n"
 SCRIPT = b"count\nselect b, c where a >= 10\ninsert 1, 2, 3\n---\nsum a\nmin b where c = 0\ndelete 2\nselect a\n"
 STATUS, OUT, _, HISTORY = run(TABLE, SCRIPT)
 RUN = ["run", "--table", "t.csv", "--script", "s.txt"]
 NO_INPUT, NO_OUTPUT = (2, "", "sideways: refused 12\n"), "sideways: refused 13\n"
-NO_HISTORY = (2, "", "sideways: refused 3 line 0 why History\n")
 MANY = b"a\n" + b"".join(b"%d\n" % number for number in range(1000))
 
 
@@ -24,13 +23,23 @@ LONG_TABLE = b"a:int,b:int\n" + b"".join(b"%050d,%d\n" % (row, row * 7919 % 1009
 LONG_SCRIPT = b"insert 1, 2\ncount\nselect a, b where a >= 3980\n" * 900 + b"# nothing\n" * 20000
 _, LONG_OUT, _, LONG_HISTORY = run(LONG_TABLE, LONG_SCRIPT)
 
+# The name of a history until it is whole.
+BEGUN = "sideways.1.part"
+
 # What the library tells of the failed read or write.
 MET = "read or write failed\n"
+
+
+# What is told where a history would be written over another file of its run: its beginning, and the status.
+OVER = "error: the history would be written over "
 
 
 class Ends:
     def __init__(self, program):
         self.program, self.made = program, 0
+        # Under a limit of file sizes the program is called as ./sideways calls it.
+        built = Path(program) == TOP / "crates/sideways/out/sideways"
+        self.limited = [str(TOP / "sideways")] if built else ["sh", "-c", 'trap "" XFSZ; exec "$0" "$@"', program]
         self.home = tempfile.TemporaryDirectory()
         self.folder = Path(self.home.name)
         self.put("t.csv", TABLE)
@@ -49,9 +58,13 @@ class Ends:
     def hold(self, name, words, expected, **more):
         self.held(name, words, expected, told(self.program, words, self.folder, **more))
 
-    def streams(self, words, **more):
+    def hold_under(self, name, words, expected, limit):
+        """A run that begins under a limit."""
+        self.held(name, words, expected, told(self.limited[0], self.limited[1:] + words, self.folder, preexec_fn=limit))
+
+    def streams(self, words, program=None, **more):
         """A run with streams of its own; its status and what it told."""
-        done = subprocess.run([self.program] + words, cwd=self.folder, stdin=subprocess.DEVNULL, timeout=60, **more)
+        done = subprocess.run((program or [self.program]) + words, cwd=self.folder, stdin=subprocess.DEVNULL, timeout=60, **more)
         return done.returncode, None if done.stderr is None else done.stderr.decode()
 
     # Pipes
@@ -86,17 +99,16 @@ class Ends:
             return lambda: resource.setrlimit(resource.RLIMIT_FSIZE, (bytes_left, resource.RLIM_INFINITY))
         for most in range(len(OUT) + 2):
             with open(self.folder / "out", "wb") as out:
-                got = self.streams(RUN, stdout=out, stderr=subprocess.PIPE, preexec_fn=few(most), restore_signals=False)
+                got = self.streams(RUN, self.limited, stdout=out, stderr=subprocess.PIPE, preexec_fn=few(most))
             went = (self.folder / "out").read_bytes()
             expected = (3, NO_OUTPUT) if most < len(OUT) else (0, "")
             self.held("an output of at most %d bytes" % most, RUN, (expected, OUT.encode()[:most]), (got, went))
         words = RUN + ["--history", "kept.json"]
         for most in range(len(HISTORY) + 2):
-            expected = (3, OUT, NO_OUTPUT) if most < len(HISTORY) else (0, OUT, "")
-            self.hold("a history of at most %d bytes" % most, words, expected, preexec_fn=few(most), restore_signals=False)
-            kept = (self.folder / "kept.json").read_bytes()
-            self.held("the history of at most %d bytes" % most, words, HISTORY[:most], kept)
-            self.hold("its check", ["check", "kept.json"], check(kept))
+            fits = most >= len(HISTORY)
+            self.hold_under("a history of at most %d bytes" % most, words, (0, OUT, "") if fits else (3, OUT, NO_OUTPUT), few(most))
+            self.held("the history of at most %d bytes" % most, words, HISTORY if fits else None, bytes_of(self.folder / "kept.json"))
+        self.hold("its check", ["check", "kept.json"], check(HISTORY))
         with open("/dev/full", "wb") as full:
             for words in (RUN, ["check", "h.json"], ["--help"], RUN + ["--stats"]):
                 self.held("an output to a full device", words, (3, NO_OUTPUT), self.streams(words, stdout=full, stderr=subprocess.PIPE))
@@ -131,9 +143,11 @@ class Ends:
         self.hold("nothing as a table", ["run", "--table", "/dev/null", "--script", "s.txt"], (2, "", "sideways: refused 2 record 0 field 0\n"))
         self.hold("nothing as a script", ["run", "--table", "t.csv", "--script", "/dev/null"], (0, "", ""))
         self.hold("nothing as a history", ["check", "/dev/null"], (2, "", "sideways: refused 3 line 0 why History\n"))
-        self.put("same.csv", TABLE)
-        self.hold("a history over the table", ["run", "--table", "same.csv", "--script", "s.txt", "--history", "same.csv"], (0, OUT, ""))
-        self.held("the history over the table", [], HISTORY, (self.folder / "same.csv").read_bytes())
+        for name in ("t.csv", "./t.csv", "s.txt"):
+            words = RUN + ["--history", name]
+            status, out, fault = told(self.program, words, self.folder)
+            self.held("a history over %s" % name, words, (2, "", True), (status, out, fault.startswith(OVER)))
+        self.held("the table and the script then", [], (TABLE, SCRIPT), tuple((self.folder / name).read_bytes() for name in ("t.csv", "s.txt")))
 
     # Sources
 
@@ -205,7 +219,7 @@ class Ends:
         for words, out, history, mosts in ((RUN, OUT, HISTORY, (1, 16)), (long, LONG_OUT, LONG_HISTORY, (65536,))):
             for most in mosts:
                 self.each_write(words, "out", out.encode(), history, most)
-                self.each_write(words, "kept.json", out.encode(), history, most)
+                self.each_write(words, BEGUN, out.encode(), history, most)
 
     def each_write(self, words, name, out, history, most):
         words, at, fault = words + ["--history", "kept.json"], 0, MET
@@ -215,11 +229,9 @@ class Ends:
             fault, before = got[1], (at - 1) * most
             if MET not in fault:
                 expected = (0, "", out, history)
-            elif name == "out":
-                expected = (3, MET + NO_OUTPUT, out[:before], None)
             else:
-                expected = (3, MET + NO_OUTPUT, out, history[:before])
-                self.hold("the check of a beginning", ["check", "kept.json"], NO_HISTORY)
+                expected = (3, MET + NO_OUTPUT, out[:before] if name == "out" else out, None)
+            self.held("what is begun", words, None, bytes_of(self.folder / BEGUN))
             self.held("write %d of %s" % (at, name), words, expected, got)
         self.held("the writes of %s" % name, words, -(-len(out if name == "out" else history) // most), at - 1)
 
@@ -228,8 +240,7 @@ class Ends:
         (self.folder / history).unlink(missing_ok=True)
         with open(self.folder / out, "wb") as file:
             status, fault = self.streams(words, stdout=file, stderr=subprocess.PIPE, **more)
-        kept = self.folder / history
-        return status, fault, (self.folder / out).read_bytes(), kept.read_bytes() if kept.exists() else None
+        return status, fault, (self.folder / out).read_bytes(), bytes_of(self.folder / history)
 
     def short_writes(self):
         """Writes that take so many bytes at most: all of the output, of the history and of a fault's line goes out."""
@@ -240,7 +251,7 @@ class Ends:
         cases += [(long, LONG_OUT, LONG_HISTORY, most) for most in (1, 2, 3, 1000, 4095, 65535)]
         for words, out, history, most in cases:
             words = words + ["--history", "history.short"]
-            got = self.written(words, "out.short", "history.short", **self.failing(".short", MOST=most))
+            got = self.written(words, "out.part", "history.short", **self.failing(".part", MOST=most))
             self.held("writes of at most %d bytes" % most, words, (0, "", out.encode(), history), got)
         for most in range(1, len(NO_INPUT[2])):
             with open(self.folder / "told.short", "wb") as file:

@@ -1,20 +1,19 @@
 #!/usr/bin/env python3
 """A file system that fills up: small ones in memory (tmpfs), which this driver mounts, with so many pages left. Histories, and outputs, of
 lengths round the one that still fits are written there. What fits is there whole. Where it does not fit, the run ends with status 3 and
-`refused 13`, and just the bytes that fitted stand under the asked name, which `check` refuses; no other file is there. Then: a history in
-place of one that stands there, an output and a history side by side, lines on standard error, a file system that takes no file more, and
-the same run when there is room again. It needs the right to mount: as root, or by `unshare -rm python3 bench/hostile/full.py`.
+`refused 13`: of an output just the bytes that fitted are there; of a history nothing is, or the one that stood there, and no file beside it.
+Then: a history in place of one that stands there, an output and a history side by side, lines on standard error, a file system that takes no
+file more, and the same run when there is room again. It needs the right to mount: as root, or by `unshare -rm python3 bench/hostile/full.py`.
 Ends with 1 and the first case that is wrong; with 2, and nothing tried, where it may not mount."""
 import contextlib, signal, subprocess, sys, tempfile, time
 from collections import Counter
 from pathlib import Path
 from histories import check
 from model import run
-from running import ended, options, told, wrong
+from running import bytes_of, ended, options, told, wrong
 
 PAGE = 4096
 NO_OUTPUT = "sideways: refused 13\n"
-NO_HISTORY = (2, "", "sideways: refused 3 line 0 why History\n")
 TABLE = b"a:int,b:int\n1111111111111111111,17\n"
 RUN = ["run", "--table", "t.csv", "--script", "s.txt"]
 
@@ -108,9 +107,8 @@ class Full:
         return (done.returncode, None if out else done.stdout.decode(errors="replace"), None if fault else done.stderr.decode(errors="replace"))
 
     def checked(self, script, path, history):
-        """Checks what stands there, which is a history or a beginning of one."""
-        expected = check(history) if path.read_bytes() == history else NO_HISTORY
-        self.held("the check", script, ["check", path.name], expected, told(self.program, ["check", str(path)], self.folder))
+        """Checks a history that stands there."""
+        self.held("the check", script, ["check", path.name], check(history), told(self.program, ["check", str(path)], self.folder))
 
     # A history
 
@@ -127,12 +125,13 @@ class Full:
         """A history is written where there is room for so many bytes."""
         kept, words = folder / "kept.json", RUN + ["--history", str(folder / "kept.json")]
         _, out, _, history = made
-        got = self.made("a history", script, words)
-        self.held(name, script, words, (0, out, "") if len(history) <= room else (3, out, NO_OUTPUT), got)
-        self.held(name + ": what stands", script, words, history[:room], kept.read_bytes())
-        self.held(name + ": the files", script, words, ["filler", "kept.json"], sorted(path.name for path in folder.iterdir()))
-        self.checked(script, kept, history)
-        kept.unlink()
+        got, fits = self.made("a history", script, words), len(history) <= room
+        self.held(name, script, words, (0, out, "") if fits else (3, out, NO_OUTPUT), got)
+        self.held(name + ": what stands", script, words, history if fits else None, bytes_of(kept))
+        self.held(name + ": the files", script, words, ["filler"] + ["kept.json"] * fits, sorted(path.name for path in folder.iterdir()))
+        if fits:
+            self.checked(script, kept, history)
+            kept.unlink()
 
     # The output
 
@@ -161,15 +160,21 @@ class Full:
     def others(self):
         """A history in place of one that stands there; an output and a history; lines on standard error; and room again."""
         with disk(64) as folder:
+            # The one that stands there and the new one are there side by side.
+            self.fill(folder, 64, 4)
+            kept, words, stands = folder / "kept.json", RUN + ["--history", str(folder / "kept.json")], b""
+            for size in (2 * PAGE, 2 * PAGE, 2 * PAGE + 1, PAGE, 3 * PAGE, 2 * PAGE):
+                script, (_, lines, _, history) = recording(size)
+                fits = -(-size // PAGE) + -(-len(stands) // PAGE) <= 4
+                expected = (0, lines, "") if fits else (3, lines, NO_OUTPUT)
+                self.held("in place of another", script, words, expected, self.made("in place of another", script, words))
+                stands = history if fits else stands
+                self.held("what stands in its place", script, words, stands, kept.read_bytes())
+                self.held("the files there", script, words, ["filler", "kept.json"], sorted(path.name for path in folder.iterdir()))
+                self.checked(script, kept, stands)
+        with disk(64) as folder:
             self.fill(folder, 64, 2)
             kept, out, words = folder / "kept.json", folder / "out", RUN + ["--history", str(folder / "kept.json")]
-            for size in (2 * PAGE, 2 * PAGE, PAGE, 2 * PAGE + 1, 2 * PAGE):
-                script, (_, lines, _, history) = recording(size)
-                expected = (0, lines, "") if size <= 2 * PAGE else (3, lines, NO_OUTPUT)
-                self.held("in place of another", script, words, expected, self.made("in place of another", script, words))
-                self.held("what stands in its place", script, words, history[:2 * PAGE], kept.read_bytes())
-                self.checked(script, kept, history)
-            kept.unlink()
             for size in (PAGE, PAGE + 1, 2 * PAGE, 2 * PAGE + 1):
                 script, (_, lines, _, history) = recording(size)
                 if not 0 < len(lines) <= PAGE:
@@ -177,8 +182,8 @@ class Full:
                 got = self.made("an output and a history", script, words, out)
                 self.held("an output and a history", script, words, (0, None, "") if size <= PAGE else (3, None, NO_OUTPUT), got)
                 self.held("this output", script, words, lines.encode(), out.read_bytes())
-                self.held("its history", script, words, history[:PAGE], kept.read_bytes())
-                kept.unlink()
+                self.held("its history", script, words, history if size <= PAGE else None, bytes_of(kept))
+                kept.unlink(missing_ok=True)
                 out.unlink()
         with disk(64) as folder:
             self.fill(folder, 64, 0)

@@ -16,11 +16,17 @@ def options(text, **more):
         parser.add_argument("--" + name, action="store_true", help=told)
     given = parser.parse_args()
     given.program = str(Path(given.program).resolve())
-    subprocess.run([given.program, "--help"], stdout=subprocess.DEVNULL, check=True)
-    # A script that builds the program and calls it would be met by limits and refusals itself.
+    # A script that calls the program would be met by limits and refusals itself.
     if Path(given.program) == TOP / "sideways":
+        subprocess.run([given.program, "prove"], check=True)
         given.program = str(TOP / "crates/sideways/out/sideways")
+    subprocess.run([given.program, "--help"], stdout=subprocess.DEVNULL, check=True)
     return given
+
+
+def bytes_of(path):
+    """What stands in a file; None where there is none."""
+    return path.read_bytes() if path.exists() else None
 
 
 def told(program, words, folder, **more):

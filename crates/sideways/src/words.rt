@@ -173,7 +173,8 @@ fn explain_command<'a>(alloc: Global) -> Result<Command<'a>, AllocError> {
 pub(crate) fn command<'a>(alloc: Global) -> Result<Command<'a>, AllocError> {
     let run = run_command(alloc)?;
     Command::new(alloc, "sideways")
-        .about("A column engine whose answers are proved")
+        .about("A column engine in memory that answers ranges by database cracking")
+        .version("0.1.0")
         .subcommand_required(true)
         .subcommand(run)?
         .subcommand(check_command(alloc)?)?

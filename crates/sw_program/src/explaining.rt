@@ -1,9 +1,10 @@
 //! What each refusal means, and what to do about it.
 
-ghost use Rattle.std.specs.Prelude.{◌≡◌, ◌≤◌, IfSome};
+ghost use Rattle.std.specs.Prelude.{◌≡◌, ◌≤◌, IfOk, IfSome};
 
+use std::io;
 use sw_lang::write_all;
-use sw_rows::{Refusal, Sink};
+use sw_rows::{Counted, Refusal, Sink};
 
 /// How many refusals there are. They are numbered from 1.
 const REFUSALS: u64 = 14;
@@ -113,8 +114,8 @@ refused 12: a file could not be opened or read, a word of the command line is no
 
 const OUTPUT: &str = "\
 refused 13: the replies, the history or the verdict could not be written.
-  What to do: look at whether the disk is full, the path may be written, and the reader of a pipe is still there. What was
-  written before is a beginning. The exit status is 3.
+  What to do: look at whether the disk is full, the path and its folder may be written, and the reader of a pipe is still
+  there. What went to standard output before is a beginning; a history file is as it was. The exit status is 3.
 ";
 
 const AHEAD: &str = "\
@@ -125,7 +126,7 @@ refused 14 seen S told T: a viewer has seen more updates than those published.
 /// Writes what the refusal of a number means, or of all numbers in their order where none is given.
 ///
 /// Refused `Output` where the sink fails; then a beginning went out. A number that no refusal has writes nothing.
-pub(crate) fn write_explanations<W: Sink>(only: Option<u64>, out: &mut W) -> Result<(), Refusal> {
+fn write_explanations<W: Sink>(only: Option<u64>, out: &mut W) -> Result<(), Refusal> {
     let (first, last) = match only {
         Some(number) => (number, number),
         None => (1, REFUSALS),
@@ -136,4 +137,13 @@ pub(crate) fn write_explanations<W: Sink>(only: Option<u64>, out: &mut W) -> Res
         }
     }
     Ok(())
+}
+
+/// Writes on standard output what the refusal of a number means, or of all numbers where none is given, and answers the
+/// exit status 0. Refused `Output` where it cannot be written.
+pub fn explain<R: Print>(rt: &R, only: Option<u64>) -> Result<u8, Refusal>
+    ensures { IfOk result (λ status. status ≡ 0) }
+{
+    write_explanations(only, &mut Counted::new(io::writer(rt)))?;
+    Ok(0)
 }

@@ -21,14 +21,14 @@ fn nanos_of(time: Duration) -> u64 {
 }
 
 /// What is asked to be seen of a run.
-#[derive(Clone, Copy)]
-pub(crate) struct Sights {
+#[derive(Clone, Copy, Debug)]
+pub struct Sights {
     /// The time in the selects of each head.
-    pub(crate) heads: bool,
+    pub heads: bool,
     /// How far the run is: standard error is told of it, from a second after its beginning on, once a second.
-    pub(crate) progress: bool,
+    pub progress: bool,
     /// The time of each call: standard error is told of it when the call has ended.
-    pub(crate) calls: bool,
+    pub calls: bool,
 }
 
 /// What was seen so far, shared by the threads of a run. Where nobody asks for it there is no beginning, and nothing is

@@ -1,0 +1,327 @@
+#!/usr/bin/env python3
+"""What is left after each end of the program: a history file is the old one or the new one, a history is never written over
+another file of its run, a limit of file sizes is a refusal, small stacks end nothing, and an answer that is not proved says so.
+
+    tests/ends.py [--program PATH]
+
+PATH is the built program, by default crates/sideways/out/sideways, where `rt ci` and `./sideways prove` leave it. Ends with 1
+at the first case that is wrong, which it shows; its last line tells how many cases there were."""
+import argparse, os, resource, signal, shutil, subprocess, sys, tempfile, time
+from pathlib import Path
+
+TOP = Path(__file__).resolve().parents[1]
+TABLE = b"a:int,b:int,c:int\n12,7,1\n3,8,0\n12,5,1\n20,2,0\n"
+SCRIPT = b"count\nselect b where a >= 10\n"
+OUT = b"4\n1: 7\n3: 5\n4: 2\n(3 rows)\n"
+OLD = b"what stood there"
+NO_OUTPUT = b"sideways: refused 13\n"
+KILLS, MEMORIES = 150, 40
+
+
+class Wrong(Exception):
+    pass
+
+
+class Ends:
+    def __init__(self, program, folder):
+        self.program, self.folder, self.cases = str(program), Path(folder), 0
+        self.put("t.csv", TABLE)
+        self.put("s.txt", SCRIPT)
+        self.run = ["run", "--table", "t.csv", "--script", "s.txt"]
+        self.history = self.kept_by(self.run)
+
+    def put(self, name, data):
+        (self.folder / name).write_bytes(data)
+
+    def bytes_of(self, name):
+        path = self.folder / name
+        return path.read_bytes() if path.exists() else None
+
+    def call(self, words, program=None, **more):
+        more.setdefault("stdout", subprocess.PIPE)
+        more.setdefault("stderr", subprocess.PIPE)
+        more.setdefault("stdin", subprocess.DEVNULL)
+        done = subprocess.run([program or self.program] + words, cwd=self.folder, timeout=60, **more)
+        return done.returncode, done.stdout, done.stderr
+
+    def kept_by(self, words):
+        """The history that a run keeps where nothing is in its way."""
+        self.held("a run that keeps its history", 0, self.call(words + ["--history", "first.json"])[0])
+        return self.take("first.json")
+
+    def take(self, name):
+        data = self.bytes_of(name)
+        (self.folder / name).unlink(missing_ok=True)
+        return data
+
+    def held(self, name, expected, got):
+        self.cases += 1
+        if got != expected:
+            raise Wrong("WRONG: %s\n  expected %r\n  got      %r" % (name, expected, got))
+
+    def begun(self):
+        """What stands beside a history that was not ended. It is taken away."""
+        found = sorted(self.folder.glob("*.part"))
+        for path in found:
+            path.unlink()
+        return [path.name for path in found]
+
+    # A history file is the old one or the new one
+
+    def killed_runs(self):
+        """A run is killed at moments from its beginning to its end. At some of them what is begun stands beside the history."""
+        self.put("long.txt", SCRIPT * 6000)
+        words = ["run", "--table", "t.csv", "--script", "long.txt", "--history", "h.json"]
+        began = time.time()
+        self.held("a long run", 0, self.call(words)[0])
+        lasts, new, beside, kinds = time.time() - began, self.take("h.json"), 0, set()
+        for at in range(KILLS):
+            self.put("h.json", OLD)
+            with open(self.folder / "out", "wb") as out:
+                child = subprocess.Popen([self.program] + words, cwd=self.folder, stdout=out, stderr=subprocess.DEVNULL)
+                try:
+                    child.wait(lasts * (0.2 + at / KILLS))
+                except subprocess.TimeoutExpired:
+                    child.kill()
+                child.wait()
+            kept = self.bytes_of("h.json")
+            kinds.add(kept)
+            beside += len(self.begun())
+            self.held("the history after a kill at %d of %d" % (at, KILLS), True, kept in (OLD, new))
+        self.held("both histories are left by some kills", {OLD, new}, kinds)
+        print("  beside the history %d of %d kills left what was begun" % (beside, KILLS))
+
+    def wanting_memory(self):
+        """A run whose memory ends at some place: the history is the old one wherever the run is refused."""
+        self.put("long.txt", SCRIPT * 3000)
+        words = ["run", "--table", "t.csv", "--script", "long.txt", "--history", "h.json"]
+        self.held("a run with its memory", 0, self.call(words)[0])
+        new, refused = self.take("h.json"), 0
+        for step in range(MEMORIES):
+            most = (4 + step) << 20
+            self.put("h.json", OLD)
+            status, _, told = self.call(words, preexec_fn=lambda: resource.setrlimit(resource.RLIMIT_AS, (most, most)))
+            # Under a call that was refused the history is another one, which is whole.
+            answered = status == 0 or told == b""
+            kept = self.bytes_of("h.json")
+            refused += not answered
+            if answered:
+                self.held("a history within %d MiB" % (most >> 20), (0, b"legal"), self.verdict("h.json"))
+            else:
+                self.held("the history within %d MiB" % (most >> 20), OLD, kept)
+            self.held("what is begun within %d MiB" % (most >> 20), [], self.begun())
+        self.held("the last one is the whole history", new, self.take("h.json"))
+        self.held("some runs are refused", True, refused > 0)
+
+    def verdict(self, name):
+        status, out, _ = self.call(["check", name])
+        return status, out[:5]
+
+    def few_bytes(self, most):
+        """What has a program write at most so many bytes into a file, without the signal."""
+        def limit():
+            signal.signal(signal.SIGXFSZ, signal.SIG_IGN)
+            resource.setrlimit(resource.RLIMIT_FSIZE, (most, resource.RLIM_INFINITY))
+        return limit
+
+    def full_disks(self):
+        """A disk that is full after n bytes: the old history stands, or none, and nothing beside it."""
+        for old in (OLD, None):
+            for most in range(0, len(self.history) + 1):
+                self.take("h.json")
+                if old is not None:
+                    self.put("h.json", old)
+                got = self.call(self.run + ["--history", "h.json"], preexec_fn=self.few_bytes(most), restore_signals=False)
+                whole = most >= len(self.history)
+                expected = (0, OUT, b"") if whole else (3, OUT, NO_OUTPUT)
+                self.held("a history of at most %d bytes" % most, (expected, self.history if whole else old, []),
+                          (got, self.bytes_of("h.json"), self.begun()))
+
+    def in_place_of(self):
+        """What a history may replace, and what stays of it."""
+        words = self.run + ["--history"]
+        self.put("h.json", OLD)
+        (self.folder / "h.json").chmod(0o640)
+        self.held("a history over another", (0, OUT, b""), self.call(words + ["h.json"]))
+        self.held("it has the permissions of the other", 0o640, (self.folder / "h.json").stat().st_mode & 0o7777)
+        self.held("it is whole", self.history, self.take("h.json"))
+        self.put("real.json", OLD)
+        (self.folder / "link.json").symlink_to("real.json")
+        self.held("a history through a link", (0, OUT, b""), self.call(words + ["link.json"]))
+        self.held("the link is one", True, (self.folder / "link.json").is_symlink())
+        self.held("what it leads to is the history", self.history, self.take("real.json"))
+        self.held("a link that leads nowhere", (0, OUT, b""), self.call(words + ["link.json"]))
+        self.held("what it leads to now", self.history, self.take("real.json"))
+        (self.folder / "link.json").unlink()
+        self.put("sideways.1.part", OLD)
+        self.held("a name that is taken", (0, OUT, b""), self.call(words + ["h.json"]))
+        self.held("who took it keeps it", (OLD, self.history), (self.take("sideways.1.part"), self.take("h.json")))
+        self.held("a device", (0, OUT, b""), self.call(words + ["/dev/null"]))
+        self.held("a full device", (3, OUT, NO_OUTPUT), self.call(words + ["/dev/full"]))
+        self.held("a folder that is none", (3, OUT, NO_OUTPUT), self.call(words + ["none/h.json"]))
+        self.held("the folder itself", (3, OUT, NO_OUTPUT), self.call(words + ["."]))
+        self.held("nothing stands beside", [], self.begun())
+
+    def may_not_write(self):
+        """A history that may not be written is not replaced, though its folder may be."""
+        self.put("h.json", OLD)
+        (self.folder / "h.json").chmod(0o444)
+        more = {"user": 65534, "group": 65534, "extra_groups": []} if os.getuid() == 0 else {}
+        if more:
+            self.folder.chmod(0o777)
+            if self.call(["--help"], **more)[0] != 0:
+                return
+        self.held("a history that may not be written", (3, OUT, NO_OUTPUT), self.call(self.run + ["--history", "h.json"], **more))
+        self.held("it stands", (OLD, []), (self.take("h.json"), self.begun()))
+
+    # A history is no other file of its run
+
+    def refused_words(self, name, got, over):
+        """A command line that is refused: status 2, and clap's text on standard error."""
+        status, _, told = got
+        line = b"error: the history would be written over " + over
+        self.held(name, (2, True), (status, told.startswith(line)))
+
+    def other_files(self):
+        """A history that is the table, the script, or where the replies or what is told go, by whatever name."""
+        words = self.run + ["--history"]
+        (self.folder / "hard.csv").hardlink_to(self.folder / "t.csv")
+        (self.folder / "soft.txt").symlink_to("s.txt")
+        for name, over in (("t.csv", b"the table"), ("./t.csv", b"the table"), ("hard.csv", b"the table"),
+                           ("s.txt", b"the script"), ("soft.txt", b"the script"), (str(self.folder / "s.txt"), b"the script")):
+            self.refused_words("a history that is %s" % name, self.call(words + [name]), over)
+        for mode in ("wb", "ab"):
+            for name in ("replies", "/dev/stdout", "/proc/self/fd/1"):
+                self.put("replies", OLD)
+                with open(self.folder / "replies", mode) as out:
+                    self.refused_words("a history %s where the replies go" % name, self.call(words + [name], stdout=out), b"the replies")
+                self.held("the replies' file", b"" if mode == "wb" else OLD, self.take("replies"))
+        with open(self.folder / "told", "wb") as told:
+            got = self.call(words + ["told"], stderr=told)
+        self.held("a history where it is told", (2, True), (got[0], self.bytes_of("told").startswith(b"error: the history would be")))
+        with open(self.folder / "t.csv", "rb") as table:
+            got = self.call(["run", "--table", "/dev/stdin", "--script", "s.txt", "--history", "t.csv"], stdin=table)
+            self.refused_words("a history that is the table of standard input", got, b"the table")
+        self.held("table and script", (TABLE, SCRIPT), (self.bytes_of("t.csv"), self.bytes_of("s.txt")))
+        for name in ("hard.csv", "soft.txt", "told"):
+            (self.folder / name).unlink()
+        self.held("a history into the pipe of the replies", (0, OUT + self.history, b""), self.call(words + ["/dev/stdout"]))
+        self.held("replies and history to nothing", 0, self.call(words + ["/dev/null"], stdout=subprocess.DEVNULL)[0])
+
+    # By ./sideways: limits that the program cannot mend
+
+    def built(self):
+        """A copy of ./sideways over the built program, which it takes for the one of its sources."""
+        top = self.folder / "tree"
+        made = top / "crates/sideways/out"
+        made.mkdir(parents=True, exist_ok=True)
+        shutil.copy(TOP / "sideways", top / "sideways")
+        (top / "crates.txt").write_text("sideways: clap\n")
+        (top / "HANDLES").write_bytes((TOP / "HANDLES").read_bytes())
+        shutil.copy(self.program, made / "sideways")
+        return str(top / "sideways")
+
+    def size_limits(self):
+        """A limit of file sizes, which would end the program by a signal: a refusal, for the replies and for the history."""
+        script = self.built()
+        self.put("long.txt", SCRIPT * 600)
+        words = ["run", "--table", "t.csv", "--script", "long.txt"]
+        limit = lambda: resource.setrlimit(resource.RLIMIT_FSIZE, (1024, 1024))
+        with open(self.folder / "out", "wb") as out:
+            self.held("replies of at most a KiB", (3, NO_OUTPUT), self.call(words, script, stdout=out, preexec_fn=limit)[::2])
+        self.held("a beginning of the replies", (OUT * 600)[:1024], self.take("out"))
+        self.put("h.json", OLD)
+        got = self.call(words + ["--history", "h.json"], script, preexec_fn=limit)
+        self.held("a history of at most a KiB", (3, OUT * 600, NO_OUTPUT), got)
+        self.held("the history that was there", (OLD, []), (self.take("h.json"), self.begun()))
+
+    def small_stacks(self):
+        """Small stacks end nothing: ./sideways lets them grow where it may, and where it may not blocks have no threads."""
+        script = self.built()
+        blocks = [b"count\nselect a, b where a >= %d\nsum b where c < %d\n" % (at, at) for at in range(6)]
+        self.put("blocks.txt", b"---\n".join(blocks))
+        self.put("many.csv", b"a,b,c\n" + b"".join(b"%d,%d,%d\n" % (at, at % 7, at % 11) for at in range(300_000)))
+        self.put("many.txt", b"sum c where a >= 5 and a < 90000\nsum b where a >= 7\nsum a where b = 3\nsum b where a < 9\n" * 3)
+        threads = ["run", "--table", "t.csv", "--script", "blocks.txt", "--threads"]
+        parts = ["run", "--table", "many.csv", "--script", "many.txt"]
+        ample = resource.RLIM_INFINITY
+        tries = [(words, kib << 10, ample) for words in (threads, parts) for kib in (16, 32, 48, 64, 128, 256)]
+        tries += [(threads, kib << 10, kib << 10) for kib in (64, 96, 128, 256, 512)]
+        expected = {tuple(words): self.call(words) for words in (threads, parts)}
+        for words, soft, hard in tries:
+            got = self.call(words, script, preexec_fn=lambda: resource.setrlimit(resource.RLIMIT_STACK, (soft, hard)))
+            self.held("%s with stacks of %d KiB" % (words[4], soft >> 10), expected[tuple(words)], got)
+            self.held("it was answered", 0, got[0])
+
+    # An answer that is not proved
+
+    def unproved(self):
+        """Without a proved program ./sideways answers by `rt try`, and says so each time: here by a stand-in for rt."""
+        script = self.built()
+        top = Path(script).parent
+        (top / "crates/sideways/out/sideways").unlink()
+        tools = self.folder / "tools"
+        tools.mkdir()
+        stand_in = tools / "rt"
+        stand_in.write_text(STAND_IN % self.program)
+        stand_in.chmod(0o755)
+        (top / "crates/sideways/src").mkdir()
+        more = {"env": {**os.environ, "PATH": "%s:%s" % (tools, os.environ["PATH"])}}
+        line = b"sideways: NOT PROVED: "
+        for name, words, expected in (
+                ("a run", self.run, (0, OUT, b"")),
+                ("a run with equals signs", ["run", "--table=t.csv", "--script=s.txt"], (0, OUT, b"")),
+                ("a run that is refused", ["run", "--table", "none.csv", "--script", "s.txt"], (2, b"", b"sideways: refused 12\n")),
+                ("the version", ["--version"], (0, b"sideways 0.1.0\n", b"")),
+                ("a history", self.run + ["--history", "h.json"], (0, OUT, b"")),
+                ("a check", ["check", "h.json"], (0, b"legal: 2 entries\n", b""))):
+            status, out, told = self.call(words, script, **more)
+            first, _, rest = told.partition(b"\n")
+            self.held("%s, not proved" % name, expected + (True,), (status, out, rest, first.startswith(line)))
+        self.held("the history that was kept", self.history, self.take("h.json"))
+        status, out, told = self.call(["lost"], script, **more)
+        self.held("a run past the bounds", (3, b"", True), (status, out, b"./sideways prove" in told))
+        shutil.copy(self.program, top / "crates/sideways/out/sideways")
+        self.held("the same once it is proved", (0, OUT, b""), self.call(self.run, script, **more))
+        (top / "crates/sideways/src/main.rt").write_text("")
+        self.held("a source that is newer", True, self.call(self.run, script, **more)[2].startswith(line))
+
+
+# Runs the program as `rt try` does: what it says itself comes after what the program told.
+STAND_IN = """#!/bin/sh
+[ "$1" = try ] && [ "$2" = -- ] || exit 9
+shift 2
+cd / || exit 9
+if [ "$1" = lost ]; then echo 'checked: no-answer' >&2; echo 'run=none proved=no' >&2; exit 6; fi
+'%s' "$@"
+status=$?
+echo 'checked: ended status='$status >&2
+echo 'races: not looked for, since a kit has no ThreadSanitizer' >&2
+echo 'run=ended status='$status' runners=1 races=unchecked proved=no' >&2
+exit $status
+"""
+
+
+def main():
+    parser = argparse.ArgumentParser(description=__doc__.split("\n")[0])
+    parser.add_argument("--program", default=str(TOP / "crates/sideways/out/sideways"), help="the built program")
+    program = Path(parser.parse_args().program).resolve()
+    if not os.access(program, os.X_OK):
+        sys.exit("ends.py: there is no program %s: rt ci or ./sideways prove makes it" % program)
+    began = time.time()
+    with tempfile.TemporaryDirectory() as folder:
+        ends = Ends(program, folder)
+        for what in (ends.killed_runs, ends.wanting_memory, ends.full_disks, ends.in_place_of, ends.may_not_write, ends.other_files,
+                     ends.size_limits, ends.small_stacks, ends.unproved):
+            before = ends.cases
+            try:
+                what()
+            except Wrong as case:
+                print(case)
+                sys.exit(1)
+            print("%s: %d as expected" % (what.__name__.replace("_", " "), ends.cases - before), flush=True)
+    print("%d cases as expected in %.0f s" % (ends.cases, time.time() - began))
+
+
+if __name__ == "__main__":
+    main()
