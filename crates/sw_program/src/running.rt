@@ -83,7 +83,7 @@ fn run_open<R: Threads + Wait + Sync, O: Onlooker, T: Source, S: Source, W: Sink
 
 /// Makes the boxes of a run whose files are open, and runs it.
 fn run_between<
-    R: RandomSource + Clock + Print + Eprint + Threads + Wait + Sync,
+    R: Files + RandomSource + Clock + Print + Eprint + Threads + Wait + Sync,
     T: Source,
     S: Source,
 >(
@@ -98,7 +98,7 @@ fn run_between<
     let options = Options {
         limit: settings.limit.rows,
         cuts: settings.cuts,
-        threads: settings.threads && stacks::are_ample(),
+        threads: settings.threads && stacks::are_ample(rt, alloc),
         key: TextKey::new(rt)?,
     };
     let out = Counted::new(io::writer(rt));
