@@ -13,6 +13,9 @@ step() {
 }
 
 step python3 "$top/bench/claims.py" --check
+step python3 "$top/tests/ends.py"
+step python3 "$top/tests/collisions.py" "$(program sideways)"
+step python3 "$top/tests/long_records.py" "$(program sideways)"
 step python3 "$top/bench/hostile/calls.py" --program "$(program sw_trial_calls)"
 step python3 "$top/bench/hostile/sessions.py" --program "$(program sw_trial_sessions)"
 step python3 "$top/bench/hostile/growths.py" --program "$(program sideways)"
