@@ -24,7 +24,7 @@ use Rattle.sw_lang.proofs.Lines.{line_found}
 use Rattle.sw_spine.specs.History.{IsSound, entry}
 use Rattle.sw_spine.specs.declared.history.State.TheVariants as state
 use Rattle.sw_histories.specs.FileExamples.{cities, counted, deleted, row_abc, row_of_city, visited}
-use Rattle.sw_histories.specs.ReadBack.{HasCells, IsCalled, IsOfRun}
+use Rattle.sw_histories.specs.ReadBack.{HasCells, IsCalled, IsOfRun, KnowsInOrder}
 use Rattle.sw_lang.proofs.Knowing.{knowing_schema}
 
 three : (key a b c : ℕ) → a < 2 ^ 63 → b < 2 ^ 63 → c < 2 ^ 63 → HasCells (kinds_of abc) (row_abc key (pos a) (pos b) (pos c))
@@ -54,14 +54,16 @@ rows_have =
 sound : IsSound (counted (state.Answered (reply.Count 4)))
 sound = record { some = omega arith; most = omega arith; few = omega arith; numbered = refl; short = omega arith; below = (record { conds = All-nil (λ (c : Cond). c.attr < 3); want = tt }, tt) }
 
-pub counted_of_run : IsOfRun (counted (state.Answered (reply.Count 4)))
-counted_of_run = record {
-  sound = sound;
-  schema = abc_schema;
-  cells = rows_have;
-  calls = All-cons (IsCalled abc) (entry 1 (asking want.Count) (state.Answered (reply.Count 4))) [] count_called (All-nil (IsCalled abc));
-  in_order = λ some. absurd (false≢true some);
-}
+pub counted_of_run : IsOfRun (counted (state.Answered (reply.Count 4))) × KnowsInOrder (counted (state.Answered (reply.Count 4)))
+counted_of_run = (
+  record {
+    sound = sound;
+    schema = abc_schema;
+    cells = rows_have;
+    calls = All-cons (IsCalled abc) (entry 1 (asking want.Count) (state.Answered (reply.Count 4))) [] count_called (All-nil (IsCalled abc));
+  },
+  λ some. absurd (false≢true some),
+)
 
 abbrev deleting : Call
 deleting = call.DeleteWhere (cond 0 (at_least (pos 12)) (at_most (pos 12)) ∷ [])
@@ -83,14 +85,16 @@ delete_sound = record {
   below = (All-from_recursion (λ (c : Cond). c.attr < 3) (cond 0 (at_least (pos 12)) (at_most (pos 12)) ∷ []) (omega arith, tt), tt);
 }
 
-pub deleted_of_run : IsOfRun (deleted (state.Answered (reply.RemovedMany 2)))
-deleted_of_run = record {
-  sound = delete_sound;
-  schema = abc_schema;
-  cells = rows_have;
-  calls = All-cons (IsCalled abc) (entry 1 deleting (state.Answered (reply.RemovedMany 2))) [] deleting_called (All-nil (IsCalled abc));
-  in_order = λ some. absurd (false≢true some);
-}
+pub deleted_of_run : IsOfRun (deleted (state.Answered (reply.RemovedMany 2))) × KnowsInOrder (deleted (state.Answered (reply.RemovedMany 2)))
+deleted_of_run = (
+  record {
+    sound = delete_sound;
+    schema = abc_schema;
+    cells = rows_have;
+    calls = All-cons (IsCalled abc) (entry 1 deleting (state.Answered (reply.RemovedMany 2))) [] deleting_called (All-nil (IsCalled abc));
+  },
+  λ some. absurd (false≢true some),
+)
 
 -- ---- texts
 
@@ -139,12 +143,14 @@ visits_sound = record {
   below = (record { conds = All-from_recursion (λ (c : Cond). c.attr < 2) (cond 0 (at_least (pos 1)) (at_most (pos 1)) ∷ []) (omega arith, tt); want = tt }, (tt, tt));
 }
 
-pub visited_of_run : IsOfRun (visited (state.Answered (reply.Count 2)) (state.Answered (reply.Inserted 4)))
+pub visited_of_run : IsOfRun (visited (state.Answered (reply.Count 2)) (state.Answered (reply.Inserted 4))) × KnowsInOrder (visited (state.Answered (reply.Count 2)) (state.Answered (reply.Inserted 4)))
 unfolding chars digits is_utf8 encode_utf8
-visited_of_run = record {
-  sound = visits_sound;
-  schema = cities_schema;
-  cells = city_rows_have;
-  calls = All-from_recursion (IsCalled cities) (entry 1 counting (state.Answered (reply.Count 2)) ∷ entry 1 inserting (state.Answered (reply.Inserted 4)) ∷ []) (counting_called, (inserting_called, tt));
-  in_order = λ some. refl;
-}
+visited_of_run = (
+  record {
+    sound = visits_sound;
+    schema = cities_schema;
+    cells = city_rows_have;
+    calls = All-from_recursion (IsCalled cities) (entry 1 counting (state.Answered (reply.Count 2)) ∷ entry 1 inserting (state.Answered (reply.Inserted 4)) ∷ []) (counting_called, (inserting_called, tt));
+  },
+  λ some. refl,
+)

@@ -2,7 +2,13 @@ pub mod EntriesLemmas
 pub mod ExampleOfRun
 pub mod FileCheckLemmas
 pub mod LearnedTexts
+pub mod LegalFiles
 pub mod NarrowedLines
+pub mod OtherCalls
+pub mod OtherCodes
+pub mod OtherFiles
+pub mod OtherHistories
+pub mod OtherTexts
 pub mod OutlineLemmas
 pub mod RecordBack
 pub mod RecordLaws

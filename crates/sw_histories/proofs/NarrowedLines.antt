@@ -59,7 +59,7 @@ toks_coded all ts pre rest known (t ∷ toks) h e = (
 -- ---- the line
 
 -- a call's line has the texts of its tokens
-texts_are : (text : List ℕ) → length text ≤ MOST_LINE → is_comment text ≡ false → texts_in_line text ≡ quoted_texts (tokens text)
+pub texts_are : (text : List ℕ) → length text ≤ MOST_LINE → is_comment text ≡ false → texts_in_line text ≡ quoted_texts (tokens text)
 texts_are text few e =
     ap (λ b. if b then [] else if is_comment text then [] else quoted_texts (tokens text)) (le-ltb MOST_LINE (length text) few)
     ∙ ap (λ b. if b then [] else quoted_texts (tokens text)) e

@@ -43,7 +43,7 @@ use Rattle.sw_spine.specs.declared.spine.TheConstants.{MOST_ENTRIES, MOST_SESSIO
 use Rattle.sw_histories.specs.RecordReading.{cell_in, cells_after, cells_of, format_in, header_in, in_range, items_list, may_stand, number_in, of_kind, row_in, row_texts, rows_after, rows_in, rows_up_to, state_of, text_in, texts_after, with_row}
 use Rattle.sw_histories.specs.RecordRelation.{AreEntries, IsEntry, IsRecord}
 use Rattle.sw_histories.specs.RecordText.{attribute_text, cell_data, cells_data, entry_data, format_of, has_delete_where, is_delete_where, least_format, list_data, record_data, record_text, row_data, state_data}
-use Rattle.sw_histories.specs.ReadBack.{AreCells, HasCells, HasWords, IsCalled, IsCellOf, IsOfRun, IsStateOf, IsWord, RecordsAreReadBack, entry_in_lines, in_lines, with_lines}
+use Rattle.sw_histories.specs.ReadBack.{AreCells, HasCells, HasWords, IsCalled, IsCellOf, IsOfRun, IsStateOf, IsWord, KnowsInOrder, RecordsAreReadBack, entry_in_lines, in_lines, with_lines}
 use Rattle.sw_histories.proofs.LearnedTexts.{one_more}
 use Rattle.sw_histories.proofs.NarrowedLines.{coded_in, line_narrowed}
 use Rattle.sw_histories.proofs.RecordBack.{record_read}
@@ -60,7 +60,7 @@ texts_again : (done ts : List (List ℕ)) → texts_after done (map (λ t. strin
 texts_again done [] = ap (λ l. Some l) (sym (append-nil done))
 texts_again done (t ∷ ts) = texts_again (done ++ t ∷ []) ts ∙ ap (λ l. Some l) (append_assoc done (t ∷ []) ts)
 
-texts_back : (ts : List (List ℕ)) → texts_after [] (items_list (items_of (map (λ t. string t) ts))) ≡ Some ts
+pub texts_back : (ts : List (List ℕ)) → texts_after [] (items_list (items_of (map (λ t. string t) ts))) ≡ Some ts
 texts_back ts = ap (texts_after []) (list_items (map (λ t. string t) ts)) ∙ texts_again [] ts
 
 -- ---- the header
@@ -95,19 +95,19 @@ header_back cs ok =
       distinct = named.0.sound.distinct;
     })
 
-columns_back : (h : History) → IsSchema h.columns → header_in (record_data h) ≡ Some (holding [] h.columns)
+pub columns_back : (h : History) → IsSchema h.columns → header_in (record_data h) ≡ Some (holding [] h.columns)
 columns_back h ok =
     ap (option_and_then (λ ts. result_ok (header_of ts))) (texts_back (map attribute_text h.columns))
     ∙ ap (λ r. result_ok r) (header_back h.columns ok)
 
 -- ---- numbers
 
-within : (least most n : ℕ) → least ≤ n → n ≤ most → in_range least most n ≡ Some n
+pub within : (least most n : ℕ) → least ≤ n → n ≤ most → in_range least most n ≡ Some n
 within least most n low high =
     ap (λ b. cond (b && nat_le n most) (Some n) None) (le-leb least n low)
     ∙ ap (λ b. cond b (Some n) None) (le-leb n most high)
 
-format_back : (h : History) → format_in (holding [] h.columns) (record_data h) ≡ Some (format_of h.columns h.entries)
+pub format_back : (h : History) → format_in (holding [] h.columns) (record_data h) ≡ Some (format_of h.columns h.entries)
 format_back h =
     ap (λ b. in_range (if b then 2 else 1) 3 (format_of h.columns h.entries)) (holding_of_texts [] h.columns)
     ∙ by_tests (has_delete_where h.entries) (has_texts h.columns)
@@ -132,7 +132,7 @@ knowing_held cs ts more = by_test (has_texts cs) refl
         let few = numbers_held ts cs none in
         ap (knowing more) few ∙ none_known cs more none ∙ sym (numbers_held (with_texts ts more) cs none)
 
-learned_held : (cs : List Column) (ts : Texts) (text : List ℕ) → learned (holding ts cs) text ≡ holding (with_texts ts (texts_in_line text)) cs
+pub learned_held : (cs : List Column) (ts : Texts) (text : List ℕ) → learned (holding ts cs) text ≡ holding (with_texts ts (texts_in_line text)) cs
 learned_held cs ts text = by_test (has_texts cs) refl
   where
     by_test : (b : Bool) → has_texts cs ≡ b → learned (holding ts cs) text ≡ holding (with_texts ts (texts_in_line text)) cs
@@ -154,7 +154,7 @@ flag_back z (inl none) = rw none refl
 flag_back z (inr one) = rw one refl
 
 -- the text of a cell of texts
-text_there : (texts : Texts) (z : ℤ) → IsSome (text_at texts z) → (code : ℕ) × (t : List ℕ) × (z ≡ pos code) × (text_of texts code ≡ Some t)
+pub text_there : (texts : Texts) (z : ℤ) → IsSome (text_at texts z) → (code : ℕ) × (t : List ℕ) × (z ≡ pos code) × (text_of texts code ≡ Some t)
 text_there texts (negsuc n) h = absurd (false≢true h)
 text_there texts (pos code) h = by_text (text_of texts code) refl h
   where
@@ -162,7 +162,7 @@ text_there texts (pos code) h = by_text (text_of texts code) refl h
     by_text None e k = absurd (false≢true k)
     by_text (Some t) e k = (code, t, refl, e)
 
-text_shown : (texts : Texts) (code : ℕ) (t : List ℕ) → AreTexts texts → text_of texts code ≡ Some t → text_in (string (unwrap_or (text_of texts code) [])) ≡ Some t
+pub text_shown : (texts : Texts) (code : ℕ) (t : List ℕ) → AreTexts texts → text_of texts code ≡ Some t → text_in (string (unwrap_or (text_of texts code) [])) ≡ Some t
 text_shown texts code t sound e =
     ap (λ o. text_in (string (unwrap_or o []))) e
     ∙ ap (λ b. if b then Some t else None) (text_sound texts code t sound e)
@@ -190,7 +190,7 @@ cell_back all ts pre post rest known (kind.Text own) z sound h parts o c =
     let some : IsSome (text_at all z) = subst (λ vs. IsSome (text_at vs z)) o c in
     subst (λ vs. cell_in (kind.Text (with_texts ts known)) (cell_data (kind.Text vs) z) ≡ Some z) (sym o) (code_back all ts pre post rest known z sound (h refl) parted some)
 
-or_right : (a b : Bool) → b ≡ true → (a || b) ≡ true
+pub or_right : (a b : Bool) → b ≡ true → (a || b) ≡ true
 or_right true b h = refl
 or_right false b h = h
 
@@ -199,7 +199,7 @@ or_left true b h = refl
 or_left false b h = absurd (false≢true h)
 
 -- domains over all texts
-abbrev AreOver : Texts → List Domain → Type 0
+abbrev pub AreOver : Texts → List Domain → Type 0
 AreOver all ks = AllByRecursion (IsOver all) ks
 
 cells_again : (all ts pre rest known : Texts) (done : List ℤ) (ks : List Domain) (zs : List ℤ) → AreTexts all → (list_any is_of_texts ks ≡ true → with_texts (with_texts ts known) rest ≡ all) → known ≡ pre ++ filter_map text_in (cells_data ks zs) → AreOver all ks → AreCells ks zs
@@ -226,18 +226,18 @@ cells_long (k ∷ ks) [] h = absurd h
 cells_long (k ∷ ks) (z ∷ zs) h = ap suc (cells_long ks zs h.1)
 
 -- cells past the last kind are not shown
-shown : (ks : List Domain) (zs ys : List ℤ) → AreCells ks zs → cells_data ks (zs ++ ys) ≡ cells_data ks zs
+pub shown : (ks : List Domain) (zs ys : List ℤ) → AreCells ks zs → cells_data ks (zs ++ ys) ≡ cells_data ks zs
 shown [] [] ys h = refl
 shown [] (z ∷ zs) ys h = absurd h
 shown (k ∷ ks) [] ys h = absurd h
 shown (k ∷ ks) (z ∷ zs) ys h = ap (λ l. cell_data k z ∷ l) (shown ks zs ys h.1)
 
-overs : (all : Texts) (cs : List Column) → All (λ c. IsOver all c.1) cs → AreOver all (kinds_of cs)
+pub overs : (all : Texts) (cs : List Column) → All (λ c. IsOver all c.1) cs → AreOver all (kinds_of cs)
 overs all [] h = tt
 overs all (c ∷ cs) h = (All-head (λ d. IsOver all d.1) c cs h, overs all cs (All-tail (λ d. IsOver all d.1) c cs h))
 
 -- the texts of rows, as a file has them
-abbrev shown_texts : List Column → List Row → Texts
+abbrev pub shown_texts : List Column → List Row → Texts
 shown_texts cs rs = flat_map (λ r. row_texts (row_data (kinds_of cs) r)) rs
 
 row_back : (cs : List Column) (ts rest : Texts) (r : Row) → IsSchema cs → (has_texts cs ≡ true → with_texts (with_texts ts (row_texts (row_data (kinds_of cs) r))) rest ≡ texts_of cs) → HasCells (kinds_of cs) r
@@ -257,7 +257,7 @@ row_back cs ts rest r ok h (zs, c, is) =
     ∙ ap (option_map padded) (cells_again (texts_of cs) ts [] rest known [] ks zs (texts_known cs ok.sound.domains) all_known parts (overs (texts_of cs) cs ok.shared) c)
     ∙ ap (λ l. Some l) (sym is)
 
-rows_again : (cs : List Column) (ts rest : Texts) (next : ℕ) (done rs : List Row) → IsSchema cs → (has_texts cs ≡ true → with_texts (with_texts ts (shown_texts cs rs)) rest ≡ texts_of cs) → next ≡ length done + 1 → is_numbered next rs ≡ true → All (HasCells (kinds_of cs)) rs
+pub rows_again : (cs : List Column) (ts rest : Texts) (next : ℕ) (done rs : List Row) → IsSchema cs → (has_texts cs ≡ true → with_texts (with_texts ts (shown_texts cs rs)) rest ≡ texts_of cs) → next ≡ length done + 1 → is_numbered next rs ≡ true → All (HasCells (kinds_of cs)) rs
     → rows_after (holding ts cs) done (map (row_data (kinds_of cs)) rs) ≡ Some (holding (with_texts ts (shown_texts cs rs)) cs, done ++ rs)
 rows_again cs ts rest next done [] ok h here n a = ap (λ l. Some (holding ts cs, l)) (sym (append-nil done))
 rows_again cs ts rest next done (r ∷ rs) ok h here n a =
@@ -281,29 +281,29 @@ rows_again cs ts rest next done (r ∷ rs) ok h here n a =
     ∙ ap (λ l. Some (holding (with_texts ts (one ++ left)) cs, l)) (append_assoc done (r ∷ []) rs)
 
 -- the texts of the calls, as a file has them
-abbrev called_texts : List Column → List Entry → Texts
+abbrev pub called_texts : List Column → List Entry → Texts
 called_texts cs es = flat_map (λ e. texts_in_line (call_text cs e.call)) es
 
 -- the attributes that know the texts of the rows
 abbrev after_rows : History → List Column
 after_rows h = holding (with_texts [] (shown_texts h.columns h.rows)) h.columns
 
-all_known : (h : History) → IsOfRun h → has_texts h.columns ≡ true → with_texts (with_texts [] (shown_texts h.columns h.rows)) (called_texts h.columns h.entries) ≡ texts_of h.columns
-all_known h r some = sym (with_more [] (shown_texts h.columns h.rows) (called_texts h.columns h.entries)) ∙ sym (r.in_order some)
+all_known : (h : History) → KnowsInOrder h → has_texts h.columns ≡ true → with_texts (with_texts [] (shown_texts h.columns h.rows)) (called_texts h.columns h.entries) ≡ texts_of h.columns
+all_known h o some = sym (with_more [] (shown_texts h.columns h.rows) (called_texts h.columns h.entries)) ∙ sym (o some)
 
-rows_back : (h : History) → IsOfRun h → rows_in (holding [] h.columns) h.limit (record_data h) ≡ Some (after_rows h, h.rows)
-rows_back h r =
+rows_back : (h : History) → IsOfRun h → KnowsInOrder h → rows_in (holding [] h.columns) h.limit (record_data h) ≡ Some (after_rows h, h.rows)
+rows_back h r o =
     let named = holding [] h.columns in
     let ks = kinds_of h.columns in
     let ds = map (row_data ks) h.rows in
     let few : nat_le (length ds) h.limit ≡ true = le-leb (length ds) h.limit (subst (λ n. n ≤ h.limit) (sym (length-map h.rows (row_data ks))) r.sound.few) in
     ap (rows_up_to named h.limit) (list_items ds)
     ∙ ap (λ b. cond b (rows_after named [] ds) None) few
-    ∙ rows_again h.columns [] (called_texts h.columns h.entries) 1 [] h.rows r.schema (all_known h r) refl r.sound.numbered r.cells
+    ∙ rows_again h.columns [] (called_texts h.columns h.entries) 1 [] h.rows r.schema (all_known h o) refl r.sound.numbered r.cells
 
 -- ---- calls that may stand
 
-abbrev all_stand_under : ℕ → List Entry → Bool
+abbrev pub all_stand_under : ℕ → List Entry → Bool
 all_stand_under format es = list_all (λ e. may_stand format e.call) es
 
 stand_under_3 : (es : List Entry) → all_stand_under 3 es ≡ true
@@ -321,7 +321,7 @@ stand_without format (e ∷ es) h =
     both (may_stand format e.call) (all_stand_under format es) (ap (λ b. not b || format == 3) parts.0) (stand_without format es parts.1)
 
 -- calls may stand in a file of the format in which they are written
-all_stand : (cs : List Column) (es : List Entry) → all_stand_under (format_of cs es) es ≡ true
+pub all_stand : (cs : List Column) (es : List Entry) → all_stand_under (format_of cs es) es ≡ true
 all_stand cs es = by_test (has_delete_where es) refl
   where
     by_test : (b : Bool) → has_delete_where es ≡ b → all_stand_under (if b then 3 else least_format cs) es ≡ true
@@ -330,7 +330,7 @@ all_stand cs es = by_test (has_delete_where es) refl
 
 -- ---- entries
 
-line_back : (columns : List Column) (text : List ℕ) (c : Call) → IsSchema columns → IsLine columns text (Some c) → IsLine columns (call_text columns c) (Some c)
+pub line_back : (columns : List Column) (text : List ℕ) (c : Call) → IsSchema columns → IsLine columns text (Some c) → IsLine columns (call_text columns c) (Some c)
 line_back columns text c ok (short, not_comment, is) =
     (call_short columns (tokens text) c ok is, no_comment columns c, call_back columns (tokens text) c ok is)
 
@@ -341,7 +341,7 @@ state_back columns c state.Open h = rw h refl
 state_back columns c state.Void h = rw h refl
 
 -- the line of a call, where its texts are known and perhaps not yet those of later calls
-line_known : (cs : List Column) (ts rest : Texts) (text : List ℕ) (c : Call) → IsSchema cs → (has_texts cs ≡ true → with_texts (with_texts ts (texts_in_line text)) rest ≡ texts_of cs) → IsLine cs text (Some c) → IsLine (learned (holding ts cs) text) text (Some c)
+pub line_known : (cs : List Column) (ts rest : Texts) (text : List ℕ) (c : Call) → IsSchema cs → (has_texts cs ≡ true → with_texts (with_texts ts (texts_in_line text)) rest ≡ texts_of cs) → IsLine cs text (Some c) → IsLine (learned (holding ts cs) text) text (Some c)
 line_known cs ts rest text c ok h is = subst (λ vs. IsLine vs text (Some c)) (sym (learned_held cs ts text)) (by_test (has_texts cs) refl)
   where
     by_test : (b : Bool) → has_texts cs ≡ b → IsLine (holding (with_texts ts (texts_in_line text)) cs) text (Some c)
@@ -359,7 +359,7 @@ entry_back format cs ts rest e stands ok h i = record {
   state = state_back cs e.call e.state i.state;
 }
 
-last_known : (cs : List Column) (ts : Texts) → IsSchema cs → (has_texts cs ≡ true → ts ≡ texts_of cs) → cs ≡ holding ts cs
+pub last_known : (cs : List Column) (ts : Texts) → IsSchema cs → (has_texts cs ≡ true → ts ≡ texts_of cs) → cs ≡ holding ts cs
 last_known cs ts ok h = by_test (has_texts cs) refl
   where
     by_test : (b : Bool) → has_texts cs ≡ b → cs ≡ holding ts cs
@@ -419,7 +419,7 @@ rows_words ks [] s h = All-nil (λ r. All IsWord r.cells)
 rows_words ks (r ∷ rs) s h =
     All-cons (λ r. All IsWord r.cells) r rs (row_words ks r s (All-head (HasCells ks) r rs h)) (rows_words ks rs s (All-tail (HasCells ks) r rs h))
 
-has_words : (h : History) → IsOfRun h → HasWords h
+pub has_words : (h : History) → IsOfRun h → HasWords h
 has_words h r = record {
   limit = let most = r.sound.most in omega (arith, most);
   sessions = sessions_words h.columns h.entries r.calls;
@@ -428,8 +428,8 @@ has_words h r = record {
 
 -- ---- the record
 
-written : (h : History) → IsOfRun h → IsRecord (record_text h) (with_lines h)
-written h r = record {
+written : (h : History) → IsOfRun h → KnowsInOrder h → IsRecord (record_text h) (with_lines h)
+written h r o = record {
   utf8 = record_utf8 h r;
   value = record_data h;
   json = record_read h (has_words h r);
@@ -440,12 +440,12 @@ written h r = record {
   format_is = format_back h;
   limit = within 1 MOST_ROWS h.limit (let some = r.sound.some in omega (arith, some)) r.sound.most;
   known = after_rows h;
-  rows = rows_back h r;
+  rows = rows_back h r o;
   items = map (entry_data h.columns) h.entries;
   items_are = ap (λ l. Some l) (list_items (map (entry_data h.columns) h.entries));
   few = subst (λ n. n ≤ MOST_ENTRIES) (sym (length-map h.entries (entry_data h.columns))) r.sound.short;
-  entries = entries_back (format_of h.columns h.entries) h.columns (with_texts [] (shown_texts h.columns h.rows)) h.entries (all_stand h.columns h.entries) r.schema (all_known h r) r.calls;
+  entries = entries_back (format_of h.columns h.entries) h.columns (with_texts [] (shown_texts h.columns h.rows)) h.entries (all_stand h.columns h.entries) r.schema (all_known h o) r.calls;
 }
 
 pub records_read_back : RecordsAreReadBack
-records_read_back h r = record_only (record_text h) (with_lines h) (written h r)
+records_read_back h r o = record_only (record_text h) (with_lines h) (written h r o)

@@ -1,5 +1,6 @@
 pub mod FileChecks
 pub mod FileExamples
+pub mod FoundLegal
 pub mod FromTokens
 pub mod Outlines
 pub mod ReadBack

@@ -76,14 +76,17 @@ texts_in_file h =
     flat_map (λ r. row_texts (row_data (kinds_of h.columns) r)) h.rows
     ++ flat_map (λ e. texts_in_line (call_text h.columns e.call)) h.entries
 
--- what holds of the record of a run: it is sound, of a table that was read, and its calls are those of lines; where an
--- attribute is of texts, these are just the texts in the file, each once, in the order in which they are first seen
+-- what holds of the record of a run: it is sound, of a table that was read, and its calls are those of lines
 pub record IsOfRun (h : History) : Type 0 where
   pub sound : IsSound h
   pub schema : IsSchema h.columns
   pub cells : All (HasCells (kinds_of h.columns)) h.rows
   pub calls : All (IsCalled h.columns) h.entries
-  pub in_order : has_texts h.columns ≡ true → texts_of h.columns ≡ with_texts [] (texts_in_file h)
+
+-- where an attribute is of texts, these are just the texts in the file, each once, in the order in which they are first
+-- seen; who reads the file gives them their codes in that order
+abbrev pub KnowsInOrder : History → Type 0
+KnowsInOrder h = has_texts h.columns ≡ true → texts_of h.columns ≡ with_texts [] (texts_in_file h)
 
 -- a reply as the lines that are printed for it
 abbrev pub in_lines : List Column → Call → State → State
@@ -99,6 +102,6 @@ entry_in_lines columns e = entry e.session e.call (in_lines columns e.call e.sta
 abbrev pub with_lines : History → History
 with_lines h = record h { entries = map (entry_in_lines h.columns) h.entries }
 
--- the text of a run's record is read as that record, with lines for replies
+-- the text of a run's record is read as that record, with lines for replies, where its texts have their codes in order
 abbrev pub RecordsAreReadBack : Type 0
-RecordsAreReadBack = (h : History) → IsOfRun h → record_at (record_text h) ≡ Ok (with_lines h)
+RecordsAreReadBack = (h : History) → IsOfRun h → KnowsInOrder h → record_at (record_text h) ≡ Ok (with_lines h)

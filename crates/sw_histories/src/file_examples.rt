@@ -7,7 +7,7 @@ ghost use Rattle.std.specs.Prelude.{◌≡◌, ◌∷◌, [], codes, Err, Ok};
 ghost use Rattle.sw_rows.specs.declared.refusal.Refusal.TheVariants.{BadLine};
 ghost use Rattle.sw_rows.specs.declared.refusal.Why.TheVariants as why;
 ghost use Rattle.sw_histories.specs.FileExamples.{counted, counted_under, deleted, deleted_under, visited, visited_file};
-ghost use Rattle.sw_histories.specs.ReadBack.{IsOfRun};
+ghost use Rattle.sw_histories.specs.ReadBack.{IsOfRun, KnowsInOrder};
 ghost use Rattle.sw_histories.specs.RecordReading.{record_at};
 ghost use Rattle.sw_histories.specs.RecordText.{record_text};
 
@@ -20,6 +20,7 @@ pub fn one_count()
     ensures written { record_text (counted (State.Answered (Reply.Count 4))) ≡ counted_under (codes "1") }
     ensures again { record_text (counted (State.Lines (codes "4" ∷ []))) ≡ counted_under (codes "1") }
     ensures of_run { IsOfRun (counted (State.Answered (Reply.Count 4))) }
+    ensures in_order { KnowsInOrder (counted (State.Answered (Reply.Count 4))) }
     ensures read { record_at (counted_under (codes "1")) ≡ Ok (counted (State.Lines (codes "4" ∷ []))) }
     ensures newer { record_at (counted_under (codes "3")) ≡ Ok (counted (State.Lines (codes "4" ∷ []))) }
     ensures unknown { record_at (counted_under (codes "4")) ≡ Err (BadLine 0 why.History) }
@@ -30,6 +31,7 @@ pub fn one_delete_where()
     ensures written { record_text (deleted (State.Answered (Reply.RemovedMany 2))) ≡ deleted_under (codes "3") }
     ensures again { record_text (deleted (State.Lines (codes "(2 removed)" ∷ []))) ≡ deleted_under (codes "3") }
     ensures of_run { IsOfRun (deleted (State.Answered (Reply.RemovedMany 2))) }
+    ensures in_order { KnowsInOrder (deleted (State.Answered (Reply.RemovedMany 2))) }
     ensures read { record_at (deleted_under (codes "3")) ≡ Ok (deleted (State.Lines (codes "(2 removed)" ∷ []))) }
     ensures first { record_at (deleted_under (codes "1")) ≡ Err (BadLine 1 why.History) }
     ensures second { record_at (deleted_under (codes "2")) ≡ Err (BadLine 1 why.History) }
@@ -43,6 +45,7 @@ pub fn two_calls_on_cities()
     ensures again { record_text (visited (State.Lines (codes "2" ∷ [])) (State.Lines (codes "key 4" ∷ [])))
         ≡ visited_file }
     ensures of_run { IsOfRun (visited (State.Answered (Reply.Count 2)) (State.Answered (Reply.Inserted 4))) }
+    ensures in_order { KnowsInOrder (visited (State.Answered (Reply.Count 2)) (State.Answered (Reply.Inserted 4))) }
     ensures read { record_at visited_file
         ≡ Ok (visited (State.Lines (codes "2" ∷ [])) (State.Lines (codes "key 4" ∷ []))) }
 {}

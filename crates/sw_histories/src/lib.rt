@@ -11,8 +11,8 @@ mod writing;
 
 pub use checking::check_file;
 pub use law::{
-    histories_are_read_as_related, records_are_read_back, tables_have_cells,
-    texts_are_read_as_values,
+    histories_are_read_as_related, legal_files_are_found_legal, records_are_read_back,
+    tables_have_cells, texts_are_read_as_values,
 };
 pub use reading::read_record;
 pub use writing::write_record;

@@ -13,7 +13,8 @@ unfolding digits chars is_utf8 call_at call_of line_at where_at record_at record
 returns c = record {
   written = refl;
   again = refl;
-  of_run = counted_of_run;
+  of_run = counted_of_run.0;
+  in_order = counted_of_run.1;
   read = refl;
   newer = refl;
   unknown = refl;

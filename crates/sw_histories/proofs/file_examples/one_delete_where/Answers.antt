@@ -13,7 +13,8 @@ unfolding digits chars is_utf8 line_at call_at call_of delete_at delete_where te
 returns c = record {
   written = refl;
   again = refl;
-  of_run = deleted_of_run;
+  of_run = deleted_of_run.0;
+  in_order = deleted_of_run.1;
   read = refl;
   first = refl;
   second = refl;

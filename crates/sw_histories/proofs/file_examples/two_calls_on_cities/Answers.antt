@@ -14,6 +14,7 @@ unfolding digits chars is_utf8 encode_utf8 line_at call_at call_of cells_at next
 returns c = record {
   written = refl;
   again = refl;
-  of_run = visited_of_run;
+  of_run = visited_of_run.0;
+  in_order = visited_of_run.1;
   read = refl;
 }
