@@ -2,10 +2,12 @@ pub mod Blocks
 pub mod Calls
 pub mod Complete
 pub mod Lists
+pub mod Mine
 pub mod Outcomes
 pub mod Ran
 pub mod Records
 pub mod RefusedLines
+pub mod RunRecords
 pub mod Going
 pub mod Learned
 pub mod Starts

@@ -1,6 +1,8 @@
 -- What a run starts from is over texts.
-use Rattle.std.proofs.Common.{◌≡◌, ◌+◌, ap, subst, refl, ℕ, Bool, true, false, All, IfSome, List, [], ◌∷◌, ◌++◌, length, nat_lt, Option, Some, None, Result, Ok, Err, if◌then◌else◌}
+use Rattle.std.proofs.Common.{◌≡◌, ◌+◌, ◌<◌, ◌≤◌, ap, arith, subst, refl, ℕ, Bool, true, false, All, IfSome, List, [], ◌∷◌, ◌++◌, length, nat_lt, Option, Some, None, Result, Ok, Err, if◌then◌else◌}
 use Rattle.std.proofs.lemmas.List.Elements.{All-nil, All-push, All-weaker}
+use Rattle.std.proofs.lemmas.Bool.Decides.{nat_tests}
+use Rattle.std.proofs.lemmas.List.{length_push}
 use Rattle.std.specs.Str.{is_utf8}
 use Rattle.sw_table.specs.declared.row.Row.{Row}
 use Rattle.sw_rows.specs.Header.{Column, Fault, IsSchema, kinds_of}
@@ -29,7 +31,9 @@ use Rattle.sw_cli.specs.Run.{Start, cuts_of, or_refusal, refusal_of, rows_within
 use Rattle.sw_cli.specs.Script.{Script, SoFar, all_blocks, blocks_of, call_of_line, calls_in, is_divider, learning, script_lines, so_far, whole, with_block, with_call, with_line, with_lines}
 use Rattle.sw_cli.specs.TextCalls.{IsOverTexts}
 use Rattle.sw_cli.specs.declared.script.TheConstants.{MOST_BLOCKS, MOST_CALLS}
-use Rattle.sw_cli.proofs.Learned.{IsRead, coded_after, read_after}
+use Rattle.sw_histories.specs.ReadBack.{HasCells}
+use Rattle.sw_histories.proofs.TableCells.{table_cells}
+use Rattle.sw_cli.proofs.Learned.{IsRead, cells_after, coded_after, read_after}
 
 -- ---- answers of several steps
 
@@ -47,6 +51,10 @@ both (Err e) f y h = absurd (no-Ok e y h)
 if-Ok : {A : Type 0} (b : Bool) (r : Result A Refusal) (e : Refusal) (y : A) → (if b then r else Err e) ≡ Ok y → r ≡ Ok y
 if-Ok true r e y h = h
 if-Ok false r e y h = absurd (no-Ok e y h)
+
+if-test : {A : Type 0} (b : Bool) (r : Result A Refusal) (e : Refusal) (y : A) → (if b then r else Err e) ≡ Ok y → b ≡ true
+if-test true r e y h = refl
+if-test false r e y h = absurd (no-Ok e y h)
 
 unless-Ok : {A : Type 0} (b : Bool) (r : Result A Refusal) (e : Refusal) (y : A) → (if b then Err e else r) ≡ Ok y → r ≡ Ok y
 unless-Ok true r e y h = absurd (no-Ok e y h)
@@ -66,15 +74,21 @@ unfaulted (Err f) x h = absurd (no-Ok (refusal_of f) x h)
 record AreOver (rs : List Row) (p : SoFar) : Type 0 where
   schema : IsSchema p.columns
   rows : AreCoded (kinds_of p.columns) rs
+  cells : All (HasCells (kinds_of p.columns)) rs
+  few : length (all_blocks p) ≤ MOST_BLOCKS
   closed : All (All (IsRead p.columns)) p.closed
   last : All (IsRead p.columns) p.last
 
 block-over : (rs : List Row) (p q : SoFar) → AreOver rs p → with_block p ≡ Ok q → AreOver rs q
 block-over rs p q o h =
     let made = if-Ok (nat_lt (length (all_blocks p)) MOST_BLOCKS) (Ok (so_far p.columns (all_blocks p) [])) (TooMany MOST_BLOCKS) q h in
+    let room : nat_lt (length (all_blocks p)) MOST_BLOCKS ≡ true = if-test (nat_lt (length (all_blocks p)) MOST_BLOCKS) (Ok (so_far p.columns (all_blocks p) [])) (TooMany MOST_BLOCKS) q h in
+    let less : length (all_blocks p) < 1024 = grind (arith, nat_tests, room) in
     subst (AreOver rs) (same-Ok {E = Refusal} _ q made) (record {
       schema = o.schema;
       rows = o.rows;
+      cells = o.cells;
+      few = omega (arith, length_push (all_blocks p) (let none : List Call = [] in none), less);
       closed = All-push (All (IsRead p.columns)) p.closed p.last o.closed o.last;
       last = All-nil (IsRead p.columns);
     })
@@ -83,6 +97,8 @@ learning-over : (rs : List Row) (p : SoFar) (line : List ℕ) → AreOver rs p �
 learning-over rs p line o = record {
   schema = learned_schema p.columns line o.schema;
   rows = coded_after p.columns line rs o.schema o.rows;
+  cells = cells_after p.columns line rs o.schema o.cells;
+  few = o.few;
   closed = All-weaker (All (IsRead p.columns)) (All (IsRead (learned p.columns line))) (λ cs h. All-weaker (IsRead p.columns) (IsRead (learned p.columns line)) (λ c r. read_after p.columns line c o.schema r) cs h) p.closed o.closed;
   last = All-weaker (IsRead p.columns) (IsRead (learned p.columns line)) (λ c r. read_after p.columns line c o.schema r) p.last o.last;
 }
@@ -94,6 +110,8 @@ call-over rs p q (Some c) o read h =
     subst (AreOver rs) (same-Ok {E = Refusal} _ q made) (record {
       schema = o.schema;
       rows = o.rows;
+      cells = o.cells;
+      few = omega (arith, length_push p.closed p.last, length_push p.closed (p.last ++ c ∷ []), o.few);
       closed = o.closed;
       last = All-push (IsRead p.columns) p.last c o.last read;
     })
@@ -138,20 +156,26 @@ pub record AllOver (columns : List Column) (rs : List Row) (blocks : List (List 
   pub schema : IsSchema columns
   pub rows : AreCoded (kinds_of columns) rs
   pub calls : All (All (IsOverTexts columns)) blocks
+  pub cells : All (HasCells (kinds_of columns)) rs
+  pub read : All (All (IsRead columns)) blocks
+  pub few : length blocks ≤ MOST_BLOCKS
 
 whole-over : (rs : List Row) (p : SoFar) → AreOver rs p → AllOver p.columns rs (all_blocks p)
 whole-over rs p o = record {
   schema = o.schema;
   rows = o.rows;
   calls = All-weaker (All (IsRead p.columns)) (All (IsOverTexts p.columns)) (λ cs h. All-weaker (IsRead p.columns) (IsOverTexts p.columns) (read-over p.columns) cs h) (all_blocks p) (All-push (All (IsRead p.columns)) p.closed p.last o.closed o.last);
+  cells = o.cells;
+  read = All-push (All (IsRead p.columns)) p.closed p.last o.closed o.last;
+  few = o.few;
 }
 
-script-over : (rs : List Row) (columns : List Column) (bytes : List ℕ) (s : Script) → IsSchema columns → AreCoded (kinds_of columns) rs → script_of columns bytes ≡ Ok s → AllOver s.columns rs s.blocks
-script-over rs columns bytes s is coded h =
+script-over : (rs : List Row) (columns : List Column) (bytes : List ℕ) (s : Script) → IsSchema columns → AreCoded (kinds_of columns) rs → All (HasCells (kinds_of columns)) rs → script_of columns bytes ≡ Ok s → AllOver s.columns rs s.blocks
+script-over rs columns bytes s is coded cells h =
     let few = both (or_refusal (bytes_within MOST_BYTES bytes)) (blocks_of columns) s h in
     let start : SoFar = so_far columns [] [] in
     let steps = both (with_lines 1 start (script_lines few.0)) (λ p. Ok (whole p)) s few.2 in
-    let begins : AreOver rs start = record { schema = is; rows = coded; closed = All-nil (All (IsRead columns)); last = All-nil (IsRead columns) } in
+    let begins : AreOver rs start = record { schema = is; rows = coded; cells = cells; few = omega arith; closed = All-nil (All (IsRead columns)); last = All-nil (IsRead columns) } in
     subst (λ (t : Script). AllOver t.columns rs t.blocks) (same-Ok {E = Refusal} (whole steps.0) s steps.2) (whole-over rs steps.0 (lines-over rs 1 start steps.0 (script_lines few.0) begins steps.1))
 
 same-rows : (limit : ℕ) (rs found : List Row) → rows_within limit rs ≡ Ok found → rs ≡ found
@@ -165,6 +189,6 @@ start_over limit cuts table script s h =
     let second = both (script_of t.columns script) _ s first.2 in
     let third = both (cuts_of second.0.columns cuts) _ s second.2 in
     let fourth = both (rows_within limit t.rows) _ s third.2 in
-    let over = script-over t.rows t.columns script second.0 (table-schema table t read) (table_coded table t read) second.1 in
+    let over = script-over t.rows t.columns script second.0 (table-schema table t read) (table_coded table t read) (table_cells table t read) second.1 in
     let rows = subst (λ (rs : List Row). AllOver second.0.columns rs second.0.blocks) (same-rows limit t.rows fourth.0 fourth.1) over in
     subst (λ (x : Start). AllOver x.columns x.rows x.blocks) (same-Ok {E = Refusal} _ s fourth.2) rows

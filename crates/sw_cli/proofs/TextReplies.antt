@@ -26,6 +26,7 @@ use Rattle.sw_spine.proofs.StoreLemmas.{rows_of_opened, rows_push}
 use Rattle.sw_cli.specs.Outcomes.{Outcome, answered, calls_of}
 use Rattle.sw_cli.specs.Run.{Leaves, Start, is_session, start_of}
 use Rattle.sw_cli.specs.TextCalls.{AreEntriesOverTexts, AreRepliesOverTexts, GivesOverTexts, IsOverTexts, IsReplyOverTexts}
+use Rattle.sw_cli.proofs.Mine.{AllOfMine, all_mine, first_mine, rest_mine}
 use Rattle.sw_cli.proofs.TextCalls.{start_over}
 
 -- ---- rows stay coded
@@ -95,24 +96,7 @@ Over columns m = IsOverTexts columns m.0
 
 -- so are those of each session
 abbrev AllMine : List Column → List Entry → Type 0
-AllMine columns es = (session : ℕ) → All (Over columns) (mine session es)
-
-rest-mine : (columns : List Column) (e : Entry) (es : List Entry) → AllMine columns (e ∷ es) → AllMine columns es
-rest-mine columns e es over session = by_test (e.session == session) (over session)
-  where
-    by_state : (st : State) → All (Over columns) (with_answer e.call st (mine session es)) → All (Over columns) (mine session es)
-    by_state (Answered r) h = All-tail (Over columns) (e.call, r) (mine session es) h
-    by_state (Lines ls) h = h
-    by_state Open h = h
-    by_state Void h = h
-
-    by_test : (b : Bool) → All (Over columns) (cond b (with_answer e.call e.state (mine session es)) (mine session es)) → All (Over columns) (mine session es)
-    by_test true h = by_state e.state h
-    by_test false h = h
-
--- those of the session of an entry begin with its own
-first-mine : (columns : List Column) (e : Entry) (es : List Entry) → AllMine columns (e ∷ es) → All (Over columns) (with_answer e.call e.state (mine e.session es))
-first-mine columns e es over = subst (λ (b : Bool). All (Over columns) (cond b (with_answer e.call e.state (mine e.session es)) (mine e.session es))) (let t : (e.session == e.session) ≡ true = grind (arith, nat_tests) in t) (over e.session)
+AllMine columns es = AllOfMine (IsOverTexts columns) es
 
 select-keeps : (columns : List Column) (limit : ℕ) (us : List Update) (c : Call) → is_select c ≡ true → HasCoded columns us → HasCoded columns (updates_then limit us c)
 select-keeps columns limit us (Select q) is h = none-keeps columns us h
@@ -140,36 +124,8 @@ and-right false b h = absurd cc
 entries-over : (columns : List Column) (limit : ℕ) (us : List Update) (es : List Entry) → IsSchema columns → HasCoded columns us → AllAgree columns limit us es → all_given es ≡ true → AllMine columns es → AreEntriesOverTexts columns limit us es
 entries-over columns limit us [] is h agree given over = tt
 entries-over columns limit us (e ∷ es) is h agree given over =
-    let first = entry-over columns limit us e.call e.state (mine e.session es) is h agree.0 (and-left (is_given e.state) (all_given es) given) (first-mine columns e es over) in
-    (first.0, entries-over columns limit (updates_then limit us e.call) es is first.1 agree.1 (and-right (is_given e.state) (all_given es) given) (rest-mine columns e es over))
-
--- the answered ones of calls over texts are
-answered-over : (columns : List Column) (os : List Outcome) → All (IsOverTexts columns) (calls_of os) → All (Over columns) (answered os)
-answered-over columns [] h = All-nil (Over columns)
-answered-over columns ((c, Ok r) ∷ os) h = All-cons (Over columns) (c, r) (answered os) (All-head (IsOverTexts columns) c (calls_of os) h) (answered-over columns os (All-tail (IsOverTexts columns) c (calls_of os) h))
-answered-over columns ((c, Err e) ∷ os) h = answered-over columns os (All-tail (IsOverTexts columns) c (calls_of os) h)
-
--- the calls of a block of outcomes are those of the start's block
-block-over : (limit : ℕ) (s : Start) (told : List (List Outcome)) (old new : Option (List ℕ)) (h : History) (i : ℕ) → Leaves limit s told old new h → All (All (IsOverTexts s.columns)) s.blocks → i < length told → All (Over s.columns) (answered (get_or told i []))
-block-over limit s told old new h i l over less =
-    let all : All (All (IsOverTexts s.columns)) (map calls_of told) = subst (All (All (IsOverTexts s.columns))) (sym l.calls) over in
-    let many : length (map calls_of told) ≡ length told = length-map told calls_of in
-    let here : All (IsOverTexts s.columns) (get_or (map calls_of told) i []) = all i [] (omega (arith, many, less)) in
-    answered-over s.columns (get_or told i []) (subst (All (IsOverTexts s.columns)) (get_or-map calls_of told i [] [] less) here)
-
--- each session has the calls of its block, or none
-mine-over : (limit : ℕ) (s : Start) (told : List (List Outcome)) (old new : Option (List ℕ)) (h : History) → Leaves limit s told old new h → All (All (IsOverTexts s.columns)) s.blocks → AllMine s.columns h.entries
-mine-over limit s told old new h l over session = by_session (is_session (length told) session) refl
-  where
-    Mine : List (Call × Reply) → Type 0
-    Mine ms = All (Over s.columns) ms
-
-    by_session : (b : Bool) → is_session (length told) session ≡ b → Mine (mine session h.entries)
-    by_session false e = subst Mine (sym (mine_absent session h.entries (l.record_is.alone session e))) (All-nil (Over s.columns))
-    by_session true e =
-        let inside : session - 1 < length told = grind (arith, nat_tests, e) in
-        let number : session - 1 + 1 ≡ session = grind (arith, nat_tests, e) in
-        subst (λ (n : ℕ). Mine (mine n h.entries)) number (subst Mine (sym (l.record_is.answered_are (session - 1) inside)) (block-over limit s told old new h (session - 1) l over inside))
+    let first = entry-over columns limit us e.call e.state (mine e.session es) is h agree.0 (and-left (is_given e.state) (all_given es) given) (first_mine (IsOverTexts columns) e es over) in
+    (first.0, entries-over columns limit (updates_then limit us e.call) es is first.1 agree.1 (and-right (is_given e.state) (all_given es) given) (rest_mine (IsOverTexts columns) e es over))
 
 legal-from : (c d : List Column) (m n : ℕ) (x y : List Row) (h : History) → c ≡ d → m ≡ n → x ≡ y → AllAgree c m (opened x) h.entries → AllAgree d n (opened y) h.entries
 legal-from c d m n x y h ec em ex a = subst (λ (d : List Column). AllAgree d n (opened y) h.entries) ec (subst (λ (n : ℕ). AllAgree c n (opened y) h.entries) em (subst (λ (y : List Row). AllAgree c m (opened y) h.entries) ex a))
@@ -179,4 +135,4 @@ record_over limit cuts table script s told old new h read l =
     let o = start_over limit cuts table script s read in
     let r = l.record_is in
     let agree : AllAgree s.columns limit (opened s.rows) h.entries = legal-from h.columns s.columns h.limit limit h.rows s.rows h r.columns_are r.limit_is r.rows_are r.legal in
-    entries-over s.columns limit (opened s.rows) h.entries o.schema (opened-coded s.columns s.rows o.rows) agree r.given (mine-over limit s told old new h l o.calls)
+    entries-over s.columns limit (opened s.rows) h.entries o.schema (opened-coded s.columns s.rows o.rows) agree r.given (all_mine (IsOverTexts s.columns) limit s told old new h l o.calls)

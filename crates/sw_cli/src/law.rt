@@ -3,6 +3,7 @@
 ghost use Rattle.std.specs.Prelude.{◌≡◌, ◌∷◌, [], ℕ, All, List, Ok, Option};
 ghost use Rattle.sw_cli.specs.Outcomes.{Outcome};
 ghost use Rattle.sw_cli.specs.Run.{Leaves, Start, start_of};
+ghost use Rattle.sw_cli.specs.RunRecords.{RecordsAreFoundLegal, RecordsAreOfRuns};
 ghost use Rattle.sw_cli.specs.TextCalls.{AreEntriesOverTexts, AreRepliesOverTexts, IsOverTexts};
 ghost use Rattle.sw_rows.specs.Header.{Column, IsSchema, kinds_of};
 ghost use Rattle.sw_rows.specs.TextRows.{AreCoded};
@@ -45,4 +46,14 @@ pub fn replies_are_over_texts()
         (old new : Option (List ℕ)) (h : History)
         → start_of limit cuts table script ≡ Ok s → Leaves limit s told old new h
         → AreEntriesOverTexts s.columns limit (opened s.rows) h.entries }
+{}
+
+/// The record that a run leaves is one of which history files tell (`IsOfRun`), where each select that it was refused and
+/// that stands in it as void is one that some line gives: no clause says of a run that it is. So the check finds the file
+/// of that record legal: status 0 and `legal: N entries`, unless memory is wanting or the sink fails.
+///
+/// The function does nothing.
+pub fn files_of_runs_are_legal()
+    ensures of_runs { RecordsAreOfRuns }
+    ensures found { RecordsAreFoundLegal }
 {}

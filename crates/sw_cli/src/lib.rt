@@ -20,7 +20,7 @@ mod watching;
 
 pub use boxes::blank_boxes;
 pub use fault::{status, write_fault};
-pub use law::{replies_are_over_texts, runs_are_over_texts};
+pub use law::{files_of_runs_are_legal, replies_are_over_texts, runs_are_over_texts};
 pub use looking_on::{Nobody, Onlooker};
 pub use noting::Noting;
 pub use running::{Options, run, run_told, run_with};
