@@ -1,10 +1,10 @@
 #!/usr/bin/env python3
 """Texts that are picked so that they collide under the hash of a dictionary with a fixed seed: a table, a script and a history
-file of them may take no more than three times what others of the same length take. Ends with 1 where one takes more.
+file of them may take no more than three times the processor time that others of the same length take. Ends with 1 where one takes more.
 
     python3 tests/collisions.py PROGRAM
 """
-import itertools, random, string, struct, subprocess, sys, tempfile, time
+import itertools, random, resource, string, struct, subprocess, sys, tempfile
 from pathlib import Path
 
 # How many texts there are in a table, and in the lines of a script.
@@ -53,14 +53,15 @@ def others(many, rng):
 
 
 def timed(program, folder, words):
-    """The least time of some runs, in seconds."""
+    """The least processor time of some runs, in seconds: other work on the machine does not count."""
     least = None
     for _ in range(TURNS):
-        begun = time.monotonic()
+        before = resource.getrusage(resource.RUSAGE_CHILDREN)
         done = subprocess.run([program] + words, cwd=folder, stdout=subprocess.DEVNULL, stderr=subprocess.PIPE, timeout=PATIENCE)
-        took = time.monotonic() - begun
+        after = resource.getrusage(resource.RUSAGE_CHILDREN)
         if done.returncode != 0:
             sys.exit(f"{words}: status {done.returncode}, {done.stderr.decode()}")
+        took = after.ru_utime - before.ru_utime + after.ru_stime - before.ru_stime
         least = took if least is None else min(least, took)
     return least
 

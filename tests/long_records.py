@@ -10,16 +10,27 @@ from pathlib import Path
 SIZE = 64 * 2**20
 MOST_TIMES = 2.0
 
-ROWS = b"1,2,3\n" * 1000
-QUOTED = b'"\n",' * (SIZE // 4)
+PIECE = 2**20
+COMMAS = (b"," * PIECE, SIZE // PIECE)
+QUOTED = (b'"\n",' * (PIECE // 4), SIZE // PIECE)
+ROWS = (b"1,2,3\n", 1000)
+# A table by its pieces, each with how often it stands there, and the refusal. No table stands in this process's memory, since what that has
+# counts for a child that it starts.
 CASES = {
-    "a header of commas": (b"," * SIZE, "refused 5 limit 8"),
-    "a header of quoted fields": (QUOTED, "refused 5 limit 8"),
-    "a row of commas": (b"a,b,c\n" + b"," * SIZE, "refused 2 record 1 field 4"),
-    "a row of commas behind others": (b"a,b,c\n" + ROWS + b"," * SIZE, "refused 2 record 1001 field 4"),
-    "a row of quoted fields": (b"a,b,c\n" + ROWS + QUOTED, "refused 2 record 1001 field 4"),
-    "a row of commas behind texts": (b'a:text,b,c\n"x, y",2,3\n' + b"z" + b"," * SIZE, "refused 2 record 2 field 4"),
+    "a header of commas": ([COMMAS], "refused 5 limit 8"),
+    "a header of quoted fields": ([QUOTED], "refused 5 limit 8"),
+    "a row of commas": ([(b"a,b,c\n", 1), COMMAS], "refused 2 record 1 field 4"),
+    "a row of commas behind others": ([(b"a,b,c\n", 1), ROWS, COMMAS], "refused 2 record 1001 field 4"),
+    "a row of quoted fields": ([(b"a,b,c\n", 1), ROWS, QUOTED], "refused 2 record 1001 field 4"),
+    "a row of commas behind texts": ([(b'a:text,b,c\n"x, y",2,3\nz', 1), COMMAS], "refused 2 record 2 field 4"),
 }
+
+
+def written(path, pieces):
+    with open(path, "wb") as file:
+        for piece, times in pieces:
+            for _ in range(times):
+                file.write(piece)
 
 
 def ran(program, folder):
@@ -36,10 +47,10 @@ def main():
     with tempfile.TemporaryDirectory() as home:
         folder = Path(home)
         (folder / "s.txt").write_bytes(b"count\n")
-        for name, (table, refusal) in CASES.items():
-            (folder / "t.csv").write_bytes(table)
+        for name, (pieces, refusal) in CASES.items():
+            written(folder / "t.csv", pieces)
             status, line, used = ran(program, folder)
-            times = used / len(table)
+            times = used / (folder / "t.csv").stat().st_size
             print(f"{name}: {line}, {times:.2f} times the file")
             if (status, line) != (2, "sideways: " + refusal) or times > MOST_TIMES:
                 sys.exit(1)
