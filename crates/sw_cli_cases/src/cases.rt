@@ -4,7 +4,7 @@ ghost use Rattle.std.specs.Prelude.{◌<◌, ◌≤◌};
 ghost use Rattle.sw_rows.specs.declared.table.TheConstants.{MOST_ROWS};
 
 use crate::faults::fault;
-use crate::files::{checked, cuts, file};
+use crate::files::{checked, cuts, explained, file};
 use crate::sinks::{Failing, noted};
 use crate::text::unescaped;
 use std::alloc::{AllocError, Global};
@@ -258,6 +258,7 @@ impl Bench {
             "history" => history(rt, alloc, &self.table, &bytes, self.limit),
             "check" => checked(alloc, &bytes),
             "entries" => checked(alloc, &file(alloc, &bytes)?),
+            "explain" => explained(alloc, &file(alloc, &bytes)?),
             "cuts" => cuts(alloc, &file(alloc, &bytes)?),
             "noting" => noted(alloc, &bytes),
             "table" => {

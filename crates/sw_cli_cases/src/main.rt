@@ -10,6 +10,7 @@
 //! - `history TEXT`: the history file of a script over the table
 //! - `check TEXT`: the verdict on a history file, with the status
 //! - `entries TEXT`: the same of a file with these entries over the table of the examples
+//! - `explain TEXT`: the same, explained
 //! - `cuts TEXT`: the refusals of such a file when it is cut after each of its bytes, each one once
 //! - `fault NUMBER`: the line of a refusal, and the status
 //! - `noting TEXT`: whether a line that was refused went out, where TEXT is written in pieces that are divided by |
