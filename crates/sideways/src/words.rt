@@ -10,13 +10,57 @@ const MOST_CELLS: i64 = 1_099_511_627_776;
 /// The greatest number of maps at a time.
 const MOST_MAPS: i64 = 4096;
 
-fn file<'a>(alloc: Global, name: &'a str, help: &'a str) -> Arg<'a> {
-    Arg::new(alloc, name)
-        .long(name)
+/// What ends the help of each command.
+const EXAMPLES: &str = "\
+Examples:
+  sideways run --table t.csv -e 'count where a >= 10'
+  sideways run --help
+  sideways explain 2";
+
+const EXAMPLES_OF_RUN: &str = "\
+Examples:
+  sideways run --table t.csv -e 'count' -e 'select b where a >= 10'
+  sideways run --table t.csv --script calls.txt --history h.json
+  zcat t.csv.gz | sideways run --table - -e 'sum b where a < 20' --stats";
+
+const EXAMPLES_OF_CHECK: &str = "\
+Examples:
+  sideways run --table t.csv --script calls.txt --history h.json
+  sideways check h.json";
+
+const EXAMPLES_OF_EXPLAIN: &str = "\
+Examples:
+  sideways explain 2
+  sideways explain";
+
+fn table<'a>(alloc: Global) -> Arg<'a> {
+    Arg::new(alloc, "table")
+        .long("table")
         .value_name("FILE")
-        .help(help)
+        .help(
+            "The table: comma-separated values, of which the first record names the attributes; - is standard input",
+        )
         .required(true)
         .action(ArgAction::Set)
+}
+
+fn script<'a>(alloc: Global) -> Result<Arg<'a>, AllocError> {
+    Arg::new(alloc, "script")
+        .long("script")
+        .value_name("FILE")
+        .help("The script: a call a line; a line --- divides blocks; - is standard input")
+        .action(ArgAction::Set)
+        .required_unless_present("call")
+}
+
+fn call<'a>(alloc: Global) -> Result<Arg<'a>, AllocError> {
+    Arg::new(alloc, "call")
+        .short('e')
+        .value_name("CALL")
+        .help("A call, in place of a script; given again, a line each")
+        .action(ArgAction::Append)
+        .allow_hyphen_values(true)
+        .conflicts_with("script")
 }
 
 fn history<'a>(alloc: Global) -> Arg<'a> {
@@ -117,23 +161,26 @@ fn quiet<'a>(alloc: Global) -> Arg<'a> {
         .action(ArgAction::SetTrue)
 }
 
-fn files<'a>(alloc: Global) -> Result<Command<'a>, AllocError> {
+fn all_faults<'a>(alloc: Global) -> Arg<'a> {
+    Arg::new(alloc, "all-faults")
+        .long("all-faults")
+        .help(
+            "Where a row of the table is refused, lists each bad cell of the table on standard error, up to a thousand, and how many there are",
+        )
+        .action(ArgAction::SetTrue)
+}
+
+fn inputs<'a>(alloc: Global) -> Result<Command<'a>, AllocError> {
     Command::new(alloc, "run")
         .about("Answers the calls of a script over a table, a reply line each")
-        .arg(file(
-            alloc,
-            "table",
-            "The table: comma-separated values, of which the first record names the attributes",
-        ))?
-        .arg(file(
-            alloc,
-            "script",
-            "The script: a call a line; a line --- divides blocks",
-        ))
+        .after_help(EXAMPLES_OF_RUN)
+        .arg(table(alloc))?
+        .arg(script(alloc)?)?
+        .arg(call(alloc)?)
 }
 
 fn run_command<'a>(alloc: Global) -> Result<Command<'a>, AllocError> {
-    files(alloc)?
+    inputs(alloc)?
         .arg(budget(alloc))?
         .arg(maps(alloc))?
         .arg(cuts(alloc))?
@@ -142,12 +189,14 @@ fn run_command<'a>(alloc: Global) -> Result<Command<'a>, AllocError> {
         .arg(stats(alloc))?
         .arg(times(alloc))?
         .arg(quiet(alloc))?
+        .arg(all_faults(alloc))?
         .arg(history(alloc))
 }
 
 fn check_command<'a>(alloc: Global) -> Result<Command<'a>, AllocError> {
     Command::new(alloc, "check")
         .about("Says whether a history is that of one thread over a plain list of rows")
+        .after_help(EXAMPLES_OF_CHECK)
         .arg(
             Arg::new(alloc, "file")
                 .value_name("FILE")
@@ -160,6 +209,7 @@ fn check_command<'a>(alloc: Global) -> Result<Command<'a>, AllocError> {
 fn explain_command<'a>(alloc: Global) -> Result<Command<'a>, AllocError> {
     Command::new(alloc, "explain")
         .about("Says what the number after `refused` means, and what to do about it")
+        .after_help(EXAMPLES_OF_EXPLAIN)
         .arg(
             Arg::new(alloc, "number")
                 .value_name("N")
@@ -175,6 +225,7 @@ pub(crate) fn command<'a>(alloc: Global) -> Result<Command<'a>, AllocError> {
     Command::new(alloc, "sideways")
         .about("A column engine in memory that answers ranges by database cracking")
         .version("0.1.0")
+        .after_help(EXAMPLES)
         .subcommand_required(true)
         .subcommand(run)?
         .subcommand(check_command(alloc)?)?

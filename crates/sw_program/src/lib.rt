@@ -5,16 +5,20 @@
 mod checking;
 mod clash;
 mod explaining;
+mod inputs;
 mod running;
 mod seeing;
 mod settings;
 mod stacks;
+mod wording;
 
 pub use checking::check_path;
 pub use clash::Clash;
 pub use explaining::explain;
+pub use inputs::{Place, Script};
 pub use running::Run;
 pub use seeing::Sights;
 pub use settings::{Limit, Settings};
 pub use sw_cli::{status, write_fault};
+pub use sw_lang::write_all as write_text;
 pub use sw_rows::Refusal;

@@ -5,9 +5,12 @@ ghost use Rattle.sw_rows.specs.declared.table.TheConstants.{MOST_ROWS};
 ghost use Rattle.sw_map.specs.Held.{blank};
 
 use crate::clash::Clash;
+use crate::inputs::{Keeping, Kept, Place, Script, is_read_once, open_place, open_script};
 use crate::seeing::{LinesSeen, Seen, Sights};
 use crate::settings::Settings;
 use crate::stacks;
+use crate::wording;
+use crate::wording::Keeps;
 use std::alloc::Global;
 use std::io;
 use std::random::RandomSource;
@@ -18,7 +21,7 @@ use sw_cli::{
     HeadStats, Noting, Onlooker, Options, blank_boxes, run_told, write_record, write_stats_line,
     write_stats_title,
 };
-use sw_files::{begin_file, open_input};
+use sw_files::begin_file;
 use sw_map::{CrackerMap, PairMap};
 use sw_rows::{Counted, Refusal, Sink, Source, TextKey};
 use sw_spine::Record;
@@ -27,9 +30,9 @@ use sw_spine::Record;
 #[derive(Clone, Copy, Debug)]
 pub struct Run<'a> {
     /// Where the table is.
-    pub table: &'a str,
-    /// Where the script is.
-    pub script: &'a str,
+    pub table: Place<'a>,
+    /// Where the calls come from.
+    pub script: Script<'a>,
     /// Where the history goes, if anywhere.
     pub history: Option<&'a str>,
     /// What it is told in numbers and flags.
@@ -105,23 +108,78 @@ fn run_between<
     run_open(rt, alloc, table, script, out, &options, maps, seen)
 }
 
+/// What came of a run, and what was kept of its table and its script.
+#[derive(Drop)]
+struct Came {
+    ended: Result<AfterRun, Refusal>,
+    kept: Keeps,
+}
+
+/// What is to be kept of a script.
+fn keeping_script<R: Files>(rt: &R, alloc: Global, script: Script<'_>) -> Kept {
+    match script {
+        Script::At(place) => Kept::new(alloc, is_read_once(rt, place)),
+        Script::Given(_) => Kept::new(alloc, false),
+    }
+}
+
+/// Runs over what is read of a table and a script.
+fn run_keeping<
+    R: Files + RandomSource + Clock + Print + Eprint + Threads + Wait + Sync,
+    T: Source + Drop,
+    S: Source + Drop,
+>(
+    rt: &R,
+    alloc: Global,
+    run: &Run<'_>,
+    mut table: Keeping<T>,
+    mut script: Keeping<S>,
+    seen: &Seen<'_, R>,
+) -> Came {
+    let ended = run_between(
+        rt,
+        alloc,
+        &mut table,
+        &mut script,
+        &run.settings,
+        seen,
+    );
+    let kept = Keeps {
+        table: table.into_kept(),
+        script: script.into_kept(),
+    };
+    Came { ended, kept }
+}
+
+/// What comes of a run whose table or script cannot be opened.
+fn unopened(refusal: Refusal) -> Came {
+    Came {
+        ended: Err(refusal),
+        kept: Keeps {
+            table: Kept::Often,
+            script: Kept::Often,
+        },
+    }
+}
+
 /// Opens the table, then the script, and runs.
-fn run_named<R: Files + RandomSource + Clock + Print + Eprint + Threads + Wait + Sync>(
+fn run_named<R: Files + RandomSource + Clock + Print + Eprint + Input + Threads + Wait + Sync>(
     rt: &R,
     alloc: Global,
     run: &Run<'_>,
     seen: &Seen<'_, R>,
-) -> Result<AfterRun, Refusal> {
-    let table = open_input(rt, run.table)?;
-    let script = open_input(rt, run.script)?;
-    run_between(
-        rt,
-        alloc,
-        &mut LinesSeen::new(Counted::new(table), seen),
-        &mut Counted::new(script),
-        &run.settings,
-        seen,
-    )
+) -> Came {
+    let table = match open_place(rt, run.table) {
+        Ok(table) => LinesSeen::new(Counted::new(table), seen),
+        Err(refusal) => return unopened(refusal),
+    };
+    let script = match open_script(rt, run.script) {
+        Ok(script) => Counted::new(script),
+        Err(refusal) => return unopened(refusal),
+    };
+    let table = Keeping::new(table, Kept::new(alloc, is_read_once(rt, run.table)));
+    let script = Keeping::new(script, keeping_script(rt, alloc, run.script));
+    run_keeping(rt, alloc, run, table, script, seen)
 }
 
 /// Writes a record to the file of a path.
@@ -185,17 +243,31 @@ impl Run<'_> {
 
     /// Makes the run: the replies go to standard output, then the history to its file, then what the heads tell to
     /// `errors`. Answers the exit status: 0 where all calls were answered, else 3. Refused as `run_with` is, `Input` where
-    /// the table or the script cannot be opened or the system gives no random bytes for the key of texts, and `Output` where the history or `errors` cannot be written.
-    pub fn make<R: Files + RandomSource + Clock + Print + Eprint + Threads + Wait + Sync, E: Sink>(
+    /// the table or the script cannot be opened or the system gives no random bytes for the key of texts, and `Output` where
+    /// the history or `errors` cannot be written.
+    ///
+    /// What a refusal means is put into `words`, as lines, where words can be found: where it is, what is wrong there, and
+    /// what was wanted.
+    pub fn make<
+        R: Files + RandomSource + Clock + Print + Eprint + Input + Threads + Wait + Sync,
+        E: Sink,
+    >(
         &self,
         rt: &R,
         alloc: Global,
         errors: &mut E,
+        words: &mut Option<String>,
     ) -> Result<u8, Refusal>
         ensures { IfOk result (λ status. (status ≡ 0) ⊎ (status ≡ 3)) }
     {
         let seen = Seen::new(rt, self.sights);
-        let ended = run_named(rt, alloc, self, &seen)?;
-        finish(rt, alloc, self, &ended, &seen, errors)
+        let Came { ended, kept } = run_named(rt, alloc, self, &seen);
+        match ended {
+            Ok(ended) => finish(rt, alloc, self, &ended, &seen, errors),
+            Err(refusal) => {
+                *words = wording::words(rt, alloc, self, &refusal, kept);
+                Err(refusal)
+            }
+        }
     }
 }

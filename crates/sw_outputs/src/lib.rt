@@ -1,0 +1,15 @@
+//! Replies for the next program: a line of JSON each, comma-separated values, or a table that is read back.
+#![tactic(auto)]
+
+mod cells;
+mod json;
+mod records;
+mod told;
+
+#[cfg(test)]
+mod tests;
+
+pub use cells::{cell_text, json_text};
+pub use json::write_json;
+pub use records::{makes_table, write_csv, write_table};
+pub use told::Told;
