@@ -19,7 +19,7 @@ use std::rt::{Clock, Env, Files};
 use std::sync::Wait;
 use std::thread::Threads;
 use sw_program::{
-    Limit, Place, Refusal, Run, Script, Settings, Sights, check_path, explain, status, write_fault,
+    Description, Form, Limit, Place, Refusal, Run, Script, Settings, Sights, check_path, explain, status, write_fault,
     write_text,
 };
 use sw_rows::{Counted, Sink};
@@ -97,6 +97,7 @@ fn run_of<'a>(given: &ArgMatches<'a>, lines: &'a [u8], is_terminal: bool) -> Opt
         history: given.get_str("history"),
         settings: settings_of(given)?,
         sights: sights_of(given, is_terminal),
+        form: Form::named(given.get_str("output")?)?,
     })
 }
 
@@ -166,6 +167,22 @@ fn make_check<R: Files + RandomSource + Print>(
     }
 }
 
+/// Describes the table that the words name.
+fn make_description<
+    R: Files + RandomSource + Print + Input + Threads + Sync,
+    E: Sink + Drop,
+>(rt: &R, alloc: Global, given: &ArgMatches<'_>, errors: &mut Errors<E>) -> Result<u8, Refusal> {
+    let (Some(table), Some(form)) = (given.get_str("file"), given.get_str("output")) else {
+        return Ok(2);
+    };
+    let description = Description {
+        table: Place::new(table),
+        is_json: form == "json",
+        faults: given.get_flag("all-faults"),
+    };
+    description.make(rt, alloc, &mut errors.words)
+}
+
 /// Makes what the words ask for, a command an arm.
 fn make_command<
     R: Files + RandomSource + Clock + Print + Eprint + Input + Threads + Wait + Sync,
@@ -173,6 +190,7 @@ fn make_command<
 >(rt: &R, alloc: Global, matches: &ArgMatches<'_>, errors: &mut Errors<E>) -> Result<u8, Refusal> {
     match matches.subcommand() {
         Some(("check", given)) => make_check(rt, alloc, given),
+        Some(("describe", given)) => make_description(rt, alloc, given, errors),
         Some(("explain", given)) => explain(rt, given.get_one::<u64>("number")),
         Some((_, given)) => make_run(rt, alloc, given, errors),
         None => Ok(2),

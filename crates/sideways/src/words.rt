@@ -23,6 +23,11 @@ Examples:
   sideways run --table t.csv --script calls.txt --history h.json
   zcat t.csv.gz | sideways run --table - -e 'sum b where a < 20' --stats";
 
+const EXAMPLES_OF_DESCRIBE: &str = "\
+Examples:
+  sideways describe t.csv
+  zcat t.csv.gz | sideways describe - --output json";
+
 const EXAMPLES_OF_CHECK: &str = "\
 Examples:
   sideways run --table t.csv --script calls.txt --history h.json
@@ -161,6 +166,20 @@ fn quiet<'a>(alloc: Global) -> Arg<'a> {
         .action(ArgAction::SetTrue)
 }
 
+/// The forms in which replies go out.
+const FORMS: &[&str] = &["lines", "csv", "json", "table"];
+
+fn output<'a>(alloc: Global) -> Arg<'a> {
+    number(
+        alloc,
+        "output",
+        "FORM",
+        "The form of the replies: lines; csv, records under a header; json, a line of JSON each; table, the last reply alone as a table, where it is that of a select",
+        "lines",
+    )
+    .value_parser(FORMS)
+}
+
 fn all_faults<'a>(alloc: Global) -> Arg<'a> {
     Arg::new(alloc, "all-faults")
         .long("all-faults")
@@ -190,6 +209,7 @@ fn run_command<'a>(alloc: Global) -> Result<Command<'a>, AllocError> {
         .arg(times(alloc))?
         .arg(quiet(alloc))?
         .arg(all_faults(alloc))?
+        .arg(output(alloc))?
         .arg(history(alloc))
 }
 
@@ -206,6 +226,35 @@ fn check_command<'a>(alloc: Global) -> Result<Command<'a>, AllocError> {
         )
 }
 
+/// The forms of a description.
+const DESCRIPTIONS: &[&str] = &["table", "json"];
+
+fn description_form<'a>(alloc: Global) -> Arg<'a> {
+    number(
+        alloc,
+        "output",
+        "FORM",
+        "The form of the description: a table to read, or json, one line of it",
+        "table",
+    )
+    .value_parser(DESCRIPTIONS)
+}
+
+fn describe_command<'a>(alloc: Global) -> Result<Command<'a>, AllocError> {
+    Command::new(alloc, "describe")
+        .about("Says what the columns of a table have: how many distinct cells, the least and the greatest, the most frequent texts")
+        .after_help(EXAMPLES_OF_DESCRIBE)
+        .arg(
+            Arg::new(alloc, "file")
+                .value_name("FILE")
+                .help("The table; - is standard input")
+                .required(true)
+                .action(ArgAction::Set),
+        )?
+        .arg(description_form(alloc))?
+        .arg(all_faults(alloc))
+}
+
 fn explain_command<'a>(alloc: Global) -> Result<Command<'a>, AllocError> {
     Command::new(alloc, "explain")
         .about("Says what the number after `refused` means, and what to do about it")
@@ -219,7 +268,8 @@ fn explain_command<'a>(alloc: Global) -> Result<Command<'a>, AllocError> {
         )
 }
 
-/// The command lines that are taken: `run` with its files and flags, `check` with its file, and `explain` with a number.
+/// The command lines that are taken: `run` with its files and flags, `check` and `describe` with their file, and `explain`
+/// with a number.
 pub(crate) fn command<'a>(alloc: Global) -> Result<Command<'a>, AllocError> {
     let run = run_command(alloc)?;
     Command::new(alloc, "sideways")
@@ -229,5 +279,6 @@ pub(crate) fn command<'a>(alloc: Global) -> Result<Command<'a>, AllocError> {
         .subcommand_required(true)
         .subcommand(run)?
         .subcommand(check_command(alloc)?)?
+        .subcommand(describe_command(alloc)?)?
         .subcommand(explain_command(alloc)?)
 }

@@ -93,6 +93,9 @@ fn wrong_number(alloc: Global, kind: Kind, field: &[u8]) -> Result<String, Alloc
         return format!(in alloc; "{} bytes, a number has at most {MOST_NUMBER}", field.len());
     }
     match decimals_of(field) {
+        Some(1) if places_of(kind) == 0 => {
+            format!(in alloc; "1 decimal, wanted {}", wanted_number(kind))
+        }
         Some(found) if found > usize::from(places_of(kind)) => {
             format!(in alloc; "{found} decimals, wanted {}", wanted_number(kind))
         }

@@ -16,5 +16,6 @@ mod tests;
 mod tokens;
 mod words;
 
+pub use lines::call_lines;
 pub use tables::all_faults;
 pub use words::{Asked, Origin, Text, words_of};

@@ -190,6 +190,25 @@ fn counts(script: &[u8]) -> (u64, u64) {
     (dividers, calls)
 }
 
+/// The numbers of the lines of a script that are calls, as far as their first bytes tell: no divider of blocks, no comment
+/// and no line of blanks.
+///
+/// The one error is that there is no memory.
+pub fn call_lines(alloc: Global, script: &[u8]) -> Result<Vec<u32>, AllocError> {
+    let mut rest = script;
+    let mut number = 0u32;
+    let mut lines = Vec::new(alloc);
+    while !rest.is_empty() {
+        let (line, after) = split_line(rest);
+        number = number.saturating_add(1);
+        if !is_divider(line) && is_call(line) {
+            lines.push(number)?;
+        }
+        rest = after;
+    }
+    Ok(lines)
+}
+
 /// Whether a script has more calls than a number.
 pub(crate) fn has_more_calls(script: &[u8], most: u64) -> bool {
     counts(script).1 > most

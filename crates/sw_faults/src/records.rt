@@ -3,6 +3,9 @@
 use csv::{ByteRecord, Reader, ReaderBuilder};
 use std::alloc::{AllocError, Global};
 
+/// How many fields of a record are told apart. One of more is not read, since it may be of any size.
+pub(crate) const MOST_FIELDS: usize = 4096;
+
 /// The bytes of a byte order mark.
 const MARK: &[u8] = &[0xEF, 0xBB, 0xBF];
 
@@ -17,6 +20,8 @@ fn unmarked(bytes: &[u8]) -> &[u8] {
 /// A table's bytes, and the records in them, which are taken one after another.
 #[derive(Drop)]
 pub(crate) struct Records<'a> {
+    /// All bytes.
+    bytes: &'a [u8],
     /// The bytes from the place up to which line ends were counted.
     left: &'a [u8],
     counted: usize,
@@ -24,8 +29,10 @@ pub(crate) struct Records<'a> {
     last: u8,
     line: u64,
     reader: Reader<&'a [u8]>,
-    /// The record that was taken last.
+    /// The record that was taken last; nothing where it is a long one.
     pub(crate) row: ByteRecord,
+    /// Where a record begins that has more fields than are told apart. None is taken behind it.
+    long: Option<usize>,
 }
 
 impl<'a> Records<'a> {
@@ -33,6 +40,7 @@ impl<'a> Records<'a> {
     pub(crate) fn new(alloc: Global, bytes: &'a [u8]) -> Records<'a> {
         let bytes = unmarked(bytes);
         Records {
+            bytes,
             left: bytes,
             counted: 0,
             last: 0,
@@ -42,11 +50,47 @@ impl<'a> Records<'a> {
                 .flexible(true)
                 .from_reader(alloc, bytes),
             row: ByteRecord::new(alloc),
+            long: None,
+        }
+    }
+
+    /// Whether the record that was taken last has more fields than are told apart. None is taken behind it.
+    pub(crate) fn is_long(&self) -> bool {
+        self.long.is_some()
+    }
+
+    /// How many fields the record has that was taken last, as far as they are told apart.
+    pub(crate) fn many(&self) -> usize {
+        if self.is_long() {
+            MOST_FIELDS + 1
+        } else {
+            self.row.len()
+        }
+    }
+
+    /// Where the next record begins, if it has more fields than are told apart.
+    fn long_next(&self) -> Option<usize> {
+        let at = self.reader.position().byte() as usize;
+        let (_, rest) = self.bytes.split_at_checked(at)?;
+        let blank = rest.iter().take_while(|b| is_end(**b)).count();
+        let (_, record) = rest.split_at_checked(blank)?;
+        if has_more_fields(record, MOST_FIELDS) {
+            Some(at)
+        } else {
+            None
         }
     }
 
     /// Takes the next record, and tells whether there was one.
     pub(crate) fn next(&mut self) -> Result<bool, AllocError> {
+        if self.is_long() {
+            return Ok(false);
+        }
+        self.long = self.long_next();
+        if self.is_long() {
+            self.row.clear();
+            return Ok(true);
+        }
         // Over memory, and with records of any length, only memory can fail.
         match self.reader.read_byte_record(&mut self.row) {
             Ok(found) => Ok(found),
@@ -69,10 +113,12 @@ impl<'a> Records<'a> {
 
     /// Counts the line ends up to the first byte of the record that was taken last.
     fn count_to_record(&mut self) {
-        if let Some(position) = self.row.position() {
-            let begin = position.byte() as usize;
-            self.count(begin.saturating_sub(self.counted));
-        }
+        let begin = match (self.long, self.row.position()) {
+            (Some(at), _) => at,
+            (None, Some(position)) => position.byte() as usize,
+            (None, None) => 0,
+        };
+        self.count(begin.saturating_sub(self.counted));
         let blank = self.left.iter().take_while(|b| is_end(**b)).count();
         self.count(blank);
     }
@@ -150,4 +196,23 @@ fn field_start(record: &[u8], field: usize) -> usize {
         at = at.saturating_add(1);
     }
     at
+}
+
+/// Whether the record at the front has more fields than so many.
+fn has_more_fields(record: &[u8], most: usize) -> bool {
+    let mut within = Within::Start;
+    let mut fields = 1usize;
+    for byte in record {
+        if within != Within::Quoted && is_end(*byte) {
+            return false;
+        }
+        within = behind(*byte, within);
+        if within == Within::Start {
+            fields = fields.saturating_add(1);
+        }
+        if fields > most {
+            return true;
+        }
+    }
+    false
 }

@@ -1,7 +1,7 @@
 //! Faults of a table, in words.
 
 use crate::headers::schema_of;
-use crate::records::Records;
+use crate::records::{MOST_FIELDS, Records};
 use crate::{cells, headers};
 use csv::ByteRecord;
 use std::alloc::{AllocError, Global};
@@ -18,12 +18,15 @@ fn field_of(row: &ByteRecord, field: usize) -> &[u8] {
     }
 }
 
-/// How many fields, in words.
-fn fields(alloc: Global, many: usize) -> Result<String, AllocError> {
-    if many == 1 {
-        return String::from_str(alloc, "1 field");
+/// How many of something, in words.
+fn in_words(alloc: Global, many: usize, what: &str) -> Result<String, AllocError> {
+    if many > MOST_FIELDS {
+        return format!(in alloc; "more than {MOST_FIELDS} {what}s");
     }
-    format!(in alloc; "{many} fields")
+    if many == 1 {
+        return format!(in alloc; "1 {what}");
+    }
+    format!(in alloc; "{many} {what}s")
 }
 
 /// An attribute as a header has it.
@@ -42,9 +45,9 @@ fn wrong_count(
     schema: &Schema,
     records: &mut Records<'_>,
 ) -> Result<String, AllocError> {
-    let found = records.row.len();
+    let found = records.many();
     let line = records.line_of(0);
-    let has = fields(alloc, found)?;
+    let has = in_words(alloc, found, "field")?;
     let wanted = schema.len();
     if found < wanted {
         let missing = column(alloc, schema, found)?;
@@ -116,7 +119,7 @@ fn bad_row(
     records: &mut Records<'_>,
     field: u64,
 ) -> Result<String, AllocError> {
-    if records.row.len() != schema.len() {
+    if records.many() != schema.len() {
         return wrong_count(alloc, name, schema, records);
     }
     wrong_at(
@@ -156,13 +159,17 @@ pub(crate) fn bad_table(
     bad_row(alloc, name, &schema, &mut records, field)
 }
 
-/// How many columns a table's header has.
-pub(crate) fn columns(alloc: Global, bytes: &[u8]) -> Result<usize, AllocError> {
+/// How many columns a table's header has, in words, where they are more than a number.
+pub(crate) fn columns_past(
+    alloc: Global,
+    bytes: &[u8],
+    most: usize,
+) -> Result<Option<String>, AllocError> {
     let mut records = Records::new(alloc, bytes);
-    if !records.next()? {
-        return Ok(0);
+    if !records.next()? || records.many() <= most {
+        return Ok(None);
     }
-    Ok(records.row.len())
+    Ok(Some(in_words(alloc, records.many(), "column")?))
 }
 
 /// Whether a table has more rows than a limit.
@@ -195,17 +202,21 @@ impl Listed {
         self.text.push_str(line)
     }
 
-    /// What is listed, and then how many there are.
-    fn ended(self, alloc: Global, name: &str) -> Result<String, AllocError> {
+    /// What is listed, and then how many there are; `is_whole` tells whether all rows were looked at.
+    fn ended(self, alloc: Global, name: &str, is_whole: bool) -> Result<String, AllocError> {
         let Listed { mut text, many } = self;
         let faults = if many == 1 { "fault" } else { "faults" };
-        let end = if many > MOST_LISTED {
-            format!(in alloc;
-                "{name}: {many} {faults}, of which the first {MOST_LISTED} are listed\n"
-            )?
+        let some = if many > MOST_LISTED {
+            ", of which the first 1000 are listed"
         } else {
-            format!(in alloc; "{name}: {many} {faults}\n")?
+            ""
         };
+        let far = if is_whole {
+            ""
+        } else {
+            ", as far as it was read"
+        };
+        let end = format!(in alloc; "{name}: {many} {faults}{some}{far}\n")?;
         text.push_str(end.as_str())?;
         Ok(text)
     }
@@ -250,7 +261,7 @@ fn list_row(
     records: &mut Records<'_>,
     listed: &mut Listed,
 ) -> Result<(), AllocError> {
-    if records.row.len() != schema.len() {
+    if records.many() != schema.len() {
         return list_count(alloc, name, schema, records, listed);
     }
     for attr in 0..schema.len() {
@@ -262,7 +273,8 @@ fn list_row(
 }
 
 /// All faults of a table's rows: each bad cell and each row of another number of fields, a line each, up to a thousand,
-/// and then how many there are. Nothing where the header is none.
+/// and then how many there are. Nothing where the header is none. A row of more than 4,096 fields is the last that is
+/// looked at.
 pub fn all_faults(
     alloc: Global,
     key: TextKey,
@@ -282,9 +294,9 @@ pub fn all_faults(
     };
     for _ in 0..u64::MAX {
         if !records.next()? {
-            return listed.ended(alloc, name);
+            return listed.ended(alloc, name, !records.is_long());
         }
         list_row(alloc, name, &schema, &mut records, &mut listed)?;
     }
-    listed.ended(alloc, name)
+    listed.ended(alloc, name, !records.is_long())
 }

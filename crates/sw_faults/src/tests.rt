@@ -279,3 +279,23 @@ fn a_thousand_are_listed(rt: HostRuntime) -> Result<(), Fail> {
     );
     Ok(())
 }
+
+#[test]
+fn a_long_record_is_not_held(rt: HostRuntime) -> Result<(), Fail> {
+    let mut table = Vec::from_slice(rt.alloc(), b"a,b\nx,1\n")?;
+    for _ in 0..5000 {
+        table.push(b',')?;
+    }
+    table.extend_from_slice(b"\ny,1\n")?;
+    let words = of_table(rt.alloc(), table.as_slice(), 2, 3)?;
+    assert_eq!(rt;
+        words.as_str(),
+        "t.csv line 3: more than 4096 fields, the header has 2\n"
+    );
+    let told = all_faults(rt.alloc(), TextKey::fixed(), "t.csv", table.as_slice())?;
+    assert_eq!(rt;
+        told.as_str(),
+        "t.csv line 2, a:int: not a number, wanted a whole number: 'x'\nt.csv line 3: more than 4096 fields, the header has 2\nt.csv: 2 faults, as far as it was read\n"
+    );
+    Ok(())
+}

@@ -2,7 +2,7 @@
 
 use crate::cuts::wrong_cuts;
 use crate::lines::{first_refused, has_more_blocks, has_more_calls, wrong_line};
-use crate::tables::{bad_table, columns, has_more_rows, schema_at};
+use crate::tables::{bad_table, columns_past, has_more_rows, schema_at};
 use std::alloc::{AllocError, Global};
 use sw_rows::{MOST_BYTES, MOST_ROWS, Refusal, Schema, TextKey, Why};
 
@@ -133,14 +133,15 @@ fn of_bytes(alloc: Global, asked: &Asked<'_>) -> Result<String, AllocError> {
 
 /// The words of too many columns; nothing where there are not.
 fn of_columns(alloc: Global, asked: &Asked<'_>) -> Result<String, AllocError> {
-    let name = asked.table.name;
-    match asked.table.bytes {
-        Some(bytes) => {
-            let found = columns(alloc, bytes)?;
-            if found <= 8 {
-                return Ok(String::new(alloc));
-            }
-            format!(in alloc; "{name} line 1: {found} columns, at most 8\n")
+    let Some(bytes) = asked.table.bytes else {
+        return Ok(String::new(alloc));
+    };
+    match columns_past(alloc, bytes, MOST_ATTRS as usize)? {
+        Some(found) => {
+            format!(in alloc;
+                "{} line 1: {found}, at most {MOST_ATTRS}\n",
+                asked.table.name
+            )
         }
         None => Ok(String::new(alloc)),
     }

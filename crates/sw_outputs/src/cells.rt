@@ -87,3 +87,18 @@ pub(crate) fn json_cell(
         None => cell_text(alloc, schema, attr, cell),
     }
 }
+
+/// A cell of an attribute as a reply has it: a text between single quotes, each of its own twice.
+pub(crate) fn quoted_text(
+    alloc: Global,
+    schema: &Schema,
+    attr: usize,
+    cell: i64,
+) -> Result<Vec<u8>, Refusal> {
+    line_of(
+        alloc,
+        schema,
+        &least_of(alloc, attr),
+        &Reply::Least(Some(cell)),
+    )
+}

@@ -2,6 +2,7 @@
 #![tactic(auto)]
 
 mod cells;
+mod description;
 mod json;
 mod records;
 mod told;
@@ -10,6 +11,7 @@ mod told;
 mod tests;
 
 pub use cells::{cell_text, json_text};
+pub use description::{Described, write_description, write_json_description};
 pub use json::write_json;
 pub use records::{makes_table, write_csv, write_table};
 pub use told::Told;

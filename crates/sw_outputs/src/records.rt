@@ -52,18 +52,18 @@ impl Records {
     }
 }
 
-/// A kind as a header has it, behind a colon.
-fn kind_text(kind: Kind) -> &'static str {
+/// A kind as a header has it.
+pub(crate) fn kind_name(kind: Kind) -> &'static str {
     match kind {
-        Kind::Int => ":int",
-        Kind::Fix(1) => ":fix1",
-        Kind::Fix(2) => ":fix2",
-        Kind::Fix(3) => ":fix3",
-        Kind::Fix(4) => ":fix4",
-        Kind::Fix(5) => ":fix5",
-        Kind::Fix(_) => ":fix6",
-        Kind::Flag => ":flag",
-        Kind::Text => ":text",
+        Kind::Int => "int",
+        Kind::Fix(1) => "fix1",
+        Kind::Fix(2) => "fix2",
+        Kind::Fix(3) => "fix3",
+        Kind::Fix(4) => "fix4",
+        Kind::Fix(5) => "fix5",
+        Kind::Fix(_) => "fix6",
+        Kind::Flag => "flag",
+        Kind::Text => "text",
     }
 }
 
@@ -77,13 +77,14 @@ fn name_of(
     if attr >= schema.len() {
         return Ok(String::new(alloc));
     }
-    let kind = if with_kind {
-        kind_text(schema.kind(attr))
+    let name = schema.name(attr);
+    let shown = if with_kind {
+        format!(in alloc; "{name}:{}", kind_name(schema.kind(attr)))
     } else {
-        ""
+        String::from_str(alloc, name)
     };
-    match format!(in alloc; "{}{kind}", schema.name(attr)) {
-        Ok(name) => Ok(name),
+    match shown {
+        Ok(shown) => Ok(shown),
         Err(_) => Err(Refusal::NoMemory),
     }
 }

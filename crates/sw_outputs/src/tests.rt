@@ -1,10 +1,15 @@
 //! Replies over small tables, and the JSON, the records and the tables that are wanted of them.
 
-use crate::{Told, makes_table, write_csv, write_json, write_table};
+use crate::{
+    Described, Told, makes_table, write_csv, write_description, write_json, write_json_description,
+    write_table,
+};
 use std::alloc::Global;
+use std::hash::RandomState;
 use std::test::Fail;
+use sw_describe::{Column, frequent};
 use sw_lang::parse_line;
-use sw_rows::{Call, Counted, PackedRows, Reply, Row, Schema, TextKey, answer, load};
+use sw_rows::{Call, Counted, Kind, PackedRows, Reply, Row, Schema, TextKey, answer, load};
 
 const TABLE: &[u8] = b"price:fix2,ok:flag,city:text,n\n7.5,true,\"Bergen, \"\"B\"\"\",-1\n3,false,,9\n";
 
@@ -102,5 +107,42 @@ fn which_calls_make_tables(rt: HostRuntime) -> Result<(), Fail> {
         let (call, _) = asked(rt.alloc(), &mut schema, &rows, line)?;
         assert_eq!(rt; makes_table(&call), makes);
     }
+    Ok(())
+}
+
+/// The two texts of what the columns of a table have.
+fn described(rt: &HostRuntime, table: &[u8]) -> Result<(Vec<u8>, Vec<u8>), Fail> {
+    let alloc = rt.alloc();
+    let (schema, rows) = load(alloc, TextKey::fixed(), &mut Counted::new(table))?;
+    let state = RandomState::new(rt)?;
+    let mut columns = Vec::new(alloc);
+    for attr in 0..schema.len() {
+        let mut cells = Vec::new(alloc);
+        rows.append_column(attr, &mut cells)?;
+        let has_texts = attr < schema.len() && schema.kind(attr) == Kind::Text;
+        columns.push(Described {
+            column: Column::of(alloc, state, cells.as_slice())?,
+            frequent: if has_texts {
+                frequent(alloc, state, cells.as_slice())?
+            } else {
+                Vec::new(alloc)
+            },
+        })?;
+    }
+    let mut text = Counted::new(Vec::new(alloc));
+    write_description(alloc, &schema, rows.len(), columns.as_slice(), &mut text)?;
+    let mut json = Counted::new(Vec::new(alloc));
+    write_json_description(alloc, &schema, rows.len(), columns.as_slice(), &mut json)?;
+    Ok((text.inner, json.inner))
+}
+
+#[test]
+fn columns_are_described(rt: HostRuntime) -> Result<(), Fail> {
+    let (text, json) = described(&rt, b"price:fix2,ok:flag,city:text\n7.5,true,Oslo\n-3,true,it's\n10,true,Oslo\n")?;
+    assert_eq!(rt; text.as_slice(), b"rows 3\n\nname   kind  distinct  least  greatest\nprice  fix2  3         -3.00  10.00\nok     flag  1         true   true\ncity   text  2         -      -\n\nmost frequent of city\n2 'Oslo'\n1 'it''s'\n".as_slice());
+    assert_eq!(rt; json.as_slice(), b"{\"rows\":3,\"attributes\":[{\"name\":\"price\",\"kind\":\"fix2\",\"distinct\":3,\"least\":-3.00,\"greatest\":10.00},{\"name\":\"ok\",\"kind\":\"flag\",\"distinct\":1,\"least\":true,\"greatest\":true},{\"name\":\"city\",\"kind\":\"text\",\"distinct\":2,\"frequent\":[{\"text\":\"Oslo\",\"count\":2},{\"text\":\"it's\",\"count\":1}]}]}\n".as_slice());
+    let (text, json) = described(&rt, b"a\n")?;
+    assert_eq!(rt; text.as_slice(), b"rows 0\n\nname  kind  distinct  least  greatest\na     int   0         -      -\n".as_slice());
+    assert_eq!(rt; json.as_slice(), b"{\"rows\":0,\"attributes\":[{\"name\":\"a\",\"kind\":\"int\",\"distinct\":0,\"least\":null,\"greatest\":null}]}\n".as_slice());
     Ok(())
 }

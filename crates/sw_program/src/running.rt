@@ -8,9 +8,10 @@ use crate::clash::Clash;
 use crate::inputs::{Keeping, Kept, Place, Script, is_read_once, open_place, open_script};
 use crate::seeing::{LinesSeen, Seen, Sights};
 use crate::settings::Settings;
+use crate::shaping::{Form, shape};
 use crate::stacks;
 use crate::wording;
-use crate::wording::Keeps;
+use crate::wording::{Asking, Keeps};
 use std::alloc::Global;
 use std::io;
 use std::random::RandomSource;
@@ -39,6 +40,8 @@ pub struct Run<'a> {
     pub settings: Settings<'a>,
     /// What is to be seen of it.
     pub sights: Sights,
+    /// The form in which its replies go out.
+    pub form: Form,
 }
 
 /// What is known after a run: the record, whether a call was refused, and what each head tells of itself.
@@ -94,9 +97,10 @@ fn run_between<
     alloc: Global,
     table: &mut T,
     script: &mut S,
-    settings: &Settings<'_>,
+    run: &Run<'_>,
     seen: &Seen<'_, R>,
 ) -> Result<AfterRun, Refusal> {
+    let settings = &run.settings;
     let maps = blank_boxes(alloc, settings.budget, settings.maps)?;
     let options = Options {
         limit: settings.limit.rows,
@@ -104,7 +108,11 @@ fn run_between<
         threads: settings.threads && stacks::are_ample(rt, alloc),
         key: TextKey::new(rt)?,
     };
-    let out = Counted::new(io::writer(rt));
+    if run.form == Form::Lines {
+        let out = Counted::new(io::writer(rt));
+        return run_open(rt, alloc, table, script, out, &options, maps, seen);
+    }
+    let out = Counted::new(io::sink());
     run_open(rt, alloc, table, script, out, &options, maps, seen)
 }
 
@@ -115,10 +123,13 @@ struct Came {
     kept: Keeps,
 }
 
-/// What is to be kept of a script.
-fn keeping_script<R: Files>(rt: &R, alloc: Global, script: Script<'_>) -> Kept {
-    match script {
-        Script::At(place) => Kept::new(alloc, is_read_once(rt, place)),
+/// What is to be kept of the script of a run: all of it also where the lines of its calls are to be told.
+fn keeping_script<R: Files>(rt: &R, alloc: Global, run: &Run<'_>) -> Kept {
+    match run.script {
+        Script::At(place) => {
+            let is_told = run.form != Form::Lines;
+            Kept::new(alloc, is_told || is_read_once(rt, place))
+        }
         Script::Given(_) => Kept::new(alloc, false),
     }
 }
@@ -141,7 +152,7 @@ fn run_keeping<
         alloc,
         &mut table,
         &mut script,
-        &run.settings,
+        run,
         seen,
     );
     let kept = Keeps {
@@ -178,7 +189,7 @@ fn run_named<R: Files + RandomSource + Clock + Print + Eprint + Input + Threads 
         Err(refusal) => return unopened(refusal),
     };
     let table = Keeping::new(table, Kept::new(alloc, is_read_once(rt, run.table)));
-    let script = Keeping::new(script, keeping_script(rt, alloc, run.script));
+    let script = Keeping::new(script, keeping_script(rt, alloc, run));
     run_keeping(rt, alloc, run, table, script, seen)
 }
 
@@ -241,6 +252,16 @@ impl Run<'_> {
         Clash::of(rt, self.table, self.script, self.history)
     }
 
+    /// What is asked by it.
+    fn asking(&self) -> Asking<'_> {
+        Asking {
+            table: self.table,
+            script: Some(self.script),
+            cuts: self.settings.cuts,
+            faults: self.sights.faults,
+        }
+    }
+
     /// Makes the run: the replies go to standard output, then the history to its file, then what the heads tell to
     /// `errors`. Answers the exit status: 0 where all calls were answered, else 3. Refused as `run_with` is, `Input` where
     /// the table or the script cannot be opened or the system gives no random bytes for the key of texts, and `Output` where
@@ -263,9 +284,15 @@ impl Run<'_> {
         let seen = Seen::new(rt, self.sights);
         let Came { ended, kept } = run_named(rt, alloc, self, &seen);
         match ended {
-            Ok(ended) => finish(rt, alloc, self, &ended, &seen, errors),
+            Ok(ended) => match shape(rt, alloc, self.form, &ended.history, self.script, &kept.script) {
+                Ok(()) => finish(rt, alloc, self, &ended, &seen, errors),
+                Err(refusal) => {
+                    *words = wording::of_form(alloc, &refusal, self.script);
+                    Err(refusal)
+                }
+            },
             Err(refusal) => {
-                *words = wording::words(rt, alloc, self, &refusal, kept);
+                *words = wording::words(rt, alloc, &self.asking(), &refusal, kept);
                 Err(refusal)
             }
         }

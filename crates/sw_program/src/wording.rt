@@ -1,7 +1,6 @@
 //! A refusal of a run in words: the texts of the run are looked at again.
 
 use crate::inputs::{Kept, Place, Script};
-use crate::running::Run;
 use std::alloc::{AllocError, Global};
 use std::fs::File;
 use std::io::ErrorKind;
@@ -11,6 +10,19 @@ use std::{fs, io};
 use sw_faults::{Asked, Origin, Text, all_faults, words_of};
 use sw_files::read_file;
 use sw_rows::{Refusal, TextKey};
+
+/// What was asked, of which a refusal came.
+#[derive(Clone, Copy, Debug)]
+pub(crate) struct Asking<'a> {
+    /// Where the table is.
+    pub(crate) table: Place<'a>,
+    /// Where the calls come from, if there are any.
+    pub(crate) script: Option<Script<'a>>,
+    /// The text of the cuts.
+    pub(crate) cuts: &'a str,
+    /// Whether all faults of the table are to be told.
+    pub(crate) faults: bool,
+}
 
 /// What standard input is called in words.
 const STANDARD: &str = "standard input";
@@ -61,11 +73,8 @@ fn wrong_file<R: Files>(rt: &R, place: Place<'_>) -> Option<&'static str> {
 fn of_place<R: Files>(
     rt: &R,
     alloc: Global,
-    place: Option<Place<'_>>,
+    place: Place<'_>,
 ) -> Result<Option<String>, AllocError> {
-    let Some(place) = place else {
-        return Ok(None);
-    };
     match wrong_file(rt, place) {
         Some(why) => Ok(Some(format!(in alloc; "{}: {why}\n", called(place))?)),
         None => Ok(None),
@@ -73,17 +82,20 @@ fn of_place<R: Files>(
 }
 
 /// The words of a table or a script that cannot be read.
-fn of_input<R: Files>(rt: &R, alloc: Global, run: &Run<'_>) -> Result<String, AllocError> {
-    if let Some(words) = of_place(rt, alloc, Some(run.table))? {
+fn of_input<R: Files>(rt: &R, alloc: Global, asking: &Asking<'_>) -> Result<String, AllocError> {
+    if let Some(words) = of_place(rt, alloc, asking.table)? {
         return Ok(words);
     }
-    if let Some(words) = of_place(rt, alloc, run.script.place())? {
-        return Ok(words);
+    let Some(Script::At(place)) = asking.script else {
+        return Ok(String::new(alloc));
+    };
+    match of_place(rt, alloc, place)? {
+        Some(words) => Ok(words),
+        None => Ok(String::new(alloc)),
     }
-    Ok(String::new(alloc))
 }
 
-/// The bytes of the table and of the script of a run, where they can be had.
+/// The bytes of the table and of the script, where they can be had.
 #[derive(Drop)]
 struct Texts {
     table: Option<Vec<u8>>,
@@ -91,22 +103,30 @@ struct Texts {
 }
 
 impl Texts {
-    /// What was asked by a run with these texts.
-    fn asked<'a>(&'a self, run: &Run<'a>) -> Asked<'a> {
-        let (name, bytes, origin) = match run.script {
-            Script::At(place) => (called(place), as_bytes(&self.script), Origin::Lines),
-            Script::Given(lines) => ("", Some(lines), Origin::Arguments),
-        };
-        Asked {
-            table: Text {
-                name: called(run.table),
-                bytes: as_bytes(&self.table),
-            },
-            script: Text { name, bytes },
-            origin,
-            cuts: run.settings.cuts,
+    /// The script that was asked, and what its lines are.
+    fn script<'a>(&'a self, asking: &Asking<'a>) -> (Text<'a>, Origin) {
+        match asking.script {
+            Some(Script::Given(lines)) => (text("", Some(lines)), Origin::Arguments),
+            Some(Script::At(place)) => (text(called(place), as_bytes(&self.script)), Origin::Lines),
+            None => (text("", None), Origin::Lines),
         }
     }
+
+    /// What was asked, with these texts.
+    fn asked<'a>(&'a self, asking: &Asking<'a>) -> Asked<'a> {
+        let (script, origin) = self.script(asking);
+        Asked {
+            table: text(called(asking.table), as_bytes(&self.table)),
+            script,
+            origin,
+            cuts: asking.cuts,
+        }
+    }
+}
+
+/// A text of a name.
+fn text<'a>(name: &'a str, bytes: Option<&'a [u8]>) -> Text<'a> {
+    Text { name, bytes }
 }
 
 /// Bytes that may be there, as a slice.
@@ -117,56 +137,76 @@ fn as_bytes(bytes: &Option<Vec<u8>>) -> Option<&[u8]> {
     }
 }
 
-/// The bytes of the script of a run.
-fn script_again<R: Files>(rt: &R, alloc: Global, script: Script<'_>, kept: Kept) -> Option<Vec<u8>> {
-    again(rt, alloc, script.place()?, kept)
+/// The bytes of a script, if there is one at a place.
+fn script_again<R: Files>(
+    rt: &R,
+    alloc: Global,
+    script: Option<Script<'_>>,
+    kept: Kept,
+) -> Option<Vec<u8>> {
+    match script? {
+        Script::At(place) => again(rt, alloc, place, kept),
+        Script::Given(_) => None,
+    }
 }
 
-/// The words of a refusal that the texts of a run have.
+/// The words of a refusal that the texts have.
 fn of_texts<R: Files>(
     rt: &R,
     alloc: Global,
     key: TextKey,
-    run: &Run<'_>,
+    asking: &Asking<'_>,
     refusal: &Refusal,
     kept: Keeps,
 ) -> Result<String, AllocError> {
     let Keeps { table, script } = kept;
     let texts = Texts {
-        table: again(rt, alloc, run.table, table),
-        script: script_again(rt, alloc, run.script, script),
+        table: again(rt, alloc, asking.table, table),
+        script: script_again(rt, alloc, asking.script, script),
     };
-    let asked = texts.asked(run);
+    let asked = texts.asked(asking);
     match (refusal, asked.table.bytes) {
-        (Refusal::BadTable { rec, .. }, Some(bytes)) if run.sights.faults && *rec > 0 => {
+        (Refusal::BadTable { rec, .. }, Some(bytes)) if asking.faults && *rec > 0 => {
             all_faults(alloc, key, asked.table.name, bytes)
         }
         _ => words_of(alloc, key, refusal, &asked),
     }
 }
 
-/// What was kept of the table and the script of a run.
+/// What was kept of the table and the script.
 #[derive(Drop)]
 pub(crate) struct Keeps {
     pub(crate) table: Kept,
     pub(crate) script: Kept,
 }
 
-/// A refusal of a run in words: lines, or nothing where none can be found or there is no memory for them.
+/// A refusal in words: lines, or nothing where none can be found or there is no memory for them.
 pub(crate) fn words<R: Files + RandomSource>(
     rt: &R,
     alloc: Global,
-    run: &Run<'_>,
+    asking: &Asking<'_>,
     refusal: &Refusal,
     kept: Keeps,
 ) -> Option<String> {
     let key = TextKey::new(rt).ok()?;
     match refusal {
-        Refusal::Input => of_input(rt, alloc, run).ok(),
+        Refusal::Input => of_input(rt, alloc, asking).ok(),
         Refusal::BadTable { .. }
         | Refusal::BadLine { .. }
         | Refusal::UnknownAttribute { .. }
-        | Refusal::TooMany { .. } => of_texts(rt, alloc, key, run, refusal, kept).ok(),
+        | Refusal::TooMany { .. } => of_texts(rt, alloc, key, asking, refusal, kept).ok(),
         _ => None,
     }
+}
+
+/// A refusal of the form of the replies in words.
+pub(crate) fn of_form(alloc: Global, refusal: &Refusal, script: Script<'_>) -> Option<String> {
+    let Refusal::BadLine { line, .. } = refusal else {
+        return None;
+    };
+    let at = match script {
+        Script::At(place) => format!(in alloc; "{} line {line}", called(place)).ok()?,
+        Script::Given(_) => format!(in alloc; "argument {line}").ok()?,
+    };
+    format!(in alloc; "{at}: --output table wants a select as the last call, of columns that differ\n").ok()
 }
