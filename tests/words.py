@@ -6,7 +6,7 @@ replies in other forms. Each case is a run of the built program, whose status, o
 
 PATH is the built program, by default crates/sideways/out/sideways. Ends with 1 at the first case that is wrong, which it shows; its last
 line tells how many cases there were."""
-import argparse, csv, io, json, subprocess, sys, tempfile
+import argparse, csv, io, json, shutil, subprocess, sys, tempfile
 from pathlib import Path
 
 TOP = Path(__file__).resolve().parents[1]
@@ -181,6 +181,14 @@ class Cases:
                 raise Wrong("WRONG: the help of %s has no examples" % words[0])
 
 
+    def version(self):
+        got = self.case("the version", ["--version"], 0, ANY, "")
+        if shutil.which("rt"):
+            kit = subprocess.run(["rt", "version"], capture_output=True, text=True, check=True).stdout.strip()
+            self.case("the version and the kit's line", ["--version"], 0, "sideways 0.1.0\nproved with %s\n" % kit, "")
+        assert got
+
+
 def main():
     words = argparse.ArgumentParser(description=__doc__, formatter_class=argparse.RawDescriptionHelpFormatter)
     words.add_argument("--program", default=TOP / "crates/sideways/out/sideways")
@@ -188,7 +196,7 @@ def main():
     with tempfile.TemporaryDirectory() as folder:
         cases = Cases(Path(given.program).resolve(), folder)
         try:
-            for part in (cases.inputs, cases.words, cases.descriptions, cases.forms, cases.helps):
+            for part in (cases.inputs, cases.words, cases.descriptions, cases.forms, cases.helps, cases.version):
                 part()
         except Wrong as wrong:
             print(wrong)

@@ -10,6 +10,11 @@ const MOST_CELLS: i64 = 1_099_511_627_776;
 /// The greatest number of maps at a time.
 const MOST_MAPS: i64 = 4096;
 
+/// The version of the program, and with what it is proved, as `rt version` tells it.
+const VERSION: &str = "0.1.0";
+
+const LONG_VERSION: &str = "0.1.0\nproved with rattle-kit-13f logic dac8208d650f15bf";
+
 /// What ends the help of each command.
 const EXAMPLES: &str = "\
 Examples:
@@ -274,7 +279,8 @@ pub(crate) fn command<'a>(alloc: Global) -> Result<Command<'a>, AllocError> {
     let run = run_command(alloc)?;
     Command::new(alloc, "sideways")
         .about("A column engine in memory that answers ranges by database cracking")
-        .version("0.1.0")
+        .version(VERSION)
+        .long_version(LONG_VERSION)
         .after_help(EXAMPLES)
         .subcommand_required(true)
         .subcommand(run)?

@@ -1,5 +1,7 @@
 //! What is wrong with a cell.
 
+ghost use Rattle.sw_rows.specs.Cells.{HasPlaces};
+
 use crate::shown::shown;
 use std::alloc::{AllocError, Global};
 use sw_rows::{Kind, MOST_BYTES_OF_TEXT, MOST_NUMBER, read_cell_bytes, read_text};
@@ -20,10 +22,11 @@ pub(crate) fn kind_name(kind: Kind) -> &'static str {
 }
 
 /// Whether a field is a cell of a kind.
-pub(crate) fn is_cell(kind: Kind, field: &[u8]) -> bool {
+pub(crate) fn is_cell(kind: Kind, field: &[u8]) -> bool
+    requires { HasPlaces kind }
+{
     match kind {
         Kind::Text => read_text(field).is_some(),
-        Kind::Fix(places) if places > 6 => false,
         _ => read_cell_bytes(kind, field).is_some(),
     }
 }

@@ -1,5 +1,7 @@
 //! Faults of a script, in words.
 
+ghost use Rattle.std.specs.Prelude.{◌<◌, length};
+
 use crate::choices::{Beginning, choices_behind, read_beginning};
 use crate::shown::{pointed, shown};
 use crate::tokens::token_from;
@@ -15,7 +17,9 @@ pub(crate) struct Line<'a> {
 }
 
 /// The first line of some bytes, and those behind its end.
-fn split_line(bytes: &[u8]) -> (&[u8], &[u8]) {
+fn split_line(bytes: &[u8]) -> (&[u8], &[u8])
+    ensures { 0 < length bytes.now → length result.1.now < length bytes.now }
+{
     let len = bytes.iter().take_while(|byte| **byte != b'\n').count();
     let Some((line, rest)) = bytes.split_at_checked(len) else {
         return (bytes, &[]);
