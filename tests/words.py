@@ -76,12 +76,12 @@ class Cases:
 
     def words(self):
         run = ["run", "--table"]
-        number = "bad.csv line 4, n:int: 1 decimal, wanted a whole number: '1.5'\n"
+        number = "bad.csv line 4, n:int: 1 decimal, wanted a whole number: '1.5'; a name without a kind is an int\n"
         self.case("a cell behind one of two lines", run + ["bad.csv", "-e", "count"], 2, "",
                   "sideways: refused 2 record 1 field 1\nbad.csv line 2, name:text: byte 4 is a control byte, which no text has: 'two\\nlines'\n")
         listed = "bad.csv line 2, name:text: byte 4 is a control byte, which no text has: 'two\\nlines'\n" + number + (
             "bad.csv line 5: 1 field, the header has 2: n:int is missing\n"
-            "bad.csv line 6, n:int: not a number, wanted a whole number: '\\xff'\nbad.csv: 4 faults\n")
+            "bad.csv line 6, n:int: not a number, wanted a whole number: '\\xff'; a name without a kind is an int\nbad.csv: 4 faults\n")
         self.case("all faults", run + ["bad.csv", "-e", "count", "--all-faults"], 2, "", "sideways: refused 2 record 1 field 1\n" + listed)
         self.case("all faults of standard input", run + ["-", "-e", "count", "--all-faults"], 2, "",
                   "sideways: refused 2 record 1 field 1\n" + listed.replace("bad.csv", "standard input"), BAD)

@@ -1,5 +1,6 @@
 -- What a column has: which cells, the least and the greatest, and how often each.
-use Rattle.std.specs.Prelude.{ℤ, ℕ, List, [], ◌∷◌, ◌++◌, Option, Some, None, if◌then◌else◌, fold, filter, length, int_eq}
+use Rattle.std.specs.Prelude.{ℤ, ℕ, List, [], ◌∷◌, ◌++◌, Option, Some, None, if◌then◌else◌, fold, filter, length}
+use Rattle.std.specs.Ordering.{int_eq}
 use Rattle.std.specs.List.{list_any}
 use Rattle.std.specs.Int.{int_min, int_max}
 

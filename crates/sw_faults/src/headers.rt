@@ -43,6 +43,11 @@ fn parts(field: &[u8]) -> (&[u8], Option<&[u8]>) {
     }
 }
 
+/// Whether a field of a header leaves its kind out.
+pub(crate) fn has_no_kind(field: &[u8]) -> bool {
+    parts(field).1.is_none()
+}
+
 /// Whether some bytes are a kind.
 fn is_kind(word: &[u8]) -> bool {
     matches!(

@@ -1,14 +1,21 @@
 //! Faults of a table, in words.
 
-use crate::headers::schema_of;
+use crate::headers::{has_no_kind, schema_of};
 use crate::records::{MOST_FIELDS, Records};
 use crate::{cells, headers};
 use csv::ByteRecord;
 use std::alloc::{AllocError, Global};
-use sw_rows::{MOST_ROWS, Schema, TextKey};
+use sw_rows::{Kind, MOST_ROWS, Schema, TextKey};
 
 /// How many bad cells are listed at most.
 const MOST_LISTED: u64 = 1000;
+
+/// A table's name and its bytes.
+#[derive(Clone, Copy)]
+pub(crate) struct Sheet<'a> {
+    pub(crate) name: &'a str,
+    pub(crate) bytes: &'a [u8],
+}
 
 /// A field of a record, empty where there is none.
 fn field_of(row: &ByteRecord, field: usize) -> &[u8] {
@@ -29,50 +36,103 @@ fn in_words(alloc: Global, many: usize, what: &str) -> Result<String, AllocError
     format!(in alloc; "{many} {what}s")
 }
 
-/// An attribute as a header has it.
-fn column(alloc: Global, schema: &Schema, attr: usize) -> Result<String, AllocError> {
-    if attr >= schema.len() {
-        return Ok(String::new(alloc));
-    }
-    let kind = cells::kind_name(schema.kind(attr));
-    format!(in alloc; "{}:{kind}", schema.name(attr))
+/// What is known of a table once its header was read.
+#[derive(Drop)]
+struct Head<'a> {
+    alloc: Global,
+    name: &'a str,
+    schema: Schema,
+    /// For each attribute whether its kind is left out, which makes it one of whole numbers.
+    bare: Vec<bool>,
 }
 
-/// What is wrong with a record that has another number of fields than the header.
-fn wrong_count(
-    alloc: Global,
-    name: &str,
-    schema: &Schema,
-    records: &mut Records<'_>,
-) -> Result<String, AllocError> {
-    let found = records.many();
-    let line = records.line_of(0);
-    let has = in_words(alloc, found, "field")?;
-    let wanted = schema.len();
-    if found < wanted {
-        let missing = column(alloc, schema, found)?;
-        return format!(in alloc;
-            "{name} line {line}: {has}, the header has {wanted}: {missing} is missing\n"
-        );
+/// For each field of a header whether its kind is left out.
+fn bare_fields(alloc: Global, header: &ByteRecord) -> Result<Vec<bool>, AllocError> {
+    let mut bare = Vec::new(alloc);
+    for field in 0..header.len() {
+        bare.push(has_no_kind(field_of(header, field)))?;
     }
-    format!(in alloc; "{name} line {line}: {has}, the header has {wanted}\n")
+    Ok(bare)
 }
 
-/// What is wrong with the record that was taken last at a field, from 0.
-fn wrong_at(
-    alloc: Global,
-    name: &str,
-    schema: &Schema,
-    records: &mut Records<'_>,
-    attr: usize,
-) -> Result<String, AllocError> {
-    if attr >= schema.len() {
-        return Ok(String::new(alloc));
+impl<'a> Head<'a> {
+    /// Takes the header of a table, the first of its records; none where it has none.
+    fn take(
+        alloc: Global,
+        key: TextKey,
+        name: &'a str,
+        records: &mut Records<'_>,
+    ) -> Result<Option<Head<'a>>, AllocError> {
+        if !records.next()? {
+            return Ok(None);
+        }
+        let bare = bare_fields(alloc, &records.row)?;
+        match schema_of(alloc, key, &records.row)? {
+            Ok(schema) => Ok(Some(Head {
+                alloc,
+                name,
+                schema,
+                bare,
+            })),
+            Err(_) => Ok(None),
+        }
     }
-    let line = records.line_of(attr);
-    let column = column(alloc, schema, attr)?;
-    let wrong = cells::wrong(alloc, schema.kind(attr), field_of(&records.row, attr))?;
-    format!(in alloc; "{name} line {line}, {column}: {wrong}\n")
+
+    /// An attribute as a header has it.
+    fn column(&self, attr: usize) -> Result<String, AllocError> {
+        if attr >= self.schema.len() {
+            return Ok(String::new(self.alloc));
+        }
+        let kind = cells::kind_name(self.schema.kind(attr));
+        format!(in self.alloc; "{}:{kind}", self.schema.name(attr))
+    }
+
+    /// Whether the kind of an attribute is left out.
+    fn is_bare(&self, attr: usize) -> bool {
+        self.bare.get(attr) == Some(&true)
+    }
+
+    /// What is wrong with a record that has another number of fields than the header.
+    fn wrong_count(&self, records: &mut Records<'_>) -> Result<String, AllocError> {
+        let name = self.name;
+        let found = records.many();
+        let line = records.line_of(0);
+        let has = in_words(self.alloc, found, "field")?;
+        let wanted = self.schema.len();
+        if found < wanted {
+            let missing = self.column(found)?;
+            return format!(in self.alloc;
+                "{name} line {line}: {has}, the header has {wanted}: {missing} is missing\n"
+            );
+        }
+        format!(in self.alloc; "{name} line {line}: {has}, the header has {wanted}\n")
+    }
+
+    /// What is wrong with the record that was taken last at a field, from 0.
+    fn wrong_at(&self, records: &mut Records<'_>, attr: usize) -> Result<String, AllocError> {
+        if attr >= self.schema.len() {
+            return Ok(String::new(self.alloc));
+        }
+        let name = self.name;
+        let line = records.line_of(attr);
+        let column = self.column(attr)?;
+        let kind = self.schema.kind(attr);
+        let wrong = cells::wrong(self.alloc, kind, field_of(&records.row, attr))?;
+        let hint = if kind == Kind::Int && self.is_bare(attr) {
+            cells::BARE
+        } else {
+            ""
+        };
+        format!(in self.alloc; "{name} line {line}, {column}: {wrong}{hint}\n")
+    }
+
+    /// What is wrong with the row that was taken last, at a field from 1.
+    fn wrong_row(&self, records: &mut Records<'_>, field: u64) -> Result<String, AllocError> {
+        if records.many() != self.schema.len() {
+            return self.wrong_count(records);
+        }
+        self.wrong_at(records, field.saturating_sub(1).min(8) as usize)
+    }
 }
 
 /// What is wrong with the header that was taken last, at a field, from 0.
@@ -111,52 +171,39 @@ fn find(records: &mut Records<'_>, rec: u64) -> Result<bool, AllocError> {
     Ok(true)
 }
 
-/// A fault of a row, at a field from 1.
-fn bad_row(
+/// The words of a header that was refused at a field, from 1.
+pub(crate) fn bad_header(
     alloc: Global,
-    name: &str,
-    schema: &Schema,
-    records: &mut Records<'_>,
+    sheet: Sheet<'_>,
     field: u64,
 ) -> Result<String, AllocError> {
-    if records.many() != schema.len() {
-        return wrong_count(alloc, name, schema, records);
-    }
-    wrong_at(
-        alloc,
-        name,
-        schema,
-        records,
-        field.saturating_sub(1).min(8) as usize,
-    )
-}
-
-/// The words of a record and a field of it that a table was refused with.
-pub(crate) fn bad_table(
-    alloc: Global,
-    key: TextKey,
-    name: &str,
-    bytes: &[u8],
-    rec: u64,
-    field: u64,
-) -> Result<String, AllocError> {
-    let mut records = Records::new(alloc, bytes);
+    let name = sheet.name;
+    let mut records = Records::new(alloc, sheet.bytes);
     if !records.next()? {
         return format!(in alloc;
             "{name}: empty, wanted a header: names with kinds, as a:int,b:fix2,c:text\n"
         );
     }
-    if rec == 0 {
-        let field = field.saturating_sub(1).min(8) as usize;
-        return wrong_header(alloc, name, &mut records, field);
-    }
-    let Ok(schema) = schema_of(alloc, key, &records.row)? else {
+    let field = field.saturating_sub(1).min(8) as usize;
+    wrong_header(alloc, name, &mut records, field)
+}
+
+/// The words of a row that was refused at a field, both from 1.
+pub(crate) fn bad_row(
+    alloc: Global,
+    key: TextKey,
+    sheet: Sheet<'_>,
+    rec: u64,
+    field: u64,
+) -> Result<String, AllocError> {
+    let mut records = Records::new(alloc, sheet.bytes);
+    let Some(head) = Head::take(alloc, key, sheet.name, &mut records)? else {
         return Ok(String::new(alloc));
     };
     if !find(&mut records, rec)? {
         return Ok(String::new(alloc));
     }
-    bad_row(alloc, name, &schema, &mut records, field)
+    head.wrong_row(&mut records, field)
 }
 
 /// How many columns a table's header has, in words, where they are more than a number.
@@ -202,6 +249,42 @@ impl Listed {
         self.text.push_str(line)
     }
 
+    /// Adds a row of another number of fields than the header's.
+    fn add_count(&mut self, head: &Head<'_>, records: &mut Records<'_>) -> Result<(), AllocError> {
+        if self.is_full() {
+            return self.add("");
+        }
+        let line = head.wrong_count(records)?;
+        self.add(line.as_str())
+    }
+
+    /// Adds a bad cell.
+    fn add_cell(
+        &mut self,
+        head: &Head<'_>,
+        records: &mut Records<'_>,
+        attr: usize,
+    ) -> Result<(), AllocError> {
+        if self.is_full() {
+            return self.add("");
+        }
+        let line = head.wrong_at(records, attr)?;
+        self.add(line.as_str())
+    }
+
+    /// Adds the faults of the row that was taken last: its number of fields, or each bad cell.
+    fn add_row(&mut self, head: &Head<'_>, records: &mut Records<'_>) -> Result<(), AllocError> {
+        if records.many() != head.schema.len() {
+            return self.add_count(head, records);
+        }
+        for attr in 0..head.schema.len() {
+            if !cells::is_cell(head.schema.kind(attr), field_of(&records.row, attr)) {
+                self.add_cell(head, records, attr)?;
+            }
+        }
+        Ok(())
+    }
+
     /// What is listed, and then how many there are; `is_whole` tells whether all rows were looked at.
     fn ended(self, alloc: Global, name: &str, is_whole: bool) -> Result<String, AllocError> {
         let Listed { mut text, many } = self;
@@ -222,59 +305,11 @@ impl Listed {
     }
 }
 
-/// Adds a row of another number of fields than the header's.
-fn list_count(
-    alloc: Global,
-    name: &str,
-    schema: &Schema,
-    records: &mut Records<'_>,
-    listed: &mut Listed,
-) -> Result<(), AllocError> {
-    if listed.is_full() {
-        return listed.add("");
-    }
-    let line = wrong_count(alloc, name, schema, records)?;
-    listed.add(line.as_str())
-}
-
-/// Adds a bad cell.
-fn list_cell(
-    alloc: Global,
-    name: &str,
-    schema: &Schema,
-    records: &mut Records<'_>,
-    listed: &mut Listed,
-    attr: usize,
-) -> Result<(), AllocError> {
-    if listed.is_full() {
-        return listed.add("");
-    }
-    let line = wrong_at(alloc, name, schema, records, attr)?;
-    listed.add(line.as_str())
-}
-
-/// Adds the faults of the row that was taken last: its number of fields, or each bad cell.
-fn list_row(
-    alloc: Global,
-    name: &str,
-    schema: &Schema,
-    records: &mut Records<'_>,
-    listed: &mut Listed,
-) -> Result<(), AllocError> {
-    if records.many() != schema.len() {
-        return list_count(alloc, name, schema, records, listed);
-    }
-    for attr in 0..schema.len() {
-        if !cells::is_cell(schema.kind(attr), field_of(&records.row, attr)) {
-            list_cell(alloc, name, schema, records, listed, attr)?;
-        }
-    }
-    Ok(())
-}
-
 /// All faults of a table's rows: each bad cell and each row of another number of fields, a line each, up to a thousand,
 /// and then how many there are. Nothing where the header is none. A row of more than 4,096 fields is the last that is
 /// looked at.
+///
+/// The one error is that there is no memory.
 pub fn all_faults(
     alloc: Global,
     key: TextKey,
@@ -286,17 +321,14 @@ pub fn all_faults(
         text: String::new(alloc),
         many: 0,
     };
-    if !records.next()? {
-        return Ok(String::new(alloc));
-    }
-    let Ok(schema) = schema_of(alloc, key, &records.row)? else {
+    let Some(head) = Head::take(alloc, key, name, &mut records)? else {
         return Ok(String::new(alloc));
     };
     for _ in 0..u64::MAX {
         if !records.next()? {
-            return listed.ended(alloc, name, !records.is_long());
+            break;
         }
-        list_row(alloc, name, &schema, &mut records, &mut listed)?;
+        listed.add_row(&head, &mut records)?;
     }
     listed.ended(alloc, name, !records.is_long())
 }

@@ -259,7 +259,7 @@ fn all_faults_are_listed(rt: HostRuntime) -> Result<(), Fail> {
     let told = all_faults(rt.alloc(), TextKey::fixed(), "t.csv", table)?;
     assert_eq!(rt;
         told.as_str(),
-        "t.csv line 2, a:int: not a number, wanted a whole number: 'x'\nt.csv line 3: 1 field, the header has 2: b:flag is missing\nt.csv line 4, b:flag: neither true nor false: 'yes'\nt.csv: 3 faults\n"
+        "t.csv line 2, a:int: not a number, wanted a whole number: 'x'; a name without a kind is an int\nt.csv line 3: 1 field, the header has 2: b:flag is missing\nt.csv line 4, b:flag: neither true nor false: 'yes'\nt.csv: 3 faults\n"
     );
     Ok(())
 }
@@ -274,7 +274,7 @@ fn a_thousand_are_listed(rt: HostRuntime) -> Result<(), Fail> {
     assert_eq!(rt; told.as_str().lines().count(), 1001);
     assert!(rt;
         told.as_str().ends_with(
-            "t.csv line 1001, a:int: not a number, wanted a whole number: 'x'\nt.csv: 1005 faults, of which the first 1000 are listed\n"
+            "t.csv line 1001, a:int: not a number, wanted a whole number: 'x'; a name without a kind is an int\nt.csv: 1005 faults, of which the first 1000 are listed\n"
         )
     );
     Ok(())
@@ -295,7 +295,7 @@ fn a_long_record_is_not_held(rt: HostRuntime) -> Result<(), Fail> {
     let told = all_faults(rt.alloc(), TextKey::fixed(), "t.csv", table.as_slice())?;
     assert_eq!(rt;
         told.as_str(),
-        "t.csv line 2, a:int: not a number, wanted a whole number: 'x'\nt.csv line 3: more than 4096 fields, the header has 2\nt.csv: 2 faults, as far as it was read\n"
+        "t.csv line 2, a:int: not a number, wanted a whole number: 'x'; a name without a kind is an int\nt.csv line 3: more than 4096 fields, the header has 2\nt.csv: 2 faults, as far as it was read\n"
     );
     Ok(())
 }

@@ -2,7 +2,7 @@
 
 use crate::cuts::wrong_cuts;
 use crate::lines::{first_refused, has_more_blocks, has_more_calls, wrong_line};
-use crate::tables::{bad_table, columns_past, has_more_rows, schema_at};
+use crate::tables::{Sheet, bad_header, bad_row, columns_past, has_more_rows, schema_at};
 use std::alloc::{AllocError, Global};
 use sw_rows::{MOST_BYTES, MOST_ROWS, Refusal, Schema, TextKey, Why};
 
@@ -104,6 +104,14 @@ fn of_cuts(alloc: Global, key: TextKey, asked: &Asked<'_>) -> Result<String, All
     }
 }
 
+/// The words of a field of the table, whose bytes cannot be had.
+fn of_lost(alloc: Global, name: &str, rec: u64, field: u64) -> Result<String, AllocError> {
+    if rec == 0 {
+        return format!(in alloc; "{name}: column {field} of the header\n");
+    }
+    format!(in alloc; "{name}: record {rec}, field {field}\n")
+}
+
 /// The words of a field of the table.
 fn of_table(
     alloc: Global,
@@ -112,14 +120,15 @@ fn of_table(
     rec: u64,
     field: u64,
 ) -> Result<String, AllocError> {
-    match asked.table.bytes {
-        Some(bytes) => bad_table(alloc, key, asked.table.name, bytes, rec, field),
-        None if rec == 0 => format!(in alloc;
-            "{}: column {field} of the header\n",
-            asked.table.name
-        ),
-        None => format!(in alloc; "{}: record {rec}, field {field}\n", asked.table.name),
+    let name = asked.table.name;
+    let Some(bytes) = asked.table.bytes else {
+        return of_lost(alloc, name, rec, field);
+    };
+    let sheet = Sheet { name, bytes };
+    if rec == 0 {
+        return bad_header(alloc, sheet, field);
     }
+    bad_row(alloc, key, sheet, rec, field)
 }
 
 /// The words of too many bytes.
