@@ -19,8 +19,8 @@ use std::rt::{Clock, Env, Files};
 use std::sync::Wait;
 use std::thread::Threads;
 use sw_program::{
-    Description, Form, Limit, Place, Refusal, Run, Script, Settings, Sights, check_path, explain, status, write_fault,
-    write_text,
+    Description, Form, Limit, Place, Refusal, Run, Script, Settings, Sights, check_path, explain,
+    status, write_fault, write_text,
 };
 use sw_rows::{Counted, Sink};
 
@@ -168,10 +168,12 @@ fn make_check<R: Files + RandomSource + Print>(
 }
 
 /// Describes the table that the words name.
-fn make_description<
-    R: Files + RandomSource + Print + Input + Threads + Sync,
-    E: Sink + Drop,
->(rt: &R, alloc: Global, given: &ArgMatches<'_>, errors: &mut Errors<E>) -> Result<u8, Refusal> {
+fn make_description<R: Files + RandomSource + Print + Input + Threads + Sync, E: Sink + Drop>(
+    rt: &R,
+    alloc: Global,
+    given: &ArgMatches<'_>,
+    errors: &mut Errors<E>,
+) -> Result<u8, Refusal> {
     let (Some(table), Some(form)) = (given.get_str("file"), given.get_str("output")) else {
         return Ok(2);
     };

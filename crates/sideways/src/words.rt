@@ -247,7 +247,9 @@ fn description_form<'a>(alloc: Global) -> Arg<'a> {
 
 fn describe_command<'a>(alloc: Global) -> Result<Command<'a>, AllocError> {
     Command::new(alloc, "describe")
-        .about("Says what the columns of a table have: how many distinct cells, the least and the greatest, the most frequent texts")
+        .about(
+            "Says what the columns of a table have: how many distinct cells, the least and the greatest, the most frequent texts",
+        )
         .after_help(EXAMPLES_OF_DESCRIBE)
         .arg(
             Arg::new(alloc, "file")

@@ -86,7 +86,8 @@ impl Words {
     ) -> Result<(), AllocError>
         requires { attr < length schema.now }
     {
-        self.names.push(String::from_str(alloc, schema.name(attr))?)?;
+        self.names
+            .push(String::from_str(alloc, schema.name(attr))?)?;
         let kind = kind_name(schema.kind(attr));
         self.kinds.push(String::from_str(alloc, kind)?)?;
         self.distinct.push(format!(in alloc; "{distinct}")?)?;
@@ -254,7 +255,14 @@ fn write_texts<W: Sink>(
     write_all(out, b",\"frequent\":[")?;
     let mut is_first = true;
     for (code, count) in frequent {
-        write_all(out, if is_first { b"{\"text\":" } else { b",{\"text\":" })?;
+        write_all(
+            out,
+            if is_first {
+                b"{\"text\":"
+            } else {
+                b",{\"text\":"
+            },
+        )?;
         is_first = false;
         write_all(out, json_cell(alloc, schema, attr, *code)?.as_slice())?;
         write_all(out, b",\"count\":")?;

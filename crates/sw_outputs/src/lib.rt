@@ -5,10 +5,9 @@ mod cells;
 mod description;
 mod json;
 mod records;
-mod told;
-
 #[cfg(test)]
 mod tests;
+mod told;
 
 pub use cells::{cell_text, json_text};
 pub use description::{Described, write_description, write_json_description};

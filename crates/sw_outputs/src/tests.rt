@@ -11,7 +11,8 @@ use sw_describe::{Column, frequent};
 use sw_lang::parse_line;
 use sw_rows::{Call, Counted, Kind, PackedRows, Reply, Row, Schema, TextKey, answer, load};
 
-const TABLE: &[u8] = b"price:fix2,ok:flag,city:text,n\n7.5,true,\"Bergen, \"\"B\"\"\",-1\n3,false,,9\n";
+const TABLE: &[u8] =
+    b"price:fix2,ok:flag,city:text,n\n7.5,true,\"Bergen, \"\"B\"\"\",-1\n3,false,,9\n";
 
 /// What the table answers to a call: the call, and the reply.
 fn asked(
@@ -59,9 +60,18 @@ fn texts(alloc: Global, line: &str) -> Result<(Vec<u8>, Vec<u8>, Vec<u8>), Fail>
 #[test]
 fn rows_of_each_kind(rt: HostRuntime) -> Result<(), Fail> {
     let (json, records, table) = texts(rt.alloc(), "select city, price, ok")?;
-    assert_eq!(rt; json.as_slice(), b"{\"number\":1,\"block\":2,\"line\":3,\"call\":\"select city, price, ok\",\"reply\":{\"columns\":[\"key\",\"city\",\"price\",\"ok\"],\"rows\":[[1,\"Bergen, \\\"B\\\"\",7.50,true],[2,\"\",3.00,false]]}}\n".as_slice());
-    assert_eq!(rt; records.as_slice(), b"key,city,price,ok\n1,\"Bergen, \"\"B\"\"\",7.50,true\n2,,3.00,false\n".as_slice());
-    assert_eq!(rt; table.as_slice(), b"city:text,price:fix2,ok:flag\n\"Bergen, \"\"B\"\"\",7.50,true\n,3.00,false\n".as_slice());
+    assert_eq!(rt;
+        json.as_slice(),
+        b"{\"number\":1,\"block\":2,\"line\":3,\"call\":\"select city, price, ok\",\"reply\":{\"columns\":[\"key\",\"city\",\"price\",\"ok\"],\"rows\":[[1,\"Bergen, \\\"B\\\"\",7.50,true],[2,\"\",3.00,false]]}}\n".as_slice()
+    );
+    assert_eq!(rt;
+        records.as_slice(),
+        b"key,city,price,ok\n1,\"Bergen, \"\"B\"\"\",7.50,true\n2,,3.00,false\n".as_slice()
+    );
+    assert_eq!(rt;
+        table.as_slice(),
+        b"city:text,price:fix2,ok:flag\n\"Bergen, \"\"B\"\"\",7.50,true\n,3.00,false\n".as_slice()
+    );
     Ok(())
 }
 
@@ -103,7 +113,12 @@ fn a_table_is_read_back(rt: HostRuntime) -> Result<(), Fail> {
 #[test]
 fn which_calls_make_tables(rt: HostRuntime) -> Result<(), Fail> {
     let (mut schema, rows) = load(rt.alloc(), TextKey::fixed(), &mut Counted::new(TABLE))?;
-    for (line, makes) in [("select n, ok", true), ("select n, n", false), ("count", false), ("delete 1", false)] {
+    for (line, makes) in [
+        ("select n, ok", true),
+        ("select n, n", false),
+        ("count", false),
+        ("delete 1", false),
+    ] {
         let (call, _) = asked(rt.alloc(), &mut schema, &rows, line)?;
         assert_eq!(rt; makes_table(&call), makes);
     }
@@ -138,11 +153,26 @@ fn described(rt: &HostRuntime, table: &[u8]) -> Result<(Vec<u8>, Vec<u8>), Fail>
 
 #[test]
 fn columns_are_described(rt: HostRuntime) -> Result<(), Fail> {
-    let (text, json) = described(&rt, b"price:fix2,ok:flag,city:text\n7.5,true,Oslo\n-3,true,it's\n10,true,Oslo\n")?;
-    assert_eq!(rt; text.as_slice(), b"rows 3\n\nname   kind  distinct  least  greatest\nprice  fix2  3         -3.00  10.00\nok     flag  1         true   true\ncity   text  2         -      -\n\nmost frequent of city\n2 'Oslo'\n1 'it''s'\n".as_slice());
-    assert_eq!(rt; json.as_slice(), b"{\"rows\":3,\"attributes\":[{\"name\":\"price\",\"kind\":\"fix2\",\"distinct\":3,\"least\":-3.00,\"greatest\":10.00},{\"name\":\"ok\",\"kind\":\"flag\",\"distinct\":1,\"least\":true,\"greatest\":true},{\"name\":\"city\",\"kind\":\"text\",\"distinct\":2,\"frequent\":[{\"text\":\"Oslo\",\"count\":2},{\"text\":\"it's\",\"count\":1}]}]}\n".as_slice());
+    let (text, json) = described(
+        &rt,
+        b"price:fix2,ok:flag,city:text\n7.5,true,Oslo\n-3,true,it's\n10,true,Oslo\n",
+    )?;
+    assert_eq!(rt;
+        text.as_slice(),
+        b"rows 3\n\nname   kind  distinct  least  greatest\nprice  fix2  3         -3.00  10.00\nok     flag  1         true   true\ncity   text  2         -      -\n\nmost frequent of city\n2 'Oslo'\n1 'it''s'\n".as_slice()
+    );
+    assert_eq!(rt;
+        json.as_slice(),
+        b"{\"rows\":3,\"attributes\":[{\"name\":\"price\",\"kind\":\"fix2\",\"distinct\":3,\"least\":-3.00,\"greatest\":10.00},{\"name\":\"ok\",\"kind\":\"flag\",\"distinct\":1,\"least\":true,\"greatest\":true},{\"name\":\"city\",\"kind\":\"text\",\"distinct\":2,\"frequent\":[{\"text\":\"Oslo\",\"count\":2},{\"text\":\"it's\",\"count\":1}]}]}\n".as_slice()
+    );
     let (text, json) = described(&rt, b"a\n")?;
-    assert_eq!(rt; text.as_slice(), b"rows 0\n\nname  kind  distinct  least  greatest\na     int   0         -      -\n".as_slice());
-    assert_eq!(rt; json.as_slice(), b"{\"rows\":0,\"attributes\":[{\"name\":\"a\",\"kind\":\"int\",\"distinct\":0,\"least\":null,\"greatest\":null}]}\n".as_slice());
+    assert_eq!(rt;
+        text.as_slice(),
+        b"rows 0\n\nname  kind  distinct  least  greatest\na     int   0         -      -\n".as_slice()
+    );
+    assert_eq!(rt;
+        json.as_slice(),
+        b"{\"rows\":0,\"attributes\":[{\"name\":\"a\",\"kind\":\"int\",\"distinct\":0,\"least\":null,\"greatest\":null}]}\n".as_slice()
+    );
     Ok(())
 }

@@ -8,10 +8,9 @@ use crate::clash::Clash;
 use crate::inputs::{Keeping, Kept, Place, Script, is_read_once, open_place, open_script};
 use crate::seeing::{LinesSeen, Seen, Sights};
 use crate::settings::Settings;
-use crate::shaping::{Form, shape};
-use crate::stacks;
-use crate::wording;
+use crate::shaping::{Form, script_bytes, shape};
 use crate::wording::{Asking, Keeps};
+use crate::{stacks, wording};
 use std::alloc::Global;
 use std::io;
 use std::random::RandomSource;
@@ -147,14 +146,7 @@ fn run_keeping<
     mut script: Keeping<S>,
     seen: &Seen<'_, R>,
 ) -> Came {
-    let ended = run_between(
-        rt,
-        alloc,
-        &mut table,
-        &mut script,
-        run,
-        seen,
-    );
+    let ended = run_between(rt, alloc, &mut table, &mut script, run, seen);
     let kept = Keeps {
         table: table.into_kept(),
         script: script.into_kept(),
@@ -283,18 +275,18 @@ impl Run<'_> {
     {
         let seen = Seen::new(rt, self.sights);
         let Came { ended, kept } = run_named(rt, alloc, self, &seen);
-        match ended {
-            Ok(ended) => match shape(rt, alloc, self.form, &ended.history, self.script, &kept.script) {
-                Ok(()) => finish(rt, alloc, self, &ended, &seen, errors),
-                Err(refusal) => {
-                    *words = wording::of_form(alloc, &refusal, self.script);
-                    Err(refusal)
-                }
-            },
+        let ended = match ended {
+            Ok(ended) => ended,
             Err(refusal) => {
                 *words = wording::words(rt, alloc, &self.asking(), &refusal, kept);
-                Err(refusal)
+                return Err(refusal);
             }
+        };
+        let script = script_bytes(self.script, &kept.script);
+        if let Err(refusal) = shape(rt, alloc, self.form, &ended.history, script) {
+            *words = wording::of_form(alloc, &refusal, self.script);
+            return Err(refusal);
         }
+        finish(rt, alloc, self, &ended, &seen, errors)
     }
 }

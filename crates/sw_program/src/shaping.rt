@@ -50,8 +50,8 @@ fn places(alloc: Global, entries: &[Entry]) -> Result<Vec<Place>, AllocError> {
     Ok(places)
 }
 
-/// The bytes of a script that were kept.
-fn kept_bytes<'k>(script: Script<'k>, kept: &'k Kept) -> Option<&'k [u8]> {
+/// The bytes of a script, where they are at hand.
+pub(crate) fn script_bytes<'k>(script: Script<'k>, kept: &'k Kept) -> Option<&'k [u8]> {
     match (script, kept) {
         (Script::Given(lines), _) => Some(lines),
         (_, Kept::Once(Some(bytes))) => Some(bytes.as_slice()),
@@ -209,13 +209,12 @@ pub(crate) fn shape<R: Print>(
     alloc: Global,
     form: Form,
     record: &Record,
-    script: Script<'_>,
-    kept: &Kept,
+    script: Option<&[u8]>,
 ) -> Result<(), Refusal> {
     if form == Form::Lines {
         return Ok(());
     }
-    let Ok(calls) = calls_of(alloc, record, kept_bytes(script, kept)) else {
+    let Ok(calls) = calls_of(alloc, record, script) else {
         return Err(Refusal::NoMemory);
     };
     let Ok(buffer) = BufWriter::new(alloc, io::writer(rt)) else {

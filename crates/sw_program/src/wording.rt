@@ -150,20 +150,23 @@ fn script_again<R: Files>(
     }
 }
 
+/// The texts that were read, as far as they can be had.
+fn texts_again<R: Files>(rt: &R, alloc: Global, asking: &Asking<'_>, kept: Keeps) -> Texts {
+    let Keeps { table, script } = kept;
+    Texts {
+        table: again(rt, alloc, asking.table, table),
+        script: script_again(rt, alloc, asking.script, script),
+    }
+}
+
 /// The words of a refusal that the texts have.
-fn of_texts<R: Files>(
-    rt: &R,
+fn of_texts(
     alloc: Global,
     key: TextKey,
     asking: &Asking<'_>,
     refusal: &Refusal,
-    kept: Keeps,
+    texts: &Texts,
 ) -> Result<String, AllocError> {
-    let Keeps { table, script } = kept;
-    let texts = Texts {
-        table: again(rt, alloc, asking.table, table),
-        script: script_again(rt, alloc, asking.script, script),
-    };
     let asked = texts.asked(asking);
     match (refusal, asked.table.bytes) {
         (Refusal::BadTable { rec, .. }, Some(bytes)) if asking.faults && *rec > 0 => {
@@ -194,7 +197,10 @@ pub(crate) fn words<R: Files + RandomSource>(
         Refusal::BadTable { .. }
         | Refusal::BadLine { .. }
         | Refusal::UnknownAttribute { .. }
-        | Refusal::TooMany { .. } => of_texts(rt, alloc, key, asking, refusal, kept).ok(),
+        | Refusal::TooMany { .. } => {
+            let texts = texts_again(rt, alloc, asking, kept);
+            of_texts(alloc, key, asking, refusal, &texts).ok()
+        }
         _ => None,
     }
 }
@@ -208,5 +214,7 @@ pub(crate) fn of_form(alloc: Global, refusal: &Refusal, script: Script<'_>) -> O
         Script::At(place) => format!(in alloc; "{} line {line}", called(place)).ok()?,
         Script::Given(_) => format!(in alloc; "argument {line}").ok()?,
     };
-    format!(in alloc; "{at}: --output table wants a select as the last call, of columns that differ\n").ok()
+    format!(in alloc;
+        "{at}: --output table wants a select as the last call, of columns that differ\n"
+    ).ok()
 }
