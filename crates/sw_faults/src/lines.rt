@@ -1,7 +1,5 @@
 //! Faults of a script, in words.
 
-ghost use Rattle.std.specs.Prelude.{◌<◌, length};
-
 use crate::choices::{Beginning, choices_behind, read_beginning};
 use crate::shown::{pointed, shown};
 use crate::tokens::token_from;
@@ -17,9 +15,7 @@ pub(crate) struct Line<'a> {
 }
 
 /// The first line of some bytes, and those behind its end.
-fn split_line(bytes: &[u8]) -> (&[u8], &[u8])
-    ensures { 0 < length bytes.now → length result.1.now < length bytes.now }
-{
+fn split_line(bytes: &[u8]) -> (&[u8], &[u8]) {
     let len = bytes.iter().take_while(|byte| **byte != b'\n').count();
     let Some((line, rest)) = bytes.split_at_checked(len) else {
         return (bytes, &[]);
@@ -70,7 +66,10 @@ pub(crate) fn first_refused<'s>(
 ) -> Result<Option<Line<'s>>, AllocError> {
     let mut rest = script;
     let mut number = 0u32;
-    while !rest.is_empty() {
+    for _ in 0..script.len() {
+        if rest.is_empty() {
+            break;
+        }
         let (line, after) = split_line(rest);
         number = number.saturating_add(1);
         if !is_divider(line) && is_refused(alloc, schema, line)? {
@@ -182,7 +181,10 @@ fn counts(script: &[u8]) -> (u64, u64) {
     let mut rest = script;
     let mut dividers = 0u64;
     let mut calls = 0u64;
-    while !rest.is_empty() {
+    for _ in 0..script.len() {
+        if rest.is_empty() {
+            break;
+        }
         let (line, after) = split_line(rest);
         if is_divider(line) {
             dividers = dividers.saturating_add(1);
@@ -202,7 +204,10 @@ pub fn call_lines(alloc: Global, script: &[u8]) -> Result<Vec<u32>, AllocError> 
     let mut rest = script;
     let mut number = 0u32;
     let mut lines = Vec::new(alloc);
-    while !rest.is_empty() {
+    for _ in 0..script.len() {
+        if rest.is_empty() {
+            break;
+        }
         let (line, after) = split_line(rest);
         number = number.saturating_add(1);
         if !is_divider(line) && is_call(line) {

@@ -85,13 +85,13 @@ fn write_rows<W: Sink>(
 ) -> Result<(), Refusal> {
     write_columns(alloc, schema, attrs, out)?;
     let mut left = rows.left();
-    let mut is_first = true;
-    while let Some(row) = left.next() {
-        if !is_first {
+    for place in 0..rows.len() {
+        if place > 0 {
             write_all(out, b",")?;
         }
-        is_first = false;
-        write_row(alloc, schema, attrs, row, out)?;
+        if let Some(row) = left.next() {
+            write_row(alloc, schema, attrs, row, out)?;
+        }
     }
     write_all(out, b"]}")
 }

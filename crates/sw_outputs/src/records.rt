@@ -139,9 +139,11 @@ fn keyed_rows(
     records.add(b"key")?;
     add_names(alloc, schema, attrs, false, &mut records)?;
     let mut left = rows.left();
-    while let Some((key, cells)) = left.next() {
-        add_number(alloc, key, &mut records)?;
-        add_cells(alloc, schema, attrs, cells, &mut records)?;
+    for _ in 0..rows.len() {
+        if let Some((key, cells)) = left.next() {
+            add_number(alloc, key, &mut records)?;
+            add_cells(alloc, schema, attrs, cells, &mut records)?;
+        }
     }
     records.into_bytes()
 }
@@ -156,8 +158,10 @@ fn table_rows(
     let mut records = Records::new(alloc);
     add_names(alloc, schema, attrs, true, &mut records)?;
     let mut left = rows.left();
-    while let Some((_, cells)) = left.next() {
-        add_cells(alloc, schema, attrs, cells, &mut records)?;
+    for _ in 0..rows.len() {
+        if let Some((_, cells)) = left.next() {
+            add_cells(alloc, schema, attrs, cells, &mut records)?;
+        }
     }
     records.into_bytes()
 }
