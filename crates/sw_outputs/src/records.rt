@@ -208,12 +208,11 @@ pub fn write_csv<W: Sink>(
 
 /// Whether no attribute stands twice.
 fn are_distinct(attrs: &[usize]) -> bool {
-    let mut rest = attrs;
-    while let Some((first, after)) = rest.split_first() {
-        if after.contains(first) {
+    for place in 0..attrs.len() {
+        let (before, _) = attrs.split_at(place);
+        if before.contains(&attrs[place]) {
             return false;
         }
-        rest = after;
     }
     true
 }
