@@ -1,5 +1,9 @@
 //! Cells as texts.
 
+ghost use Rattle.std.specs.Prelude.{◌≡◌, Some, IfOk, string_bytes};
+ghost use Rattle.serde_json.specs.Data.{string};
+ghost use Rattle.serde_json.specs.Read.{read};
+
 use serde_json::Value;
 use std::alloc::{AllocError, Global};
 use sw_lang::write_reply;
@@ -67,9 +71,12 @@ pub fn cell_text(
     }
 }
 
-/// A text as JSON has it, in quotes.
-pub fn json_text(alloc: Global, text: &str) -> Result<String, AllocError> {
-    Value::String(String::from_str(alloc, text)?).to_string(alloc)
+/// A text as JSON has it, in quotes: reading it gives the text back. The one error is that there is no memory.
+pub fn json_text(alloc: Global, text: &str) -> Result<String, AllocError>
+    ensures { IfOk result (λ json. read (string_bytes json) ≡ Some (string text.now)) }
+{
+    let value = Value::from(String::from_str(alloc, text)?);
+    value.to_string(alloc)
 }
 
 /// A cell of an attribute as JSON has it: a number with its kind's decimals, `true` or `false`, or a text in quotes.
