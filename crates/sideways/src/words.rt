@@ -1,5 +1,6 @@
 //! The words of the command line that the program takes.
 
+use crate::order::order_command;
 use clap::{Arg, ArgAction, Command};
 use std::alloc::{AllocError, Global};
 use sw_rows::MOST_ROWS;
@@ -178,5 +179,6 @@ pub(crate) fn command<'a>(alloc: Global) -> Result<Command<'a>, AllocError> {
         .subcommand_required(true)
         .subcommand(run)?
         .subcommand(check_command(alloc)?)?
+        .subcommand(order_command(alloc)?)?
         .subcommand(explain_command(alloc)?)
 }

@@ -5,6 +5,8 @@
 mod checking;
 mod clash;
 mod explaining;
+mod flaws;
+mod ordering;
 mod running;
 mod seeing;
 mod settings;
@@ -13,6 +15,7 @@ mod stacks;
 pub use checking::check_path;
 pub use clash::Clash;
 pub use explaining::explain;
+pub use ordering::{Ordering, Way};
 pub use running::Run;
 pub use seeing::Sights;
 pub use settings::{Limit, Settings};
