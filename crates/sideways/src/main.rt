@@ -5,8 +5,10 @@
 //! read is refused, and 3 where a call, the output or memory is.
 #![tactic(auto)]
 
+mod order;
 mod words;
 
+use crate::order::ordering_of;
 use crate::words::command;
 use clap::error::ErrorKind;
 use clap::{ArgMatches, Error};
@@ -185,6 +187,20 @@ fn make_description<R: Files + RandomSource + Print + Input + Threads + Sync, E:
     description.make(rt, alloc, &mut errors.words)
 }
 
+/// Looks for the order that the words ask for, unless the list of origins would be written over another of its files.
+fn make_order<
+    R: Files + RandomSource + Clock + Print + Eprint + Threads + Wait + Sync,
+    E: Sink + Drop,
+>(rt: &R, alloc: Global, given: &ArgMatches<'_>, errors: &mut Errors<E>) -> Result<u8, Refusal> {
+    let Some(ordering) = ordering_of(given, errors.is_terminal) else {
+        return Ok(2);
+    };
+    match ordering.clash(rt) {
+        Some(why) => refuse_words(rt, alloc, why),
+        None => ordering.make(rt, alloc, &mut errors.sink),
+    }
+}
+
 /// Makes what the words ask for, a command an arm.
 fn make_command<
     R: Files + RandomSource + Clock + Print + Eprint + Input + Threads + Wait + Sync,
@@ -193,6 +209,7 @@ fn make_command<
     match matches.subcommand() {
         Some(("check", given)) => make_check(rt, alloc, given),
         Some(("describe", given)) => make_description(rt, alloc, given, errors),
+        Some(("order", given)) => make_order(rt, alloc, given, errors),
         Some(("explain", given)) => explain(rt, given.get_one::<u64>("number")),
         Some((_, given)) => make_run(rt, alloc, given, errors),
         None => Ok(2),

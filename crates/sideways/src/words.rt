@@ -1,5 +1,6 @@
 //! The words of the command line that the program takes.
 
+use crate::order::order_command;
 use clap::{Arg, ArgAction, Command};
 use std::alloc::{AllocError, Global};
 use sw_rows::MOST_ROWS;
@@ -296,5 +297,6 @@ pub(crate) fn command<'a>(alloc: Global) -> Result<Command<'a>, AllocError> {
         .subcommand(run)?
         .subcommand(check_command(alloc)?)?
         .subcommand(describe_command(alloc)?)?
+        .subcommand(order_command(alloc)?)?
         .subcommand(explain_command(alloc)?)
 }

@@ -24,8 +24,10 @@ pub enum Flaw {
     Encoding,
     /// The session is no whole number from 1 to 1,024.
     Session,
-    /// A time is no whole number.
-    Time,
+    /// The start is no whole number.
+    Start,
+    /// The end is no whole number.
+    End,
     /// It ends before it starts.
     Ends,
     /// The call is an empty line or a comment.
@@ -39,7 +41,8 @@ impl fmt::Display for Flaw {
             Flaw::Fields => "has too few fields",
             Flaw::Encoding => "is not UTF-8",
             Flaw::Session => "has no session from 1 to 1024",
-            Flaw::Time => "has a time that is no whole number",
+            Flaw::Start => "has a start that is no whole number",
+            Flaw::End => "has an end that is no whole number",
             Flaw::Ends => "ends before it starts",
             Flaw::Empty => "has no call",
         })
@@ -152,8 +155,8 @@ fn frame_of(row: &ByteRecord, columns: &Columns) -> Result<Frame, Flaw> {
     if session == 0 || session > MOST_SESSIONS as u64 {
         return Err(Flaw::Session);
     }
-    let start = number_at(row, columns.start, Flaw::Time)?;
-    let end = number_at(row, columns.end, Flaw::Time)?;
+    let start = number_at(row, columns.start, Flaw::Start)?;
+    let end = number_at(row, columns.end, Flaw::End)?;
     if end < start {
         return Err(Flaw::Ends);
     }

@@ -73,7 +73,7 @@ impl<'r, R: Clock + Eprint> Seen<'r, R> {
     }
 
     /// The nanoseconds since the run began.
-    fn now(&self) -> u64 {
+    pub(crate) fn now(&self) -> u64 {
         let Some(began) = self.began else {
             return 0;
         };
@@ -84,7 +84,7 @@ impl<'r, R: Clock + Eprint> Seen<'r, R> {
     }
 
     /// Tells how far the run is, where that is due. Of threads that come at once one tells.
-    fn tell(&self, now: u64, number: u64, what: &str) {
+    pub(crate) fn tell(&self, now: u64, number: u64, what: &str) {
         let due = self.due.load(Ordering::SeqCst);
         if !self.sights.progress || now < due {
             return;
