@@ -5,8 +5,10 @@
 //! read is refused, and 3 where a call, the output or memory is.
 #![tactic(auto)]
 
+mod import;
 mod words;
 
+use crate::import::{NO_DELIMITER, make_import};
 use crate::words::command;
 use clap::error::ErrorKind;
 use clap::{ArgMatches, Error};
@@ -116,11 +118,15 @@ fn make_check<R: Files + RandomSource + Print>(
 
 /// Makes what the words ask for, a command an arm.
 fn make_command<
-    R: Files + RandomSource + Clock + Print + Eprint + Threads + Wait + Sync,
+    R: Files + Input + RandomSource + Clock + Print + Eprint + Threads + Wait + Sync,
     E: Sink + Drop,
 >(rt: &R, alloc: Global, matches: &ArgMatches<'_>, errors: &mut Errors<E>) -> Result<u8, Refusal> {
     match matches.subcommand() {
         Some(("check", given)) => make_check(rt, alloc, given),
+        Some(("import", given)) => match make_import(rt, alloc, given, &mut errors.sink) {
+            Some(status) => status,
+            None => refuse_words(rt, alloc, NO_DELIMITER),
+        },
         Some(("explain", given)) => explain(rt, given.get_one::<u64>("number")),
         Some((_, given)) => make_run(rt, alloc, given, errors),
         None => Ok(2),
@@ -129,7 +135,7 @@ fn make_command<
 
 /// Reads the words of the command line, and makes what they ask for.
 fn read_words<
-    R: Files + RandomSource + Clock + Print + Eprint + Threads + Wait + Sync,
+    R: Files + Input + RandomSource + Clock + Print + Eprint + Threads + Wait + Sync,
     E: Sink + Drop,
 >(rt: &R, alloc: Global, words: &[String], errors: &mut Errors<E>) -> Result<u8, Refusal> {
     let Ok(command) = command(alloc) else {
@@ -155,7 +161,7 @@ fn words_of<R: Env>(rt: &R, alloc: Global) -> Result<Vec<String>, Refusal> {
 
 /// Takes the command line and answers the exit status.
 fn answer<
-    R: Env + Files + RandomSource + Clock + Print + Eprint + Threads + Wait + Sync,
+    R: Env + Files + Input + RandomSource + Clock + Print + Eprint + Threads + Wait + Sync,
     E: Sink + Drop,
 >(rt: &R, alloc: Global, errors: &mut Errors<E>) -> Result<u8, Refusal> {
     let words = words_of(rt, alloc)?;

@@ -1,5 +1,6 @@
 //! The words of the command line that the program takes.
 
+use crate::import::import_command;
 use clap::{Arg, ArgAction, Command};
 use std::alloc::{AllocError, Global};
 use sw_rows::MOST_ROWS;
@@ -169,7 +170,7 @@ fn explain_command<'a>(alloc: Global) -> Result<Command<'a>, AllocError> {
         )
 }
 
-/// The command lines that are taken: `run` with its files and flags, `check` with its file, and `explain` with a number.
+/// The command lines that are taken: `run` with its files and flags, `check` and `import` with their files, and `explain` with a number.
 pub(crate) fn command<'a>(alloc: Global) -> Result<Command<'a>, AllocError> {
     let run = run_command(alloc)?;
     Command::new(alloc, "sideways")
@@ -178,5 +179,6 @@ pub(crate) fn command<'a>(alloc: Global) -> Result<Command<'a>, AllocError> {
         .subcommand_required(true)
         .subcommand(run)?
         .subcommand(check_command(alloc)?)?
+        .subcommand(import_command(alloc)?)?
         .subcommand(explain_command(alloc)?)
 }

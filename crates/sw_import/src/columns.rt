@@ -1,5 +1,8 @@
 //! Which columns are written, and what is asked of them.
 
+ghost use Rattle.std.specs.Prelude.{[], ◌≡◌, slice_index_or};
+ghost use Rattle.csv.specs.Records.{fields_of};
+
 use crate::faults::{At, Fault, shown};
 use crate::forms::Form;
 use crate::names::{name_asked, name_of};
@@ -45,7 +48,9 @@ impl Column {
 }
 
 /// The field at a place; an empty one past the last.
-pub(crate) fn field(record: &ByteRecord, place: usize) -> &[u8] {
+pub(crate) fn field(record: &ByteRecord, place: usize) -> &[u8]
+    ensures { result.now ≡ slice_index_or (fields_of record.now) place [] }
+{
     match record.get(place) {
         Some(field) => field,
         None => &[],

@@ -1,8 +1,8 @@
 //! What was seen of the cells of a column.
 
 use crate::forms::{Form, TRIED, fits, tried};
-use crate::rules::{Long, Rules, Times};
-use sw_rows::{MOST_BYTES_OF_TEXT, read_text};
+use crate::rules::{Rules, Times};
+use sw_rows::read_text;
 
 /// How many cells or rows there are of some sort, and the line of the first, from 1; 0 where there is none.
 #[derive(Clone, Copy, Debug, PartialEq, Eq)]
@@ -79,11 +79,10 @@ impl Evidence {
 
     /// Takes a cell with a value in.
     fn add_value(&mut self, times: Times, cell: &[u8], line: u64) {
-        if self.is_special() {
-            self.try_forms(times, cell);
-            if self.valued.count > 0 && !self.is_special() {
-                self.odd.add(line);
-            }
+        let was_special = self.valued.count > 0 && self.is_special();
+        self.try_forms(times, cell);
+        if was_special && !self.is_special() {
+            self.odd.add(line);
         }
         self.valued.add(line);
     }

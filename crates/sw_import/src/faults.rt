@@ -80,45 +80,61 @@ pub enum Fault {
     NoHeader,
     /// No column has a heading or number that was asked for.
     #[error("no column has the heading or the number `{asked}`: there are {count} columns")]
-    NoColumn { asked: String, count: u64 },
+    NoColumn {
+        asked: String,
+        count: u64,
+    },
     /// More columns than one have a heading that was asked for.
     #[error("{count} columns have the heading `{asked}`: give the number of one")]
-    ManyAlike { asked: String, count: u64 },
+    ManyAlike {
+        asked: String,
+        count: u64,
+    },
     /// More columns are asked for than a table has.
     #[error("more than 8 columns are asked for, and a table has at most 8")]
     ManyColumns,
     /// A new name or a kind is asked for of a column that is not written.
     #[error("`{asked}` is asked of a column that is not written")]
-    NotWritten { asked: String },
+    NotWritten {
+        asked: String,
+    },
     /// What is asked of a column is not divided by an equals sign.
     #[error("`{asked}` has no `=` between the heading and what is asked of its column")]
-    NoEquals { asked: String },
+    NoEquals {
+        asked: String,
+    },
     /// A name is none.
-    #[error(
-        "`{name}` is no name: a name has 1 to 32 letters, digits and underscores, begins with no digit, and is no word of scripts"
-    )]
-    NoName { name: String },
+    #[error("`{name}` is no name: a name has 1 to 32 letters, digits and underscores, begins with no digit, and is no word of scripts")]
+    NoName {
+        name: String,
+    },
     /// A name is that of another column.
     #[error("`{name}` is the name of more columns than one")]
-    NameTwice { name: String },
+    NameTwice {
+        name: String,
+    },
     /// A kind is none.
     #[error("`{kind}` is no kind: int, fix1 to fix6, flag, text, seconds or days")]
-    NoKind { kind: String },
+    NoKind {
+        kind: String,
+    },
     /// A record has another number of fields than the header.
     #[error("line {line}: {found} fields, and the header has {wanted}")]
-    Ragged { line: u64, found: u64, wanted: u64 },
+    Ragged {
+        line: u64,
+        found: u64,
+        wanted: u64,
+    },
     /// There are more rows than a table has.
     #[error("line {line}: more than 1048576 rows; --sample N writes the first N")]
-    ManyRows { line: u64 },
+    ManyRows {
+        line: u64,
+    },
     /// Blank cells stand in columns of numbers, flags or times.
-    #[error(
-        "cells without a value: {0}; choose: --empty drop leaves their rows out, --empty VALUE writes VALUE in their place, --empty text makes texts of the column"
-    )]
+    #[error("cells without a value: {0}; choose: --empty drop leaves their rows out, --empty VALUE writes VALUE in their place, --empty text makes texts of the column")]
     Blanks(Lacks),
     /// Texts are too long.
-    #[error(
-        "texts of more than 64 bytes, or with bytes below 32 or 127: {0}; choose: --long cut writes the longest beginning that can be a text, --long drop leaves their rows out, --long number writes numbers that stand for the texts"
-    )]
+    #[error("texts of more than 64 bytes, or with bytes below 32 or 127: {0}; choose: --long cut writes the longest beginning that can be a text, --long drop leaves their rows out, --long number writes numbers that stand for the texts")]
     Longs(Lacks),
     /// Texts are not UTF-8.
     #[error("texts that are not UTF-8: {0}")]
@@ -141,6 +157,16 @@ pub enum Fault {
     /// The table would be none.
     #[error("the table would be refused: {0}")]
     Table(Refusal),
+}
+
+impl Fault {
+    /// Whether memory was wanting.
+    pub fn is_memory(&self) -> bool {
+        match self {
+            Fault::NoMemory | Fault::Table(Refusal::NoMemory) => true,
+            _ => false,
+        }
+    }
 }
 
 impl From<AllocError> for Fault {

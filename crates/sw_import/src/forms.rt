@@ -1,5 +1,10 @@
 //! What the cells of a column are, and how each is written.
 
+ghost use Rattle.std.specs.Prelude.{[], ◌≡◌, is_some};
+ghost use Rattle.sw_rows.specs.Cells.{HasPlaces, cell_value};
+ghost use Rattle.sw_rows.specs.Domains.{domain};
+ghost use Rattle.sw_import.specs.Forms.{begins_plainly, domain_of, fits, flag_of, number_domain, takes_blanks};
+
 use crate::dates::{days_of, seconds_of};
 use crate::rules::Times;
 use sw_rows::{Kind, read_cell_bytes};
@@ -23,10 +28,13 @@ pub enum Form {
 
 impl Form {
     /// The kind of the attribute that the column becomes.
-    pub fn kind(self) -> Kind {
+    pub fn kind(self) -> Kind
+        ensures value { domain [] result ≡ domain_of self }
+        ensures places { HasPlaces result }
+    {
         match self {
-            Form::Number(0) | Form::Seconds | Form::Days | Form::Code => Kind::Int,
-            Form::Number(places) => Kind::Fix(places),
+            Form::Seconds | Form::Days | Form::Code => Kind::Int,
+            Form::Number(places) => number_kind(places),
             Form::Flag => Kind::Flag,
             Form::Text => Kind::Text,
         }
@@ -57,7 +65,9 @@ impl Form {
     }
 
     /// Whether cells without a value may stand in the column.
-    pub fn takes_blanks(self) -> bool {
+    pub fn takes_blanks(self) -> bool
+        ensures { result ≡ takes_blanks self }
+    {
         match self {
             Form::Text | Form::Code => true,
             _ => false,
@@ -65,23 +75,30 @@ impl Form {
     }
 }
 
-/// The kind of numbers with so many decimals.
-fn number_kind(places: u8) -> Kind {
+/// The kind of numbers with so many decimals, of which there are at most six.
+fn number_kind(places: u8) -> Kind
+    ensures value { domain [] result ≡ number_domain places }
+    ensures places { HasPlaces result }
+{
     if places == 0 {
         Kind::Int
     } else {
-        Kind::Fix(places)
+        Kind::Fix(places.min(6))
     }
 }
 
 /// The number of a cell of numbers with so many decimals.
-pub(crate) fn number_of(places: u8, cell: &[u8]) -> Option<i64> {
+pub(crate) fn number_of(places: u8, cell: &[u8]) -> Option<i64>
+    ensures { result ≡ cell_value (number_domain places) cell.now }
+{
     read_cell_bytes(number_kind(places), cell)
 }
 
 /// Whether a cell begins as a plain number does: perhaps with a `-`, and then with a digit, which is no zero before
 /// another digit.
-fn begins_plainly(cell: &[u8]) -> bool {
+fn begins_plainly(cell: &[u8]) -> bool
+    ensures { result ≡ begins_plainly cell.now }
+{
     let digits = match cell {
         [b'-', rest @ ..] => rest,
         _ => cell,
@@ -94,7 +111,9 @@ fn begins_plainly(cell: &[u8]) -> bool {
 }
 
 /// The flag that a cell is, in whatever case.
-pub(crate) fn flag_of(cell: &[u8]) -> Option<bool> {
+pub(crate) fn flag_of(cell: &[u8]) -> Option<bool>
+    ensures { result ≡ flag_of cell.now }
+{
     if cell.eq_ignore_ascii_case(b"true") {
         Some(true)
     } else if cell.eq_ignore_ascii_case(b"false") {
@@ -105,7 +124,9 @@ pub(crate) fn flag_of(cell: &[u8]) -> Option<bool> {
 }
 
 /// Whether a cell is one of a form.
-pub fn fits(form: Form, cell: &[u8]) -> bool {
+pub fn fits(form: Form, cell: &[u8]) -> bool
+    ensures { result ≡ fits form cell.now }
+{
     match form {
         Form::Number(places) => begins_plainly(cell) && number_of(places, cell).is_some(),
         Form::Flag => flag_of(cell).is_some(),

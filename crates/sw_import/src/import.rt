@@ -1,5 +1,7 @@
 //! A table is made of values.
 
+ghost use Rattle.std.specs.Prelude.{◌≡◌, length, vec_len, IfOk};
+
 use crate::columns::{Asked, Column, columns_of, field};
 use crate::evidence::Evidence;
 use crate::faults::{At, Fault};
@@ -90,10 +92,12 @@ fn header_of(alloc: Global, how: &How<'_>, text: &[u8]) -> Result<ByteRecord, Fa
 }
 
 /// Takes the cells of a record in.
-fn see_record(rules: &Rules<'_>, columns: &[Column], record: &ByteRecord, seen: &mut [Evidence]) {
+fn see_record(rules: &Rules<'_>, columns: &[Column], record: &ByteRecord, seen: &mut [Evidence])
+    requires { length seen.old ≡ length columns.now }
+{
     let line = line_of(record);
-    for (column, evidence) in columns.iter().zip(seen) {
-        evidence.add(rules, field(record, column.place), line);
+    for place in 0..columns.len() {
+        seen[place].add(rules, field(record, columns[place].place), line);
     }
 }
 
@@ -104,7 +108,9 @@ fn survey(
     rules: &Rules<'_>,
     columns: &[Column],
     seen: &mut [Evidence],
-) -> Result<u64, Fault> {
+) -> Result<u64, Fault>
+    requires { length seen.old ≡ length columns.now }
+{
     let mut record = ByteRecord::new(alloc);
     let mut rdr = values.rows(alloc, &mut record)?;
     let mut count = 0u64;
@@ -126,7 +132,9 @@ fn survey(
 }
 
 /// What was seen of so many columns before any cell.
-fn nothing_seen(alloc: Global, count: usize) -> Result<Vec<Evidence>, AllocError> {
+fn nothing_seen(alloc: Global, count: usize) -> Result<Vec<Evidence>, AllocError>
+    ensures { IfOk result (λ seen. vec_len seen ≡ count) }
+{
     vec![in alloc; Evidence::new(); count]
 }
 
@@ -209,7 +217,13 @@ pub fn import(alloc: Global, key: TextKey, how: &How<'_>, text: &[u8]) -> Result
         width: header.len(),
     };
     let mut seen = nothing_seen(alloc, columns.len())?;
-    let read = survey(alloc, values, &how.rules, columns.as_slice(), seen.as_mut_slice())?;
+    let read = survey(
+        alloc,
+        values,
+        &how.rules,
+        columns.as_slice(),
+        seen.as_mut_slice(),
+    )?;
     let mut plan = plan(alloc, key, &how.rules, columns, seen.as_slice())?;
     see_plan(alloc, &how.rules, plan.as_slice())?;
     learn(alloc, values, plan.as_mut_slice())?;

@@ -13,6 +13,7 @@ mod names;
 mod planning;
 mod records;
 mod rules;
+mod telling;
 mod writing;
 
 pub use columns::{Asked, Column, MOST_COLUMNS};
@@ -24,6 +25,7 @@ pub use forms::{Form, fits};
 pub use import::{How, Imported, import};
 pub use planning::Planned;
 pub use rules::{Blank, Long, Rules, Times};
+pub use telling::{dictionary_of, told};
 pub use writing::Done;
 
 #[cfg(test)]

@@ -118,11 +118,7 @@ fn refused_encodings(planned: &Planned) -> Tally {
 }
 
 /// Refuses the cells for which nothing was chosen.
-pub(crate) fn see_plan(
-    alloc: Global,
-    rules: &Rules<'_>,
-    plan: &[Planned],
-) -> Result<(), Fault> {
+pub(crate) fn see_plan(alloc: Global, rules: &Rules<'_>, plan: &[Planned]) -> Result<(), Fault> {
     let encodings = lacks(alloc, plan, |planned| refused_encodings(planned))?;
     if !encodings.lacks.is_empty() {
         return Err(Fault::Encodings(encodings));

@@ -1,5 +1,8 @@
 //! What is to become of cells that stand for no value of their column.
 
+ghost use Rattle.std.specs.Prelude.{◌≡◌, option_map};
+ghost use Rattle.sw_import.specs.Made.{is_blank};
+
 use crate::forms::Form;
 
 /// What becomes of a blank cell in a column of numbers, flags or times.
@@ -54,7 +57,9 @@ pub struct Rules<'a> {
 
 impl Rules<'_> {
     /// Whether a cell has no value: it is empty, or the word for that.
-    pub fn is_blank(&self, cell: &[u8]) -> bool {
+    pub fn is_blank(&self, cell: &[u8]) -> bool
+        ensures { result ≡ is_blank self.now cell.now }
+    {
         match self.null {
             Some(word) => cell.is_empty() || cell == word,
             None => cell.is_empty(),

@@ -1,14 +1,19 @@
 //! The table goes out, record by record.
 
+ghost use Rattle.std.specs.Prelude.{[], ◌≡◌, ◌∷◌, ◌++◌, if◌then◌else◌, IfOk, OnOk};
+ghost use Rattle.csv.specs.Records.{fields_of, partial_of};
+ghost use Rattle.sw_import.specs.Made.{NoRow, Row, row_made, sources_of};
+
 use crate::columns::field;
 use crate::evidence::Tally;
 use crate::faults::{Fault, shown};
+use crate::forms::Form;
 use crate::making::{Made, make};
 use crate::planning::Planned;
 use crate::records::{line_of, next};
 use crate::rules::Rules;
 use csv::{ByteRecord, Reader, Writer};
-use itoa::Buffer;
+use itoa::{Buffer, Integer};
 use std::alloc::{AllocError, Global};
 use sw_rows::MOST_ROWS;
 
@@ -44,20 +49,33 @@ impl Done {
                     self.changed.add(line);
                 }
             }
-            Made::Number(_) => self.changed.add(line),
+            Made::Number(_) | Made::Code(_) => self.changed.add(line),
         }
     }
 }
 
-/// Adds what is written of a cell to a record.
-fn push_made(made: Made<'_>, record: &mut ByteRecord) -> Result<(), AllocError> {
-    match made {
-        Made::Bytes(bytes) => record.push_field(bytes),
-        Made::Number(number) => {
-            let mut buffer = Buffer::new();
-            record.push_field(buffer.format(number).as_bytes())
-        }
-        Made::LeftOut | Made::Refused => Ok(()),
+/// Adds a number to a record, as a field.
+fn push_number<N: Integer>(number: N, record: &mut ByteRecord) -> Result<(), AllocError>
+    requires { partial_of record.old ≡ [] }
+    ensures field { OnOk result (fields_of record.new ≡ fields_of record.old ++ N.text number ∷ []) }
+    ensures partial { OnOk result (partial_of record.new ≡ []) }
+{
+    let mut buffer = Buffer::new();
+    record.push_field(buffer.format(number).as_bytes())
+}
+
+/// Takes in what was written of a cell.
+fn note(
+    rules: &Rules<'_>,
+    form: Form,
+    written: Made<'_>,
+    cell: &[u8],
+    line: u64,
+    done: Option<&mut Done>,
+) {
+    if let Some(done) = done {
+        let is_filled = rules.filling(form, cell).is_some();
+        done.add(written, cell, is_filled, line);
     }
 }
 
@@ -94,20 +112,30 @@ fn make_record(
     record: &ByteRecord,
     made: &mut ByteRecord,
     done: &mut [Done],
-) -> Result<bool, Fault> {
+) -> Result<bool, Fault>
+    ensures { IfOk result (λ kept. row_made rules.now (sources_of plan.now) (fields_of record.now)
+        ≡ (if kept then Row (fields_of made.new) else NoRow)) }
+{
     made.clear();
     let line = line_of(record);
-    for (place, planned) in plan.iter().enumerate() {
+    for place in 0..plan.len() {
+        let planned = &plan[place];
         let cell = field(record, planned.column.place);
         let written = make(rules, planned.form, &planned.dictionary, cell);
-        if let Some(done) = done.get_mut(place) {
-            let is_filled = rules.filling(planned.form, cell).is_some();
-            done.add(written, cell, is_filled, line);
-        }
+        note(
+            rules,
+            planned.form,
+            written,
+            cell,
+            line,
+            done.get_mut(place),
+        );
         match written {
+            Made::Bytes(bytes) => made.push_field(bytes)?,
+            Made::Number(number) => push_number(number, made)?,
+            Made::Code(number) => push_number(number, made)?,
             Made::LeftOut => return Ok(false),
             Made::Refused => return Err(no_cell(alloc, rules, planned, cell, line)?),
-            _ => push_made(written, made)?,
         }
     }
     Ok(true)

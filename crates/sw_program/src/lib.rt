@@ -5,6 +5,7 @@
 mod checking;
 mod clash;
 mod explaining;
+mod importing;
 mod running;
 mod seeing;
 mod settings;
@@ -13,8 +14,10 @@ mod stacks;
 pub use checking::check_path;
 pub use clash::Clash;
 pub use explaining::explain;
+pub use importing::Import;
 pub use running::Run;
 pub use seeing::Sights;
 pub use settings::{Limit, Settings};
 pub use sw_cli::{status, write_fault};
+pub use sw_import::{Asked, Blank, How, Long, Rules, Times};
 pub use sw_rows::Refusal;
