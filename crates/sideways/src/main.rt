@@ -5,9 +5,11 @@
 //! read is refused, and 3 where a call, the output or memory is.
 #![tactic(auto)]
 
+mod import;
 mod order;
 mod words;
 
+use crate::import::{NO_DELIMITER, make_import};
 use crate::order::ordering_of;
 use crate::words::command;
 use clap::error::ErrorKind;
@@ -210,6 +212,10 @@ fn make_command<
         Some(("check", given)) => make_check(rt, alloc, given),
         Some(("describe", given)) => make_description(rt, alloc, given, errors),
         Some(("order", given)) => make_order(rt, alloc, given, errors),
+        Some(("import", given)) => match make_import(rt, alloc, given, &mut errors.sink) {
+            Some(status) => status,
+            None => refuse_words(rt, alloc, NO_DELIMITER),
+        },
         Some(("explain", given)) => explain(rt, given.get_one::<u64>("number")),
         Some((_, given)) => make_run(rt, alloc, given, errors),
         None => Ok(2),

@@ -1,5 +1,6 @@
 //! The words of the command line that the program takes.
 
+use crate::import::import_command;
 use crate::order::order_command;
 use clap::{Arg, ArgAction, Command};
 use std::alloc::{AllocError, Global};
@@ -284,8 +285,8 @@ fn explain_command<'a>(alloc: Global) -> Result<Command<'a>, AllocError> {
         )
 }
 
-/// The command lines that are taken: `run` with its files and flags, `check` and `describe` with their file, and `explain`
-/// with a number.
+/// The command lines that are taken: `run` with its files and flags, `check`, `describe`, `import` and `order` with their files,
+/// and `explain` with a number.
 pub(crate) fn command<'a>(alloc: Global) -> Result<Command<'a>, AllocError> {
     let run = run_command(alloc)?;
     Command::new(alloc, "sideways")
@@ -298,5 +299,6 @@ pub(crate) fn command<'a>(alloc: Global) -> Result<Command<'a>, AllocError> {
         .subcommand(check_command(alloc)?)?
         .subcommand(describe_command(alloc)?)?
         .subcommand(order_command(alloc)?)?
+        .subcommand(import_command(alloc)?)?
         .subcommand(explain_command(alloc)?)
 }

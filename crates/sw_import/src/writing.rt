@@ -1,0 +1,223 @@
+//! The table goes out, record by record.
+
+ghost use Rattle.std.specs.Prelude.{[], ◌≡◌, ◌∷◌, ◌++◌, if◌then◌else◌, IfOk, OnOk};
+ghost use Rattle.csv.specs.Records.{fields_of, partial_of};
+ghost use Rattle.sw_import.specs.Made.{NoRow, Row, row_made, sources_of};
+
+use crate::columns::field;
+use crate::evidence::Tally;
+use crate::faults::{Fault, shown};
+use crate::forms::Form;
+use crate::making::{Made, make};
+use crate::planning::Planned;
+use crate::records::{line_of, next};
+use crate::rules::Rules;
+use csv::{ByteRecord, Reader, Writer};
+use itoa::{Buffer, Integer};
+use std::alloc::{AllocError, Global};
+use sw_rows::MOST_ROWS;
+
+/// What was done to the cells of a column.
+#[derive(Clone, Copy, Debug)]
+pub struct Done {
+    /// The cells without a value in whose place another was written.
+    pub filled: Tally,
+    /// The other cells of which another text was written than theirs.
+    pub changed: Tally,
+    /// The cells for which their rows were left out.
+    pub left_out: Tally,
+}
+
+impl Done {
+    /// Nothing.
+    pub(crate) fn new() -> Done {
+        Done {
+            filled: Tally::new(),
+            changed: Tally::new(),
+            left_out: Tally::new(),
+        }
+    }
+
+    /// Takes in what was written of a cell.
+    fn add(&mut self, made: Made<'_>, cell: &[u8], is_filled: bool, line: u64) {
+        match made {
+            Made::LeftOut => self.left_out.add(line),
+            Made::Refused => {}
+            _ if is_filled => self.filled.add(line),
+            Made::Bytes(bytes) => {
+                if bytes != cell {
+                    self.changed.add(line);
+                }
+            }
+            Made::Number(_) | Made::Code(_) => self.changed.add(line),
+        }
+    }
+}
+
+/// Adds a number to a record, as a field.
+fn push_number<N: Integer>(number: N, record: &mut ByteRecord) -> Result<(), AllocError>
+    requires { partial_of record.old ≡ [] }
+    ensures field { OnOk result (fields_of record.new ≡ fields_of record.old ++ N.text number ∷ []) }
+    ensures partial { OnOk result (partial_of record.new ≡ []) }
+{
+    let mut buffer = Buffer::new();
+    record.push_field(buffer.format(number).as_bytes())
+}
+
+/// Takes in what was written of a cell.
+fn note(
+    rules: &Rules<'_>,
+    form: Form,
+    written: Made<'_>,
+    cell: &[u8],
+    line: u64,
+    done: Option<&mut Done>,
+) {
+    if let Some(done) = done {
+        let is_filled = rules.filling(form, cell).is_some();
+        done.add(written, cell, is_filled, line);
+    }
+}
+
+/// That a cell is none of what its column is taken for.
+fn no_cell(
+    alloc: Global,
+    rules: &Rules<'_>,
+    planned: &Planned,
+    cell: &[u8],
+    line: u64,
+) -> Result<Fault, AllocError> {
+    let at = planned.column.at(alloc)?;
+    let kind = planned.form.told();
+    Ok(match rules.filling(planned.form, cell) {
+        Some(value) => Fault::Value {
+            value: shown(alloc, value)?,
+            at,
+            kind,
+        },
+        None => Fault::Cell {
+            line,
+            at,
+            cell: shown(alloc, cell)?,
+            kind,
+        },
+    })
+}
+
+/// Makes the record that is written of one that was read. False where it is left out.
+fn make_record(
+    alloc: Global,
+    rules: &Rules<'_>,
+    plan: &[Planned],
+    record: &ByteRecord,
+    made: &mut ByteRecord,
+    done: &mut [Done],
+) -> Result<bool, Fault>
+    ensures { IfOk result (λ kept. row_made rules.now (sources_of plan.now) (fields_of record.now)
+        ≡ (if kept then Row (fields_of made.new) else NoRow)) }
+{
+    made.clear();
+    let line = line_of(record);
+    for place in 0..plan.len() {
+        let planned = &plan[place];
+        let cell = field(record, planned.column.place);
+        let written = make(rules, planned.form, &planned.dictionary, cell);
+        note(
+            rules,
+            planned.form,
+            written,
+            cell,
+            line,
+            done.get_mut(place),
+        );
+        match written {
+            Made::Bytes(bytes) => made.push_field(bytes)?,
+            Made::Number(number) => push_number(number, made)?,
+            Made::Code(number) => push_number(number, made)?,
+            Made::LeftOut => return Ok(false),
+            Made::Refused => return Err(no_cell(alloc, rules, planned, cell, line)?),
+        }
+    }
+    Ok(true)
+}
+
+/// Writes a record. Over memory only memory can fail.
+fn write_record(record: &ByteRecord, writer: &mut Writer<Vec<u8>>) -> Result<(), Fault> {
+    match writer.write_byte_record(record) {
+        Ok(()) => Ok(()),
+        Err(_) => Err(Fault::NoMemory),
+    }
+}
+
+/// Writes the header: of each column its name and its kind.
+pub(crate) fn write_header(
+    alloc: Global,
+    plan: &[Planned],
+    writer: &mut Writer<Vec<u8>>,
+) -> Result<(), Fault> {
+    let mut header = ByteRecord::new(alloc);
+    for planned in plan {
+        let name = planned.column.name.as_str();
+        let kind = planned.form.word();
+        let text = format!(in alloc; "{name}:{kind}")?;
+        header.push_field(text.as_bytes())?;
+    }
+    write_record(&header, writer)
+}
+
+/// How many rows may be written: so many, or a table's most, of which a further one is a fault.
+#[derive(Clone, Copy, Debug)]
+pub(crate) struct Most {
+    /// So many.
+    pub(crate) rows: u64,
+    /// Whether further rows are left.
+    pub(crate) is_sample: bool,
+}
+
+impl Most {
+    /// A sample of so many rows, or all rows of a table.
+    pub(crate) fn of(sample: Option<u64>) -> Most {
+        match sample {
+            Some(rows) => Most {
+                rows: rows.min(MOST_ROWS),
+                is_sample: true,
+            },
+            None => Most {
+                rows: MOST_ROWS,
+                is_sample: false,
+            },
+        }
+    }
+}
+
+/// Writes the rows that a reader has left, and says how many were written.
+pub(crate) fn write_rows(
+    alloc: Global,
+    rules: &Rules<'_>,
+    plan: &[Planned],
+    most: Most,
+    rdr: &mut Reader<&[u8]>,
+    writer: &mut Writer<Vec<u8>>,
+    done: &mut [Done],
+) -> Result<u64, Fault> {
+    let mut record = ByteRecord::new(alloc);
+    let mut made = ByteRecord::new(alloc);
+    let mut written = 0u64;
+    for _ in 0..u64::MAX {
+        if most.is_sample && written >= most.rows {
+            break;
+        }
+        if !next(rdr, &mut record)? {
+            break;
+        }
+        if make_record(alloc, rules, plan, &record, &mut made, done)? {
+            if written >= most.rows {
+                let line = line_of(&record);
+                return Err(Fault::ManyRows { line });
+            }
+            write_record(&made, writer)?;
+            written += 1;
+        }
+    }
+    Ok(written)
+}
