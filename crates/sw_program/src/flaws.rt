@@ -77,27 +77,30 @@ pub(crate) fn told(
             format!(in alloc; "{name} line {line}, {wanted}")
         }
         Fault::Call {
-            record, refusal, ..
+            record,
+            refusal,
+            ..
         } => called(alloc, name, line_of(bytes, *record), refusal),
     }
 }
 
 /// What is told of a line in the place of a call.
-fn called(
-    alloc: Global,
-    name: &str,
-    line: u64,
-    refusal: &Refusal,
-) -> Result<String, AllocError> {
+fn called(alloc: Global, name: &str, line: u64, refusal: &Refusal) -> Result<String, AllocError> {
     match refusal {
         Refusal::BadLine { why, .. } => {
-            format!(in alloc; "{name} line {line}, call: wanted a call of a script, and it has none: {why}")
+            format!(in alloc;
+                "{name} line {line}, call: wanted a call of a script, and it has none: {why}"
+            )
         }
         Refusal::UnknownAttribute { name: attr } => {
-            format!(in alloc; "{name} line {line}, call: wanted an attribute of the table, and {attr} is none")
+            format!(in alloc;
+                "{name} line {line}, call: wanted an attribute of the table, and {attr} is none"
+            )
         }
         other => {
-            format!(in alloc; "{name} line {line}, call: wanted a call that can be read: refused {other}")
+            format!(in alloc;
+                "{name} line {line}, call: wanted a call that can be read: refused {other}"
+            )
         }
     }
 }

@@ -93,7 +93,13 @@ fn read_one<R: Files>(
     ensures { OnOk result (AllFit (length schema.new) calls.new.items) }
 {
     let bytes = bytes_of(rt, alloc, log, path)?;
-    match read_log(alloc, schema, log, &mut Counted::new(bytes.as_slice()), calls) {
+    match read_log(
+        alloc,
+        schema,
+        log,
+        &mut Counted::new(bytes.as_slice()),
+        calls,
+    ) {
         Ok(()) => Ok(()),
         Err(fault) => Err(refused(alloc, path, bytes.as_slice(), &fault)),
     }
