@@ -62,7 +62,7 @@ abbrev pub IsExplained : History → ℕ → List ℕ → Type 0
 IsExplained h status text =
     (IsLegal h × (status ≡ 0) × (text ≡ legal_line (length h.entries)))
     ⊎ ((place : ℕ) × (why : List ℕ) × IsFirstFault h place × Explains h place why
-        × (status ≡ 1) × (text ≡ illegal_line place ++ why))
+    × (status ≡ 1) × (text ≡ illegal_line place ++ why))
 
 abbrev pub HasExplained : History → ℕ → Option (List ℕ) → Option (List ℕ) → ℕ → ℕ → Type 0
 HasExplained h status old new f g = (text : List ℕ) × IsExplained h status text × Took old new text × (g ≡ f)

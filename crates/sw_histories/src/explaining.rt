@@ -27,7 +27,11 @@ fn entry_line(
     ensures { IfOk result (λ text. string_bytes text ≡ entry_line schema.now place entry.now) }
 {
     let call = call_string(alloc, schema, &entry.call)?;
-    format!(in alloc; "entry {place}, session {}: {}\n", entry.session, call.as_str())
+    format!(in alloc;
+        "entry {place}, session {}: {}\n",
+        entry.session,
+        call.as_str()
+    )
 }
 
 /// The line at a place, from 0, of a reply, or that it has none there.
@@ -70,6 +74,11 @@ fn parting_of(
         State::Lines(lines) => parting(alloc, lines, listed),
         State::Open | State::Void => parting(alloc, &Lines::of(Vec::new(alloc)), listed),
     }
+}
+
+/// The last of some places, as many as are shown at most.
+fn last_of(places: &[usize]) -> &[usize] {
+    &places[places.len().saturating_sub(MOST_CHANGES)..]
 }
 
 /// The entries at some places, from 0, as those that changed rows last.
@@ -120,8 +129,8 @@ fn explanation(alloc: Global, history: &Record, place: u64) -> Result<String, Re
 {
     let index = (place - 1) as usize;
     let listed = history.expected_at(index)?;
-    let changes = history.changes_before(index, MOST_CHANGES)?;
-    match explanation_text(alloc, history, place, &listed, changes.as_slice()) {
+    let changes = history.changes_before(index)?;
+    match explanation_text(alloc, history, place, &listed, last_of(changes.as_slice())) {
         Ok(text) => Ok(text),
         Err(_) => Err(Refusal::NoMemory),
     }
@@ -137,11 +146,7 @@ fn write_explained<W: Sink>(place: u64, why: &[u8], out: &mut W) -> Result<(), R
 }
 
 /// Writes the verdict on a record with its explanation, and answers its status.
-fn judge_explained<W: Sink>(
-    alloc: Global,
-    history: &Record,
-    out: &mut W,
-) -> Result<u8, Refusal>
+fn judge_explained<W: Sink>(alloc: Global, history: &Record, out: &mut W) -> Result<u8, Refusal>
     ensures { JudgesExplained history.now (W.taken out.old) (W.taken out.new) (W.failed out.old) (W.failed out.new) result }
 {
     match history.check() {

@@ -3,10 +3,9 @@
 ghost use Rattle.std.specs.Prelude.{◌<◌, All, IfOk, IsOkUnless, length};
 ghost use Rattle.sw_spine.specs.History.{CallsBelow};
 
-use crate::check::make_call;
 use crate::history::Record;
 use crate::replay::Replay;
-use sw_rows::{Call, Cond, Refusal, Row, is_within};
+use sw_rows::{Call, Cond, Refusal, Row, Schema, is_within};
 
 /// The rows that a call asks for.
 #[derive(Clone, Copy)]
@@ -56,24 +55,32 @@ impl<'a> Asked<'a> {
     }
 }
 
-/// Puts a place behind others, of which the first goes where there are so many already.
-fn keep_last(places: &mut Vec<usize>, place: usize, most: usize) -> Result<(), Refusal> {
-    if places.push(place).is_err() {
-        return Err(Refusal::NoMemory);
+/// Makes a call on the table, and says whether it brings or takes out a row that is asked for. The one refusal is `NoMemory`.
+fn make_watched(
+    schema: &Schema,
+    replay: &mut Replay,
+    call: &Call,
+    asked: Asked<'_>,
+) -> Result<bool, Refusal>
+    requires { CallsBelow (length schema.now) call.now }
+    ensures { IsOkUnless result Refusal.NoMemory }
+{
+    let width = schema.len();
+    prove!(width <= 8);
+    let touches = replay.would_touch(call, asked)?;
+    match replay.make(call) {
+        Ok(_) => Ok(touches),
+        Err(_) => Err(Refusal::NoMemory),
     }
-    if places.len() > most {
-        places.remove(0);
-    }
-    Ok(())
 }
 
 impl Record {
-    /// The places, from 0, of the entries before a place that changed rows which its call asks for: rows that meet its
-    /// conditions, the row of its key, or, of an insert, rows that came. Of more than `most` the last ones, in order. Only
-    /// that they are places before it is said by a clause.
+    /// The places, from 0 and rising, of the entries before a place that changed rows which its call asks for: rows that
+    /// meet its conditions, the row of its key, or, of an insert, rows that came. That they are all of these, and no
+    /// others, no clause says.
     ///
     /// The one refusal is `NoMemory`.
-    pub fn changes_before(&self, place: usize, most: usize) -> Result<Vec<usize>, Refusal>
+    pub fn changes_before(&self, place: usize) -> Result<Vec<usize>, Refusal>
         requires { place < length self.now.entries }
         ensures before { IfOk result (λ places. All (λ i. i < place) places.items) }
         ensures refused { IsOkUnless result Refusal.NoMemory }
@@ -88,10 +95,11 @@ impl Record {
             if i >= place {
                 break;
             }
-            if replay.would_touch(&entry.call, asked)? {
-                keep_last(&mut places, i, most)?;
+            if make_watched(&self.schema, &mut replay, &entry.call, asked)?
+                && places.push(i).is_err()
+            {
+                return Err(Refusal::NoMemory);
             }
-            make_call(&self.schema, &mut replay, &entry.call)?;
         }
         Ok(places)
     }
