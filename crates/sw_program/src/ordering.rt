@@ -165,6 +165,7 @@ fn order_over<R: Files + Clock + Eprint + Sync>(
             heads: false,
             progress: ordering.progress,
             calls: false,
+            faults: false,
         },
     );
     let rules = rules_of(ordering.way);
