@@ -1,4 +1,4 @@
-use Rattle.std.proofs.Common.{◌≡◌, ◌×◌, All, ℕ, ℤ}
+use Rattle.std.proofs.Common.{◌≡◌, All, ℕ, ℤ}
 use Rattle.sw_describe.specs.Columns.{times}
 use Rattle.sw_describe.proofs.counting.frequent.Given as goal
 
