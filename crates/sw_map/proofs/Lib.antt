@@ -4,4 +4,3 @@ pub mod Finding
 pub mod Cracking
 pub mod Tables
 pub mod Parts
-pub mod Looks

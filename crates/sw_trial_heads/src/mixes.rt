@@ -42,7 +42,7 @@ const QUERIES: Recipe = Recipe {
     many_go: 0,
     rows: 120,
     boxes_go: false,
-    calls: 100,
+    calls: 150,
     scanned: Scanned::Some,
 };
 
@@ -53,7 +53,7 @@ const MORE_COME: Recipe = Recipe {
     many_go: 0,
     rows: 80,
     boxes_go: true,
-    calls: 200,
+    calls: 1000,
     scanned: Scanned::Some,
 };
 
@@ -216,13 +216,13 @@ const OF_FULL_TAPES: &[Group<'static>] = &[Group {
         many_go: 0,
         rows: 80,
         boxes_go: false,
-        calls: 10_000,
+        calls: 12_000,
         scanned: Scanned::Any,
     },
     cuts: 1,
     troubles: NO_TROUBLE,
     capacities: &[1 << 20],
-    boxes: &[6],
+    boxes: &[1, 2, 6],
 }];
 
 /// Heads of which many rows go at once: more than are merged one by one, and fewer.
