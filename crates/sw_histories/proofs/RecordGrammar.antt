@@ -413,6 +413,7 @@ word_found c s st h = first (is_select c && bytes_eq s (codes "open")) refl h
         let parts = and_parts (is_select c) (bytes_eq s (codes "void")) e in
         subst (IsReply c (string s)) (same_Some state.Void st h) (ap (λ x. string x) ((bytes_eq-Decides s (codes "void")).0 parts.1), parts.0)
     second false e h = absurd (none-some st h)
+
     first : (b : Bool) → (is_select c && bytes_eq s (codes "open")) ≡ b → cond b (Some state.Open) (cond (is_select c && bytes_eq s (codes "void")) (Some state.Void) None) ≡ Some st → IsReply c (string s) st
     first true e h =
         let parts = and_parts (is_select c) (bytes_eq s (codes "open")) e in

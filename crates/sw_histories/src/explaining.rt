@@ -36,12 +36,11 @@ fn entry_line(
 
 /// The line at a place, from 0, of a reply, or that it has none there.
 fn line_at(alloc: Global, lines: &[String], place: usize) -> Result<String, AllocError>
-    requires { place ≤ length lines.now }
     ensures { IfOk result (λ text. string_bytes text ≡ line_at place (map (λ t. string_bytes t) lines.now)) }
 {
-    let number = place + 1;
+    let number = place as u128 + 1;
     match lines.get(place) {
-        Some(line) => format!(in alloc; "line {number} of {}: {}\n", lines.len(), line.as_str()),
+        Some(line) => { format!(in alloc; "line {number} of {}: {}\n", lines.len(), line.as_str()) }
         None => format!(in alloc; "no line {number}\n"),
     }
 }
