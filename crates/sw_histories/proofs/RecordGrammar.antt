@@ -1,6 +1,6 @@
 -- The reader finds just what the grammar of files relates.
 use Rattle.std.proofs.Common.{◌≡◌, ◌∙◌, sym, ap, refl, subst, ℕ, ℤ, pos, ◌+◌, ◌<◌, ◌≤◌, ◌^◌, ◌==◌, ◌&&◌, ◌||◌, ◌⊎◌, inl, inr, Bool, true, false, not, true≢false, cond, List, [], ◌∷◌, ◌++◌, length, length-append, map, append_assoc, arith, bytes_eq, codes, Option, Some, None, Result, Ok, Err, nat_le, nat_lt}
-use Rattle.core.specs.List.{cons_option}
+use Rattle.std.specs.List.{cons_option}
 use Rattle.std.specs.Prelude.{filter_map, option_and_then, option_map, unwrap_or}
 use Rattle.std.specs.Ordering.{int_eq}
 use Rattle.std.specs.Result.{result_ok}
