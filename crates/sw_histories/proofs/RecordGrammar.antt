@@ -144,7 +144,7 @@ text_found name d s h =
 text_only : (name : List ℕ) (d : Data) (s : List ℕ) → get name d ≡ Some (string s) → text_at name d ≡ Some s
 text_only name d s h = ap (option_and_then as_str) h
 
-strings : List (List ℕ) → List Data
+abbrev strings : List (List ℕ) → List Data
 strings ts = map (λ (t : List ℕ). string t) ts
 
 texts_found : (done : List (List ℕ)) (ds : List Data) (ts : List (List ℕ)) → texts_after done ds ≡ Some ts → (more : List (List ℕ)) × (ds ≡ strings more) × (ts ≡ done ++ more)
@@ -413,6 +413,7 @@ word_found c s st h = first (is_select c && bytes_eq s (codes "open")) refl h
         let parts = and_parts (is_select c) (bytes_eq s (codes "void")) e in
         subst (IsReply c (string s)) (same_Some state.Void st h) (ap (λ x. string x) ((bytes_eq-Decides s (codes "void")).0 parts.1), parts.0)
     second false e h = absurd (none-some st h)
+
     first : (b : Bool) → (is_select c && bytes_eq s (codes "open")) ≡ b → cond b (Some state.Open) (cond (is_select c && bytes_eq s (codes "void")) (Some state.Void) None) ≡ Some st → IsReply c (string s) st
     first true e h =
         let parts = and_parts (is_select c) (bytes_eq s (codes "open")) e in
