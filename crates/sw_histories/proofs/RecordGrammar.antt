@@ -1,6 +1,6 @@
 -- The reader finds just what the grammar of files relates.
 use Rattle.std.proofs.Common.{◌≡◌, ◌∙◌, sym, ap, refl, subst, ℕ, ℤ, pos, ◌+◌, ◌<◌, ◌≤◌, ◌^◌, ◌==◌, ◌&&◌, ◌||◌, ◌⊎◌, inl, inr, Bool, true, false, not, true≢false, cond, List, [], ◌∷◌, ◌++◌, length, length-append, map, append_assoc, arith, bytes_eq, codes, Option, Some, None, Result, Ok, Err, nat_le, nat_lt}
-use Rattle.core.specs.List.{cons_option}
+use Rattle.std.specs.List.{cons_option}
 use Rattle.std.specs.Prelude.{filter_map, option_and_then, option_map, unwrap_or}
 use Rattle.std.specs.Ordering.{int_eq}
 use Rattle.std.specs.Result.{result_ok}
@@ -144,7 +144,7 @@ text_found name d s h =
 text_only : (name : List ℕ) (d : Data) (s : List ℕ) → get name d ≡ Some (string s) → text_at name d ≡ Some s
 text_only name d s h = ap (option_and_then as_str) h
 
-strings : List (List ℕ) → List Data
+abbrev strings : List (List ℕ) → List Data
 strings ts = map (λ (t : List ℕ). string t) ts
 
 texts_found : (done : List (List ℕ)) (ds : List Data) (ts : List (List ℕ)) → texts_after done ds ≡ Some ts → (more : List (List ℕ)) × (ds ≡ strings more) × (ts ≡ done ++ more)
