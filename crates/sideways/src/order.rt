@@ -117,7 +117,9 @@ fn quiet<'a>(alloc: Global) -> Arg<'a> {
 /// The words of `order`.
 pub(crate) fn order_command<'a>(alloc: Global) -> Result<Command<'a>, AllocError> {
     Command::new(alloc, "order")
-        .about("Looks for an order of the calls in sessions' logs in which a plain list of rows gives each reply, and writes it as a history")
+        .about(
+            "Looks for an order of the calls in sessions' logs in which a plain list of rows gives each reply, and writes it as a history",
+        )
         .after_help(EXAMPLES)
         .arg(table(alloc))?
         .arg(logs(alloc))?

@@ -183,8 +183,7 @@ impl Search {
             if self.state.left == 0 {
                 return Ok(Descent::Found);
             }
-            self.choices
-                .tried(problem, &self.state, &mut self.tried)?;
+            self.choices.tried(problem, &self.state, &mut self.tried)?;
             let count = self.tried.len();
             if count == 0 {
                 self.keep_best(problem)?;
@@ -253,13 +252,11 @@ impl Search {
         for place in 0..self.state.placed() {
             let before = self.state.changes_before(place);
             let after = self.state.changes_before(place + 1);
-            told.push(
-                match problem.task(self.state.placed_at(place)).act {
-                    Act::Insert(row, _) => Some(self.state.key(row)),
-                    Act::Sweep => Some(after.saturating_sub(before) as u64),
-                    _ => None,
-                },
-            )?;
+            told.push(match problem.task(self.state.placed_at(place)).act {
+                Act::Insert(row, _) => Some(self.state.key(row)),
+                Act::Sweep => Some(after.saturating_sub(before) as u64),
+                _ => None,
+            })?;
         }
         Ok(told)
     }

@@ -5,8 +5,8 @@ use crate::state::State;
 use crate::tasks::{Act, Task};
 use crate::window::{due, next_calls};
 use std::alloc::{AllocError, Global};
-use sw_logs::Logged;
 use sw_lang::write_call;
+use sw_logs::Logged;
 use sw_rows::{Call, Counted, Query, Reply, ReplyRows, Schema, Want};
 use sw_spine::Lines;
 

@@ -11,8 +11,7 @@ fn wanted(flaw: Flaw) -> &'static str {
         Flaw::Fields => "record: wanted as many fields as the header has",
         Flaw::Encoding => "record: wanted UTF-8",
         Flaw::Session => "session: wanted a whole number from 1 to 1024",
-        Flaw::Start => "start: wanted a whole number from 0 to 18446744073709551615",
-        Flaw::End => "end: wanted a whole number from 0 to 18446744073709551615",
+        Flaw::Time => "start and end: wanted whole numbers from 0 to 18446744073709551615",
         Flaw::Ends => "end: wanted a time that is not before the start",
         Flaw::Empty => "call: wanted a call, and there is none",
     }
@@ -77,27 +76,30 @@ pub(crate) fn told(
             format!(in alloc; "{name} line {line}, {wanted}")
         }
         Fault::Call {
-            record, refusal, ..
+            record,
+            refusal,
+            ..
         } => called(alloc, name, line_of(bytes, *record), refusal),
     }
 }
 
 /// What is told of a line in the place of a call.
-fn called(
-    alloc: Global,
-    name: &str,
-    line: u64,
-    refusal: &Refusal,
-) -> Result<String, AllocError> {
+fn called(alloc: Global, name: &str, line: u64, refusal: &Refusal) -> Result<String, AllocError> {
     match refusal {
         Refusal::BadLine { why, .. } => {
-            format!(in alloc; "{name} line {line}, call: wanted a call of a script, and it has none: {why}")
+            format!(in alloc;
+                "{name} line {line}, call: wanted a call of a script, and it has none: {why}"
+            )
         }
         Refusal::UnknownAttribute { name: attr } => {
-            format!(in alloc; "{name} line {line}, call: wanted an attribute of the table, and {attr} is none")
+            format!(in alloc;
+                "{name} line {line}, call: wanted an attribute of the table, and {attr} is none"
+            )
         }
         other => {
-            format!(in alloc; "{name} line {line}, call: wanted a call that can be read: refused {other}")
+            format!(in alloc;
+                "{name} line {line}, call: wanted a call that can be read: refused {other}"
+            )
         }
     }
 }

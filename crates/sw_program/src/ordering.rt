@@ -93,7 +93,13 @@ fn read_one<R: Files>(
     ensures { OnOk result (AllFit (length schema.new) calls.new.items) }
 {
     let bytes = bytes_of(rt, alloc, log, path)?;
-    match read_log(alloc, schema, log, &mut Counted::new(bytes.as_slice()), calls) {
+    match read_log(
+        alloc,
+        schema,
+        log,
+        &mut Counted::new(bytes.as_slice()),
+        calls,
+    ) {
         Ok(()) => Ok(()),
         Err(fault) => Err(refused(alloc, path, bytes.as_slice(), &fault)),
     }
@@ -268,7 +274,9 @@ fn tell<R: Files + Print, E: Sink>(
             Ok(1)
         }
         Outcome::GivenUp(reached) => {
-            write_reached("given up", ordering.logs, calls, reached, errors)?;
+            write_all(errors, b"given up after ")?;
+            write_number(reached.states, errors)?;
+            write_reached(" states", ordering.logs, calls, reached, errors)?;
             Ok(3)
         }
     }
