@@ -251,7 +251,7 @@ impl Search {
         let mut told = Vec::with_capacity(alloc, self.state.placed())?;
         for place in 0..self.state.placed() {
             let before = self.state.changes_before(place);
-            let after = self.state.changes_before(place + 1);
+            let after = self.state.changes_before(place.saturating_add(1));
             told.push(match problem.task(self.state.placed_at(place)).act {
                 Act::Insert(row, _) => Some(self.state.key(row)),
                 Act::Sweep => Some(after.saturating_sub(before) as u64),

@@ -183,7 +183,10 @@ impl Place<'_> {
 
     /// Whether the call that was placed at a place changed a row that bears on a call.
     fn changed(&self, place: usize, task: &Task) -> bool {
-        for number in self.state.changes_before(place)..self.state.changes_before(place + 1) {
+        for number in self.state.changes_before(place)..self
+            .state
+            .changes_before(place.saturating_add(1))
+        {
             if self.bears(task, self.state.change_at(number)) {
                 return true;
             }
