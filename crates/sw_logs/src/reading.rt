@@ -24,10 +24,8 @@ pub enum Flaw {
     Encoding,
     /// The session is no whole number from 1 to 1,024.
     Session,
-    /// The start is no whole number.
-    Start,
-    /// The end is no whole number.
-    End,
+    /// A time is no whole number.
+    Time,
     /// It ends before it starts.
     Ends,
     /// The call is an empty line or a comment.
@@ -41,8 +39,7 @@ impl fmt::Display for Flaw {
             Flaw::Fields => "has too few fields",
             Flaw::Encoding => "is not UTF-8",
             Flaw::Session => "has no session from 1 to 1024",
-            Flaw::Start => "has a start that is no whole number",
-            Flaw::End => "has an end that is no whole number",
+            Flaw::Time => "has a time that is no whole number",
             Flaw::Ends => "ends before it starts",
             Flaw::Empty => "has no call",
         })
@@ -155,8 +152,8 @@ fn frame_of(row: &ByteRecord, columns: &Columns) -> Result<Frame, Flaw> {
     if session == 0 || session > MOST_SESSIONS as u64 {
         return Err(Flaw::Session);
     }
-    let start = number_at(row, columns.start, Flaw::Start)?;
-    let end = number_at(row, columns.end, Flaw::End)?;
+    let start = number_at(row, columns.start, Flaw::Time)?;
+    let end = number_at(row, columns.end, Flaw::Time)?;
     if end < start {
         return Err(Flaw::Ends);
     }

@@ -69,10 +69,13 @@ fn range_of(cond: &Cond) -> Range {
     }
 }
 
-/// The key that an insert was given, as its log tells.
+/// The key that an insert was given, as its log tells; keys are above 0.
 fn key_told(lines: &Lines) -> Option<u64> {
     match lines.as_slice() {
-        [line] => number_between(line.as_str(), "key ", ""),
+        [line] => match number_between(line.as_str(), "key ", "") {
+            Some(0) => None,
+            key => key,
+        },
         _ => None,
     }
 }
@@ -497,12 +500,7 @@ impl Builder {
     }
 
     /// Adds the tasks of all calls.
-    fn add_tasks(
-        &mut self,
-        schema: &Schema,
-        calls: &[Logged],
-        by: By,
-    ) -> Result<(), AllocError> {
+    fn add_tasks(&mut self, schema: &Schema, calls: &[Logged], by: By) -> Result<(), AllocError> {
         let mut next = self.problem.opening;
         for (number, call) in calls.iter().enumerate() {
             let mut task = self.framed(number, call, by)?;

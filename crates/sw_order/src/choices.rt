@@ -87,13 +87,23 @@ impl Choices {
         number: usize,
     ) -> Result<(), AllocError> {
         let task = problem.task(number);
-        let by = if task.is_known { task.last } else { self.latest };
+        let by = if task.is_known {
+            task.last
+        } else {
+            self.latest
+        };
         self.others.clear();
         may_precede(problem, state, number, by, &mut self.others)
     }
 
     /// Whether a call asks for a live row that another takes out.
-    fn share_row(&self, problem: &Problem, state: &State, sweep: &Task, task: &Task) -> Result<bool, AllocError> {
+    fn share_row(
+        &self,
+        problem: &Problem,
+        state: &State,
+        sweep: &Task,
+        task: &Task,
+    ) -> Result<bool, AllocError> {
         if problem.are_apart(sweep, task) {
             return Ok(false);
         }
@@ -438,11 +448,7 @@ impl Choices {
     }
 
     /// The calls that may come next, watched.
-    pub(crate) fn look(
-        &mut self,
-        problem: &Problem,
-        state: &mut State,
-    ) -> Result<(), AllocError> {
+    pub(crate) fn look(&mut self, problem: &Problem, state: &mut State) -> Result<(), AllocError> {
         self.next.clear();
         next_calls(problem, state, &mut self.next)?;
         for number in &self.next {

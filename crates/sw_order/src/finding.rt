@@ -10,7 +10,7 @@ use crate::problem::Problem;
 use crate::search::{Ending, Onlooker, Search};
 use crate::telling::{Place, Reached, state_after};
 use std::alloc::{AllocError, Global};
-use sw_logs::{Logged, Opening, Order, Placed, check_order};
+use sw_logs::{By, Logged, Opening, Order, Placed, check_order};
 use sw_rows::Refusal;
 
 /// What came of looking for an order.
@@ -32,26 +32,76 @@ enum Sought {
     GivenUp(Reached),
 }
 
-/// What is told where a search came furthest.
-fn reached(
+/// A search that has ended, and how.
+#[derive(Drop)]
+struct Ended {
+    problem: Problem,
+    search: Search,
+    ending: Ending,
+}
+
+/// Searches under some rules.
+fn searched<L: Onlooker>(
     alloc: Global,
     opening: &Opening,
     calls: &[Logged],
-    problem: &Problem,
-    search: &Search,
-) -> Result<Reached, AllocError> {
-    let state = state_after(alloc, problem, search.best.as_slice())?;
-    let place = Place {
-        alloc,
-        schema: &opening.schema,
-        calls,
+    rules: Rules,
+    onlooker: &L,
+) -> Result<Ended, AllocError> {
+    let problem = problem_of(alloc, opening, calls, rules)?;
+    let mut search = Search::new(alloc, &problem)?;
+    let ending = search.run(&problem, rules.states, onlooker)?;
+    Ok(Ended {
         problem,
-        state: &state,
-    };
-    place.reached(search.states)
+        search,
+        ending,
+    })
 }
 
-/// Looks for an order.
+impl Ended {
+    /// The calls that are placed.
+    fn placed(&self, alloc: Global) -> Result<Placed, AllocError> {
+        Ok(Placed {
+            places: self.search.places(alloc)?,
+            told: self.search.told(alloc, &self.problem)?,
+        })
+    }
+
+    /// What is told where the search came furthest.
+    fn reached(
+        &self,
+        alloc: Global,
+        opening: &Opening,
+        calls: &[Logged],
+    ) -> Result<Reached, AllocError> {
+        let state = state_after(alloc, &self.problem, self.search.best.as_slice())?;
+        let place = Place {
+            alloc,
+            schema: &opening.schema,
+            calls,
+            problem: &self.problem,
+            state: &state,
+        };
+        place.reached(self.search.states)
+    }
+
+    /// What the search came to.
+    fn sought(
+        &self,
+        alloc: Global,
+        opening: &Opening,
+        calls: &[Logged],
+    ) -> Result<Sought, AllocError> {
+        match self.ending {
+            Ending::Found => Ok(Sought::Placed(self.placed(alloc)?)),
+            Ending::Exhausted => Ok(Sought::Exhausted(self.reached(alloc, opening, calls)?)),
+            Ending::GivenUp => Ok(Sought::GivenUp(self.reached(alloc, opening, calls)?)),
+        }
+    }
+}
+
+/// Looks for an order. Where times say nothing one is looked for first that keeps them, for which fewer states are to be
+/// met: it is one by sessions too.
 fn seek<L: Onlooker>(
     alloc: Global,
     opening: &Opening,
@@ -59,21 +109,19 @@ fn seek<L: Onlooker>(
     rules: Rules,
     onlooker: &L,
 ) -> Result<Sought, AllocError> {
-    let problem = problem_of(alloc, opening, calls, rules)?;
-    let mut search = Search::new(alloc, &problem)?;
-    let ending = search.run(&problem, rules.states, onlooker)?;
-    if ending == Ending::Found {
-        return Ok(Sought::Placed(Placed {
-            places: search.places(alloc)?,
-            told: search.told(alloc, &problem)?,
-        }));
+    if let By::Sessions = rules.by {
+        let timed = Rules {
+            by: By::Times { slack: 0 },
+            any_keys: rules.any_keys,
+            states: rules.states,
+        };
+        let first = searched(alloc, opening, calls, timed, onlooker)?;
+        if first.ending == Ending::Found {
+            return first.sought(alloc, opening, calls);
+        }
     }
-    let reached = reached(alloc, opening, calls, &problem, &search)?;
-    Ok(if ending == Ending::Exhausted {
-        Sought::Exhausted(reached)
-    } else {
-        Sought::GivenUp(reached)
-    })
+    let last = searched(alloc, opening, calls, rules, onlooker)?;
+    last.sought(alloc, opening, calls)
 }
 
 /// What is told of an order that the check refused.

@@ -12,7 +12,11 @@ pub(crate) struct Index {
 }
 
 /// The cells of an attribute with their rows' numbers.
-fn pairs_of(alloc: Global, rows: &[[i64; 8]], attr: usize) -> Result<Vec<(i64, usize)>, AllocError> {
+fn pairs_of(
+    alloc: Global,
+    rows: &[[i64; 8]],
+    attr: usize,
+) -> Result<Vec<(i64, usize)>, AllocError> {
     let mut pairs = Vec::with_capacity(alloc, rows.len())?;
     for (number, row) in rows.iter().enumerate() {
         pairs.push((at(row, attr, 0), number))?;

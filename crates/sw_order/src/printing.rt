@@ -32,11 +32,7 @@ fn write_counted<W: Sink>(before: &str, number: u64, out: &mut W) -> Result<(), 
 }
 
 /// Where a call was read.
-pub fn write_origin<W: Sink>(
-    names: &[&str],
-    origin: Origin,
-    out: &mut W,
-) -> Result<(), Refusal> {
+pub fn write_origin<W: Sink>(names: &[&str], origin: Origin, out: &mut W) -> Result<(), Refusal> {
     write_all(out, name_of(names, origin.log).as_bytes())?;
     write_counted(" record ", origin.record, out)
 }
@@ -158,16 +154,11 @@ fn write_changes<W: Sink>(
     Ok(())
 }
 
-/// How many calls were placed, and how many states were met.
-fn write_counts<W: Sink>(
-    calls: &[Logged],
-    reached: &Reached,
-    out: &mut W,
-) -> Result<(), Refusal> {
+/// How many calls were placed.
+fn write_counts<W: Sink>(calls: &[Logged], reached: &Reached, out: &mut W) -> Result<(), Refusal> {
     write_counted(": ", reached.placed as u64, out)?;
     write_counted(" of ", calls.len() as u64, out)?;
-    write_counted(" calls were placed at best, ", reached.states, out)?;
-    write_all(out, b" states were tried\n")
+    write_all(out, b" calls were placed at best\n")
 }
 
 /// Writes how far a search came, with the call that had to come next and could not: a beginning for its first line, and

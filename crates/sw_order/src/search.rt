@@ -183,8 +183,7 @@ impl Search {
             if self.state.left == 0 {
                 return Ok(Descent::Found);
             }
-            self.choices
-                .tried(problem, &self.state, &mut self.tried)?;
+            self.choices.tried(problem, &self.state, &mut self.tried)?;
             let count = self.tried.len();
             if count == 0 {
                 self.keep_best(problem)?;
@@ -252,14 +251,12 @@ impl Search {
         let mut told = Vec::with_capacity(alloc, self.state.placed())?;
         for place in 0..self.state.placed() {
             let before = self.state.changes_before(place);
-            let after = self.state.changes_before(place + 1);
-            told.push(
-                match problem.task(self.state.placed_at(place)).act {
-                    Act::Insert(row, _) => Some(self.state.key(row)),
-                    Act::Sweep => Some(after.saturating_sub(before) as u64),
-                    _ => None,
-                },
-            )?;
+            let after = self.state.changes_before(place.saturating_add(1));
+            told.push(match problem.task(self.state.placed_at(place)).act {
+                Act::Insert(row, _) => Some(self.state.key(row)),
+                Act::Sweep => Some(after.saturating_sub(before) as u64),
+                _ => None,
+            })?;
         }
         Ok(told)
     }

@@ -305,9 +305,10 @@ impl State {
         self.came = self.came.wrapping_add(1);
         if key == 0 {
             put(&mut self.keys, row, self.top);
-            self.mark = self
-                .mark
-                .with(NAMED, (row as u64).wrapping_mul(1_048_583).wrapping_add(self.top));
+            self.mark = self.mark.with(
+                NAMED,
+                (row as u64).wrapping_mul(1_048_583).wrapping_add(self.top),
+            );
         }
         self.change(problem, row)
     }
@@ -381,9 +382,10 @@ impl State {
     fn take_back_insert(&mut self, task: &Task) {
         if let Act::Insert(row, key) = task.act {
             if key == 0 {
-                self.mark = self
-                    .mark
-                    .with(NAMED, (row as u64).wrapping_mul(1_048_583).wrapping_add(self.top));
+                self.mark = self.mark.with(
+                    NAMED,
+                    (row as u64).wrapping_mul(1_048_583).wrapping_add(self.top),
+                );
                 put(&mut self.keys, row, 0);
             }
             self.came = self.came.wrapping_sub(1);

@@ -5,8 +5,8 @@ use crate::state::State;
 use crate::tasks::{Act, Task};
 use crate::window::{due, next_calls};
 use std::alloc::{AllocError, Global};
-use sw_logs::Logged;
 use sw_lang::write_call;
+use sw_logs::Logged;
 use sw_rows::{Call, Counted, Query, Reply, ReplyRows, Schema, Want};
 use sw_spine::Lines;
 
@@ -183,7 +183,10 @@ impl Place<'_> {
 
     /// Whether the call that was placed at a place changed a row that bears on a call.
     fn changed(&self, place: usize, task: &Task) -> bool {
-        for number in self.state.changes_before(place)..self.state.changes_before(place + 1) {
+        for number in self.state.changes_before(place)..self
+            .state
+            .changes_before(place.saturating_add(1))
+        {
             if self.bears(task, self.state.change_at(number)) {
                 return true;
             }

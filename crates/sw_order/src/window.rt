@@ -47,10 +47,7 @@ pub(crate) fn next_calls(
     }
     for (number, before) in &problem.loose {
         let task = problem.task(*number);
-        if !state.is_placed(*number)
-            && task.start <= least
-            && is_reached(state, &task, *before)
-        {
+        if !state.is_placed(*number) && task.start <= least && is_reached(state, &task, *before) {
             out.push(*number)?;
         }
     }

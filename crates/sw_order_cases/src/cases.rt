@@ -46,7 +46,13 @@ fn read_logs(
     let mut number = 0u64;
     for log in logs {
         number = number.saturating_add(1);
-        read_log(alloc, schema, number, &mut Counted::new(log.as_slice()), calls)?;
+        read_log(
+            alloc,
+            schema,
+            number,
+            &mut Counted::new(log.as_slice()),
+            calls,
+        )?;
     }
     Ok(())
 }

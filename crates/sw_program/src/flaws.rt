@@ -11,8 +11,7 @@ fn wanted(flaw: Flaw) -> &'static str {
         Flaw::Fields => "record: wanted as many fields as the header has",
         Flaw::Encoding => "record: wanted UTF-8",
         Flaw::Session => "session: wanted a whole number from 1 to 1024",
-        Flaw::Start => "start: wanted a whole number from 0 to 18446744073709551615",
-        Flaw::End => "end: wanted a whole number from 0 to 18446744073709551615",
+        Flaw::Time => "start and end: wanted whole numbers from 0 to 18446744073709551615",
         Flaw::Ends => "end: wanted a time that is not before the start",
         Flaw::Empty => "call: wanted a call, and there is none",
     }

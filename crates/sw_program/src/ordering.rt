@@ -275,7 +275,9 @@ fn tell<R: Files + Print, E: Sink>(
             Ok(1)
         }
         Outcome::GivenUp(reached) => {
-            write_reached("given up", ordering.logs, calls, reached, errors)?;
+            write_all(errors, b"given up after ")?;
+            write_number(reached.states, errors)?;
+            write_reached(" states", ordering.logs, calls, reached, errors)?;
             Ok(3)
         }
     }
