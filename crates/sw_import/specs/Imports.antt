@@ -6,8 +6,8 @@ use Rattle.sw_rows.specs.Tables.{Table, table_of}
 use Rattle.sw_import.specs.Forms.{domain_of}
 use Rattle.sw_import.specs.Made.{Fault, Kept, NoRow, Row, Source, row_made, sources_of}
 use Rattle.sw_import.specs.Records.{records_of}
-use Rattle.sw_import.specs.declared.import.How.{How}
-use Rattle.sw_import.specs.declared.import.Imported.{Imported}
+use Rattle.sw_import.specs.declared.importing.How.{How}
+use Rattle.sw_import.specs.declared.importing.Imported.{Imported}
 use Rattle.sw_import.specs.declared.planning.Planned.{Planned}
 use Rattle.sw_import.specs.declared.rules.Rules.{Rules}
 

@@ -130,10 +130,14 @@ fn offset_of(text: &[u8]) -> Option<i64>
 fn after_digits(text: &[u8]) -> &[u8]
     ensures { result.now ≡ after_digits text.now }
 {
-    match text.iter().position(|byte| !byte.is_ascii_digit()) {
-        Some(end) => &text[end..],
-        None => &[],
+    let mut rest = text;
+    'digits: while let [first, after @ ..] = rest {
+        if !first.is_ascii_digit() {
+            return rest;
+        }
+        rest = after;
     }
+    rest
 }
 
 /// What comes after a dot and one or more digits, where a text begins so.
