@@ -1,6 +1,7 @@
 //! A table is made of values.
 
-ghost use Rattle.std.specs.Prelude.{◌≡◌, length, vec_len, IfOk};
+ghost use Rattle.std.specs.Prelude.{◌≡◌, length, vec_len, IfOk, OnOk};
+ghost use Rattle.sw_import.specs.Imports.{IsTable};
 ghost use Rattle.sw_import.specs.Records.{IsOpen};
 
 use crate::columns::{Asked, Column, columns_of, field};
@@ -210,7 +211,9 @@ fn bytes_of(writer: Writer<Vec<u8>>) -> Result<Vec<u8>, AllocError> {
 }
 
 /// Refuses bytes that are no table.
-fn see_table(alloc: Global, key: TextKey, bytes: &[u8]) -> Result<(), Fault> {
+fn see_table(alloc: Global, key: TextKey, bytes: &[u8]) -> Result<(), Fault>
+    ensures { OnOk result (IsTable bytes.now) }
+{
     match load(alloc, key, &mut Counted::new(bytes)) {
         Ok(_) => Ok(()),
         Err(refusal) => Err(Fault::Table(refusal)),
@@ -218,7 +221,13 @@ fn see_table(alloc: Global, key: TextKey, bytes: &[u8]) -> Result<(), Fault> {
 }
 
 /// Makes a table of the values of a text. Texts are hashed under the key.
-pub fn import(alloc: Global, key: TextKey, how: &How<'_>, text: &[u8]) -> Result<Imported, Fault> {
+///
+/// What it makes, the reader of tables has read. The first fault refuses it, in this order: there is no record; what is
+/// asked of columns; the first record that is ragged; texts that are not UTF-8; cells without a value; texts that are too
+/// long; then record by record a cell that is none of the kind that was asked for, and a row too many.
+pub fn import(alloc: Global, key: TextKey, how: &How<'_>, text: &[u8]) -> Result<Imported, Fault>
+    ensures { IfOk result (λ made. IsTable made.bytes.items) }
+{
     let header = header_of(alloc, how, text)?;
     let columns = columns_of(alloc, &header, &how.asked)?;
     let values = Values {

@@ -1,7 +1,8 @@
 //! What is written of a cell.
 
-ghost use Rattle.std.specs.Prelude.{[], ◌≡◌, decimal, option_map, if◌then◌else◌};
+ghost use Rattle.std.specs.Prelude.{[], ◌≡◌, decimal, option_map, None, Some, if◌then◌else◌};
 ghost use Rattle.std.specs.Fmt.{signed_decimal};
+ghost use Rattle.std.specs.Str.{is_utf8};
 ghost use Rattle.sw_rows.specs.Texts.{is_text};
 ghost use Rattle.sw_import.specs.Forms.{flag_of};
 ghost use Rattle.sw_import.specs.declared.forms.Form.TheVariants as form;
@@ -114,13 +115,24 @@ fn text_made(long: Long, cell: &[u8]) -> Made<'_>
     }
 }
 
+/// Bytes as text, where they are UTF-8.
+#[tactic(auto, using(crate::proofs::MadeLemmas::utf8_true, crate::proofs::MadeLemmas::utf8_false))]
+fn utf8_of(cell: &[u8]) -> Option<&str>
+    ensures { option_map (λ text. text.now) result ≡ (if is_utf8 cell.now then Some cell.now else None) }
+{
+    match str::from_utf8(cell) {
+        Ok(text) => Some(text),
+        Err(_) => None,
+    }
+}
+
 /// What is written of a cell of texts for which numbers stand.
 fn code_made<'c>(dictionary: &Dictionary, cell: &[u8]) -> Made<'c>
     ensures { outcome_of result ≡ value_cell long.Number form.Code dictionary.now cell.now }
 {
-    match str::from_utf8(cell) {
-        Ok(text) => code_or_refused(dictionary.number(text)),
-        Err(_) => Made::Refused,
+    match utf8_of(cell) {
+        Some(text) => code_or_refused(dictionary.number(text)),
+        None => Made::Refused,
     }
 }
 
