@@ -23,6 +23,9 @@ const TIMES: &[&str] = &["seconds", "days", "text"];
 /// What may become of long texts.
 const LONG: &[&str] = &["cut", "drop", "number"];
 
+/// What may become of records with fewer fields than the header.
+const RAGGED: &[&str] = &["fill"];
+
 fn value<'a>(alloc: Global, name: &'a str, of: &'a str, help: &'a str) -> Arg<'a> {
     Arg::new(alloc, name)
         .long(name)
@@ -128,6 +131,16 @@ fn sample<'a>(alloc: Global) -> Arg<'a> {
     .value_parser(clap::value_parser!(u64).range(1..=MOST_ROWS as i64))
 }
 
+fn ragged<'a>(alloc: Global) -> Arg<'a> {
+    value(
+        alloc,
+        "ragged",
+        "CHOICE",
+        "What becomes of records with fewer fields than the header, which are refused else: fill takes the missing ones for empty",
+    )
+    .value_parser(RAGGED)
+}
+
 fn delimiter<'a>(alloc: Global) -> Arg<'a> {
     value(
         alloc,
@@ -163,6 +176,7 @@ pub(crate) fn import_command<'a>(alloc: Global) -> Result<Command<'a>, AllocErro
         .arg(long(alloc))?
         .arg(dictionary(alloc))?
         .arg(sample(alloc))?
+        .arg(ragged(alloc))?
         .arg(delimiter(alloc))?
         .arg(no_header(alloc))
 }
@@ -237,6 +251,7 @@ fn how_of<'g>(given: &'g ArgMatches<'_>, delimiter: u8) -> How<'g> {
         },
         delimiter,
         has_header: !given.get_flag("no-header"),
+        fills_short: given.get_str("ragged").is_some(),
         sample: given.get_one::<u64>("sample"),
     }
 }

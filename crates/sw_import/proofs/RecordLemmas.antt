@@ -2,7 +2,9 @@
 use Rattle.std.proofs.Common.{◌≡◌, ◌∙◌, ap, sym, refl, ℕ, ◌+◌, ◌<◌, ◌⊎◌, inl, inr, Bool, true, false, cond, zero, suc, List, [], ◌∷◌, ◌++◌, length, Option, Some, None, arith, add-one}
 use Rattle.csv.specs.Machine.{Read, ends_at_end, field_after, fields_after, is_end, next_record, step}
 use Rattle.std.specs.Option.{option_map_or}
+use Rattle.std.proofs.Common.{get_or}
 use denote.Ref.{Bor}
+use Rattle.csv.specs.Records.{field_at}
 use Rattle.csv.specs.declared.reader.Reader.{Reader}
 use Rattle.csv.specs.Reading.{NextIs, ReadRecord, ReadsNext, has_failed, pending_of, reader_source, records_from, records_next, unread_of}
 use Rattle.csv.specs.declared.parser.Config.{Config}
@@ -96,6 +98,13 @@ pending-left rdr h = rw h refl
 -- one read of an open reader
 pub read_one : (old new : Reader (Bor (List ℕ))) (found : Bool) (fields : List (List ℕ)) → IsOpen old → has_failed new ≡ false → ReadRecord in_memory old new found fields
     → records_left old ≡ cond found (fields ∷ records_left new) []
-read_one old new found fields open going reads =
-    rw (reads.2) (with_left old.config old.state new.state (text_left old) (text_left new) found fields (known-left old open.going) (known-left new going)
+read_one old new found fields plain going reads =
+    rw (reads.2) (with_left old.config old.state new.state (text_left old) (text_left new) found fields (known-left old plain.going) (known-left new going)
     (rw (pending-left new reads.1) at reads.0))
+
+-- past the last field there is an empty one
+pub nothing_there : (fields : List (List ℕ)) (i : ℕ) → field_at fields i ≡ None → get_or fields i [] ≡ []
+unfolding field_at
+nothing_there [] i e = refl
+nothing_there (f ∷ fs) zero e = cc
+nothing_there (f ∷ fs) (suc i) e = nothing_there fs i e

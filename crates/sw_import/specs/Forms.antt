@@ -60,13 +60,13 @@ takes_blanks form.Flag = false
 takes_blanks form.Seconds = false
 takes_blanks form.Days = false
 
+abbrev pub time_form : Times → Form
+time_form times.Seconds = form.Seconds
+time_form times.Days = form.Days
+time_form times.Text = form.Flag
+
 -- the forms that are tried in turn, from the most special: numbers with ever more decimals, flags, and times
 abbrev pub forms_tried : Times → List Form
 forms_tried t =
     form.Number 0 ∷ form.Number 1 ∷ form.Number 2 ∷ form.Number 3 ∷ form.Number 4 ∷ form.Number 5 ∷ form.Number 6
     ∷ form.Flag ∷ time_form t ∷ []
-  where
-    abbrev time_form : Times → Form
-    time_form times.Seconds = form.Seconds
-    time_form times.Days = form.Days
-    time_form times.Text = form.Flag

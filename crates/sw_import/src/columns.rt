@@ -27,7 +27,7 @@ pub struct Asked<'a> {
 /// A column that is written.
 #[derive(Debug, Drop)]
 pub struct Column {
-    /// Its place in each record, from 0.
+    /// Its place in each row, from 0.
     pub place: usize,
     /// Its heading.
     pub heading: String,
@@ -48,10 +48,10 @@ impl Column {
 }
 
 /// The field at a place; an empty one past the last.
-pub(crate) fn field(record: &ByteRecord, place: usize) -> &[u8]
-    ensures { result.now ≡ slice_index_or (fields_of record.now) place [] }
+pub(crate) fn field(row: &ByteRecord, place: usize) -> &[u8]
+    ensures { result.now ≡ slice_index_or (fields_of row.now) place [] }
 {
-    match record.get(place) {
+    match row.get(place) {
         Some(field) => field,
         None => &[],
     }

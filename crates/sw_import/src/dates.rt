@@ -4,7 +4,7 @@
 //! and after that perhaps a dot and decimals of the second; and then perhaps `Z`, or `+` or `-` and an offset from UTC as
 //! `hh:mm`, `hhmm` or `hh`. Without an offset it is a time of UTC.
 
-ghost use Rattle.std.specs.Prelude.{◌≡◌, ◌+◌, ◌≤◌, length, pos, neg_ℤ, option_map, IfSome};
+ghost use Rattle.std.specs.Prelude.{◌≡◌, ◌+◌, ◌≤◌, length, pos, neg_ℤ, ◌+ℤ◌, ◌-ℤ◌, ◌*ℤ◌, option_map, IfSome};
 ghost use Rattle.jiff_core.specs.Calendar.{IsBetween};
 ghost use Rattle.sw_import.specs.Dates.{after_digits, after_fraction, clock_after, clock_of, day_number, days_of, digits_at, hours_and_minutes, minutes_of, offset_minutes, offset_of, pair_below, plain_minutes, seconds_and_rest, seconds_of};
 
@@ -130,10 +130,14 @@ fn offset_of(text: &[u8]) -> Option<i64>
 fn after_digits(text: &[u8]) -> &[u8]
     ensures { result.now ≡ after_digits text.now }
 {
-    match text.iter().position(|byte| !byte.is_ascii_digit()) {
-        Some(end) => &text[end..],
-        None => &[],
+    let mut rest = text;
+    'digits: while let [first, after @ ..] = rest {
+        if !first.is_ascii_digit() {
+            return rest;
+        }
+        rest = after;
     }
+    rest
 }
 
 /// What comes after a dot and one or more digits, where a text begins so.
@@ -163,6 +167,38 @@ fn seconds_and_rest(text: &[u8]) -> Option<(i64, &[u8])>
     }
 }
 
+/// The seconds since midnight UTC at these minutes and seconds of a clock, which stands so many minutes before UTC.
+fn utc_clock(minutes: i64, offset: i64, seconds: i64) -> i64
+    requires minutes { IsBetween (pos 0) (pos 1500) minutes }
+    requires offset { IsBetween (neg_ℤ (pos 1500)) (pos 1500) offset }
+    requires seconds { IsBetween (pos 0) (pos 60) seconds }
+    ensures value { result ≡ (minutes -ℤ offset) *ℤ pos 60 +ℤ seconds }
+    ensures few { IsBetween (neg_ℤ (pos 200000)) (pos 200000) result }
+{
+    (minutes - offset) * 60 + seconds
+}
+
+/// The same of the clock after a `T` or a space.
+fn clock_after(text: &[u8]) -> Option<i64>
+    ensures value { result ≡ clock_after text.now }
+    ensures few { IfSome result (IsBetween (neg_ℤ (pos 200000)) (pos 200000)) }
+{
+    match text {
+        [b'T', rest @ ..] => clock_of(rest),
+        [b' ', rest @ ..] => clock_of(rest),
+        _ => None,
+    }
+}
+
+/// The seconds since 1970 began of a day's number and the seconds since its midnight.
+fn day_and_clock(days: i64, clock: i64) -> i64
+    requires days { IsBetween (neg_ℤ (pos 4371587)) (pos 2932896) days }
+    requires clock { IsBetween (neg_ℤ (pos 200000)) (pos 200000) clock }
+    ensures { result ≡ days *ℤ pos 86400 +ℤ clock }
+{
+    days * 86_400 + clock
+}
+
 /// The seconds since midnight UTC of the time of a day: `hh:mm` and what may follow.
 fn clock_of(text: &[u8]) -> Option<i64>
     ensures value { result ≡ clock_of text.now }
@@ -175,7 +211,7 @@ fn clock_of(text: &[u8]) -> Option<i64>
     let minutes = minutes_of(front)?;
     let (seconds, rest) = seconds_and_rest(rest)?;
     let offset = offset_of(rest)?;
-    Some((minutes - offset) * 60 + seconds)
+    Some(utc_clock(minutes, offset, seconds))
 }
 
 /// The whole seconds since 1970 began, in UTC, of a date or of a time.
@@ -188,11 +224,6 @@ pub fn seconds_of(text: &[u8]) -> Option<i64>
     }
     let (front, rest) = text.split_at(10);
     let days = days_of(front)?;
-    match rest {
-        [b'T' | b' ', rest @ ..] => {
-            let clock = clock_of(rest)?;
-            Some(days * 86_400 + clock)
-        }
-        _ => None,
-    }
+    let clock = clock_after(rest)?;
+    Some(day_and_clock(days, clock))
 }

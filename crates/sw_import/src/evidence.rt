@@ -1,8 +1,8 @@
 //! What was seen of the cells of a column.
 
 use crate::forms::{Form, TRIED, fits, tried};
+use crate::making::is_text;
 use crate::rules::{Rules, Times};
-use sw_rows::read_text;
 
 /// How many cells or rows there are of some sort, and the line of the first, from 1; 0 where there is none.
 #[derive(Clone, Copy, Debug, PartialEq, Eq)]
@@ -89,7 +89,7 @@ impl Evidence {
 
     /// Takes in how a cell stands as a text.
     fn add_text(&mut self, cell: &[u8], line: u64) {
-        if read_text(cell).is_some() {
+        if is_text(cell) {
             return;
         }
         if is_utf8(cell) {

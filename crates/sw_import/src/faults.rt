@@ -119,7 +119,7 @@ pub enum Fault {
         kind: String,
     },
     /// A record has another number of fields than the header.
-    #[error("line {line}: {found} fields, and the header has {wanted}")]
+    #[error("line {line}: {found} fields, and the header has {wanted}; --ragged fill takes fields that are missing at the end for empty ones")]
     Ragged {
         line: u64,
         found: u64,

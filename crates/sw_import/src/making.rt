@@ -1,7 +1,9 @@
 //! What is written of a cell.
 
-ghost use Rattle.std.specs.Prelude.{[], ◌≡◌, decimal, option_map, if◌then◌else◌};
+ghost use Rattle.std.specs.Prelude.{[], ◌≡◌, decimal, option_map, None, Some, if◌then◌else◌};
 ghost use Rattle.std.specs.Fmt.{signed_decimal};
+ghost use Rattle.std.specs.Str.{is_utf8};
+ghost use Rattle.sw_rows.specs.Texts.{is_text};
 ghost use Rattle.sw_import.specs.Forms.{flag_of};
 ghost use Rattle.sw_import.specs.declared.forms.Form.TheVariants as form;
 ghost use Rattle.sw_import.specs.declared.rules.Long.TheVariants as long;
@@ -70,6 +72,13 @@ fn flag_made<'c>(cell: &[u8]) -> Made<'c>
     }
 }
 
+/// Whether bytes may be the text of a cell.
+pub(crate) fn is_text(cell: &[u8]) -> bool
+    ensures { result ≡ is_text cell.now }
+{
+    read_text(cell).is_some()
+}
+
 /// The longest beginning of bytes that may be the text of a cell.
 fn longest_text(cell: &[u8]) -> &[u8]
     ensures { result.now ≡ longest_text cell.now }
@@ -77,7 +86,7 @@ fn longest_text(cell: &[u8]) -> &[u8]
     let most = cell.len().min(MOST_BYTES_OF_TEXT);
     for cut in 0..most {
         let (front, _) = cell.split_at(most - cut);
-        if read_text(front).is_some() {
+        if is_text(front) {
             return front;
         }
     }
@@ -99,10 +108,21 @@ fn long_made(long: Long, cell: &[u8]) -> Made<'_>
 fn text_made(long: Long, cell: &[u8]) -> Made<'_>
     ensures { outcome_of result ≡ value_cell long form.Text [] cell.now }
 {
-    if read_text(cell).is_some() {
+    if is_text(cell) {
         Made::Bytes(cell)
     } else {
         long_made(long, cell)
+    }
+}
+
+/// Bytes as text, where they are UTF-8.
+#[tactic(auto, using(crate::proofs::MadeLemmas::utf8_true, crate::proofs::MadeLemmas::utf8_false))]
+fn utf8_of(cell: &[u8]) -> Option<&str>
+    ensures { option_map (λ text. text.now) result ≡ (if is_utf8 cell.now then Some cell.now else None) }
+{
+    match str::from_utf8(cell) {
+        Ok(text) => Some(text),
+        Err(_) => None,
     }
 }
 
@@ -110,9 +130,9 @@ fn text_made(long: Long, cell: &[u8]) -> Made<'_>
 fn code_made<'c>(dictionary: &Dictionary, cell: &[u8]) -> Made<'c>
     ensures { outcome_of result ≡ value_cell long.Number form.Code dictionary.now cell.now }
 {
-    match str::from_utf8(cell) {
-        Ok(text) => code_or_refused(dictionary.number(text)),
-        Err(_) => Made::Refused,
+    match utf8_of(cell) {
+        Some(text) => code_or_refused(dictionary.number(text)),
+        None => Made::Refused,
     }
 }
 

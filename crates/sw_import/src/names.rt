@@ -1,6 +1,6 @@
 //! The names of attributes, which headings give.
 
-ghost use Rattle.std.specs.Prelude.{◌≡◌, IfOk, true};
+ghost use Rattle.std.specs.Prelude.{◌≡◌, IfOk, IfSome, true};
 ghost use Rattle.sw_rows.specs.Header.{is_name};
 
 use crate::faults::{Fault, shown};

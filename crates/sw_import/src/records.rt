@@ -10,7 +10,7 @@ use std::alloc::{AllocError, Global};
 
 /// A reader of the records of a text whose fields this byte divides.
 pub(crate) fn open(alloc: Global, delimiter: u8, text: &[u8]) -> Reader<&[u8]>
-    ensures open { IsOpen result }
+    ensures plain { IsOpen result }
     ensures all { records_left result ≡ records_of delimiter text.now }
 {
     ReaderBuilder::new()
@@ -23,7 +23,7 @@ pub(crate) fn open(alloc: Global, delimiter: u8, text: &[u8]) -> Reader<&[u8]>
 /// Reads the next record, and whether there was one.
 pub(crate) fn next(rdr: &mut Reader<&[u8]>, row: &mut ByteRecord) -> Result<bool, AllocError>
     requires { IsOpen rdr.old }
-    ensures open { IfOk result (λ _. IsOpen rdr.new) }
+    ensures plain { IfOk result (λ _. IsOpen rdr.new) }
     ensures row { IfOk result (λ found. records_left rdr.old
         ≡ (if found then fields_of row.new ∷ records_left rdr.new else [])) }
 {
@@ -35,8 +35,8 @@ pub(crate) fn next(rdr: &mut Reader<&[u8]>, row: &mut ByteRecord) -> Result<bool
 }
 
 /// The line of a text, from 1, in which a record begins that was read from it.
-pub(crate) fn line_of(record: &ByteRecord) -> u64 {
-    match record.position() {
+pub(crate) fn line_of(row: &ByteRecord) -> u64 {
+    match row.position() {
         Some(position) => position.line,
         None => 0,
     }

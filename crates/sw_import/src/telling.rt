@@ -2,7 +2,7 @@
 
 use crate::evidence::Tally;
 use crate::forms::Form;
-use crate::import::Imported;
+use crate::importing::Imported;
 use crate::planning::Planned;
 use crate::writing::Done;
 use csv::Writer;

@@ -20,6 +20,7 @@ fn a_table(rt: HostRuntime) -> Result<(), Fail> {
         },
         delimiter: b',',
         has_header: true,
+        fills_short: false,
         sample: None,
     };
     let made = import(

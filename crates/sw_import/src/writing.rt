@@ -2,6 +2,7 @@
 
 ghost use Rattle.std.specs.Prelude.{[], ◌≡◌, ◌∷◌, ◌++◌, if◌then◌else◌, IfOk, OnOk};
 ghost use Rattle.csv.specs.Records.{fields_of, partial_of};
+ghost use Rattle.sw_import.specs.Records.{IsOpen};
 ghost use Rattle.sw_import.specs.Made.{NoRow, Row, row_made, sources_of};
 
 use crate::columns::field;
@@ -54,14 +55,14 @@ impl Done {
     }
 }
 
-/// Adds a number to a record, as a field.
-fn push_number<N: Integer>(number: N, record: &mut ByteRecord) -> Result<(), AllocError>
-    requires { partial_of record.old ≡ [] }
-    ensures field { OnOk result (fields_of record.new ≡ fields_of record.old ++ N.text number ∷ []) }
-    ensures partial { OnOk result (partial_of record.new ≡ []) }
+/// Adds a number to a row, as a field.
+fn push_number<N: Integer>(number: N, row: &mut ByteRecord) -> Result<(), AllocError>
+    requires { partial_of row.old ≡ [] }
+    ensures field { OnOk result (fields_of row.new ≡ fields_of row.old ++ N.text number ∷ []) }
+    ensures partial { OnOk result (partial_of row.new ≡ []) }
 {
     let mut buffer = Buffer::new();
-    record.push_field(buffer.format(number).as_bytes())
+    row.push_field(buffer.format(number).as_bytes())
 }
 
 /// Takes in what was written of a cell.
@@ -109,18 +110,18 @@ fn make_record(
     alloc: Global,
     rules: &Rules<'_>,
     plan: &[Planned],
-    record: &ByteRecord,
+    row: &ByteRecord,
     made: &mut ByteRecord,
     done: &mut [Done],
 ) -> Result<bool, Fault>
-    ensures { IfOk result (λ kept. row_made rules.now (sources_of plan.now) (fields_of record.now)
+    ensures { IfOk result (λ kept. row_made rules.now (sources_of plan.now) (fields_of row.now)
         ≡ (if kept then Row (fields_of made.new) else NoRow)) }
 {
     made.clear();
-    let line = line_of(record);
+    let line = line_of(row);
     for place in 0..plan.len() {
         let planned = &plan[place];
-        let cell = field(record, planned.column.place);
+        let cell = field(row, planned.column.place);
         let written = make(rules, planned.form, &planned.dictionary, cell);
         note(
             rules,
@@ -141,9 +142,9 @@ fn make_record(
     Ok(true)
 }
 
-/// Writes a record. Over memory only memory can fail.
-fn write_record(record: &ByteRecord, writer: &mut Writer<Vec<u8>>) -> Result<(), Fault> {
-    match writer.write_byte_record(record) {
+/// Writes a row. Over memory only memory can fail.
+fn write_record(row: &ByteRecord, writer: &mut Writer<Vec<u8>>) -> Result<(), Fault> {
+    match writer.write_byte_record(row) {
         Ok(()) => Ok(()),
         Err(_) => Err(Fault::NoMemory),
     }
@@ -199,20 +200,22 @@ pub(crate) fn write_rows(
     rdr: &mut Reader<&[u8]>,
     writer: &mut Writer<Vec<u8>>,
     done: &mut [Done],
-) -> Result<u64, Fault> {
-    let mut record = ByteRecord::new(alloc);
+) -> Result<u64, Fault>
+    requires { IsOpen rdr.old }
+{
+    let mut row = ByteRecord::new(alloc);
     let mut made = ByteRecord::new(alloc);
     let mut written = 0u64;
-    for _ in 0..u64::MAX {
+    'rows: for _ in 0..u64::MAX {
         if most.is_sample && written >= most.rows {
             break;
         }
-        if !next(rdr, &mut record)? {
+        if !next(rdr, &mut row)? {
             break;
         }
-        if make_record(alloc, rules, plan, &record, &mut made, done)? {
+        if make_record(alloc, rules, plan, &row, &mut made, done)? {
             if written >= most.rows {
-                let line = line_of(&record);
+                let line = line_of(&row);
                 return Err(Fault::ManyRows { line });
             }
             write_record(&made, writer)?;

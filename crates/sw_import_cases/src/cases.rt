@@ -20,6 +20,7 @@ struct Chosen {
     sample: Option<u64>,
     delimiter: u8,
     has_header: bool,
+    fills_short: bool,
 }
 
 impl Chosen {
@@ -36,6 +37,7 @@ impl Chosen {
             sample: None,
             delimiter: b',',
             has_header: true,
+            fills_short: false,
         }
     }
 
@@ -168,6 +170,7 @@ impl Bench {
             rules: self.chosen.rules(),
             delimiter: self.chosen.delimiter,
             has_header: self.chosen.has_header,
+            fills_short: self.chosen.fills_short,
             sample: self.chosen.sample,
         };
         Ok(import(alloc, TextKey::fixed(), &how, text))
@@ -237,6 +240,7 @@ impl Bench {
             "times" => self.chosen.times = times_of(text),
             "long" => self.chosen.long = long_of(text),
             "sample" => self.chosen.sample = text.parse().ok(),
+            "ragged" => self.chosen.fills_short = text == "fill",
             "headless" => self.chosen.has_header = false,
             _ => {
                 let bytes = unescaped(alloc, text)?;

@@ -4,7 +4,7 @@
 //!
 //! - `plain`: what was chosen before is forgotten
 //! - `columns LIST`, `name ASKED`, `kind ASKED`, `times AS`, `empty CHOICE`, `null WORD`, `long CHOICE`, `sample ROWS`,
-//!   `delimiter TEXT`, `headless`: what is chosen for the tables that come
+//!   `delimiter TEXT`, `ragged fill`, `headless`: what is chosen for the tables that come
 //! - `import TEXT`: the bytes of the table of TEXT, and what was done; or the fault
 //! - `table TEXT`: the bytes alone
 //! - `many NUMBER HEADING VALUE`: how many bytes and rows the table has of a heading and so many lines of a value

@@ -1,6 +1,8 @@
 //! A table is made of values.
 
-ghost use Rattle.std.specs.Prelude.{◌≡◌, length, vec_len, IfOk};
+ghost use Rattle.std.specs.Prelude.{◌≡◌, length, vec_len, IfOk, OnOk};
+ghost use Rattle.sw_import.specs.Imports.{IsTable};
+ghost use Rattle.sw_import.specs.Records.{IsOpen};
 
 use crate::columns::{Asked, Column, columns_of, field};
 use crate::evidence::Evidence;
@@ -25,6 +27,8 @@ pub struct How<'a> {
     pub delimiter: u8,
     /// Whether the first record has the headings of the columns.
     pub has_header: bool,
+    /// Whether fields that a record lacks at its end are cells without a value.
+    pub fills_short: bool,
     /// How many rows are written, where it is not all.
     pub sample: Option<u64>,
 }
@@ -52,17 +56,25 @@ struct Values<'a> {
     text: &'a [u8],
     delimiter: u8,
     has_header: bool,
+    fills_short: bool,
     width: usize,
 }
 
 impl<'a> Values<'a> {
     /// A reader of the rows.
-    fn rows(self, alloc: Global, record: &mut ByteRecord) -> Result<Reader<&'a [u8]>, AllocError> {
+    fn rows(self, alloc: Global, row: &mut ByteRecord) -> Result<Reader<&'a [u8]>, AllocError>
+        ensures { IfOk result IsOpen }
+    {
         let mut rdr = open(alloc, self.delimiter, self.text);
         if self.has_header {
-            let _found = next(&mut rdr, record)?;
+            let _found = next(&mut rdr, row)?;
         }
         Ok(rdr)
+    }
+
+    /// Whether a record of so many fields is one of these.
+    fn takes(self, fields: usize) -> bool {
+        fields == self.width || (fields < self.width && self.fills_short)
     }
 }
 
@@ -92,12 +104,12 @@ fn header_of(alloc: Global, how: &How<'_>, text: &[u8]) -> Result<ByteRecord, Fa
 }
 
 /// Takes the cells of a record in.
-fn see_record(rules: &Rules<'_>, columns: &[Column], record: &ByteRecord, seen: &mut [Evidence])
+fn see_record(rules: &Rules<'_>, columns: &[Column], row: &ByteRecord, seen: &mut [Evidence])
     requires { length seen.old ≡ length columns.now }
 {
-    let line = line_of(record);
+    let line = line_of(row);
     for place in 0..columns.len() {
-        seen[place].add(rules, field(record, columns[place].place), line);
+        seen[place].add(rules, field(row, columns[place].place), line);
     }
 }
 
@@ -111,21 +123,21 @@ fn survey(
 ) -> Result<u64, Fault>
     requires { length seen.old ≡ length columns.now }
 {
-    let mut record = ByteRecord::new(alloc);
-    let mut rdr = values.rows(alloc, &mut record)?;
+    let mut row = ByteRecord::new(alloc);
+    let mut rdr = values.rows(alloc, &mut row)?;
     let mut count = 0u64;
-    for _ in 0..u64::MAX {
-        if !next(&mut rdr, &mut record)? {
+    'rows: for _ in 0..u64::MAX {
+        if !next(&mut rdr, &mut row)? {
             break;
         }
-        if record.len() != values.width {
+        if !values.takes(row.len()) {
             return Err(Fault::Ragged {
-                line: line_of(&record),
-                found: record.len() as u64,
+                line: line_of(&row),
+                found: row.len() as u64,
                 wanted: values.width as u64,
             });
         }
-        see_record(rules, columns, &record, seen);
+        see_record(rules, columns, &row, seen);
         count = count.saturating_add(1);
     }
     Ok(count)
@@ -144,10 +156,10 @@ fn nothing_done(alloc: Global, count: usize) -> Result<Vec<Done>, AllocError> {
 }
 
 /// Adds the texts of a record for which numbers are written.
-fn learn_record(plan: &mut [Planned], record: &ByteRecord) -> Result<(), AllocError> {
+fn learn_record(plan: &mut [Planned], row: &ByteRecord) -> Result<(), AllocError> {
     for planned in plan {
         if planned.form == Form::Code {
-            let cell = field(record, planned.column.place);
+            let cell = field(row, planned.column.place);
             if let Ok(text) = str::from_utf8(cell) {
                 planned.dictionary.add(text)?;
             }
@@ -161,13 +173,13 @@ fn learn(alloc: Global, values: Values<'_>, plan: &mut [Planned]) -> Result<(), 
     if !plan.iter().any(|planned| planned.form == Form::Code) {
         return Ok(());
     }
-    let mut record = ByteRecord::new(alloc);
-    let mut rdr = values.rows(alloc, &mut record)?;
-    for _ in 0..u64::MAX {
-        if !next(&mut rdr, &mut record)? {
+    let mut row = ByteRecord::new(alloc);
+    let mut rdr = values.rows(alloc, &mut row)?;
+    'rows: for _ in 0..u64::MAX {
+        if !next(&mut rdr, &mut row)? {
             break;
         }
-        learn_record(plan, &record)?;
+        learn_record(plan, &row)?;
     }
     Ok(())
 }
@@ -199,7 +211,9 @@ fn bytes_of(writer: Writer<Vec<u8>>) -> Result<Vec<u8>, AllocError> {
 }
 
 /// Refuses bytes that are no table.
-fn see_table(alloc: Global, key: TextKey, bytes: &[u8]) -> Result<(), Fault> {
+fn see_table(alloc: Global, key: TextKey, bytes: &[u8]) -> Result<(), Fault>
+    ensures { OnOk result (IsTable bytes.now) }
+{
     match load(alloc, key, &mut Counted::new(bytes)) {
         Ok(_) => Ok(()),
         Err(refusal) => Err(Fault::Table(refusal)),
@@ -207,13 +221,20 @@ fn see_table(alloc: Global, key: TextKey, bytes: &[u8]) -> Result<(), Fault> {
 }
 
 /// Makes a table of the values of a text. Texts are hashed under the key.
-pub fn import(alloc: Global, key: TextKey, how: &How<'_>, text: &[u8]) -> Result<Imported, Fault> {
+///
+/// What it makes, the reader of tables has read. The first fault refuses it, in this order: there is no record; what is
+/// asked of columns; the first record that is ragged; texts that are not UTF-8; cells without a value; texts that are too
+/// long; then record by record a cell that is none of the kind that was asked for, and a row too many.
+pub fn import(alloc: Global, key: TextKey, how: &How<'_>, text: &[u8]) -> Result<Imported, Fault>
+    ensures { IfOk result (λ made. IsTable made.bytes.items) }
+{
     let header = header_of(alloc, how, text)?;
     let columns = columns_of(alloc, &header, &how.asked)?;
     let values = Values {
         text,
         delimiter: how.delimiter,
         has_header: how.has_header,
+        fills_short: how.fills_short,
         width: header.len(),
     };
     let mut seen = nothing_seen(alloc, columns.len())?;
@@ -228,8 +249,8 @@ pub fn import(alloc: Global, key: TextKey, how: &How<'_>, text: &[u8]) -> Result
     see_plan(alloc, &how.rules, plan.as_slice())?;
     learn(alloc, values, plan.as_mut_slice())?;
     let mut done = nothing_done(alloc, plan.len())?;
-    let mut record = ByteRecord::new(alloc);
-    let mut rdr = values.rows(alloc, &mut record)?;
+    let mut row = ByteRecord::new(alloc);
+    let mut rdr = values.rows(alloc, &mut row)?;
     let mut writer = Writer::from_writer(Vec::new(alloc));
     write_header(alloc, plan.as_slice(), &mut writer)?;
     let written = write_rows(
