@@ -23,3 +23,4 @@ pub mod TextReading
 pub mod TextUtf8
 pub mod ValueReading
 pub mod WrittenAgain
+pub mod ExplainedLemmas
