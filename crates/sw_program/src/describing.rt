@@ -27,13 +27,13 @@ pub struct Description<'a> {
 }
 
 /// What was read of a table.
-type Read = (Schema, PackedRows);
+type Loaded = (Schema, PackedRows);
 
 /// What an attribute of a table has.
 fn describe_one(
     alloc: Global,
     state: RandomState,
-    table: &Read,
+    table: &Loaded,
     attr: usize,
 ) -> Result<Described, AllocError> {
     let (schema, rows) = table;
@@ -54,7 +54,7 @@ fn describe_one(
 fn describe_all(
     alloc: Global,
     state: RandomState,
-    table: &Read,
+    table: &Loaded,
 ) -> Result<Vec<Described>, AllocError> {
     let mut columns = Vec::new(alloc);
     for attr in 0..table.0.len() {
@@ -68,7 +68,7 @@ fn write_columns<R: Print>(
     rt: &R,
     alloc: Global,
     is_json: bool,
-    table: &Read,
+    table: &Loaded,
     columns: &[Described],
 ) -> Result<(), Refusal> {
     let Ok(buffer) = BufWriter::new(alloc, io::writer(rt)) else {
@@ -92,7 +92,7 @@ fn describe<R: RandomSource + Print>(
     rt: &R,
     alloc: Global,
     is_json: bool,
-    table: &Read,
+    table: &Loaded,
 ) -> Result<u8, Refusal>
     ensures { IfOk result (λ status. status ≡ 0) }
 {
@@ -109,12 +109,12 @@ fn describe<R: RandomSource + Print>(
 /// What came of reading a table, and what was kept of it.
 #[derive(Drop)]
 struct Came {
-    read: Result<Read, Refusal>,
+    read: Result<Loaded, Refusal>,
     kept: Kept,
 }
 
 /// Reads the table of a place.
-fn read<R: Files + RandomSource + Input + Threads + Sync>(
+fn read_at<R: Files + RandomSource + Input + Threads + Sync>(
     rt: &R,
     alloc: Global,
     place: Place<'_>,
@@ -161,7 +161,7 @@ impl Description<'_> {
     ) -> Result<u8, Refusal>
         ensures { IfOk result (λ status. status ≡ 0) }
     {
-        let Came { read, kept } = read(rt, alloc, self.table);
+        let Came { read, kept } = read_at(rt, alloc, self.table);
         match read {
             Ok(table) => describe(rt, alloc, self.is_json, &table),
             Err(refusal) => {

@@ -106,9 +106,12 @@ impl Texts {
     /// The script that was asked, and what its lines are.
     fn script<'a>(&'a self, asking: &Asking<'a>) -> (Text<'a>, Origin) {
         match asking.script {
-            Some(Script::Given(lines)) => (text("", Some(lines)), Origin::Arguments),
-            Some(Script::At(place)) => (text(called(place), as_bytes(&self.script)), Origin::Lines),
-            None => (text("", None), Origin::Lines),
+            Some(Script::Given(lines)) => (named("", Some(lines)), Origin::Arguments),
+            Some(Script::At(place)) => (
+                named(called(place), as_bytes(&self.script)),
+                Origin::Lines,
+            ),
+            None => (named("", None), Origin::Lines),
         }
     }
 
@@ -116,7 +119,7 @@ impl Texts {
     fn asked<'a>(&'a self, asking: &Asking<'a>) -> Asked<'a> {
         let (script, origin) = self.script(asking);
         Asked {
-            table: text(called(asking.table), as_bytes(&self.table)),
+            table: named(called(asking.table), as_bytes(&self.table)),
             script,
             origin,
             cuts: asking.cuts,
@@ -125,7 +128,7 @@ impl Texts {
 }
 
 /// A text of a name.
-fn text<'a>(name: &'a str, bytes: Option<&'a [u8]>) -> Text<'a> {
+fn named<'a>(name: &'a str, bytes: Option<&'a [u8]>) -> Text<'a> {
     Text { name, bytes }
 }
 
