@@ -8,7 +8,6 @@ ghost use Rattle.sw_import.specs.Made.{NoRow, Row, row_made, sources_of};
 use crate::columns::field;
 use crate::evidence::Tally;
 use crate::faults::{Fault, shown};
-use crate::forms::Form;
 use crate::making::{Made, make};
 use crate::planning::Planned;
 use crate::records::{line_of, next};
@@ -39,18 +38,12 @@ impl Done {
         }
     }
 
-    /// Takes in what was written of a cell.
-    fn add(&mut self, made: Made<'_>, cell: &[u8], is_filled: bool, line: u64) {
-        match made {
-            Made::LeftOut => self.left_out.add(line),
-            Made::Refused => {}
-            _ if is_filled => self.filled.add(line),
-            Made::Bytes(bytes) => {
-                if bytes != cell {
-                    self.changed.add(line);
-                }
-            }
-            Made::Number(_) | Made::Code(_) => self.changed.add(line),
+    /// Takes in a cell of which another text was written than its own.
+    fn add(&mut self, is_filled: bool, line: u64) {
+        if is_filled {
+            self.filled.add(line);
+        } else {
+            self.changed.add(line);
         }
     }
 }
@@ -65,18 +58,36 @@ fn push_number<N: Integer>(number: N, row: &mut ByteRecord) -> Result<(), AllocE
     row.push_field(buffer.format(number).as_bytes())
 }
 
-/// Takes in what was written of a cell.
-fn note(
+/// Takes in that a row is left out for a cell of the column at a place.
+fn note_left_out(done: &mut [Done], place: usize, line: u64) {
+    if let Some(done) = done.get_mut(place) {
+        done.left_out.add(line);
+    }
+}
+
+/// Takes in what was written of a cell of the column at a place.
+fn note_cell(done: &mut [Done], place: usize, is_filled: bool, line: u64) {
+    if let Some(done) = done.get_mut(place) {
+        done.add(is_filled, line);
+    }
+}
+
+/// Takes in what was written of a record.
+fn note_record(
     rules: &Rules<'_>,
-    form: Form,
-    written: Made<'_>,
-    cell: &[u8],
-    line: u64,
-    done: Option<&mut Done>,
+    plan: &[Planned],
+    row: &ByteRecord,
+    made: &ByteRecord,
+    done: &mut [Done],
 ) {
-    if let Some(done) = done {
-        let is_filled = rules.filling(form, cell).is_some();
-        done.add(written, cell, is_filled, line);
+    let line = line_of(row);
+    for place in 0..plan.len() {
+        let planned = &plan[place];
+        let cell = field(row, planned.column.place);
+        if field(made, place) != cell {
+            let is_filled = rules.filling(planned.form, cell).is_some();
+            note_cell(done, place, is_filled, line);
+        }
     }
 }
 
@@ -123,19 +134,14 @@ fn make_record(
         let planned = &plan[place];
         let cell = field(row, planned.column.place);
         let written = make(rules, planned.form, &planned.dictionary, cell);
-        note(
-            rules,
-            planned.form,
-            written,
-            cell,
-            line,
-            done.get_mut(place),
-        );
         match written {
             Made::Bytes(bytes) => made.push_field(bytes)?,
             Made::Number(number) => push_number(number, made)?,
             Made::Code(number) => push_number(number, made)?,
-            Made::LeftOut => return Ok(false),
+            Made::LeftOut => {
+                note_left_out(done, place, line);
+                return Ok(false);
+            }
             Made::Refused => return Err(no_cell(alloc, rules, planned, cell, line)?),
         }
     }
@@ -219,6 +225,7 @@ pub(crate) fn write_rows(
                 return Err(Fault::ManyRows { line });
             }
             write_record(&made, writer)?;
+            note_record(rules, plan, &row, &made, done);
             written += 1;
         }
     }
