@@ -110,15 +110,7 @@ fn run_into<R: Threads + Wait + Sync, W: Sink>(
     way: Way<'_>,
     out: &mut W,
 ) -> Result<Record, Refusal> {
-    run_from(
-        rt,
-        alloc,
-        table,
-        &mut Counted::new(script),
-        limit,
-        way,
-        out,
-    )
+    run_from(rt, alloc, table, &mut Counted::new(script), limit, way, out)
 }
 
 /// What a run writes, and then its refusal.
