@@ -1,6 +1,6 @@
 -- What is written of a record, column by column.
 use Rattle.std.proofs.Common.{◌≡◌, ◌∙◌, ◌<◌, ◌+◌, ℕ, zero, suc, List, [], ◌∷◌, ◌++◌, length, drop, get_or, map, refl, sym, ap, arith}
-use Rattle.sw_import.specs.Made.{Kept, Row, Outcome, Source, cell_made, row_after, source_of, sources_of, then_more}
+use Rattle.sw_import.specs.Made.{Kept, Outcome, Row, Written, Source, cell_made, row_after, source_of, sources_of, then_more}
 use Rattle.sw_import.specs.declared.planning.Planned.{Planned}
 use Rattle.sw_import.specs.declared.rules.Rules.{Rules}
 
@@ -25,3 +25,11 @@ row_end rules done plan fields = rw (none plan) refl
     none : (ps : List Planned) → drop (length ps) (sources_of ps) ≡ []
     none [] = refl
     none (p ∷ ps) = none ps
+
+-- one column on, where its cell was written
+pub row_next : (rules : Rules) (done next : List (List ℕ)) (plan : List Planned) (i : ℕ) (p : Planned) (fields : List (List ℕ)) (text : List ℕ) (whole : Kept)
+    → i < length plan → p ≡ get_or plan i p → Written text ≡ cell_made rules p.form p.dictionary (get_or fields p.column.place [])
+    → next ≡ done ++ text ∷ [] → row_after rules done (drop i (sources_of plan)) fields ≡ whole
+    → row_after rules next (drop (i + 1) (sources_of plan)) fields ≡ whole
+row_next rules done next plan i p fields text whole h e made grown before =
+    rw grown (sym (row_step rules done plan i p fields (Written text) h e made) ∙ before)
