@@ -11,7 +11,7 @@ use sw_rows::{MOST_ROWS, Sink};
 const EXAMPLES: &str = "\
 Examples:
   sideways import data.csv > t.csv
-  sideways import data.csv --columns price,2,created --name price=cost --kind 2=text > t.csv
+  sideways import data.csv --columns price,2,created --rename price=cost --kind 2=text > t.csv
   sideways import data.csv --empty drop --null NA --long cut > t.csv
   zcat data.tsv.gz | sideways import - --delimiter '\\t' --sample 1000 > t.csv
 
@@ -54,7 +54,7 @@ fn columns<'a>(alloc: Global) -> Arg<'a> {
 fn names<'a>(alloc: Global) -> Arg<'a> {
     value(
         alloc,
-        "name",
+        "rename",
         "COLUMN=NAME",
         "The name of a column, where its heading is not to give it; may be given again",
     )
@@ -240,7 +240,7 @@ fn how_of<'g>(given: &'g ArgMatches<'_>, delimiter: u8) -> How<'g> {
     How {
         asked: Asked {
             columns: given.get_str("columns"),
-            names: words(given, "name"),
+            names: words(given, "rename"),
             kinds: words(given, "kind"),
         },
         rules: Rules {
