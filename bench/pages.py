@@ -9,20 +9,25 @@ import argparse, re, subprocess, sys
 from pathlib import Path
 
 TOP = Path(__file__).resolve().parents[1]
-OPTION = re.compile(r"^ +(?:(-\w))?(?:, )?(--[\w-]+)?(?: ?<([\w.]+)>)?(?:\.\.\.)?(?:  +(\S.*))?$")
+OPTION = re.compile(r"^ +(?:(-\w))?(?:, )?(--[\w-]+)?(?: ?<([\w.=]+)>)?(?:\.\.\.)?(?:  +(\S.*))?$")
 VALUES = re.compile(r" *\[possible values: ([^\]]*)\]")
-FILES = ("--table", "--script", "--history")
+FILES = ("--table", "--script", "--history", "--dictionary", "--where")
 
 
 class Help:
-    """What one `--help` says: what the command is for, how it is called, and its commands, arguments, options and examples."""
+    """What one `--help` says: what the command is for, how it is called, its commands, arguments, options, notes and examples."""
 
     def __init__(self, program, command):
         self.command = command
         text = subprocess.run([program] + command + ["--help"], capture_output=True, text=True, check=True).stdout
         parts = re.split(r"\n\n(?=[A-Z][a-z]+:)", text.rstrip("\n"))
         self.about = parts[0].strip()
-        sections = dict(part.split(":", 1) for part in parts[1:])
+        sections, self.notes = {}, []
+        for part in parts[1:]:
+            name, text = part.split(":", 1)
+            text, *notes = text.split("\n\n")
+            sections[name] = text
+            self.notes += [" ".join(note.split()) for note in notes]
         self.usage = sections["Usage"].strip()
         self.commands = self.pairs(sections.get("Commands", ""))
         self.arguments = self.pairs(sections.get("Arguments", ""))
@@ -92,10 +97,13 @@ def manual(helps, version):
         out += [".SH " + " ".join(one.command).upper(), roff(one.about) + "."]
         for name, what in one.arguments:
             out += [".TP", "\\fI%s\\fR" % roff(name.strip("<>[]")), roff(what)]
-        out += roff_options(one.options) + roff_examples(one.examples)
-    out += [".SH EXIT STATUS", "0: every call was answered, or the history is legal. 1: the history is not legal, and nothing else ends so.",
-            "2: the command line, the table, the script or a history was refused, or a file could not be read.",
-            "3: a call, the output, the history file or memory failed.",
+        out += roff_options(one.options)
+        for note in one.notes:
+            out += [".PP", roff(note)]
+        out += roff_examples(one.examples)
+    out += [".SH EXIT STATUS", "0: every call was answered, the history is legal, or an order was found. 1: it is not legal, or there is none, and nothing else ends so.",
+            "2: the command line, the table, the script, a log or a history was refused, or a file could not be read.",
+            "3: a call, the output, the history file or memory failed, or a search was given up.",
             ".SH SEE ALSO", "docs/FORMATS.md has tables, scripts, replies and flags; docs/HISTORIES.md the file of a history."]
     return "\n".join(out) + "\n"
 
@@ -116,7 +124,7 @@ def bash(helps):
     out += ["    *:%s) COMPREPLY=($(compgen -f -- \"$word\")); return ;;" % " | *:".join(FILES), "    esac", "    case ${COMP_WORDS[1]} in"]
     for one in helps[1:]:
         words = [word for option in one.options for word in words_of(option)]
-        files = ' $(compgen -f -- "$word")' if any(name == "<FILE>" for name, _ in one.arguments) else ""
+        files = ' $(compgen -f -- "$word")' if any(name in ("<FILE>", "<LOG>...") for name, _ in one.arguments) else ""
         out.append('    %s) COMPREPLY=($(compgen -W "%s" -- "$word")%s) ;;' % (one.command[0], " ".join(words), files))
     out += ["    esac", "}", "complete -o filenames -F _sideways sideways"]
     return "\n".join(out) + "\n"
@@ -149,7 +157,7 @@ def zsh(helps):
             "    shift words", "    (( CURRENT-- ))", "    case $command in"]
     for one in helps[1:]:
         specs = [zsh_option(option) for option in one.options]
-        specs += ["'1:%s:%s'" % (name.strip("<>[]"), "_files" if name == "<FILE>" else "") for name, _ in one.arguments]
+        specs += ["'1:%s:%s'" % (name.strip("<>[]"), "_files" if name in ("<FILE>", "<LOG>...") else "") for name, _ in one.arguments]
         out += ["    %s)" % one.command[0], "        _arguments \\"] + ["            %s \\" % spec for spec in specs[:-1]]
         out += ["            %s" % specs[-1], "        ;;"]
     out += ["    esac", "}", '_sideways "$@"']
