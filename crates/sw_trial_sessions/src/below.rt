@@ -1,7 +1,8 @@
 //! What may be called of a table.
 
-ghost use Rattle.std.specs.Prelude.{◌≡◌, ◌<◌, true, All};
-ghost use Rattle.sw_lang.specs.Fits.{HasFewNames, IsBound};
+ghost use Rattle.std.specs.Prelude.{◌≡◌, ◌<◌, ◌≤◌, true, length, All};
+ghost use Rattle.std.specs.List.{list_all};
+ghost use Rattle.sw_lang.specs.Fits.{HasFewNames, IsBound, is_bound};
 ghost use Rattle.sw_rows.specs.Scan.{AsksBelow, CondsBelow, WantsBelow};
 ghost use Rattle.sw_spine.specs.History.{CallsBelow};
 
@@ -33,14 +34,27 @@ fn conds_below(conds: &[Cond], columns: usize) -> bool
 
 /// Whether each condition has a bound.
 fn conds_bound(conds: &[Cond]) -> bool
-    ensures { result ≡ true → All IsBound conds.now }
+    ensures { result ≡ list_all (λ c. is_bound c.lower c.upper) conds.now }
 {
-    for cond in conds {
-        if cond.lower.is_none() && cond.upper.is_none() {
-            return false;
-        }
+    conds
+        .iter()
+        .all(|cond| cond.lower.is_some() || cond.upper.is_some())
+}
+
+/// Whether rows may be removed by these conditions.
+#[tactic(auto, using(crate::proofs::Bounds::all_bound))]
+fn removes_below(conds: &[Cond], columns: usize) -> bool
+    ensures below { result ≡ true → CondsBelow columns conds.now }
+    ensures some { result ≡ true → 1 ≤ length conds.now }
+    ensures bound { result ≡ true → All IsBound conds.now }
+{
+    if conds.is_empty() {
+        return false;
     }
-    true
+    if !conds_bound(conds) {
+        return false;
+    }
+    conds_below(conds, columns)
 }
 
 /// Whether what is wanted is of attributes below a number, 1 to 8 of them where it is rows.
@@ -51,7 +65,10 @@ fn want_below(want: &Want, columns: usize) -> bool
     match want {
         Want::Rows(names) => {
             let names = names.as_slice();
-            !names.is_empty() && names.len() <= 8 && names_below(names, columns)
+            if names.is_empty() || names.len() > 8 {
+                return false;
+            }
+            names_below(names, columns)
         }
         Want::Count => true,
         Want::Sum(a) => *a < columns,
@@ -76,9 +93,6 @@ pub(crate) fn calls_below(call: &Call, columns: usize) -> bool
         Call::Select(query) => asks_below(query, columns),
         Call::Insert(_) => true,
         Call::Delete(_) => true,
-        Call::DeleteWhere(conds) => {
-            let conds = conds.as_slice();
-            !conds.is_empty() && conds_bound(conds) && conds_below(conds, columns)
-        }
+        Call::DeleteWhere(conds) => removes_below(conds.as_slice(), columns),
     }
 }
