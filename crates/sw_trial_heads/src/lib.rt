@@ -7,6 +7,8 @@ mod cases;
 mod dice;
 mod growing;
 #[cfg(test)]
+mod growths;
+#[cfg(test)]
 mod mixes;
 #[cfg(test)]
 mod refusals;

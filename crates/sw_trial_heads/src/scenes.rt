@@ -1,5 +1,6 @@
 //! Scenes: boxes over a budget, a head that is played with them, and what has to be seen.
 
+use crate::growths::ContendedGrowth;
 use crate::mixes::{Mix, mixed};
 use crate::steps::{Step, take_all};
 use crate::trials::{Shape, open};
@@ -45,12 +46,13 @@ pub(crate) struct Watch<'t> {
 
 /// What boxes do besides: they refuse every n-th step, none where n is 0, and count their calls, and never grow in
 /// place; or they grow, and refuse every n-th step or growth; or they grow, and find the budget contended at every
-/// second begin and growth.
+/// second begin and growth, or at every second growth alone.
 #[derive(Clone, Copy)]
 pub(crate) enum Trouble {
     Every(u64),
     Grows(u64),
     Contends,
+    GrowthContends,
 }
 
 /// Boxes: those that the head has at first, those that may come later, the cells of their budget, and what they do besides.
@@ -149,6 +151,20 @@ fn contended(
     Ok(maps)
 }
 
+/// Maps that find it contended at every second growth alone, over purses of one budget.
+fn contended_growths(
+    alloc: Global,
+    purse: &mut Purse,
+    many: usize,
+) -> Result<Vec<ContendedGrowth<PairMap>>, Fail> {
+    let mut maps = Vec::new(alloc);
+    for _turn in 0..many {
+        let mine = purse.split()?;
+        maps.push(ContendedGrowth::new(PairMap::blank(alloc, mine)))?;
+    }
+    Ok(maps)
+}
+
 /// Plays a scene over boxes of a budget of its own, all of whose cells have to be there again in the end, and tells
 /// what is wrong.
 pub(crate) fn play<R: Threads + Sync>(
@@ -168,6 +184,10 @@ pub(crate) fn play<R: Threads + Sync>(
     match boxes.trouble {
         Trouble::Contends => {
             let maps = contended(alloc, &mut purse, many)?;
+            play_over(rt, alloc, maps, boxes.first, watch, scene, text)?;
+        }
+        Trouble::GrowthContends => {
+            let maps = contended_growths(alloc, &mut purse, many)?;
             play_over(rt, alloc, maps, boxes.first, watch, scene, text)?;
         }
         Trouble::Grows(every) => {
