@@ -42,7 +42,7 @@ const QUERIES: Recipe = Recipe {
     many_go: 0,
     rows: 120,
     boxes_go: false,
-    calls: 100,
+    calls: 80,
     scanned: Scanned::Some,
 };
 
@@ -53,7 +53,7 @@ const MORE_COME: Recipe = Recipe {
     many_go: 0,
     rows: 80,
     boxes_go: true,
-    calls: 200,
+    calls: 120,
     scanned: Scanned::Some,
 };
 
@@ -64,7 +64,7 @@ const ROWS_COME: Recipe = Recipe {
     many_go: 0,
     rows: 60,
     boxes_go: false,
-    calls: 400,
+    calls: 150,
     scanned: Scanned::Any,
 };
 
