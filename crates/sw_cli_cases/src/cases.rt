@@ -7,7 +7,7 @@ use crate::faults::fault;
 use crate::files::{checked, cuts, explained, file};
 use crate::sinks::{Failing, noted};
 use crate::sources::Faltering;
-use crate::text::{of_texts, unescaped};
+use crate::text::unescaped;
 use std::alloc::{AllocError, Global};
 use std::sync::Wait;
 use std::thread::Threads;
@@ -269,10 +269,6 @@ impl Bench {
         match word {
             "failing" => cut_short(rt, alloc, &self.table, &bytes, number, self.limit),
             "reading" => read_short(rt, alloc, &self.table, &bytes, number, self.limit),
-            "texts" => {
-                let table = of_texts(alloc, number.min(1_048_578))?;
-                ran_so(rt, alloc, table.as_bytes(), &bytes, self.limit, AMPLE)
-            }
             _ => {
                 let script = repeated(alloc, &bytes, number.min(1_048_577) as usize)?;
                 measured(rt, alloc, &self.table, &script, self.limit)
@@ -319,9 +315,7 @@ impl Bench {
                 Ok(String::new(alloc))
             }
             "fault" => fault(alloc, text),
-            "many" | "failing" | "reading" | "texts" => {
-                self.take_numbered(rt, alloc, word, text)
-            }
+            "many" | "failing" | "reading" => { self.take_numbered(rt, alloc, word, text) }
             _ => self.take_text(rt, alloc, word, text),
         }
     }

@@ -8,7 +8,6 @@
 //! - `many NUMBER TEXT`: how many bytes the script writes that has the first line of TEXT so many times and then the rest
 //! - `failing NUMBER TEXT`: what a sink took that takes three bytes a time and fails at its write of this number
 //! - `reading NUMBER TEXT`: what a run writes whose script comes three bytes a read and fails at the read of this number
-//! - `texts NUMBER TEXT`: what a script writes over a table in which so many texts differ, two in a row
 //! - `history TEXT`: the history file of a script over the table
 //! - `check TEXT`: the verdict on a history file, with the status
 //! - `entries TEXT`: the same of a file with these entries over the table of the examples
