@@ -1,4 +1,3 @@
-pub mod Explained
 pub mod FileChecks
 pub mod FileExamples
 pub mod FoundLegal

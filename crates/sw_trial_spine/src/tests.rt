@@ -1,7 +1,6 @@
 //! Visits of two sessions, and the limits of a spine.
 
-ghost use Rattle.sw_rows.specs.declared.query.Call.TheVariants.{Select};
-ghost use Rattle.sw_spine.specs.History.{CallsBelow};
+ghost use Rattle.sw_rows.specs.Scan.{AsksBelow};
 ghost use Rattle.sw_trial_spine.specs.Benches.{IsAtRest};
 
 use crate::bench::{
@@ -128,7 +127,7 @@ fn cases_are_told_as_wanted(rt: HostRuntime) -> Result<(), Refusal> {
 
 /// `count`.
 fn all_counted(alloc: Global) -> Query
-    ensures { CallsBelow 3 (Select result) }
+    ensures { AsksBelow 3 result }
 {
     Query {
         conds: Conds::new(alloc),
