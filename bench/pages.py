@@ -96,7 +96,7 @@ def manual(helps, version):
     for one in helps[1:]:
         out += [".SH " + " ".join(one.command).upper(), roff(one.about) + "."]
         for name, what in one.arguments:
-            out += [".TP", "\\fI%s\\fR" % roff(name.strip("<>[]")), roff(what)]
+            out += [".TP", "\\fI%s\\fR" % roff(name.strip("<>[].")), roff(what)]
         out += roff_options(one.options)
         for note in one.notes:
             out += [".PP", roff(note)]
@@ -157,7 +157,7 @@ def zsh(helps):
             "    shift words", "    (( CURRENT-- ))", "    case $command in"]
     for one in helps[1:]:
         specs = [zsh_option(option) for option in one.options]
-        specs += ["'1:%s:%s'" % (name.strip("<>[]"), "_files" if name in ("<FILE>", "<LOG>...") else "") for name, _ in one.arguments]
+        specs += ["'1:%s:%s'" % (name.strip("<>[]."), "_files" if name in ("<FILE>", "<LOG>...") else "") for name, _ in one.arguments]
         out += ["    %s)" % one.command[0], "        _arguments \\"] + ["            %s \\" % spec for spec in specs[:-1]]
         out += ["            %s" % specs[-1], "        ;;"]
     out += ["    esac", "}", '_sideways "$@"']
