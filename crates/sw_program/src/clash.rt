@@ -1,6 +1,5 @@
 //! What a history would be written over.
 
-use crate::inputs::{Place, Script};
 use std::rt::Files;
 use sw_files::FileId;
 
@@ -22,14 +21,6 @@ pub enum Clash {
     Errors,
 }
 
-/// Whether a file is a script.
-fn is_script<R: Files>(rt: &R, id: FileId, script: Script<'_>) -> bool {
-    match script.place() {
-        Some(place) => id.is_at(rt, place.path()),
-        None => false,
-    }
-}
-
 impl Clash {
     /// What is wrong, in words.
     pub fn text(self) -> &'static str {
@@ -44,14 +35,14 @@ impl Clash {
     /// What the history would be written over, if anything. A history that is no regular file is written over nothing.
     pub(crate) fn of<R: Files>(
         rt: &R,
-        table: Place<'_>,
-        script: Script<'_>,
+        table: &str,
+        script: &str,
         history: Option<&str>,
     ) -> Option<Clash> {
         let id = FileId::of(rt, history?)?;
-        if id.is_at(rt, table.path()) {
+        if id.is_at(rt, table) {
             Some(Clash::Table)
-        } else if is_script(rt, id, script) {
+        } else if id.is_at(rt, script) {
             Some(Clash::Script)
         } else if id.is_at(rt, OUTPUT) {
             Some(Clash::Output)

@@ -1,3 +1,0 @@
-pub mod MadeLemmas
-pub mod RecordLemmas
-pub mod RowLemmas

@@ -1,5 +1,0 @@
-pub mod Dates
-pub mod Forms
-pub mod Imports
-pub mod Made
-pub mod Records
