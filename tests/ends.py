@@ -270,11 +270,13 @@ class Ends:
         (top / "crates/sideways/src").mkdir()
         more = {"env": {**os.environ, "PATH": "%s:%s" % (tools, os.environ["PATH"])}}
         line = b"sideways: NOT PROVED: "
+        missing = b"sideways: refused 12\n%s/none.csv: there is no such file\n" % str(self.folder).encode()
+        version = self.call(["--version"])[1] + b"commit unknown\n"
         for name, words, expected in (
                 ("a run", self.run, (0, OUT, b"")),
                 ("a run with equals signs", ["run", "--table=t.csv", "--script=s.txt"], (0, OUT, b"")),
-                ("a run that is refused", ["run", "--table", "none.csv", "--script", "s.txt"], (2, b"", b"sideways: refused 12\n")),
-                ("the version", ["--version"], (0, b"sideways 0.1.0\n", b"")),
+                ("a run that is refused", ["run", "--table", "none.csv", "--script", "s.txt"], (2, b"", missing)),
+                ("the version", ["--version"], (0, version, b"")),
                 ("a history", self.run + ["--history", "h.json"], (0, OUT, b"")),
                 ("a check", ["check", "h.json"], (0, b"legal: 2 entries\n", b""))):
             status, out, told = self.call(words, script, **more)

@@ -34,10 +34,10 @@ def written(path, pieces):
 
 
 def ran(program, folder):
-    """The status of a run, its line and the most memory that it had, in bytes."""
+    """The status of a run, its first line and the most memory that it had, in bytes."""
     words = [program, "run", "--table", "t.csv", "--script", "s.txt"]
     child = subprocess.Popen(words, cwd=folder, stdout=subprocess.DEVNULL, stderr=subprocess.PIPE)
-    line = child.stderr.read().decode().strip()
+    line = child.stderr.read().decode().split("\n")[0]
     _, status, used = os.wait4(child.pid, 0)
     return os.waitstatus_to_exitcode(status), line, used.ru_maxrss * 1024
 

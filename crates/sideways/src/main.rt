@@ -5,12 +5,16 @@
 //! read is refused, and 3 where a call, the output or memory is.
 #![tactic(auto)]
 
+mod import;
+mod order;
 mod words;
 
+use crate::import::{NO_DELIMITER, make_import};
+use crate::order::ordering_of;
 use crate::words::command;
 use clap::error::ErrorKind;
 use clap::{ArgMatches, Error};
-use std::alloc::Global;
+use std::alloc::{AllocError, Global};
 use std::io;
 use std::io::IsTerminal;
 use std::process::ExitCode;
@@ -18,14 +22,18 @@ use std::random::RandomSource;
 use std::rt::{Clock, Env, Files};
 use std::sync::Wait;
 use std::thread::Threads;
-use sw_program::{Limit, Refusal, Run, Settings, Sights, check_path, explain, status, write_fault};
+use sw_program::{
+    Description, Form, Limit, Place, Refusal, Run, Script, Settings, Sights, check_path, explain,
+    status, write_fault, write_text,
+};
 use sw_rows::{Counted, Sink};
 
-/// Standard error: the sink to it, and whether it is a terminal.
+/// Standard error: the sink to it, whether it is a terminal, and what a refusal means in words, once there is one.
 #[derive(Drop)]
 struct Errors<E: Sink + Drop> {
     sink: E,
     is_terminal: bool,
+    words: Option<String>,
 }
 
 /// The limit of rows that is given.
@@ -50,17 +58,50 @@ fn sights_of(given: &ArgMatches<'_>, is_terminal: bool) -> Sights {
         heads: given.get_flag("stats"),
         progress: is_terminal && !given.get_flag("quiet"),
         calls: given.get_flag("times"),
+        faults: given.get_flag("all-faults"),
     }
 }
 
-/// The run that the words ask for.
-fn run_of<'a>(given: &ArgMatches<'a>, is_terminal: bool) -> Option<Run<'a>> {
+/// What is wrong with words that clap took: a call has no line end, and two inputs are not standard input.
+const LONG_CALL: &str = "a call of -e is one line";
+
+const BOTH_STANDARD: &str = "the table and the script cannot both be standard input";
+
+/// The lines of the calls that are given, a line feed behind each.
+fn lines_of(alloc: Global, calls: &[&str]) -> Result<Vec<u8>, AllocError> {
+    let mut lines = Vec::new(alloc);
+    for call in calls {
+        lines.extend_from_slice(call.as_bytes())?;
+        lines.push(b'\n')?;
+    }
+    Ok(lines)
+}
+
+/// The calls that are given.
+fn calls_of<'g, 'a>(given: &'g ArgMatches<'a>) -> &'g [&'a str] {
+    match given.get_strs("call") {
+        Some(calls) => calls,
+        None => &[],
+    }
+}
+
+/// Where the calls come from: the script that is named, or else the lines that are given.
+fn script_of<'s>(given: &ArgMatches<'s>, lines: &'s [u8]) -> Script<'s> {
+    match given.get_str("script") {
+        Some(name) => Script::At(Place::new(name)),
+        None => Script::Given(lines),
+    }
+}
+
+/// The run that the words ask for, its calls in these lines where no script is named.
+fn run_of<'a>(given: &ArgMatches<'a>, lines: &'a [u8], is_terminal: bool) -> Option<Run<'a>> {
     Some(Run {
-        table: given.get_str("table")?,
-        script: given.get_str("script")?,
+        table: Place::new(given.get_str("table")?),
+        script: script_of(given, lines),
         history: given.get_str("history"),
         settings: settings_of(given)?,
         sights: sights_of(given, is_terminal),
+        form: Form::named(given.get_str("output")?)?,
     })
 }
 
@@ -88,17 +129,33 @@ fn refuse_words<R: Print + Eprint>(rt: &R, alloc: Global, why: &str) -> Result<u
     }
 }
 
-/// Makes a run, unless its history would be written over another of its files.
+/// What is wrong with the inputs of a run, if anything: a call of more than one line, both of standard input, or a history
+/// that would be written over another of its files.
+fn wrong_with<R: Files>(rt: &R, run: &Run<'_>, calls: &[&str]) -> Option<&'static str> {
+    if calls.iter().any(|call| call.as_bytes().contains(&b'\n')) {
+        return Some(LONG_CALL);
+    }
+    if run.table.is_standard() && run.script.is_standard() {
+        return Some(BOTH_STANDARD);
+    }
+    Some(run.clash(rt)?.text())
+}
+
+/// Makes a run, unless something is wrong with its inputs.
 fn make_run<
-    R: Files + RandomSource + Clock + Print + Eprint + Threads + Wait + Sync,
+    R: Files + RandomSource + Clock + Print + Eprint + Input + Threads + Wait + Sync,
     E: Sink + Drop,
 >(rt: &R, alloc: Global, given: &ArgMatches<'_>, errors: &mut Errors<E>) -> Result<u8, Refusal> {
-    let Some(run) = run_of(given, errors.is_terminal) else {
+    let calls = calls_of(given);
+    let Ok(lines) = lines_of(alloc, calls) else {
+        return Err(Refusal::NoMemory);
+    };
+    let Some(run) = run_of(given, lines.as_slice(), errors.is_terminal) else {
         return Ok(2);
     };
-    match run.clash(rt) {
-        Some(clash) => refuse_words(rt, alloc, clash.text()),
-        None => run.make(rt, alloc, &mut errors.sink),
+    match wrong_with(rt, &run, calls) {
+        Some(why) => refuse_words(rt, alloc, why),
+        None => run.make(rt, alloc, &mut errors.sink, &mut errors.words),
     }
 }
 
@@ -114,13 +171,51 @@ fn make_check<R: Files + RandomSource + Print>(
     }
 }
 
+/// Describes the table that the words name.
+fn make_description<R: Files + RandomSource + Print + Input + Threads + Sync, E: Sink + Drop>(
+    rt: &R,
+    alloc: Global,
+    given: &ArgMatches<'_>,
+    errors: &mut Errors<E>,
+) -> Result<u8, Refusal> {
+    let (Some(table), Some(form)) = (given.get_str("file"), given.get_str("output")) else {
+        return Ok(2);
+    };
+    let description = Description {
+        table: Place::new(table),
+        is_json: form == "json",
+        faults: given.get_flag("all-faults"),
+    };
+    description.make(rt, alloc, &mut errors.words)
+}
+
+/// Looks for the order that the words ask for, unless the list of origins would be written over another of its files.
+fn make_order<
+    R: Files + RandomSource + Clock + Print + Eprint + Threads + Wait + Sync,
+    E: Sink + Drop,
+>(rt: &R, alloc: Global, given: &ArgMatches<'_>, errors: &mut Errors<E>) -> Result<u8, Refusal> {
+    let Some(ordering) = ordering_of(given, errors.is_terminal) else {
+        return Ok(2);
+    };
+    match ordering.clash(rt) {
+        Some(why) => refuse_words(rt, alloc, why),
+        None => ordering.make(rt, alloc, &mut errors.sink),
+    }
+}
+
 /// Makes what the words ask for, a command an arm.
 fn make_command<
-    R: Files + RandomSource + Clock + Print + Eprint + Threads + Wait + Sync,
+    R: Files + RandomSource + Clock + Print + Eprint + Input + Threads + Wait + Sync,
     E: Sink + Drop,
 >(rt: &R, alloc: Global, matches: &ArgMatches<'_>, errors: &mut Errors<E>) -> Result<u8, Refusal> {
     match matches.subcommand() {
         Some(("check", given)) => make_check(rt, alloc, given),
+        Some(("describe", given)) => make_description(rt, alloc, given, errors),
+        Some(("order", given)) => make_order(rt, alloc, given, errors),
+        Some(("import", given)) => match make_import(rt, alloc, given, &mut errors.sink) {
+            Some(status) => status,
+            None => refuse_words(rt, alloc, NO_DELIMITER),
+        },
         Some(("explain", given)) => explain(rt, given.get_one::<u64>("number")),
         Some((_, given)) => make_run(rt, alloc, given, errors),
         None => Ok(2),
@@ -129,7 +224,7 @@ fn make_command<
 
 /// Reads the words of the command line, and makes what they ask for.
 fn read_words<
-    R: Files + RandomSource + Clock + Print + Eprint + Threads + Wait + Sync,
+    R: Files + RandomSource + Clock + Print + Eprint + Input + Threads + Wait + Sync,
     E: Sink + Drop,
 >(rt: &R, alloc: Global, words: &[String], errors: &mut Errors<E>) -> Result<u8, Refusal> {
     let Ok(command) = command(alloc) else {
@@ -155,16 +250,20 @@ fn words_of<R: Env>(rt: &R, alloc: Global) -> Result<Vec<String>, Refusal> {
 
 /// Takes the command line and answers the exit status.
 fn answer<
-    R: Env + Files + RandomSource + Clock + Print + Eprint + Threads + Wait + Sync,
+    R: Env + Files + RandomSource + Clock + Print + Eprint + Input + Threads + Wait + Sync,
     E: Sink + Drop,
 >(rt: &R, alloc: Global, errors: &mut Errors<E>) -> Result<u8, Refusal> {
     let words = words_of(rt, alloc)?;
     read_words(rt, alloc, words.as_slice(), errors)
 }
 
-/// Tells a refusal on standard error; the exit status is that of the refusal.
-fn tell_refusal<E: Sink>(refusal: &Refusal, errors: &mut E) -> u8 {
-    let _ = write_fault(refusal, errors);
+/// Tells a refusal on standard error, and what it means in words, where there are any; the exit status is that of the
+/// refusal.
+fn tell_refusal<E: Sink + Drop>(refusal: &Refusal, errors: &mut Errors<E>) -> u8 {
+    let _ = write_fault(refusal, &mut errors.sink);
+    if let Some(words) = &errors.words {
+        let _ = write_text(&mut errors.sink, words.as_bytes());
+    }
     status(refusal)
 }
 
@@ -172,9 +271,10 @@ fn main(rt: HostRuntime) -> ExitCode {
     let mut errors = Errors {
         sink: Counted::new(rt.stderr()),
         is_terminal: rt.stderr().is_terminal(),
+        words: None,
     };
     ExitCode::from(match answer(&rt, rt.alloc(), &mut errors) {
         Ok(code) => code,
-        Err(refusal) => tell_refusal(&refusal, &mut errors.sink),
+        Err(refusal) => tell_refusal(&refusal, &mut errors),
     })
 }

@@ -1,5 +1,7 @@
 //! The words of the command line that the program takes.
 
+use crate::import::import_command;
+use crate::order::order_command;
 use clap::{Arg, ArgAction, Command};
 use std::alloc::{AllocError, Global};
 use sw_rows::MOST_ROWS;
@@ -10,13 +12,67 @@ const MOST_CELLS: i64 = 1_099_511_627_776;
 /// The greatest number of maps at a time.
 const MOST_MAPS: i64 = 4096;
 
-fn file<'a>(alloc: Global, name: &'a str, help: &'a str) -> Arg<'a> {
-    Arg::new(alloc, name)
-        .long(name)
+/// The version of the program, and with what it is proved, as `rt version` tells it.
+const VERSION: &str = "0.1.0";
+
+const LONG_VERSION: &str = "0.1.0\nproved with rattle-kit-13f logic dac8208d650f15bf";
+
+/// What ends the help of each command.
+const EXAMPLES: &str = "\
+Examples:
+  sideways run --table t.csv -e 'count where a >= 10'
+  sideways run --help
+  sideways explain 2";
+
+const EXAMPLES_OF_RUN: &str = "\
+Examples:
+  sideways run --table t.csv -e 'count' -e 'select b where a >= 10'
+  sideways run --table t.csv --script calls.txt --history h.json
+  zcat t.csv.gz | sideways run --table - -e 'sum b where a < 20' --stats";
+
+const EXAMPLES_OF_DESCRIBE: &str = "\
+Examples:
+  sideways describe t.csv
+  zcat t.csv.gz | sideways describe - --output json";
+
+const EXAMPLES_OF_CHECK: &str = "\
+Examples:
+  sideways run --table t.csv --script calls.txt --history h.json
+  sideways check h.json";
+
+const EXAMPLES_OF_EXPLAIN: &str = "\
+Examples:
+  sideways explain 2
+  sideways explain";
+
+fn table<'a>(alloc: Global) -> Arg<'a> {
+    Arg::new(alloc, "table")
+        .long("table")
         .value_name("FILE")
-        .help(help)
+        .help(
+            "The table: comma-separated values, of which the first record names the attributes; - is standard input",
+        )
         .required(true)
         .action(ArgAction::Set)
+}
+
+fn script<'a>(alloc: Global) -> Result<Arg<'a>, AllocError> {
+    Arg::new(alloc, "script")
+        .long("script")
+        .value_name("FILE")
+        .help("The script: a call a line; a line --- divides blocks; - is standard input")
+        .action(ArgAction::Set)
+        .required_unless_present("call")
+}
+
+fn call<'a>(alloc: Global) -> Result<Arg<'a>, AllocError> {
+    Arg::new(alloc, "call")
+        .short('e')
+        .value_name("CALL")
+        .help("A call, in place of a script; given again, a line each")
+        .action(ArgAction::Append)
+        .allow_hyphen_values(true)
+        .conflicts_with("script")
 }
 
 fn history<'a>(alloc: Global) -> Arg<'a> {
@@ -117,23 +173,40 @@ fn quiet<'a>(alloc: Global) -> Arg<'a> {
         .action(ArgAction::SetTrue)
 }
 
-fn files<'a>(alloc: Global) -> Result<Command<'a>, AllocError> {
+/// The forms in which replies go out.
+const FORMS: &[&str] = &["lines", "csv", "json", "table"];
+
+fn output<'a>(alloc: Global) -> Arg<'a> {
+    number(
+        alloc,
+        "output",
+        "FORM",
+        "The form of the replies: lines; csv, records under a header; json, a line of JSON each; table, the last reply alone as a table, where it is that of a select",
+        "lines",
+    )
+    .value_parser(FORMS)
+}
+
+fn all_faults<'a>(alloc: Global) -> Arg<'a> {
+    Arg::new(alloc, "all-faults")
+        .long("all-faults")
+        .help(
+            "Where a row of the table is refused, lists each bad cell of the table on standard error, up to a thousand, and how many there are",
+        )
+        .action(ArgAction::SetTrue)
+}
+
+fn inputs<'a>(alloc: Global) -> Result<Command<'a>, AllocError> {
     Command::new(alloc, "run")
         .about("Answers the calls of a script over a table, a reply line each")
-        .arg(file(
-            alloc,
-            "table",
-            "The table: comma-separated values, of which the first record names the attributes",
-        ))?
-        .arg(file(
-            alloc,
-            "script",
-            "The script: a call a line; a line --- divides blocks",
-        ))
+        .after_help(EXAMPLES_OF_RUN)
+        .arg(table(alloc))?
+        .arg(script(alloc)?)?
+        .arg(call(alloc)?)
 }
 
 fn run_command<'a>(alloc: Global) -> Result<Command<'a>, AllocError> {
-    files(alloc)?
+    inputs(alloc)?
         .arg(budget(alloc))?
         .arg(maps(alloc))?
         .arg(cuts(alloc))?
@@ -142,12 +215,15 @@ fn run_command<'a>(alloc: Global) -> Result<Command<'a>, AllocError> {
         .arg(stats(alloc))?
         .arg(times(alloc))?
         .arg(quiet(alloc))?
+        .arg(all_faults(alloc))?
+        .arg(output(alloc))?
         .arg(history(alloc))
 }
 
 fn check_command<'a>(alloc: Global) -> Result<Command<'a>, AllocError> {
     Command::new(alloc, "check")
         .about("Says whether a history is that of one thread over a plain list of rows")
+        .after_help(EXAMPLES_OF_CHECK)
         .arg(
             Arg::new(alloc, "file")
                 .value_name("FILE")
@@ -157,9 +233,41 @@ fn check_command<'a>(alloc: Global) -> Result<Command<'a>, AllocError> {
         )
 }
 
+/// The forms of a description.
+const DESCRIPTIONS: &[&str] = &["table", "json"];
+
+fn description_form<'a>(alloc: Global) -> Arg<'a> {
+    number(
+        alloc,
+        "output",
+        "FORM",
+        "The form of the description: a table to read, or json, one line of it",
+        "table",
+    )
+    .value_parser(DESCRIPTIONS)
+}
+
+fn describe_command<'a>(alloc: Global) -> Result<Command<'a>, AllocError> {
+    Command::new(alloc, "describe")
+        .about(
+            "Says what the columns of a table have: how many distinct cells, the least and the greatest, the most frequent texts",
+        )
+        .after_help(EXAMPLES_OF_DESCRIBE)
+        .arg(
+            Arg::new(alloc, "file")
+                .value_name("FILE")
+                .help("The table; - is standard input")
+                .required(true)
+                .action(ArgAction::Set),
+        )?
+        .arg(description_form(alloc))?
+        .arg(all_faults(alloc))
+}
+
 fn explain_command<'a>(alloc: Global) -> Result<Command<'a>, AllocError> {
     Command::new(alloc, "explain")
         .about("Says what the number after `refused` means, and what to do about it")
+        .after_help(EXAMPLES_OF_EXPLAIN)
         .arg(
             Arg::new(alloc, "number")
                 .value_name("N")
@@ -169,14 +277,20 @@ fn explain_command<'a>(alloc: Global) -> Result<Command<'a>, AllocError> {
         )
 }
 
-/// The command lines that are taken: `run` with its files and flags, `check` with its file, and `explain` with a number.
+/// The command lines that are taken: `run` with its files and flags, `check`, `describe`, `import` and `order` with their files,
+/// and `explain` with a number.
 pub(crate) fn command<'a>(alloc: Global) -> Result<Command<'a>, AllocError> {
     let run = run_command(alloc)?;
     Command::new(alloc, "sideways")
         .about("A column engine in memory that answers ranges by database cracking")
-        .version("0.1.0")
+        .version(VERSION)
+        .long_version(LONG_VERSION)
+        .after_help(EXAMPLES)
         .subcommand_required(true)
         .subcommand(run)?
         .subcommand(check_command(alloc)?)?
+        .subcommand(describe_command(alloc)?)?
+        .subcommand(order_command(alloc)?)?
+        .subcommand(import_command(alloc)?)?
         .subcommand(explain_command(alloc)?)
 }

@@ -10,9 +10,10 @@ use sw_cli::check_file;
 use sw_files::read_file;
 use sw_rows::{Counted, Refusal, TextKey};
 
-/// Reads a history file and writes the verdict on it; answers the exit status, 0 where it is legal, else 1. Refused
-/// `Input` where the file cannot be opened or read, or the system gives no random bytes for the key of texts, as `check_file` refuses its bytes, and `Output` where the verdict
-/// cannot be written.
+/// Reads a history file and writes the verdict on it; answers the exit status, 0 where it is legal, else 1.
+///
+/// Refused `Input` where the file cannot be opened or read, or the system gives no random bytes for the key of texts, as
+/// `check_file` refuses its bytes, and `Output` where the verdict cannot be written.
 pub fn check_path<R: Files + RandomSource + Print>(
     rt: &R,
     alloc: Global,

@@ -1,5 +1,6 @@
 //! What a history would be written over.
 
+use crate::inputs::{Place, Script};
 use std::rt::Files;
 use sw_files::FileId;
 
@@ -21,6 +22,14 @@ pub enum Clash {
     Errors,
 }
 
+/// Whether a file is a script.
+fn is_script<R: Files>(rt: &R, id: FileId, script: Script<'_>) -> bool {
+    match script.place() {
+        Some(place) => id.is_at(rt, place.path()),
+        None => false,
+    }
+}
+
 impl Clash {
     /// What is wrong, in words.
     pub fn text(self) -> &'static str {
@@ -35,14 +44,14 @@ impl Clash {
     /// What the history would be written over, if anything. A history that is no regular file is written over nothing.
     pub(crate) fn of<R: Files>(
         rt: &R,
-        table: &str,
-        script: &str,
+        table: Place<'_>,
+        script: Script<'_>,
         history: Option<&str>,
     ) -> Option<Clash> {
         let id = FileId::of(rt, history?)?;
-        if id.is_at(rt, table) {
+        if id.is_at(rt, table.path()) {
             Some(Clash::Table)
-        } else if id.is_at(rt, script) {
+        } else if is_script(rt, id, script) {
             Some(Clash::Script)
         } else if id.is_at(rt, OUTPUT) {
             Some(Clash::Output)

@@ -43,8 +43,8 @@ refused 2 record R field F: a field of the table cannot be read.
   Records are counted from 0, which is the header; fields from 1. Field 0 of record 0: the table is empty. In the header a
   name is not one, stands twice, or has an unknown kind after its colon. In a row the field is missing, is one too many, or
   is no cell of its attribute's kind: int, fix1 to fix6, flag (true, false), or text (at most 64 bytes of UTF-8, no control
-  bytes).
-  What to do: mend that field. A record may go over several lines of the file, where a quoted field has line ends in it.
+  bytes). A name without a kind is an int: write city:text in the header where texts stand.
+  What to do: mend that field; run --all-faults lists every bad one. A record may go over several lines of the file, where a quoted field has line ends in it.
 ";
 
 const BAD_LINE: &str = "\

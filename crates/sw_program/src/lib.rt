@@ -4,17 +4,31 @@
 
 mod checking;
 mod clash;
+mod describing;
 mod explaining;
+mod flaws;
+mod importing;
+mod inputs;
+mod ordering;
 mod running;
 mod seeing;
 mod settings;
+mod shaping;
 mod stacks;
+mod wording;
 
 pub use checking::check_path;
 pub use clash::Clash;
+pub use describing::Description;
 pub use explaining::explain;
+pub use importing::Import;
+pub use inputs::{Place, Script};
+pub use ordering::{Ordering, Way};
 pub use running::Run;
 pub use seeing::Sights;
 pub use settings::{Limit, Settings};
+pub use shaping::Form;
 pub use sw_cli::{status, write_fault};
+pub use sw_import::{Asked, Blank, How, Long, Rules, Times};
+pub use sw_lang::write_all as write_text;
 pub use sw_rows::Refusal;

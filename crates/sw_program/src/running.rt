@@ -5,9 +5,12 @@ ghost use Rattle.sw_rows.specs.declared.table.TheConstants.{MOST_ROWS};
 ghost use Rattle.sw_map.specs.Held.{blank};
 
 use crate::clash::Clash;
+use crate::inputs::{Keeping, Kept, Place, Script, is_read_once, open_place, open_script};
 use crate::seeing::{LinesSeen, Seen, Sights};
 use crate::settings::Settings;
-use crate::stacks;
+use crate::shaping::{Form, script_bytes, shape};
+use crate::wording::{Asking, Keeps};
+use crate::{stacks, wording};
 use std::alloc::Global;
 use std::io;
 use std::random::RandomSource;
@@ -18,7 +21,7 @@ use sw_cli::{
     HeadStats, Noting, Onlooker, Options, blank_boxes, run_told, write_record, write_stats_line,
     write_stats_title,
 };
-use sw_files::{begin_file, open_input};
+use sw_files::begin_file;
 use sw_map::{CrackerMap, PairMap};
 use sw_rows::{Counted, Refusal, Sink, Source, TextKey};
 use sw_spine::Record;
@@ -27,15 +30,17 @@ use sw_spine::Record;
 #[derive(Clone, Copy, Debug)]
 pub struct Run<'a> {
     /// Where the table is.
-    pub table: &'a str,
-    /// Where the script is.
-    pub script: &'a str,
+    pub table: Place<'a>,
+    /// Where the calls come from.
+    pub script: Script<'a>,
     /// Where the history goes, if anywhere.
     pub history: Option<&'a str>,
     /// What it is told in numbers and flags.
     pub settings: Settings<'a>,
     /// What is to be seen of it.
     pub sights: Sights,
+    /// The form in which its replies go out.
+    pub form: Form,
 }
 
 /// What is known after a run: the record, whether a call was refused, and what each head tells of itself.
@@ -91,9 +96,10 @@ fn run_between<
     alloc: Global,
     table: &mut T,
     script: &mut S,
-    settings: &Settings<'_>,
+    run: &Run<'_>,
     seen: &Seen<'_, R>,
 ) -> Result<AfterRun, Refusal> {
+    let settings = &run.settings;
     let maps = blank_boxes(alloc, settings.budget, settings.maps)?;
     let options = Options {
         limit: settings.limit.rows,
@@ -101,27 +107,82 @@ fn run_between<
         threads: settings.threads && stacks::are_ample(rt, alloc),
         key: TextKey::new(rt)?,
     };
-    let out = Counted::new(io::writer(rt));
+    if run.form == Form::Lines {
+        let out = Counted::new(io::writer(rt));
+        return run_open(rt, alloc, table, script, out, &options, maps, seen);
+    }
+    let out = Counted::new(io::sink());
     run_open(rt, alloc, table, script, out, &options, maps, seen)
 }
 
+/// What came of a run, and what was kept of its table and its script.
+#[derive(Drop)]
+struct Came {
+    ended: Result<AfterRun, Refusal>,
+    kept: Keeps,
+}
+
+/// What is to be kept of the script of a run: all of it also where the lines of its calls are to be told.
+fn keeping_script<R: Files>(rt: &R, alloc: Global, run: &Run<'_>) -> Kept {
+    match run.script {
+        Script::At(place) => {
+            let is_told = run.form != Form::Lines;
+            Kept::new(alloc, is_told || is_read_once(rt, place))
+        }
+        Script::Given(_) => Kept::new(alloc, false),
+    }
+}
+
+/// Runs over what is read of a table and a script.
+fn run_keeping<
+    R: Files + RandomSource + Clock + Print + Eprint + Threads + Wait + Sync,
+    T: Source + Drop,
+    S: Source + Drop,
+>(
+    rt: &R,
+    alloc: Global,
+    run: &Run<'_>,
+    mut table: Keeping<T>,
+    mut script: Keeping<S>,
+    seen: &Seen<'_, R>,
+) -> Came {
+    let ended = run_between(rt, alloc, &mut table, &mut script, run, seen);
+    let kept = Keeps {
+        table: table.into_kept(),
+        script: script.into_kept(),
+    };
+    Came { ended, kept }
+}
+
+/// What comes of a run whose table or script cannot be opened.
+fn unopened(refusal: Refusal) -> Came {
+    Came {
+        ended: Err(refusal),
+        kept: Keeps {
+            table: Kept::Often,
+            script: Kept::Often,
+        },
+    }
+}
+
 /// Opens the table, then the script, and runs.
-fn run_named<R: Files + RandomSource + Clock + Print + Eprint + Threads + Wait + Sync>(
+fn run_named<R: Files + RandomSource + Clock + Print + Eprint + Input + Threads + Wait + Sync>(
     rt: &R,
     alloc: Global,
     run: &Run<'_>,
     seen: &Seen<'_, R>,
-) -> Result<AfterRun, Refusal> {
-    let table = open_input(rt, run.table)?;
-    let script = open_input(rt, run.script)?;
-    run_between(
-        rt,
-        alloc,
-        &mut LinesSeen::new(Counted::new(table), seen),
-        &mut Counted::new(script),
-        &run.settings,
-        seen,
-    )
+) -> Came {
+    let table = match open_place(rt, run.table) {
+        Ok(table) => LinesSeen::new(Counted::new(table), seen),
+        Err(refusal) => return unopened(refusal),
+    };
+    let script = match open_script(rt, run.script) {
+        Ok(script) => Counted::new(script),
+        Err(refusal) => return unopened(refusal),
+    };
+    let table = Keeping::new(table, Kept::new(alloc, is_read_once(rt, run.table)));
+    let script = Keeping::new(script, keeping_script(rt, alloc, run));
+    run_keeping(rt, alloc, run, table, script, seen)
 }
 
 /// Writes a record to the file of a path.
@@ -183,19 +244,49 @@ impl Run<'_> {
         Clash::of(rt, self.table, self.script, self.history)
     }
 
+    /// What is asked by it.
+    fn asking(&self) -> Asking<'_> {
+        Asking {
+            table: self.table,
+            script: Some(self.script),
+            cuts: self.settings.cuts,
+            faults: self.sights.faults,
+        }
+    }
+
     /// Makes the run: the replies go to standard output, then the history to its file, then what the heads tell to
     /// `errors`. Answers the exit status: 0 where all calls were answered, else 3. Refused as `run_with` is, `Input` where
-    /// the table or the script cannot be opened or the system gives no random bytes for the key of texts, and `Output` where the history or `errors` cannot be written.
-    pub fn make<R: Files + RandomSource + Clock + Print + Eprint + Threads + Wait + Sync, E: Sink>(
+    /// the table or the script cannot be opened or the system gives no random bytes for the key of texts, and `Output` where
+    /// the history or `errors` cannot be written.
+    ///
+    /// What a refusal means is put into `words`, as lines, where words can be found: where it is, what is wrong there, and
+    /// what was wanted.
+    pub fn make<
+        R: Files + RandomSource + Clock + Print + Eprint + Input + Threads + Wait + Sync,
+        E: Sink,
+    >(
         &self,
         rt: &R,
         alloc: Global,
         errors: &mut E,
+        words: &mut Option<String>,
     ) -> Result<u8, Refusal>
         ensures { IfOk result (λ status. (status ≡ 0) ⊎ (status ≡ 3)) }
     {
         let seen = Seen::new(rt, self.sights);
-        let ended = run_named(rt, alloc, self, &seen)?;
+        let Came { ended, kept } = run_named(rt, alloc, self, &seen);
+        let ended = match ended {
+            Ok(ended) => ended,
+            Err(refusal) => {
+                *words = wording::words(rt, alloc, &self.asking(), &refusal, kept);
+                return Err(refusal);
+            }
+        };
+        let script = script_bytes(self.script, &kept.script);
+        if let Err(refusal) = shape(rt, alloc, self.form, &ended.history, script) {
+            *words = wording::of_form(alloc, &refusal, self.script);
+            return Err(refusal);
+        }
         finish(rt, alloc, self, &ended, &seen, errors)
     }
 }

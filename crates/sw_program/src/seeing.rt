@@ -29,6 +29,8 @@ pub struct Sights {
     pub progress: bool,
     /// The time of each call: standard error is told of it when the call has ended.
     pub calls: bool,
+    /// All faults of a table that is refused, in place of the first.
+    pub faults: bool,
 }
 
 /// What was seen so far, shared by the threads of a run. Where nobody asks for it there is no beginning, and nothing is
@@ -71,7 +73,7 @@ impl<'r, R: Clock + Eprint> Seen<'r, R> {
     }
 
     /// The nanoseconds since the run began.
-    fn now(&self) -> u64 {
+    pub(crate) fn now(&self) -> u64 {
         let Some(began) = self.began else {
             return 0;
         };
@@ -82,7 +84,7 @@ impl<'r, R: Clock + Eprint> Seen<'r, R> {
     }
 
     /// Tells how far the run is, where that is due. Of threads that come at once one tells.
-    fn tell(&self, now: u64, number: u64, what: &str) {
+    pub(crate) fn tell(&self, now: u64, number: u64, what: &str) {
         let due = self.due.load(Ordering::SeqCst);
         if !self.sights.progress || now < due {
             return;
@@ -147,13 +149,13 @@ fn ends_in(bytes: &[u8]) -> u64 {
 
 /// A source of a table before another, which tells how many lines went by. It counts them only where they are told.
 #[derive(Drop)]
-pub(crate) struct LinesSeen<'s, 'r, S: Source, R: Clock + Eprint> {
+pub(crate) struct LinesSeen<'s, 'r, S: Source + Drop, R: Clock + Eprint> {
     source: S,
     read: u64,
     seen: &'s Seen<'r, R>,
 }
 
-impl<'s, 'r, S: Source, R: Clock + Eprint> LinesSeen<'s, 'r, S, R> {
+impl<'s, 'r, S: Source + Drop, R: Clock + Eprint> LinesSeen<'s, 'r, S, R> {
     /// A source of which no line went by.
     pub(crate) fn new(source: S, seen: &'s Seen<'r, R>) -> LinesSeen<'s, 'r, S, R> {
         LinesSeen {
@@ -164,7 +166,7 @@ impl<'s, 'r, S: Source, R: Clock + Eprint> LinesSeen<'s, 'r, S, R> {
     }
 }
 
-impl<S: Source, R: Clock + Eprint> Source for LinesSeen<'_, '_, S, R> {
+impl<S: Source + Drop, R: Clock + Eprint> Source for LinesSeen<'_, '_, S, R> {
     ghost left = { λ s. S.left s.source };
 
     ghost failed = { λ s. S.failed s.source };

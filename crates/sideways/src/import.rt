@@ -1,0 +1,277 @@
+//! The words of `import`, and what they ask for.
+
+use clap::{Arg, ArgAction, ArgMatches, Command};
+use std::alloc::{AllocError, Global};
+use std::random::RandomSource;
+use std::rt::Files;
+use sw_program::{Asked, Blank, How, Import, Long, Refusal, Rules, Times};
+use sw_rows::{MOST_ROWS, Sink};
+
+/// What ends the help.
+const EXAMPLES: &str = "\
+Examples:
+  sideways import data.csv > t.csv
+  sideways import data.csv --columns price,2,created --rename price=cost --kind 2=text > t.csv
+  sideways import data.csv --empty drop --null NA --long cut > t.csv
+  zcat data.tsv.gz | sideways import - --delimiter '\\t' --sample 1000 > t.csv
+
+What it did to cells, and where, is told on standard error. Without --empty and --long nothing is left out or cut.";
+
+/// What may become of dates and times.
+const TIMES: &[&str] = &["seconds", "days", "text"];
+
+/// What may become of long texts.
+const LONG: &[&str] = &["cut", "drop", "number"];
+
+/// What may become of records with fewer fields than the header.
+const RAGGED: &[&str] = &["fill"];
+
+fn value<'a>(alloc: Global, name: &'a str, of: &'a str, help: &'a str) -> Arg<'a> {
+    Arg::new(alloc, name)
+        .long(name)
+        .value_name(of)
+        .help(help)
+        .action(ArgAction::Set)
+}
+
+fn file<'a>(alloc: Global) -> Arg<'a> {
+    Arg::new(alloc, "file")
+        .value_name("FILE")
+        .help("The values, comma-separated, with headings in the first record; - is standard input")
+        .required(true)
+        .action(ArgAction::Set)
+}
+
+fn columns<'a>(alloc: Global) -> Arg<'a> {
+    value(
+        alloc,
+        "columns",
+        "LIST",
+        "The columns that are written, in this order, by heading or by number from 1, divided by commas; else the first eight",
+    )
+}
+
+fn names<'a>(alloc: Global) -> Arg<'a> {
+    value(
+        alloc,
+        "rename",
+        "COLUMN=NAME",
+        "The name of a column, where its heading is not to give it; may be given again",
+    )
+    .action(ArgAction::Append)
+}
+
+fn kinds<'a>(alloc: Global) -> Arg<'a> {
+    value(
+        alloc,
+        "kind",
+        "COLUMN=KIND",
+        "The kind of a column, where its cells are not to give it: int, fix1 to fix6, flag, text, seconds or days; may be given again",
+    )
+    .action(ArgAction::Append)
+}
+
+fn times<'a>(alloc: Global) -> Arg<'a> {
+    value(
+        alloc,
+        "times",
+        "AS",
+        "What becomes of columns of ISO 8601 dates and times: whole seconds since 1970 in UTC, or of dates alone days since then, or texts",
+    )
+    .default_value("seconds")
+    .value_parser(TIMES)
+}
+
+fn empty<'a>(alloc: Global) -> Arg<'a> {
+    value(
+        alloc,
+        "empty",
+        "CHOICE",
+        "What becomes of empty cells of numbers, flags and times, which are refused else: drop leaves their rows out, text makes the column one of texts, anything else is written in their place",
+    )
+    .allow_hyphen_values(true)
+}
+
+fn null<'a>(alloc: Global) -> Arg<'a> {
+    value(
+        alloc,
+        "null",
+        "WORD",
+        "A word that stands for no value, as an empty cell does, in columns of numbers, flags and times",
+    )
+    .allow_hyphen_values(true)
+}
+
+fn long<'a>(alloc: Global) -> Arg<'a> {
+    value(
+        alloc,
+        "long",
+        "CHOICE",
+        "What becomes of texts of more than 64 bytes or with control bytes, which are refused else: cut writes the longest beginning that can be a text, drop leaves their rows out, number writes numbers that stand for the texts of the column",
+    )
+    .value_parser(LONG)
+}
+
+fn dictionary<'a>(alloc: Global) -> Arg<'a> {
+    value(
+        alloc,
+        "dictionary",
+        "FILE",
+        "Where the texts are written for which --long number writes numbers: column, number and text, comma-separated",
+    )
+}
+
+fn sample<'a>(alloc: Global) -> Arg<'a> {
+    value(
+        alloc,
+        "sample",
+        "ROWS",
+        "How many rows are written, from the first on: 1 to 1048576; the kinds still come from all",
+    )
+    .value_parser(clap::value_parser!(u64).range(1..=MOST_ROWS as i64))
+}
+
+fn ragged<'a>(alloc: Global) -> Arg<'a> {
+    value(
+        alloc,
+        "ragged",
+        "CHOICE",
+        "What becomes of records with fewer fields than the header, which are refused else: fill takes the missing ones for empty",
+    )
+    .value_parser(RAGGED)
+}
+
+fn delimiter<'a>(alloc: Global) -> Arg<'a> {
+    value(
+        alloc,
+        "delimiter",
+        "BYTE",
+        "What divides the values of a record: one character of ASCII, or \\t",
+    )
+    .default_value(",")
+    .allow_hyphen_values(true)
+}
+
+fn no_header<'a>(alloc: Global) -> Arg<'a> {
+    Arg::new(alloc, "no-header")
+        .long("no-header")
+        .help(
+            "The first record has values, and no headings; the headings are column_1, column_2 and so on",
+        )
+        .action(ArgAction::SetTrue)
+}
+
+/// The command `import`: the file, which of its columns are written, and what becomes of their cells.
+pub(crate) fn import_command<'a>(alloc: Global) -> Result<Command<'a>, AllocError> {
+    Command::new(alloc, "import")
+        .about("Makes a table of comma-separated values, on standard output")
+        .after_help(EXAMPLES)
+        .arg(file(alloc))?
+        .arg(columns(alloc))?
+        .arg(names(alloc))?
+        .arg(kinds(alloc))?
+        .arg(times(alloc))?
+        .arg(empty(alloc))?
+        .arg(null(alloc))?
+        .arg(long(alloc))?
+        .arg(dictionary(alloc))?
+        .arg(sample(alloc))?
+        .arg(ragged(alloc))?
+        .arg(delimiter(alloc))?
+        .arg(no_header(alloc))
+}
+
+/// The words of an argument that may be given again.
+fn words<'g, 'a>(given: &'g ArgMatches<'a>, name: &str) -> &'g [&'a str] {
+    match given.get_strs(name) {
+        Some(words) => words,
+        None => &[],
+    }
+}
+
+/// What becomes of cells without a value.
+fn blank_of<'a>(given: &ArgMatches<'a>) -> Blank<'a> {
+    match given.get_str("empty") {
+        None => Blank::Refuse,
+        Some("drop") => Blank::Drop,
+        Some("text") => Blank::Text,
+        Some(value) => Blank::Value(value.as_bytes()),
+    }
+}
+
+/// What becomes of long texts.
+fn long_of(given: &ArgMatches<'_>) -> Long {
+    match given.get_str("long") {
+        Some("cut") => Long::Cut,
+        Some("drop") => Long::Drop,
+        Some("number") => Long::Number,
+        _ => Long::Refuse,
+    }
+}
+
+/// What becomes of dates and times.
+fn times_of(given: &ArgMatches<'_>) -> Times {
+    match given.get_str("times") {
+        Some("days") => Times::Days,
+        Some("text") => Times::Text,
+        _ => Times::Seconds,
+    }
+}
+
+/// The word that stands for no value.
+fn null_of<'a>(given: &ArgMatches<'a>) -> Option<&'a [u8]> {
+    match given.get_str("null") {
+        Some(word) => Some(word.as_bytes()),
+        None => None,
+    }
+}
+
+/// What divides values, where it is one byte that can.
+fn delimiter_of(given: &ArgMatches<'_>) -> Option<u8> {
+    match given.get_str("delimiter")?.as_bytes() {
+        b"\\t" => Some(b'\t'),
+        [byte] if *byte != b'"' && *byte != b'\n' && *byte != b'\r' => Some(*byte),
+        _ => None,
+    }
+}
+
+/// What is asked of the values.
+fn how_of<'g>(given: &'g ArgMatches<'_>, delimiter: u8) -> How<'g> {
+    How {
+        asked: Asked {
+            columns: given.get_str("columns"),
+            names: words(given, "rename"),
+            kinds: words(given, "kind"),
+        },
+        rules: Rules {
+            blank: blank_of(given),
+            null: null_of(given),
+            long: long_of(given),
+            times: times_of(given),
+        },
+        delimiter,
+        has_header: !given.get_flag("no-header"),
+        fills_short: given.get_str("ragged").is_some(),
+        sample: given.get_one::<u64>("sample"),
+    }
+}
+
+/// What is wrong with a delimiter.
+pub(crate) const NO_DELIMITER: &str =
+    "the delimiter is one character of ASCII, no quote and no end of a line, or \\t";
+
+/// Makes the table that the words ask for; none where the delimiter is none.
+pub(crate) fn make_import<R: Files + Input + RandomSource + Print, E: Sink>(
+    rt: &R,
+    alloc: Global,
+    given: &ArgMatches<'_>,
+    errors: &mut E,
+) -> Option<Result<u8, Refusal>> {
+    let delimiter = delimiter_of(given)?;
+    let import = Import {
+        file: given.get_str("file")?,
+        how: how_of(given, delimiter),
+        dictionary: given.get_str("dictionary"),
+    };
+    Some(import.make(rt, alloc, errors))
+}

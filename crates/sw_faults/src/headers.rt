@@ -1,0 +1,102 @@
+//! The header of a table, and what is wrong with one.
+
+use crate::shown::shown;
+use csv::ByteRecord;
+use std::alloc::{AllocError, Global};
+use sw_rows::{MOST_NAME, Refusal, Schema, TextKey, is_name};
+
+/// The fields of a header as texts; those that are none are empty, which no name is.
+fn fields_of<'r>(alloc: Global, header: &'r ByteRecord) -> Result<Vec<&'r str>, AllocError> {
+    let mut fields = Vec::new(alloc);
+    for place in 0..header.len() {
+        let field = match header.get(place) {
+            Some(field) => field,
+            None => &[],
+        };
+        fields.push(str::from_utf8(field).ok().unwrap_or(""))?;
+    }
+    Ok(fields)
+}
+
+/// The attributes of a header; the inner refusal is that of the header.
+pub(crate) fn schema_of(
+    alloc: Global,
+    key: TextKey,
+    header: &ByteRecord,
+) -> Result<Result<Schema, Refusal>, AllocError> {
+    let fields = fields_of(alloc, header)?;
+    match Schema::of(alloc, key, fields.as_slice()) {
+        Err(Refusal::NoMemory) => Err(AllocError),
+        read => Ok(read),
+    }
+}
+
+/// The name and the kind of a field of a header, as they stand there.
+fn parts(field: &[u8]) -> (&[u8], Option<&[u8]>) {
+    let name = field.iter().take_while(|byte| **byte != b':').count();
+    match field.split_at_checked(name) {
+        Some((name, rest)) => match rest.split_first() {
+            Some((_, kind)) => (name, Some(kind)),
+            None => (name, None),
+        },
+        None => (field, None),
+    }
+}
+
+/// Whether a field of a header leaves its kind out.
+pub(crate) fn has_no_kind(field: &[u8]) -> bool {
+    parts(field).1.is_none()
+}
+
+/// Whether some bytes are a kind.
+fn is_kind(word: &[u8]) -> bool {
+    matches!(
+        word,
+        b"int" | b"flag" | b"text" | b"fix1" | b"fix2" | b"fix3" | b"fix4" | b"fix5" | b"fix6"
+    )
+}
+
+/// The first byte of a name that none has there.
+fn bad_byte(name: &[u8]) -> Option<u8> {
+    name.iter()
+        .copied()
+        .find(|byte| !byte.is_ascii_alphanumeric() && *byte != b'_')
+}
+
+/// What is wrong with bytes that are no name.
+fn wrong_name(alloc: Global, name: &[u8]) -> Result<String, AllocError> {
+    let Some(first) = name.first() else {
+        return String::from_str(alloc, "a column without a name");
+    };
+    if let Some(byte) = bad_byte(name) {
+        let byte = shown(alloc, &[byte])?;
+        return format!(in alloc; "{byte} stands in a name, which has letters, digits and _");
+    }
+    if first.is_ascii_digit() {
+        return String::from_str(alloc, "a name begins with a digit");
+    }
+    if name.len() > MOST_NAME {
+        return format!(in alloc; "{} bytes, a name has at most {MOST_NAME}", name.len());
+    }
+    String::from_str(alloc, "a word of the language is no name")
+}
+
+/// What is wrong with a field of a header that is none, or whose name stands before it.
+fn wrong_field(alloc: Global, field: &[u8]) -> Result<String, AllocError> {
+    let (name, kind) = parts(field);
+    match kind {
+        Some(kind) if !is_kind(kind) => String::from_str(
+            alloc,
+            "an unknown kind, wanted int, fix1 to fix6, flag or text",
+        ),
+        _ if is_name(name) => String::from_str(alloc, "a name that stands twice"),
+        _ => wrong_name(alloc, name),
+    }
+}
+
+/// What is wrong with a field of a header, and the field.
+pub(crate) fn wrong(alloc: Global, field: &[u8]) -> Result<String, AllocError> {
+    let what = wrong_field(alloc, field)?;
+    let field = shown(alloc, field)?;
+    format!(in alloc; "{what}: {field}")
+}

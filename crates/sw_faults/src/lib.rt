@@ -1,0 +1,21 @@
+//! What a refusal means for the texts that were read: a second line in words, which says where and what.
+//!
+//! The texts are looked at again after the refusal, so nothing of the reading itself hangs on these words.
+#![tactic(auto)]
+
+mod cells;
+mod choices;
+mod cuts;
+mod headers;
+mod lines;
+mod records;
+mod shown;
+mod tables;
+#[cfg(test)]
+mod tests;
+mod tokens;
+mod words;
+
+pub use lines::call_lines;
+pub use tables::all_faults;
+pub use words::{Asked, Origin, Text, words_of};

@@ -1,0 +1,3 @@
+pub mod MadeLemmas
+pub mod RecordLemmas
+pub mod RowLemmas

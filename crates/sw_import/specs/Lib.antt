@@ -1,0 +1,5 @@
+pub mod Dates
+pub mod Forms
+pub mod Imports
+pub mod Made
+pub mod Records

@@ -1,0 +1,36 @@
+-- The records of a text, and what a reader over memory has left of them.
+use Rattle.std.specs.Prelude.{◌≡◌, ◌+◌, ℕ, true, false, List, [], length, Option, Some}
+use Rattle.std.specs.Option.{option_map_or}
+use denote.Ref.{Bor}
+use Rattle.csv.specs.declared.parser.Config.{Config}
+use Rattle.csv.specs.declared.reader.Reader.{Reader}
+use Rattle.csv.specs.declared.reader.Trim.TheVariants as trim
+use Rattle.csv.specs.declared.parser.State.{State}
+use Rattle.csv.specs.Reading.{Ready, default_config, has_failed, is_flexible, reader_config, reader_state, reader_trim, records, records_from, source_of, strip_bom}
+
+-- how values are read that this byte divides
+abbrev pub divided_by : ℕ → Config
+divided_by delimiter = record default_config { delimiter = delimiter }
+
+-- the records of a text
+abbrev pub records_of : ℕ → List ℕ → List (List (List ℕ))
+records_of delimiter text = records (divided_by delimiter) (strip_bom text)
+
+-- the records of a text from a state
+abbrev pub records_at : Config → State → List ℕ → List (List (List ℕ))
+records_at cfg s xs = records_from cfg (length xs + 1) s xs
+
+-- the text that a reader over memory has left
+abbrev pub text_left : Reader (Bor (List ℕ)) → Option (List ℕ)
+text_left rdr = source_of (λ (s : Bor (List ℕ)). Some s.now) rdr
+
+-- the records that a reader over memory has left
+abbrev pub records_left : Reader (Bor (List ℕ)) → List (List (List ℕ))
+records_left rdr = option_map_or (records_at (reader_config rdr) (reader_state rdr)) (text_left rdr) []
+
+-- a reader of every record, each of any length, with no header row
+pub record IsOpen (rdr : Reader (Bor (List ℕ))) : Type 0 where
+  pub trim : reader_trim rdr ≡ trim.None
+  pub flexible : is_flexible rdr ≡ true
+  pub going : has_failed rdr ≡ false
+  pub ready : Ready rdr

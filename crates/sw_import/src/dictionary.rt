@@ -1,0 +1,78 @@
+//! Texts for which numbers are written.
+
+ghost use Rattle.std.specs.Prelude.{[], ◌≡◌, length, option_map};
+ghost use Rattle.sw_rows.specs.Texts.{code_of, has_text, text_of};
+
+use indexmap::IndexSet;
+use std::alloc::{AllocError, Global};
+use std::marker::Model;
+use sw_rows::TextKey;
+
+/// Texts, with the numbers 1, 2, 3 and so on in the order in which they were first seen.
+#[derive(Drop)]
+pub struct Dictionary {
+    texts: IndexSet<String, TextKey>,
+}
+
+impl Model for Dictionary {
+    ghost use Rattle.std.specs.Prelude.{List, ℕ};
+    ghost use Rattle.sw_rows.specs.Texts.{texts_of};
+
+    ghost Value = { List (List ℕ) };
+
+    ghost view = { λ s. texts_of s.texts };
+}
+
+impl Dictionary {
+    /// No texts. They will be hashed under the key.
+    pub(crate) fn new(alloc: Global, key: TextKey) -> Dictionary
+        ensures { result ≡ [] }
+    {
+        Dictionary {
+            texts: IndexSet::with_hasher(alloc, key),
+        }
+    }
+
+    /// How many texts there are.
+    pub fn len(&self) -> usize
+        ensures { result ≡ length self.now }
+    {
+        self.texts.len()
+    }
+
+    /// Whether there is no text.
+    pub fn is_empty(&self) -> bool {
+        self.len() == 0
+    }
+
+    /// The text of a number, if one has it.
+    pub fn text(&self, number: usize) -> Option<&str>
+        ensures { option_map (λ text. text.now) result ≡ text_of self.now number }
+    {
+        let text = self.texts.get_index(number.checked_sub(1)?)?;
+        Some(text.as_str())
+    }
+
+    /// The number of a text, if it is one of these.
+    pub fn number(&self, text: &str) -> Option<u64>
+        ensures { result ≡ code_of self.now text.now }
+    {
+        // for the prover: there are few
+        let _count = self.texts.len();
+        let place = self.texts.get_index_of(text)?;
+        Some(place as u64 + 1)
+    }
+
+    /// Adds a text, where it is new.
+    pub(crate) fn add(&mut self, text: &str) -> Result<(), AllocError> {
+        if self.texts.contains(text) {
+            return Ok(());
+        }
+        let alloc = *self.texts.allocator();
+        let text = String::from_str(alloc, text)?;
+        match self.texts.insert(text) {
+            Ok(_) => Ok(()),
+            Err(_) => Err(AllocError),
+        }
+    }
+}

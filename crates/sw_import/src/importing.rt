@@ -1,0 +1,276 @@
+//! A table is made of values.
+
+ghost use Rattle.std.specs.Prelude.{◌≡◌, length, vec_len, IfOk, OnOk};
+ghost use Rattle.sw_import.specs.Imports.{IsTable};
+ghost use Rattle.sw_import.specs.Records.{IsOpen};
+
+use crate::columns::{Asked, Column, columns_of, field};
+use crate::evidence::Evidence;
+use crate::faults::{At, Fault};
+use crate::forms::Form;
+use crate::planning::{Planned, plan, see_plan};
+use crate::records::{line_of, next, open};
+use crate::rules::Rules;
+use crate::writing::{Done, Most, write_header, write_rows};
+use csv::{ByteRecord, Reader, Writer};
+use std::alloc::{AllocError, Global};
+use sw_rows::{Counted, TextKey, load};
+
+/// How values are made into a table.
+#[derive(Clone, Copy, Debug)]
+pub struct How<'a> {
+    /// Which columns are written, and what is asked of them.
+    pub asked: Asked<'a>,
+    /// What becomes of cells that stand for no value of their column.
+    pub rules: Rules<'a>,
+    /// The byte that divides the values of a record.
+    pub delimiter: u8,
+    /// Whether the first record has the headings of the columns.
+    pub has_header: bool,
+    /// Whether fields that a record lacks at its end are cells without a value.
+    pub fills_short: bool,
+    /// How many rows are written, where it is not all.
+    pub sample: Option<u64>,
+}
+
+/// A table that was made, and what was done for it.
+#[derive(Drop)]
+pub struct Imported {
+    /// The bytes of the table.
+    pub bytes: Vec<u8>,
+    /// What became of each column.
+    pub plan: Vec<Planned>,
+    /// What was done to the cells of each column.
+    pub done: Vec<Done>,
+    /// How many rows were read.
+    pub read: u64,
+    /// How many rows were written.
+    pub written: u64,
+    /// The columns that were not written.
+    pub others: Vec<At>,
+}
+
+/// The values of a text, and how many each record has.
+#[derive(Clone, Copy)]
+struct Values<'a> {
+    text: &'a [u8],
+    delimiter: u8,
+    has_header: bool,
+    fills_short: bool,
+    width: usize,
+}
+
+impl<'a> Values<'a> {
+    /// A reader of the rows.
+    fn rows(self, alloc: Global, row: &mut ByteRecord) -> Result<Reader<&'a [u8]>, AllocError>
+        ensures { IfOk result IsOpen }
+    {
+        let mut rdr = open(alloc, self.delimiter, self.text);
+        if self.has_header {
+            let _found = next(&mut rdr, row)?;
+        }
+        Ok(rdr)
+    }
+
+    /// Whether a record of so many fields is one of these.
+    fn takes(self, fields: usize) -> bool {
+        fields == self.width || (fields < self.width && self.fills_short)
+    }
+}
+
+/// The headings of columns that have none: `column_1` and so on.
+fn headings(alloc: Global, count: usize) -> Result<ByteRecord, AllocError> {
+    let mut header = ByteRecord::new(alloc);
+    for place in 0..count {
+        let number = (place as u64).saturating_add(1);
+        let heading = format!(in alloc; "column_{number}")?;
+        header.push_field(heading.as_bytes())?;
+    }
+    Ok(header)
+}
+
+/// The record of the headings of a text.
+fn header_of(alloc: Global, how: &How<'_>, text: &[u8]) -> Result<ByteRecord, Fault> {
+    let mut rdr = open(alloc, how.delimiter, text);
+    let mut first = ByteRecord::new(alloc);
+    if !next(&mut rdr, &mut first)? {
+        return Err(Fault::NoHeader);
+    }
+    if how.has_header {
+        Ok(first)
+    } else {
+        Ok(headings(alloc, first.len())?)
+    }
+}
+
+/// Takes the cells of a record in.
+fn see_record(rules: &Rules<'_>, columns: &[Column], row: &ByteRecord, seen: &mut [Evidence])
+    requires { length seen.old ≡ length columns.now }
+{
+    let line = line_of(row);
+    for place in 0..columns.len() {
+        seen[place].add(rules, field(row, columns[place].place), line);
+    }
+}
+
+/// Looks at all rows: how many there are, and what their cells are.
+fn survey(
+    alloc: Global,
+    values: Values<'_>,
+    rules: &Rules<'_>,
+    columns: &[Column],
+    seen: &mut [Evidence],
+) -> Result<u64, Fault>
+    requires { length seen.old ≡ length columns.now }
+{
+    let mut row = ByteRecord::new(alloc);
+    let mut rdr = values.rows(alloc, &mut row)?;
+    let mut count = 0u64;
+    'rows: for _ in 0..u64::MAX {
+        if !next(&mut rdr, &mut row)? {
+            break;
+        }
+        if !values.takes(row.len()) {
+            return Err(Fault::Ragged {
+                line: line_of(&row),
+                found: row.len() as u64,
+                wanted: values.width as u64,
+            });
+        }
+        see_record(rules, columns, &row, seen);
+        count = count.saturating_add(1);
+    }
+    Ok(count)
+}
+
+/// What was seen of so many columns before any cell.
+fn nothing_seen(alloc: Global, count: usize) -> Result<Vec<Evidence>, AllocError>
+    ensures { IfOk result (λ seen. vec_len seen ≡ count) }
+{
+    vec![in alloc; Evidence::new(); count]
+}
+
+/// What was done to so many columns before any cell.
+fn nothing_done(alloc: Global, count: usize) -> Result<Vec<Done>, AllocError> {
+    vec![in alloc; Done::new(); count]
+}
+
+/// Adds the texts of a record for which numbers are written.
+fn learn_record(plan: &mut [Planned], row: &ByteRecord) -> Result<(), AllocError> {
+    for planned in plan {
+        if planned.form == Form::Code {
+            let cell = field(row, planned.column.place);
+            if let Ok(text) = str::from_utf8(cell) {
+                planned.dictionary.add(text)?;
+            }
+        }
+    }
+    Ok(())
+}
+
+/// Gathers the texts for which numbers are written, where there are such.
+fn learn(alloc: Global, values: Values<'_>, plan: &mut [Planned]) -> Result<(), AllocError> {
+    if !plan.iter().any(|planned| planned.form == Form::Code) {
+        return Ok(());
+    }
+    let mut row = ByteRecord::new(alloc);
+    let mut rdr = values.rows(alloc, &mut row)?;
+    'rows: for _ in 0..u64::MAX {
+        if !next(&mut rdr, &mut row)? {
+            break;
+        }
+        learn_record(plan, &row)?;
+    }
+    Ok(())
+}
+
+/// The columns of a header that are not written.
+fn others(alloc: Global, header: &ByteRecord, plan: &[Planned]) -> Result<Vec<At>, AllocError> {
+    let mut others = Vec::new(alloc);
+    for place in 0..header.len() {
+        if plan.iter().any(|planned| planned.column.place == place) {
+            continue;
+        }
+        let at = At {
+            number: (place as u64).saturating_add(1),
+            heading: String::from_utf8_lossy(alloc, field(header, place))?,
+        };
+        if others.push(at).is_err() {
+            return Err(AllocError);
+        }
+    }
+    Ok(others)
+}
+
+/// The bytes of a writer over memory.
+fn bytes_of(writer: Writer<Vec<u8>>) -> Result<Vec<u8>, AllocError> {
+    match writer.into_inner() {
+        Ok(bytes) => Ok(bytes),
+        Err(_) => Err(AllocError),
+    }
+}
+
+/// Refuses bytes that are no table.
+fn see_table(alloc: Global, key: TextKey, bytes: &[u8]) -> Result<(), Fault>
+    ensures { OnOk result (IsTable bytes.now) }
+{
+    match load(alloc, key, &mut Counted::new(bytes)) {
+        Ok(_) => Ok(()),
+        Err(refusal) => Err(Fault::Table(refusal)),
+    }
+}
+
+/// Makes a table of the values of a text. Texts are hashed under the key.
+///
+/// What it makes, the reader of tables has read. The first fault refuses it, in this order: there is no record; what is
+/// asked of columns; the first record that is ragged; texts that are not UTF-8; cells without a value; texts that are too
+/// long; then record by record a cell that is none of the kind that was asked for, and a row too many.
+pub fn import(alloc: Global, key: TextKey, how: &How<'_>, text: &[u8]) -> Result<Imported, Fault>
+    ensures { IfOk result (λ made. IsTable made.bytes.items) }
+{
+    let header = header_of(alloc, how, text)?;
+    let columns = columns_of(alloc, &header, &how.asked)?;
+    let values = Values {
+        text,
+        delimiter: how.delimiter,
+        has_header: how.has_header,
+        fills_short: how.fills_short,
+        width: header.len(),
+    };
+    let mut seen = nothing_seen(alloc, columns.len())?;
+    let read = survey(
+        alloc,
+        values,
+        &how.rules,
+        columns.as_slice(),
+        seen.as_mut_slice(),
+    )?;
+    let mut plan = plan(alloc, key, &how.rules, columns, seen.as_slice())?;
+    see_plan(alloc, &how.rules, plan.as_slice())?;
+    learn(alloc, values, plan.as_mut_slice())?;
+    let mut done = nothing_done(alloc, plan.len())?;
+    let mut row = ByteRecord::new(alloc);
+    let mut rdr = values.rows(alloc, &mut row)?;
+    let mut writer = Writer::from_writer(Vec::new(alloc));
+    write_header(alloc, plan.as_slice(), &mut writer)?;
+    let written = write_rows(
+        alloc,
+        &how.rules,
+        plan.as_slice(),
+        Most::of(how.sample),
+        &mut rdr,
+        &mut writer,
+        done.as_mut_slice(),
+    )?;
+    let bytes = bytes_of(writer)?;
+    see_table(alloc, key, bytes.as_slice())?;
+    let others = others(alloc, &header, plan.as_slice())?;
+    Ok(Imported {
+        bytes,
+        plan,
+        done,
+        read,
+        written,
+        others,
+    })
+}

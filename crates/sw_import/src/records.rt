@@ -1,0 +1,43 @@
+//! The records of comma-separated values.
+
+ghost use Rattle.std.specs.Prelude.{◌≡◌, ◌∷◌, [], if◌then◌else◌, IfOk};
+ghost use Rattle.csv.specs.Reading.{strip_bom};
+ghost use Rattle.csv.specs.Records.{fields_of};
+ghost use Rattle.sw_import.specs.Records.{IsOpen, records_left, records_of};
+
+use csv::{ByteRecord, Reader, ReaderBuilder};
+use std::alloc::{AllocError, Global};
+
+/// A reader of the records of a text whose fields this byte divides.
+pub(crate) fn open(alloc: Global, delimiter: u8, text: &[u8]) -> Reader<&[u8]>
+    ensures plain { IsOpen result }
+    ensures all { records_left result ≡ records_of delimiter text.now }
+{
+    ReaderBuilder::new()
+        .has_headers(false)
+        .flexible(true)
+        .delimiter(delimiter)
+        .from_reader(alloc, text)
+}
+
+/// Reads the next record, and whether there was one.
+pub(crate) fn next(rdr: &mut Reader<&[u8]>, row: &mut ByteRecord) -> Result<bool, AllocError>
+    requires { IsOpen rdr.old }
+    ensures plain { IfOk result (λ _. IsOpen rdr.new) }
+    ensures row { IfOk result (λ found. records_left rdr.old
+        ≡ (if found then fields_of row.new ∷ records_left rdr.new else [])) }
+{
+    // Over memory, and with records of any length, only memory can fail.
+    match rdr.read_byte_record(row) {
+        Ok(found) => Ok(found),
+        Err(_) => Err(AllocError),
+    }
+}
+
+/// The line of a text, from 1, in which a record begins that was read from it.
+pub(crate) fn line_of(row: &ByteRecord) -> u64 {
+    match row.position() {
+        Some(position) => position.line,
+        None => 0,
+    }
+}

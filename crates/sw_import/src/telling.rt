@@ -1,0 +1,122 @@
+//! What was done, in words.
+
+use crate::evidence::Tally;
+use crate::forms::Form;
+use crate::importing::Imported;
+use crate::planning::Planned;
+use crate::writing::Done;
+use csv::Writer;
+use std::alloc::{AllocError, Global};
+
+/// Adds what was done to cells, and to how many, where there are any.
+fn push_tally(text: &mut String, what: &str, tally: Tally) -> Result<(), AllocError> {
+    if tally.count == 0 {
+        return Ok(());
+    }
+    let Tally { count, first } = tally;
+    write!(text, "; {what}: {count}, the first in line {first}")
+}
+
+/// What was done to cells of a form that were changed.
+fn change(form: Form) -> &'static str {
+    match form {
+        Form::Seconds => "dates and times as seconds since 1970",
+        Form::Days => "dates as days since 1970",
+        Form::Flag => "flags in lower case",
+        Form::Text => "texts cut",
+        Form::Code => "numbers for texts",
+        Form::Number(_) => "other numbers",
+    }
+}
+
+/// Adds what became of a column.
+fn push_column(text: &mut String, planned: &Planned, done: &Done) -> Result<(), AllocError> {
+    let name = &planned.column.name;
+    let heading = planned.column.heading.as_str();
+    write!(text, "  {name}:{}", planned.form.word())?;
+    if name.as_str() != heading {
+        write!(text, "; heading `{heading}`")?;
+    }
+    push_tally(text, change(planned.form), done.changed)?;
+    push_tally(text, "cells without a value filled", done.filled)?;
+    push_tally(text, "rows left out for it", done.left_out)?;
+    if planned.form == Form::Text && planned.evidence.odd.count > 0 {
+        let line = planned.evidence.odd.first;
+        write!(
+            text,
+            "; texts, since from line {line} on no other kind fits all cells"
+        )?;
+    }
+    text.push('\n')?;
+    Ok(())
+}
+
+/// Adds which columns were not written.
+fn push_others(text: &mut String, made: &Imported) -> Result<(), AllocError> {
+    if made.others.is_empty() {
+        return Ok(());
+    }
+    write!(text, "  not written:")?;
+    let mut divider = "";
+    for at in made.others.as_slice() {
+        write!(text, "{divider} {at}")?;
+        divider = ",";
+    }
+    text.push('\n')?;
+    Ok(())
+}
+
+/// What was done for a table of the values of a file, a line for the whole and one for each column.
+pub fn told(alloc: Global, file: &str, made: &Imported) -> Result<String, AllocError> {
+    let mut text = String::new(alloc);
+    let columns = made.plan.len();
+    let Imported { read, written, .. } = made;
+    write!(
+        text,
+        "sideways: {file}: {read} rows read, {written} written, of {columns} columns\n"
+    )?;
+    for (planned, done) in made.plan.as_slice().iter().zip(made.done.as_slice()) {
+        push_column(&mut text, planned, done)?;
+    }
+    push_others(&mut text, made)?;
+    Ok(text)
+}
+
+/// Adds the texts of a column for which numbers were written.
+fn write_dictionary(
+    alloc: Global,
+    planned: &Planned,
+    writer: &mut Writer<Vec<u8>>,
+) -> Result<(), AllocError> {
+    for place in 0..planned.dictionary.len() {
+        let number = (place as u64).saturating_add(1);
+        let number = format!(in alloc; "{number}")?;
+        let text = match planned.dictionary.text(place.saturating_add(1)) {
+            Some(text) => text,
+            None => "",
+        };
+        let name = planned.column.name.as_str();
+        let fields = [name.as_bytes(), number.as_bytes(), text.as_bytes()];
+        if writer.write_fields(&fields).is_err() {
+            return Err(AllocError);
+        }
+    }
+    Ok(())
+}
+
+/// The texts for which numbers were written, as comma-separated values: a record for each, with the attribute, the number
+/// and the text.
+pub fn dictionary_of(alloc: Global, made: &Imported) -> Result<Vec<u8>, AllocError> {
+    let mut writer = Writer::from_writer(Vec::new(alloc));
+    let heading: [&[u8]; 3] = [b"column", b"number", b"text"];
+    if writer.write_fields(&heading).is_err() {
+        return Err(AllocError);
+    }
+    for planned in made.plan.as_slice() {
+        write_dictionary(alloc, planned, &mut writer)?;
+    }
+    match writer.into_inner() {
+        Ok(bytes) => Ok(bytes),
+        Err(_) => Err(AllocError),
+    }
+}

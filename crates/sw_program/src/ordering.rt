@@ -1,0 +1,330 @@
+//! An order of the calls of logs, looked for and written.
+
+ghost use Rattle.std.specs.Prelude.{length, IfOk, OnOk};
+ghost use Rattle.sw_logs.specs.Openings.{IsOpening};
+ghost use Rattle.sw_logs.specs.Orders.{AllFit};
+
+use crate::flaws;
+use crate::seeing::{Seen, Sights};
+use crate::settings::Limit;
+use std::alloc::Global;
+use std::io;
+use std::random::RandomSource;
+use std::rt::{Clock, Files};
+use sw_files::{FileId, begin_file, open_input, read_file};
+use sw_histories::write_record;
+use sw_lang::{write_all, write_number};
+use sw_logs::{By, Fault, Logged, Opening, Order, read_log, read_opening};
+use sw_order::{Onlooker, Outcome, Rules, find_order, write_reached};
+use sw_rows::{Counted, Refusal, Schema, Sink, TextKey};
+
+/// How an order is looked for.
+#[derive(Clone, Copy)]
+pub struct Way {
+    /// Which calls have to stand before which.
+    pub by: By,
+    /// Whether keys are whatever the store gave.
+    pub any_keys: bool,
+    /// How many states are remembered at most.
+    pub states: u64,
+    /// How many rows are ever inserted at most.
+    pub limit: Limit,
+}
+
+/// An order that is asked for: the table, the logs, and how it is looked for.
+#[derive(Clone, Copy)]
+pub struct Ordering<'a> {
+    /// Where the table is.
+    pub table: &'a str,
+    /// Where the logs are.
+    pub logs: &'a [&'a str],
+    pub way: Way,
+    /// Where it is written from which file and record each entry came, if anywhere.
+    pub origins: Option<&'a str>,
+    /// Whether standard error is told how far the search is, once a second.
+    pub progress: bool,
+}
+
+/// Why no order is looked for.
+#[derive(Drop)]
+enum Unread {
+    /// The table, memory or the system is refused.
+    Refused(Refusal),
+    /// A log is, and what is told of it.
+    Told(String),
+}
+
+impl<R: Clock + Eprint + Sync> Onlooker for Seen<'_, R> {
+    fn sees(&self, placed: usize, _states: u64) {
+        self.tell(self.now(), placed as u64, "calls placed");
+    }
+}
+
+/// Why a log is refused, in words.
+fn refused(alloc: Global, path: &str, bytes: &[u8], fault: &Fault) -> Unread {
+    if let Fault::NoMemory = fault {
+        return Unread::Refused(Refusal::NoMemory);
+    }
+    match flaws::told(alloc, path, bytes, fault) {
+        Ok(told) => Unread::Told(told),
+        Err(_) => Unread::Refused(Refusal::NoMemory),
+    }
+}
+
+/// The bytes of a log.
+fn bytes_of<R: Files>(rt: &R, alloc: Global, log: u64, path: &str) -> Result<Vec<u8>, Unread> {
+    match read_file(rt, alloc, path) {
+        Ok(bytes) => Ok(bytes),
+        Err(Refusal::Input) => Err(refused(alloc, path, &[], &Fault::Input { log })),
+        Err(refusal) => Err(Unread::Refused(refusal)),
+    }
+}
+
+/// Reads a log.
+fn read_one<R: Files>(
+    rt: &R,
+    alloc: Global,
+    schema: &mut Schema,
+    log: u64,
+    path: &str,
+    calls: &mut Vec<Logged>,
+) -> Result<(), Unread>
+    requires { AllFit (length schema.old) calls.old.items }
+    ensures { OnOk result (AllFit (length schema.new) calls.new.items) }
+{
+    let bytes = bytes_of(rt, alloc, log, path)?;
+    match read_log(
+        alloc,
+        schema,
+        log,
+        &mut Counted::new(bytes.as_slice()),
+        calls,
+    ) {
+        Ok(()) => Ok(()),
+        Err(fault) => Err(refused(alloc, path, bytes.as_slice(), &fault)),
+    }
+}
+
+/// Reads logs, one after another.
+fn read_logs<R: Files>(
+    rt: &R,
+    alloc: Global,
+    schema: &mut Schema,
+    logs: &[&str],
+    calls: &mut Vec<Logged>,
+) -> Result<(), Unread>
+    requires { AllFit (length schema.old) calls.old.items }
+    ensures { OnOk result (AllFit (length schema.new) calls.new.items) }
+{
+    let mut number = 0u64;
+    for log in logs {
+        number = number.saturating_add(1);
+        read_one(rt, alloc, schema, number, *log, calls)?;
+    }
+    Ok(())
+}
+
+/// Reads the table.
+fn open_table<R: Files + RandomSource>(
+    rt: &R,
+    alloc: Global,
+    ordering: &Ordering<'_>,
+) -> Result<Opening, Refusal>
+    ensures { IfOk result IsOpening }
+{
+    let file = open_input(rt, ordering.table)?;
+    let key = TextKey::new(rt)?;
+    read_opening(alloc, key, &mut Counted::new(file), ordering.way.limit.rows)
+}
+
+/// The rules of a search.
+fn rules_of(way: Way) -> Rules {
+    Rules {
+        by: way.by,
+        any_keys: way.any_keys,
+        states: way.states,
+    }
+}
+
+/// Looks for an order over a table.
+fn order_over<R: Files + Clock + Eprint + Sync>(
+    rt: &R,
+    alloc: Global,
+    ordering: &Ordering<'_>,
+    opening: Opening,
+    calls: &mut Vec<Logged>,
+) -> Result<Outcome, Unread>
+    requires table { IsOpening opening }
+    requires fit { AllFit (length opening.schema) calls.old.items }
+{
+    let mut opening = opening;
+    read_logs(rt, alloc, &mut opening.schema, ordering.logs, calls)?;
+    let seen = Seen::new(
+        rt,
+        Sights {
+            heads: false,
+            progress: ordering.progress,
+            calls: false,
+            faults: false,
+        },
+    );
+    let rules = rules_of(ordering.way);
+    match find_order(alloc, opening, calls.as_slice(), rules, &seen) {
+        Ok(outcome) => Ok(outcome),
+        Err(refusal) => Err(Unread::Refused(refusal)),
+    }
+}
+
+/// Writes a text in quotes, in which quotes are doubled.
+fn write_quoted<W: Sink>(text: &str, out: &mut W) -> Result<(), Refusal> {
+    write_all(out, b"\"")?;
+    for byte in text.as_bytes() {
+        if *byte == b'"' {
+            write_all(out, b"\"")?;
+        }
+        write_all(out, &[*byte])?;
+    }
+    write_all(out, b"\"")
+}
+
+/// The name of a log, by its number from 1.
+fn name_of<'a>(logs: &[&'a str], log: u64) -> &'a str {
+    match logs.get((log as usize).saturating_sub(1)) {
+        Some(name) => *name,
+        None => "",
+    }
+}
+
+/// Writes from which record of which log an entry came.
+fn write_origin<W: Sink>(
+    logs: &[&str],
+    entry: u64,
+    logged: &Logged,
+    out: &mut W,
+) -> Result<(), Refusal> {
+    write_number(entry, out)?;
+    write_all(out, b",")?;
+    write_quoted(name_of(logs, logged.origin.log), out)?;
+    write_all(out, b",")?;
+    write_number(logged.origin.record, out)?;
+    write_all(out, b"\n")
+}
+
+/// Writes from which record of which log each entry came.
+fn write_origins<W: Sink>(
+    logs: &[&str],
+    calls: &[Logged],
+    places: &[usize],
+    out: &mut W,
+) -> Result<(), Refusal> {
+    write_all(out, b"entry,log,record\n")?;
+    let mut entry = 0u64;
+    for place in places {
+        entry = entry.saturating_add(1);
+        if let Some(logged) = calls.get(*place) {
+            write_origin(logs, entry, logged, out)?;
+        }
+    }
+    Ok(())
+}
+
+/// Keeps from which records the entries came, where that is asked.
+fn keep_origins<R: Files>(
+    rt: &R,
+    alloc: Global,
+    ordering: &Ordering<'_>,
+    calls: &[Logged],
+    order: &Order,
+) -> Result<(), Refusal> {
+    let Some(path) = ordering.origins else {
+        return Ok(());
+    };
+    let mut text = Counted::new(Vec::new(alloc));
+    write_origins(ordering.logs, calls, order.places.as_slice(), &mut text)?;
+    let mut file = begin_file(rt, alloc, path)?;
+    let written = write_all(&mut file, text.inner.as_slice());
+    file.end(rt, written)
+}
+
+/// Writes the history of an order that was found, and from where its entries came.
+fn write_found<R: Files + Print>(
+    rt: &R,
+    alloc: Global,
+    ordering: &Ordering<'_>,
+    calls: &[Logged],
+    order: &Order,
+) -> Result<u8, Refusal> {
+    write_record(alloc, &order.history, &mut Counted::new(io::writer(rt)))?;
+    keep_origins(rt, alloc, ordering, calls, order)?;
+    Ok(0)
+}
+
+/// Writes what came of looking for an order, and answers the exit status.
+fn tell<R: Files + Print, E: Sink>(
+    rt: &R,
+    alloc: Global,
+    ordering: &Ordering<'_>,
+    calls: &[Logged],
+    outcome: &Outcome,
+    errors: &mut E,
+) -> Result<u8, Refusal> {
+    match outcome {
+        Outcome::Found(order) => write_found(rt, alloc, ordering, calls, order),
+        Outcome::NoOrder(reached) => {
+            write_reached("no order", ordering.logs, calls, reached, errors)?;
+            Ok(1)
+        }
+        Outcome::GivenUp(reached) => {
+            write_all(errors, b"given up after ")?;
+            write_number(reached.states, errors)?;
+            write_reached(" states", ordering.logs, calls, reached, errors)?;
+            Ok(3)
+        }
+    }
+}
+
+/// Writes a line.
+fn write_line<W: Sink>(text: &str, out: &mut W) -> Result<(), Refusal> {
+    write_all(out, text.as_bytes())?;
+    write_all(out, b"\n")
+}
+
+impl Ordering<'_> {
+    /// What the list of origins would be written over, if anything: the table, or a log.
+    pub fn clash<R: Files>(&self, rt: &R) -> Option<&'static str> {
+        let id = FileId::of(rt, self.origins?)?;
+        if id.is_at(rt, self.table) {
+            return Some("the list of origins would be written over the table");
+        }
+        for log in self.logs {
+            if id.is_at(rt, *log) {
+                return Some("the list of origins would be written over a log");
+            }
+        }
+        None
+    }
+
+    /// Looks for an order of the logs' calls: its history goes to standard output, and why there is none to `errors`.
+    /// Answers the exit status: 0 where one was found, 1 where none was with nothing left to try, 2 where a log is
+    /// refused, and 3 where the search was given up.
+    ///
+    /// Refused as `read_opening` is, `Input` where the table cannot be opened or the system gives no random bytes for the
+    /// key of texts, and `Output` where what is found cannot be written.
+    pub fn make<R: Files + RandomSource + Clock + Print + Eprint + Sync, E: Sink>(
+        &self,
+        rt: &R,
+        alloc: Global,
+        errors: &mut E,
+    ) -> Result<u8, Refusal> {
+        let opening = open_table(rt, alloc, self)?;
+        let mut calls = Vec::new(alloc);
+        match order_over(rt, alloc, self, opening, &mut calls) {
+            Ok(outcome) => tell(rt, alloc, self, calls.as_slice(), &outcome, errors),
+            Err(Unread::Told(told)) => {
+                write_line(told.as_str(), errors)?;
+                Ok(2)
+            }
+            Err(Unread::Refused(refusal)) => Err(refusal),
+        }
+    }
+}

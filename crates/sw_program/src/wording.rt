@@ -1,0 +1,223 @@
+//! A refusal of a run in words: the texts of the run are looked at again.
+
+use crate::inputs::{Kept, Place, Script};
+use std::alloc::{AllocError, Global};
+use std::fs::File;
+use std::io::ErrorKind;
+use std::random::RandomSource;
+use std::rt::Files;
+use std::{fs, io};
+use sw_faults::{Asked, Origin, Text, all_faults, words_of};
+use sw_files::read_file;
+use sw_rows::{Refusal, TextKey};
+
+/// What was asked, of which a refusal came.
+#[derive(Clone, Copy, Debug)]
+pub(crate) struct Asking<'a> {
+    /// Where the table is.
+    pub(crate) table: Place<'a>,
+    /// Where the calls come from, if there are any.
+    pub(crate) script: Option<Script<'a>>,
+    /// The text of the cuts.
+    pub(crate) cuts: &'a str,
+    /// Whether all faults of the table are to be told.
+    pub(crate) faults: bool,
+}
+
+/// What standard input is called in words.
+const STANDARD: &str = "standard input";
+
+/// What a place is called in words.
+fn called(place: Place<'_>) -> &str {
+    if place.is_standard() {
+        STANDARD
+    } else {
+        place.name()
+    }
+}
+
+/// The bytes of a place: those that were kept of it where it is read only once, else read again; none where they cannot
+/// be had.
+fn again<R: Files>(rt: &R, alloc: Global, place: Place<'_>, kept: Kept) -> Option<Vec<u8>> {
+    match kept {
+        Kept::Once(bytes) => bytes,
+        Kept::Often => read_file(rt, alloc, place.name()).ok(),
+    }
+}
+
+/// What the system says of a file that cannot be read.
+fn why_not(error: &io::Error) -> &'static str {
+    match error.kind() {
+        ErrorKind::NotFound => "there is no such file",
+        ErrorKind::PermissionDenied => "the file may not be read",
+        ErrorKind::IsADirectory => "a folder, wanted a file",
+        _ => "the file cannot be read",
+    }
+}
+
+/// What is wrong with the file of a place, if it cannot be opened or is a folder.
+fn wrong_file<R: Files>(rt: &R, place: Place<'_>) -> Option<&'static str> {
+    if place.is_standard() {
+        return None;
+    }
+    if let Err(error) = File::open(rt, place.name()) {
+        return Some(why_not(&error));
+    }
+    match fs::metadata(rt, place.name()) {
+        Ok(found) if found.is_dir() => Some("a folder, wanted a file"),
+        _ => None,
+    }
+}
+
+/// The words of a place whose file cannot be read.
+fn of_place<R: Files>(
+    rt: &R,
+    alloc: Global,
+    place: Place<'_>,
+) -> Result<Option<String>, AllocError> {
+    match wrong_file(rt, place) {
+        Some(why) => Ok(Some(format!(in alloc; "{}: {why}\n", called(place))?)),
+        None => Ok(None),
+    }
+}
+
+/// The words of a table or a script that cannot be read.
+fn of_input<R: Files>(rt: &R, alloc: Global, asking: &Asking<'_>) -> Result<String, AllocError> {
+    if let Some(words) = of_place(rt, alloc, asking.table)? {
+        return Ok(words);
+    }
+    let Some(Script::At(place)) = asking.script else {
+        return Ok(String::new(alloc));
+    };
+    match of_place(rt, alloc, place)? {
+        Some(words) => Ok(words),
+        None => Ok(String::new(alloc)),
+    }
+}
+
+/// The bytes of the table and of the script, where they can be had.
+#[derive(Drop)]
+struct Texts {
+    table: Option<Vec<u8>>,
+    script: Option<Vec<u8>>,
+}
+
+impl Texts {
+    /// The script that was asked, and what its lines are.
+    fn script<'a>(&'a self, asking: &Asking<'a>) -> (Text<'a>, Origin) {
+        match asking.script {
+            Some(Script::Given(lines)) => (named("", Some(lines)), Origin::Arguments),
+            Some(Script::At(place)) => (
+                named(called(place), as_bytes(&self.script)),
+                Origin::Lines,
+            ),
+            None => (named("", None), Origin::Lines),
+        }
+    }
+
+    /// What was asked, with these texts.
+    fn asked<'a>(&'a self, asking: &Asking<'a>) -> Asked<'a> {
+        let (script, origin) = self.script(asking);
+        Asked {
+            table: named(called(asking.table), as_bytes(&self.table)),
+            script,
+            origin,
+            cuts: asking.cuts,
+        }
+    }
+}
+
+/// A text of a name.
+fn named<'a>(name: &'a str, bytes: Option<&'a [u8]>) -> Text<'a> {
+    Text { name, bytes }
+}
+
+/// Bytes that may be there, as a slice.
+fn as_bytes(bytes: &Option<Vec<u8>>) -> Option<&[u8]> {
+    match bytes {
+        Some(bytes) => Some(bytes.as_slice()),
+        None => None,
+    }
+}
+
+/// The bytes of a script, if there is one at a place.
+fn script_again<R: Files>(
+    rt: &R,
+    alloc: Global,
+    script: Option<Script<'_>>,
+    kept: Kept,
+) -> Option<Vec<u8>> {
+    match script? {
+        Script::At(place) => again(rt, alloc, place, kept),
+        Script::Given(_) => None,
+    }
+}
+
+/// The texts that were read, as far as they can be had.
+fn texts_again<R: Files>(rt: &R, alloc: Global, asking: &Asking<'_>, kept: Keeps) -> Texts {
+    let Keeps { table, script } = kept;
+    Texts {
+        table: again(rt, alloc, asking.table, table),
+        script: script_again(rt, alloc, asking.script, script),
+    }
+}
+
+/// The words of a refusal that the texts have.
+fn of_texts(
+    alloc: Global,
+    key: TextKey,
+    asking: &Asking<'_>,
+    refusal: &Refusal,
+    texts: &Texts,
+) -> Result<String, AllocError> {
+    let asked = texts.asked(asking);
+    match (refusal, asked.table.bytes) {
+        (Refusal::BadTable { rec, .. }, Some(bytes)) if asking.faults && *rec > 0 => {
+            all_faults(alloc, key, asked.table.name, bytes)
+        }
+        _ => words_of(alloc, key, refusal, &asked),
+    }
+}
+
+/// What was kept of the table and the script.
+#[derive(Drop)]
+pub(crate) struct Keeps {
+    pub(crate) table: Kept,
+    pub(crate) script: Kept,
+}
+
+/// A refusal in words: lines, or nothing where none can be found or there is no memory for them.
+pub(crate) fn words<R: Files + RandomSource>(
+    rt: &R,
+    alloc: Global,
+    asking: &Asking<'_>,
+    refusal: &Refusal,
+    kept: Keeps,
+) -> Option<String> {
+    let key = TextKey::new(rt).ok()?;
+    match refusal {
+        Refusal::Input => of_input(rt, alloc, asking).ok(),
+        Refusal::BadTable { .. }
+        | Refusal::BadLine { .. }
+        | Refusal::UnknownAttribute { .. }
+        | Refusal::TooMany { .. } => {
+            let texts = texts_again(rt, alloc, asking, kept);
+            of_texts(alloc, key, asking, refusal, &texts).ok()
+        }
+        _ => None,
+    }
+}
+
+/// A refusal of the form of the replies in words.
+pub(crate) fn of_form(alloc: Global, refusal: &Refusal, script: Script<'_>) -> Option<String> {
+    let Refusal::BadLine { line, .. } = refusal else {
+        return None;
+    };
+    let at = match script {
+        Script::At(place) => format!(in alloc; "{} line {line}", called(place)).ok()?,
+        Script::Given(_) => format!(in alloc; "argument {line}").ok()?,
+    };
+    format!(in alloc;
+        "{at}: --output table wants a select as the last call, of columns that differ\n"
+    ).ok()
+}

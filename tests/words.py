@@ -1,0 +1,209 @@
+#!/usr/bin/env python3
+"""What the command line takes and tells: calls by -e, standard input by -, a refusal in words behind its first line, descriptions, and
+replies in other forms. Each case is a run of the built program, whose status, output and standard error are compared.
+
+    tests/words.py [--program PATH]
+
+PATH is the built program, by default crates/sideways/out/sideways. Ends with 1 at the first case that is wrong, which it shows; its last
+line tells how many cases there were."""
+import argparse, csv, io, json, shutil, subprocess, sys, tempfile
+from pathlib import Path
+
+TOP = Path(__file__).resolve().parents[1]
+TABLE = b"a:int,b:int,c:int\n12,7,1\n3,8,0\n12,5,1\n20,2,0\n"
+CITIES = b"city:text,n,price:fix2,ok:flag\nOslo,1,7.5,true\n\"Bergen, \"\"B\"\"\",2,-0.25,false\nOslo,3,3,true\n"
+BAD = b"name:text,n\n\"two\nlines\",1\nx,1.5\ny\nz,\xff\n"
+ANY = object()
+
+
+class Wrong(Exception):
+    pass
+
+
+class Cases:
+    def __init__(self, program, folder):
+        self.program, self.folder, self.cases = str(program), Path(folder), 0
+        for name, data in (("t.csv", TABLE), ("cities.csv", CITIES), ("bad.csv", BAD), ("s.txt", b"count\nselect b where a >= 10\n"),
+                           ("word.txt", b"count\n# a comment\r\nselect b were a >= 10\n")):
+            (self.folder / name).write_bytes(data)
+        (self.folder / "folder").mkdir()
+
+    def call(self, words, given=b""):
+        done = subprocess.run([self.program] + words, cwd=self.folder, input=given, capture_output=True, timeout=60)
+        return done.returncode, done.stdout.decode(), done.stderr.decode(errors="replace")
+
+    def case(self, name, words, status, out, told, given=b""):
+        """One run; ANY is any text."""
+        self.cases += 1
+        got = self.call(words, given)
+        for what, wanted, found in zip(("status", "output", "standard error"), (status, out, told), got):
+            if wanted is not ANY and wanted != found:
+                raise Wrong("WRONG: %s\n  %s\n  wanted %r\n  got    %r" % (name, what, wanted, found))
+        return got
+
+    def refused(self, name, words, said, given=b""):
+        """A command line that is refused: status 2, nothing on standard output, and clap's text with these words in it."""
+        got = self.case(name, words, 2, "", ANY, given)
+        if said not in got[2] or not got[2].startswith("error: "):
+            raise Wrong("WRONG: %s\n  wanted %r in\n  %r" % (name, said, got[2]))
+
+    # Where calls and tables come from
+
+    def inputs(self):
+        replies = "4\n1: 7\n3: 5\n4: 2\n(3 rows)\n"
+        calls = ["-e", "count", "-e", "select b where a >= 10"]
+        self.case("calls by -e", ["run", "--table", "t.csv"] + calls, 0, replies, "")
+        self.case("a divider by -e", ["run", "--table", "t.csv", "-e", "count", "-e", "---", "-e", "count"], 0, "4\n---\n4\n", "")
+        self.case("no call by -e but an empty line", ["run", "--table", "t.csv", "-e", ""], 0, "", "")
+        self.case("a table of standard input", ["run", "--table", "-"] + calls, 0, replies, "", TABLE)
+        self.case("a script of standard input", ["run", "--table", "t.csv", "--script", "-"], 0, replies, "",
+                  b"count\nselect b where a >= 10\n")
+        self.case("a history of such a run", ["run", "--table", "-", "--history", "h.json"] + calls, 0, replies, "", TABLE)
+        self.case("its check", ["check", "h.json"], 0, "legal: 2 entries\n", "")
+        self.refused("both of standard input", ["run", "--table", "-", "--script", "-"], "cannot both be standard input", TABLE)
+        self.refused("a call of two lines", ["run", "--table", "t.csv", "-e", "count\ncount"], "a call of -e is one line")
+        self.refused("a script and a call", ["run", "--table", "t.csv", "--script", "s.txt", "-e", "count"], "cannot be used with")
+        self.refused("neither script nor call", ["run", "--table", "t.csv"], "required")
+        self.refused("a form that is none", ["run", "--table", "t.csv", "-e", "count", "--output", "xml"], "xml")
+        with open(self.folder / "t.csv", "rb") as table:
+            self.cases += 1
+            done = subprocess.run([self.program, "run", "--table", "-", "-e", "count", "--history", "t.csv"], cwd=self.folder, stdin=table,
+                                  capture_output=True, timeout=60)
+            if done.returncode != 2 or b"written over the table" not in done.stderr or (self.folder / "t.csv").read_bytes() != TABLE:
+                raise Wrong("WRONG: a history over the table of standard input: %r" % (done,))
+
+    # A refusal in words
+
+    def words(self):
+        run = ["run", "--table"]
+        number = "bad.csv line 4, n:int: 1 decimal, wanted a whole number: '1.5'; a name without a kind is an int\n"
+        self.case("a cell behind one of two lines", run + ["bad.csv", "-e", "count"], 2, "",
+                  "sideways: refused 2 record 1 field 1\nbad.csv line 2, name:text: byte 4 is a control byte, which no text has: 'two\\nlines'\n")
+        listed = "bad.csv line 2, name:text: byte 4 is a control byte, which no text has: 'two\\nlines'\n" + number + (
+            "bad.csv line 5: 1 field, the header has 2: n:int is missing\n"
+            "bad.csv line 6, n:int: not a number, wanted a whole number: '\\xff'; a name without a kind is an int\nbad.csv: 4 faults\n")
+        self.case("all faults", run + ["bad.csv", "-e", "count", "--all-faults"], 2, "", "sideways: refused 2 record 1 field 1\n" + listed)
+        self.case("all faults of standard input", run + ["-", "-e", "count", "--all-faults"], 2, "",
+                  "sideways: refused 2 record 1 field 1\n" + listed.replace("bad.csv", "standard input"), BAD)
+        self.case("all faults of a table without one", run + ["t.csv", "-e", "count", "--all-faults"], 0, "4\n", "")
+        self.case("a table that is not there", run + ["none.csv", "-e", "count"], 2, "",
+                  "sideways: refused 12\nnone.csv: there is no such file\n")
+        self.case("a script that is a folder", run + ["t.csv", "--script", "folder"], 2, "",
+                  "sideways: refused 12\nfolder: a folder, wanted a file\n")
+        self.case("a word of a script", run + ["t.csv", "--script", "word.txt"], 2, "",
+                  "sideways: refused 3 line 3 why Word\n"
+                  "word.txt line 3, column 10: 'were' cannot stand there, wanted where, a comma, the end of the line\n"
+                  "  select b were a >= 10\n           ^\n")
+        self.case("a word of an argument", run + ["cities.csv", "-e", "count", "-e", "count where city = Oslo"], 2, "",
+                  "sideways: refused 3 line 2 why Value\n"
+                  "argument 2, column 20: 'Oslo' cannot stand there, wanted a text in single quotes\n"
+                  "  count where city = Oslo\n                     ^\n")
+        self.case("an unknown name of an argument", run + ["t.csv", "-e", "sum d"], 2, "",
+                  "sideways: refused 4 name d\nargument 1, column 5: 'd' cannot stand there, wanted a, b, c\n  sum d\n      ^\n")
+        self.case("a fault of the script of standard input", run + ["t.csv", "--script", "-"], 2, "",
+                  "sideways: refused 3 line 1 why End\n"
+                  "standard input line 1, column 12: the line ends too early, wanted a, b, c\n  count where\n             ^\n", b"count where\n")
+        self.case("cuts that fall", run + ["t.csv", "-e", "count", "--cuts", "a=2;a=1"], 2, "",
+                  "sideways: refused 3 line 0 why Cuts\n--cuts, part 2: 'a=1' is refused, wanted name=value of a, b, c, each value a "
+                  "cell of its column's kind and above those before it, at most 15 of a column\n")
+        self.case("more rows than the limit", run + ["t.csv", "-e", "count", "--limit", "3"], 2, "",
+                  "sideways: refused 5 limit 3\nt.csv: more than 3 rows\n")
+        self.case("what explains a kind", ["explain", "2"], 0, ANY, "")
+        if "without a kind is an int" not in self.call(["explain", "2"])[1]:
+            raise Wrong("WRONG: explain 2 says nothing of a name without a kind")
+
+    # What the columns of a table have
+
+    def descriptions(self):
+        self.case("a description", ["describe", "cities.csv"], 0,
+                  "rows 3\n\nname   kind  distinct  least  greatest\ncity   text  2         -      -\n"
+                  "n      int   3         1      3\nprice  fix2  3         -0.25  7.50\nok     flag  2         false  true\n"
+                  "\nmost frequent of city\n2 'Oslo'\n1 'Bergen, \"B\"'\n", "")
+        self.case("a description of standard input", ["describe", "-"], 0,
+                  "rows 4\n\nname  kind  distinct  least  greatest\na     int   3         3      20\nb     int   4         2      8\n"
+                  "c     int   2         0      1\n", "", TABLE)
+        got = self.case("a description as JSON", ["describe", "cities.csv", "--output", "json"], 0, ANY, "")
+        wanted = {"rows": 3, "attributes": [
+            {"name": "city", "kind": "text", "distinct": 2, "frequent": [{"text": "Oslo", "count": 2}, {"text": "Bergen, \"B\"", "count": 1}]},
+            {"name": "n", "kind": "int", "distinct": 3, "least": 1, "greatest": 3},
+            {"name": "price", "kind": "fix2", "distinct": 3, "least": -0.25, "greatest": 7.5},
+            {"name": "ok", "kind": "flag", "distinct": 2, "least": False, "greatest": True}]}
+        if json.loads(got[1]) != wanted:
+            raise Wrong("WRONG: a description as JSON: %s" % got[1])
+        self.case("a description of a bad table", ["describe", "bad.csv", "--all-faults"], 2, "", ANY)
+        self.case("a description of none", ["describe", "none.csv"], 2, "", "sideways: refused 12\nnone.csv: there is no such file\n")
+        self.refused("a description in a form that is none", ["describe", "t.csv", "--output", "csv"], "csv")
+
+    # Replies in other forms
+
+    def forms(self):
+        run = ["run", "--table", "cities.csv"]
+        calls = ["-e", "# a comment", "-e", "select city, price where ok = true", "-e", "---", "-e", "sum price", "-e", "min n where n > 9",
+                 "-e", "delete where n < 3", "-e", "insert 'it''s', 9, 1, false", "-e", "delete 77", "-e", "select city"]
+        got = self.case("replies as JSON", run + calls + ["--output", "json"], 0, ANY, "")
+        told = [json.loads(line) for line in got[1].splitlines()]
+        wanted = [
+            (1, 1, 2, "select city, price where ok >= true and ok <= true",
+             {"columns": ["key", "city", "price"], "rows": [[1, "Oslo", 7.5], [3, "Oslo", 3]]}),
+            (2, 2, 4, "sum price", {"sum": 10.25}), (3, 2, 5, "min n where n > 9", {"min": None}),
+            (4, 2, 6, "delete where n < 3", {"removed": 2}), (5, 2, 7, "insert 'it''s', 9, 1.00, false", {"key": 4}),
+            (6, 2, 8, "delete 77", {"removed": 0}),
+            (7, 2, 9, "select city", {"columns": ["key", "city"], "rows": [[3, "Oslo"], [4, "it's"]]})]
+        if told != [dict(zip(("number", "block", "line", "call", "reply"), one)) for one in wanted]:
+            raise Wrong("WRONG: replies as JSON:\n%s" % got[1])
+        got = self.case("rows as records", run + ["-e", "select city, n", "--output", "csv"], 0, ANY, "")
+        if list(csv.reader(io.StringIO(got[1]))) != [["key", "city", "n"], ["1", "Oslo", "1"], ["2", 'Bergen, "B"', "2"], ["3", "Oslo", "3"]]:
+            raise Wrong("WRONG: rows as records:\n%s" % got[1])
+        self.case("two replies as records", run + ["-e", "count", "-e", "max price", "--output", "csv"], 0, "count\n3\n\nmax\n7.50\n", "")
+        table = self.case("the last reply as a table", run + ["-e", "delete where ok = false", "-e", "select n, city", "--output", "table"], 0,
+                          "n:int,city:text\n1,Oslo\n3,Oslo\n", "")[1]
+        self.case("which is read back", ["run", "--table", "-", "-e", "select city"], 0, "1: 'Oslo'\n2: 'Oslo'\n(2 rows)\n", "", table.encode())
+        whole = self.case("a whole table", run + ["-e", "select city, n, price, ok", "--output", "table"], 0, ANY, "")[1]
+        again = self.case("is itself, once it was read", ["run", "--table", "-", "-e", "select city, n, price, ok", "--output", "table"], 0,
+                          whole, "", whole.encode())
+        assert again
+        self.case("a table of a count", run + ["-e", "count", "--output", "table"], 2, "",
+                  "sideways: refused 3 line 1 why Word\nargument 1: --output table wants a select as the last call, of columns that differ\n")
+        self.case("a table of one column twice", run + ["-e", "select n, n", "--output", "table"], 2, "", ANY)
+        self.case("a table of no call", run + ["-e", "# none", "--output", "table"], 2, "", ANY)
+        with open("/dev/full", "wb") as full:
+            self.cases += 1
+            done = subprocess.run([self.program] + run + calls + ["--output", "json"], cwd=self.folder, stdout=full, stderr=subprocess.PIPE, timeout=60)
+            if (done.returncode, done.stderr) != (3, b"sideways: refused 13\n"):
+                raise Wrong("WRONG: replies as JSON to a full device: %r" % (done,))
+
+    # Help
+
+    def helps(self):
+        for words in (["--help"], ["run", "--help"], ["check", "--help"], ["describe", "--help"], ["explain", "--help"]):
+            got = self.case("the help of %s" % words[0], words, 0, ANY, "")
+            if "Examples:\n" not in got[1]:
+                raise Wrong("WRONG: the help of %s has no examples" % words[0])
+
+
+    def version(self):
+        got = self.case("the version", ["--version"], 0, ANY, "")
+        if shutil.which("rt"):
+            kit = subprocess.run(["rt", "version"], capture_output=True, text=True, check=True).stdout.strip()
+            self.case("the version and the kit's line", ["--version"], 0, "sideways 0.1.0\nproved with %s\n" % kit, "")
+        assert got
+
+
+def main():
+    words = argparse.ArgumentParser(description=__doc__, formatter_class=argparse.RawDescriptionHelpFormatter)
+    words.add_argument("--program", default=TOP / "crates/sideways/out/sideways")
+    given = words.parse_args()
+    with tempfile.TemporaryDirectory() as folder:
+        cases = Cases(Path(given.program).resolve(), folder)
+        try:
+            for part in (cases.inputs, cases.words, cases.descriptions, cases.forms, cases.helps, cases.version):
+                part()
+        except Wrong as wrong:
+            print(wrong)
+            return 1
+    print("%d cases of words passed" % cases.cases)
+    return 0
+
+
+if __name__ == "__main__":
+    sys.exit(main())
