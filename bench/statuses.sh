@@ -136,6 +136,11 @@ fi
 
 # 1: a history is not legal, and nothing else
 case_of 'a history that is not legal' 1 'not legal: entry 1' '' "$program" check illegal.json
+case_of 'why it is not' 1 "not legal: entry 1
+entry 1, session 1: count
+given, line 1 of 1: 5
+the list's, line 1 of 1: 4" '' "$program" check --explain illegal.json
+case_of 'why one that is legal is not' 0 'legal: 1 entries' '' "$program" check --explain legal.json
 
 # 2: the command line, or what is read
 case_of 'no words' 2 '' '*' "$program"
@@ -170,6 +175,7 @@ case_of 'help to a full device' 3 '' 'sideways: refused 13' to_full "$program" -
 case_of 'a run to a full device' 3 '' 'sideways: refused 13' to_full run
 case_of 'a verdict to a full device' 3 '' 'sideways: refused 13' to_full "$program" check legal.json
 case_of 'a bad verdict to a full device' 3 '' 'sideways: refused 13' to_full "$program" check illegal.json
+case_of 'an explanation to a full device' 3 '' 'sideways: refused 13' to_full "$program" check --explain illegal.json
 case_of 'a history into a folder that is none' 3 4 'sideways: refused 13' run --history none/kept.json
 case_of 'a history to a full device' 3 4 'sideways: refused 13' run --history /dev/full
 
@@ -208,6 +214,7 @@ if ${CC:-cc} -O1 -shared -fPIC -o refusing.so "$top/bench/refusing.c" -ldl 2>/de
     refused_in_turn 'a run' 0 "$program" run --table t.csv --script calls.txt --history turn.json
     refused_in_turn 'a check' 0 "$program" check legal.json
     refused_in_turn 'a check of what is not legal' 1 "$program" check illegal.json
+    refused_in_turn 'an explanation' 1 "$program" check --explain illegal.json
     refused_in_turn 'help' 0 "$program" --help
     refused_in_turn 'an unknown flag' 2 "$program" run --fast
 else

@@ -15,8 +15,8 @@ TOP = Path(__file__).resolve().parents[1]
 ENGINE = "sw_trial_engine"
 # Lines of sw_trial_engine's stdin, and what they tell.
 TRIALS = {
-    "waited 0 count where a >= 10&count where b >= 6": "legal; 3; 2",
-    "met-in-run": "3/---/2/",
+    "waited 0 count where a >= 10&count where b >= 6": "legal; 3; 2; legal: 2 entries",
+    "met-in-run": "3/---/2/; legal: 2 entries",
     "counted 12 select b where a >= 10 and a <= 15": "legal; 1: 7, 3: 5, 2 rows; 2 begun, 4 steps, 4 asked",
     "told 0 insert 1, 9, 0|count where a < 10": "legal; key 5; 2",
 }

@@ -166,7 +166,7 @@ fn make_check<R: Files + RandomSource + Print>(
     given: &ArgMatches<'_>,
 ) -> Result<u8, Refusal> {
     match given.get_str("file") {
-        Some(path) => check_path(rt, alloc, path),
+        Some(path) => check_path(rt, alloc, path, given.get_flag("explain")),
         None => Ok(2),
     }
 }

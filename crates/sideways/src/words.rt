@@ -230,6 +230,14 @@ fn check_command<'a>(alloc: Global) -> Result<Command<'a>, AllocError> {
                 .help("The history file")
                 .required(true)
                 .action(ArgAction::Set),
+        )?
+        .arg(
+            Arg::new(alloc, "explain")
+                .long("explain")
+                .help(
+                    "Tells after the verdict why a history is not legal: the entry, its reply and the one that it should have at the first line where they differ, and the entries that changed its rows last",
+                )
+                .action(ArgAction::SetTrue),
         )
 }
 

@@ -10,7 +10,6 @@ use Rattle.sw_rows.specs.declared.refusal.Refusal.{Refusal}
 use Rattle.sw_rows.specs.declared.refusal.Refusal.TheVariants as refusal
 use Rattle.sw_rows.specs.Header.{Column, Fault}
 use Rattle.sw_rows.specs.declared.query.Call.{Call}
-use Rattle.sw_rows.specs.declared.query.Call.TheVariants as call
 use Rattle.sw_lang.proofs.Knowing.{learned_width}
 use Rattle.sw_lang.specs.Fits.{FitsCall}
 use Rattle.sw_lang.specs.Learning.{learned}
@@ -19,6 +18,7 @@ use Rattle.sw_lang.specs.Reading.{Answers, refused, refusal_of as line_refusal}
 use Rattle.sw_lang.specs.declared.fault.Fault.{Fault as LineFault}
 use Rattle.sw_lang.specs.declared.fault.Fault.TheVariants.{Bad, Excess, Unknown}
 use Rattle.sw_spine.specs.Table.{is_numbered}
+use Rattle.sw_spine.proofs.Histories.{fits_below}
 use Rattle.sw_histories.specs.Told.{◌>>=◌, TellsText}
 use Rattle.sw_lang.specs.Cuts.{CutLists}
 use Rattle.sw_cli.specs.Run.{Start, cuts_of, or_refusal, script_of, start_of}
@@ -90,20 +90,10 @@ pub result_tells : {A : Type 0} (n : ℕ) (result : Result A Refusal) (r : Resul
 result_tells n (Ok x) r h = tt
 result_tells n (Err e) r h = answers_tell n e r h
 
--- a call of the table names attributes of the table
-call_below : (schema : List Column) (c : Call) → FitsCall schema c → CallsBelow (length schema) c
-call_below schema (call.Select q) h = h.attrs
-call_below schema (call.Insert cells) h = tt
-call_below schema (call.Delete key) h = tt
-call_below schema (call.DeleteWhere conds) h = h.query.attrs.conds
-
+-- a call that fits the table may be called of it
 some_below : (schema : List Column) (o : Option Call) → IfSome o (FitsCall schema) → IfSome o (CallsBelow (length schema))
 some_below schema None h = tt
-some_below schema (Some c) h = call_below schema c h
-
-pub fits_below : (schema : List Column) (result : Result (Option Call) Refusal) → IfOk result (λ o. IfSome o (FitsCall schema)) → IfOk result (λ o. IfSome o (CallsBelow (length schema)))
-fits_below schema (Ok o) h = some_below schema o h
-fits_below schema (Err e) h = tt
+some_below schema (Some c) h = fits_below schema c h
 
 -- and there are as many attributes before the texts of its line are known
 pub learned_below : (schema now : List Column) (line : List ℕ) (result : Result (Option Call) Refusal) → OnOk result (now ≡ learned schema line) → IfOk result (λ o. IfSome o (FitsCall now)) → IfOk result (λ o. IfSome o (CallsBelow (length schema)))

@@ -27,4 +27,4 @@ pub use running::{Options, run, run_told, run_with};
 pub use script::{MOST_BLOCKS, MOST_CALLS};
 pub use stats::{write_stats_line, write_stats_title};
 pub use sw_engine::{HeadStats, head_of};
-pub use sw_histories::{check_file, read_record, write_record};
+pub use sw_histories::{check_file, explain_file, read_record, write_record};

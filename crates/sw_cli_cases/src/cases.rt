@@ -4,14 +4,15 @@ ghost use Rattle.std.specs.Prelude.{◌<◌, ◌≤◌};
 ghost use Rattle.sw_rows.specs.declared.table.TheConstants.{MOST_ROWS};
 
 use crate::faults::fault;
-use crate::files::{checked, cuts, file};
+use crate::files::{checked, cuts, explained, file};
 use crate::sinks::{Failing, noted};
+use crate::sources::Faltering;
 use crate::text::unescaped;
 use std::alloc::{AllocError, Global};
 use std::sync::Wait;
 use std::thread::Threads;
 use sw_cli::{Options, blank_boxes, run_with, write_record};
-use sw_rows::{Counted, MOST_ROWS, Refusal, Sink, TextKey};
+use sw_rows::{Counted, MOST_ROWS, Refusal, Sink, Source, TextKey};
 use sw_spine::Record;
 
 /// A limit of rows.
@@ -71,12 +72,12 @@ const OTHERS: [Way<'static>; 4] = [
     },
 ];
 
-/// Runs a script over a table into a sink.
-fn run_into<R: Threads + Wait + Sync, W: Sink>(
+/// Runs a script that is read from a source over a table into a sink.
+fn run_from<R: Threads + Wait + Sync, S: Source, W: Sink>(
     rt: &R,
     alloc: Global,
     table: &[u8],
-    script: &[u8],
+    script: &mut S,
     limit: Limit,
     way: Way<'_>,
     out: &mut W,
@@ -92,11 +93,24 @@ fn run_into<R: Threads + Wait + Sync, W: Sink>(
         rt,
         alloc,
         &mut Counted::new(table),
-        &mut Counted::new(script),
+        script,
         out,
         &options,
         maps,
     )
+}
+
+/// Runs a script over a table into a sink.
+fn run_into<R: Threads + Wait + Sync, W: Sink>(
+    rt: &R,
+    alloc: Global,
+    table: &[u8],
+    script: &[u8],
+    limit: Limit,
+    way: Way<'_>,
+    out: &mut W,
+) -> Result<Record, Refusal> {
+    run_from(rt, alloc, table, &mut Counted::new(script), limit, way, out)
 }
 
 /// What a run writes, and then its refusal.
@@ -189,6 +203,21 @@ fn cut_short<R: Threads + Wait + Sync>(
     told(alloc, out.inner.bytes(), refusal)
 }
 
+/// What a run writes whose script comes from a source that fails at its read of this number, and then the refusal.
+fn read_short<R: Threads + Wait + Sync>(
+    rt: &R,
+    alloc: Global,
+    table: &[u8],
+    script: &[u8],
+    left: u64,
+    limit: Limit,
+) -> Result<String, AllocError> {
+    let mut out = Counted::new(Vec::new(alloc));
+    let mut source = Counted::new(Faltering::new(script, left));
+    let refusal = run_from(rt, alloc, table, &mut source, limit, AMPLE, &mut out).err();
+    told(alloc, out.inner.as_slice(), refusal)
+}
+
 /// The history file of a script, or the refusal.
 fn history<R: Threads + Wait + Sync>(
     rt: &R,
@@ -237,11 +266,14 @@ impl Bench {
     ) -> Result<String, AllocError> {
         let (number, rest) = numbered(text);
         let bytes = unescaped(alloc, rest)?;
-        if word == "failing" {
-            return cut_short(rt, alloc, &self.table, &bytes, number, self.limit);
+        match word {
+            "failing" => cut_short(rt, alloc, &self.table, &bytes, number, self.limit),
+            "reading" => read_short(rt, alloc, &self.table, &bytes, number, self.limit),
+            _ => {
+                let script = repeated(alloc, &bytes, number.min(1_048_577) as usize)?;
+                measured(rt, alloc, &self.table, &script, self.limit)
+            }
         }
-        let script = repeated(alloc, &bytes, number.min(1_048_577) as usize)?;
-        measured(rt, alloc, &self.table, &script, self.limit)
     }
 
     /// Makes the case of a text.
@@ -258,6 +290,7 @@ impl Bench {
             "history" => history(rt, alloc, &self.table, &bytes, self.limit),
             "check" => checked(alloc, &bytes),
             "entries" => checked(alloc, &file(alloc, &bytes)?),
+            "explain" => explained(alloc, &file(alloc, &bytes)?),
             "cuts" => cuts(alloc, &file(alloc, &bytes)?),
             "noting" => noted(alloc, &bytes),
             "table" => {
@@ -282,7 +315,7 @@ impl Bench {
                 Ok(String::new(alloc))
             }
             "fault" => fault(alloc, text),
-            "many" | "failing" => self.take_numbered(rt, alloc, word, text),
+            "many" | "failing" | "reading" => { self.take_numbered(rt, alloc, word, text) }
             _ => self.take_text(rt, alloc, word, text),
         }
     }

@@ -1,8 +1,8 @@
 //! History files.
 
 use std::alloc::{AllocError, Global};
-use sw_cli::{check_file, read_record};
-use sw_rows::{Counted, TextKey};
+use sw_cli::{check_file, explain_file, read_record};
+use sw_rows::{Counted, Refusal, TextKey};
 
 /// What stands before the entries of the examples' file, and after them.
 const FRONT: &[u8] = b"{\"attributes\":[\"a:int\",\"b:int\",\"c:int\"],\"entries\":[";
@@ -19,16 +19,29 @@ pub(crate) fn file(alloc: Global, entries: &[u8]) -> Result<Vec<u8>, AllocError>
     Ok(text)
 }
 
-/// What the check of a file writes and answers, or its refusal.
-pub(crate) fn checked(alloc: Global, text: &[u8]) -> Result<String, AllocError> {
-    let mut out = Counted::new(Vec::new(alloc));
-    match check_file(alloc, TextKey::fixed(), text, &mut out) {
+/// What went out and the status that was answered, or the refusal.
+fn verdict(alloc: Global, out: &[u8], answer: Result<u8, Refusal>) -> Result<String, AllocError> {
+    match answer {
         Ok(status) => {
-            let line = String::from_utf8_lossy(alloc, out.inner.as_slice())?;
-            format!(in alloc; "{line}status {status}")
+            let lines = String::from_utf8_lossy(alloc, out)?;
+            format!(in alloc; "{lines}status {status}")
         }
         Err(e) => format!(in alloc; "refused {e}"),
     }
+}
+
+/// What the check of a file writes and answers, or its refusal.
+pub(crate) fn checked(alloc: Global, text: &[u8]) -> Result<String, AllocError> {
+    let mut out = Counted::new(Vec::new(alloc));
+    let answer = check_file(alloc, TextKey::fixed(), text, &mut out);
+    verdict(alloc, out.inner.as_slice(), answer)
+}
+
+/// What the check of a file writes and answers where it explains its verdict, or its refusal.
+pub(crate) fn explained(alloc: Global, text: &[u8]) -> Result<String, AllocError> {
+    let mut out = Counted::new(Vec::new(alloc));
+    let answer = explain_file(alloc, TextKey::fixed(), text, &mut out);
+    verdict(alloc, out.inner.as_slice(), answer)
 }
 
 /// What reading a file is refused with; nothing where it is not.

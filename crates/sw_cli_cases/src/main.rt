@@ -7,9 +7,11 @@
 //!   cut a=12 and with a thread for each block, where that is something else
 //! - `many NUMBER TEXT`: how many bytes the script writes that has the first line of TEXT so many times and then the rest
 //! - `failing NUMBER TEXT`: what a sink took that takes three bytes a time and fails at its write of this number
+//! - `reading NUMBER TEXT`: what a run writes whose script comes three bytes a read and fails at the read of this number
 //! - `history TEXT`: the history file of a script over the table
 //! - `check TEXT`: the verdict on a history file, with the status
 //! - `entries TEXT`: the same of a file with these entries over the table of the examples
+//! - `explain TEXT`: the same, explained
 //! - `cuts TEXT`: the refusals of such a file when it is cut after each of its bytes, each one once
 //! - `fault NUMBER`: the line of a refusal, and the status
 //! - `noting TEXT`: whether a line that was refused went out, where TEXT is written in pieces that are divided by |
@@ -19,6 +21,7 @@ mod cases;
 mod faults;
 mod files;
 mod sinks;
+mod sources;
 mod text;
 
 use crate::cases::Bench;

@@ -1,7 +1,6 @@
 //! What lies under the lock.
 
 ghost use Rattle.std.specs.Prelude.{◌≡◌, ℕ, List, [], ◌∷◌, ◌++◌, ◌<◌, ◌+◌, ◌≤◌, length, true, false, Some, None, All, IfErr, IfOk, IsSome, IsSomeAnd, OnErr, OnOk};
-ghost use Rattle.sw_rows.specs.Scan.{AsksBelow};
 ghost use Rattle.sw_rows.specs.declared.query.Call.TheVariants.{Select};
 ghost use Rattle.sw_rows.specs.declared.table.TheConstants.{MOST_ROWS};
 ghost use Rattle.sw_spine.specs.Table.{is_numbered, opened, reply_to, updates_then};
@@ -202,7 +201,7 @@ impl<J: Naming> Desk<J> {
         query: Query,
     ) -> Result<(), Refusal>
         requires rest { IsAtRest J.sessions number share.old }
-        requires asks { AsksBelow (length J.columns) query }
+        requires asks { CallsBelow (length J.columns) (Select query) }
         ensures share { IsShareOf J.sessions number share.new }
         ensures mine { mine number share.new.value.entries ≡ mine number share.old.value.entries }
         ensures waits { OnOk result (waits_for number share.new.value ≡ Some (Select query, head.new.taken)) }

@@ -1,7 +1,6 @@
 //! Heads under their latches, the history under its lock, and the sessions.
 
 ghost use Rattle.std.specs.Prelude.{◌≡◌, ◌<◌, ◌≤◌, ◌+◌, ◌++◌, ◌∷◌, [], ℕ, true, drop, length, take, vec_len, IfErr, IfOk, IsOkUnless, MatchResult, OnErr, OnOk, false};
-ghost use Rattle.sw_rows.specs.Scan.{AsksBelow, CondsBelow};
 ghost use Rattle.sw_rows.specs.declared.query.Call.TheVariants.{Select, Insert, Delete, DeleteWhere};
 ghost use Rattle.sw_rows.specs.declared.refusal.Refusal.TheVariants.{NoMemory};
 ghost use Rattle.sw_rows.specs.declared.table.TheConstants.{MOST_ROWS};
@@ -411,7 +410,7 @@ where
         query: &Query,
     ) -> Result<Reply, Refusal>
         requires rest { IsAtRest J.sessions number share.old }
-        requires asks { AsksBelow (length J.columns) query.now }
+        requires asks { CallsBelow (length J.columns) (Select query.now) }
         requires whole { IsWhole J.limit J.opening share.old.value }
         ensures rest { IsAtRest J.sessions number share.new }
         ensures mine { IfOk result (λ r. IsTold number (Select query.now) r share.old.value share.new.value) }
@@ -535,12 +534,13 @@ where
     /// What a query is answered.
     ///
     /// Refused `NoMemory`, or `HistoryFull`; then no row has changed, and the call stands in the history at most as void.
+    /// The caller's condition: the query names attributes of the table, 1 to 8 where it asks for rows.
     pub fn select<R: Threads + Wait + Sync>(
         &mut self,
         rt: &R,
         query: &Query,
     ) -> Result<Reply, Refusal>
-        requires { AsksBelow (length J.columns) query.now }
+        requires { CallsBelow (length J.columns) (Select query.now) }
         ensures number { self.new.0 ≡ self.old.0 }
         ensures mine { IfOk result (λ r. self.new.1 ≡ self.old.1 ++ (Select query.now, r) ∷ []) }
         ensures err { OnErr result (self.new.1 ≡ self.old.1) }
@@ -593,11 +593,10 @@ where
 
     /// Deletes all rows that meet the conditions, as one call, and tells how many. The conditions are copied.
     ///
-    /// Refused `NoMemory`, or `HistoryFull`; then nothing has changed. The caller's condition: the conditions name
-    /// attributes of the table. With none of them all rows go. The call has a line in a history file where there is a
-    /// condition, and each has a bound and an attribute of its own.
+    /// Refused `NoMemory`, or `HistoryFull`; then nothing has changed. The caller's condition: there is a condition at
+    /// least, and each names an attribute of the table and has a bound.
     pub fn delete_where<R: Wait>(&mut self, rt: &R, conds: &[Cond]) -> Result<Reply, Refusal>
-        requires { CondsBelow (length J.columns) conds.now }
+        requires { CallsBelow (length J.columns) (DeleteWhere conds.now) }
         ensures number { self.new.0 ≡ self.old.0 }
         ensures mine { IfOk result (λ r. self.new.1 ≡ self.old.1 ++ (DeleteWhere conds.now, r) ∷ []) }
         ensures err { OnErr result (self.new.1 ≡ self.old.1) }

@@ -2,7 +2,6 @@
 
 ghost use Rattle.std.specs.Prelude.{◌≡◌, ◌⊎◌, ◌<◌, ◌≤◌, ◌+◌, [], false, None, Some, length, IfErr, IfOk, IsSome, IsSomeAnd, OnErr, OnOk, true};
 ghost use mathlib.Core.List.{IsPrefix};
-ghost use Rattle.sw_rows.specs.Scan.{AsksBelow};
 ghost use Rattle.sw_rows.specs.declared.query.Call.TheVariants.{Select};
 ghost use Rattle.sw_rows.specs.declared.table.TheConstants.{MOST_ROWS};
 ghost use Rattle.sw_spine.specs.Table.{is_numbered, reply_to};
@@ -143,7 +142,7 @@ where
         query: Query,
     ) -> Result<(), Refusal>
         requires rest { IsAtRest J.sessions number share.old }
-        requires asks { AsksBelow (length J.columns) query }
+        requires asks { CallsBelow (length J.columns) (Select query) }
         ensures share { IsShareOf J.sessions number share.new }
         ensures mine { mine number share.new.value.entries ≡ mine number share.old.value.entries }
         ensures waits { OnOk result (waits_for number share.new.value ≡ Some (Select query, head.new.taken)) }

@@ -17,6 +17,7 @@ use Rattle.sw_rows.specs.declared.query.Want.TheVariants as want
 use Rattle.sw_rows.specs.declared.reply.Reply.TheVariants as reply
 use Rattle.sw_table.specs.declared.row.Row.{Row}
 use Rattle.sw_rows.proofs.SchemaLaws.{header-schema}
+use Rattle.sw_lang.specs.Fits.{IsBound}
 use Rattle.sw_lang.specs.Grammar.{IsLine}
 use Rattle.sw_lang.specs.PrintedExamples.{abc, asking, asking_where, at_least, at_most, cond}
 use Rattle.sw_lang.specs.Reading.{call_at, call_of, cells_at, delete_at, delete_where, first_by, line_at, name_of, next_value, op_for, op_of, past_comma, term_at, terms_at, value_of, where_at}
@@ -52,7 +53,7 @@ rows_have =
     All-from_recursion (HasCells (kinds_of abc)) rows (first, (second, (third, (fourth, tt))))
 
 sound : IsSound (counted (state.Answered (reply.Count 4)))
-sound = record { some = omega arith; most = omega arith; few = omega arith; numbered = refl; short = omega arith; below = (record { conds = All-nil (λ (c : Cond). c.attr < 3); want = tt }, tt) }
+sound = record { some = omega arith; most = omega arith; few = omega arith; numbered = refl; short = omega arith; below = ((record { conds = All-nil (λ (c : Cond). c.attr < 3); want = tt }, tt), tt) }
 
 pub counted_of_run : IsOfRun (counted (state.Answered (reply.Count 4))) × KnowsInOrder (counted (state.Answered (reply.Count 4)))
 counted_of_run = (
@@ -82,7 +83,7 @@ delete_sound = record {
   few = omega arith;
   numbered = refl;
   short = omega arith;
-  below = (All-from_recursion (λ (c : Cond). c.attr < 3) (cond 0 (at_least (pos 12)) (at_most (pos 12)) ∷ []) (omega arith, tt), tt);
+  below = ((All-from_recursion (λ (c : Cond). c.attr < 3) (cond 0 (at_least (pos 12)) (at_most (pos 12)) ∷ []) (omega arith, tt), omega arith, All-from_recursion IsBound (cond 0 (at_least (pos 12)) (at_most (pos 12)) ∷ []) (refl, tt)), tt);
 }
 
 pub deleted_of_run : IsOfRun (deleted (state.Answered (reply.RemovedMany 2))) × KnowsInOrder (deleted (state.Answered (reply.RemovedMany 2)))
@@ -140,7 +141,7 @@ visits_sound = record {
   few = omega arith;
   numbered = refl;
   short = omega arith;
-  below = (record { conds = All-from_recursion (λ (c : Cond). c.attr < 2) (cond 0 (at_least (pos 1)) (at_most (pos 1)) ∷ []) (omega arith, tt); want = tt }, (tt, tt));
+  below = ((record { conds = All-from_recursion (λ (c : Cond). c.attr < 2) (cond 0 (at_least (pos 1)) (at_most (pos 1)) ∷ []) (omega arith, tt); want = tt }, tt), (tt, tt));
 }
 
 pub visited_of_run : IsOfRun (visited (state.Answered (reply.Count 2)) (state.Answered (reply.Inserted 4))) × KnowsInOrder (visited (state.Answered (reply.Count 2)) (state.Answered (reply.Inserted 4)))

@@ -10,7 +10,9 @@ pub mod OtherFiles
 pub mod OtherHistories
 pub mod OtherTexts
 pub mod OutlineLemmas
+pub mod ReadParts
 pub mod RecordBack
+pub mod RecordGrammar
 pub mod RecordLaws
 pub mod RecordReadingLemmas
 pub mod RecordTextLemmas
@@ -21,3 +23,4 @@ pub mod TextReading
 pub mod TextUtf8
 pub mod ValueReading
 pub mod WrittenAgain
+pub mod ExplainedLemmas

@@ -38,7 +38,7 @@ use Rattle.sw_spine.specs.declared.spine.TheConstants.{MOST_ENTRIES, MOST_SESSIO
 use Rattle.sw_spine.proofs.StoreLemmas.{inserts_opened, rows_of_opened}
 use Rattle.sw_histories.specs.ReadBack.{AreCells, HasCells, IsCalled, IsCellOf, IsOfRun, IsStateOf, in_lines, texts_in_file}
 use Rattle.sw_histories.specs.RecordReading.{may_stand, record_at, row_texts, rows_after, rows_in, rows_up_to, state_of, text_in}
-use Rattle.sw_histories.specs.RecordRelation.{AreEntries, IsEntry, IsRecord}
+use Rattle.sw_histories.proofs.ReadParts.{AreReadEntries, IsReadEntry, IsReadRecord}
 use Rattle.sw_histories.specs.RecordText.{cell_data, cells_data, entry_data, format_of, is_delete_where, list_data, record_data, record_text, row_data, state_data}
 use Rattle.sw_histories.proofs.NarrowedLines.{texts_are}
 use Rattle.sw_histories.proofs.OtherCalls.{AreKnownToks, IsKnownTok, Pairs, call_same, padded_same}
@@ -205,7 +205,7 @@ state-other cs c d state.Void e h = rw (sym e ∙ h) refl
 
 record OtherEntries (ts us known : Texts) (cs : List Column) (format : ℕ) (es : List Entry) : Type 0 where
   pub entries : List Entry
-  pub are : AreEntries format (holding known (holding us cs)) (map (entry_data cs) es) (holding us cs) entries
+  pub are : AreReadEntries format (holding known (holding us cs)) (map (entry_data cs) es) (holding us cs) entries
   pub same : SameEntries ts us cs es entries
   pub long : length entries ≡ length es
 
@@ -226,7 +226,7 @@ entries-other ts us known cs format (e ∷ es) o ok okay all own codes stand a =
     let more = entries-other ts us (with_texts known one) cs format es o ok okay after own parts.1 stands.1 (All-tail (IsCalled cs) e es a) in
     let st = in_lines cs e.call e.state in
     let f : Entry = entry e.session d st in
-    let here : IsEntry format (holding known (holding us cs)) (entry_data cs e) f = record {
+    let here : IsReadEntry format (holding known (holding us cs)) (entry_data cs e) f = record {
       members = refl;
       text = text;
       text_is = refl;
@@ -237,7 +237,7 @@ entries-other ts us known cs format (e ∷ es) o ok okay all own codes stand a =
     } in
     record {
       entries = f ∷ more.entries;
-      are = (here, subst (λ vs. AreEntries format vs (map (entry_data cs) es) (holding us cs) more.entries) (sym (learned_held (holding us cs) known text)) more.are);
+      are = (here, subst (λ vs. AreReadEntries format vs (map (entry_data cs) es) (holding us cs) more.entries) (sym (learned_held (holding us cs) known text)) more.are);
       same = (same, refl, more.same);
       long = ap suc more.long;
     }
@@ -261,7 +261,7 @@ rows-read h us r other okay own split =
 
 is-record : (h : History) (us : Texts) → IsOfRun h → (other : OtherRows (texts_of h.columns) us h.columns 1 h.rows) (es : OtherEntries (texts_of h.columns) us (with_texts [] (shown_texts h.columns h.rows)) h.columns (format_of h.columns h.entries) h.entries)
     → IsSchema (holding us h.columns) → texts_of (holding us h.columns) ≡ us → with_texts (with_texts [] (shown_texts h.columns h.rows)) (called_texts h.columns h.entries) ≡ us
-    → IsRecord (record_text h) (record { columns = holding us h.columns; rows = other.rows; limit = h.limit; entries = es.entries })
+    → IsReadRecord (record_text h) (record { columns = holding us h.columns; rows = other.rows; limit = h.limit; entries = es.entries })
 is-record h us r other es okay own split = record {
   utf8 = record_utf8 h r;
   value = record_data h;

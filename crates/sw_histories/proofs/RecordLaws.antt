@@ -26,7 +26,7 @@ use Rattle.sw_spine.specs.declared.history.State.{State}
 use Rattle.sw_spine.specs.declared.spine.TheConstants.{MOST_ENTRIES, MOST_SESSIONS}
 use Rattle.sw_histories.specs.Told.{◌>>=◌}
 use Rattle.sw_histories.specs.RecordReading.{Frame, array_at, call_in, columns_in, columns_under, entries_after, entries_of, entry_in, entry_learned, entry_with, frame, frame_by, frame_in, frame_of, frame_with, frame_within, format_in, has_call, has_members, header_in, history_of, history_with, in_range, json_of, limit_in, may_stand, number_at, or_fault, record_at, row_in, row_learned, rows_after, rows_in, rows_up_to, session_in, state_in, state_of, text_at, texts_after, under_format, with_row}
-use Rattle.sw_histories.specs.RecordRelation.{AreEntries, IsEntry, IsRecord}
+use Rattle.sw_histories.proofs.ReadParts.{AreReadEntries, IsReadEntry, IsReadRecord}
 use Rattle.sw_lang.proofs.Knowing.{learned_schema}
 use Rattle.sw_histories.proofs.LearnedTexts.{row_schema}
 use Rattle.sw_histories.proofs.RecordReadingLemmas.{map_some, record_ok}
@@ -62,7 +62,7 @@ call_found format columns n text c h =
     let o : a.0 ≡ Some b.0 = fault_ok n a.0 b.0 a.2 in
     (refused_ok n line a.0 a.1 ∙ ap (λ x. Ok x) (o ∙ s.1), subst (λ x. may_stand format x ≡ true) same s.0)
 
-pub entry_found : (format : ℕ) (columns : List Column) (n : ℕ) (d : Data) (e : Entry) → entry_in format columns n d ≡ Ok e → IsEntry format columns d e
+pub entry_found : (format : ℕ) (columns : List Column) (n : ℕ) (d : Data) (e : Entry) → entry_in format columns n d ≡ Ok e → IsReadEntry format columns d e
 entry_found format columns n d e h =
     let t = then_ok {A = List ℕ} {B = Entry} (or_fault n (has_call d)) (λ text. (call_in format columns n text >>= λ c. or_fault n (entry_with c d))) e h in
     let members = has_call_found d t.0 (fault_ok n (has_call d) t.0 t.1) in
@@ -71,7 +71,7 @@ entry_found format columns n d e h =
     let s = then_some {A = ℕ} {B = Entry} (λ s. option_map (λ st. entry s c.0 st) (state_in c.0 d)) (session_in d) e w in
     let st = map_some {A = State} {B = Entry} (λ st. entry s.0 c.0 st) (state_in c.0 d) e s.2 in
     let found = call_found format columns n t.0 c.0 c.1 in
-    subst (IsEntry format columns d) {x = entry s.0 c.0 st.0} st.2 (record {
+    subst (IsReadEntry format columns d) {x = entry s.0 c.0 st.0} st.2 (record {
       members = members.0;
       text = t.0;
       text_is = members.1;
@@ -89,7 +89,7 @@ number_there name d least most n h =
     let m = then_some as_number (get name d) b.0 b.1 in
     (m.0, m.1)
 
-pub entry_only : (format : ℕ) (columns : List Column) (n : ℕ) (d : Data) (e : Entry) → IsSchema columns → IsEntry format columns d e → entry_in format columns n d ≡ Ok e
+pub entry_only : (format : ℕ) (columns : List Column) (n : ℕ) (d : Data) (e : Entry) → IsSchema columns → IsReadEntry format columns d e → entry_in format columns n d ≡ Ok e
 entry_only format columns n d e ok i =
     let s = number_there (codes "session") d 1 MOST_SESSIONS e.session i.session in
     let r = then_some {A = Data} {B = State} (state_of e.call) (get (codes "reply") d) e.state i.state in
@@ -114,7 +114,7 @@ push_all done es e = sym (append_assoc done (e ∷ []) es)
 record Read (format : ℕ) (columns : List Column) (done : List Entry) (ds : List Data) (r : List Column × List Entry) : Type 0 where
   es : List Entry
   all_are : r.1 ≡ done ++ es
-  are : AreEntries format columns ds r.0 es
+  are : AreReadEntries format columns ds r.0 es
 
 entries_found : (format : ℕ) (columns : List Column) (done : List Entry) (ds : List Data) (r : List Column × List Entry) → entries_after format columns done ds ≡ Ok r → Read format columns done ds r
 entries_found format columns done [] r h =
@@ -126,7 +126,7 @@ entries_found format columns done (d ∷ ds) r h =
     let rest = entries_found format now (done ++ e.0 ∷ []) ds r e.2 in
     record { es = e.0 ∷ rest.es; all_are = rest.all_are ∙ sym (push_all done rest.es e.0); are = (entry_found format columns (length done + 1) d e.0 e.1, rest.are) }
 
-entries_only : (format : ℕ) (columns : List Column) (done : List Entry) (ds : List Data) (last : List Column) (es : List Entry) → IsSchema columns → AreEntries format columns ds last es → entries_after format columns done ds ≡ Ok (last, done ++ es)
+entries_only : (format : ℕ) (columns : List Column) (done : List Entry) (ds : List Data) (last : List Column) (es : List Entry) → IsSchema columns → AreReadEntries format columns ds last es → entries_after format columns done ds ≡ Ok (last, done ++ es)
 entries_only format columns done [] last [] ok are = ap (λ cs. Ok (cs, done)) (sym are) ∙ ap (λ l. Ok (last, l)) (sym (append-nil done))
 entries_only format columns done [] last (e ∷ es) ok are = absurd are
 entries_only format columns done (d ∷ ds) last [] ok are = absurd are
@@ -222,7 +222,7 @@ items_found f h e = at (nat_le (length f.items) MOST_ENTRIES) refl e
         (leb-true (length f.items) MOST_ENTRIES few, (a.0, a.1, ok_same (history_with f a.0) h a.2))
     at false many g = absurd (err_ok (TooMany MOST_ENTRIES) h g)
 
-pub record_found : (bytes : List ℕ) (h : History) → record_at bytes ≡ Ok h → IsRecord bytes h
+pub record_found : (bytes : List ℕ) (h : History) → record_at bytes ≡ Ok h → IsReadRecord bytes h
 unfolding record_at
 record_found bytes h e =
     let j = then_ok {A = Data} {B = History} (or_fault 0 (json_of bytes)) history_of h e in
@@ -231,7 +231,7 @@ record_found bytes h e =
     let o = outer_found j.0 f.0 (fault_ok 0 (frame_of j.0) f.0 f.1) in
     let es = items_found f.0 h f.2 in
     let found = entries_found f.0.format f.0.columns [] f.0.items es.1.0 es.1.1 in
-    subst (IsRecord bytes) {x = history_with f.0 es.1.0} es.1.2 (record {
+    subst (IsReadRecord bytes) {x = history_with f.0 es.1.0} es.1.2 (record {
       utf8 = text.0;
       value = j.0;
       json = text.1;
@@ -246,10 +246,10 @@ record_found bytes h e =
       items = f.0.items;
       items_are = o.items;
       few = es.0;
-      entries = subst (AreEntries f.0.format f.0.columns f.0.items es.1.0.0) (sym found.all_are) found.are;
+      entries = subst (AreReadEntries f.0.format f.0.columns f.0.items es.1.0.0) (sym found.all_are) found.are;
     })
 
-pub record_only : (bytes : List ℕ) (h : History) → IsRecord bytes h → record_at bytes ≡ Ok h
+pub record_only : (bytes : List ℕ) (h : History) → IsReadRecord bytes h → record_at bytes ≡ Ok h
 record_only bytes h r =
     let f : Frame = frame r.known r.format h.limit h.rows r.items in
     let outer : frame_of r.value ≡ Some f = outer_only r.value f (record { members = r.members; named = r.named; header = r.header; format = r.format_is; limit = r.limit; rows = r.rows; items = r.items_are }) in

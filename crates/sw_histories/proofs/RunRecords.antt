@@ -41,7 +41,7 @@ use Rattle.sw_rows.specs.declared.table.TheConstants.{MOST_ROWS}
 use Rattle.sw_spine.specs.declared.history.State.TheVariants as state
 use Rattle.sw_spine.specs.declared.spine.TheConstants.{MOST_ENTRIES, MOST_SESSIONS}
 use Rattle.sw_histories.specs.RecordReading.{cell_in, cells_after, cells_of, format_in, header_in, in_range, items_list, may_stand, number_in, of_kind, row_in, row_texts, rows_after, rows_in, rows_up_to, state_of, text_in, texts_after, with_row}
-use Rattle.sw_histories.specs.RecordRelation.{AreEntries, IsEntry, IsRecord}
+use Rattle.sw_histories.proofs.ReadParts.{AreReadEntries, IsReadEntry, IsReadRecord}
 use Rattle.sw_histories.specs.RecordText.{attribute_text, cell_data, cells_data, entry_data, format_of, has_delete_where, is_delete_where, least_format, list_data, record_data, record_text, row_data, state_data}
 use Rattle.sw_histories.specs.ReadBack.{AreCells, HasCells, HasWords, IsCalled, IsCellOf, IsOfRun, IsStateOf, IsWord, KnowsInOrder, RecordsAreReadBack, entry_in_lines, in_lines, with_lines}
 use Rattle.sw_histories.proofs.LearnedTexts.{one_more}
@@ -348,7 +348,7 @@ line_known cs ts rest text c ok h is = subst (λ vs. IsLine vs text (Some c)) (s
     by_test true some = line_narrowed ts rest cs text c ok.shared (h some) is
     by_test false none = subst (λ vs. IsLine vs text (Some c)) (sym (numbers_held (with_texts ts (texts_in_line text)) cs none)) is
 
-entry_back : (format : ℕ) (cs : List Column) (ts rest : Texts) (e : Entry) → may_stand format e.call ≡ true → IsSchema cs → (has_texts cs ≡ true → with_texts (with_texts ts (texts_in_line (call_text cs e.call))) rest ≡ texts_of cs) → IsCalled cs e → IsEntry format (holding ts cs) (entry_data cs e) (entry_in_lines cs e)
+entry_back : (format : ℕ) (cs : List Column) (ts rest : Texts) (e : Entry) → may_stand format e.call ≡ true → IsSchema cs → (has_texts cs ≡ true → with_texts (with_texts ts (texts_in_line (call_text cs e.call))) rest ≡ texts_of cs) → IsCalled cs e → IsReadEntry format (holding ts cs) (entry_data cs e) (entry_in_lines cs e)
 entry_back format cs ts rest e stands ok h i = record {
   members = refl;
   text = call_text cs e.call;
@@ -366,7 +366,7 @@ last_known cs ts ok h = by_test (has_texts cs) refl
     by_test true some = sym (ap (λ vs. holding vs cs) (h some) ∙ nothing_more cs ok)
     by_test false none = sym (numbers_held ts cs none)
 
-entries_back : (format : ℕ) (cs : List Column) (ts : Texts) (es : List Entry) → all_stand_under format es ≡ true → IsSchema cs → (has_texts cs ≡ true → with_texts ts (called_texts cs es) ≡ texts_of cs) → All (IsCalled cs) es → AreEntries format (holding ts cs) (map (entry_data cs) es) cs (map (entry_in_lines cs) es)
+entries_back : (format : ℕ) (cs : List Column) (ts : Texts) (es : List Entry) → all_stand_under format es ≡ true → IsSchema cs → (has_texts cs ≡ true → with_texts ts (called_texts cs es) ≡ texts_of cs) → All (IsCalled cs) es → AreReadEntries format (holding ts cs) (map (entry_data cs) es) cs (map (entry_in_lines cs) es)
 entries_back format cs ts [] stand ok h a = last_known cs ts ok h
 entries_back format cs ts (e ∷ es) stand ok h a =
     let text = call_text cs e.call in
@@ -377,7 +377,7 @@ entries_back format cs ts (e ∷ es) stand ok h a =
     let stands = and_parts (may_stand format e.call) (all_stand_under format es) stand in
     let rest = entries_back format cs us es stands.1 ok then_known (All-tail (IsCalled cs) e es a) in (
       entry_back format cs ts left e stands.0 ok then_known (All-head (IsCalled cs) e es a),
-      subst (λ vs. AreEntries format vs (map (entry_data cs) es) cs (map (entry_in_lines cs) es)) (sym (learned_held cs ts text)) rest,
+      subst (λ vs. AreReadEntries format vs (map (entry_data cs) es) cs (map (entry_in_lines cs) es)) (sym (learned_held cs ts text)) rest,
     )
 
 -- ---- words
@@ -428,7 +428,7 @@ has_words h r = record {
 
 -- ---- the record
 
-written : (h : History) → IsOfRun h → KnowsInOrder h → IsRecord (record_text h) (with_lines h)
+written : (h : History) → IsOfRun h → KnowsInOrder h → IsReadRecord (record_text h) (with_lines h)
 written h r o = record {
   utf8 = record_utf8 h r;
   value = record_data h;

@@ -1,3 +1,4 @@
+pub mod Explained
 pub mod FileChecks
 pub mod FileExamples
 pub mod FoundLegal

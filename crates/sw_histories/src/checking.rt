@@ -18,7 +18,7 @@ fn write_count<W: Sink>(count: usize, out: &mut W) -> Result<(), Refusal>
     write_all(out, b" entries\n")
 }
 
-fn write_legal<W: Sink>(count: usize, out: &mut W) -> Result<(), Refusal>
+pub(crate) fn write_legal<W: Sink>(count: usize, out: &mut W) -> Result<(), Refusal>
     ensures { Writes (W.taken out.old) (W.taken out.new) (W.failed out.old) (W.failed out.new) result
         (legal_line count) }
 {
@@ -34,7 +34,7 @@ fn write_place<W: Sink>(place: u64, out: &mut W) -> Result<(), Refusal>
     write_all(out, b"\n")
 }
 
-fn write_fault_place<W: Sink>(place: u64, out: &mut W) -> Result<(), Refusal>
+pub(crate) fn write_illegal<W: Sink>(place: u64, out: &mut W) -> Result<(), Refusal>
     ensures { Writes (W.taken out.old) (W.taken out.new) (W.failed out.old) (W.failed out.new) result
         (illegal_line place) }
 {
@@ -51,7 +51,7 @@ fn judge<W: Sink>(history: &Record, out: &mut W) -> Result<u8, Refusal>
             Ok(()) => Ok(0),
             Err(e) => Err(e),
         },
-        Err(Refusal::NotLegal { index }) => match write_fault_place(index, out) {
+        Err(Refusal::NotLegal { index }) => match write_illegal(index, out) {
             Ok(()) => Ok(1),
             Err(e) => Err(e),
         },

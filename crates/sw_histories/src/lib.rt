@@ -2,6 +2,7 @@
 #![tactic(auto)]
 
 mod checking;
+mod explaining;
 pub mod file_examples;
 mod law;
 mod outline;
@@ -10,6 +11,7 @@ mod values;
 mod writing;
 
 pub use checking::check_file;
+pub use explaining::explain_file;
 pub use law::{
     histories_are_read_as_related, legal_files_are_found_legal, records_are_read_back,
     tables_have_cells, texts_are_read_as_values,

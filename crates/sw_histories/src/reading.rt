@@ -428,6 +428,7 @@ fn may_stand(format: u64, call: &Call) -> bool
 }
 
 /// The call of a line in a file of this format. The texts of the line are made known.
+#[tactic(auto, using(sw_spine::proofs::Histories::fits_below))]
 fn read_call(
     alloc: Global,
     format: u64,

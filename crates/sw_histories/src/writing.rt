@@ -28,7 +28,7 @@ fn call_bytes(alloc: Global, schema: &Schema, call: &Call) -> Result<Vec<u8>, Al
 }
 
 /// A call as it is printed.
-fn call_string(alloc: Global, schema: &Schema, call: &Call) -> Result<String, AllocError>
+pub(crate) fn call_string(alloc: Global, schema: &Schema, call: &Call) -> Result<String, AllocError>
     ensures { IfOk result (λ text. string_bytes text ≡ call_text schema.now call.now) }
 {
     let _width = schema.len();

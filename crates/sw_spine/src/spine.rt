@@ -1,7 +1,6 @@
 //! The spine.
 
 ghost use Rattle.std.specs.Prelude.{ℕ, ◌≡◌, ◌<◌, ◌≤◌, ◌-◌, ◌++◌, [], true, false, Some, None, drop, length, slice_index_or, slice_set, IfErr, IfOk, IfSome, IsSome, IsSomeAnd, MatchResult, OnErr, OnOk};
-ghost use Rattle.sw_rows.specs.Scan.{AsksBelow, CondsBelow};
 ghost use Rattle.sw_rows.specs.declared.query.Call.TheVariants.{Select, Insert, Delete, DeleteWhere};
 ghost use Rattle.sw_spine.specs.Table.{inserted, is_numbered, removed, reply_to, updates_then};
 ghost use Rattle.sw_spine.specs.History.{CallsBelow, IsLegal, IsSound, all_given, is_absent, is_select, mine, open_place, settled};
@@ -182,7 +181,7 @@ impl Spine {
     ///
     /// Refused `HistoryFull` where the history has 1,048,576 entries, `NoMemory` otherwise; after a refusal nothing has
     /// changed. The caller's conditions: the session was opened and has no open entry, the query names attributes of the
-    /// table, and the head's number, which says only who takes the updates, is below 8.
+    /// table, 1 to 8 where it asks for rows, and the head's number, which says only who takes the updates, is below 8.
     pub fn begin(
         &mut self,
         session: u64,
@@ -192,7 +191,7 @@ impl Spine {
     ) -> Result<(), Refusal>
         requires opened { is_opened session self.old ≡ true }
         requires rest { waits_for session self.old ≡ None }
-        requires asks { AsksBelow (length self.old.columns) query }
+        requires asks { CallsBelow (length self.old.columns) (Select query) }
         requires head { head < 8 }
         ensures begun { OnOk result (self.new ≡ with_open session query head self.old) }
         ensures inbox { OnOk result (inbox.new.items ≡ inbox.old.items ++ untaken head self.old) }
@@ -228,7 +227,7 @@ impl Spine {
     ) -> Result<(), AllocError>
         requires opened { is_opened session self.old ≡ true }
         requires rest { waits_for session self.old ≡ None }
-        requires asks { AsksBelow (length self.old.columns) query }
+        requires asks { CallsBelow (length self.old.columns) (Select query) }
         requires head { head < 8 }
         requires room { length self.old.entries < MOST_ENTRIES }
         ensures ok { OnOk result (HasBegun session query head self.old self.new inbox.old.items inbox.new.items) }
@@ -293,8 +292,8 @@ impl Spine {
     /// A call that is no select is answered at the end of the history, with the plain table's reply there.
     ///
     /// Refused `HistoryFull` where the history has 1,048,576 entries, `NoMemory` otherwise; after a refusal nothing has
-    /// changed. The caller's conditions: the call is no select, its conditions name attributes of the table, and the
-    /// session was opened and has no open entry.
+    /// changed. The caller's conditions: the call is no select, its conditions name attributes of the table, of a delete
+    /// under conditions there is one at least, each with a bound, and the session was opened and has no open entry.
     pub fn commit(&mut self, session: u64, call: Call) -> Result<Reply, Refusal>
         requires opened { is_opened session self.old ≡ true }
         requires rest { waits_for session self.old ≡ None }
@@ -373,7 +372,7 @@ impl Spine {
     fn delete_where(&mut self, session: u64, conds: Conds) -> Result<Reply, AllocError>
         requires opened { is_opened session self.old ≡ true }
         requires rest { waits_for session self.old ≡ None }
-        requires below { CondsBelow (length self.old.columns) conds }
+        requires below { CallsBelow (length self.old.columns) (DeleteWhere conds) }
         requires room { length self.old.entries < MOST_ENTRIES }
         ensures { MatchResult result
             (HasAnswered session (DeleteWhere conds) self.old self.new)

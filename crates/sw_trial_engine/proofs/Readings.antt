@@ -5,25 +5,19 @@ use Rattle.std.proofs.lemmas.Bool.Decides.{nat_tests}
 use Rattle.sw_rows.specs.Header.{Column}
 use Rattle.sw_table.specs.declared.row.Row.{Row}
 use Rattle.sw_rows.specs.declared.query.Call.{Call}
-use Rattle.sw_rows.specs.declared.query.Call.TheVariants as call
 use Rattle.sw_rows.specs.declared.refusal.Refusal.{Refusal}
 use Rattle.sw_lang.specs.Fits.{FitsCall}
 use Rattle.sw_spine.specs.History.{CallsBelow}
 use Rattle.sw_spine.specs.Table.{is_numbered}
-
-call_below : (schema : List Column) (c : Call) → FitsCall schema c → CallsBelow (length schema) c
-call_below schema (call.Select q) h = h.attrs
-call_below schema (call.Insert cells) h = tt
-call_below schema (call.Delete key) h = tt
-call_below schema (call.DeleteWhere conds) h = h.query.attrs.conds
+use Rattle.sw_spine.proofs.Histories.{fits_below}
 
 some_below : (schema : List Column) (o : Option Call) → IfSome o (FitsCall schema) → IfSome o (CallsBelow (length schema))
 some_below schema None h = tt
-some_below schema (Some c) h = call_below schema c h
+some_below schema (Some c) h = fits_below schema c h
 
-pub fits_below : (schema : List Column) (result : Result (Option Call) Refusal) → IfOk result (λ o. IfSome o (FitsCall schema)) → IfOk result (λ o. IfSome o (CallsBelow (length schema)))
-fits_below schema (Ok o) h = some_below schema o h
-fits_below schema (Err e) h = tt
+pub read_below : (schema : List Column) (result : Result (Option Call) Refusal) → IfOk result (λ o. IfSome o (FitsCall schema)) → IfOk result (λ o. IfSome o (CallsBelow (length schema)))
+read_below schema (Ok o) h = some_below schema o h
+read_below schema (Err e) h = tt
 
 pub numbered_push : (n : ℕ) (rows : List Row) (r : Row) → is_numbered n rows ≡ true → r.key ≡ n + length rows → is_numbered n (rows ++ r ∷ []) ≡ true
 numbered_push n [] r h is = grind (arith, nat_tests, is)

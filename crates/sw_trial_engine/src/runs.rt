@@ -2,13 +2,14 @@
 
 use crate::boxes::{Sights, Signals, Watching, crossed, watching};
 use crate::running::cleared;
-use crate::told::held;
+use crate::told::{held, tell_file};
 use std::alloc::{AllocError, Global};
 use std::sync::Wait;
 use std::sync::atomic::Ordering;
 use std::thread::Threads;
 use sw_cli::{Options, run_with};
 use sw_rows::{Counted, Refusal, TextKey};
+use sw_spine::Record;
 
 const SCHEMA_AND_ROWS: &[u8] = b"a:int,b:int,c:int\n12,7,1\n3,8,0\n12,5,1\n20,2,0\n";
 
@@ -30,7 +31,7 @@ fn add_lines(text: &mut String, bytes: &[u8]) -> Result<(), AllocError> {
     Ok(())
 }
 
-/// Tells what a run with threads writes over maps, which are made blank and dealt out from the last.
+/// Tells what a run with threads writes over maps, which are made blank and dealt out from the last, and answers its record.
 fn tell_run<R: Threads + Wait + Sync>(
     rt: &R,
     alloc: Global,
@@ -38,7 +39,7 @@ fn tell_run<R: Threads + Wait + Sync>(
     cuts: &str,
     maps: Vec<Watching>,
     text: &mut String,
-) -> Result<(), Refusal> {
+) -> Result<Record, Refusal> {
     let options = Options {
         limit: 1000,
         cuts,
@@ -49,12 +50,13 @@ fn tell_run<R: Threads + Wait + Sync>(
     let mut out = Counted::new(Vec::new(alloc));
     let mut table = Counted::new(SCHEMA_AND_ROWS);
     let mut script = Counted::new(script);
-    let _record = run_with(rt, alloc, &mut table, &mut script, &mut out, &options, maps)?;
-    held(add_lines(text, out.inner.as_slice()))
+    let record = run_with(rt, alloc, &mut table, &mut script, &mut out, &options, maps)?;
+    held(add_lines(text, out.inner.as_slice()))?;
+    Ok(record)
 }
 
-/// Two blocks, of which each one's map waits in its first step for that of the other. Tells what was written, and whether a wait came
-/// to its limit.
+/// Two blocks, of which each one's map waits in its first step for that of the other. Tells what was written, the check of the
+/// record's file, and whether a wait came to its limit.
 pub(crate) fn met_in_run<R: Threads + Wait + Sync>(
     rt: &R,
     alloc: Global,
@@ -64,7 +66,8 @@ pub(crate) fn met_in_run<R: Threads + Wait + Sync>(
     let signals = held(Signals::new(alloc, false))?;
     let maps = crossed(alloc, &signals, &sights)?;
     let script = b"count where a >= 10\n---\ncount where b >= 6\n";
-    tell_run(rt, alloc, script.as_slice(), "", maps, text)?;
+    let record = tell_run(rt, alloc, script.as_slice(), "", maps, text)?;
+    tell_file(alloc, text, &record)?;
     if sights.overran.load(Ordering::SeqCst) {
         return held(text.push_str("late"));
     }
@@ -83,7 +86,7 @@ pub(crate) fn begun<R: Threads + Wait + Sync>(
     let sights = held(Sights::new(alloc))?;
     let maps = watching(alloc, many, &held(Signals::new(alloc, true))?, &sights)?;
     let script = held(script(alloc, lines))?;
-    tell_run(rt, alloc, script.as_slice(), cuts, maps, text)?;
+    let _record = tell_run(rt, alloc, script.as_slice(), cuts, maps, text)?;
     let begins = sights.counts.begins.load(Ordering::SeqCst);
     held(write!(text, " {begins} begun"))
 }

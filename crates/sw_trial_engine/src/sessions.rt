@@ -12,7 +12,7 @@ use crate::opening::Boxes;
 use crate::playing::{Plan, Played, play};
 use crate::random::random_blocks;
 use crate::running::{HEADER, ROWS, TABLE, Trial, blocks};
-use crate::told::{held, tell_counts, tell_replies, tell_right};
+use crate::told::{held, tell_counts, tell_file, tell_replies, tell_right};
 use std::alloc::Global;
 use std::sync::Wait;
 use std::sync::atomic::Ordering;
@@ -201,7 +201,7 @@ pub(crate) fn counted<R: Threads + Wait + Sync>(
     held(tell_counts(text, &sights.counts))
 }
 
-/// Two boxes of the first head, which wait in their first step until a call is answered.
+/// Two boxes of the first head, which wait in their first step until a call is answered. Tells the check of the record's file too.
 pub(crate) fn waited<R: Threads + Wait + Sync>(
     rt: &R,
     alloc: Global,
@@ -217,6 +217,7 @@ pub(crate) fn waited<R: Threads + Wait + Sync>(
     let plan = planned(alloc, viewers, false, signals);
     let played = play_lines(rt, alloc, "", boxes, lines, plan, text)?;
     held(show_seen(text, played.seen.as_slice()))?;
+    tell_file(alloc, text, &played.record)?;
     if sights.overran.load(Ordering::SeqCst) {
         return held(text.push_str("; late"));
     }

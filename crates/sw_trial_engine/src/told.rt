@@ -3,7 +3,8 @@
 use crate::playing::Played;
 use std::alloc::{AllocError, Global};
 use std::sync::atomic::Ordering;
-use sw_rows::{Call, Refusal, Reply, ReplyRows};
+use sw_cli::{check_file, write_record};
+use sw_rows::{Call, Counted, Refusal, Reply, ReplyRows, TextKey};
 use sw_spine::{Record, State};
 use sw_trial_maps::Counts;
 
@@ -66,6 +67,16 @@ fn tell_session(text: &mut String, record: &Record, session: u64) -> Result<(), 
 pub(crate) fn tell_replies(text: &mut String, record: &Record) -> Result<(), AllocError> {
     tell_session(text, record, 1)?;
     tell_session(text, record, 2)
+}
+
+/// Tells what the check of a record's file writes.
+pub(crate) fn tell_file(alloc: Global, text: &mut String, record: &Record) -> Result<(), Refusal> {
+    let mut file = Counted::new(Vec::new(alloc));
+    write_record(alloc, record, &mut file)?;
+    let mut line = Counted::new(Vec::new(alloc));
+    let _status = check_file(alloc, TextKey::fixed(), file.inner.as_slice(), &mut line)?;
+    let told = held(String::from_utf8_lossy(alloc, line.inner.as_slice()))?;
+    held(write!(text, "; {}", told.trim_end()))
 }
 
 /// Tells how often maps were begun, stepped and asked.

@@ -1,6 +1,8 @@
 //! What may be called of a table.
 
-ghost use Rattle.std.specs.Prelude.{◌≡◌, ◌<◌, true, All};
+ghost use Rattle.std.specs.Prelude.{◌≡◌, ◌<◌, ◌≤◌, true, length, All};
+ghost use Rattle.std.specs.List.{list_all};
+ghost use Rattle.sw_lang.specs.Fits.{HasFewNames, IsBound, is_bound};
 ghost use Rattle.sw_rows.specs.Scan.{AsksBelow, CondsBelow, WantsBelow};
 ghost use Rattle.sw_spine.specs.History.{CallsBelow};
 
@@ -30,12 +32,44 @@ fn conds_below(conds: &[Cond], columns: usize) -> bool
     true
 }
 
-/// Whether what is wanted is of attributes below a number.
+/// Whether each condition has a bound.
+fn conds_bound(conds: &[Cond]) -> bool
+    ensures { result ≡ list_all (λ c. is_bound c.lower c.upper) conds.now }
+{
+    conds
+        .iter()
+        .all(|cond| cond.lower.is_some() || cond.upper.is_some())
+}
+
+/// Whether rows may be removed by these conditions.
+#[tactic(auto, using(crate::proofs::Bounds::all_bound))]
+fn removes_below(conds: &[Cond], columns: usize) -> bool
+    ensures below { result ≡ true → CondsBelow columns conds.now }
+    ensures some { result ≡ true → 1 ≤ length conds.now }
+    ensures bound { result ≡ true → All IsBound conds.now }
+{
+    if conds.is_empty() {
+        return false;
+    }
+    if !conds_bound(conds) {
+        return false;
+    }
+    conds_below(conds, columns)
+}
+
+/// Whether what is wanted is of attributes below a number, 1 to 8 of them where it is rows.
 fn want_below(want: &Want, columns: usize) -> bool
-    ensures { result ≡ true → WantsBelow columns want.now }
+    ensures below { result ≡ true → WantsBelow columns want.now }
+    ensures few { result ≡ true → HasFewNames want.now }
 {
     match want {
-        Want::Rows(names) => names_below(names.as_slice(), columns),
+        Want::Rows(names) => {
+            let names = names.as_slice();
+            if names.is_empty() || names.len() > 8 {
+                return false;
+            }
+            names_below(names, columns)
+        }
         Want::Count => true,
         Want::Sum(a) => *a < columns,
         Want::Min(a) => *a < columns,
@@ -43,14 +77,15 @@ fn want_below(want: &Want, columns: usize) -> bool
     }
 }
 
-/// Whether all attributes of a query are below a number.
+/// Whether all attributes of a query are below a number, and its names are 1 to 8.
 pub(crate) fn asks_below(query: &Query, columns: usize) -> bool
-    ensures { result ≡ true → AsksBelow columns query.now }
+    ensures below { result ≡ true → AsksBelow columns query.now }
+    ensures few { result ≡ true → HasFewNames query.now.want }
 {
     conds_below(query.conds.as_slice(), columns) && want_below(&query.want, columns)
 }
 
-/// Whether all attributes of a call are below a number.
+/// Whether a call may be made of a table with so many attributes.
 pub(crate) fn calls_below(call: &Call, columns: usize) -> bool
     ensures { result ≡ true → CallsBelow columns call.now }
 {
@@ -58,6 +93,6 @@ pub(crate) fn calls_below(call: &Call, columns: usize) -> bool
         Call::Select(query) => asks_below(query, columns),
         Call::Insert(_) => true,
         Call::Delete(_) => true,
-        Call::DeleteWhere(conds) => conds_below(conds.as_slice(), columns),
+        Call::DeleteWhere(conds) => removes_below(conds.as_slice(), columns),
     }
 }

@@ -1,4 +1,4 @@
--- What fits a table asks for its attributes alone; and a select that began waits for its reply.
+-- A select that began waits for its reply.
 use Rattle.std.proofs.Common.{◌≡◌, ◌≢◌, List, Some, length, fold, sym, ◌∙◌, ap, arith, take-append-drop}
 use Rattle.std.specs.List.{slice_index}
 use Rattle.sw_table.specs.Updates.{rows_of, rows_then}
@@ -10,17 +10,7 @@ use Rattle.sw_rows.specs.declared.reply.Reply.{Reply}
 use Rattle.sw_spine.specs.Books.{Books, KeepsOthers, took, untaken, updates, waits_for, with_open}
 use Rattle.sw_trial_spine.specs.Benches.{IsAsked, IsAtRest}
 use Rattle.sw_spine.proofs.StoreLemmas.{rows_of_more}
-use Rattle.sw_lang.specs.Fits.{FitsCall}
-use Rattle.sw_rows.specs.Header.{Column}
-use Rattle.sw_rows.specs.declared.query.Call.{Call}
-use Rattle.sw_rows.specs.declared.query.Call.TheVariants.{Select, Insert, Delete, DeleteWhere}
-use Rattle.sw_spine.specs.History.{CallsBelow}
-
-pub fits_below : (s : List Column) (c : Call) → FitsCall s c → CallsBelow (length s) c
-fits_below s (Select q) f = f.attrs
-fits_below s (Insert cells) f = tt
-fits_below s (Delete key) f = tt
-fits_below s (DeleteWhere conds) f = f.query.attrs.conds
+use Rattle.sw_rows.specs.declared.query.Call.TheVariants.{Select}
 
 -- a list that was what a head took takes the rest
 pub took_all : (b n : Books) (rows new : List Row) (inbox : List Update) → rows ≡ rows_of (took 0 b) → inbox ≡ untaken 0 b → new ≡ fold rows_then rows inbox → took 0 n ≡ updates b → new ≡ rows_of (took 0 n)

@@ -1,7 +1,7 @@
 //! Two sessions of a spine, which make changes and ask around them, and what is told of it.
 
 ghost use Rattle.std.specs.Prelude.{◌≡◌, ◌<◌, ◌≤◌, length, true, false, IfOk, OnOk};
-ghost use Rattle.sw_rows.specs.Scan.{AsksBelow};
+ghost use Rattle.sw_rows.specs.declared.query.Call.TheVariants.{Select};
 ghost use Rattle.sw_rows.specs.declared.table.TheConstants.{MOST_ROWS};
 ghost use Rattle.sw_spine.specs.Table.{is_numbered};
 ghost use Rattle.sw_spine.specs.History.{CallsBelow, is_select};
@@ -93,7 +93,7 @@ pub(crate) fn opened(alloc: Global, rows: &[Row], limit: u64) -> Result<Spine, R
 }
 
 /// The call of a line.
-#[tactic(auto, using(crate::proofs::Benches::fits_below))]
+#[tactic(auto, using(sw_spine::proofs::Histories::fits_below))]
 pub(crate) fn call_of(alloc: Global, schema: &Schema, line: &str) -> Result<Call, Refusal>
     ensures { IfOk result (CallsBelow (length schema.now)) }
 {
@@ -143,7 +143,7 @@ fn begun(
     query: &Query,
 ) -> Result<Reply, Refusal>
     requires rest { IsAtRest spine.old rows.old.items }
-    requires asks { AsksBelow 3 query.now }
+    requires asks { CallsBelow 3 (Select query.now) }
     ensures { IfOk result (λ reply. IsAsked reply spine.new rows.new.items) }
 {
     let Ok(copy) = query.copied(alloc) else {
@@ -241,7 +241,7 @@ pub(crate) fn give_up(
     inbox: &mut Vec<Update>,
 ) -> Result<bool, Refusal>
     requires rest { IsAtRest spine.old rows.now }
-    requires asks { AsksBelow 3 query }
+    requires asks { CallsBelow 3 (Select query) }
     ensures { OnOk result (IsAtRest spine.new rows.now) }
 {
     spine.begin(2, query, 7, inbox)?;

@@ -1,6 +1,7 @@
 //! Visits of two sessions, and the limits of a spine.
 
-ghost use Rattle.sw_rows.specs.Scan.{AsksBelow};
+ghost use Rattle.sw_rows.specs.declared.query.Call.TheVariants.{Select};
+ghost use Rattle.sw_spine.specs.History.{CallsBelow};
 ghost use Rattle.sw_trial_spine.specs.Benches.{IsAtRest};
 
 use crate::bench::{
@@ -127,7 +128,7 @@ fn cases_are_told_as_wanted(rt: HostRuntime) -> Result<(), Refusal> {
 
 /// `count`.
 fn all_counted(alloc: Global) -> Query
-    ensures { AsksBelow 3 result }
+    ensures { CallsBelow 3 (Select result) }
 {
     Query {
         conds: Conds::new(alloc),

@@ -1,11 +1,10 @@
 use Rattle.std.proofs.Common.{◌≡◌, ◌<◌, ◌∷◌, [], ◌++◌, true, length, sym, ◌∙◌, ap, subst, List}
 use Rattle.std.specs.Prelude.{None}
-use Rattle.sw_rows.specs.Scan.{CondsBelow}
 use Rattle.sw_rows.specs.declared.query.Call.TheVariants.{DeleteWhere}
 use Rattle.sw_rows.specs.declared.query.Cond.{Cond}
 use Rattle.sw_rows.specs.declared.reply.Reply.TheVariants.{RemovedMany}
 use Rattle.sw_spine.specs.Table.{all_updates, reply_to}
-use Rattle.sw_spine.specs.History.{entry}
+use Rattle.sw_spine.specs.History.{CallsBelow, entry}
 use Rattle.sw_spine.specs.Books.{Books, books_of, is_opened, waits_for}
 use Rattle.sw_spine.specs.declared.history.State.TheVariants.{Answered}
 use Rattle.sw_spine.proofs.Spines.{kept_answered}
@@ -18,7 +17,7 @@ invariant_of-self-2 c =
     let b : Books = books_of s.schema s.store s.entries.items s.taken s.sessions s.published in
     let opened : is_opened c.args.session b ≡ true = ap (is_opened c.args.session) c.self.view_is ∙ c.requires.opened in
     let rest : waits_for c.args.session b ≡ None = ap (waits_for c.args.session) c.self.view_is ∙ c.requires.rest in
-    let below : CondsBelow (length s.schema) conds = subst (λ (o : Books). CondsBelow (length o.columns) conds) (sym c.self.view_is) c.requires.below in
+    let below : CallsBelow (length s.schema) (DeleteWhere conds) = subst (λ (o : Books). CallsBelow (length o.columns) (DeleteWhere conds)) (sym c.self.view_is) c.requires.below in
     let short : length s.entries.items < 1048576 = subst (λ (o : Books). length o.entries < 1048576) (sym c.self.view_is) c.requires.room in
     let asked = c.as_slice.ensures in
     let done = rw asked at c.in_ok-many.ensures in

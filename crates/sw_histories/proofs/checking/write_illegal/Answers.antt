@@ -1,5 +1,5 @@
 use Rattle.sw_lang.proofs.Progress.{both, stops}
-use Rattle.sw_histories.proofs.checking.write_fault_place.Goals as goal
+use Rattle.sw_histories.proofs.checking.write_illegal.Goals as goal
 
 pub returns-in_err-write_all : goal.returns-in_err-write_all
 returns-in_err-write_all g c = stops _ _ c.from_residual.result c.from_residual.ensures.1 c.in_err-write_all.ensures

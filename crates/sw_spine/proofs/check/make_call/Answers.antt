@@ -1,0 +1,6 @@
+use Rattle.std.proofs.Common.{arith}
+use Rattle.sw_spine.proofs.CheckLemmas.{calls_wider}
+use Rattle.sw_spine.proofs.check.make_call.Goals as goal
+
+pub make-requires : goal.make-requires
+make-requires c = record { asks = calls_wider _ 8 c.args.call.now (omega (arith, c.len-width.ensures.schema.sound.few)) c.requires.asks }
