@@ -31,8 +31,8 @@ keys-small x at apart lt own small =
     λ k d l keys. all k d l keys.0 keys.1
 
 -- one that was refused a step
-pub keys-stalled : {S : List (Step Row) → Type 0} (x : AreaState) (at : ℕ) → at < length x.boxes → IsOwn Key x.boxes at → ((d : Held) → peak_from 0 x.tape ≤ (get_or x.boxes at d).cells) → ((d : Held) → (get_or x.boxes at d).cursor < length x.tape) → S x.tape → HaveKeysStalled S x
-keys-stalled x at lt own room behind stalled =
+pub keys-stalled : (S : List (Step Row) → Type 0) (x : AreaState) (at : ℕ) → at < length x.boxes → IsOwn Key x.boxes at → ((d : Held) → peak_from 0 x.tape ≤ (get_or x.boxes at d).cells) → ((d : Held) → (get_or x.boxes at d).cursor < length x.tape) → S x.tape → HaveKeysStalled S x
+keys-stalled S x at lt own room behind stalled =
     (any-at x.boxes at (IsBehind x.tape) lt (λ d. record { begun = (own d).0; tail_is = (own d).1; room = room d; behind = behind d }), stalled)
 
 -- a key map that was stepped to the end
@@ -55,13 +55,13 @@ full-or-not {P} n le room full = by (nat_lt n 4096) refl
     by false e = full (let ge : 4096 ≤ n = grind (arith, e) in omega (arith, ge, le))
 
 -- the live rows after it
-pub merged-rows : {S : List (Step Row) → Type 0} (u : Update) (x z : AreaState) → length x.tape ≤ 4096 → z.attribute ≡ x.attribute → IsMerged S u x z → logged_rows z.attribute z.tape ≡ rows_then (logged_rows x.attribute x.tape) u
-merged-rows {S} (Insert r) x z short same w =
+pub merged-rows : (S : List (Step Row) → Type 0) (u : Update) (x z : AreaState) → length x.tape ≤ 4096 → z.attribute ≡ x.attribute → IsMerged S u x z → logged_rows z.attribute z.tape ≡ rows_then (logged_rows x.attribute x.tape) u
+merged-rows S (Insert r) x z short same w =
     full-or-not (length x.tape) short (λ room. logged-at x.attribute z.attribute (x.tape ++ inserted r ∷ []) z.tape same (w.logged room).0 ∙ logged-inserted x.attribute x.tape r)
     (λ full. logged-at x.attribute z.attribute (loaded (logged_rows x.attribute x.tape ++ r ∷ []) ∷ []) z.tape same (w.restarted full).tape)
-merged-rows {S} (Remove k) x z short same (inl w) =
+merged-rows S (Remove k) x z short same (inl w) =
     logged-at x.attribute z.attribute (x.tape ++ removed w.1.place ∷ []) z.tape same w.1.tape ∙ logged-removed x.attribute x.tape w.1.place k w.1.within w.1.own
-merged-rows {S} (Remove k) x z short same (inr w) = logged-at x.attribute z.attribute (loaded (without k (logged_rows x.attribute x.tape)) ∷ []) z.tape same w.1.tape
+merged-rows S (Remove k) x z short same (inr w) = logged-at x.attribute z.attribute (loaded (without k (logged_rows x.attribute x.tape)) ∷ []) z.tape same w.1.tape
 
 -- no more came than it brings
 came-logged : (n : ℕ) (r : Row) (x z : AreaState) → z.tape ≡ x.tape ++ inserted r ∷ [] → IsBelow n (brought x.tape ++ r ∷ []) → IsBelow n (brought z.tape)
@@ -70,13 +70,13 @@ came-logged n r x z is h = subst (IsBelow n) (sym (ap brought is ∙ brought-ins
 came-loaded : (n : ℕ) (rows : List Row) (z : AreaState) → z.tape ≡ loaded rows ∷ [] → IsBelow n rows → IsBelow n (brought z.tape)
 came-loaded n rows z is h = subst (IsBelow n) (sym (ap brought is ∙ append-nil rows)) h
 
-pub merged-came : {S : List (Step Row) → Type 0} (u : Update) (x z : AreaState) → length x.tape ≤ 4096 → IsMerged S u x z → (n : ℕ) → IsBelow n (came_then (brought x.tape) u) → IsBelow n (brought z.tape)
-merged-came {S} (Insert r) x z short w n h =
+pub merged-came : (S : List (Step Row) → Type 0) (u : Update) (x z : AreaState) → length x.tape ≤ 4096 → IsMerged S u x z → (n : ℕ) → IsBelow n (came_then (brought x.tape) u) → IsBelow n (brought z.tape)
+merged-came S (Insert r) x z short w n h =
     full-or-not (length x.tape) short (λ room. came-logged n r x z (w.logged room).0 h)
     (λ full. came-loaded n (logged_rows x.attribute x.tape ++ r ∷ []) z (w.restarted full).tape
     (All-append (λ (c : Row). c.key < n) (logged_rows x.attribute x.tape) (r ∷ []) (logged-all (λ (c : Row). c.key < n) x.attribute x.tape (all-left (λ (c : Row). c.key < n) (brought x.tape) (r ∷ []) h)) (all-right (λ (c : Row). c.key < n) (brought x.tape) (r ∷ []) h)))
-merged-came {S} (Remove k) x z short (inl w) n h = subst (IsBelow n) (sym (ap brought w.1.tape ∙ brought-removed x.tape w.1.place)) h
-merged-came {S} (Remove k) x z short (inr w) n h =
+merged-came S (Remove k) x z short (inl w) n h = subst (IsBelow n) (sym (ap brought w.1.tape ∙ brought-removed x.tape w.1.place)) h
+merged-came S (Remove k) x z short (inr w) n h =
     came-loaded n (without k (logged_rows x.attribute x.tape)) z w.1.tape (all-without (λ (c : Row). c.key < n) k (logged_rows x.attribute x.tape) (logged-all (λ (c : Row). c.key < n) x.attribute x.tape h))
 
 -- ---- one after the other
@@ -86,9 +86,9 @@ shell-refl x = record { attribute = refl; from = refl; below = refl; inbox = ref
 pub shell-trans : (x y z : AreaState) → IsSameShell x y → IsSameShell y z → IsSameShell x z
 shell-trans x y z p q = record { attribute = q.attribute ∙ p.attribute; from = q.from ∙ p.from; below = q.below ∙ p.below; inbox = q.inbox ∙ p.inbox; spare = q.spare ∙ p.spare; many = q.many ∙ p.many }
 
-merged-last : {S : List (Step Row) → Type 0} (us : List Update) (u : Update) (x y z : AreaState) → AreMerged S us x y → IsSameShell y z → IsMerged S u y z → AreMerged S (us ++ u ∷ []) x z
-merged-last {S} [] u x y z is shell w = (z, subst (λ (v : AreaState). IsSameShell v z) is shell, subst (λ (v : AreaState). IsMerged S u v z) is w, refl)
-merged-last {S} (v ∷ us) u x y z (m, s, one, rest) shell w = (m, s, one, merged-last us u m y z rest shell w)
+merged-last : (S : List (Step Row) → Type 0) (us : List Update) (u : Update) (x y z : AreaState) → AreMerged S us x y → IsSameShell y z → IsMerged S u y z → AreMerged S (us ++ u ∷ []) x z
+merged-last S [] u x y z is shell w = (z, subst (λ (v : AreaState). IsSameShell v z) is shell, subst (λ (v : AreaState). IsMerged S u v z) is w, refl)
+merged-last S (v ∷ us) u x y z (m, s, one, rest) shell w = (m, s, one, merged-last S us u m y z rest shell w)
 
 pub upto-start : {S : List (Step Row) → Type 0} (us : List Update) (x : AreaState) → AreReceivable x.attribute x.from x.below (brought x.tape) (logged_rows x.attribute x.tape) us → IsMergedUpTo S us 0 x x
 upto-start {S} us x w = record { few = omega arith; shell = shell-refl x; merged = refl; rows = refl; came = λ n h. h; receivable = w }
@@ -105,13 +105,13 @@ next-may {S} us i u x y lt is w = (next-receivable us i u x y lt is w).0
 pub upto-more : {S : List (Step Row) → Type 0} (us : List Update) (i : ℕ) (u : Update) (x y z : AreaState) → i < length us → u ≡ get_or us i u → length y.tape ≤ 4096 → IsMergedUpTo S us i x y → IsSameShell y z → IsMerged S u y z → IsMergedUpTo S us (i + 1) x z
 upto-more {S} us i u x y z lt is short w shell one =
     let more : take (i + 1) us ≡ take i us ++ u ∷ [] = take_more us i u lt ∙ ap (λ (v : Update). take i us ++ v ∷ []) (sym is) in
-    let rows = merged-rows u y z short shell.attribute one in
-    let came = merged-came u y z short one in
+    let rows = merged-rows S u y z short shell.attribute one in
+    let came = merged-came S u y z short one in
     let next = next-receivable us i u x y lt is w in
     record {
       few = omega (arith, lt);
       shell = shell-trans x y z w.shell shell;
-      merged = subst (λ (vs : List Update). AreMerged S vs x z) (sym more) (merged-last (take i us) u x y z w.merged shell one);
+      merged = subst (λ (vs : List Update). AreMerged S vs x z) (sym more) (merged-last S (take i us) u x y z w.merged shell one);
       rows = rows ∙ ap (λ (v : List Row). rows_then v u) w.rows ∙ sym (ap (fold rows_then (logged_rows x.attribute x.tape)) more ∙ fold-append rows_then (logged_rows x.attribute x.tape) (take i us) (u ∷ []));
       came = λ n h. came n (came-then u n (fold came_then (brought x.tape) (take i us)) (brought y.tape) w.came (subst (IsBelow n) (ap (fold came_then (brought x.tape)) more ∙ fold-append came_then (brought x.tape) (take i us) (u ∷ [])) h));
       receivable = rw (shell.attribute, shell.from, shell.below) (still (drop (i + 1) us) rows came next.1);
@@ -159,8 +159,8 @@ all-merged {S} x x0 z y us ws sp start waits w0 is none spare =
     )
 
 -- nothing waited
-pub none-merged : {S : List (Step Row) → Type 0} (x y : AreaState) → x.inbox ≡ [] → IsAllMerged S x y → y ≡ x
-none-merged {S} x y none (z, merged, is) =
+pub none-merged : (S : List (Step Row) → Type 0) (x y : AreaState) → x.inbox ≡ [] → IsAllMerged S x y → y ≡ x
+none-merged S x y none (z, merged, is) =
     let same : z ≡ without_inbox x = subst (λ (us : List Update). AreMerged S us (without_inbox x) z) none merged in
     let zero : x.spare + length x.inbox ≡ x.spare = ap (λ (us : List Update). x.spare + length us) none ∙ (let e : x.spare + 0 ≡ x.spare = omega arith in e) in
     is ∙ ap (λ (v : AreaState). record v { inbox = []; spare = x.spare + length x.inbox }) same ∙ ap (λ (n : ℕ). record x { inbox = []; spare = n }) zero ∙ ap (λ (us : List Update). record x { inbox = us }) (sym none)

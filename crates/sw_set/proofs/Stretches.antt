@@ -59,16 +59,16 @@ next {S} z (Remove k) blanks short = record {
 }
 
 -- a row that goes has it begun anew
-last-gone : {S : List (Step Row) → Type 0} (u : Update) (z : AreaState) → IsRemoval u → AreBlank z.boxes → IsMerged S u z (reloaded z (rows_then (logged_rows z.attribute z.tape) u))
-last-gone {S} (Insert r) z gone blanks = absurd gone
-last-gone {S} (Remove k) z gone blanks = inr (inr (inl (no-keys z blanks)), record { tape = refl; boxes = blanks })
+last-gone : (S : List (Step Row) → Type 0) (u : Update) (z : AreaState) → IsRemoval u → AreBlank z.boxes → IsMerged S u z (reloaded z (rows_then (logged_rows z.attribute z.tape) u))
+last-gone S (Insert r) z gone blanks = absurd gone
+last-gone S (Remove k) z gone blanks = inr (inr (inl (no-keys z blanks)), record { tape = refl; boxes = blanks })
 
 -- one that has the area begun anew
-first-begun : {S : List (Step Row) → Type 0} (u : Update) (x z : AreaState) → MustBegin S u x → IsBegunAnew (rows_then (logged_rows x.attribute x.tape) u) z → IsMerged S u x z
-first-begun {S} (Insert r) x z full begun = record { logged = λ room. absurd (omega (arith, full, room)); restarted = λ _. begun }
-first-begun {S} (Remove k) x z must begun = inr (must, begun)
+first-begun : (S : List (Step Row) → Type 0) (u : Update) (x z : AreaState) → MustBegin S u x → IsBegunAnew (rows_then (logged_rows x.attribute x.tape) u) z → IsMerged S u x z
+first-begun S (Insert r) x z full begun = record { logged = λ room. absurd (omega (arith, full, room)); restarted = λ _. begun }
+first-begun S (Remove k) x z must begun = inr (must, begun)
 
-module _ {S : List (Step Row) → Type 0} (us : List Update) (first : AreaState) where
+module _ (S : List (Step Row) → Type 0) (us : List Update) (first : AreaState) where
   -- the update at a place, and those from there on
   abbrev here : ℕ → Update
   here at = get_or us at (Remove 0)
@@ -85,7 +85,7 @@ module _ {S : List (Step Row) → Type 0} (us : List Update) (first : AreaState)
       let u = here at in
       let l : at < length us = omega (arith, lt) in
       let g : IsRemoval u = subst (λ (i : ℕ). IsRemoval (here i)) (let e : at + 0 ≡ at = omega arith in e) gone in
-      let done : IsMergedUpTo S us (at + 1) first (reloaded z (rows_then (logged_rows z.attribute z.tape) u)) = upto-more us at u first z _ l (here-is at l) short w (tape-shell z (loaded (rows_then (logged_rows z.attribute z.tape) u) ∷ [])) (last-gone u z g blanks) in
+      let done : IsMergedUpTo S us (at + 1) first (reloaded z (rows_then (logged_rows z.attribute z.tape) u)) = upto-more us at u first z _ l (here-is at l) short w (tape-shell z (loaded (rows_then (logged_rows z.attribute z.tape) u) ∷ [])) (last-gone S u z g blanks) in
       let one : fold rows_then (logged_rows z.attribute z.tape) (take 1 (drop at us)) ≡ rows_then (logged_rows z.attribute z.tape) u = ap (λ (vs : List Update). fold rows_then (logged_rows z.attribute z.tape) (take 1 vs)) (parted at l) in
       subst (λ (i : ℕ). IsMergedUpTo S us i first (reloaded z (fold rows_then (logged_rows z.attribute z.tape) (take 1 (drop at us))))) (let e : at + 1 ≡ at + 0 + 1 = omega arith in e) (rw one done)
   chain (suc n) at z blanks short w lt gone =
@@ -93,7 +93,7 @@ module _ {S : List (Step Row) → Type 0} (us : List Update) (first : AreaState)
       let l : at < length us = omega (arith, lt) in
       let m = next z u blanks short in
       let y = with_tape z m.tape in
-      let rows : logged_rows y.attribute y.tape ≡ rows_then (logged_rows z.attribute z.tape) u = merged-rows u z y short refl m.merged in
+      let rows : logged_rows y.attribute y.tape ≡ rows_then (logged_rows z.attribute z.tape) u = merged-rows S u z y short refl m.merged in
       let goes = upto-more us at u first z y l (here-is at l) short w (tape-shell z m.tape) m.merged in
       let rest = chain n (at + 1) y blanks m.short goes (omega (arith, lt)) (subst (λ (i : ℕ). IsRemoval (here i)) (let e : at + suc n ≡ at + 1 + n = omega arith in e) gone) in
       let all : fold rows_then (logged_rows z.attribute z.tape) (take (suc (suc n)) (drop at us)) ≡ fold rows_then (logged_rows y.attribute y.tape) (take (suc n) (drop (at + 1) us)) = ap (λ (vs : List Update). fold rows_then (logged_rows z.attribute z.tape) (take (suc (suc n)) vs)) (parted at l) ∙ ap (λ (v : List Row). fold rows_then v (take (suc n) (drop (at + 1) us))) (sym rows) in
@@ -113,7 +113,7 @@ module _ {S : List (Step Row) → Type 0} (us : List Update) (first : AreaState)
         ap (with_tape y) (begun.tape ∙ ap (λ (v : List Row). loaded v ∷ []) rows)
 
     upto-first : IsMergedUpTo S us (at + 1) first (reloaded y rows-first)
-    upto-first = upto-more us at (here at) first x (reloaded y rows-first) lt (here-is at lt) short w (shell-trans x y (reloaded y rows-first) shell (tape-shell y (loaded rows-first ∷ []))) (first-begun (here at) x (reloaded y rows-first) must (record { tape = refl; boxes = begun.boxes }))
+    upto-first = upto-more us at (here at) first x (reloaded y rows-first) lt (here-is at lt) short w (shell-trans x y (reloaded y rows-first) shell (tape-shell y (loaded rows-first ∷ []))) (first-begun S (here at) x (reloaded y rows-first) must (record { tape = refl; boxes = begun.boxes }))
 
     by : (n : ℕ) → upto ≡ at + 1 + n → IsMergedUpTo S us upto first y
     by zero e = subst (λ (v : AreaState). IsMergedUpTo S us upto first v) (sym (loads-all 0 e)) (subst (λ (i : ℕ). IsMergedUpTo S us i first (reloaded y rows-first)) (let d : at + 1 ≡ upto = omega (arith, e) in d) upto-first)
@@ -127,12 +127,12 @@ module _ {S : List (Step Row) → Type 0} (us : List Update) (first : AreaState)
     stretch-merged = let more = stretch.more in by (upto - (at + 1)) (omega (arith, more))
 
 -- ---- on from a place
-logged-merged : {S : List (Step Row) → Type 0} (u : Update) (x y : AreaState) → IsLogged u x y → IsMerged S u x y
-logged-merged {S} (Insert r) x y w = record { logged = λ _. (w.1, w.2); restarted = λ full. let room = w.0 in absurd (omega (arith, full, room)) }
-logged-merged {S} (Remove k) x y w = inl w
+logged-merged : (S : List (Step Row) → Type 0) (u : Update) (x y : AreaState) → IsLogged u x y → IsMerged S u x y
+logged-merged S (Insert r) x y w = record { logged = λ _. (w.1, w.2); restarted = λ full. let room = w.0 in absurd (omega (arith, full, room)) }
+logged-merged S (Remove k) x y w = inl w
 
 pub told-logged : {S : List (Step Row) → Type 0} (u : Update) (x y : AreaState) (b : Bool) → b ≡ true → IsLoggedOrNot S u x y (Ok b) → IsMerged S u x y
-told-logged {S} u x y true e w = logged-merged u x y w.ends
+told-logged {S} u x y true e w = logged-merged S u x y w.ends
 told-logged {S} u x y false e w = absurd (true≢false (sym e))
 
 pub told-not : {S : List (Step Row) → Type 0} (u : Update) (x y : AreaState) (b : Bool) → b ≡ false → IsLoggedOrNot S u x y (Ok b) → MustBegin S u x × IsSameTape x y
@@ -142,10 +142,10 @@ told-not {S} u x y false e w = w.ends
 pub goes-one : {S : List (Step Row) → Type 0} (us : List Update) (at : ℕ) (u : Update) (x y : AreaState) → at < length us → u ≡ get_or us at u → length x.tape ≤ 4096 → IsSameShell x y → IsMerged S u x y → (at < at + 1) × (at + 1 ≤ length us) × GoesOn S us at (at + 1) x y
 goes-one {S} us at u x y lt is short shell merged = (omega arith, omega (arith, lt), λ first w. upto-more us at u first x y lt is short w shell merged)
 
-pub goes-begun : {S : List (Step Row) → Type 0} (r : Result ℕ Refusal) (us : List Update) (at : ℕ) (u : Update) (x m y : AreaState) → at < length us → u ≡ get_or us at u → length x.tape ≤ 4096 → MustBegin S u x → IsSameTape x m → IsSameShell m y →
+pub goes-begun : (S : List (Step Row) → Type 0) (r : Result ℕ Refusal) (us : List Update) (at : ℕ) (u : Update) (x m y : AreaState) → at < length us → u ≡ get_or us at u → length x.tape ≤ 4096 → MustBegin S u x → IsSameTape x m → IsSameShell m y →
     MatchResult r (λ upto. IsStretch us at upto × IsBegunAnew (fold rows_then (logged_rows m.attribute m.tape) (take (upto - at) (drop at us))) y) (λ e. (e ≡ NoMemory) × (y ≡ m)) → MatchResult r (λ upto. (at < upto) × (upto ≤ length us) × GoesOn S us at upto x y) (λ e. (e ≡ NoMemory) × IsSameTape x y)
-goes-begun {S} (Ok upto) us at u x m y lt is short must same shell w =
+goes-begun S (Ok upto) us at u x m y lt is short must same shell w =
     let begun : IsBegunAnew (fold rows_then (logged_rows x.attribute x.tape) (take (upto - at) (drop at us))) y = subst (λ (v : List Row). IsBegunAnew (fold rows_then v (take (upto - at) (drop at us))) y) (logged-at x.attribute m.attribute x.tape m.tape same.shell.attribute same.tape) w.1 in
     let here : MustBegin S (get_or us at (Remove 0)) x = subst (λ (v : Update). MustBegin S v x) (is ∙ get_or_default us at u (Remove 0) lt) must in
-    (w.0.more, w.0.within, λ first done. stretch-merged us first at upto x y lt w.0 short here (shell-trans x m y same.shell shell) begun done)
-goes-begun {S} (Err e) us at u x m y lt is short must same shell w = (w.0, tape-after x m y same (tape-same m y w.1))
+    (w.0.more, w.0.within, λ first done. stretch-merged S us first at upto x y lt w.0 short here (shell-trans x m y same.shell shell) begun done)
+goes-begun S (Err e) us at u x m y lt is short must same shell w = (w.0, tape-after x m y same (tape-same m y w.1))

@@ -347,6 +347,27 @@ fn worked_over<R: Threads + Sync>(
     Ok(())
 }
 
+/// Makes them over heads without cuts and with a cut, over maps with this trouble.
+fn worked_in_trouble<R: Threads + Sync>(
+    rt: &R,
+    alloc: Global,
+    trouble: Trouble,
+    is_scanned: Option<bool>,
+    text: &mut String,
+) -> Result<(), Fail> {
+    for kind in [WHOLE, CUT] {
+        if text.is_empty() {
+            let kind = Kind {
+                trouble,
+                is_scanned,
+                ..kind
+            };
+            worked_over(rt, alloc, kind, text)?;
+        }
+    }
+    Ok(())
+}
+
 #[test]
 fn worked_examples_are_told(rt: HostRuntime) -> Result<(), Fail> {
     let mut text = String::new(rt.alloc());
@@ -363,15 +384,8 @@ fn worked_examples_are_told(rt: HostRuntime) -> Result<(), Fail> {
 fn worked_examples_are_told_whatever_maps_refuse(rt: HostRuntime) -> Result<(), Fail> {
     let mut text = String::new(rt.alloc());
     for (trouble, is_scanned) in TROUBLES {
-        for kind in [WHOLE, CUT] {
-            if text.is_empty() {
-                let kind = Kind {
-                    trouble: *trouble,
-                    is_scanned: *is_scanned,
-                    ..kind
-                };
-                worked_over(&rt, rt.alloc(), kind, &mut text)?;
-            }
+        if text.is_empty() {
+            worked_in_trouble(&rt, rt.alloc(), *trouble, *is_scanned, &mut text)?;
         }
     }
     assert_eq!(rt; text.as_str(), "");

@@ -1,4 +1,5 @@
 use Rattle.std.proofs.Common.{arith, inl, inr}
+use Rattle.sw_set.specs.Aligned.{IsStalled}
 use Rattle.sw_set.proofs.Merges.{keys-missing, keys-ready, keys-small, keys-stalled}
 use Rattle.sw_set.proofs.merging.aligned_keys.Goals as goal
 
@@ -9,7 +10,7 @@ returns-then-cells_at-peak-clause-found g c =
 
 pub returns-in-Err-clause-found : goal.returns-in-Err-clause-found
 returns-in-Err-clause-found g c =
-    inr (keys-stalled c.args.area.now c.in-Some.at c.in-Some.ensures.0 c.in-Some.ensures.1
+    inr (keys-stalled (IsStalled g.M.CrackerMap.stalls) c.args.area.now c.in-Some.at c.in-Some.ensures.0 c.in-Some.ensures.1
     (λ d. let e = c.cells_at.ensures d in let p = c.peak.ensures.peak in let le = c.if-cells_at-peak.false in omega (arith, e, p, le)) c.in-Err.ensures.ends c.in-Err.ensures.stalled)
 
 pub returns-clause-found : goal.returns-clause-found
