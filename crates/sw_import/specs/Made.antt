@@ -1,5 +1,5 @@
 -- What is written of a cell, and of a record.
-use Rattle.std.specs.Prelude.{◌==◌, ◌&&◌, ◌||◌, if◌then◌else◌, ℕ, zero, suc, ℤ, pos, Bool, true, false, not, List, [], ◌∷◌, ◌++◌, length, map, take, min, decimal, codes, bytes_eq, nat_eq, Option, Some, None, is_some, option_map, slice_index_or}
+use Rattle.std.specs.Prelude.{◌||◌, if◌then◌else◌, ℕ, zero, suc, Bool, true, false, not, List, [], ◌∷◌, ◌++◌, length, map, take, min, decimal, codes, bytes_eq, nat_eq, Option, Some, None, is_some, option_map, slice_index_or}
 use Rattle.std.specs.Fmt.{signed_decimal}
 use Rattle.std.specs.Str.{is_utf8}
 use Rattle.sw_rows.specs.Cells.{cell_value}
