@@ -1,6 +1,7 @@
 #!/usr/bin/env bash
 # What the gate runs after `rt ci`, over the programs that it built: each growth refused in turn, maps that refuse, ends that lose nothing,
-# what the command line takes and tells, texts that were picked to collide, and pages that are made from the sources or from the program.
+# what the command line takes and tells, packages, texts that were picked to collide, and pages that are made from the sources or from the
+# program.
 # Some minutes; ends with 1 at the first that fails.
 #
 #     tests/after.sh
@@ -17,6 +18,7 @@ step python3 "$top/bench/claims.py" --check
 step python3 "$top/bench/pages.py" --check
 step python3 "$top/tests/words.py"
 step python3 "$top/tests/ends.py"
+step sh "$top/tests/packages.sh" "$(program sideways)"
 step python3 "$top/tests/collisions.py" "$(program sideways)"
 step python3 "$top/tests/long_records.py" "$(program sideways)"
 step python3 "$top/bench/hostile/calls.py" --program "$(program sw_trial_calls)"

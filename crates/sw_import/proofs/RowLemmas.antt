@@ -1,6 +1,6 @@
 -- What is written of a record, column by column.
-use Rattle.std.proofs.Common.{◌≡◌, ◌∙◌, ◌<◌, ◌+◌, ℕ, zero, suc, List, [], ◌∷◌, ◌++◌, length, drop, get_or, map, refl, sym, ap, arith}
-use Rattle.sw_import.specs.Made.{Kept, Outcome, Row, Written, Source, cell_made, row_after, source_of, sources_of, then_more}
+use Rattle.std.proofs.Common.{◌≡◌, ◌∙◌, ◌<◌, ◌+◌, ℕ, zero, suc, List, [], ◌∷◌, ◌++◌, length, drop, get_or, refl, sym, ap, arith}
+use Rattle.sw_import.specs.Made.{Kept, Outcome, Row, Written, cell_made, row_after, source_of, sources_of, then_more}
 use Rattle.sw_import.specs.declared.planning.Planned.{Planned}
 use Rattle.sw_import.specs.declared.rules.Rules.{Rules}
 

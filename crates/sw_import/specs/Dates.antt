@@ -1,5 +1,5 @@
 -- Dates and times of ISO 8601, and the numbers that stand for them.
-use Rattle.std.specs.Prelude.{◌≤◌, ◌+◌, ◌-◌, ◌*◌, ◌==◌, ◌&&◌, ◌||◌, if◌then◌else◌, ℕ, ℤ, pos, neg_ℤ, ◌+ℤ◌, ◌-ℤ◌, ◌*ℤ◌, ◌≤ℤ◌, Bool, true, false, not, List, [], ◌∷◌, length, take, drop, nat_lt, nat_le, nat_eq, Option, Some, None, option_and_then, option_map, position, slice_index}
+use Rattle.std.specs.Prelude.{◌==◌, ◌&&◌, ◌||◌, if◌then◌else◌, ℕ, ℤ, pos, neg_ℤ, ◌+ℤ◌, ◌-ℤ◌, ◌*ℤ◌, Bool, List, [], ◌∷◌, length, take, drop, nat_lt, nat_le, nat_eq, Option, Some, None, option_and_then, option_map, slice_index}
 use Rattle.std.specs.Char.{is_ascii_digit}
 use Rattle.jiff_core.specs.Calendar.{days_from_civil, days_in_month}
 use Rattle.sw_rows.specs.Cells.{digits_after, fitting}

@@ -1,6 +1,6 @@
 //! What was seen of the cells of a column.
 
-use crate::forms::{Form, TRIED, fits, tried};
+use crate::forms::{Form, MOST_DECIMALS, TRIED, fits, short_decimals, tried};
 use crate::making::is_text;
 use crate::rules::{Rules, Times};
 
@@ -33,6 +33,8 @@ impl Tally {
 pub struct Evidence {
     /// For each form that is tried, in order, whether every cell that has a value is of it.
     pub(crate) fits: [bool; TRIED],
+    /// Whether there is such a form.
+    pub(crate) is_special: bool,
     /// The cells that have a value.
     pub valued: Tally,
     /// The cells without a value.
@@ -55,6 +57,7 @@ impl Evidence {
     pub(crate) fn new() -> Evidence {
         Evidence {
             fits: [true; TRIED],
+            is_special: true,
             valued: Tally::new(),
             blank: Tally::new(),
             long: Tally::new(),
@@ -72,17 +75,35 @@ impl Evidence {
         }
     }
 
-    /// Whether a form other than texts is left.
-    fn is_special(&self) -> bool {
-        self.fits.iter().any(|fits| *fits)
+    /// Leaves the forms of numbers with so many decimals or more, as a short plain number does that has so many.
+    fn leave_numbers(&mut self, decimals: usize) {
+        for place in 0..TRIED {
+            self.fits[place] &= decimals <= place && place <= MOST_DECIMALS;
+        }
+    }
+
+    /// Takes in whether a form other than texts is left after the cell of a line.
+    fn see_special(&mut self, line: u64) {
+        self.is_special = self.fits.iter().any(|fits| *fits);
+        if self.valued.count > 0 && !self.is_special {
+            self.odd.add(line);
+        }
     }
 
     /// Takes a cell with a value in.
     fn add_value(&mut self, times: Times, cell: &[u8], line: u64) {
-        let was_special = self.valued.count > 0 && self.is_special();
-        self.try_forms(times, cell);
-        if was_special && !self.is_special() {
-            self.odd.add(line);
+        if self.is_special {
+            self.try_forms(times, cell);
+            self.see_special(line);
+        }
+        self.valued.add(line);
+    }
+
+    /// Takes a short plain number with so many decimals in.
+    fn add_number(&mut self, decimals: usize, line: u64) {
+        if self.is_special {
+            self.leave_numbers(decimals);
+            self.see_special(line);
         }
         self.valued.add(line);
     }
@@ -99,10 +120,13 @@ impl Evidence {
         }
     }
 
-    /// Takes a cell of a line in.
+    /// Takes a cell of a line in. A short plain number, which most cells of numbers are, is looked at once for all forms.
     pub(crate) fn add(&mut self, rules: &Rules<'_>, cell: &[u8], line: u64) {
         if rules.is_blank(cell) {
             self.blank.add(line);
+        } else if let Some(decimals) = short_decimals(cell) {
+            self.add_number(decimals, line);
+            return;
         } else {
             self.add_value(rules.times, cell, line);
         }

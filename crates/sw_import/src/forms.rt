@@ -110,6 +110,47 @@ fn begins_plainly(cell: &[u8]) -> bool
     }
 }
 
+/// The most decimals of a number.
+pub(crate) const MOST_DECIMALS: usize = 6;
+
+/// The most bytes of a short number: 12 digits times ten for each of six decimals are within 64 bits.
+const SHORT: usize = 12;
+
+/// What there is from the first dot of digits on; none where another byte stands among them.
+fn dot_and_after(digits: &[u8]) -> Option<&[u8]> {
+    let mut found: &[u8] = &[];
+    for place in 0..digits.len() {
+        if digits[place] == b'.' && found.is_empty() {
+            found = &digits[place..];
+        } else if !digits[place].is_ascii_digit() {
+            return None;
+        }
+    }
+    Some(found)
+}
+
+/// How many decimals a short plain number has: it is one of all forms of numbers with so many decimals or more, and of no
+/// other form that is tried. None of any other cell.
+pub(crate) fn short_decimals(cell: &[u8]) -> Option<usize> {
+    if cell.len() > SHORT || !begins_plainly(cell) {
+        return None;
+    }
+    let digits = match cell {
+        [b'-', rest @ ..] => rest,
+        _ => cell,
+    };
+    match dot_and_after(digits)?.len() {
+        0 => Some(0),
+        2 => Some(1),
+        3 => Some(2),
+        4 => Some(3),
+        5 => Some(4),
+        6 => Some(5),
+        7 => Some(6),
+        _ => None,
+    }
+}
+
 /// The flag that a cell is, in whatever case.
 pub(crate) fn flag_of(cell: &[u8]) -> Option<bool>
     ensures { result ≡ flag_of cell.now }

@@ -14,7 +14,8 @@ use crate::rules::Rules;
 use crate::writing::{Done, Most, write_header, write_rows};
 use csv::{ByteRecord, Reader, Writer};
 use std::alloc::{AllocError, Global};
-use sw_rows::{Counted, TextKey, load};
+use std::thread::Threads;
+use sw_rows::{Counted, TextKey, load, load_in_parts};
 
 /// How values are made into a table.
 #[derive(Clone, Copy, Debug)]
@@ -210,6 +211,23 @@ fn bytes_of(writer: Writer<Vec<u8>>) -> Result<Vec<u8>, AllocError> {
     }
 }
 
+/// Writes the table of a plan: its bytes, and how many rows it has.
+fn write_table(
+    alloc: Global,
+    values: Values<'_>,
+    how: &How<'_>,
+    plan: &[Planned],
+    done: &mut [Done],
+) -> Result<(Vec<u8>, u64), Fault> {
+    let mut row = ByteRecord::new(alloc);
+    let mut rdr = values.rows(alloc, &mut row)?;
+    let mut writer = Writer::from_writer(Vec::new(alloc));
+    write_header(alloc, plan, &mut writer)?;
+    let most = Most::of(how.sample);
+    let written = write_rows(alloc, &how.rules, plan, most, &mut rdr, &mut writer, done)?;
+    Ok((bytes_of(writer)?, written))
+}
+
 /// Refuses bytes that are no table.
 fn see_table(alloc: Global, key: TextKey, bytes: &[u8]) -> Result<(), Fault>
     ensures { OnOk result (IsTable bytes.now) }
@@ -220,14 +238,23 @@ fn see_table(alloc: Global, key: TextKey, bytes: &[u8]) -> Result<(), Fault>
     }
 }
 
-/// Makes a table of the values of a text. Texts are hashed under the key.
-///
-/// What it makes, the reader of tables has read. The first fault refuses it, in this order: there is no record; what is
-/// asked of columns; the first record that is ragged; texts that are not UTF-8; cells without a value; texts that are too
-/// long; then record by record a cell that is none of the kind that was asked for, and a row too many.
-pub fn import(alloc: Global, key: TextKey, how: &How<'_>, text: &[u8]) -> Result<Imported, Fault>
-    ensures { IfOk result (λ made. IsTable made.bytes.items) }
+/// Refuses bytes that are no table; many are read in parts, each by a thread of its own.
+fn see_table_in_parts<R: Threads + Sync>(
+    rt: &R,
+    alloc: Global,
+    key: TextKey,
+    bytes: &[u8],
+) -> Result<(), Fault>
+    ensures { OnOk result (IsTable bytes.now) }
 {
+    match load_in_parts(rt, alloc, key, &mut Counted::new(bytes)) {
+        Ok(_) => Ok(()),
+        Err(refusal) => Err(Fault::Table(refusal)),
+    }
+}
+
+/// Makes the bytes of a table of the values of a text, and says what was done for it.
+fn make(alloc: Global, key: TextKey, how: &How<'_>, text: &[u8]) -> Result<Imported, Fault> {
     let header = header_of(alloc, how, text)?;
     let columns = columns_of(alloc, &header, &how.asked)?;
     let values = Values {
@@ -249,21 +276,7 @@ pub fn import(alloc: Global, key: TextKey, how: &How<'_>, text: &[u8]) -> Result
     see_plan(alloc, &how.rules, plan.as_slice())?;
     learn(alloc, values, plan.as_mut_slice())?;
     let mut done = nothing_done(alloc, plan.len())?;
-    let mut row = ByteRecord::new(alloc);
-    let mut rdr = values.rows(alloc, &mut row)?;
-    let mut writer = Writer::from_writer(Vec::new(alloc));
-    write_header(alloc, plan.as_slice(), &mut writer)?;
-    let written = write_rows(
-        alloc,
-        &how.rules,
-        plan.as_slice(),
-        Most::of(how.sample),
-        &mut rdr,
-        &mut writer,
-        done.as_mut_slice(),
-    )?;
-    let bytes = bytes_of(writer)?;
-    see_table(alloc, key, bytes.as_slice())?;
+    let (bytes, written) = write_table(alloc, values, how, plan.as_slice(), done.as_mut_slice())?;
     let others = others(alloc, &header, plan.as_slice())?;
     Ok(Imported {
         bytes,
@@ -273,4 +286,32 @@ pub fn import(alloc: Global, key: TextKey, how: &How<'_>, text: &[u8]) -> Result
         written,
         others,
     })
+}
+
+/// Makes a table of the values of a text. Texts are hashed under the key.
+///
+/// What it makes, the reader of tables has read. The first fault refuses it, in this order: there is no record; what is
+/// asked of columns; the first record that is ragged; texts that are not UTF-8; cells without a value; texts that are too
+/// long; then record by record a cell that is none of the kind that was asked for, and a row too many.
+pub fn import(alloc: Global, key: TextKey, how: &How<'_>, text: &[u8]) -> Result<Imported, Fault>
+    ensures { IfOk result (λ made. IsTable made.bytes.items) }
+{
+    let made = make(alloc, key, how, text)?;
+    see_table(alloc, key, made.bytes.as_slice())?;
+    Ok(made)
+}
+
+/// Makes a table as `import` does, and has it read in parts, where it is long, each by a thread of its own.
+pub fn import_in_parts<R: Threads + Sync>(
+    rt: &R,
+    alloc: Global,
+    key: TextKey,
+    how: &How<'_>,
+    text: &[u8],
+) -> Result<Imported, Fault>
+    ensures { IfOk result (λ made. IsTable made.bytes.items) }
+{
+    let made = make(alloc, key, how, text)?;
+    see_table_in_parts(rt, alloc, key, made.bytes.as_slice())?;
+    Ok(made)
 }

@@ -22,7 +22,7 @@ pub use dictionary::Dictionary;
 pub use evidence::{Evidence, Tally};
 pub use faults::{At, Fault, Lack, Lacks};
 pub use forms::{Form, fits};
-pub use importing::{How, Imported, import};
+pub use importing::{How, Imported, import, import_in_parts};
 pub use planning::Planned;
 pub use rules::{Blank, Long, Rules, Times};
 pub use telling::{dictionary_of, told};

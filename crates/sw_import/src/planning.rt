@@ -22,6 +22,17 @@ pub struct Planned {
     pub dictionary: Dictionary,
 }
 
+impl Planned {
+    /// Whether each cell that is written is written as it stands, by what was seen of the cells.
+    pub(crate) fn keeps_cells(&self) -> bool {
+        match self.form {
+            Form::Number(_) => self.evidence.blank.count == 0,
+            Form::Text => self.evidence.long.count == 0,
+            _ => false,
+        }
+    }
+}
+
 /// What a column is taken for: what was asked for; else what its cells are.
 fn form_of(rules: &Rules<'_>, column: &Column, evidence: &Evidence) -> Form {
     let form = match column.given {

@@ -83,6 +83,9 @@ fn note_record(
     let line = line_of(row);
     for place in 0..plan.len() {
         let planned = &plan[place];
+        if planned.keeps_cells() {
+            continue;
+        }
         let cell = field(row, planned.column.place);
         if field(made, place) != cell {
             let is_filled = rules.filling(planned.form, cell).is_some();
