@@ -1,5 +1,5 @@
 -- Lists that are renamed item by item, and names of which each stands once.
-use Rattle.std.proofs.Common.{◌≡◌, ◌∙◌, ◌<◌, ◌≤◌, ◌+◌, ◌++◌, sym, ap, subst, refl, ℕ, zero, suc, Option, List, [], ◌∷◌, length, get_or, map, take, Some, arith}
+use Rattle.std.proofs.Common.{◌≡◌, ◌∙◌, ◌<◌, ◌≤◌, ◌+◌, ◌++◌, sym, ap, subst, ℕ, Option, List, [], ◌∷◌, length, get_or, map, take, Some, arith}
 use Rattle.std.specs.List.{slice_get, AllZip}
 use Rattle.std.specs.Option.{option_map}
 use Rattle.std.proofs.lemmas.List.{take_all, take_more}
@@ -48,7 +48,7 @@ once_where names place n past all = λ p q i sp sq. some_same p q (sym (at p i s
 call_fit : (n : ℕ) (names : List ℕ) (old new : Call) → IsRenamedCall names old new → CallsBelow n old → CallsBelow n new
 call_fit n names (call.Select q) new is fit = subst (λ (c : Call). CallsBelow n c) (sym is) fit
 call_fit n names (call.Insert cells) new is fit = subst (λ (c : Call). CallsBelow n c) (sym is) fit
-call_fit n names (call.Delete key) new is fit = subst (λ (c : Call). CallsBelow n c) (sym is.1.0) tt
+call_fit n names (call.Delete key) new is fit = subst (λ (c : Call). CallsBelow n c) (sym is.1) tt
 call_fit n names (call.DeleteWhere conds) new is fit = subst (λ (c : Call). CallsBelow n c) (sym is) fit
 
 pub fit_renamed : (n : ℕ) (names : List ℕ) (calls new : List Logged) → AllZip (IsRenamed names) calls new → AllFit n calls → AllFit n new

@@ -168,11 +168,7 @@ fn rank(names: &Names<'_>, line: &str) -> u64 {
 }
 
 /// The places of rows' lines, each with its new key.
-fn ranks(
-    alloc: Global,
-    names: &Names<'_>,
-    rows: &[String],
-) -> Result<Vec<(u64, u64)>, AllocError> {
+fn ranks(alloc: Global, names: &Names<'_>, rows: &[String]) -> Result<Vec<(u64, u64)>, AllocError> {
     let mut ranks = Vec::with_capacity(alloc, rows.len())?;
     for (place, row) in rows.iter().enumerate() {
         ranks.push((rank(names, row.as_str()), place as u64))?;

@@ -27,8 +27,7 @@ fn number_at(row: &ByteRecord, place: usize) -> Option<u64> {
 
 /// What a record says; None where it is none of an entry, a log and a record, as the header is none.
 fn source_of(alloc: Global, row: &ByteRecord) -> Result<Option<Source>, AllocError> {
-    let (Some(entry), Some(log), Some(record)) =
-        (number_at(row, 0), row.get(1), number_at(row, 2))
+    let (Some(entry), Some(log), Some(record)) = (number_at(row, 0), row.get(1), number_at(row, 2))
     else {
         return Ok(None);
     };

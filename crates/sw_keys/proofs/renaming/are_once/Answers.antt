@@ -1,4 +1,4 @@
-use Rattle.std.proofs.Common.{◌≡◌, ◌∙◌, ◌<◌, ℕ, Some, ap, below_more, get_or, length, sym, arith, rules}
+use Rattle.std.proofs.Common.{◌≡◌, ◌<◌, ℕ, Some, below_more, get_or, length, arith}
 use Rattle.std.specs.Prelude.{nat_eq}
 use Rattle.std.specs.HashMap as hash
 use Rattle.sw_keys.proofs.RenamingLemmas.{once_where}
@@ -11,10 +11,7 @@ pub loop-place-preserved : goal.loop-place-preserved
 loop-place-preserved c =
     let k = c.loop-place.place in
     let names = c.args.names.now in
-    let name = c.index-names-place.result in
-    let is : name ≡ get_or names k 0 = search rules in
-    let told : hash.get nat_eq c.args.places.now name ≡ Some k = c.has_place-found.ensures c.if-not-found.false in
-    let here : hash.get nat_eq c.args.places.now (get_or names k 0) ≡ Some k = ap (λ (n : ℕ). hash.get nat_eq c.args.places.now n) (sym is) ∙ told in
+    let here : hash.get nat_eq c.args.places.now (get_or names k 0) ≡ Some k = c.has_place-found.ensures c.if-not-found.false in
     λ p lp within. below_more (λ (p : ℕ). p < length names → hash.get nat_eq c.args.places.now (get_or names p 0) ≡ Some p) k (λ p lp within. c.loop-place.invariant p lp within) (λ within. here) p lp within
 
 pub returns : goal.returns

@@ -14,7 +14,7 @@ loop-place-preserved c =
     let is : old ≡ get_or calls k old = search rules in
     let grown : c.push_reserved.new.self.items ≡ c.loop-place.new.items ++ c.in-Some.copy ∷ [] = c.push_reserved.ensures.items ∙ ap (λ (l : List Logged). l ++ c.in-Some.copy ∷ []) c.reserve.ensures.items in
     zip_step (IsRenamed c.args.names.now.keys.now) calls k c.loop-place.new.items c.push_reserved.new.self.items old c.in-Some.copy
-      (slice_get_read calls (length calls) k old refl lt is) grown (rw c.in-Some.is at c.in_ok-made.ensures) c.loop-place.invariant
+    (slice_get_read calls (length calls) k old refl lt is) grown (rw c.in-Some.is at c.in_ok-made.ensures) c.loop-place.invariant
 
 pub returns : goal.returns
 returns c =
