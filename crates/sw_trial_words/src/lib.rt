@@ -1,7 +1,5 @@
-//! Tests of the words behind refusals and of the forms of replies.
+//! Tests of the words behind refusals.
 #![tactic(auto)]
 
 #[cfg(test)]
 mod faults;
-#[cfg(test)]
-mod outputs;
