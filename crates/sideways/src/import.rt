@@ -183,10 +183,7 @@ pub(crate) fn import_command<'a>(alloc: Global) -> Result<Command<'a>, AllocErro
 
 /// The words of an argument that may be given again.
 fn words<'g, 'a>(given: &'g ArgMatches<'a>, name: &str) -> &'g [&'a str] {
-    match given.get_strs(name) {
-        Some(words) => words,
-        None => &[],
-    }
+    given.get_strs(name).unwrap_or_default()
 }
 
 /// What becomes of cells without a value.

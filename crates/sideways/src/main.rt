@@ -79,14 +79,11 @@ fn lines_of(alloc: Global, calls: &[&str]) -> Result<Vec<u8>, AllocError> {
 
 /// The calls that are given.
 fn calls_of<'g, 'a>(given: &'g ArgMatches<'a>) -> &'g [&'a str] {
-    match given.get_strs("call") {
-        Some(calls) => calls,
-        None => &[],
-    }
+    given.get_strs("call").unwrap_or_default()
 }
 
 /// Where the calls come from: the script that is named, or else the lines that are given.
-fn script_of<'s>(given: &ArgMatches<'s>, lines: &'s [u8]) -> Script<'s> {
+fn script_of<'s, 'a: 's>(given: &ArgMatches<'a>, lines: &'s [u8]) -> Script<'s> {
     match given.get_str("script") {
         Some(name) => Script::At(Place::new(name)),
         None => Script::Given(lines),
@@ -94,7 +91,11 @@ fn script_of<'s>(given: &ArgMatches<'s>, lines: &'s [u8]) -> Script<'s> {
 }
 
 /// The run that the words ask for, its calls in these lines where no script is named.
-fn run_of<'a>(given: &ArgMatches<'a>, lines: &'a [u8], is_terminal: bool) -> Option<Run<'a>> {
+fn run_of<'r, 'a: 'r>(
+    given: &ArgMatches<'a>,
+    lines: &'r [u8],
+    is_terminal: bool,
+) -> Option<Run<'r>> {
     Some(Run {
         table: Place::new(given.get_str("table")?),
         script: script_of(given, lines),

@@ -11,8 +11,6 @@ mod lines;
 mod records;
 mod shown;
 mod tables;
-#[cfg(test)]
-mod tests;
 mod tokens;
 mod words;
 

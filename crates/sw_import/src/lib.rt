@@ -27,6 +27,3 @@ pub use planning::Planned;
 pub use rules::{Blank, Long, Rules, Times};
 pub use telling::{dictionary_of, told};
 pub use writing::Done;
-
-#[cfg(test)]
-mod tests;

@@ -5,8 +5,6 @@ mod cells;
 mod description;
 mod json;
 mod records;
-#[cfg(test)]
-mod tests;
 mod told;
 
 pub use cells::{cell_text, json_text};

@@ -1,14 +1,14 @@
 //! Replies over small tables, and the JSON, the records and the tables that are wanted of them.
 
-use crate::{
-    Described, Told, makes_table, write_csv, write_description, write_json, write_json_description,
-    write_table,
-};
 use std::alloc::Global;
 use std::hash::RandomState;
 use std::test::Fail;
 use sw_describe::{Column, frequent};
 use sw_lang::parse_line;
+use sw_outputs::{
+    Described, Told, makes_table, write_csv, write_description, write_json, write_json_description,
+    write_table,
+};
 use sw_rows::{Call, Counted, Kind, PackedRows, Reply, Row, Schema, TextKey, answer, load};
 
 const TABLE: &[u8] =

@@ -1,8 +1,8 @@
 //! Tables, scripts and cuts that are refused, and the words that are wanted of them.
 
-use crate::{Asked, Origin, Text, all_faults, words_of};
 use std::alloc::Global;
 use std::test::Fail;
+use sw_faults::{Asked, Origin, Text, all_faults, words_of};
 use sw_rows::{Refusal, TextKey, Why};
 
 /// The words of a table's refusal.
