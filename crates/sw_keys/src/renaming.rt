@@ -218,7 +218,8 @@ fn rows_in(
 ) -> Result<Option<Vec<String>>, AllocError>
     requires { EachIndex order.now (λ k. slice_index order.now k < length rows.now) }
     ensures { IfOk result (λ o. IfSome o (λ new.
-        AllZip (IsRowAt names.now.keys.now (map (λ t. string_bytes t) rows.now)) order.now (map (λ t. string_bytes t) new.items))) }
+        AllZip (IsRowAt names.now.keys.now (map (λ t. string_bytes t) rows.now))
+        order.now (map (λ t. string_bytes t) new.items))) }
 {
     let mut new = Vec::with_capacity(alloc, rows.len())?;
     for place in order {
@@ -343,7 +344,8 @@ fn renamed_keys(
     lines: &[String],
 ) -> Result<Option<Vec<String>>, AllocError>
     ensures { IfOk result (λ o. IfSome o (λ new.
-        AllZip (IsRenamedKey names.now.keys.now) (map (λ t. string_bytes t) lines.now) (map (λ t. string_bytes t) new.items))) }
+        AllZip (IsRenamedKey names.now.keys.now)
+        (map (λ t. string_bytes t) lines.now) (map (λ t. string_bytes t) new.items))) }
 {
     let mut new = Vec::with_capacity(alloc, lines.len())?;
     for place in 0..lines.len() {
