@@ -29,6 +29,7 @@ CALLS = [
         "answered": "The reply is the plain scan of the rows that the area stands for.",
         "same": "Whatever came, the area stands for the same rows, of the same attribute and interval.",
         "told": "A refusal that is told beside the reply is one that preparing may have; with none the area stands as preparing leaves it.",
+        "by_map": "The budget's refusal that is told is what a map told of a begin or growth that it was refused.",
         "refused": "The only refusal is for want of memory.",
         "left": "After it the tape is as it was, or longer by the range that was asked, after a restart where it was full.",
     }),

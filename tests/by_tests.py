@@ -35,6 +35,20 @@ BODIES = {
                          "        let _ = (rt, cells);\n        Err(Refusal::NoMemory)\n", "told 0 insert 1, 9, 0|count where a < 10"),
     "one_after_the_other": ("Maps that lack much are stepped one after the other",
                             "sw_set/src/at_once.rt", "front, many.max(1), &step", "front, 1, &step", "sw_trial_areas"),
+    "attributes_from_the_last": ("Missing maps are made in the order of the key, then of the attributes from the last on",
+                                 "sw_set/src/making.rt", "ensure_map(area, tails, tails[i], cells)?;",
+                                 "ensure_map(area, tails, tails[if i == 0 { 0 } else { tails.len() - i }], cells)?;", "sw_trial_areas"),
+    "one_refused_stops_all": ("Of maps that are stepped one after the other none is stepped after one that was refused",
+                              "sw_set/src/at_once.rt", "    thread::for_each_mut(rt, rest, 1, &step);\n",
+                              "    for it in rest.iter_mut() {\n        if align_box(attribute, it, tails, tape).is_err() {\n"
+                              "            return;\n        }\n    }\n", "sw_trial_areas"),
+    "asked_a_third_time": ("An area that is short again is asked a third time",
+                           "sw_chunks/src/answering.rt", "        told = ready_again(rt, &mut areas[k], query);\n",
+                           "        told = ready_again(rt, &mut areas[k], query);\n        if told.is_err() {\n"
+                           "            told = ready_again(rt, &mut areas[k], query);\n        }\n", "sw_trial_heads"),
+    "begun_after_contention": ("A map whose growth found the budget contended is begun again",
+                               "sw_set/src/making.rt", "        Err(Refusal::Contended { seen, found }) => {\n"
+                               "            return Err(Refusal::Contended { seen, found });\n        }\n", "", "sw_trial_heads"),
 }
 
 

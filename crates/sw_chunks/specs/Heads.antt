@@ -14,6 +14,7 @@ use Rattle.sw_set.specs.Needs.{edge, lower_in, touches, upper_in}
 use Rattle.sw_set.specs.Shelf.{AreaState, Rises, came_in, key_of, lies_within, loaded_area, rows_in}
 use Rattle.sw_set.specs.Prepared.{IsSameButBoxes, area_lower, area_upper, is_touched, stands_if}
 use Rattle.sw_chunks.specs.Routing.{CameHere, given_by}
+pub use Rattle.sw_chunks.specs.Routing.{interval_of, part_of}
 use Rattle.sw_chunks.specs.Places.{owners_kept}
 use Rattle.sw_chunks.specs.Cleared.{AreEach, HoldsOfEach}
 use Rattle.sw_chunks.specs.Shelved.{IsFewest}
@@ -27,13 +28,6 @@ pub record HeadState : Type 0 where
   pub cuts : List ℤ
   pub updates : List Update
   pub areas : List AreaState
-
-abbrev pub interval_of : AreaState → Interval
-interval_of x = (x.from, x.below)
-
--- the rows that lie in an interval
-abbrev pub part_of : ℕ → List Row → Interval → List Row
-part_of a rows i = filter (lies_within a i.0 i.1) rows
 
 -- parts of rows, one for each interval of the cuts: each has the rows that lie there
 abbrev pub ArePartsOf : ℕ → List ℤ → List Row → List Packed → Type 0

@@ -4,20 +4,7 @@ ghost use Rattle.std.specs.Prelude.{◌≡◌, ◌⊎◌, ◌+◌, min, MatchOpt
 ghost use Rattle.sw_chunks.specs.Cleared.{AreBlankBut, AreClearedBut, IsMappedBut};
 
 use sw_map::CrackerMap;
-use sw_set::Area;
-
-/// Of an area found before and a later one, with the stamps of their least recently used maps, that with the lesser
-/// stamp; of equal stamps the earlier area.
-fn older(best: Option<(usize, u64)>, at: usize, stamp: u64) -> (usize, u64)
-    ensures { (best ≡ Some result) ⊎ (result ≡ (at, stamp)) }
-{
-    if let Some(found) = best {
-        if found.1 <= stamp {
-            return found;
-        }
-    }
-    (at, stamp)
-}
+use sw_set::{Area, older};
 
 /// The area, but for one, that has the least recently used map; of several the lowest.
 fn oldest_but<M: CrackerMap>(areas: &[Area<M>], but: usize) -> Option<usize>

@@ -4,3 +4,4 @@ pub mod Finding
 pub mod Cracking
 pub mod Tables
 pub mod Parts
+pub mod Looks

@@ -1,7 +1,7 @@
 -- What a map's box has: a purse while it is blank, a lease and pairs while it is in use.
 use Rattle.std.specs.Prelude.{◌≡◌, ◌+◌, ◌≤◌, ℕ, Bool, true, false, None, Result, MatchResult}
 use Rattle.sw_rows.specs.declared.refusal.Refusal.{Refusal}
-use Rattle.sw_rows.specs.declared.refusal.Refusal.TheVariants.{NoMemory}
+use Rattle.sw_rows.specs.declared.refusal.Refusal.TheVariants.{Contended, NoMemory, Short}
 use Rattle.sw_budget.specs.Account.{Account, Refused, asked, returned}
 use Rattle.sw_map.specs.declared.home.Home.{Home}
 use Rattle.sw_map.specs.declared.home.Home.TheVariants.{Blank, Active}
@@ -61,6 +61,13 @@ HasReturned a cells b e = Refused a cells b e
 
 abbrev pub HasLeasedOr : {A : Type 0} → Result A Refusal → Account → ℕ → Account → Type 0
 HasLeasedOr r a cells b = MatchResult r (λ _. HasLeased a cells b) (λ e. HasReturned a cells b e)
+
+-- a refusal tells what the seat saw when it last asked: the cells in use and the capacity, or the two words that differed
+abbrev pub IsLookOf : Account → Refusal → Type 0
+IsLookOf a NoMemory = Unit {0}
+IsLookOf a (Short used want capacity) = (a.seen ≡ used) × (a.found ≡ used) × (a.capacity ≡ capacity)
+IsLookOf a (Contended seen found) = (a.seen ≡ seen) × (a.found ≡ found)
+IsLookOf a _ = ⊥
 
 -- the seat after a clear: what it held is given back, if it was in use
 abbrev pub cleared : Account → Bool → Account

@@ -1,6 +1,9 @@
 //! The trait of maps, and a box of any map.
 
-ghost use Rattle.std.specs.Prelude.{◌≡◌, ◌+◌, ◌<◌, ◌≤◌, pos, length, false, slice_index_or, slice_range};
+ghost use Rattle.std.specs.Prelude.{◌≡◌, ◌+◌, ◌<◌, ◌≤◌, IfErr, OnErr, pos, length, false, slice_index_or, slice_range};
+ghost use Rattle.sw_rows.specs.declared.refusal.Refusal.{Refusal};
+ghost use Rattle.sw_table.specs.declared.row.Row.{Row};
+ghost use Rattle.sw_kernel.specs.Replay.{Step};
 ghost use Rattle.sw_kernel.specs.Arrangement.{joined};
 ghost use Rattle.sw_tape.specs.Entries.{step_of};
 ghost use Rattle.sw_tape.specs.declared.tape.TheConstants.{MAX_ENTRIES};
@@ -15,8 +18,15 @@ use sw_tape::Entry;
 ///
 /// A blank map has no head, no pairs and no lease. `begin` gives it a lease and a head and tail, each `step` replays the
 /// next entry of the tape, `grow` may give it more cells in place, and `clear` or `reset` makes it blank again.
+///
+/// Contracts see what a map tells of a begin or growth that was refused, and of a step. Each kind of map says what that is;
+/// who calls maps of any kind knows it of none but those that refused such a call.
 pub trait CrackerMap: Send + Drop {
     ghost held: { Self → Held };
+
+    ghost tells: { Self → Refusal → Type 0 };
+
+    ghost stalls: { Self → Step Row → Type 0 };
 
     /// Whether the map is blank.
     fn is_blank(&self) -> bool
@@ -73,7 +83,8 @@ pub trait CrackerMap: Send + Drop {
     /// `NoMemory`, `Short` or `Contended`, and is then blank.
     fn begin(&mut self, head: u8, tail: Tail, cells: u64) -> Result<(), Refusal>
         requires { held self.old ≡ blank }
-        ensures { HasBegunOr result head tail cells (held self.new) };
+        ensures begun { HasBegunOr result head tail cells (held self.new) }
+        ensures told { IfErr result (tells self.new) };
 
     /// Grows the lease of a map in use to so many cells, more than it has, and answers `true`; all else is as it was. A
     /// map that does not grow in place answers `false`, and nothing has changed. It is refused what `begin` is, and is
@@ -81,7 +92,8 @@ pub trait CrackerMap: Send + Drop {
     fn grow(&mut self, cells: u64) -> Result<bool, Refusal>
         requires begun { (held self.old).is_blank ≡ false }
         requires more { (held self.old).cells < cells }
-        ensures { HasGrownOr result cells (held self.old) (held self.new) }
+        ensures grown { HasGrownOr result cells (held self.old) (held self.new) }
+        ensures told { IfErr result (tells self.new) }
     {
         Ok(false)
     }
@@ -94,7 +106,8 @@ pub trait CrackerMap: Send + Drop {
         requires next { MayReplay (held self.old) (step_of entry.now) }
         requires keys { KeysFit (step_of entry.now) }
         requires room { pairs_in (after (step_of entry.now) (held self.old)) ≤ (held self.old).cells }
-        ensures { HasReplayedOr result (step_of entry.now) (held self.old) (held self.new) };
+        ensures replayed { HasReplayedOr result (step_of entry.now) (held self.old) (held self.new) }
+        ensures stalled { OnErr result (stalls self.new (step_of entry.now)) };
 
     /// Makes the map blank; its lease is given back, and all memory. It takes no memory.
     fn clear(&mut self)
@@ -117,6 +130,10 @@ pub trait CrackerMap: Send + Drop {
 
 impl CrackerMap for Box<dyn CrackerMap> {
     ghost held = { λ b. (CrackerMap-box b).held b.value };
+
+    ghost tells = { λ b. (CrackerMap-box b).tells b.value };
+
+    ghost stalls = { λ b. (CrackerMap-box b).stalls b.value };
 
     fn is_blank(&self) -> bool {
         (**self).is_blank()

@@ -35,15 +35,19 @@ impl PairMap {
 }
 
 impl CrackerMap for PairMap {
-    ghost use Rattle.std.specs.Prelude.{◌≡◌, ◌<◌, ◌≤◌, IfOk, IsOk, OnErr, false, true};
+    ghost use Rattle.std.specs.Prelude.{◌≡◌, ◌<◌, ◌≤◌, IfErr, IfOk, IsOk, OnErr, false, true};
     ghost use Rattle.sw_tape.specs.Entries.{step_of};
     ghost use Rattle.sw_tape.specs.declared.tape.TheConstants.{MAX_ENTRIES};
     ghost use Rattle.sw_map.specs.Held.{KeysFit, MayReplay, after, begun, blank, pairs_in};
     ghost use Rattle.sw_map.specs.Pieces.{TakesNoMemory};
     ghost use Rattle.sw_map.specs.Refusals.{HasBegunOr, HasGrownOr, HasReplayedOr};
-    ghost use Rattle.sw_map.specs.States.{HasLeasedAnew, HasLeasedOr, IsBare, cleared, held_by, seat_of};
+    ghost use Rattle.sw_map.specs.States.{HasLeasedAnew, HasLeasedOr, IsBare, IsLookOf, cleared, held_by, seat_of};
 
     ghost held = { λ m. held_by m.home };
+
+    ghost tells = { λ m. IsLookOf (seat_of m.home) };
+
+    ghost stalls = { λ _ e. TakesNoMemory e → ⊥ };
 
     fn is_blank(&self) -> bool {
         match &self.home {
@@ -118,9 +122,11 @@ impl CrackerMap for PairMap {
 
     /// New lists have room for just as many pairs as the lease has cells; those that a reset left it, for a 64th more at most.
     /// Where it is refused it has its purse again, and no memory.
+    #[tactic(auto, using(crate::proofs::Looks::look_shown))]
     fn begin(&mut self, head: u8, tail: Tail, cells: u64) -> Result<(), Refusal>
         requires { held_by self.old.home ≡ blank }
         ensures held { HasBegunOr result head tail cells (held_by self.new.home) }
+        ensures told { IfErr result (IsLookOf (seat_of self.new.home)) }
         ensures seat { HasLeasedOr result (seat_of self.old.home) cells (seat_of self.new.home) }
         ensures bare { OnErr result (IsBare self.new.home) }
     {
@@ -136,10 +142,12 @@ impl CrackerMap for PairMap {
     /// Its lease is given back and one of so many cells taken; its lists get room for as many pairs, and where they have
     /// to grow for a 64th more, by the allocator's own reallocation, and pairs, marks and cursor stay. Where it is refused
     /// it has its purse again, and no memory.
+    #[tactic(auto, using(crate::proofs::Looks::look_shown))]
     fn grow(&mut self, cells: u64) -> Result<bool, Refusal>
         requires begun { (held_by self.old.home).is_blank ≡ false }
         requires more { (held_by self.old.home).cells < cells }
         ensures held { HasGrownOr result cells (held_by self.old.home) (held_by self.new.home) }
+        ensures told { IfErr result (IsLookOf (seat_of self.new.home)) }
         ensures grew { IfOk result (λ grew. grew ≡ true) }
         ensures seat { HasLeasedAnew result (seat_of self.old.home) cells (seat_of self.new.home) }
         ensures bare { OnErr result (IsBare self.new.home) }

@@ -2,7 +2,7 @@
 use Rattle.std.proofs.Common.{◌≡◌, ◌≢◌, ℕ, zero, suc, ◌+◌, ◌<◌, ◌≤◌, false, List, [], ◌∷◌, length, get_or, set, map, refl, ap, sym, ◌∙◌, arith, subst, All, Contains, Some, Result, Ok, Err, MatchResult}
 use Rattle.std.specs.List.{slice_get}
 use Rattle.std.proofs.lemmas.List.{length-map, get_or-map, map-set}
-use Rattle.std.proofs.lemmas.List.Elements.{All-set}
+use Rattle.std.proofs.lemmas.List.Elements.{All-set, Contains-get_or}
 use Rattle.std.proofs.lemmas.Option.{slice_get_within, get_or_from_slice_get}
 use Rattle.std.proofs.Math.ListN.{length-set}
 use Rattle.sw_table.specs.declared.row.Row.{Row}
@@ -14,7 +14,7 @@ use Rattle.sw_map.specs.declared.tail.Tail.{Tail}
 use Rattle.sw_map.specs.Held.{Held, after, pairs_in, MayReplay, KeysFit}
 use Rattle.sw_map.specs.Lawful.{IsAligned, IsLawful}
 use Rattle.sw_map.proofs.Replays.{aligned-more, after-room, may-replay, aligned-lawful, lawful-aligned}
-use Rattle.sw_set.specs.Aligned.{HasRoomWhereNeeded, IsAtEnd, IsSameMap, AreSameMaps}
+use Rattle.sw_set.specs.Aligned.{HasRoomWhereNeeded, IsAtEnd, IsSameMap, IsStalled, AreSameMaps}
 
 -- a map that started as m0 and has replayed the first i entries
 pub record IsOnTheWay (tape : List (Step Row)) (i : ℕ) (m0 m : Held) : Type 0 where
@@ -47,6 +47,10 @@ step-room tape i m0 m e t is room w =
 
 pub step-keys : (tape : List (Step Row)) (i : ℕ) (e : Step Row) → All (λ (v : Step Row). KeysFit v) tape → slice_get tape i ≡ Some e → KeysFit e
 step-keys tape i e all is = subst (λ (v : Step Row). KeysFit v) (get_or_from_slice_get tape i e e is) (all i e (slice_get_within tape i e is))
+
+-- a step that was refused
+pub stalled_at : {M : Type 0} (stalls : M → Step Row → Type 0) (tape : List (Step Row)) (i : ℕ) (e : Step Row) (m : M) → slice_get tape i ≡ Some e → stalls m e → IsStalled stalls tape
+stalled_at stalls tape i e m is h = (m, e, subst (Contains tape) (get_or_from_slice_get tape i e e is) (Contains-get_or tape i e (slice_get_within tape i e is)), h)
 
 -- what `align_map` asks of a lawful map
 pub own-aligned : (a : ℕ) (tape : List (Step Row)) (m : Held) → IsLawful a tape m → m.is_blank ≡ false → IsAligned m.head tape m

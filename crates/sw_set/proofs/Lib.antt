@@ -9,6 +9,7 @@ pub mod Ends
 pub mod Gathered
 pub mod Grown
 pub mod KeyOrder
+pub mod Least
 pub mod LiveFinds
 pub mod LiveStandings
 pub mod Logging

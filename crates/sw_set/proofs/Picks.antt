@@ -17,10 +17,12 @@ before-more N xs n x lt here before k d lk l = by (eqb k n) refl
         below : k ≢ n → k < n
         below ne = omega (arith, lk, ne)
 
-pub kept-on : {X : Type 0} (N P : X → Type 0) (xs : List X) (best : Option ℕ) (n : ℕ) (x : X) → n < length xs → N (get_or xs n x) → MatchOption best (Before N xs n) (IsAt P xs) → MatchOption best (Before N xs (n + 1)) (IsAt P xs)
+pub kept-on : {X : Type 0} (N P : X → Type 0) (xs : List X) (best : Option (ℕ × ℕ)) (n : ℕ) (x : X) → n < length xs → N (get_or xs n x) → MatchOption best (Before N xs n) (λ p. IsAt P xs p.0) → MatchOption best (Before N xs (n + 1)) (λ p. IsAt P xs p.0)
 kept-on N P xs None n x lt here m = before-more N xs n x lt here m
 kept-on N P xs (Some i) n x lt here m = m
 
-pub found-at : {X : Type 0} (N P : X → Type 0) (xs : List X) (best : Option ℕ) (n r : ℕ) (x : X) → n < length xs → P (get_or xs n x) → (best ≡ Some r) ⊎ (r ≡ n) → MatchOption best (Before N xs n) (IsAt P xs) → IsAt P xs r
-found-at N P xs best n r x lt here (inl e) m = subst (λ (b : Option ℕ). MatchOption b (Before N xs n) (IsAt P xs)) e m
-found-at N P xs best n r x lt here (inr e) m = (omega (arith, lt, e), λ d. subst P (get_or_any xs n x d lt ∙ ap (λ j. get_or xs j d) (sym e)) here)
+pub found-at : {X : Type 0} (N P : X → Type 0) (xs : List X) (best : Option (ℕ × ℕ)) (n stamp : ℕ) (r : ℕ × ℕ) (x : X) → n < length xs → P (get_or xs n x) → (best ≡ Some r) ⊎ (r ≡ (n, stamp)) → MatchOption best (Before N xs n) (λ p. IsAt P xs p.0) → IsAt P xs r.0
+found-at N P xs best n stamp r x lt here (inl e) m = subst (λ (b : Option (ℕ × ℕ)). MatchOption b (Before N xs n) (λ p. IsAt P xs p.0)) e m
+found-at N P xs best n stamp r x lt here (inr e) m =
+    let place : r.0 ≡ n = ap (λ (p : ℕ × ℕ). p.0) e in
+    (omega (arith, lt, place), λ d. subst P (get_or_any xs n x d lt ∙ ap (λ j. get_or xs j d) (sym place)) here)

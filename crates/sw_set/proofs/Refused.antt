@@ -7,7 +7,7 @@ use Rattle.sw_rows.specs.declared.refusal.Refusal.{Refusal}
 use Rattle.sw_map.specs.declared.tail.Tail.{Tail}
 use Rattle.sw_map.specs.Held.{Held, blank}
 use Rattle.sw_set.specs.Shelf.{AreaState}
-use Rattle.sw_set.specs.Prepared.{IsOfBudget}
+use Rattle.sw_set.specs.Prepared.{ComesFromMap, IsOfBudget}
 use Rattle.sw_set.specs.Boxed.{HasGrownAt, IsFreshBut, IsHeld, LacksOne}
 use Rattle.sw_set.proofs.Boxes.{set-each, get_or_any}
 use Rattle.sw_set.proofs.Trying.{IsTrying, get_or-set_here}
@@ -36,6 +36,11 @@ not_grown e at cells t n x y lt fresh (m, grew, is) =
 
 pub lacks_one : (tails : List Tail) (i : ℕ) (t : Tail) (n : ℕ) (ms : List Held) → i < length tails → get_or tails i t ≡ t → ¬ IsHeld t n ms → LacksOne tails n ms
 lacks_one tails i t n ms lt is gone = (t, subst (Contains tails) is (Contains-get_or tails i t lt), gone)
+
+-- what a map tells of its refusal
+pub by_map : {M U : Type 0} (tells : M → Refusal → Type 0) (m : M) (r : Result U Refusal) → IfErr r (tells m) → IfErr r (ComesFromMap tells)
+by_map tells m (Ok u) h = tt
+by_map tells m (Err e) h = λ b. (m, h)
 
 -- a call hands a refusal on
 pub handed_on : {A : Type 0} (P : Refusal → Type 0) (r : Result A Refusal) (e : Refusal) → IsErrAnd r (λ d. d ≡ e) → P e → IfErr r P

@@ -95,18 +95,18 @@ maps-after ms ns os p q =
 pub tape-after : (x m y : AreaState) → IsSameTape x m → IsSameTape m y → IsSameTape x y
 tape-after x m y p q = record { shell = shell-trans x m y p.shell q.shell; tape = q.tape ∙ p.tape; maps = maps-after x.boxes m.boxes y.boxes p.maps q.maps }
 
-pub not-logged : (u : Update) (x y : AreaState) → MustBegin u x → IsSameTape x y → IsLoggedOrNot u x y (Ok false)
-not-logged u x y must same = record { shell = same.shell; ends = (must, same) }
+pub not-logged : {S : List (Step Row) → Type 0} (u : Update) (x y : AreaState) → MustBegin S u x → IsSameTape x y → IsLoggedOrNot S u x y (Ok false)
+not-logged {S} u x y must same = record { shell = same.shell; ends = (must, same) }
 
-was-logged : (u : Update) (x y : AreaState) → IsSameShell x y → IsLogged u x y → IsLoggedOrNot u x y (Ok true)
-was-logged u x y shell logged = record { shell = shell; ends = logged }
+was-logged : {S : List (Step Row) → Type 0} (u : Update) (x y : AreaState) → IsSameShell x y → IsLogged u x y → IsLoggedOrNot S u x y (Ok true)
+was-logged {S} u x y shell logged = record { shell = shell; ends = logged }
 
-pub not-told : (u : Update) (x y : AreaState) (e : Refusal) → e ≡ NoMemory → IsSameTape x y → IsLoggedOrNot u x y (Err e)
-not-told u x y e is same = record { shell = same.shell; ends = (is, same) }
+pub not-told : {S : List (Step Row) → Type 0} (u : Update) (x y : AreaState) (e : Refusal) → e ≡ NoMemory → IsSameTape x y → IsLoggedOrNot S u x y (Err e)
+not-told {S} u x y e is same = record { shell = same.shell; ends = (is, same) }
 
 -- a row that comes
-pub insertion-logged : (row : Row) (x y : AreaState) → length x.tape < 4096 → y ≡ record x { tape = x.tape ++ inserted row ∷ [] } → IsLoggedOrNot (Insert row) x y (Ok true)
-insertion-logged row x y room is =
+pub insertion-logged : {S : List (Step Row) → Type 0} (row : Row) (x y : AreaState) → length x.tape < 4096 → y ≡ record x { tape = x.tape ++ inserted row ∷ [] } → IsLoggedOrNot S (Insert row) x y (Ok true)
+insertion-logged {S} row x y room is =
     was-logged (Insert row) x y (subst (IsSameShell x) (sym is) (record { attribute = refl; from = refl; below = refl; inbox = refl; spare = refl; many = refl }))
     (room, ap (λ (v : AreaState). v.tape) is, ap (λ (v : AreaState). v.boxes) is)
 
@@ -127,8 +127,8 @@ removal-logged (Ok u) key place at x y within own lt ready is = (
 removal-logged (Err e) key place at x y within own lt ready is = (shell-same x y is.0, is)
 
 -- after the key map was stepped to the end
-pub removal-after : (key : ℕ) (x m y : AreaState) → length x.tape < 4096 → IsSameButBoxes x m → AreSameMaps x.boxes m.boxes → IsSameShell m y → IsRemovalLogged key m y → IsLoggedOrNot (Remove key) x y (Ok true)
-removal-after key x m y room p maps s w =
+pub removal-after : {S : List (Step Row) → Type 0} (key : ℕ) (x m y : AreaState) → length x.tape < 4096 → IsSameButBoxes x m → AreSameMaps x.boxes m.boxes → IsSameShell m y → IsRemovalLogged key m y → IsLoggedOrNot S (Remove key) x y (Ok true)
+removal-after {S} key x m y room p maps s w =
     was-logged (Remove key) x y (shell-trans x m y (tape-but_boxes x m p maps).shell s) (
       room,
       record {

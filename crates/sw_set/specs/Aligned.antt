@@ -35,6 +35,10 @@ MayBeAligned a tape tails m =
 abbrev pub IsSteppedFrom : ℕ → List (Step Row) → Held → Held → Type 0
 IsSteppedFrom a tape m n = IsLawful a tape n × IsSameMap m n
 
+-- a map was refused a step over an entry of the tape; what is known of that each kind of map says
+abbrev pub IsStalled : {M : Type 0} → (M → Step Row → Type 0) → List (Step Row) → Type 0
+IsStalled {M} stalls tape = (m : M) × (e : Step Row) × Contains tape e × stalls m e
+
 -- place by place the items hold the same maps, at perhaps other cursors
 abbrev pub KeepMaps : {X : Type 0} → (X → Held) → List X → List X → Type 0
 KeepMaps {X} held xs ys =

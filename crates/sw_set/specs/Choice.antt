@@ -160,3 +160,11 @@ HasWanted head tape ms want.Count = Unit {0}
 HasWanted head tape ms (want.Sum a) = HasCells head tape ms a
 HasWanted head tape ms (want.Min a) = HasCells head tape ms a
 HasWanted head tape ms (want.Max a) = HasCells head tape ms a
+
+-- ---- the least and the greatest
+
+-- one of two, or what a choice makes of both
+abbrev pub either_or : (ℤ → ℤ → ℤ) → Option ℤ → Option ℤ → Option ℤ
+either_or f None b = b
+either_or f (Some x) None = Some x
+either_or f (Some x) (Some y) = Some (f x y)

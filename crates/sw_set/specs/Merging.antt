@@ -5,7 +5,7 @@ use Rattle.sw_table.specs.declared.row.Update.{Update}
 use Rattle.sw_table.specs.declared.row.Update.TheVariants as update
 use Rattle.sw_rows.specs.declared.refusal.Refusal.{Refusal}
 use Rattle.sw_rows.specs.declared.refusal.Refusal.TheVariants.{NoMemory}
-use Rattle.sw_kernel.specs.Replay.{inserted}
+use Rattle.sw_kernel.specs.Replay.{Step, inserted}
 use Rattle.sw_kernel.specs.Tapes.{brought}
 use Rattle.sw_tape.specs.declared.tape.TheConstants.{MAX_ENTRIES}
 use Rattle.sw_set.specs.Shelf.{AreaState, MayMergeAll, came_then, rows_left_by, tape_rows}
@@ -25,17 +25,17 @@ pub record IsSameTape (x y : AreaState) : Type 0 where
   pub maps : AreSameMaps x.boxes y.boxes
 
 -- as is told, an update is logged, or it must have the area begun anew
-abbrev pub IsLoggedIf : Bool → Update → AreaState → AreaState → Type 0
-IsLoggedIf logged u x y = cond logged (IsLogged u x y) (MustBegin u x × IsSameTape x y)
+abbrev pub IsLoggedIf : (List (Step Row) → Type 0) → Bool → Update → AreaState → AreaState → Type 0
+IsLoggedIf S logged u x y = cond logged (IsLogged u x y) (MustBegin S u x × IsSameTape x y)
 
 -- memory was refused, and a map may have gone further
 abbrev pub IsSameTapeRefused : AreaState → AreaState → Refusal → Type 0
 IsSameTapeRefused x y e = (e ≡ NoMemory) × IsSameTape x y
 
 -- It is told whether an update was logged; where not, it must have the area begun anew. Or memory was refused.
-pub record IsLoggedOrNot (u : Update) (x y : AreaState) (told : Result Bool Refusal) : Type 0 where
+pub record IsLoggedOrNot (S : List (Step Row) → Type 0) (u : Update) (x y : AreaState) (told : Result Bool Refusal) : Type 0 where
   pub shell : IsSameShell x y
-  pub ends : MatchResult told (λ logged. IsLoggedIf logged u x y) (IsSameTapeRefused x y)
+  pub ends : MatchResult told (λ logged. IsLoggedIf S logged u x y) (IsSameTapeRefused x y)
 
 -- whether a row goes
 abbrev pub IsRemoval : Update → Type 0
@@ -58,26 +58,26 @@ HasBroughtNoMore us x y =
     All (λ (r : Row). r.key < n) (brought y.tape)
 
 -- So many of these updates are merged: the live rows are those after them, no more came, and the rest may be received.
-pub record IsMergedUpTo (us : List Update) (many : ℕ) (x y : AreaState) : Type 0 where
+pub record IsMergedUpTo (S : List (Step Row) → Type 0) (us : List Update) (many : ℕ) (x y : AreaState) : Type 0 where
   pub few : many ≤ length us
   pub shell : IsSameShell x y
-  pub merged : AreMerged (take many us) x y
+  pub merged : AreMerged S (take many us) x y
   pub rows : tape_rows y ≡ rows_left_by (take many us) x
   pub came : HasBroughtNoMore (take many us) x y
   pub receivable : MayMergeAll (drop many us) y
 
 -- and no more of them, but a map may have gone further
-pub record IsStoppedAt (us : List Update) (many : ℕ) (x y : AreaState) : Type 0 where
+pub record IsStoppedAt (S : List (Step Row) → Type 0) (us : List Update) (many : ℕ) (x y : AreaState) : Type 0 where
   pub few : many < length us
   pub shell : IsSameShell x y
   pub last : AreaState
-  pub upto : IsMergedUpTo us many x last
+  pub upto : IsMergedUpTo S us many x last
   pub tape : y.tape ≡ last.tape
   pub maps : AreSameMaps last.boxes y.boxes
 
 -- The updates from the one place up to the other are merged, whatever was merged before them.
-abbrev pub GoesOn : List Update → ℕ → ℕ → AreaState → AreaState → Type 0
-GoesOn us at upto x y = (first : AreaState) → IsMergedUpTo us at first x → IsMergedUpTo us upto first y
+abbrev pub GoesOn : (List (Step Row) → Type 0) → List Update → ℕ → ℕ → AreaState → AreaState → Type 0
+GoesOn S us at upto x y = (first : AreaState) → IsMergedUpTo S us at first x → IsMergedUpTo S us upto first y
 
 -- ---- what came of it
 
@@ -90,11 +90,11 @@ HasBegunWithOr r us at x y =
     (λ e. (e ≡ NoMemory) × (y ≡ x))
 
 -- the updates from a place up to the answered one are merged, at least one; or there was no memory for it
-abbrev pub HasMergedFromOr : Result ℕ Refusal → List Update → ℕ → AreaState → AreaState → Type 0
-HasMergedFromOr r us at x y =
-    MatchResult r (λ upto. (at < upto) × (upto ≤ length us) × GoesOn us at upto x y) (IsSameTapeRefused x y)
+abbrev pub HasMergedFromOr : (List (Step Row) → Type 0) → Result ℕ Refusal → List Update → ℕ → AreaState → AreaState → Type 0
+HasMergedFromOr S r us at x y =
+    MatchResult r (λ upto. (at < upto) × (upto ≤ length us) × GoesOn S us at upto x y) (IsSameTapeRefused x y)
 
 -- all of the updates are merged; or as many as is answered
-abbrev pub HasMergedEachOr : {A : Type 0} → Result A ℕ → List Update → AreaState → AreaState → Type 0
-HasMergedEachOr r us x y =
-    MatchResult r (λ _. IsMergedUpTo us (length us) x y) (λ many. IsStoppedAt us many x y)
+abbrev pub HasMergedEachOr : {A : Type 0} → (List (Step Row) → Type 0) → Result A ℕ → List Update → AreaState → AreaState → Type 0
+HasMergedEachOr S r us x y =
+    MatchResult r (λ _. IsMergedUpTo S us (length us) x y) (λ many. IsStoppedAt S us many x y)

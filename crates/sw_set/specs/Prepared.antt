@@ -119,6 +119,10 @@ IsOfBudget (Short used want capacity) = Unit {0}
 IsOfBudget (Contended seen found) = Unit {0}
 IsOfBudget e = ⊥
 
+-- the budget's refusal is what a map tells of a begin or growth that it was refused
+abbrev pub ComesFromMap : {M : Type 0} → (M → Refusal → Type 0) → Refusal → Type 0
+ComesFromMap {M} tells e = IsOfBudget e → (m : M) × tells m e
+
 -- the query touches the area and needs more maps than there are boxes
 abbrev pub HasTooFew : AreaState → Query → Type 0
 HasTooFew x q = (is_touched x q ≡ true) × (length x.boxes < length (needed x.attribute q))

@@ -7,7 +7,7 @@ ghost use Rattle.sw_kernel.specs.Tapes.{IsTape, peak_from};
 ghost use Rattle.sw_map.specs.Held.{KeysFit};
 ghost use Rattle.sw_map.specs.Lawful.{IsAligned, IsLawful};
 ghost use Rattle.sw_rows.specs.Gives.{MemoryAside};
-ghost use Rattle.sw_set.specs.Aligned.{HasRoomWhereNeeded, IsAtEnd, IsSameMap};
+ghost use Rattle.sw_set.specs.Aligned.{HasRoomWhereNeeded, IsAtEnd, IsSameMap, IsStalled};
 
 use sw_map::{CrackerMap, Tail};
 use sw_rows::Refusal;
@@ -15,6 +15,7 @@ use sw_tape::Tape;
 
 /// Steps a map to the end of the tape. Refused `NoMemory`, it had entries to replay, and stands at the cursor that it
 /// reached.
+#[tactic(auto, using(crate::proofs::Boxes::stalled_at))]
 pub(crate) fn align_map<M: CrackerMap>(it: &mut M, tape: &Tape) -> Result<(), Refusal>
     requires aligned { IsAligned (M.held it.old).head tape.now (M.held it.old) }
     requires keys { All (λ (e : Step Row). KeysFit e) tape.now }
@@ -23,6 +24,7 @@ pub(crate) fn align_map<M: CrackerMap>(it: &mut M, tape: &Tape) -> Result<(), Re
     ensures same { IsSameMap (M.held it.old) (M.held it.new) }
     ensures ends { MemoryAside result (λ _. (M.held it.new).cursor ≡ length tape.now) }
     ensures behind { OnErr result ((M.held it.old).cursor < length tape.now) }
+    ensures stalled { OnErr result (IsStalled M.stalls tape.now) }
 {
     for i in it.cursor()..tape.len() {
         if let Some(entry) = tape.get(i) {

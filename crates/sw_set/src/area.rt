@@ -1,6 +1,6 @@
 //! An area, and its single changes.
 
-ghost use Rattle.std.specs.Prelude.{◌≡◌, ◌<◌, ◌≤◌, ◌+◌, ◌^◌, ◌++◌, false, true, List, [], length, map, All, IfOk, IsOk, IsOkUnless, MatchOption, remove, slice_index_or, vec_capacity, vec_len};
+ghost use Rattle.std.specs.Prelude.{◌≡◌, ◌<◌, ◌≤◌, ◌+◌, ◌^◌, ◌++◌, false, true, List, [], length, map, All, IfErr, IfOk, IsOk, IsOkUnless, MatchOption, OnErr, remove, slice_index_or, vec_capacity, vec_len};
 ghost use Rattle.sw_table.specs.declared.row.Row.{Row};
 ghost use Rattle.sw_table.specs.declared.row.Update.TheVariants.{Insert};
 ghost use Rattle.sw_rows.specs.declared.refusal.Refusal.TheVariants.{NoMemory};
@@ -19,10 +19,10 @@ ghost use Rattle.sw_set.specs.Merged.{without_inbox};
 ghost use Rattle.sw_set.specs.Needs.{head_in};
 ghost use Rattle.sw_rows.specs.Gives.{MemoryAside};
 ghost use Rattle.sw_set.specs.Outcomes.{AreAppendedOr, CameToWaitOr, HasBegunAnewOr, HasLoggedOr, HasMadeAt, HasMadeRoomOr, HasRestartedOr, IsLongerOr, IsSuppliedOr, rows_standing};
-ghost use Rattle.sw_set.specs.Prepared.{IsPreparedFor, IsReady, stands_if};
+ghost use Rattle.sw_set.specs.Prepared.{ComesFromMap, IsPreparedFor, IsReady, stands_if};
 ghost use Rattle.sw_set.specs.Boxed.{HasGrownAt, IsCleared, IsFree, IsFreshBut, IsOneCleared, IsSameButBoxes, IsShed};
 ghost use Rattle.sw_set.specs.Shelf.{AreaState, IsAreaLawful, IsSameArea, LiesIn, MayComeAfterLoad, MayMerge, MayMergeAll, MayReceiveAll, Rises, arranged_rows, key_of, lies_within, loaded_area, rows_in, rows_left_by, tape_rows, with_box, with_inbox};
-ghost use Rattle.sw_set.specs.Aligned.{AreSameMaps, HasRoomWhereNeeded, IsAtEnd};
+ghost use Rattle.sw_set.specs.Aligned.{AreSameMaps, HasRoomWhereNeeded, IsAtEnd, IsStalled};
 ghost use Rattle.sw_set.specs.Sought.{AreAllBlank, EndsBy, FindsUnless, HasCursor, HasReachedOr, HaveSomeMap, HoldsMap, IsCrackedAt, IsNeeded, IsNeededIfMap, IsUncracked, IsUnneeded, LacksMap, Shows, TellsUnless, shown_at};
 
 use crate::align::{align_map, is_needed};
@@ -350,6 +350,7 @@ impl<M: CrackerMap> Area<M> {
         ensures same { IsSameButBoxes self.old self.new }
         ensures maps { AreSameMaps self.old.boxes self.new.boxes }
         ensures ends { HasReachedOr result at (length self.old.tape) self.old.boxes self.new.boxes }
+        ensures stalled { OnErr result (IsStalled M.stalls self.old.tape) }
     {
         align_map(&mut self.boxes[at], &self.tape)
     }
@@ -685,7 +686,8 @@ impl<M: CrackerMap> Area<M> {
         requires within { at < length self.old.boxes }
         requires begun { (d : Held) → (slice_index_or self.old.boxes at d).is_blank ≡ false }
         requires more { (d : Held) → (slice_index_or self.old.boxes at d).cells < cells }
-        ensures { HasGrownAt result at cells self.old self.new }
+        ensures grown { HasGrownAt result at cells self.old self.new }
+        ensures told { IfErr result (ComesFromMap M.tells) }
     {
         grow_box(&mut self.boxes[at], cells)
     }
@@ -695,7 +697,8 @@ impl<M: CrackerMap> Area<M> {
         requires within { at < length self.old.boxes }
         requires fresh { IsFreshBut at tail self.old.boxes }
         requires some { 0 < cells }
-        ensures { HasMadeAt result at tail cells self.old self.new }
+        ensures made { HasMadeAt result at tail cells self.old self.new }
+        ensures told { IfErr result (ComesFromMap M.tells) }
     {
         let attribute = self.attribute;
         begin_box(&mut self.boxes[at], attribute, tail, cells)
@@ -769,22 +772,26 @@ fn trim_all<M: CrackerMap>(boxes: &mut [M])
     }
 }
 
+#[tactic(auto, using(crate::proofs::Refused::by_map))]
 fn begin_box<M: CrackerMap>(
     it: &mut M,
     attribute: u8,
     tail: Tail,
     cells: u64,
 ) -> Result<(), Refusal>
-    ensures { HasBegunOr result attribute tail cells (M.held it.new) }
+    ensures begun { HasBegunOr result attribute tail cells (M.held it.new) }
+    ensures told { IfErr result (ComesFromMap M.tells) }
 {
     it.reset();
     it.begin(attribute, tail, cells)
 }
 
+#[tactic(auto, using(crate::proofs::Refused::by_map))]
 fn grow_box<M: CrackerMap>(it: &mut M, cells: u64) -> Result<bool, Refusal>
     requires begun { (M.held it.old).is_blank ≡ false }
     requires more { (M.held it.old).cells < cells }
-    ensures { HasGrownOr result cells (M.held it.old) (M.held it.new) }
+    ensures grown { HasGrownOr result cells (M.held it.old) (M.held it.new) }
+    ensures told { IfErr result (ComesFromMap M.tells) }
 {
     it.grow(cells)
 }

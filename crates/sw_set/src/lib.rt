@@ -26,4 +26,7 @@ pub use area::Area;
 pub use collect::nothing;
 pub use merging::MOST_REMOVALS_MERGED;
 pub use needs::needed_maps;
+pub use pick::older;
 pub use ready::Ready;
+pub use replies::push_row;
+pub use totals::{greater, lesser};

@@ -2,7 +2,7 @@
 
 ghost use Rattle.std.specs.Prelude.{◌≡◌, ◌<◌, ◌↔◌, false, length, All, Contains, IfErr, IsTrue, OnErr, slice_index_or};
 ghost use Rattle.sw_map.specs.Held.{Held};
-ghost use Rattle.sw_set.specs.Prepared.{IsOfBudget, IsShort};
+ghost use Rattle.sw_set.specs.Prepared.{ComesFromMap, IsOfBudget, IsShort};
 ghost use Rattle.sw_set.specs.Boxed.{AreNeededKept, IsFreshBut, IsHeld, IsSameButBoxes, LacksOne};
 ghost use Rattle.sw_set.specs.Preparing.{HasFreeOr, HasMapOr, HasOneMoreOr, HaveMapsOr};
 ghost use Rattle.sw_set.specs.Sought.{AreAllNeeded, LacksMap};
@@ -33,6 +33,7 @@ fn begin_again<M: CrackerMap>(
     requires some { 0 < cells }
     ensures same { IsSameButBoxes area.old area.new }
     ensures kept { AreNeededKept at tails.now area.old.boxes area.new.boxes }
+    ensures told { IfErr result (ComesFromMap M.tells) }
     ensures ends { HasMapOr result tail cells area.new.boxes }
     ensures lacking { OnErr result (¬ IsHeld tail cells area.new.boxes) }
     ensures spent { IfErr result (λ e. IsShort e → AreAllNeeded tails.now area.new.boxes) }
@@ -68,6 +69,7 @@ fn widen<M: CrackerMap>(
     requires more { (d : Held) → (slice_index_or area.old.boxes at d).cells < cells }
     ensures same { IsSameButBoxes area.old area.new }
     ensures kept { AreNeededKept at tails.now area.old.boxes area.new.boxes }
+    ensures told { IfErr result (ComesFromMap M.tells) }
     ensures ends { HasMapOr result tail cells area.new.boxes }
     ensures lacking { OnErr result (¬ IsHeld tail cells area.new.boxes) }
     ensures spent { IfErr result (λ e. IsShort e → AreAllNeeded tails.now area.new.boxes) }
@@ -107,6 +109,7 @@ fn ensure_map<M: CrackerMap>(
     requires needed { Contains tails.now tail }
     requires some { 0 < cells }
     ensures same { IsSameButBoxes area.old area.new }
+    ensures told { IfErr result (ComesFromMap M.tells) }
     ensures ends { HasOneMoreOr result tails.now tail cells area.old.boxes area.new.boxes }
     ensures lacking { IfErr result (λ e. IsOfBudget e → ¬ IsHeld tail cells area.new.boxes) }
     ensures spent { IfErr result (λ e. IsShort e → AreAllNeeded tails.now area.new.boxes) }
@@ -130,6 +133,7 @@ pub(crate) fn make_all<M: CrackerMap>(
 ) -> Result<(), Refusal>
     requires some { 0 < cells }
     ensures same { IsSameButBoxes area.old area.new }
+    ensures told { IfErr result (ComesFromMap M.tells) }
     ensures ends { HaveMapsOr result tails.now cells area.old.boxes area.new.boxes }
     ensures lacking { IfErr result (λ e. IsOfBudget e → LacksOne tails.now cells area.new.boxes) }
     ensures spent { IfErr result (λ e. IsShort e → AreAllNeeded tails.now area.new.boxes) }

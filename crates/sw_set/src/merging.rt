@@ -8,12 +8,12 @@ ghost use Rattle.sw_rows.specs.Gives.{IsRefused};
 ghost use Rattle.sw_map.specs.declared.tail.Tail.TheVariants.{Key};
 ghost use Rattle.sw_map.specs.Held.{Held};
 ghost use Rattle.sw_tape.specs.declared.tape.TheConstants.{MAX_ENTRIES};
-ghost use Rattle.sw_set.specs.Merged.{HasBegunWithInboxOr, HasMergedOr, IsRemovalLogged, IsSameShell, LacksKeys, MergesByOneLoad, StandsForSame, removals_in};
+ghost use Rattle.sw_set.specs.Merged.{CannotTell, HasBegunWithInboxOr, HasMergedOr, IsRemovalLogged, IsSameShell, MergesByOneLoad, StandsForSame, removals_in};
 ghost use Rattle.sw_set.specs.Merging.{HasBegunWithOr, HasMergedEachOr, HasMergedFromOr, IsLoggedOrNot, IsStretch};
 ghost use Rattle.sw_set.specs.Prepared.{IsReady};
 ghost use Rattle.sw_set.specs.Boxed.{IsSameButBoxes};
 ghost use Rattle.sw_set.specs.Shelf.{MayMerge, MayMergeAll, tape_rows};
-ghost use Rattle.sw_set.specs.Aligned.{AreSameMaps};
+ghost use Rattle.sw_set.specs.Aligned.{AreSameMaps, IsStalled};
 ghost use Rattle.sw_set.specs.Sought.{IsAt};
 
 use crate::area::Area;
@@ -28,7 +28,7 @@ pub const MOST_REMOVALS_MERGED: usize = 64;
 fn try_insertion<M: CrackerMap>(area: &mut Area<M>, row: Row) -> Result<bool, Refusal>
     requires received { area.old.inbox ≡ [] }
     requires may { MayMerge (Insert row) area.old }
-    ensures told { IsLoggedOrNot (Insert row) area.old area.new result }
+    ensures told { IsLoggedOrNot (IsStalled M.stalls) (Insert row) area.old area.new result }
     ensures nothing { MatchResult result (λ logged. logged ≡ false → area.new ≡ area.old) (λ _. area.new ≡ area.old) }
 {
     area.known();
@@ -44,7 +44,7 @@ fn try_insertion<M: CrackerMap>(area: &mut Area<M>, row: Row) -> Result<bool, Re
 fn aligned_keys<M: CrackerMap>(area: &mut Area<M>) -> Option<usize>
     ensures same { IsSameButBoxes area.old area.new }
     ensures maps { AreSameMaps area.old.boxes area.new.boxes }
-    ensures found { MatchOption result (LacksKeys area.old) (IsAt (IsReady Key area.new.tape) area.new.boxes) }
+    ensures found { MatchOption result (CannotTell (IsStalled M.stalls) area.old) (IsAt (IsReady Key area.new.tape) area.new.boxes) }
 {
     area.known();
     let Some(at) = area.with_map(Tail::Key) else {
@@ -79,7 +79,7 @@ fn log_at<M: CrackerMap>(area: &mut Area<M>, at: usize, key: u64) -> Result<(), 
 fn try_removal<M: CrackerMap>(area: &mut Area<M>, key: u64) -> Result<bool, Refusal>
     requires received { area.old.inbox ≡ [] }
     requires live { has_key key (tape_rows area.old) ≡ true }
-    ensures { IsLoggedOrNot (Remove key) area.old area.new result }
+    ensures { IsLoggedOrNot (IsStalled M.stalls) (Remove key) area.old area.new result }
 {
     area.known();
     if area.tape_len() == MAX_ENTRIES {
@@ -97,7 +97,7 @@ fn try_removal<M: CrackerMap>(area: &mut Area<M>, key: u64) -> Result<bool, Refu
 fn log_one<M: CrackerMap>(area: &mut Area<M>, update: Update) -> Result<bool, Refusal>
     requires received { area.old.inbox ≡ [] }
     requires may { MayMerge update area.old }
-    ensures { IsLoggedOrNot update area.old area.new result }
+    ensures { IsLoggedOrNot (IsStalled M.stalls) update area.old area.new result }
 {
     match update {
         Update::Insert(row) => try_insertion(area, row),
@@ -148,7 +148,7 @@ fn merge_from<M: CrackerMap>(
     requires within { at < length updates.now }
     requires receivable { MayMergeAll (drop at updates.now) area.old }
     ensures same { IsSameShell area.old area.new }
-    ensures ends { HasMergedFromOr result updates.now at area.old area.new }
+    ensures ends { HasMergedFromOr (IsStalled M.stalls) result updates.now at area.old area.new }
 {
     area.known();
     if log_one(area, updates[at])? {
@@ -161,7 +161,7 @@ fn merge_from<M: CrackerMap>(
 fn merge_each<M: CrackerMap>(area: &mut Area<M>, updates: &[Update]) -> Result<(), usize>
     requires received { area.old.inbox ≡ [] }
     requires receivable { MayMergeAll updates.now area.old }
-    ensures { HasMergedEachOr result updates.now area.old area.new }
+    ensures { HasMergedEachOr (IsStalled M.stalls) result updates.now area.old area.new }
 {
     let mut many = 0;
     while many < updates.len() {
@@ -210,7 +210,7 @@ impl<M: CrackerMap> Area<M> {
     /// rest waits; where one load was to take up all of them, nothing has changed.
     pub fn merge(&mut self) -> Result<(), Refusal>
         ensures same { StandsForSame self.old self.new }
-        ensures ends { ¬ MergesByOneLoad self.old → HasMergedOr result self.old self.new }
+        ensures ends { ¬ MergesByOneLoad self.old → HasMergedOr (IsStalled M.stalls) result self.old self.new }
         ensures by_load { MergesByOneLoad self.old → HasBegunWithInboxOr result self.old self.new }
         ensures nothing { self.old.inbox ≡ [] → self.new ≡ self.old }
     {
@@ -244,7 +244,7 @@ impl<M: CrackerMap> Area<M> {
     /// waits.
     fn merge_in_turn(&mut self) -> Result<(), Refusal>
         ensures same { StandsForSame self.old self.new }
-        ensures ends { HasMergedOr result self.old self.new }
+        ensures ends { HasMergedOr (IsStalled M.stalls) result self.old self.new }
         ensures nothing { self.old.inbox ≡ [] → self.new ≡ self.old }
     {
         let mut waiting = self.take_inbox();

@@ -1,6 +1,6 @@
 //! Which box: looks over the boxes of an area.
 
-ghost use Rattle.std.specs.Prelude.{◌≡◌, ◌⊎◌, false, true, Contains, Some};
+ghost use Rattle.std.specs.Prelude.{◌≡◌, ◌⊎◌, false, true, Contains, Some, slice_index_or};
 ghost use Rattle.sw_set.specs.Sought.{FindsUnless, HoldsMap, IsNeededIfMap, IsUnneeded, LacksMap};
 
 use crate::align::is_needed;
@@ -30,16 +30,24 @@ pub(crate) fn find_blank<M: CrackerMap>(boxes: &[M]) -> Option<usize>
     None
 }
 
-/// Of a place found before and a later one, that with the lesser stamp; of equal stamps the earlier place.
-pub(crate) fn older(best: Option<usize>, at: usize, stamps: &[u64]) -> usize
-    ensures { (best ≡ Some result) ⊎ (result ≡ at) }
+/// Of a place found before and a later one, each with its stamp, that with the lesser stamp; of equal stamps the earlier
+/// place.
+pub fn older(best: Option<(usize, u64)>, at: usize, stamp: u64) -> (usize, u64)
+    ensures { (best ≡ Some result) ⊎ (result ≡ (at, stamp)) }
 {
-    if let Some(i) = best {
-        if i < stamps.len() && at < stamps.len() && stamps[i] <= stamps[at] {
-            return i;
+    if let Some(found) = best {
+        if found.1 <= stamp {
+            return found;
         }
     }
-    at
+    (at, stamp)
+}
+
+/// The stamp at a place; 0 behind the last.
+fn stamp_at(stamps: &[u64], at: usize) -> u64
+    ensures { result ≡ slice_index_or stamps.now at 0 }
+{
+    if at < stamps.len() { stamps[at] } else { 0 }
 }
 
 /// The least recently used box whose map the tails lack.
@@ -51,13 +59,16 @@ pub(crate) fn find_unneeded<M: CrackerMap>(
     ensures { FindsUnless
         (λ m. Contains tails.now (M.held m).tail) (λ m. ¬ Contains tails.now (M.held m).tail) boxes.now result }
 {
-    let mut best: Option<usize> = None;
+    let mut best = None;
     for at in 0..boxes.len() {
         if !is_needed(tails, boxes[at].tail()) {
-            best = Some(older(best, at, stamps));
+            best = Some(older(best, at, stamp_at(stamps, at)));
         }
     }
-    best
+    match best {
+        Some((at, _)) => Some(at),
+        None => None,
+    }
 }
 
 /// Whether a box has a lease for a map that the tails lack.
@@ -77,11 +88,14 @@ pub(crate) fn find_leased<M: CrackerMap>(
     ensures { FindsUnless
         (λ m. IsNeededIfMap tails.now (M.held m)) (λ m. IsUnneeded tails.now (M.held m)) boxes.now result }
 {
-    let mut best: Option<usize> = None;
+    let mut best = None;
     for at in 0..boxes.len() {
         if is_leased(&boxes[at], tails) {
-            best = Some(older(best, at, stamps));
+            best = Some(older(best, at, stamp_at(stamps, at)));
         }
     }
-    best
+    match best {
+        Some((at, _)) => Some(at),
+        None => None,
+    }
 }

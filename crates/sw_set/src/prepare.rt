@@ -1,13 +1,13 @@
 //! Preparing an area for a query: the range is logged, the maps that are needed are made and aligned, and the places of the
 //! range's bounds are found.
 
-ghost use Rattle.std.specs.Prelude.{◌≡◌, ℕ, ◌<◌, ◌≤◌, ◌^◌, [], true, length, false, Contains, IfErr, IfOk, IsOk, IsOkUnless, slice_index_or};
+ghost use Rattle.std.specs.Prelude.{◌≡◌, ℕ, ◌<◌, ◌≤◌, ◌^◌, [], true, length, false, Contains, IfErr, IfOk, IfSome, IsOk, IsOkUnless, slice_index_or};
 ghost use Rattle.sw_rows.specs.Scan.{AsksBelow, answer};
 ghost use Rattle.sw_rows.specs.declared.refusal.Refusal.TheVariants.{NoMemory};
 ghost use Rattle.sw_map.specs.declared.tail.Tail.TheVariants.{Key};
 ghost use Rattle.sw_map.specs.Held.{Held};
 ghost use Rattle.sw_set.specs.Needs.{head_in};
-ghost use Rattle.sw_set.specs.Prepared.{HasTooFew, IsHindered, IsOfBudget, IsPartlyNoted, IsPrepared, IsShort, IsTold, IsToldTooFew, StandReady, cells_asked, cells_for, is_touched, stand_both};
+ghost use Rattle.sw_set.specs.Prepared.{ComesFromMap, HasTooFew, IsHindered, IsOfBudget, IsPartlyNoted, IsPrepared, IsShort, IsTold, IsToldTooFew, StandReady, cells_asked, cells_for, is_touched, stand_both};
 ghost use Rattle.sw_set.specs.Boxed.{IsFoundAt, LacksOne};
 ghost use Rattle.sw_set.specs.Preparing.{HasNotedOr, HasPreparedOr, HasRangedOr};
 ghost use Rattle.sw_set.specs.Shelf.{IsSameArea, rows_in};
@@ -118,6 +118,7 @@ fn prepare_range<R: Threads + Sync, M: CrackerMap>(
     ensures lacking { IfErr result (λ e. IsOfBudget e → LacksOne tails.now (cells_asked area.new) area.new.boxes) }
     ensures spent { IfErr result (λ e. IsShort e → AreAllNeeded tails.now area.new.boxes) }
     ensures same { IsSameArea area.old area.new }
+    ensures told { IfErr result (ComesFromMap M.tells) }
     ensures ends { HasRangedOr result lower upper tails.now area.old area.new }
 {
     area.known();
@@ -152,6 +153,7 @@ impl<M: CrackerMap> Area<M> {
         ensures untouched { is_touched self.old query.now ≡ false → IsOk result × (self.new ≡ self.old) }
         ensures few { HasTooFew self.old query.now → IsToldTooFew result query.now self.old self.new }
         ensures hindered { IfErr result (IsHindered query.now self.old self.new) }
+        ensures told { IfErr result (ComesFromMap M.tells) }
         ensures same { IsSameArea self.old self.new }
         ensures ends { HasPreparedOr result query.now self.old self.new }
     {
@@ -196,6 +198,7 @@ impl<M: CrackerMap> Area<M> {
         ensures same { IsSameArea self.old self.new }
         ensures answered { IfOk result (λ r. r.0 ≡ answer (rows_in self.old) query.now) }
         ensures told { IfOk result (λ r. IsTold query.now self.old self.new r.1) }
+        ensures by_map { IfOk result (λ r. IfSome r.1 (ComesFromMap M.tells)) }
         ensures refused { IsOkUnless result NoMemory }
         ensures left { IfErr result (λ _. IsPartlyNoted query.now self.old self.new.tape) }
     {

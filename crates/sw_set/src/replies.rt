@@ -94,11 +94,11 @@ fn cells_at<M: CrackerMap>(
     Ok(cells)
 }
 
-/// Adds a row.
-fn push_row(rows: &mut ReplyRows, key: u64, cells: Cells) -> Result<(), Refusal>
-    ensures { MemoryAside result (λ _. rows.new ≡ rows.old ++ reply_row key cells ∷ []) }
+/// Adds a row at the end. Refused `NoMemory` alone.
+pub fn push_row(rows: &mut ReplyRows, key: u64, cells: &[i64]) -> Result<(), Refusal>
+    ensures { MemoryAside result (λ _. rows.new ≡ rows.old ++ reply_row key cells.now ∷ []) }
 {
-    match rows.push(key, cells.as_slice()) {
+    match rows.push(key, cells) {
         Ok(()) => Ok(()),
         Err(_) => Err(Refusal::NoMemory),
     }
@@ -119,7 +119,7 @@ pub(crate) fn rows_at<M: CrackerMap>(
     let mut rows = ReplyRows::new(alloc);
     for (key, place) in found {
         let cells = cells_at(alloc, boxes, columns, names, *place)?;
-        push_row(&mut rows, *key, cells)?;
+        push_row(&mut rows, *key, cells.as_slice())?;
     }
     Ok(rows)
 }

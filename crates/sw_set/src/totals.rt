@@ -1,9 +1,9 @@
 //! The sum, the least and the greatest of what is chosen of a column.
 
-ghost use Rattle.std.specs.Prelude.{◌≡◌, List, ℤ, cond, fold, length, pos};
+ghost use Rattle.std.specs.Prelude.{◌≡◌, List, ℤ, cond, length, pos};
 ghost use Rattle.std.specs.Int.{int_max, int_min};
-ghost use Rattle.sw_rows.specs.Scan.{total, least, lesser_with, greatest, larger_with};
-ghost use Rattle.sw_set.specs.Choice.{chosen, IsSumOf};
+ghost use Rattle.sw_rows.specs.Scan.{total, least, greatest};
+ghost use Rattle.sw_set.specs.Choice.{chosen, either_or, IsSumOf};
 
 use crate::choice::Choice;
 use crate::window::{BLOCK, Window};
@@ -68,54 +68,60 @@ fn sum_chosen<M: CrackerMap>(window: &mut Window<'_, M>, choice: &Choice) -> i12
     sum
 }
 
-/// The lesser of what was found, if anything was, and a value.
-fn lesser(found: Option<i64>, here: i64) -> i64
-    ensures { result ≡ lesser_with found here }
+/// The lesser of two cells, where either may lack.
+pub fn lesser(first: Option<i64>, second: Option<i64>) -> Option<i64>
+    ensures { result ≡ either_or int_min first second }
 {
-    match found {
-        Some(low) => here.min(low),
-        None => here,
+    let Some(x) = first else {
+        return second;
+    };
+    match second {
+        None => Some(x),
+        Some(y) => Some(if y < x { y } else { x }),
     }
 }
 
-/// The greater of what was found, if anything was, and a value.
-fn larger(found: Option<i64>, here: i64) -> i64
-    ensures { result ≡ larger_with found here }
+/// The greater of two cells, where either may lack.
+pub fn greater(first: Option<i64>, second: Option<i64>) -> Option<i64>
+    ensures { result ≡ either_or int_max first second }
 {
-    match found {
-        Some(high) => here.max(high),
-        None => here,
+    let Some(x) = first else {
+        return second;
+    };
+    match second {
+        None => Some(x),
+        Some(y) => Some(if x < y { y } else { x }),
     }
 }
 
-/// The least of values and of one more, that was found.
-fn least_of(found: i64, values: &[i64]) -> i64
-    ensures { result ≡ fold int_min found values.now }
+/// The least of values, if there are any.
+fn least_of(values: &[i64]) -> Option<i64>
+    ensures { result ≡ least values.now }
 {
-    let mut found = found;
+    if values.len() == 0 {
+        return None;
+    }
+    let mut found = values[0];
     for value in values {
         found = found.min(*value);
     }
-    found
+    Some(found)
 }
 
 /// The least of all values of a column, if there are any.
-fn min_all<M: CrackerMap>(window: &mut Window<'_, M>) -> Option<i64>
-    ensures { result ≡ least window.old }
+fn min_all<M: CrackerMap>(window: &Window<'_, M>) -> Option<i64>
+    ensures { result ≡ least window.now }
 {
-    if window.len() == 0 {
-        return None;
-    }
     let mut block = [0; BLOCK];
-    let mut found = window.at(0);
+    let mut found = None;
     let mut place = 0;
     while place < window.len() {
         let many = (window.len() - place).min(BLOCK);
         window.read(place, &mut block[..many]);
-        found = least_of(found, &block[..many]);
+        found = lesser(found, least_of(&block[..many]));
         place += many;
     }
-    Some(found)
+    found
 }
 
 /// The least of the chosen values, if there are any.
@@ -136,40 +142,40 @@ fn min_chosen<M: CrackerMap>(window: &mut Window<'_, M>, choice: &Choice) -> Opt
     let mut found: Option<i64> = None;
     for place in 0..window.len() {
         if choice.has(place) {
-            found = Some(lesser(found, window.at(place)));
+            found = lesser(found, Some(window.at(place)));
         }
     }
     found
 }
 
-/// The greatest of values and of one more, that was found.
-fn greatest_of(found: i64, values: &[i64]) -> i64
-    ensures { result ≡ fold int_max found values.now }
+/// The greatest of values, if there are any.
+fn greatest_of(values: &[i64]) -> Option<i64>
+    ensures { result ≡ greatest values.now }
 {
-    let mut found = found;
+    if values.len() == 0 {
+        return None;
+    }
+    let mut found = values[0];
     for value in values {
         found = found.max(*value);
     }
-    found
+    Some(found)
 }
 
 /// The greatest of all values of a column, if there are any.
-fn max_all<M: CrackerMap>(window: &mut Window<'_, M>) -> Option<i64>
-    ensures { result ≡ greatest window.old }
+fn max_all<M: CrackerMap>(window: &Window<'_, M>) -> Option<i64>
+    ensures { result ≡ greatest window.now }
 {
-    if window.len() == 0 {
-        return None;
-    }
     let mut block = [0; BLOCK];
-    let mut found = window.at(0);
+    let mut found = None;
     let mut place = 0;
     while place < window.len() {
         let many = (window.len() - place).min(BLOCK);
         window.read(place, &mut block[..many]);
-        found = greatest_of(found, &block[..many]);
+        found = greater(found, greatest_of(&block[..many]));
         place += many;
     }
-    Some(found)
+    found
 }
 
 /// The greatest of the chosen values, if there are any.
@@ -190,7 +196,7 @@ fn max_chosen<M: CrackerMap>(window: &mut Window<'_, M>, choice: &Choice) -> Opt
     let mut found: Option<i64> = None;
     for place in 0..window.len() {
         if choice.has(place) {
-            found = Some(larger(found, window.at(place)));
+            found = greater(found, Some(window.at(place)));
         }
     }
     found

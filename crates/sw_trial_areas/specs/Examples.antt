@@ -104,7 +104,18 @@ key_map = record {
       (last ((pos 20, pos 4) ∷ [])));
 }
 
--- an area of four rows with these two maps
+-- the key map before it cracked
+abbrev pub lagging_map : Held
+lagging_map = record {
+  is_blank = false;
+  head = 0;
+  tail = Key;
+  cells = 64;
+  cursor = 1;
+  pairs = last ((pos 12, pos 1) ∷ (pos 3, pos 2) ∷ (pos 12, pos 3) ∷ (pos 20, pos 4) ∷ []);
+}
+
+-- an area of four rows with the first two of these maps
 abbrev pub mapped_area : AreaState
 mapped_area = record {
   attribute = 0;
@@ -116,12 +127,24 @@ mapped_area = record {
   boxes = key_map ∷ second_map ∷ [];
 }
 
--- the same when its key map was cleared, and when it was begun anew without the row of key 2
+-- the same when its key map was cleared
 abbrev pub cleared_area : AreaState
 cleared_area = record mapped_area { boxes = blank ∷ second_map ∷ [] }
 
+-- or lags
+abbrev pub lagging_area : AreaState
+lagging_area = record mapped_area { boxes = lagging_map ∷ second_map ∷ [] }
+
+-- the area that was begun anew without the row of key 2
 abbrev pub begun_area : AreaState
 begun_area = record mapped_area { tape = loaded three_rows ∷ []; boxes = blank ∷ blank ∷ [] }
+
+-- what is known of refused steps: there was none, or there may have been
+abbrev pub none_refused : List (Step Row) → Type 0
+none_refused tape = ⊥
+
+abbrev pub some_refused : List (Step Row) → Type 0
+some_refused tape = Unit {0}
 
 -- a row that comes
 abbrev pub fifth_row : Row

@@ -14,7 +14,7 @@ ghost use Rattle.sw_set.specs.Needs.{edge, head_in, lower_from, needed, touches,
 ghost use Rattle.sw_set.specs.Prepared.{cells_for, stands_if};
 ghost use Rattle.sw_set.specs.Merged.{IsMerged};
 ghost use Rattle.sw_set.specs.Shelf.{AreReceivable, logged_rows, rows_in};
-ghost use Rattle.sw_trial_areas.specs.Examples.{after, before, begun_area, begun_tape, cleared_area, count_all, cracked_pieces, cracked_tape, fifth_row, fives_tape, greatest_bound, keys_by, least_bound, longer_tape, mapped_area, mixed_tape, old_row, places_by, second_map, select_a_by_b, select_b, select_b_and_c, shorter_tape, strayed_tape, sum_b_by_c, three_rows, waiting_area, whole_tape};
+ghost use Rattle.sw_trial_areas.specs.Examples.{after, before, begun_area, begun_tape, cleared_area, count_all, cracked_pieces, cracked_tape, fifth_row, fives_tape, greatest_bound, keys_by, lagging_area, least_bound, longer_tape, mapped_area, mixed_tape, none_refused, old_row, places_by, second_map, select_a_by_b, select_b, select_b_and_c, shorter_tape, some_refused, strayed_tape, sum_b_by_c, three_rows, waiting_area, whole_tape};
 
 /// Which intervals a range touches: the ends are those of bounds, and a range whose ends are turned touches none.
 pub(crate) fn intervals_that_are_touched()
@@ -97,14 +97,17 @@ pub(crate) fn rows_come_and_go()
 {}
 
 /// What merging makes of an area: a row that comes is logged; a row that goes is logged at the place of its pair, and at no
-/// other, where the key map stands at the tape's end; without a key map the area is begun anew, and with one it is not.
-#[tactic(auto, using(crate::proofs::Merging::comes_merged, crate::proofs::Merging::goes_merged, crate::proofs::Merging::another_place_refused, crate::proofs::Merging::restarts_merged, crate::proofs::Merging::restart_refused))]
+/// other, where the key map stands at the tape's end; without a key map the area is begun anew, and with one it is not, also
+/// where it lags, unless a step of it was refused.
+#[tactic(auto, using(crate::proofs::Merging::comes_merged, crate::proofs::Merging::goes_merged, crate::proofs::Merging::another_place_refused, crate::proofs::Merging::restarts_merged, crate::proofs::Merging::restart_refused, crate::proofs::Merging::restart_refused_lagging, crate::proofs::Merging::restarts_refused_step))]
 pub(crate) fn updates_that_are_merged()
-    ensures comes { IsMerged (Insert fifth_row) mapped_area (record mapped_area { tape = longer_tape }) }
-    ensures goes { IsMerged (Remove 2) mapped_area (record mapped_area { tape = shorter_tape }) }
-    ensures at_its_place { IsMerged (Remove 2) mapped_area (record mapped_area { tape = strayed_tape }) → ⊥ }
-    ensures restarts { IsMerged (Remove 2) cleared_area begun_area }
-    ensures only_then { IsMerged (Remove 2) mapped_area begun_area → ⊥ }
+    ensures comes { IsMerged none_refused (Insert fifth_row) mapped_area (record mapped_area { tape = longer_tape }) }
+    ensures goes { IsMerged none_refused (Remove 2) mapped_area (record mapped_area { tape = shorter_tape }) }
+    ensures at_its_place { IsMerged some_refused (Remove 2) mapped_area (record mapped_area { tape = strayed_tape }) → ⊥ }
+    ensures restarts { IsMerged none_refused (Remove 2) cleared_area begun_area }
+    ensures only_then { IsMerged some_refused (Remove 2) mapped_area begun_area → ⊥ }
+    ensures not_for_lagging { IsMerged none_refused (Remove 2) lagging_area begun_area → ⊥ }
+    ensures for_a_refused_step { IsMerged some_refused (Remove 2) lagging_area begun_area }
 {}
 
 /// Which updates an area of four rows may receive: a removed key is that of a live row, and an inserted one exceeds all that came.

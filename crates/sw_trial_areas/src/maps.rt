@@ -228,7 +228,7 @@ const CALLS_ARE_COUNTED: &[(usize, Act<'static>, &str)] = &[
 const REFUSED_CALLS_CHANGE_NOTHING: &[(usize, Act<'static>, &str)] = &[
     (0, Act::Begin(0, Tail::Key, 64), ""),
     (0, Act::Clear, ""),
-    (0, Act::Begin(0, Tail::Key, 64), "8 seen 0 found 1"),
+    (0, Act::Begin(0, Tail::Key, 64), "8 seen 64 found 128"),
     (0, Act::Blank, "true"),
     (0, Act::Used, "0"),
     (0, Act::Begin(0, Tail::Key, 64), ""),
@@ -263,13 +263,13 @@ const LEASES_GROW: &[(usize, Act<'static>, &str)] = &[
     (0, Act::Shown, "3:8 12:7 12:5 13:9 20:2"),
     (0, Act::Grow(100), "may not grow"),
     // contended
-    (0, Act::Grow(128), "8 seen 0 found 1"),
+    (0, Act::Grow(128), "8 seen 64 found 128"),
     (0, Act::Blank, "true"),
     (0, Act::Used, "0"),
     (0, Act::Grow(128), "may not grow"),
     // without cells enough beside those of another map
     (1, Act::Begin(0, Tail::Key, 64), ""),
-    (0, Act::Begin(0, B, 64), "8 seen 0 found 1"),
+    (0, Act::Begin(0, B, 64), "8 seen 64 found 128"),
     (0, Act::Begin(0, B, 64), ""),
     (0, FOUR, ""),
     (

@@ -3,7 +3,8 @@
 use crate::moves::Move;
 use crate::opening::Shape;
 use crate::scenes::{
-    Case, FOUR_BOXES, FOUR_ROWS, NO_BOX, NO_TROUBLE, ONE_BOX, Script, THREE_BOXES, play_cases,
+    Case, FOUR_BOXES, FOUR_ROWS, NO_BOX, NO_TROUBLE, ONE_BOX, Script, THREE_BOXES, Trouble,
+    play_cases,
 };
 use std::test::Fail;
 use sw_map::Tail;
@@ -284,6 +285,67 @@ const A_BUDGET_OF_NO_CELLS: &[(Move<'static>, &str)] = &[
     (Move::Used, "0"),
 ];
 
+/// Maps are made in the order of the key, then of the attributes by number: that of b has the last cells, whatever is named first.
+const MAPS_ARE_MADE_IN_ORDER: &[(Move<'static>, &str)] = &[
+    (
+        Move::Prepare("select d, c, b where a >= 10"),
+        "7 used 128 want 64 capacity 128",
+    ),
+    (Move::Cursor(Tail::Key), "0"),
+    (Move::Cursor(B), "0"),
+    (Move::Cursor(C), "none"),
+    (Move::Cursor(D), "none"),
+    // without b that of c has them, which is tested, before that of d, which is shown
+    (Move::ClearOldest, "64"),
+    (Move::ClearOldest, "64"),
+    (
+        Move::Prepare("select d where a >= 10 and c = 1"),
+        "7 used 128 want 64 capacity 128",
+    ),
+    (Move::Cursor(Tail::Key), "0"),
+    (Move::Cursor(C), "0"),
+    (Move::Cursor(D), "none"),
+];
+
+/// A begin that finds the budget contended is told with the words that it saw, and is not tried again.
+const A_CONTENDED_BEGIN_IS_TOLD: &[(Move<'static>, &str)] = &[
+    (Move::Answer("count where a >= 10"), "3"),
+    (Move::Clear(Tail::Key), ""),
+    (Move::Prepare("count where a >= 10"), "8 seen 64 found 128"),
+    (Move::Cursor(Tail::Key), "none"),
+    (Move::Used, "0"),
+    (Move::Answer("count where a >= 10"), "3"),
+    (Move::Clear(Tail::Key), ""),
+    (
+        Move::Answer("count where a >= 10"),
+        "3, told 8 seen 64 found 128",
+    ),
+    // the map of b takes the second box, and is begun for the first time
+    (Move::Answer("sum b where a >= 10"), "14"),
+    (Move::Used, "128"),
+];
+
+/// Where a step of one map is refused the others go on: those that lack a range one after the other, those that have yet to load
+/// at once.
+const A_REFUSED_STEP_STOPS_ONE_MAP: &[(Move<'static>, &str)] = &[
+    (Move::Answer("count where a >= 10"), "3"),
+    (Move::Clear(Tail::Key), ""),
+    (Move::Answer("sum b where a >= 10"), "14"),
+    // the key map made four steps, that of b two: the fifth of a map is refused
+    (Move::Counts, "3 begins, 6 steps, 3 tails"),
+    (Move::Answer("sum b where a >= 15"), "2, told 1"),
+    (Move::Cursor(Tail::Key), "2"),
+    (Move::Cursor(B), "3"),
+    (Move::Answer("sum b where a >= 15"), "2"),
+    (Move::Cursor(Tail::Key), "3"),
+    (Move::Clear(Tail::Key), ""),
+    (Move::Clear(B), ""),
+    // the key map made six steps, that of b three: its second is refused, and the other goes on
+    (Move::Answer("sum b where a >= 15"), "2, told 1"),
+    (Move::Cursor(Tail::Key), "3"),
+    (Move::Cursor(B), "1"),
+];
+
 /// The box that was used longest ago is cleared.
 const THE_LEAST_RECENTLY_USED_BOX_IS_CLEARED: &[(Move<'static>, &str)] = &[
     (Move::Oldest, "none"),
@@ -520,6 +582,43 @@ const BOUNDS: &[Case<'static>] = &[
     },
 ];
 
+/// Maps that find the budget contended at every second begin.
+const CONTENDED: Trouble = Trouble {
+    every: 0,
+    contends: true,
+};
+
+/// Maps that refuse every fifth step.
+const EVERY_FIFTH: Trouble = Trouble {
+    every: 5,
+    contends: false,
+};
+
+/// In which order maps are made and stepped, and which refusals are told.
+const REFUSALS: &[Case<'static>] = &[
+    Case {
+        name: "maps_are_made_in_order",
+        shape: FOUR_BOXES,
+        capacity: 128,
+        trouble: NO_TROUBLE,
+        script: Script::Moves(&FOUR_ROWS, MAPS_ARE_MADE_IN_ORDER),
+    },
+    Case {
+        name: "a_contended_begin_is_told",
+        shape: THREE_BOXES,
+        capacity: 1 << 20,
+        trouble: CONTENDED,
+        script: Script::Moves(&FOUR_ROWS, A_CONTENDED_BEGIN_IS_TOLD),
+    },
+    Case {
+        name: "a_refused_step_stops_one_map",
+        shape: THREE_BOXES,
+        capacity: 1 << 20,
+        trouble: EVERY_FIFTH,
+        script: Script::Moves(&FOUR_ROWS, A_REFUSED_STEP_STOPS_ONE_MAP),
+    },
+];
+
 /// Which box is cleared.
 const CLEARING: &[Case<'static>] = &[
     Case {
@@ -589,6 +688,14 @@ fn queries_are_answered(rt: HostRuntime) -> Result<(), Fail> {
 fn bounded_areas_answer_queries(rt: HostRuntime) -> Result<(), Fail> {
     let mut text = String::new(rt.alloc());
     play_cases(&rt, rt.alloc(), BOUNDS, &mut text)?;
+    assert_eq!(rt; text.as_str(), "");
+    Ok(())
+}
+
+#[test]
+fn refusals_are_told_and_stop_no_more(rt: HostRuntime) -> Result<(), Fail> {
+    let mut text = String::new(rt.alloc());
+    play_cases(&rt, rt.alloc(), REFUSALS, &mut text)?;
     assert_eq!(rt; text.as_str(), "");
     Ok(())
 }

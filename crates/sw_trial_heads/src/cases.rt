@@ -88,6 +88,8 @@ const AN_AREA_THAT_IS_SHORT_AGAIN: &[(Step<'static>, &str)] = &[
     ),
     // beside the count's map the key map and that of b: what the first try began is kept for the second
     (Step::Counts, "3 begins, 1 steps, 0 tails"),
+    // the area was asked twice, and its last begin refused each time
+    (Step::Refusals, "2"),
     (Step::At(0, KEY), "none"),
     (Step::Used, "128"),
     (
@@ -288,6 +290,20 @@ const ROWS_OF_ONE_VALUE: &[(Step<'static>, &str)] = &[
     (Step::At(0, KEYS), "5 2 3 1 4"),
     (Step::At(0, View::Place(Bound::Before(5))), "1"),
     (Step::At(0, View::Place(Bound::After(5))), "4"),
+];
+
+/// A growth that finds the budget contended leaves the area to be scanned: its map is not begun again, which would find cells.
+const A_CONTENDED_GROWTH_IS_NOT_TRIED_AGAIN: &[(Step<'static>, &str)] = &[
+    (Step::Call("count"), "4\n"),
+    (Step::Calls(61, "insert 1, 9, 0"), "key 65\n"),
+    (Step::Call("count"), "65\n"),
+    (Step::Used, "128"),
+    (Step::Calls(64, "insert 1, 9, 0"), "key 129\n"),
+    (Step::Call("count"), "129\n1 scanned"),
+    (Step::At(0, KEY), "none"),
+    (Step::Used, "0"),
+    (Step::Call("count"), "129\n"),
+    (Step::Used, "192"),
 ];
 
 /// A lease that is too small grows; of a map that counts its calls it is asked for again, and the tape replayed from
@@ -639,6 +655,15 @@ const MERGES: &[Case<'static>] = &[
             ..ONE_BOX
         },
         steps: A_LEASE_TOO_SMALL_IS_ASKED_FOR_AGAIN,
+    },
+    Case {
+        name: "a_contended_growth_is_not_tried_again",
+        shape: ONE_AREA,
+        boxes: Boxes {
+            trouble: Trouble::GrowthContends,
+            ..ONE_BOX
+        },
+        steps: A_CONTENDED_GROWTH_IS_NOT_TRIED_AGAIN,
     },
     Case {
         name: "a_removal_without_room_begins_anew",

@@ -42,7 +42,7 @@ const QUERIES: Recipe = Recipe {
     many_go: 0,
     rows: 120,
     boxes_go: false,
-    calls: 150,
+    calls: 80,
     scanned: Scanned::Some,
 };
 
@@ -53,7 +53,7 @@ const MORE_COME: Recipe = Recipe {
     many_go: 0,
     rows: 80,
     boxes_go: true,
-    calls: 1000,
+    calls: 120,
     scanned: Scanned::Some,
 };
 
@@ -64,7 +64,7 @@ const ROWS_COME: Recipe = Recipe {
     many_go: 0,
     rows: 60,
     boxes_go: false,
-    calls: 400,
+    calls: 150,
     scanned: Scanned::Any,
 };
 
@@ -222,7 +222,7 @@ const OF_FULL_TAPES: &[Group<'static>] = &[Group {
     cuts: 1,
     troubles: NO_TROUBLE,
     capacities: &[1 << 20],
-    boxes: &[1, 2, 6],
+    boxes: &[6],
 }];
 
 /// Heads of which many rows go at once: more than are merged one by one, and fewer.

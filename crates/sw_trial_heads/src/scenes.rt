@@ -45,12 +45,13 @@ pub(crate) struct Watch<'t> {
 
 /// What boxes do besides: they refuse every n-th step, none where n is 0, and count their calls, and never grow in
 /// place; or they grow, and refuse every n-th step or growth; or they grow, and find the budget contended at every
-/// second begin and growth.
+/// second begin and growth, or at every second growth alone.
 #[derive(Clone, Copy)]
 pub(crate) enum Trouble {
     Every(u64),
     Grows(u64),
     Contends,
+    GrowthContends,
 }
 
 /// Boxes: those that the head has at first, those that may come later, the cells of their budget, and what they do besides.
@@ -135,16 +136,22 @@ fn growing(
     Ok(maps)
 }
 
-/// Maps that find the budget contended at every second begin and growth, over purses of one budget.
+/// Maps that find the budget contended at every second growth, and at every second begin where these contend, over purses of
+/// one budget.
 fn contended(
     alloc: Global,
     purse: &mut Purse,
     many: usize,
+    begins_contend: bool,
 ) -> Result<Vec<ContendedMap<PairMap>>, Fail> {
     let mut maps = Vec::new(alloc);
     for _turn in 0..many {
-        let mine = purse.split()?;
-        maps.push(ContendedMap::new(PairMap::blank(alloc, mine)))?;
+        let map = PairMap::blank(alloc, purse.split()?);
+        maps.push(if begins_contend {
+            ContendedMap::new(map)
+        } else {
+            ContendedMap::of_growths(map)
+        })?;
     }
     Ok(maps)
 }
@@ -167,7 +174,11 @@ pub(crate) fn play<R: Threads + Sync>(
     let many = boxes.first.wrapping_add(boxes.later);
     match boxes.trouble {
         Trouble::Contends => {
-            let maps = contended(alloc, &mut purse, many)?;
+            let maps = contended(alloc, &mut purse, many, true)?;
+            play_over(rt, alloc, maps, boxes.first, watch, scene, text)?;
+        }
+        Trouble::GrowthContends => {
+            let maps = contended(alloc, &mut purse, many, false)?;
             play_over(rt, alloc, maps, boxes.first, watch, scene, text)?;
         }
         Trouble::Grows(every) => {

@@ -30,6 +30,8 @@ pub(crate) enum Step<'t> {
     Supply,
     /// Begins, steps and tails asked for since the last look.
     Counts,
+    /// How many begins and steps were refused since the last look.
+    Refusals,
     /// The cells of the budget that are in use.
     Used,
     /// Looks at the area at a place.
@@ -113,6 +115,7 @@ fn tend<M: CrackerMap>(
             taken(&watch.counts.steps),
             taken(&watch.counts.tails)
         ),
+        Step::Refusals => write!(text, "{}", taken(&watch.counts.refusals)),
         Step::Used => write!(text, "{}", watch.budget.used()),
         Step::At(place, view) => match trial.head.head().areas().get(place) {
             Some(area) => view_of(area, view, text),

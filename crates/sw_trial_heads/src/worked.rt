@@ -7,15 +7,16 @@ use std::test::Fail;
 use std::thread::Threads;
 use sw_map::CrackerMap;
 
-/// Calls over a head of a shape with their replies, and whether areas have to be scanned for them.
+/// Calls over a head of a shape with their replies, and whether areas have to be scanned for them, where that is known.
 #[derive(Clone, Copy)]
 pub(crate) struct Worked<'t> {
     pub shape: Shape<'t>,
     pub lines: &'t [(&'t str, &'t str)],
-    pub is_scanned: bool,
+    pub is_scanned: Option<bool>,
 }
 
-/// Makes the calls over these boxes, and tells the first reply that is not as it is known.
+/// Makes the calls over these boxes, and tells the first reply that is not as it is known. At an empty line the map that was used
+/// longest ago is cleared.
 pub(crate) fn make_calls<R: Threads + Sync, M: CrackerMap>(
     rt: &R,
     alloc: Global,
@@ -28,22 +29,36 @@ pub(crate) fn make_calls<R: Threads + Sync, M: CrackerMap>(
     for place in 0..calls.lines.len() {
         let (line, expected) = calls.lines[place];
         text.clear();
+        if line.is_empty() {
+            let _cells = trial.head.evict(1);
+        }
         let _same = tell(rt, alloc, &mut trial, line, text)?;
         if text.as_str() != expected {
             return Ok(write!(text, " to {line}")?);
         }
     }
     text.clear();
-    if (trial.scans > 0) != calls.is_scanned {
-        write!(text, "{} areas were scanned", trial.scans)?;
+    match calls.is_scanned {
+        Some(is_scanned) if is_scanned != (trial.scans > 0) => {
+            Ok(write!(text, "{} areas were scanned", trial.scans)?)
+        }
+        _ => Ok(()),
     }
-    Ok(())
 }
 
-/// A header, the cells of rows, and calls of a table of them with their replies.
-type Told<'t> = (&'t [&'t str], &'t [[i64; 8]], &'t [(&'t str, &'t str)]);
+/// A header, the cells of rows, the attribute of a head, and calls of a table of them with their replies.
+type Told<'t> = (&'t [&'t str], &'t [[i64; 8]], u8, &'t [(&'t str, &'t str)]);
 
 const ABC: &[&str] = &["a", "b", "c"];
+
+const PRICES: &[&str] = &["price:fix2", "ok:flag"];
+
+/// Three rows of a price in hundredths and a flag.
+const PRICED: [[i64; 8]; 3] = [
+    [750, 1, 0, 0, 0, 0, 0, 0],
+    [-25, 0, 0, 0, 0, 0, 0, 0],
+    [300, 1, 0, 0, 0, 0, 0, 0],
+];
 
 /// Two rows of b from a range of a.
 const RANGE: (&str, &str) = (
@@ -56,6 +71,7 @@ const TOLD: &[Told<'static>] = &[
     (
         ABC,
         &FOUR_ROWS,
+        0,
         &[
             RANGE,
             RANGE,
@@ -68,6 +84,7 @@ const TOLD: &[Told<'static>] = &[
     (
         ABC,
         &FOUR_ROWS,
+        0,
         &[
             RANGE,
             ("insert 1, 9, 0", "key 5\n"),
@@ -81,6 +98,7 @@ const TOLD: &[Told<'static>] = &[
     (
         ABC,
         &FOUR_ROWS,
+        0,
         &[
             RANGE,
             ("delete 2", "removed\n"),
@@ -91,6 +109,18 @@ const TOLD: &[Told<'static>] = &[
     (
         ABC,
         &FOUR_ROWS,
+        0,
+        &[
+            RANGE,
+            ("", ""),
+            ("delete 2", "removed\n"),
+            ("select a where a >= 10", "1: 12\n3: 12\n4: 20\n(3 rows)\n"),
+        ],
+    ),
+    (
+        ABC,
+        &FOUR_ROWS,
+        0,
         &[
             ("delete 2", "removed\n"),
             ("delete 2", "no such key\n"),
@@ -106,6 +136,7 @@ const TOLD: &[Told<'static>] = &[
     (
         ABC,
         &FOUR_ROWS,
+        0,
         &[
             RANGE,
             ("delete where a = 12", "(2 removed)\n"),
@@ -120,6 +151,7 @@ const TOLD: &[Told<'static>] = &[
     (
         ABC,
         &FOUR_ROWS,
+        0,
         &[
             ("select b where a >= 15 and a <= 10", "(0 rows)\n"),
             (
@@ -131,6 +163,7 @@ const TOLD: &[Told<'static>] = &[
     (
         &["a"],
         &[[5, 0, 0, 0, 0, 0, 0, 0]; 3],
+        0,
         &[
             ("count where a = 5", "3\n"),
             ("count where a < 5", "0\n"),
@@ -145,6 +178,7 @@ const TOLD: &[Told<'static>] = &[
     (
         ABC,
         &[],
+        0,
         &[
             ("count", "0\n"),
             ("min b", "none\n"),
@@ -156,11 +190,13 @@ const TOLD: &[Told<'static>] = &[
     (
         &["x"],
         &[[i64::MAX, 0, 0, 0, 0, 0, 0, 0]; 4],
+        0,
         &[("sum x", "36893488147419103228\n")],
     ),
     (
         ABC,
         &FOUR_ROWS,
+        0,
         &[
             ("select b where a < 12", "2: 8\n(1 rows)\n"),
             ("select b where a <= 12", "1: 7\n2: 8\n3: 5\n(3 rows)\n"),
@@ -169,6 +205,7 @@ const TOLD: &[Told<'static>] = &[
     (
         ABC,
         &FOUR_ROWS,
+        0,
         &[
             (
                 "select a where a >= 10 and b < 6",
@@ -185,6 +222,7 @@ const TOLD: &[Told<'static>] = &[
     (
         ABC,
         &FOUR_ROWS,
+        0,
         &[
             ("select b where a >= 10", "1: 7\n3: 5\n4: 2\n(3 rows)\n"),
             ("select c where a >= 10", "1: 1\n3: 1\n4: 0\n(3 rows)\n"),
@@ -194,48 +232,137 @@ const TOLD: &[Told<'static>] = &[
             ),
         ],
     ),
+    (
+        PRICES,
+        &PRICED,
+        1,
+        &[(
+            "select price where ok = true",
+            "1: 7.50\n3: 3.00\n(2 rows)\n",
+        )],
+    ),
+    (
+        PRICES,
+        &PRICED,
+        0,
+        &[
+            ("sum price", "10.25\n"),
+            ("min price", "-0.25\n"),
+            ("max ok", "true\n"),
+            ("sum ok", "2\n"),
+            ("select price where price < 0.2", "2: -0.25\n(1 rows)\n"),
+        ],
+    ),
 ];
 
-/// Heads: cuts, how many boxes and cells there are, and whether areas have to be scanned.
-const HEADS: &[(&[i64], usize, u64, bool)] = &[
-    (&[], 3, 1 << 20, false),
-    (&[12], 6, 1 << 20, false),
-    (&[], 3, 0, true),
-    (&[12], 6, 0, true),
-    (&[12], 0, 1 << 20, true),
+/// A kind of head: its cuts, its boxes, the cells of their budget and what they do besides, and whether areas have to be scanned,
+/// where that is known.
+#[derive(Clone, Copy)]
+struct Kind<'t> {
+    cuts: &'t [i64],
+    first: usize,
+    capacity: u64,
+    trouble: Trouble,
+    is_scanned: Option<bool>,
+}
+
+/// Without cuts, with boxes and cells for all maps.
+const WHOLE: Kind<'static> = Kind {
+    cuts: &[],
+    first: 3,
+    capacity: 1 << 20,
+    trouble: Trouble::Every(0),
+    is_scanned: Some(false),
+};
+
+/// The same with a cut.
+const CUT: Kind<'static> = Kind {
+    cuts: &[12],
+    first: 6,
+    ..WHOLE
+};
+
+/// Heads whose maps are made and stepped, and heads that are scanned for want of cells or boxes.
+const HEADS: &[Kind<'static>] = &[
+    WHOLE,
+    CUT,
+    Kind {
+        capacity: 0,
+        is_scanned: Some(true),
+        ..WHOLE
+    },
+    Kind {
+        capacity: 0,
+        is_scanned: Some(true),
+        ..CUT
+    },
+    Kind {
+        first: 0,
+        is_scanned: Some(true),
+        ..CUT
+    },
+];
+
+/// What maps do besides, and whether areas have to be scanned then: each step is refused, every second, and so on up to every
+/// fifth; or every second begin finds the budget contended.
+const TROUBLES: &[(Trouble, Option<bool>)] = &[
+    (Trouble::Every(1), Some(true)),
+    (Trouble::Every(2), None),
+    (Trouble::Every(3), None),
+    (Trouble::Every(4), None),
+    (Trouble::Every(5), None),
+    (Trouble::Contends, None),
 ];
 
 /// Makes all lists of calls over heads of one kind.
 fn worked_over<R: Threads + Sync>(
     rt: &R,
     alloc: Global,
-    cuts: &[i64],
-    first: usize,
-    capacity: u64,
-    is_scanned: bool,
+    kind: Kind<'_>,
     text: &mut String,
 ) -> Result<(), Fail> {
     let boxes = Boxes {
-        first,
+        first: kind.first,
         later: 0,
-        capacity,
-        trouble: Trouble::Every(0),
+        capacity: kind.capacity,
+        trouble: kind.trouble,
     };
-    for (header, cells, lines) in TOLD {
+    for (header, cells, attribute, lines) in TOLD {
         let shape = Shape {
             header: *header,
-            attribute: 0,
-            cuts,
+            attribute: *attribute,
+            cuts: kind.cuts,
             cells: *cells,
         };
         let mut scene = Scene::Worked(Worked {
             shape,
             lines: *lines,
-            is_scanned,
+            is_scanned: kind.is_scanned,
         });
         play(rt, alloc, boxes, &mut scene, text)?;
         if !text.is_empty() {
-            return Ok(write!(text, ", {first} boxes, {capacity} cells")?);
+            return Ok(write!(text, ", {} boxes, {} cells", kind.first, kind.capacity)?);
+        }
+    }
+    Ok(())
+}
+
+/// Makes them over heads without cuts and with a cut, over maps with this trouble.
+fn worked_in_trouble<R: Threads + Sync>(
+    rt: &R,
+    alloc: Global,
+    trouble: Trouble,
+    is_scanned: Option<bool>,
+    text: &mut String,
+) -> Result<(), Fail> {
+    for kind in [WHOLE, CUT] {
+        if text.is_empty() {
+            let kind = Kind {
+                trouble,
+                is_scanned,
+                ..kind
+            };
+            worked_over(rt, alloc, kind, text)?;
         }
     }
     Ok(())
@@ -244,17 +371,21 @@ fn worked_over<R: Threads + Sync>(
 #[test]
 fn worked_examples_are_told(rt: HostRuntime) -> Result<(), Fail> {
     let mut text = String::new(rt.alloc());
-    for (cuts, first, capacity, is_scanned) in HEADS {
+    for kind in HEADS {
         if text.is_empty() {
-            worked_over(
-                &rt,
-                rt.alloc(),
-                *cuts,
-                *first,
-                *capacity,
-                *is_scanned,
-                &mut text,
-            )?;
+            worked_over(&rt, rt.alloc(), *kind, &mut text)?;
+        }
+    }
+    assert_eq!(rt; text.as_str(), "");
+    Ok(())
+}
+
+#[test]
+fn worked_examples_are_told_whatever_maps_refuse(rt: HostRuntime) -> Result<(), Fail> {
+    let mut text = String::new(rt.alloc());
+    for (trouble, is_scanned) in TROUBLES {
+        if text.is_empty() {
+            worked_in_trouble(&rt, rt.alloc(), *trouble, *is_scanned, &mut text)?;
         }
     }
     assert_eq!(rt; text.as_str(), "");

@@ -6,11 +6,12 @@ use sw_map::{CrackerMap, Tail};
 use sw_rows::{Bound, Refusal};
 use sw_tape::Entry;
 
-/// A map whose `begin` is passed on at the first, third and each further odd call, and answers `Contended` at the others; and so is
-/// its `grow`, whose calls are counted apart.
+/// A map whose `begin` is passed on at the first, third and each further odd call, and answers `Contended` at the others, as where
+/// another thread took 64 cells between look and step; and so is its `grow`, whose calls are counted apart. Where it is of growths alone each `begin` is passed on.
 #[derive(Drop)]
 pub struct ContendedMap<M: CrackerMap> {
     pub inner: M,
+    begins_contend: bool,
     begin_is_due: bool,
     grow_is_due: bool,
 }
@@ -22,6 +23,19 @@ impl<M: CrackerMap> ContendedMap<M> {
     {
         ContendedMap {
             inner,
+            begins_contend: true,
+            begin_is_due: false,
+            grow_is_due: false,
+        }
+    }
+
+    /// Lets a map answer `Contended` at every second growth alone.
+    pub fn of_growths(inner: M) -> ContendedMap<M>
+        ensures { result.inner ≡ inner }
+    {
+        ContendedMap {
+            inner,
+            begins_contend: false,
             begin_is_due: false,
             grow_is_due: false,
         }
@@ -29,7 +43,14 @@ impl<M: CrackerMap> ContendedMap<M> {
 }
 
 impl<M: CrackerMap> CrackerMap for ContendedMap<M> {
+    ghost use Rattle.std.specs.Prelude.{◌≡◌, ◌⊎◌};
+    ghost use Rattle.sw_rows.specs.declared.refusal.Refusal.TheVariants.{Contended};
+
     ghost held = { λ c. M.held c.inner };
+
+    ghost tells = { λ c e. (e ≡ Contended 64 128) ⊎ M.tells c.inner e };
+
+    ghost stalls = { λ c. M.stalls c.inner };
 
     fn is_blank(&self) -> bool {
         self.inner.is_blank()
@@ -69,9 +90,12 @@ impl<M: CrackerMap> CrackerMap for ContendedMap<M> {
 
     fn begin(&mut self, head: u8, tail: Tail, cells: u64) -> Result<(), Refusal> {
         let is_due = self.begin_is_due;
-        self.begin_is_due = !is_due;
+        self.begin_is_due = !is_due && self.begins_contend;
         if is_due {
-            return Err(Refusal::Contended { seen: 0, found: 1 });
+            return Err(Refusal::Contended {
+                seen: 64,
+                found: 128,
+            });
         }
         self.inner.begin(head, tail, cells)
     }
@@ -81,7 +105,10 @@ impl<M: CrackerMap> CrackerMap for ContendedMap<M> {
         self.grow_is_due = !is_due;
         if is_due {
             self.inner.clear();
-            return Err(Refusal::Contended { seen: 0, found: 1 });
+            return Err(Refusal::Contended {
+                seen: 64,
+                found: 128,
+            });
         }
         self.inner.grow(cells)
     }

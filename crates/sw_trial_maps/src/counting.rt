@@ -62,6 +62,10 @@ impl<M: CrackerMap> CountingMap<M> {
 impl<M: CrackerMap> CrackerMap for CountingMap<M> {
     ghost held = { λ c. M.held c.inner };
 
+    ghost tells = { λ c. M.tells c.inner };
+
+    ghost stalls = { λ c. M.stalls c.inner };
+
     fn is_blank(&self) -> bool {
         self.inner.is_blank()
     }

@@ -57,6 +57,10 @@ impl<M: CrackerMap> GatedMap<M> {
 impl<M: CrackerMap> CrackerMap for GatedMap<M> {
     ghost held = { λ g. M.held g.inner };
 
+    ghost tells = { λ g. M.tells g.inner };
+
+    ghost stalls = { λ g. M.stalls g.inner };
+
     fn is_blank(&self) -> bool {
         self.inner.is_blank()
     }

@@ -42,7 +42,14 @@ impl<M: CrackerMap> RefusingMap<M> {
 }
 
 impl<M: CrackerMap> CrackerMap for RefusingMap<M> {
+    ghost use Rattle.std.specs.Prelude.{◌≡◌, ◌⊎◌};
+    ghost use Rattle.sw_rows.specs.declared.refusal.Refusal.TheVariants.{NoMemory};
+
     ghost held = { λ r. M.held r.inner };
+
+    ghost tells = { λ r e. (e ≡ NoMemory) ⊎ M.tells r.inner e };
+
+    ghost stalls = { λ _ _. Unit {0} };
 
     fn is_blank(&self) -> bool {
         self.inner.is_blank()

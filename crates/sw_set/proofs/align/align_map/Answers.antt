@@ -15,6 +15,6 @@ step-requires-clause-room g c = step-room c.args.tape.now c.loop-i.i _ _ _ c.len
 pub loop-i-preserved : goal.loop-i-preserved
 loop-i-preserved g c =
     elim c.match-get.branch [
-      | in-Some+in_ok-step w ↦ rw w.it-is (way-more c.args.tape.now c.loop-i.i _ (g.M.CrackerMap.held c.loop-i.it) _ _ w.in-Some.ensures w.in_ok-step.ensures c.loop-i.invariant)
+      | in-Some+in_ok-step w ↦ rw w.it-is (way-more c.args.tape.now c.loop-i.i _ (g.M.CrackerMap.held c.loop-i.it) _ _ w.in-Some.ensures w.in_ok-step.ensures.replayed c.loop-i.invariant)
       | in_default w ↦ let no = w.in_default.ensures in let lt = c.loop-i-test.true in absurd (omega (arith, no, lt))
     ]

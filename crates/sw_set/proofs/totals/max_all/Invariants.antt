@@ -1,10 +1,10 @@
-use Rattle.std.proofs.Common.{◌≡◌, ◌≤◌, ◌-◌, pos, fold, get_or, length, take}
-use Rattle.std.specs.Int.{int_max}
+use Rattle.std.proofs.Common.{◌≡◌, ◌≤◌, ◌-◌, length, take}
+use Rattle.sw_rows.specs.Scan.{greatest}
 use Rattle.sw_set.proofs.totals.max_all.Given as goal
 
 -- the greatest so far is found
 abbrev pub invariant-loop-place : goal.invariant-loop-place
-invariant-loop-place g l = (l.place ≤ length l.fn.window) × (l.found ≡ fold int_max (get_or l.fn.window 0 (pos 0)) (take l.place l.fn.window)) × (l.window ≡ l.fn.window)
+invariant-loop-place g l = (l.place ≤ length l.window) × (l.found ≡ greatest (take l.place l.window))
 
 abbrev pub decreases-loop-place : goal.decreases-loop-place
-decreases-loop-place g l = length l.fn.window - l.place
+decreases-loop-place g l = length l.window - l.place

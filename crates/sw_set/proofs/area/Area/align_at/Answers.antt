@@ -1,6 +1,7 @@
 use Rattle.sw_set.proofs.Aligning.{at-aligned, at-ends, at-maps, at-place, at-stepped}
 use Rattle.sw_kernel.specs.Tapes.{peak_from}
-use Rattle.std.proofs.Common.{◌≤◌, subst, sym, get_or}
+use Rattle.std.proofs.Common.{◌≤◌, OnErr, subst, sym, get_or}
+use Rattle.sw_set.specs.Aligned.{IsStalled}
 use Rattle.sw_set.specs.Shelf.{AreaState}
 use Rattle.sw_set.proofs.area.Area.align_at.Goals as goal
 
@@ -21,3 +22,6 @@ returns-clause-maps g c = at-maps g.M.CrackerMap.held _ _ _ _ _ _ _ _ _ _ c.self
 
 pub returns-clause-ends : goal.returns-clause-ends
 returns-clause-ends g c = at-ends g.M.CrackerMap.held _ _ _ _ _ _ _ _ _ _ c.self.view_is c.requires.within c.index_mut.ensures.value _ _ c.align_map.ensures.ends c.align_map.ensures.behind
+
+pub returns-clause-stalled : goal.returns-clause-stalled
+returns-clause-stalled g c = subst (λ (v : AreaState). OnErr c.align_map.result (IsStalled g.M.CrackerMap.stalls v.tape)) c.self.view_is c.align_map.ensures.stalled

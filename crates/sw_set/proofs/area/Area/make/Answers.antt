@@ -8,9 +8,9 @@ pub invariant_of-self : goal.invariant_of-self
 invariant_of-self g c =
     let s = c.self.inside in
     let fresh : IsFreshBut c.args.at c.args.tail (map g.M.CrackerMap.held s.boxes.items) = subst (λ (v : AreaState). IsFreshBut c.args.at c.args.tail v.boxes) (sym c.self.view_is) c.requires.fresh in
-    (area-set g.M.CrackerMap.held _ _ _ _ _ _ _ _ _ (tried-lawful _ _ _ _ _ _ c.begin_box.ensures) (tried-leased _ _ _ _ _ c.requires.some c.begin_box.ensures) (tried-fresh _ _ _ _ _ _ _ c.begin_box.ensures fresh) c.self.invariant.0, c.self.invariant.1, c.self.invariant.2)
+    (area-set g.M.CrackerMap.held _ _ _ _ _ _ _ _ _ (tried-lawful _ _ _ _ _ _ c.begin_box.ensures.begun) (tried-leased _ _ _ _ _ c.requires.some c.begin_box.ensures.begun) (tried-fresh _ _ _ _ _ _ _ c.begin_box.ensures.begun fresh) c.self.invariant.0, c.self.invariant.1, c.self.invariant.2)
 
-pub returns : goal.returns
-returns g c =
+pub returns-clause-made : goal.returns-clause-made
+returns-clause-made g c =
     let s = c.self.inside in
-    tried-view c.begin_box.result g.M.CrackerMap.held c.args.self.now s.attribute s.from s.below s.inbox.items _ s.tape s.boxes.items c.args.at c.begin_box.new.it c.args.tail c.args.cells c.self.view_is c.begin_box.ensures
+    tried-view c.begin_box.result g.M.CrackerMap.held c.args.self.now s.attribute s.from s.below s.inbox.items _ s.tape s.boxes.items c.args.at c.begin_box.new.it c.args.tail c.args.cells c.self.view_is c.begin_box.ensures.begun
