@@ -1,3 +1,4 @@
 pub mod MadeLemmas
+pub mod PlainLemmas
 pub mod RecordLemmas
 pub mod RowLemmas

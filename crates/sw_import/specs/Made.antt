@@ -1,5 +1,5 @@
 -- What is written of a cell, and of a record.
-use Rattle.std.specs.Prelude.{◌||◌, if◌then◌else◌, ℕ, zero, suc, Bool, true, false, not, List, [], ◌∷◌, ◌++◌, length, map, take, min, decimal, codes, bytes_eq, nat_eq, Option, Some, None, is_some, option_map, slice_index_or}
+use Rattle.std.specs.Prelude.{◌||◌, ◌&&◌, if◌then◌else◌, ℕ, zero, suc, Bool, true, false, not, List, [], ◌∷◌, ◌++◌, length, map, take, min, decimal, codes, bytes_eq, nat_eq, Option, Some, None, is_some, option_map, slice_index_or, nat_le, nat_lt}
 use Rattle.std.specs.Fmt.{signed_decimal}
 use Rattle.std.specs.Str.{is_utf8}
 use Rattle.sw_rows.specs.Cells.{cell_value}
@@ -40,6 +40,10 @@ if_some (Some text) = Written text
 abbrev pub flag_text : Bool → List ℕ
 flag_text true = codes "true"
 flag_text false = codes "false"
+
+-- a byte of printed ASCII
+abbrev pub is_plain_byte : ℕ → Bool
+is_plain_byte byte = nat_le 32 byte && nat_lt byte 127
 
 -- the longest beginning of at most so many bytes that may be the text of a cell
 abbrev pub longest_within : ℕ → List ℕ → List ℕ

@@ -3,7 +3,6 @@
 use crate::forms::{Form, MOST_DECIMALS, TRIED, fits, short_decimals, tried};
 use crate::making::is_text;
 use crate::rules::{Rules, Times};
-use sw_rows::MOST_BYTES_OF_TEXT;
 
 /// How many cells or rows there are of some sort, and the line of the first, from 1; 0 where there is none.
 #[derive(Clone, Copy, Debug, PartialEq, Eq)]
@@ -46,11 +45,6 @@ pub struct Evidence {
     pub broken: Tally,
     /// The cell after which texts were the only form left, if there is one and others came before it.
     pub odd: Tally,
-}
-
-/// Whether a cell is short and of printed ASCII alone, which may always be a text.
-fn is_plain_text(cell: &[u8]) -> bool {
-    cell.len() <= MOST_BYTES_OF_TEXT && cell.iter().all(|byte| *byte >= 32 && *byte < 127)
 }
 
 /// Whether all of a cell is UTF-8.
@@ -116,7 +110,7 @@ impl Evidence {
 
     /// Takes in how a cell stands as a text.
     fn add_text(&mut self, cell: &[u8], line: u64) {
-        if is_plain_text(cell) || is_text(cell) {
+        if is_text(cell) {
             return;
         }
         if is_utf8(cell) {

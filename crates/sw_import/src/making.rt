@@ -2,12 +2,13 @@
 
 ghost use Rattle.std.specs.Prelude.{[], ◌≡◌, decimal, option_map, None, Some, if◌then◌else◌};
 ghost use Rattle.std.specs.Fmt.{signed_decimal};
+ghost use Rattle.std.specs.List.{list_all};
 ghost use Rattle.std.specs.Str.{is_utf8};
 ghost use Rattle.sw_rows.specs.Texts.{is_text};
 ghost use Rattle.sw_import.specs.Forms.{flag_of};
 ghost use Rattle.sw_import.specs.declared.forms.Form.TheVariants as form;
 ghost use Rattle.sw_import.specs.declared.rules.Long.TheVariants as long;
-ghost use Rattle.sw_import.specs.Made.{Refused, Written, cell_made, flag_text, if_some, long_cell, longest_text, outcome_of, value_cell};
+ghost use Rattle.sw_import.specs.Made.{Refused, Written, cell_made, flag_text, if_some, is_plain_byte, long_cell, longest_text, outcome_of, value_cell};
 
 use crate::dates::{days_of, seconds_of};
 use crate::dictionary::Dictionary;
@@ -72,10 +73,21 @@ fn flag_made<'c>(cell: &[u8]) -> Made<'c>
     }
 }
 
-/// Whether bytes may be the text of a cell.
+/// Whether all bytes are of printed ASCII.
+fn are_plain(bytes: &[u8]) -> bool
+    ensures { result ≡ list_all is_plain_byte bytes.now }
+{
+    bytes.iter().all(|byte| *byte >= 32 && *byte < 127)
+}
+
+/// Whether bytes may be the text of a cell. Those of most texts are seen to be one at sight.
+#[tactic(auto, using(crate::proofs::PlainLemmas::plain_text))]
 pub(crate) fn is_text(cell: &[u8]) -> bool
     ensures { result ≡ is_text cell.now }
 {
+    if cell.len() <= MOST_BYTES_OF_TEXT && are_plain(cell) {
+        return true;
+    }
     read_text(cell).is_some()
 }
 
