@@ -4,6 +4,7 @@ use clap::{Arg, ArgAction, ArgMatches, Command};
 use std::alloc::{AllocError, Global};
 use std::random::RandomSource;
 use std::rt::Files;
+use std::thread::Threads;
 use sw_program::{Asked, Blank, How, Import, Long, Refusal, Rules, Times};
 use sw_rows::{MOST_ROWS, Sink};
 
@@ -258,7 +259,7 @@ pub(crate) const NO_DELIMITER: &str =
     "the delimiter is one character of ASCII, no quote and no end of a line, or \\t";
 
 /// Makes the table that the words ask for; none where the delimiter is none.
-pub(crate) fn make_import<R: Files + Input + RandomSource + Print, E: Sink>(
+pub(crate) fn make_import<R: Files + Input + RandomSource + Print + Threads + Sync, E: Sink>(
     rt: &R,
     alloc: Global,
     given: &ArgMatches<'_>,

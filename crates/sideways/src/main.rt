@@ -65,6 +65,8 @@ fn sights_of(given: &ArgMatches<'_>, is_terminal: bool) -> Sights {
 /// What is wrong with words that clap took: a call has no line end, and two inputs are not standard input.
 const LONG_CALL: &str = "a call of -e is one line";
 
+const ODD_HEADER: &str = "a header of --header has no quotes and no line ends";
+
 const BOTH_STANDARD: &str = "the table and the script cannot both be standard input";
 
 /// The lines of the calls that are given, a line feed behind each.
@@ -98,6 +100,7 @@ fn run_of<'r, 'a: 'r>(
 ) -> Option<Run<'r>> {
     Some(Run {
         table: Place::new(given.get_str("table")?),
+        header: given.get_str("header"),
         script: script_of(given, lines),
         history: given.get_str("history"),
         settings: settings_of(given)?,
@@ -130,11 +133,25 @@ fn refuse_words<R: Print + Eprint>(rt: &R, alloc: Global, why: &str) -> Result<u
     }
 }
 
-/// What is wrong with the inputs of a run, if anything: a call of more than one line, both of standard input, or a history
+/// Whether a header would be divided otherwise than at its commas.
+fn is_odd_header(header: Option<&str>) -> bool {
+    match header {
+        Some(text) => text
+            .as_bytes()
+            .iter()
+            .any(|byte| *byte == b'"' || *byte == b'\n' || *byte == b'\r'),
+        None => false,
+    }
+}
+
+/// What is wrong with the inputs of a run, if anything: a call of more than one line, an odd header, both of standard input, or a history
 /// that would be written over another of its files.
 fn wrong_with<R: Files>(rt: &R, run: &Run<'_>, calls: &[&str]) -> Option<&'static str> {
     if calls.iter().any(|call| call.as_bytes().contains(&b'\n')) {
         return Some(LONG_CALL);
+    }
+    if is_odd_header(run.header) {
+        return Some(ODD_HEADER);
     }
     if run.table.is_standard() && run.script.is_standard() {
         return Some(BOTH_STANDARD);
@@ -181,20 +198,22 @@ fn make_check<R: Files + RandomSource + Print>(
 }
 
 /// Describes the table that the words name.
-fn make_description<R: Files + RandomSource + Print + Input + Threads + Sync, E: Sink + Drop>(
-    rt: &R,
-    alloc: Global,
-    given: &ArgMatches<'_>,
-    errors: &mut Errors<E>,
-) -> Result<u8, Refusal> {
+fn make_description<
+    R: Files + RandomSource + Print + Eprint + Input + Threads + Sync,
+    E: Sink + Drop,
+>(rt: &R, alloc: Global, given: &ArgMatches<'_>, errors: &mut Errors<E>) -> Result<u8, Refusal> {
     let (Some(table), Some(form)) = (given.get_str("file"), given.get_str("output")) else {
         return Ok(2);
     };
     let description = Description {
         table: Place::new(table),
+        header: given.get_str("header"),
         is_json: form == "json",
         faults: given.get_flag("all-faults"),
     };
+    if is_odd_header(description.header) {
+        return refuse_words(rt, alloc, ODD_HEADER);
+    }
     description.make(rt, alloc, &mut errors.words)
 }
 

@@ -28,6 +28,7 @@ const EXAMPLES_OF_RUN: &str = "\
 Examples:
   sideways run --table t.csv -e 'count' -e 'select b where a >= 10'
   sideways run --table t.csv --script calls.txt --history h.json
+  sideways run --table data.csv --header 'price:fix2,-,city:text' -e 'max price'
   zcat t.csv.gz | sideways run --table - -e 'sum b where a < 20' --stats";
 
 const EXAMPLES_OF_DESCRIBE: &str = "\
@@ -53,6 +54,17 @@ fn table<'a>(alloc: Global) -> Arg<'a> {
             "The table: comma-separated values, of which the first record names the attributes; - is standard input",
         )
         .required(true)
+        .action(ArgAction::Set)
+}
+
+fn header<'a>(alloc: Global) -> Arg<'a> {
+    Arg::new(alloc, "header")
+        .long("header")
+        .value_name("HEADER")
+        .help(
+            "A header in place of the first record of the table, as a:int,-,b:fix2: names with kinds, or - for a column that is passed by",
+        )
+        .allow_hyphen_values(true)
         .action(ArgAction::Set)
 }
 
@@ -201,6 +213,7 @@ fn inputs<'a>(alloc: Global) -> Result<Command<'a>, AllocError> {
         .about("Answers the calls of a script over a table, a reply line each")
         .after_help(EXAMPLES_OF_RUN)
         .arg(table(alloc))?
+        .arg(header(alloc))?
         .arg(script(alloc)?)?
         .arg(call(alloc)?)
 }
@@ -278,6 +291,7 @@ fn describe_command<'a>(alloc: Global) -> Result<Command<'a>, AllocError> {
                 .required(true)
                 .action(ArgAction::Set),
         )?
+        .arg(header(alloc))?
         .arg(description_form(alloc))?
         .arg(all_faults(alloc))
 }

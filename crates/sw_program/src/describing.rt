@@ -2,7 +2,7 @@
 
 ghost use Rattle.std.specs.Prelude.{◌≡◌, IfOk};
 
-use crate::inputs::{Keeping, Kept, Place, is_read_once, open_place};
+use crate::inputs::{Keeping, Kept, Place, is_read_once, open_table};
 use crate::wording::{Asking, Keeps, words};
 use std::alloc::{AllocError, Global};
 use std::hash::RandomState;
@@ -20,6 +20,8 @@ use sw_rows::{Counted, Kind, PackedRows, Refusal, Schema, TextKey, load_in_parts
 pub struct Description<'a> {
     /// Where the table is.
     pub table: Place<'a>,
+    /// The header that stands in place of the table's first record, if one is given.
+    pub header: Option<&'a str>,
     /// Whether it is written as JSON.
     pub is_json: bool,
     /// Whether all faults of a table that is refused are told, in place of the first.
@@ -113,13 +115,14 @@ struct Came {
     kept: Kept,
 }
 
-/// Reads the table of a place.
+/// Reads the table of a place, under a header where one is given.
 fn read_at<R: Files + RandomSource + Input + Threads + Sync>(
     rt: &R,
     alloc: Global,
     place: Place<'_>,
+    header: Option<&str>,
 ) -> Came {
-    let source = match open_place(rt, place) {
+    let source = match open_table(rt, alloc, place, header) {
         Ok(source) => Counted::new(source),
         Err(refusal) => {
             return Came {
@@ -144,6 +147,7 @@ impl Description<'_> {
     fn asking(&self) -> Asking<'_> {
         Asking {
             table: self.table,
+            header: self.header,
             script: None,
             cuts: "",
             faults: self.faults,
@@ -161,7 +165,7 @@ impl Description<'_> {
     ) -> Result<u8, Refusal>
         ensures { IfOk result (λ status. status ≡ 0) }
     {
-        let Came { read, kept } = read_at(rt, alloc, self.table);
+        let Came { read, kept } = read_at(rt, alloc, self.table, self.header);
         match read {
             Ok(table) => describe(rt, alloc, self.is_json, &table),
             Err(refusal) => {

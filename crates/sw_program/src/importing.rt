@@ -6,8 +6,9 @@ use std::alloc::Global;
 use std::io;
 use std::random::RandomSource;
 use std::rt::Files;
+use std::thread::Threads;
 use sw_files::{begin_file, read_file};
-use sw_import::{Fault, How, Imported, dictionary_of, import, told};
+use sw_import::{Fault, How, Imported, dictionary_of, import_in_parts, told};
 use sw_lang::write_all;
 use sw_rows::{Counted, Refusal, Sink, TextKey, read_all};
 
@@ -71,7 +72,7 @@ impl Import<'_> {
     /// `errors`. Answers the exit status: 0 where there is a table, and 2 where there is none, which is told on `errors`.
     /// Refused `Input` where the values cannot be opened or read or the system gives no random bytes for the key of texts,
     /// `Output` where the table or the texts cannot be written, and `NoMemory`.
-    pub fn make<R: Files + Input + RandomSource + Print, E: Sink>(
+    pub fn make<R: Files + Input + RandomSource + Print + Threads + Sync, E: Sink>(
         &self,
         rt: &R,
         alloc: Global,
@@ -81,7 +82,7 @@ impl Import<'_> {
     {
         let bytes = read_values(rt, alloc, self.file)?;
         let key = TextKey::new(rt)?;
-        let made = match import(alloc, key, &self.how, bytes.as_slice()) {
+        let made = match import_in_parts(rt, alloc, key, &self.how, bytes.as_slice()) {
             Ok(made) => made,
             Err(fault) => return refuse(alloc, self.file, &fault, errors),
         };

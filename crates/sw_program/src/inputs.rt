@@ -7,6 +7,7 @@ use std::io;
 use std::io::Read;
 use std::rt::Files;
 use sw_files::{FileId, open_input};
+use sw_headers::{Headed, Header};
 use sw_rows::{Refusal, Source};
 
 /// The name by which the command line means standard input.
@@ -107,6 +108,27 @@ pub(crate) fn open_place<R: Files + Input>(
     }
     match open_input(rt, place.name()) {
         Ok(file) => Ok(Inflow::File(file)),
+        Err(refusal) => Err(refusal),
+    }
+}
+
+/// Opens a table as `open_place` does, under a header that stands in place of its first record, where one is given. Refused
+/// `NoMemory` besides.
+pub(crate) fn open_table<R: Files + Input>(
+    rt: &R,
+    alloc: Global,
+    place: Place<'_>,
+    header: Option<&str>,
+) -> Result<Headed<Inflow<'static, R::File, R::Reader>>, Refusal> {
+    let header = match header {
+        Some(asked) => match Header::new(alloc, asked) {
+            Ok(header) => Some(header),
+            Err(_) => return Err(Refusal::NoMemory),
+        },
+        None => None,
+    };
+    match open_place(rt, place) {
+        Ok(source) => Ok(Headed::new(alloc, source, header)),
         Err(refusal) => Err(refusal),
     }
 }

@@ -5,7 +5,7 @@ ghost use Rattle.sw_rows.specs.declared.table.TheConstants.{MOST_ROWS};
 ghost use Rattle.sw_map.specs.Held.{blank};
 
 use crate::clash::Clash;
-use crate::inputs::{Keeping, Kept, Place, Script, is_read_once, open_place, open_script};
+use crate::inputs::{Keeping, Kept, Place, Script, is_read_once, open_script, open_table};
 use crate::seeing::{LinesSeen, Seen, Sights};
 use crate::settings::Settings;
 use crate::shaping::{Form, script_bytes, shape};
@@ -31,6 +31,8 @@ use sw_spine::Record;
 pub struct Run<'a> {
     /// Where the table is.
     pub table: Place<'a>,
+    /// The header that stands in place of the table's first record, if one is given.
+    pub header: Option<&'a str>,
     /// Where the calls come from.
     pub script: Script<'a>,
     /// Where the history goes, if anywhere.
@@ -172,7 +174,7 @@ fn run_named<R: Files + RandomSource + Clock + Print + Eprint + Input + Threads 
     run: &Run<'_>,
     seen: &Seen<'_, R>,
 ) -> Came {
-    let table = match open_place(rt, run.table) {
+    let table = match open_table(rt, alloc, run.table, run.header) {
         Ok(table) => LinesSeen::new(Counted::new(table), seen),
         Err(refusal) => return unopened(refusal),
     };
@@ -248,6 +250,7 @@ impl Run<'_> {
     fn asking(&self) -> Asking<'_> {
         Asking {
             table: self.table,
+            header: self.header,
             script: Some(self.script),
             cuts: self.settings.cuts,
             faults: self.sights.faults,

@@ -9,6 +9,7 @@ use std::rt::Files;
 use std::{fs, io};
 use sw_faults::{Asked, Origin, Text, all_faults, words_of};
 use sw_files::read_file;
+use sw_headers::{Header, text_under};
 use sw_rows::{Refusal, TextKey};
 
 /// What was asked, of which a refusal came.
@@ -16,6 +17,8 @@ use sw_rows::{Refusal, TextKey};
 pub(crate) struct Asking<'a> {
     /// Where the table is.
     pub(crate) table: Place<'a>,
+    /// The header that stands in place of the table's first record, if one is given.
+    pub(crate) header: Option<&'a str>,
     /// Where the calls come from, if there are any.
     pub(crate) script: Option<Script<'a>>,
     /// The text of the cuts.
@@ -23,6 +26,9 @@ pub(crate) struct Asking<'a> {
     /// Whether all faults of the table are to be told.
     pub(crate) faults: bool,
 }
+
+/// What a header that is given is called in words.
+const HEADER: &str = "--header";
 
 /// What standard input is called in words.
 const STANDARD: &str = "standard input";
@@ -153,12 +159,44 @@ fn script_again<R: Files>(
     }
 }
 
+/// A text under a header, where there is one.
+fn under(alloc: Global, header: Option<&str>, bytes: Vec<u8>) -> Option<Vec<u8>> {
+    match header {
+        Some(asked) => { text_under(alloc, Header::new(alloc, asked).ok()?, bytes.as_slice()).ok() }
+        None => Some(bytes),
+    }
+}
+
+/// The bytes of the table as they were read, under the header where one was given.
+fn table_again<R: Files>(
+    rt: &R,
+    alloc: Global,
+    asking: &Asking<'_>,
+    kept: Kept,
+) -> Option<Vec<u8>> {
+    match kept {
+        Kept::Once(bytes) => bytes,
+        Kept::Often => {
+            let bytes = read_file(rt, alloc, asking.table.name()).ok()?;
+            under(alloc, asking.header, bytes)
+        }
+    }
+}
+
 /// The texts that were read, as far as they can be had.
 fn texts_again<R: Files>(rt: &R, alloc: Global, asking: &Asking<'_>, kept: Keeps) -> Texts {
     let Keeps { table, script } = kept;
     Texts {
-        table: again(rt, alloc, asking.table, table),
+        table: table_again(rt, alloc, asking, table),
         script: script_again(rt, alloc, asking.script, script),
+    }
+}
+
+/// Whether a refusal is of a field of the header.
+fn is_of_header(refusal: &Refusal) -> bool {
+    match refusal {
+        Refusal::BadTable { rec: 0, field } => *field > 0,
+        _ => false,
     }
 }
 
@@ -170,7 +208,10 @@ fn of_texts(
     refusal: &Refusal,
     texts: &Texts,
 ) -> Result<String, AllocError> {
-    let asked = texts.asked(asking);
+    let mut asked = texts.asked(asking);
+    if asking.header.is_some() && is_of_header(refusal) {
+        asked.table.name = HEADER;
+    }
     match (refusal, asked.table.bytes) {
         (Refusal::BadTable { rec, .. }, Some(bytes)) if asking.faults && *rec > 0 => {
             all_faults(alloc, key, asked.table.name, bytes)
