@@ -72,6 +72,36 @@ class Cases:
             if done.returncode != 2 or b"written over the table" not in done.stderr or (self.folder / "t.csv").read_bytes() != TABLE:
                 raise Wrong("WRONG: a history over the table of standard input: %r" % (done,))
 
+    # A header on the command line
+
+    def headers(self):
+        run = ["run", "--table", "cities.csv", "--header"]
+        self.case("a column passed by", run + ["city:text,-,price:fix2,-", "-e", "select city, price where price > 1"], 0,
+                  "1: 'Oslo', 7.50\n3: 'Oslo', 3.00\n(2 rows)\n", "")
+        self.case("the same of standard input", ["run", "--table", "-", "--header=-,n,-,-", "-e", "sum n"], 0, "6\n", "", CITIES)
+        self.case("a description", ["describe", "cities.csv", "--header", "-,-,-,ok:flag"], 0,
+                  "rows 3\n\nname  kind  distinct  least  greatest\nok    flag  2         false  true\n", "")
+        self.case("too few words", run + ["city:text,-,price:fix2", "-e", "count"], 2, "",
+                  "sideways: refused 2 record 1 field 3\ncities.csv line 2: 3 fields, the header has 2\n")
+        self.case("too many words", run + ["-,n,-,-,more", "-e", "count"], 2, "",
+                  "sideways: refused 2 record 1 field 2\ncities.csv line 2: 1 field, the header has 2: more:int is missing\n")
+        self.case("all that is missing would be passed by", run + ["-,-,-,ok:flag,-", "-e", "count"], 2, "",
+                  "sideways: refused 2 record 1 field 2\ncities.csv line 2: 2 fields, the header has 1\n")
+        self.case("a cell of another kind", run + ["-,-,price:fix1,-", "-e", "count"], 2, "",
+                  "sideways: refused 2 record 2 field 1\n"
+                  "cities.csv line 3, price:fix1: 2 decimals, wanted a number with at most 1 decimal: '-0.25'\n")
+        self.case("a cell behind lines that are passed by", ["run", "--table", "bad.csv", "--header", "-,n", "-e", "count"], 2, "",
+                  "sideways: refused 2 record 2 field 1\nbad.csv line 4, n:int: 1 decimal, wanted a whole number: '1.5'; "
+                  "a name without a kind is an int\n")
+        self.case("a name that is none", run + ["a b,-,-,-", "-e", "count"], 2, "",
+                  "sideways: refused 2 record 0 field 1\n--header line 1, column 1: ' ' stands in a name, which has letters, digits and _: 'a b'\n")
+        self.case("no column", run + ["-,-,-,-", "-e", "count"], 2, "",
+                  "sideways: refused 2 record 0 field 1\n--header line 1, column 1: a column without a name: ''\n")
+        self.case("no record", ["run", "--table", "-", "--header", "a", "-e", "count"], 2, "",
+                  "sideways: refused 2 record 0 field 0\nstandard input: empty, wanted a header: names with kinds, as a:int,b:fix2,c:text\n")
+        self.refused("a header with quotes", run + ['"a",b,c,d', "-e", "count"], "a header of --header has no quotes and no line ends")
+        self.refused("a header of two lines", ["describe", "cities.csv", "--header", "a\nb"], "a header of --header has no quotes and no line ends")
+
     # A refusal in words
 
     def words(self):
@@ -196,7 +226,7 @@ def main():
     with tempfile.TemporaryDirectory() as folder:
         cases = Cases(Path(given.program).resolve(), folder)
         try:
-            for part in (cases.inputs, cases.words, cases.descriptions, cases.forms, cases.helps, cases.version):
+            for part in (cases.inputs, cases.headers, cases.words, cases.descriptions, cases.forms, cases.helps, cases.version):
                 part()
         except Wrong as wrong:
             print(wrong)
