@@ -72,6 +72,43 @@ class Cases:
             if done.returncode != 2 or b"written over the table" not in done.stderr or (self.folder / "t.csv").read_bytes() != TABLE:
                 raise Wrong("WRONG: a history over the table of standard input: %r" % (done,))
 
+    # Odd files to import
+
+    def imports(self):
+        def told(read, written, columns, lines):
+            return "sideways: -: %d rows read, %d written, of %d columns\n%s" % (read, written, columns, "".join("  %s\n" % line for line in lines))
+
+        def made(name, data, table, lines, words=(), rows=(1, 1)):
+            columns = table.split("\n")[0].count(",") + 1
+            self.case(name, ["import", "-"] + list(words), 0, table, told(rows[0], rows[1], columns, lines), data)
+
+        def refused(name, data, why, words=()):
+            self.case(name, ["import", "-"] + list(words), 2, "", "sideways: -: %s\n" % why, data)
+
+        ints = "a:int,b:int\n1,2\n"
+        made("a byte order mark", b"\xef\xbb\xbfa,b\n1,2\n", ints, ["a:int", "b:int"])
+        made("lines that end in CR LF", b"a,b\r\n1,2\r\n", ints, ["a:int", "b:int"])
+        made("semicolons", b"a;b\n1;2\n", ints, ["a:int", "b:int"], ["--delimiter", ";"])
+        made("headings that stand twice", b"a,a,a\n1,2,3\n", "a:int,a_2:int,a_3:int\n1,2,3\n",
+             ["a:int", "a_2:int; heading `a`", "a_3:int; heading `a`"])
+        made("a header alone", b"a,b\n", "a:text,b:text\n", ["a:text", "b:text"], rows=(0, 0))
+        made("a short record that is filled", b"a,b\n1\n", "a:int,b:text\n1,\n", ["a:int", "b:text"], ["--ragged", "fill"])
+        made("line ends in quotes, cut", b'a,b\n"x\ny",1\n', "a:text,b:int\nx,1\n", ["a:text; texts cut: 1, the first in line 2", "b:int"],
+             ["--long", "cut"])
+        wide = b"\n".join([b",".join(b"c%d" % k for k in range(5000)), b",".join(b"%d" % k for k in range(5000)), b""])
+        got = self.case("5,000 columns", ["import", "-", "--columns", "c4999,1"], 0, "c4999:int,c0:int\n4999,0\n", ANY, wide)
+        if "column 4999 (c4998)" not in got[2]:
+            raise Wrong("WRONG: not all columns that are not written are told")
+        ragged = "--ragged fill takes fields that are missing at the end for empty ones"
+        refused("an empty file", b"", "there is no record, and so no heading")
+        refused("empty lines", b"\n\n\n", "there is no record, and so no heading")
+        refused("a record too long", b"a,b\n1,2,3\n", "line 2: 3 fields, and the header has 2; " + ragged)
+        refused("a record too short, behind two lines", b'a,b\n"x\ny",1\n1\n', "line 4: 1 fields, and the header has 2; " + ragged)
+        refused("a quote that is not closed", b'a,b\n"x,1\n2,3\n', "line 2: 1 fields, and the header has 2; " + ragged)
+        refused("Latin-1", b"name,n\nJos\xe9,1\n", "texts that are not UTF-8: 1 in column 1 (name), the first in line 2")
+        refused("more columns than eight", wide, "more than 8 columns are asked for, and a table has at most 8",
+                ["--columns", "1,2,3,4,5,6,7,8,9"])
+
     # A header on the command line
 
     def headers(self):
@@ -226,7 +263,7 @@ def main():
     with tempfile.TemporaryDirectory() as folder:
         cases = Cases(Path(given.program).resolve(), folder)
         try:
-            for part in (cases.inputs, cases.headers, cases.words, cases.descriptions, cases.forms, cases.helps, cases.version):
+            for part in (cases.inputs, cases.headers, cases.imports, cases.words, cases.descriptions, cases.forms, cases.helps, cases.version):
                 part()
         except Wrong as wrong:
             print(wrong)
