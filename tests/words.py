@@ -72,6 +72,73 @@ class Cases:
             if done.returncode != 2 or b"written over the table" not in done.stderr or (self.folder / "t.csv").read_bytes() != TABLE:
                 raise Wrong("WRONG: a history over the table of standard input: %r" % (done,))
 
+    # Odd files to import
+
+    def imports(self):
+        def told(read, written, columns, lines):
+            return "sideways: -: %d rows read, %d written, of %d columns\n%s" % (read, written, columns, "".join("  %s\n" % line for line in lines))
+
+        def made(name, data, table, lines, words=(), rows=(1, 1)):
+            columns = table.split("\n")[0].count(",") + 1
+            self.case(name, ["import", "-"] + list(words), 0, table, told(rows[0], rows[1], columns, lines), data)
+
+        def refused(name, data, why, words=()):
+            self.case(name, ["import", "-"] + list(words), 2, "", "sideways: -: %s\n" % why, data)
+
+        ints = "a:int,b:int\n1,2\n"
+        made("a byte order mark", b"\xef\xbb\xbfa,b\n1,2\n", ints, ["a:int", "b:int"])
+        made("lines that end in CR LF", b"a,b\r\n1,2\r\n", ints, ["a:int", "b:int"])
+        made("semicolons", b"a;b\n1;2\n", ints, ["a:int", "b:int"], ["--delimiter", ";"])
+        made("headings that stand twice", b"a,a,a\n1,2,3\n", "a:int,a_2:int,a_3:int\n1,2,3\n",
+             ["a:int", "a_2:int; heading `a`", "a_3:int; heading `a`"])
+        made("a header alone", b"a,b\n", "a:text,b:text\n", ["a:text", "b:text"], rows=(0, 0))
+        made("a short record that is filled", b"a,b\n1\n", "a:int,b:text\n1,\n", ["a:int", "b:text"], ["--ragged", "fill"])
+        made("line ends in quotes, cut", b'a,b\n"x\ny",1\n', "a:text,b:int\nx,1\n", ["a:text; texts cut: 1, the first in line 2", "b:int"],
+             ["--long", "cut"])
+        wide = b"\n".join([b",".join(b"c%d" % k for k in range(5000)), b",".join(b"%d" % k for k in range(5000)), b""])
+        got = self.case("5,000 columns", ["import", "-", "--columns", "c4999,1"], 0, "c4999:int,c0:int\n4999,0\n", ANY, wide)
+        if "column 4999 (c4998)" not in got[2]:
+            raise Wrong("WRONG: not all columns that are not written are told")
+        ragged = "--ragged fill takes fields that are missing at the end for empty ones"
+        refused("an empty file", b"", "there is no record, and so no heading")
+        refused("empty lines", b"\n\n\n", "there is no record, and so no heading")
+        refused("a record too long", b"a,b\n1,2,3\n", "line 2: 3 fields, and the header has 2; " + ragged)
+        refused("a record too short, behind two lines", b'a,b\n"x\ny",1\n1\n', "line 4: 1 fields, and the header has 2; " + ragged)
+        refused("a quote that is not closed", b'a,b\n"x,1\n2,3\n', "line 2: 1 fields, and the header has 2; " + ragged)
+        refused("Latin-1", b"name,n\nJos\xe9,1\n", "texts that are not UTF-8: 1 in column 1 (name), the first in line 2")
+        refused("more columns than eight", wide, "more than 8 columns are asked for, and a table has at most 8",
+                ["--columns", "1,2,3,4,5,6,7,8,9"])
+
+    # A header on the command line
+
+    def headers(self):
+        run = ["run", "--table", "cities.csv", "--header"]
+        self.case("a column passed by", run + ["city:text,-,price:fix2,-", "-e", "select city, price where price > 1"], 0,
+                  "1: 'Oslo', 7.50\n3: 'Oslo', 3.00\n(2 rows)\n", "")
+        self.case("the same of standard input", ["run", "--table", "-", "--header=-,n,-,-", "-e", "sum n"], 0, "6\n", "", CITIES)
+        self.case("a description", ["describe", "cities.csv", "--header", "-,-,-,ok:flag"], 0,
+                  "rows 3\n\nname  kind  distinct  least  greatest\nok    flag  2         false  true\n", "")
+        self.case("too few words", run + ["city:text,-,price:fix2", "-e", "count"], 2, "",
+                  "sideways: refused 2 record 1 field 3\ncities.csv line 2: 3 fields, the header has 2\n")
+        self.case("too many words", run + ["-,n,-,-,more", "-e", "count"], 2, "",
+                  "sideways: refused 2 record 1 field 2\ncities.csv line 2: 1 field, the header has 2: more:int is missing\n")
+        self.case("all that is missing would be passed by", run + ["-,-,-,ok:flag,-", "-e", "count"], 2, "",
+                  "sideways: refused 2 record 1 field 2\ncities.csv line 2: 2 fields, the header has 1\n")
+        self.case("a cell of another kind", run + ["-,-,price:fix1,-", "-e", "count"], 2, "",
+                  "sideways: refused 2 record 2 field 1\n"
+                  "cities.csv line 3, price:fix1: 2 decimals, wanted a number with at most 1 decimal: '-0.25'\n")
+        self.case("a cell behind lines that are passed by", ["run", "--table", "bad.csv", "--header", "-,n", "-e", "count"], 2, "",
+                  "sideways: refused 2 record 2 field 1\nbad.csv line 4, n:int: 1 decimal, wanted a whole number: '1.5'; "
+                  "a name without a kind is an int\n")
+        self.case("a name that is none", run + ["a b,-,-,-", "-e", "count"], 2, "",
+                  "sideways: refused 2 record 0 field 1\n--header line 1, column 1: ' ' stands in a name, which has letters, digits and _: 'a b'\n")
+        self.case("no column", run + ["-,-,-,-", "-e", "count"], 2, "",
+                  "sideways: refused 2 record 0 field 1\n--header line 1, column 1: a column without a name: ''\n")
+        self.case("no record", ["run", "--table", "-", "--header", "a", "-e", "count"], 2, "",
+                  "sideways: refused 2 record 0 field 0\nstandard input: empty, wanted a header: names with kinds, as a:int,b:fix2,c:text\n")
+        self.refused("a header with quotes", run + ['"a",b,c,d', "-e", "count"], "a header of --header has no quotes and no line ends")
+        self.refused("a header of two lines", ["describe", "cities.csv", "--header", "a\nb"], "a header of --header has no quotes and no line ends")
+
     # A refusal in words
 
     def words(self):
@@ -235,7 +302,8 @@ def main():
     with tempfile.TemporaryDirectory() as folder:
         cases = Cases(Path(given.program).resolve(), folder)
         try:
-            for part in (cases.inputs, cases.words, cases.descriptions, cases.forms, cases.origins, cases.keys, cases.helps, cases.version):
+            for part in (cases.inputs, cases.headers, cases.imports, cases.words, cases.descriptions, cases.forms, cases.origins, cases.keys,
+                         cases.helps, cases.version):
                 part()
         except Wrong as wrong:
             print(wrong)

@@ -121,11 +121,11 @@ impl Texts {
         }
     }
 
-    /// What was asked, with these texts.
-    fn asked<'a>(&'a self, asking: &Asking<'a>) -> Asked<'a> {
+    /// What was asked, with these texts; so the table is called.
+    fn asked<'a>(&'a self, asking: &Asking<'a>, table: &'a str) -> Asked<'a> {
         let (script, origin) = self.script(asking);
         Asked {
-            table: named(called(asking.table), as_bytes(&self.table)),
+            table: named(table, as_bytes(&self.table)),
             script,
             origin,
             cuts: asking.cuts,
@@ -200,6 +200,15 @@ fn is_of_header(refusal: &Refusal) -> bool {
     }
 }
 
+/// What the table is called in the words of a refusal: by the header that was given, where that is refused.
+fn called_table<'a>(asking: &Asking<'a>, refusal: &Refusal) -> &'a str {
+    if asking.header.is_some() && is_of_header(refusal) {
+        HEADER
+    } else {
+        called(asking.table)
+    }
+}
+
 /// The words of a refusal that the texts have.
 fn of_texts(
     alloc: Global,
@@ -208,10 +217,7 @@ fn of_texts(
     refusal: &Refusal,
     texts: &Texts,
 ) -> Result<String, AllocError> {
-    let mut asked = texts.asked(asking);
-    if asking.header.is_some() && is_of_header(refusal) {
-        asked.table.name = HEADER;
-    }
+    let asked = texts.asked(asking, called_table(asking, refusal));
     match (refusal, asked.table.bytes) {
         (Refusal::BadTable { rec, .. }, Some(bytes)) if asking.faults && *rec > 0 => {
             all_faults(alloc, key, asked.table.name, bytes)
