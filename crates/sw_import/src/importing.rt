@@ -104,11 +104,16 @@ fn header_of(alloc: Global, how: &How<'_>, text: &[u8]) -> Result<ByteRecord, Fa
     }
 }
 
-/// Takes the cells of a record in.
-fn see_record(rules: &Rules<'_>, columns: &[Column], row: &ByteRecord, seen: &mut [Evidence])
+/// Takes the cells of the record of a line in.
+fn see_record(
+    rules: &Rules<'_>,
+    columns: &[Column],
+    row: &ByteRecord,
+    line: u64,
+    seen: &mut [Evidence],
+)
     requires { length seen.old ≡ length columns.now }
 {
-    let line = line_of(row);
     for place in 0..columns.len() {
         seen[place].add(rules, field(row, columns[place].place), line);
     }
@@ -131,14 +136,15 @@ fn survey(
         if !next(&mut rdr, &mut row)? {
             break;
         }
+        let line = line_of(values.text, &row);
         if !values.takes(row.len()) {
             return Err(Fault::Ragged {
-                line: line_of(&row),
+                line,
                 found: row.len() as u64,
                 wanted: values.width as u64,
             });
         }
-        see_record(rules, columns, &row, seen);
+        see_record(rules, columns, &row, line, seen);
         count = count.saturating_add(1);
     }
     Ok(count)
@@ -224,7 +230,17 @@ fn write_table(
     let mut writer = Writer::from_writer(Vec::new(alloc));
     write_header(alloc, plan, &mut writer)?;
     let most = Most::of(how.sample);
-    let written = write_rows(alloc, &how.rules, plan, most, &mut rdr, &mut writer, done)?;
+    let text = values.text;
+    let written = write_rows(
+        alloc,
+        text,
+        &how.rules,
+        plan,
+        most,
+        &mut rdr,
+        &mut writer,
+        done,
+    )?;
     Ok((bytes_of(writer)?, written))
 }
 

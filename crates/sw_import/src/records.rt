@@ -34,10 +34,29 @@ pub(crate) fn next(rdr: &mut Reader<&[u8]>, row: &mut ByteRecord) -> Result<bool
     }
 }
 
+/// How many lines end where a reader was about to read a record: the end of the record before, where it is CR and LF of
+/// which the CR was read, and empty lines.
+fn lines_passed(text: &[u8], at: u64) -> u64 {
+    let Ok(at) = usize::try_from(at) else {
+        return 0;
+    };
+    let mut many = 0u64;
+    for byte in text.get(at..).unwrap_or_default() {
+        match *byte {
+            b'\n' => many = many.saturating_add(1),
+            b'\r' => {}
+            _ => return many,
+        }
+    }
+    many
+}
+
 /// The line of a text, from 1, in which a record begins that was read from it.
-pub(crate) fn line_of(row: &ByteRecord) -> u64 {
+pub(crate) fn line_of(text: &[u8], row: &ByteRecord) -> u64 {
     match row.position() {
-        Some(position) => position.line,
+        Some(position) => position
+            .line
+            .saturating_add(lines_passed(text, position.byte)),
         None => 0,
     }
 }

@@ -72,15 +72,15 @@ fn note_cell(done: &mut [Done], place: usize, is_filled: bool, line: u64) {
     }
 }
 
-/// Takes in what was written of a record.
+/// Takes in what was written of the record of a line.
 fn note_record(
     rules: &Rules<'_>,
     plan: &[Planned],
     row: &ByteRecord,
+    line: u64,
     made: &ByteRecord,
     done: &mut [Done],
 ) {
-    let line = line_of(row);
     for place in 0..plan.len() {
         let planned = &plan[place];
         if planned.keeps_cells() {
@@ -119,12 +119,13 @@ fn no_cell(
     })
 }
 
-/// Makes the record that is written of one that was read. False where it is left out.
+/// Makes the record that is written of one that was read, in a line. False where it is left out.
 fn make_record(
     alloc: Global,
     rules: &Rules<'_>,
     plan: &[Planned],
     row: &ByteRecord,
+    line: u64,
     made: &mut ByteRecord,
     done: &mut [Done],
 ) -> Result<bool, Fault>
@@ -132,7 +133,6 @@ fn make_record(
         ≡ (if kept then Row (fields_of made.new) else NoRow)) }
 {
     made.clear();
-    let line = line_of(row);
     for place in 0..plan.len() {
         let planned = &plan[place];
         let cell = field(row, planned.column.place);
@@ -200,9 +200,10 @@ impl Most {
     }
 }
 
-/// Writes the rows that a reader has left, and says how many were written.
+/// Writes the rows that a reader of a text has left, and says how many were written.
 pub(crate) fn write_rows(
     alloc: Global,
+    text: &[u8],
     rules: &Rules<'_>,
     plan: &[Planned],
     most: Most,
@@ -222,13 +223,13 @@ pub(crate) fn write_rows(
         if !next(rdr, &mut row)? {
             break;
         }
-        if make_record(alloc, rules, plan, &row, &mut made, done)? {
+        let line = line_of(text, &row);
+        if make_record(alloc, rules, plan, &row, line, &mut made, done)? {
             if written >= most.rows {
-                let line = line_of(&row);
                 return Err(Fault::ManyRows { line });
             }
             write_record(&made, writer)?;
-            note_record(rules, plan, &row, &made, done);
+            note_record(rules, plan, &row, line, &made, done);
             written += 1;
         }
     }
