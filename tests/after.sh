@@ -14,10 +14,12 @@ step() {
     "$@" || { echo "after: FAILED: $*" >&2; exit 1; }
 }
 
+step sh "$top/bench/crates.sh"
 step python3 "$top/bench/claims.py" --check
 step python3 "$top/bench/pages.py" --check
 step python3 "$top/tests/words.py"
 step python3 "$top/tests/headers.py"
+step python3 "$top/tests/imports.py" "$(program sideways)"
 step python3 "$top/tests/ends.py"
 step sh "$top/tests/packages.sh" "$(program sideways)"
 step python3 "$top/tests/collisions.py" "$(program sideways)"
