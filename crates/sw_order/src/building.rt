@@ -252,6 +252,22 @@ struct Found {
     places: Vec<usize>,
 }
 
+/// A query of rows with its reply, if a call of a log is one.
+fn asked_of<'a>(schema: &'a Schema, call: &'a Call, lines: &'a Lines) -> Option<Asked<'a>> {
+    match call {
+        Call::Select(query) => match &query.want {
+            Want::Rows(attrs) => Some(Asked {
+                schema,
+                call,
+                attrs: attrs.as_slice(),
+                lines: lines.as_slice(),
+            }),
+            _ => None,
+        },
+        _ => None,
+    }
+}
+
 impl Builder {
     /// Adds a row to those of a reply.
     fn add_shown(
@@ -295,6 +311,60 @@ impl Builder {
         for row in &self.unnamed {
             if self.shows(asked, place, *row, key)? {
                 pairs.push((*row, key))?;
+            }
+        }
+        Ok(())
+    }
+
+    /// The first row of unknown outcome without a key that a line of a reply may show.
+    fn nameless(
+        &self,
+        asked: &Asked<'_>,
+        place: usize,
+        key: u64,
+    ) -> Result<Option<usize>, AllocError> {
+        for row in &self.unnamed {
+            if at(&self.problem.keys, *row, 1) == 0 && self.shows(asked, place, *row, key)? {
+                return Ok(Some(*row));
+            }
+        }
+        Ok(None)
+    }
+
+    /// Takes the key of a reply's line to be that of a row of unknown outcome, where no insert was given it.
+    fn name_row(&mut self, asked: &Asked<'_>, place: usize) -> Result<(), AllocError> {
+        let line = match asked.lines.get(place) {
+            Some(line) => line.as_str(),
+            None => "",
+        };
+        let Some(key) = key_of(line) else {
+            return Ok(());
+        };
+        if self.row_of(key).is_some() {
+            return Ok(());
+        }
+        if let Some(row) = self.nameless(asked, place, key)? {
+            put(&mut self.problem.keys, row, key);
+            self.rows.insert(key, row)?;
+        }
+        Ok(())
+    }
+
+    /// Takes the keys of a reply's lines to be those of rows of unknown outcome.
+    fn name_rows(&mut self, asked: &Asked<'_>) -> Result<(), AllocError> {
+        for place in 0..asked.lines.len() {
+            self.name_row(asked, place)?;
+        }
+        Ok(())
+    }
+
+    /// Gives rows of unknown outcome the keys that replies show and no insert was given.
+    fn name_all(&mut self, schema: &Schema, calls: &[Logged]) -> Result<(), AllocError> {
+        for call in calls {
+            if let Some(lines) = &call.reply {
+                if let Some(asked) = asked_of(schema, &call.call, lines) {
+                    self.name_rows(&asked)?;
+                }
             }
         }
         Ok(())
@@ -413,16 +483,8 @@ impl Builder {
         lines: &Lines,
         task: &mut Task,
     ) -> Result<(), AllocError> {
-        if let Call::Select(query) = call {
-            if let Want::Rows(attrs) = &query.want {
-                let asked = Asked {
-                    schema,
-                    call,
-                    attrs: attrs.as_slice(),
-                    lines: lines.as_slice(),
-                };
-                return self.read_rows(&asked, task);
-            }
+        if let Some(asked) = asked_of(schema, call, lines) {
+            return self.read_rows(&asked, task);
         }
         if let Some(reply) = short_reply(self.alloc, schema, call, lines)? {
             self.read_short(call, &reply, task);
@@ -443,12 +505,20 @@ impl Builder {
         }
     }
 
+    /// Whether a row has a key that no other row has, where keys are whatever the store gave.
+    fn is_own(&self, row: usize, key: u64) -> bool {
+        !self.problem.any_keys || key == 0 || self.row_of(key) == Some(row)
+    }
+
     /// The row that the next insert brings, with its call noted.
     fn take_row(&mut self, next: &mut usize, task: &mut Task) {
         let row = *next;
+        let key = at(&self.problem.keys, row, 0);
         let number = self.problem.tasks.len();
-        put(&mut self.problem.makers, row, Some(number));
-        task.act = Act::Insert(row, at(&self.problem.keys, row, 0));
+        if self.is_own(row, key) {
+            put(&mut self.problem.makers, row, Some(number));
+            task.act = Act::Insert(row, key);
+        }
         *next = row.saturating_add(1);
     }
 
@@ -560,6 +630,9 @@ pub(crate) fn problem_of(
 ) -> Result<Problem, AllocError> {
     let mut builder = Builder::new(alloc, opening, rules)?;
     builder.add_rows(calls)?;
+    if rules.any_keys && !builder.unnamed.is_empty() {
+        builder.name_all(&opening.schema, calls)?;
+    }
     builder.add_tasks(&opening.schema, calls, rules.by)?;
     builder.add_indexes(opening.schema.len())?;
     for session in 0..builder.problem.sessions.len() {

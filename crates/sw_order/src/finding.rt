@@ -1,15 +1,17 @@
 //! Orders are looked for, and proved where they are found.
 
-ghost use Rattle.std.specs.Prelude.{length, IfOk, IsOkUnless};
+ghost use Rattle.std.specs.Prelude.{◌≡◌, false, length, true, IfOk, IsOkUnless};
 ghost use Rattle.sw_logs.specs.Openings.{IsOpening};
 ghost use Rattle.sw_logs.specs.Orders.{AllFit};
 ghost use Rattle.sw_order.specs.Outcomes.{IsOutcome};
 
 use crate::building::{Rules, problem_of};
+use crate::naming::names_of;
 use crate::problem::Problem;
 use crate::search::{Ending, Onlooker, Search};
 use crate::telling::{Place, Reached, state_after};
 use std::alloc::{AllocError, Global};
+use sw_keys::{Named, check_renamed_order};
 use sw_logs::{By, Logged, Opening, Order, Placed, check_order};
 use sw_rows::Refusal;
 
@@ -27,7 +29,7 @@ pub enum Outcome {
 /// What a search came to: a list of calls that may be an order, or why there is none.
 #[derive(Drop)]
 enum Sought {
-    Placed(Placed),
+    Placed(Named),
     Exhausted(Reached),
     GivenUp(Reached),
 }
@@ -59,11 +61,14 @@ fn searched<L: Onlooker>(
 }
 
 impl Ended {
-    /// The calls that are placed.
-    fn placed(&self, alloc: Global) -> Result<Placed, AllocError> {
-        Ok(Placed {
-            places: self.search.places(alloc)?,
-            told: self.search.told(alloc, &self.problem)?,
+    /// The calls that are placed, with the keys that the store gave.
+    fn placed(&self, alloc: Global) -> Result<Named, AllocError> {
+        Ok(Named {
+            placed: Placed {
+                places: self.search.places(alloc)?,
+                told: self.search.told(alloc, &self.problem)?,
+            },
+            names: names_of(alloc, &self.problem, &self.search.state)?,
         })
     }
 
@@ -135,7 +140,7 @@ fn refused(alloc: Global, placed: usize) -> Reached {
     }
 }
 
-/// Proves a list of calls to be an order.
+/// Proves a list of calls to be an order, in which keys are the plain list's.
 fn proved(
     alloc: Global,
     opening: Opening,
@@ -145,11 +150,34 @@ fn proved(
 ) -> Result<Outcome, Refusal>
     requires table { IsOpening opening }
     requires fit { AllFit (length opening.schema) calls.now }
-    ensures found { IfOk result (IsOutcome rules.by opening calls.now) }
+    requires keys { rules.any_keys ≡ false }
+    ensures found { IfOk result (IsOutcome rules opening calls.now) }
     ensures refused { IsOkUnless result Refusal.NoMemory }
 {
     let count = placed.places.len();
     match check_order(alloc, opening, calls, rules.by, placed) {
+        Ok(Some(order)) => Ok(Outcome::Found(order)),
+        Ok(None) => Ok(Outcome::GivenUp(refused(alloc, count))),
+        Err(e) => Err(e),
+    }
+}
+
+/// Proves a list of calls to be an order, in which keys are whatever the store gave.
+fn proved_renamed(
+    alloc: Global,
+    opening: Opening,
+    calls: &[Logged],
+    rules: Rules,
+    named: Named,
+) -> Result<Outcome, Refusal>
+    requires table { IsOpening opening }
+    requires fit { AllFit (length opening.schema) calls.now }
+    requires keys { rules.any_keys ≡ true }
+    ensures found { IfOk result (IsOutcome rules opening calls.now) }
+    ensures refused { IsOkUnless result Refusal.NoMemory }
+{
+    let count = named.placed.places.len();
+    match check_renamed_order(alloc, opening, calls, rules.by, named) {
         Ok(Some(order)) => Ok(Outcome::Found(order)),
         Ok(None) => Ok(Outcome::GivenUp(refused(alloc, count))),
         Err(e) => Err(e),
@@ -170,11 +198,14 @@ pub fn find_order<L: Onlooker>(
 ) -> Result<Outcome, Refusal>
     requires table { IsOpening opening }
     requires fit { AllFit (length opening.schema) calls.now }
-    ensures found { IfOk result (IsOutcome rules.by opening calls.now) }
+    ensures found { IfOk result (IsOutcome rules opening calls.now) }
     ensures refused { IsOkUnless result Refusal.NoMemory }
 {
     match seek(alloc, &opening, calls, rules, onlooker) {
-        Ok(Sought::Placed(placed)) => proved(alloc, opening, calls, rules, placed),
+        Ok(Sought::Placed(named)) if rules.any_keys => {
+            proved_renamed(alloc, opening, calls, rules, named)
+        }
+        Ok(Sought::Placed(named)) => proved(alloc, opening, calls, rules, named.placed),
         Ok(Sought::Exhausted(reached)) => Ok(Outcome::NoOrder(reached)),
         Ok(Sought::GivenUp(reached)) => Ok(Outcome::GivenUp(reached)),
         Err(_) => Err(Refusal::NoMemory),

@@ -5,6 +5,7 @@ mod building;
 mod choices;
 mod finding;
 mod index;
+mod naming;
 mod printing;
 mod problem;
 mod replies;

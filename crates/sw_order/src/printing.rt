@@ -82,6 +82,12 @@ fn write_line_at<W: Sink>(
     write_all(out, b"\n")
 }
 
+/// What a call was given and the list gives it, by its first line.
+fn write_same<W: Sink>(indent: &str, lines: &[String], out: &mut W) -> Result<(), Refusal> {
+    write_all(out, indent.as_bytes())?;
+    write_line_at("given, as the list gives: ", lines, 0, out)
+}
+
 /// What a call was given, and what the list gives it, by the first line that differs.
 fn write_replies<W: Sink>(
     indent: &str,
@@ -89,16 +95,19 @@ fn write_replies<W: Sink>(
     expected: &[String],
     out: &mut W,
 ) -> Result<(), Refusal> {
-    write_all(out, indent.as_bytes())?;
-    match &logged.reply {
-        None => write_all(out, b"outcome unknown\n"),
-        Some(given) => {
-            let place = common(given.as_slice(), expected);
-            write_line_at("given: ", given.as_slice(), place, out)?;
-            write_all(out, indent.as_bytes())?;
-            write_line_at("the list gives: ", expected, place, out)
-        }
+    let Some(given) = &logged.reply else {
+        write_all(out, indent.as_bytes())?;
+        return write_all(out, b"outcome unknown\n");
+    };
+    let given = given.as_slice();
+    let place = common(given, expected);
+    if place == given.len() && place == expected.len() {
+        return write_same(indent, given, out);
     }
+    write_all(out, indent.as_bytes())?;
+    write_line_at("given: ", given, place, out)?;
+    write_all(out, indent.as_bytes())?;
+    write_line_at("the list gives: ", expected, place, out)
 }
 
 /// A call that was tried.

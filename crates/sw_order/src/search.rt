@@ -253,7 +253,7 @@ impl Search {
             let before = self.state.changes_before(place);
             let after = self.state.changes_before(place.saturating_add(1));
             told.push(match problem.task(self.state.placed_at(place)).act {
-                Act::Insert(row, _) => Some(self.state.key(row)),
+                Act::Insert(_, _) => Some(self.state.top_before(place).wrapping_add(1)),
                 Act::Sweep => Some(after.saturating_sub(before) as u64),
                 _ => None,
             })?;

@@ -28,7 +28,7 @@ pub(crate) struct State {
     live: Vec<bool>,
     /// The rows' keys; 0 of those that have none yet.
     keys: Vec<u64>,
-    /// The greatest key.
+    /// How many rows came, those of the table included: the greatest key of the plain list.
     pub(crate) top: u64,
     /// How many rows came.
     pub(crate) came: u64,
@@ -109,6 +109,14 @@ impl State {
         }
     }
 
+    /// How many rows had come, those of the table included, when a call was placed.
+    pub(crate) fn top_before(&self, place: usize) -> u64 {
+        match self.steps.get(place) {
+            Some(step) => step.top,
+            None => self.top,
+        }
+    }
+
     /// How many rows had come and gone when a call was placed.
     pub(crate) fn changes_before(&self, place: usize) -> usize {
         match self.steps.get(place) {
@@ -135,7 +143,7 @@ impl State {
     /// Whether a row of a key lives, whatever inserted it.
     pub(crate) fn has_key(&self, key: u64) -> bool {
         for (row, own) in self.keys.iter().enumerate() {
-            if *own == key && self.is_live(row) {
+            if key > 0 && *own == key && self.is_live(row) {
                 return true;
             }
         }
@@ -146,7 +154,7 @@ impl State {
     pub(crate) fn row_of(&self, problem: &Problem, row: Option<usize>, key: u64) -> Option<usize> {
         match row {
             Some(row) => Some(row),
-            None if key == 0 || key > self.top => None,
+            None if key == 0 || key > self.top || problem.any_keys => None,
             None => self.unnamed_row(problem, key),
         }
     }
@@ -303,7 +311,7 @@ impl State {
     fn insert(&mut self, problem: &Problem, row: usize, key: u64) -> Result<(), AllocError> {
         self.top = self.top.wrapping_add(1);
         self.came = self.came.wrapping_add(1);
-        if key == 0 {
+        if key == 0 && !problem.any_keys {
             put(&mut self.keys, row, self.top);
             self.mark = self.mark.with(
                 NAMED,
@@ -379,9 +387,9 @@ impl State {
     }
 
     /// Takes back the key of a row whose insert is of unknown outcome.
-    fn take_back_insert(&mut self, task: &Task) {
+    fn take_back_insert(&mut self, problem: &Problem, task: &Task) {
         if let Act::Insert(row, key) = task.act {
-            if key == 0 {
+            if key == 0 && !problem.any_keys {
                 self.mark = self.mark.with(
                     NAMED,
                     (row as u64).wrapping_mul(1_048_583).wrapping_add(self.top),
@@ -399,7 +407,7 @@ impl State {
         };
         let task = problem.task(step.task);
         self.take_back_changes(problem, step.changes);
-        self.take_back_insert(&task);
+        self.take_back_insert(problem, &task);
         self.top = step.top;
         self.count(step.task, &task, false);
         if at(&self.is_watched, step.task, false) {

@@ -73,6 +73,15 @@ fn sum_of(problem: &Problem, rows: &[usize], attr: usize) -> i128 {
     sum
 }
 
+/// The greatest of some keys.
+fn greatest(keys: &[u64]) -> u64 {
+    let mut greatest = 0u64;
+    for key in keys {
+        greatest = greatest.max(*key);
+    }
+    greatest
+}
+
 /// The place where a search came furthest.
 #[derive(Clone, Copy)]
 pub(crate) struct Place<'a> {
@@ -114,11 +123,23 @@ impl Place<'_> {
         }
     }
 
+    /// The key that the list gives next; where keys are whatever the store gave, the one that it gave, if no row had it, else
+    /// one more than all.
+    fn next_key(&self, task: &Task) -> u64 {
+        if !self.problem.any_keys {
+            return self.state.top.saturating_add(1);
+        }
+        match task.act {
+            Act::Insert(_, key) if key > 0 => key,
+            _ => greatest(&self.problem.keys).saturating_add(1),
+        }
+    }
+
     /// What a call on one row is answered.
-    fn short_answer(&self, call: &Call) -> Reply {
+    fn short_answer(&self, call: &Call, task: &Task) -> Reply {
         match call {
             Call::Insert(_) if self.state.came >= self.problem.limit => Reply::Full,
-            Call::Insert(_) => Reply::Inserted(self.state.top.saturating_add(1)),
+            Call::Insert(_) => Reply::Inserted(self.next_key(task)),
             Call::Delete(key) if self.state.has_key(*key) => Reply::Removed,
             _ => Reply::NoSuchKey,
         }
@@ -136,7 +157,7 @@ impl Place<'_> {
                 self.state.rows_of(self.problem, task, &mut rows)?;
                 Ok(Reply::RemovedMany(rows.len() as u64))
             }
-            _ => Ok(self.short_answer(call)),
+            _ => Ok(self.short_answer(call, task)),
         }
     }
 

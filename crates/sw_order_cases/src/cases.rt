@@ -7,9 +7,11 @@ ghost use Rattle.sw_rows.specs.declared.table.TheConstants.{MOST_ROWS};
 
 use crate::text::unescaped;
 use std::alloc::{AllocError, Global};
+use sw_lang::write_call;
 use sw_logs::{By, Fault, Logged, Opening, Order, read_log, read_opening};
 use sw_order::{Nobody, Outcome, Reached, Rules, find_order, write_reached};
 use sw_rows::{Counted, MOST_ROWS, Refusal, Schema, TextKey};
+use sw_spine::{Entry, State};
 
 /// The header of every log.
 const HEADER: &str = "session,start,end,call,reply\n";
@@ -57,12 +59,38 @@ fn read_logs(
     Ok(())
 }
 
+/// A call of the history and its reply.
+fn entry_text(alloc: Global, entry: &Entry, schema: &Schema) -> Result<String, AllocError> {
+    let mut out = Counted::new(Vec::new(alloc));
+    if write_call(schema, &entry.call, &mut out).is_err() {
+        return Err(AllocError);
+    }
+    let mut told = String::from_utf8_lossy(alloc, out.inner.as_slice())?;
+    if let State::Lines(lines) = &entry.state {
+        for line in lines.as_slice() {
+            told.push_str(" / ")?;
+            told.push_str(line.as_str())?;
+        }
+    }
+    Ok(told)
+}
+
 /// The numbers of an order's calls.
 fn numbers(alloc: Global, order: &Order) -> Result<String, AllocError> {
     let mut told = String::from_str(alloc, "order")?;
     for place in &order.places {
         let number = (*place as u64).saturating_add(1);
         told.push_str(format!(in alloc; " {number}")?.as_str())?;
+    }
+    Ok(told)
+}
+
+/// The calls of an order's history and their replies.
+fn entries(alloc: Global, order: &Order) -> Result<String, AllocError> {
+    let mut told = numbers(alloc, order)?;
+    for entry in &order.history.entries {
+        told.push_str("; ")?;
+        told.push_str(entry_text(alloc, entry, &order.history.schema)?.as_str())?;
     }
     Ok(told)
 }
@@ -86,9 +114,11 @@ fn far(
 fn outcome(
     alloc: Global,
     calls: &[Logged],
+    rules: Rules,
     found: Result<Outcome, Refusal>,
 ) -> Result<String, AllocError> {
     match found {
+        Ok(Outcome::Found(order)) if rules.any_keys => entries(alloc, &order),
         Ok(Outcome::Found(order)) => numbers(alloc, &order),
         Ok(Outcome::NoOrder(reached)) => far(alloc, "no order", calls, &reached),
         Ok(Outcome::GivenUp(reached)) => far(alloc, "given up", calls, &reached),
@@ -110,7 +140,7 @@ fn order_over(
     match read_logs(alloc, &mut opening.schema, logs, &mut calls) {
         Ok(()) => {
             let found = find_order(alloc, opening, calls.as_slice(), rules, &Nobody);
-            outcome(alloc, calls.as_slice(), found)
+            outcome(alloc, calls.as_slice(), rules, found)
         }
         Err(fault) => format!(in alloc; "refused {fault}"),
     }
@@ -132,6 +162,7 @@ fn by_of(text: &str) -> By {
 pub(crate) struct Bench {
     table: Vec<u8>,
     limit: Limit,
+    any_keys: bool,
     logs: Vec<Vec<u8>>,
 }
 
@@ -140,6 +171,7 @@ impl Bench {
         Bench {
             table: Vec::new(alloc),
             limit: Limit { rows: MOST_ROWS },
+            any_keys: false,
             logs: Vec::new(alloc),
         }
     }
@@ -156,7 +188,7 @@ impl Bench {
     fn order(&self, alloc: Global, text: &str) -> Result<String, AllocError> {
         let rules = Rules {
             by: by_of(text),
-            any_keys: false,
+            any_keys: self.any_keys,
             states: MOST_STATES,
         };
         let mut table = Counted::new(self.table.as_slice());
@@ -180,6 +212,7 @@ impl Bench {
         match line.split_once(' ') {
             Some(("table", text)) => self.table = unescaped(alloc, text)?,
             Some(("limit", text)) => self.limit = limit_of(text),
+            Some(("keys", text)) => self.any_keys = text == "any",
             Some(("log", text)) => self.log(alloc, text)?,
             Some(("order", text)) => {
                 let told = self.order(alloc, text)?;

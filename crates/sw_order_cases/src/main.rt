@@ -3,6 +3,7 @@
 //! A line is a word and a TEXT, in which \n, \r, \t, \\ and \xHH stand for bytes. One that begins with # is skipped.
 //!
 //! - `table TEXT`, `limit NUMBER`: the table and the limit of the orders that come; no logs then
+//! - `keys any` or `keys counted`: which keys inserts are given in the orders that come
 //! - `log TEXT`: one more log, the text behind the header session,start,end,call,reply
 //! - `order times SLACK` or `order sessions`: the numbers of the logs' calls, from 1, in an order that was found, or how far
 //!   the search came; then no logs are left
