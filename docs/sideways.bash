@@ -10,16 +10,17 @@ _sideways() {
     run:--output) COMPREPLY=($(compgen -W "lines csv json table" -- "$word")); return ;;
     describe:--output) COMPREPLY=($(compgen -W "table json" -- "$word")); return ;;
     order:--by) COMPREPLY=($(compgen -W "times sessions" -- "$word")); return ;;
+    order:--keys) COMPREPLY=($(compgen -W "counted any" -- "$word")); return ;;
     import:--times) COMPREPLY=($(compgen -W "seconds days text" -- "$word")); return ;;
     import:--long) COMPREPLY=($(compgen -W "cut drop number" -- "$word")); return ;;
     import:--ragged) COMPREPLY=($(compgen -W "fill" -- "$word")); return ;;
-    *:--table | *:--script | *:--history | *:--dictionary | *:--where) COMPREPLY=($(compgen -f -- "$word")); return ;;
+    *:--table | *:--script | *:--history | *:--dictionary | *:--where | *:--from-logs) COMPREPLY=($(compgen -f -- "$word")); return ;;
     esac
     case ${COMP_WORDS[1]} in
     run) COMPREPLY=($(compgen -W "--table --script -e --budget --maps --cuts --limit --threads --stats --times --quiet --all-faults --output --history -h --help" -- "$word")) ;;
-    check) COMPREPLY=($(compgen -W "--explain -h --help" -- "$word") $(compgen -f -- "$word")) ;;
+    check) COMPREPLY=($(compgen -W "--explain --from-logs -h --help" -- "$word") $(compgen -f -- "$word")) ;;
     describe) COMPREPLY=($(compgen -W "--output --all-faults -h --help" -- "$word") $(compgen -f -- "$word")) ;;
-    order) COMPREPLY=($(compgen -W "--table --by --slack --states --limit --where --quiet -h --help" -- "$word") $(compgen -f -- "$word")) ;;
+    order) COMPREPLY=($(compgen -W "--table --by --keys --slack --states --limit --where --quiet -h --help" -- "$word") $(compgen -f -- "$word")) ;;
     import) COMPREPLY=($(compgen -W "--columns --rename --kind --times --empty --null --long --dictionary --sample --ragged --delimiter --no-header -h --help" -- "$word") $(compgen -f -- "$word")) ;;
     explain) COMPREPLY=($(compgen -W "-h --help" -- "$word")) ;;
     esac

@@ -172,10 +172,49 @@ class Cases:
             if (done.returncode, done.stderr) != (3, b"sideways: refused 13\n"):
                 raise Wrong("WRONG: replies as JSON to a full device: %r" % (done,))
 
+    # Orders of logs' calls, and from which records the entries came
+
+    def logs(self, key):
+        """Two logs, in which the first insert is given this key."""
+        rows = "1: 7\n2: 8\n3: 5\n%s: 1\n(4 rows)" % key
+        (self.folder / "one.csv").write_text('session,start,end,call,reply\n1,0,1,"insert 5, 1, 1",key %s\n1,2,3,select b where a < 13,"%s"\n'
+                                             % (key, rows))
+        (self.folder / "two.csv").write_text("session,start,end,call,reply\n2,4,5,delete %s,removed\n" % key)
+
+    def history(self, key):
+        entries = [{"call": "insert 5, 1, 1", "reply": ["key %s" % key], "session": 1},
+                   {"call": "select b where a < 13", "reply": ["1: 7", "2: 8", "3: 5", "%s: 1" % key, "(4 rows)"], "session": 1},
+                   {"call": "delete %s" % key, "reply": ["removed"], "session": 2}]
+        rows = [[12, 7, 1], [3, 8, 0], [12, 5, 1], [20, 2, 0]]
+        whole = {"attributes": ["a:int", "b:int", "c:int"], "entries": entries, "format": 1, "limit": 1048576, "rows": rows}
+        return json.dumps(whole, sort_keys=True, separators=(",", ":"))
+
+    def origins(self):
+        self.logs(5)
+        self.case("an order", ["order", "--table", "t.csv", "--where", "w.csv", "one.csv", "two.csv"], 0, self.history(5), "")
+        (self.folder / "h.json").write_text(self.history(5).replace("5: 1", "5: 2"))
+        told = ["not legal: entry 2", "entry 2, session 1: select b where a < 13", "given, line 4 of 5: 5: 2", "the list's, line 4 of 5: 5: 1",
+                "its rows were changed last by", "  entry 1, session 1: insert 5, 1, 1"]
+        self.case("why a history is not legal", ["check", "h.json", "--explain"], 1, "\n".join(told) + "\n", "")
+        told.insert(2, "  from one.csv record 2")
+        told.append("    from one.csv record 1")
+        self.case("and from which records", ["check", "h.json", "--explain", "--from-logs", "w.csv"], 1, "\n".join(told) + "\n", "")
+        self.case("and from a list that is none", ["check", "h.json", "--explain", "--from-logs", "none.csv"], 2, "", ANY)
+        self.refused("records alone", ["check", "h.json", "--from-logs", "w.csv"], "--explain")
+
+    def keys(self):
+        self.logs(9)
+        words = ["order", "--table", "t.csv", "one.csv", "two.csv"]
+        self.case("keys that are counted", words, 1, "",
+                  "no order: 0 of 3 calls were placed at best\nthe next is one.csv record 1, session 1, from 0 to 1: insert 5, 1, 1\n"
+                  "  given: key 9\n  the list gives: key 5\n")
+        self.case("any keys", words + ["--keys", "any"], 0, self.history(5), "")
+        self.refused("keys that are neither", words + ["--keys", "some"], "counted")
+
     # Help
 
     def helps(self):
-        for words in (["--help"], ["run", "--help"], ["check", "--help"], ["describe", "--help"], ["explain", "--help"]):
+        for words in (["--help"], ["run", "--help"], ["check", "--help"], ["order", "--help"], ["describe", "--help"], ["explain", "--help"]):
             got = self.case("the help of %s" % words[0], words, 0, ANY, "")
             if "Examples:\n" not in got[1]:
                 raise Wrong("WRONG: the help of %s has no examples" % words[0])
@@ -196,7 +235,7 @@ def main():
     with tempfile.TemporaryDirectory() as folder:
         cases = Cases(Path(given.program).resolve(), folder)
         try:
-            for part in (cases.inputs, cases.words, cases.descriptions, cases.forms, cases.helps, cases.version):
+            for part in (cases.inputs, cases.words, cases.descriptions, cases.forms, cases.origins, cases.keys, cases.helps, cases.version):
                 part()
         except Wrong as wrong:
             print(wrong)

@@ -23,8 +23,8 @@ use std::rt::{Clock, Env, Files};
 use std::sync::Wait;
 use std::thread::Threads;
 use sw_program::{
-    Description, Form, Limit, Place, Refusal, Run, Script, Settings, Sights, check_path, explain,
-    status, write_fault, write_text,
+    Description, Form, Limit, Place, Refusal, Run, Script, Settings, Sights, Telling, check_path,
+    explain, status, write_fault, write_text,
 };
 use sw_rows::{Counted, Sink};
 
@@ -159,6 +159,14 @@ fn make_run<
     }
 }
 
+/// What is told of a history beside the verdict.
+fn telling_of<'g>(given: &'g ArgMatches<'_>) -> Telling<'g> {
+    Telling {
+        explains: given.get_flag("explain"),
+        origins: given.get_str("from-logs"),
+    }
+}
+
 /// Checks the history file that the words name.
 fn make_check<R: Files + RandomSource + Print>(
     rt: &R,
@@ -166,7 +174,7 @@ fn make_check<R: Files + RandomSource + Print>(
     given: &ArgMatches<'_>,
 ) -> Result<u8, Refusal> {
     match given.get_str("file") {
-        Some(path) => check_path(rt, alloc, path, given.get_flag("explain")),
+        Some(path) => check_path(rt, alloc, path, telling_of(given)),
         None => Ok(2),
     }
 }

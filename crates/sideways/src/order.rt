@@ -21,6 +21,8 @@ Examples:
       one in which each session's calls stand in their order, and no more (sequentially consistent)
   sideways order --table t.csv --slack 2000 --where w.csv log.csv > h.json
       clocks may differ by 2000; w.csv tells from which record each entry came
+  sideways order --table t.csv --keys any log.csv > h.json
+      keys may skip numbers and come in any order; the history has 1, 2, 3 and so on in their place
   sideways check h.json
       says that the history is legal
 
@@ -54,6 +56,18 @@ fn by<'a>(alloc: Global) -> Arg<'a> {
         )
         .default_value("times")
         .value_parser(["times", "sessions"].as_slice())
+        .action(ArgAction::Set)
+}
+
+fn keys<'a>(alloc: Global) -> Arg<'a> {
+    Arg::new(alloc, "keys")
+        .long("keys")
+        .value_name("WHAT")
+        .help(
+            "Which keys inserts are given: counted, one more than the rows ever inserted; any, whatever the store gave, which the history renames to these",
+        )
+        .default_value("counted")
+        .value_parser(["counted", "any"].as_slice())
         .action(ArgAction::Set)
 }
 
@@ -124,6 +138,7 @@ pub(crate) fn order_command<'a>(alloc: Global) -> Result<Command<'a>, AllocError
         .arg(table(alloc))?
         .arg(logs(alloc))?
         .arg(by(alloc))?
+        .arg(keys(alloc))?
         .arg(slack(alloc))?
         .arg(states(alloc))?
         .arg(limit(alloc))?
@@ -144,7 +159,7 @@ fn by_of(given: &ArgMatches<'_>) -> Option<By> {
 fn way_of(given: &ArgMatches<'_>) -> Option<Way> {
     Some(Way {
         by: by_of(given)?,
-        any_keys: false,
+        any_keys: given.get_str("keys")? == "any",
         states: given.get_one::<u64>("states")?,
         limit: Limit::new(given.get_one::<u64>("limit")?)?,
     })

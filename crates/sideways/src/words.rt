@@ -238,6 +238,16 @@ fn check_command<'a>(alloc: Global) -> Result<Command<'a>, AllocError> {
                     "Tells after the verdict why a history is not legal: the entry, its reply and the one that it should have at the first line where they differ, and the entries that changed its rows last",
                 )
                 .action(ArgAction::SetTrue),
+        )?
+        .arg(
+            Arg::new(alloc, "from-logs")
+                .long("from-logs")
+                .value_name("FILE")
+                .help(
+                    "What sideways order --where wrote: tells of each entry that --explain names from which log and record it came",
+                )
+                .requires_arg("explain")?
+                .action(ArgAction::Set),
         )
 }
 

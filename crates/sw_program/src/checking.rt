@@ -2,32 +2,76 @@
 
 ghost use Rattle.std.specs.Prelude.{◌≡◌, ◌⊎◌, IfOk};
 
+use crate::origins::Origins;
 use std::alloc::Global;
 use std::io;
 use std::random::RandomSource;
 use std::rt::Files;
 use sw_cli::{check_file, explain_file};
 use sw_files::read_file;
-use sw_rows::{Counted, Refusal, TextKey};
+use sw_rows::{Counted, Refusal, Sink, TextKey};
 
-/// Reads a history file and writes the verdict on it, with an explanation of a history that is not legal where that is
-/// asked; answers the exit status, 0 where it is legal, else 1.
+/// What is told of a history beside the verdict.
+#[derive(Clone, Copy)]
+pub struct Telling<'a> {
+    /// Whether it is told of a history that is not legal why.
+    pub explains: bool,
+    /// Where it stands from which records of logs the entries came, if it is to be told.
+    pub origins: Option<&'a str>,
+}
+
+/// From where entries came, as a file has it, if there is one.
+fn origins_of<R: Files>(rt: &R, alloc: Global, path: Option<&str>) -> Result<Origins, Refusal> {
+    let Some(path) = path else {
+        return Ok(Origins::none(alloc));
+    };
+    let bytes = read_file(rt, alloc, path)?;
+    match Origins::read(alloc, bytes.as_slice()) {
+        Ok(origins) => Ok(origins),
+        Err(_) => Err(Refusal::NoMemory),
+    }
+}
+
+/// Writes the verdict on a history with an explanation, and from where the entries came that it names.
+fn explain_from<W: Sink>(
+    alloc: Global,
+    key: TextKey,
+    bytes: &[u8],
+    origins: &Origins,
+    out: &mut W,
+) -> Result<u8, Refusal>
+    ensures { IfOk result (λ status. (status ≡ 0) ⊎ (status ≡ 1)) }
+{
+    let mut told = Counted::new(Vec::new(alloc));
+    let status = explain_file(alloc, key, bytes, &mut told)?;
+    let Ok(text) = String::from_utf8_lossy(alloc, told.inner.as_slice()) else {
+        return Err(Refusal::NoMemory);
+    };
+    match origins.write(text.as_str(), out) {
+        Ok(()) => Ok(status),
+        Err(e) => Err(e),
+    }
+}
+
+/// Reads a history file and writes the verdict on it, and what else is told of it; answers the exit status, 0 where it is
+/// legal, else 1.
 ///
-/// Refused `Input` where the file cannot be opened or read, or the system gives no random bytes for the key of texts, as
+/// Refused `Input` where a file cannot be opened or read, or the system gives no random bytes for the key of texts, as
 /// `check_file` refuses its bytes, and `Output` where the verdict cannot be written.
 pub fn check_path<R: Files + RandomSource + Print>(
     rt: &R,
     alloc: Global,
     path: &str,
-    explains: bool,
+    telling: Telling<'_>,
 ) -> Result<u8, Refusal>
     ensures { IfOk result (λ status. (status ≡ 0) ⊎ (status ≡ 1)) }
 {
     let bytes = read_file(rt, alloc, path)?;
     let key = TextKey::new(rt)?;
     let mut out = Counted::new(io::writer(rt));
-    if explains {
-        explain_file(alloc, key, bytes.as_slice(), &mut out)
+    if telling.explains {
+        let origins = origins_of(rt, alloc, telling.origins)?;
+        explain_from(alloc, key, bytes.as_slice(), &origins, &mut out)
     } else {
         check_file(alloc, key, bytes.as_slice(), &mut out)
     }

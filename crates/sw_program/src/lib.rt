@@ -10,6 +10,7 @@ mod flaws;
 mod importing;
 mod inputs;
 mod ordering;
+mod origins;
 mod running;
 mod seeing;
 mod settings;
@@ -17,7 +18,7 @@ mod shaping;
 mod stacks;
 mod wording;
 
-pub use checking::check_path;
+pub use checking::{Telling, check_path};
 pub use clash::Clash;
 pub use describing::Description;
 pub use explaining::explain;
