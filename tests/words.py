@@ -89,6 +89,8 @@ class Cases:
         made("a byte order mark", b"\xef\xbb\xbfa,b\n1,2\n", ints, ["a:int", "b:int"])
         made("lines that end in CR LF", b"a,b\r\n1,2\r\n", ints, ["a:int", "b:int"])
         made("semicolons", b"a;b\n1;2\n", ints, ["a:int", "b:int"], ["--delimiter", ";"])
+        made("semicolons that divide nothing", b"a;b\n1;2\n", "a_b:text\n1;2\n",
+             ["a_b:text; heading `a;b`", "one column, whose heading has a divider: --delimiter ';' divides there"])
         made("headings that stand twice", b"a,a,a\n1,2,3\n", "a:int,a_2:int,a_3:int\n1,2,3\n",
              ["a:int", "a_2:int; heading `a`", "a_3:int; heading `a`"])
         made("a header alone", b"a,b\n", "a:text,b:text\n", ["a:text", "b:text"], rows=(0, 0))
@@ -97,15 +99,16 @@ class Cases:
              ["--long", "cut"])
         wide = b"\n".join([b",".join(b"c%d" % k for k in range(5000)), b",".join(b"%d" % k for k in range(5000)), b""])
         got = self.case("5,000 columns", ["import", "-", "--columns", "c4999,1"], 0, "c4999:int,c0:int\n4999,0\n", ANY, wide)
-        if "column 4999 (c4998)" not in got[2]:
-            raise Wrong("WRONG: not all columns that are not written are told")
+        if not got[2].endswith(" and 4974 more\n"):
+            raise Wrong("WRONG: how many columns are not written is not told: %r" % got[2][-80:])
         ragged = "--ragged fill takes fields that are missing at the end for empty ones"
         refused("an empty file", b"", "there is no record, and so no heading")
         refused("empty lines", b"\n\n\n", "there is no record, and so no heading")
         refused("a record too long", b"a,b\n1,2,3\n", "line 2: 3 fields, and the header has 2; " + ragged)
         refused("a record too short, behind two lines", b'a,b\n"x\ny",1\n1\n', "line 4: 1 fields, and the header has 2; " + ragged)
         refused("a quote that is not closed", b'a,b\n"x,1\n2,3\n', "line 2: 1 fields, and the header has 2; " + ragged)
-        refused("Latin-1", b"name,n\nJos\xe9,1\n", "texts that are not UTF-8: 1 in column 1 (name), the first in line 2")
+        refused("Latin-1", b"name,n\nJos\xe9,1\n", "texts that are not UTF-8: 1 in column 1 (name), the first in line 2; iconv -f LATIN1 -t UTF-8 makes UTF-8 "
+                "of a file in Latin-1")
         refused("more columns than eight", wide, "more than 8 columns are asked for, and a table has at most 8",
                 ["--columns", "1,2,3,4,5,6,7,8,9"])
 

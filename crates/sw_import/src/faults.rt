@@ -137,7 +137,7 @@ pub enum Fault {
     #[error("texts of more than 64 bytes, or with bytes below 32 or 127: {0}; choose: --long cut writes the longest beginning that can be a text, --long drop leaves their rows out, --long number writes numbers that stand for the texts")]
     Longs(Lacks),
     /// Texts are not UTF-8.
-    #[error("texts that are not UTF-8: {0}")]
+    #[error("texts that are not UTF-8: {0}; iconv -f LATIN1 -t UTF-8 makes UTF-8 of a file in Latin-1")]
     Encodings(Lacks),
     /// A cell is none of the kind that was asked for its column.
     #[error("line {line}, {at}: `{cell}` is no {kind}")]

@@ -51,19 +51,59 @@ fn push_column(text: &mut String, planned: &Planned, done: &Done) -> Result<(), 
     Ok(())
 }
 
+/// How many columns that were not written are told one by one.
+const MOST_OTHERS: usize = 24;
+
 /// Adds which columns were not written.
 fn push_others(text: &mut String, made: &Imported) -> Result<(), AllocError> {
     if made.others.is_empty() {
         return Ok(());
     }
     write!(text, "  not written:")?;
+    let all = made.others.as_slice();
+    let (first, others) = all.split_at(all.len().min(MOST_OTHERS));
     let mut divider = "";
-    for at in made.others.as_slice() {
+    for at in first {
         write!(text, "{divider} {at}")?;
         divider = ",";
     }
+    let more = others.len();
+    if more > 0 {
+        write!(text, " and {more} more")?;
+    }
     text.push('\n')?;
     Ok(())
+}
+
+/// The byte in a heading that may have been meant to divide values, as the command line takes it.
+fn divider_in(heading: &str) -> Option<&'static str> {
+    let bytes = heading.as_bytes();
+    if bytes.contains(&b';') {
+        Some(";")
+    } else if bytes.contains(&b'\t') {
+        Some("\\t")
+    } else if bytes.contains(&b'|') {
+        Some("|")
+    } else {
+        None
+    }
+}
+
+/// Adds that the values may be divided by another byte, where there is one column and its heading has such a byte.
+fn push_divider(text: &mut String, made: &Imported) -> Result<(), AllocError> {
+    let [planned] = made.plan.as_slice() else {
+        return Ok(());
+    };
+    if !made.others.is_empty() {
+        return Ok(());
+    }
+    match divider_in(planned.column.heading.as_str()) {
+        Some(word) => write!(
+            text,
+            "  one column, whose heading has a divider: --delimiter '{word}' divides there\n"
+        ),
+        None => Ok(()),
+    }
 }
 
 /// What was done for a table of the values of a file, a line for the whole and one for each column.
@@ -79,6 +119,7 @@ pub fn told(alloc: Global, file: &str, made: &Imported) -> Result<String, AllocE
         push_column(&mut text, planned, done)?;
     }
     push_others(&mut text, made)?;
+    push_divider(&mut text, made)?;
     Ok(text)
 }
 
