@@ -41,7 +41,7 @@ fn table<'a>(alloc: Global) -> Arg<'a> {
 fn logs<'a>(alloc: Global) -> Arg<'a> {
     Arg::new(alloc, "logs")
         .value_name("LOG")
-        .help("The logs: of a session each or of several, one file or many")
+        .help("The logs: of a session each or of several, one file or many; - is standard input")
         .required(true)
         .num_args(1..)
         .action(ArgAction::Append)

@@ -43,7 +43,12 @@ fn explain_from<W: Sink>(
     ensures { IfOk result (λ status. (status ≡ 0) ⊎ (status ≡ 1)) }
 {
     let mut told = Counted::new(Vec::new(alloc));
-    let status = explain_file(alloc, key, bytes, &mut told)?;
+    let status = match explain_file(alloc, key, bytes, &mut told) {
+        Ok(status) => status,
+        // a list in memory refuses bytes for want of memory alone
+        Err(Refusal::Output) => return Err(Refusal::NoMemory),
+        Err(e) => return Err(e),
+    };
     let Ok(text) = String::from_utf8_lossy(alloc, told.inner.as_slice()) else {
         return Err(Refusal::NoMemory);
     };

@@ -5,6 +5,7 @@ ghost use Rattle.sw_logs.specs.Openings.{IsOpening};
 ghost use Rattle.sw_logs.specs.Orders.{AllFit};
 
 use crate::flaws;
+use crate::inputs::Place;
 use crate::seeing::{Seen, Sights};
 use crate::settings::Limit;
 use std::alloc::Global;
@@ -34,9 +35,9 @@ pub struct Way {
 /// An order that is asked for: the table, the logs, and how it is looked for.
 #[derive(Clone, Copy)]
 pub struct Ordering<'a> {
-    /// Where the table is.
+    /// Where the table is; `-` is standard input.
     pub table: &'a str,
-    /// Where the logs are.
+    /// Where the logs are; `-` is standard input.
     pub logs: &'a [&'a str],
     pub way: Way,
     /// Where it is written from which file and record each entry came, if anywhere.
@@ -73,7 +74,7 @@ fn refused(alloc: Global, path: &str, bytes: &[u8], fault: &Fault) -> Unread {
 
 /// The bytes of a log.
 fn bytes_of<R: Files>(rt: &R, alloc: Global, log: u64, path: &str) -> Result<Vec<u8>, Unread> {
-    match read_file(rt, alloc, path) {
+    match read_file(rt, alloc, Place::new(path).path()) {
         Ok(bytes) => Ok(bytes),
         Err(Refusal::Input) => Err(refused(alloc, path, &[], &Fault::Input { log })),
         Err(refusal) => Err(Unread::Refused(refusal)),
@@ -132,7 +133,7 @@ fn open_table<R: Files + RandomSource>(
 ) -> Result<Opening, Refusal>
     ensures { IfOk result IsOpening }
 {
-    let file = open_input(rt, ordering.table)?;
+    let file = open_input(rt, Place::new(ordering.table).path())?;
     let key = TextKey::new(rt)?;
     read_opening(alloc, key, &mut Counted::new(file), ordering.way.limit.rows)
 }
