@@ -17,7 +17,6 @@ step() {
 step sh "$top/bench/crates.sh"
 step python3 "$top/bench/claims.py" --check
 step python3 "$top/bench/pages.py" --check
-step sh "$top/bench/statuses.sh"
 step python3 "$top/tests/words.py"
 step python3 "$top/tests/headers.py"
 step python3 "$top/tests/imports.py" "$(program sideways)"
