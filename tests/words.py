@@ -280,6 +280,10 @@ class Cases:
                   "no order: 0 of 3 calls were placed at best\nthe next is one.csv record 1, session 1, from 0 to 1: insert 5, 1, 1\n"
                   "  given: key 9\n  the list gives: key 5\n")
         self.case("any keys", words + ["--keys", "any"], 0, self.history(5), "")
+        one = (self.folder / "one.csv").read_bytes()
+        self.case("a log of standard input", ["order", "--table", "t.csv", "-", "two.csv", "--keys", "any"], 0, self.history(5), "", one)
+        self.case("the table of standard input", ["order", "--table", "-", "one.csv", "two.csv", "--keys", "any"], 0, self.history(5), "", TABLE)
+        self.case("a log of standard input that is none", ["order", "--table", "t.csv", "-"], 2, "", ANY, b"x\n")
         self.refused("keys that are neither", words + ["--keys", "some"], "counted")
 
     # Help
