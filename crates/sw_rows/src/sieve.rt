@@ -82,8 +82,8 @@ impl<'a> Sieve<'a> {
         ensures { (d : Row) → result ≡ is_match self.now (P.flags rows.now) (P.rows rows.now) place d }
     {
         let cell = rows.cell(place, self.attr);
-        rows.is_live(place)
-            && self.takes_cell(cell)
+        self.takes_cell(cell)
+            && rows.is_live(place)
             && (self.conds.len() <= 1 || meets_at(rows, place, self.conds))
     }
 }

@@ -55,6 +55,6 @@ impl Span {
     pub(crate) fn takes(self, cell: i64) -> bool
         ensures { result ≡ in_span self.low self.high cell }
     {
-        self.low <= cell && cell <= self.high
+        (self.low <= cell) & (cell <= self.high)
     }
 }
