@@ -1,7 +1,5 @@
 #!/usr/bin/env bash
-# What the gate runs after `rt ci`, over the programs that it built: each growth refused in turn, maps that refuse, ends that lose nothing,
-# what the command line takes and tells, packages, texts that were picked to collide, and pages that are made from the sources or from the
-# program.
+# What the gate runs after `rt ci`, over the programs that it built (tests/README.md).
 # Some minutes; ends with 1 at the first that fails.
 #
 #     tests/after.sh
@@ -14,10 +12,10 @@ step() {
     "$@" || { echo "after: FAILED: $*" >&2; exit 1; }
 }
 
-step sh "$top/bench/crates.sh"
+step sh "$top/tests/crates.sh"
 step python3 "$top/bench/claims.py" --check
 step python3 "$top/bench/pages.py" --check
-step sh "$top/bench/statuses.sh"
+step sh "$top/tests/statuses.sh"
 step python3 "$top/tests/words.py"
 step python3 "$top/tests/headers.py"
 step python3 "$top/tests/imports.py" "$(program sideways)"
@@ -25,7 +23,8 @@ step python3 "$top/tests/ends.py"
 step sh "$top/tests/packages.sh" "$(program sideways)"
 step python3 "$top/tests/collisions.py" "$(program sideways)"
 step python3 "$top/tests/long_records.py" "$(program sideways)"
-step python3 "$top/bench/hostile/calls.py" --program "$(program sw_trial_calls)"
-step python3 "$top/bench/hostile/sessions.py" --program "$(program sw_trial_sessions)"
-step python3 "$top/bench/hostile/growths.py" --program "$(program sideways)"
+step python3 "$top/tests/most_texts.py" "$(program sideways)"
+step python3 "$top/tests/hostile/calls.py" --program "$(program sw_trial_calls)"
+step python3 "$top/tests/hostile/sessions.py" --program "$(program sw_trial_sessions)"
+step python3 "$top/tests/hostile/growths.py" --program "$(program sideways)"
 echo "after: all passed" >&2

@@ -210,7 +210,7 @@ refused_in_turn() {
 }
 
 printf 'select b where a >= 10\ninsert 1, 2, 3\ndelete where b > 5\n---\ncount\n' >calls.txt
-if ${CC:-cc} -O1 -shared -fPIC -o refusing.so "$top/bench/refusing.c" -ldl 2>/dev/null; then
+if ${CC:-cc} -O1 -shared -fPIC -o refusing.so "$top/tests/refusing.c" -ldl 2>/dev/null; then
     refused_in_turn 'a run' 0 "$program" run --table t.csv --script calls.txt --history turn.json
     refused_in_turn 'a check' 0 "$program" check legal.json
     refused_in_turn 'a check of what is not legal' 1 "$program" check illegal.json

@@ -131,7 +131,7 @@ def under_limits(rng, begin, table, script, step, count):
 def preload(work, name="refusing"):
     """The library that refuses allocations, or one of another name."""
     library = os.path.join(work, name + ".so")
-    source = str(TOP / "bench" / (name + ".c"))
+    source = str(TOP / "tests" / (name + ".c"))
     subprocess.run(["cc", "-O1", "-shared", "-fPIC", "-o", library, source, "-ldl"], check=True)
     return library
 

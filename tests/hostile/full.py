@@ -3,7 +3,7 @@
 lengths round the one that still fits are written there. What fits is there whole. Where it does not fit, the run ends with status 3 and
 `refused 13`: of an output just the bytes that fitted are there; of a history nothing is, or the one that stood there, and no file beside it.
 Then: a history in place of one that stands there, an output and a history side by side, lines on standard error, a file system that takes no
-file more, and the same run when there is room again. It needs the right to mount: as root, or by `unshare -rm python3 bench/hostile/full.py`.
+file more, and the same run when there is room again. It needs the right to mount: as root, or by `unshare -rm python3 tests/hostile/full.py`.
 Ends with 1 and the first case that is wrong; with 2, and nothing tried, where it may not mount."""
 import contextlib, signal, subprocess, sys, tempfile, time
 from collections import Counter
