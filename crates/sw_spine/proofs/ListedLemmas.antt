@@ -14,10 +14,10 @@ use Rattle.sw_spine.specs.Listed.{IsListed, MeetsAllLive, flags_at, listed, rows
 use Rattle.sw_spine.specs.Table.{is_numbered}
 use Rattle.sw_spine.proofs.StoreLemmas.{numbered_at, numbered_rises}
 
-abbrev no_row : Row
+abbrev pub no_row : Row
 no_row = record { key = 0; cells = [] }
 
-abbrev Inside : ℕ → List ℕ → Type 0
+abbrev pub Inside : ℕ → List ℕ → Type 0
 Inside n places = AllByRecursion (λ p. p < n) places
 
 -- ---- what stands at places
@@ -29,10 +29,10 @@ module _ {X : Type 0} where
   at-more d xs x (p ∷ ps) h = rw (get_or_append_left xs (x ∷ []) d p h.0) (ap (λ l. get_or xs p d ∷ l) (at-more d xs x ps h.1))
 
   -- all places from 0 on have the list
-  at-all : (d : X) (xs : List X) (n : ℕ) → length xs ≡ n → map (λ p. get_or xs p d) (range_with_len 0 n) ≡ xs
+  pub at-all : (d : X) (xs : List X) (n : ℕ) → length xs ≡ n → map (λ p. get_or xs p d) (range_with_len 0 n) ≡ xs
   at-all d xs n long = sym (fill_by_all (λ p. get_or xs p d) xs n d long (λ k lt. refl))
 
-inside-range : (n from many : ℕ) → from + many ≤ n → Inside n (range_with_len from many)
+pub inside-range : (n from many : ℕ) → from + many ≤ n → Inside n (range_with_len from many)
 inside-range n from zero le = tt
 inside-range n from (suc many) le = (omega (arith, le), inside-range n (from + 1) many (omega (arith, le)))
 
@@ -44,7 +44,7 @@ inside-more : (n m : ℕ) (ps : List ℕ) → n ≤ m → Inside n ps → Inside
 inside-more n m [] le h = tt
 inside-more n m (p ∷ ps) le h = let lt = h.0 in (omega (arith, lt, le), inside-more n m ps le h.1)
 
-inside-kept : (n : ℕ) (fs : List Bool) (ps : List ℕ) → Inside n ps → Inside n (kept fs ps)
+pub inside-kept : (n : ℕ) (fs : List Bool) (ps : List ℕ) → Inside n ps → Inside n (kept fs ps)
 inside-kept n [] ps h = tt
 inside-kept n (b ∷ fs) [] h = tt
 inside-kept n (true ∷ fs) (p ∷ ps) h = (h.0, inside-kept n fs ps h.1)
