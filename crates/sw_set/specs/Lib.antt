@@ -1,6 +1,7 @@
 pub mod Needs
 pub mod Shelf
 pub mod Aligned
+pub mod Aligning
 pub mod Sought
 pub mod Boxed
 pub mod Prepared

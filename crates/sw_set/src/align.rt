@@ -7,6 +7,7 @@ ghost use Rattle.sw_kernel.specs.Tapes.{IsTape, peak_from};
 ghost use Rattle.sw_map.specs.Held.{KeysFit};
 ghost use Rattle.sw_map.specs.Lawful.{IsAligned, IsLawful};
 ghost use Rattle.sw_rows.specs.Gives.{MemoryAside};
+ghost use Rattle.sw_set.specs.Aligning.{AlignsBoxes, HasAlignedOr, MayAlign};
 ghost use Rattle.sw_set.specs.Aligned.{HasRoomWhereNeeded, IsAtEnd, IsSameMap, IsStalled};
 
 use sw_map::{CrackerMap, Tail};
@@ -62,4 +63,16 @@ pub(crate) fn align_box<M: CrackerMap>(
         return Ok(());
     }
     align_map(it, tape)
+}
+
+/// Aligns boxes by a function that does so.
+pub(crate) fn align_boxes<
+    M: CrackerMap,
+    F: Fn(u8, &mut [M], &[Tail], &Tape) -> Result<(), Refusal>,
+>(align: &F, attribute: u8, boxes: &mut [M], tails: &[Tail], tape: &Tape) -> Result<(), Refusal>
+    requires aligns { AlignsBoxes F.Fn align.now M.held }
+    requires may { MayAlign M.held attribute tails.now tape.now boxes.old }
+    ensures { HasAlignedOr result M.held attribute tails.now tape.now boxes.old boxes.new }
+{
+    align(attribute, boxes, tails, tape)
 }

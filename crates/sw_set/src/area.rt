@@ -22,11 +22,11 @@ ghost use Rattle.sw_set.specs.Outcomes.{AreAppendedOr, CameToWaitOr, HasBegunAne
 ghost use Rattle.sw_set.specs.Prepared.{ComesFromMap, IsPreparedFor, IsReady, stands_if};
 ghost use Rattle.sw_set.specs.Boxed.{HasGrownAt, IsCleared, IsFree, IsFreshBut, IsOneCleared, IsSameButBoxes, IsShed};
 ghost use Rattle.sw_set.specs.Shelf.{AreaState, IsAreaLawful, IsSameArea, LiesIn, MayComeAfterLoad, MayMerge, MayMergeAll, MayReceiveAll, Rises, arranged_rows, key_of, lies_within, loaded_area, rows_in, rows_left_by, tape_rows, with_box, with_inbox};
+ghost use Rattle.sw_set.specs.Aligning.{AlignsBoxes};
 ghost use Rattle.sw_set.specs.Aligned.{AreSameMaps, HasRoomWhereNeeded, IsAtEnd, IsStalled};
 ghost use Rattle.sw_set.specs.Sought.{AreAllBlank, EndsBy, FindsUnless, HasCursor, HasReachedOr, HaveSomeMap, HoldsMap, IsCrackedAt, IsNeeded, IsNeededIfMap, IsUncracked, IsUnneeded, LacksMap, Shows, TellsUnless, shown_at};
 
-use crate::align::{align_map, is_needed};
-use crate::at_once::align_at_once;
+use crate::align::{align_boxes, align_map, is_needed};
 use crate::collect::collect_from;
 use crate::figures::{cells_among, maps_among};
 use crate::live::LiveRows;
@@ -36,7 +36,6 @@ use crate::ready::Ready;
 use std::alloc::Global;
 use std::marker::Model;
 use std::mem;
-use std::thread::Threads;
 use sw_map::{CrackerMap, Tail};
 use sw_rows::{Bound, PackedRows, Query, Refusal, Reply, Row, Update};
 use sw_tape::{Entry, Tape};
@@ -663,16 +662,21 @@ impl<M: CrackerMap> Area<M> {
         )
     }
 
-    /// Steps every box that has a map of the tails to the tape's end, those that lack entries at once.
-    pub(crate) fn align<R: Threads + Sync>(&mut self, rt: &R, tails: &[Tail]) -> Result<(), Refusal>
+    /// Aligns by a function every box that has a map of the tails: it stands at the tape's end then.
+    pub(crate) fn align_by<F: Fn(u8, &mut [M], &[Tail], &Tape) -> Result<(), Refusal>>(
+        &mut self,
+        align: &F,
+        tails: &[Tail],
+    ) -> Result<(), Refusal>
+        requires aligns { AlignsBoxes F.Fn align.now M.held }
         requires room { All (HasRoomWhereNeeded tails.now self.old.tape) self.old.boxes }
         ensures same { IsSameArea self.old self.new }
         ensures tape { self.new.tape ≡ self.old.tape }
         ensures maps { AreSameMaps self.old.boxes self.new.boxes }
         ensures ends { MemoryAside result (λ _. All (IsAtEnd tails.now self.old.tape) self.new.boxes) }
     {
-        align_at_once(
-            rt,
+        align_boxes(
+            align,
             self.attribute,
             self.boxes.as_mut_slice(),
             tails,

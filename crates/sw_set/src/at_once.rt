@@ -54,7 +54,7 @@ fn lacks<M: CrackerMap>(it: &M, tails: &[Tail], end: usize) -> bool
 }
 
 /// The first box, from a place on, whose needed map lacks entries.
-fn find_lacking<M: CrackerMap>(
+pub(crate) fn find_lacking<M: CrackerMap>(
     boxes: &[M],
     from: usize,
     tails: &[Tail],
@@ -114,7 +114,7 @@ fn step_lacking<R: Threads + Sync, M: CrackerMap>(
 
 /// Steps every box that has a needed map to the tape's end, those that lack much at once. Refused `NoMemory`, a box whose
 /// step was refused stands at the cursor that it reached, and all others at the end.
-pub(crate) fn align_at_once<R: Threads + Sync, M: CrackerMap>(
+pub fn align_at_once<R: Threads + Sync, M: CrackerMap>(
     rt: &R,
     attribute: u8,
     boxes: &mut [M],

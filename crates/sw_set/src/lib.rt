@@ -9,6 +9,7 @@ mod choice;
 mod collect;
 mod figures;
 mod finding;
+mod in_turn;
 mod lacking;
 mod live;
 mod making;
@@ -23,7 +24,9 @@ mod totals;
 mod window;
 
 pub use area::Area;
+pub use at_once::align_at_once;
 pub use collect::nothing;
+pub use in_turn::align_in_turn;
 pub use merging::MOST_REMOVALS_MERGED;
 pub use needs::needed_maps;
 pub use pick::older;

@@ -10,10 +10,12 @@ ghost use Rattle.sw_set.specs.Needs.{head_in};
 ghost use Rattle.sw_set.specs.Prepared.{ComesFromMap, HasTooFew, IsHindered, IsOfBudget, IsPartlyNoted, IsPrepared, IsShort, IsTold, IsToldTooFew, StandReady, cells_asked, cells_for, is_touched, stand_both};
 ghost use Rattle.sw_set.specs.Boxed.{IsFoundAt, LacksOne};
 ghost use Rattle.sw_set.specs.Preparing.{HasNotedOr, HasPreparedOr, HasRangedOr};
+ghost use Rattle.sw_set.specs.Aligning.{AlignsBoxes, HasAlignedOr, MayAlign};
 ghost use Rattle.sw_set.specs.Shelf.{IsSameArea, rows_in};
 ghost use Rattle.sw_set.specs.Sought.{AreAllNeeded};
 
 use crate::area::Area;
+use crate::at_once::align_at_once;
 use crate::making::make_all;
 use crate::needs::{
     edge, lower_from, lower_of, needed_maps, needed_tails, touches, upper_of, upper_upto,
@@ -22,7 +24,7 @@ use crate::ready::Ready;
 use std::thread::Threads;
 use sw_map::{CrackerMap, Tail};
 use sw_rows::{Bound, Query, Refusal, Reply};
-use sw_tape::MAX_ENTRIES;
+use sw_tape::{MAX_ENTRIES, Tape};
 
 /// Whether both bounds, where they are there, stand in ranges of the tape.
 fn all_stand<M: CrackerMap>(area: &Area<M>, lower: Option<Bound>, upper: Option<Bound>) -> bool
@@ -105,14 +107,16 @@ fn range_of<M: CrackerMap>(
     Ready { from, upto }
 }
 
-/// Logs the range, makes the maps, aligns them and finds the places of the bounds, where there are boxes enough.
-fn prepare_range<R: Threads + Sync, M: CrackerMap>(
-    rt: &R,
+/// Logs the range, makes the maps, aligns them by a function and finds the places of the bounds, where there are boxes
+/// enough.
+fn prepare_range<M: CrackerMap, F: Fn(u8, &mut [M], &[Tail], &Tape) -> Result<(), Refusal>>(
+    align: &F,
     area: &mut Area<M>,
     lower: Option<Bound>,
     upper: Option<Bound>,
     tails: &[Tail],
 ) -> Result<Ready, Refusal>
+    requires aligns { AlignsBoxes F.Fn align.now M.held }
     requires key { Contains tails.now Key }
     requires enough { length tails.now ≤ length area.old.boxes }
     ensures lacking { IfErr result (λ e. IsOfBudget e → LacksOne tails.now (cells_asked area.new) area.new.boxes) }
@@ -126,7 +130,7 @@ fn prepare_range<R: Threads + Sync, M: CrackerMap>(
     let cells = cells_for(area.peak());
     make_all(area, tails, cells)?;
     area.known();
-    area.align(rt, tails)?;
+    area.align_by(align, tails)?;
     Ok(range_of(area, lower, upper, tails))
 }
 
@@ -157,6 +161,31 @@ impl<M: CrackerMap> Area<M> {
         ensures same { IsSameArea self.old self.new }
         ensures ends { HasPreparedOr result query.now self.old self.new }
     {
+        let align = |attribute: u8, boxes: &mut [M], tails: &[Tail], tape: &Tape| -> Result<
+            (),
+            Refusal,
+        >
+            requires { MayAlign M.held attribute tails.now tape.now boxes.now }
+            ensures { HasAlignedOr result M.held attribute tails.now tape.now boxes.entry.now boxes.exit.now }
+        { align_at_once(rt, attribute, boxes, tails, tape) };
+        self.prepare_by(&align, query)
+    }
+
+    /// The same, where the maps are aligned by a function that does so: `align_at_once` with a runtime, or `align_in_turn`.
+    pub fn prepare_by<F: Fn(u8, &mut [M], &[Tail], &Tape) -> Result<(), Refusal>>(
+        &mut self,
+        align: &F,
+        query: &Query,
+    ) -> Result<Ready, Refusal>
+        requires aligns { AlignsBoxes F.Fn align.now M.held }
+        requires received { self.old.inbox ≡ [] }
+        ensures untouched { is_touched self.old query.now ≡ false → IsOk result × (self.new ≡ self.old) }
+        ensures few { HasTooFew self.old query.now → IsToldTooFew result query.now self.old self.new }
+        ensures hindered { IfErr result (IsHindered query.now self.old self.new) }
+        ensures told { IfErr result (ComesFromMap M.tells) }
+        ensures same { IsSameArea self.old self.new }
+        ensures ends { HasPreparedOr result query.now self.old self.new }
+    {
         self.tick();
         if !self.touches(query) {
             return Ok(Ready { from: 0, upto: 0 });
@@ -176,7 +205,7 @@ impl<M: CrackerMap> Area<M> {
         };
         let lower = lower_from(edge(self.from()), lower_of(&query.conds));
         let upper = upper_upto(edge(self.below()), upper_of(&query.conds));
-        let done = prepare_range(rt, self, lower, upper, tails.as_slice());
+        let done = prepare_range(align, self, lower, upper, tails.as_slice());
         self.stamp(tails.as_slice());
         self.trim();
         done
