@@ -6,6 +6,7 @@ ghost use Rattle.sw_table.specs.Updates.{rows_of};
 ghost use Rattle.sw_rows.specs.declared.refusal.Refusal.TheVariants.{NoMemory};
 ghost use Rattle.sw_table.specs.declared.row.Row.{Row};
 ghost use Rattle.sw_map.specs.Held.{blank};
+ghost use Rattle.sw_set.specs.Aligning.{AlignsBoxes, HasAlignedOr, MayAlign};
 ghost use Rattle.sw_set.specs.Merged.{StandsForSame};
 ghost use Rattle.sw_set.specs.Needs.{head_in};
 ghost use Rattle.sw_set.specs.Shelf.{Rises, key_of};
@@ -30,9 +31,10 @@ use crate::telling::{tell_all, tell_rows};
 use std::alloc::Global;
 use std::marker::Model;
 use std::thread::Threads;
-use sw_map::CrackerMap;
+use sw_map::{CrackerMap, Tail};
 use sw_rows::{PackedRows, Query, Refusal, Reply, Row, Update};
-use sw_set::Area;
+use sw_set::{Area, align_at_once, align_in_turn};
+use sw_tape::Tape;
 use sw_tie::Book;
 
 /// The areas of one attribute: below the first cut, from each cut up to below the next, and from the last upwards.
@@ -211,8 +213,63 @@ impl<M: CrackerMap> Head<M> {
         ensures few { IfOk result (λ r. r.1 ≤ length (touched_of query.now self.old.areas)) }
         ensures refused { IsOkUnless result NoMemory }
     {
+        let align = |attribute: u8, boxes: &mut [M], tails: &[Tail], tape: &Tape| -> Result<
+            (),
+            Refusal,
+        >
+            requires { MayAlign M.held attribute tails.now tape.now boxes.now }
+            ensures { HasAlignedOr result M.held attribute tails.now tape.now boxes.entry.now boxes.exit.now }
+        { align_at_once(rt, attribute, boxes, tails, tape) };
+        self.answer_by(&align, query)
+    }
+
+    /// The same in the caller's thread alone: the maps are stepped one after the other, and no thread is started.
+    pub fn answer_in_turn(&mut self, query: &Query) -> Result<(Reply, usize), Refusal>
+        requires asks { AsksBelow 8 query.now }
+        requires head { head_in query.now.conds ≡ self.old.attribute }
+        ensures same { IsSameHead self.old self.new }
+        ensures areas { AreEach StandsForSame self.old.areas self.new.areas }
+        ensures kept { AreUntouchedKept query.now self.old.areas self.new.areas }
+        ensures answered { IfOk result (λ r. r.0 ≡ answer (rows_of self.old.updates) query.now) }
+        ensures ranged { IfOk result (λ r. r.1 ≡ 0 → All (IsRanged query.now) self.new.areas) }
+        ensures few { IfOk result (λ r. r.1 ≤ length (touched_of query.now self.old.areas)) }
+        ensures refused { IsOkUnless result NoMemory }
+    {
+        let align = |attribute: u8, boxes: &mut [M], tails: &[Tail], tape: &Tape| -> Result<
+            (),
+            Refusal,
+        >
+            requires { MayAlign M.held attribute tails.now tape.now boxes.now }
+            ensures { HasAlignedOr result M.held attribute tails.now tape.now boxes.entry.now boxes.exit.now }
+        { align_in_turn(attribute, boxes, tails, tape) };
+        self.answer_by(&align, query)
+    }
+
+    /// The same, where the maps are aligned by a function that does so.
+    fn answer_by<F: Fn(u8, &mut [M], &[Tail], &Tape) -> Result<(), Refusal>>(
+        &mut self,
+        align: &F,
+        query: &Query,
+    ) -> Result<(Reply, usize), Refusal>
+        requires aligns { AlignsBoxes F.Fn align.now M.held }
+        requires asks { AsksBelow 8 query.now }
+        requires head { head_in query.now.conds ≡ self.old.attribute }
+        ensures same { IsSameHead self.old self.new }
+        ensures areas { AreEach StandsForSame self.old.areas self.new.areas }
+        ensures kept { AreUntouchedKept query.now self.old.areas self.new.areas }
+        ensures answered { IfOk result (λ r. r.0 ≡ answer (rows_of self.old.updates) query.now) }
+        ensures ranged { IfOk result (λ r. r.1 ≡ 0 → All (IsRanged query.now) self.new.areas) }
+        ensures few { IfOk result (λ r. r.1 ≤ length (touched_of query.now self.old.areas)) }
+        ensures refused { IsOkUnless result NoMemory }
+    {
         self.clock = self.clock.saturating_add(1);
-        answer_areas(rt, self.alloc, self.areas.as_mut_slice(), self.clock, query)
+        answer_areas(
+            align,
+            self.alloc,
+            self.areas.as_mut_slice(),
+            self.clock,
+            query,
+        )
     }
 
     /// The plain answer over all rows: the areas that the query touches are merged and scanned. No map is made for it,
