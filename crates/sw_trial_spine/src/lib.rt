@@ -4,6 +4,8 @@
 #[cfg(test)]
 mod bench;
 #[cfg(test)]
+mod indexes;
+#[cfg(test)]
 mod random;
 #[cfg(test)]
 mod tests;

@@ -20,13 +20,24 @@ const TRIALS: &[(u64, u64)] = &[
 
 const SIGNS: [&str; 5] = ["<", "<=", "=", ">=", ">"];
 
+/// The least and the greatest cell.
+const ENDS: [i64; 2] = [i64::MIN, i64::MAX];
+
+/// What a select of a number begins with.
+const NUMBERS: [&str; 4] = ["count", "sum b", "min c", "max a"];
+
 /// A fixed sequence of numbers, and the lines of calls that it makes.
 #[derive(Drop)]
-struct Dice {
+pub(crate) struct Dice {
     state: u64,
 }
 
 impl Dice {
+    /// The sequence of a seed.
+    pub(crate) fn of(seed: u64) -> Dice {
+        Dice { state: seed | 1 }
+    }
+
     /// The next number below a limit, or 0.
     fn roll(&mut self, below: u64) -> u64 {
         let mut x = self.state;
@@ -49,10 +60,48 @@ impl Dice {
         self.push_cond("and", "a", line)
     }
 
+    /// The next cell: one of twelve, or the least or the greatest of all.
+    fn cell(&mut self) -> i64 {
+        match self.roll(10) {
+            0 => ENDS[(self.roll(2) % 2) as usize],
+            _ => (self.roll(12) % 12) as i64,
+        }
+    }
+
     /// A row that comes.
     fn push_row(&mut self, line: &mut String) -> Result<(), AllocError> {
-        let (a, b, c) = (self.roll(12), self.roll(12), self.roll(2));
+        let (a, b, c) = (self.cell(), self.cell(), self.roll(2));
         write!(line, "insert {a}, {b}, {c}")
+    }
+
+    /// Bounds on an attribute: two, which may take no cell, or one cell, or one bound.
+    fn push_bounds(&mut self, line: &mut String) -> Result<(), AllocError> {
+        match self.roll(4) {
+            0 => write!(line, " where a = {} and b < {}", self.cell(), self.cell()),
+            1 => write!(
+                line,
+                " where c < 1 and b > {} and b <= {}",
+                self.cell(),
+                self.cell()
+            ),
+            2 => write!(line, " where b >= {} and b < {}", self.cell(), self.cell()),
+            _ => self.push_cond("where", "a", line),
+        }
+    }
+
+    /// A select of a number.
+    fn push_number(&mut self, line: &mut String) -> Result<(), AllocError> {
+        line.push_str(NUMBERS[(self.roll(4) % 4) as usize])?;
+        self.push_bounds(line)
+    }
+
+    /// A select of rows, or of a number.
+    fn push_select(&mut self, line: &mut String) -> Result<(), AllocError> {
+        if self.roll(2) == 0 {
+            return self.push_number(line);
+        }
+        line.push_str("select a, b, c")?;
+        self.push_bounds(line)
     }
 
     /// A change: a row comes, one goes, or all go that meet a condition or two.
@@ -70,12 +119,38 @@ impl Dice {
             _ => self.push_row(line),
         }
     }
+
+    /// A change, or, as often, a select of a number.
+    fn push_call(&mut self, line: &mut String) -> Result<(), AllocError> {
+        match self.roll(2) {
+            0 => self.push_change(line),
+            _ => self.push_number(line),
+        }
+    }
 }
 
 /// The line of a change.
 fn change_of(alloc: Global, dice: &mut Dice) -> Result<String, Refusal> {
     let mut line = String::new(alloc);
     match dice.push_change(&mut line) {
+        Ok(()) => Ok(line),
+        Err(_) => Err(Refusal::NoMemory),
+    }
+}
+
+/// The line of a select.
+fn select_of(alloc: Global, dice: &mut Dice) -> Result<String, Refusal> {
+    let mut line = String::new(alloc);
+    match dice.push_select(&mut line) {
+        Ok(()) => Ok(line),
+        Err(_) => Err(Refusal::NoMemory),
+    }
+}
+
+/// The line of a change, or of a select of a number.
+pub(crate) fn call_line(alloc: Global, dice: &mut Dice) -> Result<String, Refusal> {
+    let mut line = String::new(alloc);
+    match dice.push_call(&mut line) {
         Ok(()) => Ok(line),
         Err(_) => Err(Refusal::NoMemory),
     }
@@ -94,8 +169,9 @@ fn visit(
 {
     let line = change_of(alloc, dice)?;
     make(alloc, spine, rows, &Step::Change(line.as_str()), text)?;
+    let asked = select_of(alloc, dice)?;
     let line = change_of(alloc, dice)?;
-    let step = Step::Around("select a, b, c where a >= 3", line.as_str());
+    let step = Step::Around(asked.as_str(), line.as_str());
     make(alloc, spine, rows, &step, text)
 }
 
@@ -123,7 +199,7 @@ fn is_legal(alloc: Global, seed: u64, limit: u64) -> Result<bool, Refusal> {
     let mut rows = four_rows(alloc)?;
     let mut spine = opened(alloc, rows.as_slice(), limit)?;
     let mut text = Counted::new(Vec::new(alloc));
-    let mut dice = Dice { state: seed | 1 };
+    let mut dice = Dice::of(seed);
     visit_all(alloc, &mut spine, &mut rows, &mut dice, &mut text)?;
     Ok(spine.into_record().check().is_ok())
 }
