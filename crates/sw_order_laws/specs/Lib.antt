@@ -1,0 +1,4 @@
+pub mod Apart
+pub mod Beginnings
+pub mod Chosen
+pub mod Laws
