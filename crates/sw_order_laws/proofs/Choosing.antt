@@ -19,12 +19,12 @@ use Rattle.sw_logs.specs.declared.opening.Opening.{Opening}
 use Rattle.sw_logs.specs.declared.order.By.{By}
 use Rattle.sw_logs.specs.declared.order.Order.{Order}
 use Rattle.sw_order_laws.specs.Apart.{AreAllApart, AreApart, AsksForNone, asks, is_insert, rows_changed}
-use Rattle.sw_order_laws.specs.Beginnings.{AreAlike, CanEnd, IsBeginning, IsIn, IsWhole, MayComeNext, after_calls, updates_by, with_call}
-use Rattle.sw_order_laws.specs.Chosen.{AllLeaveAlone, AreEnough, AreOthers, ComesFirst, IsDue, IsExhausted, IsFree, IsSameState, IsUnseen, LeavesAlone, at_once, each_tried, met_before, refused}
-use Rattle.sw_order_laws.specs.Laws.{ExhaustedHasNoEnd, ExhaustedHasNoOrder, LeftAloneStaysApart, OneOfEnoughComesNext}
+use Rattle.sw_order_laws.specs.Beginnings.{AreAlike, CanEnd, IsBeginning, IsIn, IsWhole, MayComeNext, MayPrecede, after_calls, updates_by, with_call}
+use Rattle.sw_order_laws.specs.Chosen.{AllLeaveAlone, AreClosed, AreEnough, AreOthers, ComesFirst, IsDue, IsExhausted, IsFree, IsSameState, IsSettled, IsUnseen, LeavesAlone, MayComeBefore, at_once, each_tried, free, lacks, met_before, refused, waits}
+use Rattle.sw_order_laws.specs.Laws.{ClosedAreEnough, ExhaustedHasNoEnd, ExhaustedHasNoOrder, LeftAloneStaysApart, OneOfEnoughComesNext}
 use Rattle.sw_order_laws.proofs.Beginnings.{IsLaid, begins, laid, rising_by}
 use Rattle.sw_order_laws.proofs.Moves.{alike_have_one_future, calls_apart_move, comes_next, idle_calls_come_next, orders_are_whole}
-use Rattle.sw_order_laws.proofs.Numbers.{all_split, in_either, pairs_first}
+use Rattle.sw_order_laws.proofs.Numbers.{Pairs, all_at, all_split, in_either, in_left, pairs_cross, pairs_first, pairs_last}
 use Rattle.sw_order_laws.proofs.Placings.{ArePlaced, placed_first, placed_last, rising_with}
 use Rattle.sw_order_laws.proofs.Standing.{AreInOrder, MayStand}
 use Rattle.sw_order_laws.proofs.Tables.{filters_swap, first_false, given_after, given_stay, none_seen, overlooks, seen_stay}
@@ -154,15 +154,6 @@ first_chosen chosen (x ∷ xs) i c h = by_first (in_or chosen x) (in_cons x xs i
 
 -- ---- one of those that are enough comes next
 
-laid_first : (keeping : By) (opening : Opening) (calls : List Logged) (xs ys : List ℕ) → IsLaid keeping opening calls (xs ++ ys) → IsLaid keeping opening calls xs
-laid_first keeping opening calls xs ys l = record {
-  placed = placed_first opening.schema opening.limit calls (opened opening.rows.items) xs ys l.placed;
-  order = record { numbers = (all_split (λ (n : ℕ). n < length calls) xs ys l.order.numbers).0; pairs = pairs_first (MayStand keeping calls) xs ys l.order.pairs };
-}
-
-first_part : (placed before behind : List ℕ) (i : ℕ) → placed ++ (before ++ i ∷ behind) ≡ (placed ++ (before ++ i ∷ [])) ++ behind
-first_part placed before behind i = ap (λ (l : List ℕ). placed ++ l) (sym (append_assoc before (i ∷ []) behind)) ∙ sym (append_assoc placed (before ++ i ∷ []) behind)
-
 pub one_of_enough_comes_next : OneOfEnoughComesNext
 one_of_enough_comes_next keeping opening calls placed chosen opens enough can =
     let rest : List ℕ = can.0 in
@@ -172,8 +163,7 @@ one_of_enough_comes_next keeping opening calls placed chosen opens enough can =
     let us : List Update = updates_by opening calls placed in
     let last : ArePlaced opening.schema opening.limit calls us (f.before ++ f.member ∷ f.behind) = placed_last opening.schema opening.limit calls (opened opening.rows.items) placed (f.before ++ f.member ∷ f.behind) l.placed in
     let own = placed_last opening.schema opening.limit calls us f.before (f.member ∷ f.behind) last in
-    let b : IsBeginning keeping opening calls (placed ++ (f.before ++ f.member ∷ [])) = begins keeping opening calls (placed ++ (f.before ++ f.member ∷ [])) (laid_first keeping opening calls (placed ++ (f.before ++ f.member ∷ [])) f.behind (subst (IsLaid keeping opening calls) (first_part placed f.before f.behind f.member) l)) in
-    let free : IsFree keeping opening calls placed f.before f.member own.0.call = enough.first f.before f.member own.0.call own.0.there (record { others = f.others; is_chosen = f.is_chosen; beginning = b }) in
+    let free : IsFree keeping opening calls placed f.before f.member own.0.call = enough.first f.before f.member own.0.call own.0.there (record { others = f.others; is_chosen = f.is_chosen; behind = f.behind; whole = w }) in
     let moved : IsWhole keeping opening calls (placed ++ f.member ∷ (f.before ++ f.behind)) = calls_apart_move keeping opening calls placed f.before f.behind f.member own.0.call opens free.next (left_alone_stays_apart opening calls placed f.before own.0.call.call opens free.alone) w in
     (f.member, f.is_chosen, comes_next keeping opening calls placed (f.before ++ f.behind) f.member moved)
   where
@@ -181,7 +171,57 @@ one_of_enough_comes_next keeping opening calls placed chosen opens enough can =
     behind (inl a) = absurd (enough.is_due.fresh a)
     behind (inr b) = b
 
+-- ---- a set that is closed
+
+pub closed_are_enough : ClosedAreEnough
+closed_are_enough keeping opening calls placed chosen closed = record { due = closed.due; is_due = closed.is_due; first = λ between i c there f. by_reason between i c there f (closed.each i c f.is_chosen there) }
+  where
+    -- how places of a whole order stand to one another
+    pairs : (between : List ℕ) (i : ℕ) (f : ComesFirst keeping opening calls placed chosen between i) → Pairs (MayStand keeping calls) (placed ++ (between ++ i ∷ f.behind))
+    pairs between i f = (laid keeping opening calls (placed ++ (between ++ i ∷ f.behind)) f.whole.beginning).order.pairs
+    -- one that has to be placed stands behind those between
+    stands : (between : List ℕ) (i : ℕ) (f : ComesFirst keeping opening calls placed chosen between i) (j : ℕ) → IsDue calls placed chosen j → IsIn (i ∷ f.behind) j
+    stands between i f j due = later (in_either placed (between ++ i ∷ f.behind) j (f.whole.known j due.call due.there due.known))
+      where
+        last : IsIn between j ⊎ IsIn (i ∷ f.behind) j → IsIn (i ∷ f.behind) j
+        last (inl b) = absurd (f.others j b due.is_chosen)
+        last (inr r) = r
+        later : IsIn placed j ⊎ IsIn (between ++ i ∷ f.behind) j → IsIn (i ∷ f.behind) j
+        later (inl a) = absurd (due.fresh a)
+        later (inr b) = last (in_either between (i ∷ f.behind) j b)
+    tail : (between : List ℕ) (i : ℕ) (f : ComesFirst keeping opening calls placed chosen between i) → Pairs (MayStand keeping calls) (between ++ i ∷ f.behind)
+    tail between i f = pairs_last (MayStand keeping calls) placed (between ++ i ∷ f.behind) (pairs between i f)
+    before : (between : List ℕ) (i : ℕ) (f : ComesFirst keeping opening calls placed chosen between i) (o : ℕ) (d : Logged) → IsIn between o → slice_get calls o ≡ Some d → MayComeBefore keeping calls placed chosen o d
+    before between i f o d b there = record {
+      there = there;
+      fresh = λ a. (all_at (MayStand keeping calls o) (between ++ i ∷ f.behind) (all_at (λ x. AllByRecursion (MayStand keeping calls x) (between ++ i ∷ f.behind)) placed (pairs_cross (MayStand keeping calls) placed (between ++ i ∷ f.behind) (pairs between i f)) a.0 o a.1) (in_left between (i ∷ f.behind) o b).0 o (in_left between (i ∷ f.behind) o b).1).other refl;
+      other = f.others o b;
+      first = λ j due. let at = stands between i f j due in (all_at (MayStand keeping calls o) (i ∷ f.behind) (all_at (λ x. AllByRecursion (MayStand keeping calls x) (i ∷ f.behind)) between (pairs_cross (MayStand keeping calls) between (i ∷ f.behind) (tail between i f)) b.0 o b.1) at.0 j at.1).precedes d due.call there due.there due.known;
+    }
+    alone : (us : List Update) (c : Call) (some : List ℕ) → ((o : ℕ) (d : Logged) → IsIn some o → slice_get calls o ≡ Some d → LeavesAlone opening.limit us d.call c) → AllLeaveAlone opening.limit calls us c some
+    alone us c [] h = tt
+    alone us c (o ∷ os) h = (by_call (slice_get calls o) refl, alone us c os (λ p d b there. h p d (suc b.0, b.1) there))
+      where
+        by_call : (x : Option Logged) → slice_get calls o ≡ x → IfSome x (λ d. LeavesAlone opening.limit us d.call c)
+        by_call None is = tt
+        by_call (Some d) is = h o d (0, refl) is
+    by_reason : (between : List ℕ) (i : ℕ) (c : Logged) → slice_get calls i ≡ Some c → (f : ComesFirst keeping opening calls placed chosen between i) → IsSettled keeping opening calls placed chosen i c → IsFree keeping opening calls placed between i c
+    by_reason between i c there f (waits w) = absurd (w.must (precedes (in_cons i f.behind w.before (stands between i f w.before w.is_due))))
+      where
+        precedes : (i ≡ w.before) ⊎ IsIn f.behind w.before → MayPrecede keeping i c w.before w.is_due.call
+        precedes (inl e) = absurd (w.another (sym e))
+        precedes (inr b) = (all_at (MayStand keeping calls i) f.behind (pairs_last (MayStand keeping calls) between (i ∷ f.behind) (tail between i f)).0 b.0 w.before b.1).precedes c w.is_due.call there w.is_due.there w.is_due.known
+    by_reason between i c there f (lacks l) = absurd (l between f.behind f.others f.whole)
+    by_reason between i c there f (free s) = record { next = s.next; alone = alone (updates_by opening calls placed) c.call between (λ o d b at. s.alone o d (before between i f o d b at)) }
+
 -- ---- a search that has tried all
+
+laid_first : (keeping : By) (opening : Opening) (calls : List Logged) (xs ys : List ℕ) → IsLaid keeping opening calls (xs ++ ys) → IsLaid keeping opening calls xs
+laid_first keeping opening calls xs ys l = record {
+  placed = placed_first opening.schema opening.limit calls (opened opening.rows.items) xs ys l.placed;
+  order = record { numbers = (all_split (λ (n : ℕ). n < length calls) xs ys l.order.numbers).0; pairs = pairs_first (MayStand keeping calls) xs ys l.order.pairs };
+}
+
 
 pub exhausted_has_no_end : ExhaustedHasNoEnd
 exhausted_has_no_end keeping opening calls placed opens (at_once p i idle more) can = exhausted_has_no_end keeping opening calls (p ++ i ∷ []) opens more (idle_calls_come_next keeping opening calls p i opens idle can)

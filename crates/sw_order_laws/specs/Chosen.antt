@@ -1,5 +1,5 @@
 -- Calls of which one has to be placed next, and what a search has tried.
-use Rattle.std.specs.Prelude.{◌≡◌, ◌<◌, ◌++◌, ◌&&◌, ℕ, Bool, true, false, List, [], ◌∷◌, IfSome, Some, slice_get}
+use Rattle.std.specs.Prelude.{◌≡◌, ◌≢◌, ◌<◌, ◌++◌, ◌&&◌, ℕ, Bool, true, false, List, [], ◌∷◌, IfSome, Some, slice_get}
 use Rattle.sw_rows.specs.declared.query.Call.{Call}
 use Rattle.sw_rows.specs.declared.query.Call.TheVariants as call
 use Rattle.sw_spine.specs.Table.{inserts, row}
@@ -9,7 +9,7 @@ use Rattle.sw_logs.specs.declared.logged.Logged.{Logged}
 use Rattle.sw_logs.specs.declared.opening.Opening.{Opening}
 use Rattle.sw_logs.specs.declared.order.By.{By}
 use Rattle.sw_order_laws.specs.Apart.{AsksForNone, asks, is_insert, rows_changed}
-use Rattle.sw_order_laws.specs.Beginnings.{AreAlike, HaveSameCalls, IsBeginning, IsIdleNext, IsIn, MayComeNext, updates_by}
+use Rattle.sw_order_laws.specs.Beginnings.{AreAlike, HaveSameCalls, IsBeginning, IsIdleNext, IsIn, IsWhole, MayComeNext, MayPrecede, updates_by}
 
 -- a call asks for no row that another brings, under whatever key above those given
 abbrev pub IsUnseen : ℕ → Call → Call → Type 0
@@ -43,11 +43,12 @@ pub record IsDue (calls : List Logged) (placed chosen : List ℕ) (i : ℕ) : Ty
   pub there : slice_get calls i ≡ Some call
   pub known : is_known call ≡ true
 
--- one of those chosen comes first behind the calls placed, with others between, in some beginning
+-- one of those chosen comes first behind the calls placed, with others between, in some order of all
 pub record ComesFirst (keeping : By) (opening : Opening) (calls : List Logged) (placed chosen between : List ℕ) (i : ℕ) : Type 0 where
   pub others : AreOthers chosen between
   pub is_chosen : IsIn chosen i
-  pub beginning : IsBeginning keeping opening calls (placed ++ (between ++ i ∷ []))
+  pub behind : List ℕ
+  pub whole : IsWhole keeping opening calls (placed ++ (between ++ i ∷ behind))
 
 -- a call may come next, and none of those between bears on it
 pub record IsFree (keeping : By) (opening : Opening) (calls : List Logged) (placed between : List ℕ) (i : ℕ) (c : Logged) : Type 0 where
@@ -65,6 +66,45 @@ pub record AreEnough (keeping : By) (opening : Opening) (calls : List Logged) (p
   pub due : ℕ
   pub is_due : IsDue calls placed chosen due
   pub first : FirstIsFree keeping opening calls placed chosen
+
+-- ---- a set that is closed
+
+-- a call that is not chosen may come before all of those chosen that have to be placed
+pub record MayComeBefore (keeping : By) (calls : List Logged) (placed chosen : List ℕ) (i : ℕ) (c : Logged) : Type 0 where
+  pub there : slice_get calls i ≡ Some c
+  pub fresh : ¬ IsIn placed i
+  pub other : ¬ IsIn chosen i
+  pub first : (j : ℕ) → (due : IsDue calls placed chosen j) → MayPrecede keeping i c j due.call
+
+-- one of those chosen that has to be placed must stand before a call
+pub record Waits (keeping : By) (calls : List Logged) (placed chosen : List ℕ) (i : ℕ) (c : Logged) : Type 0 where
+  pub before : ℕ
+  pub is_due : IsDue calls placed chosen before
+  pub another : before ≢ i
+  pub must : ¬ MayPrecede keeping i c before is_due.call
+
+-- a call is in no order where none of those chosen stands between
+abbrev pub Lacks : By → Opening → List Logged → List ℕ → List ℕ → ℕ → Type 0
+Lacks keeping opening calls placed chosen i =
+    (between behind : List ℕ) → AreOthers chosen between
+    → ¬ IsWhole keeping opening calls (placed ++ (between ++ i ∷ behind))
+
+-- a call may come next, and none of the others that may come before those chosen bears on it
+pub record StandsFree (keeping : By) (opening : Opening) (calls : List Logged) (placed chosen : List ℕ) (i : ℕ) (c : Logged) : Type 0 where
+  pub next : MayComeNext keeping calls placed i c
+  pub alone : (o : ℕ) (d : Logged) → MayComeBefore keeping calls placed chosen o d → LeavesAlone opening.limit (updates_by opening calls placed) d.call c.call
+
+-- why no order is missed where a call that is chosen is not tried, or is placed at once
+pub data IsSettled (keeping : By) (opening : Opening) (calls : List Logged) (placed chosen : List ℕ) (i : ℕ) (c : Logged) : Type 0 where
+  waits : Waits keeping calls placed chosen i c → IsSettled keeping opening calls placed chosen i c
+  lacks : Lacks keeping opening calls placed chosen i → IsSettled keeping opening calls placed chosen i c
+  free : StandsFree keeping opening calls placed chosen i c → IsSettled keeping opening calls placed chosen i c
+
+-- a set of calls that asks for no more
+pub record AreClosed (keeping : By) (opening : Opening) (calls : List Logged) (placed chosen : List ℕ) : Type 0 where
+  pub due : ℕ
+  pub is_due : IsDue calls placed chosen due
+  pub each : (i : ℕ) (c : Logged) → IsIn chosen i → slice_get calls i ≡ Some c → IsSettled keeping opening calls placed chosen i c
 
 -- the same calls in another order that leaves the same
 pub record IsSameState (opening : Opening) (calls : List Logged) (one other : List ℕ) : Type 0 where

@@ -11,7 +11,7 @@ use Rattle.sw_logs.specs.declared.opening.Opening.{Opening}
 use Rattle.sw_logs.specs.declared.order.By.{By}
 use Rattle.sw_logs.specs.declared.order.Order.{Order}
 use Rattle.sw_order_laws.specs.Apart.{AreAllApart, AreApart}
-use Rattle.sw_order_laws.specs.Chosen.{AllLeaveAlone, AreEnough, IsExhausted, IsSameState}
+use Rattle.sw_order_laws.specs.Chosen.{AllLeaveAlone, AreClosed, AreEnough, IsExhausted, IsSameState}
 use Rattle.sw_order_laws.specs.Beginnings.{AreAlike, CanEnd, IsBeginning, IsIdleNext, IsIn, IsWhole, MayComeNext, MayPrecede, updates_by}
 
 -- an order that is found is a whole beginning
@@ -89,6 +89,12 @@ OneOfEnoughComesNext =
     (keeping : By) (opening : Opening) (calls : List Logged) (placed chosen : List ℕ) → IsOpening opening
     → AreEnough keeping opening calls placed chosen → CanEnd keeping opening calls placed
     → (i : ℕ) × IsIn chosen i × CanEnd keeping opening calls (placed ++ i ∷ [])
+
+-- a set of calls that asks for no more is enough
+abbrev pub ClosedAreEnough : Type 0
+ClosedAreEnough =
+    (keeping : By) (opening : Opening) (calls : List Logged) (placed chosen : List ℕ)
+    → AreClosed keeping opening calls placed chosen → AreEnough keeping opening calls placed chosen
 
 -- where all was tried no order begins with these calls
 abbrev pub ExhaustedHasNoEnd : Type 0

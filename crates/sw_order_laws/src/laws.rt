@@ -1,6 +1,6 @@
 //! The laws. Each function does nothing.
 
-ghost use Rattle.sw_order_laws.specs.Laws.{AlikeHaveOneFuture, CallsApartChangePlaces, CallsApartLeaveTheSame, CallsApartMove, ExhaustedHasNoEnd, ExhaustedHasNoOrder, IdleCallsComeNext, IdleCallsMove, LeftAloneStaysApart, OneOfEnoughComesNext, OrdersAreWhole, WholeAreOrders};
+ghost use Rattle.sw_order_laws.specs.Laws.{AlikeHaveOneFuture, CallsApartChangePlaces, CallsApartLeaveTheSame, CallsApartMove, ClosedAreEnough, ExhaustedHasNoEnd, ExhaustedHasNoOrder, IdleCallsComeNext, IdleCallsMove, LeftAloneStaysApart, OneOfEnoughComesNext, OrdersAreWhole, WholeAreOrders};
 
 /// A whole beginning is an order: each order that is found is one, and of each there is a history with which it is an order
 /// that is found.
@@ -31,7 +31,8 @@ pub fn equal_states_have_equal_futures()
 
 /// Of calls that are enough one may be placed next, and no other need be tried.
 pub fn enough_calls_are_enough()
-    ensures { OneOfEnoughComesNext }
+    ensures next { OneOfEnoughComesNext }
+    ensures closed { ClosedAreEnough }
 {}
 
 /// Where a search has tried all there is no order.

@@ -1,5 +1,8 @@
-use Rattle.sw_order_laws.proofs.Choosing.{one_of_enough_comes_next}
+use Rattle.sw_order_laws.proofs.Choosing.{closed_are_enough, one_of_enough_comes_next}
 use Rattle.sw_order_laws.proofs.laws.enough_calls_are_enough.Goals as goal
 
-pub returns : goal.returns
-returns c = one_of_enough_comes_next
+pub returns-clause-next : goal.returns-clause-next
+returns-clause-next c = one_of_enough_comes_next
+
+pub returns-clause-closed : goal.returns-clause-closed
+returns-clause-closed c = closed_are_enough
