@@ -1,6 +1,6 @@
 -- Beginnings of orders as the laws' proofs see them: calls that have their replies one after another, each of which may
 -- stand before each later one.
-use Rattle.std.proofs.Common.{◌≡◌, ◌∙◌, ◌⊎◌, inl, inr, ◌<◌, ◌≤◌, ◌+◌, ◌++◌, ◌&&◌, sym, ap, refl, subst, ℕ, Bool, true, false, List, [], ◌∷◌, length, Option, Some, None, arith, append_assoc}
+use Rattle.std.proofs.Common.{◌≡◌, ◌∙◌, ◌++◌, sym, ap, refl, subst, ℕ, true, false, List, [], ◌∷◌, Option, Some, None, arith}
 use Rattle.std.specs.List.{slice_get}
 use Rattle.std.specs.Prelude.{is_some}
 use Rattle.std.specs.Option.{IfSome}
@@ -8,8 +8,8 @@ use Rattle.std.proofs.lemmas.List.{append-nil}
 use Rattle.std.proofs.lemmas.Option.{same_Some}
 use Rattle.sw_lang.specs.Replies.{reply_lines}
 use Rattle.sw_rows.specs.Header.{Column}
-use Rattle.sw_spine.specs.History.{AllAgree, Agrees, History, history}
-use Rattle.sw_spine.specs.Table.{inserts, opened, reply_to, update_by, updates_then}
+use Rattle.sw_spine.specs.History.{AllAgree, Agrees, history}
+use Rattle.sw_spine.specs.Table.{opened, reply_to, update_by}
 use Rattle.sw_spine.specs.declared.history.Entry.{Entry}
 use Rattle.sw_spine.specs.declared.history.State.{State}
 use Rattle.sw_spine.specs.declared.history.State.TheVariants as state
@@ -18,16 +18,14 @@ use Rattle.sw_spine.proofs.StoreLemmas.{inserts_opened}
 use Rattle.sw_table.specs.declared.row.Row.{Row}
 use Rattle.sw_table.specs.declared.row.Update.{Update}
 use Rattle.sw_logs.specs.Openings.{IsOpening}
-use Rattle.sw_logs.specs.Orders.{AreEntriesOf, HasKnown, IsStateFor, is_known}
+use Rattle.sw_logs.specs.Orders.{IsStateFor, is_known}
 use Rattle.sw_logs.specs.declared.logged.Logged.{Logged}
 use Rattle.sw_logs.specs.declared.opening.Opening.{Opening}
 use Rattle.sw_logs.specs.declared.order.By.{By}
-use Rattle.sw_order_laws.specs.Apart.{AreAllApart, AreApart}
-use Rattle.sw_order_laws.specs.Beginnings.{AreAlike, CanEnd, IsBeginning, IsIdleNext, IsIn, IsReplied, IsWhole, MayComeNext, MayPrecede, after_calls, updates_by, with_call}
+use Rattle.sw_order_laws.specs.Beginnings.{IsBeginning, IsReplied, after_calls, updates_by, with_call}
 use Rattle.sw_order_laws.proofs.Idle.{AreFew, few_then, idle_told}
-use Rattle.sw_order_laws.proofs.Numbers.{Around, around, in_either}
-use Rattle.sw_order_laws.proofs.Placings.{AreMade, ArePlaced, HaveSwapped, IsPlaced, after_both, apart_moved, call_is, entries_by_placed, placed_alike, placed_by_entries, placed_first, placed_join, placed_last, rising_calls, swapped_alike}
-use Rattle.sw_order_laws.proofs.Standing.{AreInOrder, KeepsOrder, MayStand, exchanged_in, in_order, keeps_order, moved_in, order_exchanged, order_moved, order_moved_by}
+use Rattle.sw_order_laws.proofs.Placings.{ArePlaced, IsPlaced, call_is, entries_by_placed, placed_by_entries, placed_first, placed_join, placed_last, rising_calls}
+use Rattle.sw_order_laws.proofs.Standing.{AreInOrder, in_order, keeps_order}
 
 pub record IsLaid (keeping : By) (opening : Opening) (calls : List Logged) (places : List ℕ) : Type 0 where
   pub placed : ArePlaced opening.schema opening.limit calls (opened opening.rows.items) places
@@ -79,23 +77,33 @@ rising_by opening calls placed o = rising_calls opening.limit calls (opened open
 
 -- ---- calls that change nothing
 
-unchanged : (limit : ℕ) (calls : List Logged) (us : List Update) (i : ℕ) (c : Logged) → slice_get calls i ≡ Some c → update_by limit us c.call ≡ [] → with_call limit us (slice_get calls i) ≡ us
+pub unchanged : (limit : ℕ) (calls : List Logged) (us : List Update) (i : ℕ) (c : Logged) → slice_get calls i ≡ Some c → update_by limit us c.call ≡ [] → with_call limit us (slice_get calls i) ≡ us
 unchanged limit calls us i c there idle = call_is limit calls us i c there ∙ (ap (λ (vs : List Update). us ++ vs) idle ∙ append-nil us)
 
 -- the state of a call of known outcome that has its reply, and what it says
-record IsTold (columns : List Column) (limit : ℕ) (us vs : List Update) (c : Logged) : Type 0 where
-  state : State
-  said : IsStateFor c.reply state
-  agrees : Agrees columns limit us c.call state
-  same : reply_lines columns c.call (reply_to limit us c.call) ≡ reply_lines columns c.call (reply_to limit vs c.call)
+pub record IsTold (columns : List Column) (limit : ℕ) (us vs : List Update) (c : Logged) : Type 0 where
+  pub state : State
+  pub said : IsStateFor c.reply state
+  pub agrees : Agrees columns limit us c.call state
+  pub same : reply_lines columns c.call (reply_to limit us c.call) ≡ reply_lines columns c.call (reply_to limit vs c.call)
 
-told : (columns : List Column) (limit : ℕ) (us vs : List Update) (c : Logged) (st : State) (o : Option (List (List ℕ))) → c.reply ≡ o → is_known c ≡ true → IsStateFor c.reply st → IsReplied columns limit us c → Agrees columns limit vs c.call st → IsTold columns limit us vs c
+pub told : (columns : List Column) (limit : ℕ) (us vs : List Update) (c : Logged) (st : State) (o : Option (List (List ℕ))) → c.reply ≡ o → is_known c ≡ true → IsStateFor c.reply st → IsReplied columns limit us c → Agrees columns limit vs c.call st → IsTold columns limit us vs c
 told columns limit us vs c st None is known said replied agrees = absurd (let none : is_some c.reply ≡ false = ap (λ (x : Option (List (List ℕ))). is_some x) is in cc)
 told columns limit us vs c st (Some lines) is known said replied agrees =
     let lines_are : st ≡ state.Lines lines = subst (λ (x : Option (List (List ℕ))). IsStateFor x st) is said in
     let here : lines ≡ reply_lines columns c.call (reply_to limit us c.call) = subst (λ (x : Option (List (List ℕ))). IfSome x (λ ls. ls ≡ reply_lines columns c.call (reply_to limit us c.call))) is replied in
     let later : lines ≡ reply_lines columns c.call (reply_to limit vs c.call) = subst (Agrees columns limit vs c.call) lines_are agrees in
     record { state = st; said = said; agrees = subst (Agrees columns limit us c.call) (sym lines_are) here; same = sym here ∙ later }
+
+replied_if : (columns : List Column) (limit : ℕ) (us : List Update) (c : Logged) (st : State) (o : Option (List (List ℕ))) → c.reply ≡ o → IsStateFor o st → Agrees columns limit us c.call st → IfSome o (λ lines. lines ≡ reply_lines columns c.call (reply_to limit us c.call))
+replied_if columns limit us c st None is said agrees = tt
+replied_if columns limit us c st (Some lines) is said agrees = subst (Agrees columns limit us c.call) said agrees
+
+-- a call that is placed has the reply of its log
+pub replied_at : (columns : List Column) (limit : ℕ) (calls : List Logged) (us : List Update) (i : ℕ) (c : Logged) → slice_get calls i ≡ Some c → IsPlaced columns limit calls us i → IsReplied columns limit us c
+replied_at columns limit calls us i c there p =
+    let own : p.call ≡ c = same_Some p.call c (sym p.there ∙ there) in
+    replied_if columns limit us c p.state c.reply refl (subst (λ (x : Logged). IsStateFor x.reply p.state) own p.said) (subst (λ (x : Logged). Agrees columns limit us x.call p.state) own p.agrees)
 
 pub idle_moved : (columns : List Column) (limit : ℕ) (calls : List Logged) (us : List Update) (between rest : List ℕ) (i : ℕ) (c : Logged) → AreFew limit us → AreFew limit (after_calls limit calls us between) → slice_get calls i ≡ Some c → is_known c ≡ true → IsReplied columns limit us c → update_by limit us c.call ≡ [] → ArePlaced columns limit calls us (between ++ i ∷ rest) → ArePlaced columns limit calls us (i ∷ (between ++ rest))
 idle_moved columns limit calls us between rest i c few many there known replied idle all =
@@ -108,8 +116,8 @@ idle_moved columns limit calls us between rest i c few many there known replied 
     let later : update_by limit vs c.call ≡ [] = idle_told columns limit us vs c.call few many t.same idle in (
       record { call = c; there = there; state = t.state; said = t.said; agrees = t.agrees },
       subst (λ (ws : List Update). ArePlaced columns limit calls ws (between ++ rest)) (sym (unchanged limit calls us i c there idle))
-      (placed_join columns limit calls us between rest (placed_first columns limit calls us between (i ∷ rest) all)
-      (subst (λ (ws : List Update). ArePlaced columns limit calls ws rest) (unchanged limit calls vs i c there later) last.1)),
+          (placed_join columns limit calls us between rest (placed_first columns limit calls us between (i ∷ rest) all)
+          (subst (λ (ws : List Update). ArePlaced columns limit calls ws rest) (unchanged limit calls vs i c there later) last.1)),
     )
 
 -- ---- what stands behind a beginning

@@ -1,5 +1,5 @@
 -- Calls that change nothing, as their replies tell.
-use Rattle.std.proofs.Common.{◌≡◌, ◌≢◌, ◌∙◌, ◌<◌, ◌≤◌, ◌+◌, ◌^◌, ◌++◌, ◌==◌, sym, ap, refl, subst, fold, filter, cond, map, ℕ, ℤ, zero, suc, Bool, true, false, not, List, [], ◌∷◌, length, arith, get_or, append_assoc}
+use Rattle.std.proofs.Common.{◌≡◌, ◌≢◌, ◌∙◌, ◌<◌, ◌≤◌, ◌+◌, ◌^◌, ◌++◌, ◌==◌, sym, ap, refl, subst, fold, filter, cond, map, ℕ, suc, Bool, true, false, not, List, [], ◌∷◌, length, arith, get_or}
 use Rattle.std.specs.Prelude.{codes, decimal}
 use Rattle.std.proofs.lemmas.Bool.Decides.{nat_tests}
 use Rattle.std.proofs.lemmas.Fmt.{decimal_injective}
@@ -12,13 +12,14 @@ use Rattle.sw_rows.specs.declared.query.Call.{Call}
 use Rattle.sw_rows.specs.declared.query.Cond.{Cond}
 use Rattle.sw_rows.specs.declared.query.Call.TheVariants as call
 use Rattle.sw_rows.specs.declared.reply.Reply.TheVariants as reply
-use Rattle.sw_spine.specs.Table.{inserts, opened, removals, reply_to, row, update_by, updates_then}
-use Rattle.sw_spine.proofs.StoreLemmas.{inserts_insert, inserts_opened, inserts_remove, inserts_removals, removals_keys}
+use Rattle.sw_spine.specs.Table.{inserts, removals, reply_to, row, update_by, updates_then}
+use Rattle.sw_spine.proofs.StoreLemmas.{inserts_insert, inserts_remove, inserts_removals, removals_keys}
 use Rattle.sw_table.specs.Live.{key_of}
 use Rattle.sw_table.specs.Updates.{has_key, rows_of, rows_then}
 use Rattle.sw_table.specs.declared.row.Row.{Row}
 use Rattle.sw_table.specs.declared.row.Update.{Update}
 use Rattle.sw_table.specs.declared.row.Update.TheVariants as update
+use Rattle.sw_order_laws.specs.Beginnings.{TellsOfNone}
 
 -- ---- how many rows there are
 
@@ -109,3 +110,20 @@ idle_told columns limit us vs (call.DeleteWhere conds) few other same idle =
     let many : length (matching conds (rows_of us)) ≡ length (matching conds (rows_of vs)) = same_removed (length (matching conds (rows_of us))) (length (matching conds (rows_of vs))) (matching_few limit us conds few) (matching_few limit vs conds other) same in
     let zero_long : length (matching conds (rows_of vs)) ≡ 0 = sym many ∙ ap (λ (rs : List Row). length rs) none in
     ap removals (none_long (matching conds (rows_of vs)) zero_long)
+
+-- a reply that tells of no change is given only where there is none
+pub told_none : (columns : List Column) (limit : ℕ) (us : List Update) (c : Call) (ls : List (List ℕ)) → AreFew limit us → ls ≡ reply_lines columns c (reply_to limit us c) → TellsOfNone c ls → update_by limit us c ≡ []
+told_none columns limit us (call.Select q) ls few is tells = refl
+told_none columns limit us (call.Insert cells) ls few is tells = by_room (inserts us == limit) (sym tells ∙ is)
+  where
+    by_room : (b : Bool) → codes "full" ∷ [] ≡ reply_lines columns (call.Insert cells) (cond b reply.Full (reply.Inserted (inserts us + 1))) → cond b [] (update.Insert (row (inserts us + 1) cells) ∷ []) ≡ []
+    by_room true h = refl
+    by_room false h = let e : 102 ≡ 107 = ap first_byte h in absurd (omega (arith, e))
+told_none columns limit us (call.Delete key) ls few is tells = by_key (has_key key (rows_of us)) (sym tells ∙ is)
+  where
+    by_key : (b : Bool) → codes "no such key" ∷ [] ≡ reply_lines columns (call.Delete key) (cond b reply.Removed reply.NoSuchKey) → cond b (update.Remove key ∷ []) [] ≡ []
+    by_key false h = refl
+    by_key true h = let e : 110 ≡ 114 = ap first_byte h in absurd (omega (arith, e))
+told_none columns limit us (call.DeleteWhere conds) ls few is tells =
+    let many : 0 ≡ length (matching conds (rows_of us)) = same_removed 0 (length (matching conds (rows_of us))) (omega arith) (matching_few limit us conds few) (sym tells ∙ is) in
+    ap removals (none_long (matching conds (rows_of us)) (sym many))

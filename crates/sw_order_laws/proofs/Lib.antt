@@ -1,5 +1,6 @@
 pub mod Beginnings
 pub mod Choosing
+pub mod Examples
 pub mod Idle
 pub mod Moves
 pub mod Numbers

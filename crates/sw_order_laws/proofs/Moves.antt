@@ -1,26 +1,25 @@
 -- The laws on which a search may rest.
-use Rattle.std.proofs.Common.{◌≡◌, ◌≢◌, ◌∙◌, ◌⊎◌, inl, inr, ◌++◌, sym, ap, refl, subst, ℕ, true, List, [], ◌∷◌, Option, Some, append_assoc}
+use Rattle.std.proofs.Common.{◌≡◌, ◌≢◌, ◌∙◌, ◌⊎◌, inl, inr, ◌++◌, sym, ap, subst, ℕ, Bool, true, false, List, [], ◌∷◌, Option, Some, append_assoc}
 use Rattle.std.specs.List.{AllByRecursion, slice_get}
 use Rattle.std.specs.Option.{IfSome}
 use Rattle.std.proofs.lemmas.Option.{same_Some}
+use Rattle.sw_lang.specs.Replies.{reply_lines}
 use Rattle.sw_spine.specs.History.{History, IsLegal}
-use Rattle.sw_spine.specs.Table.{opened}
+use Rattle.sw_spine.specs.Table.{opened, reply_to}
 use Rattle.sw_table.specs.declared.row.Update.{Update}
-use Rattle.sw_logs.specs.Openings.{IsOpening}
-use Rattle.sw_logs.specs.Orders.{HasKnown, IsOrderFound, IsOrderOf, IsRecordOf, is_known}
+use Rattle.sw_logs.specs.Orders.{IsOrderFound, IsOrderOf, IsRecordOf, is_known}
 use Rattle.sw_logs.specs.declared.logged.Logged.{Logged}
 use Rattle.sw_logs.specs.declared.opening.Opening.{Opening}
 use Rattle.sw_logs.specs.declared.order.By.{By}
 use Rattle.sw_logs.specs.declared.order.Order.{Order}
-use Rattle.sw_order_laws.specs.Apart.{AreAllApart, AreApart}
-use Rattle.sw_order_laws.specs.Beginnings.{AreAlike, CanEnd, HaveSameCalls, IsBeginning, IsIdleNext, IsIn, IsWhole, MayComeNext, MayPrecede, after_calls, updates_by, with_call}
-use Rattle.sw_order_laws.specs.Chosen.{IsSameState}
-use Rattle.sw_order_laws.specs.Laws.{AlikeHaveOneFuture, CallsApartChangePlaces, CallsApartLeaveTheSame, CallsApartMove, IdleCallsComeNext, IdleCallsMove, OrdersAreWhole, WholeAreOrders}
-use Rattle.sw_order_laws.proofs.Beginnings.{IsLaid, begins, few_by, idle_moved, laid, laid_behind, rising_by}
-use Rattle.sw_order_laws.proofs.Idle.{AreFew}
-use Rattle.sw_order_laws.proofs.Numbers.{Around, Pairs, around, in_either, pairs_at, pairs_last}
-use Rattle.sw_order_laws.proofs.Placings.{ArePlaced, after_both, apart_moved, placed_alike, placed_first, placed_join, placed_last, swapped_alike}
-use Rattle.sw_order_laws.proofs.Standing.{AreInOrder, MayStand, exchanged_in, moved_in, order_exchanged, order_moved, order_moved_by}
+use Rattle.sw_order_laws.specs.Apart.{AreApart}
+use Rattle.sw_order_laws.specs.Beginnings.{AreAlike, CanEnd, IsIn, IsWhole, MayComeNext, MayPrecede, after_calls, updates_by}
+use Rattle.sw_order_laws.specs.Laws.{AlikeHaveOneFuture, CallsApartChangePlaces, CallsApartLeaveTheSame, CallsApartMove, IdleCallsComeNext, IdleCallsMove, OrdersAreWhole, RepliesTellOfNone, UnknownMayBeLeftOut, WholeAreOrders}
+use Rattle.sw_order_laws.proofs.Beginnings.{begins, few_by, idle_moved, laid, laid_behind, rising_by, unchanged}
+use Rattle.sw_order_laws.proofs.Idle.{AreFew, told_none}
+use Rattle.sw_order_laws.proofs.Numbers.{Around, Pairs, around, in_either, pairs_last}
+use Rattle.sw_order_laws.proofs.Placings.{ArePlaced, after_both, apart_moved, placed_alike, placed_join, placed_last, swapped_alike}
+use Rattle.sw_order_laws.proofs.Standing.{AreInOrder, MayStand, exchanged_in, moved_in, order_exchanged, order_moved, order_moved_by, order_without, without_in}
 
 -- ---- orders that are found
 
@@ -35,6 +34,7 @@ whole_are_orders keeping opening calls places w = (w.beginning.history, λ o h p
   where
     order : IsOrderOf keeping calls places
     order = record { numbers = w.beginning.numbers; once = w.beginning.once; known = w.known; sessions = w.beginning.sessions; times = w.beginning.times }
+
     found : (o : Order) → o.history ≡ w.beginning.history → o.places.items ≡ places → IsOrderFound keeping opening calls o
     found o h p = record {
       record_of = subst (λ (x : History). IsRecordOf opening calls o.places.items x) (sym h) (subst (λ (l : List ℕ). IsRecordOf opening calls l w.beginning.history) (sym p) w.beginning.record_of);
@@ -98,6 +98,29 @@ idle_calls_come_next keeping opening calls placed i opens idle can =
     let w : IsWhole keeping opening calls (placed ++ (s.place.before ++ i ∷ s.place.behind)) = subst (λ (l : List ℕ). IsWhole keeping opening calls (placed ++ l)) s.place.are can.1 in
     comes_next keeping opening calls placed (s.place.before ++ s.place.behind) i (idle_calls_move keeping opening calls placed s.place.before s.place.behind i opens idle w)
 
+-- ---- what replies tell, and what may be left out
+
+pub replies_tell_of_none : RepliesTellOfNone
+replies_tell_of_none opening calls placed c lines opens is replied tells =
+    told_none opening.schema opening.limit (updates_by opening calls placed) c.call lines (few_by opening calls placed opens) (subst (λ (x : Option (List (List ℕ))). IfSome x (λ ls. ls ≡ reply_lines opening.schema c.call (reply_to opening.limit (updates_by opening calls placed) c.call))) is replied) tells
+
+pub unknown_may_be_left_out : UnknownMayBeLeftOut
+unknown_may_be_left_out keeping opening calls placed rest i c there unknown idle w =
+    let l = laid keeping opening calls (placed ++ i ∷ rest) w.beginning in
+    let order : AreInOrder keeping calls (placed ++ rest) = order_without keeping calls placed rest i l.order in
+    record {
+      beginning = begins keeping opening calls (placed ++ rest) (laid_behind keeping opening calls placed (i ∷ rest) rest l (λ all. subst (λ (us : List Update). ArePlaced opening.schema opening.limit calls us rest) (unchanged opening.limit calls (updates_by opening calls placed) i c there idle) all.1) order);
+      known = λ n d sd kd. without_in placed rest i n (λ e. other n d sd kd e) (w.known n d sd kd);
+    }
+  where
+    clash : (b : Bool) → b ≡ false → b ≡ true → ⊥
+    clash b f t = absurd (cc)
+
+    other : (n : ℕ) (d : Logged) → slice_get calls n ≡ Some d → is_known d ≡ true → i ≡ n → ⊥
+    other n d sd kd e =
+        let same : c ≡ d = same_Some c d (sym there ∙ (ap (λ (k : ℕ). slice_get calls k) e ∙ sd)) in
+        clash (is_known c) unknown (subst (λ (x : Logged). is_known x ≡ true) (sym same) kd)
+
 -- ---- two calls change places
 
 pub calls_apart_change_places : CallsApartChangePlaces
@@ -107,8 +130,10 @@ calls_apart_change_places keeping opening calls placed rest i j c d opens ti tj 
   where
     pairs : Pairs (MayStand keeping calls) (i ∷ j ∷ rest)
     pairs = pairs_last (MayStand keeping calls) placed (i ∷ j ∷ rest) (laid keeping opening calls (placed ++ i ∷ j ∷ rest) w.beginning).order.pairs
+
     other : i ≢ j
     other = pairs.0.0.other
+
     precedes : (x y : Logged) → slice_get calls j ≡ Some x → slice_get calls i ≡ Some y → is_known y ≡ true → MayPrecede keeping j x i y
     precedes x y sx sy ky =
         let first : c ≡ y = same_Some c y (sym ti ∙ sy) in

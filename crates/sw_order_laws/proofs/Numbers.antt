@@ -1,5 +1,5 @@
 -- Lists of numbers: what is true of each, of each with each later one, and which stand in them.
-use Rattle.std.proofs.Common.{◌≡◌, ◌∙◌, ◌<◌, ◌≤◌, ◌⊎◌, inl, inr, sym, ap, refl, subst, ℕ, zero, suc, ◌+◌, List, [], ◌∷◌, ◌++◌, length, Some, arith}
+use Rattle.std.proofs.Common.{◌≡◌, ◌<◌, ◌⊎◌, inl, inr, ap, refl, subst, ℕ, zero, suc, List, [], ◌∷◌, ◌++◌, Some, arith}
 use Rattle.std.specs.List.{AllByRecursion, slice_get}
 use Rattle.std.proofs.lemmas.Option.{same_Some}
 use Rattle.sw_order_laws.specs.Beginnings.{IsIn}
@@ -54,6 +54,7 @@ in_either (x ∷ xs) ys i h = by_place (in_either xs ys i) h.0 h.1
     later : IsIn xs i ⊎ IsIn ys i → IsIn (x ∷ xs) i ⊎ IsIn ys i
     later (inl a) = inl (in_front x xs i a)
     later (inr b) = inr b
+
     by_place : (IsIn (xs ++ ys) i → IsIn xs i ⊎ IsIn ys i) → (p : ℕ) → slice_get (x ∷ (xs ++ ys)) p ≡ Some i → IsIn (x ∷ xs) i ⊎ IsIn ys i
     by_place rest zero e = inl (0, e)
     by_place rest (suc p) e = later (rest (p, e))

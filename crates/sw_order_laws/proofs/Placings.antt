@@ -1,20 +1,19 @@
 -- Calls that a list gives their replies one after another, by their numbers.
-use Rattle.std.proofs.Common.{◌≡◌, ◌∙◌, ◌<◌, ◌≤◌, ◌+◌, ◌++◌, ◌==◌, ◌&&◌, sym, ap, refl, subst, fold, filter, cond, ℕ, suc, Bool, true, false, List, [], ◌∷◌, length, Option, Some, None, arith, get_or}
-use Rattle.std.specs.List.{AllZip, slice_get}
+use Rattle.std.proofs.Common.{◌≡◌, ◌∙◌, ◌++◌, ◌&&◌, sym, ap, refl, subst, ℕ, Bool, true, false, List, [], ◌∷◌, Option, Some, None}
+use Rattle.std.specs.List.{slice_get}
 use Rattle.std.specs.Option.{IfSome}
 use Rattle.std.proofs.lemmas.Option.{same_Some}
 use Rattle.sw_lang.specs.Replies.{reply_lines}
 use Rattle.sw_rows.specs.Header.{Column}
 use Rattle.sw_rows.specs.declared.query.Call.{Call}
-use Rattle.sw_rows.specs.declared.reply.Reply.{Reply}
 use Rattle.sw_spine.specs.History.{Agrees, AllAgree, entry}
-use Rattle.sw_spine.specs.Table.{reply_to, update_by, updates_then}
+use Rattle.sw_spine.specs.Table.{reply_to, updates_then}
 use Rattle.sw_spine.specs.declared.history.Entry.{Entry}
 use Rattle.sw_spine.specs.declared.history.State.{State}
 use Rattle.sw_spine.specs.declared.history.State.TheVariants as state
 use Rattle.sw_spine.proofs.Rising.{AreRising, rising_then}
 use Rattle.sw_table.specs.declared.row.Update.{Update}
-use Rattle.sw_logs.specs.Orders.{AreEntriesOf, IsEntryAt, IsEntryOf, IsStateFor}
+use Rattle.sw_logs.specs.Orders.{AreEntriesOf, IsEntryOf, IsStateFor}
 use Rattle.sw_logs.specs.declared.logged.Logged.{Logged}
 use Rattle.sw_order_laws.specs.Apart.{AreAllApart, AreApart, is_insert}
 use Rattle.sw_order_laws.specs.Beginnings.{AreAlike, after_calls, with_call}

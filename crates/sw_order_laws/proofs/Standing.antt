@@ -1,13 +1,13 @@
 -- What sessions and times ask of an order, of each call with each later one.
-use Rattle.std.proofs.Common.{◌≡◌, ◌≢◌, ◌∙◌, ◌<◌, ◌≤◌, ◌+◌, ◌++◌, ◌⊎◌, inl, inr, sym, ap, refl, subst, ℕ, zero, suc, Bool, true, false, List, [], ◌∷◌, length, Some, arith, get_or}
+use Rattle.std.proofs.Common.{◌≡◌, ◌≢◌, ◌∙◌, ◌<◌, ◌++◌, ◌⊎◌, inl, inr, sym, ap, refl, subst, ℕ, zero, suc, true, List, ◌∷◌, length, Some, arith, get_or}
 use Rattle.std.specs.List.{AllByRecursion, slice_get}
 use Rattle.std.proofs.lemmas.Option.{get_or_from_slice_get, same_Some, slice_get-get_or, slice_get_within}
-use Rattle.sw_logs.specs.Orders.{AreNumbersOf, HasKnown, KeepsBy, KeepsSessions, KeepsTimes, StandOnce, StandsAt, is_known}
+use Rattle.sw_logs.specs.Orders.{AreNumbersOf, KeepsBy, KeepsSessions, StandOnce, StandsAt, is_known}
 use Rattle.sw_logs.specs.declared.logged.Logged.{Logged}
 use Rattle.sw_logs.specs.declared.order.By.{By}
 use Rattle.sw_logs.specs.declared.order.By.TheVariants as by
 use Rattle.sw_order_laws.specs.Beginnings.{IsIn, IsInTime, MayComeNext, MayPrecede}
-use Rattle.sw_order_laws.proofs.Numbers.{Pairs, all_at, all_given, all_join, all_split, around, in_either, in_front, in_left, in_right, pairs_at, pairs_cross, pairs_exchanged, pairs_first, pairs_given, pairs_last, pairs_moved}
+use Rattle.sw_order_laws.proofs.Numbers.{Pairs, all_at, all_given, all_join, all_split, all_weaker, in_either, in_front, in_left, in_right, pairs_at, pairs_cross, pairs_exchanged, pairs_first, pairs_given, pairs_join, pairs_last, pairs_moved}
 
 -- a call may stand before a later one, which is another
 pub record MayStand (keeping : By) (calls : List Logged) (i j : ℕ) : Type 0 where
@@ -89,6 +89,7 @@ may_stand keeping calls placed between rest i c next pairs = all_given (MayStand
   where
     behind : (p j : ℕ) → slice_get between p ≡ Some j → j ≢ i
     behind p j e = (all_at (λ x. AllByRecursion (MayStand keeping calls x) (i ∷ rest)) between (pairs_cross (MayStand keeping calls) between (i ∷ rest) (pairs_last (MayStand keeping calls) placed (between ++ i ∷ rest) pairs)) p j e).0.other
+
     elsewhere : (p j : ℕ) → slice_get between p ≡ Some j → (q : ℕ) → slice_get placed q ≡ Some j → ⊥
     elsewhere p j e q f = (all_at (MayStand keeping calls j) between (all_split (MayStand keeping calls j) between (i ∷ rest) (all_at (λ x. AllByRecursion (MayStand keeping calls x) (between ++ i ∷ rest)) placed (pairs_cross (MayStand keeping calls) placed (between ++ i ∷ rest) pairs) q j f)).0 p j e).other refl
 
@@ -114,12 +115,35 @@ moved_in placed between rest i n h = first (in_either placed (between ++ i ∷ r
     third : IsIn (i ∷ rest) n → (p : ℕ) → slice_get (i ∷ rest) p ≡ Some n → IsIn (placed ++ i ∷ (between ++ rest)) n
     third h zero e = in_right placed (i ∷ (between ++ rest)) n (0, e)
     third h (suc p) e = in_right placed (i ∷ (between ++ rest)) n (in_front i (between ++ rest) n (in_right between rest n (p, e)))
+
     second : IsIn between n ⊎ IsIn (i ∷ rest) n → IsIn (placed ++ i ∷ (between ++ rest)) n
     second (inl a) = in_right placed (i ∷ (between ++ rest)) n (in_front i (between ++ rest) n (in_left between rest n a))
     second (inr b) = third b b.0 b.1
+
     first : IsIn placed n ⊎ IsIn (between ++ i ∷ rest) n → IsIn (placed ++ i ∷ (between ++ rest)) n
     first (inl a) = in_left placed (i ∷ (between ++ rest)) n a
     first (inr b) = second (in_either between (i ∷ rest) n b)
+
+-- ---- one call is left out
+
+pub order_without : (keeping : By) (calls : List Logged) (placed rest : List ℕ) (i : ℕ) → AreInOrder keeping calls (placed ++ i ∷ rest) → AreInOrder keeping calls (placed ++ rest)
+order_without keeping calls placed rest i o =
+    let numbers = all_split (λ (n : ℕ). n < length calls) placed (i ∷ rest) o.numbers in
+    record {
+      numbers = all_join (λ (n : ℕ). n < length calls) placed rest numbers.0 numbers.1.1;
+      pairs = pairs_join (MayStand keeping calls) placed rest (pairs_first (MayStand keeping calls) placed (i ∷ rest) o.pairs) (pairs_last (MayStand keeping calls) placed (i ∷ rest) o.pairs).1 (all_weaker (λ x. AllByRecursion (MayStand keeping calls x) (i ∷ rest)) (λ x. AllByRecursion (MayStand keeping calls x) rest) placed (λ x a. a.1) (pairs_cross (MayStand keeping calls) placed (i ∷ rest) o.pairs));
+    }
+
+pub without_in : (placed rest : List ℕ) (i n : ℕ) → (i ≡ n → ⊥) → IsIn (placed ++ i ∷ rest) n → IsIn (placed ++ rest) n
+without_in placed rest i n other h = first (in_either placed (i ∷ rest) n h)
+  where
+    later : (p : ℕ) → slice_get (i ∷ rest) p ≡ Some n → IsIn (placed ++ rest) n
+    later zero e = absurd (other (same_Some i n e))
+    later (suc p) e = in_right placed rest n (p, e)
+
+    first : IsIn placed n ⊎ IsIn (i ∷ rest) n → IsIn (placed ++ rest) n
+    first (inl a) = in_left placed rest n a
+    first (inr b) = later b.0 b.1
 
 -- ---- a beginning changes places with another of the same calls
 

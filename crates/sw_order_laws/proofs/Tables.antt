@@ -1,10 +1,10 @@
 -- What a call asks of the rows that live and of how many were given, and what it does to them.
-use Rattle.std.proofs.Common.{◌≡◌, ◌≢◌, ◌∙◌, ◌+◌, ◌++◌, ◌<◌, ◌≤◌, ◌==◌, ◌&&◌, sym, ap, refl, subst, fold, map, cond, filter, not, ℕ, ℤ, zero, suc, Bool, true, false, List, [], ◌∷◌, length, arith, append_assoc}
-use Rattle.std.specs.List.{All, AllByRecursion}
+use Rattle.std.proofs.Common.{◌≡◌, ◌∙◌, ◌+◌, ◌++◌, ◌<◌, ◌==◌, ◌&&◌, sym, ap, refl, subst, fold, map, cond, filter, not, ℕ, Bool, true, false, List, [], ◌∷◌, length, arith}
+use Rattle.std.specs.List.{AllByRecursion}
 use Rattle.std.proofs.lemmas.Bool.Decides.{nat_tests}
 use Rattle.std.proofs.lemmas.List.{append-nil}
-use Rattle.std.proofs.lemmas.List.Elements.{All-tail, filter-append, recursion_from_All}
-use Rattle.sw_rows.specs.Scan.{answer, answer_over, matching, meets_all}
+use Rattle.std.proofs.lemmas.List.Elements.{filter-append, recursion_from_All}
+use Rattle.sw_rows.specs.Scan.{answer_over, matching, meets_all}
 use Rattle.sw_rows.specs.declared.query.Call.{Call}
 use Rattle.sw_rows.specs.declared.query.Call.TheVariants as call
 use Rattle.sw_rows.specs.declared.reply.Reply.{Reply}
@@ -100,6 +100,7 @@ rows_after limit us (call.Insert cells) up = by_room (inserts us == limit)
   where
     whole : (bs : List Row) → filter (λ (r : Row). true) (rows_of us) ++ bs ≡ rows_of us ++ bs
     whole bs = ap (λ (l : List Row). l ++ bs) (none_taken (rows_of us))
+
     by_room : (b : Bool) → rows_of (us ++ cond b [] (update.Insert (row (inserts us + 1) cells) ∷ [])) ≡ filter (λ (r : Row). true) (rows_of us) ++ cond b [] (row (inserts us + 1) cells ∷ [])
     by_room true = ap rows_of (append-nil us) ∙ sym (whole [] ∙ append-nil (rows_of us))
     by_room false = rows_push us (update.Insert (row (inserts us + 1) cells)) ∙ sym (whole (row (inserts us + 1) cells ∷ []))
@@ -206,6 +207,10 @@ reply_same limit m n (call.Select q) xs ys same given = ap (λ (l : List Row). a
 reply_same limit m n (call.Insert cells) xs ys same given = ap (λ (k : ℕ). cond (k == limit) reply.Full (reply.Inserted (k + 1))) (given refl)
 reply_same limit m n (call.Delete key) xs ys same given = ap (λ (l : List Row). cond (has_key key l) reply.Removed reply.NoSuchKey) same
 reply_same limit m n (call.DeleteWhere conds) xs ys same given = ap (λ (l : List Row). reply.RemovedMany (length l)) same
+
+-- a call is replied the same over lists of which it asks for the same rows
+pub replies_by_seen : (limit : ℕ) (us vs : List Update) (c : Call) → filter (asks c) (rows_of us) ≡ filter (asks c) (rows_of vs) → (is_insert c ≡ true → inserts us ≡ inserts vs) → reply_to limit us c ≡ reply_to limit vs c
+replies_by_seen limit us vs c seen given = reply_is limit us c ∙ (reply_same limit (inserts us) (inserts vs) c (filter (asks c) (rows_of us)) (filter (asks c) (rows_of vs)) seen given ∙ sym (reply_is limit vs c))
 
 -- a call is replied the same before and after one that does not bear on it
 pub reply_stays : (limit : ℕ) (us : List Update) (c d : Call) → AreRising us → AsksForNone d (rows_changed limit us c) → (is_insert c && is_insert d) ≡ false → reply_to limit (updates_then limit us c) d ≡ reply_to limit us d

@@ -1,8 +1,10 @@
 -- Beginnings of orders: some of the logs' calls, in an order in which a plain list gives each its reply. A call goes by
 -- its number among the calls, and a beginning is the list of the numbers of the calls that it places.
-use Rattle.std.specs.Prelude.{◌≡◌, ◌≢◌, ◌↔◌, ◌<◌, ◌≤◌, ◌+◌, ◌++◌, ℕ, true, List, [], ◌∷◌, Option, Some, None, IfSome, slice_get}
-use Rattle.sw_lang.specs.Replies.{reply_lines}
+use Rattle.std.specs.Prelude.{◌≡◌, ◌≢◌, ◌↔◌, ◌<◌, ◌≤◌, ◌+◌, ◌++◌, ℕ, true, List, [], ◌∷◌, Option, Some, None, IfSome, codes, slice_get}
+use Rattle.sw_lang.specs.Replies.{removed_line, reply_lines}
 use Rattle.sw_rows.specs.Header.{Column}
+use Rattle.sw_rows.specs.declared.query.Call.{Call}
+use Rattle.sw_rows.specs.declared.query.Call.TheVariants as call
 use Rattle.sw_spine.specs.History.{History, IsLegal}
 use Rattle.sw_spine.specs.Table.{inserts, opened, reply_to, update_by, updates_then}
 use Rattle.sw_table.specs.Updates.{rows_of}
@@ -89,6 +91,13 @@ pub record MayComeNext (keeping : By) (calls : List Logged) (placed : List ℕ) 
 -- the list gives a call the reply that its log has
 abbrev pub IsReplied : List Column → ℕ → List Update → Logged → Type 0
 IsReplied columns limit us c = IfSome c.reply (λ lines. lines ≡ reply_lines columns c.call (reply_to limit us c.call))
+
+-- lines that a call is replied only where it changes nothing
+abbrev pub TellsOfNone : Call → List (List ℕ) → Type 0
+TellsOfNone (call.Select q) lines = Unit {0}
+TellsOfNone (call.Insert cells) lines = lines ≡ codes "full" ∷ []
+TellsOfNone (call.Delete key) lines = lines ≡ codes "no such key" ∷ []
+TellsOfNone (call.DeleteWhere conds) lines = lines ≡ removed_line 0 ∷ []
 
 -- a call of known outcome that may come next, is given its reply, and changes nothing
 pub record IsIdleNext (keeping : By) (opening : Opening) (calls : List Logged) (placed : List ℕ) (i : ℕ) : Type 0 where

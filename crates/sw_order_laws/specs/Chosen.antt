@@ -1,5 +1,5 @@
 -- Calls of which one has to be placed next, and what a search has tried.
-use Rattle.std.specs.Prelude.{◌≡◌, ◌≢◌, ◌<◌, ◌++◌, ◌&&◌, ℕ, Bool, true, false, List, [], ◌∷◌, IfSome, Some, slice_get}
+use Rattle.std.specs.Prelude.{◌≡◌, ◌≢◌, ◌<◌, ◌++◌, ◌&&◌, ℕ, true, false, List, [], ◌∷◌, IfSome, Some, slice_get}
 use Rattle.sw_rows.specs.declared.query.Call.{Call}
 use Rattle.sw_rows.specs.declared.query.Call.TheVariants as call
 use Rattle.sw_spine.specs.Table.{inserts, row}
@@ -18,12 +18,16 @@ IsUnseen given (call.Insert cells) c = (key : ℕ) → given < key → asks c (r
 IsUnseen given (call.Delete key) c = Unit {0}
 IsUnseen given (call.DeleteWhere conds) c = Unit {0}
 
--- a call does not bear on another that may be placed here, wherever it comes before it
-pub record LeavesAlone (limit : ℕ) (us : List Update) (d c : Call) : Type 0 where
+-- a call brings or takes out no row that another asks for here, wherever it comes before it
+pub record LeavesRows (limit : ℕ) (us : List Update) (d c : Call) : Type 0 where
   pub brings : IsUnseen (inserts us) d c
   pub takes : AsksForNone c (rows_changed limit us d)
-  pub asks : AsksForNone d (rows_changed limit us c)
   pub one_inserts : (is_insert d && is_insert c) ≡ false
+
+-- nor does it ask for one that the other changes here: it does not bear on it
+pub record LeavesAlone (limit : ℕ) (us : List Update) (d c : Call) : Type 0 where
+  pub rows : LeavesRows limit us d c
+  pub asks : AsksForNone d (rows_changed limit us c)
 
 -- none of the calls of these numbers does
 abbrev pub AllLeaveAlone : ℕ → List Logged → List Update → Call → List ℕ → Type 0
@@ -115,13 +119,13 @@ pub record IsSameState (opening : Opening) (calls : List Logged) (one other : Li
 -- of calls that are enough was placed; the calls placed are no beginning; or a beginning of the same state was met before
 pub data IsExhausted (keeping : By) (opening : Opening) (calls : List Logged) : List ℕ → Type 0 where
   at_once :
-    (placed : List ℕ) (i : ℕ) → IsIdleNext keeping opening calls placed i
-    → IsExhausted keeping opening calls (placed ++ i ∷ []) → IsExhausted keeping opening calls placed
+      (placed : List ℕ) (i : ℕ) → IsIdleNext keeping opening calls placed i
+      → IsExhausted keeping opening calls (placed ++ i ∷ []) → IsExhausted keeping opening calls placed
   each_tried :
-    (placed chosen : List ℕ) → AreEnough keeping opening calls placed chosen
-    → ((i : ℕ) → IsIn chosen i → IsExhausted keeping opening calls (placed ++ i ∷ []))
-    → IsExhausted keeping opening calls placed
+      (placed chosen : List ℕ) → AreEnough keeping opening calls placed chosen
+      → ((i : ℕ) → IsIn chosen i → IsExhausted keeping opening calls (placed ++ i ∷ []))
+      → IsExhausted keeping opening calls placed
   refused : (placed : List ℕ) → ¬ IsBeginning keeping opening calls placed → IsExhausted keeping opening calls placed
   met_before :
-    (one other : List ℕ) → IsBeginning keeping opening calls one → IsSameState opening calls one other
-    → IsExhausted keeping opening calls one → IsExhausted keeping opening calls other
+      (one other : List ℕ) → IsBeginning keeping opening calls one → IsSameState opening calls one other
+      → IsExhausted keeping opening calls one → IsExhausted keeping opening calls other

@@ -1,9 +1,8 @@
 -- What a search for an order may rest on.
-use Rattle.std.specs.Prelude.{◌≡◌, ◌++◌, ℕ, true, List, [], ◌∷◌, Some, slice_get}
+use Rattle.std.specs.Prelude.{◌≡◌, ◌++◌, ℕ, true, false, List, [], ◌∷◌, Some, slice_get}
 use Rattle.sw_spine.specs.History.{History}
-use Rattle.sw_spine.specs.Table.{updates_then}
+use Rattle.sw_spine.specs.Table.{update_by}
 use Rattle.sw_rows.specs.declared.query.Call.{Call}
-use Rattle.sw_table.specs.declared.row.Update.{Update}
 use Rattle.sw_logs.specs.Openings.{IsOpening}
 use Rattle.sw_logs.specs.Orders.{IsOrderFound, is_known}
 use Rattle.sw_logs.specs.declared.logged.Logged.{Logged}
@@ -11,8 +10,8 @@ use Rattle.sw_logs.specs.declared.opening.Opening.{Opening}
 use Rattle.sw_logs.specs.declared.order.By.{By}
 use Rattle.sw_logs.specs.declared.order.Order.{Order}
 use Rattle.sw_order_laws.specs.Apart.{AreAllApart, AreApart}
-use Rattle.sw_order_laws.specs.Chosen.{AllLeaveAlone, AreClosed, AreEnough, IsExhausted, IsSameState}
-use Rattle.sw_order_laws.specs.Beginnings.{AreAlike, CanEnd, IsBeginning, IsIdleNext, IsIn, IsWhole, MayComeNext, MayPrecede, updates_by}
+use Rattle.sw_order_laws.specs.Chosen.{AllLeaveAlone, AreClosed, AreEnough, IsExhausted, IsSameState, Lacks, LeavesRows, MayComeBefore}
+use Rattle.sw_order_laws.specs.Beginnings.{AreAlike, CanEnd, IsBeginning, IsIdleNext, IsIn, IsReplied, IsWhole, MayComeNext, MayPrecede, TellsOfNone, updates_by}
 
 -- an order that is found is a whole beginning
 abbrev pub OrdersAreWhole : Type 0
@@ -41,6 +40,21 @@ IdleCallsComeNext =
     (keeping : By) (opening : Opening) (calls : List Logged) (placed : List ℕ) (i : ℕ)
     → IsOpening opening → IsIdleNext keeping opening calls placed i
     → CanEnd keeping opening calls placed → CanEnd keeping opening calls (placed ++ i ∷ [])
+
+-- a call that has the list's reply changes nothing where the reply tells so
+abbrev pub RepliesTellOfNone : Type 0
+RepliesTellOfNone =
+    (opening : Opening) (calls : List Logged) (placed : List ℕ) (c : Logged) (lines : List (List ℕ)) → IsOpening opening
+    → c.reply ≡ Some lines → IsReplied opening.schema opening.limit (updates_by opening calls placed) c
+    → TellsOfNone c.call lines → update_by opening.limit (updates_by opening calls placed) c.call ≡ []
+
+-- a call of unknown outcome that changes nothing where it stands may be left out
+abbrev pub UnknownMayBeLeftOut : Type 0
+UnknownMayBeLeftOut =
+    (keeping : By) (opening : Opening) (calls : List Logged) (placed rest : List ℕ) (i : ℕ) (c : Logged)
+    → slice_get calls i ≡ Some c → is_known c ≡ false
+    → update_by opening.limit (updates_by opening calls placed) c.call ≡ []
+    → IsWhole keeping opening calls (placed ++ i ∷ rest) → IsWhole keeping opening calls (placed ++ rest)
 
 -- two calls next to each other that do not bear on one another change places, where the second may precede the first
 abbrev pub CallsApartChangePlaces : Type 0
@@ -95,6 +109,17 @@ abbrev pub ClosedAreEnough : Type 0
 ClosedAreEnough =
     (keeping : By) (opening : Opening) (calls : List Logged) (placed chosen : List ℕ)
     → AreClosed keeping opening calls placed chosen → AreEnough keeping opening calls placed chosen
+
+-- a call that does not have its reply here has it in no order where nothing that brings or takes out rows that it asks
+-- for stands between
+abbrev pub UntouchedLack : Type 0
+UntouchedLack =
+    (keeping : By) (opening : Opening) (calls : List Logged) (placed chosen : List ℕ) (i : ℕ) (c : Logged)
+    → IsOpening opening → IsIn chosen i → slice_get calls i ≡ Some c → is_known c ≡ true
+    → ¬ IsReplied opening.schema opening.limit (updates_by opening calls placed) c
+    → ((o : ℕ) (d : Logged) → MayComeBefore keeping calls placed chosen o d
+    → LeavesRows opening.limit (updates_by opening calls placed) d.call c.call)
+    → Lacks keeping opening calls placed chosen i
 
 -- where all was tried no order begins with these calls
 abbrev pub ExhaustedHasNoEnd : Type 0

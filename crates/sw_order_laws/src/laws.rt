@@ -1,6 +1,6 @@
 //! The laws. Each function does nothing.
 
-ghost use Rattle.sw_order_laws.specs.Laws.{AlikeHaveOneFuture, CallsApartChangePlaces, CallsApartLeaveTheSame, CallsApartMove, ClosedAreEnough, ExhaustedHasNoEnd, ExhaustedHasNoOrder, IdleCallsComeNext, IdleCallsMove, LeftAloneStaysApart, OneOfEnoughComesNext, OrdersAreWhole, WholeAreOrders};
+ghost use Rattle.sw_order_laws.specs.Laws.{AlikeHaveOneFuture, CallsApartChangePlaces, CallsApartLeaveTheSame, CallsApartMove, ClosedAreEnough, ExhaustedHasNoEnd, ExhaustedHasNoOrder, IdleCallsComeNext, IdleCallsMove, LeftAloneStaysApart, OneOfEnoughComesNext, OrdersAreWhole, RepliesTellOfNone, UnknownMayBeLeftOut, UntouchedLack, WholeAreOrders};
 
 /// A whole beginning is an order: each order that is found is one, and of each there is a history with which it is an order
 /// that is found.
@@ -13,6 +13,8 @@ pub fn whole_beginnings_are_orders()
 pub fn idle_calls_come_at_once()
     ensures moved { IdleCallsMove }
     ensures next { IdleCallsComeNext }
+    ensures told { RepliesTellOfNone }
+    ensures left_out { UnknownMayBeLeftOut }
 {}
 
 /// Calls that do not bear on one another need one order alone.
@@ -33,6 +35,7 @@ pub fn equal_states_have_equal_futures()
 pub fn enough_calls_are_enough()
     ensures next { OneOfEnoughComesNext }
     ensures closed { ClosedAreEnough }
+    ensures lacking { UntouchedLack }
 {}
 
 /// Where a search has tried all there is no order.

@@ -1,4 +1,4 @@
-use Rattle.sw_order_laws.proofs.Choosing.{closed_are_enough, one_of_enough_comes_next}
+use Rattle.sw_order_laws.proofs.Choosing.{closed_are_enough, one_of_enough_comes_next, untouched_lack}
 use Rattle.sw_order_laws.proofs.laws.enough_calls_are_enough.Goals as goal
 
 pub returns-clause-next : goal.returns-clause-next
@@ -6,3 +6,6 @@ returns-clause-next c = one_of_enough_comes_next
 
 pub returns-clause-closed : goal.returns-clause-closed
 returns-clause-closed c = closed_are_enough
+
+pub returns-clause-lacking : goal.returns-clause-lacking
+returns-clause-lacking c = untouched_lack
