@@ -93,18 +93,25 @@ Lacks keeping opening calls placed chosen i =
     (between behind : List ℕ) → AreOthers chosen between
     → ¬ IsWhole keeping opening calls (placed ++ (between ++ i ∷ behind))
 
--- a call may come next, and none of the others that may come before those chosen bears on it
+-- none of the others that may come before those chosen bears on a call
+abbrev pub OthersLeaveAlone : By → Opening → List Logged → List ℕ → List ℕ → Call → Type 0
+OthersLeaveAlone keeping opening calls placed chosen c =
+    (o : ℕ) (d : Logged) → MayComeBefore keeping calls placed chosen o d
+    → LeavesAlone opening.limit (updates_by opening calls placed) d.call c
+
+-- a call may come next, and none of the others bears on it
 pub record StandsFree (keeping : By) (opening : Opening) (calls : List Logged) (placed chosen : List ℕ) (i : ℕ) (c : Logged) : Type 0 where
   pub next : MayComeNext keeping calls placed i c
-  pub alone : (o : ℕ) (d : Logged) → MayComeBefore keeping calls placed chosen o d → LeavesAlone opening.limit (updates_by opening calls placed) d.call c.call
+  pub alone : OthersLeaveAlone keeping opening calls placed chosen c.call
 
--- why no order is missed where a call that is chosen is not tried, or is placed at once
+-- a call that is chosen waits for another of them; or it is in no order where none of them stands between; or it stands
+-- free
 pub data IsSettled (keeping : By) (opening : Opening) (calls : List Logged) (placed chosen : List ℕ) (i : ℕ) (c : Logged) : Type 0 where
   waits : Waits keeping calls placed chosen i c → IsSettled keeping opening calls placed chosen i c
   lacks : Lacks keeping opening calls placed chosen i → IsSettled keeping opening calls placed chosen i c
   free : StandsFree keeping opening calls placed chosen i c → IsSettled keeping opening calls placed chosen i c
 
--- a set of calls that asks for no more
+-- a set of calls that asks for no more: one has to be placed, and each of them is settled
 pub record AreClosed (keeping : By) (opening : Opening) (calls : List Logged) (placed chosen : List ℕ) : Type 0 where
   pub due : ℕ
   pub is_due : IsDue calls placed chosen due
