@@ -179,7 +179,7 @@ impl Choices {
 
     /// Whether a call that may come before a member that may be placed here bears on it.
     ///
-    /// Of the others it does not (`LeavesAlone` of sw_order_laws), or it cannot have its reply before the member.
+    /// Where it does not, it leaves the member alone (`LeavesAlone` of sw_order_laws), or cannot have its reply before it.
     fn bears_on(&self, problem: &Problem, state: &State, other: &Task, task: &Task) -> bool {
         match task.act {
             Act::Insert(row, key) => Choices::bears_on_insert(problem, state, other, row, key),
