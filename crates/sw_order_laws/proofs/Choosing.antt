@@ -36,7 +36,7 @@ record Stays (us vs : List Update) (c : Call) : Type 0 where
   more : inserts us ≤ inserts vs
   same : is_insert c ≡ true → inserts vs ≡ inserts us
 
-all_none : (p : Row → Bool) (rs : List Row) → filter p rs ≡ [] → AllByRecursion (λ r. p r ≡ false) rs
+pub all_none : (p : Row → Bool) (rs : List Row) → filter p rs ≡ [] → AllByRecursion (λ r. p r ≡ false) rs
 all_none p [] h = tt
 all_none p (r ∷ rs) h = by_test (all_none p rs) (p r) refl h
   where
@@ -117,7 +117,7 @@ in_cons x xs i h = by_place h.0 h.1
     by_place zero e = inl (same_Some x i e)
     by_place (suc p) e = inr (p, e)
 
-in_or : (xs : List ℕ) (i : ℕ) → IsIn xs i ⊎ (IsIn xs i → ⊥)
+pub in_or : (xs : List ℕ) (i : ℕ) → IsIn xs i ⊎ (IsIn xs i → ⊥)
 in_or [] i = inr (nowhere i)
 in_or (x ∷ xs) i = by_both (same_or x i) (in_or xs i)
   where
@@ -195,7 +195,7 @@ module _ (keeping : By) (opening : Opening) (calls : List Logged) (placed chosen
       later (inr b) = last (in_either between (i ∷ f.behind) j b)
 
   -- those between are calls that may come before
-  before : (between : List ℕ) (i : ℕ) (f : ComesFirst keeping opening calls placed chosen between i) (o : ℕ) (d : Logged) → IsIn between o → slice_get calls o ≡ Some d → MayComeBefore keeping calls placed chosen o d
+  pub before : (between : List ℕ) (i : ℕ) (f : ComesFirst keeping opening calls placed chosen between i) (o : ℕ) (d : Logged) → IsIn between o → slice_get calls o ≡ Some d → MayComeBefore keeping calls placed chosen o d
   before between i f o d b there = record {
     there = there;
     fresh = λ a. (all_at (MayStand keeping calls o) (between ++ i ∷ f.behind) (all_at (λ x. AllByRecursion (MayStand keeping calls x) (between ++ i ∷ f.behind)) placed (pairs_cross (MayStand keeping calls) placed (between ++ i ∷ f.behind) (pairs between i f)) a.0 o a.1) (in_left between (i ∷ f.behind) o b).0 o (in_left between (i ∷ f.behind) o b).1).other refl;
@@ -204,7 +204,7 @@ module _ (keeping : By) (opening : Opening) (calls : List Logged) (placed chosen
   }
 
 -- what holds of each of some calls
-each_call : (calls : List Logged) (P : Logged → Type 0) (o : ℕ) (x : Option Logged) → slice_get calls o ≡ x → ((d : Logged) → slice_get calls o ≡ Some d → P d) → IfSome x P
+pub each_call : (calls : List Logged) (P : Logged → Type 0) (o : ℕ) (x : Option Logged) → slice_get calls o ≡ x → ((d : Logged) → slice_get calls o ≡ Some d → P d) → IfSome x P
 each_call calls P o None is h = tt
 each_call calls P o (Some d) is h = h d is
 

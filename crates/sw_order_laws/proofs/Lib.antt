@@ -7,3 +7,4 @@ pub mod Numbers
 pub mod Placings
 pub mod Standing
 pub mod Tables
+pub mod Wanting

@@ -46,7 +46,7 @@ none_taken : (rs : List Row) → filter (λ (r : Row). true) rs ≡ rs
 none_taken [] = refl
 none_taken (r ∷ rs) = ap (λ (l : List Row). r ∷ l) (none_taken rs)
 
-all_left : (rs : List Row) → filter (λ (r : Row). false) rs ≡ []
+pub all_left : (rs : List Row) → filter (λ (r : Row). false) rs ≡ []
 all_left [] = refl
 all_left (r ∷ rs) = all_left rs
 
@@ -226,7 +226,7 @@ takes_asks (call.Insert cells) r h = refl
 takes_asks (call.Delete key) r h = h
 takes_asks (call.DeleteWhere conds) r h = h
 
-all_kept : (d : Call) (rs : List Row) → AllByRecursion (λ r. asks d r ≡ false) rs → filter (λ r. not (takes d r)) rs ≡ rs
+pub all_kept : (d : Call) (rs : List Row) → AllByRecursion (λ r. asks d r ≡ false) rs → filter (λ r. not (takes d r)) rs ≡ rs
 all_kept d [] a = refl
 all_kept d (r ∷ rs) a = ap (λ (t : Bool). cond (not t) (r ∷ filter (λ x. not (takes d x)) rs) (filter (λ x. not (takes d x)) rs)) (takes_asks d r a.0) ∙ ap (λ (l : List Row). r ∷ l) (all_kept d rs a.1)
 

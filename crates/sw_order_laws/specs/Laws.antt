@@ -3,6 +3,7 @@ use Rattle.std.specs.Prelude.{◌≡◌, ◌++◌, ℕ, true, false, List, [], �
 use Rattle.sw_spine.specs.History.{History}
 use Rattle.sw_spine.specs.Table.{update_by}
 use Rattle.sw_rows.specs.declared.query.Call.{Call}
+use Rattle.sw_table.specs.declared.row.Row.{Row}
 use Rattle.sw_logs.specs.Openings.{IsOpening}
 use Rattle.sw_logs.specs.Orders.{IsOrderFound, is_known}
 use Rattle.sw_logs.specs.declared.logged.Logged.{Logged}
@@ -11,6 +12,7 @@ use Rattle.sw_logs.specs.declared.order.By.{By}
 use Rattle.sw_logs.specs.declared.order.Order.{Order}
 use Rattle.sw_order_laws.specs.Apart.{AreAllApart, AreApart}
 use Rattle.sw_order_laws.specs.Chosen.{AllLeaveAlone, AreClosed, AreEnough, IsExhausted, IsSameState, Lacks, LeavesRows, MayComeBefore}
+use Rattle.sw_order_laws.specs.Wanting.{IsPart, OthersBringNone, OthersTakeNone, Suits, rows_met}
 use Rattle.sw_order_laws.specs.Beginnings.{AreAlike, CanEnd, IsBeginning, IsIdleNext, IsIn, IsReplied, IsWhole, MayComeNext, MayPrecede, TellsOfNone, updates_by}
 
 -- an order that is found is a whole beginning
@@ -120,6 +122,23 @@ UntouchedLack =
     → ((o : ℕ) (d : Logged) → MayComeBefore keeping calls placed chosen o d
     → LeavesRows opening.limit (updates_by opening calls placed) d.call c.call)
     → Lacks keeping opening calls placed chosen i
+
+-- where nothing comes that it asks for, a call meets some of the rows that it would meet here: where none of these suit, it
+-- is in no such order
+abbrev pub WantingMoreLack : Type 0
+WantingMoreLack =
+    (keeping : By) (opening : Opening) (calls : List Logged) (placed chosen : List ℕ) (i : ℕ) (c : Logged)
+    → IsOpening opening → IsIn chosen i → slice_get calls i ≡ Some c
+    → ((met : List Row) → IsPart met (rows_met (updates_by opening calls placed) c.call) → ¬ Suits opening.schema c met)
+    → OthersBringNone keeping opening calls placed chosen c.call → Lacks keeping opening calls placed chosen i
+
+-- where none of them goes, it meets them all, with others perhaps: where no such rows suit, it is in no such order
+abbrev pub WantingFewerLack : Type 0
+WantingFewerLack =
+    (keeping : By) (opening : Opening) (calls : List Logged) (placed chosen : List ℕ) (i : ℕ) (c : Logged)
+    → IsOpening opening → IsIn chosen i → slice_get calls i ≡ Some c
+    → ((met : List Row) → IsPart (rows_met (updates_by opening calls placed) c.call) met → ¬ Suits opening.schema c met)
+    → OthersTakeNone keeping opening calls placed chosen c.call → Lacks keeping opening calls placed chosen i
 
 -- where all was tried no order begins with these calls
 abbrev pub ExhaustedHasNoEnd : Type 0

@@ -1,6 +1,6 @@
 //! The laws. Each function does nothing.
 
-ghost use Rattle.sw_order_laws.specs.Laws.{AlikeHaveOneFuture, CallsApartChangePlaces, CallsApartLeaveTheSame, CallsApartMove, ClosedAreEnough, ExhaustedHasNoEnd, ExhaustedHasNoOrder, IdleCallsComeNext, IdleCallsMove, LeftAloneStaysApart, OneOfEnoughComesNext, OrdersAreWhole, RepliesTellOfNone, UnknownMayBeLeftOut, UntouchedLack, WholeAreOrders};
+ghost use Rattle.sw_order_laws.specs.Laws.{AlikeHaveOneFuture, CallsApartChangePlaces, CallsApartLeaveTheSame, CallsApartMove, ClosedAreEnough, ExhaustedHasNoEnd, ExhaustedHasNoOrder, IdleCallsComeNext, IdleCallsMove, LeftAloneStaysApart, OneOfEnoughComesNext, OrdersAreWhole, RepliesTellOfNone, UnknownMayBeLeftOut, UntouchedLack, WantingFewerLack, WantingMoreLack, WholeAreOrders};
 
 /// A whole beginning is an order: each order that is found is one, and of each there is a history with which it is an order
 /// that is found.
@@ -36,6 +36,8 @@ pub fn enough_calls_are_enough()
     ensures next { OneOfEnoughComesNext }
     ensures closed { ClosedAreEnough }
     ensures lacking { UntouchedLack }
+    ensures more { WantingMoreLack }
+    ensures fewer { WantingFewerLack }
 {}
 
 /// Where a search has tried all there is no order.
