@@ -1,5 +1,5 @@
 -- Which rows a call meets behind calls that bring none that it asks for, or take out none.
-use Rattle.std.proofs.Common.{◌≡◌, ◌∙◌, ◌<◌, ◌≤◌, ◌+◌, ◌++◌, ◌==◌, ◌&&◌, sym, ap, refl, subst, cond, filter, not, nat_le, ℕ, ℤ, suc, Bool, true, false, List, [], ◌∷◌, length, Option, Some, None, arith}
+use Rattle.std.proofs.Common.{◌≡◌, ◌∙◌, ◌<◌, ◌≤◌, ◌+◌, ◌++◌, ◌==◌, ◌&&◌, sym, ap, refl, subst, cond, filter, not, nat_le, ℕ, ℤ, suc, Bool, true, false, List, [], ◌∷◌, Option, Some, None, arith}
 use Rattle.std.specs.List.{AllByRecursion, slice_get}
 use Rattle.std.specs.Option.{IfSome}
 use Rattle.std.proofs.lemmas.Bool.Decides.{nat_tests}
@@ -18,8 +18,8 @@ use Rattle.sw_logs.specs.declared.logged.Logged.{Logged}
 use Rattle.sw_logs.specs.declared.opening.Opening.{Opening}
 use Rattle.sw_logs.specs.declared.order.By.{By}
 use Rattle.sw_order_laws.specs.Apart.{AsksForNone, asks, is_insert, rows_changed}
-use Rattle.sw_order_laws.specs.Beginnings.{IsIn, IsReplied, IsWhole, after_calls, updates_by, with_call}
-use Rattle.sw_order_laws.specs.Chosen.{AreOthers, ComesFirst, IsUnseen, MayComeBefore}
+use Rattle.sw_order_laws.specs.Beginnings.{IsIn, IsWhole, after_calls, updates_by, with_call}
+use Rattle.sw_order_laws.specs.Chosen.{ComesFirst, IsUnseen}
 use Rattle.sw_order_laws.specs.Laws.{WantingFewerLack, WantingMoreLack}
 use Rattle.sw_order_laws.specs.Wanting.{IsPart, Suits, reply_by, rows_met}
 use Rattle.sw_order_laws.proofs.Beginnings.{IsLaid, laid, replied_at, rising_by}
