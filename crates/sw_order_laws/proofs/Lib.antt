@@ -5,6 +5,7 @@ pub mod Idle
 pub mod Moves
 pub mod Numbers
 pub mod Placings
+pub mod Searches
 pub mod Standing
 pub mod Tables
 pub mod Wanting
