@@ -3,6 +3,9 @@
 //! A set of calls is enough where nothing outside it that may come before one of its members bears on that member: calls
 //! that do not bear on one another need one order alone. The set grows from the call that is due: of a call that may be
 //! placed here, by those that bear on it and may come before it; of another, by some without which it never may.
+//!
+//! That such a set is enough is a law, `enough_calls_are_enough` of sw_order_laws, of sets that are closed (`AreClosed`). That
+//! the sets made here are closed is not proved.
 
 use crate::problem::Problem;
 use crate::small::{at, put};
@@ -175,6 +178,8 @@ impl Choices {
     }
 
     /// Whether a call that may come before a member that may be placed here bears on it.
+    ///
+    /// Where it does not, it leaves the member alone (`LeavesAlone` of sw_order_laws), or cannot have its reply before it.
     fn bears_on(&self, problem: &Problem, state: &State, other: &Task, task: &Task) -> bool {
         match task.act {
             Act::Insert(row, key) => Choices::bears_on_insert(problem, state, other, row, key),
@@ -457,7 +462,8 @@ impl Choices {
         Ok(())
     }
 
-    /// Places those of the calls that may come next that change nothing and have the list's reply; answers how many.
+    /// Places those of the calls that may come next that change nothing and have the list's reply; answers how many. No order
+    /// is missed by it (`idle_calls_come_at_once` of sw_order_laws).
     pub(crate) fn place_idle(
         &self,
         problem: &Problem,

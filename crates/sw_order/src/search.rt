@@ -1,4 +1,7 @@
 //! The search: depth first, with the states remembered that were met.
+//!
+//! A state that was met has the same future again (`equal_states_have_equal_futures` of sw_order_laws), and a search that has
+//! tried all so leaves no order out (`exhausted_searches_have_no_order`). That this one has is not proved.
 
 use crate::choices::Choices;
 use crate::problem::Problem;

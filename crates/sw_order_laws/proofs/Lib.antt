@@ -1,0 +1,11 @@
+pub mod Beginnings
+pub mod Choosing
+pub mod Examples
+pub mod Idle
+pub mod Moves
+pub mod Numbers
+pub mod Placings
+pub mod Searches
+pub mod Standing
+pub mod Tables
+pub mod Wanting
