@@ -1,11 +1,11 @@
 -- What goes on of a text reads as its records under the header.
-use Rattle.std.proofs.Common.{◌≡◌, ◌∙◌, ap, sym, refl, subst, ℕ, zero, suc, ◌+◌, ◌==◌, ◌||◌, ◌&&◌, ◌⊎◌, inl, inr, Bool, true, false, cond, not, List, [], ◌∷◌, ◌++◌, length, map, min, nat_lt, replicate, arith, append_assoc, append-nil, length-append, true≢false}
+use Rattle.std.proofs.Common.{◌≡◌, ◌∙◌, ap, sym, refl, subst, ℕ, ◌+◌, ◌==◌, ◌||◌, ◌⊎◌, inl, inr, Bool, true, false, cond, List, [], ◌∷◌, ◌++◌, length, map, nat_lt, replicate, arith, append_assoc, append-nil, length-append, true≢false}
 use Rattle.std.proofs.lemmas.Bool.Decides.{nat_tests}
 use Rattle.std.specs.List.{list_all}
 use Rattle.sw_headers.specs.declared.rewriting.Place.{Place}
 use Rattle.sw_headers.specs.declared.rewriting.Spot.{Spot}
 use Rattle.sw_headers.specs.declared.rewriting.Spot.TheVariants.{Before, Field, Plain, Quoted, Closed}
-use Rattle.sw_headers.specs.Steps.{Step, begun, closing, commas, copied, ending, entered, finished_at, fresh, inside, is_kept, is_line_end, keeps_at, missed_after, next_field, next_spot, opened, or_quotes, outside, stepped}
+use Rattle.sw_headers.specs.Steps.{Step, begun, closing, commas, copied, entered, finished_at, inside, is_kept, is_line_end, keeps_at, missed_after, next_field, next_spot, opened, or_quotes, stepped}
 use Rattle.sw_headers.specs.Under.{Fields, is_plain_byte, kept, or_empty, record_under, records_under, words}
 use Rattle.sw_headers.proofs.Closing.{Ends, IsOpen, at_end, begins_field, commas_read, ends_line, ends_nil, from_field, header_first, kept_more, kept_nil, line_before, line_end, lines_before, none_read, record_is}
 use Rattle.sw_headers.proofs.Reading.{joined, read, read_to}

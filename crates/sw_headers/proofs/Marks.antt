@@ -1,5 +1,5 @@
 -- The bytes that go on of a whole text, with and without a byte order mark.
-use Rattle.std.proofs.Common.{◌≡◌, ◌∙◌, ap, sym, refl, subst, ℕ, ◌+◌, ◌==◌, ◌||◌, ◌&&◌, ◌⊎◌, inl, inr, Bool, true, false, cond, not, get_or, List, [], ◌∷◌, ◌++◌, replicate, arith, append_assoc, append-nil, true≢false, IfOk, Result, Ok, Err}
+use Rattle.std.proofs.Common.{◌≡◌, ◌∙◌, ap, sym, refl, subst, ℕ, ◌+◌, ◌==◌, ◌&&◌, ◌⊎◌, inl, inr, Bool, true, false, cond, not, get_or, List, [], ◌∷◌, ◌++◌, replicate, arith, append_assoc, append-nil, true≢false, IfOk, Result, Ok, Err}
 use Rattle.std.proofs.lemmas.Bool.Decides.{nat_tests}
 use Rattle.std.specs.Global.{Vec}
 use Rattle.std.specs.List.{list_all}
@@ -7,8 +7,8 @@ use Rattle.csv.specs.Reading.{default_config, is_bom, records, strip_bom}
 use Rattle.sw_headers.specs.declared.rewriting.Place.{Place}
 use Rattle.sw_headers.specs.declared.rewriting.Spot.{Spot}
 use Rattle.sw_headers.specs.declared.rewriting.Spot.TheVariants.{Before, Field, Plain, Quoted, Closed}
-use Rattle.sw_headers.specs.Steps.{Step, begun, copied, entered, finished, going_on, inside, is_kept, is_line_end, missed_after, next_field, next_spot, opened, or_quotes, place_after, rewritten, start, stepped, stepped_at, taken, unmarked}
-use Rattle.sw_headers.specs.Under.{IsUnder, is_plain, is_plain_byte, records_under}
+use Rattle.sw_headers.specs.Steps.{Step, entered, finished, going_on, inside, is_kept, is_line_end, missed_after, next_field, next_spot, opened, or_quotes, place_after, rewritten, start, stepped, stepped_at, taken, unmarked}
+use Rattle.sw_headers.specs.Under.{IsUnder, is_plain_byte, records_under}
 use Rattle.sw_headers.proofs.Closing.{line_end}
 use Rattle.sw_headers.proofs.Law.{after, at, out, out_read}
 use Rattle.sw_headers.proofs.Reading.{records_read}

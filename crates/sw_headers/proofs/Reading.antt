@@ -7,7 +7,7 @@ use Rattle.csv.specs.declared.parser.State.{State}
 use Rattle.csv.specs.declared.parser.State.TheVariants as st
 use Rattle.csv.specs.declared.parser.Action.{Action}
 use Rattle.csv.specs.declared.parser.Action.TheVariants as act
-use Rattle.sw_headers.specs.Steps.{is_line_end, next_spot, opened, outside}
+use Rattle.sw_headers.specs.Steps.{next_spot}
 use Rattle.sw_headers.specs.Under.{Fields}
 use Rattle.sw_headers.specs.declared.rewriting.Spot.{Spot}
 use Rattle.sw_headers.specs.declared.rewriting.Spot.TheVariants.{Before, Field, Plain, Quoted, Closed}

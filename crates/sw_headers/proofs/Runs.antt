@@ -1,5 +1,5 @@
 -- Bytes that belong to the field at hand.
-use Rattle.std.proofs.Common.{◌≡◌, ◌∙◌, ap, sym, refl, subst, ℕ, zero, suc, ◌+◌, ◌<◌, ◌≤◌, ◌==◌, ◌||◌, ◌&&◌, Bool, true, false, cond, not, List, [], ◌∷◌, ◌++◌, length, nat_lt, position, replicate, take, Option, Some, None, arith, add-one, one-add, append_assoc, true≢false}
+use Rattle.std.proofs.Common.{◌≡◌, ◌∙◌, ap, sym, refl, subst, ℕ, ◌+◌, ◌<◌, ◌≤◌, ◌==◌, ◌||◌, ◌&&◌, Bool, true, false, cond, not, List, [], ◌∷◌, ◌++◌, length, nat_lt, position, replicate, take, Some, None, arith, add-one, one-add, append_assoc, true≢false}
 use Rattle.std.proofs.lemmas.Bool.Decides.{nat_tests}
 use Rattle.std.proofs.lemmas.List.{take_all}
 use Rattle.std.specs.List.{list_all, position_or_len, prefix_len}
@@ -139,9 +139,9 @@ takes_one old new text c cs e goes =
       goes.0,
       ap (place_after h k old.place) e ∙ ap (λ p. place_after h k p cs) (sym goes.1),
       ap (λ t. old.out.items ++ going_on h k old.place t) e
-      ∙ sym (append_assoc old.out.items s.1 (going_on h k s.0 cs))
-      ∙ ap (λ a. a ++ going_on h k s.0 cs) (sym goes.2)
-      ∙ ap (λ p. new.out.items ++ going_on h k p cs) (sym goes.1),
+          ∙ sym (append_assoc old.out.items s.1 (going_on h k s.0 cs))
+          ∙ ap (λ a. a ++ going_on h k s.0 cs) (sym goes.2)
+          ∙ ap (λ p. new.out.items ++ going_on h k p cs) (sym goes.1),
     )
 
 takes_all : (old new : Rewriter) (text : List ℕ) (c : ℕ) (cs left : List ℕ) → text ≡ (c ∷ cs) ++ left → old.place.marked ≡ 3 → list_all (stays old.place.spot) (c ∷ cs) ≡ true
@@ -154,10 +154,10 @@ takes_all old new text c cs left e m all goes =
       goes.0,
       ap (place_after h k old.place) e ∙ ap (λ (t : Step). t.0) same ∙ ap (λ p. place_after h k p left) (sym goes.1),
       ap (λ t. old.out.items ++ going_on h k old.place t) e
-      ∙ ap (λ (t : Step). old.out.items ++ t.1) same
-      ∙ sym (append_assoc old.out.items s.1 (going_on h k s.0 left))
-      ∙ ap (λ a. a ++ going_on h k s.0 left) (sym goes.2)
-      ∙ ap (λ p. new.out.items ++ going_on h k p left) (sym goes.1),
+          ∙ ap (λ (t : Step). old.out.items ++ t.1) same
+          ∙ sym (append_assoc old.out.items s.1 (going_on h k s.0 left))
+          ∙ ap (λ a. a ++ going_on h k s.0 left) (sym goes.2)
+          ∙ ap (λ p. new.out.items ++ going_on h k p left) (sym goes.1),
     )
 
 pub takes_run : (old new : Rewriter) (text run left : List ℕ) → text ≡ run ++ left → 0 < length run → old.place.marked ≡ 3 → list_all (stays old.place.spot) run ≡ true

@@ -84,6 +84,10 @@ or_quotes false (b ∷ bytes) = b ∷ bytes
 abbrev pub closing : List ℕ → List Bool → Place → List ℕ
 closing header keeps p = or_quotes p.has_bytes (ending header keeps p)
 
+-- the same of a record that is not the first
+abbrev pub closing_later : List Bool → Place → List ℕ
+closing_later keeps p = or_quotes p.has_bytes (replicate (commas keeps p.field) 44)
+
 -- the place before a record that is not the first
 abbrev pub fresh : Place → Place
 fresh p = record p {
@@ -187,6 +191,10 @@ stays Before c = false
 stays Field c = false
 stays Closed c = false
 
+-- what one of the functions here gives of a header, its columns and a place, by a rewriter
+abbrev pub by : {A : Type 0} → (List ℕ → List Bool → Place → A) → Rewriter → A
+by f r = f r.header.record.items r.header.keeps.items r.place
+
 -- a step was made: the header is the same, and what goes on of it stands behind what went on before
 abbrev pub Goes : Rewriter → Rewriter → Step → Type 0
 Goes old new s = (new.header ≡ old.header) × (new.place ≡ s.0) × (new.out.items ≡ old.out.items ++ s.1)
@@ -195,7 +203,5 @@ Goes old new s = (new.header ≡ old.header) × (new.place ≡ s.0) × (new.out.
 abbrev pub TakesIn : Rewriter → Rewriter → List ℕ → List ℕ → Type 0
 TakesIn old new text left =
     (new.header ≡ old.header)
-    × (place_after old.header.record.items old.header.keeps.items old.place text
-    ≡ place_after old.header.record.items old.header.keeps.items new.place left)
-    × (old.out.items ++ going_on old.header.record.items old.header.keeps.items old.place text
-    ≡ new.out.items ++ going_on old.header.record.items old.header.keeps.items new.place left)
+    × (by place_after old text ≡ by place_after (record new { header = old.header }) left)
+    × (old.out.items ++ by going_on old text ≡ new.out.items ++ by going_on (record new { header = old.header }) left)

@@ -5,7 +5,7 @@
 
 ghost use Rattle.std.specs.Prelude.{◌≡◌, ◌<◌, ◌≤◌, ◌==◌, ◌||◌, ◌++◌, [], length, position, replicate, take, true, IfOk, OnOk};
 ghost use Rattle.std.specs.List.{list_all};
-ghost use Rattle.sw_headers.specs.Steps.{Goes, TakesIn, begun, closing, commas, copied, copied_run, entered, fed, finished, fresh, inside, is_kept, is_line_end, is_mark, missed_after, missed_in, next_spot, opened, or_quotes, outside, start, stays, stepped, taken, unmarked};
+ghost use Rattle.sw_headers.specs.Steps.{Goes, TakesIn, begun, by, closing, closing_later, copied, copied_run, entered, fed, finished, fresh, inside, is_kept, is_line_end, is_mark, missed_after, missed_in, next_spot, opened, or_quotes, outside, start, stays, stepped, taken, unmarked};
 ghost use Rattle.sw_headers.specs.declared.rewriting.Spot.TheVariants.{Before, Plain, Quoted};
 
 use crate::header::Header;
@@ -367,8 +367,7 @@ impl Rewriter {
     /// A record at hand ends. One with fewer fields than the text has columns becomes one with another number than are kept,
     /// and one of which nothing was given on an empty field.
     fn close_other(&mut self) -> Result<(), AllocError>
-        ensures { OnOk result (Goes self.old self.new (self.old.place, or_quotes self.old.place.has_bytes
-            (replicate (commas self.old.header.keeps.items self.old.place.field) 44))) }
+        ensures { OnOk result (Goes self.old self.new (self.old.place, closing_later self.old.header.keeps.items self.old.place)) }
     {
         let commas = self.header.commas(self.place.field);
         if !self.place.has_bytes && commas == 0 {
@@ -379,8 +378,7 @@ impl Rewriter {
 
     /// The record at hand ends.
     fn close(&mut self) -> Result<(), AllocError>
-        ensures { OnOk result (Goes self.old self.new
-            (self.old.place, closing self.old.header.record.items self.old.header.keeps.items self.old.place)) }
+        ensures { OnOk result (Goes self.old self.new (self.old.place, by closing self.old)) }
     {
         if self.place.is_first {
             self.close_first()
@@ -391,8 +389,7 @@ impl Rewriter {
 
     /// The record at hand ends with its line, behind which come the line ends that were passed by.
     fn end_record(&mut self, byte: u8) -> Result<(), AllocError>
-        ensures { OnOk result (Goes self.old self.new
-            (inside self.old.header.record.items self.old.header.keeps.items self.old.place Before byte)) }
+        ensures { OnOk result (Goes self.old self.new (by inside self.old Before byte)) }
     {
         self.close()?;
         self.out.push(byte)?;
@@ -403,8 +400,7 @@ impl Rewriter {
 
     /// A byte that stands in a record, with the spot after it.
     fn go_on(&mut self, spot: Spot, byte: u8) -> Result<(), AllocError>
-        ensures { OnOk result (Goes self.old self.new
-            (inside self.old.header.record.items self.old.header.keeps.items self.old.place spot byte)) }
+        ensures { OnOk result (Goes self.old self.new (by inside self.old spot byte)) }
     {
         match spot {
             Spot::Before => self.end_record(byte),
@@ -422,8 +418,7 @@ impl Rewriter {
 
     /// A byte that stands before a record, with the spot after it. A record begins with a field.
     fn enter(&mut self, spot: Spot, byte: u8) -> Result<(), AllocError>
-        ensures { OnOk result (Goes self.old self.new
-            (entered self.old.header.record.items self.old.header.keeps.items self.old.place spot byte)) }
+        ensures { OnOk result (Goes self.old self.new (by entered self.old spot byte)) }
     {
         match spot {
             Spot::Before => {
@@ -439,8 +434,7 @@ impl Rewriter {
 
     /// A byte behind a byte order mark.
     fn step(&mut self, byte: u8) -> Result<(), AllocError>
-        ensures { OnOk result (Goes self.old self.new
-            (stepped self.old.header.record.items self.old.header.keeps.items self.old.place byte)) }
+        ensures { OnOk result (Goes self.old self.new (by stepped self.old byte)) }
     {
         let spot = next_spot(self.place.spot, byte);
         match self.place.spot {
@@ -451,8 +445,7 @@ impl Rewriter {
 
     /// Takes a byte in.
     fn take(&mut self, byte: u8) -> Result<(), AllocError>
-        ensures { OnOk result (Goes self.old self.new
-            (taken self.old.header.record.items self.old.header.keeps.items self.old.place byte)) }
+        ensures { OnOk result (Goes self.old self.new (by taken self.old byte)) }
     {
         if self.place.is_mark(byte) {
             self.place.marked += 1;
@@ -504,8 +497,7 @@ impl Rewriter {
 
     /// Takes bytes of the text in.
     pub(crate) fn feed(&mut self, text: &[u8]) -> Result<(), AllocError>
-        ensures { OnOk result (Goes self.old self.new
-            (fed self.old.header.record.items self.old.header.keeps.items self.old.place text.now)) }
+        ensures { OnOk result (Goes self.old self.new (by fed self.old text.now)) }
     {
         let mut left = text;
         while !left.is_empty() {
@@ -516,8 +508,7 @@ impl Rewriter {
 
     /// The text is over, perhaps in the middle of a record: quotes that are open are closed.
     pub(crate) fn finish(&mut self) -> Result<(), AllocError>
-        ensures { OnOk result (self.new.out.items ≡ self.old.out.items
-            ++ finished self.old.header.record.items self.old.header.keeps.items self.old.place) }
+        ensures { OnOk result (self.new.out.items ≡ self.old.out.items ++ by finished self.old) }
     {
         self.place = self.place.unmarked();
         match self.place.spot {
