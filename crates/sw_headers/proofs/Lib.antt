@@ -1,0 +1,5 @@
+pub mod Closing
+pub mod Law
+pub mod Marks
+pub mod Reading
+pub mod Runs

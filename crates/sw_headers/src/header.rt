@@ -1,5 +1,10 @@
 //! The header that is given.
 
+ghost use Rattle.std.specs.Prelude.{◌≡◌, ◌≤◌, length};
+ghost use Rattle.std.specs.List.{list_all};
+ghost use Rattle.sw_headers.specs.Steps.{commas, keeps_at, lacking, next_field};
+ghost use Rattle.sw_headers.specs.Under.{kept_in};
+
 use std::alloc::{AllocError, Global};
 
 /// The word for a column that is passed by.
@@ -12,8 +17,6 @@ pub struct Header {
     record: Vec<u8>,
     /// For each column of the text, whether it is kept.
     keeps: Vec<bool>,
-    /// How many are kept.
-    kept: usize,
 }
 
 impl Header {
@@ -23,48 +26,101 @@ impl Header {
         let mut header = Header {
             record: Vec::new(alloc),
             keeps: Vec::new(alloc),
-            kept: 0,
         };
+        let mut has_kept = false;
         for word in asked.split(',') {
-            header.push(word)?;
+            has_kept = header.push(word, has_kept)?;
         }
         Ok(header)
     }
 
-    /// Adds a column.
-    fn push(&mut self, word: &str) -> Result<(), AllocError> {
+    /// Adds a column. Says whether one is kept by now.
+    fn push(&mut self, word: &str, has_kept: bool) -> Result<bool, AllocError> {
         let is_kept = word != PASSED;
         self.keeps.push(is_kept)?;
         if !is_kept {
-            return Ok(());
+            return Ok(has_kept);
         }
-        if self.kept > 0 {
+        if has_kept {
             self.record.push(b',')?;
         }
-        self.kept = self.kept.saturating_add(1);
-        self.record.extend_from_slice(word.as_bytes())
+        self.record.extend_from_slice(word.as_bytes())?;
+        Ok(true)
     }
 
     /// The record of the columns that are kept.
-    pub(crate) fn record(&self) -> &[u8] {
+    pub(crate) fn record(&self) -> &[u8]
+        ensures { result.now ≡ self.now.record.items }
+    {
         self.record.as_slice()
     }
 
-    /// How many columns are kept.
-    pub(crate) fn kept(&self) -> usize {
-        self.kept
-    }
-
     /// Whether the field at a place of a record is kept. Those past the last column are, so that the record has too many.
-    pub(crate) fn keeps(&self, place: usize) -> bool {
+    pub(crate) fn keeps(&self, place: usize) -> bool
+        ensures { result ≡ keeps_at self.now.keeps.items place }
+    {
         match self.keeps.get(place) {
             Some(is_kept) => *is_kept,
             None => true,
         }
     }
 
-    /// Whether a record whose last field is at a place has fewer fields than the text has columns.
-    pub(crate) fn is_past(&self, place: usize) -> bool {
-        place.saturating_add(1) < self.keeps.len()
+    /// The place behind a field.
+    pub(crate) fn next_field(&self, place: usize) -> usize
+        ensures { result ≡ next_field self.now.keeps.items place }
+    {
+        if place < self.keeps.len() {
+            place + 1
+        } else {
+            place
+        }
+    }
+
+    /// How many commas follow a record whose last field is at a place: where it is too short, though it has none or all of
+    /// the fields that are kept, so many that it has another number than are kept.
+    pub(crate) fn commas(&self, place: usize) -> usize
+        ensures { result ≡ commas self.now.keeps.items place }
+    {
+        let keeps = self.keeps.as_slice();
+        if place >= keeps.len() || place + 1 >= keeps.len() {
+            return 0;
+        }
+        lacking(kept_in(&keeps[..place + 1]), kept_in(keeps))
+    }
+
+    /// Whether no column is passed by.
+    pub(crate) fn keeps_all(&self) -> bool
+        ensures { result ≡ list_all (λ k. k) self.now.keeps.items }
+    {
+        self.keeps.iter().all(|is_kept| *is_kept)
+    }
+}
+
+/// How many of some columns are kept.
+fn kept_in(keeps: &[bool]) -> usize
+    ensures result { result ≡ kept_in keeps.now }
+    ensures few { result ≤ length keeps.now }
+{
+    let mut count = 0;
+    let mut rest = keeps;
+    while let Some((is_kept, more)) = rest.split_first() {
+        if *is_kept {
+            count += 1;
+        }
+        rest = more;
+    }
+    count
+}
+
+/// How many commas follow so many fields that are kept, where a record is too short.
+fn lacking(given: usize, all: usize) -> usize
+    ensures { result ≡ lacking given all }
+{
+    if given == 0 {
+        all
+    } else if given == all {
+        1
+    } else {
+        0
     }
 }

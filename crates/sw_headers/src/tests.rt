@@ -5,7 +5,7 @@ use std::io::Read;
 use std::test::Fail;
 
 /// Texts under the header `a,-,b`.
-const CASES: [(&[u8], &[u8]); 14] = [
+const CASES: [(&[u8], &[u8]); 18] = [
     (b"x,y,z\n1,2,3\n", b"a,b\n1,3\n"),
     (b"\xef\xbb\xbf\"x\nx\",y,z\n1,2,3", b"a,b\n\n1,3"),
     (b"", b""),
@@ -23,6 +23,10 @@ const CASES: [(&[u8], &[u8]); 14] = [
     (b"x\n1,\"2", b"a,b\n1"),
     (b"x\n1\"2,3\",4\n", b"a,b\n1\"2,4\n"),
     (b"x\r1,2,3\r", b"a,b\r1,3\r"),
+    (b"\xef", b"a,b"),
+    (b"\xef\xbb", b"a,b"),
+    (b"\xef\xbb\xbf", b""),
+    (b"\xef\xbbx,\"\n\"\n1,2,3\n", b"a,b\n\n1,3\n"),
 ];
 
 #[test]
@@ -60,5 +64,22 @@ fn a_reader_under_a_header(rt: HostRuntime) -> Result<(), Fail> {
     let mut read = Vec::new(rt.alloc());
     Headed::new(rt.alloc(), text, None).read_to_end(&mut read)?;
     assert_eq!(rt; read.as_slice(), text);
+    Ok(())
+}
+
+#[test]
+fn a_long_text_goes_on_as_it_is(rt: HostRuntime) -> Result<(), Fail> {
+    let mut text = Vec::new(rt.alloc());
+    let mut wanted = Vec::new(rt.alloc());
+    text.extend_from_slice(b"x,\"\n\"\n")?;
+    wanted.extend_from_slice(b"a,b\n\n")?;
+    for _ in 0..2000 {
+        text.extend_from_slice(b"1,\"\"\"2\n\"\n")?;
+        wanted.extend_from_slice(b"1,\"\"\"2\n\"\n")?;
+    }
+    let header = Header::new(rt.alloc(), "a,b")?;
+    let mut read = Vec::new(rt.alloc());
+    Headed::new(rt.alloc(), text.as_slice(), Some(header)).read_to_end(&mut read)?;
+    assert_eq!(rt; read.as_slice(), wanted.as_slice());
     Ok(())
 }
