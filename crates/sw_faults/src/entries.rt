@@ -59,10 +59,20 @@ fn entry_in<'t>(alloc: Global, reader: &mut Reader<'t>, number: u64) -> Result<V
     Ok(found)
 }
 
+/// Whether all values are texts.
+fn are_texts(values: &[Value<'_>]) -> bool {
+    for value in values {
+        if value.as_str().is_none() {
+            return false;
+        }
+    }
+    true
+}
+
 /// Whether a value is lines.
 fn are_lines(value: &Value<'_>) -> bool {
     match value {
-        Value::Array(items) => items.iter().all(|item| item.as_str().is_some()),
+        Value::Array(items) => are_texts(items.as_slice()),
         _ => false,
     }
 }
@@ -114,19 +124,43 @@ fn wrong_call(line: &str) -> Option<&'static str> {
 
 /// What is wrong with the values of members that an entry has.
 fn wrong_values(entry: &Value<'_>) -> &'static str {
-    let Some(line) = entry.get("call").and_then(|call| call.as_str()) else {
+    let Some(Value::String(line)) = entry.get("call") else {
         return "member \"call\" is no text";
     };
     if let Some(wrong) = wrong_call(line) {
         return wrong;
     }
-    if !entry.get("session").is_some_and(is_session) {
+    let (Some(session), Some(reply)) = (entry.get("session"), entry.get("reply")) else {
+        return "";
+    };
+    if !is_session(session) {
         return "member \"session\" is no whole number from 1 to 1024";
     }
-    match entry.get("reply").and_then(|reply| wrong_reply(line, reply)) {
+    match wrong_reply(line, reply) {
         Some(wrong) => wrong,
         None => "a delete where stands in a file of format 3 alone",
     }
+}
+
+/// The name of the first member that no entry has, if there is one.
+fn odd_member<'v>(members: &'v [(&str, Value<'_>)]) -> Option<&'v str> {
+    for (name, _) in members {
+        match *name {
+            "call" | "reply" | "session" => {}
+            name => return Some(name),
+        }
+    }
+    None
+}
+
+/// The name of the first member that an entry lacks, if it lacks one.
+fn missing_member(entry: &Value<'_>) -> Option<&'static str> {
+    for name in MEMBERS {
+        if entry.get(name).is_none() {
+            return Some(name);
+        }
+    }
+    None
 }
 
 /// What is wrong with an entry that is an object: a member that no entry has, one that is missing, or the value of one.
@@ -135,11 +169,11 @@ fn wrong_object(
     entry: &Value<'_>,
     members: &[(&str, Value<'_>)],
 ) -> Result<String, AllocError> {
-    if let Some((name, _)) = members.iter().find(|(name, _)| !MEMBERS.contains(name)) {
+    if let Some(name) = odd_member(members) {
         let shown = named(alloc, name)?;
         return format!(in alloc; "member {shown} is not one of call, reply, session");
     }
-    if let Some(name) = MEMBERS.iter().find(|name| entry.get(name).is_none()) {
+    if let Some(name) = missing_member(entry) {
         return format!(in alloc; "member \"{name}\" is missing");
     }
     String::from_str(alloc, wrong_values(entry))
