@@ -3,11 +3,11 @@
 without looking at the history, and the history that the engine kept is in accordance with these times: so as far as these runs show, each call took
 effect at one time between its start and its end.
 
-    tests/logs.py [--program PATH] [--seeds N]
+    tests/logs.py [--program PATH] [--seeds N] [--calls N]
 
-PATH is the built program, by default crates/sideways/out/sideways. Ends with 1 at the first case that is wrong, which it shows; its last line tells
-how many cases there were."""
-import argparse, csv, json, random, resource, subprocess, sys, tempfile
+PATH is the built program, by default crates/sideways/out/sideways; a run has 8 blocks of N calls. Ends with 1 at the first case that is wrong, which
+it shows; its last line tells how many cases there were."""
+import argparse, csv, json, os, random, subprocess, sys, tempfile
 from pathlib import Path
 
 TOP = Path(__file__).resolve().parents[1]
@@ -16,8 +16,8 @@ TABLE = b"a:int,b:int,c:int\n12,7,1\n3,8,0\n12,5,1\n20,2,0\n"
 CALLS = ["count", "insert 1, 9, 0", "select b where a < 10", "delete where a = 12", "delete 77", "insert 2, 2, 2"]
 REPLIES = ["4", "key 5", "2: 8\n5: 9\n(2 rows)", "(2 removed)", "no such key", "key 6"]
 HEADER = ["session", "start", "end", "call", "reply"]
-SESSIONS, EACH, ROWS, MOST = 8, 400, 2000, 2000
-MEMORIES = 24
+SESSIONS, ROWS, MOST = 8, 2000, 2000
+REFUSALS = 400
 
 
 class Wrong(Exception):
@@ -30,7 +30,7 @@ def line(rng):
     if kind == "insert":
         return "insert " + ", ".join(str(rng.randrange(MOST)) for _ in NAMES)
     if kind == "delete":
-        return "delete %d" % rng.randint(1, ROWS + SESSIONS * EACH // 4)
+        return "delete %d" % rng.randint(1, ROWS + ROWS // 4)
     low = rng.randrange(MOST)
     where = " where %s >= %d and %s < %d" % (rng.choice(NAMES), low, rng.choice(NAMES), low + rng.randint(1, MOST // 10))
     if kind == "sweep":
@@ -59,8 +59,8 @@ def overlaps(records):
 
 
 class Logs:
-    def __init__(self, program, folder):
-        self.program, self.folder, self.cases, self.overlapping = str(program), Path(folder), 0, 0
+    def __init__(self, program, folder, each):
+        self.program, self.folder, self.each, self.cases, self.overlapping = str(program), Path(folder), each, 0, 0
 
     def call(self, words, **more):
         more.setdefault("stdout", subprocess.PIPE)
@@ -93,7 +93,7 @@ class Logs:
             out = csv.writer(file, lineterminator="\n")
             out.writerow(NAMES)
             out.writerows([[rng.randrange(MOST) for _ in NAMES] for _ in range(ROWS)])
-        blocks = [[line(rng) for _ in range(EACH)] for _ in range(SESSIONS)]
+        blocks = [[line(rng) for _ in range(self.each)] for _ in range(SESSIONS)]
         (self.folder / "s.txt").write_text("\n---\n".join("\n".join(block) for block in blocks) + "\n")
         return blocks
 
@@ -102,7 +102,7 @@ class Logs:
         done = self.call(["order", "--table", "t.csv", log])
         self.held("seed %d: an order" % seed, (0, b""), (done.returncode, done.stderr))
         (self.folder / "o.json").write_bytes(done.stdout)
-        self.held("seed %d: its check" % seed, b"legal: %d entries\n" % (SESSIONS * EACH), self.call(["check", "o.json"]).stdout)
+        self.held("seed %d: its check" % seed, b"legal: %d entries\n" % (SESSIONS * self.each), self.call(["check", "o.json"]).stdout)
 
     def threads(self, seed):
         self.script(seed)
@@ -184,38 +184,43 @@ class Logs:
     # Calls that are refused
 
     def refused(self):
-        """Runs whose memory ends at some place: the log has the calls that were answered, and there is an order of them."""
-        rng = random.Random(7)
-        (self.folder / "t.csv").write_text("a,b,c\n" + "".join("%d,%d,%d\n" % tuple(rng.randrange(MOST) for _ in NAMES) for _ in range(ROWS)))
-        (self.folder / "s.txt").write_text("".join(line(rng) + "\n" for _ in range(4000)))
-        words = ["run", "--table", "t.csv", "--script", "s.txt", "--log", "l.csv"]
+        """Runs of which one allocation is refused: the log has the calls that were answered, and there is an order of them."""
+        library = self.folder / "refusing.so"
+        made = subprocess.run([os.environ.get("CC", "cc"), "-O1", "-shared", "-fPIC", "-o", library, TOP / "tests/refusing.c", "-ldl"],
+                              stderr=subprocess.DEVNULL)
+        if made.returncode != 0:
+            print("  no call was refused: there is no compiler of C")
+            return
+        (self.folder / "t.csv").write_bytes(TABLE)
+        words = ["run", "--table", "t.csv"] + [word for call in CALLS * 2 for word in ("-e", call)] + ["--log", "l.csv"]
         found = 0
-        for step in range(MEMORIES):
-            most = (5 << 20) + step * (256 << 10)
+        for number in range(1, REFUSALS):
             (self.folder / "l.csv").write_bytes(b"old")
-            done = self.call(words, preexec_fn=lambda: resource.setrlimit(resource.RLIMIT_AS, (most, most)))
+            done = self.call(words, env=dict(os.environ, REFUSED=str(number), LD_PRELOAD=str(library)))
             lines = done.stdout.decode().splitlines()
             refusals = sum(text.startswith("refused ") for text in lines)
             if done.stderr:
                 self.held("the log of a run that was refused", b"old", (self.folder / "l.csv").read_bytes())
                 continue
             found += refusals > 0
-            self.held("the status within %d bytes" % most, 3 if refusals else 0, done.returncode)
+            self.held("the status without allocation %d" % number, 3 if refusals else 0, done.returncode)
             records = self.records("l.csv")
-            self.held("calls within %d bytes" % most, 4000 - refusals, len(records))
+            self.held("calls without allocation %d" % number, 2 * len(CALLS) - refusals, len(records))
             self.held("their replies", [text for text in lines if not text.startswith("refused ")],
                       [text for record in records for text in record["reply"].split("\n")])
             self.held("their order", 0, self.call(["order", "--table", "t.csv", "l.csv"], stdout=subprocess.DEVNULL).returncode)
-        print("  %d runs of %d had calls that were refused" % (found, MEMORIES))
+        self.held("calls are refused in some runs", True, found > 0)
+        print("  %d runs had a call that was refused" % found)
 
 
 def main():
     words = argparse.ArgumentParser(description=__doc__, formatter_class=argparse.RawDescriptionHelpFormatter)
     words.add_argument("--program", default=TOP / "crates/sideways/out/sideways")
     words.add_argument("--seeds", type=int, default=5)
+    words.add_argument("--calls", type=int, default=400)
     given = words.parse_args()
     with tempfile.TemporaryDirectory() as folder:
-        logs = Logs(Path(given.program).resolve(), folder)
+        logs = Logs(Path(given.program).resolve(), folder, given.calls)
         try:
             logs.block()
             logs.clashes()
@@ -226,7 +231,7 @@ def main():
         except Wrong as wrong:
             print(wrong)
             return 1
-    print("  %d of %d calls began while one of another session was under way" % (logs.overlapping, given.seeds * SESSIONS * EACH))
+    print("  %d of %d calls began while one of another session was under way" % (logs.overlapping, given.seeds * SESSIONS * given.calls))
     print("%d cases of logs passed" % logs.cases)
     return 0
 
