@@ -17,7 +17,8 @@ CALLS = ["count", "insert 1, 9, 0", "select b where a < 10", "delete where a = 1
 REPLIES = ["4", "key 5", "2: 8\n5: 9\n(2 rows)", "(2 removed)", "no such key", "key 6"]
 HEADER = ["session", "start", "end", "call", "reply"]
 SESSIONS, ROWS, MOST = 8, 2000, 2000
-REFUSALS = 400
+MET = b"allocation refused\n"
+MOST_GROWTHS = 10_000
 
 
 class Wrong(Exception):
@@ -192,25 +193,31 @@ class Logs:
             print("  no call was refused: there is no compiler of C")
             return
         (self.folder / "t.csv").write_bytes(TABLE)
-        words = ["run", "--table", "t.csv"] + [word for call in CALLS * 2 for word in ("-e", call)] + ["--log", "l.csv"]
-        found = 0
-        for number in range(1, REFUSALS):
+        (self.folder / "s.txt").write_text("\n".join(CALLS * 2) + "\n")
+        words, found, number, done = ["run", "--table", "t.csv", "--script", "s.txt", "--log", "l.csv"], 0, 0, None
+        while number < MOST_GROWTHS and (done is None or done.stderr.startswith(MET)):
+            number += 1
             (self.folder / "l.csv").write_bytes(b"old")
-            done = self.call(words, env=dict(os.environ, REFUSED=str(number), LD_PRELOAD=str(library)))
-            lines = done.stdout.decode().splitlines()
-            refusals = sum(text.startswith("refused ") for text in lines)
-            if done.stderr:
-                self.held("the log of a run that was refused", b"old", (self.folder / "l.csv").read_bytes())
-                continue
-            found += refusals > 0
-            self.held("the status without allocation %d" % number, 3 if refusals else 0, done.returncode)
-            records = self.records("l.csv")
-            self.held("calls without allocation %d" % number, 2 * len(CALLS) - refusals, len(records))
-            self.held("their replies", [text for text in lines if not text.startswith("refused ")],
-                      [text for record in records for text in record["reply"].split("\n")])
-            self.held("their order", 0, self.call(["order", "--table", "t.csv", "l.csv"], stdout=subprocess.DEVNULL).returncode)
+            done = self.call(words, env=dict(os.environ, REFUSED=str(number), TOLD="1", LD_PRELOAD=str(library)))
+            found += self.without(number, done)
         self.held("calls are refused in some runs", True, found > 0)
-        print("  %d runs had a call that was refused" % found)
+        print("  %d runs of %d had a call that was refused" % (found, number))
+
+    def without(self, number, done):
+        """A run of which one allocation was refused; answers whether a call was."""
+        lines = done.stdout.decode().splitlines()
+        refusals = sum(text.startswith("refused ") for text in lines)
+        if done.stderr not in (b"", MET):
+            self.held("the log of a run that was refused at allocation %d" % number, b"old", (self.folder / "l.csv").read_bytes())
+            return False
+        self.held("the status without allocation %d" % number, 3 if refusals else 0, done.returncode)
+        records = self.records("l.csv")
+        self.held("calls without allocation %d" % number, 2 * len(CALLS) - refusals, len(records))
+        self.held("their replies", [text for text in lines if not text.startswith("refused ")],
+                  [text for record in records for text in record["reply"].split("\n")])
+        if refusals:
+            self.held("their order", 0, self.call(["order", "--table", "t.csv", "l.csv"], stdout=subprocess.DEVNULL).returncode)
+        return refusals > 0
 
 
 def main():
