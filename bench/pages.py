@@ -11,7 +11,7 @@ from pathlib import Path
 TOP = Path(__file__).resolve().parents[1]
 OPTION = re.compile(r"^ +(?:(-\w))?(?:, )?(--[\w-]+)?(?: ?<([\w.=]+)>)?(?:\.\.\.)?(?:  +(\S.*))?$")
 VALUES = re.compile(r" *\[possible values: ([^\]]*)\]")
-FILES = ("--table", "--script", "--history", "--dictionary", "--where", "--from-logs")
+FILES = ("--table", "--script", "--history", "--dictionary", "--where", "--from-logs", "--log")
 
 
 class Help:

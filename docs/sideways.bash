@@ -14,10 +14,10 @@ _sideways() {
     import:--times) COMPREPLY=($(compgen -W "seconds days text" -- "$word")); return ;;
     import:--long) COMPREPLY=($(compgen -W "cut drop number" -- "$word")); return ;;
     import:--ragged) COMPREPLY=($(compgen -W "fill" -- "$word")); return ;;
-    *:--table | *:--script | *:--history | *:--dictionary | *:--where | *:--from-logs) COMPREPLY=($(compgen -f -- "$word")); return ;;
+    *:--table | *:--script | *:--history | *:--dictionary | *:--where | *:--from-logs | *:--log) COMPREPLY=($(compgen -f -- "$word")); return ;;
     esac
     case ${COMP_WORDS[1]} in
-    run) COMPREPLY=($(compgen -W "--table --header --script -e --budget --maps --cuts --limit --threads --stats --times --quiet --all-faults --output --history -h --help" -- "$word")) ;;
+    run) COMPREPLY=($(compgen -W "--table --header --script -e --budget --maps --cuts --limit --threads --stats --times --quiet --all-faults --output --history --log -h --help" -- "$word")) ;;
     check) COMPREPLY=($(compgen -W "--explain --from-logs -h --help" -- "$word") $(compgen -f -- "$word")) ;;
     describe) COMPREPLY=($(compgen -W "--header --output --all-faults -h --help" -- "$word") $(compgen -f -- "$word")) ;;
     order) COMPREPLY=($(compgen -W "--table --by --keys --slack --states --limit --where --quiet -h --help" -- "$word") $(compgen -f -- "$word")) ;;

@@ -272,6 +272,13 @@ class Cases:
         self.case("and from which records", ["check", "h.json", "--explain", "--from-logs", "w.csv"], 1, "\n".join(told) + "\n", "")
         self.case("and from a list that is none", ["check", "h.json", "--explain", "--from-logs", "none.csv"], 2, "", ANY)
         self.refused("records alone", ["check", "h.json", "--from-logs", "w.csv"], "--explain")
+        for old, new, told in (('"session":2', '"note":1,"session":2', 'member "note" is not one of call, reply, session'),
+                               (',"session":2', "", 'member "session" is missing'),
+                               ('"session":2', '"session":0', 'member "session" is no whole number from 1 to 1024')):
+            (self.folder / "odd.json").write_text(self.history(5).replace(old, new))
+            for words in (["check", "odd.json"], ["check", "odd.json", "--explain"]):
+                self.case("an entry of a history: %s" % told, words, 2, "",
+                          "sideways: refused 3 line 3 why History\nodd.json entry 3: %s\n" % told)
 
     def keys(self):
         self.logs(9)

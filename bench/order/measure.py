@@ -4,8 +4,8 @@
     python3 bench/order/measure.py [--program crates/sideways/out/sideways] [--part wide|many|open|wrong] [--seeds 3]
 
 Prints a line for each search: the seconds of its processor time and of the clock, the memory that it held at most, its
-status; then, for each kind of wrong log, how often the call that is named is the one that was made wrong or the first
-that shows it."""
+status; then, for each kind of wrong log, how often the call that is named is the one that was made wrong or one that shows
+it, up to the first that no order has."""
 import argparse, os, subprocess, sys, tempfile, time
 from pathlib import Path
 
@@ -52,9 +52,12 @@ def timed(program, part, seed):
     return good
 
 
-def shows(opening, calls, replies, right):
-    """The places of the calls whose replies differ from those of a right store, in their order."""
-    return [place for place in range(len(calls)) if replies[place] != right[place]]
+def may_be_named(calls, at, replies, right):
+    """The places of the calls that may be named where the one at a place was made wrong: that one, and those whose replies differ from a right
+    store's, up to the first, by its end, that no order has. One that overlapped the wrong call may stand before it, and shows nothing there."""
+    shown = [place for place in range(len(calls)) if place == at or replies[place] != right[place]]
+    sure = [calls[place][2] for place in shown if replies[place] != right[place] and (place == at or calls[place][1] > calls[at][2])]
+    return [place for place in shown if not sure or calls[place][2] <= min(sure)]
 
 
 def wrong_logs(rng_seed, opening, calls):
@@ -100,7 +103,7 @@ def wrong(program, seeds):
             with tempfile.TemporaryDirectory() as folder:
                 logs, origins = making.write(Path(folder), opening, calls, replies)
                 status, told, _, clock, _ = order(program, Path(folder), logs)
-            first = [at] + shows(opening, calls, replies, right)[:1]
+            first = may_be_named(calls, at, replies, right)
             is_named = status == 1 and named(told) in [origins[place] for place in first]
             total = counts.setdefault(name, [0, 0, 0])
             total[0] += 1
@@ -110,7 +113,7 @@ def wrong(program, seeds):
                 print("  %s, seed %d: status %d in %.1f s, named %s, wrong %s" % (
                     name, seed, status, clock, named(told), [origins[place] for place in first]), flush=True)
     for name, (all_of, found, is_named) in counts.items():
-        print("%-15s %d logs: %d without an order, %d named at the wrong call or the first that shows it" % (name, all_of, found, is_named))
+        print("%-15s %d logs: %d without an order, %d named at the wrong call or one that shows it" % (name, all_of, found, is_named))
     return all(found == all_of for all_of, found, _ in counts.values())
 
 

@@ -103,6 +103,7 @@ fn run_of<'r, 'a: 'r>(
         header: given.get_str("header"),
         script: script_of(given, lines),
         history: given.get_str("history"),
+        log: given.get_str("log"),
         settings: settings_of(given)?,
         sights: sights_of(given, is_terminal),
         form: Form::named(given.get_str("output")?)?,
@@ -145,7 +146,7 @@ fn is_odd_header(header: Option<&str>) -> bool {
 }
 
 /// What is wrong with the inputs of a run, if anything: a call of more than one line, an odd header, both of standard input, or a history
-/// that would be written over another of its files.
+/// or a log that would be written over another of its files.
 fn wrong_with<R: Files>(rt: &R, run: &Run<'_>, calls: &[&str]) -> Option<&'static str> {
     if calls.iter().any(|call| call.as_bytes().contains(&b'\n')) {
         return Some(LONG_CALL);
@@ -190,9 +191,10 @@ fn make_check<R: Files + RandomSource + Print>(
     rt: &R,
     alloc: Global,
     given: &ArgMatches<'_>,
+    words: &mut Option<String>,
 ) -> Result<u8, Refusal> {
     match given.get_str("file") {
-        Some(path) => check_path(rt, alloc, path, telling_of(given)),
+        Some(path) => check_path(rt, alloc, path, telling_of(given), words),
         None => Ok(2),
     }
 }
@@ -237,7 +239,7 @@ fn make_command<
     E: Sink + Drop,
 >(rt: &R, alloc: Global, matches: &ArgMatches<'_>, errors: &mut Errors<E>) -> Result<u8, Refusal> {
     match matches.subcommand() {
-        Some(("check", given)) => make_check(rt, alloc, given),
+        Some(("check", given)) => make_check(rt, alloc, given, &mut errors.words),
         Some(("describe", given)) => make_description(rt, alloc, given, errors),
         Some(("order", given)) => make_order(rt, alloc, given, errors),
         Some(("import", given)) => match make_import(rt, alloc, given, &mut errors.sink) {

@@ -97,6 +97,16 @@ fn history<'a>(alloc: Global) -> Arg<'a> {
         .action(ArgAction::Set)
 }
 
+fn log<'a>(alloc: Global) -> Arg<'a> {
+    Arg::new(alloc, "log")
+        .long("log")
+        .value_name("FILE")
+        .help(
+            "Where a log of the calls is written after the replies, as sideways order reads it: of each call its block, the nanoseconds from the run's beginning at which it began and ended, and its reply",
+        )
+        .action(ArgAction::Set)
+}
+
 fn number<'a>(alloc: Global, name: &'a str, of: &'a str, help: &'a str, usual: &'a str) -> Arg<'a> {
     Arg::new(alloc, name)
         .long(name)
@@ -230,7 +240,8 @@ fn run_command<'a>(alloc: Global) -> Result<Command<'a>, AllocError> {
         .arg(quiet(alloc))?
         .arg(all_faults(alloc))?
         .arg(output(alloc))?
-        .arg(history(alloc))
+        .arg(history(alloc))?
+        .arg(log(alloc))
 }
 
 fn check_command<'a>(alloc: Global) -> Result<Command<'a>, AllocError> {

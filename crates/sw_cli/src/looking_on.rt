@@ -1,15 +1,15 @@
 //! Who looks on while a run makes its calls.
 
-use sw_rows::Call;
+use sw_rows::{Call, Refusal, Reply};
 
-/// Who looks on while a run makes its calls, in any of its threads. It is told of each call before and after, and can
-/// touch neither the calls nor what comes of them. No clause speaks of what it sees.
+/// Who looks on while a run makes its calls, in any of its threads. It is told of each call before and after, of those of
+/// a block in their order, and can touch neither the calls nor what comes of them. No clause speaks of what it sees.
 pub trait Onlooker: Sync {
     /// A call begins. The number comes back when the call has ended.
     fn begins(&self, call: &Call) -> u64;
 
-    /// The call that began with this number has ended, answered or refused.
-    fn ended(&self, call: &Call, begun: u64);
+    /// The call of a block, by the block's number from 1, that began with this number has ended with this answer.
+    fn ended(&self, block: u64, call: &Call, begun: u64, answer: &Result<Reply, Refusal>);
 }
 
 /// Nobody looks on.
@@ -21,5 +21,5 @@ impl Onlooker for Nobody {
         0
     }
 
-    fn ended(&self, _call: &Call, _begun: u64) {}
+    fn ended(&self, _block: u64, _call: &Call, _begun: u64, _answer: &Result<Reply, Refusal>) {}
 }

@@ -22,13 +22,15 @@ use sw_rows::{Call, Refusal, Reply, Update};
 use sw_spine::Record;
 use sw_versions::{Live, Op};
 
-/// A session that has made no call, the calls that it is to make, and room for what comes of them.
+/// A session that has made no call, its block's number from 1 for who looks on, the calls that it is to make, and room for
+/// what comes of them.
 #[derive(Drop)]
 pub(crate) struct Job<'e, J: Naming, M: CrackerMap>
 where
     Live<J>: Absorb<Op<J>, State = [Update; 0]>,
 {
     session: Session<'e, J, M>,
+    block: u64,
     calls: &'e [Call],
     told: Vec<Result<Reply, Refusal>>,
 }
@@ -54,13 +56,14 @@ where
 {
     let Job {
         mut session,
+        block,
         calls,
         mut told,
     } = job;
     for call in calls {
         let begun = onlooker.begins(call);
         let answer = session.call(rt, call);
-        onlooker.ended(call, begun);
+        onlooker.ended(block, call, begun, &answer);
         told.push_reserved(answer);
     }
     Done {
@@ -89,8 +92,10 @@ where
     for ticket in tickets {
         let calls = blocks[jobs.len()].calls();
         let told = Vec::with_capacity(alloc, calls.len())?;
+        let block = (jobs.len() as u64).saturating_add(1);
         jobs.push(Job {
             session: engine.attach(ticket),
+            block,
             calls,
             told,
         })?;

@@ -6,6 +6,7 @@
 mod cells;
 mod choices;
 mod cuts;
+mod entries;
 mod headers;
 mod lines;
 mod records;
@@ -14,6 +15,7 @@ mod tables;
 mod tokens;
 mod words;
 
+pub use entries::wrong_entry;
 pub use lines::call_lines;
 pub use tables::all_faults;
 pub use words::{Asked, Origin, Text, words_of};

@@ -62,9 +62,10 @@ fn add_bytes(text: &mut String, bytes: &[u8]) -> Result<bool, AllocError> {
     Ok(bytes.len() > MOST_SHOWN)
 }
 
-/// Bytes between quotes: at most 40 of them, control characters and what is no UTF-8 escaped, and `..` where more follow.
-pub(crate) fn shown(alloc: Global, bytes: &[u8]) -> Result<String, AllocError> {
-    let mut text = String::from_str(alloc, "'")?;
+/// Bytes between two quotes: at most 40 of them, control characters and what is no UTF-8 escaped, and `..` where more
+/// follow.
+fn between(alloc: Global, quote: &str, bytes: &[u8]) -> Result<String, AllocError> {
+    let mut text = String::from_str(alloc, quote)?;
     let is_cut = match str::from_utf8(bytes) {
         Ok(shown) => add_text(&mut text, shown)?,
         Err(_) => add_bytes(&mut text, bytes)?,
@@ -72,8 +73,18 @@ pub(crate) fn shown(alloc: Global, bytes: &[u8]) -> Result<String, AllocError> {
     if is_cut {
         text.push_str("..")?;
     }
-    text.push_str("'")?;
+    text.push_str(quote)?;
     Ok(text)
+}
+
+/// A cell's bytes between single quotes, as `between` has them.
+pub(crate) fn shown(alloc: Global, bytes: &[u8]) -> Result<String, AllocError> {
+    between(alloc, "'", bytes)
+}
+
+/// A member's name between double quotes, as `between` has its bytes.
+pub(crate) fn named(alloc: Global, name: &str) -> Result<String, AllocError> {
+    between(alloc, "\"", name.as_bytes())
 }
 
 /// What a character of a script's line is shown as: itself, or a blank.

@@ -5,6 +5,6 @@ mod identity;
 mod inputs;
 mod new_file;
 
-pub use identity::FileId;
+pub use identity::{FileId, would_be_one};
 pub use inputs::{open_input, read_file};
 pub use new_file::{NewFile, begin_file};

@@ -1,7 +1,6 @@
 //! Orders of logs' calls whose keys are whatever a store gave: in the history they are 1, 2, 3 and so on.
 #![tactic(auto)]
 
-mod copying;
 mod order;
 mod renaming;
 

@@ -6,10 +6,9 @@ ghost use Rattle.std.specs.List.{AllZip};
 ghost use Rattle.sw_logs.specs.Orders.{StandOnce};
 ghost use Rattle.sw_keys.specs.Renamings.{key_line, row_line, AreAllPlaces, IsRenamed, IsRenamedAnswer, IsRenamedCall, IsRenamedKey, IsRenamedOutcome, IsRenamedReply, IsNewKey, IsRenamedRow, IsRenamedRows, IsRowAt, KeepsFirst, Renames};
 
-use crate::copying::{copied_call, copied_lines};
 use std::alloc::{AllocError, Global};
 use std::collections::HashMap;
-use sw_logs::Logged;
+use sw_logs::{Logged, copied_call, copied_lines};
 use sw_rows::{Call, Query, Want};
 use sw_spine::Lines;
 

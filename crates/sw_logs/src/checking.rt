@@ -1,48 +1,15 @@
 //! The check of an order that was found.
 
-ghost use Rattle.std.specs.Prelude.{◌≡◌, ◌≤◌, ◌<◌, ◌+◌, ◌^◌, ◌↔◌, ℕ, false, length, map, max, slice_index, slice_index_or, string_bytes, true, EachIndex, IfOk, IfSome, IsTrue};
+ghost use Rattle.std.specs.Prelude.{◌≡◌, ◌≤◌, ◌<◌, ◌+◌, ◌^◌, ◌↔◌, ℕ, false, length, max, slice_index, slice_index_or, true, EachIndex, IfOk, IfSome, IsTrue};
 ghost use Rattle.sw_logs.specs.Orders.{is_known, AreEntriesOf, AreNumbersOf, HasKnown, IsEntryOf, IsStateFor, KeepsBy, KeepsSessions, KeepsTimes, StandOnce};
 ghost use Rattle.sw_logs.specs.Steps.{IsMarked, IsRaised, StartsOn};
 
+use crate::copying::{copied_call, copied_lines};
 use crate::logged::Logged;
 use crate::order::By;
 use std::alloc::{AllocError, Global};
 use sw_rows::{Call, Reply};
-use sw_spine::{Entry, Lines, MOST_SESSIONS, State};
-
-/// A copy of a call. The one error is that there is no memory for it.
-fn copied(alloc: Global, call: &Call) -> Result<Call, AllocError>
-    ensures { IfOk result (λ copy. copy ≡ call.now) }
-{
-    match call {
-        Call::Select(query) => {
-            let query = query.copied(alloc)?;
-            Ok(Call::Select(query))
-        }
-        Call::Insert(cells) => Ok(Call::Insert(*cells)),
-        Call::Delete(key) => Ok(Call::Delete(*key)),
-        Call::DeleteWhere(conds) => {
-            let conds = conds.copied(alloc)?;
-            Ok(Call::DeleteWhere(conds))
-        }
-    }
-}
-
-fn copied_texts(alloc: Global, texts: &[String]) -> Result<Vec<String>, AllocError>
-    ensures { IfOk result (λ copy. map (λ t. string_bytes t) copy.items ≡ map (λ t. string_bytes t) texts.now) }
-{
-    let mut copy = Vec::with_capacity(alloc, texts.len())?;
-    for text in texts {
-        copy.push(String::from_str(alloc, text.as_str())?)?;
-    }
-    Ok(copy)
-}
-
-fn copied_lines(alloc: Global, lines: &Lines) -> Result<Lines, AllocError>
-    ensures { IfOk result (λ copy. copy ≡ lines.now) }
-{
-    Ok(Lines::of(copied_texts(alloc, lines.as_slice())?))
-}
+use sw_spine::{Entry, MOST_SESSIONS, State};
 
 /// What a call is answered that was given this key or took out so many rows.
 fn reply_of(call: &Call, told: Option<u64>) -> Reply {
@@ -71,7 +38,7 @@ fn entry_of(alloc: Global, call: &Logged, told: Option<u64>) -> Result<Entry, Al
     ensures { IfOk result (IsEntryOf call.now) }
 {
     let state = state_of(alloc, call, told)?;
-    let copy = copied(alloc, &call.call)?;
+    let copy = copied_call(alloc, &call.call)?;
     Ok(Entry {
         session: call.session,
         call: copy,

@@ -2,11 +2,13 @@
 #![tactic(auto)]
 
 mod checking;
+mod copying;
 mod logged;
 mod opening;
 mod order;
 mod reading;
 
+pub use copying::{copied_call, copied_lines};
 pub use logged::{Logged, Origin};
 pub use opening::{Opening, read_opening};
 pub use order::{By, Order, Placed, check_order};

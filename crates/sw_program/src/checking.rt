@@ -3,6 +3,7 @@
 ghost use Rattle.std.specs.Prelude.{◌≡◌, ◌⊎◌, IfOk};
 
 use crate::origins::Origins;
+use crate::wording;
 use std::alloc::Global;
 use std::io;
 use std::random::RandomSource;
@@ -58,26 +59,46 @@ fn explain_from<W: Sink>(
     }
 }
 
+/// Writes the verdict on the bytes of a history file, and what else is told of it.
+fn check_bytes<R: Files + RandomSource + Print>(
+    rt: &R,
+    alloc: Global,
+    bytes: &[u8],
+    telling: Telling<'_>,
+) -> Result<u8, Refusal>
+    ensures { IfOk result (λ status. (status ≡ 0) ⊎ (status ≡ 1)) }
+{
+    let key = TextKey::new(rt)?;
+    let mut out = Counted::new(io::writer(rt));
+    if telling.explains {
+        let origins = origins_of(rt, alloc, telling.origins)?;
+        explain_from(alloc, key, bytes, &origins, &mut out)
+    } else {
+        check_file(alloc, key, bytes, &mut out)
+    }
+}
+
 /// Reads a history file and writes the verdict on it, and what else is told of it; answers the exit status, 0 where it is
 /// legal, else 1.
 ///
 /// Refused `Input` where a file cannot be opened or read, or the system gives no random bytes for the key of texts, as
-/// `check_file` refuses its bytes, and `Output` where the verdict cannot be written.
+/// `check_file` refuses its bytes, and `Output` where the verdict cannot be written. What is wrong with an entry that is
+/// refused is put into `words`, as a line.
 pub fn check_path<R: Files + RandomSource + Print>(
     rt: &R,
     alloc: Global,
     path: &str,
     telling: Telling<'_>,
+    words: &mut Option<String>,
 ) -> Result<u8, Refusal>
     ensures { IfOk result (λ status. (status ≡ 0) ⊎ (status ≡ 1)) }
 {
     let bytes = read_file(rt, alloc, path)?;
-    let key = TextKey::new(rt)?;
-    let mut out = Counted::new(io::writer(rt));
-    if telling.explains {
-        let origins = origins_of(rt, alloc, telling.origins)?;
-        explain_from(alloc, key, bytes.as_slice(), &origins, &mut out)
-    } else {
-        check_file(alloc, key, bytes.as_slice(), &mut out)
+    match check_bytes(rt, alloc, bytes.as_slice(), telling) {
+        Ok(status) => Ok(status),
+        Err(refusal) => {
+            *words = wording::of_history(alloc, path, bytes.as_slice(), &refusal);
+            Err(refusal)
+        }
     }
 }

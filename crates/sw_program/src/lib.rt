@@ -9,6 +9,7 @@ mod explaining;
 mod flaws;
 mod importing;
 mod inputs;
+mod logging;
 mod ordering;
 mod origins;
 mod running;

@@ -168,6 +168,7 @@ fn order_over<R: Files + Clock + Eprint + Sync>(
             calls: false,
             faults: false,
         },
+        false,
     );
     let rules = rules_of(ordering.way);
     match find_order(alloc, opening, calls.as_slice(), rules, &seen) {

@@ -6,6 +6,7 @@ ghost use Rattle.sw_map.specs.Held.{blank};
 
 use crate::clash::Clash;
 use crate::inputs::{Keeping, Kept, Place, Script, is_read_once, open_script, open_table};
+use crate::logging::{Times, Watch, keep_log};
 use crate::seeing::{LinesSeen, Seen, Sights};
 use crate::settings::Settings;
 use crate::shaping::{Form, script_bytes, shape};
@@ -37,6 +38,8 @@ pub struct Run<'a> {
     pub script: Script<'a>,
     /// Where the history goes, if anywhere.
     pub history: Option<&'a str>,
+    /// Where the log of its calls goes, if anywhere.
+    pub log: Option<&'a str>,
     /// What it is told in numbers and flags.
     pub settings: Settings<'a>,
     /// What is to be seen of it.
@@ -99,7 +102,7 @@ fn run_between<
     table: &mut T,
     script: &mut S,
     run: &Run<'_>,
-    seen: &Seen<'_, R>,
+    watch: &Watch<'_, '_, R>,
 ) -> Result<AfterRun, Refusal> {
     let settings = &run.settings;
     let maps = blank_boxes(alloc, settings.budget, settings.maps)?;
@@ -111,10 +114,10 @@ fn run_between<
     };
     if run.form == Form::Lines {
         let out = Counted::new(io::writer(rt));
-        return run_open(rt, alloc, table, script, out, &options, maps, seen);
+        return run_open(rt, alloc, table, script, out, &options, maps, watch);
     }
     let out = Counted::new(io::sink());
-    run_open(rt, alloc, table, script, out, &options, maps, seen)
+    run_open(rt, alloc, table, script, out, &options, maps, watch)
 }
 
 /// What came of a run, and what was kept of its table and its script.
@@ -146,9 +149,9 @@ fn run_keeping<
     run: &Run<'_>,
     mut table: Keeping<T>,
     mut script: Keeping<S>,
-    seen: &Seen<'_, R>,
+    watch: &Watch<'_, '_, R>,
 ) -> Came {
-    let ended = run_between(rt, alloc, &mut table, &mut script, run, seen);
+    let ended = run_between(rt, alloc, &mut table, &mut script, run, watch);
     let kept = Keeps {
         table: table.into_kept(),
         script: script.into_kept(),
@@ -172,10 +175,10 @@ fn run_named<R: Files + RandomSource + Clock + Print + Eprint + Input + Threads 
     rt: &R,
     alloc: Global,
     run: &Run<'_>,
-    seen: &Seen<'_, R>,
+    watch: &Watch<'_, '_, R>,
 ) -> Came {
     let table = match open_table(rt, alloc, run.table, run.header) {
-        Ok(table) => LinesSeen::new(Counted::new(table), seen),
+        Ok(table) => LinesSeen::new(Counted::new(table), watch.seen),
         Err(refusal) => return unopened(refusal),
     };
     let script = match open_script(rt, run.script) {
@@ -184,7 +187,7 @@ fn run_named<R: Files + RandomSource + Clock + Print + Eprint + Input + Threads 
     };
     let table = Keeping::new(table, Kept::new(alloc, is_read_once(rt, run.table)));
     let script = Keeping::new(script, keeping_script(rt, alloc, run));
-    run_keeping(rt, alloc, run, table, script, seen)
+    run_keeping(rt, alloc, run, table, script, watch)
 }
 
 /// Writes a record to the file of a path.
@@ -222,10 +225,24 @@ fn tell<R: Clock + Eprint, E: Sink>(
     Ok(())
 }
 
-/// What is left to do after a run: its history, and what the heads tell where that is asked.
-fn finish<R: Files + Clock + Eprint, E: Sink>(
+/// Writes what a run leaves in files: its history, then the log of its calls.
+fn leave<R: Files>(
     rt: &R,
     alloc: Global,
+    run: &Run<'_>,
+    history: &Record,
+    times: Option<Times>,
+) -> Result<(), Refusal> {
+    keep(rt, alloc, history, run.history)?;
+    match (times, run.log) {
+        (Some(times), Some(path)) => keep_log(rt, alloc, history, times, path),
+        _ => Ok(()),
+    }
+}
+
+/// What is left to do after a run whose files were written: what the heads tell where that is asked. Answers the exit
+/// status.
+fn finish<R: Clock + Eprint, E: Sink>(
     run: &Run<'_>,
     ended: &AfterRun,
     seen: &Seen<'_, R>,
@@ -233,7 +250,6 @@ fn finish<R: Files + Clock + Eprint, E: Sink>(
 ) -> Result<u8, Refusal>
     ensures { IfOk result (λ status. (status ≡ 0) ⊎ (status ≡ 3)) }
 {
-    keep(rt, alloc, &ended.history, run.history)?;
     if run.sights.heads {
         tell(ended, seen, errors)?;
     }
@@ -241,9 +257,15 @@ fn finish<R: Files + Clock + Eprint, E: Sink>(
 }
 
 impl Run<'_> {
-    /// What the history would be written over: another file of the run, if any. Such a run is not to be made.
+    /// What the history or the log would be written over: another file of the run, if any. Such a run is not to be made.
     pub fn clash<R: Files>(&self, rt: &R) -> Option<Clash> {
-        Clash::of(rt, self.table, self.script, self.history)
+        Clash::of(rt, self.table, self.script, self.history).or_else(|| Clash::of_log(
+            rt,
+            self.table,
+            self.script,
+            self.history,
+            self.log,
+        ))
     }
 
     /// What is asked by it.
@@ -257,10 +279,10 @@ impl Run<'_> {
         }
     }
 
-    /// Makes the run: the replies go to standard output, then the history to its file, then what the heads tell to
-    /// `errors`. Answers the exit status: 0 where all calls were answered, else 3. Refused as `run_with` is, `Input` where
+    /// Makes the run: the replies go to standard output, then the history and the log to their files, then what the heads
+    /// tell to `errors`. Answers the exit status: 0 where all calls were answered, else 3. Refused as `run_with` is, `Input` where
     /// the table or the script cannot be opened or the system gives no random bytes for the key of texts, and `Output` where
-    /// the history or `errors` cannot be written.
+    /// the history, the log or `errors` cannot be written.
     ///
     /// What a refusal means is put into `words`, as lines, where words can be found: where it is, what is wrong there, and
     /// what was wanted.
@@ -276,8 +298,9 @@ impl Run<'_> {
     ) -> Result<u8, Refusal>
         ensures { IfOk result (λ status. (status ≡ 0) ⊎ (status ≡ 3)) }
     {
-        let seen = Seen::new(rt, self.sights);
-        let Came { ended, kept } = run_named(rt, alloc, self, &seen);
+        let seen = Seen::new(rt, self.sights, self.log.is_some());
+        let watch = Watch::new(alloc, &seen, self.log.is_some());
+        let Came { ended, kept } = run_named(rt, alloc, self, &watch);
         let ended = match ended {
             Ok(ended) => ended,
             Err(refusal) => {
@@ -290,6 +313,7 @@ impl Run<'_> {
             *words = wording::of_form(alloc, &refusal, self.script);
             return Err(refusal);
         }
-        finish(rt, alloc, self, &ended, &seen, errors)
+        leave(rt, alloc, self, &ended.history, watch.into_times())?;
+        finish(self, &ended, &seen, errors)
     }
 }

@@ -4,7 +4,7 @@ use std::io;
 use std::rt::Clock;
 use std::sync::atomic::{AtomicU64, Ordering};
 use std::time::{Duration, Instant};
-use sw_cli::{Onlooker, head_of};
+use sw_cli::head_of;
 use sw_rows::{Call, Source};
 
 /// The nanoseconds of a second.
@@ -46,9 +46,9 @@ pub(crate) struct Seen<'r, R: Clock + Eprint> {
 }
 
 impl<'r, R: Clock + Eprint> Seen<'r, R> {
-    /// A run begins.
-    pub(crate) fn new(rt: &'r R, sights: Sights) -> Seen<'r, R> {
-        let began = if sights.heads || sights.progress || sights.calls {
+    /// A run begins, of whose calls a log is asked for or not.
+    pub(crate) fn new(rt: &'r R, sights: Sights, is_logged: bool) -> Seen<'r, R> {
+        let began = if sights.heads || sights.progress || sights.calls || is_logged {
             Instant::now(rt).ok()
         } else {
             None
@@ -72,15 +72,38 @@ impl<'r, R: Clock + Eprint> Seen<'r, R> {
         }
     }
 
-    /// The nanoseconds since the run began.
-    pub(crate) fn now(&self) -> u64 {
-        let Some(began) = self.began else {
-            return 0;
-        };
-        match began.elapsed(self.rt) {
-            Ok(time) => nanos_of(time),
-            Err(_) => 0,
+    /// What the run stands on.
+    pub(crate) fn rt(&self) -> &'r R {
+        self.rt
+    }
+
+    /// The nanoseconds since the run began; none where nobody asks for them or the clock cannot be read.
+    pub(crate) fn time(&self) -> Option<u64> {
+        match self.began?.elapsed(self.rt) {
+            Ok(time) => Some(nanos_of(time)),
+            Err(_) => None,
         }
+    }
+
+    /// The nanoseconds since the run began, 0 where there are none.
+    pub(crate) fn now(&self) -> u64 {
+        self.time().unwrap_or(0)
+    }
+
+    /// Sees that a call which began at a time has ended now.
+    pub(crate) fn sees(&self, call: &Call, begun: u64, now: u64) {
+        if self.began.is_none() {
+            return;
+        }
+        let took = now.saturating_sub(begun);
+        if let Call::Select(query) = call {
+            if let Some(nanos) = self.nanos.get(head_of(query)) {
+                let _before = nanos.fetch_add(took, Ordering::SeqCst);
+            }
+        }
+        let number = self.calls.fetch_add(1, Ordering::SeqCst).saturating_add(1);
+        self.list(number, took);
+        self.tell(now, number, "calls made");
     }
 
     /// Tells how far the run is, where that is due. Of threads that come at once one tells.
@@ -111,28 +134,6 @@ impl<'r, R: Clock + Eprint> Seen<'r, R> {
             Some(nanos) => nanos.load(Ordering::SeqCst) / MILLISECOND,
             None => 0,
         }
-    }
-}
-
-impl<R: Clock + Eprint + Sync> Onlooker for Seen<'_, R> {
-    fn begins(&self, _call: &Call) -> u64 {
-        self.now()
-    }
-
-    fn ended(&self, call: &Call, begun: u64) {
-        if self.began.is_none() {
-            return;
-        }
-        let now = self.now();
-        let took = now.saturating_sub(begun);
-        if let Call::Select(query) = call {
-            if let Some(nanos) = self.nanos.get(head_of(query)) {
-                let _before = nanos.fetch_add(took, Ordering::SeqCst);
-            }
-        }
-        let number = self.calls.fetch_add(1, Ordering::SeqCst).saturating_add(1);
-        self.list(number, took);
-        self.tell(now, number, "calls made");
     }
 }
 

@@ -7,10 +7,10 @@ use std::io::ErrorKind;
 use std::random::RandomSource;
 use std::rt::Files;
 use std::{fs, io};
-use sw_faults::{Asked, Origin, Text, all_faults, words_of};
+use sw_faults::{Asked, Origin, Text, all_faults, words_of, wrong_entry};
 use sw_files::read_file;
 use sw_headers::{Header, text_under};
-use sw_rows::{Refusal, TextKey};
+use sw_rows::{Refusal, TextKey, Why};
 
 /// What was asked, of which a refusal came.
 #[derive(Clone, Copy, Debug)]
@@ -267,4 +267,20 @@ pub(crate) fn of_form(alloc: Global, refusal: &Refusal, script: Script<'_>) -> O
     format!(in alloc;
         "{at}: --output table wants a select as the last call, of columns that differ\n"
     ).ok()
+}
+
+/// A refusal of a history file in words: what is wrong with the entry that is none.
+pub(crate) fn of_history(
+    alloc: Global,
+    name: &str,
+    bytes: &[u8],
+    refusal: &Refusal,
+) -> Option<String> {
+    match refusal {
+        Refusal::BadLine {
+            line,
+            why: Why::History,
+        } if *line > 0 => wrong_entry(alloc, name, bytes, u64::from(*line)).ok(),
+        _ => None,
+    }
 }

@@ -2,7 +2,7 @@
 
 use std::alloc::Global;
 use std::test::Fail;
-use sw_faults::{Asked, Origin, Text, all_faults, words_of};
+use sw_faults::{Asked, Origin, Text, all_faults, words_of, wrong_entry};
 use sw_rows::{Refusal, TextKey, Why};
 
 /// A table, the record and the field that are refused, and the words.
@@ -34,6 +34,14 @@ struct OfLimit {
 #[derive(Debug)]
 struct All {
     table: &'static [u8],
+    words: &'static str,
+}
+
+/// The entries of a history file, the number of one, and the words.
+#[derive(Debug)]
+struct OfEntry {
+    entries: &'static str,
+    number: u64,
     words: &'static str,
 }
 
@@ -203,6 +211,69 @@ const LIMITS: &[OfLimit] = &[
     },
 ];
 
+const ENTRIES: &[OfEntry] = &[
+    OfEntry {
+        entries: r#"{"call":"count","reply":["4"],"session":1},{"call":"count","note":1,"reply":["4"],"session":1}"#,
+        number: 2,
+        words: "h.json entry 2: member \"note\" is not one of call, reply, session\n",
+    },
+    OfEntry {
+        entries: r#"{"call":"count","a\nb":1,"session":1}"#,
+        number: 1,
+        words: "h.json entry 1: member \"a\\nb\" is not one of call, reply, session\n",
+    },
+    OfEntry {
+        entries: r#"{"call":"count","reply":["4"]}"#,
+        number: 1,
+        words: "h.json entry 1: member \"session\" is missing\n",
+    },
+    OfEntry {
+        entries: r#"[1]"#,
+        number: 1,
+        words: "h.json entry 1: no object of call, reply, session\n",
+    },
+    OfEntry {
+        entries: r#"{"call":1,"reply":["4"],"session":1}"#,
+        number: 1,
+        words: "h.json entry 1: member \"call\" is no text\n",
+    },
+    OfEntry {
+        entries: r##"{"call":"# count","reply":["4"],"session":1}"##,
+        number: 1,
+        words: "h.json entry 1: member \"call\" has no call\n",
+    },
+    OfEntry {
+        entries: r#"{"call":"count","reply":["4"],"session":1.0}"#,
+        number: 1,
+        words: "h.json entry 1: member \"session\" is no whole number from 1 to 1024\n",
+    },
+    OfEntry {
+        entries: r#"{"call":"count","reply":["4"],"session":1025}"#,
+        number: 1,
+        words: "h.json entry 1: member \"session\" is no whole number from 1 to 1024\n",
+    },
+    OfEntry {
+        entries: r#"{"call":"count","reply":"4","session":1}"#,
+        number: 1,
+        words: "h.json entry 1: member \"reply\" is no array of lines, nor \"open\" or \"void\"\n",
+    },
+    OfEntry {
+        entries: r#"{"call":"delete 4","reply":"void","session":1}"#,
+        number: 1,
+        words: "h.json entry 1: \"open\" and \"void\" stand at selects alone\n",
+    },
+    OfEntry {
+        entries: r#"{"call":"delete where a = 1","reply":["(0 removed)"],"session":1}"#,
+        number: 1,
+        words: "h.json entry 1: a delete where stands in a file of format 3 alone\n",
+    },
+    OfEntry {
+        entries: r#"{"call":"count","reply":["4"],"session":1}"#,
+        number: 2,
+        words: "",
+    },
+];
+
 const ALL: &[All] = &[All {
     table: b"a,b:flag\nx,true\n1\n2,yes\n3,false\n",
     words: "t.csv line 2, a:int: not a number, wanted a whole number: 'x'; a name without a kind is an int\nt.csv line 3: 1 field, the header has 2: b:flag is missing\nt.csv line 4, b:flag: neither true nor false: 'yes'\nt.csv: 3 faults\n",
@@ -298,6 +369,23 @@ fn limits_are_told(rt: HostRuntime) -> Result<(), Fail> {
     for case in LIMITS {
         let told = is_limit_told(rt.alloc(), case)?;
         assert!(rt; told, "{case:?}");
+    }
+    Ok(())
+}
+
+/// Whether the words of an entry are those that are wanted. Of two arrays of entries the last is the history's.
+fn is_entry_told(alloc: Global, case: &OfEntry) -> Result<bool, Fail> {
+    let text = format!(in alloc;
+        "{{\"entries\":[1,2],\"rows\":[[12],[3]],\"entries\":[{}],\"format\":1}}", case.entries)?;
+    let words = wrong_entry(alloc, "h.json", text.as_bytes(), case.number)?;
+    Ok(words.as_str() == case.words)
+}
+
+#[test]
+fn entries_are_told(rt: HostRuntime) -> Result<(), Fail> {
+    let alloc = rt.alloc();
+    for case in ENTRIES {
+        assert!(is_entry_told(alloc, case)?, "{case:?}");
     }
     Ok(())
 }

@@ -7,7 +7,7 @@ use sw_rows::Call;
 use sw_spine::Lines;
 
 /// A copy of a call. The one error is that there is no memory for it.
-pub(crate) fn copied_call(alloc: Global, call: &Call) -> Result<Call, AllocError>
+pub fn copied_call(alloc: Global, call: &Call) -> Result<Call, AllocError>
     ensures { IfOk result (λ copy. copy ≡ call.now) }
 {
     match call {
@@ -35,7 +35,7 @@ fn copied_texts(alloc: Global, texts: &[String]) -> Result<Vec<String>, AllocErr
 }
 
 /// A copy of lines. The one error is that there is no memory for it.
-pub(crate) fn copied_lines(alloc: Global, lines: &Lines) -> Result<Lines, AllocError>
+pub fn copied_lines(alloc: Global, lines: &Lines) -> Result<Lines, AllocError>
     ensures { IfOk result (λ copy. copy ≡ lines.now) }
 {
     Ok(Lines::of(copied_texts(alloc, lines.as_slice())?))
