@@ -1,12 +1,13 @@
 -- A table that takes records in, one by one.
 use Rattle.std.proofs.Common.{◌≡◌, ◌∙◌, ◌<◌, ◌≤◌, ◌≢◌, ◌+◌, ◌^◌, ◌++◌, ◌∷◌, [], ℕ, zero, suc, Bool, true, false, cond, List, Option, None, Some, length, map, get_or, set, inl, inr, refl, sym, ap, nat_eq, arith}
 use Rattle.std.proofs.Math.Seq.{map-set_same}
-use Rattle.std.proofs.lemmas.List.{append-nil, append_assoc, get_or-map, get_or-replicate, get_or_past, get_or-set_same, get_or-set_other, length-append, length-map, length-set, map-set}
+use Rattle.std.proofs.lemmas.List.{append-nil, append_assoc, get_or-map, get_or-replicate, get_or_past, get_or-set_same, get_or-set_other, length-append, length-map, length-replicate, length-set, map-set}
 use Rattle.std.proofs.lemmas.List.Elements.{filter_map-append}
 use Rattle.std.proofs.lemmas.List.Folds.{list_any-append}
 use Rattle.std.proofs.lemmas.List.Sums.{count_by-le-length, sum_by-append}
 use Rattle.std.proofs.lemmas.Bool.Decides.{nat_tests}
 use Rattle.std.proofs.lemmas.Grind.{flat_map-append}
+use Rattle.std.specs.Global.{Vec}
 use Rattle.std.specs.Prelude.{is_some, replicate}
 use Rattle.sw_import.specs.Imports.{has_fault, header_of, is_fault, is_left_out, left_out_for, left_out_of, most_rows, row_if, rows_made, told_for}
 use Rattle.sw_import.specs.Made.{NoRow, Row, row_made, sources_of}
@@ -141,3 +142,13 @@ table_of_all how m most records a b rules limit sample begun rest few =
           let told = rest.takes.left_out place (rw begun.wide inside) (omega arith) in
           told ∙ rw none (omega arith);
     })
+
+-- a table to which its header was written, and nothing was told yet
+pub begun_of : (plan : List Planned) (header : List (List ℕ)) (text : List ℕ) (done : Vec Done) (d : Done) → text ≡ record_text header → header ≡ header_of plan
+    → done.items ≡ replicate (length plan) d → d.left_out.count ≡ 0 → IsBegun plan (record { pages = text; rows = 0; done = done })
+begun_of plan header text done d pages is all none = record {
+  pages = pages ∙ ap record_text is ∙ sym (append-nil (record_text (header_of plan)));
+  rows = refl;
+  wide = ap length all ∙ length-replicate (length plan) d;
+  none = λ place. rw all (told_nothing (length plan) d place none);
+}

@@ -64,9 +64,10 @@ struct Values<'a> {
 
 impl<'a> Values<'a> {
     /// A reader of the rows.
+    #[tactic(auto, using(crate::proofs::RecordLemmas::no_records))]
     fn rows(self, alloc: Global, row: &mut ByteRecord) -> Result<Reader<&'a [u8]>, AllocError>
         ensures plain { IfOk result IsOpen }
-        ensures all { IfOk result (λ rdr. records_left rdr ≡ rows_of self) }
+        ensures all { IfOk result (λ rdr. records_left rdr ≡ rows_of self.entry) }
     {
         let mut rdr = open(alloc, self.delimiter, self.text);
         if self.has_header && !next(&mut rdr, row)? {
@@ -130,7 +131,8 @@ fn survey(
     seen: &mut [Evidence],
 ) -> Result<u64, Fault>
     requires { length seen.old ≡ length columns.now }
-    ensures { IfOk result (λ read. read ≡ length (rows_of values)) }
+    ensures count { IfOk result (λ read. read ≡ length (rows_of values.entry)) }
+    ensures few { OnOk result (length (rows_of values.entry) < 2 ^ 64) }
 {
     let mut row = ByteRecord::new(alloc);
     let mut rdr = values.rows(alloc, &mut row)?;
@@ -213,8 +215,8 @@ fn write_table(
     how: &How<'_>,
     plan: &[Planned],
 ) -> Result<Table, Fault>
-    ensures { IfOk result (λ table. length (rows_of values) < 2 ^ 64
-        → IsTableOf how.now plan.now (rows_of values) table) }
+    ensures { IfOk result (λ table. length (rows_of values.entry) < 2 ^ 64
+        → IsTableOf how.now plan.now (rows_of values.entry) table) }
 {
     let mut row = ByteRecord::new(alloc);
     let mut rdr = values.rows(alloc, &mut row)?;
