@@ -6,7 +6,7 @@ replies in other forms. Each case is a run of the built program, whose status, o
 
 PATH is the built program, by default crates/sideways/out/sideways. Ends with 1 at the first case that is wrong, which it shows; its last
 line tells how many cases there were."""
-import argparse, csv, io, json, shutil, subprocess, sys, tempfile
+import argparse, csv, io, json, os, shutil, subprocess, sys, tempfile
 from pathlib import Path
 
 TOP = Path(__file__).resolve().parents[1]
@@ -112,6 +112,29 @@ class Cases:
                 "of a file in Latin-1")
         refused("more columns than eight", wide, "more than 8 columns are asked for, and a table has at most 8",
                 ["--columns", "1,2,3,4,5,6,7,8,9"])
+
+        # What cannot be read or written
+        self.case("values that are not there", ["import", "none.csv"], 2, "", "sideways: refused 12\nnone.csv: there is no such file\n")
+        self.case("values that are a folder", ["import", "folder"], 2, "", "sideways: refused 12\nfolder: a folder, wanted a file\n")
+        self.case("texts of numbers to a folder", ["import", "cities.csv", "--dictionary", "folder"], 3, "",
+                  "sideways: refused 13\nfolder: a folder, wanted a file\n")
+        self.case("texts of numbers to a file in no folder", ["import", "cities.csv", "--dictionary", "none/texts.csv"], 3, "",
+                  "sideways: refused 13\nnone/texts.csv: it cannot be written\n")
+        self.ended("values of standard input that cannot be read", ["import", "-"], "stdin", self.folder, 2,
+                   b"sideways: refused 12\nstandard input: it cannot be read\n")
+        self.ended("a table to a full device", ["import", "cities.csv"], "stdout", "/dev/full", 3,
+                   b"sideways: refused 13\nstandard output: it cannot be written\n")
+
+    def ended(self, name, words, stream, path, status, told):
+        """One run of which a standard stream leads to a path that is of no use for it."""
+        self.cases += 1
+        end = os.open(path, os.O_WRONLY if stream == "stdout" else os.O_RDONLY)
+        try:
+            done = subprocess.run([self.program] + words, cwd=self.folder, stderr=subprocess.PIPE, timeout=60, **{stream: end})
+        finally:
+            os.close(end)
+        if (done.returncode, done.stderr) != (status, told):
+            raise Wrong("WRONG: %s: %r" % (name, done))
 
     # A header on the command line
 

@@ -258,12 +258,13 @@ fn how_of<'g>(given: &'g ArgMatches<'_>, delimiter: u8) -> How<'g> {
 pub(crate) const NO_DELIMITER: &str =
     "the delimiter is one character of ASCII, no quote and no end of a line, or \\t";
 
-/// Makes the table that the words ask for; none where the delimiter is none.
+/// Makes the table that the words ask for; none where the delimiter is none. What a refusal means is put into `told`.
 pub(crate) fn make_import<R: Files + Input + RandomSource + Print + Threads + Sync, E: Sink>(
     rt: &R,
     alloc: Global,
     given: &ArgMatches<'_>,
     errors: &mut E,
+    told: &mut Option<String>,
 ) -> Option<Result<u8, Refusal>> {
     let delimiter = delimiter_of(given)?;
     let import = Import {
@@ -271,5 +272,5 @@ pub(crate) fn make_import<R: Files + Input + RandomSource + Print + Threads + Sy
         how: how_of(given, delimiter),
         dictionary: given.get_str("dictionary"),
     };
-    Some(import.make(rt, alloc, errors))
+    Some(import.make(rt, alloc, errors, told))
 }

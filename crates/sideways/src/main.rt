@@ -233,6 +233,17 @@ fn make_order<
     }
 }
 
+/// Makes the table that the words ask for, unless their delimiter is none.
+fn import_or_refuse<
+    R: Files + RandomSource + Print + Eprint + Input + Threads + Sync,
+    E: Sink + Drop,
+>(rt: &R, alloc: Global, given: &ArgMatches<'_>, errors: &mut Errors<E>) -> Result<u8, Refusal> {
+    match make_import(rt, alloc, given, &mut errors.sink, &mut errors.words) {
+        Some(status) => status,
+        None => refuse_words(rt, alloc, NO_DELIMITER),
+    }
+}
+
 /// Makes what the words ask for, a command an arm.
 fn make_command<
     R: Files + RandomSource + Clock + Print + Eprint + Input + Threads + Wait + Sync,
@@ -242,10 +253,7 @@ fn make_command<
         Some(("check", given)) => make_check(rt, alloc, given, &mut errors.words),
         Some(("describe", given)) => make_description(rt, alloc, given, errors),
         Some(("order", given)) => make_order(rt, alloc, given, errors),
-        Some(("import", given)) => match make_import(rt, alloc, given, &mut errors.sink) {
-            Some(status) => status,
-            None => refuse_words(rt, alloc, NO_DELIMITER),
-        },
+        Some(("import", given)) => import_or_refuse(rt, alloc, given, errors),
         Some(("explain", given)) => explain(rt, given.get_one::<u64>("number")),
         Some((_, given)) => make_run(rt, alloc, given, errors),
         None => Ok(2),

@@ -2,3 +2,4 @@ pub mod MadeLemmas
 pub mod PlainLemmas
 pub mod RecordLemmas
 pub mod RowLemmas
+pub mod TakenLemmas

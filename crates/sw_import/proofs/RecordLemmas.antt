@@ -6,11 +6,11 @@ use Rattle.std.proofs.Common.{get_or}
 use denote.Ref.{Bor}
 use Rattle.csv.specs.Records.{field_at}
 use Rattle.csv.specs.declared.reader.Reader.{Reader}
-use Rattle.csv.specs.Reading.{NextIs, ReadRecord, ReadsNext, has_failed, pending_of, reader_source, records_from, records_next, unread_of}
+use Rattle.csv.specs.Reading.{NextIs, ReadRecord, ReadsNext, has_failed, pending_of, reader_source, records_from, records_next, strip_bom, unread_of}
 use Rattle.csv.specs.declared.parser.Config.{Config}
 use Rattle.csv.specs.declared.parser.State.{State}
 use Rattle.csv.specs.declared.parser.State.TheVariants as st
-use Rattle.sw_import.specs.Records.{IsOpen, records_at, records_left, text_left}
+use Rattle.sw_import.specs.Records.{IsOpen, divided_by, records_at, records_left, records_of, text_left}
 
 -- a read leaves less text, or was of the end
 abbrev Shrinks : List ℕ → Read → Type 0
@@ -108,3 +108,8 @@ unfolding field_at
 nothing_there [] i e = refl
 nothing_there (f ∷ fs) zero e = cc
 nothing_there (f ∷ fs) (suc i) e = nothing_there fs i e
+
+-- a text without a byte has no record
+pub no_records : (delimiter : ℕ) → records_of delimiter [] ≡ []
+unfolding strip_bom
+no_records delimiter = none-left (divided_by delimiter) 1

@@ -23,6 +23,26 @@ domain_of form.Days = kind.Int
 domain_of form.Text = kind.Text []
 domain_of form.Code = kind.Int
 
+-- the word of a header for numbers with so many decimals, of which there are at most six
+abbrev pub number_word : ℕ → List ℕ
+number_word places =
+    if places == 0 then codes "int"
+    else if places == 1 then codes "fix1"
+    else if places == 2 then codes "fix2"
+    else if places == 3 then codes "fix3"
+    else if places == 4 then codes "fix4"
+    else if places == 5 then codes "fix5"
+    else codes "fix6"
+
+-- the word of a header for the attribute that a column becomes
+abbrev pub word_of : Form → List ℕ
+word_of (form.Number places) = number_word places
+word_of form.Flag = codes "flag"
+word_of form.Seconds = codes "int"
+word_of form.Days = codes "int"
+word_of form.Text = codes "text"
+word_of form.Code = codes "int"
+
 -- a digit, which is no zero before another digit
 abbrev pub begins_whole : List ℕ → Bool
 begins_whole [] = false

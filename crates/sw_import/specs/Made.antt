@@ -103,23 +103,29 @@ source_of p = record { place = p.column.place; form = p.form; texts = p.dictiona
 abbrev pub sources_of : List Planned → List Source
 sources_of plan = map source_of plan
 
--- a record is written, left out, or refused
+-- a record is written, left out for the column at a place, or refused
 pub data Kept : Type 0 where
   Row : List (List ℕ) → Kept
-  NoRow : Kept
+  NoRow : ℕ → Kept
   Fault : Kept
 
-abbrev pub then_more : Outcome → (List ℕ → Kept) → Kept
-then_more (Written text) more = more text
-then_more LeftOut more = NoRow
-then_more Refused more = Fault
+-- what comes of the cell of the column at a place
+abbrev pub then_more : ℕ → Outcome → (List ℕ → Kept) → Kept
+then_more place (Written text) more = more text
+then_more place LeftOut more = NoRow place
+then_more place Refused more = Fault
 
 -- the fields after those done, from the left
 abbrev pub row_after : Rules → List (List ℕ) → List Source → List (List ℕ) → Kept
 row_after rules done [] fields = Row done
 row_after rules done (s ∷ ss) fields =
-    then_more (cell_made rules s.form s.texts (slice_index_or fields s.place []))
+    then_more (length done) (cell_made rules s.form s.texts (slice_index_or fields s.place []))
     (λ text. row_after rules (done ++ text ∷ []) ss fields)
+
+-- these fields, or no row where it is left out
+abbrev pub row_or : Option ℕ → List (List ℕ) → Kept
+row_or None fields = Row fields
+row_or (Some place) fields = NoRow place
 
 -- what is written of a record
 abbrev pub row_made : Rules → List Source → List (List ℕ) → Kept

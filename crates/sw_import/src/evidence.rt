@@ -1,5 +1,7 @@
 //! What was seen of the cells of a column.
 
+ghost use Rattle.std.specs.Prelude.{◌≡◌, ◌+◌, ◌<◌, ◌^◌};
+
 use crate::forms::{Form, MOST_DECIMALS, TRIED, fits, short_decimals, tried};
 use crate::making::is_text;
 use crate::rules::{Rules, Times};
@@ -15,12 +17,16 @@ pub struct Tally {
 
 impl Tally {
     /// None.
-    pub(crate) fn new() -> Tally {
+    pub(crate) fn new() -> Tally
+        ensures { result.count ≡ 0 }
+    {
         Tally { count: 0, first: 0 }
     }
 
     /// One more, in a line.
-    pub(crate) fn add(&mut self, line: u64) {
+    pub(crate) fn add(&mut self, line: u64)
+        ensures { (self.old.count + 1 < 2 ^ 64) → self.new.count ≡ self.old.count + 1 }
+    {
         if self.count == 0 {
             self.first = line;
         }

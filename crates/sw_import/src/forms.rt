@@ -3,7 +3,7 @@
 ghost use Rattle.std.specs.Prelude.{[], ◌≡◌, is_some};
 ghost use Rattle.sw_rows.specs.Cells.{HasPlaces, cell_value};
 ghost use Rattle.sw_rows.specs.Domains.{domain};
-ghost use Rattle.sw_import.specs.Forms.{begins_plainly, domain_of, fits, flag_of, number_domain, takes_blanks};
+ghost use Rattle.sw_import.specs.Forms.{begins_plainly, domain_of, fits, flag_of, number_domain, number_word, takes_blanks, word_of};
 
 use crate::dates::{days_of, seconds_of};
 use crate::rules::Times;
@@ -41,17 +41,14 @@ impl Form {
     }
 
     /// The word of a header for the kind, and of messages for the form.
-    pub fn word(self) -> &'static str {
-        match self.kind() {
-            Kind::Int => "int",
-            Kind::Fix(1) => "fix1",
-            Kind::Fix(2) => "fix2",
-            Kind::Fix(3) => "fix3",
-            Kind::Fix(4) => "fix4",
-            Kind::Fix(5) => "fix5",
-            Kind::Fix(_) => "fix6",
-            Kind::Flag => "flag",
-            Kind::Text => "text",
+    pub fn word(self) -> &'static str
+        ensures { result.now ≡ word_of self }
+    {
+        match self {
+            Form::Number(places) => number_word(places),
+            Form::Flag => "flag",
+            Form::Text => "text",
+            Form::Seconds | Form::Days | Form::Code => "int",
         }
     }
 
@@ -84,6 +81,21 @@ fn number_kind(places: u8) -> Kind
         Kind::Int
     } else {
         Kind::Fix(places.min(6))
+    }
+}
+
+/// The word of a header for numbers with so many decimals.
+fn number_word(places: u8) -> &'static str
+    ensures { result.now ≡ number_word places }
+{
+    match places {
+        0 => "int",
+        1 => "fix1",
+        2 => "fix2",
+        3 => "fix3",
+        4 => "fix4",
+        5 => "fix5",
+        _ => "fix6",
     }
 }
 

@@ -1,8 +1,9 @@
 //! A table is made of values.
 
-ghost use Rattle.std.specs.Prelude.{◌≡◌, length, vec_len, IfOk, OnOk};
-ghost use Rattle.sw_import.specs.Imports.{IsTable};
-ghost use Rattle.sw_import.specs.Records.{IsOpen};
+ghost use Rattle.std.specs.Prelude.{◌≡◌, ◌<◌, ◌^◌, length, vec_len, IfOk, OnOk};
+ghost use Rattle.sw_import.specs.Imports.{IsImportOf, IsTable};
+ghost use Rattle.sw_import.specs.Records.{IsOpen, records_left};
+ghost use Rattle.sw_import.specs.Taken.{IsTableOf, rows_of};
 
 use crate::columns::{Asked, Column, columns_of, field};
 use crate::evidence::Evidence;
@@ -11,8 +12,8 @@ use crate::forms::Form;
 use crate::planning::{Planned, plan, see_plan};
 use crate::records::{line_of, next, open};
 use crate::rules::Rules;
-use crate::writing::{Done, Most, write_header, write_rows};
-use csv::{ByteRecord, Reader, Writer};
+use crate::writing::{Done, Maker, Most, Table};
+use csv::{ByteRecord, Reader};
 use std::alloc::{AllocError, Global};
 use std::thread::Threads;
 use sw_rows::{Counted, TextKey, load, load_in_parts};
@@ -63,12 +64,14 @@ struct Values<'a> {
 
 impl<'a> Values<'a> {
     /// A reader of the rows.
+    #[tactic(auto, using(crate::proofs::RecordLemmas::no_records))]
     fn rows(self, alloc: Global, row: &mut ByteRecord) -> Result<Reader<&'a [u8]>, AllocError>
-        ensures { IfOk result IsOpen }
+        ensures plain { IfOk result IsOpen }
+        ensures all { IfOk result (λ rdr. records_left rdr ≡ rows_of self.entry) }
     {
         let mut rdr = open(alloc, self.delimiter, self.text);
-        if self.has_header {
-            let _found = next(&mut rdr, row)?;
+        if self.has_header && !next(&mut rdr, row)? {
+            return Ok(open(alloc, self.delimiter, &[]));
         }
         Ok(rdr)
     }
@@ -128,13 +131,14 @@ fn survey(
     seen: &mut [Evidence],
 ) -> Result<u64, Fault>
     requires { length seen.old ≡ length columns.now }
+    ensures count { IfOk result (λ read. read ≡ length (rows_of values.entry)) }
+    ensures few { OnOk result (length (rows_of values.entry) < 2 ^ 64) }
 {
     let mut row = ByteRecord::new(alloc);
     let mut rdr = values.rows(alloc, &mut row)?;
-    let mut count = 0u64;
-    'rows: for _ in 0..u64::MAX {
+    'rows: for count in 0..u64::MAX {
         if !next(&mut rdr, &mut row)? {
-            break;
+            return Ok(count);
         }
         let line = line_of(values.text, &row);
         if !values.takes(row.len()) {
@@ -145,9 +149,9 @@ fn survey(
             });
         }
         see_record(rules, columns, &row, line, seen);
-        count = count.saturating_add(1);
     }
-    Ok(count)
+    // No memory holds so many records.
+    Err(Fault::NoMemory)
 }
 
 /// What was seen of so many columns before any cell.
@@ -155,11 +159,6 @@ fn nothing_seen(alloc: Global, count: usize) -> Result<Vec<Evidence>, AllocError
     ensures { IfOk result (λ seen. vec_len seen ≡ count) }
 {
     vec![in alloc; Evidence::new(); count]
-}
-
-/// What was done to so many columns before any cell.
-fn nothing_done(alloc: Global, count: usize) -> Result<Vec<Done>, AllocError> {
-    vec![in alloc; Done::new(); count]
 }
 
 /// Adds the texts of a record for which numbers are written.
@@ -209,39 +208,27 @@ fn others(alloc: Global, header: &ByteRecord, plan: &[Planned]) -> Result<Vec<At
     Ok(others)
 }
 
-/// The bytes of a writer over memory.
-fn bytes_of(writer: Writer<Vec<u8>>) -> Result<Vec<u8>, AllocError> {
-    match writer.into_inner() {
-        Ok(bytes) => Ok(bytes),
-        Err(_) => Err(AllocError),
-    }
-}
-
-/// Writes the table of a plan: its bytes, and how many rows it has.
+/// Writes the table of a plan.
 fn write_table(
     alloc: Global,
     values: Values<'_>,
     how: &How<'_>,
     plan: &[Planned],
-    done: &mut [Done],
-) -> Result<(Vec<u8>, u64), Fault> {
+) -> Result<Table, Fault>
+    ensures { IfOk result (λ table. length (rows_of values.entry) < 2 ^ 64
+        → IsTableOf how.now plan.now (rows_of values.entry) table) }
+{
     let mut row = ByteRecord::new(alloc);
     let mut rdr = values.rows(alloc, &mut row)?;
-    let mut writer = Writer::from_writer(Vec::new(alloc));
-    write_header(alloc, plan, &mut writer)?;
-    let most = Most::of(how.sample);
-    let text = values.text;
-    let written = write_rows(
+    let mut table = Table::new(alloc, plan)?;
+    let maker = Maker {
         alloc,
-        text,
-        &how.rules,
+        text: values.text,
+        rules: &how.rules,
         plan,
-        most,
-        &mut rdr,
-        &mut writer,
-        done,
-    )?;
-    Ok((bytes_of(writer)?, written))
+    };
+    table.take_all(&maker, Most::of(how.sample), &mut rdr)?;
+    Ok(table)
 }
 
 /// Refuses bytes that are no table.
@@ -270,7 +257,9 @@ fn see_table_in_parts<R: Threads + Sync>(
 }
 
 /// Makes the bytes of a table of the values of a text, and says what was done for it.
-fn make(alloc: Global, key: TextKey, how: &How<'_>, text: &[u8]) -> Result<Imported, Fault> {
+fn make(alloc: Global, key: TextKey, how: &How<'_>, text: &[u8]) -> Result<Imported, Fault>
+    ensures { IfOk result (IsImportOf how.now text.now) }
+{
     let header = header_of(alloc, how, text)?;
     let columns = columns_of(alloc, &header, &how.asked)?;
     let values = Values {
@@ -291,15 +280,15 @@ fn make(alloc: Global, key: TextKey, how: &How<'_>, text: &[u8]) -> Result<Impor
     let mut plan = plan(alloc, key, &how.rules, columns, seen.as_slice())?;
     see_plan(alloc, &how.rules, plan.as_slice())?;
     learn(alloc, values, plan.as_mut_slice())?;
-    let mut done = nothing_done(alloc, plan.len())?;
-    let (bytes, written) = write_table(alloc, values, how, plan.as_slice(), done.as_mut_slice())?;
+    let table = write_table(alloc, values, how, plan.as_slice())?;
     let others = others(alloc, &header, plan.as_slice())?;
+    let Table { pages, rows, done } = table;
     Ok(Imported {
-        bytes,
+        bytes: pages.into_bytes()?,
         plan,
         done,
         read,
-        written,
+        written: rows,
         others,
     })
 }
@@ -310,7 +299,8 @@ fn make(alloc: Global, key: TextKey, how: &How<'_>, text: &[u8]) -> Result<Impor
 /// asked of columns; the first record that is ragged; texts that are not UTF-8; cells without a value; texts that are too
 /// long; then record by record a cell that is none of the kind that was asked for, and a row too many.
 pub fn import(alloc: Global, key: TextKey, how: &How<'_>, text: &[u8]) -> Result<Imported, Fault>
-    ensures { IfOk result (λ made. IsTable made.bytes.items) }
+    ensures made { IfOk result (IsImportOf how.now text.now) }
+    ensures table { IfOk result (λ made. IsTable made.bytes.items) }
 {
     let made = make(alloc, key, how, text)?;
     see_table(alloc, key, made.bytes.as_slice())?;
@@ -325,7 +315,8 @@ pub fn import_in_parts<R: Threads + Sync>(
     how: &How<'_>,
     text: &[u8],
 ) -> Result<Imported, Fault>
-    ensures { IfOk result (λ made. IsTable made.bytes.items) }
+    ensures made { IfOk result (IsImportOf how.now text.now) }
+    ensures table { IfOk result (λ made. IsTable made.bytes.items) }
 {
     let made = make(alloc, key, how, text)?;
     see_table_in_parts(rt, alloc, key, made.bytes.as_slice())?;

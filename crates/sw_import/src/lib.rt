@@ -10,6 +10,7 @@ mod forms;
 mod importing;
 mod making;
 mod names;
+mod pages;
 mod planning;
 mod records;
 mod rules;

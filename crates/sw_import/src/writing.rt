@@ -1,18 +1,21 @@
 //! The table goes out, record by record.
 
-ghost use Rattle.std.specs.Prelude.{[], ◌≡◌, ◌∷◌, ◌++◌, if◌then◌else◌, IfOk, OnOk};
+ghost use Rattle.std.specs.Prelude.{[], ◌≡◌, ◌∷◌, ◌++◌, ◌≤◌, IfOk, OnOk, is_some};
 ghost use Rattle.csv.specs.Records.{fields_of, partial_of};
-ghost use Rattle.sw_import.specs.Records.{IsOpen};
-ghost use Rattle.sw_import.specs.Made.{NoRow, Row, row_made, sources_of};
+ghost use Rattle.sw_import.specs.Imports.{header_of, left_out_of, most_rows};
+ghost use Rattle.sw_import.specs.Made.{row_made, row_or, sources_of};
+ghost use Rattle.sw_import.specs.Records.{IsOpen, records_left};
+ghost use Rattle.sw_import.specs.Taken.{IsBegun, TakesIn, TakesRest, TellsOneMore};
 
 use crate::columns::field;
 use crate::evidence::Tally;
 use crate::faults::{Fault, shown};
 use crate::making::{Made, make};
+use crate::pages::Pages;
 use crate::planning::Planned;
 use crate::records::{line_of, next};
 use crate::rules::Rules;
-use csv::{ByteRecord, Reader, Writer};
+use csv::{ByteRecord, Reader};
 use itoa::{Buffer, Integer};
 use std::alloc::{AllocError, Global};
 use sw_rows::MOST_ROWS;
@@ -30,7 +33,9 @@ pub struct Done {
 
 impl Done {
     /// Nothing.
-    pub(crate) fn new() -> Done {
+    pub(crate) fn new() -> Done
+        ensures { result.left_out.count ≡ 0 }
+    {
         Done {
             filled: Tally::new(),
             changed: Tally::new(),
@@ -39,13 +44,39 @@ impl Done {
     }
 
     /// Takes in a cell of which another text was written than its own.
-    fn add(&mut self, is_filled: bool, line: u64) {
+    fn add(&mut self, is_filled: bool, line: u64)
+        ensures { self.new.left_out ≡ self.old.left_out }
+    {
         if is_filled {
             self.filled.add(line);
         } else {
             self.changed.add(line);
         }
     }
+}
+
+/// What rows are made by: the values, of which lines are told, the rules and the columns.
+#[derive(Clone, Copy)]
+pub(crate) struct Maker<'a> {
+    /// Where memory comes from.
+    pub(crate) alloc: Global,
+    /// The text of the values.
+    pub(crate) text: &'a [u8],
+    /// The rules.
+    pub(crate) rules: &'a Rules<'a>,
+    /// The columns.
+    pub(crate) plan: &'a [Planned],
+}
+
+/// A table that is being written.
+#[derive(Drop)]
+pub(crate) struct Table {
+    /// Its text.
+    pub(crate) pages: Pages,
+    /// How many rows it has.
+    pub(crate) rows: u64,
+    /// What was done to the cells of each column.
+    pub(crate) done: Vec<Done>,
 }
 
 /// Adds a number to a row, as a field.
@@ -59,36 +90,43 @@ fn push_number<N: Integer>(number: N, row: &mut ByteRecord) -> Result<(), AllocE
 }
 
 /// Takes in that a row is left out for a cell of the column at a place.
-fn note_left_out(done: &mut [Done], place: usize, line: u64) {
-    if let Some(done) = done.get_mut(place) {
-        done.left_out.add(line);
+#[tactic(auto, using(crate::proofs::TakenLemmas::tells_none))]
+fn note_left_out(done: &mut [Done], place: usize, line: u64)
+    ensures { TellsOneMore place done.old done.new }
+{
+    if place < done.len() {
+        done[place].left_out.add(line);
     }
 }
 
 /// Takes in what was written of a cell of the column at a place.
-fn note_cell(done: &mut [Done], place: usize, is_filled: bool, line: u64) {
-    if let Some(done) = done.get_mut(place) {
-        done.add(is_filled, line);
+#[tactic(auto, using(crate::proofs::TakenLemmas::tells_same))]
+fn note_cell(done: &mut [Done], place: usize, is_filled: bool, line: u64)
+    ensures { left_out_of done.new ≡ left_out_of done.old }
+{
+    if place < done.len() {
+        done[place].add(is_filled, line);
     }
 }
 
 /// Takes in what was written of the record of a line.
 fn note_record(
-    rules: &Rules<'_>,
-    plan: &[Planned],
+    maker: &Maker<'_>,
     row: &ByteRecord,
     line: u64,
     made: &ByteRecord,
     done: &mut [Done],
-) {
-    for place in 0..plan.len() {
-        let planned = &plan[place];
+)
+    ensures { left_out_of done.new ≡ left_out_of done.old }
+{
+    for place in 0..maker.plan.len() {
+        let planned = &maker.plan[place];
         if planned.keeps_cells() {
             continue;
         }
         let cell = field(row, planned.column.place);
         if field(made, place) != cell {
-            let is_filled = rules.filling(planned.form, cell).is_some();
+            let is_filled = maker.rules.filling(planned.form, cell).is_some();
             note_cell(done, place, is_filled, line);
         }
     }
@@ -96,15 +134,15 @@ fn note_record(
 
 /// That a cell is none of what its column is taken for.
 fn no_cell(
-    alloc: Global,
-    rules: &Rules<'_>,
+    maker: &Maker<'_>,
     planned: &Planned,
     cell: &[u8],
     line: u64,
 ) -> Result<Fault, AllocError> {
+    let alloc = maker.alloc;
     let at = planned.column.at(alloc)?;
     let kind = planned.form.told();
-    Ok(match rules.filling(planned.form, cell) {
+    Ok(match maker.rules.filling(planned.form, cell) {
         Some(value) => Fault::Value {
             value: shown(alloc, value)?,
             at,
@@ -119,20 +157,20 @@ fn no_cell(
     })
 }
 
-/// Makes the record that is written of one that was read, in a line. False where it is left out.
+/// Makes the record that is written of one that was read, in a line. Where it is left out, answers for the column at which
+/// place.
 fn make_record(
-    alloc: Global,
-    rules: &Rules<'_>,
-    plan: &[Planned],
+    maker: &Maker<'_>,
     row: &ByteRecord,
     line: u64,
     made: &mut ByteRecord,
-    done: &mut [Done],
-) -> Result<bool, Fault>
-    ensures { IfOk result (λ kept. row_made rules.now (sources_of plan.now) (fields_of row.now)
-        ≡ (if kept then Row (fields_of made.new) else NoRow)) }
+) -> Result<Option<usize>, Fault>
+    ensures { IfOk result (λ left_out. row_made maker.now.rules.now (sources_of maker.now.plan.now) (fields_of row.now)
+        ≡ row_or left_out (fields_of made.new)) }
 {
     made.clear();
+    let rules = maker.rules;
+    let plan = maker.plan;
     for place in 0..plan.len() {
         let planned = &plan[place];
         let cell = field(row, planned.column.place);
@@ -141,30 +179,17 @@ fn make_record(
             Made::Bytes(bytes) => made.push_field(bytes)?,
             Made::Number(number) => push_number(number, made)?,
             Made::Code(number) => push_number(number, made)?,
-            Made::LeftOut => {
-                note_left_out(done, place, line);
-                return Ok(false);
-            }
-            Made::Refused => return Err(no_cell(alloc, rules, planned, cell, line)?),
+            Made::LeftOut => return Ok(Some(place)),
+            Made::Refused => return Err(no_cell(maker, planned, cell, line)?),
         }
     }
-    Ok(true)
+    Ok(None)
 }
 
-/// Writes a row. Over memory only memory can fail.
-fn write_record(row: &ByteRecord, writer: &mut Writer<Vec<u8>>) -> Result<(), Fault> {
-    match writer.write_byte_record(row) {
-        Ok(()) => Ok(()),
-        Err(_) => Err(Fault::NoMemory),
-    }
-}
-
-/// Writes the header: of each column its name and its kind.
-pub(crate) fn write_header(
-    alloc: Global,
-    plan: &[Planned],
-    writer: &mut Writer<Vec<u8>>,
-) -> Result<(), Fault> {
+/// The header of a table: of each column its name and its kind.
+fn header(alloc: Global, plan: &[Planned]) -> Result<ByteRecord, AllocError>
+    ensures { IfOk result (λ header. fields_of header ≡ header_of plan.now) }
+{
     let mut header = ByteRecord::new(alloc);
     for planned in plan {
         let name = planned.column.name.as_str();
@@ -172,7 +197,7 @@ pub(crate) fn write_header(
         let text = format!(in alloc; "{name}:{kind}")?;
         header.push_field(text.as_bytes())?;
     }
-    write_record(&header, writer)
+    Ok(header)
 }
 
 /// How many rows may be written: so many, or a table's most, of which a further one is a fault.
@@ -186,7 +211,10 @@ pub(crate) struct Most {
 
 impl Most {
     /// A sample of so many rows, or all rows of a table.
-    pub(crate) fn of(sample: Option<u64>) -> Most {
+    pub(crate) fn of(sample: Option<u64>) -> Most
+        ensures rows { result.rows ≡ most_rows sample }
+        ensures sample { result.is_sample ≡ is_some sample }
+    {
         match sample {
             Some(rows) => Most {
                 rows: rows.min(MOST_ROWS),
@@ -200,38 +228,69 @@ impl Most {
     }
 }
 
-/// Writes the rows that a reader of a text has left, and says how many were written.
-pub(crate) fn write_rows(
-    alloc: Global,
-    text: &[u8],
-    rules: &Rules<'_>,
-    plan: &[Planned],
-    most: Most,
-    rdr: &mut Reader<&[u8]>,
-    writer: &mut Writer<Vec<u8>>,
-    done: &mut [Done],
-) -> Result<u64, Fault>
-    requires { IsOpen rdr.old }
-{
-    let mut row = ByteRecord::new(alloc);
-    let mut made = ByteRecord::new(alloc);
-    let mut written = 0u64;
-    'rows: for _ in 0..u64::MAX {
-        if most.is_sample && written >= most.rows {
-            break;
-        }
-        if !next(rdr, &mut row)? {
-            break;
-        }
-        let line = line_of(text, &row);
-        if make_record(alloc, rules, plan, &row, line, &mut made, done)? {
-            if written >= most.rows {
-                return Err(Fault::ManyRows { line });
-            }
-            write_record(&made, writer)?;
-            note_record(rules, plan, &row, line, &made, done);
-            written += 1;
-        }
+impl Table {
+    /// A table of its header alone.
+    pub(crate) fn new(alloc: Global, plan: &[Planned]) -> Result<Table, AllocError>
+        ensures { IfOk result (IsBegun plan.now) }
+    {
+        let mut pages = Pages::new(alloc);
+        pages.add(&header(alloc, plan)?)?;
+        Ok(Table {
+            pages,
+            rows: 0,
+            done: vec![in alloc; Done::new(); plan.len()]?,
+        })
     }
-    Ok(written)
+
+    /// Takes a record in: the row that it makes is written, or it is left out.
+    fn take(
+        &mut self,
+        maker: &Maker<'_>,
+        most: u64,
+        row: &ByteRecord,
+        made: &mut ByteRecord,
+    ) -> Result<(), Fault>
+        requires { self.old.rows ≤ most }
+        ensures taken { OnOk result (TakesIn maker.now (fields_of row.now ∷ []) self.old self.new) }
+        ensures few { OnOk result (self.new.rows ≤ most) }
+    {
+        let line = line_of(maker.text, row);
+        if let Some(place) = make_record(maker, row, line, made)? {
+            note_left_out(self.done.as_mut_slice(), place, line);
+            return Ok(());
+        }
+        if self.rows >= most {
+            return Err(Fault::ManyRows { line });
+        }
+        self.pages.add(made)?;
+        note_record(maker, row, line, made, self.done.as_mut_slice());
+        self.rows += 1;
+        Ok(())
+    }
+
+    /// Takes the records in that a reader of a text has left, or as many as a sample wants.
+    pub(crate) fn take_all(
+        &mut self,
+        maker: &Maker<'_>,
+        most: Most,
+        rdr: &mut Reader<&[u8]>,
+    ) -> Result<(), Fault>
+        requires plain { IsOpen rdr.old }
+        requires few { self.old.rows ≤ most.rows }
+        ensures { OnOk result (TakesRest maker.now most (records_left rdr.old) self.old self.new) }
+    {
+        let mut row = ByteRecord::new(maker.alloc);
+        let mut made = ByteRecord::new(maker.alloc);
+        'rows: for _ in 0..u64::MAX {
+            if most.is_sample && self.rows >= most.rows {
+                return Ok(());
+            }
+            if !next(rdr, &mut row)? {
+                return Ok(());
+            }
+            self.take(maker, most.rows, &row, &mut made)?;
+        }
+        // No memory holds so many records.
+        Err(Fault::NoMemory)
+    }
 }

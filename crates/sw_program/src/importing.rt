@@ -2,18 +2,20 @@
 
 ghost use Rattle.std.specs.Prelude.{◌≡◌, ◌⊎◌, IfOk};
 
+use crate::inputs::Place;
+use crate::wording::{of_unread, of_unwritten};
 use std::alloc::Global;
 use std::io;
 use std::random::RandomSource;
 use std::rt::Files;
 use std::thread::Threads;
 use sw_files::{begin_file, read_file};
-use sw_import::{Fault, How, Imported, dictionary_of, import_in_parts, told};
+use sw_import::{Fault, How, Imported, dictionary_of, import_in_parts, told as summary};
 use sw_lang::write_all;
 use sw_rows::{Counted, Refusal, Sink, TextKey, read_all};
 
-/// The name of standard input.
-const STANDARD: &str = "-";
+/// What is told where there is no key for texts.
+const NO_KEY: &str = "the system gives no random bytes\n";
 
 /// A table that is asked for.
 #[derive(Clone, Copy, Debug)]
@@ -27,11 +29,11 @@ pub struct Import<'a> {
 }
 
 /// Reads the values, to their end.
-fn read_values<R: Files + Input>(rt: &R, alloc: Global, file: &str) -> Result<Vec<u8>, Refusal> {
-    if file == STANDARD {
+fn read_values<R: Files + Input>(rt: &R, alloc: Global, place: Place<'_>) -> Result<Vec<u8>, Refusal> {
+    if place.is_standard() {
         read_all(alloc, &mut Counted::new(rt.reader()), usize::MAX)
     } else {
-        read_file(rt, alloc, file)
+        read_file(rt, alloc, place.name())
     }
 }
 
@@ -67,28 +69,89 @@ fn refuse<E: Sink>(alloc: Global, file: &str, fault: &Fault, errors: &mut E) -> 
     Ok(2)
 }
 
+/// What came of the values of an import: a table, or why there is none.
+type Came = Result<Imported, Fault>;
+
+/// Whether there is no table for want of memory.
+fn is_memory(came: &Came) -> bool {
+    match came {
+        Ok(_) => false,
+        Err(fault) => fault.is_memory(),
+    }
+}
+
 impl Import<'_> {
+    /// Reads the values and makes the table. Refused `Input` where the values cannot be opened or read or the system gives
+    /// no random bytes for the key of texts, and `NoMemory`; `told` gets what that means in words.
+    fn read<R: Files + Input + RandomSource + Threads + Sync>(
+        &self,
+        rt: &R,
+        alloc: Global,
+        told: &mut Option<String>,
+    ) -> Result<Came, Refusal> {
+        let place = Place::new(self.file);
+        let bytes = match read_values(rt, alloc, place) {
+            Ok(bytes) => bytes,
+            Err(refusal) => {
+                *told = of_unread(rt, alloc, place, &refusal);
+                return Err(refusal);
+            }
+        };
+        let key = match TextKey::new(rt) {
+            Ok(key) => key,
+            Err(refusal) => {
+                *told = String::from_str(alloc, NO_KEY).ok();
+                return Err(refusal);
+            }
+        };
+        let came = import_in_parts(rt, alloc, key, &self.how, bytes.as_slice());
+        if is_memory(&came) {
+            *told = of_unread(rt, alloc, place, &Refusal::NoMemory);
+            return Err(Refusal::NoMemory);
+        }
+        Ok(came)
+    }
+
+    /// Writes the texts for which numbers stand to their file, and the table to standard output. Refused `Output` where
+    /// one of them cannot be written, and `NoMemory`; `told` gets what that means in words.
+    fn write<R: Files + Print>(
+        &self,
+        rt: &R,
+        alloc: Global,
+        made: &Imported,
+        told: &mut Option<String>,
+    ) -> Result<(), Refusal> {
+        if let Err(refusal) = keep_dictionary(rt, alloc, self.dictionary, made) {
+            *told = of_unwritten(rt, alloc, self.dictionary, &refusal);
+            return Err(refusal);
+        }
+        if let Err(refusal) = write_all(&mut Counted::new(io::writer(rt)), made.bytes.as_slice()) {
+            *told = of_unwritten(rt, alloc, None, &refusal);
+            return Err(refusal);
+        }
+        Ok(())
+    }
+
     /// Makes the table: it goes to standard output, the texts for which numbers stand to their file, and what was done to
     /// `errors`. Answers the exit status: 0 where there is a table, and 2 where there is none, which is told on `errors`.
     /// Refused `Input` where the values cannot be opened or read or the system gives no random bytes for the key of texts,
-    /// `Output` where the table or the texts cannot be written, and `NoMemory`.
+    /// `Output` where the table or the texts cannot be written, and `NoMemory`. What a refusal means is put into `told`,
+    /// where there is memory for it.
     pub fn make<R: Files + Input + RandomSource + Print + Threads + Sync, E: Sink>(
         &self,
         rt: &R,
         alloc: Global,
         errors: &mut E,
+        told: &mut Option<String>,
     ) -> Result<u8, Refusal>
         ensures { IfOk result (λ status. (status ≡ 0) ⊎ (status ≡ 2)) }
     {
-        let bytes = read_values(rt, alloc, self.file)?;
-        let key = TextKey::new(rt)?;
-        let made = match import_in_parts(rt, alloc, key, &self.how, bytes.as_slice()) {
+        let made = match self.read(rt, alloc, told)? {
             Ok(made) => made,
             Err(fault) => return refuse(alloc, self.file, &fault, errors),
         };
-        keep_dictionary(rt, alloc, self.dictionary, &made)?;
-        write_all(&mut Counted::new(io::writer(rt)), made.bytes.as_slice())?;
-        let Ok(text) = told(alloc, self.file, &made) else {
+        self.write(rt, alloc, &made, told)?;
+        let Ok(text) = summary(alloc, self.file, &made) else {
             return Err(Refusal::NoMemory);
         };
         let _ = write_all(errors, text.as_bytes());

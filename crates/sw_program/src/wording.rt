@@ -33,6 +33,9 @@ const HEADER: &str = "--header";
 /// What standard input is called in words.
 const STANDARD: &str = "standard input";
 
+/// What standard output is called in words.
+const STANDARD_OUTPUT: &str = "standard output";
+
 /// What a place is called in words.
 fn called(place: Place<'_>) -> &str {
     if place.is_standard() {
@@ -61,6 +64,14 @@ fn why_not(error: &io::Error) -> &'static str {
     }
 }
 
+/// Whether a path leads to a folder.
+fn is_folder<R: Files>(rt: &R, path: &str) -> bool {
+    match fs::metadata(rt, path) {
+        Ok(found) => found.is_dir(),
+        Err(_) => false,
+    }
+}
+
 /// What is wrong with the file of a place, if it cannot be opened or is a folder.
 fn wrong_file<R: Files>(rt: &R, place: Place<'_>) -> Option<&'static str> {
     if place.is_standard() {
@@ -69,9 +80,10 @@ fn wrong_file<R: Files>(rt: &R, place: Place<'_>) -> Option<&'static str> {
     if let Err(error) = File::open(rt, place.name()) {
         return Some(why_not(&error));
     }
-    match fs::metadata(rt, place.name()) {
-        Ok(found) if found.is_dir() => Some("a folder, wanted a file"),
-        _ => None,
+    if is_folder(rt, place.name()) {
+        Some("a folder, wanted a file")
+    } else {
+        None
     }
 }
 
@@ -85,6 +97,41 @@ fn of_place<R: Files>(
         Some(why) => Ok(Some(format!(in alloc; "{}: {why}\n", called(place))?)),
         None => Ok(None),
     }
+}
+
+/// The words of a file, or of standard input, that was refused when it was to be read; nothing where there is no memory
+/// for them.
+pub(crate) fn of_unread<R: Files>(
+    rt: &R,
+    alloc: Global,
+    place: Place<'_>,
+    refusal: &Refusal,
+) -> Option<String> {
+    let why = match refusal {
+        Refusal::NoMemory => "there is no memory for it",
+        _ => match wrong_file(rt, place) {
+            Some(why) => why,
+            None => "it cannot be read",
+        },
+    };
+    format!(in alloc; "{}: {why}\n", called(place)).ok()
+}
+
+/// The words of a file that was refused when it was to be written, or of standard output where no file is named; nothing
+/// where there is no memory for them.
+pub(crate) fn of_unwritten<R: Files>(
+    rt: &R,
+    alloc: Global,
+    path: Option<&str>,
+    refusal: &Refusal,
+) -> Option<String> {
+    let why = match (refusal, path) {
+        (Refusal::NoMemory, _) => "there is no memory for it",
+        (_, Some(path)) if is_folder(rt, path) => "a folder, wanted a file",
+        _ => "it cannot be written",
+    };
+    let name = path.unwrap_or(STANDARD_OUTPUT);
+    format!(in alloc; "{name}: {why}\n").ok()
 }
 
 /// The words of a table or a script that cannot be read.

@@ -1,5 +1,7 @@
-use Rattle.sw_import.specs.Records.{IsOpen}
+use Rattle.std.proofs.Common.{◌≡◌, ◌+◌, length}
+use Rattle.sw_import.specs.Records.{IsOpen, records_left}
+use Rattle.sw_import.specs.Taken.{rows_of}
 use Rattle.sw_import.proofs.importing.survey.Given as goal
 
 abbrev pub invariant-rows : goal.invariant-rows
-invariant-rows l = IsOpen l.rdr
+invariant-rows l = IsOpen l.rdr × (length (records_left l.rdr) + l.count ≡ length (rows_of l.values))
