@@ -14,6 +14,7 @@ mod tables;
 mod tokens;
 mod words;
 
-pub use lines::call_lines;
+pub use cells::kind_name;
+pub use lines::{call_lines, wrong_line};
 pub use tables::all_faults;
 pub use words::{Asked, Origin, Text, words_of};

@@ -9,19 +9,19 @@ use sw_spine::Record;
 /// A record of these attributes in place of its own, of which there are as many: those that know what texts came
 /// while the history was made. Where it has its replies as they were given, it is legal over the one where it was over the
 /// other, since a legal reply hangs on rows and calls alone, and codes of texts stay.
-pub fn with_columns(record: Record, schema: Schema) -> Record
-    requires wide { length schema ≡ length record.columns }
-    requires given { all_given record.entries ≡ true }
-    ensures same { (result.rows ≡ record.rows) × (result.limit ≡ record.limit) × (result.entries ≡ record.entries) }
+pub fn with_columns(history: Record, schema: Schema) -> Record
+    requires wide { length schema ≡ length history.columns }
+    requires given { all_given history.entries ≡ true }
+    ensures same { (result.rows ≡ history.rows) × (result.limit ≡ history.limit) × (result.entries ≡ history.entries) }
     ensures columns { result.columns ≡ schema }
-    ensures legal { IsLegal record → IsLegal result }
+    ensures legal { IsLegal history → IsLegal result }
 {
     let Record {
         rows,
         limit,
         entries,
         ..
-    } = record;
+    } = history;
     Record {
         schema,
         rows,
