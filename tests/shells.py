@@ -15,7 +15,7 @@ CITIES = b"city:text,n:int\nOslo,1\nRoma,2\n"
 NAMES = "a:int\nb:int\nc:int\n"
 WORDS = "select count sum min max insert delete where and true false .help .names .stats .times .write .history .quit".split()
 FAULT = """sideways: refused 4 name d
-line 1, column 13: no attribute is named 'd', the table has a, b, c
+line 1, column 13: 'd' cannot stand there, wanted a, b, c
   count where d = 1
               ^
 """

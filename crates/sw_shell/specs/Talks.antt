@@ -1,5 +1,5 @@
 -- What the lines come to that are entered one after another.
-use Rattle.std.specs.Prelude.{◌≡◌, ◌⊎◌, ◌++◌, ℕ, zero, suc, Bool, true, false, List, [], ◌∷◌, Option, Some, None, Result, Ok, Err, if◌then◌else◌}
+use Rattle.std.specs.Prelude.{◌≡◌, ◌⊎◌, ◌++◌, ℕ, zero, suc, Bool, true, false, List, [], ◌∷◌, Option, Some, None, Result, Ok, Err}
 use Rattle.std.specs.Io.KnownBytes.{Keeps}
 use Rattle.bstr.specs.Text.{without_terminator}
 use Rattle.sw_rows.specs.Header.{Column}
@@ -76,9 +76,14 @@ pub record IsHeard (W : Taking) (n : ℕ) (line : List ℕ) (a b : Said) : Type 
   pub answers : Answers said (call_of_line a.columns n line)
   pub came : Comes W line said a b
 
--- a line that is for the shell itself makes no call
+-- a line that is a command makes no call
+abbrev pub CameBy : Bool → Taking → ℕ → List ℕ → Said → Said → Type 0
+CameBy true W n line a b = IsUnheard a b
+CameBy false W n line a b = IsHeard W n line a b
+
+-- what came of line n
 abbrev pub Came : Taking → ℕ → List ℕ → Said → Said → Type 0
-Came W n line a b = if is_command line then IsUnheard a b else IsHeard W n line a b
+Came W n line a b = CameBy (is_command line) W n line a b
 
 -- and beside it the bytes that its reader has left, where they are known
 pub record Seen : Type 0 where

@@ -12,8 +12,10 @@ use sw_spine::Record;
 pub fn with_columns(history: Record, schema: Schema) -> Record
     requires wide { length schema ≡ length history.columns }
     requires given { all_given history.entries ≡ true }
-    ensures same { (result.rows ≡ history.rows) × (result.limit ≡ history.limit) × (result.entries ≡ history.entries) }
     ensures columns { result.columns ≡ schema }
+    ensures rows { result.rows ≡ history.rows }
+    ensures limit { result.limit ≡ history.limit }
+    ensures entries { result.entries ≡ history.entries }
     ensures legal { IsLegal history → IsLegal result }
 {
     let Record {

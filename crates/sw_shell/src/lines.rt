@@ -1,7 +1,7 @@
 //! Lines, read one at a time.
 
 ghost use Rattle.std.specs.Prelude.{◌≡◌, [], OnOk};
-ghost use Rattle.bstr.specs.Text.{no_cr, without_terminator};
+ghost use Rattle.bstr.specs.Text.{without_terminator};
 ghost use Rattle.sw_shell.specs.Lines.{IsNext};
 
 use std::io::{BufRead, ErrorKind};
@@ -23,18 +23,12 @@ pub(crate) fn read_line<B: BufRead>(lines: &mut B, line: &mut Vec<u8>) -> Result
 pub(crate) fn without_end(line: &[u8]) -> &[u8]
     ensures { result.now ≡ without_terminator line.now }
 {
-    match line.split_last() {
-        Some((b'\n', front)) => without_return(front),
-        _ => line,
+    let count = line.len();
+    if count == 0 || line[count - 1] != b'\n' {
+        return line;
     }
-}
-
-/// A line without a carriage return at its end.
-fn without_return(line: &[u8]) -> &[u8]
-    ensures { result.now ≡ no_cr line.now }
-{
-    match line.split_last() {
-        Some((b'\r', front)) => front,
-        _ => line,
+    if count == 1 || line[count - 2] != b'\r' {
+        return &line[..count - 1];
     }
+    &line[..count - 2]
 }

@@ -99,8 +99,8 @@ where
 
     /// The call of a line, if it has one. Its texts become known.
     pub(crate) fn read(&mut self, line: Line<'_>) -> Result<Option<Call>, Refusal>
-        ensures answers { Answers result (call_of_line self.old.1 line.number line.bytes.now) }
-        ensures learned { OnOk result (self.new ≡ (self.old.0, learned self.old.1 line.bytes.now, self.old.2)) }
+        ensures answers { Answers result (call_of_line self.old.1 line.entry.number line.entry.bytes.now) }
+        ensures learned { OnOk result (self.new ≡ (self.old.0, learned self.old.1 line.entry.bytes.now, self.old.2)) }
         ensures unchanged { OnErr result (self.new ≡ self.old) }
         ensures below { IfOk result (λ call. IfSome call (CallsBelow (length J.columns))) }
     {

@@ -98,9 +98,9 @@ fn hear<J: Naming, M: CrackerMap, H: Host, R: Threads + Wait + Sync, W: Sink>(
 where
     Live<J>: Absorb<Op<J>, State = [Update; 0]>,
     ensures number { seat.new.0 ≡ seat.old.0 }
-    ensures came { OnOk result (IsHeard Took line.number line.bytes.now
+    ensures came { OnOk result (IsHeard Took line.entry.number line.entry.bytes.now
         (said seat.old.1 seat.old.2 (W.taken out.old)) (said seat.new.1 seat.new.2 (W.taken out.new))) }
-    ensures broke { OnErr result (IsHeard TookBeginning line.number line.bytes.now
+    ensures broke { OnErr result (IsHeard TookBeginning line.entry.number line.entry.bytes.now
         (said seat.old.1 seat.old.2 (W.taken out.old)) (said seat.new.1 seat.new.2 (W.taken out.new))) }
 {
     match seat.read(line) {
@@ -121,11 +121,11 @@ fn enter<J: Naming, M: CrackerMap, H: Host, R: Threads + Wait + Sync, W: Sink>(
 where
     Live<J>: Absorb<Op<J>, State = [Update; 0]>,
     ensures number { seat.new.0 ≡ seat.old.0 }
-    ensures came { OnOk result (Came Took line.number line.bytes.now
+    ensures came { OnOk result (Came Took line.entry.number line.entry.bytes.now
         (said seat.old.1 seat.old.2 (W.taken out.old)) (said seat.new.1 seat.new.2 (W.taken out.new))) }
     ensures quits { IfOk result (λ more. more ≡ false → IsUnheard
         (said seat.old.1 seat.old.2 (W.taken out.old)) (said seat.new.1 seat.new.2 (W.taken out.new))) }
-    ensures broke { OnErr result (Came TookBeginning line.number line.bytes.now
+    ensures broke { OnErr result (Came TookBeginning line.entry.number line.entry.bytes.now
         (said seat.old.1 seat.old.2 (W.taken out.old)) (said seat.new.1 seat.new.2 (W.taken out.new))) }
 {
     if is_command(line.bytes) {
