@@ -285,7 +285,13 @@ pub fn converse<
     ensures legal { IfOk result (λ e. IsLegal e.history) }
 {
     let nothing: &[u8] = &[];
-    let opened = match read_start(rt, alloc, table, &mut Counted::new(nothing), options) {
+    let mut script = Counted::new(nothing);
+    let read = read_start(rt, alloc, table, &mut script, options);
+    // for the prover: what has no bytes does not fail
+    if script.failures > 0 {
+        return Err(Refusal::NoMemory);
+    }
+    let opened = match read {
         Ok(opened) => opened,
         Err(refusal) => return Err(refusal),
     };
