@@ -13,7 +13,9 @@ Examples:
   sideways shell t.csv
   sideways shell t.csv --history h.json < calls.txt
   sideways shell t.csv --names > words.txt && rlwrap -f words.txt sideways shell t.csv
-      edits lines, keeps those before, and completes words; Ctrl-C drops a line after trap '' INT in the calling shell
+      lines are edited, those before come back, and words are completed
+  (trap '' INT; exec sideways shell t.csv)
+      Ctrl-C drops what was typed of a line, and does not end the shell; so does ./sideways of the sources
 
 Status 0: all was answered; 2: a line, the table or the command line was refused; 3: a call, a file or the output was.
 ";

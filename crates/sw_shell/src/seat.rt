@@ -79,7 +79,7 @@ where
         schema: Schema,
     ) -> Seat<'e, J, M>
         requires { length schema ≡ length J.columns }
-        ensures { result ≡ (ticket.0, schema, ticket.1) }
+        ensures { (result.0 ≡ ticket.0) × (result.1 ≡ schema) × (result.2 ≡ ticket.1) }
     {
         Seat {
             alloc,
@@ -172,8 +172,8 @@ where
 
     /// The session's ticket, and the attributes with the texts that are known.
     pub(crate) fn end(self) -> (Ticket<J>, Schema)
-        ensures ticket { (result.0.0 ≡ self.0) × (result.0.1 ≡ self.2) }
-        ensures schema { result.1 ≡ self.1 }
+        ensures ticket { (result.0.0 ≡ self.entry.0) × (result.0.1 ≡ self.entry.2) }
+        ensures schema { result.1 ≡ self.entry.1 }
         ensures wide { length result.1 ≡ length J.columns }
     {
         let Seat {

@@ -11,4 +11,5 @@ loop-number-preserved g c =
     let before = seen (said c.loop-number.seat.1 c.loop-number.seat.2 (taken c.loop-number.out)) (left c.loop-number.lines) in
     let after = seen (said c.turn.new.seat.1 c.turn.new.seat.2 (taken c.turn.new.out)) (left c.turn.new.lines) in
     let i = c.loop-number.invariant in
-    (c.turn.ensures.number ∙ i.0, reached_more first before after i.1 (rw (c.in-Ok-true.is, c.in-Ok-true.field-0-test) at c.turn.ensures.turned))
+    let more = reached_more first before after (i.1, i.2) (rw (c.in-Ok-true.is, c.in-Ok-true.field-0-test) at c.turn.ensures.turned) in
+    (c.turn.ensures.number ∙ i.0, more.0, more.1)
