@@ -84,11 +84,7 @@ impl Shell<'_> {
     }
 
     /// Talks over a table that is open.
-    fn talk<
-        R: Files + Clock + Print + Eprint + Input + Threads + Wait + Sync,
-        T: Source,
-        E: Sink,
-    >(
+    fn talk<R: Files + Clock + Print + Eprint + Input + Threads + Wait + Sync, T: Source, E: Sink>(
         &self,
         rt: &R,
         alloc: Global,

@@ -163,7 +163,9 @@ impl<'t, R: Files + Clock + Print + Eprint, E: Sink> Terminal<'t, R, E> {
     /// Where the history is to be kept, if anywhere, and the greatest status of what was refused.
     pub(crate) fn into_end(self) -> (Option<String>, u8) {
         let Terminal {
-            history, status, ..
+            history,
+            status,
+            ..
         } = self;
         (history, status)
     }

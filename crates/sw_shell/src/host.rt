@@ -50,7 +50,12 @@ pub trait Host {
     fn ended(&mut self, call: &Call, is_answered: bool);
 
     /// A line was refused.
-    fn refused(&mut self, schema: &Schema, line: Line<'_>, refusal: &Refusal) -> Result<(), Refusal>;
+    fn refused(
+        &mut self,
+        schema: &Schema,
+        line: Line<'_>,
+        refusal: &Refusal,
+    ) -> Result<(), Refusal>;
 
     /// A command of a line is to be obeyed.
     fn obeys(&mut self, schema: &Schema, line: Line<'_>, errand: Errand<'_>) -> Result<(), Refusal>;

@@ -131,7 +131,9 @@ where
         ..
     } = ground;
     let many = columns.len();
-    let Ok((engine, mut tickets)) = Engine::<J, M>::open_for(alloc, books, columns, rows, cuts, limit, 1) else {
+    let Ok((engine, mut tickets)) = Engine::<J, M>::open_for(
+        alloc, books, columns, rows, cuts, limit, 1,
+    ) else {
         return Err(Refusal::NoMemory);
     };
     deal(rt, &engine, many, maps)?;
@@ -237,16 +239,7 @@ fn talk_over<M: CrackerMap, H: Host, R: Threads + Wait + Sync, B: BufRead, W: Si
         (B.remaining lines.old) (W.taken out.old) (W.taken out.new)) }
     ensures refused { IsOkUnless result NoMemory }
 {
-    talk_by::<Brand, M, H, R, B, W>(
-        rt,
-        alloc,
-        Blank::new(),
-        ground,
-        maps,
-        lines,
-        out,
-        host,
-    )
+    talk_by::<Brand, M, H, R, B, W>(rt, alloc, Blank::new(), ground, maps, lines, out, host)
 }
 
 /// Reads a table and cuts as a run without a script does, and then takes lines, each of which is answered before the next one is
@@ -259,14 +252,7 @@ fn talk_over<M: CrackerMap, H: Host, R: Threads + Wait + Sync, B: BufRead, W: Si
 /// Refused as a run is before its first call; and `NoMemory` for want of memory then. A failure of the reader (`Input`), of the
 /// sink (`Output`) or of the host ends the shell, and is told beside the record. The caller's conditions are those of
 /// `run_with`.
-pub fn converse<
-    M: CrackerMap,
-    H: Host,
-    R: Threads + Wait + Sync,
-    T: Source,
-    B: BufRead,
-    W: Sink,
->(
+pub fn converse<M: CrackerMap, H: Host, R: Threads + Wait + Sync, T: Source, B: BufRead, W: Sink>(
     rt: &R,
     alloc: Global,
     table: &mut T,
@@ -281,7 +267,7 @@ pub fn converse<
     requires blank { All (λ m. M.held m ≡ blank) maps.items }
     ensures shelled { IfSome (T.left table.old) (λ bytes.
         Shelled (Raised (T.failed table.old) (T.failed table.new)) options.now.limit options.now.cuts.now bytes
-            (B.remaining lines.old) (W.taken out.old) (W.taken out.new) result) }
+        (B.remaining lines.old) (W.taken out.old) (W.taken out.new) result) }
     ensures legal { IfOk result (λ e. IsLegal e.history) }
 {
     let nothing: &[u8] = &[];

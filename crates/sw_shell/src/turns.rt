@@ -169,7 +169,14 @@ where
 }
 
 /// Takes lines until there are no more, or one ends the shell; why it ended, if that was a failure.
-pub(crate) fn talk<J: Naming, M: CrackerMap, H: Host, R: Threads + Wait + Sync, B: BufRead, W: Sink>(
+pub(crate) fn talk<
+    J: Naming,
+    M: CrackerMap,
+    H: Host,
+    R: Threads + Wait + Sync,
+    B: BufRead,
+    W: Sink,
+>(
     rt: &R,
     alloc: Global,
     seat: &mut Seat<'_, J, M>,

@@ -47,7 +47,16 @@ fn shell<R: Threads + Wait + Sync, B: BufRead, W: Sink>(
         key: TextKey::fixed(),
     };
     let maps = blank_boxes(alloc, 1 << 20, 64)?;
-    converse(rt, alloc, &mut Counted::new(table), &options, maps, lines, out, host)
+    converse(
+        rt,
+        alloc,
+        &mut Counted::new(table),
+        &options,
+        maps,
+        lines,
+        out,
+        host,
+    )
 }
 
 /// Why a shell ended, if it failed.
@@ -122,7 +131,9 @@ impl Bench {
         let mut out = Counted::new(Vec::new(alloc));
         let mut lines = lines;
         let table = self.table.as_slice();
-        let ended = shell(rt, alloc, table, self.limit, &mut lines, &mut out, &mut host);
+        let ended = shell(
+            rt, alloc, table, self.limit, &mut lines, &mut out, &mut host,
+        );
         match word {
             "file" => String::from_utf8_lossy(alloc, file_of(alloc, &ended).as_slice()),
             "check" => verdict(alloc, &ended),
@@ -142,7 +153,9 @@ impl Bench {
         let mut out = Counted::new(Failing::new(alloc, left));
         let mut lines = lines;
         let table = self.table.as_slice();
-        let ended = shell(rt, alloc, table, self.limit, &mut lines, &mut out, &mut host);
+        let ended = shell(
+            rt, alloc, table, self.limit, &mut lines, &mut out, &mut host,
+        );
         let mut text = told(alloc, out.inner.bytes(), &host, why(&ended))?;
         text.push_str("; ")?;
         text.push_str(verdict(alloc, &ended)?.as_str())?;
@@ -163,7 +176,9 @@ impl Bench {
         let mut host = Notes::new(alloc);
         let mut out = Counted::new(Vec::new(alloc));
         let table = self.table.as_slice();
-        let ended = shell(rt, alloc, table, self.limit, &mut lines, &mut out, &mut host);
+        let ended = shell(
+            rt, alloc, table, self.limit, &mut lines, &mut out, &mut host,
+        );
         let mut text = told(alloc, out.inner.as_slice(), &host, why(&ended))?;
         text.push_str("; ")?;
         text.push_str(verdict(alloc, &ended)?.as_str())?;
