@@ -17,6 +17,7 @@ step python3 "$top/bench/claims.py" --check
 step python3 "$top/bench/pages.py" --check
 step sh "$top/tests/statuses.sh"
 step python3 "$top/tests/words.py"
+step python3 "$top/tests/shells.py"
 step python3 "$top/tests/headers.py"
 step python3 "$top/tests/imports.py" "$(program sideways)"
 step python3 "$top/tests/ends.py"

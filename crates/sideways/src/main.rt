@@ -7,6 +7,7 @@
 
 mod import;
 mod order;
+mod shell;
 mod words;
 
 use crate::import::{NO_DELIMITER, make_import};
@@ -23,16 +24,18 @@ use std::rt::{Clock, Env, Files};
 use std::sync::Wait;
 use std::thread::Threads;
 use sw_program::{
-    Description, Form, Limit, Place, Refusal, Run, Script, Settings, Sights, Telling, check_path,
-    explain, status, write_fault, write_text,
+    Description, Form, Limit, Place, Refusal, Run, Script, Settings, Shell, Sights, Telling,
+    check_path, explain, status, write_fault, write_text,
 };
 use sw_rows::{Counted, Sink};
 
-/// Standard error: the sink to it, whether it is a terminal, and what a refusal means in words, once there is one.
+/// Standard error: the sink to it, whether it is a terminal, and what a refusal means in words, once there is one. And whether lines are
+/// entered at a terminal and answered there.
 #[derive(Drop)]
 struct Errors<E: Sink + Drop> {
     sink: E,
     is_terminal: bool,
+    prompts: bool,
     words: Option<String>,
 }
 
@@ -68,6 +71,8 @@ const LONG_CALL: &str = "a call of -e is one line";
 const ODD_HEADER: &str = "a header of --header has no quotes and no line ends";
 
 const BOTH_STANDARD: &str = "the table and the script cannot both be standard input";
+
+const LINES_STANDARD: &str = "the lines come from standard input, so the table cannot";
 
 /// The lines of the calls that are given, a line feed behind each.
 fn lines_of(alloc: Global, calls: &[&str]) -> Result<Vec<u8>, AllocError> {
@@ -219,6 +224,53 @@ fn make_description<
     description.make(rt, alloc, &mut errors.words)
 }
 
+/// The shell that the words ask for.
+fn shell_of<'a>(given: &ArgMatches<'a>, prompts: bool) -> Option<Shell<'a>> {
+    Some(Shell {
+        table: Place::new(given.get_str("file")?),
+        header: given.get_str("header"),
+        history: given.get_str("history"),
+        settings: Settings {
+            limit: limit_of(given)?,
+            budget: given.get_one::<u64>("budget")?,
+            maps: given.get_one::<u64>("maps")?,
+            cuts: given.get_str("cuts")?,
+            threads: false,
+        },
+        faults: given.get_flag("all-faults"),
+        prompts,
+    })
+}
+
+/// What is wrong with the files of a shell, if anything: an odd header, a table on standard input, where the lines come from, or a history
+/// that would be written over another of its files.
+fn wrong_with_shell<R: Files>(rt: &R, shell: &Shell<'_>) -> Option<&'static str> {
+    if is_odd_header(shell.header) {
+        return Some(ODD_HEADER);
+    }
+    if shell.table.is_standard() {
+        return Some(LINES_STANDARD);
+    }
+    Some(shell.clash(rt)?.text())
+}
+
+/// Begins a shell, or prints the names for one, unless something is wrong with its files.
+fn make_shell<
+    R: Files + RandomSource + Clock + Print + Eprint + Input + Threads + Wait + Sync,
+    E: Sink + Drop,
+>(rt: &R, alloc: Global, given: &ArgMatches<'_>, errors: &mut Errors<E>) -> Result<u8, Refusal> {
+    let Some(shell) = shell_of(given, errors.prompts) else {
+        return Ok(2);
+    };
+    if let Some(why) = wrong_with_shell(rt, &shell) {
+        return refuse_words(rt, alloc, why);
+    }
+    if given.get_flag("names") {
+        return shell.names(rt, alloc, &mut errors.words);
+    }
+    shell.make(rt, alloc, &mut errors.sink, &mut errors.words)
+}
+
 /// Looks for the order that the words ask for, unless the list of origins would be written over another of its files.
 fn make_order<
     R: Files + RandomSource + Clock + Print + Eprint + Threads + Wait + Sync,
@@ -254,6 +306,7 @@ fn make_command<
         Some(("describe", given)) => make_description(rt, alloc, given, errors),
         Some(("order", given)) => make_order(rt, alloc, given, errors),
         Some(("import", given)) => import_or_refuse(rt, alloc, given, errors),
+        Some(("shell", given)) => make_shell(rt, alloc, given, errors),
         Some(("explain", given)) => explain(rt, given.get_one::<u64>("number")),
         Some((_, given)) => make_run(rt, alloc, given, errors),
         None => Ok(2),
@@ -309,6 +362,7 @@ fn main(rt: HostRuntime) -> ExitCode {
     let mut errors = Errors {
         sink: Counted::new(rt.stderr()),
         is_terminal: rt.stderr().is_terminal(),
+        prompts: rt.stdin().is_terminal() && rt.stdout().is_terminal(),
         words: None,
     };
     ExitCode::from(match answer(&rt, rt.alloc(), &mut errors) {

@@ -2,6 +2,7 @@
 
 use crate::import::import_command;
 use crate::order::order_command;
+use crate::shell::shell_command;
 use clap::{Arg, ArgAction, Command};
 use std::alloc::{AllocError, Global};
 use sw_rows::MOST_ROWS;
@@ -57,7 +58,7 @@ fn table<'a>(alloc: Global) -> Arg<'a> {
         .action(ArgAction::Set)
 }
 
-fn header<'a>(alloc: Global) -> Arg<'a> {
+pub(crate) fn header<'a>(alloc: Global) -> Arg<'a> {
     Arg::new(alloc, "header")
         .long("header")
         .value_name("HEADER")
@@ -87,7 +88,7 @@ fn call<'a>(alloc: Global) -> Result<Arg<'a>, AllocError> {
         .conflicts_with("script")
 }
 
-fn history<'a>(alloc: Global) -> Arg<'a> {
+pub(crate) fn history<'a>(alloc: Global) -> Arg<'a> {
     Arg::new(alloc, "history")
         .long("history")
         .value_name("FILE")
@@ -116,7 +117,7 @@ fn number<'a>(alloc: Global, name: &'a str, of: &'a str, help: &'a str, usual: &
         .action(ArgAction::Set)
 }
 
-fn limit<'a>(alloc: Global) -> Arg<'a> {
+pub(crate) fn limit<'a>(alloc: Global) -> Arg<'a> {
     number(
         alloc,
         "limit",
@@ -127,7 +128,7 @@ fn limit<'a>(alloc: Global) -> Arg<'a> {
     .value_parser(clap::value_parser!(u64).range(1..=MOST_ROWS as i64))
 }
 
-fn budget<'a>(alloc: Global) -> Arg<'a> {
+pub(crate) fn budget<'a>(alloc: Global) -> Arg<'a> {
     number(
         alloc,
         "budget",
@@ -138,7 +139,7 @@ fn budget<'a>(alloc: Global) -> Arg<'a> {
     .value_parser(clap::value_parser!(u64).range(0..=MOST_CELLS))
 }
 
-fn maps<'a>(alloc: Global) -> Arg<'a> {
+pub(crate) fn maps<'a>(alloc: Global) -> Arg<'a> {
     number(
         alloc,
         "maps",
@@ -149,7 +150,7 @@ fn maps<'a>(alloc: Global) -> Arg<'a> {
     .value_parser(clap::value_parser!(u64).range(0..=MOST_MAPS))
 }
 
-fn cuts<'a>(alloc: Global) -> Arg<'a> {
+pub(crate) fn cuts<'a>(alloc: Global) -> Arg<'a> {
     number(
         alloc,
         "cuts",
@@ -209,7 +210,7 @@ fn output<'a>(alloc: Global) -> Arg<'a> {
     .value_parser(FORMS)
 }
 
-fn all_faults<'a>(alloc: Global) -> Arg<'a> {
+pub(crate) fn all_faults<'a>(alloc: Global) -> Arg<'a> {
     Arg::new(alloc, "all-faults")
         .long("all-faults")
         .help(
@@ -320,8 +321,8 @@ fn explain_command<'a>(alloc: Global) -> Result<Command<'a>, AllocError> {
         )
 }
 
-/// The command lines that are taken: `run` with its files and flags, `check`, `describe`, `import` and `order` with their files,
-/// and `explain` with a number.
+/// The command lines that are taken: `run` with its files and flags, `shell`, `check`, `describe`, `import` and `order` with their
+/// files, and `explain` with a number.
 pub(crate) fn command<'a>(alloc: Global) -> Result<Command<'a>, AllocError> {
     let run = run_command(alloc)?;
     Command::new(alloc, "sideways")
@@ -331,6 +332,7 @@ pub(crate) fn command<'a>(alloc: Global) -> Result<Command<'a>, AllocError> {
         .after_help(EXAMPLES)
         .subcommand_required(true)
         .subcommand(run)?
+        .subcommand(shell_command(alloc)?)?
         .subcommand(check_command(alloc)?)?
         .subcommand(describe_command(alloc)?)?
         .subcommand(order_command(alloc)?)?

@@ -24,7 +24,9 @@ pub use law::{files_of_runs_are_legal, replies_are_over_texts, runs_are_over_tex
 pub use looking_on::{Nobody, Onlooker};
 pub use noting::Noting;
 pub use running::{Options, run, run_told, run_with};
-pub use script::{MOST_BLOCKS, MOST_CALLS};
+pub use script::{Block, MOST_BLOCKS, MOST_CALLS, call_of_line};
+pub use start::{Inputs, read_start};
 pub use stats::{write_stats_line, write_stats_title};
 pub use sw_engine::{HeadStats, head_of};
 pub use sw_histories::{check_file, explain_file, read_record, write_record};
+pub use telling::write_told;

@@ -26,7 +26,7 @@ pub const MOST_BLOCKS: usize = 1_024;
 
 /// The calls of a block. Contracts see a list.
 #[derive(Drop)]
-pub(crate) struct Block {
+pub struct Block {
     calls: Vec<Call>,
 }
 
@@ -67,8 +67,11 @@ fn is_divider(line: &[u8]) -> bool
     }
 }
 
-/// The call of a line of this number, if it has one. Its texts become known.
-fn call_of_line(
+/// The call of a line of this number, if it has one: none of an empty line or a comment. Its texts become known.
+///
+/// Refused `BadLine` with the number, why `Length` where the line has more than 4,096 bytes, `Encoding` where it is not
+/// UTF-8, or what `parse_line` finds; else as `parse_line` is. After a refusal the schema is as it was.
+pub fn call_of_line(
     alloc: Global,
     schema: &mut Schema,
     number: u32,

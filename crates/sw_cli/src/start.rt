@@ -18,11 +18,15 @@ use sw_rows::{MOST_BYTES, PackedRows, Refusal, Schema, Source, load_in_parts, re
 
 /// A table, a script and cuts that were read.
 #[derive(Drop)]
-pub(crate) struct Inputs {
-    pub(crate) schema: Schema,
-    pub(crate) rows: PackedRows,
-    pub(crate) blocks: Vec<Block>,
-    pub(crate) cuts: Cuts,
+pub struct Inputs {
+    /// The attributes, with the texts that are known after the script.
+    pub schema: Schema,
+    /// The rows, with the keys 1, 2, 3 and so on.
+    pub rows: PackedRows,
+    /// The calls of the script, block after block.
+    pub blocks: Vec<Block>,
+    /// Where heads are cut into areas.
+    pub cuts: Cuts,
 }
 
 /// Reads a script from its source. The schema is handed on with the texts of the script.
@@ -58,8 +62,8 @@ fn read_cuts(alloc: Global, schema: &Schema, text: &str) -> Result<Cuts, Refusal
 }
 
 /// Reads a table, a long one by threads, then a script, then the text of the cuts, and holds the rows against the
-/// limit.
-pub(crate) fn read_start<R: Threads + Sync, T: Source, S: Source>(
+/// limit. Refused as `run_with` is before its first call.
+pub fn read_start<R: Threads + Sync, T: Source, S: Source>(
     rt: &R,
     alloc: Global,
     table: &mut T,

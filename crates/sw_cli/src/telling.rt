@@ -20,8 +20,10 @@ fn write_refused<W: Sink>(refusal: &Refusal, out: &mut W) -> Result<(), Refusal>
     }
 }
 
-/// Writes the lines of what came of a call.
-pub(crate) fn write_told<W: Sink>(
+/// Writes the lines of what came of a call: those of its reply, or `refused` and the number of the refusal.
+///
+/// Refused `Output` where the sink fails; then a beginning of the lines went out.
+pub fn write_told<W: Sink>(
     schema: &Schema,
     call: &Call,
     told: &Result<Reply, Refusal>,

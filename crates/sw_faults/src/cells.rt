@@ -10,7 +10,7 @@ use sw_rows::{Kind, MOST_BYTES_OF_TEXT, MOST_NUMBER, read_cell_bytes, read_text}
 pub(crate) const BARE: &str = "; a name without a kind is an int";
 
 /// A kind as a header has it.
-pub(crate) fn kind_name(kind: Kind) -> &'static str {
+pub fn kind_name(kind: Kind) -> &'static str {
     match kind {
         Kind::Int => "int",
         Kind::Fix(1) => "fix1",

@@ -15,7 +15,8 @@ mod tables;
 mod tokens;
 mod words;
 
+pub use cells::kind_name;
 pub use entries::wrong_entry;
-pub use lines::call_lines;
+pub use lines::{call_lines, wrong_line};
 pub use tables::all_faults;
 pub use words::{Asked, Origin, Text, words_of};

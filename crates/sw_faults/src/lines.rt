@@ -157,8 +157,11 @@ fn wrong_token(
     )
 }
 
-/// What is wrong with a line that is refused, of which `at` tells where it is.
-pub(crate) fn wrong_line(
+/// What is wrong with a line that is refused, of which `at` tells where it is: a line of words, and below it the line with a caret
+/// where that shows more.
+///
+/// The one error is that there is no memory.
+pub fn wrong_line(
     alloc: Global,
     schema: &mut Schema,
     at: &str,

@@ -16,7 +16,9 @@ mod running;
 mod seeing;
 mod settings;
 mod shaping;
+mod shelling;
 mod stacks;
+mod terminal;
 mod wording;
 
 pub use checking::{Telling, check_path};
@@ -30,6 +32,7 @@ pub use running::Run;
 pub use seeing::Sights;
 pub use settings::{Limit, Settings};
 pub use shaping::Form;
+pub use shelling::Shell;
 pub use sw_cli::{status, write_fault};
 pub use sw_import::{Asked, Blank, How, Long, Rules, Times};
 pub use sw_lang::write_all as write_text;

@@ -198,7 +198,7 @@ fn keep_at<R: Files>(rt: &R, alloc: Global, history: &Record, path: &str) -> Res
 }
 
 /// Writes a record to the file of a path, if there is one.
-fn keep<R: Files>(
+pub(crate) fn keep<R: Files>(
     rt: &R,
     alloc: Global,
     history: &Record,

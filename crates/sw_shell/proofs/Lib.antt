@@ -1,0 +1,3 @@
+pub mod Legal
+pub mod Shelling
+pub mod Talking

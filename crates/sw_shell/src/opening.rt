@@ -1,0 +1,289 @@
+//! A shell over a table that was read, from its first line to its record.
+
+ghost use Rattle.std.specs.Prelude.{◌≡◌, ◌<◌, ◌≤◌, ◌∷◌, [], ℕ, true, length, All, IfOk, IfSome, IsOkUnless, vec_capacity};
+ghost use Rattle.sw_map.specs.Held.{blank};
+ghost use Rattle.sw_lang.specs.Cuts.{AreCuts, cuts_on};
+ghost use Rattle.sw_rows.specs.Gives.{Raised};
+ghost use Rattle.sw_rows.specs.declared.refusal.Refusal.TheVariants.{NoMemory};
+ghost use Rattle.sw_rows.specs.declared.table.TheConstants.{MOST_ROWS};
+ghost use Rattle.sw_spine.specs.History.{IsLegal};
+ghost use Rattle.sw_spine.specs.Table.{is_numbered};
+ghost use Rattle.sw_versions.specs.Pending.{IsPlain};
+ghost use Rattle.sw_engine.specs.Headline.{IsHistoryOfOneThread};
+ghost use Rattle.sw_cli.specs.Starts.{IsStart, start_seen};
+ghost use Rattle.sw_shell.specs.Shelled.{IsLeftBy, Shelled};
+
+use crate::growing::with_columns;
+use crate::host::Host;
+use crate::seat::Seat;
+use crate::turns::talk;
+use left_right::Absorb;
+use std::alloc::Global;
+use std::io::BufRead;
+use std::marker::Brand;
+use std::sync::Wait;
+use std::thread::Threads;
+use sw_cli::{Inputs, Options, read_start};
+use sw_engine::{Blank, Engine, Naming, Ticket, deal};
+use sw_lang::Cuts;
+use sw_map::CrackerMap;
+use sw_rows::{Counted, PackedRows, Refusal, Schema, Sink, Source, TextKey, Update};
+use sw_spine::Record;
+use sw_versions::{Live, Op};
+
+/// Names of attributes, as many as there may be.
+const STAND_INS: [&str; 8] = ["a", "b", "c", "d", "e", "f", "g", "h"];
+
+/// What a shell leaves: the record, and why it ended, if that was a failure of its reader, its sink or its host.
+#[derive(Drop)]
+pub struct Ended {
+    /// The history.
+    pub history: Record,
+    /// Why it ended, if not by the end of the lines or `.quit`.
+    pub failure: Option<Refusal>,
+}
+
+/// Attributes that stand for others: an engine only counts them, and those that know the texts stay with the shell.
+fn stand_ins(alloc: Global, columns: usize) -> Result<Schema, Refusal>
+    requires { columns ≤ 8 }
+    ensures { IfOk result (λ s. length s ≡ columns) }
+{
+    let (names, _) = STAND_INS.split_at(columns);
+    let Ok(schema) = Schema::of(alloc, TextKey::fixed(), names) else {
+        return Err(Refusal::NoMemory);
+    };
+    if schema.len() != columns {
+        return Err(Refusal::NoMemory);
+    }
+    Ok(schema)
+}
+
+/// What an engine is opened over, and the attributes with the texts of its table.
+#[derive(Drop)]
+struct Ground {
+    columns: Schema,
+    schema: Schema,
+    rows: PackedRows,
+    cuts: Cuts,
+    limit: u64,
+    ghost some: { 0 < limit },
+    ghost most: { limit ≤ MOST_ROWS },
+    ghost few: { length rows.items ≤ limit },
+    ghost numbered: { is_numbered 1 rows.items ≡ true },
+    ghost lists: { length cuts ≡ length columns },
+    ghost lawful: { (a : ℕ) → a < length columns → AreCuts (cuts_on cuts a) },
+    ghost wide: { length schema ≡ length columns },
+    ghost one: { 0 < length columns },
+}
+
+/// The ground of a table that was read. The one refusal is `NoMemory`.
+fn ground_of(alloc: Global, opened: Inputs, limit: u64) -> Result<Ground, Refusal>
+    requires some { 0 < limit }
+    requires most { limit ≤ MOST_ROWS }
+    requires sound { IsStart limit (start_seen opened) }
+    ensures same { IfOk result (λ g. (g.schema ≡ opened.schema) × (g.rows.items ≡ opened.rows.items) × (g.limit ≡ limit)) }
+    ensures refused { IsOkUnless result NoMemory }
+{
+    let Inputs {
+        schema,
+        rows,
+        cuts,
+        ..
+    } = opened;
+    let Ok(columns) = stand_ins(alloc, schema.len()) else {
+        return Err(Refusal::NoMemory);
+    };
+    Ok(Ground {
+        columns,
+        schema,
+        rows,
+        cuts,
+        limit,
+    })
+}
+
+/// An engine with its boxes, and the ticket of its one session. The one refusal is `NoMemory`.
+fn opened_engine<J: Naming, M: CrackerMap, R: Wait>(
+    rt: &R,
+    alloc: Global,
+    books: Blank,
+    ground: Ground,
+    maps: Vec<M>,
+) -> Result<(Engine<J, M>, Ticket<J>, Schema), Refusal>
+where
+    Live<J>: Absorb<Op<J>, State = [Update; 0]>,
+    requires books { (books.sessions.name ≡ J.sessions) × (books.heads.name ≡ J.heads) }
+    requires list { books.list.seen.book ≡ J.book }
+    requires plain { IsPlain ⟦<Live<J> as Absorb<Op<J>>>⟧.state ⟦<Live<J> as Absorb<Op<J>>>⟧.applied }
+    requires table { (ground.columns ≡ J.columns) × (ground.rows.items ≡ J.opening) × (ground.limit ≡ J.limit) }
+    requires blank { All (λ m. M.held m ≡ blank) maps.items }
+    ensures ticket { IfOk result (λ r. (r.1.0 ≡ 1) × (r.1.1 ≡ [])) }
+    ensures schema { IfOk result (λ r. r.2 ≡ ground.schema) }
+    ensures wide { IfOk result (λ r. length r.2 ≡ length J.columns) }
+    ensures refused { IsOkUnless result NoMemory }
+{
+    let Ground {
+        columns,
+        schema,
+        rows,
+        cuts,
+        limit,
+        ..
+    } = ground;
+    let many = columns.len();
+    let Ok((engine, mut tickets)) = Engine::<J, M>::open_for(
+        alloc, books, columns, rows, cuts, limit, 1,
+    ) else {
+        return Err(Refusal::NoMemory);
+    };
+    deal(rt, &engine, many, maps)?;
+    match tickets.pop() {
+        Some(ticket) => Ok((engine, ticket, schema)),
+        None => Err(Refusal::NoMemory),
+    }
+}
+
+/// Closes the engine of a shell: its record, over the attributes that know the texts. The one refusal is `NoMemory`.
+fn closed<J: Naming, M: CrackerMap, R: Wait>(
+    rt: &R,
+    engine: Engine<J, M>,
+    mut tickets: Vec<Ticket<J>>,
+    ticket: Ticket<J>,
+    schema: Schema,
+) -> Result<Record, Refusal>
+where
+    Live<J>: Absorb<Op<J>, State = [Update; 0]>,
+    requires none { tickets.items ≡ [] }
+    requires room { 1 ≤ vec_capacity tickets }
+    requires wide { length schema ≡ length J.columns }
+    ensures history { IfOk result (IsHistoryOfOneThread schema J.opening J.limit ((ticket.0, ticket.1) ∷ [])) }
+    ensures refused { IsOkUnless result NoMemory }
+{
+    tickets.push_reserved(ticket);
+    match engine.close(rt, tickets) {
+        Ok(record) => Ok(with_columns(record, schema)),
+        Err(_) => Err(Refusal::NoMemory),
+    }
+}
+
+/// Talks over an engine of these names. The one refusal is `NoMemory`.
+fn talk_with<J: Naming, M: CrackerMap, H: Host, R: Threads + Wait + Sync, B: BufRead, W: Sink>(
+    rt: &R,
+    alloc: Global,
+    books: Blank,
+    ground: Ground,
+    maps: Vec<M>,
+    lines: &mut B,
+    out: &mut W,
+    host: &mut H,
+) -> Result<Ended, Refusal>
+where
+    Live<J>: Absorb<Op<J>, State = [Update; 0]>,
+    requires books { (books.sessions.name ≡ J.sessions) × (books.heads.name ≡ J.heads) }
+    requires list { books.list.seen.book ≡ J.book }
+    requires plain { IsPlain ⟦<Live<J> as Absorb<Op<J>>>⟧.state ⟦<Live<J> as Absorb<Op<J>>>⟧.applied }
+    requires table { (ground.columns ≡ J.columns) × (ground.rows.items ≡ J.opening) × (ground.limit ≡ J.limit) }
+    requires blank { All (λ m. M.held m ≡ blank) maps.items }
+    ensures left { IfOk result (IsLeftBy ground.schema J.opening J.limit
+        (B.remaining lines.old) (W.taken out.old) (W.taken out.new)) }
+    ensures refused { IsOkUnless result NoMemory }
+{
+    let Ok(back) = Vec::with_capacity(alloc, 1) else {
+        return Err(Refusal::NoMemory);
+    };
+    let (engine, ticket, schema) = opened_engine::<J, M, R>(rt, alloc, books, ground, maps)?;
+    let mut seat = Seat::new(alloc, &engine, ticket, schema);
+    let failure = talk(rt, alloc, &mut seat, lines, out, host);
+    let (ticket, schema) = seat.end();
+    match closed(rt, engine, back, ticket, schema) {
+        Ok(history) => Ok(Ended { history, failure }),
+        Err(refusal) => Err(refusal),
+    }
+}
+
+/// Talks as `talk_with` does. Here the names of the books stand for any, but what a viewer's copy makes of an update is
+/// known, which a bound of `talk_with` asks for.
+fn talk_by<J: Naming, M: CrackerMap, H: Host, R: Threads + Wait + Sync, B: BufRead, W: Sink>(
+    rt: &R,
+    alloc: Global,
+    books: Blank,
+    ground: Ground,
+    maps: Vec<M>,
+    lines: &mut B,
+    out: &mut W,
+    host: &mut H,
+) -> Result<Ended, Refusal>
+    requires books { (books.sessions.name ≡ J.sessions) × (books.heads.name ≡ J.heads) }
+    requires list { books.list.seen.book ≡ J.book }
+    requires table { (ground.columns ≡ J.columns) × (ground.rows.items ≡ J.opening) × (ground.limit ≡ J.limit) }
+    requires blank { All (λ m. M.held m ≡ blank) maps.items }
+    ensures left { IfOk result (IsLeftBy ground.schema J.opening J.limit
+        (B.remaining lines.old) (W.taken out.old) (W.taken out.new)) }
+    ensures refused { IsOkUnless result NoMemory }
+{
+    talk_with::<J, M, H, R, B, W>(rt, alloc, books, ground, maps, lines, out, host)
+}
+
+/// A shell over a table that was read.
+fn talk_over<M: CrackerMap, H: Host, R: Threads + Wait + Sync, B: BufRead, W: Sink>(
+    rt: &R,
+    alloc: Global,
+    ground: Ground,
+    maps: Vec<M>,
+    lines: &mut B,
+    out: &mut W,
+    host: &mut H,
+) -> Result<Ended, Refusal>
+    requires blank { All (λ m. M.held m ≡ blank) maps.items }
+    ensures left { IfOk result (IsLeftBy ground.schema ground.rows.items ground.limit
+        (B.remaining lines.old) (W.taken out.old) (W.taken out.new)) }
+    ensures refused { IsOkUnless result NoMemory }
+{
+    talk_by::<Brand, M, H, R, B, W>(rt, alloc, Blank::new(), ground, maps, lines, out, host)
+}
+
+/// Reads a table and cuts as a run without a script does, and then takes lines, each of which is answered before the next one is
+/// read, until there are no more, one ends the shell, or something fails. The maps are boxes, dealt out as in a run.
+///
+/// A line is a call, whose reply is written as in a run; or nothing, or a comment; or it begins with a dot, and is a command of the
+/// shell (`Command`). What cannot be read as either is told to the host, and changes nothing; the texts of a line that is a
+/// call become known, and keep their codes. A call that is refused writes `refused` and the refusal's number, as in a run.
+///
+/// Refused as a run is before its first call; and `NoMemory` for want of memory then. A failure of the reader (`Input`), of the
+/// sink (`Output`) or of the host ends the shell, and is told beside the record. The caller's conditions are those of
+/// `run_with`.
+pub fn converse<M: CrackerMap, H: Host, R: Threads + Wait + Sync, T: Source, B: BufRead, W: Sink>(
+    rt: &R,
+    alloc: Global,
+    table: &mut T,
+    options: &Options<'_>,
+    maps: Vec<M>,
+    lines: &mut B,
+    out: &mut W,
+    host: &mut H,
+) -> Result<Ended, Refusal>
+    requires some { 0 < options.now.limit }
+    requires most { options.now.limit ≤ MOST_ROWS }
+    requires blank { All (λ m. M.held m ≡ blank) maps.items }
+    ensures shelled { IfSome (T.left table.old) (λ bytes.
+        Shelled (Raised (T.failed table.old) (T.failed table.new)) options.now.limit options.now.cuts.now bytes
+        (B.remaining lines.old) (W.taken out.old) (W.taken out.new) result) }
+    ensures legal { IfOk result (λ e. IsLegal e.history) }
+{
+    let nothing: &[u8] = &[];
+    let mut script = Counted::new(nothing);
+    let read = read_start(rt, alloc, table, &mut script, options);
+    // for the prover: what has no bytes does not fail
+    if script.failures > 0 {
+        return Err(Refusal::NoMemory);
+    }
+    let opened = match read {
+        Ok(opened) => opened,
+        Err(refusal) => return Err(refusal),
+    };
+    let ground = match ground_of(alloc, opened, options.limit) {
+        Ok(ground) => ground,
+        Err(refusal) => return Err(refusal),
+    };
+    talk_over(rt, alloc, ground, maps, lines, out, host)
+}

@@ -1,0 +1,32 @@
+//! Cases of shells as data: `stdin` has a case a line, and `stdout` what each has to give.
+//!
+//! A line is a word and a TEXT, in which \n, \r, \t, \\ and \xHH stand for bytes. One that begins with # is skipped.
+//!
+//! - `table TEXT`, `limit NUMBER`: the table and the limit of the shells that come
+//! - `shell TEXT`: what a shell over the table writes for the lines, and what its host is told, each between [ and ]; and then why
+//!   it ended, if it failed
+//! - `file TEXT`: the history file of the same
+//! - `check TEXT`: the verdict on that file, with the status
+//! - `failing NUMBER TEXT`: what a sink took that fails at its write of this number, and the verdict on the file
+//! - `reading NUMBER TEXT`: the same of a reader that fails at its read of this number
+#![tactic(auto)]
+
+mod bench;
+mod ends;
+mod notes;
+mod text;
+
+use crate::bench::Bench;
+use std::io;
+
+fn main(rt: HostRuntime) -> io::Result<()> {
+    let alloc = rt.alloc();
+    let mut bench = Bench::new(alloc);
+    for line in rt.lines(alloc) {
+        let told = bench.take(&rt, alloc, line?.as_str())?;
+        if !told.is_empty() {
+            println!(rt; "{told}")?;
+        }
+    }
+    Ok(())
+}
