@@ -1,0 +1,8 @@
+pub mod Fields
+pub mod JsonLines
+pub mod JsonReading
+pub mod OutputExamples
+pub mod Records
+pub mod Sinks
+pub mod TableReading
+pub mod Texts

@@ -184,7 +184,8 @@ fn write_frequent<W: Sink>(
     for (code, count) in described.frequent.as_slice() {
         write_number(*count as u64, out)?;
         write_all(out, b" ")?;
-        write_all(out, quoted_text(alloc, schema, attr, *code)?.as_slice())?;
+        let text = quoted_text(alloc, schema, attr, *code).map_err(no_memory)?;
+        write_all(out, text.as_slice())?;
         write_all(out, b"\n")?;
     }
     Ok(())
@@ -225,7 +226,10 @@ fn write_extreme<W: Sink>(
     out: &mut W,
 ) -> Result<(), Refusal> {
     match cell {
-        Some(cell) => write_all(out, json_cell(alloc, schema, attr, cell)?.as_slice()),
+        Some(cell) => {
+            let text = json_cell(alloc, schema, attr, cell).map_err(no_memory)?;
+            write_all(out, text.as_slice())
+        }
         None => write_all(out, b"null"),
     }
 }
@@ -264,7 +268,8 @@ fn write_texts<W: Sink>(
             },
         )?;
         is_first = false;
-        write_all(out, json_cell(alloc, schema, attr, *code)?.as_slice())?;
+        let text = json_cell(alloc, schema, attr, *code).map_err(no_memory)?;
+        write_all(out, text.as_slice())?;
         write_all(out, b",\"count\":")?;
         write_number(*count as u64, out)?;
         write_all(out, b"}")?;

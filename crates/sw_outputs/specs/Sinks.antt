@@ -1,0 +1,11 @@
+-- Texts that are made in memory before they go out.
+use Rattle.std.specs.Prelude.{◌≡◌, ◌⊎◌, ℕ, List, Option, Result, Err}
+use Rattle.sw_rows.specs.declared.refusal.Refusal.{Refusal}
+use Rattle.sw_rows.specs.declared.refusal.Refusal.TheVariants as refusal
+use Rattle.sw_lang.specs.Sinks.{Writes}
+
+-- for want of memory nothing was written; else the text was written as `Writes` says
+abbrev pub WritesMade : Option (List ℕ) → Option (List ℕ) → ℕ → ℕ → Result (Unit {0}) Refusal → List ℕ → Type 0
+WritesMade old new failed_old failed_new result text =
+    ((result ≡ Err refusal.NoMemory) × (new ≡ old) × (failed_new ≡ failed_old))
+    ⊎ Writes old new failed_old failed_new result text
