@@ -376,7 +376,9 @@ fn limits_are_told(rt: HostRuntime) -> Result<(), Fail> {
 /// Whether the words of an entry are those that are wanted. Of two arrays of entries the last is the history's.
 fn is_entry_told(alloc: Global, case: &OfEntry) -> Result<bool, Fail> {
     let text = format!(in alloc;
-        "{{\"entries\":[1,2],\"rows\":[[12],[3]],\"entries\":[{}],\"format\":1}}", case.entries)?;
+        "{{\"entries\":[1,2],\"rows\":[[12],[3]],\"entries\":[{}],\"format\":1}}",
+        case.entries
+    )?;
     let words = wrong_entry(alloc, "h.json", text.as_bytes(), case.number)?;
     Ok(words.as_str() == case.words)
 }
