@@ -267,8 +267,7 @@ lines_read_back columns t h =
     let number = count_back t.number h.number in
     let block = count_back t.block h.block in
     let line = line_back t.line h.line in
-    let answer = answer_back columns t.call.now t.reply d h.reply in
-    (
+    let answer = answer_back columns t.call.now t.reply d h.reply in (
       told_json columns t,
       value_read (told_json columns t) (number.numbers, (block.numbers, (line.numbers, (tt, (answer.numbers, tt))))) (omega (arith, number.shallow, block.shallow, line.shallow, answer.shallow)),
       record {

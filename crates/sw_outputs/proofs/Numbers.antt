@@ -217,7 +217,7 @@ above : (places n : ℕ) (text : List ℕ) → Printed places n text → IsRead 
 above places n text p = record {
   number = subst IsNumber (sym p.text_is) (unsigned_number p.part p.whole p.decimals p.whole_is p.decimal_digits);
   value = ap (signed_number places) p.text_is ∙ digits_first places p.whole (fraction p.decimals) p.whole_is.some p.whole_is.digits
-  ∙ ap (λ t. option_map pos (magnitude places t)) (sym p.text_is) ∙ ap (option_map pos) (magnitude_back places n text p);
+      ∙ ap (λ t. option_map pos (magnitude places t)) (sym p.text_is) ∙ ap (option_map pos) (magnitude_back places n text p);
 }
 
 below : (places n m : ℕ) (text : List ℕ) → m ≡ suc n → Printed places m text → IsRead places (45 ∷ text) (negsuc n)

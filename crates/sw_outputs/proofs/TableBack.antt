@@ -165,7 +165,7 @@ rows_again ts ks key (r ∷ rows) d c h =
       again = row ∷ rest.again;
       writes = ((one.cells, one.writes, refl), rest.writes);
       seen = ap (λ s. record { key = key; cells = s } ∷ rows_seen (map (over ts) ks) rest.again) cells
-      ∙ ap (λ s. record { key = key; cells = cells_seen ks r.cells } ∷ s) rest.seen;
+          ∙ ap (λ s. record { key = key; cells = cells_seen ks r.cells } ∷ s) rest.seen;
     }
 
 -- ---- texts
@@ -285,9 +285,9 @@ not_known columns a (b ∷ attrs) differ la below h = by_eq (nat_eq b a) refl (�
     by_eq true e rest k = absurd (true≢false k)
     by_eq false e rest k =
         let other : bytes_eq (name_at columns a) (name_at columns b) ≡ false =
-            false_is (bytes_eq (name_at columns a) (name_at columns b)) (λ s.
-            let same : a ≡ b = one_name columns a b differ la below.0 ((bytes_eq-Decides (name_at columns a) (name_at columns b)).0 s) in
-            grind (arith, nat_tests, e, same)) in
+        false_is (bytes_eq (name_at columns a) (name_at columns b)) (λ s.
+        let same : a ≡ b = one_name columns a b differ la below.0 ((bytes_eq-Decides (name_at columns a) (name_at columns b)).0 s) in
+        grind (arith, nat_tests, e, same)) in
         rw (other, rest k) refl
 
 negated : (b : Bool) → not b ≡ true → b ≡ false
@@ -405,8 +405,7 @@ table_back columns (a ∷ later) rows s some few below differ cells few_rows few
       columns_are = refl;
       few_rows = omega (arith, same_length (row_fields ks) rows);
       rows_are = subst (λ ds. WriteRows ds 1 others again.again) (sym kinds) again.writes;
-    } in
-    (
+    } in (
       t,
       table_read_back (table_text columns attrs rows) t written,
       record {

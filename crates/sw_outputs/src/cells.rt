@@ -138,12 +138,7 @@ pub(crate) fn field_text(
 /// A cell of an attribute as a table has it: a number with its kind's decimals, `true` or `false`, or a text as it is.
 ///
 /// The one refusal is `NoMemory`.
-pub fn cell_text(
-    alloc: Global,
-    schema: &Schema,
-    attr: usize,
-    cell: i64,
-) -> Result<Vec<u8>, Refusal>
+pub fn cell_text(alloc: Global, schema: &Schema, attr: usize, cell: i64) -> Result<Vec<u8>, Refusal>
     ensures text { IfOk result (λ text. text.items ≡ cell_field (kind_at schema.now attr) cell) }
     ensures memory { IfErr result (λ e. e ≡ NoMemory) }
 {

@@ -163,7 +163,7 @@ fn add_cells(
 ) -> Result<(), AllocError>
     ensures { (bytes : List ℕ) (fields : List (List ℕ)) → IsMade records.old bytes fields
         → OnOk result (IsMade records.new (bytes ++ row_text default_writer
-            (fields ++ cell_fields (map (kind_at schema.now) attrs.now) cells.now)) []) }
+        (fields ++ cell_fields (map (kind_at schema.now) attrs.now) cells.now)) []) }
 {
     let mut attrs = attrs;
     let mut cells = cells;
@@ -259,12 +259,7 @@ fn digits<N: Integer>(alloc: Global, number: N) -> Result<Vec<u8>, AllocError>
 }
 
 /// The field of the least or the greatest cell that a call was answered.
-fn extreme(
-    alloc: Global,
-    schema: &Schema,
-    call: &Call,
-    cell: i64,
-) -> Result<Vec<u8>, AllocError>
+fn extreme(alloc: Global, schema: &Schema, call: &Call, cell: i64) -> Result<Vec<u8>, AllocError>
     ensures { IfOk result (λ text. text.items ≡ cell_field (kind_called schema.now call.now) cell) }
 {
     match attr_called(call) {
@@ -274,12 +269,7 @@ fn extreme(
 }
 
 /// The field of the sum that a call was answered.
-fn sum_field(
-    alloc: Global,
-    schema: &Schema,
-    call: &Call,
-    sum: i128,
-) -> Result<Vec<u8>, AllocError>
+fn sum_field(alloc: Global, schema: &Schema, call: &Call, sum: i128) -> Result<Vec<u8>, AllocError>
     ensures { IfOk result (λ text. text.items ≡ sum_text (kind_called schema.now call.now) sum) }
 {
     let text = line_of(alloc, schema, call, &Reply::Sum(sum))?;
@@ -333,12 +323,7 @@ fn empty_column(alloc: Global, name: &str) -> Result<Vec<u8>, AllocError>
 }
 
 /// A reply of one number as one column.
-fn scalar(
-    alloc: Global,
-    schema: &Schema,
-    call: &Call,
-    reply: &Reply,
-) -> Result<Vec<u8>, AllocError>
+fn scalar(alloc: Global, schema: &Schema, call: &Call, reply: &Reply) -> Result<Vec<u8>, AllocError>
     ensures { IfOk result (λ text. text.items ≡ records_text (one_column schema.now call.now reply.now)) }
 {
     match number_of(alloc, schema, call, reply)? {

@@ -9,6 +9,6 @@ returns c = λ bytes fields m. record {
   fresh = m.fresh;
   bytes_are = m.bytes_are;
   fields_are = c.in_ok-push_field.ensures.fields ∙ ap (λ fs. fs ++ (partial_of c.args.self.now.record ++ c.args.field.now) ∷ []) m.fields_are
-  ∙ ap (λ p. fields ++ (p ++ c.args.field.now) ∷ []) m.no_part;
+      ∙ ap (λ p. fields ++ (p ++ c.args.field.now) ∷ []) m.no_part;
   no_part = c.in_ok-push_field.ensures.partial;
 }
