@@ -385,9 +385,9 @@ fn is_entry_told(alloc: Global, case: &OfEntry) -> Result<bool, Fail> {
 
 #[test]
 fn entries_are_told(rt: HostRuntime) -> Result<(), Fail> {
-    let alloc = rt.alloc();
     for case in ENTRIES {
-        assert!(is_entry_told(alloc, case)?, "{case:?}");
+        let told = is_entry_told(rt.alloc(), case)?;
+        assert!(rt; told, "{case:?}");
     }
     Ok(())
 }
