@@ -1,7 +1,7 @@
 -- A table that takes records in, one by one.
-use Rattle.std.proofs.Common.{◌≡◌, ◌∙◌, ◌<◌, ◌≤◌, ◌≢◌, ◌+◌, ◌^◌, ◌++◌, ◌∷◌, [], ℕ, zero, suc, Bool, true, false, cond, List, Option, None, Some, length, map, get_or, set, inl, inr, refl, sym, ap, nat_eq, arith}
+use Rattle.std.proofs.Common.{◌≡◌, ◌∙◌, ◌<◌, ◌≤◌, ◌≢◌, ◌+◌, ◌^◌, ◌++◌, ◌∷◌, [], ℕ, zero, suc, Bool, true, false, cond, List, length, get_or, set, inl, inr, refl, sym, ap, nat_eq, arith}
 use Rattle.std.proofs.Math.Seq.{map-set_same}
-use Rattle.std.proofs.lemmas.List.{append-nil, append_assoc, get_or-map, get_or-replicate, get_or_past, get_or-set_same, get_or-set_other, length-append, length-map, length-replicate, length-set, map-set}
+use Rattle.std.proofs.lemmas.List.{append-nil, append_assoc, get_or-map, get_or-set_same, get_or-set_other, length-append, length-map, length-replicate, length-set, map-set}
 use Rattle.std.proofs.lemmas.List.Elements.{filter_map-append}
 use Rattle.std.proofs.lemmas.List.Folds.{list_any-append}
 use Rattle.std.proofs.lemmas.List.Sums.{count_by-le-length, sum_by-append}
@@ -9,8 +9,8 @@ use Rattle.std.proofs.lemmas.Bool.Decides.{nat_tests}
 use Rattle.std.proofs.lemmas.Grind.{flat_map-append}
 use Rattle.std.specs.Global.{Vec}
 use Rattle.std.specs.Prelude.{is_some, replicate}
-use Rattle.sw_import.specs.Imports.{has_fault, header_of, is_fault, is_left_out, left_out_for, left_out_of, most_rows, row_if, rows_made, told_for}
-use Rattle.sw_import.specs.Made.{NoRow, Row, row_made, sources_of}
+use Rattle.sw_import.specs.Imports.{header_of, is_fault, is_left_out, left_out_for, left_out_of, most_rows, row_if, rows_made, told_for}
+use Rattle.sw_import.specs.Made.{row_made, sources_of}
 use Rattle.sw_import.specs.Pages.{record_text, text_of}
 use Rattle.sw_import.specs.Taken.{IsBegun, IsTableOf, TakesIn, TakesRest, TellsOneMore}
 use Rattle.sw_import.specs.declared.evidence.Tally.{Tally}
@@ -32,12 +32,16 @@ tells_one ds place was d inside more = (length-set ds place d, λ i within. at i
   where
     moved : (i : ℕ) → told_for i (set ds place d) ≡ get_or (set (left_out_of ds) place d.left_out.count) i 0
     moved i = ap (λ ns. get_or ns i 0) (map-set (λ (x : Done). x.left_out.count) ds place d)
+
     held : told_for place ds ≡ (get_or ds place was).left_out.count
     held = get_or-map (λ (x : Done). x.left_out.count) ds place was 0 inside
+
     more_told : told_for place ds + 1 < 2 ^ 64 → d.left_out.count ≡ told_for place ds + 1
     more_told few = more (rw held at few) ∙ ap (λ n. n + 1) (sym held)
+
     within_counts : place < length (left_out_of ds)
     within_counts = rw (length-map ds (λ (x : Done). x.left_out.count)) inside
+
     at : (i : ℕ) (b : Bool) → nat_eq place i ≡ b → told_for i ds + cond b 1 0 < 2 ^ 64 → told_for i (set ds place d) ≡ told_for i ds + cond b 1 0
     at i true e few =
         let is : place ≡ i = grind (arith, nat_tests) in
@@ -64,16 +68,6 @@ told_nothing zero d place e = refl
 told_nothing (suc n) d zero e = e
 told_nothing (suc n) d (suc place) e = told_nothing n d place e
 
--- no record
-pub takes_none : (m : Maker) (t : Table) → TakesIn m [] t t
-takes_none m t = record {
-  sound = refl;
-  pages = sym (append-nil t.pages);
-  rows = omega arith;
-  wide = refl;
-  left_out = λ place inside few. omega arith;
-}
-
 -- records, and then more
 pub takes_more : (m : Maker) (xs ys : List (List (List ℕ))) (a b c : Table) → TakesIn m xs a b → TakesIn m ys b c → TakesIn m (xs ++ ys) a c
 takes_more m xs ys a b c f g =
@@ -88,35 +82,11 @@ takes_more m xs ys a b c f g =
       wide = g.wide ∙ f.wide;
       left_out = λ place inside few.
           let sum : left_out_for place m.rules.now (sources_of m.plan.now) (xs ++ ys) ≡ left_out_for place m.rules.now (sources_of m.plan.now) xs + left_out_for place m.rules.now (sources_of m.plan.now) ys =
-              sum_by-append (λ r. cond (is_left_out place (row_made m.rules.now (sources_of m.plan.now) r)) 1 0) xs ys in
+          sum_by-append (λ r. cond (is_left_out place (row_made m.rules.now (sources_of m.plan.now) r)) 1 0) xs ys in
           let first = f.left_out place inside (omega arith) in
           let second = g.left_out place (rw f.wide inside) (omega arith) in
           omega arith;
     }
-
--- a record that is left out
-pub takes_left_out : (m : Maker) (r : List (List ℕ)) (place : ℕ) (a b : Table) → row_made m.rules.now (sources_of m.plan.now) r ≡ NoRow place
-    → TellsOneMore place a.done.items b.done.items → b.pages ≡ a.pages → b.rows ≡ a.rows → TakesIn m (r ∷ []) a b
-takes_left_out m r place a b made tells pages rows = record {
-  sound = rw made refl;
-  pages = rw made (pages ∙ sym (append-nil a.pages));
-  rows = rw made (rows ∙ omega arith);
-  wide = tells.0;
-  left_out = λ i inside.
-      let one : left_out_for i m.rules.now (sources_of m.plan.now) (r ∷ []) ≡ cond (nat_eq place i) 1 0 = rw made (omega arith) in
-      rw one (tells.1 i inside);
-}
-
--- a record whose row is written
-pub takes_row : (m : Maker) (r cells : List (List ℕ)) (a b : Table) → row_made m.rules.now (sources_of m.plan.now) r ≡ Row cells
-    → b.pages ≡ a.pages ++ record_text cells → b.rows ≡ a.rows + 1 → left_out_of b.done.items ≡ left_out_of a.done.items → TakesIn m (r ∷ []) a b
-takes_row m r cells a b made pages rows same = record {
-  sound = rw made refl;
-  pages = rw made (pages ∙ ap (λ t. a.pages ++ t) (sym (append-nil (record_text cells))));
-  rows = rw made rows;
-  wide = sym (length-map b.done.items (λ (x : Done). x.left_out.count)) ∙ ap length same ∙ length-map a.done.items (λ (x : Done). x.left_out.count);
-  left_out = λ i inside few. rw made (ap (λ ns. get_or ns i 0) same ∙ omega arith);
-}
 
 -- what was begun, and then took the records of a text in, is their table
 pub table_of_all : (how : How) (m : Maker) (most : Most) (records : List (List (List ℕ))) (a b : Table) → m.rules.now ≡ how.rules

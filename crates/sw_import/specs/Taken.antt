@@ -1,5 +1,5 @@
 -- A table that takes records in.
-use Rattle.std.specs.Prelude.{◌≡◌, ◌+◌, ◌⊎◌, ◌<◌, ◌^◌, ◌∷◌, ◌++◌, if◌then◌else◌, ℕ, true, false, List, [], length, map, nat_eq}
+use Rattle.std.specs.Prelude.{◌≡◌, ◌+◌, ◌⊎◌, ◌<◌, ◌^◌, ◌∷◌, ◌++◌, if◌then◌else◌, ℕ, true, false, List, [], length, nat_eq}
 use Rattle.sw_import.specs.Imports.{AreWritten, has_fault, header_of, left_out_for, rows_in, rows_made, told_for}
 use Rattle.sw_import.specs.Made.{sources_of}
 use Rattle.sw_import.specs.Pages.{text_of}

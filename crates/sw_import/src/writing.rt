@@ -110,13 +110,7 @@ fn note_cell(done: &mut [Done], place: usize, is_filled: bool, line: u64)
 }
 
 /// Takes in what was written of the record of a line.
-fn note_record(
-    maker: &Maker<'_>,
-    row: &ByteRecord,
-    line: u64,
-    made: &ByteRecord,
-    done: &mut [Done],
-)
+fn note_record(maker: &Maker<'_>, row: &ByteRecord, line: u64, made: &ByteRecord, done: &mut [Done])
     ensures { left_out_of done.new ≡ left_out_of done.old }
 {
     for place in 0..maker.plan.len() {

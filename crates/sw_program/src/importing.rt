@@ -29,7 +29,11 @@ pub struct Import<'a> {
 }
 
 /// Reads the values, to their end.
-fn read_values<R: Files + Input>(rt: &R, alloc: Global, place: Place<'_>) -> Result<Vec<u8>, Refusal> {
+fn read_values<R: Files + Input>(
+    rt: &R,
+    alloc: Global,
+    place: Place<'_>,
+) -> Result<Vec<u8>, Refusal> {
     if place.is_standard() {
         read_all(alloc, &mut Counted::new(rt.reader()), usize::MAX)
     } else {

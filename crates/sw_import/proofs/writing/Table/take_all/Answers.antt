@@ -9,8 +9,7 @@ pub rows-preserved : goal.rows-preserved
 rows-preserved c =
     let found : c.in_ok-next.field-0 ≡ true = search rules in
     let step : records_left c.rows.rdr ≡ fields_of c.next.new.row ∷ records_left c.next.new.rdr = rw found at c.in_ok-next.ensures.row in
-    let (plain, few, taken, whole, takes) = c.rows.invariant in
-    (
+    let (plain, few, taken, whole, takes) = c.rows.invariant in (
       c.in_ok-next.ensures.plain,
       c.in_ok-take.ensures.few,
       taken ++ fields_of c.next.new.row ∷ [],
