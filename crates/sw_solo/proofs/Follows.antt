@@ -1,0 +1,77 @@
+-- What heads are made from, and what they may receive.
+use Rattle.std.proofs.Common.{◌≡◌, ◌<◌, ◌≤◌, ◌+◌, ◌^◌, ◌++◌, ◌<ℤ◌, ℕ, ℤ, true, List, [], ◌∷◌, length, fold, refl, sym, ap, subst, ◌∙◌, arith, All, zero, suc, Some, None, take, drop}
+use Rattle.std.proofs.lemmas.Bool.Decides.{nat_tests}
+use Rattle.std.proofs.lemmas.List.Elements.{All-push}
+use Rattle.std.specs.List.{AllByRecursion}
+use Rattle.sw_table.specs.Updates.{rows_of, rows_then}
+use Rattle.sw_table.specs.declared.row.Row.{Row}
+use Rattle.sw_table.specs.declared.row.Update.{Update}
+use Rattle.sw_table.specs.declared.row.Update.TheVariants as update
+use Rattle.sw_lang.specs.Cuts.{rises}
+use Rattle.sw_spine.specs.Receivable.{AreUpdates, MayComeAll, given_then}
+use Rattle.sw_spine.specs.Table.{is_numbered}
+use Rattle.sw_spine.proofs.Receivables.{may_come_first, may_come_rest}
+use Rattle.sw_chunks.specs.Cuts.{RiseAbove}
+use Rattle.sw_set.specs.Shelf.{AreReceivable, Rises, came_then, key_of}
+use Rattle.sw_chunks.specs.Routing.{MayFollow}
+
+-- ---- updates of a history
+
+below_more : (n : ℕ) (came : List Row) → All (λ (c : Row). c.key ≤ n) came → All (λ (c : Row). c.key ≤ n + 1) came
+below_more n came all i d lt = let a = all i d lt in omega arith
+
+-- no key that came exceeds the number of rows given
+given_low : (limit n : ℕ) (came live : List Row) (us : List Update) → All (λ (c : Row). c.key ≤ n) came → MayComeAll limit n live us → All (λ (c : Row). c.key ≤ fold given_then n us) (fold came_then came us)
+given_low limit n came live [] low all = low
+given_low limit n came live (update.Insert r ∷ us) low all = given_low limit (n + 1) (came ++ r ∷ []) (rows_then live (update.Insert r)) us (All-push (λ (c : Row). c.key ≤ n + 1) came r (below_more n came low) (let key = all.0.0 in omega (arith, key))) all.1
+given_low limit n came live (update.Remove k ∷ us) low all = given_low limit n came (rows_then live (update.Remove k)) us low all.1
+
+head_receives : (a limit n : ℕ) (came live : List Row) (us : List Update) → limit < 2 ^ 63 → All (λ (c : Row). c.key ≤ n) came → MayComeAll limit n live us → AreReceivable a None None came live us
+head_receives a limit n came live [] fits low all = tt
+head_receives a limit n came live (update.Insert r ∷ us) fits low all =
+    let key : r.key ≡ n + 1 = all.0.0 in
+    (((λ i d lt. let b = low i d lt in omega (arith, b, key)), omega (arith, all.0.1, fits), refl), head_receives a limit (n + 1) (came ++ r ∷ []) (rows_then live (update.Insert r)) us fits (All-push (λ (c : Row). c.key ≤ n + 1) came r (below_more n came low) (omega (arith, key))) all.1)
+head_receives a limit n came live (update.Remove k ∷ us) fits low all = (all.0, head_receives a limit n came (rows_then live (update.Remove k)) us fits low all.1)
+
+-- what comes to the table may come to a head
+pub may_follow : (a limit : ℕ) (us vs : List Update) → limit ≤ 1048576 → AreUpdates limit (us ++ vs) → MayFollow a us vs
+may_follow a limit us vs most all = head_receives a limit (fold given_then 0 us) (fold came_then [] us) (rows_of us) vs (omega (arith, most)) (given_low limit 0 [] [] us (λ i d lt. absurd (omega (arith, lt))) (may_come_first limit 0 [] us vs all)) (may_come_rest limit 0 [] us vs all)
+
+-- ---- rows in order
+
+pub numbered_low : (n : ℕ) (rows : List Row) → is_numbered n rows ≡ true → All (λ (r : Row). r.key < n + length rows) rows
+numbered_low n [] h i d lt = absurd (omega (arith, lt))
+numbered_low n (r ∷ rows) h zero d lt = let key : r.key ≡ n = grind (arith, nat_tests, h) in omega (arith, key)
+numbered_low n (r ∷ rows) h (suc i) d lt =
+    let rest : is_numbered (n + 1) rows ≡ true = grind (arith, nat_tests, h) in
+    let b = numbered_low (n + 1) rows rest i d (omega (arith, lt)) in omega (arith, b)
+
+pub keys_fit : (rows : List Row) → is_numbered 1 rows ≡ true → length rows ≤ 1048576 → All (λ (r : Row). r.key < 2 ^ 63) rows
+keys_fit rows h most i d lt = let b = numbered_low 1 rows h i d lt in omega (arith, b, most)
+
+numbered_above : (n k : ℕ) (rows : List Row) → is_numbered n rows ≡ true → k < n → AllByRecursion (λ (y : Row). k < key_of y) rows
+numbered_above n k [] h less = tt
+numbered_above n k (r ∷ rows) h less =
+    let key : r.key ≡ n = grind (arith, nat_tests, h) in
+    let rest : is_numbered (n + 1) rows ≡ true = grind (arith, nat_tests, h) in
+    (omega (arith, key, less), numbered_above (n + 1) k rows rest (omega (arith, less)))
+
+pub numbered_rise : (n : ℕ) (rows : List Row) → is_numbered n rows ≡ true → Rises key_of rows
+numbered_rise n [] h = tt
+numbered_rise n (r ∷ rows) h =
+    let key : r.key ≡ n = grind (arith, nat_tests, h) in
+    let rest : is_numbered (n + 1) rows ≡ true = grind (arith, nat_tests, h) in
+    (numbered_above (n + 1) r.key rows rest (omega (arith, key)), numbered_rise (n + 1) rows rest)
+
+-- ---- cuts
+
+above_from : (v : ℤ) (cs : List ℤ) → rises (v ∷ cs) ≡ true → RiseAbove (Some v) cs
+above_from v [] h = tt
+above_from v (c ∷ cs) h =
+    let less : v <ℤ c = grind (arith, nat_tests, h) in
+    let rest : rises (c ∷ cs) ≡ true = grind (arith, nat_tests, h) in
+    (less, above_from c cs rest)
+
+pub cuts_rise : (cs : List ℤ) → rises cs ≡ true → RiseAbove None cs
+cuts_rise [] h = tt
+cuts_rise (c ∷ cs) h = above_from c cs h

@@ -1,0 +1,5 @@
+pub mod Boxes
+pub mod Follows
+pub mod Served
+pub mod Settles
+pub mod Stands

@@ -1,0 +1,9 @@
+//! An engine for one visitor at a time: a table, its history and its heads in one value, without lock, thread or token.
+#![tactic(auto)]
+
+mod seat;
+mod solo;
+mod waiting;
+
+pub use seat::SeatStats;
+pub use solo::Solo;
