@@ -36,8 +36,8 @@ never_raised (inl l) = omega (arith, l)
 never_raised (inr e) = omega (arith, e)
 
 only_first : (I X Y : Type 0) → (Y → ⊥) → (I ⊎ (X × Y)) → I
-only_first I X Y no (inl i) = i
-only_first I X Y no (inr f) = absurd (no f.1)
+only_first I X Y never (inl i) = i
+only_first I X Y never (inr f) = absurd (never f.1)
 
 -- the refusal of the table; a source that counts no failure did not fail
 pub shelled_refused : (limit : ℕ) (cuts : List ℕ) (o left old new : Option (List ℕ)) (t s : SourceSeen) (e : Refusal)
@@ -46,8 +46,8 @@ pub shelled_refused : (limit : ℕ) (cuts : List ℕ) (o left old new : Option (
     → IfSome o (λ bytes. Shelled (SourceFailed t) limit cuts bytes left old new (Err e))
 shelled_refused limit cuts None left old new t s e before after read = tt
 shelled_refused limit cuts (Some bytes) left old new t s e before after read =
-    let no : SourceFailed s → ⊥ = λ h. never_raised (subst (λ (n : ℕ). Raised n 0) before (subst (λ (n : ℕ). Raised s.failed_before n) after h)) in
-    weaker (FailedInTurn t s bytes) (SourceFailed t) e (start_of limit cuts bytes []) (only_first (SourceFailed t) (SpellTable bytes) (SourceFailed s) no) read
+    let never : SourceFailed s → ⊥ = λ h. never_raised (subst (λ (n : ℕ). Raised n 0) before (subst (λ (n : ℕ). Raised s.failed_before n) after h)) in
+    weaker (FailedInTurn t s bytes) (SourceFailed t) e (start_of limit cuts bytes []) (only_first (SourceFailed t) (SpellTable bytes) (SourceFailed s) never) read
 
 -- a shell over the table that was read
 pub shelled_by : (I : Type 0) (limit : ℕ) (cuts : List ℕ) (o left old new : Option (List ℕ)) (F : List ℕ → Type 0) (opened : Inputs) (columns : List Column) (rows : List Row) (most : ℕ) (result : Result Ended Refusal)
