@@ -1,47 +1,71 @@
 -- What a shell answers, from what was read of its table.
-use Rattle.std.proofs.Common.{◌≡◌, ◌⊎◌, inl, inr, ℕ, List, [], Option, Some, None, IfSome, Result, Ok, Err, subst, arith}
+use Rattle.std.proofs.Common.{◌≡◌, ◌⊎◌, inl, inr, ℕ, List, [], Option, Some, None, IfSome, Result, Ok, Err, IfOk, IsOkUnless, subst, sym, arith}
 use Rattle.sw_rows.specs.Gives.{Raised}
+use Rattle.sw_rows.specs.Header.{Column}
+use Rattle.sw_table.specs.declared.row.Row.{Row}
+use Rattle.sw_spine.specs.History.{IsLegal}
 use Rattle.sw_rows.specs.declared.refusal.Refusal.{Refusal}
 use Rattle.sw_rows.specs.declared.refusal.Refusal.TheVariants as refusal
 use Rattle.sw_cli.specs.Run.{Start, start_of}
-use Rattle.sw_cli.specs.Sides.{FailedInTurn, SourceFailed, SourceSeen, SpellTable}
-use Rattle.sw_cli.specs.Starts.{IfBoth, ReadsFrom, RefusedFrom, start_seen}
+use Rattle.sw_cli.specs.Sides.{FailedInTurn, SourceFailed, SourceSeen, SpellTable, source_seen}
+use Rattle.sw_cli.specs.Starts.{IfBoth, ReadsFrom, ReadsStart, RefusedFrom, start_seen}
 use Rattle.sw_cli.specs.declared.start.Inputs.{Inputs}
-use Rattle.sw_shell.specs.Shelled.{IsLeftBy, Shelled}
+use Rattle.sw_shell.specs.Shelled.{IsLeftBy, ReadsTable, Shelled}
 use Rattle.sw_shell.specs.declared.opening.Ended.{Ended}
 
 -- for want of memory nothing is answered of the table
-pub shelled_without : (I : Type 0) (limit : ℕ) (cuts : List ℕ) (o left old new : Option (List ℕ)) → IfSome o (λ bytes. Shelled I limit cuts bytes left old new (Err refusal.NoMemory))
-shelled_without I limit cuts None left old new = tt
-shelled_without I limit cuts (Some bytes) left old new = tt
-
--- what is left over the table that was read
-pub shelled_over : (I : Type 0) (limit : ℕ) (cuts : List ℕ) (o left old new : Option (List ℕ)) (F : List ℕ → Type 0) (opened : Inputs) (e : Ended)
-    → IfBoth o (Some []) (λ a b. ReadsFrom (F a) start_seen (Ok opened) (start_of limit cuts a b))
-    → IsLeftBy opened.schema opened.rows.items limit left old new e
-    → IfSome o (λ bytes. Shelled I limit cuts bytes left old new (Ok e))
-shelled_over I limit cuts None left old new F opened e read is = tt
-shelled_over I limit cuts (Some bytes) left old new F opened e read is = (start_seen opened, read, is)
+pub read_without : (limit : ℕ) (cuts : List ℕ) (o : Option (List ℕ)) (before after : ℕ) → ReadsTable limit cuts (source_seen o before after) (Err refusal.NoMemory)
+read_without limit cuts None before after = tt
+read_without limit cuts (Some bytes) before after = tt
 
 weaker : (I J : Type 0) (e : Refusal) (read : Result Start Refusal) → (I → J) → RefusedFrom I e read → RefusedFrom J e read
 weaker I J refusal.NoMemory read f h = tt
 weaker I J refusal.Input read f h = f h
 weaker I J e read f h = h
 
-never_raised : Raised 0 0 → ⊥
-never_raised (inl l) = omega (arith, l)
-never_raised (inr e) = omega (arith, e)
+never_raised : (a b : ℕ) → a ≡ 0 → b ≡ 0 → Raised a b → ⊥
+never_raised a b is_a is_b (inl l) = omega (arith, is_a, is_b, l)
+never_raised a b is_a is_b (inr e) = omega (arith, is_b, e)
 
 only_first : (I X Y : Type 0) → (Y → ⊥) → (I ⊎ (X × Y)) → I
-only_first I X Y no (inl i) = i
-only_first I X Y no (inr f) = absurd (no f.1)
+only_first I X Y never (inl i) = i
+only_first I X Y never (inr f) = absurd (never f.1)
 
--- the refusal of the table; a source that counts no failure did not fail
-pub shelled_refused : (limit : ℕ) (cuts : List ℕ) (o left old new : Option (List ℕ)) (t s : SourceSeen) (e : Refusal)
-    → s.failed_before ≡ 0 → s.failed_after ≡ 0
-    → IfBoth o (Some []) (λ a b. ReadsFrom {X = Inputs} (FailedInTurn t s a) start_seen (Err e) (start_of limit cuts a b))
-    → IfSome o (λ bytes. Shelled (SourceFailed t) limit cuts bytes left old new (Err e))
-shelled_refused limit cuts None left old new t s e before after read = tt
-shelled_refused limit cuts (Some bytes) left old new t s e before after read =
-    let no : SourceFailed s → ⊥ = λ h. never_raised (subst (λ (n : ℕ). Raised n 0) before (subst (λ (n : ℕ). Raised s.failed_before n) after h)) in
-    weaker (FailedInTurn t s bytes) (SourceFailed t) e (start_of limit cuts bytes []) (only_first (SourceFailed t) (SpellTable bytes) (SourceFailed s) no) read
+read_first : (I X Y : Type 0) (read : Result Start Refusal) (result : Result Inputs Refusal) → (Y → ⊥) → ReadsFrom (I ⊎ (X × Y)) start_seen result read → ReadsFrom I start_seen result read
+read_first I X Y read (Ok opened) never h = h
+read_first I X Y read (Err e) never h = weaker (I ⊎ (X × Y)) I e read (only_first I X Y never) h
+
+-- a script without bytes, whose source counts no failure, is none
+pub read_alone : (limit : ℕ) (cuts : List ℕ) (o l : Option (List ℕ)) (a b before after : ℕ) (result : Result Inputs Refusal)
+    → l ≡ Some [] → before ≡ 0 → after ≡ 0
+    → ReadsStart limit cuts (source_seen o a b) (source_seen l before after) result
+    → ReadsTable limit cuts (source_seen o a b) result
+read_alone limit cuts None l a b before after result none was is read = tt
+read_alone limit cuts (Some bytes) l a b before after result none was is read =
+    let t = source_seen (Some bytes) a b in
+    let s = source_seen l before after in
+    let F : List ℕ → List ℕ → Type 0 = λ x y. ReadsFrom (FailedInTurn t s x) start_seen result (start_of limit cuts x y) in
+    let known : F bytes [] = subst (λ (k : Option (List ℕ)). IfBoth (Some bytes) k F) none read in
+    read_first (SourceFailed t) (SpellTable bytes) (SourceFailed s) (start_of limit cuts bytes []) result (never_raised before after was is) known
+
+-- a shell over the table that was read
+shelled_over : (I : Type 0) (limit : ℕ) (cuts : List ℕ) (o left old new : Option (List ℕ)) (opened : Inputs) (result : Result Ended Refusal)
+    → IfSome o (λ bytes. ReadsFrom I start_seen (Ok opened) (start_of limit cuts bytes []))
+    → IfOk result (IsLeftBy opened.schema opened.rows.items limit left old new) → IsOkUnless result refusal.NoMemory
+    → IfSome o (λ bytes. Shelled I limit cuts bytes left old new result)
+shelled_over I limit cuts None left old new opened result read is refused = tt
+shelled_over I limit cuts (Some bytes) left old new opened (Ok e) read is refused = (start_seen opened, read, is)
+shelled_over I limit cuts (Some bytes) left old new opened (Err e) read is refused =
+    subst (λ (x : Refusal). RefusedFrom I x (start_of limit cuts bytes [])) (sym refused) tt
+
+pub shelled_by : (limit : ℕ) (cuts : List ℕ) (left old new : Option (List ℕ)) (t : SourceSeen) (opened : Inputs) (result : Result Ended Refusal)
+    → ReadsTable limit cuts t (Ok opened)
+    → IfOk result (IsLeftBy opened.schema opened.rows.items limit left old new) → IsOkUnless result refusal.NoMemory
+    → IfSome t.left (λ bytes. Shelled (SourceFailed t) limit cuts bytes left old new result)
+shelled_by limit cuts left old new t opened result read is refused = shelled_over (SourceFailed t) limit cuts t.left left old new opened result read is refused
+
+-- its record is legal
+pub legal_by : (columns : List Column) (rows : List Row) (limit : ℕ) (left old new : Option (List ℕ)) (result : Result Ended Refusal)
+    → IfOk result (IsLeftBy columns rows limit left old new) → IfOk result (λ e. IsLegal e.history)
+legal_by columns rows limit left old new (Ok e) is = is.history.legal
+legal_by columns rows limit left old new (Err e) is = tt

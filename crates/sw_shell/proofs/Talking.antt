@@ -1,5 +1,5 @@
 -- What lines come to, step by step.
-use Rattle.std.proofs.Common.{◌≡◌, ◌∙◌, ◌⊎◌, ap, refl, sym, subst, ℕ, zero, suc, Bool, true, false, List, [], ◌∷◌, ◌++◌, Option, Some, None, Result, Ok, Err, OnErr, OnOk}
+use Rattle.std.proofs.Common.{refl, ℕ, zero, suc, List, Option, Some, None, Result, Ok, Err, OnErr, OnOk}
 use Rattle.std.specs.Io.KnownBytes.{Keeps}
 use Rattle.sw_rows.specs.Header.{Column}
 use Rattle.sw_rows.specs.declared.query.Call.{Call}
@@ -10,7 +10,7 @@ use Rattle.sw_lang.specs.Reading.{Answers}
 use Rattle.sw_lang.specs.Sinks.{Took, TookBeginning}
 use Rattle.sw_cli.specs.Script.{call_of_line}
 use Rattle.sw_cli.specs.Sides.{SinkSeen}
-use Rattle.sw_shell.specs.Talks.{Came, Ends, IsBroken, IsEntered, IsHeard, IsTold, IsUnheard, Reached, Said, Seen, Taking, Talked, Turned, said, seen}
+use Rattle.sw_shell.specs.Talks.{Ends, IsEntered, IsHeard, IsTold, IsUnheard, Reached, Said, Seen, Taking, Talked, said}
 
 pub keeps_same : (o : Option (List ℕ)) → Keeps o o
 keeps_same None = tt

@@ -10,8 +10,9 @@ ghost use Rattle.sw_spine.specs.History.{IsLegal};
 ghost use Rattle.sw_spine.specs.Table.{is_numbered};
 ghost use Rattle.sw_versions.specs.Pending.{IsPlain};
 ghost use Rattle.sw_engine.specs.Headline.{IsHistoryOfOneThread};
+ghost use Rattle.sw_cli.specs.Sides.{source_seen};
 ghost use Rattle.sw_cli.specs.Starts.{IsStart, start_seen};
-ghost use Rattle.sw_shell.specs.Shelled.{IsLeftBy, Shelled};
+ghost use Rattle.sw_shell.specs.Shelled.{IsLeftBy, ReadsTable, Shelled};
 
 use crate::growing::with_columns;
 use crate::host::Host;
@@ -242,6 +243,53 @@ fn talk_over<M: CrackerMap, H: Host, R: Threads + Wait + Sync, B: BufRead, W: Si
     talk_by::<Brand, M, H, R, B, W>(rt, alloc, Blank::new(), ground, maps, lines, out, host)
 }
 
+/// A table and cuts, read as a run without a script reads them.
+#[tactic(auto, using(crate::proofs::Shelling::read_without, crate::proofs::Shelling::read_alone))]
+fn read_table<R: Threads + Sync, T: Source>(
+    rt: &R,
+    alloc: Global,
+    table: &mut T,
+    options: &Options<'_>,
+) -> Result<Inputs, Refusal>
+    ensures spelled { ReadsTable options.now.limit options.now.cuts.now
+        (source_seen (T.left table.old) (T.failed table.old) (T.failed table.new)) result }
+    ensures sound { IfOk result (λ o. IsStart options.now.limit (start_seen o)) }
+{
+    let nothing: &[u8] = &[];
+    let mut script = Counted::new(nothing);
+    let read = read_start(rt, alloc, table, &mut script, options);
+    // for the prover: what has no bytes does not fail
+    if script.failures > 0 {
+        return Err(Refusal::NoMemory);
+    }
+    read
+}
+
+/// A shell over a table that was read, within this limit of rows.
+fn talk_on<M: CrackerMap, H: Host, R: Threads + Wait + Sync, B: BufRead, W: Sink>(
+    rt: &R,
+    alloc: Global,
+    opened: Inputs,
+    limit: u64,
+    maps: Vec<M>,
+    lines: &mut B,
+    out: &mut W,
+    host: &mut H,
+) -> Result<Ended, Refusal>
+    requires some { 0 < limit }
+    requires most { limit ≤ MOST_ROWS }
+    requires sound { IsStart limit (start_seen opened) }
+    requires blank { All (λ m. M.held m ≡ blank) maps.items }
+    ensures left { IfOk result (IsLeftBy opened.schema opened.rows.items limit
+        (B.remaining lines.old) (W.taken out.old) (W.taken out.new)) }
+    ensures refused { IsOkUnless result NoMemory }
+{
+    match ground_of(alloc, opened, limit) {
+        Ok(ground) => talk_over(rt, alloc, ground, maps, lines, out, host),
+        Err(refusal) => Err(refusal),
+    }
+}
+
 /// Reads a table and cuts as a run without a script does, and then takes lines, each of which is answered before the next one is
 /// read, until there are no more, one ends the shell, or something fails. The maps are boxes, dealt out as in a run.
 ///
@@ -252,6 +300,7 @@ fn talk_over<M: CrackerMap, H: Host, R: Threads + Wait + Sync, B: BufRead, W: Si
 /// Refused as a run is before its first call; and `NoMemory` for want of memory then. A failure of the reader (`Input`), of the
 /// sink (`Output`) or of the host ends the shell, and is told beside the record. The caller's conditions are those of
 /// `run_with`.
+#[tactic(auto, using(crate::proofs::Shelling::legal_by))]
 pub fn converse<M: CrackerMap, H: Host, R: Threads + Wait + Sync, T: Source, B: BufRead, W: Sink>(
     rt: &R,
     alloc: Global,
@@ -270,20 +319,8 @@ pub fn converse<M: CrackerMap, H: Host, R: Threads + Wait + Sync, T: Source, B: 
         (B.remaining lines.old) (W.taken out.old) (W.taken out.new) result) }
     ensures legal { IfOk result (λ e. IsLegal e.history) }
 {
-    let nothing: &[u8] = &[];
-    let mut script = Counted::new(nothing);
-    let read = read_start(rt, alloc, table, &mut script, options);
-    // for the prover: what has no bytes does not fail
-    if script.failures > 0 {
-        return Err(Refusal::NoMemory);
+    match read_table(rt, alloc, table, options) {
+        Ok(opened) => talk_on(rt, alloc, opened, options.limit, maps, lines, out, host),
+        Err(refusal) => Err(refusal),
     }
-    let opened = match read {
-        Ok(opened) => opened,
-        Err(refusal) => return Err(refusal),
-    };
-    let ground = match ground_of(alloc, opened, options.limit) {
-        Ok(ground) => ground,
-        Err(refusal) => return Err(refusal),
-    };
-    talk_over(rt, alloc, ground, maps, lines, out, host)
 }
