@@ -3,7 +3,7 @@ _sideways() {
     local word=${COMP_WORDS[COMP_CWORD]} before=${COMP_WORDS[COMP_CWORD-1]}
     COMPREPLY=()
     if [ "$COMP_CWORD" -eq 1 ]; then
-        COMPREPLY=($(compgen -W "run check describe order import explain help -h --help -V --version" -- "$word"))
+        COMPREPLY=($(compgen -W "run shell check describe order import explain help -h --help -V --version" -- "$word"))
         return
     fi
     case ${COMP_WORDS[1]}:$before in
@@ -18,6 +18,7 @@ _sideways() {
     esac
     case ${COMP_WORDS[1]} in
     run) COMPREPLY=($(compgen -W "--table --header --script -e --budget --maps --cuts --limit --threads --stats --times --quiet --all-faults --output --history --log -h --help" -- "$word")) ;;
+    shell) COMPREPLY=($(compgen -W "--header --budget --maps --cuts --limit --all-faults --history --names -h --help" -- "$word") $(compgen -f -- "$word")) ;;
     check) COMPREPLY=($(compgen -W "--explain --from-logs -h --help" -- "$word") $(compgen -f -- "$word")) ;;
     describe) COMPREPLY=($(compgen -W "--header --output --all-faults -h --help" -- "$word") $(compgen -f -- "$word")) ;;
     order) COMPREPLY=($(compgen -W "--table --by --keys --slack --states --limit --where --quiet -h --help" -- "$word") $(compgen -f -- "$word")) ;;
