@@ -174,19 +174,6 @@ impl<M: CrackerMap> GrowingHead<M> {
         self.head.answer(rt, query)
     }
 
-    /// The same in the caller's thread alone.
-    pub fn ask_in_turn(&mut self, query: &Query) -> Result<(Reply, usize), Refusal>
-        ensures same { IsSameHead self.old self.new }
-        ensures below { IfOk result (λ _. AsksBelow 8 query.now) }
-        ensures answered { IfOk result (λ r. r.0 ≡ answer (rows_of self.old.updates) query.now) }
-        ensures refused { IfErr result IsMemoryOrInput }
-    {
-        if !may_ask(self.head.attribute(), query) {
-            return Err(Refusal::Input);
-        }
-        self.head.answer_in_turn(query)
-    }
-
     /// The plain answer over all rows: the areas that the query touches are merged. Refused as `ask`.
     pub fn scan(&mut self, query: &Query) -> Result<Reply, Refusal>
         ensures same { IsSameHead self.old self.new }

@@ -7,7 +7,7 @@ use std::thread::Threads;
 use sw_lang::{parse_known, write_reply};
 use sw_map::CrackerMap;
 use sw_rows::{
-    Call, Cond, Counted, Query, Refusal, Reply, Row, Schema, TextKey, answer, has_key, is_within,
+    Call, Cond, Counted, Refusal, Reply, Row, Schema, TextKey, answer, has_key, is_within,
 };
 use sw_trial_areas::numbered;
 
@@ -20,8 +20,8 @@ pub(crate) struct Shape<'t> {
     pub cells: &'t [[i64; 8]],
 }
 
-/// A head, the plain list of its rows, the key that comes next, boxes that may come to the head, how many areas were
-/// scanned, and whether the next query is asked in turn: every second one is, and the others with a runtime.
+/// A head, the plain list of its rows, the key that comes next, boxes that may come to the head, and how many areas
+/// were scanned.
 #[derive(Drop)]
 pub(crate) struct Trial<M: CrackerMap> {
     pub schema: Schema,
@@ -30,7 +30,6 @@ pub(crate) struct Trial<M: CrackerMap> {
     pub next: u64,
     pub stock: Vec<M>,
     pub scans: usize,
-    pub in_turn: bool,
 }
 
 /// A head of a shape, with so many of these boxes.
@@ -47,7 +46,6 @@ pub(crate) fn open<M: CrackerMap>(
         next: 1,
         stock,
         scans: 0,
-        in_turn: false,
     };
     trial.next = trial.rows.len() as u64 + 1;
     for _turn in 0..many {
@@ -140,21 +138,6 @@ fn gone(is_gone: bool) -> Reply {
     }
 }
 
-/// Asks the head, every second time in turn.
-fn ask<R: Threads + Sync, M: CrackerMap>(
-    rt: &R,
-    trial: &mut Trial<M>,
-    query: &Query,
-) -> Result<(Reply, usize), Refusal> {
-    let in_turn = trial.in_turn;
-    trial.in_turn = !in_turn;
-    if in_turn {
-        trial.head.ask_in_turn(query)
-    } else {
-        trial.head.ask(rt, query)
-    }
-}
-
 /// What the head replies to a call, and what the plain list does.
 pub(crate) fn replies<R: Threads + Sync, M: CrackerMap>(
     rt: &R,
@@ -164,7 +147,7 @@ pub(crate) fn replies<R: Threads + Sync, M: CrackerMap>(
 ) -> Result<(Reply, Reply), Refusal> {
     match call {
         Call::Select(query) => {
-            let (reply, scans) = ask(rt, trial, query)?;
+            let (reply, scans) = trial.head.ask(rt, query)?;
             trial.scans = trial.scans.wrapping_add(scans);
             Ok((reply, answer(alloc, trial.rows.as_slice(), query)?))
         }
