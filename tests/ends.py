@@ -98,7 +98,8 @@ class Ends:
         self.held("a run with its memory", 0, self.call(words)[0])
         new, refused = self.take("h.json"), 0
         for step in range(MEMORIES):
-            most = (4 + step) << 20
+            # In 4 MiB the system cannot load the program.
+            most = (5 + step) << 20
             self.put("h.json", OLD)
             status, _, told = self.call(words, preexec_fn=lambda: resource.setrlimit(resource.RLIMIT_AS, (most, most)))
             # Under a call that was refused the history is another one, which is whole.
