@@ -103,7 +103,6 @@ if [ -n "$python" ]; then
     fi
     export PYTHONPATH="$work/python"
     quietly "$python" "$tests/tables.py"
-    quietly "$python" -m doctest "$work/python/sideways/__init__.py"
     quietly "$python" "$lib/examples/curve.py" "$top/tests/embed/ages.csv" age
     [ "$(grep -c '<polyline points="[0-9]' "$work/told")" = 2 ] || wrong "another picture"
 else

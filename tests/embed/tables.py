@@ -5,7 +5,7 @@ threads, and the check of the histories that come of it.
     python3 tests/embed/tables.py          with the package in PYTHONPATH, or installed"""
 
 import decimal
-import io
+import doctest
 import json
 import os
 import random
@@ -399,6 +399,10 @@ class Tables(unittest.TestCase):
         table = Table.from_columns({name: [place] for place, name in enumerate(names)})
         self.assertEqual(list(table.select("self", **dict.fromkeys(names[1:3], (None, 9)))), ["key__", "self"])
         self.assertEqual(table.sum("name", **{name: place for place, name in enumerate(names)}), 7)
+
+    def test_the_example(self):
+        found = doctest.testmod(sideways)
+        self.assertEqual((found.failed, found.attempted > 5), (0, True))
 
     def test_the_check(self):
         table = Table.from_columns({"a": [1, 2]})
