@@ -273,6 +273,11 @@ class Kinds(unittest.TestCase):
         wanted = frame.loc[[9, 7], ["city", "price"]].set_index(pandas.Index(numpy.array([1, 3], numpy.uint64), name="key"))
         pandas.testing.assert_frame_equal(found, wanted)
         self.assertEqual(list(table.insert_many(frame)), [4, 5, 6])
+        sorts = {"a": pandas.array([1, 2], "Int64"), "s": pandas.Categorical(["x", "y"]), "f": pandas.array([True, False], "boolean")}
+        self.assertEqual(Table.from_pandas(pandas.DataFrame(sorts)).attributes, {"a": "int", "s": "text", "f": "flag"})
+        for column in (pandas.array([1, None], "Int64"), pandas.array(["x", None], "string"), [0.5, None], [1, None]):
+            with self.assertRaises(TypeError):
+                Table.from_pandas(pandas.DataFrame({"a": column}))
         with self.assertRaises(TypeError):
             Table.from_pandas(pandas.DataFrame([[1, 2]]))
 

@@ -1,6 +1,7 @@
 """Columns of values as the text of a table, block by block."""
 
 import re
+from numbers import Integral
 
 import numpy
 
@@ -28,14 +29,20 @@ def found_kind(name: str, array: numpy.ndarray) -> int:
         return INT
     if array.dtype == numpy.bool_:
         return FLAG
-    if array.dtype.kind in "OU" and all(isinstance(value, str) for value in array):
-        return TEXT
+    if array.dtype.kind in "OU":
+        for kind, sorts in ((TEXT, str), (FLAG, (bool, numpy.bool_)), (INT, Integral)):
+            if all(isinstance(value, sorts) for value in array):
+                return kind
     hint = f"say which it is, as kinds={{{name!r}: 'fix2'}} for numbers of two decimals"
     if array.dtype.kind in "mM":
         hint = "give whole numbers, as of .astype('datetime64[s]').astype('int64')"
-    elif array.dtype.kind == "O" and any(value is None or value != value for value in array):
+    elif array.dtype.kind == "O" and any(_is_missing(value) for value in array):
         hint = "a table has a value in each cell, and here one is missing"
     raise TypeError(f"column {name!r} is of {array.dtype}: {hint}")
+
+
+def _is_missing(value) -> bool:
+    return value is None or type(value).__name__ == "NAType" or (isinstance(value, float) and value != value)
 
 
 def table_text(columns, kinds) -> bytes:

@@ -132,19 +132,17 @@ def check_texts(texts) -> None:
 
 def number_cells(name: str, kind: int, column: numpy.ndarray) -> numpy.ndarray:
     """A column of numbers or flags as its cells: an array of int64, the same where it is one already."""
-    if kind == FLAG:
-        if column.dtype != numpy.bool_:
-            raise TypeError(f"column {name!r} is of {column.dtype}, wanted bool for flags")
+    sort = column.dtype.kind
+    if kind == FLAG and sort == "b":
         return column.astype(numpy.int64)
-    if column.dtype.kind in "iu":
+    if kind != FLAG and sort in "iu":
         return _whole_cells(name, kind, column)
-    if column.dtype.kind == "f":
+    if kind != FLAG and sort == "f":
         cells = _float_cells(kind, column)
-        if cells is not None:
-            return cells
-    elif column.dtype.kind != "O":
-        raise TypeError(f"column {name!r} is of {column.dtype}, wanted numbers for {NAMES[kind]}")
-    return _each_cell(name, kind, column)
+        return _each_cell(name, kind, column) if cells is None else cells
+    if sort == "O" or column.size == 0:
+        return _each_cell(name, kind, column)
+    raise TypeError(f"column {name!r} is of {column.dtype}, wanted {'bool' if kind == FLAG else 'numbers'} for {NAMES[kind]}")
 
 
 def _whole_cells(name: str, kind: int, column: numpy.ndarray) -> numpy.ndarray:
