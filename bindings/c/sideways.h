@@ -24,7 +24,6 @@ extern "C" {
 
 /* The version of this border: a library of another one is not for this header. */
 #define SIDEWAYS_VERSION 1u
-uint32_t sideways_version(void);
 
 /* ---- codes */
 

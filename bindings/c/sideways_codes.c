@@ -1,6 +1,10 @@
 #include "sideways_codes.h"
 #include "sideways.h"
 
+uint32_t sideways_version(void) {
+    return SIDEWAYS_VERSION;
+}
+
 const char *sideways_code_text(uint32_t code) {
     switch (code) {
     case SIDEWAYS_OK: return "answered";
