@@ -36,10 +36,6 @@ def fraction_of(value) -> Fraction:
     raise TypeError(f"wanted a number, not {value!r}")
 
 
-def _is_infinite(value) -> bool:
-    return isinstance(value, (float, numpy.floating, decimal.Decimal)) and abs(value) == float("inf")
-
-
 def cell_of(kind: int, value) -> int:
     """The cell of a value, which is one exactly; texts are for the caller."""
     if kind == FLAG:
@@ -61,33 +57,25 @@ def cell_of(kind: int, value) -> int:
     return cell
 
 
-def place_of(kind: int, value):
-    """Where a value stands among the cells of a kind: the greatest cell that is not above it, and whether that is it. Beyond all
-    cells it is the last one that way, with a third word: -1, 0 or 1."""
-    if kind == FLAG:
-        return cell_of(kind, value), True, 0
+def bound_of(kind: int, value, before: bool):
+    """The bound before a value, or behind it, as (cell, kind of bound): cells left of it are below the value, or at most the value.
+    Where no cell is the value, it stands behind the greatest below it; of values beyond all cells it stands before or behind these."""
     if kind == INT and type(value) is int and LEAST <= value <= GREATEST:
-        return value, True, 0
-    if _is_infinite(value):
-        return (GREATEST, False, 1) if value > 0 else (LEAST, False, -1)
+        return value, BEFORE if before else AFTER
+    if kind == FLAG:
+        return cell_of(kind, value), BEFORE if before else AFTER
+    if isinstance(value, (float, numpy.floating, decimal.Decimal)) and abs(value) == float("inf"):
+        return (GREATEST, AFTER) if value > 0 else (LEAST, BEFORE)
     try:
         scaled = fraction_of(value) * 10**kind
     except (ValueError, OverflowError, decimal.InvalidOperation):
         raise ValueError(f"{value!r} cannot be compared with an attribute of {NAMES[kind]}") from None
     low = scaled.numerator // scaled.denominator
     if low > GREATEST:
-        return GREATEST, False, 1
+        return GREATEST, AFTER
     if low < LEAST:
-        return LEAST, False, -1
-    return low, scaled.denominator == 1, 0
-
-
-def bound_of(kind: int, value, before: bool):
-    """The bound before a value, or behind it, as (cell, kind of bound): cells left of it are below the value, or at most the value."""
-    cell, exact, beyond = place_of(kind, value)
-    if beyond < 0 or (exact and before):
-        return cell, BEFORE
-    return cell, AFTER
+        return LEAST, BEFORE
+    return low, BEFORE if before and scaled.denominator == 1 else AFTER
 
 
 def spelled(kind: int, word: str):
@@ -96,11 +84,10 @@ def spelled(kind: int, word: str):
         return {"true": True, "false": False}.get(word)
     if len(word) > 64 or not _NUMBER.fullmatch(word):
         return None
-    value = decimal.Decimal(word)
-    decimals = len(word.partition(".")[2])
-    if decimals > kind or not LEAST <= Fraction(value) * 10**kind <= GREATEST:
+    if len(word.partition(".")[2]) > kind:
         return None
-    return int(word) if kind == INT else value
+    value = int(word) if kind == INT else decimal.Decimal(word)
+    return value if LEAST <= (value if kind == INT else Fraction(value) * 10**kind) <= GREATEST else None
 
 
 def value_of(kind: int, cell: int):

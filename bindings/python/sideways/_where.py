@@ -28,11 +28,10 @@ class Conds:
         return found
 
     def _hold(self, attribute: int, lower, upper) -> None:
-        old_lower, old_upper = self.bounds.get(attribute, (None, None))
-        if old_lower is not None and (lower is None or old_lower > lower):
-            lower = old_lower
-        if old_upper is not None and (upper is None or old_upper < upper):
-            upper = old_upper
+        held = self.bounds.get(attribute)
+        if held is not None:
+            lower = max((bound for bound in (held[0], lower) if bound is not None), default=None)
+            upper = min((bound for bound in (held[1], upper) if bound is not None), default=None)
         self.bounds[attribute] = (lower, upper)
 
     def _hold_text(self, attribute: int, text: str) -> None:
@@ -50,15 +49,8 @@ class Conds:
                 raise TypeError(f"{name!r} is of texts, which are compared with one text alone, not with {value!r}")
             self._hold_text(attribute, value)
             return
-        lower = upper = None
-        if comparison in (">=", "="):
-            lower = bound_of(kind, value, True)
-        elif comparison == ">":
-            lower = bound_of(kind, value, False)
-        if comparison in ("<=", "="):
-            upper = bound_of(kind, value, False)
-        elif comparison == "<":
-            upper = bound_of(kind, value, True)
+        lower = bound_of(kind, value, comparison != ">") if comparison in (">", ">=", "=") else None
+        upper = bound_of(kind, value, comparison == "<") if comparison in ("<", "<=", "=") else None
         self._hold(attribute, lower, upper)
 
     def add_range(self, name: str, wanted) -> None:
@@ -68,10 +60,14 @@ class Conds:
             return
         if len(wanted) != 2:
             raise ValueError(f"the range of {name!r} is no pair (least, greatest): {wanted!r}")
-        self.place(name)
-        for comparison, value in zip((">=", "<="), wanted):
-            if value is not None:
-                self.add(name, comparison, value)
+        attribute, kind = self.place(name)
+        least, greatest = wanted
+        if kind == TEXT:
+            raise TypeError(f"{name!r} is of texts, which are compared with one text alone, not with {wanted!r}")
+        lower = None if least is None else bound_of(kind, least, True)
+        upper = None if greatest is None else bound_of(kind, greatest, False)
+        if lower is not None or upper is not None:
+            self._hold(attribute, lower, upper)
 
     def add_line(self, text: str) -> None:
         """The comparisons of a text, divided by `and`, as they stand behind `where` in a line."""
