@@ -245,7 +245,7 @@ static void try_opening(void) {
     CODE(SIDEWAYS_BAD_TABLE, open_text("a:real\n1\n", &OPTIONS, &h));
     CODE(SIDEWAYS_BAD_TABLE, open_text("a,b\n1\n", &OPTIONS, &h));
     CODE(SIDEWAYS_TOO_MANY, open_text("a,b,c,d,e,f,g,h,i\n", &OPTIONS, &h));
-    CODE(SIDEWAYS_BAD_LINE, sideways_open(bytes("a\n1\n"), 4, bytes("x"), 1, &OPTIONS, &h));
+    CODE(SIDEWAYS_BAD_LINE, sideways_open(bytes("a\n1\n"), 4, bytes("a"), 1, &OPTIONS, &h));
     const sideways_options bad[] = {{0, 1, 1}, {1048577, 1, 1}, {1, 1099511627777, 1}, {1, 1, 4097}, {UINT64_MAX, UINT64_MAX, UINT64_MAX}};
     for (size_t i = 0; i < sizeof bad / sizeof *bad; i++) CODE(SIDEWAYS_BAD_OPTIONS, open_text("a\n1\n", &bad[i], &h));
     const sideways_options one = {1, 0, 0};

@@ -5,46 +5,57 @@
 #include <stdint.h>
 #include <stdlib.h>
 
-/* What is granted: 1 and where it stands, or 0. */
+/* What is granted: 1 and where it stands, or 0. Alignments divide 16. */
 typedef struct {
     uint64_t granted;
     void *at;
 } rattle_grant;
 rattle_grant rattle_alloc(size_t size, size_t align);
-rattle_grant rattle_realloc(void *at, size_t old_size, size_t size, size_t align);
-void rattle_dealloc(void *at, size_t size, size_t align);
+rattle_grant rattle_realloc(void *at, size_t kept, size_t size, size_t align);
+void rattle_dealloc(void *at);
 
 /* The bytes and the grants that are out, the requests so far, and which of them is refused: from `refused_from` on `refused_many`. */
 static uint64_t heap_bytes, heap_grants, heap_asked, refused_from, refused_many;
+
+/* How many bytes stand in front of what is granted; the first eight of them are its size. */
+enum { FRONT = 16 };
 
 static bool heap_refuses(void) {
     heap_asked++;
     return heap_asked >= refused_from && heap_asked - refused_from < refused_many;
 }
 
-rattle_grant rattle_alloc(size_t size, size_t align) {
-    rattle_grant grant = {0, NULL};
-    if (heap_refuses()) return grant;
-    grant.at = malloc(size ? size : align);
-    grant.granted = grant.at != NULL;
+/* A block of so many bytes for what is granted, or nothing. */
+static rattle_grant heap_grant(void *block, size_t size) {
+    rattle_grant grant = {block != NULL, NULL};
+    if (block == NULL) return grant;
+    *(uint64_t *)block = size;
+    grant.at = (char *)block + FRONT;
     heap_bytes += size;
     heap_grants++;
     return grant;
 }
 
-rattle_grant rattle_realloc(void *at, size_t old_size, size_t size, size_t align) {
-    rattle_grant grant = {0, at};
-    if (heap_refuses()) return grant;
-    grant.at = realloc(at, size ? size : align);
-    grant.granted = grant.at != NULL;
-    heap_bytes += size - old_size;
-    return grant;
+static void *heap_block(void *at) {
+    void *block = (char *)at - FRONT;
+    heap_bytes -= *(uint64_t *)block;
+    heap_grants--;
+    return block;
 }
 
-void rattle_dealloc(void *at, size_t size, size_t align) {
+rattle_grant rattle_alloc(size_t size, size_t align) {
     (void)align;
-    free(at);
-    heap_bytes -= size;
-    heap_grants--;
+    return heap_grant(heap_refuses() ? NULL : malloc(FRONT + size), size);
+}
+
+rattle_grant rattle_realloc(void *at, size_t kept, size_t size, size_t align) {
+    rattle_grant refused = {0, at};
+    (void)kept, (void)align;
+    if (heap_refuses()) return refused;
+    return heap_grant(realloc(heap_block(at), FRONT + size), size);
+}
+
+void rattle_dealloc(void *at) {
+    free(heap_block(at));
 }
 #endif
