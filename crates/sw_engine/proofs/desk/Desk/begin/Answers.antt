@@ -80,8 +80,8 @@ returns-clause-adds g c =
     let n = c.args.number in
     let q = c.args.query in
     ap (λ (v : Books). own n v.entries) (c.set.ensures.value ∙ c.of.ensures ∙ c.in_ok-begin.ensures.begun)
-        ∙ own_push n s.spine.entries (entry n (Select q) Open) refl
-        ∙ ap (λ (l : List (Call × State)). l ++ (Select q, Open) ∷ []) (own_is s.spine s.sessions.rows s.heads.rows h.number n h.value c.self.invariant.tied c.agree.ensures.value c.requires.rest.1)
+    ∙ own_push n s.spine.entries (entry n (Select q) Open) refl
+    ∙ ap (λ (l : List (Call × State)). l ++ (Select q, Open) ∷ []) (own_is s.spine s.sessions.rows s.heads.rows h.number n h.value c.self.invariant.tied c.agree.ensures.value c.requires.rest.1)
 
 pub returns-clause-waits : goal.returns-clause-waits
 returns-clause-waits g c =
