@@ -12,13 +12,15 @@ import tempfile
 from pathlib import Path
 
 TOP = Path(__file__).resolve().parents[1]
-ENGINE = "sw_trial_engine"
-# Lines of sw_trial_engine's stdin, and what they tell.
+ENGINE, SHELL = "sw_trial_engine", "sw_shell_cases"
+# Lines of a program's stdin, whose program it is, and what it tells.
 TRIALS = {
-    "waited 0 count where a >= 10&count where b >= 6": "legal; 3; 2; legal: 2 entries",
-    "met-in-run": "3/---/2/; legal: 2 entries",
-    "counted 12 select b where a >= 10 and a <= 15": "legal; 1: 7, 3: 5, 2 rows; 2 begun, 4 steps, 4 asked",
-    "told 0 insert 1, 9, 0|count where a < 10": "legal; key 5; 2",
+    "waited 0 count where a >= 10&count where b >= 6": (ENGINE, "legal; 3; 2; legal: 2 entries"),
+    "met-in-run": (ENGINE, "3/---/2/; legal: 2 entries"),
+    "counted 12 select b where a >= 10 and a <= 15": (ENGINE, "legal; 1: 7, 3: 5, 2 rows; 2 begun, 4 steps, 4 asked"),
+    "told 0 insert 1, 9, 0|count where a < 10": (ENGINE, "legal; key 5; 2"),
+    "table a:int\\n5\\n\nshell count\\n.quit\\ncount\\n": (SHELL, "1"),
+    "table a:int\\n5\\n\nshell .history h.json\\n": (SHELL, "[1 history h.json]"),
 }
 # A name, what is wrong, the file, its text and the wrong one, and the trial or, of another crate, the test that fails.
 BODIES = {
@@ -43,12 +45,17 @@ BODIES = {
                               "    for it in rest.iter_mut() {\n        if align_box(attribute, it, tails, tape).is_err() {\n"
                               "            return;\n        }\n    }\n", "sw_trial_areas"),
     "asked_a_third_time": ("An area that is short again is asked a third time",
-                           "sw_chunks/src/answering.rt", "        told = ready_again(rt, &mut areas[k], query);\n",
-                           "        told = ready_again(rt, &mut areas[k], query);\n        if told.is_err() {\n"
-                           "            told = ready_again(rt, &mut areas[k], query);\n        }\n", "sw_trial_heads"),
+                           "sw_chunks/src/answering.rt", "        told = ready_again(align, &mut areas[k], query);\n",
+                           "        told = ready_again(align, &mut areas[k], query);\n        if told.is_err() {\n"
+                           "            told = ready_again(align, &mut areas[k], query);\n        }\n", "sw_trial_heads"),
     "begun_after_contention": ("A map whose growth found the budget contended is begun again",
                                "sw_set/src/making.rt", "        Err(Refusal::Contended { seen, found }) => {\n"
                                "            return Err(Refusal::Contended { seen, found });\n        }\n", "", "sw_trial_heads"),
+    "quit_passed_by": ("A shell goes on behind .quit", "sw_shell/src/turns.rt", "        Command::Quit => return Ok(false),\n",
+                       "        Command::Quit => return Ok(true),\n", "table a:int\\n5\\n\nshell count\\n.quit\\ncount\\n"),
+    "history_not_asked_for": ("A shell does not hand on where the history is to go", "sw_shell/src/turns.rt",
+                              "host.obeys(seat.schema(), line, Errand::History(file))", "host.obeys(seat.schema(), line, Errand::Names)",
+                              "table a:int\\n5\\n\nshell .history h.json\\n"),
 }
 
 
@@ -70,9 +77,9 @@ def changed(folder, body):
 def tried(folder, place):
     """What the program tells of a trial, or whether the tests of a crate pass."""
     if place in TRIALS:
-        done = subprocess.run(["rt", "try"], cwd=folder / "crates" / ENGINE, input=place + "\n", capture_output=True, text=True)
-        lines = done.stdout.splitlines()
-        return lines[0] if lines else f"status {done.returncode}"
+        folder = folder / "crates" / TRIALS[place][0]
+        done = subprocess.run(["rt", "try"], cwd=folder, input=place + "\n", capture_output=True, text=True)
+        return "/".join(done.stdout.splitlines()) or f"status {done.returncode}"
     done = subprocess.run(["rt", "try", "--test"], cwd=folder / "crates" / place, capture_output=True, text=True)
     return "passed" if done.returncode == 0 else f"failed, status {done.returncode}"
 
@@ -88,12 +95,13 @@ def made(body=None, place=None):
 
 def main():
     names = sys.argv[1:] or list(BODIES)
-    failed = False
+    failed, unchanged = False, {}
     for name in names:
         body = BODIES[name]
         place = body[-1]
-        right, wrong = made(place=place), made(body, place)
-        well = right == TRIALS.get(place, "passed") and wrong != right
+        unchanged[place] = right = unchanged.get(place) or made(place=place)
+        wrong = made(body, place)
+        well = right == TRIALS.get(place, ("", "passed"))[1] and wrong != right
         failed = failed or not well
         print(f"{'ok' if well else 'FAILED'}: {name}: {body[0]}\n    {place}\n    unchanged: {right}\n    wrong: {wrong}", flush=True)
     return 1 if failed else 0
