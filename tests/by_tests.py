@@ -4,7 +4,7 @@ run without a proof (`rt try`), and must not tell what the unchanged one does, w
 
     tests/by_tests.py [NAME..]
 
-Ends with 1 where a wrong body passes, or the unchanged sources fail. Some two minutes of a processor for each."""
+Ends with 1 where a wrong body passes, or the unchanged sources fail. Some two minutes of a processor for each, and for each crate that tells."""
 import shutil
 import subprocess
 import sys
@@ -74,34 +74,41 @@ def changed(folder, body):
     path.write_text(text.replace(old, new))
 
 
-def tried(folder, place):
-    """What the program tells of a trial, or whether the tests of a crate pass."""
-    if place in TRIALS:
-        folder = folder / "crates" / TRIALS[place][0]
-        done = subprocess.run(["rt", "try"], cwd=folder, input=place + "\n", capture_output=True, text=True)
-        return "/".join(done.stdout.splitlines()) or f"status {done.returncode}"
-    done = subprocess.run(["rt", "try", "--test"], cwd=folder / "crates" / place, capture_output=True, text=True)
-    return "passed" if done.returncode == 0 else f"failed, status {done.returncode}"
+def tried(folder, crate, places):
+    """The lines that a program tells of lines of its input; or whether the tests of a crate pass."""
+    folder = folder / "crates" / crate
+    if places != [crate]:
+        done = subprocess.run(["rt", "try"], cwd=folder, input="\n".join(places) + "\n", capture_output=True, text=True)
+        return done.stdout.splitlines() or [f"status {done.returncode}"]
+    done = subprocess.run(["rt", "try", "--test"], cwd=folder, capture_output=True, text=True)
+    return ["passed" if done.returncode == 0 else f"failed, status {done.returncode}"]
 
 
-def made(body=None, place=None):
+def made(crate, places, body=None):
     with tempfile.TemporaryDirectory() as name:
         folder = Path(name)
         copied(folder)
         if body:
             changed(folder, body)
-        return tried(folder, place)
+        return tried(folder, crate, places)
+
+
+def right_of(crate, known):
+    """What the unchanged sources tell of each trial of a crate, made once."""
+    if crate not in known:
+        places = [place for place, (of, _) in TRIALS.items() if of == crate] or [crate]
+        known[crate] = dict(zip(places, made(crate, places)))
+    return known[crate]
 
 
 def main():
-    names = sys.argv[1:] or list(BODIES)
-    failed, unchanged = False, {}
-    for name in names:
+    failed, known = False, {}
+    for name in sys.argv[1:] or list(BODIES):
         body = BODIES[name]
         place = body[-1]
-        unchanged[place] = right = unchanged.get(place) or made(place=place)
-        wrong = made(body, place)
-        well = right == TRIALS.get(place, ("", "passed"))[1] and wrong != right
+        crate, wanted = TRIALS.get(place, (place, "passed"))
+        right, wrong = right_of(crate, known).get(place), "/".join(made(crate, [place], body))
+        well = right == wanted and wrong != right
         failed = failed or not well
         print(f"{'ok' if well else 'FAILED'}: {name}: {body[0]}\n    {place}\n    unchanged: {right}\n    wrong: {wrong}", flush=True)
     return 1 if failed else 0
