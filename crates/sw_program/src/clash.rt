@@ -5,7 +5,7 @@ use std::rt::Files;
 use sw_files::{FileId, would_be_one};
 
 /// Where the system tells what standard output and standard error are.
-const OUTPUT: &str = "/proc/self/fd/1";
+pub(crate) const OUTPUT: &str = "/proc/self/fd/1";
 
 const ERRORS: &str = "/proc/self/fd/2";
 
