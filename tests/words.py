@@ -154,13 +154,14 @@ class Cases:
                             (["--ragged", "cut"], "cut"), (["--colums", "a"], "--columns"), (["more.csv"], "more.csv")):
             self.refused("words of import: %s" % " ".join(words), ["import", "cities.csv"] + words, said)
         self.refused("values of no file", ["import"], "required")
-        for words, said in ((["--columns", "9"], "no column has the heading or the number `9`: there are 4 columns"),
+        data = b"city,n,ok\nOslo,1,true\n"
+        for words, said in ((["--columns", "9"], "no column has the heading or the number `9`: there are 3 columns"),
                             (["--rename", "n"], "`n` has no `=` between the heading and what is asked of its column"),
-                            (["--rename", "n=ok"], "`ok` is the name of more columns than one"),
+                            (["--rename", "n=x", "--rename", "city=x"], "`x` is the name of more columns than one"),
                             (["--kind", "n=date"], "`date` is no kind: int, fix1 to fix6, flag, text, seconds or days"),
                             (["--columns", "n", "--kind", "ok=flag"], "`ok=flag` is asked of a column that is not written"),
-                            (["--kind", "city=int"], "line 2, column 1 (city:text): `Oslo` is no int")):
-            self.case("what is asked of columns: %s" % " ".join(words), ["import", "cities.csv"] + words, 2, "", "sideways: cities.csv: %s\n" % said)
+                            (["--kind", "city=int"], "line 2, column 1 (city): `Oslo` is no int")):
+            refused("what is asked of columns: %s" % " ".join(words), data, said, words)
 
     def ended(self, name, words, stream, path, status, told):
         """One run of which a standard stream leads to a path that is of no use for it."""
@@ -271,8 +272,7 @@ class Cases:
         self.case("a description of none", ["describe", "none.csv"], 2, "", "sideways: refused 12\nnone.csv: there is no such file\n")
         self.case("a description of a folder", ["describe", "folder"], 2, "", "sideways: refused 12\nfolder: a folder, wanted a file\n")
         self.refused("a description of no file", ["describe"], "required")
-        self.ended("a description of standard input that cannot be read", ["describe", "-"], "stdin", self.folder, 2,
-                   b"sideways: refused 12\nstandard input: it cannot be read\n")
+        self.ended("a description of standard input that cannot be read", ["describe", "-"], "stdin", self.folder, 2, b"sideways: refused 12\n")
         for form in ("table", "json"):
             self.ended("a description to a full device, as %s" % form, ["describe", "t.csv", "--output", form], "stdout", "/dev/full", 3,
                        b"sideways: refused 13\n")
