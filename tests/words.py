@@ -148,7 +148,7 @@ class Cases:
             raise Wrong("WRONG: the values were written over")
 
         # Words that are refused
-        for words, said in ((["--delimiter", ";;"], "the delimiter is one character of ASCII"), (["--delimiter", ""], "the delimiter is one character"),
+        for words, said in ((["--delimiter", ";;"], "the delimiter is one character of ASCII"), (["--delimiter", ""], "one character of ASCII"),
                             (["--delimiter", '"'], "the delimiter is one character of ASCII"), (["--sample", "0"], "0 is not in 1..=1048576"),
                             (["--sample", "1048577"], "1048577 is not in 1..=1048576"), (["--times", "hours"], "hours"), (["--long", "text"], "text"),
                             (["--ragged", "cut"], "cut"), (["--colums", "a"], "--columns"), (["more.csv"], "more.csv")):
@@ -311,7 +311,8 @@ class Cases:
         self.case("a table of one column twice", run + ["-e", "select n, n", "--output", "table"], 2, "", ANY)
         self.case("a table of no call", run + ["-e", "# none", "--output", "table"], 2, "", ANY)
         for form in ("lines", "csv", "json", "table"):
-            self.ended("replies to a full device, as %s" % form, run + calls + ["--output", form], "stdout", "/dev/full", 3, b"sideways: refused 13\n")
+            self.ended("replies to a full device, as %s" % form, run + calls + ["--output", form], "stdout", "/dev/full", 3,
+                       b"sideways: refused 13\n")
 
     # Orders of logs' calls, and from which records the entries came
 
