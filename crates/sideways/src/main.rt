@@ -285,8 +285,8 @@ fn make_order<
     }
 }
 
-/// Makes the table that the words ask for, unless their delimiter is none or the list of texts would be written over another of its files.
-fn import_or_refuse<
+/// Makes the table that the words ask for, unless their delimiter is none, or the dictionary would be written over another of its files.
+fn make_import<
     R: Files + RandomSource + Print + Eprint + Input + Threads + Sync,
     E: Sink + Drop,
 >(rt: &R, alloc: Global, given: &ArgMatches<'_>, errors: &mut Errors<E>) -> Result<u8, Refusal> {
@@ -308,7 +308,7 @@ fn make_command<
         Some(("check", given)) => make_check(rt, alloc, given, &mut errors.words),
         Some(("describe", given)) => make_description(rt, alloc, given, errors),
         Some(("order", given)) => make_order(rt, alloc, given, errors),
-        Some(("import", given)) => import_or_refuse(rt, alloc, given, errors),
+        Some(("import", given)) => make_import(rt, alloc, given, errors),
         Some(("shell", given)) => make_shell(rt, alloc, given, errors),
         Some(("explain", given)) => explain(rt, given.get_one::<u64>("number")),
         Some((_, given)) => make_run(rt, alloc, given, errors),

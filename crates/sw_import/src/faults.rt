@@ -118,9 +118,16 @@ pub enum Fault {
     NoKind {
         kind: String,
     },
-    /// A record has another number of fields than the header.
+    /// A record has fewer fields than the header.
     #[error("line {line}: {found} fields, and the header has {wanted}; --ragged fill takes fields that are missing at the end for empty ones")]
     Ragged {
+        line: u64,
+        found: u64,
+        wanted: u64,
+    },
+    /// A record has more fields than the header.
+    #[error("line {line}: {found} fields, and the header has {wanted}")]
+    Wide {
         line: u64,
         found: u64,
         wanted: u64,
@@ -153,6 +160,12 @@ pub enum Fault {
         value: String,
         at: At,
         kind: &'static str,
+    },
+    /// What is wrong with values that another byte may divide: they have one column, and its heading has that byte.
+    #[error("{why}; one column, whose heading has a divider: --delimiter '{divider}' divides there")]
+    Undivided {
+        why: String,
+        divider: &'static str,
     },
     /// The table would be none.
     #[error("the table would be refused: {0}")]

@@ -76,13 +76,12 @@ fn push_others(text: &mut String, made: &Imported) -> Result<(), AllocError> {
 }
 
 /// The byte in a heading that may have been meant to divide values, as the command line takes it.
-fn divider_in(heading: &str) -> Option<&'static str> {
-    let bytes = heading.as_bytes();
-    if bytes.contains(&b';') {
+pub(crate) fn divider_in(heading: &[u8]) -> Option<&'static str> {
+    if heading.contains(&b';') {
         Some(";")
-    } else if bytes.contains(&b'\t') {
+    } else if heading.contains(&b'\t') {
         Some("\\t")
-    } else if bytes.contains(&b'|') {
+    } else if heading.contains(&b'|') {
         Some("|")
     } else {
         None
@@ -97,7 +96,7 @@ fn push_divider(text: &mut String, made: &Imported) -> Result<(), AllocError> {
     if !made.others.is_empty() {
         return Ok(());
     }
-    match divider_in(planned.column.heading.as_str()) {
+    match divider_in(planned.column.heading.as_bytes()) {
         Some(word) => write!(
             text,
             "  one column, whose heading has a divider: --delimiter '{word}' divides there\n"
