@@ -323,10 +323,7 @@ fn with_divider(alloc: Global, header: &ByteRecord, fault: Fault) -> Fault {
         return fault;
     };
     match format!(in alloc; "{fault}") {
-        Ok(why) => Fault::Undivided {
-            why,
-            divider,
-        },
+        Ok(why) => Fault::Undivided { why, divider },
         Err(_) => Fault::NoMemory,
     }
 }
