@@ -20,9 +20,9 @@ HEAD = re.compile(r"(?:abbrev |unfoldable |pub |record |data )*◌?([A-Za-z][\w'
 HEADING = [
     "# Claims",
     "",
-    "What is proved, clause by clause, and every definition that has to be believed for it: `NAME`:LINE, and its words stand there. Made by bench/claims.py;"
-    " the words of a clause are those of the definitions. Files stand in the order in which one would read them, and each definition once, where it is first"
-    " needed. What std's own words mean (`length`, `All`, `IfOk`, `Result` ..) is the toolchain's.",
+    "What is proved, clause by clause, and every definition that has to be believed for it, as `NAME`:LINE; its words stand there. Made by"
+    " bench/claims.py. Files stand in the order in which one would read them, each definition once. Not listed are types and constants of the"
+    " code that definitions name, and std's own words (`length`, `All`, `IfOk`, `Result` ..), which are the toolchain's.",
 ]
 
 # Each theorem that is a definition: its name on the page, the crate and file of specs/ where it stands, and its words, where it is no
@@ -31,8 +31,8 @@ THEOREMS = [
     ("The headline", "What `Engine::close` answers with `Ok`, its clause `headline`.", "sw_engine", "Headline", "IsHistoryOfOneThread", []),
     ("A run of the program", "What `sw_cli::run` answers, its clause `answers`.", "sw_cli", "Answers", "RunAnswers", []),
     ("The check of a history file", "What `check_file` writes and answers, its one clause.", "sw_histories", "FileChecks", "ChecksFile", [
-        "`Ok status`: the bytes are a history, and its verdict was written: `legal` and the number of entries, status 0, where it is legal; else status 1 and"
-        " the first entry that does not agree with the plain table",
+        "`Ok status`: the bytes are a history, and its verdict was written: `legal` and the number of entries, status 0, where it is legal;"
+        " else status 1 and the first entry that does not agree with the plain table",
         "`NoMemory`: nothing was written",
         "`Output`: the bytes are a history, the sink failed, and a beginning of its verdict was written",
         "another refusal: it is the first fault of the bytes, and nothing was written",
@@ -131,8 +131,8 @@ def within(crate, place, text):
 
 
 def closure(first):
-    """All that these names rest on, each once, those that are named first before those that these name; and what they name of the code
-    and of the toolchain's crates, by crate."""
+    """All that these names rest on, each once, those that are named first before those that these name; and what they name of the
+    toolchain's crates, by crate."""
     queue, seen, others = list(first), {}, {}
     while queue:
         key = queue.pop(0)
@@ -141,10 +141,7 @@ def closure(first):
         if file and name in file.found and key not in seen:
             seen[key] = file.found[name]
             queue += (it for it in within(crate, place, file.found[name].text()) if it != key)
-        elif place.startswith("declared."):
-            parts = place.split(".")
-            others.setdefault(crate, set()).add(name if parts[-1] == "TheConstants" else parts[2])
-        elif not file and crate != "std":
+        elif not file and crate != "std" and not place.startswith("declared."):
             others.setdefault(crate, set()).add(name)
     return seen, others
 
@@ -177,7 +174,7 @@ def rests_on(page, first, above):
     further = {crate: sorted(names - above.get(crate, set())) for crate, names in sorted(others.items())}
     words = [f"{crate} " + ", ".join(f"`{name}`" for name in names) for crate, names in further.items() if names]
     if words:
-        page += ["", f"and{' further' if above else ''}, of the code and of the toolchain's crates: {'; '.join(words)}."]
+        page += ["", f"and, of the toolchain's crates, {'; '.join(words)}."]
     above.update(seen)
     for crate, names in others.items():
         above.setdefault(crate, set()).update(names)
