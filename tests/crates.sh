@@ -1,28 +1,18 @@
 #!/bin/sh
-# Holds the table of docs/ARCHITECTURE.md against crates.txt: a row for each crate, with just the libraries that it stands on; and
-# looks for a README of at most 60 lines in each crate, with the same five heads. Tells what differs, a line each; status 1 where something does.
+# Holds the list of crates in docs/ARCHITECTURE.md against crates.txt: a line for each, with its name and what it is; and looks
+# for a README of at most 60 lines in each crate, with the same five heads. Tells what differs, a line each; status 1 where something does.
 set -u
 top=$(cd "$(dirname "$0")/.." && pwd) || exit 3
 cd "$top" || exit 3
 
-# A line for each crate: its name, and what it stands on, in order.
+# The name of each crate.
 listed() {
-    awk -F: '/^[ \t]*#/ || NF < 2 { next } { split($1, head, " "); print head[1], $2 }' crates.txt | in_order
+    awk -F: '/^[ \t]*#/ || NF < 2 { next } { split($1, head, " "); print head[1] }' crates.txt | sort
 }
 
-# The same of the table's rows: the last column names libraries, or is "nothing".
-tabled() {
-    awk -F' [|] ' '/^\| sw_|^\| sideways/ {
-        name = $1; sub(/^\| /, "", name)
-        stands = $3; sub(/ *\|$/, "", stands); gsub(",", "", stands); if (stands == "nothing") stands = ""
-        print name, stands
-    }' docs/ARCHITECTURE.md | in_order
-}
-
-in_order() {
-    while read -r name rest; do
-        echo "$name" $(printf '%s\n' $rest | sort)
-    done | sort
+# The names of the page's list, which begins with sw_table, where a line says what the crate is.
+told() {
+    awk '/^sw_table / { on = 1 } on && /^```/ { exit } on && NF > 1 { print $1 }' docs/ARCHITECTURE.md | sort
 }
 
 # The heads of a README, in order.
@@ -35,13 +25,13 @@ heads="## What it is for
 work=$(mktemp -d) || exit 3
 trap 'rm -rf "$work"' EXIT
 listed >"$work/listed"
-tabled >"$work/tabled"
+told >"$work/told"
 differs=no
-diff "$work/listed" "$work/tabled" >"$work/diff" || {
+diff "$work/listed" "$work/told" >"$work/diff" || {
     differs=yes
-    sed -n 's/^< /crates.txt has: /p; s/^> /the table has: /p' "$work/diff"
+    sed -n 's/^< /crates.txt alone has: /p; s/^> /docs\/ARCHITECTURE.md alone has: /p' "$work/diff"
 }
-for name in $(cut -d ' ' -f 1 "$work/listed"); do
+for name in $(cat "$work/listed"); do
     lines=0
     [ -f "crates/$name/README.md" ] && lines=$(wc -l <"crates/$name/README.md")
     if [ "$lines" -eq 0 ] || [ "$lines" -gt 60 ]; then
@@ -53,5 +43,5 @@ for name in $(cut -d ' ' -f 1 "$work/listed"); do
         echo "crates/$name/README.md has other heads"
     fi
 done
-[ "$differs" = no ] && echo "the table and the READMEs are in order"
+[ "$differs" = no ] && echo "the list of crates and the READMEs are in order"
 [ "$differs" = no ]
