@@ -121,7 +121,9 @@ table_of_all how m most records a b rules limit sample begun rest few =
         | inl none ↦ inl none
         | inr full ↦ inr (sym sample ∙ full.0, full.1 ∙ limit)
       ];
-      wanted = λ n inside sampled. rw begun.rows at rw limit at rest.wanted n inside (sample ∙ sampled);
+      wanted = λ n inside sampled.
+          let less = rest.wanted n inside (sample ∙ sampled) in
+          omega (arith, less, begun.rows, limit);
       sound = rest.takes.sound;
       bytes = rest.takes.pages ∙ rw begun.pages (sym (flat_map-append record_text (header_of m.plan.now ∷ []) rows));
       rows = rest.takes.rows ∙ rw begun.rows (omega arith);

@@ -29,13 +29,31 @@ pub(crate) fn shown(alloc: Global, cell: &[u8]) -> Result<String, AllocError> {
     Ok(text)
 }
 
+/// Whether a character would change what a terminal shows.
+fn is_control(c: char) -> bool {
+    c < ' ' || c == '\u{7f}' || (c >= '\u{80}' && c < '\u{a0}')
+}
+
+/// A heading as it is shown: control characters as `\xHH`.
+pub(crate) fn shown_heading(alloc: Global, heading: &str) -> Result<String, AllocError> {
+    let mut text = String::new(alloc);
+    for c in heading.chars() {
+        if is_control(c) {
+            write!(text, "\\x{:02x}", u32::from(c))?;
+        } else {
+            text.push(c)?;
+        }
+    }
+    Ok(text)
+}
+
 /// A column of the values: its number, from 1, and its heading.
 #[derive(Debug, Drop, Error)]
 #[error("column {number} ({heading})")]
 pub struct At {
     /// The number, from 1.
     pub number: u64,
-    /// The heading.
+    /// The heading as it is shown.
     pub heading: String,
 }
 

@@ -7,7 +7,7 @@ ghost use Rattle.sw_import.specs.Taken.{IsTableOf, rows_of};
 
 use crate::columns::{Asked, Column, columns_of, field};
 use crate::evidence::Evidence;
-use crate::faults::{At, Fault};
+use crate::faults::{At, Fault, shown_heading};
 use crate::forms::Form;
 use crate::planning::{Planned, plan, see_plan};
 use crate::records::{line_of, next, open};
@@ -213,9 +213,10 @@ fn others(alloc: Global, header: &ByteRecord, plan: &[Planned]) -> Result<Vec<At
         if plan.iter().any(|planned| planned.column.place == place) {
             continue;
         }
+        let heading = String::from_utf8_lossy(alloc, field(header, place))?;
         let at = At {
             number: (place as u64).saturating_add(1),
-            heading: String::from_utf8_lossy(alloc, field(header, place))?,
+            heading: shown_heading(alloc, heading.as_str())?,
         };
         if others.push(at).is_err() {
             return Err(AllocError);

@@ -1,6 +1,7 @@
 //! What was done, in words.
 
 use crate::evidence::Tally;
+use crate::faults::shown_heading;
 use crate::forms::Form;
 use crate::importing::Imported;
 use crate::planning::Planned;
@@ -35,7 +36,8 @@ fn push_column(text: &mut String, planned: &Planned, done: &Done) -> Result<(), 
     let heading = planned.column.heading.as_str();
     write!(text, "  {name}:{}", planned.form.word())?;
     if name.as_str() != heading {
-        write!(text, "; heading `{heading}`")?;
+        let shown = shown_heading(*text.allocator(), heading)?;
+        write!(text, "; heading `{shown}`")?;
     }
     push_tally(text, change(planned.form), done.changed)?;
     push_tally(text, "cells without a value filled", done.filled)?;
