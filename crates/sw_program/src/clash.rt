@@ -5,7 +5,7 @@ use std::rt::Files;
 use sw_files::{FileId, would_be_one};
 
 /// Where the system tells what standard output and standard error are.
-pub(crate) const OUTPUT: &str = "/proc/self/fd/1";
+const OUTPUT: &str = "/proc/self/fd/1";
 
 const ERRORS: &str = "/proc/self/fd/2";
 
@@ -30,6 +30,14 @@ pub enum Clash {
     LogErrors,
     /// The log over the history of the run.
     LogHistory,
+}
+
+/// Whether a path leads to the file into which standard output goes.
+pub(crate) fn is_output<R: Files>(rt: &R, path: &str) -> bool {
+    match FileId::of(rt, path) {
+        Some(id) => id.is_at(rt, OUTPUT),
+        None => false,
+    }
 }
 
 /// Whether a file is a script.

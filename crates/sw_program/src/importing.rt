@@ -2,7 +2,7 @@
 
 ghost use Rattle.std.specs.Prelude.{◌≡◌, ◌⊎◌, IfOk};
 
-use crate::clash::OUTPUT;
+use crate::clash::is_output;
 use crate::inputs::Place;
 use crate::wording::{of_unread, of_unwritten};
 use std::alloc::Global;
@@ -86,13 +86,14 @@ fn is_memory(came: &Came) -> bool {
 }
 
 impl Import<'_> {
-    /// What the texts for which numbers stand would be written over, if anything: the values, or the file into which the table goes.
+    /// What the list of texts would be written over, if anything: the values, or the file into which the table goes.
     pub fn clash<R: Files>(&self, rt: &R) -> Option<&'static str> {
-        let id = FileId::of(rt, self.dictionary?)?;
+        let path = self.dictionary?;
+        let id = FileId::of(rt, path)?;
         if id.is_at(rt, Place::new(self.file).path()) {
             return Some("the dictionary would be written over the values");
         }
-        if id.is_at(rt, OUTPUT) {
+        if is_output(rt, path) {
             return Some("the dictionary would be written over the table");
         }
         None
