@@ -93,6 +93,7 @@ class Cases:
              ["a_b:text; heading `a;b`", "one column, whose heading has a divider: --delimiter ';' divides there"])
         made("headings that stand twice", b"a,a,a\n1,2,3\n", "a:int,a_2:int,a_3:int\n1,2,3\n",
              ["a:int", "a_2:int; heading `a`", "a_3:int; heading `a`"])
+        made("control characters in a heading", b'"a\x1b[1m\nb"\n1\n', "a_1m_b:int\n1\n", ["a_1m_b:int; heading `a\\x1b[1m\\x0ab`"])
         made("a header alone", b"a,b\n", "a:text,b:text\n", ["a:text", "b:text"], rows=(0, 0))
         made("a short record that is filled", b"a,b\n1\n", "a:int,b:text\n1,\n", ["a:int", "b:text"], ["--ragged", "fill"])
         made("a row that is left out behind the last of a sample", b"a,b\n1,x\n,y\n2,z\n", "a:int,b:text\n1,x\n", ["a:int", "b:text"],
@@ -112,7 +113,7 @@ class Cases:
         refused("a record too long, where short ones are filled", b"a,b\n1,2,3\n", "line 2: 3 fields, and the header has 2", ["--ragged", "fill"])
         refused("semicolons, and commas behind them", b"a;b\n1;2,5\n", "line 2: 2 fields, and the header has 1; one column, whose heading has a "
                 "divider: --delimiter ';' divides there")
-        refused("tabs", b"a\tb\n1\t2\n", "texts of more than 64 bytes, or with bytes below 32 or 127: 1 in column 1 (a\tb), the first in line 2; "
+        refused("tabs", b"a\tb\n1\t2\n", "texts of more than 64 bytes, or with bytes below 32 or 127: 1 in column 1 (a\\x09b), the first in line 2; "
                 "choose: --long cut writes the longest beginning that can be a text, --long drop leaves their rows out, --long number writes numbers "
                 "that stand for the texts; one column, whose heading has a divider: --delimiter '\\t' divides there")
         refused("a record too short, behind two lines", b'a,b\n"x\ny",1\n1\n', "line 4: 1 fields, and the header has 2; " + ragged)
