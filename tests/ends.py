@@ -236,6 +236,26 @@ class Ends:
         self.held("a history into the pipe of the replies", (0, OUT + self.history, b""), self.call(words + ["/dev/stdout"]))
         self.held("replies and history to nothing", 0, self.call(words + ["/dev/null"], stdout=subprocess.DEVNULL)[0])
 
+    def other_lists(self):
+        """A dictionary, origins or rows that would be written over another file of their command, by whatever name."""
+        self.put("v.csv", VALUES)
+        self.put("l.csv", LOG)
+        number, order = ["import", "v.csv", "--long", "number", "--dictionary"], ["order", "--table", "t.csv", "l.csv", "--where"]
+        for words, over, name in ((number, b"the dictionary would be written over the values", "./v.csv"),
+                                  (number, b"the dictionary would be written over the table", "out"),
+                                  (order, b"the list of origins would be written over the table", "./t.csv"),
+                                  (order, b"the list of origins would be written over a log", "./l.csv"),
+                                  (order, b"the list of origins would be written over the history", "out")):
+            with open(self.folder / "out", "wb") as out:
+                status, _, told = self.call(words + [name], stdout=out)
+            self.held("%s %s" % (words[-1], name), (2, True, b""), (status, told.startswith(b"error: " + over), self.take("out")))
+        self.put("lines", b"count\n.write out\ncount\n")
+        with open(self.folder / "lines", "rb") as lines, open(self.folder / "out", "wb") as out:
+            status, _, told = self.call(["shell", "t.csv"], stdin=lines, stdout=out)
+        self.held("rows over the replies", (2, b"sideways: line 2: the rows would be written over the replies\n", b"4\n4\n"),
+                  (status, told, self.take("out")))
+        self.held("values, table and log", (VALUES, TABLE, LOG), (self.bytes_of("v.csv"), self.bytes_of("t.csv"), self.bytes_of("l.csv")))
+
     # By ./sideways: limits that the program cannot mend
 
     def built(self):
@@ -344,7 +364,7 @@ def main():
     with tempfile.TemporaryDirectory() as folder:
         ends = Ends(program, folder)
         for what in (ends.killed_runs, ends.wanting_memory, ends.full_disks, ends.other_writers, ends.in_place_of, ends.may_not_write,
-                     ends.other_files, ends.size_limits, ends.small_stacks, ends.unproved):
+                     ends.other_files, ends.other_lists, ends.size_limits, ends.small_stacks, ends.unproved):
             before = ends.cases
             try:
                 what()
