@@ -1,4 +1,4 @@
-use Rattle.std.proofs.Common.{◌≡◌, ◌∙◌, ap, length, refl, sym, subst}
+use Rattle.std.proofs.Common.{◌≡◌, ◌∙◌, ap, length, sym, subst}
 use Rattle.sw_spine.specs.Books.{Books, new_books, updates, waits_for}
 use Rattle.sw_solo.specs.Seats.{AreSeated, AreTableCuts}
 use Rattle.sw_solo.proofs.Stands.{seats_new}
