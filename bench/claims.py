@@ -1,7 +1,7 @@
 #!/usr/bin/env python3
-"""Writes docs/CLAIMS.md: each theorem clause by clause, and each definition that it rests on, with file and line, in the order in which
-one would read them, counted. The words of a clause and of a definition are the comment that stands above it in specs/; those of a
-function's clauses, which have none, stand below.
+"""Writes docs/CLAIMS.md: each theorem clause by clause, and each definition that it rests on, counted, by its file and line. Files stand in
+the order in which one would read them. The words of a clause are the comment that stands above it in specs/; those of a function's clauses,
+which have none, and of a theorem that is no record, stand below. The words of a definition are the comment above it in its file.
 
     bench/claims.py [--check]
 
@@ -13,41 +13,57 @@ from pathlib import Path
 
 TOP = Path(__file__).resolve().parents[1]
 PAGE = TOP / "docs/CLAIMS.md"
-WORD = re.compile(r"[A-Za-z][\w'-]*")
-USE = re.compile(r"use Rattle\.(\w+)\.specs\.([\w.]+)\.\{([^}]*)\}")
-HEAD = re.compile(r"(?:abbrev )?(?:pub )?(?:abbrev )?(?:record |data )?(?:pub )?([A-Za-z][\w'-]*)")
+WORD = re.compile(r"[A-Za-z][\w'-]*|>>=")
+USE = re.compile(r"use Rattle\.(\w+)\.specs\.([\w.]+)(?:\.\{([^}]*)\}| as (\w+))")
+HEAD = re.compile(r"(?:abbrev |unfoldable |pub |record |data )*◌?([A-Za-z][\w'-]*|>>=)")
 
-# Each theorem: its name on the page, the crate and file of specs/ where it stands as a definition, or of src/ where it is clauses of a
-# function; and of the latter the words of each clause.
-THEOREMS = [
-    ("The headline", "What `Engine::close` answers with `Ok`, its clause `headline`.", "sw_engine", "Headline", "IsHistoryOfOneThread"),
-    ("A run of the program", "What `sw_cli::run` answers, its clause `answers`.", "sw_cli", "Answers", "RunAnswers"),
-    ("The check of a history file", "What `check_file` writes and answers, its one clause.", "sw_histories", "FileChecks", "ChecksFile"),
+HEADING = [
+    "# Claims",
+    "",
+    "What is proved, clause by clause, and every definition that has to be believed for it, as `NAME`:LINE; its words stand there. Made by"
+    " bench/claims.py. Files stand in the order in which one would read them, each definition once. Not listed are types and constants of the"
+    " code that definitions name, and std's own words (`length`, `All`, `IfOk`, `Result` ..), which are the toolchain's.",
 ]
+
+# Each theorem that is a definition: its name on the page, the crate and file of specs/ where it stands, and its words, where it is no
+# record whose fields have them.
+THEOREMS = [
+    ("The headline", "What `Engine::close` answers with `Ok`, its clause `headline`.", "sw_engine", "Headline", "IsHistoryOfOneThread", []),
+    ("A run of the program", "What `sw_cli::run` answers, its clause `answers`.", "sw_cli", "Answers", "RunAnswers", []),
+    ("The check of a history file", "What `check_file` writes and answers, its one clause.", "sw_histories", "FileChecks", "ChecksFile", [
+        "`Ok status`: the bytes are a history, and its verdict was written: `legal` and the number of entries, status 0, where it is legal;"
+        " else status 1 and the first entry that does not agree with the plain table",
+        "`NoMemory`: nothing was written",
+        "`Output`: the bytes are a history, the sink failed, and a beginning of its verdict was written",
+        "another refusal: it is the first fault of the bytes, and nothing was written",
+    ]),
+]
+
+# Each theorem that is the clauses of a function: its name on the page, the crate and file of src/, the function, and the words of each clause.
 CALLS = [
     ("The answer of an area", "sw_set", "prepare.rt", "answer", {
-        "answered": "The reply is the plain scan of the rows that the area stands for.",
-        "same": "Whatever came, the area stands for the same rows, of the same attribute and interval.",
-        "told": "A refusal that is told beside the reply is one that preparing may have; with none the area stands as preparing leaves it.",
-        "by_map": "The budget's refusal that is told is what a map told of a begin or growth that it was refused.",
-        "refused": "The only refusal is for want of memory.",
-        "left": "After it the tape is as it was, or longer by the range that was asked, after a restart where it was full.",
+        "answered": "the reply is the plain scan of the rows that the area stands for",
+        "same": "whatever came, the area stands for the same rows, of the same attribute and interval",
+        "told": "a refusal that is told beside the reply is one that preparing may have; with none the area stands as preparing leaves it",
+        "by_map": "the budget's refusal that is told is what a map told of a begin or growth that it was refused",
+        "refused": "the only refusal is for want of memory",
+        "left": "after it the tape is as it was, or longer by the range that was asked, after a restart where it was full",
     }),
     ("The answer of a head", "sw_chunks", "head.rt", "answer", {
-        "answered": "The reply is the plain scan of the rows that are left of all that the head was opened with and received.",
-        "same": "The head stands for the same updates, attribute and cuts.",
-        "areas": "Each area stands for the same rows, and has as many boxes.",
-        "kept": "Areas that the query does not touch are as they were, but for what their boxes hold.",
-        "ranged": "Where it tells that no area scanned, the query's bounds stand in ranges of each touched area's tape.",
-        "few": "It tells no more areas that scanned than the query touches.",
-        "refused": "The only refusal is for want of memory.",
+        "answered": "the reply is the plain scan of the rows that are left of all that the head was opened with and received",
+        "same": "the head stands for the same updates, attribute and cuts",
+        "areas": "each area stands for the same rows, and has as many boxes",
+        "kept": "areas that the query does not touch are as they were, but for what their boxes hold",
+        "ranged": "where it tells that no area scanned, the query's bounds stand in ranges of each touched area's tape",
+        "few": "it tells no more areas that scanned than the query touches",
+        "refused": "the only refusal is for want of memory",
     }),
     ("The answer of a viewer", "sw_engine", "viewing.rt", "answer", {
-        "answered": "The reply is the plain table's after the opening rows and the list of updates that it then has seen.",
-        "seen": "That list begins with the list that it had seen before, batch by batch.",
-        "told": "It begins with every list that it was told of.",
-        "same": "What it was told stands.",
-        "refused": "After a refusal it has seen and was told what it had.",
+        "answered": "the reply is the plain table's after the opening rows and the list of updates that it then has seen",
+        "seen": "that list begins with the list that it had seen before, batch by batch",
+        "told": "it begins with every list that it was told of",
+        "same": "what it was told stands",
+        "refused": "after a refusal it has seen and was told what it had",
     }),
 ]
 
@@ -55,43 +71,40 @@ CALLS = [
 class Specs:
     """A file of specs/: what it takes from other files, and its definitions."""
 
-    def __init__(self, crate, path):
-        self.taken, self.found = {}, {}
+    def __init__(self, path):
+        self.taken, self.under, self.found = {}, {}, {}
         comment, name = [], None
         for at, line in enumerate(path.read_text().splitlines(), 1):
             if match := USE.match(line):
                 self.take(match)
             if line.startswith("--"):
                 comment, name = comment + [line[2:].strip()], None
-            elif not line or line.startswith(("use ", "mod ", "pub mod ")):
+            elif not line or line.startswith(("use ", "mod ", "pub mod ", "infix")):
                 comment, name = [], None
-            elif line[0].isspace():
+            elif line[0].isspace() or line[0] == "(":
                 if name:
                     self.found[name].lines.append(line)
             elif match := HEAD.match(line):
                 name = match.group(1)
-                self.found.setdefault(name, Found(crate, path, at, comment)).lines.append(line)
+                self.found.setdefault(name, Found(path, at, comment)).lines.append(line)
                 comment = []
 
     def take(self, match):
-        crate, place, names = match.groups()
-        for name in names.split(","):
-            self.taken[name.strip()] = (crate, place)
+        crate, place, names, other = match.groups()
+        for name in (names or "").split(","):
+            self.taken[name.strip("◌ ")] = (crate, place)
+        if other:
+            self.under[other] = (crate, place)
 
 
 class Found:
     """A definition: where it stands, the words above it, its lines."""
 
-    def __init__(self, crate, path, at, comment):
-        self.crate, self.path, self.at, self.comment, self.lines = crate, path.relative_to(TOP), at, comment, []
+    def __init__(self, path, at, comment):
+        self.path, self.at, self.comment, self.lines = path.relative_to(TOP), at, comment, []
 
-    def words(self):
-        text = "\n".join(re.sub(r"--.*", "", line) for line in self.lines)
-        return list(dict.fromkeys(WORD.findall(text)))
-
-    def told(self, name):
-        words = " ".join(self.comment)
-        return f"- `{name}` ({self.path}:{self.at})" + (f": {words}" if words else "")
+    def text(self):
+        return "\n".join(re.sub(r"--.*", "", line) for line in self.lines)
 
 
 FILES = {}
@@ -100,35 +113,37 @@ FILES = {}
 def specs(crate, place):
     path = TOP / "crates" / crate / "specs" / (place.replace(".", "/") + ".antt")
     if path not in FILES:
-        FILES[path] = Specs(crate, path) if path.is_file() else None
+        FILES[path] = Specs(path) if path.is_file() else None
     return FILES[path]
 
 
-def within(crate, place, words):
-    """What these words of a file name: definitions of its own, then of others, and types of the code."""
+def within(crate, place, text):
+    """What a text of a file names: definitions of its own, then of others, and types of the code."""
     file = specs(crate, place)
-    for word in words:
-        if file and word in file.found:
+    for word in dict.fromkeys(WORD.findall(text)):
+        if word in file.found:
             yield crate, place, word
-        elif file and word in file.taken:
+        elif word in file.taken:
             yield (*file.taken[word], word)
+    for other, word in dict.fromkeys(re.findall(r"\b(\w+)\.(\w+)", text)):
+        if other in file.under:
+            yield (*file.under[other], word)
 
 
 def closure(first):
-    """All that these names rest on, each once, those that are named first before those that these name."""
-    queue, seen, types = list(first), {}, {}
+    """All that these names rest on, each once, those that are named first before those that these name; and what they name of the
+    toolchain's crates, by crate."""
+    queue, seen, others = list(first), {}, {}
     while queue:
         key = queue.pop(0)
         crate, place, name = key
-        if place.startswith("declared."):
-            types.setdefault((crate, *place.split(".")[1:3]), None)
-            continue
         file = specs(crate, place)
-        if key in seen or not file or name not in file.found:
-            continue
-        seen[key] = file.found[name]
-        queue += within(crate, place, (word for word in file.found[name].words() if word != name))
-    return seen, types
+        if file and name in file.found and key not in seen:
+            seen[key] = file.found[name]
+            queue += (it for it in within(crate, place, file.found[name].text()) if it != key)
+        elif not file and crate != "std" and not place.startswith("declared."):
+            others.setdefault(crate, set()).add(name)
+    return seen, others
 
 
 def fields(found):
@@ -146,20 +161,23 @@ def fields(found):
     return told
 
 
-def counted(found):
-    return f"{len(found)} definitions, {sum(len(it.lines) for it in found)} lines"
-
-
 def rests_on(page, first, above):
-    """What these names rest on, and of it what does not stand above; that stands above from then on."""
-    seen, types = closure(first)
-    new = {key: found for key, found in seen.items() if key not in above}
+    """What these names rest on, and of it what does not stand above, by files; that stands above from then on."""
+    seen, others = closure(first)
+    new = [key for key in seen if key not in above]
     rest = f", of which {len(seen) - len(new)} stand above" if above else ""
-    page += ["", f"It rests on {counted(seen.values())}{rest}:", ""]
-    page += [found.told(name) for (_, _, name), found in new.items()]
-    named = ", ".join(f"`{it[-1]}` ({it[0]})" for it in sorted(types))
-    page += ["", f"and on {len(types)} types of the code: {named}."]
+    lines = sum(len(it.lines) for it in seen.values())
+    page += ["", f"It rests on {len(seen)} definitions, {lines} lines{rest}:", ""]
+    for path in dict.fromkeys(seen[key].path for key in new):
+        stand = sorted((seen[key].at, key[2]) for key in new if seen[key].path == path)
+        page.append(f"- {path}: " + ", ".join(f"`{name}`:{at}" for at, name in stand))
+    further = {crate: sorted(names - above.get(crate, set())) for crate, names in sorted(others.items())}
+    words = [f"{crate} " + ", ".join(f"`{name}`" for name in names) for crate, names in further.items() if names]
+    if words:
+        page += ["", f"and, of the toolchain's crates, {'; '.join(words)}."]
     above.update(seen)
+    for crate, names in others.items():
+        above.setdefault(crate, set()).update(names)
 
 
 def clauses(crate, file, name):
@@ -180,16 +198,12 @@ def wrapped(line):
 
 
 def write():
-    page = ["# Claims", "", "What is proved, clause by clause, and every definition that has to be believed for it. Made by bench/claims.py; the words are those of",
-            "the definitions. What std's own words mean (`length`, `All`, `IfOk`, `Result` ..) is the toolchain's. A definition is listed where it is needed",
-            "first, those that a clause names before those that these name."]
-    above = {}
-    for title, told, crate, place, name in THEOREMS:
+    page, above = list(HEADING), {}
+    for title, told, crate, place, name, cases in THEOREMS:
         found = specs(crate, place).found[name]
         page += ["", f"## {title}", "", f"{told} `{name}` ({found.path}:{found.at}):", ""]
-        parts = fields(found)
-        page += [f"- {', '.join(f'`{it}`' for it in names)}: {words}" for names, words in parts] or [f"- {' '.join(found.comment)}"]
-        rests_on(page, within(crate, place, [name]), above)
+        page += [f"- {words}" for words in cases] or [f"- {', '.join(f'`{it}`' for it in names)}: {words}" for names, words in fields(found)]
+        rests_on(page, [(crate, place, name)], above)
     for title, crate, file, name, words in CALLS:
         found, taken = clauses(crate, file, name)
         page += ["", f"## {title}", "", f"Clauses of `{name}` (crates/{crate}/src/{file}):", ""]
@@ -197,7 +211,7 @@ def write():
         if lacking:
             sys.exit(f"claims.py: {crate}/src/{file}: no words, or no clause, for {', '.join(sorted(lacking))}")
         page += [f"- `{clause}`: {words[clause]}" for clause, _ in found]
-        rests_on(page, [(*taken[it], it) for _, text in found for it in WORD.findall(text) if it in taken], above)
+        rests_on(page, [(*taken[it], it) for _, text in found for it in dict.fromkeys(WORD.findall(text)) if it in taken], above)
     page = [part for line in page for part in wrapped(line)]
     return "\n".join(page) + "\n"
 

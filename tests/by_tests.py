@@ -4,7 +4,7 @@ run without a proof (`rt try`), and must not tell what the unchanged one does, w
 
     tests/by_tests.py [NAME..]
 
-Ends with 1 where a wrong body passes, or the unchanged sources fail. Some two minutes of a processor for each."""
+Ends with 1 where a wrong body passes, or the unchanged sources fail. Some two minutes of a processor for each, and for each crate that tells."""
 import shutil
 import subprocess
 import sys
@@ -12,13 +12,17 @@ import tempfile
 from pathlib import Path
 
 TOP = Path(__file__).resolve().parents[1]
-ENGINE = "sw_trial_engine"
-# Lines of sw_trial_engine's stdin, and what they tell.
+ENGINE, SHELL = "sw_trial_engine", "sw_shell_cases"
+# Lines of a program's stdin, whose program it is, and what it tells.
 TRIALS = {
-    "waited 0 count where a >= 10&count where b >= 6": "legal; 3; 2; legal: 2 entries",
-    "met-in-run": "3/---/2/; legal: 2 entries",
-    "counted 12 select b where a >= 10 and a <= 15": "legal; 1: 7, 3: 5, 2 rows; 2 begun, 4 steps, 4 asked",
-    "told 0 insert 1, 9, 0|count where a < 10": "legal; key 5; 2",
+    "waited 0 count where a >= 10&count where b >= 6": (ENGINE, "legal; 3; 2; legal: 2 entries"),
+    "met-in-run": (ENGINE, "3/---/2/; legal: 2 entries"),
+    "counted 12 select b where a >= 10 and a <= 15": (ENGINE, "legal; 1: 7, 3: 5, 2 rows; 2 begun, 4 steps, 4 asked"),
+    "told 0 insert 1, 9, 0|count where a < 10": (ENGINE, "legal; key 5; 2"),
+    "closed": (ENGINE, "2 boxes; 9 made 2 given 1; 2 entries"),
+    "viewed-late": (ENGINE, "4 1; 1: 7, 3: 5, 4: 2, 5: 9, 4 rows; 9 made 1 given 0; 2 entries"),
+    "table a:int\\n5\\n\nshell count\\n.quit\\ncount\\n": (SHELL, "1"),
+    "table a:int\\n5\\n\nshell .history h.json\\n": (SHELL, "[1 history h.json]"),
 }
 # A name, what is wrong, the file, its text and the wrong one, and the trial or, of another crate, the test that fails.
 BODIES = {
@@ -33,6 +37,17 @@ BODIES = {
     "always_no_memory": ("Every insert is refused as if for want of memory",
                          "sw_engine/src/engine.rt", "        self.commit(rt, Call::Insert(cells))\n",
                          "        let _ = (rt, cells);\n        Err(Refusal::NoMemory)\n", "told 0 insert 1, 9, 0|count where a < 10"),
+    "always_a_full_history": ("Every insert is refused as if the history were full", "sw_engine/src/engine.rt",
+                              "        self.commit(rt, Call::Insert(cells))\n",
+                              "        let _ = (rt, cells);\n        Err(Refusal::HistoryFull { entries: 1_048_576 })\n",
+                              "told 0 insert 1, 9, 0|count where a < 10"),
+    "always_shares_out": ("An engine is never closed, as if a share were missing", "sw_engine/src/engine.rt",
+                          "        let made = desk.sessions();\n", "        let made = tickets.len() as u64 + 1;\n", "closed"),
+    "never_published": ("What was changed beside a viewer is never published", "sw_versions/src/shelf.rt",
+                        "copies.len() == many && copies.is_time(while_read)", "copies.len() == many && many == u64::MAX", "viewed-late"),
+    "viewers_always_refused": ("A viewer is refused each query, as if its reader had no place", "sw_engine/src/viewing.rt",
+                               "        self.reader.answer(query)\n",
+                               "        let _ = query;\n        Err(Refusal::TooMany { limit: 16 })\n", "viewed-late"),
     "one_after_the_other": ("Maps that lack much are stepped one after the other",
                             "sw_set/src/at_once.rt", "front, many.max(1), &step", "front, 1, &step", "sw_trial_areas"),
     "attributes_from_the_last": ("Missing maps are made in the order of the key, then of the attributes from the last on",
@@ -43,12 +58,17 @@ BODIES = {
                               "    for it in rest.iter_mut() {\n        if align_box(attribute, it, tails, tape).is_err() {\n"
                               "            return;\n        }\n    }\n", "sw_trial_areas"),
     "asked_a_third_time": ("An area that is short again is asked a third time",
-                           "sw_chunks/src/answering.rt", "        told = ready_again(rt, &mut areas[k], query);\n",
-                           "        told = ready_again(rt, &mut areas[k], query);\n        if told.is_err() {\n"
-                           "            told = ready_again(rt, &mut areas[k], query);\n        }\n", "sw_trial_heads"),
+                           "sw_chunks/src/answering.rt", "        told = ready_again(align, &mut areas[k], query);\n",
+                           "        told = ready_again(align, &mut areas[k], query);\n        if told.is_err() {\n"
+                           "            told = ready_again(align, &mut areas[k], query);\n        }\n", "sw_trial_heads"),
     "begun_after_contention": ("A map whose growth found the budget contended is begun again",
                                "sw_set/src/making.rt", "        Err(Refusal::Contended { seen, found }) => {\n"
                                "            return Err(Refusal::Contended { seen, found });\n        }\n", "", "sw_trial_heads"),
+    "quit_passed_by": ("A shell goes on behind .quit", "sw_shell/src/turns.rt", "        Command::Quit => return Ok(false),\n",
+                       "        Command::Quit => return Ok(true),\n", "table a:int\\n5\\n\nshell count\\n.quit\\ncount\\n"),
+    "history_not_asked_for": ("A shell does not hand on where the history is to go", "sw_shell/src/turns.rt",
+                              "host.obeys(seat.schema(), line, Errand::History(file))", "host.obeys(seat.schema(), line, Errand::Names)",
+                              "table a:int\\n5\\n\nshell .history h.json\\n"),
 }
 
 
@@ -67,33 +87,41 @@ def changed(folder, body):
     path.write_text(text.replace(old, new))
 
 
-def tried(folder, place):
-    """What the program tells of a trial, or whether the tests of a crate pass."""
-    if place in TRIALS:
-        done = subprocess.run(["rt", "try"], cwd=folder / "crates" / ENGINE, input=place + "\n", capture_output=True, text=True)
-        lines = done.stdout.splitlines()
-        return lines[0] if lines else f"status {done.returncode}"
-    done = subprocess.run(["rt", "try", "--test"], cwd=folder / "crates" / place, capture_output=True, text=True)
-    return "passed" if done.returncode == 0 else f"failed, status {done.returncode}"
+def tried(folder, crate, places):
+    """The lines that a program tells of lines of its input; or whether the tests of a crate pass."""
+    folder = folder / "crates" / crate
+    if places != [crate]:
+        done = subprocess.run(["rt", "try"], cwd=folder, input="\n".join(places) + "\n", capture_output=True, text=True)
+        return done.stdout.splitlines() or [f"status {done.returncode}"]
+    done = subprocess.run(["rt", "try", "--test"], cwd=folder, capture_output=True, text=True)
+    return ["passed" if done.returncode == 0 else f"failed, status {done.returncode}"]
 
 
-def made(body=None, place=None):
+def made(crate, places, body=None):
     with tempfile.TemporaryDirectory() as name:
         folder = Path(name)
         copied(folder)
         if body:
             changed(folder, body)
-        return tried(folder, place)
+        return tried(folder, crate, places)
+
+
+def right_of(crate, known):
+    """What the unchanged sources tell of each trial of a crate, made once."""
+    if crate not in known:
+        places = [place for place, (of, _) in TRIALS.items() if of == crate] or [crate]
+        known[crate] = dict(zip(places, made(crate, places)))
+    return known[crate]
 
 
 def main():
-    names = sys.argv[1:] or list(BODIES)
-    failed = False
-    for name in names:
+    failed, known = False, {}
+    for name in sys.argv[1:] or list(BODIES):
         body = BODIES[name]
         place = body[-1]
-        right, wrong = made(place=place), made(body, place)
-        well = right == TRIALS.get(place, "passed") and wrong != right
+        crate, wanted = TRIALS.get(place, (place, "passed"))
+        right, wrong = right_of(crate, known).get(place), "/".join(made(crate, [place], body))
+        well = right == wanted and wrong != right
         failed = failed or not well
         print(f"{'ok' if well else 'FAILED'}: {name}: {body[0]}\n    {place}\n    unchanged: {right}\n    wrong: {wrong}", flush=True)
     return 1 if failed else 0

@@ -14,6 +14,8 @@ TABLE = b"a:int,b:int,c:int\n12,7,1\n3,8,0\n12,5,1\n20,2,0\n"
 SCRIPT = b"count\nselect b where a >= 10\n"
 OUT = b"4\n1: 7\n3: 5\n4: 2\n(3 rows)\n"
 OLD = b"what stood there"
+VALUES = b"name,n\n%s,2\nb,3\n" % (b"long" * 20)
+LOG = b"session,start,end,call,reply\n1,0,1,count,4\n"
 NO_OUTPUT = b"sideways: refused 13\n"
 KILLS, MEMORIES = 150, 40
 
@@ -138,6 +140,31 @@ class Ends:
                 self.held("a history of at most %d bytes" % most, (expected, self.history if whole else old, []),
                           (got, self.bytes_of("h.json"), self.begun()))
 
+    def other_writers(self):
+        """Every other file that a command writes: what was there stands where the disk is full, and nothing beside it."""
+        self.put("v.csv", VALUES)
+        self.put("l.csv", LOG)
+        number = ["import", "v.csv", "--long", "number", "--dictionary", "f"]
+        for name, words, lines in (("a log", self.run + ["--log", "f"], b""), ("a dictionary", number, b""),
+                                   ("origins", ["order", "--table", "t.csv", "l.csv", "--where", "f"], b""),
+                                   ("a shell's history", ["shell", "t.csv", "--history", "f"], b"count\n"),
+                                   ("a history of a line", ["shell", "t.csv"], b".history f\ncount\n"),
+                                   ("rows", ["shell", "t.csv"], b".write f\n")):
+            for old in (OLD, None):
+                for most in (0, 10, None):
+                    self.take("f")
+                    if old is not None:
+                        self.put("f", old)
+                    self.put("lines", lines)
+                    limit = {} if most is None else {"preexec_fn": self.few_bytes(most), "restore_signals": False}
+                    with open(self.folder / "lines", "rb") as given:
+                        status, _, told = self.call(words, stdin=given, **limit)
+                    refused = told.startswith(NO_OUTPUT)
+                    self.held("%s of at most %s bytes" % (name, most), (0, False) if most is None else (3, True), (status, refused))
+                    kept = self.bytes_of("f")
+                    self.held("what stands there", True, kept not in (OLD, None) if most is None else kept == old)
+                    self.held("beside %s" % name, [], self.begun())
+
     def in_place_of(self):
         """What a history may replace, and what stays of it."""
         words = self.run + ["--history"]
@@ -208,6 +235,26 @@ class Ends:
             (self.folder / name).unlink()
         self.held("a history into the pipe of the replies", (0, OUT + self.history, b""), self.call(words + ["/dev/stdout"]))
         self.held("replies and history to nothing", 0, self.call(words + ["/dev/null"], stdout=subprocess.DEVNULL)[0])
+
+    def other_lists(self):
+        """A dictionary, origins or rows that would be written over another file of their command, by whatever name."""
+        self.put("v.csv", VALUES)
+        self.put("l.csv", LOG)
+        number, order = ["import", "v.csv", "--long", "number", "--dictionary"], ["order", "--table", "t.csv", "l.csv", "--where"]
+        for words, over, name in ((number, b"the dictionary would be written over the values", "./v.csv"),
+                                  (number, b"the dictionary would be written over the table", "out"),
+                                  (order, b"the list of origins would be written over the table", "./t.csv"),
+                                  (order, b"the list of origins would be written over a log", "./l.csv"),
+                                  (order, b"the list of origins would be written over the history", "out")):
+            with open(self.folder / "out", "wb") as out:
+                status, _, told = self.call(words + [name], stdout=out)
+            self.held("%s %s" % (words[-1], name), (2, True, b""), (status, told.startswith(b"error: " + over), self.take("out")))
+        self.put("lines", b"count\n.write out\ncount\n")
+        with open(self.folder / "lines", "rb") as lines, open(self.folder / "out", "wb") as out:
+            status, _, told = self.call(["shell", "t.csv"], stdin=lines, stdout=out)
+        self.held("rows over the replies", (2, b"sideways: line 2: the rows would be written over the replies\n", b"4\n4\n"),
+                  (status, told, self.take("out")))
+        self.held("values, table and log", (VALUES, TABLE, LOG), (self.bytes_of("v.csv"), self.bytes_of("t.csv"), self.bytes_of("l.csv")))
 
     # By ./sideways: limits that the program cannot mend
 
@@ -316,8 +363,8 @@ def main():
     began = time.time()
     with tempfile.TemporaryDirectory() as folder:
         ends = Ends(program, folder)
-        for what in (ends.killed_runs, ends.wanting_memory, ends.full_disks, ends.in_place_of, ends.may_not_write, ends.other_files,
-                     ends.size_limits, ends.small_stacks, ends.unproved):
+        for what in (ends.killed_runs, ends.wanting_memory, ends.full_disks, ends.other_writers, ends.in_place_of, ends.may_not_write,
+                     ends.other_files, ends.other_lists, ends.size_limits, ends.small_stacks, ends.unproved):
             before = ends.cases
             try:
                 what()

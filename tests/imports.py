@@ -3,9 +3,9 @@
 
     tests/imports.py PROGRAM [FILE ..]
 
-Python's csv divides the values and its datetime knows the calendar; the rest is the rule of crates/sw_import/README.md. Each
-table must be the one that Python makes, byte by byte, or both must refuse; then `sideways run` must count and sum as Python
-does. Ends with 1 at the first difference."""
+Python's csv divides the values and its datetime knows the calendar; the rest is the rule of docs/FORMATS.md ('What `import`
+makes'). Each table must be the one that Python makes, byte by byte, or both must refuse; then `sideways run` must count and sum as
+Python does. Ends with 1 at the first difference."""
 import csv
 import datetime
 import io

@@ -61,12 +61,23 @@ def apply(edit, folder):
                 it.write(text.replace(old, value))
 
 
+def linked(one, other):
+    """Gives a file of a library, which rt never writes into, a second name; a copy where that cannot be."""
+    try:
+        os.link(one, other)
+    except OSError:
+        shutil.copy2(one, other)
+
+
 def is_proved(crate, edits):
-    """Whether a copy of the crate is proved with these edits."""
+    """Whether a copy of the crate is proved with these edits, over the libraries that stand proved here."""
     with tempfile.TemporaryDirectory(prefix="refusals-") as room:
         shutil.copytree(f"{TOP}/crates", f"{room}/crates", ignore=shutil.ignore_patterns("out"))
         for name in ("crates.txt", "HANDLES"):
             shutil.copy(f"{TOP}/{name}", room)
+        for built in glob.glob(f"{TOP}/crates/*/out/rlib"):
+            if f"/{crate}/out/" not in built:
+                shutil.copytree(built, built.replace(TOP, room), copy_function=linked)
         folder = f"{room}/crates/{crate}"
         for edit in edits:
             apply(edit, folder)

@@ -143,6 +143,16 @@ class Cases:
         self.holds("its words", "a header of --header has no quotes" in got[2], got[2])
         self.shell("--names", "count\n", 0, "".join(word + "\n" for word in ["a", "b", "c"] + WORDS), "", ["--names"])
         self.case("--names of a bad table", ["shell", "bad.csv", "--names"], "", 2, "", None)
+        with open("/dev/full", "wb") as full:
+            done = subprocess.run([self.program, "shell", "t.csv", "--names"], cwd=self.folder, stdout=full, stderr=subprocess.PIPE, timeout=60)
+        self.holds("--names to a full device", done.returncode == 3 and done.stderr == b"sideways: refused 13\n", done)
+        for words, said in ((["--limit", "0"], "0 is not in"), (["--limit", "1048577"], "is not in"), (["--maps", "4097"], "is not in"),
+                            (["--budget", "1099511627777"], "is not in"), (["--script", "s.txt"], "--script"), (["more.csv"], "more.csv")):
+            got = self.case("words that are refused", ["shell", "t.csv"] + words, "count\n", 2, "", None)
+            self.holds("what is wrong with them", got[2].startswith("error: ") and said in got[2], got[2])
+        got = self.case("no table named", ["shell"], "count\n", 2, "", None)
+        self.holds("its words", got[2].startswith("error: ") and "<FILE>" in got[2], got[2])
+        self.shell("more rows than the limit", "count\n", 2, "", "sideways: refused 5 limit 3\nt.csv: more than 3 rows\n", ["--limit", "3"])
         self.shell("cuts", "count where a > 5\n", 0, "3\n", "", ["--cuts", "a=12"])
         self.shell("bad cuts", "count\n", 2, "", None, ["--cuts", "d=12"])
 

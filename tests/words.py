@@ -93,8 +93,13 @@ class Cases:
              ["a_b:text; heading `a;b`", "one column, whose heading has a divider: --delimiter ';' divides there"])
         made("headings that stand twice", b"a,a,a\n1,2,3\n", "a:int,a_2:int,a_3:int\n1,2,3\n",
              ["a:int", "a_2:int; heading `a`", "a_3:int; heading `a`"])
+        made("control characters in a heading", b'"a\x1b[1m\nb"\n1\n', "a_1m_b:int\n1\n", ["a_1m_b:int; heading `a\\x1b[1m\\x0ab`"])
         made("a header alone", b"a,b\n", "a:text,b:text\n", ["a:text", "b:text"], rows=(0, 0))
         made("a short record that is filled", b"a,b\n1\n", "a:int,b:text\n1,\n", ["a:int", "b:text"], ["--ragged", "fill"])
+        made("a row that is left out behind the last of a sample", b"a,b\n1,x\n,y\n2,z\n", "a:int,b:text\n1,x\n", ["a:int", "b:text"],
+             ["--sample", "1", "--empty", "drop"], (3, 1))
+        made("a row that is left out before the last of a sample", b"a,b\n1,x\n,y\n2,z\n,u\n", "a:int,b:text\n1,x\n2,z\n",
+             ["a:int; rows left out for it: 1, the first in line 3", "b:text"], ["--sample", "2", "--empty", "drop"], (4, 2))
         made("line ends in quotes, cut", b'a,b\n"x\ny",1\n', "a:text,b:int\nx,1\n", ["a:text; texts cut: 1, the first in line 2", "b:int"],
              ["--long", "cut"])
         wide = b"\n".join([b",".join(b"c%d" % k for k in range(5000)), b",".join(b"%d" % k for k in range(5000)), b""])
@@ -104,7 +109,13 @@ class Cases:
         ragged = "--ragged fill takes fields that are missing at the end for empty ones"
         refused("an empty file", b"", "there is no record, and so no heading")
         refused("empty lines", b"\n\n\n", "there is no record, and so no heading")
-        refused("a record too long", b"a,b\n1,2,3\n", "line 2: 3 fields, and the header has 2; " + ragged)
+        refused("a record too long", b"a,b\n1,2,3\n", "line 2: 3 fields, and the header has 2")
+        refused("a record too long, where short ones are filled", b"a,b\n1,2,3\n", "line 2: 3 fields, and the header has 2", ["--ragged", "fill"])
+        refused("semicolons, and commas behind them", b"a;b\n1;2,5\n", "line 2: 2 fields, and the header has 1; one column, whose heading has a "
+                "divider: --delimiter ';' divides there")
+        refused("tabs", b"a\tb\n1\t2\n", "texts of more than 64 bytes, or with bytes below 32 or 127: 1 in column 1 (a\\x09b), the first in line 2; "
+                "choose: --long cut writes the longest beginning that can be a text, --long drop leaves their rows out, --long number writes numbers "
+                "that stand for the texts; one column, whose heading has a divider: --delimiter '\\t' divides there")
         refused("a record too short, behind two lines", b'a,b\n"x\ny",1\n1\n', "line 4: 1 fields, and the header has 2; " + ragged)
         refused("a record too short, behind an empty line, all with CR LF", b"a,b\r\n1,2\r\n\r\n3\r\n", "line 4: 1 fields, and the header has 2; " + ragged)
         refused("a quote that is not closed", b'a,b\n"x,1\n2,3\n', "line 2: 1 fields, and the header has 2; " + ragged)
@@ -124,6 +135,34 @@ class Cases:
                    b"sideways: refused 12\nstandard input: it cannot be read\n")
         self.ended("a table to a full device", ["import", "cities.csv"], "stdout", "/dev/full", 3,
                    b"sideways: refused 13\nstandard output: it cannot be written\n")
+
+        # The dictionary over another file
+        (self.folder / "values.csv").write_bytes(CITIES)
+        number = ["import", "values.csv", "--long", "number", "--dictionary"]
+        self.refused("a dictionary over the values", number + ["./values.csv"], "the dictionary would be written over the values")
+        with open(self.folder / "made.csv", "wb") as made_too:
+            self.cases += 1
+            done = subprocess.run([self.program] + number + ["made.csv"], cwd=self.folder, stdout=made_too, stderr=subprocess.PIPE, timeout=60)
+            if done.returncode != 2 or b"the dictionary would be written over the table" not in done.stderr:
+                raise Wrong("WRONG: a dictionary over the table: %r" % (done,))
+        if (self.folder / "values.csv").read_bytes() != CITIES:
+            raise Wrong("WRONG: the values were written over")
+
+        # Words that are refused
+        for words, said in ((["--delimiter", ";;"], "the delimiter is one character of ASCII"), (["--delimiter", ""], "one character of ASCII"),
+                            (["--delimiter", '"'], "the delimiter is one character of ASCII"), (["--sample", "0"], "0 is not in 1..=1048576"),
+                            (["--sample", "1048577"], "1048577 is not in 1..=1048576"), (["--times", "hours"], "hours"), (["--long", "text"], "text"),
+                            (["--ragged", "cut"], "cut"), (["--colums", "a"], "--columns"), (["more.csv"], "more.csv")):
+            self.refused("words of import: %s" % " ".join(words), ["import", "cities.csv"] + words, said)
+        self.refused("values of no file", ["import"], "required")
+        data = b"city,n,ok\nOslo,1,true\n"
+        for words, said in ((["--columns", "9"], "no column has the heading or the number `9`: there are 3 columns"),
+                            (["--rename", "n"], "`n` has no `=` between the heading and what is asked of its column"),
+                            (["--rename", "n=x", "--rename", "city=x"], "`x` is the name of more columns than one"),
+                            (["--kind", "n=date"], "`date` is no kind: int, fix1 to fix6, flag, text, seconds or days"),
+                            (["--columns", "n", "--kind", "ok=flag"], "`ok=flag` is asked of a column that is not written"),
+                            (["--kind", "city=int"], "line 2, column 1 (city): `Oslo` is no int")):
+            refused("what is asked of columns: %s" % " ".join(words), data, said, words)
 
     def ended(self, name, words, stream, path, status, told):
         """One run of which a standard stream leads to a path that is of no use for it."""
@@ -192,6 +231,12 @@ class Cases:
                   "sideways: refused 3 line 2 why Value\n"
                   "argument 2, column 20: 'Oslo' cannot stand there, wanted a text in single quotes\n"
                   "  count where city = Oslo\n                     ^\n")
+        self.case("a character that no call has", run + ["t.csv", "-e", "count where a > \u00e9 1"], 2, "",
+                  "sideways: refused 3 line 1 why Word\nargument 1, column 17: '\u00e9' cannot stand there, wanted a whole number\n"
+                  "  count where a > \u00e9 1\n                  ^\n")
+        self.case("a byte order mark before a call", run + ["t.csv", "--script", "-"], 2, "",
+                  "sideways: refused 3 line 1 why Word\nstandard input line 1, column 1: '\\xef\\xbb\\xbf' cannot stand there, wanted select, count, "
+                  "sum, min, max, insert, delete\n   count\n  ^\n", "\ufeffcount\n".encode())
         self.case("an unknown name of an argument", run + ["t.csv", "-e", "sum d"], 2, "",
                   "sideways: refused 4 name d\nargument 1, column 5: 'd' cannot stand there, wanted a, b, c\n  sum d\n      ^\n")
         self.case("a fault of the script of standard input", run + ["t.csv", "--script", "-"], 2, "",
@@ -226,6 +271,12 @@ class Cases:
             raise Wrong("WRONG: a description as JSON: %s" % got[1])
         self.case("a description of a bad table", ["describe", "bad.csv", "--all-faults"], 2, "", ANY)
         self.case("a description of none", ["describe", "none.csv"], 2, "", "sideways: refused 12\nnone.csv: there is no such file\n")
+        self.case("a description of a folder", ["describe", "folder"], 2, "", "sideways: refused 12\nfolder: a folder, wanted a file\n")
+        self.refused("a description of no file", ["describe"], "required")
+        self.ended("a description of standard input that cannot be read", ["describe", "-"], "stdin", self.folder, 2, b"sideways: refused 12\n")
+        for form in ("table", "json"):
+            self.ended("a description to a full device, as %s" % form, ["describe", "t.csv", "--output", form], "stdout", "/dev/full", 3,
+                       b"sideways: refused 13\n")
         self.refused("a description in a form that is none", ["describe", "t.csv", "--output", "csv"], "csv")
 
     # Replies in other forms
@@ -260,11 +311,9 @@ class Cases:
                   "sideways: refused 3 line 1 why Word\nargument 1: --output table wants a select as the last call, of columns that differ\n")
         self.case("a table of one column twice", run + ["-e", "select n, n", "--output", "table"], 2, "", ANY)
         self.case("a table of no call", run + ["-e", "# none", "--output", "table"], 2, "", ANY)
-        with open("/dev/full", "wb") as full:
-            self.cases += 1
-            done = subprocess.run([self.program] + run + calls + ["--output", "json"], cwd=self.folder, stdout=full, stderr=subprocess.PIPE, timeout=60)
-            if (done.returncode, done.stderr) != (3, b"sideways: refused 13\n"):
-                raise Wrong("WRONG: replies as JSON to a full device: %r" % (done,))
+        for form in ("lines", "csv", "json", "table"):
+            self.ended("replies to a full device, as %s" % form, run + calls + ["--output", form], "stdout", "/dev/full", 3,
+                       b"sideways: refused 13\n")
 
     # Orders of logs' calls, and from which records the entries came
 

@@ -75,7 +75,8 @@ uint32_t sideways_open(const uint8_t *csv, size_t csv_size, const uint8_t *cuts,
 uint32_t sideways_session(sideways *h, uint64_t *number);
 
 /* Ends the engine: the text is now that of its history (docs/HISTORIES.md), and the handle has no engine any more: all but
-   sideways_text_size, sideways_text and sideways_free answer SIDEWAYS_MISUSE. Refused for want of memory, it has ended too. */
+   sideways_text_size, sideways_text and sideways_free answer SIDEWAYS_MISUSE, or SIDEWAYS_NO_ROWS where rows are read. Refused
+   for want of memory, it has ended too. */
 uint32_t sideways_close(sideways *h);
 
 /* Gives back all that a handle stands for. The caller's copy is closed by the caller: h = (sideways)SIDEWAYS_CLOSED. A closed

@@ -63,7 +63,7 @@ static void try_calls(sideways *h) {
 static void try_changes(sideways *h) {
     const int64_t row[4] = {5, 100, 1, 3};
     uint64_t key = 0, removed = 0, found = 0;
-    for (uint64_t i = 5; i < 105; i++) {
+    for (uint64_t i = 5; i < 15; i++) {
         TRIED(sideways_insert(h, 1, row, 4, &key));
         CHECK(key == i);
     }
@@ -73,8 +73,8 @@ static void try_changes(sideways *h) {
     TRIED(sideways_delete_where(h, 1, &low, 1, &removed));
     CHECK(removed == 2);
     TRIED(sideways_count(h, 1, NULL, 0, &found));
-    CHECK(found == 101);
-    made += 103;
+    CHECK(found == 11);
+    made += 13;
 }
 
 static void try_names(sideways *h) {

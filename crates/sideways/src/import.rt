@@ -2,11 +2,8 @@
 
 use clap::{Arg, ArgAction, ArgMatches, Command};
 use std::alloc::{AllocError, Global};
-use std::random::RandomSource;
-use std::rt::Files;
-use std::thread::Threads;
-use sw_program::{Asked, Blank, How, Import, Long, Refusal, Rules, Times};
-use sw_rows::{MOST_ROWS, Sink};
+use sw_program::{Asked, Blank, How, Import, Long, Rules, Times};
+use sw_rows::MOST_ROWS;
 
 /// What ends the help.
 const EXAMPLES: &str = "\
@@ -258,19 +255,12 @@ fn how_of<'g>(given: &'g ArgMatches<'_>, delimiter: u8) -> How<'g> {
 pub(crate) const NO_DELIMITER: &str =
     "the delimiter is one character of ASCII, no quote and no end of a line, or \\t";
 
-/// Makes the table that the words ask for; none where the delimiter is none. What a refusal means is put into `told`.
-pub(crate) fn make_import<R: Files + Input + RandomSource + Print + Threads + Sync, E: Sink>(
-    rt: &R,
-    alloc: Global,
-    given: &ArgMatches<'_>,
-    errors: &mut E,
-    told: &mut Option<String>,
-) -> Option<Result<u8, Refusal>> {
+/// The table that the words ask for; none where the delimiter is none.
+pub(crate) fn import_of<'g, 'a: 'g>(given: &'g ArgMatches<'a>) -> Option<Import<'g>> {
     let delimiter = delimiter_of(given)?;
-    let import = Import {
+    Some(Import {
         file: given.get_str("file")?,
         how: how_of(given, delimiter),
         dictionary: given.get_str("dictionary"),
-    };
-    Some(import.make(rt, alloc, errors, told))
+    })
 }

@@ -10,7 +10,7 @@ mod order;
 mod shell;
 mod words;
 
-use crate::import::{NO_DELIMITER, make_import};
+use crate::import::{NO_DELIMITER, import_of};
 use crate::order::ordering_of;
 use crate::words::command;
 use clap::error::ErrorKind;
@@ -285,14 +285,19 @@ fn make_order<
     }
 }
 
-/// Makes the table that the words ask for, unless their delimiter is none.
-fn import_or_refuse<
-    R: Files + RandomSource + Print + Eprint + Input + Threads + Sync,
-    E: Sink + Drop,
->(rt: &R, alloc: Global, given: &ArgMatches<'_>, errors: &mut Errors<E>) -> Result<u8, Refusal> {
-    match make_import(rt, alloc, given, &mut errors.sink, &mut errors.words) {
-        Some(status) => status,
-        None => refuse_words(rt, alloc, NO_DELIMITER),
+/// Makes the table that the words ask for, unless their delimiter is none, or the dictionary would be written over another of its files.
+fn make_import<R: Files + RandomSource + Print + Eprint + Input + Threads + Sync, E: Sink + Drop>(
+    rt: &R,
+    alloc: Global,
+    given: &ArgMatches<'_>,
+    errors: &mut Errors<E>,
+) -> Result<u8, Refusal> {
+    let Some(import) = import_of(given) else {
+        return refuse_words(rt, alloc, NO_DELIMITER);
+    };
+    match import.clash(rt) {
+        Some(why) => refuse_words(rt, alloc, why),
+        None => import.make(rt, alloc, &mut errors.sink, &mut errors.words),
     }
 }
 
@@ -305,7 +310,7 @@ fn make_command<
         Some(("check", given)) => make_check(rt, alloc, given, &mut errors.words),
         Some(("describe", given)) => make_description(rt, alloc, given, errors),
         Some(("order", given)) => make_order(rt, alloc, given, errors),
-        Some(("import", given)) => import_or_refuse(rt, alloc, given, errors),
+        Some(("import", given)) => make_import(rt, alloc, given, errors),
         Some(("shell", given)) => make_shell(rt, alloc, given, errors),
         Some(("explain", given)) => explain(rt, given.get_one::<u64>("number")),
         Some((_, given)) => make_run(rt, alloc, given, errors),

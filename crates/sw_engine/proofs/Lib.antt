@@ -4,5 +4,6 @@ pub mod Heads
 pub mod Turns
 pub mod Parts
 pub mod Published
+pub mod Owned
 pub mod Whole
 pub mod Shelves

@@ -57,7 +57,7 @@ pub enrol_tied : (s s' x : Books) (rows rows' heads : List (Books × Bool)) → 
 enrol_tied s s' x rows rows' heads t is new are = rw (are, new, is) record {
   shown = λ k r e. ⊎_elim
       (λ at. t.shown k r at)
-      (λ n. subst (λ (u : Books × Bool). IsShown (k + 1) u.0 (with_session s)) n (refl, refl))
+      (λ n. subst (λ (u : Books × Bool). IsShown (k + 1) u.0 (with_session s)) n (refl, refl, refl))
       (get_push rows k (with_session s, false) r e);
   taken = λ j r e. t.taken j r e;
   as_many = length_push rows (with_session s, false) ∙ ap (λ n. n + 1) t.as_many;

@@ -21,6 +21,7 @@ use Rattle.sw_spine.specs.declared.history.State.TheVariants as state
 use Rattle.sw_spine.specs.declared.spine.TheConstants.{MOST_ENTRIES, MOST_SESSIONS}
 use Rattle.sw_tie.specs.declared.Book.{Book}
 use Rattle.sw_engine.specs.Published.{AreBehind, EndsEntry}
+use Rattle.sw_engine.specs.Own.{own}
 use Rattle.sw_tie.specs.declared.Share.{Share}
 
 -- what a desk shows: the spine, whether each session's ticket came back, and how many heads have a share
@@ -35,9 +36,11 @@ desk books sessions heads = record { books = books; given = map (λ r. r.1) sess
 abbrev pub new_desk : List Column → List Row → ℕ → DeskState
 new_desk columns rows limit = record { books = new_books columns rows limit; given = []; heads = 0 }
 
--- the same calls were answered to a session, and it waits for the same
+-- the same calls were answered to a session, it waits for the same, and its own entries are the same
 abbrev pub IsShown : ℕ → Books → Books → Type 0
-IsShown session a b = (mine session a.entries ≡ mine session b.entries) × (waits_for session a ≡ waits_for session b)
+IsShown session a b =
+    (mine session a.entries ≡ mine session b.entries) × (waits_for session a ≡ waits_for session b)
+    × (own session a.entries ≡ own session b.entries)
 
 -- each row of the sessions' book shows what the spine keeps of its session; the sessions' numbers begin at 1
 abbrev pub AreShown : Books → List (Books × Bool) → Type 0

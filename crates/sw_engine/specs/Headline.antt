@@ -10,7 +10,7 @@
 -- number and the calls that were answered to it, each with the reply that was given, in the order made: `select`,
 -- `insert`, `delete` and `delete_where`, where they answer, make that list longer by just the call and the reply, and
 -- where they are refused leave it.
-use Rattle.std.specs.Prelude.{ℕ, ◌≡◌, ◌⊎◌, List, true, All}
+use Rattle.std.specs.Prelude.{ℕ, ◌≡◌, ◌<◌, ◌+◌, ◌⊎◌, List, length, true, All}
 use Rattle.sw_rows.specs.Header.{Column}
 use Rattle.sw_table.specs.declared.row.Row.{Row}
 use Rattle.sw_rows.specs.declared.query.Call.{Call}
@@ -31,6 +31,8 @@ pub record IsHistoryOfOneThread (columns : List Column) (rows : List Row) (limit
   pub given : all_given h.entries ≡ true
   -- the answered entries of each session, in the history's order, are the calls that were answered to it
   pub answered : All (λ (t : ℕ × List (Call × Reply)). mine t.0 h.entries ≡ t.1) tickets
+  -- the tickets' numbers are 1 to as many as there are tickets: each of them is one's, and so none is two's
+  pub numbered : (k : ℕ) → k < length tickets → IsNamed (k + 1) tickets
   -- no other session has entries
   pub others : (s : ℕ) → (is_absent s h.entries ≡ true) ⊎ IsNamed s tickets
   -- no entry is open

@@ -2,4 +2,5 @@ pub mod Published
 pub mod Desk
 pub mod Locked
 pub mod Headline
+pub mod Own
 pub mod Leading

@@ -6,9 +6,10 @@ ghost use Rattle.sw_rows.specs.declared.table.TheConstants.{MOST_ROWS};
 ghost use Rattle.sw_spine.specs.Table.{is_numbered, opened, reply_to, updates_then};
 ghost use Rattle.sw_spine.specs.History.{CallsBelow, is_select, mine};
 ghost use Rattle.sw_spine.specs.Books.{RefusesRows, RefusesSession, new_books, updates, waits_for, with_answered, with_published, with_session, with_settled};
-ghost use Rattle.sw_spine.specs.declared.history.State.TheVariants.{Answered, Void};
+ghost use Rattle.sw_spine.specs.declared.history.State.TheVariants.{Answered, Open, Void};
 ghost use mathlib.Core.List.{IsPrefix};
 ghost use Rattle.sw_engine.specs.Published.{EndsEntry, IsHeld, IsNewShare, IsOfFirst, IsWhole, later, published_of};
+ghost use Rattle.sw_engine.specs.Own.{Adds, Settles, Stays};
 ghost use Rattle.sw_engine.specs.Desk.{AreGiven, IsAnswered, IsAtRest, IsBegun, IsOf, IsShareOf, IsTold, RefusesCall, latched, new_desk};
 
 use crate::counting::Counters;
@@ -204,6 +205,8 @@ impl<J: Naming> Desk<J> {
         requires asks { CallsBelow (length J.columns) (Select query) }
         ensures share { IsShareOf J.sessions number share.new }
         ensures mine { mine number share.new.value.entries ≡ mine number share.old.value.entries }
+        ensures adds { OnOk result (Adds number (Select query) Open share.old.value share.new.value) }
+        ensures stays { OnErr result (Stays number share.old.value share.new.value) }
         ensures waits { OnOk result (waits_for number share.new.value ≡ Some (Select query, head.new.taken)) }
         ensures rest { OnErr result (waits_for number share.new.value ≡ None) }
         ensures begun { OnOk result (IsBegun number query self.old.books self.new.books) }
@@ -241,6 +244,7 @@ impl<J: Naming> Desk<J> {
         requires reply { IsSomeAnd (waits_for number share.old.value) (λ w. reply ≡ reply_to J.limit w.1 w.0) }
         ensures rest { IsAtRest J.sessions number share.new }
         ensures mine { IsAnswered number reply share.old.value share.new.value }
+        ensures own { Settles number (Answered reply) share.old.value share.new.value }
         ensures finished { self.new.books ≡ with_settled number (Answered reply) self.old.books }
         ensures updates { updates self.new.books ≡ updates self.old.books }
         ensures grows { IsPrefix (published_of J.opening share.old.value) (published_of J.opening share.new.value) }
@@ -262,6 +266,7 @@ impl<J: Naming> Desk<J> {
         requires waits { IsSome (waits_for number share.old.value) }
         ensures rest { IsAtRest J.sessions number share.new }
         ensures mine { mine number share.new.value.entries ≡ mine number share.old.value.entries }
+        ensures own { Settles number Void share.old.value share.new.value }
         ensures voided { self.new.books ≡ with_settled number Void self.old.books }
         ensures updates { updates self.new.books ≡ updates self.old.books }
         ensures grows { IsPrefix (published_of J.opening share.old.value) (published_of J.opening share.new.value) }
@@ -290,6 +295,8 @@ impl<J: Naming> Desk<J> {
         ensures rest { IsAtRest J.sessions number share.new }
         ensures mine { IfOk result (λ reply. IsTold number call reply share.old.value share.new.value) }
         ensures err { OnErr result (mine number share.new.value.entries ≡ mine number share.old.value.entries) }
+        ensures adds { IfOk result (λ reply. Adds number call (Answered reply) share.old.value share.new.value) }
+        ensures stays { OnErr result (Stays number share.old.value share.new.value) }
         ensures answered { OnOk result (self.new.books ≡ with_answered number call self.old.books) }
         ensures kept { OnErr result (self.new.books ≡ self.old.books) }
         ensures updates { OnOk result (updates self.new.books ≡ updates_then J.limit (updates self.old.books) call) }
@@ -319,6 +326,7 @@ impl<J: Naming> Desk<J> {
         requires ends { EndsEntry J.limit J.opening self.old.books.entries count }
         ensures rest { IsAtRest J.sessions number share.new }
         ensures mine { mine number share.new.value.entries ≡ mine number share.old.value.entries }
+        ensures own { Stays number share.old.value share.new.value }
         ensures published { self.new.books ≡ with_published count self.old.books }
         ensures shown { share.new.value ≡ self.new.books }
         ensures grows { IsPrefix (published_of J.opening share.old.value) (published_of J.opening share.new.value) }

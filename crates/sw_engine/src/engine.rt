@@ -17,6 +17,7 @@ ghost use Rattle.sw_versions.specs.Refused.{IsAhead};
 ghost use Rattle.sw_versions.specs.Rules.{updates_in};
 ghost use Rattle.sw_engine.specs.Published.{CallGives, EndWithEntries, GivesReceipt, IsOfFirst, IsWhole, RefusesViewing, published_of};
 ghost use Rattle.sw_engine.specs.Headline.{IsHistoryOfOneThread};
+ghost use Rattle.sw_engine.specs.Own.{Commits, LeavesCall, LeavesCommit, LeavesSelect, Selects, Stays, own_of};
 
 use crate::conds::add_all;
 use crate::counting::HeadStats;
@@ -402,6 +403,7 @@ where
         head.hand_over()
     }
 
+    #[tactic(auto, using(crate::proofs::Owned::settles_added))]
     fn select<R: Threads + Wait + Sync>(
         &self,
         rt: &R,
@@ -415,6 +417,7 @@ where
         ensures rest { IsAtRest J.sessions number share.new }
         ensures mine { IfOk result (λ r. IsTold number (Select query.now) r share.old.value share.new.value) }
         ensures err { OnErr result (mine number share.new.value.entries ≡ mine number share.old.value.entries) }
+        ensures own { Selects number query.now result share.old.value share.new.value }
         ensures grows { IsPrefix (published_of J.opening share.old.value) (published_of J.opening share.new.value) }
         ensures whole { IsWhole J.limit J.opening share.new.value }
         ensures refused { IfErr result (λ e. RefusesCall e) }
@@ -445,6 +448,7 @@ where
         requires rest { IsAtRest J.sessions number share.old }
         ensures rest { IsAtRest J.sessions number share.new }
         ensures mine { mine number share.new.value.entries ≡ mine number share.old.value.entries }
+        ensures own { Stays number share.old.value share.new.value }
         ensures grows { IsPrefix (published_of J.opening share.old.value) (published_of J.opening share.new.value) }
         ensures whole { IsWhole J.limit J.opening share.new.value }
         ensures receipt { IfOk result (λ r. updates_in r ≡ published_of J.opening share.new.value) }
@@ -474,6 +478,7 @@ where
         ensures rest { IsAtRest J.sessions number share.new }
         ensures mine { IfOk result (λ r. IsTold number call r share.old.value share.new.value) }
         ensures err { OnErr result (mine number share.new.value.entries ≡ mine number share.old.value.entries) }
+        ensures own { Commits number call result share.old.value share.new.value }
         ensures grows { IsPrefix (published_of J.opening share.old.value) (published_of J.opening share.new.value) }
         ensures whole { IsWhole J.limit J.opening share.new.value }
         ensures receipt { OnOk result (updates_in receipt.new ≡ published_of J.opening share.new.value) }
@@ -544,6 +549,7 @@ where
         ensures number { self.new.0 ≡ self.old.0 }
         ensures mine { IfOk result (λ r. self.new.1 ≡ self.old.1 ++ (Select query.now, r) ∷ []) }
         ensures err { OnErr result (self.new.1 ≡ self.old.1) }
+        ensures own { LeavesSelect query.now result self.old self.new }
         ensures receipt { self.new.2.given ≡ self.old.2.given }
         ensures refused { IfErr result (λ e. RefusesCall e) }
     {
@@ -557,6 +563,7 @@ where
         ensures number { self.new.0 ≡ self.old.0 }
         ensures mine { IfOk result (λ r. self.new.1 ≡ self.old.1 ++ (call, r) ∷ []) }
         ensures err { OnErr result (self.new.1 ≡ self.old.1) }
+        ensures own { LeavesCommit call result self.old self.new }
         ensures receipt { GivesReceipt result self.old.2 self.new.2 }
         ensures refused { IfErr result (λ e. RefusesCall e) }
     {
@@ -574,6 +581,7 @@ where
         ensures number { self.new.0 ≡ self.old.0 }
         ensures mine { IfOk result (λ r. self.new.1 ≡ self.old.1 ++ (Insert cells, r) ∷ []) }
         ensures err { OnErr result (self.new.1 ≡ self.old.1) }
+        ensures own { LeavesCommit (Insert cells) result self.old self.new }
         ensures receipt { GivesReceipt result self.old.2 self.new.2 }
         ensures refused { IfErr result (λ e. RefusesCall e) }
     {
@@ -585,6 +593,7 @@ where
         ensures number { self.new.0 ≡ self.old.0 }
         ensures mine { IfOk result (λ r. self.new.1 ≡ self.old.1 ++ (Delete key, r) ∷ []) }
         ensures err { OnErr result (self.new.1 ≡ self.old.1) }
+        ensures own { LeavesCommit (Delete key) result self.old self.new }
         ensures receipt { GivesReceipt result self.old.2 self.new.2 }
         ensures refused { IfErr result (λ e. RefusesCall e) }
     {
@@ -600,6 +609,7 @@ where
         ensures number { self.new.0 ≡ self.old.0 }
         ensures mine { IfOk result (λ r. self.new.1 ≡ self.old.1 ++ (DeleteWhere conds.now, r) ∷ []) }
         ensures err { OnErr result (self.new.1 ≡ self.old.1) }
+        ensures own { LeavesCommit (DeleteWhere conds.now) result self.old self.new }
         ensures receipt { GivesReceipt result self.old.2 self.new.2 }
         ensures refused { IfErr result (λ e. RefusesCall e) }
     {
@@ -616,6 +626,7 @@ where
         ensures number { self.new.0 ≡ self.old.0 }
         ensures mine { IfOk result (λ r. self.new.1 ≡ self.old.1 ++ (call.now, r) ∷ []) }
         ensures err { OnErr result (self.new.1 ≡ self.old.1) }
+        ensures own { LeavesCall call.now result self.old self.new }
         ensures receipt { CallGives call.now result self.old.2 self.new.2 }
         ensures refused { IfErr result (λ e. RefusesCall e) }
     {
@@ -656,6 +667,7 @@ where
     ) -> Result<Receipt<J>, Refusal>
         ensures number { self.new.0 ≡ self.old.0 }
         ensures mine { self.new.1 ≡ self.old.1 }
+        ensures own { own_of self.new ≡ own_of self.old }
         ensures receipt { GivesReceipt result self.old.2 self.new.2 }
         ensures told { IfOk result (λ r. r ≡ self.new.2.given) }
         ensures ends { IfOk result (λ r. EndWithEntries J.limit J.opening self.new.2.entries r) }

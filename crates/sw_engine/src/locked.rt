@@ -7,12 +7,13 @@ ghost use Rattle.sw_rows.specs.declared.table.TheConstants.{MOST_ROWS};
 ghost use Rattle.sw_spine.specs.Table.{is_numbered, reply_to};
 ghost use Rattle.sw_spine.specs.History.{CallsBelow, is_select, mine};
 ghost use Rattle.sw_spine.specs.Books.{RefusesSession, new_books, waits_for, with_published, with_session, with_settled};
-ghost use Rattle.sw_spine.specs.declared.history.State.TheVariants.{Answered, Void};
+ghost use Rattle.sw_spine.specs.declared.history.State.TheVariants.{Answered, Open, Void};
 ghost use Rattle.sw_versions.specs.Pending.{HasShownOr, IsPlain};
 ghost use Rattle.sw_versions.specs.Lists.{IsLonger};
 ghost use Rattle.sw_versions.specs.Refused.{IsAhead, RefusesViewer};
 ghost use Rattle.sw_versions.specs.Rules.{updates_in};
 ghost use Rattle.sw_versions.specs.declared.viewer.TheConstants.{MOST_VIEWERS};
+ghost use Rattle.sw_engine.specs.Own.{Adds, Settles, Stays};
 ghost use Rattle.sw_engine.specs.Desk.{InOrder, IsAnswered, IsAtRest, IsBegun, IsShareOf, IsTold, RefusesCall, RefusesMany};
 ghost use Rattle.sw_engine.specs.Published.{EndWithEntries, IsNewShare, IsWhole, later, new_viewer, no_versions, published_of, with_committed, with_viewer};
 
@@ -145,6 +146,8 @@ where
         requires asks { CallsBelow (length J.columns) (Select query) }
         ensures share { IsShareOf J.sessions number share.new }
         ensures mine { mine number share.new.value.entries ≡ mine number share.old.value.entries }
+        ensures adds { OnOk result (Adds number (Select query) Open share.old.value share.new.value) }
+        ensures stays { OnErr result (Stays number share.old.value share.new.value) }
         ensures waits { OnOk result (waits_for number share.new.value ≡ Some (Select query, head.new.taken)) }
         ensures rest { OnErr result (waits_for number share.new.value ≡ None) }
         ensures grows { IsPrefix (published_of J.opening share.old.value) (published_of J.opening share.new.value) }
@@ -164,6 +167,7 @@ where
         requires reply { IsSomeAnd (waits_for number share.old.value) (λ w. reply ≡ reply_to J.limit w.1 w.0) }
         ensures rest { IsAtRest J.sessions number share.new }
         ensures mine { IsAnswered number reply share.old.value share.new.value }
+        ensures own { Settles number (Answered reply) share.old.value share.new.value }
         ensures grows { IsPrefix (published_of J.opening share.old.value) (published_of J.opening share.new.value) }
         ensures whole { IsWhole J.limit J.opening share.new.value }
         ensures finished { self.new.desk.books ≡ with_settled number (Answered reply) self.old.desk.books }
@@ -178,6 +182,7 @@ where
         requires waits { IsSome (waits_for number share.old.value) }
         ensures rest { IsAtRest J.sessions number share.new }
         ensures mine { mine number share.new.value.entries ≡ mine number share.old.value.entries }
+        ensures own { Settles number Void share.old.value share.new.value }
         ensures grows { IsPrefix (published_of J.opening share.old.value) (published_of J.opening share.new.value) }
         ensures whole { IsWhole J.limit J.opening share.new.value }
         ensures voided { self.new.desk.books ≡ with_settled number Void self.old.desk.books }
@@ -199,6 +204,7 @@ where
         requires rest { IsAtRest J.sessions number share.old }
         ensures rest { IsAtRest J.sessions number share.new }
         ensures mine { mine number share.new.value.entries ≡ mine number share.old.value.entries }
+        ensures own { Stays number share.old.value share.new.value }
         ensures grows { IsPrefix (published_of J.opening share.old.value) (published_of J.opening share.new.value) }
         ensures whole { IsWhole J.limit J.opening share.new.value }
         ensures shown { share.new.value ≡ self.new.desk.books }
@@ -235,6 +241,8 @@ where
         ensures rest { IsAtRest J.sessions number share.new }
         ensures mine { IfOk result (λ r. IsTold number call r.0 share.old.value share.new.value) }
         ensures err { OnErr result (mine number share.new.value.entries ≡ mine number share.old.value.entries) }
+        ensures adds { IfOk result (λ r. Adds number call (Answered r.0) share.old.value share.new.value) }
+        ensures stays { OnErr result (Stays number share.old.value share.new.value) }
         ensures grows { IsPrefix (published_of J.opening share.old.value) (published_of J.opening share.new.value) }
         ensures whole { IsWhole J.limit J.opening share.new.value }
         ensures shown { OnOk result (share.new.value ≡ self.new.desk.books) }
@@ -271,6 +279,7 @@ where
         requires rest { IsAtRest J.sessions number share.old }
         ensures rest { IsAtRest J.sessions number share.new }
         ensures mine { mine number share.new.value.entries ≡ mine number share.old.value.entries }
+        ensures own { Stays number share.old.value share.new.value }
         ensures grows { IsPrefix (published_of J.opening share.old.value) (published_of J.opening share.new.value) }
         ensures whole { IsWhole J.limit J.opening share.new.value }
         ensures shown { share.new.value ≡ self.new.desk.books }

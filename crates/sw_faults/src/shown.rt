@@ -5,9 +5,15 @@ use std::alloc::{AllocError, Global};
 /// How many bytes of a cell are shown.
 const MOST_SHOWN: usize = 40;
 
-/// Whether a character would change what a terminal shows: a control character, also one of the upper ones.
+/// Whether a character takes no place on a terminal, or turns the order of those behind it: a byte order mark is one.
+fn is_hidden(c: char) -> bool {
+    (c >= '\u{200b}' && c <= '\u{200f}') || (c >= '\u{2028}' && c <= '\u{202e}') || c == '\u{feff}'
+}
+
+/// Whether a character would change what a terminal shows, or not show there: a control character, also one of the upper ones,
+/// or a hidden one.
 fn is_control(c: char) -> bool {
-    c < ' ' || c == '\u{7f}' || (c >= '\u{80}' && c < '\u{a0}')
+    c < ' ' || c == '\u{7f}' || (c >= '\u{80}' && c < '\u{a0}') || is_hidden(c)
 }
 
 /// Adds a byte that is not shown as it is.

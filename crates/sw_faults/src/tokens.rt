@@ -31,6 +31,13 @@ fn comparison_len(first: u8, text: &[u8]) -> usize {
     }
 }
 
+/// How many bytes the character takes at the front: the first byte, and those behind it that begin none.
+fn char_len(text: &[u8]) -> usize {
+    let rest = text.iter().skip(1);
+    let more = rest.take_while(|b| **b >= 0x80 && **b < 0xC0).count();
+    more.saturating_add(1)
+}
+
 /// How many bytes the token takes at the front, where no blank stands.
 fn token_len(text: &[u8]) -> usize {
     let Some(first) = text.first() else {
@@ -40,7 +47,7 @@ fn token_len(text: &[u8]) -> usize {
         b'\'' => quoted_len(text),
         b'<' | b'>' | b'=' => comparison_len(*first, text),
         byte if is_word_byte(byte) => text.iter().take_while(|b| is_word_byte(**b)).count(),
-        _ => 1,
+        _ => char_len(text),
     }
 }
 

@@ -1,18 +1,18 @@
 -- A table that takes records in, one by one.
 use Rattle.std.proofs.Common.{◌≡◌, ◌∙◌, ◌<◌, ◌≤◌, ◌≢◌, ◌+◌, ◌^◌, ◌++◌, ◌∷◌, [], ℕ, zero, suc, Bool, true, false, cond, List, length, get_or, set, inl, inr, refl, sym, ap, nat_eq, arith}
-use Rattle.std.proofs.Math.Seq.{map-set_same}
-use Rattle.std.proofs.lemmas.List.{append-nil, append_assoc, get_or-map, get_or-set_same, get_or-set_other, length-append, length-map, length-replicate, length-set, map-set}
+use Rattle.std.proofs.Math.Seq.{map-set_same, take-append_seam}
+use Rattle.std.proofs.lemmas.List.{append-nil, append_assoc, get_or-map, get_or-set_same, get_or-set_other, length-append, length-map, length-replicate, length-set, map-set, take-append-le}
 use Rattle.std.proofs.lemmas.List.Elements.{filter_map-append}
 use Rattle.std.proofs.lemmas.List.Folds.{list_any-append}
 use Rattle.std.proofs.lemmas.List.Sums.{count_by-le-length, sum_by-append}
 use Rattle.std.proofs.lemmas.Bool.Decides.{nat_tests}
 use Rattle.std.proofs.lemmas.Grind.{flat_map-append}
 use Rattle.std.specs.Global.{Vec}
-use Rattle.std.specs.Prelude.{is_some, replicate}
+use Rattle.std.specs.Prelude.{is_some, replicate, take}
 use Rattle.sw_import.specs.Imports.{header_of, is_fault, is_left_out, left_out_for, left_out_of, most_rows, row_if, rows_made, told_for}
 use Rattle.sw_import.specs.Made.{row_made, sources_of}
 use Rattle.sw_import.specs.Pages.{record_text, text_of}
-use Rattle.sw_import.specs.Taken.{IsBegun, IsTableOf, TakesIn, TakesRest, TellsOneMore}
+use Rattle.sw_import.specs.Taken.{AreWanted, IsBegun, IsTableOf, TakesIn, TakesRest, TellsOneMore}
 use Rattle.sw_import.specs.declared.evidence.Tally.{Tally}
 use Rattle.sw_import.specs.declared.importing.How.{How}
 use Rattle.sw_import.specs.declared.planning.Planned.{Planned}
@@ -88,6 +88,25 @@ takes_more m xs ys a b c f g =
           omega arith;
     }
 
+-- one more, where the sample wants a row
+pub wanted_more : (m : Maker) (most : Most) (xs : List (List (List ℕ))) (r : List (List ℕ)) (a b : Table) → TakesIn m xs a b
+    → (most.is_sample ≡ true → b.rows < most.rows) → AreWanted m most a xs → AreWanted m most a (xs ++ r ∷ [])
+wanted_more m most xs r a b f now before n within sampled = at (nat_eq n (length xs)) refl
+  where
+    rows : List (List (List ℕ)) → List (List (List ℕ))
+    rows = rows_made m.rules.now (sources_of m.plan.now)
+
+    long : length (xs ++ r ∷ []) ≡ length xs + 1
+    long = length-append xs (r ∷ [])
+
+    at : (b : Bool) → nat_eq n (length xs) ≡ b → a.rows + length (rows (take n (xs ++ r ∷ []))) < most.rows
+    at true e =
+        let is : n ≡ length xs = grind (arith, nat_tests) in
+        rw (is, take-append_seam xs (r ∷ [])) (rw f.rows at now sampled)
+    at false e =
+        let less : n < length xs = grind (arith, nat_tests, long, within, e) in
+        rw (take-append-le n xs (r ∷ []) (omega arith)) (before n less sampled)
+
 -- what was begun, and then took the records of a text in, is their table
 pub table_of_all : (how : How) (m : Maker) (most : Most) (records : List (List (List ℕ))) (a b : Table) → m.rules.now ≡ how.rules
     → most.rows ≡ most_rows how.sample → most.is_sample ≡ is_some how.sample → IsBegun m.plan.now a → TakesRest m most records a b
@@ -102,6 +121,9 @@ table_of_all how m most records a b rules limit sample begun rest few =
         | inl none ↦ inl none
         | inr full ↦ inr (sym sample ∙ full.0, full.1 ∙ limit)
       ];
+      wanted = λ n inside sampled.
+          let less = rest.wanted n inside (sample ∙ sampled) in
+          omega (arith, less, begun.rows, limit);
       sound = rest.takes.sound;
       bytes = rest.takes.pages ∙ rw begun.pages (sym (flat_map-append record_text (header_of m.plan.now ∷ []) rows));
       rows = rest.takes.rows ∙ rw begun.rows (omega arith);

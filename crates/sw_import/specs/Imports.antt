@@ -1,5 +1,5 @@
 -- What a table that was made is.
-use Rattle.std.specs.Prelude.{◌≡◌, ◌<◌, ◌⊎◌, ◌∷◌, ◌++◌, if◌then◌else◌, ℕ, Bool, true, false, List, [], length, map, min, drop, codes, nat_eq, Option, Some, None, Ok, is_some, unwrap_or, slice_index_or}
+use Rattle.std.specs.Prelude.{◌≡◌, ◌<◌, ◌⊎◌, ◌∷◌, ◌++◌, if◌then◌else◌, ℕ, Bool, true, false, List, [], length, map, min, drop, take, codes, nat_eq, Option, Some, None, Ok, is_some, unwrap_or, slice_index_or}
 use Rattle.std.specs.List.{count_by, filter_map, list_any}
 use Rattle.sw_rows.specs.Tables.{Table, table_of}
 use Rattle.sw_rows.specs.declared.table.TheConstants.{MOST_ROWS}
@@ -30,6 +30,10 @@ row_if Fault = None
 -- the rows that records make, in order
 abbrev pub rows_made : Rules → List Source → List (List (List ℕ)) → List (List (List ℕ))
 rows_made rules sources records = filter_map (λ r. row_if (row_made rules sources r)) records
+
+-- how many rows the first n of some records make
+abbrev pub rows_by : ℕ → Rules → List Source → List (List (List ℕ)) → ℕ
+rows_by n rules sources records = length (rows_made rules sources (take n records))
 
 abbrev pub is_fault : Kept → Bool
 is_fault (Row cells) = false
@@ -69,17 +73,23 @@ header_of plan = map heading_of plan
 abbrev pub most_rows : Option ℕ → ℕ
 most_rows sample = min (unwrap_or sample MOST_ROWS) MOST_ROWS
 
+-- a sample has fewer rows than it may have; where none is asked for there is no such bound
+abbrev pub WantsMore : Option ℕ → ℕ → Type 0
+WantsMore sample rows = is_some sample ≡ true → rows < most_rows sample
+
 -- a sample has as many rows as it may have
 abbrev pub IsFull : Option ℕ → ℕ → Type 0
 IsFull sample rows = (is_some sample ≡ true) × (rows ≡ most_rows sample)
 
--- Records were taken one by one, in order, until none was left or the sample was full. None was refused. The text is the
--- header and then the row that each made, and for each column as many were told as left out as there were.
+-- Records were taken one by one, in order, until none was left or the sample was full, and each while it wanted a row. None
+-- was refused. The text is the header and then the row that each made, and for each column as many were told as left out as
+-- there were.
 pub record AreWritten (rules : Rules) (plan : List Planned) (sample : Option ℕ) (records : List (List (List ℕ))) (text : List ℕ) (count : ℕ) (done : List Done) : Type 0 where
   pub taken : List (List (List ℕ))
   pub left : List (List (List ℕ))
   pub whole : records ≡ taken ++ left
   pub until : (left ≡ []) ⊎ IsFull sample count
+  pub wanted : (n : ℕ) → n < length taken → WantsMore sample (rows_by n rules (sources_of plan) taken)
   pub sound : has_fault rules (sources_of plan) taken ≡ false
   pub bytes : text ≡ text_of (header_of plan ∷ rows_made rules (sources_of plan) taken)
   pub rows : count ≡ length (rows_made rules (sources_of plan) taken)

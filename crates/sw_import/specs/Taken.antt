@@ -1,6 +1,6 @@
 -- A table that takes records in.
 use Rattle.std.specs.Prelude.{◌≡◌, ◌+◌, ◌⊎◌, ◌<◌, ◌^◌, ◌∷◌, ◌++◌, if◌then◌else◌, ℕ, true, false, List, [], length, nat_eq}
-use Rattle.sw_import.specs.Imports.{AreWritten, has_fault, header_of, left_out_for, rows_in, rows_made, told_for}
+use Rattle.sw_import.specs.Imports.{AreWritten, has_fault, header_of, left_out_for, rows_by, rows_in, rows_made, told_for}
 use Rattle.sw_import.specs.Made.{sources_of}
 use Rattle.sw_import.specs.Pages.{text_of}
 use Rattle.sw_import.specs.declared.importing.How.{How}
@@ -36,12 +36,19 @@ pub record TakesIn (maker : Maker) (records : List (List (List ℕ))) (old new :
   pub wide : length new.done.items ≡ length old.done.items
   pub left_out : (place : ℕ) → place < length old.done.items → TellsMore place (left_out_for place maker.rules.now (sources_of maker.plan.now) records) old.done.items new.done.items
 
+-- each of these records is taken in while a sample wants a row
+abbrev pub AreWanted : Maker → Most → Table → List (List (List ℕ)) → Type 0
+AreWanted maker most old taken =
+    (n : ℕ) → n < length taken → most.is_sample ≡ true
+    → old.rows + rows_by n maker.rules.now (sources_of maker.plan.now) taken < most.rows
+
 -- what is left of records is taken in, or as much as a sample wants
 pub record TakesRest (maker : Maker) (most : Most) (records : List (List (List ℕ))) (old new : Table) : Type 0 where
   pub taken : List (List (List ℕ))
   pub left : List (List (List ℕ))
   pub whole : records ≡ taken ++ left
   pub until : (left ≡ []) ⊎ ((most.is_sample ≡ true) × (new.rows ≡ most.rows))
+  pub wanted : AreWanted maker most old taken
   pub takes : TakesIn maker taken old new
 
 -- the rows of values

@@ -3,7 +3,7 @@
 ghost use Rattle.std.specs.Prelude.{[], ◌≡◌, slice_index_or};
 ghost use Rattle.csv.specs.Records.{fields_of};
 
-use crate::faults::{At, Fault, shown};
+use crate::faults::{At, Fault, shown, shown_heading};
 use crate::forms::Form;
 use crate::names::{name_asked, name_of};
 use csv::ByteRecord;
@@ -42,7 +42,7 @@ impl Column {
     pub(crate) fn at(&self, alloc: Global) -> Result<At, AllocError> {
         Ok(At {
             number: (self.place as u64).saturating_add(1),
-            heading: String::from_str(alloc, self.heading.as_str())?,
+            heading: shown_heading(alloc, self.heading.as_str())?,
         })
     }
 }

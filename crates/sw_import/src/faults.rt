@@ -29,13 +29,31 @@ pub(crate) fn shown(alloc: Global, cell: &[u8]) -> Result<String, AllocError> {
     Ok(text)
 }
 
+/// Whether a character would change what a terminal shows.
+fn is_control(c: char) -> bool {
+    c < ' ' || c == '\u{7f}' || (c >= '\u{80}' && c < '\u{a0}')
+}
+
+/// A heading as it is shown: control characters as `\xHH`.
+pub(crate) fn shown_heading(alloc: Global, heading: &str) -> Result<String, AllocError> {
+    let mut text = String::new(alloc);
+    for c in heading.chars() {
+        if is_control(c) {
+            write!(text, "\\x{:02x}", u32::from(c))?;
+        } else {
+            text.push(c)?;
+        }
+    }
+    Ok(text)
+}
+
 /// A column of the values: its number, from 1, and its heading.
 #[derive(Debug, Drop, Error)]
 #[error("column {number} ({heading})")]
 pub struct At {
     /// The number, from 1.
     pub number: u64,
-    /// The heading.
+    /// The heading as it is shown.
     pub heading: String,
 }
 
@@ -118,9 +136,16 @@ pub enum Fault {
     NoKind {
         kind: String,
     },
-    /// A record has another number of fields than the header.
+    /// A record has fewer fields than the header.
     #[error("line {line}: {found} fields, and the header has {wanted}; --ragged fill takes fields that are missing at the end for empty ones")]
     Ragged {
+        line: u64,
+        found: u64,
+        wanted: u64,
+    },
+    /// A record has more fields than the header.
+    #[error("line {line}: {found} fields, and the header has {wanted}")]
+    Wide {
         line: u64,
         found: u64,
         wanted: u64,
@@ -153,6 +178,12 @@ pub enum Fault {
         value: String,
         at: At,
         kind: &'static str,
+    },
+    /// What is wrong with values that another byte may divide: they have one column, and its heading has that byte.
+    #[error("{why}; one column, whose heading has a divider: --delimiter '{divider}' divides there")]
+    Undivided {
+        why: String,
+        divider: &'static str,
     },
     /// The table would be none.
     #[error("the table would be refused: {0}")]

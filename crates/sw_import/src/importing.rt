@@ -7,11 +7,12 @@ ghost use Rattle.sw_import.specs.Taken.{IsTableOf, rows_of};
 
 use crate::columns::{Asked, Column, columns_of, field};
 use crate::evidence::Evidence;
-use crate::faults::{At, Fault};
+use crate::faults::{At, Fault, shown_heading};
 use crate::forms::Form;
 use crate::planning::{Planned, plan, see_plan};
 use crate::records::{line_of, next, open};
 use crate::rules::Rules;
+use crate::telling::divider_in;
 use crate::writing::{Done, Maker, Most, Table};
 use csv::{ByteRecord, Reader};
 use std::alloc::{AllocError, Global};
@@ -80,6 +81,25 @@ impl<'a> Values<'a> {
     fn takes(self, fields: usize) -> bool {
         fields == self.width || (fields < self.width && self.fills_short)
     }
+
+    /// Why a record of a line with so many fields is none of these.
+    fn refused(self, line: u64, fields: usize) -> Fault {
+        let found = fields as u64;
+        let wanted = self.width as u64;
+        if found < wanted {
+            Fault::Ragged {
+                line,
+                found,
+                wanted,
+            }
+        } else {
+            Fault::Wide {
+                line,
+                found,
+                wanted,
+            }
+        }
+    }
 }
 
 /// The headings of columns that have none: `column_1` and so on.
@@ -142,11 +162,7 @@ fn survey(
         }
         let line = line_of(values.text, &row);
         if !values.takes(row.len()) {
-            return Err(Fault::Ragged {
-                line,
-                found: row.len() as u64,
-                wanted: values.width as u64,
-            });
+            return Err(values.refused(line, row.len()));
         }
         see_record(rules, columns, &row, line, seen);
     }
@@ -197,9 +213,10 @@ fn others(alloc: Global, header: &ByteRecord, plan: &[Planned]) -> Result<Vec<At
         if plan.iter().any(|planned| planned.column.place == place) {
             continue;
         }
+        let heading = String::from_utf8_lossy(alloc, field(header, place))?;
         let at = At {
             number: (place as u64).saturating_add(1),
-            heading: String::from_utf8_lossy(alloc, field(header, place))?,
+            heading: shown_heading(alloc, heading.as_str())?,
         };
         if others.push(at).is_err() {
             return Err(AllocError);
@@ -256,12 +273,17 @@ fn see_table_in_parts<R: Threads + Sync>(
     }
 }
 
-/// Makes the bytes of a table of the values of a text, and says what was done for it.
-fn make(alloc: Global, key: TextKey, how: &How<'_>, text: &[u8]) -> Result<Imported, Fault>
+/// Makes the bytes of a table of the values of a text, of which this is the record of the headings, and says what was done for it.
+fn make_under(
+    alloc: Global,
+    key: TextKey,
+    how: &How<'_>,
+    text: &[u8],
+    header: &ByteRecord,
+) -> Result<Imported, Fault>
     ensures { IfOk result (IsImportOf how.now text.now) }
 {
-    let header = header_of(alloc, how, text)?;
-    let columns = columns_of(alloc, &header, &how.asked)?;
+    let columns = columns_of(alloc, header, &how.asked)?;
     let values = Values {
         text,
         delimiter: how.delimiter,
@@ -281,7 +303,7 @@ fn make(alloc: Global, key: TextKey, how: &How<'_>, text: &[u8]) -> Result<Impor
     see_plan(alloc, &how.rules, plan.as_slice())?;
     learn(alloc, values, plan.as_mut_slice())?;
     let table = write_table(alloc, values, how, plan.as_slice())?;
-    let others = others(alloc, &header, plan.as_slice())?;
+    let others = others(alloc, header, plan.as_slice())?;
     let Table { pages, rows, done } = table;
     Ok(Imported {
         bytes: pages.into_bytes()?,
@@ -291,6 +313,31 @@ fn make(alloc: Global, key: TextKey, how: &How<'_>, text: &[u8]) -> Result<Impor
         written: rows,
         others,
     })
+}
+
+/// What is wrong with values, told with the byte that may divide them, where they have one column and its heading has such a byte.
+fn with_divider(alloc: Global, header: &ByteRecord, fault: Fault) -> Fault {
+    if fault.is_memory() || header.len() != 1 {
+        return fault;
+    }
+    let Some(divider) = divider_in(field(header, 0)) else {
+        return fault;
+    };
+    match format!(in alloc; "{fault}") {
+        Ok(why) => Fault::Undivided { why, divider },
+        Err(_) => Fault::NoMemory,
+    }
+}
+
+/// Makes the bytes of a table of the values of a text, and says what was done for it.
+fn make(alloc: Global, key: TextKey, how: &How<'_>, text: &[u8]) -> Result<Imported, Fault>
+    ensures { IfOk result (IsImportOf how.now text.now) }
+{
+    let header = header_of(alloc, how, text)?;
+    match make_under(alloc, key, how, text, &header) {
+        Ok(made) => Ok(made),
+        Err(fault) => Err(with_divider(alloc, &header, fault)),
+    }
 }
 
 /// Makes a table of the values of a text. Texts are hashed under the key.

@@ -1,6 +1,7 @@
 //! What was done, in words.
 
 use crate::evidence::Tally;
+use crate::faults::shown_heading;
 use crate::forms::Form;
 use crate::importing::Imported;
 use crate::planning::Planned;
@@ -35,7 +36,8 @@ fn push_column(text: &mut String, planned: &Planned, done: &Done) -> Result<(), 
     let heading = planned.column.heading.as_str();
     write!(text, "  {name}:{}", planned.form.word())?;
     if name.as_str() != heading {
-        write!(text, "; heading `{heading}`")?;
+        let shown = shown_heading(*text.allocator(), heading)?;
+        write!(text, "; heading `{shown}`")?;
     }
     push_tally(text, change(planned.form), done.changed)?;
     push_tally(text, "cells without a value filled", done.filled)?;
@@ -76,13 +78,12 @@ fn push_others(text: &mut String, made: &Imported) -> Result<(), AllocError> {
 }
 
 /// The byte in a heading that may have been meant to divide values, as the command line takes it.
-fn divider_in(heading: &str) -> Option<&'static str> {
-    let bytes = heading.as_bytes();
-    if bytes.contains(&b';') {
+pub(crate) fn divider_in(heading: &[u8]) -> Option<&'static str> {
+    if heading.contains(&b';') {
         Some(";")
-    } else if bytes.contains(&b'\t') {
+    } else if heading.contains(&b'\t') {
         Some("\\t")
-    } else if bytes.contains(&b'|') {
+    } else if heading.contains(&b'|') {
         Some("|")
     } else {
         None
@@ -97,7 +98,7 @@ fn push_divider(text: &mut String, made: &Imported) -> Result<(), AllocError> {
     if !made.others.is_empty() {
         return Ok(());
     }
-    match divider_in(planned.column.heading.as_str()) {
+    match divider_in(planned.column.heading.as_bytes()) {
         Some(word) => write!(
             text,
             "  one column, whose heading has a divider: --delimiter '{word}' divides there\n"

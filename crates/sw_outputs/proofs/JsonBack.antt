@@ -44,7 +44,7 @@ small_64 : (z : ℤ) → FitsSigned w64 z → IsSmall z
 small_64 (pos n) f = omega (arith, f.sfits)
 small_64 (negsuc n) f = omega (arith, f.sfits)
 
-small_128 : (z : ℤ) → FitsSigned w128 z → IsSmall z
+pub small_128 : (z : ℤ) → FitsSigned w128 z → IsSmall z
 small_128 (pos n) f = omega (arith, f.sfits)
 small_128 (negsuc n) f = omega (arith, f.sfits)
 
@@ -57,7 +57,7 @@ flag_back : (z : ℤ) → (z ≡ pos 0) ⊎ (z ≡ pos 1) → flag_kept (int_eq 
 flag_back z (inl is) = ap (λ y. flag_kept (int_eq y (pos 1))) is ∙ sym is
 flag_back z (inr is) = ap (λ y. flag_kept (int_eq y (pos 1))) is ∙ sym is
 
-text_back : (texts : List (List ℕ)) (z : ℤ) → IsDomain (kind.Text texts) → IsCellOf (kind.Text texts) z → option_map (λ code. pos code) (code_of texts (text_shown texts z)) ≡ Some z
+pub text_back : (texts : List (List ℕ)) (z : ℤ) → IsDomain (kind.Text texts) → IsCellOf (kind.Text texts) z → option_map (λ code. pos code) (code_of texts (text_shown texts z)) ≡ Some z
 text_back texts z d c =
     let code : ℕ = c.0.0 in
     let is : z ≡ pos code = c.0.1 in
@@ -78,7 +78,7 @@ record AreBack {A : Type 0} (f : Items → Option A) (deep : ℕ) (js : Items) (
   value : f js ≡ Some x
 
 -- two that are there make one
-both_some : {A B C : Type 0} (g : A → B → C) (o : Option A) (p : Option B) (x : A) (y : B) → o ≡ Some x → p ≡ Some y → option_and_then (λ a. option_map (g a) p) o ≡ Some (g x y)
+pub both_some : {A B C : Type 0} (g : A → B → C) (o : Option A) (p : Option B) (x : A) (y : B) → o ≡ Some x → p ≡ Some y → option_and_then (λ a. option_map (g a) p) o ≡ Some (g x y)
 both_some g o p x y h k = rw (h, k) refl
 
 cells_back : (ks : List Domain) (zs : List ℤ) → AllByRecursion IsDomain ks → AreCellsOf ks zs → AreBack (cells_in ks) 0 (items_of (cells_json ks zs)) zs

@@ -9,7 +9,7 @@ use Rattle.csv.specs.declared.parser.State.TheVariants as st
 use Rattle.csv.proofs.RoundTrip.{read-write}
 use Rattle.sw_outputs.specs.Fields.{records_text}
 
-abbrev Records : Type 0
+abbrev pub Records : Type 0
 Records = List (List (List ℕ))
 
 -- nothing is read of no bytes
@@ -87,3 +87,20 @@ records_back a field fs rs h some =
     ap (records default_config) (text_start a field fs rs h)
     ∙ turns (length (records_text all) + 1) all (omega (arith, few all))
     ∙ same_records all (omega arith, some)
+
+-- ---- behind an empty line
+
+after_line : (n : ℕ) (xs : List ℕ) → records_from default_config (suc n) st.StartRecord (10 ∷ xs) ≡ records_from default_config (suc n) st.StartRecord xs
+unfolding records_from next_record
+after_line n xs = refl
+
+turns_behind : (n : ℕ) (rs : Records) → 0 < n → length rs ≤ n → records_from default_config n st.StartRecord (10 ∷ records_text rs) ≡ map read_back rs
+turns_behind zero rs some h = absurd (omega arith)
+turns_behind (suc n) rs some h = after_line n (records_text rs) ∙ turns (suc n) rs h
+
+-- records behind an empty line
+pub records_behind : (rs : Records) → HaveFields rs → records default_config (strip_bom (10 ∷ records_text rs)) ≡ rs
+records_behind rs some =
+    ap (records default_config) (no_mark 10 (records_text rs) refl)
+    ∙ turns_behind (length (10 ∷ records_text rs) + 1) rs (omega arith) (omega (arith, few rs))
+    ∙ same_records rs some

@@ -63,10 +63,13 @@ unfolding word_of is_a_word
 read_plain k text z (inl v) = (word_is k text z (ap (word_value k) (ap word_of v.1) ∙ v.2)).1
 read_plain k text z (inr v) = absurd (true≢false (ap is_a_word v.1))
 
-plain_writes : (k : Domain) (z : ℤ) → value_tok k z ≡ word (cell_text k z) → IsDomain k → IsCellOf k z → WritesCell k (cell_text k z) z
-plain_writes k z same d c =
+pub plain_read : (k : Domain) (z : ℤ) → value_tok k z ≡ word (cell_text k z) → IsDomain k → IsCellOf k z → cell_value k (cell_text k z) ≡ Some z
+plain_read k z same d c =
     let printed = cell_printed k z (record { places = d; of_kind = c.0; fits = c.1 }) in
-    cell_spelled k (cell_text k z) z (read_plain k (cell_text k z) z (subst (λ t. IsValue k t z) same printed.value))
+    read_plain k (cell_text k z) z (subst (λ t. IsValue k t z) same printed.value)
+
+plain_writes : (k : Domain) (z : ℤ) → value_tok k z ≡ word (cell_text k z) → IsDomain k → IsCellOf k z → WritesCell k (cell_text k z) z
+plain_writes k z same d c = cell_spelled k (cell_text k z) z (plain_read k z same d c)
 
 -- how the field of a cell is read over other texts
 record IsAgain (ts : Texts) (k : Domain) (z : ℤ) : Type 0 where
@@ -75,14 +78,14 @@ record IsAgain (ts : Texts) (k : Domain) (z : ℤ) : Type 0 where
   seen : cell_seen (over ts k) cell ≡ cell_seen k z
 
 -- a cell of texts has a text
-record HasText (texts : Texts) (z : ℤ) : Type 0 where
-  text : List ℕ
-  shown : text_shown texts z ≡ text
-  at : text_at texts z ≡ Some text
-  sound : is_text text ≡ true
-  coded : (code : ℕ) × (code_of texts text ≡ Some code)
+pub record HasText (texts : Texts) (z : ℤ) : Type 0 where
+  pub text : List ℕ
+  pub shown : text_shown texts z ≡ text
+  pub at : text_at texts z ≡ Some text
+  pub sound : is_text text ≡ true
+  pub coded : (code : ℕ) × (code_of texts text ≡ Some code)
 
-has_its_text : (texts : Texts) (z : ℤ) → IsDomain (kind.Text texts) → IsCellOf (kind.Text texts) z → HasText texts z
+pub has_its_text : (texts : Texts) (z : ℤ) → IsDomain (kind.Text texts) → IsCellOf (kind.Text texts) z → HasText texts z
 has_its_text texts z d c =
     let code : ℕ = c.0.0 in
     let text : List ℕ = c.0.2 in

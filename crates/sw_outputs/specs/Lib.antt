@@ -1,3 +1,4 @@
+pub mod CsvReading
 pub mod Fields
 pub mod JsonLines
 pub mod JsonReading

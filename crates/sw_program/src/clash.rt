@@ -32,6 +32,14 @@ pub enum Clash {
     LogHistory,
 }
 
+/// Whether a path leads to the file into which standard output goes.
+pub(crate) fn is_output<R: Files>(rt: &R, path: &str) -> bool {
+    match FileId::of(rt, path) {
+        Some(id) => id.is_at(rt, OUTPUT),
+        None => false,
+    }
+}
+
 /// Whether a file is a script.
 fn is_script<R: Files>(rt: &R, id: FileId, script: Script<'_>) -> bool {
     match script.place() {

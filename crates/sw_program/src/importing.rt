@@ -2,6 +2,7 @@
 
 ghost use Rattle.std.specs.Prelude.{◌≡◌, ◌⊎◌, IfOk};
 
+use crate::clash::is_output;
 use crate::inputs::Place;
 use crate::wording::{of_unread, of_unwritten};
 use std::alloc::Global;
@@ -9,7 +10,7 @@ use std::io;
 use std::random::RandomSource;
 use std::rt::Files;
 use std::thread::Threads;
-use sw_files::{begin_file, read_file};
+use sw_files::{FileId, begin_file, read_file};
 use sw_import::{Fault, How, Imported, dictionary_of, import_in_parts, told as summary};
 use sw_lang::write_all;
 use sw_rows::{Counted, Refusal, Sink, TextKey, read_all};
@@ -85,6 +86,19 @@ fn is_memory(came: &Came) -> bool {
 }
 
 impl Import<'_> {
+    /// What the list of texts would be written over, if anything: the values, or the file into which the table goes.
+    pub fn clash<R: Files>(&self, rt: &R) -> Option<&'static str> {
+        let path = self.dictionary?;
+        let id = FileId::of(rt, path)?;
+        if id.is_at(rt, Place::new(self.file).path()) {
+            return Some("the dictionary would be written over the values");
+        }
+        if is_output(rt, path) {
+            return Some("the dictionary would be written over the table");
+        }
+        None
+    }
+
     /// Reads the values and makes the table. Refused `Input` where the values cannot be opened or read or the system gives
     /// no random bytes for the key of texts, and `NoMemory`; `told` gets what that means in words.
     fn read<R: Files + Input + RandomSource + Threads + Sync>(

@@ -4,6 +4,7 @@ ghost use Rattle.std.specs.Prelude.{length, IfOk, OnOk};
 ghost use Rattle.sw_logs.specs.Openings.{IsOpening};
 ghost use Rattle.sw_logs.specs.Orders.{AllFit};
 
+use crate::clash::is_output;
 use crate::flaws;
 use crate::inputs::Place;
 use crate::seeing::{Seen, Sights};
@@ -292,11 +293,15 @@ fn write_line<W: Sink>(text: &str, out: &mut W) -> Result<(), Refusal> {
 }
 
 impl Ordering<'_> {
-    /// What the list of origins would be written over, if anything: the table, or a log.
+    /// What the list of origins would be written over, if anything: the table, a log, or the file into which the history goes.
     pub fn clash<R: Files>(&self, rt: &R) -> Option<&'static str> {
-        let id = FileId::of(rt, self.origins?)?;
+        let origins = self.origins?;
+        let id = FileId::of(rt, origins)?;
         if id.is_at(rt, self.table) {
             return Some("the list of origins would be written over the table");
+        }
+        if is_output(rt, origins) {
+            return Some("the list of origins would be written over the history");
         }
         for log in self.logs {
             if id.is_at(rt, *log) {

@@ -1,6 +1,6 @@
 //! Who stands around a shell: a terminal, or a pipe and files.
 
-use crate::clash::Clash;
+use crate::clash::{Clash, is_output};
 use crate::inputs::{Place, Script};
 use std::alloc::{AllocError, Global};
 use std::io;
@@ -325,6 +325,9 @@ impl<R: Files + Clock + Print + Eprint, E: Sink> Host for Terminal<'_, R, E> {
             Errand::Names => write_names(schema, &mut Counted::new(io::writer(self.rt))),
             Errand::Times => self.turn_times(),
             Errand::Stats(stats) => self.print_stats(schema, stats),
+            Errand::Write { file, .. } if is_output(self.rt, file) => {
+                self.wrong(line, b": the rows would be written over the replies\n")
+            }
             Errand::Write { file, call, reply } => self.keep_rows(schema, file, call, reply),
             Errand::History(file) => self.keep_history(line, file),
             Errand::Nameless => self.wrong(line, b": the command wants the name of a file\n"),

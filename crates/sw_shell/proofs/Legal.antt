@@ -43,6 +43,7 @@ over_columns a b rows limit ts h k one columns same_rows same_limit same legal =
   legal = legal one.legal;
   given = ap all_given same ∙ one.given;
   answered = subst (λ (es : List Entry). All (λ (t : ℕ × List (Call × Reply)). mine t.0 es ≡ t.1) ts) (sym same) one.answered;
+  numbered = one.numbered;
   others = subst (λ (es : List Entry). (s : ℕ) → (is_absent s es ≡ true) ⊎ IsNamed s ts) (sym same) one.others;
   closed = ap none_open same ∙ one.closed;
 }

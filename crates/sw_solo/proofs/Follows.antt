@@ -1,5 +1,5 @@
 -- What heads are made from, and what they may receive.
-use Rattle.std.proofs.Common.{◌≡◌, ◌<◌, ◌≤◌, ◌+◌, ◌^◌, ◌++◌, ◌<ℤ◌, ℕ, ℤ, true, List, [], ◌∷◌, length, fold, refl, sym, ap, subst, ◌∙◌, arith, All, zero, suc, Some, None, take, drop}
+use Rattle.std.proofs.Common.{◌≡◌, ◌<◌, ◌≤◌, ◌+◌, ◌^◌, ◌++◌, ◌<ℤ◌, ℕ, ℤ, true, List, [], ◌∷◌, length, fold, refl, arith, All, zero, suc, Some, None}
 use Rattle.std.proofs.lemmas.Bool.Decides.{nat_tests}
 use Rattle.std.proofs.lemmas.List.Elements.{All-push}
 use Rattle.std.specs.List.{AllByRecursion}

@@ -1,6 +1,6 @@
 -- A head that is made, and receives what it lacks.
-use Rattle.std.proofs.Common.{◌≡◌, ◌<◌, ◌≤◌, ◌+◌, ◌-◌, ◌++◌, ◌∙◌, ℕ, true, false, List, length, slice_index_or, take, drop, Option, Some, None, refl, sym, ap, subst, arith, length-append, length-drop}
-use Rattle.std.specs.Prelude.{IfSome, is_none, is_some}
+use Rattle.std.proofs.Common.{◌≡◌, ◌<◌, ◌≤◌, ◌+◌, ◌-◌, ◌++◌, ◌∙◌, ℕ, true, false, List, length, slice_index_or, take, drop, Option, Some, None, refl, sym, ap, subst, arith, length-drop}
+use Rattle.std.specs.Prelude.{IfSome, is_some}
 use Rattle.std.proofs.lemmas.List.{take-append-drop}
 use Rattle.std.proofs.Math.Seq.{take-length}
 use Rattle.sw_table.specs.declared.row.Row.{Row}
@@ -14,7 +14,7 @@ use Rattle.sw_chunks.specs.Routing.{MayFollow}
 use Rattle.sw_spine.specs.Table.{opened}
 use Rattle.sw_spine.specs.History.{IsSound}
 use Rattle.sw_spine.specs.Receivable.{AreUpdates}
-use Rattle.sw_spine.specs.Books.{Books, IsCount, history_of, updates}
+use Rattle.sw_spine.specs.Books.{Books, history_of, updates}
 use Rattle.sw_spine.proofs.Receivables.{updates_may_come}
 use Rattle.sw_solo.specs.Seats.{AreSeated, IsSeated, SeatState, received_or, seated, with_more, with_received}
 use Rattle.sw_solo.proofs.Follows.{may_follow}

@@ -1,7 +1,7 @@
 -- Seats beside a history that grows, and sessions that wait for nothing.
-use Rattle.std.proofs.Common.{◌≡◌, ◌≢◌, ◌<◌, ◌≤◌, ◌+◌, ◌++◌, ◌∙◌, ℕ, true, false, List, [], ◌∷◌, length, take, drop, slice_index_or, Option, Some, None, refl, sym, ap, subst, arith, length-append, append-nil, ⊎_elim}
+use Rattle.std.proofs.Common.{◌≡◌, ◌≢◌, ◌<◌, ◌≤◌, ◌+◌, ◌++◌, ◌∙◌, ℕ, List, [], ◌∷◌, length, take, slice_index_or, None, refl, sym, ap, subst, arith, length-append, append-nil, ⊎_elim}
 use Rattle.std.proofs.lemmas.Bool.Decides.{eqb_tells, leb_tells}
-use Rattle.std.proofs.lemmas.List.{take-append-drop, take-append-le, length-map}
+use Rattle.std.proofs.lemmas.List.{take-append-le, length-map}
 use Rattle.std.proofs.Math.ListN.{get_or-append}
 use Rattle.std.proofs.Math.Seq.{get_or-append_seam, take-length}
 use Rattle.sw_rows.specs.Header.{Column}
@@ -10,7 +10,7 @@ use Rattle.sw_table.specs.declared.row.Update.{Update}
 use Rattle.sw_table.specs.declared.row.Update.TheVariants as update
 use Rattle.sw_lang.specs.Cuts.{CutLists}
 use Rattle.sw_spine.specs.Table.{opened}
-use Rattle.sw_spine.specs.Books.{Books, IsCount, KeepsOthers, new_books, updates, waits_for}
+use Rattle.sw_spine.specs.Books.{Books, KeepsOthers, new_books, updates, waits_for}
 use Rattle.sw_solo.specs.Called.{AllRest}
 use Rattle.sw_solo.specs.Seats.{AreNewSeats, AreSeated, AreTableCuts, IsSeated, SeatState, new_seat, received_or}
 

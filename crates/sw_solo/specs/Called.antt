@@ -1,13 +1,16 @@
 -- What an engine for one visitor shows, and what a call makes of it.
-use Rattle.std.specs.Prelude.{ℕ, ◌≡◌, ◌<◌, ◌≤◌, ◌+◌, ◌++◌, List, [], ◌∷◌, None}
+use Rattle.std.specs.Prelude.{ℕ, ◌≡◌, ◌<◌, ◌++◌, List, [], ◌∷◌, None, length}
 use Rattle.sw_rows.specs.Header.{Column}
 use Rattle.sw_table.specs.declared.row.Row.{Row}
 use Rattle.sw_rows.specs.declared.query.Call.{Call}
 use Rattle.sw_rows.specs.declared.reply.Reply.{Reply}
+use Rattle.sw_rows.specs.declared.refusal.Refusal.{Refusal}
+use Rattle.sw_rows.specs.declared.refusal.Refusal.TheVariants as refusal
 use Rattle.sw_spine.specs.Table.{reply_to}
 use Rattle.sw_spine.specs.History.{History, entry, updates_of}
 use Rattle.sw_spine.specs.Books.{Books, history_of, waits_for}
 use Rattle.sw_spine.specs.declared.history.State.TheVariants as state
+use Rattle.sw_spine.specs.declared.spine.TheConstants.{MOST_ENTRIES, MOST_SESSIONS}
 
 -- the history so far, and how many sessions were opened, which have the numbers 1, 2, 3 and so on
 pub record SoloState : Type 0 where
@@ -41,3 +44,15 @@ with_call session c s = record s {
 abbrev pub HasCalled : ℕ → Call → SoloState → SoloState → Reply → Type 0
 HasCalled session c old new r =
     (r ≡ reply_in old c) × (new ≡ with_call session c old)
+
+-- why a call is refused: no memory, or the history has its greatest length
+abbrev pub RefusesCall : SoloState → Refusal → Type 0
+RefusesCall s refusal.NoMemory = Unit {0}
+RefusesCall s (refusal.HistoryFull entries) = (entries ≡ MOST_ENTRIES) × (length s.history.entries ≡ MOST_ENTRIES)
+RefusesCall s other = ⊥
+
+-- why a session is not opened: 1,024 were opened, or no memory with fewer
+abbrev pub RefusesSession : SoloState → Refusal → Type 0
+RefusesSession s refusal.NoMemory = s.sessions < MOST_SESSIONS
+RefusesSession s (refusal.TooMany limit) = (limit ≡ MOST_SESSIONS) × (s.sessions ≡ MOST_SESSIONS)
+RefusesSession s other = ⊥

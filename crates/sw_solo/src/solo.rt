@@ -14,7 +14,7 @@ ghost use Rattle.sw_spine.specs.Table.{is_numbered};
 ghost use Rattle.sw_spine.specs.History.{CallsBelow, IsLegal, is_select};
 ghost use Rattle.sw_spine.specs.Rest.{none_open};
 ghost use Rattle.sw_spine.specs.Books.{RefusesRows, updates};
-ghost use Rattle.sw_solo.specs.Called.{HasCalled, new_solo, reply_in};
+ghost use Rattle.sw_solo.specs.Called.{HasCalled, RefusesCall, RefusesSession, new_solo, reply_in};
 ghost use Rattle.sw_solo.specs.Seats.{AreNewSeats, IsSeated};
 
 use crate::seat::{Seat, SeatStats};
@@ -111,12 +111,14 @@ fn serve<M: CrackerMap>(
 pub struct Solo<M: CrackerMap> {
     alloc: Global,
     spine: Spine,
+    sessions: u64,
     cuts: Cuts,
     seats: Vec<Seat<M>>,
     inbox: Vec<Update>,
 }
 
 impl<M: CrackerMap> Model for Solo<M> {
+    ghost use Rattle.std.specs.Prelude.{◌≡◌};
     ghost use Rattle.sw_solo.specs.Called.{AllRest, SoloState, solo_of};
     ghost use Rattle.sw_solo.specs.Seats.{AreSeated, AreTableCuts};
 
@@ -124,7 +126,8 @@ impl<M: CrackerMap> Model for Solo<M> {
 
     ghost view = { λ s. solo_of s.spine };
 
-    ghost invariant = { λ s. AllRest s.spine × AreSeated s.spine s.seats.items × AreTableCuts s.spine s.cuts };
+    ghost invariant = { λ s.
+        AllRest s.spine × AreSeated s.spine s.seats.items × AreTableCuts s.spine s.cuts × (s.sessions ≡ s.spine.sessions) };
 }
 
 impl<M: CrackerMap> Solo<M> {
@@ -156,6 +159,7 @@ impl<M: CrackerMap> Solo<M> {
         Ok(Solo {
             alloc,
             spine,
+            sessions: 0,
             cuts,
             seats,
             inbox: Vec::new(alloc),
@@ -175,8 +179,18 @@ impl<M: CrackerMap> Solo<M> {
         ensures number { IfOk result (λ n. n ≡ self.old.sessions + 1) }
         ensures opened { OnOk result (self.new ≡ record self.old { sessions = self.old.sessions + 1 }) }
         ensures kept { OnErr result (self.new ≡ self.old) }
+        ensures refused { IfErr result (RefusesSession self.old) }
     {
-        self.spine.open_session()
+        let number = self.spine.open_session()?;
+        self.sessions = number;
+        Ok(number)
+    }
+
+    /// How many sessions were opened.
+    pub fn sessions(&self) -> u64
+        ensures { result ≡ self.now.sessions }
+    {
+        self.sessions
     }
 
     /// What a query is answered, by the head of its first condition's attribute. Nothing that contracts see changes.
@@ -204,6 +218,7 @@ impl<M: CrackerMap> Solo<M> {
         requires below { CallsBelow (length self.old.history.columns) (Select query.now) }
         ensures called { IfOk result (HasCalled session (Select query.now) self.old self.new) }
         ensures kept { OnErr result (self.new ≡ self.old) }
+        ensures refused { IfErr result (RefusesCall self.old) }
     {
         let Ok(asked) = query.copied(self.alloc) else {
             return Err(Refusal::NoMemory);
@@ -224,6 +239,7 @@ impl<M: CrackerMap> Solo<M> {
         requires reply { reply ≡ reply_in self.old (Select query) }
         ensures called { OnOk result (HasCalled session (Select query) self.old self.new reply) }
         ensures kept { OnErr result (self.new ≡ self.old) }
+        ensures refused { IfErr result (RefusesCall self.old) }
     {
         let Solo { spine, inbox, .. } = self;
         spine.begin(session, query, 0, inbox)?;
@@ -239,6 +255,7 @@ impl<M: CrackerMap> Solo<M> {
         requires below { CallsBelow (length self.old.history.columns) call }
         ensures called { IfOk result (HasCalled session call self.old self.new) }
         ensures kept { OnErr result (self.new ≡ self.old) }
+        ensures refused { IfErr result (RefusesCall self.old) }
     {
         self.spine.commit(session, call)
     }
@@ -254,6 +271,7 @@ impl<M: CrackerMap> Solo<M> {
         requires below { CallsBelow (length self.old.history.columns) call.now }
         ensures called { IfOk result (HasCalled session call.now self.old self.new) }
         ensures kept { OnErr result (self.new ≡ self.old) }
+        ensures refused { IfErr result (RefusesCall self.old) }
     {
         match call {
             Call::Select(query) => self.select(session, query),

@@ -1,12 +1,17 @@
-use Rattle.std.proofs.Common.{◌≡◌, ℕ, List, ◌++◌, length, set, false, Some, None, sym, ap, ◌∙◌, subst}
+use Rattle.std.proofs.Common.{◌≡◌, ℕ, List, [], ◌∷◌, ◌++◌, refl, length, set, false, Some, None, sym, ap, ◌∙◌, subst}
 use Rattle.sw_table.specs.declared.row.Update.{Update}
+use Rattle.sw_rows.specs.declared.query.Call.{Call}
 use Rattle.sw_rows.specs.declared.query.Call.TheVariants.{Select}
-use Rattle.sw_spine.specs.History.{mine}
+use Rattle.sw_spine.specs.History.{entry, mine}
+use Rattle.sw_spine.specs.declared.history.State.{State}
+use Rattle.sw_spine.specs.declared.history.State.TheVariants.{Open}
 use Rattle.sw_spine.specs.Books.{Books, took, waits_for}
 use Rattle.sw_spine.specs.Receivable.{AreUpdates}
 use Rattle.sw_engine.specs.Desk.{received_by}
 use Rattle.sw_engine.specs.Published.{IsWhole}
-use Rattle.sw_engine.proofs.Ties.{all_taken, begin_tied, head_below, is_of_same, length_set, mine_is, waits_is}
+use Rattle.sw_engine.specs.Own.{own}
+use Rattle.sw_engine.proofs.Owned.{open_keeps, own_push}
+use Rattle.sw_engine.proofs.Ties.{all_taken, begin_tied, head_below, is_of_same, length_set, mine_is, own_is, waits_is}
 use Rattle.sw_engine.proofs.Published.{behind_set, prefix_same, published_kept, share_grows}
 use Rattle.sw_engine.proofs.Whole.{ends_open, whole_after}
 use Rattle.sw_engine.proofs.desk.Desk.begin.Goals as goal
@@ -39,7 +44,7 @@ invariant_of-self-2 g c =
       heads_named = c.set-2.ensures.name.0 ∙ ap (λ b. b.name) alike.0 ∙ c.self.invariant.heads_named;
       many_are = c.self.invariant.many_are ∙ sym (ap length rows ∙ length_set s.sessions.rows h.number (c.of.result.value, false));
       of = is_of_same g.J.Naming.columns g.J.Naming.opening g.J.Naming.limit s.spine x c.self.invariant.of (ap (λ (b : Books). b.columns) done) (ap (λ (b : Books). b.rows) done) (ap (λ (b : Books). b.limit) done);
-      tied = begin_tied s.spine x s.sessions.rows c.set.new.self.rows s.heads.rows c.set-2.new.self.rows h.number c.args.number m.number c.head.inside.number c.of.result.value c.of-2.result.value c.self.invariant.tied c.requires.rest.1 c.head.invariant.number_is c.begin.ensures.others c.begin.ensures.heads (ap (λ (b : Books). b.sessions) done) c.of.ensures c.of-2.ensures rows heads;
+      tied = begin_tied s.spine x s.sessions.rows c.set.new.self.rows s.heads.rows c.set-2.new.self.rows h.number c.args.number m.number c.head.inside.number c.of.result.value c.of-2.result.value c.self.invariant.tied c.requires.rest.1 c.head.invariant.number_is c.begin.ensures.others (open_keeps c.args.number c.args.query c.head.inside.number s.spine x done) c.begin.ensures.heads (ap (λ (b : Books). b.sessions) done) c.of.ensures c.of-2.ensures rows heads;
       behind = behind_set g.J.Naming.limit g.J.Naming.opening s.spine x c.of.result.value s.sessions.rows c.set.new.self.rows h.number c.self.invariant.behind (prefix_same _ _ (sym (published_kept g.J.Naming.opening s.spine x (ap (λ (b : Books). b.published) done) c.begin.ensures.updates))) (whole_after g.J.Naming.columns g.J.Naming.opening g.J.Naming.limit s.spine x c.self.invariant.of (ap (λ (b : Books). b.columns) done) (ap (λ (b : Books). b.rows) done) (ap (λ (b : Books). b.limit) done) ends) c.of.ensures rows;
       ends = ends;
     }
@@ -67,6 +72,16 @@ returns-clause-mine g c =
     let h = c.args.share.now in
     let n = c.args.number in
     ap (λ (v : Books). mine n v.entries) (c.set.ensures.value ∙ c.of.ensures) ∙ (c.begin.ensures.mine ∙ mine_is s.spine s.sessions.rows s.heads.rows h.number n h.value c.self.invariant.tied c.agree.ensures.value c.requires.rest.1)
+
+pub returns-clause-adds : goal.returns-clause-adds
+returns-clause-adds g c =
+    let s = c.self.inside in
+    let h = c.args.share.now in
+    let n = c.args.number in
+    let q = c.args.query in
+    ap (λ (v : Books). own n v.entries) (c.set.ensures.value ∙ c.of.ensures ∙ c.in_ok-begin.ensures.begun)
+    ∙ own_push n s.spine.entries (entry n (Select q) Open) refl
+    ∙ ap (λ (l : List (Call × State)). l ++ (Select q, Open) ∷ []) (own_is s.spine s.sessions.rows s.heads.rows h.number n h.value c.self.invariant.tied c.agree.ensures.value c.requires.rest.1)
 
 pub returns-clause-waits : goal.returns-clause-waits
 returns-clause-waits g c =

@@ -5,7 +5,9 @@ use Rattle.sw_spine.specs.Books.{Books, KeepsOthers, KeepsTaken, took, waits_for
 use Rattle.sw_engine.specs.Desk.{DeskState}
 use Rattle.sw_engine.specs.Published.{EndsEntry, IsWhole, published_of}
 use Rattle.sw_engine.proofs.Published.{behind_set, published_grows, share_grows}
-use Rattle.sw_engine.proofs.Ties.{is_of_same, length_set, mine_is, visit_tied, waits_is}
+use Rattle.sw_engine.specs.Own.{own}
+use Rattle.sw_engine.proofs.Owned.{published_keeps}
+use Rattle.sw_engine.proofs.Ties.{is_of_same, length_set, mine_is, own_is, visit_tied, waits_is}
 use Rattle.sw_engine.proofs.Whole.{ends_published, whole_after}
 use Rattle.sw_engine.proofs.desk.Desk.publish.Goals as goal
 
@@ -29,7 +31,7 @@ invariant_of-self g c =
       heads_named = c.self.invariant.heads_named;
       many_are = c.self.invariant.many_are ∙ sym (ap length rows ∙ length_set s.sessions.rows h.number (c.of.result.value, false));
       of = is_of_same g.J.Naming.columns g.J.Naming.opening g.J.Naming.limit s.spine x c.self.invariant.of (ap (λ (b : Books). b.columns) done) (ap (λ (b : Books). b.rows) done) (ap (λ (b : Books). b.limit) done);
-      tied = visit_tied s.spine x s.sessions.rows c.set.new.self.rows s.heads.rows h.number c.args.number c.of.result.value c.self.invariant.tied c.requires.rest.1 others taken (ap (λ (b : Books). b.sessions) done) c.of.ensures rows;
+      tied = visit_tied s.spine x s.sessions.rows c.set.new.self.rows s.heads.rows h.number c.args.number c.of.result.value c.self.invariant.tied c.requires.rest.1 others (published_keeps c.args.number c.args.count s.spine x done) taken (ap (λ (b : Books). b.sessions) done) c.of.ensures rows;
       behind = behind_set g.J.Naming.limit g.J.Naming.opening s.spine x c.of.result.value s.sessions.rows c.set.new.self.rows h.number c.self.invariant.behind grows (whole_after g.J.Naming.columns g.J.Naming.opening g.J.Naming.limit s.spine x c.self.invariant.of (ap (λ (b : Books). b.columns) done) (ap (λ (b : Books). b.rows) done) (ap (λ (b : Books). b.limit) done) ends) c.of.ensures rows;
       ends = ends;
     }
@@ -51,6 +53,13 @@ returns-clause-mine g c =
     let h = c.args.share.now in
     let n = c.args.number in
     ap (λ (v : Books). mine n v.entries) (c.set.ensures.value ∙ c.of.ensures ∙ c.set_published.ensures) ∙ mine_is s.spine s.sessions.rows s.heads.rows h.number n h.value c.self.invariant.tied c.agree.ensures.value c.requires.rest.1
+
+pub returns-clause-own : goal.returns-clause-own
+returns-clause-own g c =
+    let s = c.self.inside in
+    let h = c.args.share.now in
+    let n = c.args.number in
+    ap (λ (v : Books). own n v.entries) (c.set.ensures.value ∙ c.of.ensures ∙ c.set_published.ensures) ∙ own_is s.spine s.sessions.rows s.heads.rows h.number n h.value c.self.invariant.tied c.agree.ensures.value c.requires.rest.1
 
 pub returns-clause-grows : goal.returns-clause-grows
 returns-clause-grows g c =

@@ -1,9 +1,9 @@
-use Rattle.std.proofs.Common.{rules, ◌≡◌, length, get_or, sym, ap, ◌∙◌, subst, ⊎_elim, inl, inr}
+use Rattle.std.proofs.Common.{rules, arith, ◌≡◌, length, get_or, sym, ap, ◌∙◌, subst, ⊎_elim, inl, inr}
 use Rattle.sw_spine.specs.History.{History, IsLegal, all_given, is_absent, mine}
 use Rattle.sw_spine.specs.Books.{Books, waits_for}
 use Rattle.sw_spine.specs.Rest.{none_open}
 use Rattle.sw_engine.specs.Desk.{DeskState}
-use Rattle.sw_engine.proofs.Ties.{absent_or_named, given_length, opened_rests}
+use Rattle.sw_engine.proofs.Ties.{absent_or_named, all_named, given_length, opened_rests}
 use Rattle.sw_engine.proofs.engine.Engine.close.Goals as goal
 
 pub returns-clause-headline : goal.returns-clause-headline
@@ -23,6 +23,7 @@ returns-clause-headline g c =
       legal = subst IsLegal (sym is) c.into_record.ensures.legal;
       given = ap (λ (h : History). all_given h.entries) is ∙ c.into_record.ensures.given;
       answered = λ i t lt. ap (λ (h : History). mine (get_or ts i t).0 h.entries) is ∙ (ap (λ (x : Books). mine (get_or ts i t).0 x.entries) same ∙ c.give_all.ensures.mine i t lt);
+      numbered = λ k lt. all_named ts d.given c.give_all.new.self.given k c.give_all.ensures.given as_many (omega (arith, as_many, lt));
       others = λ s. ⊎_elim
           (λ gone. inl (ap (λ (h : History). is_absent s h.entries) is ∙ gone))
           (λ named. inr named)

@@ -1,6 +1,6 @@
 use Rattle.std.proofs.Common.{◌≡◌, ◌≤◌, ◌++◌, ℕ, List}
 use Rattle.sw_import.specs.Records.{IsOpen, records_left}
-use Rattle.sw_import.specs.Taken.{TakesIn}
+use Rattle.sw_import.specs.Taken.{AreWanted, TakesIn}
 use Rattle.sw_import.proofs.writing.Table.take_all.Given as goal
 
 abbrev pub invariant-rows : goal.invariant-rows
@@ -9,4 +9,5 @@ invariant-rows l =
     × (l.self.rows ≤ l.most.rows)
     × (taken : List (List (List ℕ)))
     × (records_left l.initial.rdr ≡ taken ++ records_left l.rdr)
+    × AreWanted l.maker l.most l.initial.self taken
     × TakesIn l.maker taken l.initial.self l.self

@@ -1,4 +1,4 @@
-use Rattle.std.proofs.Common.{rules, ◌≡◌, ◌<◌, ◌∙◌, ℕ, length, sym, subst, arith}
+use Rattle.std.proofs.Common.{rules, ◌≡◌, ◌<◌, ◌∙◌, length, sym, subst, arith}
 use Rattle.sw_rows.specs.Scan.{AsksBelow}
 use Rattle.sw_solo.specs.Called.{SoloState}
 use Rattle.sw_solo.specs.Seats.{IsSeated}

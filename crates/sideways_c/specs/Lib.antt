@@ -1,0 +1,10 @@
+pub mod Asks
+pub mod Checked
+pub mod Codes
+pub mod Executed
+pub mod Handles
+pub mod Looks
+pub mod Opened
+pub mod Selects
+pub mod Shown
+pub mod Slots

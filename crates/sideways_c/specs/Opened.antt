@@ -1,0 +1,103 @@
+-- Engines that are opened and ended.
+use Rattle.std.specs.Prelude.{ℕ, ◌≡◌, ◌≤◌, ◌<◌, ◌+◌, ◌==◌, ◌&&◌, ◌⊎◌, if◌then◌else◌, Bool, true, false, nat_le, nat_lt, List, Option, None, Some, Result, Ok, Err}
+use Rattle.std.specs.Str.{is_utf8}
+use Rattle.sw_rows.specs.Gives.{Fails}
+use Rattle.sw_rows.specs.Header.{Column}
+use Rattle.sw_rows.specs.Tables.{Table, table_of}
+use Rattle.sw_rows.specs.declared.refusal.Refusal.{Refusal}
+use Rattle.sw_rows.specs.declared.refusal.Refusal.TheVariants.{BadLine, NoMemory}
+use Rattle.sw_rows.specs.declared.refusal.Why.TheVariants as why
+use Rattle.sw_rows.specs.declared.table.TheConstants.{MOST_ROWS}
+use Rattle.sw_lang.specs.Cuts.{CutLists}
+use Rattle.sw_lang.specs.CutsReading.{cuts_at}
+use Rattle.sw_lang.specs.Reading.{refused}
+use Rattle.sw_spine.specs.Books.{RefusesRows}
+use Rattle.sw_spine.specs.History.{IsLegal}
+use Rattle.sw_spine.specs.Rest.{none_open}
+use Rattle.sw_histories.specs.RecordText.{record_text}
+use Rattle.sw_solo.specs.Called.{RefusesSession, SoloState, new_solo}
+use Rattle.sideways_c.specs.Codes.{code_of}
+use Rattle.sideways_c.specs.Handles.{OnEngine, OnHandle}
+use Rattle.sideways_c.specs.Shown.{Shown, over}
+use Rattle.sideways_c.specs.declared.codes.TheConstants.{BAD_OPTIONS, MISUSE, OK}
+use Rattle.sideways_c.specs.declared.opening.Options.{Options}
+use Rattle.sideways_c.specs.declared.opening.TheConstants.{MOST_CELLS, MOST_MAPS}
+
+-- ---- options
+
+abbrev pub are_sound : Options → Bool
+are_sound o =
+    nat_lt 0 o.limit && nat_le o.limit MOST_ROWS && nat_le o.budget MOST_CELLS && nat_le o.maps MOST_MAPS
+
+-- the limit is one of rows
+pub record AreSound (o : Options) : Type 0 where
+  pub some : 0 < o.limit
+  pub most : o.limit ≤ MOST_ROWS
+
+-- ---- opening
+
+-- the cuts of a text
+abbrev pub cuts_in : List Column → List ℕ → Result CutLists Refusal
+cuts_in columns text = if is_utf8 text then refused 0 (cuts_at columns text) else Err (BadLine 0 why.Cuts)
+
+-- what the engine of a table and cuts is refused for: a fault of the table; or one of the cuts; or more rows than the limit;
+-- or there is no memory
+abbrev pub IsNotOpening : List ℕ → List ℕ → ℕ → Refusal → Type 0
+IsNotOpening table cuts limit e =
+    Fails (Unit {0}) e (table_of table)
+    ⊎ ((t : Table) × (table_of table ≡ Ok t) × ((cuts_in t.columns cuts ≡ Err e) ⊎ RefusesRows limit t.rows e))
+
+-- an engine with no calls and no sessions over the table that these bytes spell
+abbrev pub IsOpening : List ℕ → List ℕ → ℕ → Result SoloState Refusal → Type 0
+IsOpening table cuts limit (Ok s) =
+    (t : Table) × (lists : CutLists) × (table_of table ≡ Ok t) × (cuts_in t.columns cuts ≡ Ok lists)
+    × (s ≡ new_solo t.columns t.rows limit)
+IsOpening table cuts limit (Err e) = IsNotOpening table cuts limit e
+
+-- the handle of such an engine
+abbrev pub IsHandleOf : List ℕ → List ℕ → ℕ → Option Shown → Type 0
+IsHandleOf table cuts limit h = (s : SoloState) × IsOpening table cuts limit (Ok s) × (h ≡ Some (over s))
+
+-- what comes of a closed handle under options that are sound, and under others
+abbrev pub OpensUnder : Bool → List ℕ → List ℕ → ℕ → Option Shown → ℕ → Type 0
+OpensUnder true table cuts limit new code =
+    ((code ≡ OK) × IsHandleOf table cuts limit new)
+    ⊎ ((e : Refusal) × IsNotOpening table cuts limit e × (code ≡ code_of e) × (new ≡ None))
+OpensUnder false table cuts limit new code = (code ≡ BAD_OPTIONS) × (new ≡ None)
+
+abbrev pub OpensHandle : List ℕ → List ℕ → Options → Option Shown → Option Shown → ℕ → Type 0
+OpensHandle table cuts options None new code = OpensUnder (are_sound options) table cuts options.limit new code
+OpensHandle table cuts options (Some h) new code = (code ≡ MISUSE) × (new ≡ Some h)
+
+-- ---- sessions
+
+abbrev pub Enrols : SoloState → Shown → Shown → ℕ → Type 0
+Enrols s old new code =
+    ((code ≡ OK) × (new ≡ record old { engine = Some (record s { sessions = s.sessions + 1 }) }))
+    ⊎ ((e : Refusal) × RefusesSession s e × (code ≡ code_of e) × (new ≡ old))
+
+abbrev pub EnrolsIn : Shown → Shown → ℕ → Type 0
+EnrolsIn old new code = OnEngine Enrols old new code
+
+abbrev pub EnrolsHandle : Option Shown → Option Shown → ℕ → Type 0
+EnrolsHandle old new code = OnHandle EnrolsIn old new code
+
+-- the number of a session that was opened, or 0
+abbrev pub number_told : Option SoloState → ℕ → ℕ
+number_told None code = 0
+number_told (Some s) code = if code == OK then s.sessions + 1 else 0
+
+-- ---- the end
+
+-- the engine ended: the text is that of its history, which is legal and has no open entry; or there was no memory for it
+abbrev pub Closes : SoloState → Shown → Shown → ℕ → Type 0
+Closes s old new code =
+    ((code ≡ OK) × (new ≡ record old { engine = None; text = record_text s.history; kept = None })
+    × IsLegal s.history × (none_open s.history.entries ≡ true))
+    ⊎ ((code ≡ code_of NoMemory) × (new ≡ record old { engine = None; kept = None }))
+
+abbrev pub ClosesIn : Shown → Shown → ℕ → Type 0
+ClosesIn old new code = OnEngine Closes old new code
+
+abbrev pub ClosesHandle : Option Shown → Option Shown → ℕ → Type 0
+ClosesHandle old new code = OnHandle ClosesIn old new code

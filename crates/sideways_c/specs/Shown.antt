@@ -1,0 +1,22 @@
+-- What a handle shows.
+use Rattle.std.specs.Prelude.{ℕ, ◌≡◌, ◌==◌, ◌&&◌, Bool, true, false, if◌then◌else◌, nat_le, nat_lt, List, [], Option, Some, None, MatchOption}
+use Rattle.sw_solo.specs.Called.{SoloState}
+use Rattle.sideways_c.specs.declared.kept.Kept.{Kept}
+
+-- the engine, if there is one, the text that was kept last, and the rows of the last select
+pub record Shown : Type 0 where
+  pub engine : Option SoloState
+  pub text : List ℕ
+  pub kept : Option Kept
+
+-- an engine with an empty text and no rows
+abbrev pub over : SoloState → Shown
+over s = record { engine = Some s; text = []; kept = None }
+
+-- a text alone
+abbrev pub telling : List ℕ → Shown
+telling text = record { engine = None; text = text; kept = None }
+
+-- whether a session was opened
+abbrev pub has_session : ℕ → SoloState → Bool
+has_session n s = nat_lt 0 n && nat_le n s.sessions

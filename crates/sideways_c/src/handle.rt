@@ -1,0 +1,53 @@
+//! A handle.
+
+ghost use Rattle.std.specs.Prelude.{◌≡◌, Some, true, is_some, IfOk, IsOkUnless};
+ghost use Rattle.sw_rows.specs.declared.refusal.Refusal.TheVariants.{NoMemory};
+ghost use Rattle.sideways_c.specs.Handles.{shown};
+
+use crate::inner::Inner;
+use crate::slot::Slot;
+use crate::state::State;
+use std::alloc::Global;
+use sw_rows::Refusal;
+
+/// What a caller keeps: closed, all zeros; or open.
+#[repr(C)]
+#[derive(Drop)]
+pub struct Sideways {
+    pub(crate) is_open: bool,
+    pub(crate) slot: Slot,
+    pub ghost opened: { is_open ≡ is_some slot.value },
+}
+
+/// The handle of what stands in a box.
+pub(crate) fn kept(inner: Box<Inner>) -> Sideways
+    ensures { result.slot.value ≡ Some inner.value }
+{
+    Sideways {
+        is_open: true,
+        slot: Slot::of(inner),
+    }
+}
+
+/// What an open handle stands for.
+pub(crate) fn taken(h: Sideways) -> Box<Inner>
+    requires { h.is_open ≡ true }
+    ensures { h.slot.value ≡ Some result.value }
+{
+    let Sideways { slot, .. } = h;
+    slot.into_box()
+}
+
+/// A handle of a state. The one refusal is `NoMemory`.
+pub(crate) fn handle_of(alloc: Global, state: State) -> Result<Sideways, Refusal>
+    ensures made { IfOk result (λ h. shown h.slot.value ≡ Some state) }
+    ensures refused { IsOkUnless result NoMemory }
+{
+    let Ok(state) = Box::new(alloc, state) else {
+        return Err(Refusal::NoMemory);
+    };
+    match Box::new(alloc, Inner { state }) {
+        Ok(inner) => Ok(kept(inner)),
+        Err(_) => Err(Refusal::NoMemory),
+    }
+}

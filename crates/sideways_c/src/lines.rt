@@ -1,0 +1,188 @@
+//! Lines that are executed, and the text that was kept last.
+
+ghost use Rattle.std.specs.Prelude.{◌≡◌, ◌<◌, ◌≤◌, drop, length, true, IfOk, IfSome, Some, min};
+ghost use Rattle.sw_arrays.specs.Blocks.{filled, many_in};
+ghost use Rattle.sw_lang.specs.Reading.{Answers};
+ghost use Rattle.sw_lang.specs.Replies.{reply_bytes};
+ghost use Rattle.sw_spine.specs.History.{CallsBelow};
+ghost use Rattle.sideways_c.specs.Executed.{Executes, ExecutesIn, ExecutesLine, call_in};
+ghost use Rattle.sideways_c.specs.Handles.{HasExchangedText, shown, text_in};
+
+use crate::codes::{MISUSE, NO_SESSION, NO_TEXT, OK, code_of};
+use crate::handle::{Sideways, kept, taken};
+use crate::state::{State, has_session};
+use core::mem::{replace, replace_with};
+use std::alloc::Global;
+use sw_lang::{parse_known, write_reply};
+use sw_map::PairMap;
+use sw_rows::{Call, Counted, Refusal, Reply, Schema, Why};
+use sw_solo::Solo;
+
+/// The call of a line, over the texts that the schema knows.
+fn call_of_line(alloc: Global, schema: &Schema, line: &[u8]) -> Result<Option<Call>, Refusal>
+    ensures spelled { Answers result (call_in schema.now line.now) }
+    ensures below { IfOk result (λ call. IfSome call (CallsBelow (length schema.now))) }
+{
+    match std::str::from_utf8(line) {
+        Ok(text) => parse_known(alloc, schema, 1, text),
+        Err(_) => {
+            let why = Why::Encoding;
+            Err(Refusal::BadLine { line: 1, why })
+        }
+    }
+}
+
+/// The lines of a reply, if there is memory for them.
+fn told(alloc: Global, schema: &Schema, call: &Call, reply: &Reply) -> Option<Vec<u8>>
+    ensures { IfSome result (λ text. text.items ≡ reply_bytes schema.now call.now reply.now) }
+{
+    let mut out = Counted::new(Vec::new(alloc));
+    match write_reply(schema, call, reply, &mut out) {
+        Ok(()) => Some(out.inner),
+        Err(_) => None,
+    }
+}
+
+/// Executes a line as a session's, and answers the text of its reply; None where the call was made and there was no memory
+/// for its text. Refused, nothing has changed.
+fn execute(
+    alloc: Global,
+    solo: &mut Solo<PairMap>,
+    session: u64,
+    line: &[u8],
+) -> Result<Option<Vec<u8>>, Refusal>
+    requires some { 0 < session }
+    requires opened { session ≤ solo.old.sessions }
+    ensures { Executes session (call_in solo.old.history.columns line.now) solo.old solo.new result }
+{
+    let call = match call_of_line(alloc, solo.schema(), line) {
+        Ok(Some(call)) => call,
+        Ok(None) => return Ok(Some(Vec::new(alloc))),
+        Err(e) => return Err(e),
+    };
+    match solo.call(session, &call) {
+        Ok(reply) => Ok(told(alloc, solo.schema(), &call, &reply)),
+        Err(e) => Err(e),
+    }
+}
+
+/// A line of a session.
+#[derive(Clone, Copy)]
+struct Line<'a> {
+    session: u64,
+    bytes: &'a [u8],
+}
+
+/// Executes a line, and keeps the text of its reply.
+#[tactic(auto, using(crate::proofs::Executing::line_told, crate::proofs::Executing::line_untold, crate::proofs::Executing::line_refused, crate::proofs::Executing::executes_in))]
+fn run_line(state: &mut State, line: Line<'_>) -> u32
+    ensures { ExecutesIn line.entry.session line.entry.bytes.now state.old state.new result }
+{
+    let State { solo, text, .. } = state;
+    let Some(solo) = solo else {
+        return MISUSE;
+    };
+    if !has_session(solo, line.session) {
+        return NO_SESSION;
+    }
+    let alloc = *text.allocator();
+    match execute(alloc, solo, line.session, line.bytes) {
+        Ok(Some(told)) => {
+            *text = told;
+            OK
+        }
+        Ok(None) => NO_TEXT,
+        Err(e) => code_of(&e),
+    }
+}
+
+fn executed<'a>(h: Sideways, line: Line<'a>) -> (Sideways, u32)
+    requires { h.is_open ≡ true }
+    ensures { ExecutesLine line.entry.session line.entry.bytes.now (shown h.slot.value) (shown result.0.slot.value) result.1 }
+{
+    let mut inner = taken(h);
+    let code = run_line(&mut inner.state, line);
+    (kept(inner), code)
+}
+
+/// Executes a line as a session's. The text of its reply is kept.
+#[unsafe(no_mangle)]
+pub extern "C" fn sideways_exec(h: &mut Sideways, session: u64, line: &[u8]) -> u32
+    ensures { ExecutesLine session line.now (shown h.old.slot.value) (shown h.new.slot.value) result }
+{
+    if !h.is_open {
+        return MISUSE;
+    }
+    let asked = Line {
+        session,
+        bytes: line,
+    };
+    replace_with(h, asked, executed)
+}
+
+fn measured(h: Sideways, _none: ()) -> (Sideways, usize)
+    requires { h.is_open ≡ true }
+    ensures same { shown result.0.slot.value ≡ shown h.slot.value }
+    ensures many { result.1 ≡ length (text_in (shown h.slot.value)) }
+{
+    let inner = taken(h);
+    let many = inner.state.text.len();
+    (kept(inner), many)
+}
+
+/// How many bytes the text has that was kept last; 0 of a closed handle.
+#[unsafe(no_mangle)]
+pub extern "C" fn sideways_text_size(h: &mut Sideways) -> usize
+    ensures same { shown h.new.slot.value ≡ shown h.old.slot.value }
+    ensures many { result ≡ length (text_in (shown h.old.slot.value)) }
+{
+    if !h.is_open {
+        return 0;
+    }
+    replace_with(h, (), measured)
+}
+
+/// Copies a text from a place on, as much as there is room for, and answers how much.
+fn copy(text: &[u8], from: usize, out: &mut [u8]) -> usize
+    ensures copied { out.new ≡ filled (drop from text.now) out.old }
+    ensures many { result ≡ many_in (drop from text.now) out.old }
+{
+    if from >= text.len() {
+        return 0;
+    }
+    let many = (text.len() - from).min(out.len());
+    let (front, _) = out.split_at_mut(many);
+    front.copy_from_slice(&text[from..from + many]);
+    many
+}
+
+/// Takes the text out, and leaves another in its place.
+fn exchanged(h: Sideways, text: Vec<u8>) -> (Sideways, Vec<u8>)
+    requires { h.is_open ≡ true }
+    ensures { HasExchangedText text.items result.1.items (shown h.slot.value) (shown result.0.slot.value) }
+{
+    let mut inner = taken(h);
+    let was = replace(&mut inner.state.text, text);
+    (kept(inner), was)
+}
+
+/// Copies the text that was kept last from a place on, as much as there is room for, and answers how much.
+#[unsafe(no_mangle)]
+pub extern "C" fn sideways_text(
+    alloc: Global,
+    h: &mut Sideways,
+    from: usize,
+    out: &mut [u8],
+) -> usize
+    ensures same { shown h.new.slot.value ≡ shown h.old.slot.value }
+    ensures copied { out.new ≡ filled (drop from (text_in (shown h.old.slot.value))) out.old }
+    ensures many { result ≡ many_in (drop from (text_in (shown h.old.slot.value))) out.old }
+{
+    if !h.is_open {
+        return 0;
+    }
+    let text = replace_with(h, Vec::new(alloc), exchanged);
+    let many = copy(text.as_slice(), from, out);
+    let _none = replace_with(h, text, exchanged);
+    many
+}

@@ -1,0 +1,241 @@
+//! Engines that are opened and ended, and their sessions.
+
+ghost use Rattle.std.specs.Prelude.{◌≡◌, true, IfOk, IsOkUnless, MatchResult};
+ghost use Rattle.sw_rows.specs.declared.refusal.Refusal.TheVariants.{NoMemory};
+ghost use Rattle.sw_lang.specs.Cuts.{FitCuts};
+ghost use Rattle.sw_lang.specs.Reading.{Answers};
+ghost use Rattle.sw_histories.specs.RecordText.{record_text};
+ghost use Rattle.sideways_c.specs.Handles.{engine_in, shown};
+ghost use Rattle.sideways_c.specs.Opened.{AreSound, ClosesHandle, ClosesIn, EnrolsHandle, EnrolsIn, IsHandleOf, IsNotOpening, IsOpening, OpensHandle, are_sound, cuts_in, number_told};
+
+use crate::boxes::supply;
+use crate::codes::{BAD_OPTIONS, MISUSE, OK, code_of};
+use crate::handle::{Sideways, handle_of, kept, taken};
+use crate::state::State;
+use core::mem::replace_with;
+use std::alloc::Global;
+use sw_histories::write_record;
+use sw_lang::{Cuts, parse_cuts};
+use sw_map::PairMap;
+use sw_rows::{Counted, MOST_ROWS, Refusal, Schema, TextKey, Why, load};
+use sw_solo::Solo;
+use sw_spine::Record;
+
+/// How many cells the maps of an engine have together at most.
+const MOST_CELLS: u64 = 1_099_511_627_776;
+
+/// How many maps an engine has at most.
+const MOST_MAPS: u64 = 4096;
+
+/// How an engine is opened: the limit of rows ever inserted, how many cells its maps may have together, and how many maps
+/// there are.
+#[repr(C)]
+#[derive(Clone, Copy)]
+pub struct Options {
+    pub limit: u64,
+    pub budget: u64,
+    pub maps: u64,
+}
+
+fn are_sound(options: &Options) -> bool
+    ensures value { result ≡ are_sound options.now }
+    ensures sound { result ≡ true → AreSound options.now }
+{
+    0 < options.limit
+        && options.limit <= MOST_ROWS
+        && options.budget <= MOST_CELLS
+        && options.maps <= MOST_MAPS
+}
+
+/// The cuts of a text.
+fn cuts_of(alloc: Global, schema: &Schema, text: &[u8]) -> Result<Cuts, Refusal>
+    ensures answers { Answers result (cuts_in schema.now text.now) }
+    ensures fits { IfOk result (FitCuts schema.now) }
+{
+    match std::str::from_utf8(text) {
+        Ok(text) => parse_cuts(alloc, schema, text),
+        Err(_) => {
+            let why = Why::Cuts;
+            Err(Refusal::BadLine { line: 0, why })
+        }
+    }
+}
+
+/// An engine over the table of these bytes, with these cuts and no session.
+fn opened(
+    alloc: Global,
+    table: &[u8],
+    cuts: &[u8],
+    options: Options,
+) -> Result<Solo<PairMap>, Refusal>
+    requires { AreSound options }
+    ensures { IsOpening table.now cuts.now options.limit result }
+{
+    let mut source = Counted::new(table);
+    let (schema, rows) = match load(alloc, TextKey::fixed(), &mut source) {
+        Ok(found) => found,
+        Err(e) => return Err(e),
+    };
+    let cuts = match cuts_of(alloc, &schema, cuts) {
+        Ok(cuts) => cuts,
+        Err(e) => return Err(e),
+    };
+    let mut solo = match Solo::open(alloc, schema, rows, cuts, options.limit) {
+        Ok(solo) => solo,
+        Err(e) => return Err(e),
+    };
+    match supply(alloc, &mut solo, options.budget, options.maps) {
+        Ok(()) => Ok(solo),
+        Err(e) => Err(e),
+    }
+}
+
+/// A handle of such an engine.
+fn opened_handle(
+    alloc: Global,
+    table: &[u8],
+    cuts: &[u8],
+    options: Options,
+) -> Result<Sideways, Refusal>
+    requires { AreSound options }
+    ensures { MatchResult result (λ h. IsHandleOf table.now cuts.now options.limit (shown h.slot.value)) (IsNotOpening table.now cuts.now options.limit) }
+{
+    let solo = match opened(alloc, table, cuts, options) {
+        Ok(solo) => solo,
+        Err(e) => return Err(e),
+    };
+    match handle_of(alloc, State::over(alloc, solo)) {
+        Ok(h) => Ok(h),
+        Err(e) => Err(e),
+    }
+}
+
+/// Opens an engine over the table of these bytes, with these cuts, in a handle that is closed.
+#[unsafe(no_mangle)]
+pub extern "C" fn sideways_open(
+    alloc: Global,
+    table: &[u8],
+    cuts: &[u8],
+    options: &Options,
+    out: &mut Sideways,
+) -> u32
+    ensures { OpensHandle table.now cuts.now options.now (shown out.old.slot.value) (shown out.new.slot.value) result }
+{
+    if out.is_open {
+        return MISUSE;
+    }
+    if !are_sound(options) {
+        return BAD_OPTIONS;
+    }
+    match opened_handle(alloc, table, cuts, *options) {
+        Ok(made) => {
+            *out = made;
+            OK
+        }
+        Err(e) => code_of(&e),
+    }
+}
+
+/// Opens a session of the engine: a code, and the number, 0 where it is refused.
+fn enrol(state: &mut State) -> (u32, u64)
+    ensures made { EnrolsIn state.old state.new result.0 }
+    ensures number { result.1 ≡ number_told state.old.engine result.0 }
+{
+    match &mut state.solo {
+        Some(solo) => match solo.session() {
+            Ok(number) => (OK, number),
+            Err(e) => (code_of(&e), 0),
+        },
+        None => (MISUSE, 0),
+    }
+}
+
+fn enrolled(h: Sideways, _none: ()) -> (Sideways, (u32, u64))
+    requires { h.is_open ≡ true }
+    ensures made { EnrolsHandle (shown h.slot.value) (shown result.0.slot.value) result.1.0 }
+    ensures number { result.1.1 ≡ number_told (engine_in (shown h.slot.value)) result.1.0 }
+{
+    let mut inner = taken(h);
+    let told = enrol(&mut inner.state);
+    (kept(inner), told)
+}
+
+/// Opens a session, and tells its number; 0 where it is refused.
+#[unsafe(no_mangle)]
+pub extern "C" fn sideways_session(h: &mut Sideways, number: &mut u64) -> u32
+    ensures made { EnrolsHandle (shown h.old.slot.value) (shown h.new.slot.value) result }
+    ensures number { number.new ≡ number_told (engine_in (shown h.old.slot.value)) result }
+{
+    if !h.is_open {
+        *number = 0;
+        return MISUSE;
+    }
+    let (code, given) = replace_with(h, (), enrolled);
+    *number = given;
+    code
+}
+
+/// The bytes of a history file. The one refusal is `NoMemory`.
+fn spelled(alloc: Global, history: &Record) -> Result<Vec<u8>, Refusal>
+    ensures text { IfOk result (λ text. text.items ≡ record_text history.now) }
+    ensures refused { IsOkUnless result NoMemory }
+{
+    let mut out = Counted::new(Vec::new(alloc));
+    match write_record(alloc, history, &mut out) {
+        Ok(()) => Ok(out.inner),
+        Err(_) => Err(Refusal::NoMemory),
+    }
+}
+
+/// Ends the engine, and keeps the bytes of its history.
+fn end(state: &mut State) -> u32
+    ensures { ClosesIn state.old state.new result }
+{
+    let Some(solo) = state.solo.take() else {
+        return MISUSE;
+    };
+    let alloc = *state.text.allocator();
+    state.kept = None;
+    match spelled(alloc, &solo.close()) {
+        Ok(text) => {
+            state.text = text;
+            OK
+        }
+        Err(e) => code_of(&e),
+    }
+}
+
+fn ended(h: Sideways, _none: ()) -> (Sideways, u32)
+    requires { h.is_open ≡ true }
+    ensures { ClosesHandle (shown h.slot.value) (shown result.0.slot.value) result.1 }
+{
+    let mut inner = taken(h);
+    let code = end(&mut inner.state);
+    (kept(inner), code)
+}
+
+/// Ends the engine. The bytes of its history are kept as the text; refused for want of memory, it has ended too.
+#[unsafe(no_mangle)]
+pub extern "C" fn sideways_close(h: &mut Sideways) -> u32
+    ensures { ClosesHandle (shown h.old.slot.value) (shown h.new.slot.value) result }
+{
+    if !h.is_open {
+        return MISUSE;
+    }
+    replace_with(h, (), ended)
+}
+
+/// Gives back what an open handle stands for.
+fn freed(h: Sideways)
+    requires { h.is_open ≡ true }
+{
+    drop(taken(h));
+}
+
+/// Gives back all that a handle stands for.
+#[unsafe(no_mangle)]
+pub extern "C" fn sideways_free(h: Sideways) {
+    if h.is_open {
+        freed(h);
+    }
+}

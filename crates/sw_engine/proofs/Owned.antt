@@ -1,0 +1,63 @@
+-- What one more entry, and an entry that is settled, do to the sessions' own entries.
+use Rattle.std.proofs.Common.{◌≡◌, ◌≢◌, ◌⊎◌, inl, inr, ◌++◌, ◌==◌, ℕ, Bool, true, false, List, [], ◌∷◌, Option, Some, None, refl, sym, ap, ◌∙◌, arith, cond, subst}
+use Rattle.std.proofs.lemmas.Bool.Decides.{nat_tests}
+use Rattle.sw_table.specs.declared.row.Update.{Update}
+use Rattle.sw_rows.specs.declared.query.Query.{Query}
+use Rattle.sw_rows.specs.declared.query.Call.{Call}
+use Rattle.sw_rows.specs.declared.query.Call.TheVariants as call
+use Rattle.sw_spine.specs.Table.{opened, updates_then}
+use Rattle.sw_spine.specs.History.{entry, is_absent, is_open, settled, waiting_after, waits}
+use Rattle.sw_spine.specs.Books.{Books, reply_now, waits_for, with_answered, with_open, with_published, with_settled}
+use Rattle.sw_spine.specs.declared.history.Entry.{Entry}
+use Rattle.sw_spine.specs.declared.history.State.{State}
+use Rattle.sw_spine.specs.declared.history.State.TheVariants as state
+use Rattle.sw_engine.specs.Own.{Adds, Settles, own, own_settled}
+
+-- ---- of entries
+
+pub own_push : (s : ℕ) (es : List Entry) (e : Entry) → e.session ≡ s → own s (es ++ e ∷ []) ≡ own s es ++ (e.call, e.state) ∷ []
+own_push s [] e same = grind (arith, nat_tests, same)
+own_push s (x ∷ es) e same = grind (arith, nat_tests, own_push s es e same)
+
+pub own_push_other : (s : ℕ) (es : List Entry) (e : Entry) → e.session ≢ s → own s (es ++ e ∷ []) ≡ own s es
+own_push_other s [] e apart = grind (arith, nat_tests, apart)
+own_push_other s (x ∷ es) e apart = ap (λ l. cond (x.session == s) ((x.call, x.state) ∷ l) l) (own_push_other s es e apart)
+
+pub own_after_settled : (s : ℕ) (st : State) (es : List Entry) → own s (settled s st es) ≡ own_settled st (own s es)
+own_after_settled s st [] = refl
+own_after_settled s st (x ∷ es) = grind (arith, nat_tests, own_after_settled s st es)
+
+pub own_settled_other : (s : ℕ) (st : State) (k : ℕ) (es : List Entry) → k ≢ s → own k (settled s st es) ≡ own k es
+own_settled_other s st k [] apart = refl
+own_settled_other s st k (x ∷ es) apart = grind (arith, nat_tests, apart, own_settled_other s st k es apart)
+
+pub own_absent : (s : ℕ) (es : List Entry) → is_absent s es ≡ true → own s es ≡ []
+own_absent s [] h = refl
+own_absent s (x ∷ es) h = grind (arith, nat_tests, h, own_absent s es)
+
+-- where a session waits for nothing, the entry that it adds is the one that is settled
+settled_last : (s limit : ℕ) (us : List Update) (es : List Entry) (c : Call) (st : State) → waiting_after s limit us es ≡ None → own_settled st (own s es ++ (c, state.Open) ∷ []) ≡ own s es ++ (c, st) ∷ []
+settled_last s limit us [] c st none = refl
+settled_last s limit us (x ∷ es) c st none = grind (arith, nat_tests, none, settled_last s limit (updates_then limit us x.call) es c st)
+
+-- ---- of books
+
+-- the own entries of all other sessions stay
+abbrev pub KeepsOwn : ℕ → Books → Books → Type 0
+KeepsOwn session old new = (s : ℕ) → s ≢ session → own s new.entries ≡ own s old.entries
+
+pub open_keeps : (session : ℕ) (q : Query) (head : ℕ) (b x : Books) → x ≡ with_open session q head b → KeepsOwn session b x
+open_keeps session q head b x is k apart = ap (λ (y : Books). own k y.entries) is ∙ own_push_other k b.entries (entry session (call.Select q) state.Open) (λ e. apart (sym e))
+
+pub settled_keeps : (session : ℕ) (st : State) (b x : Books) → x ≡ with_settled session st b → KeepsOwn session b x
+settled_keeps session st b x is k apart = ap (λ (y : Books). own k y.entries) is ∙ own_settled_other session st k b.entries apart
+
+pub answered_keeps : (session : ℕ) (c : Call) (b x : Books) → x ≡ with_answered session c b → KeepsOwn session b x
+answered_keeps session c b x is k apart = ap (λ (y : Books). own k y.entries) is ∙ own_push_other k b.entries (entry session c (state.Answered (reply_now c b))) (λ e. apart (sym e))
+
+pub published_keeps : (session n : ℕ) (b x : Books) → x ≡ with_published n b → KeepsOwn session b x
+published_keeps session n b x is k apart = ap (λ (y : Books). own k y.entries) is
+
+-- a select that began and was settled
+pub settles_added : (session : ℕ) (c : Call) (st : State) (a b d : Books) → waits_for session a ≡ None → Adds session c state.Open a b → Settles session st b d → Adds session c st a d
+settles_added session c st a b d none adds settles = settles ∙ ap (own_settled st) adds ∙ settled_last session a.limit (opened a.rows) a.entries c st none
