@@ -20,7 +20,7 @@ def without_blanks(text):
 def stands():
     """All that an example may be taken from, without blanks."""
     crates = [path for crate in (TOP / "crates").iterdir() for path in [*crate.glob("src/**/*.rt"), crate / "stdin", crate / "args"]]
-    tests = [path for path in (TOP / "tests").rglob("*") if path.suffix in (".py", ".sh")]
+    tests = [path for path in (TOP / "tests").rglob("*") if path.suffix in (".py", ".sh", ".c")]
     return without_blanks("\n".join(path.read_text() for path in crates + tests if path.is_file()))
 
 
@@ -28,7 +28,7 @@ def lines_of(readme):
     """The lines of code in a README's example."""
     text = readme.read_text()
     example = text[text.index(HEAD) + len(HEAD):].split("\n## ")[0]
-    found = (re.sub(r" +//.*", "", line).strip() for line in example.splitlines() if line.startswith("    "))
+    found = (re.sub(r" +(//.*|/\*.*\*/$)", "", line).strip() for line in example.splitlines() if line.startswith("    "))
     return [line for line in found if line]
 
 

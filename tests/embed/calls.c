@@ -338,6 +338,20 @@ static void try_histories(void) {
     sideways_free(h);
 }
 
+/* The example of crates/sideways_c/README.md. */
+static void try_example(void) {
+    const uint8_t *csv = bytes(TABLE);
+    size_t csv_size = strlen(TABLE);
+    sideways_cond conds[1] = {within(A, 10, 15)};
+    sideways h = SIDEWAYS_CLOSED; uint64_t session; uint64_t found; sideways_options options = SIDEWAYS_OPTIONS;
+    sideways_open(csv, csv_size, NULL, 0, &options, &h);
+    sideways_session(&h, &session);
+    sideways_count(&h, session, conds, 1, &found);
+    sideways_close(&h);
+    CHECK(found == 2);
+    sideways_free(h);
+}
+
 int main(void) {
     CHECK(sideways_version() == SIDEWAYS_VERSION);
     sideways zeroed;
@@ -345,6 +359,7 @@ int main(void) {
     try_unopened(&zeroed);
     CHECK(sideways_text_size(&zeroed) == 0 && sideways_text(&zeroed, 0, NULL, 0) == 0);
     sideways_free(zeroed);
+    try_example();
     try_opening();
     try_lines();
     try_aggregates();
