@@ -1,16 +1,15 @@
 -- A line that is executed, seen at the handle.
-use Rattle.std.proofs.Common.{◌≡◌, ◌∙◌, ℕ, Bool, true, false, List, [], Option, None, Some, Result, Ok, Err, refl, sym, ap, subst, inl, inr}
+use Rattle.std.proofs.Common.{◌≡◌, ◌∙◌, ℕ, Bool, true, List, [], Option, None, Some, Result, Ok, Err, refl, sym, ap, subst, inl, inr}
 use Rattle.std.specs.Global.{Vec}
 use Rattle.std.specs.Prelude.{MatchOption}
 use Rattle.sw_rows.specs.declared.query.Call.{Call}
 use Rattle.sw_rows.specs.declared.refusal.Refusal.{Refusal}
-use Rattle.sw_lang.specs.Replies.{reply_bytes}
-use Rattle.sw_solo.specs.Called.{SoloState, reply_in, with_call}
+use Rattle.sw_solo.specs.Called.{SoloState}
 use Rattle.sideways_c.specs.Codes.{code_of}
-use Rattle.sideways_c.specs.Executed.{Executes, ExecutesIn, IsExecuted, IsNotExecuted, MakesLine, call_in}
+use Rattle.sideways_c.specs.Executed.{ExecutesIn, IsExecuted, IsNotExecuted, MakesLine, call_in}
 use Rattle.sideways_c.specs.Handles.{InSession, Tells}
 use Rattle.sideways_c.specs.Shown.{Shown, has_session}
-use Rattle.sideways_c.specs.declared.codes.TheConstants.{MISUSE, NO_SESSION, NO_TEXT, OK}
+use Rattle.sideways_c.specs.declared.codes.TheConstants.{MISUSE, NO_TEXT, OK}
 
 -- an engine that is as it was
 same_engine : (old : Shown) (s : SoloState) (text : List ℕ) → old.engine ≡ Some s → record old { engine = Some s; text = text } ≡ record old { text = text }

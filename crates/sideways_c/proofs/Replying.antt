@@ -1,5 +1,5 @@
 -- Which replies come of which calls.
-use Rattle.std.proofs.Common.{◌≡◌, ◌∙◌, ◌+◌, ℕ, ℤ, Bool, true, false, List, [], Option, None, Some, Result, Ok, Err, refl, sym, subst}
+use Rattle.std.proofs.Common.{◌≡◌, ◌+◌, ℕ, ℤ, Bool, true, false, List, [], Option, None, Some, Result, Ok, Err, refl, sym, subst}
 use Rattle.std.specs.Prelude.{MatchOption, if◌then◌else◌, ◌==◌}
 use denote.Ref.{Bor}
 use Rattle.sw_table.specs.Updates.{has_key, rows_of}
@@ -8,7 +8,6 @@ use Rattle.sw_rows.specs.Header.{Column}
 use Rattle.sw_rows.specs.declared.query.Call.{Call}
 use Rattle.sw_rows.specs.declared.query.Call.TheVariants as call
 use Rattle.sw_rows.specs.declared.query.Cond.{Cond}
-use Rattle.sw_rows.specs.declared.query.Query.{Query}
 use Rattle.sw_rows.specs.declared.query.Want.{Want}
 use Rattle.sw_rows.specs.declared.query.Want.TheVariants as want
 use Rattle.sw_rows.specs.declared.reply.Reply.{Reply}
@@ -16,14 +15,14 @@ use Rattle.sw_rows.specs.declared.reply.Reply.TheVariants as reply
 use Rattle.sw_spine.specs.Table.{inserts, reply_to}
 use Rattle.sw_spine.specs.History.{updates_of}
 use Rattle.sw_solo.specs.Called.{SoloState}
-use Rattle.sw_arrays.specs.Asked.{◌>>=◌, call_asked, conds_after, delete_asked, names_in, number_in, row_in}
+use Rattle.sw_arrays.specs.Asked.{◌>>=◌, call_asked, conds_after, delete_asked, number_in, row_in}
 use Rattle.sw_arrays.specs.declared.asked.Asked.{Asked}
 use Rattle.sw_arrays.specs.declared.asked.Asked.TheVariants as asked
 use Rattle.sw_arrays.specs.declared.asked.Wanted.TheVariants as wanted
 use Rattle.sw_arrays.specs.declared.range.Fault.{Fault}
 use Rattle.sw_arrays.specs.declared.range.Range.{Range}
 use Rattle.sideways_c.specs.Shown.{Shown, has_session}
-use Rattle.sideways_c.specs.Asks.{AskedBy, AskedOn, AskedOver, IsCount, IsDelete, IsDeleteWhere, IsInsert, IsLeast, IsRows, IsSum, IsTold, Told}
+use Rattle.sideways_c.specs.Asks.{AskedBy, AskedOver, IsCount, IsDelete, IsDeleteWhere, IsInsert, IsLeast, IsSum, IsTold, Told}
 use Rattle.sideways_c.specs.declared.codes.TheConstants.{MISUSE, NO_SESSION, OK}
 
 abbrev pub Holds : (Reply → Type 0) → Asked → Type 0

@@ -3,8 +3,6 @@ use Rattle.std.proofs.Common.{◌≡◌, ◌∙◌, ℕ, Bool, true, false, List
 use Rattle.std.specs.Prelude.{MatchOption, is_some}
 use Rattle.std.proofs.lemmas.Bool.{false≢true}
 use denote.Ref.{Bor}
-use Rattle.sw_table.specs.declared.row.Update.{Update}
-use Rattle.sw_rows.specs.Header.{Column}
 use Rattle.sw_rows.specs.declared.query.Call.{Call}
 use Rattle.sw_rows.specs.declared.query.Call.TheVariants as call
 use Rattle.sw_rows.specs.declared.query.Want.{Want}

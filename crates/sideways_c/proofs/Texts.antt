@@ -1,5 +1,5 @@
 -- Bytes that are text, and bytes that are not.
-use Rattle.std.proofs.Common.{◌≡◌, refl, ℤ, pos, ℕ, Bool, true, false, List, Option, Result, Err, IsUtf8}
+use Rattle.std.proofs.Common.{◌≡◌, refl, pos, ℕ, Bool, true, false, List, Err, IsUtf8}
 use Rattle.std.proofs.lemmas.Str.{IsUtf8-from_is_utf8, is_utf8-from_IsUtf8}
 use Rattle.std.specs.Str.{is_utf8}
 use Rattle.sw_rows.specs.Header.{Column, texts_of}

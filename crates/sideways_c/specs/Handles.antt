@@ -1,7 +1,7 @@
 -- Calls over a handle.
 use Rattle.std.specs.Prelude.{ℕ, ◌≡◌, Bool, true, false, List, [], Option, Some, None, MatchOption}
 use Rattle.sw_solo.specs.Called.{SoloState}
-use Rattle.sideways_c.specs.Shown.{Shown, has_session}
+use Rattle.sideways_c.specs.Shown.{Shown}
 use Rattle.sideways_c.specs.declared.inner.Inner.{Inner}
 use Rattle.sideways_c.specs.declared.kept.Kept.{Kept}
 use Rattle.sideways_c.specs.declared.codes.TheConstants.{MISUSE, NO_SESSION}

@@ -1,5 +1,5 @@
 -- What a handle tells of its engine's table.
-use Rattle.std.specs.Prelude.{ℕ, ℤ, pos, ◌≡◌, Bool, if◌then◌else◌, List, [], length, nat_le, Option, None, Some, Result, Ok, Err, slice_get}
+use Rattle.std.specs.Prelude.{ℕ, ℤ, pos, ◌≡◌, if◌then◌else◌, List, length, nat_le, Option, None, Some, Result, Ok, Err, slice_get}
 use Rattle.std.specs.Str.{is_utf8}
 use Rattle.sw_rows.specs.Domains.{Domain}
 use Rattle.sw_rows.specs.Domains as kind

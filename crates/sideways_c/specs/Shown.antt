@@ -1,5 +1,5 @@
 -- What a handle shows.
-use Rattle.std.specs.Prelude.{ℕ, ◌≡◌, ◌==◌, ◌&&◌, Bool, true, false, if◌then◌else◌, nat_le, nat_lt, List, [], Option, Some, None, MatchOption}
+use Rattle.std.specs.Prelude.{ℕ, ◌&&◌, Bool, nat_le, nat_lt, List, [], Option, Some, None}
 use Rattle.sw_solo.specs.Called.{SoloState}
 use Rattle.sideways_c.specs.declared.kept.Kept.{Kept}
 

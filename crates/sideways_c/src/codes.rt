@@ -6,17 +6,6 @@ ghost use Rattle.sideways_c.specs.Codes.{code_of, fault_code};
 use sw_arrays::Fault;
 use sw_rows::Refusal;
 
-/// The version of the border, as the header has it.
-const VERSION: u32 = 1;
-
-/// The version of the border.
-#[unsafe(no_mangle)]
-pub extern "C" fn sideways_version() -> u32
-    ensures { result ≡ 1 }
-{
-    VERSION
-}
-
 /// Answered.
 pub(crate) const OK: u32 = 0;
 

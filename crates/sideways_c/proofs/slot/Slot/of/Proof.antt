@@ -1,8 +1,7 @@
 -- `of` takes the box apart.
-use Rattle.std.proofs.Common.{◌≡◌, ℕ, List, [], ◌∷◌, ◌++◌, refl, sym, ap, ◌∙◌, subst, Some}
+use Rattle.std.proofs.Common.{◌≡◌, List, [], ◌∷◌, ◌++◌, refl, sym, ap, ◌∙◌, subst, Some}
 use mir.Syntax.{Ty, a_type, dcons, dnil, impl, tcons, tnil, ty_struct, ty_ptr, ty_unit}
 use mir.Syntax as Syntax
-use mathlib.Core.List as List
 use mathlib.Core.Path as Path'
 use mir.Raw.{raw as bare}
 use mir.Val.{Val, vptr, vstruct, of_list}
@@ -57,7 +56,7 @@ use Rattle.sideways_c.proofs.sideways_c++inner++Inner+Destruct.drop.Kinds as Kin
 use Rattle.sideways_c.proofs.sideways_c++inner++Inner+Destruct.drop.Met as Met''
 use Rattle.sideways_c.proofs.sideways_c++inner++Inner+Destruct.drop.Reads as Reads''
 use Rattle.sideways_c.proofs.sideways_c++inner++Inner+Destruct.drop.Symbol as Symbol'
-use Rattle.sideways_c.proofs.Values.{both, Slot, slot_good, slot_in}
+use Rattle.sideways_c.proofs.Values.{both, slot_good, slot_in}
 use Rattle.std_alloc.specs.contracts.boxed.Box.into_raw_with_allocator as callee
 use Rattle.std_alloc.proofs.boxed.Box.into_raw_with_allocator.Met.{met}
 use Rattle.sideways_c.specs.contracts.slot.Slot.of.{ended, clauses}
