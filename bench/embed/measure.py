@@ -3,7 +3,7 @@
 
     bench/embed/measure.py [--rows 1000000] [--calls 1000] [--repeats 100000] [--rounds 5] [--python python3]
 
-Makes the library by `./sideways library`. By turns it makes CALLS sums over random ranges, and REPEATS counts of one range, by typed calls
+Proves the program and makes the library. By turns it makes CALLS sums over random ranges, and REPEATS counts of one range, by typed calls
 from C and by a run of the program; and CALLS counts in Python beside masks of numpy and the query of pandas. Prints the medians."""
 import argparse, glob, os, random, statistics, subprocess, sys, tempfile, zipfile
 from pathlib import Path
@@ -87,6 +87,7 @@ def main():
     given = parser.parse_args()
     with tempfile.TemporaryDirectory() as home:
         folder = Path(home)
+        subprocess.run([TOP / "sideways", "prove"], check=True)
         subprocess.run([TOP / "sideways", "library", folder / "lib"], check=True, stdout=subprocess.DEVNULL)
         compiler = os.environ.get("CC", "cc")
         words = [compiler, "-O2", str(TOP / "bench/embed/figures.c"), "-I" + str(folder / "lib"), str(folder / "lib/libsideways.a")]
