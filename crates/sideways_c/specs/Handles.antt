@@ -2,6 +2,7 @@
 use Rattle.std.specs.Prelude.{ℕ, ◌≡◌, Bool, true, false, List, [], Option, Some, None, MatchOption}
 use Rattle.sw_solo.specs.Called.{SoloState}
 use Rattle.sideways_c.specs.Shown.{Shown}
+use Rattle.sideways_c.specs.declared.holder.Sideways.{Sideways}
 use Rattle.sideways_c.specs.declared.inner.Inner.{Inner}
 use Rattle.sideways_c.specs.declared.kept.Kept.{Kept}
 use Rattle.sideways_c.specs.declared.codes.TheConstants.{MISUSE, NO_SESSION}
@@ -10,6 +11,9 @@ use Rattle.sideways_c.specs.declared.codes.TheConstants.{MISUSE, NO_SESSION}
 abbrev pub shown : Option Inner → Option Shown
 shown None = None
 shown (Some i) = Some i.state.value
+
+abbrev pub seen : Sideways → Option Shown
+seen h = shown h.slot.value
 
 -- the engine of a handle that has one
 abbrev pub engine_in : Option Shown → Option SoloState

@@ -1,5 +1,5 @@
 -- What a handle tells of its engine's table.
-use Rattle.std.specs.Prelude.{ℕ, ℤ, pos, ◌≡◌, if◌then◌else◌, List, length, nat_le, Option, None, Some, Result, Ok, Err, slice_get}
+use Rattle.std.specs.Prelude.{ℕ, ℤ, pos, ◌≡◌, if◌then◌else◌, List, length, nat_le, Option, None, Some, Result, Ok, Err, MatchResult, slice_get}
 use Rattle.std.specs.Str.{is_utf8}
 use Rattle.sw_rows.specs.Domains.{Domain}
 use Rattle.sw_rows.specs.Domains as kind
@@ -71,6 +71,9 @@ text_told code columns = or_code BAD_CELL (text_at (texts_of columns) code)
 -- whether an attribute has a head
 abbrev pub head_told : ℕ → List Column → Result (Unit {0}) ℕ
 head_told a columns = if nat_le (length columns) a then Err NO_ATTRIBUTE else Ok tt
+
+abbrev pub IsHeadTold : {A : Type 0} → Result (Unit {0}) ℕ → Result A ℕ → Type 0
+IsHeadTold has told = MatchResult told (λ _. has ≡ Ok tt) (λ e. has ≡ Err e)
 
 -- what a head tells is not spoken of; refused, what stood there is as it was
 abbrev pub IsStatsTold : Result (Unit {0}) ℕ → ℕ → Stats → Stats → Type 0

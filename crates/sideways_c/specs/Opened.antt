@@ -17,9 +17,10 @@ use Rattle.sw_spine.specs.Rest.{none_open}
 use Rattle.sw_histories.specs.RecordText.{record_text}
 use Rattle.sw_solo.specs.Called.{RefusesSession, SoloState, new_solo}
 use Rattle.sideways_c.specs.Codes.{code_of}
-use Rattle.sideways_c.specs.Handles.{OnEngine, OnHandle}
+use Rattle.sideways_c.specs.Handles.{OnEngine, OnHandle, seen}
 use Rattle.sideways_c.specs.Shown.{Shown, over}
 use Rattle.sideways_c.specs.declared.codes.TheConstants.{BAD_OPTIONS, MISUSE, OK}
+use Rattle.sideways_c.specs.declared.holder.Sideways.{Sideways}
 use Rattle.sideways_c.specs.declared.opening.Options.{Options}
 use Rattle.sideways_c.specs.declared.opening.TheConstants.{MOST_CELLS, MOST_MAPS}
 
@@ -57,6 +58,10 @@ IsOpening table cuts limit (Err e) = IsNotOpening table cuts limit e
 -- the handle of such an engine
 abbrev pub IsHandleOf : List ℕ → List ℕ → ℕ → Option Shown → Type 0
 IsHandleOf table cuts limit h = (s : SoloState) × IsOpening table cuts limit (Ok s) × (h ≡ Some (over s))
+
+abbrev pub IsHandleOr : List ℕ → List ℕ → ℕ → Result Sideways Refusal → Type 0
+IsHandleOr table cuts limit (Ok h) = IsHandleOf table cuts limit (seen h)
+IsHandleOr table cuts limit (Err e) = IsNotOpening table cuts limit e
 
 -- what comes of a closed handle under options that are sound, and under others
 abbrev pub OpensUnder : Bool → List ℕ → List ℕ → ℕ → Option Shown → ℕ → Type 0

@@ -2,10 +2,11 @@
 
 ghost use Rattle.std.specs.Prelude.{◌≡◌, true};
 ghost use Rattle.sideways_c.specs.Asks.{AskedOn, AskedOver, IsCount, IsLeast, IsLeastTold, IsSum, IsSumTold, TellsCount, TellsMax, TellsMin, TellsSum};
-ghost use Rattle.sideways_c.specs.Handles.{shown};
+ghost use Rattle.sideways_c.specs.Handles.{seen};
 
 use crate::codes::{MISUSE, NO_SESSION, OK, code_of, fault_code};
-use crate::handle::{Sideways, kept, taken};
+use crate::handle::{kept, taken};
+use crate::holder::Sideways;
 use crate::state::{State, has_session};
 use core::mem::replace_with;
 use sw_arrays::{Asked, Range, Wanted, call_of};
@@ -44,7 +45,7 @@ pub(crate) fn make(state: &mut State, request: Request<'_>) -> Result<Reply, u32
 
 pub(crate) fn made<'a>(h: Sideways, request: Request<'a>) -> (Sideways, Result<Reply, u32>)
     requires { h.is_open ≡ true }
-    ensures { AskedOver request.entry.session request.entry.asked (shown h.slot.value) (shown result.0.slot.value) result.1 }
+    ensures { AskedOver request.entry.session request.entry.asked (seen h) (seen result.0) result.1 }
 {
     let mut inner = taken(h);
     let told = make(&mut inner.state, request);
@@ -53,7 +54,7 @@ pub(crate) fn made<'a>(h: Sideways, request: Request<'a>) -> (Sideways, Result<R
 
 /// Makes a call of a handle: its reply, or a code.
 pub(crate) fn ask(h: &mut Sideways, session: u64, asked: Asked<'_>) -> Result<Reply, u32>
-    ensures { AskedOver session asked.entry (shown h.old.slot.value) (shown h.new.slot.value) result }
+    ensures { AskedOver session asked.entry (seen h.old) (seen h.new) result }
 {
     if !h.is_open {
         return Err(MISUSE);
@@ -81,7 +82,7 @@ pub extern "C" fn sideways_count(
     ranges: &[Range],
     found: &mut u64,
 ) -> u32
-    ensures { TellsCount session ranges.entry (shown h.old.slot.value) (shown h.new.slot.value) result found.old found.new }
+    ensures { TellsCount session ranges.entry (seen h.old) (seen h.new) result found.old found.new }
 {
     match ask(h, session, Asked::Select(Wanted::Count, ranges)) {
         Ok(reply) => {
@@ -124,7 +125,7 @@ pub extern "C" fn sideways_sum(
     ranges: &[Range],
     sum: &mut Words,
 ) -> u32
-    ensures { TellsSum session attribute ranges.entry (shown h.old.slot.value) (shown h.new.slot.value) result sum.old sum.new }
+    ensures { TellsSum session attribute ranges.entry (seen h.old) (seen h.new) result sum.old sum.new }
 {
     match ask(h, session, Asked::Select(Wanted::Sum(attribute), ranges)) {
         Ok(reply) => {
@@ -167,7 +168,7 @@ pub extern "C" fn sideways_min(
     ranges: &[Range],
     least: &mut Least,
 ) -> u32
-    ensures { TellsMin session attribute ranges.entry (shown h.old.slot.value) (shown h.new.slot.value) result least.old least.new }
+    ensures { TellsMin session attribute ranges.entry (seen h.old) (seen h.new) result least.old least.new }
 {
     match ask(h, session, Asked::Select(Wanted::Min(attribute), ranges)) {
         Ok(reply) => {
@@ -188,7 +189,7 @@ pub extern "C" fn sideways_max(
     ranges: &[Range],
     most: &mut Least,
 ) -> u32
-    ensures { TellsMax session attribute ranges.entry (shown h.old.slot.value) (shown h.new.slot.value) result most.old most.new }
+    ensures { TellsMax session attribute ranges.entry (seen h.old) (seen h.new) result most.old most.new }
 {
     match ask(h, session, Asked::Select(Wanted::Max(attribute), ranges)) {
         Ok(reply) => {

@@ -2,11 +2,11 @@
 
 ghost use Rattle.std.specs.Prelude.{◌≡◌};
 ghost use Rattle.sideways_c.specs.Asks.{IsDelete, IsDeleteWhere, IsInsert, IsKeyTold, IsRemovalTold, TellsDelete, TellsDeleteWhere, TellsInsert};
-ghost use Rattle.sideways_c.specs.Handles.{shown};
+ghost use Rattle.sideways_c.specs.Handles.{seen};
 
 use crate::asking::ask;
 use crate::codes::OK;
-use crate::handle::Sideways;
+use crate::holder::Sideways;
 use sw_arrays::{Asked, Range};
 use sw_rows::Reply;
 
@@ -31,7 +31,7 @@ pub extern "C" fn sideways_insert(
     cells: &[i64],
     key: &mut u64,
 ) -> u32
-    ensures { TellsInsert session cells.entry (shown h.old.slot.value) (shown h.new.slot.value) result key.old key.new }
+    ensures { TellsInsert session cells.entry (seen h.old) (seen h.new) result key.old key.new }
 {
     match ask(h, session, Asked::Insert(cells)) {
         Ok(reply) => {
@@ -63,7 +63,7 @@ pub extern "C" fn sideways_delete(
     key: u64,
     removed: &mut u64,
 ) -> u32
-    ensures { TellsDelete session key (shown h.old.slot.value) (shown h.new.slot.value) result removed.old removed.new }
+    ensures { TellsDelete session key (seen h.old) (seen h.new) result removed.old removed.new }
 {
     match ask(h, session, Asked::Delete(key)) {
         Ok(reply) => {
@@ -94,7 +94,7 @@ pub extern "C" fn sideways_delete_where(
     ranges: &[Range],
     removed: &mut u64,
 ) -> u32
-    ensures { TellsDeleteWhere session ranges.entry (shown h.old.slot.value) (shown h.new.slot.value) result removed.old removed.new }
+    ensures { TellsDeleteWhere session ranges.entry (seen h.old) (seen h.new) result removed.old removed.new }
 {
     match ask(h, session, Asked::DeleteWhere(ranges)) {
         Ok(reply) => {

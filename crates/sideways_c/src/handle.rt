@@ -1,23 +1,15 @@
 //! A handle.
 
-ghost use Rattle.std.specs.Prelude.{◌≡◌, Some, true, is_some, IfOk, IsOkUnless};
+ghost use Rattle.std.specs.Prelude.{◌≡◌, Some, true, IfOk, IsOkUnless};
 ghost use Rattle.sw_rows.specs.declared.refusal.Refusal.TheVariants.{NoMemory};
-ghost use Rattle.sideways_c.specs.Handles.{shown};
+ghost use Rattle.sideways_c.specs.Handles.{seen};
 
+use crate::holder::Sideways;
 use crate::inner::Inner;
 use crate::slot::Slot;
 use crate::state::State;
 use std::alloc::Global;
 use sw_rows::Refusal;
-
-/// What a caller keeps: closed, all zeros; or open.
-#[repr(C)]
-#[derive(Drop)]
-pub struct Sideways {
-    pub(crate) is_open: bool,
-    pub(crate) slot: Slot,
-    pub ghost opened: { is_open ≡ is_some slot.value },
-}
 
 /// The handle of what stands in a box.
 pub(crate) fn kept(inner: Box<Inner>) -> Sideways
@@ -40,7 +32,7 @@ pub(crate) fn taken(h: Sideways) -> Box<Inner>
 
 /// A handle of a state. The one refusal is `NoMemory`.
 pub(crate) fn handle_of(alloc: Global, state: State) -> Result<Sideways, Refusal>
-    ensures made { IfOk result (λ h. shown h.slot.value ≡ Some state) }
+    ensures made { IfOk result (λ h. seen h ≡ Some state) }
     ensures refused { IsOkUnless result NoMemory }
 {
     let Ok(state) = Box::new(alloc, state) else {

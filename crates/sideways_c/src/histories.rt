@@ -2,10 +2,11 @@
 
 ghost use Rattle.std.specs.Prelude.{◌≡◌, MatchResult};
 ghost use Rattle.sideways_c.specs.Checked.{ChecksBytes, ChecksHistory, ExplainsAs, ExplainsHandle, ExplainsIn, IsUnread, entry_of};
-ghost use Rattle.sideways_c.specs.Handles.{shown};
+ghost use Rattle.sideways_c.specs.Handles.{seen};
 
 use crate::codes::{MISUSE, NOT_LEGAL, OK, code_of};
-use crate::handle::{Sideways, handle_of};
+use crate::handle::handle_of;
+use crate::holder::Sideways;
 use crate::state::State;
 use std::alloc::Global;
 use sw_histories::{explain_file, read_record};
@@ -62,7 +63,7 @@ fn explained(alloc: Global, bytes: &[u8]) -> Result<(u8, Vec<u8>), Refusal>
 
 /// A handle of that text, and the verdict's code.
 fn explained_handle(alloc: Global, bytes: &[u8]) -> Result<(u32, Sideways), Refusal>
-    ensures { MatchResult result (λ r. ExplainsIn bytes.now r.0 (shown r.1.slot.value)) (IsUnread bytes.now) }
+    ensures { MatchResult result (λ r. ExplainsIn bytes.now r.0 (seen r.1)) (IsUnread bytes.now) }
 {
     let (status, text) = match explained(alloc, bytes) {
         Ok(told) => told,
@@ -78,7 +79,7 @@ fn explained_handle(alloc: Global, bytes: &[u8]) -> Result<(u32, Sideways), Refu
 /// Checks the bytes of a history, and opens a closed handle of the verdict and of why it is not legal.
 #[unsafe(no_mangle)]
 pub extern "C" fn sideways_explain(alloc: Global, bytes: &[u8], out: &mut Sideways) -> u32
-    ensures { ExplainsHandle bytes.now (shown out.old.slot.value) (shown out.new.slot.value) result }
+    ensures { ExplainsHandle bytes.now (seen out.old) (seen out.new) result }
 {
     if out.is_open {
         return MISUSE;

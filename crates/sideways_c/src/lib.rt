@@ -10,6 +10,7 @@ mod changing;
 mod codes;
 mod handle;
 mod histories;
+mod holder;
 mod inner;
 mod kept;
 mod lines;

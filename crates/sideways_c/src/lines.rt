@@ -6,10 +6,11 @@ ghost use Rattle.sw_lang.specs.Reading.{Answers};
 ghost use Rattle.sw_lang.specs.Replies.{reply_bytes};
 ghost use Rattle.sw_spine.specs.History.{CallsBelow};
 ghost use Rattle.sideways_c.specs.Executed.{Executes, ExecutesIn, ExecutesLine, call_in};
-ghost use Rattle.sideways_c.specs.Handles.{HasExchangedText, shown, text_in};
+ghost use Rattle.sideways_c.specs.Handles.{HasExchangedText, seen, text_in};
 
 use crate::codes::{MISUSE, NO_SESSION, NO_TEXT, OK, code_of};
-use crate::handle::{Sideways, kept, taken};
+use crate::handle::{kept, taken};
+use crate::holder::Sideways;
 use crate::state::{State, has_session};
 use core::mem::{replace, replace_with};
 use std::alloc::Global;
@@ -98,7 +99,7 @@ fn run_line(state: &mut State, line: Line<'_>) -> u32
 
 fn executed<'a>(h: Sideways, line: Line<'a>) -> (Sideways, u32)
     requires { h.is_open ≡ true }
-    ensures { ExecutesLine line.entry.session line.entry.bytes.now (shown h.slot.value) (shown result.0.slot.value) result.1 }
+    ensures { ExecutesLine line.entry.session line.entry.bytes.now (seen h) (seen result.0) result.1 }
 {
     let mut inner = taken(h);
     let code = run_line(&mut inner.state, line);
@@ -108,7 +109,7 @@ fn executed<'a>(h: Sideways, line: Line<'a>) -> (Sideways, u32)
 /// Executes a line as a session's. The text of its reply is kept.
 #[unsafe(no_mangle)]
 pub extern "C" fn sideways_exec(h: &mut Sideways, session: u64, line: &[u8]) -> u32
-    ensures { ExecutesLine session line.now (shown h.old.slot.value) (shown h.new.slot.value) result }
+    ensures { ExecutesLine session line.now (seen h.old) (seen h.new) result }
 {
     if !h.is_open {
         return MISUSE;
@@ -122,8 +123,8 @@ pub extern "C" fn sideways_exec(h: &mut Sideways, session: u64, line: &[u8]) -> 
 
 fn measured(h: Sideways, _none: ()) -> (Sideways, usize)
     requires { h.is_open ≡ true }
-    ensures same { shown result.0.slot.value ≡ shown h.slot.value }
-    ensures many { result.1 ≡ length (text_in (shown h.slot.value)) }
+    ensures same { seen result.0 ≡ seen h }
+    ensures many { result.1 ≡ length (text_in (seen h)) }
 {
     let inner = taken(h);
     let many = inner.state.text.len();
@@ -133,8 +134,8 @@ fn measured(h: Sideways, _none: ()) -> (Sideways, usize)
 /// How many bytes the text has that was kept last; 0 of a closed handle.
 #[unsafe(no_mangle)]
 pub extern "C" fn sideways_text_size(h: &mut Sideways) -> usize
-    ensures same { shown h.new.slot.value ≡ shown h.old.slot.value }
-    ensures many { result ≡ length (text_in (shown h.old.slot.value)) }
+    ensures same { seen h.new ≡ seen h.old }
+    ensures many { result ≡ length (text_in (seen h.old)) }
 {
     if !h.is_open {
         return 0;
@@ -159,7 +160,7 @@ fn copy(text: &[u8], from: usize, out: &mut [u8]) -> usize
 /// Takes the text out, and leaves another in its place.
 fn exchanged(h: Sideways, text: Vec<u8>) -> (Sideways, Vec<u8>)
     requires { h.is_open ≡ true }
-    ensures { HasExchangedText text.items result.1.items (shown h.slot.value) (shown result.0.slot.value) }
+    ensures { HasExchangedText text.items result.1.items (seen h) (seen result.0) }
 {
     let mut inner = taken(h);
     let was = replace(&mut inner.state.text, text);
@@ -174,9 +175,9 @@ pub extern "C" fn sideways_text(
     from: usize,
     out: &mut [u8],
 ) -> usize
-    ensures same { shown h.new.slot.value ≡ shown h.old.slot.value }
-    ensures copied { out.new ≡ filled (drop from (text_in (shown h.old.slot.value))) out.old }
-    ensures many { result ≡ many_in (drop from (text_in (shown h.old.slot.value))) out.old }
+    ensures same { seen h.new ≡ seen h.old }
+    ensures copied { out.new ≡ filled (drop from (text_in (seen h.old))) out.old }
+    ensures many { result ≡ many_in (drop from (text_in (seen h.old))) out.old }
 {
     if !h.is_open {
         return 0;

@@ -1,16 +1,17 @@
 //! Engines that are opened and ended, and their sessions.
 
-ghost use Rattle.std.specs.Prelude.{◌≡◌, true, IfOk, IsOkUnless, MatchResult};
+ghost use Rattle.std.specs.Prelude.{◌≡◌, true, IfOk, IsOkUnless};
 ghost use Rattle.sw_rows.specs.declared.refusal.Refusal.TheVariants.{NoMemory};
 ghost use Rattle.sw_lang.specs.Cuts.{FitCuts};
 ghost use Rattle.sw_lang.specs.Reading.{Answers};
 ghost use Rattle.sw_histories.specs.RecordText.{record_text};
-ghost use Rattle.sideways_c.specs.Handles.{engine_in, shown};
-ghost use Rattle.sideways_c.specs.Opened.{AreSound, ClosesHandle, ClosesIn, EnrolsHandle, EnrolsIn, IsHandleOf, IsNotOpening, IsOpening, OpensHandle, are_sound, cuts_in, number_told};
+ghost use Rattle.sideways_c.specs.Handles.{engine_in, seen};
+ghost use Rattle.sideways_c.specs.Opened.{AreSound, ClosesHandle, ClosesIn, EnrolsHandle, EnrolsIn, IsHandleOr, IsOpening, OpensHandle, are_sound, cuts_in, number_told};
 
 use crate::boxes::supply;
 use crate::codes::{BAD_OPTIONS, MISUSE, OK, code_of};
-use crate::handle::{Sideways, handle_of, kept, taken};
+use crate::handle::{handle_of, kept, taken};
+use crate::holder::Sideways;
 use crate::state::State;
 use core::mem::replace_with;
 use std::alloc::Global;
@@ -98,7 +99,7 @@ fn opened_handle(
     options: Options,
 ) -> Result<Sideways, Refusal>
     requires { AreSound options }
-    ensures { MatchResult result (λ h. IsHandleOf table.now cuts.now options.limit (shown h.slot.value)) (IsNotOpening table.now cuts.now options.limit) }
+    ensures { IsHandleOr table.now cuts.now options.limit result }
 {
     let solo = match opened(alloc, table, cuts, options) {
         Ok(solo) => solo,
@@ -119,7 +120,7 @@ pub extern "C" fn sideways_open(
     options: &Options,
     out: &mut Sideways,
 ) -> u32
-    ensures { OpensHandle table.now cuts.now options.now (shown out.old.slot.value) (shown out.new.slot.value) result }
+    ensures { OpensHandle table.now cuts.now options.now (seen out.old) (seen out.new) result }
 {
     if out.is_open {
         return MISUSE;
@@ -152,8 +153,8 @@ fn enrol(state: &mut State) -> (u32, u64)
 
 fn enrolled(h: Sideways, _none: ()) -> (Sideways, (u32, u64))
     requires { h.is_open ≡ true }
-    ensures made { EnrolsHandle (shown h.slot.value) (shown result.0.slot.value) result.1.0 }
-    ensures number { result.1.1 ≡ number_told (engine_in (shown h.slot.value)) result.1.0 }
+    ensures made { EnrolsHandle (seen h) (seen result.0) result.1.0 }
+    ensures number { result.1.1 ≡ number_told (engine_in (seen h)) result.1.0 }
 {
     let mut inner = taken(h);
     let told = enrol(&mut inner.state);
@@ -163,8 +164,8 @@ fn enrolled(h: Sideways, _none: ()) -> (Sideways, (u32, u64))
 /// Opens a session, and tells its number; 0 where it is refused.
 #[unsafe(no_mangle)]
 pub extern "C" fn sideways_session(h: &mut Sideways, number: &mut u64) -> u32
-    ensures made { EnrolsHandle (shown h.old.slot.value) (shown h.new.slot.value) result }
-    ensures number { number.new ≡ number_told (engine_in (shown h.old.slot.value)) result }
+    ensures made { EnrolsHandle (seen h.old) (seen h.new) result }
+    ensures number { number.new ≡ number_told (engine_in (seen h.old)) result }
 {
     if !h.is_open {
         *number = 0;
@@ -207,7 +208,7 @@ fn end(state: &mut State) -> u32
 
 fn ended(h: Sideways, _none: ()) -> (Sideways, u32)
     requires { h.is_open ≡ true }
-    ensures { ClosesHandle (shown h.slot.value) (shown result.0.slot.value) result.1 }
+    ensures { ClosesHandle (seen h) (seen result.0) result.1 }
 {
     let mut inner = taken(h);
     let code = end(&mut inner.state);
@@ -217,7 +218,7 @@ fn ended(h: Sideways, _none: ()) -> (Sideways, u32)
 /// Ends the engine. The bytes of its history are kept as the text; refused for want of memory, it has ended too.
 #[unsafe(no_mangle)]
 pub extern "C" fn sideways_close(h: &mut Sideways) -> u32
-    ensures { ClosesHandle (shown h.old.slot.value) (shown h.new.slot.value) result }
+    ensures { ClosesHandle (seen h.old) (seen h.new) result }
 {
     if !h.is_open {
         return MISUSE;

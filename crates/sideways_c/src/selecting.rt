@@ -1,13 +1,14 @@
 //! Selects whose rows are kept, and the caller's blocks.
 
 ghost use Rattle.std.specs.Prelude.{◌≡◌, true};
-ghost use Rattle.sideways_c.specs.Handles.{HasExchangedRows, shown};
+ghost use Rattle.sideways_c.specs.Handles.{HasExchangedRows, seen};
 ghost use Rattle.sideways_c.specs.Selects.{CopiesColumn, CopiesColumnOf, CopiesKeys, SelectsIn, SelectsOver, TellsSelect};
 ghost use Rattle.sideways_c.specs.Asks.{IsRows};
 
 use crate::asking::{Request, make};
 use crate::codes::{MISUSE, NO_ATTRIBUTE, NO_ROWS, OK};
-use crate::handle::{Sideways, kept, taken};
+use crate::handle::{kept, taken};
+use crate::holder::Sideways;
 use crate::kept::Kept;
 use crate::state::State;
 use core::mem::{replace, replace_with};
@@ -57,7 +58,7 @@ fn keep_select(state: &mut State, select: Select<'_>) -> Result<usize, u32>
 
 fn selected<'a>(h: Sideways, asked: Select<'a>) -> (Sideways, Result<usize, u32>)
     requires { h.is_open ≡ true }
-    ensures { SelectsOver asked.entry.session asked.entry.attributes asked.entry.ranges (shown h.slot.value) (shown result.0.slot.value) result.1 }
+    ensures { SelectsOver asked.entry.session asked.entry.attributes asked.entry.ranges (seen h) (seen result.0) result.1 }
 {
     let mut inner = taken(h);
     let told = keep_select(&mut inner.state, asked);
@@ -73,7 +74,7 @@ pub extern "C" fn sideways_select(
     ranges: &[Range],
     rows: &mut u64,
 ) -> u32
-    ensures { TellsSelect session attributes.entry ranges.entry (shown h.old.slot.value) (shown h.new.slot.value) result rows.old rows.new }
+    ensures { TellsSelect session attributes.entry ranges.entry (seen h.old) (seen h.new) result rows.old rows.new }
 {
     if !h.is_open {
         return MISUSE;
@@ -95,7 +96,7 @@ pub extern "C" fn sideways_select(
 /// Takes the rows out, and leaves others in their place.
 fn exchanged(h: Sideways, rows: Option<Kept>) -> (Sideways, Option<Kept>)
     requires { h.is_open ≡ true }
-    ensures { HasExchangedRows rows result.1 (shown h.slot.value) (shown result.0.slot.value) }
+    ensures { HasExchangedRows rows result.1 (seen h) (seen result.0) }
 {
     let mut inner = taken(h);
     let was = replace(&mut inner.state.kept, rows);
@@ -110,8 +111,8 @@ pub extern "C" fn sideways_keys(
     out: &mut [u64],
     copied: &mut usize,
 ) -> u32
-    ensures same { shown h.new.slot.value ≡ shown h.old.slot.value }
-    ensures told { CopiesKeys from (shown h.old.slot.value) result out.old out.new copied.new }
+    ensures same { seen h.new ≡ seen h.old }
+    ensures told { CopiesKeys from (seen h.old) result out.old out.new copied.new }
 {
     *copied = 0;
     if !h.is_open {
@@ -151,8 +152,8 @@ pub extern "C" fn sideways_column(
     out: &mut [i64],
     copied: &mut usize,
 ) -> u32
-    ensures same { shown h.new.slot.value ≡ shown h.old.slot.value }
-    ensures told { CopiesColumn column from (shown h.old.slot.value) result out.old out.new copied.new }
+    ensures same { seen h.new ≡ seen h.old }
+    ensures told { CopiesColumn column from (seen h.old) result out.old out.new copied.new }
 {
     if !h.is_open {
         *copied = 0;

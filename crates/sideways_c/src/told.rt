@@ -1,14 +1,15 @@
 //! What a handle tells of its engine's table and heads.
 
-ghost use Rattle.std.specs.Prelude.{◌≡◌, length, true, Err, MatchResult, Ok};
-ghost use Rattle.sideways_c.specs.Handles.{HasExchangedEngine, engine_in, shown};
+ghost use Rattle.std.specs.Prelude.{◌≡◌, length, true};
+ghost use Rattle.sideways_c.specs.Handles.{HasExchangedEngine, engine_in, seen};
 ghost use Rattle.sw_arrays.specs.Blocks.{filled};
 ghost use Rattle.sw_rows.specs.Header.{texts_of};
 ghost use Rattle.sw_rows.specs.Texts.{code_of};
-ghost use Rattle.sideways_c.specs.Looks.{IsCopied, IsLook, IsStatsTold, code_known, code_told, head_told, kind_told, looked, name_told, or_zero, text_told, texts_told, width_told};
+ghost use Rattle.sideways_c.specs.Looks.{IsCopied, IsHeadTold, IsLook, IsStatsTold, code_known, code_told, head_told, kind_told, looked, name_told, or_zero, text_told, texts_told, width_told};
 
 use crate::codes::{BAD_CELL, MISUSE, NO_ATTRIBUTE, OK};
-use crate::handle::{Sideways, kept, taken};
+use crate::handle::{kept, taken};
+use crate::holder::Sideways;
 use core::mem::{replace, replace_with};
 use sw_map::PairMap;
 use sw_rows::{Kind, Schema};
@@ -17,7 +18,7 @@ use sw_solo::{SeatStats, Solo};
 /// Takes the engine out, and leaves another in its place.
 fn exchanged(h: Sideways, solo: Option<Solo<PairMap>>) -> (Sideways, Option<Solo<PairMap>>)
     requires { h.is_open ≡ true }
-    ensures { HasExchangedEngine solo result.1 (shown h.slot.value) (shown result.0.slot.value) }
+    ensures { HasExchangedEngine solo result.1 (seen h) (seen result.0) }
 {
     let mut inner = taken(h);
     let was = replace(&mut inner.state.solo, solo);
@@ -27,8 +28,8 @@ fn exchanged(h: Sideways, solo: Option<Solo<PairMap>>) -> (Sideways, Option<Solo
 /// How many attributes there are; 0 where there is no engine.
 #[unsafe(no_mangle)]
 pub extern "C" fn sideways_attributes(h: &mut Sideways) -> usize
-    ensures same { shown h.new.slot.value ≡ shown h.old.slot.value }
-    ensures many { result ≡ width_told (engine_in (shown h.old.slot.value)) }
+    ensures same { seen h.new ≡ seen h.old }
+    ensures many { result ≡ width_told (engine_in (seen h.old)) }
 {
     if !h.is_open {
         return 0;
@@ -45,8 +46,8 @@ pub extern "C" fn sideways_attributes(h: &mut Sideways) -> usize
 /// How many texts are known; 0 where there is no engine.
 #[unsafe(no_mangle)]
 pub extern "C" fn sideways_texts_known(h: &mut Sideways) -> u64
-    ensures same { shown h.new.slot.value ≡ shown h.old.slot.value }
-    ensures many { result ≡ texts_told (engine_in (shown h.old.slot.value)) }
+    ensures same { seen h.new ≡ seen h.old }
+    ensures many { result ≡ texts_told (engine_in (seen h.old)) }
 {
     if !h.is_open {
         return 0;
@@ -88,8 +89,8 @@ fn kind_in(solo: &Option<Solo<PairMap>>, attribute: u64) -> Result<u32, u32>
 /// Tells the number of an attribute's kind.
 #[unsafe(no_mangle)]
 pub extern "C" fn sideways_kind(h: &mut Sideways, attribute: u64, kind: &mut u32) -> u32
-    ensures same { shown h.new.slot.value ≡ shown h.old.slot.value }
-    ensures told { IsLook (looked (kind_told attribute) (engine_in (shown h.old.slot.value))) result kind.old kind.new }
+    ensures same { seen h.new ≡ seen h.old }
+    ensures told { IsLook (looked (kind_told attribute) (engine_in (seen h.old))) result kind.old kind.new }
 {
     if !h.is_open {
         return MISUSE;
@@ -139,8 +140,8 @@ pub extern "C" fn sideways_name(
     out: &mut [u8],
     size: &mut usize,
 ) -> u32
-    ensures same { shown h.new.slot.value ≡ shown h.old.slot.value }
-    ensures told { IsCopied (looked (name_told attribute) (engine_in (shown h.old.slot.value))) result out.old out.new size.new }
+    ensures same { seen h.new ≡ seen h.old }
+    ensures told { IsCopied (looked (name_told attribute) (engine_in (seen h.old))) result out.old out.new size.new }
 {
     if !h.is_open {
         *size = 0;
@@ -184,8 +185,8 @@ fn code_in(solo: &Option<Solo<PairMap>>, text: &[u8]) -> Result<i64, u32>
 /// Tells the code of a text that is known, or 0.
 #[unsafe(no_mangle)]
 pub extern "C" fn sideways_code_of(h: &mut Sideways, text: &[u8], code: &mut i64) -> u32
-    ensures same { shown h.new.slot.value ≡ shown h.old.slot.value }
-    ensures told { IsLook (looked (code_told text.now) (engine_in (shown h.old.slot.value))) result code.old code.new }
+    ensures same { seen h.new ≡ seen h.old }
+    ensures told { IsLook (looked (code_told text.now) (engine_in (seen h.old))) result code.old code.new }
 {
     if !h.is_open {
         return MISUSE;
@@ -223,8 +224,8 @@ pub extern "C" fn sideways_text_of(
     out: &mut [u8],
     size: &mut usize,
 ) -> u32
-    ensures same { shown h.new.slot.value ≡ shown h.old.slot.value }
-    ensures told { IsCopied (looked (text_told code) (engine_in (shown h.old.slot.value))) result out.old out.new size.new }
+    ensures same { seen h.new ≡ seen h.old }
+    ensures told { IsCopied (looked (text_told code) (engine_in (seen h.old))) result out.old out.new size.new }
 {
     if !h.is_open {
         *size = 0;
@@ -282,7 +283,7 @@ fn stats_of(told: SeatStats) -> Stats {
 }
 
 fn stats_in(solo: &Option<Solo<PairMap>>, attribute: u64) -> Result<Stats, u32>
-    ensures { MatchResult result (λ _. looked (head_told attribute) solo.now ≡ Ok tt) (λ e. looked (head_told attribute) solo.now ≡ Err e) }
+    ensures { IsHeadTold (looked (head_told attribute) solo.now) result }
 {
     let Some(solo) = solo else {
         return Err(MISUSE);
@@ -297,8 +298,8 @@ fn stats_in(solo: &Option<Solo<PairMap>>, attribute: u64) -> Result<Stats, u32>
 /// Tells what the head of an attribute tells of itself.
 #[unsafe(no_mangle)]
 pub extern "C" fn sideways_head_stats(h: &mut Sideways, attribute: u64, stats: &mut Stats) -> u32
-    ensures same { shown h.new.slot.value ≡ shown h.old.slot.value }
-    ensures told { IsStatsTold (looked (head_told attribute) (engine_in (shown h.old.slot.value))) result stats.old stats.new }
+    ensures same { seen h.new ≡ seen h.old }
+    ensures told { IsStatsTold (looked (head_told attribute) (engine_in (seen h.old))) result stats.old stats.new }
 {
     if !h.is_open {
         return MISUSE;
