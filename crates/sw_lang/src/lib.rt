@@ -22,7 +22,6 @@ mod token;
 
 pub use cuts::{Cuts, MOST_CUTS, parse_cuts};
 pub use fault::Fault;
-pub use learning::learn_line;
 pub use line::parse_line;
 pub use line_law::{
     cuts_are_read_as_related, examples_of_cuts, examples_of_lines, examples_of_printed_lines,

@@ -1,6 +1,6 @@
 use Rattle.std.proofs.Common.{◌≡◌, ◌+◌}
 use Rattle.sw_chunks.specs.Shelved.{boxes_in}
-use Rattle.sw_solo.proofs.waiting.Waiting.hand_all.Given as goal
+use Rattle.sw_chunks.proofs.waiting.Waiting.hand_all.Given as goal
 
 abbrev pub invariant-loop : goal.invariant-loop
 invariant-loop g l = record {

@@ -5,9 +5,9 @@ ghost use Rattle.sw_rows.specs.declared.refusal.Refusal.TheVariants.{NoMemory};
 ghost use Rattle.sw_map.specs.Held.{blank};
 ghost use Rattle.sw_chunks.specs.Shelved.{boxes_in};
 
+use crate::head::Head;
 use std::alloc::Global;
 use std::marker::Model;
-use sw_chunks::Head;
 use sw_map::CrackerMap;
 use sw_rows::Refusal;
 
@@ -29,7 +29,7 @@ impl<M: CrackerMap> Model for Waiting<M> {
 }
 
 /// The head takes one blank box, or gives that very box back. The one refusal is `NoMemory`.
-#[tactic(auto, using(crate::proofs::Heads::supplied_updates, crate::proofs::Heads::supplied_attribute, crate::proofs::Heads::supplied_boxes))]
+#[tactic(auto, using(crate::proofs::Supplied::supplied_updates, crate::proofs::Supplied::supplied_attribute, crate::proofs::Supplied::supplied_boxes))]
 fn supply_one<M: CrackerMap>(head: &mut Head<M>, it: M) -> Result<(), (M, Refusal)>
     requires blank { M.held it ≡ blank }
     ensures updates { head.new.updates ≡ head.old.updates }
