@@ -21,6 +21,7 @@ mod term;
 mod token;
 
 pub use cuts::{Cuts, MOST_CUTS, parse_cuts};
+pub use domain::kind_name;
 pub use fault::Fault;
 pub use line::parse_line;
 pub use line_law::{
