@@ -1,5 +1,6 @@
 //! Arguments as data: what each goes by, what it takes, and what help says of it.
 
+use clap::builder::ValueParser;
 use clap::{Arg, ArgAction, Command};
 use std::alloc::{AllocError, Global};
 use sw_rows::MOST_ROWS;
@@ -56,21 +57,34 @@ pub(crate) struct Verb {
     pub(crate) words: &'static [Word],
 }
 
-/// An argument that takes a value.
-fn taking<'a>(arg: Arg<'a>, takes: Takes) -> Arg<'a> {
+/// What a use of an argument does.
+fn action_of(takes: Takes) -> ArgAction {
     match takes {
-        Takes::Nothing => arg.action(ArgAction::SetTrue),
-        Takes::Texts => arg.action(ArgAction::Append),
-        Takes::Place | Takes::Needed => arg.action(ArgAction::Set).required(true),
-        Takes::Text => arg.action(ArgAction::Set),
-        Takes::AnyText => arg.action(ArgAction::Set).allow_hyphen_values(true),
-        Takes::OneOf(words) => arg.action(ArgAction::Set).value_parser(words),
-        Takes::Number => arg
-            .action(ArgAction::Set)
-            .value_parser(clap::value_parser!(u64)),
-        Takes::Within(least, most) => arg
-            .action(ArgAction::Set)
-            .value_parser(clap::value_parser!(u64).range(least..=most)),
+        Takes::Nothing => ArgAction::SetTrue,
+        Takes::Texts => ArgAction::Append,
+        _ => ArgAction::Set,
+    }
+}
+
+/// What a value has to be, where it is not any text.
+fn parser_of<'a>(takes: Takes) -> Option<ValueParser<'a>> {
+    match takes {
+        Takes::OneOf(words) => Some(ValueParser::Names(words)),
+        Takes::Number => Some(clap::value_parser!(u64)),
+        Takes::Within(least, most) => Some(clap::value_parser!(u64).range(least..=most)),
+        _ => None,
+    }
+}
+
+/// An argument that takes this.
+fn taking<'a>(arg: Arg<'a>, takes: Takes) -> Arg<'a> {
+    let arg = arg
+        .action(action_of(takes))
+        .required(matches!(takes, Takes::Place | Takes::Needed))
+        .allow_hyphen_values(matches!(takes, Takes::AnyText));
+    match parser_of(takes) {
+        Some(parser) => arg.value_parser(parser),
+        None => arg,
     }
 }
 
