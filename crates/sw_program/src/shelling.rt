@@ -50,6 +50,14 @@ fn write_words<W: Sink>(schema: &Schema, out: &mut W) -> Result<(), Refusal> {
     write_all(out, WORDS.as_bytes())
 }
 
+/// Writes these to standard output. Answers the exit status.
+fn print_words<R: Print>(rt: &R, schema: &Schema) -> Result<u8, Refusal>
+    ensures { IfOk result (λ status. status ≡ 0) }
+{
+    write_words(schema, &mut Counted::new(io::writer(rt)))?;
+    Ok(0)
+}
+
 impl Shell<'_> {
     /// What the history would be written over: the table, or where the replies or errors go, if anything. Such a shell is not to
     /// be begun.
@@ -124,6 +132,13 @@ impl Shell<'_> {
         words: &mut Option<String>,
     ) -> Result<u8, Refusal> {
         let key = TextKey::new(rt)?;
+        let history = match self.history {
+            Some(path) => match String::from_str(alloc, path) {
+                Ok(path) => Some(path),
+                Err(_) => return Err(Refusal::NoMemory),
+            },
+            None => None,
+        };
         let source = match open_table(rt, alloc, self.table, self.header) {
             Ok(source) => Counted::new(source),
             Err(refusal) => {
@@ -132,13 +147,6 @@ impl Shell<'_> {
             }
         };
         let mut table = Keeping::new(source, Kept::new(alloc, is_read_once(rt, self.table)));
-        let history = match self.history {
-            Some(path) => match String::from_str(alloc, path) {
-                Ok(path) => Some(path),
-                Err(_) => return Err(Refusal::NoMemory),
-            },
-            None => None,
-        };
         let mut host = Terminal::new(rt, alloc, key, self.table, errors, self.prompts, history);
         let ended = self.talk(rt, alloc, key, &mut table, &mut host);
         let (history, status) = host.into_end();
@@ -171,10 +179,7 @@ impl Shell<'_> {
         };
         let mut table = Keeping::new(source, Kept::new(alloc, is_read_once(rt, self.table)));
         match load_in_parts(rt, alloc, key, &mut table) {
-            Ok((schema, _)) => {
-                write_words(&schema, &mut Counted::new(io::writer(rt)))?;
-                Ok(0)
-            }
+            Ok((schema, _)) => print_words(rt, &schema),
             Err(refusal) => {
                 *words = self.tell(rt, alloc, &refusal, table.into_kept());
                 Err(refusal)
