@@ -5,7 +5,6 @@ ghost use Rattle.sw_rows.specs.declared.table.TheConstants.{MOST_ROWS};
 
 use crate::ends::{Failing, Faltering};
 use crate::notes::Notes;
-use crate::text::unescaped;
 use std::alloc::{AllocError, Global};
 use std::io::{BufRead, BufReader};
 use std::sync::Wait;
@@ -13,6 +12,7 @@ use std::thread::Threads;
 use sw_cli::{Options, blank_boxes, check_file, write_record};
 use sw_rows::{Counted, MOST_ROWS, Refusal, Sink, TextKey};
 use sw_shell::{Ended, converse};
+use test_words::unescaped;
 
 /// A limit of rows.
 #[derive(Clone, Copy)]
