@@ -10,6 +10,7 @@ use Rattle.sw_spine.specs.History.{Agrees, AllAgree, History, IsLegal, all_given
 use Rattle.sw_spine.specs.Rest.{none_open}
 use Rattle.sw_engine.specs.Desk.{InOrder, IsNamed}
 use Rattle.sw_engine.specs.Headline.{IsHistoryOfOneThread}
+use Rattle.sw_engine.specs.Published.{Shown}
 use Rattle.sw_spine.specs.Table.{opened, updates_then}
 use Rattle.sw_spine.specs.declared.history.Entry.{Entry}
 use Rattle.sw_spine.specs.declared.history.State.{State}
@@ -49,8 +50,8 @@ over_columns a b rows limit ts h k one columns same_rows same_limit same legal =
 }
 
 -- of one ticket in order
-pub only_ticket : {X : Type 0} (ts rest : List (ℕ × List X)) (t : ℕ × List X) → length ts ≡ 1 → InOrder 1 ts → ts ≡ rest ++ t ∷ [] → (t.0 ≡ 1) × (t.1 ≡ [])
-only_ticket ts [] t one order is = let o = subst (InOrder 1) is order in (o.0, o.1)
+pub only_ticket : (ts rest : List Shown) (t : Shown) → length ts ≡ 1 → InOrder 1 ts → ts ≡ rest ++ t ∷ [] → (t.0 ≡ 1) × (t.1 ≡ [])
+only_ticket ts [] t one order is = let o = subst (InOrder 1) is order in (o.0, o.1.none)
 only_ticket ts (r ∷ rest) t one order is =
     let many : length ts ≡ suc (length rest + 1) = ap length is ∙ ap suc (length-append rest (t ∷ [])) in
     absurd (let no : ⊥ = omega (arith, one, many) in no)

@@ -97,7 +97,7 @@ returns-clause-grows g c =
     let h = c.args.share.now in
     let x = c.begin.new.self in
     let kept = published_kept g.J.Naming.opening s.spine x (ap (λ (b : Books). b.published) c.in_ok-begin.ensures.begun) c.begin.ensures.updates in
-    share_grows g.J.Naming.limit g.J.Naming.opening s.spine x h.value c.set.new.share.value s.sessions.rows h.number c.self.invariant.behind c.agree.ensures.value (prefix_same _ _ (sym kept)) (c.set.ensures.value ∙ c.of.ensures)
+    share_grows g.J.Naming.limit g.J.Naming.opening s.spine x h.value c.set.new.share.value s.sessions.rows s.heads.rows h.number c.self.invariant.tied c.self.invariant.behind c.agree.ensures.value (prefix_same _ _ (sym kept)) (open_keeps c.args.number c.args.query c.head.inside.number s.spine x c.in_ok-begin.ensures.begun).1 (c.set.ensures.value ∙ c.of.ensures)
 
 pub returns-clause-whole : goal.returns-clause-whole
 returns-clause-whole g c =
