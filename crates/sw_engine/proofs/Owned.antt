@@ -1,5 +1,5 @@
 -- What one more entry, and an entry that is settled, do to the sessions' own entries.
-use Rattle.std.proofs.Common.{◌≡◌, ◌≢◌, ◌⊎◌, inl, inr, ◌++◌, ◌==◌, ℕ, Bool, true, false, List, [], ◌∷◌, Option, Some, None, refl, sym, ap, ◌∙◌, arith, cond, subst}
+use Rattle.std.proofs.Common.{◌≡◌, ◌≢◌, ◌⊎◌, inl, inr, ◌++◌, ◌==◌, ℕ, Bool, true, false, List, [], ◌∷◌, Option, Some, None, refl, sym, ap, ◌∙◌, ◌+◌, arith, cond, subst}
 use Rattle.std.proofs.lemmas.Bool.Decides.{nat_tests}
 use Rattle.sw_table.specs.declared.row.Update.{Update}
 use Rattle.sw_rows.specs.declared.query.Query.{Query}
@@ -7,7 +7,7 @@ use Rattle.sw_rows.specs.declared.query.Call.{Call}
 use Rattle.sw_rows.specs.declared.query.Call.TheVariants as call
 use Rattle.sw_spine.specs.Table.{opened, updates_then}
 use Rattle.sw_spine.specs.History.{entry, is_absent, is_open, mine, settled, waiting_after, waits}
-use Rattle.sw_spine.specs.Books.{Books, reply_now, waits_for, with_answered, with_open, with_published, with_settled}
+use Rattle.sw_spine.specs.Books.{Books, Opens, is_opened, reply_now, waits_for, with_answered, with_open, with_published, with_settled}
 use Rattle.sw_spine.specs.declared.history.Entry.{Entry}
 use Rattle.sw_spine.specs.declared.history.State.{State}
 use Rattle.sw_spine.specs.declared.history.State.TheVariants as state
@@ -80,6 +80,13 @@ published_keeps session n b x is = (
 -- a select that began and was settled
 pub settles_added : (session : ℕ) (c : Call) (st : State) (a b d : Books) → waits_for session a ≡ None → Adds session c state.Open a b → Settles session st b d → Adds session c st a d
 settles_added session c st a b d none adds settles = settles ∙ ap (own_settled st) adds ∙ settled_last session a.limit (opened a.rows) a.entries c st none
+
+-- a session that was just opened has no entries
+pub new_absent : (b x : Books) (n : ℕ) → Opens b x n → ((s : ℕ) → is_opened s b ≡ false → is_absent s b.entries ≡ true) → is_absent n x.entries ≡ true
+new_absent b x n opens known =
+    let next : n ≡ b.sessions + 1 = opens.0 ∙ ap (λ (y : Books). y.sessions) opens.2 in
+    let unknown : is_opened n b ≡ false = grind (arith, nat_tests, next) in
+    ap (λ (y : Books). is_absent n y.entries) opens.2 ∙ known n unknown
 
 -- a session that was just opened
 pub new_session : (opening : List Row) (name : ℕ) (b : Books) (n : ℕ) (share : Share Books) (receipt : List (List Update)) → IsNewShare name b n share → updates_in receipt ≡ published_of opening share.value → IsNew (session_shown opening n share.value receipt)

@@ -170,7 +170,7 @@ TooManySessions (refusal.TooMany limit) = limit ≡ MOST_SESSIONS
 TooManySessions other = ⊥
 
 -- these tickets came back one after the other, each for the first time; the sessions' numbers begin at 1
-abbrev pub AreGiven : {X : Type 0} → List (ℕ × X) → List Bool → List Bool → Type 0
+abbrev pub AreGiven : List Shown → List Bool → List Bool → Type 0
 AreGiven [] before after = before ≡ after
 AreGiven (t ∷ ts) before after =
     (n : ℕ) × (t.0 ≡ n + 1) × (slice_get before n ≡ Some false) × AreGiven ts (set before n true) after
