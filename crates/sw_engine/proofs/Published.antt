@@ -41,6 +41,13 @@ behind_set limit opening s s' x rows rows' k behind grows whole new are j r e = 
     (λ p. (prefix_trans (published_of opening r.0) (published_of opening s) (published_of opening s') (behind j r p.1).0 grows, (behind j r p.1).1))
     (get_set rows k j (x, false) r (sym (ap (λ (l : List (Books × Bool)). slice_get l j) are) ∙ e))
 
+-- one share came back
+pub behind_give : (limit : ℕ) (opening : List Row) (s : Books) (rows rows' : List (Books × Bool)) (k : ℕ) (a : Books) → AreBehind limit opening s rows → slice_get rows k ≡ Some (a, false) → rows' ≡ set rows k (a, true) → AreBehind limit opening s rows'
+behind_give limit opening s rows rows' k a behind at are j r e = ⊎_elim
+    (λ p. subst (λ (u : Books × Bool). IsPrefix (published_of opening u.0) (published_of opening s) × IsWhole limit opening u.0) p.1 (behind k (a, false) at))
+    (λ p. behind j r p.1)
+    (get_set rows k j (a, true) r (sym (ap (λ (l : List (Books × Bool)). slice_get l j) are) ∙ e))
+
 -- the session's share goes from what it showed to the new state
 pub share_grows : (limit : ℕ) (opening : List Row) (s s' a x : Books) (rows heads : List (Books × Bool)) (k : ℕ) → IsTied s rows heads → AreBehind limit opening s rows → slice_get rows k ≡ Some (a, false) → IsPrefix (published_of opening s) (published_of opening s') → Begin s.entries s'.entries → x ≡ s' → Grows opening a x
 share_grows limit opening s s' a x rows heads k tied behind at grows begins new =

@@ -12,7 +12,7 @@ use Rattle.sw_engine.specs.Published.{IsWhole}
 use Rattle.sw_engine.specs.Own.{own}
 use Rattle.sw_engine.proofs.Owned.{open_keeps, own_push}
 use Rattle.sw_engine.proofs.Ties.{all_taken, begin_tied, head_below, is_of_same, length_set, mine_is, own_is, waits_is}
-use Rattle.sw_engine.proofs.Published.{behind_set, prefix_same, published_kept, share_grows}
+use Rattle.sw_engine.proofs.Published.{behind_set, grows_self, prefix_same, published_kept, share_grows}
 use Rattle.sw_engine.proofs.Whole.{ends_open, whole_after}
 use Rattle.sw_engine.proofs.desk.Desk.begin.Goals as goal
 
@@ -106,3 +106,6 @@ returns-clause-whole g c =
     let done = c.in_ok-begin.ensures.begun in
     let ends = ends_open g.J.Naming.limit g.J.Naming.opening c.args.number c.args.query c.head.inside.number s.spine x done c.self.invariant.ends in
     subst (IsWhole g.J.Naming.limit g.J.Naming.opening) (sym (c.set.ensures.value ∙ c.of.ensures)) (whole_after g.J.Naming.columns g.J.Naming.opening g.J.Naming.limit s.spine x c.self.invariant.of (ap (λ (b : Books). b.columns) done) (ap (λ (b : Books). b.rows) done) (ap (λ (b : Books). b.limit) done) ends)
+
+pub returns-in_err-begin-clause-grows : goal.returns-in_err-begin-clause-grows
+returns-in_err-begin-clause-grows g c = grows_self g.J.Naming.opening c.args.share.now.value _ (ap (λ b. b.value) c.agree.ensures.same.1)

@@ -9,7 +9,7 @@ use Rattle.sw_spine.specs.declared.history.Entry.{Entry}
 use Rattle.sw_engine.specs.Desk.{DeskState}
 use Rattle.sw_engine.specs.Own.{IsEnded}
 use Rattle.sw_engine.specs.Published.{answered_to}
-use Rattle.sw_engine.proofs.Ties.{absent_or_named, all_mapped, all_named, given_length, named_mapped, opened_rests}
+use Rattle.sw_engine.proofs.Ties.{absent_or_named, all_mapped, all_named, given_length, opened_rests}
 use Rattle.sw_engine.proofs.engine.Engine.close.Goals as goal
 
 pub returns-clause-headline : goal.returns-clause-headline
@@ -32,10 +32,10 @@ returns-clause-headline g c =
       legal = subst IsLegal (sym is) c.into_record.ensures.legal;
       given = ap (λ (h : History). all_given h.entries) is ∙ c.into_record.ensures.given;
       answered = subst (λ (es : List Entry). All (λ (t : ℕ × List (Call × Reply)). mine t.0 es ≡ t.1) ts) (sym kept) (all_mapped (λ (t : ℕ × List (Call × Reply)). mine t.0 d.books.entries ≡ t.1) answered_to all c.give_all.ensures.mine);
-      numbered = λ k lt. named_mapped (k + 1) all (all_named all d.given c.give_all.new.self.given k c.give_all.ensures.given as_many (omega (arith, as_many, mapped, lt)));
+      numbered = λ k lt. all_named all d.given c.give_all.new.self.given k c.give_all.ensures.given as_many (omega (arith, as_many, mapped, lt));
       others = λ s. ⊎_elim
           (λ gone. inl (ap (λ (h : History). is_absent s h.entries) is ∙ gone))
-          (λ named. inr (named_mapped s all named))
+          (λ named. inr named)
           (absent_or_named all d.given c.give_all.new.self.given b c.give_all.ensures.given as_many made c.into_record.ensures.known s);
       closed = ap (λ (h : History). none_open h.entries) is
           ∙ c.into_record.ensures.closed (opened_rests all d.given c.give_all.new.self.given b c.give_all.ensures.given as_many made (λ i x lt. ap (waits_for (get_or all i x).0) same ∙ c.give_all.ensures.rest i x lt));
