@@ -4,6 +4,7 @@ pub mod Heads
 pub mod Turns
 pub mod Parts
 pub mod Published
+pub mod Later
 pub mod Owned
 pub mod Whole
 pub mod Shelves

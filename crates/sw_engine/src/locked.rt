@@ -13,9 +13,9 @@ ghost use Rattle.sw_versions.specs.Lists.{IsLonger};
 ghost use Rattle.sw_versions.specs.Refused.{IsAhead, RefusesViewer};
 ghost use Rattle.sw_versions.specs.Rules.{updates_in};
 ghost use Rattle.sw_versions.specs.declared.viewer.TheConstants.{MOST_VIEWERS};
-ghost use Rattle.sw_engine.specs.Own.{Adds, Settles, Stays};
+ghost use Rattle.sw_engine.specs.Own.{Adds, IsNew, Settles, Stays};
 ghost use Rattle.sw_engine.specs.Desk.{InOrder, IsAnswered, IsAtRest, IsBegun, IsShareOf, IsTold, RefusesCall, RefusesMany};
-ghost use Rattle.sw_engine.specs.Published.{EndWithEntries, IsNewShare, IsWhole, later, new_viewer, no_versions, published_of, with_committed, with_viewer};
+ghost use Rattle.sw_engine.specs.Published.{EndWithEntries, Grows, IsNewShare, IsWhole, later, new_viewer, no_versions, published_of, with_committed, with_viewer};
 
 use crate::desk::{Desk, Ticket};
 use crate::latch::LatchedHead;
@@ -112,7 +112,7 @@ where
     /// The next session's ticket.
     #[tactic(auto, using(crate::proofs::Published::prefix_same))]
     fn ticket(&mut self) -> Result<Ticket<J>, Refusal>
-        ensures ticket { IfOk result (λ t. (t.0 ≡ self.new.desk.books.sessions) × (t.1 ≡ [])) }
+        ensures ticket { IfOk result (λ t. (t.0 ≡ self.new.desk.books.sessions) × IsNew t) }
         ensures made { OnOk result (self.new.desk.books ≡ with_session self.old.desk.books) }
         ensures refused { IfErr result (λ e. (self.new ≡ self.old) × RefusesSession self.old.desk.books e) }
     {
@@ -150,7 +150,7 @@ where
         ensures stays { OnErr result (Stays number share.old.value share.new.value) }
         ensures waits { OnOk result (waits_for number share.new.value ≡ Some (Select query, head.new.taken)) }
         ensures rest { OnErr result (waits_for number share.new.value ≡ None) }
-        ensures grows { IsPrefix (published_of J.opening share.old.value) (published_of J.opening share.new.value) }
+        ensures grows { Grows J.opening share.old.value share.new.value }
         ensures whole { IsWhole J.limit J.opening share.new.value }
         ensures begun { OnOk result (IsBegun number query self.old.desk.books self.new.desk.books) }
         ensures kept { OnErr result (self.new.desk.books ≡ self.old.desk.books) }
@@ -168,7 +168,7 @@ where
         ensures rest { IsAtRest J.sessions number share.new }
         ensures mine { IsAnswered number reply share.old.value share.new.value }
         ensures own { Settles number (Answered reply) share.old.value share.new.value }
-        ensures grows { IsPrefix (published_of J.opening share.old.value) (published_of J.opening share.new.value) }
+        ensures grows { Grows J.opening share.old.value share.new.value }
         ensures whole { IsWhole J.limit J.opening share.new.value }
         ensures finished { self.new.desk.books ≡ with_settled number (Answered reply) self.old.desk.books }
         ensures shelf { self.new.shelf ≡ self.old.shelf }
@@ -183,7 +183,7 @@ where
         ensures rest { IsAtRest J.sessions number share.new }
         ensures mine { mine number share.new.value.entries ≡ mine number share.old.value.entries }
         ensures own { Settles number Void share.old.value share.new.value }
-        ensures grows { IsPrefix (published_of J.opening share.old.value) (published_of J.opening share.new.value) }
+        ensures grows { Grows J.opening share.old.value share.new.value }
         ensures whole { IsWhole J.limit J.opening share.new.value }
         ensures voided { self.new.desk.books ≡ with_settled number Void self.old.desk.books }
         ensures shelf { self.new.shelf ≡ self.old.shelf }
@@ -205,7 +205,7 @@ where
         ensures rest { IsAtRest J.sessions number share.new }
         ensures mine { mine number share.new.value.entries ≡ mine number share.old.value.entries }
         ensures own { Stays number share.old.value share.new.value }
-        ensures grows { IsPrefix (published_of J.opening share.old.value) (published_of J.opening share.new.value) }
+        ensures grows { Grows J.opening share.old.value share.new.value }
         ensures whole { IsWhole J.limit J.opening share.new.value }
         ensures shown { share.new.value ≡ self.new.desk.books }
         ensures receipt { result ≡ self.new.shelf.published }
@@ -243,7 +243,7 @@ where
         ensures err { OnErr result (mine number share.new.value.entries ≡ mine number share.old.value.entries) }
         ensures adds { IfOk result (λ r. Adds number call (Answered r.0) share.old.value share.new.value) }
         ensures stays { OnErr result (Stays number share.old.value share.new.value) }
-        ensures grows { IsPrefix (published_of J.opening share.old.value) (published_of J.opening share.new.value) }
+        ensures grows { Grows J.opening share.old.value share.new.value }
         ensures whole { IsWhole J.limit J.opening share.new.value }
         ensures shown { OnOk result (share.new.value ≡ self.new.desk.books) }
         ensures receipt { IfOk result (λ r. r.1 ≡ self.new.shelf.published) }
@@ -280,7 +280,7 @@ where
         ensures rest { IsAtRest J.sessions number share.new }
         ensures mine { mine number share.new.value.entries ≡ mine number share.old.value.entries }
         ensures own { Stays number share.old.value share.new.value }
-        ensures grows { IsPrefix (published_of J.opening share.old.value) (published_of J.opening share.new.value) }
+        ensures grows { Grows J.opening share.old.value share.new.value }
         ensures whole { IsWhole J.limit J.opening share.new.value }
         ensures shown { share.new.value ≡ self.new.desk.books }
         ensures told { updates_in self.new.shelf.published ≡ published_of J.opening share.new.value }
