@@ -9,6 +9,10 @@ mod lines;
 #[cfg(test)]
 mod mixes;
 #[cfg(test)]
+mod noted;
+#[cfg(test)]
+mod pressed;
+#[cfg(test)]
 mod refusals;
 #[cfg(test)]
 mod scenes;
