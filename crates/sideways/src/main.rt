@@ -5,6 +5,7 @@
 //! read is refused, and 3 where a call, the output or memory is.
 #![tactic(auto)]
 
+mod args;
 mod import;
 mod order;
 mod shell;
