@@ -13,6 +13,7 @@ TOP = Path(__file__).resolve().parents[1]
 TABLE = b"a:int,b:int,c:int\n12,7,1\n3,8,0\n12,5,1\n20,2,0\n"
 CITIES = b"city:text,n,price:fix2,ok:flag\nOslo,1,7.5,true\n\"Bergen, \"\"B\"\"\",2,-0.25,false\nOslo,3,3,true\n"
 BAD = b"name:text,n\n\"two\nlines\",1\nx,1.5\ny\nz,\xff\n"
+FULL = b"sideways: refused 13\nstandard output: it cannot be written\n"
 ANY = object()
 
 
@@ -63,7 +64,7 @@ class Cases:
         self.refused("both of standard input", ["run", "--table", "-", "--script", "-"], "cannot both be standard input", TABLE)
         self.refused("a call of two lines", ["run", "--table", "t.csv", "-e", "count\ncount"], "a call of -e is one line")
         self.refused("a script and a call", ["run", "--table", "t.csv", "--script", "s.txt", "-e", "count"], "cannot be used with")
-        self.refused("neither script nor call", ["run", "--table", "t.csv"], "required")
+        self.refused("neither script nor call", ["run", "--table", "t.csv"], "required arguments were not provided:\n  <--script <FILE>|-e <CALL>>\n")
         self.refused("a form that is none", ["run", "--table", "t.csv", "-e", "count", "--output", "xml"], "xml")
         with open(self.folder / "t.csv", "rb") as table:
             self.cases += 1
@@ -133,8 +134,8 @@ class Cases:
                   "sideways: refused 13\nnone/texts.csv: it cannot be written\n")
         self.ended("values of standard input that cannot be read", ["import", "-"], "stdin", self.folder, 2,
                    b"sideways: refused 12\nstandard input: it cannot be read\n")
-        self.ended("a table to a full device", ["import", "cities.csv"], "stdout", "/dev/full", 3,
-                   b"sideways: refused 13\nstandard output: it cannot be written\n")
+        self.ended("a table to a full device", ["import", "cities.csv"], "stdout", "/dev/full", 3, FULL)
+        self.gone("a table whose reader is gone", ["import", "cities.csv"])
 
         # The dictionary over another file
         (self.folder / "values.csv").write_bytes(CITIES)
@@ -173,6 +174,18 @@ class Cases:
         finally:
             os.close(end)
         if (done.returncode, done.stderr) != (status, told):
+            raise Wrong("WRONG: %s: %r" % (name, done))
+
+    def gone(self, name, words):
+        """One run whose standard output is a pipe that nobody reads."""
+        self.cases += 1
+        reader, writer = os.pipe()
+        os.close(reader)
+        try:
+            done = subprocess.run([self.program] + words, cwd=self.folder, stdout=writer, stderr=subprocess.PIPE, timeout=60)
+        finally:
+            os.close(writer)
+        if (done.returncode, done.stderr) != (3, b"sideways: refused 13\nstandard output: its reader is gone\n"):
             raise Wrong("WRONG: %s: %r" % (name, done))
 
     # A header on the command line
@@ -247,6 +260,14 @@ class Cases:
                   "cell of its column's kind and above those before it, at most 15 of a column\n")
         self.case("more rows than the limit", run + ["t.csv", "-e", "count", "--limit", "3"], 2, "",
                   "sideways: refused 5 limit 3\nt.csv: more than 3 rows\n")
+        fewer = "sideways import chooses columns, and --header passes by those that it calls -"
+        self.case("more than eight columns", run + ["-", "-e", "count"], 2, "", "sideways: refused 5 limit 8\nstandard input line 1: 9 columns, "
+                  "at most 8; %s\n" % fewer, b"a,b,c,d,e,f,g,h,i\n1,2,3,4,5,6,7,8,9\n")
+        for flag in ("--history", "--log"):
+            self.case("a file in no folder", run + ["t.csv", "-e", "count", flag, "none/x"], 3, "4\n",
+                      "sideways: refused 13\nnone/x: it cannot be written\n")
+            self.case("a folder as a file", run + ["t.csv", "-e", "count", flag, "folder"], 3, "4\n",
+                      "sideways: refused 13\nfolder: a folder, wanted a file\n")
         self.case("what explains a kind", ["explain", "2"], 0, ANY, "")
         if "without a kind is an int" not in self.call(["explain", "2"])[1]:
             raise Wrong("WRONG: explain 2 says nothing of a name without a kind")
@@ -275,8 +296,9 @@ class Cases:
         self.refused("a description of no file", ["describe"], "required")
         self.ended("a description of standard input that cannot be read", ["describe", "-"], "stdin", self.folder, 2, b"sideways: refused 12\n")
         for form in ("table", "json"):
-            self.ended("a description to a full device, as %s" % form, ["describe", "t.csv", "--output", form], "stdout", "/dev/full", 3,
-                       b"sideways: refused 13\n")
+            words = ["describe", "t.csv", "--output", form]
+            self.ended("a description to a full device, as %s" % form, words, "stdout", "/dev/full", 3, FULL)
+            self.gone("a description whose reader is gone, as %s" % form, words)
         self.refused("a description in a form that is none", ["describe", "t.csv", "--output", "csv"], "csv")
 
     # Replies in other forms
@@ -312,8 +334,9 @@ class Cases:
         self.case("a table of one column twice", run + ["-e", "select n, n", "--output", "table"], 2, "", ANY)
         self.case("a table of no call", run + ["-e", "# none", "--output", "table"], 2, "", ANY)
         for form in ("lines", "csv", "json", "table"):
-            self.ended("replies to a full device, as %s" % form, run + calls + ["--output", form], "stdout", "/dev/full", 3,
-                       b"sideways: refused 13\n")
+            words = run + calls + ["--output", form]
+            self.ended("replies to a full device, as %s" % form, words, "stdout", "/dev/full", 3, FULL)
+            self.gone("replies whose reader is gone, as %s" % form, words)
 
     # Orders of logs' calls, and from which records the entries came
 

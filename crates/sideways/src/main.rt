@@ -312,7 +312,7 @@ fn make_command<
         Some(("order", given)) => make_order(rt, alloc, given, errors),
         Some(("import", given)) => make_import(rt, alloc, given, errors),
         Some(("shell", given)) => make_shell(rt, alloc, given, errors),
-        Some(("explain", given)) => explain(rt, given.get_one::<u64>("number")),
+        Some(("explain", given)) => explain(rt, alloc, given.get_one::<u64>("number")),
         Some((_, given)) => make_run(rt, alloc, given, errors),
         None => Ok(2),
     }

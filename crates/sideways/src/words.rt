@@ -3,7 +3,7 @@
 use crate::import::import_command;
 use crate::order::order_command;
 use crate::shell::shell_command;
-use clap::{Arg, ArgAction, Command};
+use clap::{Arg, ArgAction, ArgGroup, Command};
 use std::alloc::{AllocError, Global};
 use sw_rows::MOST_ROWS;
 
@@ -69,23 +69,28 @@ pub(crate) fn header<'a>(alloc: Global) -> Arg<'a> {
         .action(ArgAction::Set)
 }
 
-fn script<'a>(alloc: Global) -> Result<Arg<'a>, AllocError> {
+fn script<'a>(alloc: Global) -> Arg<'a> {
     Arg::new(alloc, "script")
         .long("script")
         .value_name("FILE")
         .help("The script: a call a line; a line --- divides blocks; - is standard input")
         .action(ArgAction::Set)
-        .required_unless_present("call")
 }
 
-fn call<'a>(alloc: Global) -> Result<Arg<'a>, AllocError> {
+fn call<'a>(alloc: Global) -> Arg<'a> {
     Arg::new(alloc, "call")
         .short('e')
         .value_name("CALL")
         .help("A call, in place of a script; given again, a line each")
         .action(ArgAction::Append)
         .allow_hyphen_values(true)
-        .conflicts_with("script")
+}
+
+/// Where the calls come from: one of the two, so that what is missing is told with both.
+fn calls<'a>(alloc: Global) -> Result<ArgGroup<'a>, AllocError> {
+    Ok(ArgGroup::new(alloc, "calls")
+        .args(&["script", "call"])?
+        .required(true))
 }
 
 pub(crate) fn history<'a>(alloc: Global) -> Arg<'a> {
@@ -225,8 +230,9 @@ fn inputs<'a>(alloc: Global) -> Result<Command<'a>, AllocError> {
         .after_help(EXAMPLES_OF_RUN)
         .arg(table(alloc))?
         .arg(header(alloc))?
-        .arg(script(alloc)?)?
-        .arg(call(alloc)?)
+        .arg(script(alloc))?
+        .arg(call(alloc))?
+        .group(calls(alloc)?)
 }
 
 fn run_command<'a>(alloc: Global) -> Result<Command<'a>, AllocError> {

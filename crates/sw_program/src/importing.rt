@@ -4,7 +4,8 @@ ghost use Rattle.std.specs.Prelude.{◌≡◌, ◌⊎◌, IfOk};
 
 use crate::clash::is_output;
 use crate::inputs::Place;
-use crate::wording::{of_unread, of_unwritten};
+use crate::outflow::{Outflow, Reader};
+use crate::wording::{of_output, of_unread, of_unwritten};
 use std::alloc::Global;
 use std::io;
 use std::random::RandomSource;
@@ -42,16 +43,13 @@ fn read_values<R: Files + Input>(
     }
 }
 
-/// Writes the texts for which numbers were written, if that is asked.
+/// Writes the texts for which numbers were written to a file.
 fn keep_dictionary<R: Files>(
     rt: &R,
     alloc: Global,
-    path: Option<&str>,
+    path: &str,
     made: &Imported,
 ) -> Result<(), Refusal> {
-    let Some(path) = path else {
-        return Ok(());
-    };
     let Ok(bytes) = dictionary_of(alloc, made) else {
         return Err(Refusal::NoMemory);
     };
@@ -139,15 +137,21 @@ impl Import<'_> {
         made: &Imported,
         told: &mut Option<String>,
     ) -> Result<(), Refusal> {
-        if let Err(refusal) = keep_dictionary(rt, alloc, self.dictionary, made) {
-            *told = of_unwritten(rt, alloc, self.dictionary, &refusal);
-            return Err(refusal);
+        if let Some(path) = self.dictionary {
+            if let Err(refusal) = keep_dictionary(rt, alloc, path, made) {
+                *told = of_unwritten(rt, alloc, path, &refusal);
+                return Err(refusal);
+            }
         }
-        if let Err(refusal) = write_all(&mut Counted::new(io::writer(rt)), made.bytes.as_slice()) {
-            *told = of_unwritten(rt, alloc, None, &refusal);
-            return Err(refusal);
+        let reader = Reader::new();
+        let mut out = Counted::new(Outflow::new(io::writer(rt), &reader));
+        match write_all(&mut out, made.bytes.as_slice()) {
+            Ok(()) => Ok(()),
+            Err(refusal) => {
+                *told = of_output(alloc, &reader, &refusal);
+                Err(refusal)
+            }
         }
-        Ok(())
     }
 
     /// Makes the table: it goes to standard output, the texts for which numbers stand to their file, and what was done to

@@ -1,5 +1,6 @@
 //! What is seen of a run while it goes: the time in the selects of each head, the time of each call, and how far the run is.
 
+use crate::outflow::Reader;
 use std::io;
 use std::rt::Clock;
 use std::sync::atomic::{AtomicU64, Ordering};
@@ -40,6 +41,7 @@ pub(crate) struct Seen<'r, R: Clock + Eprint> {
     rt: &'r R,
     began: Option<Instant>,
     sights: Sights,
+    reader: Reader,
     due: AtomicU64,
     calls: AtomicU64,
     nanos: [AtomicU64; 8],
@@ -57,6 +59,7 @@ impl<'r, R: Clock + Eprint> Seen<'r, R> {
             rt,
             began,
             sights,
+            reader: Reader::new(),
             due: AtomicU64::new(SECOND),
             calls: AtomicU64::new(0),
             nanos: [
@@ -70,6 +73,11 @@ impl<'r, R: Clock + Eprint> Seen<'r, R> {
                 AtomicU64::new(0),
             ],
         }
+    }
+
+    /// Whoever reads its replies.
+    pub(crate) fn reader(&self) -> &Reader {
+        &self.reader
     }
 
     /// What the run stands on.

@@ -1,5 +1,5 @@
 -- What lines come to, step by step.
-use Rattle.std.proofs.Common.{refl, ℕ, zero, suc, List, Option, Some, None, Result, Ok, Err, OnErr, OnOk}
+use Rattle.std.proofs.Common.{◌≡◌, refl, sym, subst, arith, nat_tests, ℕ, zero, suc, Bool, true, false, List, [], ◌∷◌, Option, Some, None, Result, Ok, Err}
 use Rattle.std.specs.Io.KnownBytes.{Keeps}
 use Rattle.sw_rows.specs.Header.{Column}
 use Rattle.sw_rows.specs.declared.query.Call.{Call}
@@ -10,7 +10,9 @@ use Rattle.sw_lang.specs.Reading.{Answers}
 use Rattle.sw_lang.specs.Sinks.{Took, TookBeginning}
 use Rattle.sw_cli.specs.Script.{call_of_line}
 use Rattle.sw_cli.specs.Sides.{SinkSeen}
-use Rattle.sw_shell.specs.Talks.{Ends, IsEntered, IsHeard, IsTold, IsUnheard, Reached, Said, Seen, Taking, Talked, said}
+use Rattle.sw_shell.specs.Lines.{is_command, is_quit}
+use Rattle.sw_shell.specs.Talks.{CameBy, Ends, Heard, IsEntered, IsHeard, IsTaken, IsTold, IsUnheard, Reached, Said, Seen, Taking, Talked, said}
+use Rattle.sw_shell.specs.declared.host.Line.{Line}
 
 pub keeps_same : (o : Option (List ℕ)) → Keeps o o
 keeps_same None = tt
@@ -28,15 +30,33 @@ heard_refused W n line a e answers = record { said = Err e; answers = answers; c
 pub heard_idle : (W : Taking) (n : ℕ) (line : List ℕ) (a : Said) → Answers {A = Option Call} (Ok None) (call_of_line a.columns n line) → IsHeard W n line a (said (learned a.columns line) a.made a.taken)
 heard_idle W n line a answers = record { said = Ok None; answers = answers; came = record { columns = refl; made = refl; quiet = keeps_same a.taken } }
 
+-- what is no command is not `.quit`
+no_quit : (line : List ℕ) → is_command line ≡ false → is_quit line ≡ false
+no_quit [] no = refl
+no_quit (b ∷ bs) no = grind (arith, nat_tests, no)
+
 -- a line's call
-pub heard_call : (n : ℕ) (line : List ℕ) (c : Call) (columns : List Column) (old new : List (Call × Reply)) (w : SinkSeen) (result : Result (Unit {0}) Refusal)
-    → Answers (Ok (Some c)) (call_of_line columns n line) → IsTold (learned columns line) c result old new w
-    → OnOk result (IsHeard Took n line (said columns old w.taken_before) (said (learned columns line) new w.taken_after))
-    × OnErr result (IsHeard TookBeginning n line (said columns old w.taken_before) (said (learned columns line) new w.taken_after))
-heard_call n line c columns old new w (Ok x) answers t =
-    (record { said = Ok (Some c); answers = answers; came = record { told = t.told; why = t.why; columns = refl; made = t.made; wrote = t.wrote.whole.0 } }, tt)
-heard_call n line c columns old new w (Err e) answers t =
-    (tt, record { said = Ok (Some c); answers = answers; came = record { told = t.told; why = t.why; columns = refl; made = t.made; wrote = t.wrote.part.1 } })
+pub heard_call : (l : Line) (c : Call) (columns : List Column) (old new : List (Call × Reply)) (w : SinkSeen) (result : Result (Unit {0}) Refusal)
+    → Answers (Ok (Some c)) (call_of_line columns l.number l.bytes.now) → IsTold (learned columns l.bytes.now) c result old new w
+    → Heard result l (said columns old w.taken_before) (said (learned columns l.bytes.now) new w.taken_after)
+heard_call l c columns old new w (Ok x) answers t =
+    record { said = Ok (Some c); answers = answers; came = record { told = t.told; why = t.why; columns = refl; made = t.made; wrote = t.wrote.whole.0 } }
+heard_call l c columns old new w (Err e) answers t =
+    record { said = Ok (Some c); answers = answers; came = record { told = t.told; why = t.why; columns = refl; made = t.made; wrote = t.wrote.part.1 } }
+
+-- a line that was heard is taken, and there are to be more
+pub taken_heard : (W : Taking) (n : ℕ) (line : List ℕ) (a b : Said) → is_command line ≡ false → IsHeard W n line a b → IsTaken W n line a b
+taken_heard W n line a b no heard = record {
+  stays = no_quit line no;
+  came = subst (λ (x : Bool). CameBy x W n line a b) (sym no) heard;
+}
+
+-- a command that does not end the shell
+pub taken_obeyed : (W : Taking) (n : ℕ) (line : List ℕ) (a : Said) → is_command line ≡ true → is_quit line ≡ false → IsTaken W n line a a
+taken_obeyed W n line a yes stays = record {
+  stays = stays;
+  came = subst (λ (x : Bool). CameBy x W n line a a) (sym yes) (unheard_same a);
+}
 
 -- one more line
 pub reached_more : (a b c : Seen) → ((n : ℕ) × Reached n a b) → IsEntered Took b c → (n : ℕ) × Reached n a c
