@@ -230,6 +230,7 @@ fn print_words<R: Print>(
 }
 
 /// Who reads what a shell writes, and where it is told in words why that failed.
+#[derive(Drop)]
 struct Telling<'t> {
     reader: &'t Reader,
     words: &'t mut Option<String>,
