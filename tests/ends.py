@@ -231,7 +231,12 @@ class Ends:
                 self.held("the replies' file", b"" if mode == "wb" else OLD, self.take("replies"))
         with open(self.folder / "told", "wb") as told:
             got = self.call(words + ["told"], stderr=told)
-        self.held("a history where it is told", (2, True), (got[0], self.bytes_of("told").startswith(b"error: the history would be")))
+        self.held("a history where it is told", (2, True), (got[0], self.bytes_of("told").startswith(
+            b"error: the history would be written over what is told on standard error\n")))
+        with open(self.folder / "told", "wb") as told:
+            got = self.call(self.run + ["--log", "told"], stderr=told)
+        self.held("a log where it is told", (2, True), (got[0], self.bytes_of("told").startswith(
+            b"error: the log would be written over what is told on standard error\n")))
         with open(self.folder / "t.csv", "rb") as table:
             got = self.call(["run", "--table", "/dev/stdin", "--script", "s.txt", "--history", "t.csv"], stdin=table)
             self.refused_words("a history that is the table of standard input", got, b"the table")
@@ -254,11 +259,15 @@ class Ends:
             with open(self.folder / "out", "wb") as out:
                 status, _, told = self.call(words + [name], stdout=out)
             self.held("%s %s" % (words[-1], name), (2, True, b""), (status, told.startswith(b"error: " + over), self.take("out")))
-        self.put("lines", b"count\n.write out\ncount\n")
-        with open(self.folder / "lines", "rb") as lines, open(self.folder / "out", "wb") as out:
-            status, _, told = self.call(["shell", "t.csv"], stdin=lines, stdout=out)
-        self.held("rows over the replies", (2, b"sideways: line 2: the rows would be written over the replies\n", b"4\n4\n"),
-                  (status, told, self.take("out")))
+        for command, over in ((b".write out", b"the rows would be written over the replies"),
+                              (b".history out", b"the history would be written over the replies"),
+                              (b".history ./t.csv", b"the history would be written over the table")):
+            self.put("lines", b"count\n" + command + b"\ncount\n")
+            with open(self.folder / "lines", "rb") as lines, open(self.folder / "out", "wb") as out:
+                status, _, told = self.call(["shell", "t.csv"], stdin=lines, stdout=out)
+            self.held("%s in a shell" % command, (2, b"sideways: line 2: " + over + b"\n", b"4\n4\n"), (status, told, self.take("out")))
+        with open(self.folder / "out", "wb") as out:
+            self.refused_words("a shell's history", self.call(["shell", "t.csv", "--history", "out"], stdout=out), b"the replies")
         self.held("values, table and log", (VALUES, TABLE, LOG), (self.bytes_of("v.csv"), self.bytes_of("t.csv"), self.bytes_of("l.csv")))
 
     # By ./sideways: limits that the program cannot mend

@@ -13,6 +13,7 @@ TOP = Path(__file__).resolve().parents[1]
 TABLE = b"a:int,b:int,c:int\n12,7,1\n3,8,0\n12,5,1\n20,2,0\n"
 CITIES = b"city:text,n,price:fix2,ok:flag\nOslo,1,7.5,true\n\"Bergen, \"\"B\"\"\",2,-0.25,false\nOslo,3,3,true\n"
 BAD = b"name:text,n\n\"two\nlines\",1\nx,1.5\ny\nz,\xff\n"
+FEWER = "sideways import chooses columns, and --header passes by those that it calls -"
 FULL = b"sideways: refused 13\nstandard output: it cannot be written\n"
 ANY = object()
 
@@ -65,6 +66,8 @@ class Cases:
         self.refused("a call of two lines", ["run", "--table", "t.csv", "-e", "count\ncount"], "a call of -e is one line")
         self.refused("a script and a call", ["run", "--table", "t.csv", "--script", "s.txt", "-e", "count"], "cannot be used with")
         self.refused("neither script nor call", ["run", "--table", "t.csv"], "required arguments were not provided:\n  <--script <FILE>|-e <CALL>>\n")
+        self.refused("no call behind -e", ["run", "--table", "t.csv", "-e"], "a value is required for '-e <CALL>' but none was supplied")
+        self.refused("no header behind --header", ["run", "--table", "t.csv", "-e", "count", "--header"], "a value is required for '--header <HEADER>'")
         self.refused("a form that is none", ["run", "--table", "t.csv", "-e", "count", "--output", "xml"], "xml")
         with open(self.folder / "t.csv", "rb") as table:
             self.cases += 1
@@ -124,6 +127,20 @@ class Cases:
                 "of a file in Latin-1")
         refused("more columns than eight", wide, "more than 8 columns are asked for, and a table has at most 8",
                 ["--columns", "1,2,3,4,5,6,7,8,9"])
+
+        # What can be no table
+        a_name = "a name has 1 to 32 letters, digits and underscores, begins with no digit, and is no word of scripts"
+        blank = ("cells without a value: 1 in column 1 (a), the first in line 3; choose: --empty drop leaves their rows out, --empty VALUE writes VALUE "
+                 "in their place, --empty text makes texts of the column")
+        refused("a heading of two columns", b"a,a,b\n1,2,3\n", "2 columns have the heading `a`: give the number of one", ["--columns", "a"])
+        refused("a name that is none", b"a\n1\n", "`1x` is no name: " + a_name, ["--rename", "a=1x"])
+        refused("a name that is a word of scripts", b"a\n1\n", "`count` is no name: " + a_name, ["--rename", "a=count"])
+        refused("cells without a value", b"a,b\n1,x\n,y\n", blank)
+        refused("cells without a value, by a word", b"a,b\n1,x\nNA,y\n", blank, ["--null", "NA"])
+        refused("a value of another kind", b"a,b\n1,x\n,y\n", "`x` in place of cells without a value is no int: column 1 (a)", ["--empty", "x"])
+        refused("a row too many", b"a\n" + b"1\n" * 1048577, "line 1048578: more than 1048576 rows; --sample N writes the first N")
+        texts = b"".join(b"a%d,b%d\n" % (row, row) for row in range(524289))
+        refused("a text too many", b"a,b\n" + texts, "the table would be refused: 5 limit 1048576")
 
         # What cannot be read or written
         self.case("values that are not there", ["import", "none.csv"], 2, "", "sideways: refused 12\nnone.csv: there is no such file\n")
@@ -215,6 +232,8 @@ class Cases:
                   "sideways: refused 2 record 0 field 1\n--header line 1, column 1: a column without a name: ''\n")
         self.case("no record", ["run", "--table", "-", "--header", "a", "-e", "count"], 2, "",
                   "sideways: refused 2 record 0 field 0\nstandard input: empty, wanted a header: names with kinds, as a:int,b:fix2,c:text\n")
+        self.case("more than eight columns", run + ["a,b,c,d,e,f,g,h,i", "-e", "count"], 2, "",
+                  "sideways: refused 5 limit 8\ncities.csv line 1: 9 columns, at most 8; %s\n" % FEWER)
         self.refused("a header with quotes", run + ['"a",b,c,d', "-e", "count"], "a header of --header has no quotes and no line ends")
         self.refused("a header of two lines", ["describe", "cities.csv", "--header", "a\nb"], "a header of --header has no quotes and no line ends")
 
@@ -260,9 +279,8 @@ class Cases:
                   "cell of its column's kind and above those before it, at most 15 of a column\n")
         self.case("more rows than the limit", run + ["t.csv", "-e", "count", "--limit", "3"], 2, "",
                   "sideways: refused 5 limit 3\nt.csv: more than 3 rows\n")
-        fewer = "sideways import chooses columns, and --header passes by those that it calls -"
         self.case("more than eight columns", run + ["-", "-e", "count"], 2, "", "sideways: refused 5 limit 8\nstandard input line 1: 9 columns, "
-                  "at most 8; %s\n" % fewer, b"a,b,c,d,e,f,g,h,i\n1,2,3,4,5,6,7,8,9\n")
+                  "at most 8; %s\n" % FEWER, b"a,b,c,d,e,f,g,h,i\n1,2,3,4,5,6,7,8,9\n")
         for flag in ("--history", "--log"):
             self.case("a file in no folder", run + ["t.csv", "-e", "count", flag, "none/x"], 3, "4\n",
                       "sideways: refused 13\nnone/x: it cannot be written\n")
