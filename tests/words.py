@@ -233,7 +233,7 @@ class Cases:
         self.case("no record", ["run", "--table", "-", "--header", "a", "-e", "count"], 2, "",
                   "sideways: refused 2 record 0 field 0\nstandard input: empty, wanted a header: names with kinds, as a:int,b:fix2,c:text\n")
         self.case("more than eight columns", run + ["a,b,c,d,e,f,g,h,i", "-e", "count"], 2, "",
-                  "sideways: refused 5 limit 8\ncities.csv line 1: 9 columns, at most 8; %s\n" % FEWER)
+                  "sideways: refused 5 limit 8\n--header line 1: 9 columns, at most 8; %s\n" % FEWER)
         self.refused("a header with quotes", run + ['"a",b,c,d', "-e", "count"], "a header of --header has no quotes and no line ends")
         self.refused("a header of two lines", ["describe", "cities.csv", "--header", "a\nb"], "a header of --header has no quotes and no line ends")
 

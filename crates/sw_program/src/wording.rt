@@ -249,20 +249,25 @@ fn texts_again<R: Files>(rt: &R, alloc: Global, asking: &Asking<'_>, kept: Keeps
     }
 }
 
-/// Whether a refusal is of a field of the header.
-fn is_of_header(refusal: &Refusal) -> bool {
+/// How many columns a table has at most.
+const MOST_COLUMNS: usize = 8;
+
+/// Whether a refusal is of a header that was given: of a field of it, or of more names than a table has columns.
+fn is_of_header(header: &str, refusal: &Refusal) -> bool {
     match refusal {
         Refusal::BadTable { rec: 0, field } => *field > 0,
+        Refusal::TooMany { .. } => {
+            header.split(',').filter(|word| *word != "-").count() > MOST_COLUMNS
+        }
         _ => false,
     }
 }
 
 /// What the table is called in the words of a refusal: by the header that was given, where that is refused.
 fn called_table<'a>(asking: &Asking<'a>, refusal: &Refusal) -> &'a str {
-    if asking.header.is_some() && is_of_header(refusal) {
-        HEADER
-    } else {
-        called(asking.table)
+    match asking.header {
+        Some(header) if is_of_header(header, refusal) => HEADER,
+        _ => called(asking.table),
     }
 }
 
