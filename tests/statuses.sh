@@ -123,12 +123,15 @@ waiting() { slow_script; "$program" run --table t.csv --script slow; }
 on_terminal() { script -qec "'$program' run $*" /dev/null </dev/null | tr -d '\r' | sed -n 1p; }
 calls_told() { slow_script; on_terminal --table t.csv --script slow "$@"; }
 lines_told() { slow_table; on_terminal --table slow --script count.txt "$@"; }
+values_told() { slow_table; script -qec "'$program' import slow $*" /dev/null </dev/null | tr -d '\r' | sed -n 1p; }
 case_of 'a quiet run' 0 4 '' run --quiet
 case_of 'a slow run, and no terminal' 0 4 '' waiting
 if command -v script >/dev/null; then
     case_of 'a slow script on a terminal' 0 'sideways: 1 calls made' '' calls_told
     case_of 'a slow table on a terminal' 0 'sideways: 5 lines of the table read' '' lines_told
     case_of 'a slow script on a terminal, and quiet' 0 4 '' calls_told --quiet
+    case_of 'slow values on a terminal' 0 'sideways: 5 lines of the values read' '' values_told
+    case_of 'slow values on a terminal, and quiet' 0 a_int:int,b_int:int,c_int:int '' values_told --quiet
     case_of 'a slow table on a terminal, and quiet' 0 4 '' lines_told --quiet
 else
     echo 'no command script: no run was made on a terminal'

@@ -159,6 +159,15 @@ fn no_header<'a>(alloc: Global) -> Arg<'a> {
         .action(ArgAction::SetTrue)
 }
 
+fn quiet<'a>(alloc: Global) -> Arg<'a> {
+    Arg::new(alloc, "quiet")
+        .long("quiet")
+        .help(
+            "Leaves out the lines that tell on standard error, where that is a terminal, how many lines were read: one a second, after the first second",
+        )
+        .action(ArgAction::SetTrue)
+}
+
 /// The command `import`: the file, which of its columns are written, and what becomes of their cells.
 pub(crate) fn import_command<'a>(alloc: Global) -> Result<Command<'a>, AllocError> {
     Command::new(alloc, "import")
@@ -176,7 +185,8 @@ pub(crate) fn import_command<'a>(alloc: Global) -> Result<Command<'a>, AllocErro
         .arg(sample(alloc))?
         .arg(ragged(alloc))?
         .arg(delimiter(alloc))?
-        .arg(no_header(alloc))
+        .arg(no_header(alloc))?
+        .arg(quiet(alloc))
 }
 
 /// The words of an argument that may be given again.
@@ -256,11 +266,15 @@ pub(crate) const NO_DELIMITER: &str =
     "the delimiter is one character of ASCII, no quote and no end of a line, or \\t";
 
 /// The table that the words ask for; none where the delimiter is none.
-pub(crate) fn import_of<'g, 'a: 'g>(given: &'g ArgMatches<'a>) -> Option<Import<'g>> {
+pub(crate) fn import_of<'g, 'a: 'g>(
+    given: &'g ArgMatches<'a>,
+    is_terminal: bool,
+) -> Option<Import<'g>> {
     let delimiter = delimiter_of(given)?;
     Some(Import {
         file: given.get_str("file")?,
         how: how_of(given, delimiter),
         dictionary: given.get_str("dictionary"),
+        progress: is_terminal && !given.get_flag("quiet"),
     })
 }

@@ -286,13 +286,16 @@ fn make_order<
 }
 
 /// Makes the table that the words ask for, unless their delimiter is none, or the dictionary would be written over another of its files.
-fn make_import<R: Files + RandomSource + Print + Eprint + Input + Threads + Sync, E: Sink + Drop>(
+fn make_import<
+    R: Files + RandomSource + Clock + Print + Eprint + Input + Threads + Sync,
+    E: Sink + Drop,
+>(
     rt: &R,
     alloc: Global,
     given: &ArgMatches<'_>,
     errors: &mut Errors<E>,
 ) -> Result<u8, Refusal> {
-    let Some(import) = import_of(given) else {
+    let Some(import) = import_of(given, errors.is_terminal) else {
         return refuse_words(rt, alloc, NO_DELIMITER);
     };
     match import.clash(rt) {

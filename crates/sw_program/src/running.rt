@@ -179,7 +179,10 @@ fn run_named<R: Files + RandomSource + Clock + Print + Eprint + Input + Threads 
     watch: &Watch<'_, '_, R>,
 ) -> Came {
     let table = match open_table(rt, alloc, run.table, run.header) {
-        Ok(table) => LinesSeen::new(Counted::new(table), watch.seen),
+        Ok(table) => {
+            let table = Counted::new(table);
+            LinesSeen::new(table, watch.seen, "lines of the table read")
+        }
         Err(refusal) => return unopened(refusal),
     };
     let script = match open_script(rt, run.script) {

@@ -47,6 +47,18 @@ pub(crate) struct Seen<'r, R: Clock + Eprint> {
     nanos: [AtomicU64; 8],
 }
 
+impl Sights {
+    /// Nothing but how far it is, where that is asked.
+    pub(crate) fn of_progress(progress: bool) -> Sights {
+        Sights {
+            heads: false,
+            progress,
+            calls: false,
+            faults: false,
+        }
+    }
+}
+
 impl<'r, R: Clock + Eprint> Seen<'r, R> {
     /// A run begins, of whose calls a log is asked for or not.
     pub(crate) fn new(rt: &'r R, sights: Sights, is_logged: bool) -> Seen<'r, R> {
@@ -156,21 +168,27 @@ fn ends_in(bytes: &[u8]) -> u64 {
     ends
 }
 
-/// A source of a table before another, which tells how many lines went by. It counts them only where they are told.
+/// A source before another, which tells how many lines of what went by. It counts them only where they are told.
 #[derive(Drop)]
 pub(crate) struct LinesSeen<'s, 'r, S: Source + Drop, R: Clock + Eprint> {
     source: S,
     read: u64,
     seen: &'s Seen<'r, R>,
+    what: &'static str,
 }
 
 impl<'s, 'r, S: Source + Drop, R: Clock + Eprint> LinesSeen<'s, 'r, S, R> {
-    /// A source of which no line went by.
-    pub(crate) fn new(source: S, seen: &'s Seen<'r, R>) -> LinesSeen<'s, 'r, S, R> {
+    /// A source of which no line went by, with the words behind their number.
+    pub(crate) fn new(
+        source: S,
+        seen: &'s Seen<'r, R>,
+        what: &'static str,
+    ) -> LinesSeen<'s, 'r, S, R> {
         LinesSeen {
             source,
             read: 0,
             seen,
+            what,
         }
     }
 }
@@ -185,8 +203,7 @@ impl<S: Source + Drop, R: Clock + Eprint> Source for LinesSeen<'_, '_, S, R> {
         if self.seen.sights.progress {
             let (given, _) = buf.split_at(count);
             self.read = self.read.saturating_add(ends_in(given));
-            self.seen
-                .tell(self.seen.now(), self.read, "lines of the table read");
+            self.seen.tell(self.seen.now(), self.read, self.what);
         }
         Ok(count)
     }
