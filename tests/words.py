@@ -13,6 +13,7 @@ TOP = Path(__file__).resolve().parents[1]
 TABLE = b"a:int,b:int,c:int\n12,7,1\n3,8,0\n12,5,1\n20,2,0\n"
 CITIES = b"city:text,n,price:fix2,ok:flag\nOslo,1,7.5,true\n\"Bergen, \"\"B\"\"\",2,-0.25,false\nOslo,3,3,true\n"
 BAD = b"name:text,n\n\"two\nlines\",1\nx,1.5\ny\nz,\xff\n"
+NAMES = "sideways import makes names of headings"
 FEWER = "sideways import chooses columns, and --header passes by those that it calls -"
 FULL = b"sideways: refused 13\nstandard output: it cannot be written\n"
 ANY = object()
@@ -225,11 +226,12 @@ class Cases:
                   "cities.csv line 3, price:fix1: 2 decimals, wanted a number with at most 1 decimal: '-0.25'\n")
         self.case("a cell behind lines that are passed by", ["run", "--table", "bad.csv", "--header", "-,n", "-e", "count"], 2, "",
                   "sideways: refused 2 record 2 field 1\nbad.csv line 4, n:int: 1 decimal, wanted a whole number: '1.5'; "
-                  "a name without a kind is an int\n")
+                  "a name without a kind is an int; sideways import finds kinds\n")
         self.case("a name that is none", run + ["a b,-,-,-", "-e", "count"], 2, "",
-                  "sideways: refused 2 record 0 field 1\n--header line 1, column 1: ' ' stands in a name, which has letters, digits and _: 'a b'\n")
+                  "sideways: refused 2 record 0 field 1\n--header line 1, column 1: ' ' stands in a name, which has letters, digits and _: 'a b'; %s\n"
+                  % NAMES)
         self.case("no column", run + ["-,-,-,-", "-e", "count"], 2, "",
-                  "sideways: refused 2 record 0 field 1\n--header line 1, column 1: a column without a name: ''\n")
+                  "sideways: refused 2 record 0 field 1\n--header line 1, column 1: a column without a name: ''; %s\n" % NAMES)
         self.case("no record", ["run", "--table", "-", "--header", "a", "-e", "count"], 2, "",
                   "sideways: refused 2 record 0 field 0\nstandard input: empty, wanted a header: names with kinds, as a:int,b:fix2,c:text\n")
         self.case("more than eight columns", run + ["a,b,c,d,e,f,g,h,i", "-e", "count"], 2, "",
@@ -241,12 +243,12 @@ class Cases:
 
     def words(self):
         run = ["run", "--table"]
-        number = "bad.csv line 4, n:int: 1 decimal, wanted a whole number: '1.5'; a name without a kind is an int\n"
+        number = "bad.csv line 4, n:int: 1 decimal, wanted a whole number: '1.5'; a name without a kind is an int; sideways import finds kinds\n"
         self.case("a cell behind one of two lines", run + ["bad.csv", "-e", "count"], 2, "",
                   "sideways: refused 2 record 1 field 1\nbad.csv line 2, name:text: byte 4 is a control byte, which no text has: 'two\\nlines'\n")
         listed = "bad.csv line 2, name:text: byte 4 is a control byte, which no text has: 'two\\nlines'\n" + number + (
             "bad.csv line 5: 1 field, the header has 2: n:int is missing\n"
-            "bad.csv line 6, n:int: not a number, wanted a whole number: '\\xff'; a name without a kind is an int\nbad.csv: 4 faults\n")
+            "bad.csv line 6, n:int: not a number, wanted a whole number: '\\xff'; a name without a kind is an int; sideways import finds kinds\nbad.csv: 4 faults\n")
         self.case("all faults", run + ["bad.csv", "-e", "count", "--all-faults"], 2, "", "sideways: refused 2 record 1 field 1\n" + listed)
         self.case("all faults of standard input", run + ["-", "-e", "count", "--all-faults"], 2, "",
                   "sideways: refused 2 record 1 field 1\n" + listed.replace("bad.csv", "standard input"), BAD)

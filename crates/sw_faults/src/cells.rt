@@ -7,7 +7,7 @@ use std::alloc::{AllocError, Global};
 use sw_rows::{Kind, MOST_BYTES_OF_TEXT, MOST_NUMBER, read_cell_bytes, read_text};
 
 /// What is told besides of a cell whose attribute has its kind by none being named.
-pub(crate) const BARE: &str = "; a name without a kind is an int";
+pub(crate) const BARE: &str = "; a name without a kind is an int; sideways import finds kinds";
 
 /// A kind as a header has it.
 pub fn kind_name(kind: Kind) -> &'static str {

@@ -1,5 +1,6 @@
 -- What lines come to, step by step.
-use Rattle.std.proofs.Common.{◌≡◌, refl, sym, subst, arith, nat_tests, ℕ, zero, suc, Bool, true, false, List, [], ◌∷◌, Option, Some, None, Result, Ok, Err}
+use Rattle.std.proofs.Common.{◌≡◌, refl, sym, subst, arith, ℕ, zero, suc, Bool, true, false, List, [], ◌∷◌, Option, Some, None, Result, Ok, Err}
+use Rattle.std.proofs.lemmas.Bool.Decides.{nat_tests}
 use Rattle.std.specs.Io.KnownBytes.{Keeps}
 use Rattle.sw_rows.specs.Header.{Column}
 use Rattle.sw_rows.specs.declared.query.Call.{Call}
@@ -32,8 +33,8 @@ heard_idle W n line a answers = record { said = Ok None; answers = answers; came
 
 -- what is no command is not `.quit`
 no_quit : (line : List ℕ) → is_command line ≡ false → is_quit line ≡ false
-no_quit [] no = refl
-no_quit (b ∷ bs) no = grind (arith, nat_tests, no)
+no_quit [] none = refl
+no_quit (b ∷ bs) none = grind (arith, nat_tests, none)
 
 -- a line's call
 pub heard_call : (l : Line) (c : Call) (columns : List Column) (old new : List (Call × Reply)) (w : SinkSeen) (result : Result (Unit {0}) Refusal)
@@ -46,16 +47,16 @@ heard_call l c columns old new w (Err e) answers t =
 
 -- a line that was heard is taken, and there are to be more
 pub taken_heard : (W : Taking) (n : ℕ) (line : List ℕ) (a b : Said) → is_command line ≡ false → IsHeard W n line a b → IsTaken W n line a b
-taken_heard W n line a b no heard = record {
-  stays = no_quit line no;
-  came = subst (λ (x : Bool). CameBy x W n line a b) (sym no) heard;
+taken_heard W n line a b none heard = record {
+  stays = no_quit line none;
+  came = subst (λ (x : Bool). CameBy x W n line a b) (sym none) heard;
 }
 
 -- a command that does not end the shell
 pub taken_obeyed : (W : Taking) (n : ℕ) (line : List ℕ) (a : Said) → is_command line ≡ true → is_quit line ≡ false → IsTaken W n line a a
-taken_obeyed W n line a yes stays = record {
-  stays = stays;
-  came = subst (λ (x : Bool). CameBy x W n line a a) (sym yes) (unheard_same a);
+taken_obeyed W n line a one goes_on = record {
+  stays = goes_on;
+  came = subst (λ (x : Bool). CameBy x W n line a a) (sym one) (unheard_same a);
 }
 
 -- one more line
