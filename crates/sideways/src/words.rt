@@ -21,6 +21,8 @@ const LONG_VERSION: &str = "0.1.0\nproved with rattle-kit-13f logic dac8208d650f
 /// What ends the help of each command.
 const EXAMPLES: &str = "\
 Examples:
+  sideways import data.csv > t.csv
+  sideways describe t.csv
   sideways run --table t.csv -e 'count where a >= 10'
   sideways run --help
   sideways explain 2";
@@ -30,7 +32,10 @@ Examples:
   sideways run --table t.csv -e 'count' -e 'select b where a >= 10'
   sideways run --table t.csv --script calls.txt --history h.json
   sideways run --table data.csv --header 'price:fix2,-,city:text' -e 'max price'
-  zcat t.csv.gz | sideways run --table - -e 'sum b where a < 20' --stats";
+  zcat t.csv.gz | sideways run --table - -e 'sum b where a < 20' --stats
+
+Calls: select a, b; count; sum a; min a; max a, each perhaps with where, as where a >= 1 and b = 'Oslo'; insert 1, 'Oslo'; \
+delete 3, by a row's key; delete where a < 5. Rows come with their keys, which count from 1.";
 
 const EXAMPLES_OF_DESCRIBE: &str = "\
 Examples:

@@ -24,7 +24,7 @@ const PROMPT: &[u8] = b"sideways> ";
 const GREETING: &[u8] = b"A call a line; .help lists the commands.\n";
 
 const HELP: &[u8] = b"\
-A line is a call, as in a script: select, count, sum, min, max, insert, delete.
+A line is a call, as in a script: select, count, sum, min, max, insert, delete; as select a, b where c >= 5.
 .names          the attributes, with their kinds
 .stats          what each head tells of itself, as run --stats does
 .times          tells on standard error what each call takes, in nanoseconds; again: no more
