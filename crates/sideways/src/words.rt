@@ -34,7 +34,7 @@ Examples:
   sideways run --table data.csv --header 'price:fix2,-,city:text' -e 'max price'
   zcat t.csv.gz | sideways run --table - -e 'sum b where a < 20' --stats
 
-Calls: select a, b; count; sum a; min a; max a, each perhaps with where, as where a >= 1 and b = 'Oslo'; insert 1, 'Oslo'; \
+A call is one of: select a, b; count; sum a; min a; max a, each perhaps with where, as where a >= 1 and b = 'Oslo'; insert 1, 'Oslo'; \
 delete 3, by a row's key; delete where a < 5. Rows come with their keys, which count from 1.";
 
 const EXAMPLES_OF_DESCRIBE: &str = "\
