@@ -289,12 +289,7 @@ fn make_order<
 fn make_import<
     R: Files + RandomSource + Clock + Print + Eprint + Input + Threads + Sync,
     E: Sink + Drop,
->(
-    rt: &R,
-    alloc: Global,
-    given: &ArgMatches<'_>,
-    errors: &mut Errors<E>,
-) -> Result<u8, Refusal> {
+>(rt: &R, alloc: Global, given: &ArgMatches<'_>, errors: &mut Errors<E>) -> Result<u8, Refusal> {
     let Some(import) = import_of(given, errors.is_terminal) else {
         return refuse_words(rt, alloc, NO_DELIMITER);
     };

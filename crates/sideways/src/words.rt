@@ -93,9 +93,11 @@ fn call<'a>(alloc: Global) -> Arg<'a> {
 
 /// Where the calls come from: one of the two, so that what is missing is told with both.
 fn calls<'a>(alloc: Global) -> Result<ArgGroup<'a>, AllocError> {
-    Ok(ArgGroup::new(alloc, "calls")
-        .args(&["script", "call"])?
-        .required(true))
+    Ok(
+        ArgGroup::new(alloc, "calls")
+            .args(&["script", "call"])?
+            .required(true),
+    )
 }
 
 pub(crate) fn history<'a>(alloc: Global) -> Arg<'a> {

@@ -167,10 +167,7 @@ impl Import<'_> {
     /// Refused `Input` where the values cannot be opened or read or the system gives no random bytes for the key of texts,
     /// `Output` where the table or the texts cannot be written, and `NoMemory`. What a refusal means is put into `told`,
     /// where there is memory for it.
-    pub fn make<
-        R: Files + Clock + Input + RandomSource + Print + Eprint + Threads + Sync,
-        E: Sink,
-    >(
+    pub fn make<R: Files + Clock + Input + RandomSource + Print + Eprint + Threads + Sync, E: Sink>(
         &self,
         rt: &R,
         alloc: Global,

@@ -89,13 +89,7 @@ impl Shell<'_> {
     }
 
     /// Talks over a table that is open.
-    fn talk<
-        R: Threads + Wait + Sync,
-        T: Source,
-        B: BufRead + Drop,
-        W: Sink + Drop,
-        H: Host + Drop,
-    >(
+    fn talk<R: Threads + Wait + Sync, T: Source, B: BufRead + Drop, W: Sink + Drop, H: Host + Drop>(
         &self,
         rt: &R,
         alloc: Global,
@@ -177,7 +171,16 @@ impl Shell<'_> {
         let (history, status) = host.into_end();
         match ended {
             Ok(ended) => {
-                finish(rt, alloc, ended, history, Telling { reader: &reader, words })?;
+                finish(
+                    rt,
+                    alloc,
+                    ended,
+                    history,
+                    Telling {
+                        reader: &reader,
+                        words,
+                    },
+                )?;
                 Ok(status)
             }
             Err(refusal) => {
