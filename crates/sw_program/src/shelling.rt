@@ -171,16 +171,8 @@ impl Shell<'_> {
         let (history, status) = host.into_end();
         match ended {
             Ok(ended) => {
-                finish(
-                    rt,
-                    alloc,
-                    ended,
-                    history,
-                    Telling {
-                        reader: &reader,
-                        words,
-                    },
-                )?;
+                let reader = &reader;
+                finish(rt, alloc, ended, history, Telling { reader, words })?;
                 Ok(status)
             }
             Err(refusal) => {
