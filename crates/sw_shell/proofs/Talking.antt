@@ -1,5 +1,6 @@
 -- What lines come to, step by step.
-use Rattle.std.proofs.Common.{◌≡◌, refl, sym, subst, arith, ℕ, zero, suc, Bool, true, false, List, [], ◌∷◌, Option, Some, None, Result, Ok, Err}
+use Rattle.std.proofs.Common.{◌≡◌, inr, refl, sym, subst, arith, ℕ, zero, suc, Bool, true, false, not, List, [], ◌∷◌, Option, Some, None, Result, Ok, Err, IfOk, OnErr}
+use Rattle.std.proofs.lemmas.Bool.{false≢true}
 use Rattle.std.proofs.lemmas.Bool.Decides.{nat_tests}
 use Rattle.std.specs.Io.KnownBytes.{Keeps}
 use Rattle.sw_rows.specs.Header.{Column}
@@ -11,8 +12,9 @@ use Rattle.sw_lang.specs.Reading.{Answers}
 use Rattle.sw_lang.specs.Sinks.{Took, TookBeginning}
 use Rattle.sw_cli.specs.Script.{call_of_line}
 use Rattle.sw_cli.specs.Sides.{SinkSeen}
-use Rattle.sw_shell.specs.Lines.{is_command, is_quit}
-use Rattle.sw_shell.specs.Talks.{CameBy, Ends, Heard, IsEntered, IsHeard, IsTaken, IsTold, IsUnheard, Reached, Said, Seen, Taking, Talked, said}
+use Rattle.bstr.specs.Text.{without_terminator}
+use Rattle.sw_shell.specs.Lines.{IsNext, is_command, is_quit}
+use Rattle.sw_shell.specs.Talks.{CameBy, Ends, Heard, IsEntered, IsHeard, IsTaken, IsTold, IsUnheard, Reached, Said, Seen, Taken, Taking, Talked, Turned, said}
 use Rattle.sw_shell.specs.declared.host.Line.{Line}
 
 pub keeps_same : (o : Option (List ℕ)) → Keeps o o
@@ -58,6 +60,41 @@ taken_obeyed W n line a one goes_on = record {
   stays = goes_on;
   came = subst (λ (x : Bool). CameBy x W n line a a) (sym one) (unheard_same a);
 }
+
+goes_on : (q : Bool) → true ≡ not q → q ≡ false
+goes_on true is = absurd (false≢true (sym is))
+goes_on false is = refl
+
+ends : (q : Bool) → false ≡ not q → q ≡ true
+ends true is = refl
+ends false is = absurd (false≢true is)
+
+-- what a command comes to, of which it was told whether there are to be more lines
+pub taken_by : (result : Result Bool Refusal) (l : Line) (a : Said) → is_command l.bytes.now ≡ true
+    → IfOk result (λ more. more ≡ not (is_quit l.bytes.now)) → OnErr result (is_quit l.bytes.now ≡ false) → Taken result l a a
+taken_by (Ok true) l a one more stays = taken_obeyed Took l.number l.bytes.now a one (goes_on (is_quit l.bytes.now) more)
+taken_by (Ok false) l a one more stays = record { ends = ends (is_quit l.bytes.now) more; unheard = unheard_same a }
+taken_by (Err e) l a one more stays = taken_obeyed TookBeginning l.number l.bytes.now a one stays
+
+-- what a line comes to that was read and taken
+pub turned_by : (result : Result Bool Refusal) (l : Line) (line : List ℕ) (a b : Seen) → IsNext a.left b.left line
+    → l.bytes.now ≡ without_terminator line → Taken result l a.said b.said → Turned result a b
+turned_by (Ok true) l line a b next is t = record {
+  line = line;
+  number = l.number;
+  next = next;
+  taken = subst (λ (x : List ℕ). IsTaken Took l.number x a.said b.said) is t;
+}
+turned_by (Ok false) l line a b next is t = record {
+  why = inr (record { line = line; next = next; ends = subst (λ (x : List ℕ). is_quit x ≡ true) is t.ends });
+  unheard = t.unheard;
+}
+turned_by (Err e) l line a b next is t = inr (record {
+  line = line;
+  number = l.number;
+  next = next;
+  taken = subst (λ (x : List ℕ). IsTaken TookBeginning l.number x a.said b.said) is t;
+})
 
 -- one more line
 pub reached_more : (a b c : Seen) → ((n : ℕ) × Reached n a b) → IsEntered Took b c → (n : ℕ) × Reached n a c

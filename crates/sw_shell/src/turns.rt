@@ -111,6 +111,7 @@ where
 }
 
 /// Takes a line, and tells whether there are to be more.
+#[tactic(auto, using(crate::proofs::Talking::taken_by, crate::proofs::Talking::taken_heard))]
 fn enter<J: Naming, M: CrackerMap, H: Host, R: Threads + Wait + Sync, W: Sink>(
     rt: &R,
     seat: &mut Seat<'_, J, M>,
@@ -133,6 +134,7 @@ where
 }
 
 /// Waits for the next line, and takes it: whether there are to be more.
+#[tactic(auto, using(crate::proofs::Talking::turned_by, crate::proofs::Talking::unheard_same))]
 fn turn<J, M, R, B, W, H>(
     rt: &R,
     seat: &mut Seat<'_, J, M>,
