@@ -1,5 +1,5 @@
 -- The place of a session's last entry stays as others come.
-use Rattle.std.proofs.Common.{◌≡◌, ◌≢◌, inl, inr, ℕ, zero, suc, ◌+◌, ◌<◌, ◌==◌, ◌&&◌, not, Bool, true, false, List, [], ◌∷◌, Option, Some, None, drop, length, cond, refl, sym, ap, ◌∙◌, subst, arith}
+use Rattle.std.proofs.Common.{◌≡◌, ◌≢◌, inl, inr, ℕ, zero, suc, ◌+◌, ◌<◌, ◌==◌, ◌&&◌, not, Bool, true, false, List, [], ◌∷◌, Option, Some, None, drop, get_or, length, cond, refl, sym, ap, ◌∙◌, subst, arith}
 use Rattle.std.specs.Prelude.{slice_get}
 use Rattle.std.proofs.lemmas.Bool.{and_parts}
 use Rattle.std.proofs.lemmas.Bool.Decides.{nat_tests}
@@ -56,12 +56,11 @@ place_back s (e ∷ es) (f ∷ fs) (Some (suc p)) begin same last =
     (r.0, r.1, r.2, subst (λ (n : ℕ). is_absent s (drop n (e ∷ es)) ≡ true) (sym next) r.3)
 
 -- an entry of another session before others
-pub absent_back : (s : ℕ) (es : List Entry) (k : ℕ) (x : Entry) → slice_get es k ≡ Some x → x.session ≢ s → is_absent s (drop (k + 1) es) ≡ true → is_absent s (drop k es) ≡ true
-absent_back s [] k x at apart h = absurd (cc)
-absent_back s (y ∷ es) zero x at apart h =
-    let same : y ≡ x = cc in
-    let other : y.session ≢ s = λ is. apart (ap (λ (e : Entry). e.session) (sym same) ∙ is) in
+pub absent_back : (s : ℕ) (es : List Entry) (k : ℕ) (x : Entry) → k < length es → x ≡ get_or es k x → x.session ≢ s → is_absent s (drop (k + 1) es) ≡ true → is_absent s (drop k es) ≡ true
+absent_back s [] k x lt is apart h = absurd (omega (arith, lt))
+absent_back s (y ∷ es) zero x lt is apart h =
+    let other : y.session ≢ s = λ e. apart (ap (λ (z : Entry). z.session) is ∙ e) in
     grind (arith, nat_tests, h, other)
-absent_back s (y ∷ es) (suc k) x at apart h =
+absent_back s (y ∷ es) (suc k) x lt is apart h =
     let next : suc k + 1 ≡ suc (k + 1) = omega arith in
-    absent_back s es k x at apart (subst (λ (n : ℕ). is_absent s (drop n (y ∷ es)) ≡ true) next h)
+    absent_back s es k x (omega (arith, lt)) is apart (subst (λ (n : ℕ). is_absent s (drop n (y ∷ es)) ≡ true) next h)

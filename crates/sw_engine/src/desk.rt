@@ -206,6 +206,7 @@ impl<J: Naming> Desk<J> {
 
     /// A select begins: its entry stands open at the end of the history, and the head takes the updates that it lacks. So it
     /// has all updates before that place. Refused, the history is as it was.
+    #[tactic(auto, using(crate::proofs::Owned::tells_full))]
     pub fn begin<M: CrackerMap>(
         &mut self,
         number: u64,
@@ -296,6 +297,7 @@ impl<J: Naming> Desk<J> {
     }
 
     /// A call that is no select is answered at the end of the history. Refused, the history is as it was.
+    #[tactic(auto, using(crate::proofs::Owned::tells_full))]
     pub fn commit(
         &mut self,
         number: u64,

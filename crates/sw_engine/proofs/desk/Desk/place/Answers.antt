@@ -10,5 +10,5 @@ returns-clause-place g c =
     let s = c.self.inside in
     let h = c.args.share.now in
     let n = c.args.number in
-    let is = shown_is s.spine s.sessions.rows s.heads.rows h.number n h.value c.self.invariant.tied c.agree.ensures.value c.requires.1 in
+    let is = shown_is s.spine s.sessions.rows s.heads.rows h.number n h.value c.self.invariant.tied c.agree.ensures.value c.requires.share.1 in
     place_back n h.value.entries s.spine.entries c.last_of.result is.3 (sym is.2) (subst (λ (es : List Entry). IsLastOwn n es c.last_of.result) c.entries.ensures.entries c.last_of.ensures)
