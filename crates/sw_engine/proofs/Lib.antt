@@ -6,5 +6,6 @@ pub mod Parts
 pub mod Published
 pub mod Later
 pub mod Owned
+pub mod Placed
 pub mod Whole
 pub mod Shelves

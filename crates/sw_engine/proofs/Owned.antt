@@ -7,7 +7,10 @@ use Rattle.sw_rows.specs.declared.query.Call.{Call}
 use Rattle.sw_rows.specs.declared.query.Call.TheVariants as call
 use Rattle.sw_spine.specs.Table.{opened, updates_then}
 use Rattle.sw_spine.specs.History.{entry, is_absent, is_open, mine, settled, waiting_after, waits}
-use Rattle.sw_spine.specs.Books.{Books, Opens, is_opened, reply_now, waits_for, with_answered, with_open, with_published, with_settled}
+use Rattle.sw_rows.specs.declared.refusal.Refusal.{Refusal}
+use Rattle.sw_rows.specs.declared.refusal.Refusal.TheVariants as refusal
+use Rattle.sw_engine.specs.Desk.{TellsFull}
+use Rattle.sw_spine.specs.Books.{Books, Opens, RefusesEntry, is_opened, reply_now, waits_for, with_answered, with_open, with_published, with_settled}
 use Rattle.sw_spine.specs.declared.history.Entry.{Entry}
 use Rattle.sw_spine.specs.declared.history.State.{State}
 use Rattle.sw_spine.specs.declared.history.State.TheVariants as state
@@ -80,6 +83,23 @@ published_keeps session n b x is = (
 -- a select that began and was settled
 pub settles_added : (session : ℕ) (c : Call) (st : State) (a b d : Books) → waits_for session a ≡ None → Adds session c state.Open a b → Settles session st b d → Adds session c st a d
 settles_added session c st a b d none adds settles = settles ∙ ap (own_settled st) adds ∙ settled_last session a.limit (opened a.rows) a.entries c st none
+
+-- why a visit that adds an entry is refused tells whether the history is full
+pub tells_full : (b : Books) (e : Refusal) → RefusesEntry b e → TellsFull b.entries e
+tells_full b refusal.NoMemory h = tt
+tells_full b (refusal.HistoryFull _) h = h.1
+tells_full b (refusal.TooMany _) h = tt
+tells_full b (refusal.BadTable _ _) h = tt
+tells_full b (refusal.BadLine _ _) h = tt
+tells_full b (refusal.UnknownAttribute _) h = tt
+tells_full b (refusal.NoBlank _ _) h = tt
+tells_full b (refusal.Short _ _ _) h = tt
+tells_full b (refusal.Contended _ _) h = tt
+tells_full b (refusal.SharesOut _ _) h = tt
+tells_full b (refusal.NotLegal _) h = tt
+tells_full b refusal.Input h = tt
+tells_full b refusal.Output h = tt
+tells_full b (refusal.Ahead _ _) h = tt
 
 -- a session that was just opened has no entries
 pub new_absent : (b x : Books) (n : ℕ) → Opens b x n → ((s : ℕ) → is_opened s b ≡ false → is_absent s b.entries ≡ true) → is_absent n x.entries ≡ true

@@ -17,6 +17,7 @@ use Rattle.sw_spine.specs.Table.{is_numbered, opened}
 use Rattle.sw_spine.specs.History.{entry, mine}
 use Rattle.sw_spine.specs.Books.{Books, new_books, took, waits_for}
 use Rattle.sw_spine.specs.Receivable.{AreUpdates}
+use Rattle.sw_spine.specs.declared.history.Entry.{Entry}
 use Rattle.sw_spine.specs.declared.history.State.TheVariants as state
 use Rattle.sw_spine.specs.declared.spine.TheConstants.{MOST_ENTRIES, MOST_SESSIONS}
 use Rattle.sw_tie.specs.declared.Book.{Book}
@@ -162,6 +163,11 @@ abbrev pub RefusesCall : Refusal → Type 0
 RefusesCall refusal.NoMemory = Unit {0}
 RefusesCall (refusal.HistoryFull entries) = entries ≡ MOST_ENTRIES
 RefusesCall other = ⊥
+
+-- a call is refused since the history is full only where it is
+abbrev pub TellsFull : List Entry → Refusal → Type 0
+TellsFull es (refusal.HistoryFull entries) = length es ≡ MOST_ENTRIES
+TellsFull es other = Unit {0}
 
 -- why no session is opened
 abbrev pub TooManySessions : Refusal → Type 0

@@ -1,11 +1,11 @@
 -- A session's own entries, and what a visit makes of them. The entries of others come and go between its visits.
-use Rattle.std.specs.Prelude.{ℕ, ◌≡◌, ◌⊎◌, ◌++◌, ◌==◌, if◌then◌else◌, List, [], ◌∷◌, MatchResult, Result}
+use Rattle.std.specs.Prelude.{ℕ, ◌≡◌, ◌⊎◌, ◌+◌, ◌++◌, ◌==◌, if◌then◌else◌, true, List, [], ◌∷◌, drop, slice_get, Option, None, Some, MatchResult, Result}
 use Rattle.sw_rows.specs.declared.query.Query.{Query}
 use Rattle.sw_rows.specs.declared.query.Call.{Call}
 use Rattle.sw_rows.specs.declared.query.Call.TheVariants as call
 use Rattle.sw_rows.specs.declared.reply.Reply.{Reply}
 use Rattle.sw_spine.specs.Books.{Books}
-use Rattle.sw_spine.specs.History.{is_open}
+use Rattle.sw_spine.specs.History.{is_absent, is_open}
 use Rattle.sw_spine.specs.declared.history.Entry.{Entry}
 use Rattle.sw_spine.specs.declared.history.State.{State}
 use Rattle.sw_spine.specs.declared.history.State.TheVariants as state
@@ -22,6 +22,12 @@ own s (e ∷ es) = if e.session == s then (e.call, e.state) ∷ own s es else ow
 abbrev pub own_settled : State → List (Call × State) → List (Call × State)
 own_settled st [] = []
 own_settled st (e ∷ es) = if is_open e.1 then (e.0, st) ∷ es else e ∷ own_settled st es
+
+-- the place of a session's last entry, where it has any
+abbrev pub IsLastOwn : ℕ → List Entry → Option ℕ → Type 0
+IsLastOwn s es None = is_absent s es ≡ true
+IsLastOwn s es (Some p) =
+    (e : Entry) × (slice_get es p ≡ Some e) × (e.session ≡ s) × (is_absent s (drop (p + 1) es) ≡ true)
 
 -- ---- what a visit makes of them, by what the session's share showed and shows
 

@@ -9,8 +9,8 @@ ghost use Rattle.sw_spine.specs.Books.{RefusesRows, RefusesSession, new_books, u
 ghost use Rattle.sw_spine.specs.declared.history.State.TheVariants.{Answered, Open, Void};
 ghost use mathlib.Core.List.{IsPrefix};
 ghost use Rattle.sw_engine.specs.Published.{EndsEntry, Grows, IsHeld, IsNewShare, IsOfFirst, IsWhole, later, session_shown};
-ghost use Rattle.sw_engine.specs.Own.{Adds, IsEnded, Settles, Stays};
-ghost use Rattle.sw_engine.specs.Desk.{AreGiven, IsAnswered, IsAtRest, IsBegun, IsOf, IsShareOf, IsTold, RefusesCall, latched, new_desk};
+ghost use Rattle.sw_engine.specs.Own.{Adds, IsEnded, IsLastOwn, Settles, Stays};
+ghost use Rattle.sw_engine.specs.Desk.{AreGiven, IsAnswered, IsAtRest, IsBegun, IsOf, IsShareOf, IsTold, RefusesCall, TellsFull, latched, new_desk};
 
 use crate::counting::Counters;
 use crate::latch::LatchedHead;
@@ -20,7 +20,7 @@ use std::snapshot::Snapshot;
 use sw_chunks::Waiting;
 use sw_map::CrackerMap;
 use sw_rows::{Call, PackedRows, Query, Refusal, Reply, Schema, Update};
-use sw_spine::Spine;
+use sw_spine::{Entry, Spine};
 use sw_tie::{Book, Share};
 use sw_versions::{Front, Naming, Opened};
 
@@ -74,6 +74,19 @@ impl<J: Naming> Ticket<J> {
             receipt,
         }
     }
+}
+
+/// The place of a session's last entry.
+fn last_of(entries: &[Entry], session: u64) -> Option<u64>
+    ensures { IsLastOwn session entries.now result }
+{
+    for behind in 0..entries.len() {
+        let place = entries.len() - 1 - behind;
+        if entries[place].session == session {
+            return Some(place as u64);
+        }
+    }
+    None
 }
 
 /// The spine, with the books of the sessions and of the heads.
@@ -193,6 +206,7 @@ impl<J: Naming> Desk<J> {
 
     /// A select begins: its entry stands open at the end of the history, and the head takes the updates that it lacks. So it
     /// has all updates before that place. Refused, the history is as it was.
+    #[tactic(auto, using(crate::proofs::Owned::tells_full))]
     pub fn begin<M: CrackerMap>(
         &mut self,
         number: u64,
@@ -216,6 +230,7 @@ impl<J: Naming> Desk<J> {
         ensures whole { IsWhole J.limit J.opening share.new.value }
         ensures same { head.new ≡ record head.old { taken = head.new.taken } }
         ensures refused { IfErr result (λ e. RefusesCall e) }
+        ensures full { IfErr result (TellsFull self.new.books.entries) }
     {
         let Desk {
             spine,
@@ -282,6 +297,7 @@ impl<J: Naming> Desk<J> {
     }
 
     /// A call that is no select is answered at the end of the history. Refused, the history is as it was.
+    #[tactic(auto, using(crate::proofs::Owned::tells_full))]
     pub fn commit(
         &mut self,
         number: u64,
@@ -302,6 +318,7 @@ impl<J: Naming> Desk<J> {
         ensures grows { Grows J.opening share.old.value share.new.value }
         ensures whole { IsWhole J.limit J.opening share.new.value }
         ensures refused { IfErr result (λ e. RefusesCall e) }
+        ensures full { IfErr result (TellsFull self.new.books.entries) }
     {
         let Desk {
             spine,
@@ -339,6 +356,36 @@ impl<J: Naming> Desk<J> {
         sessions.agree(share);
         spine.set_published(count);
         sessions.set(share, Snapshot::of(spine));
+    }
+
+    /// The session's share shows the history as it is. Nothing else changes.
+    pub fn look(&mut self, number: u64, share: &mut Share<Spine>)
+        requires rest { IsAtRest J.sessions number share.old }
+        ensures rest { IsAtRest J.sessions number share.new }
+        ensures mine { mine number share.new.value.entries ≡ mine number share.old.value.entries }
+        ensures own { Stays number share.old.value share.new.value }
+        ensures same { self.new.books ≡ self.old.books }
+        ensures shown { share.new.value ≡ self.new.books }
+        ensures grows { Grows J.opening share.old.value share.new.value }
+        ensures whole { IsWhole J.limit J.opening share.new.value }
+    {
+        let count = self.spine.published();
+        self.publish(number, share, count);
+    }
+
+    /// The place of the session's last entry, of those that its share shows. Nothing changes.
+    pub fn place(&mut self, number: u64, share: &mut Share<Spine>) -> Option<u64>
+        requires share { IsShareOf J.sessions number share.old }
+        ensures same { (self.new ≡ self.old) × (share.new ≡ share.old) }
+        ensures place { IsLastOwn number share.old.value.entries result }
+    {
+        let Desk {
+            spine,
+            sessions,
+            ..
+        } = self;
+        sessions.agree(share);
+        last_of(spine.entries(), number)
     }
 
     /// The updates after the opening rows, which are those of all entries of the history.

@@ -9,7 +9,7 @@ ghost use Rattle.sw_map.specs.Held.{blank};
 ghost use Rattle.sw_spine.specs.Table.{is_numbered};
 ghost use Rattle.sw_spine.specs.History.{CallsBelow, is_select, mine};
 ghost use Rattle.sw_spine.specs.Books.{RefusesRows};
-ghost use Rattle.sw_engine.specs.Desk.{InOrder, IsAtRest, IsTold, KeepsBoxes, RefusesCall, RefusesClose, RefusesOpening, TooManySessions, new_desk};
+ghost use Rattle.sw_engine.specs.Desk.{InOrder, IsAtRest, IsTold, KeepsBoxes, RefusesCall, RefusesClose, RefusesOpening, TellsFull, TooManySessions, new_desk};
 ghost use mathlib.Core.List.{IsPrefix};
 ghost use Rattle.sw_versions.specs.Lists.{IsLonger};
 ghost use Rattle.sw_versions.specs.Pending.{IsPlain};
@@ -18,7 +18,7 @@ ghost use Rattle.sw_versions.specs.Rules.{updates_in};
 ghost use Rattle.sw_engine.specs.Published.{CallGives, EndWithEntries, GivesReceipt, Grows, IsOfFirst, IsWhole, RefusesViewing, answered_to, published_of};
 ghost use Rattle.sw_engine.specs.Headline.{IsHistoryOfOneThread};
 ghost use Rattle.sw_engine.specs.Later.{Begin};
-ghost use Rattle.sw_engine.specs.Own.{Commits, IsEnded, IsNew, LeavesCall, LeavesCommit, LeavesSelect, Selects, Stays, own_of};
+ghost use Rattle.sw_engine.specs.Own.{Commits, IsEnded, IsLastOwn, IsNew, LeavesCall, LeavesCommit, LeavesSelect, Selects, Stays, own_of};
 
 use crate::conds::add_all;
 use crate::counting::HeadStats;
@@ -426,6 +426,7 @@ where
         ensures grows { Grows J.opening share.old.value share.new.value }
         ensures whole { IsWhole J.limit J.opening share.new.value }
         ensures refused { IfErr result (λ e. RefusesCall e) }
+        ensures full { IfErr result (TellsFull share.new.value.entries) }
     {
         let Ok(asked) = query.copied(self.alloc) else {
             return Err(Refusal::NoMemory);
@@ -490,6 +491,7 @@ where
         ensures longer { OnOk result (IsPrefix receipt.old receipt.new) }
         ensures kept { OnErr result (receipt.new ≡ receipt.old) }
         ensures refused { IfErr result (λ e. RefusesCall e) }
+        ensures full { IfErr result (TellsFull share.new.value.entries) }
     {
         let (reply, published) = self.visit(rt).commit(rt, number, share, call)?;
         // for the prover: of two beginnings the one with no more updates begins the other, batch by batch
@@ -546,6 +548,7 @@ where
         ensures grows { Begin self.old.2.entries self.new.2.entries }
         ensures receipt { self.new.2.given ≡ self.old.2.given }
         ensures refused { IfErr result (λ e. RefusesCall e) }
+        ensures full { IfErr result (TellsFull self.new.2.entries) }
     {
         self.engine.select(rt, self.number, &mut self.share, query)
     }
@@ -561,6 +564,7 @@ where
         ensures grows { Begin self.old.2.entries self.new.2.entries }
         ensures receipt { GivesReceipt result self.old.2 self.new.2 }
         ensures refused { IfErr result (λ e. RefusesCall e) }
+        ensures full { IfErr result (TellsFull self.new.2.entries) }
     {
         let Session {
             engine,
@@ -580,6 +584,7 @@ where
         ensures grows { Begin self.old.2.entries self.new.2.entries }
         ensures receipt { GivesReceipt result self.old.2 self.new.2 }
         ensures refused { IfErr result (λ e. RefusesCall e) }
+        ensures full { IfErr result (TellsFull self.new.2.entries) }
     {
         self.commit(rt, Call::Insert(cells))
     }
@@ -593,6 +598,7 @@ where
         ensures grows { Begin self.old.2.entries self.new.2.entries }
         ensures receipt { GivesReceipt result self.old.2 self.new.2 }
         ensures refused { IfErr result (λ e. RefusesCall e) }
+        ensures full { IfErr result (TellsFull self.new.2.entries) }
     {
         self.commit(rt, Call::Delete(key))
     }
@@ -610,6 +616,7 @@ where
         ensures grows { Begin self.old.2.entries self.new.2.entries }
         ensures receipt { GivesReceipt result self.old.2 self.new.2 }
         ensures refused { IfErr result (λ e. RefusesCall e) }
+        ensures full { IfErr result (TellsFull self.new.2.entries) }
     {
         let mut asked = Conds::new(self.engine.alloc);
         if add_all(&mut asked, conds).is_err() {
@@ -628,6 +635,7 @@ where
         ensures grows { Begin self.old.2.entries self.new.2.entries }
         ensures receipt { CallGives call.now result self.old.2 self.new.2 }
         ensures refused { IfErr result (λ e. RefusesCall e) }
+        ensures full { IfErr result (TellsFull self.new.2.entries) }
     {
         match call {
             Call::Select(query) => self.select(rt, query),
@@ -648,6 +656,21 @@ where
         ensures mine { self.now.1 ≡ mine self.now.0 self.now.2.entries }
     {
         self.receipt.again()
+    }
+
+    /// The place of the session's last entry in the history, the first place being 0, or none where it has no entry. So it is
+    /// its place in the record that `close` answers, and of two sessions' calls that with the lower one came first.
+    pub fn place<R: Wait>(&mut self, rt: &R) -> Option<u64>
+        ensures same { self.new ≡ self.old }
+        ensures place { IsLastOwn self.old.0 self.old.2.entries result }
+    {
+        let Session {
+            engine,
+            number,
+            share,
+            ..
+        } = self;
+        engine.visit(rt).place(*number, share)
     }
 
     /// A viewer learns what is published, and the session has the receipt of it. What an earlier call could not publish, since

@@ -13,8 +13,8 @@ ghost use Rattle.sw_versions.specs.Lists.{IsLonger};
 ghost use Rattle.sw_versions.specs.Refused.{IsAhead, RefusesViewer};
 ghost use Rattle.sw_versions.specs.Rules.{updates_in};
 ghost use Rattle.sw_versions.specs.declared.viewer.TheConstants.{MOST_VIEWERS};
-ghost use Rattle.sw_engine.specs.Own.{Adds, IsNew, Settles, Stays};
-ghost use Rattle.sw_engine.specs.Desk.{InOrder, IsAnswered, IsAtRest, IsBegun, IsShareOf, IsTold, RefusesCall, RefusesMany};
+ghost use Rattle.sw_engine.specs.Own.{Adds, IsLastOwn, IsNew, Settles, Stays};
+ghost use Rattle.sw_engine.specs.Desk.{InOrder, IsAnswered, IsAtRest, IsBegun, IsShareOf, IsTold, RefusesCall, RefusesMany, TellsFull};
 ghost use Rattle.sw_engine.specs.Published.{EndWithEntries, Grows, IsNewShare, IsWhole, later, new_viewer, no_versions, published_of, with_committed, with_viewer};
 
 use crate::desk::{Desk, Ticket};
@@ -157,8 +157,15 @@ where
         ensures shelf { self.new.shelf ≡ self.old.shelf }
         ensures same { head.new ≡ record head.old { taken = head.new.taken } }
         ensures refused { IfErr result (λ e. RefusesCall e) }
+        ensures full { IfErr result (TellsFull share.new.value.entries) }
     {
-        self.desk.begin(number, share, head, query)
+        match self.desk.begin(number, share, head, query) {
+            Ok(()) => Ok(()),
+            Err(refusal) => {
+                self.desk.look(number, share);
+                Err(refusal)
+            }
+        }
     }
 
     /// The session's open select is answered at the desk.
@@ -257,10 +264,18 @@ where
         ensures viewers { self.new.shelf.viewers ≡ self.old.shelf.viewers }
         ensures kept { OnErr result ((self.new.desk.books ≡ self.old.desk.books) × (self.new.shelf ≡ self.old.shelf)) }
         ensures refused { IfErr result (λ e. RefusesCall e) }
+        ensures full { IfErr result (TellsFull share.new.value.entries) }
     {
-        let reply = self.desk.commit(number, share, call)?;
-        let receipt = self.publish(rt, number, share, WhileRead::PutsOff);
-        Ok((reply, receipt))
+        match self.desk.commit(number, share, call) {
+            Ok(reply) => {
+                let receipt = self.publish(rt, number, share, WhileRead::PutsOff);
+                Ok((reply, receipt))
+            }
+            Err(refusal) => {
+                self.desk.look(number, share);
+                Err(refusal)
+            }
+        }
     }
 
     /// All updates that are not published yet are published at once, or none of them where there is no memory for it. For that
@@ -300,6 +315,15 @@ where
     {
         let _receipt = self.publish(rt, number, share, WhileRead::Waits);
         self.shelf.meet(&self.book, viewer)
+    }
+
+    /// The place of the session's last entry, of those that its share shows. Nothing changes.
+    pub fn place(&mut self, number: u64, share: &mut Share<Spine>) -> Option<u64>
+        requires share { IsShareOf J.sessions number share.old }
+        ensures same { (self.new ≡ self.old) × (share.new ≡ share.old) }
+        ensures place { IsLastOwn number share.old.value.entries result }
+    {
+        self.desk.place(number, share)
     }
 
     /// A viewer, which has learnt what is published. The first one has the two copies of the rows made.
