@@ -4,17 +4,18 @@ ghost use Rattle.std.specs.Prelude.{◌≡◌, IfOk};
 
 use crate::inputs::{Keeping, Kept, Place, is_read_once, open_table};
 use crate::outflow::{Outflow, Reader};
+use crate::shaping::flush;
 use crate::wording::{Asking, Keeps, of_output, words};
 use std::alloc::{AllocError, Global};
 use std::hash::RandomState;
 use std::io;
-use std::io::{BufWriter, Write};
+use std::io::BufWriter;
 use std::random::RandomSource;
 use std::rt::Files;
 use std::thread::Threads;
 use sw_describe::{Column, frequent};
 use sw_outputs::{Described, write_description, write_json_description};
-use sw_rows::{Counted, Kind, PackedRows, Refusal, Schema, TextKey, load_in_parts};
+use sw_rows::{Counted, Kind, PackedRows, Refusal, Schema, Sink, TextKey, load_in_parts};
 
 /// A description that is asked for.
 #[derive(Clone, Copy, Debug)]
@@ -67,6 +68,22 @@ fn describe_all(
 }
 
 /// Writes what a table has.
+fn write_to<W: Sink>(
+    alloc: Global,
+    is_json: bool,
+    table: &Loaded,
+    columns: &[Described],
+    out: &mut W,
+) -> Result<(), Refusal> {
+    let (schema, rows) = table;
+    if is_json {
+        write_json_description(alloc, schema, rows.len(), columns, out)
+    } else {
+        write_description(alloc, schema, rows.len(), columns, out)
+    }
+}
+
+/// Writes what a table has, all of it.
 fn write_columns<W: Write + Drop>(
     alloc: Global,
     is_json: bool,
@@ -78,15 +95,9 @@ fn write_columns<W: Write + Drop>(
         return Err(Refusal::NoMemory);
     };
     let mut out = Counted::new(buffer);
-    let (schema, rows) = table;
-    if is_json {
-        write_json_description(alloc, schema, rows.len(), columns, &mut out)?;
-    } else {
-        write_description(alloc, schema, rows.len(), columns, &mut out)?;
-    }
-    match out.inner.flush() {
-        Ok(()) => Ok(()),
-        Err(_) => Err(Refusal::Output),
+    match write_to(alloc, is_json, table, columns, &mut out) {
+        Ok(()) => flush(&mut out),
+        Err(refusal) => Err(refusal),
     }
 }
 

@@ -80,6 +80,17 @@ fn refuse<E: Sink>(alloc: Global, file: &str, fault: &Fault, errors: &mut E) -> 
     Ok(2)
 }
 
+/// Tells what was done for a table. Answers the exit status.
+fn tell<E: Sink>(alloc: Global, file: &str, made: &Imported, errors: &mut E) -> Result<u8, Refusal>
+    ensures { IfOk result (λ status. status ≡ 0) }
+{
+    let Ok(text) = summary(alloc, file, made) else {
+        return Err(Refusal::NoMemory);
+    };
+    let _ = write_all(errors, text.as_bytes());
+    Ok(0)
+}
+
 /// What came of the values of an import: a table, or why there is none.
 type Came = Result<Imported, Fault>;
 
@@ -176,15 +187,12 @@ impl Import<'_> {
     ) -> Result<u8, Refusal>
         ensures { IfOk result (λ status. (status ≡ 0) ⊎ (status ≡ 2)) }
     {
-        let made = match self.read(rt, alloc, told)? {
-            Ok(made) => made,
-            Err(fault) => return refuse(alloc, self.file, &fault, errors),
-        };
-        self.write(rt, alloc, &made, told)?;
-        let Ok(text) = summary(alloc, self.file, &made) else {
-            return Err(Refusal::NoMemory);
-        };
-        let _ = write_all(errors, text.as_bytes());
-        Ok(0)
+        match self.read(rt, alloc, told)? {
+            Ok(made) => match self.write(rt, alloc, &made, told) {
+                Ok(()) => tell(alloc, self.file, &made, errors),
+                Err(refusal) => Err(refusal),
+            },
+            Err(fault) => refuse(alloc, self.file, &fault, errors),
+        }
     }
 }

@@ -50,11 +50,21 @@ pub struct Run<'a> {
 }
 
 /// What is known after a run: the record, whether a call was refused, and what each head tells of itself.
-#[derive(Drop)]
 struct AfterRun {
     history: Record,
     has_refused: bool,
     stats: Vec<HeadStats>,
+}
+
+// By hand, as with `Keeping`.
+impl Drop for AfterRun {
+    fn drop(self) {
+        let Self {
+            history: _history,
+            has_refused: _,
+            stats: _stats,
+        } = self;
+    }
 }
 
 /// Runs a script over a table, of which both are open.

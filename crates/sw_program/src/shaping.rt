@@ -84,12 +84,23 @@ fn reply_of(entry: &Entry) -> Option<&Reply> {
 }
 
 /// The calls of a record, block after block, each with its line, where lines are known.
-#[derive(Drop)]
 struct Calls<'r> {
     schema: &'r Schema,
     entries: &'r [Entry],
     places: Vec<Place>,
     lines: Option<Vec<u32>>,
+}
+
+// By hand, as with `Keeping`.
+impl Drop for Calls<'_> {
+    fn drop(self) {
+        let Self {
+            schema: _,
+            entries: _,
+            places: _places,
+            lines: _lines,
+        } = self;
+    }
 }
 
 impl Calls<'_> {
@@ -192,7 +203,7 @@ fn calls_of<'r>(
 }
 
 /// Writes what is left of a buffer.
-fn flush<W: Write + Drop>(out: &mut Counted<BufWriter<W>>) -> Result<(), Refusal> {
+pub(crate) fn flush<W: Write + Drop>(out: &mut Counted<BufWriter<W>>) -> Result<(), Refusal> {
     match out.inner.flush() {
         Ok(()) => Ok(()),
         Err(_) => Err(Refusal::Output),
@@ -220,6 +231,8 @@ pub(crate) fn shape<W: Write + Drop>(
         return Err(Refusal::NoMemory);
     };
     let mut out = Counted::new(buffer);
-    write_all_told(alloc, form, &calls, &mut out)?;
-    flush(&mut out)
+    match write_all_told(alloc, form, &calls, &mut out) {
+        Ok(()) => flush(&mut out),
+        Err(refusal) => Err(refusal),
+    }
 }

@@ -1,8 +1,8 @@
 //! Columns that are written out.
 
-use crate::{Column, count_of, frequent};
 use std::hash::RandomState;
 use std::test::Fail;
+use sw_describe::{Column, count_of, frequent};
 
 #[test]
 fn numbers_of_a_column(rt: HostRuntime) -> Result<(), Fail> {

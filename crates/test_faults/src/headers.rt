@@ -1,8 +1,8 @@
 //! Texts, and what they are under headers.
 
-use crate::{Headed, Header, text_under};
 use std::io::Read;
 use std::test::Fail;
+use sw_headers::{Headed, Header, text_under};
 
 /// Texts under the header `a,-,b`.
 const CASES: [(&[u8], &[u8]); 18] = [
