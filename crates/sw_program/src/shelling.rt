@@ -55,14 +55,6 @@ fn write_words<W: Sink>(schema: &Schema, out: &mut W) -> Result<(), Refusal> {
     write_all(out, WORDS.as_bytes())
 }
 
-/// Writes these to standard output. Answers the exit status.
-fn print_words<R: Print>(rt: &R, schema: &Schema) -> Result<u8, Refusal>
-    ensures { IfOk result (λ status. status ≡ 0) }
-{
-    write_words(schema, &mut Counted::new(io::writer(rt)))?;
-    Ok(0)
-}
-
 impl Shell<'_> {
     /// What the history would be written over: the table, or where the replies or errors go, if anything. Such a shell is not to
     /// be begun.
@@ -163,8 +155,8 @@ impl Shell<'_> {
         words: &mut Option<String>,
     ) -> Result<u8, Refusal> {
         let key = TextKey::new(rt)?;
-        let mut table = self.open(rt, alloc, words)?;
         let history = self.history_path(alloc)?;
+        let mut table = self.open(rt, alloc, words)?;
         let Ok(lines) = BufReader::new(alloc, rt.reader()) else {
             return Err(Refusal::NoMemory);
         };
