@@ -1,14 +1,19 @@
 #!/usr/bin/env python3
-"""Texts that are picked so that they collide under the hash of a dictionary with a fixed seed: a table, a script and a history
-file of them may take no more than three times the processor time that others of the same length take. Ends with 1 where one takes more.
+"""Texts, and keys, that are picked so that they collide under the hash of a dictionary with a fixed seed: a table, a script and a history
+file of such texts, and a store's log with such keys, may take no more than three times the processor time that others of the same length take.
+Ends with 1 where one takes more. Keys are picked by colliding.c, some seconds; without a C compiler they are left out, which is told.
 
     python3 tests/collisions.py PROGRAM
 """
-import itertools, random, resource, string, struct, subprocess, sys, tempfile
+import itertools, os, random, resource, string, struct, subprocess, sys, tempfile
 from pathlib import Path
+
+TOP = Path(__file__).resolve().parents[1]
 
 # How many texts there are in a table, and in the lines of a script.
 ROWS, LINES = 80_000, 20_000
+# How many keys inserts were given, in a table of 2^10 groups, and how many replies have all rows.
+KEYS, BITS, SHOWN = 5_000, 10, 40
 MOST_TIMES, TURNS, PATIENCE = 3.0, 3, 120
 
 LETTERS = string.ascii_letters + string.digits
@@ -79,20 +84,54 @@ def times(program, folder, texts):
     return {"table": table, "script": script, "history": history}
 
 
+def picked_keys(folder):
+    """Keys that collide; None without a C compiler."""
+    try:
+        subprocess.run([os.environ.get("CC", "cc"), "-O2", "-o", folder / "colliding", TOP / "tests/colliding.c"], check=True)
+    except (OSError, subprocess.CalledProcessError):
+        return None
+    made = subprocess.run([folder / "colliding", str(KEYS), str(BITS)], stdout=subprocess.PIPE, text=True, check=True)
+    return made.stdout.split()
+
+
+def other_keys(rng):
+    return [str(key) for key in rng.sample(range(2**62, 2**62 + 2**58), KEYS)]
+
+
+def time_of_keys(program, folder, keys):
+    """The time of looking for an order of a log in which inserts were given these keys, and replies show them."""
+    rows = "".join("%s: %d\n" % (key, i) for i, key in enumerate(keys)) + "(%d rows)" % len(keys)
+    with open(folder / "log.csv", "w") as log:
+        log.write("session,start,end,call,reply\n")
+        for i, key in enumerate(keys):
+            log.write("1,%d,%d,insert %d,key %s\n" % (2 * i, 2 * i + 1, i, key))
+        for i in range(len(keys), len(keys) + SHOWN):
+            log.write('1,%d,%d,select a,"%s"\n' % (2 * i, 2 * i + 1, rows))
+    (folder / "empty.csv").write_text("a:int\n")
+    return timed(program, folder, ["order", "--table", "empty.csv", "--keys", "any", "log.csv"])
+
+
 def main():
     program = str(Path(sys.argv[1]).resolve())
     rng = random.Random(24)
     with tempfile.TemporaryDirectory() as home:
         plain = times(program, Path(home), others(ROWS, rng))
+        keys = picked_keys(Path(home))
+        if keys:
+            plain["log"] = time_of_keys(program, Path(home), other_keys(rng))
+        else:
+            print("no C compiler: keys that collide are left out")
         try:
             picked = times(program, Path(home), collisions(ROWS, rng))
+            if keys:
+                picked["log"] = time_of_keys(program, Path(home), keys)
         except subprocess.TimeoutExpired as late:
-            sys.exit(f"texts that collide: {late}; others: {plain}")
+            sys.exit(f"of those that collide: {late}; others: {plain}")
     wrong = False
     for name, other in plain.items():
         ratio = picked[name] / other
         wrong = wrong or ratio > MOST_TIMES
-        print(f"{name}: {picked[name]:.3f} s of texts that collide, {other:.3f} s of others, {ratio:.2f} times")
+        print(f"{name}: {picked[name]:.3f} s where they collide, {other:.3f} s of others, {ratio:.2f} times")
     sys.exit(1 if wrong else 0)
 
 

@@ -121,6 +121,13 @@ pub(crate) const IMPORT: Verb = Verb {
             usual: None,
             help: "The first record has values, and no headings; the headings are column_1, column_2 and so on",
         },
+        Word {
+            name: "quiet",
+            of: "",
+            takes: Takes::Nothing,
+            usual: None,
+            help: "Leaves out the lines that tell on standard error, where that is a terminal, how many lines were read: one a second, after the first second",
+        },
     ],
 };
 
@@ -201,11 +208,15 @@ pub(crate) const NO_DELIMITER: &str =
     "the delimiter is one character of ASCII, no quote and no end of a line, or \\t";
 
 /// The table that the words ask for; none where the delimiter is none.
-pub(crate) fn import_of<'g, 'a: 'g>(given: &'g ArgMatches<'a>) -> Option<Import<'g>> {
+pub(crate) fn import_of<'g, 'a: 'g>(
+    given: &'g ArgMatches<'a>,
+    is_terminal: bool,
+) -> Option<Import<'g>> {
     let delimiter = delimiter_of(given)?;
     Some(Import {
         file: given.get_str("file")?,
         how: how_of(given, delimiter),
         dictionary: given.get_str("dictionary"),
+        progress: is_terminal && !given.get_flag("quiet"),
     })
 }

@@ -6,7 +6,7 @@ use crate::args::{
 use crate::import::IMPORT;
 use crate::order::order_command;
 use crate::shell::SHELL;
-use clap::{Arg, ArgAction, Command};
+use clap::{Arg, ArgAction, ArgGroup, Command};
 use std::alloc::{AllocError, Global};
 
 /// The version of the program, and with what it is proved, as `rt version` tells it.
@@ -17,6 +17,8 @@ const LONG_VERSION: &str = "0.1.0\nproved with rattle-kit-13f logic dac8208d650f
 /// What ends the help of each command.
 const EXAMPLES: &str = "\
 Examples:
+  sideways import data.csv > t.csv
+  sideways describe t.csv
   sideways run --table t.csv -e 'count where a >= 10'
   sideways run --help
   sideways explain 2";
@@ -26,7 +28,10 @@ Examples:
   sideways run --table t.csv -e 'count' -e 'select b where a >= 10'
   sideways run --table t.csv --script calls.txt --history h.json
   sideways run --table data.csv --header 'price:fix2,-,city:text' -e 'max price'
-  zcat t.csv.gz | sideways run --table - -e 'sum b where a < 20' --stats";
+  zcat t.csv.gz | sideways run --table - -e 'sum b where a < 20' --stats
+
+A call is one of: select a, b; count; sum a; min a; max a, each perhaps with where, as where a >= 1 and b = 'Oslo'; insert 1, 'Oslo'; \
+delete 3, by a row's key; delete where a < 5. Rows come with their keys, which count from 1.";
 
 const EXAMPLES_OF_DESCRIBE: &str = "\
 Examples:
@@ -166,31 +171,36 @@ const CHECK: Verb = Verb {
     ],
 };
 
-fn script<'a>(alloc: Global) -> Result<Arg<'a>, AllocError> {
+fn script<'a>(alloc: Global) -> Arg<'a> {
     Arg::new(alloc, "script")
         .long("script")
         .value_name("FILE")
         .help("The script: a call a line; a line --- divides blocks; - is standard input")
         .action(ArgAction::Set)
-        .required_unless_present("call")
 }
 
-fn call<'a>(alloc: Global) -> Result<Arg<'a>, AllocError> {
+fn call<'a>(alloc: Global) -> Arg<'a> {
     Arg::new(alloc, "call")
         .short('e')
         .value_name("CALL")
         .help("A call, in place of a script; given again, a line each")
         .action(ArgAction::Append)
         .allow_hyphen_values(true)
-        .conflicts_with("script")
+}
+
+/// Where the calls come from: one of the two, so that what is missing is told with both.
+fn calls<'a>(alloc: Global) -> Result<ArgGroup<'a>, AllocError> {
+    Ok(
+        ArgGroup::new(alloc, "calls")
+            .args(&["script", "call"])?
+            .required(true),
+    )
 }
 
 /// A run with its script or its calls.
 fn with_calls<'a>(alloc: Global, run: Command<'a>) -> Result<Command<'a>, AllocError> {
-    let script = script(alloc)?;
-    let run = run.arg(script)?;
-    let call = call(alloc)?;
-    run.arg(call)
+    let calls = calls(alloc)?;
+    run.arg(script(alloc))?.arg(call(alloc))?.group(calls)
 }
 
 fn run_command<'a>(alloc: Global) -> Result<Command<'a>, AllocError> {

@@ -1,20 +1,21 @@
 //! The keys that a store gave become those of the plain list.
 
-ghost use Rattle.std.specs.Prelude.{◌≡◌, ◌<◌, ◌+◌, codes, length, map, nat_eq, slice_get, slice_index, string_bytes, true, ◌↔◌, EachIndex, IfOk, IfSome, IsTrue, Some};
-ghost use Rattle.std.specs.HashMap as hash;
+ghost use Rattle.std.specs.Prelude.{◌≡◌, ◌<◌, ◌+◌, codes, length, map, slice_get, slice_index, string_bytes, true, ◌↔◌, EachIndex, IfOk, IfSome, IsTrue, Some};
+ghost use Rattle.std.specs.BTreeMap as tree;
 ghost use Rattle.std.specs.List.{AllZip};
+ghost use Rattle.std.specs.Ordering.{nat_cmp};
 ghost use Rattle.sw_logs.specs.Orders.{StandOnce};
 ghost use Rattle.sw_keys.specs.Renamings.{key_line, row_line, AreAllPlaces, IsRenamed, IsRenamedAnswer, IsRenamedCall, IsRenamedKey, IsRenamedOutcome, IsRenamedReply, IsNewKey, IsRenamedRow, IsRenamedRows, IsRowAt, KeepsFirst, Renames};
 
 use std::alloc::{AllocError, Global};
-use std::collections::HashMap;
+use std::collections::BTreeMap;
 use sw_logs::{Logged, copied_call, copied_lines};
 use sw_rows::{Call, Query, Want};
 use sw_spine::Lines;
 
 /// The place of each key among those of a store, the last where it has several.
-pub(crate) fn places_of(alloc: Global, names: &[u64]) -> Result<HashMap<u64, usize>, AllocError> {
-    let mut places = HashMap::new(alloc);
+pub(crate) fn places_of(alloc: Global, names: &[u64]) -> Result<BTreeMap<u64, usize>, AllocError> {
+    let mut places = BTreeMap::new(alloc);
     for (place, name) in names.iter().enumerate() {
         places.insert(*name, place)?;
     }
@@ -22,8 +23,8 @@ pub(crate) fn places_of(alloc: Global, names: &[u64]) -> Result<HashMap<u64, usi
 }
 
 /// Whether a key has a place.
-fn has_place(places: &HashMap<u64, usize>, name: u64, place: usize) -> bool
-    ensures { result ≡ true → hash.get nat_eq places.now name ≡ Some place }
+fn has_place(places: &BTreeMap<u64, usize>, name: u64, place: usize) -> bool
+    ensures { result ≡ true → tree.get nat_cmp places.now name ≡ Some place }
 {
     match places.get(&name) {
         Some(found) => *found == place,
@@ -32,7 +33,7 @@ fn has_place(places: &HashMap<u64, usize>, name: u64, place: usize) -> bool
 }
 
 /// Whether a store's keys are each once.
-pub(crate) fn are_once(names: &[u64], places: &HashMap<u64, usize>) -> bool
+pub(crate) fn are_once(names: &[u64], places: &BTreeMap<u64, usize>) -> bool
     ensures { result ≡ true → StandOnce names.now }
 {
     for (place, name) in names.iter().enumerate() {
@@ -78,11 +79,11 @@ pub(crate) fn keep_first(names: &[u64], count: usize) -> bool
 #[derive(Clone, Copy)]
 pub(crate) struct Names<'a> {
     pub(crate) keys: &'a [u64],
-    pub(crate) places: &'a HashMap<u64, usize>,
+    pub(crate) places: &'a BTreeMap<u64, usize>,
 }
 
 /// The place of a key, if it has one.
-fn place_of(places: &HashMap<u64, usize>, key: u64) -> Option<usize> {
+fn place_of(places: &BTreeMap<u64, usize>, key: u64) -> Option<usize> {
     places.get(&key).copied()
 }
 

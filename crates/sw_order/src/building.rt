@@ -6,7 +6,7 @@ use crate::replies::{key_of, number_between, short_reply, weighing};
 use crate::small::{NOTHING, Part, at, put};
 use crate::tasks::{Act, MANY, Range, Task, Weigh};
 use std::alloc::{AllocError, Global};
-use std::collections::HashMap;
+use std::collections::BTreeMap;
 use sw_logs::{By, Logged, Opening};
 use sw_rows::{Bound, Call, Cond, Reply, ReplyRows, Schema, Want};
 use sw_spine::{Lines, MOST_SESSIONS};
@@ -27,7 +27,7 @@ struct Builder {
     alloc: Global,
     problem: Problem,
     /// The rows of the keys that inserts of known outcome gave.
-    rows: HashMap<u64, usize>,
+    rows: BTreeMap<u64, usize>,
     /// The rows of inserts of unknown outcome.
     unnamed: Vec<usize>,
     /// The number of each session among those that made calls.
@@ -121,7 +121,7 @@ impl Builder {
         let mut builder = Builder {
             alloc,
             problem: Problem::new(alloc, opening.limit, rules),
-            rows: HashMap::new(alloc),
+            rows: BTreeMap::new(alloc),
             unnamed: Vec::new(alloc),
             session_numbers: Vec::new(alloc),
         };

@@ -5,13 +5,13 @@ use crate::small::at;
 use crate::state::State;
 use crate::tasks::Act;
 use std::alloc::{AllocError, Global};
-use std::collections::HashSet;
+use std::collections::BTreeSet;
 
 /// The names as they grow.
 #[derive(Drop)]
 struct Naming {
     names: Vec<u64>,
-    seen: HashSet<u64>,
+    seen: BTreeSet<u64>,
     /// A key that no store gives: that of the next row of which no key is known.
     unused: u64,
 }
@@ -71,7 +71,7 @@ pub(crate) fn names_of(
 ) -> Result<Vec<u64>, AllocError> {
     let mut naming = Naming {
         names: Vec::with_capacity(alloc, problem.keys.len())?,
-        seen: HashSet::new(alloc),
+        seen: BTreeSet::new(alloc),
         unused: 0,
     };
     naming.add_opening(problem)?;

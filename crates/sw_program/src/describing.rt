@@ -3,8 +3,9 @@
 ghost use Rattle.std.specs.Prelude.{◌≡◌, IfOk};
 
 use crate::inputs::{Keeping, Kept, Place, is_read_once, open_table};
+use crate::outflow::{Outflow, Reader};
 use crate::shaping::flush;
-use crate::wording::{Asking, Keeps, words};
+use crate::wording::{Asking, Keeps, of_output, words};
 use std::alloc::{AllocError, Global};
 use std::hash::RandomState;
 use std::io;
@@ -82,15 +83,15 @@ fn write_to<W: Sink>(
     }
 }
 
-/// Writes what a table has on standard output.
-fn write_columns<R: Print>(
-    rt: &R,
+/// Writes what a table has, all of it.
+fn write_columns<W: Write + Drop>(
     alloc: Global,
     is_json: bool,
     table: &Loaded,
     columns: &[Described],
+    out: W,
 ) -> Result<(), Refusal> {
-    let Ok(buffer) = BufWriter::new(alloc, io::writer(rt)) else {
+    let Ok(buffer) = BufWriter::new(alloc, out) else {
         return Err(Refusal::NoMemory);
     };
     let mut out = Counted::new(buffer);
@@ -106,6 +107,7 @@ fn describe<R: RandomSource + Print>(
     alloc: Global,
     is_json: bool,
     table: &Loaded,
+    reader: &Reader,
 ) -> Result<u8, Refusal>
     ensures { IfOk result (λ status. status ≡ 0) }
 {
@@ -115,7 +117,8 @@ fn describe<R: RandomSource + Print>(
     let Ok(columns) = describe_all(alloc, state, table) else {
         return Err(Refusal::NoMemory);
     };
-    write_columns(rt, alloc, is_json, table, columns.as_slice())?;
+    let out = Outflow::new(io::writer(rt), reader);
+    write_columns(alloc, is_json, table, columns.as_slice(), out)?;
     Ok(0)
 }
 
@@ -165,9 +168,29 @@ impl Description<'_> {
         }
     }
 
+    /// Describes a table that was read, and puts into words why that cannot be written.
+    fn describe<R: RandomSource + Print>(
+        &self,
+        rt: &R,
+        alloc: Global,
+        table: &Loaded,
+        told: &mut Option<String>,
+    ) -> Result<u8, Refusal>
+        ensures { IfOk result (λ status. status ≡ 0) }
+    {
+        let reader = Reader::new();
+        match describe(rt, alloc, self.is_json, table, &reader) {
+            Ok(status) => Ok(status),
+            Err(refusal) => {
+                *told = of_output(alloc, &reader, &refusal);
+                Err(refusal)
+            }
+        }
+    }
+
     /// Reads the table and writes on standard output what its columns have; answers the exit status 0. Refused as `load`
     /// is, `Input` where the table cannot be opened or the system gives no random bytes, and `Output` where standard output
-    /// fails. What a refusal of the table means is put into `words`, where words can be found.
+    /// fails. What a refusal means is put into `told`, where words can be found.
     pub fn make<R: Files + RandomSource + Print + Input + Threads + Sync>(
         &self,
         rt: &R,
@@ -178,7 +201,7 @@ impl Description<'_> {
     {
         let Came { read, kept } = read_at(rt, alloc, self.table, self.header);
         match read {
-            Ok(table) => describe(rt, alloc, self.is_json, &table),
+            Ok(table) => self.describe(rt, alloc, &table, told),
             Err(refusal) => {
                 let kept = Keeps {
                     table: kept,

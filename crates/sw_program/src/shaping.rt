@@ -2,7 +2,6 @@
 
 use crate::inputs::{Kept, Script};
 use std::alloc::{AllocError, Global};
-use std::io;
 use std::io::{BufWriter, Write};
 use sw_faults::call_lines;
 use sw_outputs::{Told, makes_table, write_csv, write_json, write_table};
@@ -211,16 +210,16 @@ pub(crate) fn flush<W: Write + Drop>(out: &mut Counted<BufWriter<W>>) -> Result<
     }
 }
 
-/// Writes the replies of a run in a form on standard output; nothing where they went out as lines.
+/// Writes the replies of a run in a form; nothing where they went out as lines.
 ///
-/// Refused `Output` where standard output fails, `NoMemory`, and `BadLine` of the last call where a table is asked of which
+/// Refused `Output` where the output fails, `NoMemory`, and `BadLine` of the last call where a table is asked of which
 /// that makes none; then nothing was written.
-pub(crate) fn shape<R: Print>(
-    rt: &R,
+pub(crate) fn shape<W: Write + Drop>(
     alloc: Global,
     form: Form,
     record: &Record,
     script: Option<&[u8]>,
+    out: W,
 ) -> Result<(), Refusal> {
     if form == Form::Lines {
         return Ok(());
@@ -228,7 +227,7 @@ pub(crate) fn shape<R: Print>(
     let Ok(calls) = calls_of(alloc, record, script) else {
         return Err(Refusal::NoMemory);
     };
-    let Ok(buffer) = BufWriter::new(alloc, io::writer(rt)) else {
+    let Ok(buffer) = BufWriter::new(alloc, out) else {
         return Err(Refusal::NoMemory);
     };
     let mut out = Counted::new(buffer);

@@ -540,7 +540,7 @@ const MANY_REMOVALS: &[(&str, &[i64], usize, &[(Step<'static>, &str)])] = &[
 ];
 
 /// Rows whose a is 1, 2, 3 and so on, up to a number.
-fn rising(alloc: Global, last: i64) -> Result<Vec<[i64; 8]>, Fail> {
+pub(crate) fn rising(alloc: Global, last: i64) -> Result<Vec<[i64; 8]>, Fail> {
     let mut cells = Vec::new(alloc);
     for before in 0..last {
         cells.push([before.wrapping_add(1), 0, 0, 0, 0, 0, 0, 0])?;

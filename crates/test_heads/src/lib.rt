@@ -3,11 +3,15 @@
 
 #[cfg(test)]
 mod cases;
-#[cfg(test)]
-mod dice;
 mod growing;
 #[cfg(test)]
+mod lines;
+#[cfg(test)]
 mod mixes;
+#[cfg(test)]
+mod noted;
+#[cfg(test)]
+mod pressed;
 #[cfg(test)]
 mod refusals;
 #[cfg(test)]

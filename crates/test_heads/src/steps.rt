@@ -126,7 +126,7 @@ fn tend<M: CrackerMap>(
 }
 
 /// Makes a call, and tells how many areas were scanned for it.
-fn called<R: Threads + Sync, M: CrackerMap>(
+pub(crate) fn called<R: Threads + Sync, M: CrackerMap>(
     rt: &R,
     alloc: Global,
     trial: &mut Trial<M>,

@@ -1,38 +1,6 @@
-//! Words, numbers and escaped texts.
+//! Bytes of escaped texts.
 
 use std::alloc::{AllocError, Global};
-
-/// What stands before the first of a mark, and what stands after it; all of a text without one, and nothing.
-pub(crate) fn split(text: &str, mark: char) -> (&str, &str) {
-    match text.split_once(mark) {
-        Some(parts) => parts,
-        None => (text, ""),
-    }
-}
-
-/// A word as a number, 0 where it is none.
-pub(crate) fn number(word: &str) -> u64 {
-    match word.parse::<u64>() {
-        Ok(n) => n,
-        Err(_) => 0,
-    }
-}
-
-/// A word as a cell, 0 where it is none.
-pub(crate) fn cell(word: &str) -> i64 {
-    match word.parse::<i64>() {
-        Ok(n) => n,
-        Err(_) => 0,
-    }
-}
-
-/// A word as a count, 0 where it is none.
-pub(crate) fn place(word: &str) -> usize {
-    match word.parse::<usize>() {
-        Ok(n) => n,
-        Err(_) => 0,
-    }
-}
 
 /// The value of a digit of base 16, 0 of another byte.
 fn digit(byte: u8) -> u8 {
@@ -62,8 +30,9 @@ enum At {
     Digit(u8),
 }
 
-/// Adds the bytes of a text in which \n, \r, \t, \\ and \xHH are escaped.
-pub(crate) fn push_unescaped(bytes: &mut Vec<u8>, text: &str) -> Result<(), AllocError> {
+/// Adds the bytes of a text in which \n, \r, \t, \\ and \xHH are escaped. Refused for want of memory, it has added a
+/// beginning.
+pub fn push_unescaped(bytes: &mut Vec<u8>, text: &str) -> Result<(), AllocError> {
     let mut at = At::Outside;
     for &byte in text.as_bytes() {
         let (after, made) = match (at, byte) {
@@ -80,4 +49,11 @@ pub(crate) fn push_unescaped(bytes: &mut Vec<u8>, text: &str) -> Result<(), Allo
         }
     }
     Ok(())
+}
+
+/// Those bytes alone.
+pub fn unescaped(alloc: Global, text: &str) -> Result<Vec<u8>, AllocError> {
+    let mut bytes = Vec::new(alloc);
+    push_unescaped(&mut bytes, text)?;
+    Ok(bytes)
 }

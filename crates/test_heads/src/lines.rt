@@ -1,32 +1,28 @@
 //! A fixed sequence of numbers, and the lines of calls that it makes.
 
 use std::alloc::{AllocError, Global};
+use test_words::Dice;
 
 /// The names of five attributes.
 pub(crate) const NAMES: [&str; 5] = ["a", "b", "c", "d", "e"];
 
-/// A fixed sequence of numbers.
+/// A fixed sequence of numbers makes cells, cuts and the lines of calls.
 #[derive(Drop)]
-pub(crate) struct Dice {
-    state: u64,
+pub(crate) struct Lines {
+    dice: Dice,
 }
 
-impl Dice {
-    /// The sequence of a seed.
-    pub(crate) fn new(seed: u64) -> Dice {
-        Dice {
-            state: seed.wrapping_mul(0x9E37_79B9_7F4A_7C15) | 1,
+impl Lines {
+    /// The lines of a seed.
+    pub(crate) fn new(seed: u64) -> Lines {
+        Lines {
+            dice: Dice::of(seed.wrapping_mul(0x9E37_79B9_7F4A_7C15)),
         }
     }
 
     /// The next number below a limit, or 0.
     pub(crate) fn roll(&mut self, below: u32) -> u32 {
-        let mut x = self.state;
-        x ^= x << 13;
-        x ^= x >> 7;
-        x ^= x << 17;
-        self.state = x;
-        u32::try_from(x >> 32).unwrap_or(0) % below.max(1)
+        u32::try_from(self.dice.roll(u64::from(below))).unwrap_or(0)
     }
 
     /// Whether one of so many.
