@@ -9,7 +9,7 @@ use crate::wording::{Asking, Keeps, of_output, words};
 use std::alloc::{AllocError, Global};
 use std::hash::RandomState;
 use std::io;
-use std::io::BufWriter;
+use std::io::{BufWriter, Write};
 use std::random::RandomSource;
 use std::rt::Files;
 use std::thread::Threads;
