@@ -61,6 +61,20 @@ def apply(edit, folder):
                 it.write(text.replace(old, value))
 
 
+def functions(crate, edit):
+    """The functions that an edit changes, as `rt check --only` names them."""
+    path, found = "", {}
+    for line in text_of(edit).split("\n"):
+        key, _, value = line.partition(": ")
+        path = value.strip() if key == "file" else path
+        if key == "old":
+            above = text_of(f"{TOP}/crates/{crate}/{path}").partition(value)[0] + value
+            named = list(re.finditer(r"^( *)(?:pub(?:\(\w+\))? )?fn (\w+)", above, re.M))[-1]
+            impls = re.findall(r"^impl(?:<.*?>)? (?:.* for )?(\w+)", above[: named.start()], re.M)
+            found["::".join([*path[4:-3].split("/"), *impls[-1:] * bool(named[1]), named[2]])] = None
+    return found
+
+
 def linked(one, other):
     """Gives a file of a library, which rt never writes into, a second name; a copy where that cannot be."""
     try:
@@ -70,7 +84,8 @@ def linked(one, other):
 
 
 def is_proved(crate, edits):
-    """Whether a copy of the crate is proved with these edits, over the libraries that stand proved here."""
+    """Whether the functions that these edits change are proved with them, in a copy, over the libraries that stand proved here: no other
+    function sees more of them than their clauses."""
     with tempfile.TemporaryDirectory(prefix="refusals-") as room:
         shutil.copytree(f"{TOP}/crates", f"{room}/crates", ignore=shutil.ignore_patterns("out"))
         for name in ("crates.txt", "HANDLES"):
@@ -81,7 +96,9 @@ def is_proved(crate, edits):
         folder = f"{room}/crates/{crate}"
         for edit in edits:
             apply(edit, folder)
-        return subprocess.run([*RT, "check"], cwd=folder, stdout=subprocess.DEVNULL, stderr=subprocess.STDOUT).returncode == 0
+        how = {"cwd": folder, "stdout": subprocess.DEVNULL, "stderr": subprocess.STDOUT}
+        changed = {name: None for edit in edits for name in functions(crate, edit)}
+        return all(subprocess.run([*RT, "check", "--only", name], **how).returncode == 0 for name in changed)
 
 
 def controls_of(crate, names):
@@ -97,9 +114,22 @@ def controls_of(crate, names):
     return told | {name: "passes" if len(bodies) > 1 and is_proved(crate, [edit]) else "fails" for name, edit in bodies.items()}
 
 
+def tell_controls(words):
+    """Tells of each control of crates, or of one of them, what it comes to."""
+    told = []
+    for crate, _, name in (word.partition("/") for word in words):
+        names = [name] if name else sorted(it[:-5] for it in os.listdir(f"{TOP}/tests/controls/{crate}"))
+        for it, control in controls_of(crate, names).items():
+            print(f"{crate}/{it}: {control}", flush=True)
+            told.append(control)
+    return 1 if "fails" in told or not told else 0
+
+
 def main(words):
-    if not words:
-        sys.exit("usage: tests/refusals.sh CRATE.. | --log FILE [CRATE..]")
+    if not words or words == ["--controls"]:
+        sys.exit("usage: tests/refusals.sh CRATE.. | --log FILE [CRATE..] | --controls CRATE[/NAME]..")
+    if words[0] == "--controls":
+        return tell_controls(words[1:])
     how = {"cwd": TOP, "stdout": subprocess.PIPE, "stderr": subprocess.STDOUT, "encoding": "utf-8", "errors": "replace"}
     said = text_of(words[1]) if words[0] == "--log" else subprocess.run([*RT, "must-fail", *words], **how).stdout
     crates = words[2:] if words[0] == "--log" else words
