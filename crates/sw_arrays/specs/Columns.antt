@@ -1,0 +1,106 @@
+-- Tables as columns of numbers.
+use Rattle.std.specs.Prelude.{◌+◌, ◌*◌, ◌-◌, ◌==◌, ◌&&◌, ◌||◌, if◌then◌else◌, ℕ, zero, suc, ℤ, pos, Bool, true, false, not, List, [], ◌∷◌, ◌++◌, length, map, take, drop, codes, nat_le, nat_lt, slice_get, unwrap_or, Option, None, Some, Result, Ok, Err}
+use Rattle.sw_rows.specs.Domains.{Domain}
+use Rattle.sw_rows.specs.Faults.{Fault, bad_table, too_many}
+use Rattle.sw_rows.specs.Header.{Column, has_texts, header_of, holding, is_name, texts_of}
+use Rattle.sw_rows.specs.Tables.{◌>>=◌, Table, padded}
+use Rattle.sw_rows.specs.Texts.{cell_given, has_text, is_text, with_text}
+use Rattle.sw_rows.specs.declared.query.Call.{Call}
+use Rattle.sw_rows.specs.declared.query.Call.TheVariants as call
+use Rattle.sw_rows.specs.declared.table.TheConstants.{MOST_ROWS}
+use Rattle.sw_table.specs.declared.row.Row.{Row}
+use Rattle.sw_lang.specs.Replies.{kind_at}
+use Rattle.sw_arrays.specs.Asked.{is_cell}
+use Rattle.sw_arrays.specs.declared.columns.Cells.{Cells}
+use Rattle.sw_arrays.specs.declared.header.Attribute.{Attribute}
+use Rattle.sw_arrays.specs.declared.table.Given.{Given}
+
+-- ---- cells of columns
+
+-- the cell of a row, which stands so many places behind that of the row before
+abbrev pub cell_in : Cells → ℕ → Option ℤ
+cell_in c row = slice_get c.cells.now (row * c.stride)
+
+abbrev pub is_cell_there : Domain → Option ℤ → Bool
+is_cell_there d None = false
+is_cell_there d (Some z) = is_cell d z
+
+-- the first of so many rows of a column, from one on, that has no cell of the kind; rows count from 1
+abbrev pub first_lacking : Domain → Cells → ℕ → ℕ → Option ℕ
+first_lacking d c row zero = None
+first_lacking d c row (suc many) =
+    if is_cell_there d (cell_in c row) then first_lacking d c (row + 1) many else Some (row + 1)
+
+-- the cells of a row, with zeros after them
+abbrev pub cells_at : List Cells → ℕ → List ℤ
+cells_at columns row = padded (map (λ c. unwrap_or (cell_in c row) (pos 0)) columns)
+
+-- the first rows of columns, whose keys are 1, 2, 3 and so on
+abbrev pub rows_in : List Cells → ℕ → List Row
+rows_in columns zero = []
+rows_in columns (suc many) = rows_in columns many ++ record { key = many + 1; cells = cells_at columns many } ∷ []
+
+-- the insert of a row
+abbrev pub insert_at : List Cells → ℕ → Call
+insert_at columns row = call.Insert (cells_at columns row)
+
+-- ---- headers
+
+-- the word of a kind's number
+abbrev pub kind_word : ℕ → List ℕ
+kind_word kind =
+    if kind == 0 then codes "int"
+    else if kind == 7 then codes "flag"
+    else if kind == 8 then codes "text"
+    else if nat_lt kind 7 then codes "fix" ++ (48 + kind) ∷ []
+    else []
+
+-- the field of a header that a name and a kind's number spell; of what is no name, an empty one
+abbrev pub field_of : Attribute → List ℕ
+field_of a = if is_name a.name.now then a.name.now ++ codes ":" ++ kind_word a.kind else []
+
+-- ---- texts
+
+-- a text that attributes do not know, and may
+abbrev pub is_new_text : List Column → List ℕ → Bool
+is_new_text columns text = has_texts columns && is_text text && not (has_text (texts_of columns) text)
+
+-- the bytes from one place to another
+abbrev pub between : ℕ → ℕ → List ℕ → List ℕ
+between start end bytes = take (end - start) (drop start bytes)
+
+-- attributes that know texts, each of which ends at its place and begins where the one before it ends; the first that is
+-- no new text is a fault of the header, whose fields go on with the texts
+abbrev pub knowing : ℕ → List ℕ → ℕ → List ℕ → List Column → Result (List Column) Fault
+knowing field bytes start [] columns = Ok columns
+knowing field bytes start (end ∷ ends) columns =
+    if nat_le start end && nat_le end (length bytes) && is_new_text columns (between start end bytes)
+    then (cell_given (texts_of columns) (between start end bytes)
+    >>= λ code. knowing (field + 1) bytes end ends (holding (with_text (texts_of columns) (between start end bytes)) columns))
+    else Err (bad_table 0 field)
+
+-- ---- tables
+
+abbrev pub columns_in : List Attribute → List Cells
+columns_in attributes = map (λ a. a.cells) attributes
+
+abbrev pub few_rows : ℕ → Result ℕ Fault
+few_rows many = if nat_lt MOST_ROWS many then Err (too_many MOST_ROWS) else Ok many
+
+abbrev pub or_lacking : ℕ → Option ℕ → Result (Unit {0}) Fault → Result (Unit {0}) Fault
+or_lacking attr None more = more
+or_lacking attr (Some row) more = Err (bad_table row (attr + 1))
+
+-- the columns from an attribute on have a cell of its kind in each row, or the first fault, column by column
+abbrev pub all_there : List Column → ℕ → ℕ → List Cells → Result (Unit {0}) Fault
+all_there schema many attr [] = Ok tt
+all_there schema many attr (c ∷ cs) =
+    or_lacking attr (first_lacking (kind_at schema attr) c 0 many) (all_there schema many (attr + 1) cs)
+
+-- the table that columns spell, or the first fault: of the header, of the number of rows, of the texts, of the cells
+abbrev pub table_in : Given → Result Table Fault
+table_in g =
+    header_of (map field_of g.attributes.now) >>= λ columns. few_rows g.rows
+    >>= λ many. knowing (length columns + 1) g.texts.now 0 g.ends.now columns
+    >>= λ known. all_there known many 0 (columns_in g.attributes.now)
+    >>= λ there. Ok (record { columns = known; rows = rows_in (columns_in g.attributes.now) many })
