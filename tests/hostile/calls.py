@@ -1,10 +1,10 @@
 #!/usr/bin/env python3
-"""Calls of tapes, maps, areas and heads, made one by one by the program sw_trial_calls. Each run is made again with its first
+"""Calls of tapes, maps, areas and heads, made one by one by the program test_calls. Each run is made again with its first
 allocation refused, its second, and so on, until a run meets no refusal: a refused call says `refused 1` and nothing else, leaves what it
 was made on as its contract says, and is then answered as in the run without a refusal. And worked examples over maps that refuse each
 n-th step, find the budget contended at each second begin, or find no cells at all: the replies are the known ones, and of each kind
 of map it is told how many calls were made, and how many calls of maps were refused, which must be some.
-Ends with 1 and the first run that is wrong. The program is that of crates/sw_trial_calls (`--program`)."""
+Ends with 1 and the first run that is wrong. The program is that of crates/test_calls (`--program`)."""
 import re, tempfile, time
 from collections import Counter
 from memory import preload, refusing

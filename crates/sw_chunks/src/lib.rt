@@ -13,6 +13,7 @@ mod routing;
 mod scanning;
 mod shelving;
 mod telling;
+mod waiting;
 
 pub use figures::Figures;
 pub use head::Head;
@@ -21,3 +22,4 @@ pub use laws::{
     one_interval, same_stand, together_is_all,
 };
 pub use places::MOST_CUTS;
+pub use waiting::Waiting;

@@ -1,6 +1,6 @@
 -- What heads are made from, and what they may receive.
-use Rattle.std.proofs.Common.{◌≡◌, ◌<◌, ◌≤◌, ◌+◌, ◌^◌, ◌++◌, ◌<ℤ◌, ℕ, ℤ, true, false, List, [], ◌∷◌, length, length-append, fold, map, get_or, refl, ap, ◌∙◌, arith, All, zero, suc, Option, Some, None}
-use Rattle.std.specs.Prelude.{Result, Ok, Err, IfOk, MatchResult, is_some, slice_set}
+use Rattle.std.proofs.Common.{◌≡◌, ◌<◌, ◌≤◌, ◌+◌, ◌^◌, ◌++◌, ◌<ℤ◌, ℕ, ℤ, true, false, List, [], ◌∷◌, length, fold, map, refl, ap, ◌∙◌, arith, All, zero, suc, Option, Some, None}
+use Rattle.std.specs.Prelude.{Result, Ok, Err, IfOk, MatchResult, is_some}
 use Rattle.std.proofs.lemmas.Bool.Decides.{nat_tests}
 use Rattle.std.proofs.lemmas.List.Elements.{All-push}
 use Rattle.std.specs.List.{AllByRecursion}
@@ -15,13 +15,11 @@ use Rattle.sw_spine.specs.Table as table
 use Rattle.sw_spine.proofs.Receivables.{may_come_first, may_come_rest}
 use Rattle.sw_rows.specs.declared.refusal.Refusal.{Refusal}
 use Rattle.sw_rows.specs.declared.refusal.Refusal.TheVariants.{NoMemory}
-use Rattle.sw_map.specs.Held.{Held, blank}
 use Rattle.sw_chunks.specs.Cuts.{Interval, RiseAbove, intervals}
-use Rattle.sw_set.specs.Shelf.{AreReceivable, AreaState, Rises, came_then, key_of}
+use Rattle.sw_set.specs.Shelf.{AreReceivable, Rises, came_then, key_of}
 use Rattle.sw_chunks.specs.Routing.{MayFollow}
-use Rattle.sw_chunks.specs.Heads.{HeadState, IsSupplied, opened, opened_area}
+use Rattle.sw_chunks.specs.Heads.{HeadState, opened, opened_area}
 use Rattle.sw_chunks.specs.Shelved.{boxes_in}
-use Rattle.sw_chunks.proofs.Clears.{sum-set}
 use Rattle.sw_engine.specs.Desk.{IsNewHead, latched}
 
 -- ---- updates of a history
@@ -84,27 +82,6 @@ above_from v (c ∷ cs) h =
 pub cuts_rise : (cs : List ℤ) → rises cs ≡ true → RiseAbove None cs
 cuts_rise [] h = tt
 cuts_rise (c ∷ cs) h = above_from c cs h
-
--- ---- boxes
-
-any_area : AreaState
-any_area = record { attribute = 0; from = None; below = None; inbox = []; spare = 0; tape = []; boxes = [] }
-
--- a head with one box more stands for the same updates
-pub supplied_updates : (g h : HeadState) → IsSupplied g h → h.updates ≡ g.updates
-supplied_updates g h s = ap (λ (x : HeadState). x.updates) (s.supplied any_area)
-
-pub supplied_attribute : (g h : HeadState) → IsSupplied g h → h.attribute ≡ g.attribute
-supplied_attribute g h s = ap (λ (x : HeadState). x.attribute) (s.supplied any_area)
-
-pub supplied_boxes : (g h : HeadState) → IsSupplied g h → boxes_in h.areas ≡ boxes_in g.areas + 1
-supplied_boxes g h s =
-    let was : List Held = (get_or g.areas s.at any_area).boxes in
-    let now : AreaState = record (get_or g.areas s.at any_area) { boxes = was ++ blank ∷ [] } in
-    let whole : boxes_in (slice_set g.areas s.at now) + length was ≡ boxes_in g.areas + length (was ++ blank ∷ []) = sum-set (λ (x : AreaState). length x.boxes) g.areas s.at now any_area s.fewest.within in
-    let more : length (was ++ blank ∷ []) ≡ length was + 1 = length-append was (blank ∷ []) in
-    let is : boxes_in h.areas ≡ boxes_in (slice_set g.areas s.at now) = ap (λ (x : HeadState). boxes_in x.areas) (s.supplied any_area) in
-    omega (arith, whole, more, is)
 
 -- ---- heads that are made
 

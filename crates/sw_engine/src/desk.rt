@@ -14,10 +14,10 @@ ghost use Rattle.sw_engine.specs.Desk.{AreGiven, IsAnswered, IsAtRest, IsBegun, 
 
 use crate::counting::Counters;
 use crate::latch::LatchedHead;
-use crate::waiting::Waiting;
 use std::alloc::Global;
 use std::marker::{Model, PhantomData};
 use std::snapshot::Snapshot;
+use sw_chunks::Waiting;
 use sw_map::CrackerMap;
 use sw_rows::{Call, PackedRows, Query, Refusal, Reply, Schema, Update};
 use sw_spine::Spine;

@@ -11,7 +11,6 @@ mod leading;
 mod locked;
 mod opening;
 mod viewing;
-mod waiting;
 
 pub use counting::HeadStats;
 pub use dealing::deal;

@@ -9,21 +9,6 @@ use sw_rows::{Kind, MOST_BYTES_OF_TEXT, MOST_NUMBER, read_cell_bytes, read_text}
 /// What is told besides of a cell whose attribute has its kind by none being named.
 pub(crate) const BARE: &str = "; a name without a kind is an int";
 
-/// A kind as a header has it.
-pub fn kind_name(kind: Kind) -> &'static str {
-    match kind {
-        Kind::Int => "int",
-        Kind::Fix(1) => "fix1",
-        Kind::Fix(2) => "fix2",
-        Kind::Fix(3) => "fix3",
-        Kind::Fix(4) => "fix4",
-        Kind::Fix(5) => "fix5",
-        Kind::Fix(_) => "fix6",
-        Kind::Flag => "flag",
-        Kind::Text => "text",
-    }
-}
-
 /// Whether a field is a cell of a kind.
 pub(crate) fn is_cell(kind: Kind, field: &[u8]) -> bool
     requires { HasPlaces kind }

@@ -15,7 +15,6 @@ mod tables;
 mod tokens;
 mod words;
 
-pub use cells::kind_name;
 pub use entries::wrong_entry;
 pub use lines::{call_lines, wrong_line};
 pub use tables::all_faults;

@@ -5,6 +5,7 @@ use crate::records::{MOST_FIELDS, Records};
 use crate::{cells, headers};
 use csv::ByteRecord;
 use std::alloc::{AllocError, Global};
+use sw_lang::kind_name;
 use sw_rows::{Kind, MOST_ROWS, Schema, TextKey};
 
 /// How many bad cells are listed at most.
@@ -83,7 +84,7 @@ impl<'a> Head<'a> {
         if attr >= self.schema.len() {
             return Ok(String::new(self.alloc));
         }
-        let kind = cells::kind_name(self.schema.kind(attr));
+        let kind = kind_name(self.schema.kind(attr));
         format!(in self.alloc; "{}:{kind}", self.schema.name(attr))
     }
 

@@ -44,7 +44,8 @@ use Rattle.sw_histories.proofs.NarrowedLines.{texts_are}
 use Rattle.sw_histories.proofs.OtherCalls.{AreKnownToks, IsKnownTok, Pairs, call_same, padded_same}
 use Rattle.sw_histories.proofs.OtherCodes.{SameCell, SameRow, SameRows, Texts, as_many}
 use Rattle.sw_histories.proofs.OtherHistories.{Apart, SameCall, SameEntries, SameUpdates, all_agree_still, select_same}
-use Rattle.sw_histories.proofs.OtherTexts.{AreIn, HaveCodes, all_given, call_in, codes_append, has_from_code}
+use Rattle.sw_lang.proofs.GivenTexts.{AreIn, HaveCodes, all_given, codes_append, has_from_code}
+use Rattle.sw_histories.proofs.OtherTexts.{call_in}
 use Rattle.sw_histories.proofs.RecordBack.{record_read}
 use Rattle.sw_histories.proofs.RecordLaws.{record_only}
 use Rattle.sw_histories.proofs.RecordReadingLemmas.{list_items}

@@ -7,12 +7,11 @@ ghost use Rattle.sw_lang.specs.PrintedCalls.{call_text};
 ghost use Rattle.sw_rows.specs.Cells.{HasPlaces};
 ghost use Rattle.sw_rows.specs.Domains.{domain};
 ghost use Rattle.sw_rows.specs.Header.{kinds_of, texts_of};
-ghost use Rattle.sw_rows.specs.Spelling.{kind_text};
 ghost use Rattle.sw_histories.specs.RecordText.{Puts, WritesText, attribute_text, attributes_data, cell_data, entries_data, entry_data, format_of, front_text, has_delete_where, is_delete_where, item_text, least_format, record_text, row_data, rows_data, state_data, texts_data};
 
 use serde_json::{Value, json};
 use std::alloc::{AllocError, Global};
-use sw_lang::{write_all, write_call};
+use sw_lang::{kind_name, write_all, write_call};
 use sw_rows::{Call, Counted, Kind, PackedRows, Refusal, Row, Schema, Sink};
 use sw_spine::{Entry, Lines, Record, State};
 
@@ -36,23 +35,6 @@ pub(crate) fn call_string(alloc: Global, schema: &Schema, call: &Call) -> Result
     match String::from_utf8(bytes) {
         Ok(text) => Ok(text),
         Err(_) => unreachable!(),
-    }
-}
-
-fn kind_name(kind: Kind) -> &'static str
-    requires { HasPlaces kind }
-    ensures { (texts : List (List ℕ)) → result.now ≡ kind_text (domain texts kind) }
-{
-    match kind {
-        Kind::Int => "int",
-        Kind::Flag => "flag",
-        Kind::Text => "text",
-        Kind::Fix(1) => "fix1",
-        Kind::Fix(2) => "fix2",
-        Kind::Fix(3) => "fix3",
-        Kind::Fix(4) => "fix4",
-        Kind::Fix(5) => "fix5",
-        Kind::Fix(_) => "fix6",
     }
 }
 

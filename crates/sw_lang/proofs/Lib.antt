@@ -3,6 +3,7 @@ pub mod CutLists
 pub mod CutSteps
 pub mod CutTexts
 pub mod Fit
+pub mod GivenTexts
 pub mod Knowing
 pub mod KnownLines
 pub mod LineConds

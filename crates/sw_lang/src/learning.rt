@@ -67,7 +67,7 @@ fn learn_tokens(schema: &mut Schema, text: &[u8]) -> Result<(), Refusal>
 ///
 /// A comment and a line of more than 4,096 bytes have none. Texts past the greatest number stay unknown, as reading the
 /// line then tells. Refused `NoMemory` alone, and then nothing has changed.
-pub fn learn_line(schema: &mut Schema, text: &str) -> Result<(), Refusal>
+pub(crate) fn learn_line(schema: &mut Schema, text: &str) -> Result<(), Refusal>
     ensures learned { OnOk result (schema.new ≡ learned schema.old text.now) }
     ensures refused { IfErr result (λ e. e ≡ Refusal.NoMemory) }
     ensures unchanged { OnErr result (schema.new ≡ schema.old) }

@@ -21,8 +21,8 @@ mod term;
 mod token;
 
 pub use cuts::{Cuts, MOST_CUTS, parse_cuts};
+pub use domain::kind_name;
 pub use fault::Fault;
-pub use learning::learn_line;
 pub use line::parse_line;
 pub use line_law::{
     cuts_are_read_as_related, examples_of_cuts, examples_of_lines, examples_of_printed_lines,

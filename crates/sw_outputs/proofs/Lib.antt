@@ -1,5 +1,4 @@
 mod CsvBack
-mod GivenTexts
 mod JsonBack
 pub mod Making
 mod Numbers

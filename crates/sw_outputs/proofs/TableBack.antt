@@ -43,7 +43,7 @@ use Rattle.sw_outputs.specs.Fields.{attrs_differ, cell_field, cell_fields, heade
 use Rattle.sw_outputs.specs.JsonLines.{attrs_shown, attrs_wanted, text_shown}
 use Rattle.sw_outputs.specs.JsonReading.{AreCellsOf, IsCellOf, IsRowOf}
 use Rattle.sw_outputs.specs.TableReading.{Shows, TablesAreReadBack, numbered}
-use Rattle.sw_outputs.proofs.GivenTexts.{AreIn, HaveCodes, Texts, all_given, codes_append, has_from_code}
+use Rattle.sw_lang.proofs.GivenTexts.{AreIn, HaveCodes, Texts, all_given, codes_append, has_from_code}
 use Rattle.sw_outputs.proofs.JsonBack.{kind_sound, kinds_sound}
 use Rattle.sw_outputs.proofs.RecordsBack.{HaveFields, records_back}
 

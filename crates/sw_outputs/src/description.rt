@@ -3,10 +3,9 @@
 ghost use Rattle.std.specs.Prelude.{◌<◌, length};
 
 use crate::cells::{cell_text, json_cell, json_text, no_memory, quoted_text};
-use crate::records::kind_name;
 use std::alloc::{AllocError, Global};
 use sw_describe::Column;
-use sw_lang::{write_all, write_number};
+use sw_lang::{kind_name, write_all, write_number};
 use sw_rows::{Kind, Refusal, Schema, Sink};
 
 /// What a column has: its numbers, and where it is of texts the most frequent of them with how often each.

@@ -2,8 +2,6 @@
 
 ghost use Rattle.std.specs.Prelude.{◌≡◌, ◌∷◌, ◌++◌, [], List, ℕ, IfOk, None, OnOk, Some, map, option_map};
 ghost use Rattle.csv.specs.Writing.{default_writer, row_text};
-ghost use Rattle.sw_rows.specs.Cells.{HasPlaces};
-ghost use Rattle.sw_rows.specs.Domains.{domain};
 ghost use Rattle.sw_rows.specs.Spelling.{kind_text};
 ghost use Rattle.sw_lang.specs.PrintedCalls.{name_at};
 ghost use Rattle.sw_lang.specs.Replies.{kind_at, sum_text};
@@ -18,7 +16,7 @@ use crate::told::Told;
 use csv::{ByteRecord, Writer};
 use itoa::{Buffer, Integer};
 use std::alloc::{AllocError, Global};
-use sw_lang::write_all;
+use sw_lang::{kind_name, write_all};
 use sw_rows::{Call, Kind, Refusal, Reply, ReplyRows, Schema, Sink};
 
 /// Records that are written to memory, and the one that is being made.
@@ -81,23 +79,6 @@ impl Records {
         let text = buffer.format(number);
         self.add(text.as_bytes())?;
         Ok(())
-    }
-}
-
-/// A kind as a header has it.
-pub(crate) fn kind_name(kind: Kind) -> &'static str
-    ensures { (texts : List (List ℕ)) → HasPlaces kind → result.now ≡ kind_text (domain texts kind) }
-{
-    match kind {
-        Kind::Int => "int",
-        Kind::Fix(1) => "fix1",
-        Kind::Fix(2) => "fix2",
-        Kind::Fix(3) => "fix3",
-        Kind::Fix(4) => "fix4",
-        Kind::Fix(5) => "fix5",
-        Kind::Fix(_) => "fix6",
-        Kind::Flag => "flag",
-        Kind::Text => "text",
     }
 }
 

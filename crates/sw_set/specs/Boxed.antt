@@ -18,6 +18,10 @@ pub record IsSameButBoxes (x y : AreaState) : Type 0 where
   pub tape : y.tape ≡ x.tape
   pub many : length y.boxes ≡ length x.boxes
 
+-- the box at a place has it, whatever is read where there is none
+abbrev pub HasAt : List Held → ℕ → (Held → Type 0) → Type 0
+HasAt ms at P = (d : Held) → P (slice_index_or ms at d)
+
 -- the area after the map in the box at a place was to grow to so many cells
 abbrev pub HasGrownAt : Result Bool Refusal → ℕ → ℕ → AreaState → AreaState → Type 0
 HasGrownAt r at cells x y = (m : Held) × HasGrownOr r cells (slice_index_or x.boxes at blank) m × (y ≡ with_box at m x)
@@ -73,7 +77,7 @@ IsLeasing cells m = (m.is_blank ≡ false) × (cells ≡ m.cells)
 abbrev pub IsOneCleared : List Held → List Held → ℕ → Type 0
 IsOneCleared ms ns cells =
     (AreAllBlank ms × (ns ≡ ms) × (cells ≡ 0))
-    ⊎ ((at : ℕ) × (at < length ms) × ((d : Held) → IsLeasing cells (slice_index_or ms at d))
+    ⊎ ((at : ℕ) × (at < length ms) × HasAt ms at (IsLeasing cells)
     × (ns ≡ slice_set ms at blank))
 
 -- The area after boxes were dropped: at most so many, and all where it has no more. Those that went and those that are

@@ -9,7 +9,7 @@ ghost use Rattle.sw_rows.specs.Scan.{AsksBelow, TakesMemory, answer};
 ghost use Rattle.sw_kernel.specs.Replay.{inserted, ranged, removed};
 ghost use Rattle.sw_map.specs.declared.tail.Tail.TheVariants.{Key};
 ghost use Rattle.sw_kernel.specs.Tapes.{peak_from};
-ghost use Rattle.sw_map.specs.Held.{Held, blank, pairs_in, place_of};
+ghost use Rattle.sw_map.specs.Held.{blank, pairs_in, place_of};
 ghost use Rattle.sw_map.specs.Refusals.{HasBegunOr, HasGrownOr};
 ghost use Rattle.sw_tape.specs.declared.tape.TheConstants.{MAX_ENTRIES};
 ghost use Rattle.sw_tape.specs.Bounds.{HasPieces};
@@ -20,7 +20,7 @@ ghost use Rattle.sw_set.specs.Needs.{head_in};
 ghost use Rattle.sw_rows.specs.Gives.{MemoryAside};
 ghost use Rattle.sw_set.specs.Outcomes.{AreAppendedOr, CameToWaitOr, HasBegunAnewOr, HasLoggedOr, HasMadeAt, HasMadeRoomOr, HasRestartedOr, IsLongerOr, IsSuppliedOr, rows_standing};
 ghost use Rattle.sw_set.specs.Prepared.{ComesFromMap, IsPreparedFor, IsReady, stands_if};
-ghost use Rattle.sw_set.specs.Boxed.{HasGrownAt, IsCleared, IsFree, IsFreshBut, IsOneCleared, IsSameButBoxes, IsShed};
+ghost use Rattle.sw_set.specs.Boxed.{HasAt, HasGrownAt, IsCleared, IsFree, IsFreshBut, IsOneCleared, IsSameButBoxes, IsShed};
 ghost use Rattle.sw_set.specs.Shelf.{AreaState, IsAreaLawful, IsSameArea, LiesIn, MayComeAfterLoad, MayMerge, MayMergeAll, MayReceiveAll, Rises, arranged_rows, key_of, lies_within, loaded_area, rows_in, rows_left_by, tape_rows, with_box, with_inbox};
 ghost use Rattle.sw_set.specs.Aligning.{AlignsBoxes};
 ghost use Rattle.sw_set.specs.Aligned.{AreSameMaps, HasRoomWhereNeeded, IsAtEnd, IsStalled};
@@ -344,8 +344,8 @@ impl<M: CrackerMap> Area<M> {
     /// cursor that it reached.
     pub(crate) fn align_at(&mut self, at: usize) -> Result<(), Refusal>
         requires within { at < length self.old.boxes }
-        requires begun { (d : Held) → (slice_index_or self.old.boxes at d).is_blank ≡ false }
-        requires room { (d : Held) → peak_from 0 self.old.tape ≤ (slice_index_or self.old.boxes at d).cells }
+        requires begun { HasAt self.old.boxes at (λ b. b.is_blank ≡ false) }
+        requires room { HasAt self.old.boxes at (λ b. peak_from 0 self.old.tape ≤ b.cells) }
         ensures same { IsSameButBoxes self.old self.new }
         ensures maps { AreSameMaps self.old.boxes self.new.boxes }
         ensures ends { HasReachedOr result at (length self.old.tape) self.old.boxes self.new.boxes }
@@ -357,7 +357,7 @@ impl<M: CrackerMap> Area<M> {
     /// Where the pair of the live row of a key stands at the tape's end, told by the key map in the box at a place.
     pub(crate) fn place_of(&self, at: usize, key: u64) -> usize
         requires within { at < length self.now.boxes }
-        requires ready { (d : Held) → IsReady Key self.now.tape (slice_index_or self.now.boxes at d) }
+        requires ready { HasAt self.now.boxes at (λ b. IsReady Key self.now.tape b) }
         requires live { has_key key (tape_rows self.now) ≡ true }
         ensures within { result < length (arranged_rows self.now) }
         ensures own { (d : Row) → (slice_index_or (arranged_rows self.now) result d).key ≡ key }
@@ -474,7 +474,7 @@ impl<M: CrackerMap> Area<M> {
     /// The cells of the box at a place.
     pub(crate) fn cells_at(&self, at: usize) -> u64
         requires { at < length self.now.boxes }
-        ensures { (d : Held) → result ≡ (slice_index_or self.now.boxes at d).cells }
+        ensures { HasAt self.now.boxes at (λ b. result ≡ b.cells) }
     {
         self.boxes[at].cells()
     }
@@ -482,7 +482,7 @@ impl<M: CrackerMap> Area<M> {
     /// Where a bound stands in the box at a place.
     pub(crate) fn place_at(&self, at: usize, bound: Bound) -> Option<usize>
         requires { at < length self.now.boxes }
-        ensures { (d : Held) → result ≡ place_of bound (slice_index_or self.now.boxes at d).pairs }
+        ensures { HasAt self.now.boxes at (λ b. result ≡ place_of bound b.pairs) }
     {
         self.boxes[at].find(bound)
     }
@@ -490,7 +490,7 @@ impl<M: CrackerMap> Area<M> {
     /// How many pairs the box at a place has.
     pub(crate) fn pairs_at(&self, at: usize) -> usize
         requires { at < length self.now.boxes }
-        ensures { (d : Held) → result ≡ pairs_in (slice_index_or self.now.boxes at d) }
+        ensures { HasAt self.now.boxes at (λ b. result ≡ pairs_in b) }
     {
         self.boxes[at].len()
     }
@@ -498,7 +498,7 @@ impl<M: CrackerMap> Area<M> {
     /// The cursor of the box at a place.
     fn cursor_at(&self, at: usize) -> usize
         requires { at < length self.now.boxes }
-        ensures { (d : Held) → result ≡ (slice_index_or self.now.boxes at d).cursor }
+        ensures { HasAt self.now.boxes at (λ b. result ≡ b.cursor) }
     {
         self.boxes[at].cursor()
     }
@@ -506,8 +506,8 @@ impl<M: CrackerMap> Area<M> {
     /// The tail at a place of the box at a place.
     fn shown_at(&self, at: usize, place: usize) -> i64
         requires within { at < length self.now.boxes }
-        requires there { (d : Held) → place < pairs_in (slice_index_or self.now.boxes at d) }
-        ensures { (d : Held) → result ≡ shown_at place (slice_index_or self.now.boxes at d) }
+        requires there { HasAt self.now.boxes at (λ b. place < pairs_in b) }
+        ensures { HasAt self.now.boxes at (λ b. result ≡ shown_at place b) }
     {
         self.boxes[at].tail_at(place)
     }
@@ -688,8 +688,8 @@ impl<M: CrackerMap> Area<M> {
     /// is blank.
     pub(crate) fn grow_at(&mut self, at: usize, cells: u64) -> Result<bool, Refusal>
         requires within { at < length self.old.boxes }
-        requires begun { (d : Held) → (slice_index_or self.old.boxes at d).is_blank ≡ false }
-        requires more { (d : Held) → (slice_index_or self.old.boxes at d).cells < cells }
+        requires begun { HasAt self.old.boxes at (λ b. b.is_blank ≡ false) }
+        requires more { HasAt self.old.boxes at (λ b. b.cells < cells) }
         ensures grown { HasGrownAt result at cells self.old self.new }
         ensures told { IfErr result (ComesFromMap M.tells) }
     {

@@ -27,7 +27,6 @@ pub use area::Area;
 pub use at_once::align_at_once;
 pub use collect::nothing;
 pub use in_turn::align_in_turn;
-pub use merging::MOST_REMOVALS_MERGED;
 pub use needs::needed_maps;
 pub use pick::older;
 pub use ready::Ready;

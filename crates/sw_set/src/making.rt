@@ -1,9 +1,8 @@
 //! Making the maps that a query needs.
 
-ghost use Rattle.std.specs.Prelude.{◌≡◌, ◌<◌, ◌↔◌, false, length, All, Contains, IfErr, IsTrue, OnErr, slice_index_or};
-ghost use Rattle.sw_map.specs.Held.{Held};
+ghost use Rattle.std.specs.Prelude.{◌≡◌, ◌<◌, ◌↔◌, false, length, All, Contains, IfErr, IsTrue, OnErr};
 ghost use Rattle.sw_set.specs.Prepared.{ComesFromMap, IsOfBudget, IsShort};
-ghost use Rattle.sw_set.specs.Boxed.{AreNeededKept, IsFreshBut, IsHeld, IsSameButBoxes, LacksOne};
+ghost use Rattle.sw_set.specs.Boxed.{AreNeededKept, HasAt, IsFreshBut, IsHeld, IsSameButBoxes, LacksOne};
 ghost use Rattle.sw_set.specs.Preparing.{HasFreeOr, HasMapOr, HasOneMoreOr, HaveMapsOr};
 ghost use Rattle.sw_set.specs.Sought.{AreAllNeeded, LacksMap};
 
@@ -64,9 +63,9 @@ fn widen<M: CrackerMap>(
 ) -> Result<(), Refusal>
     requires within { at < length area.old.boxes }
     requires fresh { IsFreshBut at tail area.old.boxes }
-    requires begun { (d : Held) → (slice_index_or area.old.boxes at d).is_blank ≡ false }
-    requires tail { (d : Held) → (slice_index_or area.old.boxes at d).tail ≡ tail }
-    requires more { (d : Held) → (slice_index_or area.old.boxes at d).cells < cells }
+    requires begun { HasAt area.old.boxes at (λ b. b.is_blank ≡ false) }
+    requires tail { HasAt area.old.boxes at (λ b. b.tail ≡ tail) }
+    requires more { HasAt area.old.boxes at (λ b. b.cells < cells) }
     ensures same { IsSameButBoxes area.old area.new }
     ensures kept { AreNeededKept at tails.now area.old.boxes area.new.boxes }
     ensures told { IfErr result (ComesFromMap M.tells) }

@@ -1,17 +1,16 @@
 //! Merging: the updates that wait are logged in the tape one after the other, or taken up by a load with which the area
 //! begins anew.
 
-ghost use Rattle.std.specs.Prelude.{◌≡◌, ◌<◌, ◌≤◌, ◌+◌, [], true, false, length, drop, MatchOption, MatchResult, slice_index_or, vec_capacity, vec_len};
+ghost use Rattle.std.specs.Prelude.{◌≡◌, ◌<◌, ◌≤◌, ◌+◌, [], true, false, length, drop, MatchOption, MatchResult, vec_capacity, vec_len};
 ghost use Rattle.sw_table.specs.declared.row.Update.TheVariants.{Insert, Remove};
 ghost use Rattle.sw_table.specs.Updates.{has_key};
 ghost use Rattle.sw_rows.specs.Gives.{IsRefused};
 ghost use Rattle.sw_map.specs.declared.tail.Tail.TheVariants.{Key};
-ghost use Rattle.sw_map.specs.Held.{Held};
 ghost use Rattle.sw_tape.specs.declared.tape.TheConstants.{MAX_ENTRIES};
 ghost use Rattle.sw_set.specs.Merged.{CannotTell, HasBegunWithInboxOr, HasMergedOr, IsRemovalLogged, IsSameShell, MergesByOneLoad, StandsForSame, removals_in};
 ghost use Rattle.sw_set.specs.Merging.{HasBegunWithOr, HasMergedEachOr, HasMergedFromOr, IsLoggedOrNot, IsStretch};
 ghost use Rattle.sw_set.specs.Prepared.{IsReady};
-ghost use Rattle.sw_set.specs.Boxed.{IsSameButBoxes};
+ghost use Rattle.sw_set.specs.Boxed.{HasAt, IsSameButBoxes};
 ghost use Rattle.sw_set.specs.Shelf.{MayMerge, MayMergeAll, tape_rows};
 ghost use Rattle.sw_set.specs.Aligned.{AreSameMaps, IsStalled};
 ghost use Rattle.sw_set.specs.Sought.{IsAt};
@@ -22,7 +21,7 @@ use sw_rows::{Refusal, Row, Update};
 use sw_tape::MAX_ENTRIES;
 
 /// The most removals that a merge takes up one by one. Where more wait, one load takes up all that waits.
-pub const MOST_REMOVALS_MERGED: usize = 64;
+pub(crate) const MOST_REMOVALS_MERGED: usize = 64;
 
 /// Logs a row that comes, if the tape has room for it, and answers whether it had. Refused `NoMemory`, nothing has changed.
 fn try_insertion<M: CrackerMap>(area: &mut Area<M>, row: Row) -> Result<bool, Refusal>
@@ -66,7 +65,7 @@ fn log_at<M: CrackerMap>(area: &mut Area<M>, at: usize, key: u64) -> Result<(), 
     requires room { length area.old.tape < MAX_ENTRIES }
     requires live { has_key key (tape_rows area.old) ≡ true }
     requires within { at < length area.old.boxes }
-    requires ready { (d : Held) → IsReady Key area.old.tape (slice_index_or area.old.boxes at d) }
+    requires ready { HasAt area.old.boxes at (λ b. IsReady Key area.old.tape b) }
     ensures same { IsSameShell area.old area.new }
     ensures ends { MatchResult result (λ _. IsRemovalLogged key area.old area.new) (IsRefused area.old area.new) }
 {

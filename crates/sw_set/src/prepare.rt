@@ -1,14 +1,13 @@
 //! Preparing an area for a query: the range is logged, the maps that are needed are made and aligned, and the places of the
 //! range's bounds are found.
 
-ghost use Rattle.std.specs.Prelude.{◌≡◌, ℕ, ◌<◌, ◌≤◌, ◌^◌, [], true, length, false, Contains, IfErr, IfOk, IfSome, IsOk, IsOkUnless, slice_index_or};
+ghost use Rattle.std.specs.Prelude.{◌≡◌, ℕ, ◌<◌, ◌≤◌, ◌^◌, [], true, length, false, Contains, IfErr, IfOk, IfSome, IsOk, IsOkUnless};
 ghost use Rattle.sw_rows.specs.Scan.{AsksBelow, answer};
 ghost use Rattle.sw_rows.specs.declared.refusal.Refusal.TheVariants.{NoMemory};
 ghost use Rattle.sw_map.specs.declared.tail.Tail.TheVariants.{Key};
-ghost use Rattle.sw_map.specs.Held.{Held};
 ghost use Rattle.sw_set.specs.Needs.{head_in};
 ghost use Rattle.sw_set.specs.Prepared.{ComesFromMap, HasTooFew, IsHindered, IsOfBudget, IsPartlyNoted, IsPrepared, IsShort, IsTold, IsToldTooFew, StandReady, cells_asked, cells_for, is_touched, stand_both};
-ghost use Rattle.sw_set.specs.Boxed.{IsFoundAt, LacksOne};
+ghost use Rattle.sw_set.specs.Boxed.{HasAt, IsFoundAt, LacksOne};
 ghost use Rattle.sw_set.specs.Preparing.{HasNotedOr, HasPreparedOr, HasRangedOr};
 ghost use Rattle.sw_set.specs.Aligning.{AlignsBoxes, HasAlignedOr, MayAlign};
 ghost use Rattle.sw_set.specs.Shelf.{IsSameArea, rows_in};
@@ -74,8 +73,8 @@ fn place_in_box<M: CrackerMap>(
     absent: usize,
 ) -> usize
     requires within { at < length area.now.boxes }
-    requires marked { (d : Held) → (i : ℕ) × IsFoundAt bound absent (slice_index_or area.now.boxes at d) i }
-    ensures { (d : Held) → IsFoundAt bound absent (slice_index_or area.now.boxes at d) result }
+    requires marked { HasAt area.now.boxes at (λ b. (i : ℕ) × IsFoundAt bound absent b i) }
+    ensures { HasAt area.now.boxes at (λ b. IsFoundAt bound absent b result) }
 {
     let Some(b) = bound else {
         return absent;

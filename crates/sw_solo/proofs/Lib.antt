@@ -1,4 +1,3 @@
-pub mod Boxes
 pub mod Follows
 pub mod Served
 pub mod Settles

@@ -3,7 +3,6 @@
 
 mod seat;
 mod solo;
-mod waiting;
 
 pub use seat::SeatStats;
 pub use solo::Solo;

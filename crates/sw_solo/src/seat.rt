@@ -14,10 +14,9 @@ ghost use Rattle.sw_chunks.specs.Routing.{MayFollow};
 ghost use Rattle.sw_chunks.specs.declared.places.TheConstants.{MOST_CUTS};
 ghost use Rattle.sw_solo.specs.Seats.{received_or, with_more, with_received};
 
-use crate::waiting::Waiting;
 use std::alloc::Global;
 use std::marker::Model;
-use sw_chunks::{Figures, Head};
+use sw_chunks::{Figures, Head, Waiting};
 use sw_map::CrackerMap;
 use sw_rows::{PackedRows, Query, Refusal, Reply, Update};
 

@@ -1,6 +1,0 @@
-use Rattle.std.proofs.Common.{◌<◌, All, take}
-use Rattle.sw_rows.specs.declared.query.Cond.{Cond}
-use Rattle.sw_trial_areas.proofs.asking.conds_are_small.Given as goal
-
-abbrev pub invariant-loop-cond : goal.invariant-loop-cond
-invariant-loop-cond l = All (λ (c : Cond). c.attr < 8) (take l.cond-index l.conds)

@@ -1,5 +1,0 @@
-use Rattle.std.proofs.Common.{length}
-use Rattle.sw_trial_areas.proofs.moves.push_rows.Given as goal
-
-abbrev pub decreases-loop-key : goal.decreases-loop-key
-decreases-loop-key l = length l.left

@@ -1,7 +1,0 @@
-use Rattle.std.proofs.Common.{◌≡◌, true, take}
-use Rattle.std.specs.List.{list_all}
-use Rattle.sw_set.specs.Shelf.{lies_within}
-use Rattle.sw_trial_areas.proofs.opening.lie_within.Given as goal
-
-abbrev pub invariant-loop-row : goal.invariant-loop-row
-invariant-loop-row l = list_all (lies_within l.attribute l.from l.below) (take l.row-index l.rows) ≡ true

@@ -1,5 +1,0 @@
-use Rattle.sw_trial_engine.proofs.Readings.{read_below}
-use Rattle.sw_trial_engine.proofs.running.call_of.Goals as goal
-
-pub returns : goal.returns
-returns c = read_below c.args.schema.now c.parse_known.result c.parse_known.ensures.fits

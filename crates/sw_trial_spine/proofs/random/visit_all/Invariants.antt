@@ -1,5 +1,0 @@
-use Rattle.sw_trial_spine.specs.Benches.{IsAtRest}
-use Rattle.sw_trial_spine.proofs.random.visit_all.Given as goal
-
-abbrev pub invariant-loop-turn : goal.invariant-loop-turn
-invariant-loop-turn l = IsAtRest l.spine l.rows.items

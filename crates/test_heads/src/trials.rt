@@ -1,0 +1,213 @@
+//! A head beside the plain list of its rows, and the boxes that may come to it.
+
+use crate::GrowingHead;
+use std::alloc::Global;
+use std::test::Fail;
+use std::thread::Threads;
+use sw_lang::{parse_known, write_reply};
+use sw_map::CrackerMap;
+use sw_rows::{
+    Call, Cond, Counted, Refusal, Reply, Row, Schema, TextKey, answer, has_key, is_within,
+};
+use test_areas::numbered;
+
+/// What a head is opened with.
+#[derive(Clone, Copy)]
+pub(crate) struct Shape<'t> {
+    pub header: &'t [&'t str],
+    pub attribute: u8,
+    pub cuts: &'t [i64],
+    pub cells: &'t [[i64; 8]],
+}
+
+/// A head, the plain list of its rows, the key that comes next, boxes that may come to the head, and how many areas
+/// were scanned.
+#[derive(Drop)]
+pub(crate) struct Trial<M: CrackerMap> {
+    pub schema: Schema,
+    pub head: GrowingHead<M>,
+    pub rows: Vec<Row>,
+    pub next: u64,
+    pub stock: Vec<M>,
+    pub scans: usize,
+}
+
+/// A head of a shape, with so many of these boxes.
+pub(crate) fn open<M: CrackerMap>(
+    alloc: Global,
+    shape: Shape<'_>,
+    stock: Vec<M>,
+    many: usize,
+) -> Result<Trial<M>, Refusal> {
+    let mut trial = Trial {
+        schema: Schema::of(alloc, TextKey::fixed(), shape.header)?,
+        head: GrowingHead::open(alloc, shape.attribute, shape.cuts, shape.cells)?,
+        rows: numbered(alloc, shape.cells)?,
+        next: 1,
+        stock,
+        scans: 0,
+    };
+    trial.next = trial.rows.len() as u64 + 1;
+    for _turn in 0..many {
+        supply(&mut trial)?;
+    }
+    Ok(trial)
+}
+
+/// Gives one of the boxes to the head, if there is one.
+pub(crate) fn supply<M: CrackerMap>(trial: &mut Trial<M>) -> Result<(), Refusal> {
+    match trial.stock.pop() {
+        Some(map) => trial.head.supply(map),
+        None => Ok(()),
+    }
+}
+
+/// Inserts a row, and tells the keys that the head and the plain list give it.
+fn insert<M: CrackerMap>(trial: &mut Trial<M>, cells: [i64; 8]) -> Result<(u64, u64), Refusal> {
+    let plain = trial.next;
+    if trial.rows.reserve(1).is_err() {
+        return Err(Refusal::NoMemory);
+    }
+    let key = trial.head.insert(cells)?;
+    trial.rows.push_reserved(Row { key: plain, cells });
+    trial.next = plain.wrapping_add(1);
+    Ok((key, plain))
+}
+
+/// Removes the row of a key, and tells whether the head and the plain list had it.
+fn remove<M: CrackerMap>(trial: &mut Trial<M>, key: u64) -> Result<(bool, bool), Refusal> {
+    let plain = has_key(trial.rows.as_slice(), key);
+    let gone = trial.head.remove(key)?;
+    trial.rows.retain(|row| row.key != key);
+    Ok((gone, plain))
+}
+
+/// Whether a row meets conditions.
+fn meets(row: &Row, conds: &[Cond]) -> bool {
+    for cond in conds {
+        match row.cells.get(cond.attr) {
+            Some(cell) if is_within(cond.lower, cond.upper, *cell) => {}
+            _ => return false,
+        }
+    }
+    true
+}
+
+/// The keys of the rows of the plain list that meet conditions.
+fn met<M: CrackerMap>(
+    alloc: Global,
+    trial: &Trial<M>,
+    conds: &[Cond],
+) -> Result<Vec<u64>, Refusal> {
+    let mut keys = Vec::new(alloc);
+    for row in &trial.rows {
+        if meets(row, conds) && keys.push(row.key).is_err() {
+            return Err(Refusal::NoMemory);
+        }
+    }
+    Ok(keys)
+}
+
+/// Removes the rows of keys one after another, and tells how many the head had.
+fn remove_each<M: CrackerMap>(trial: &mut Trial<M>, keys: &[u64]) -> Result<u64, Refusal> {
+    let mut had: u64 = 0;
+    for key in keys {
+        let (gone, _) = remove(trial, *key)?;
+        had = had.wrapping_add(u64::from(gone));
+    }
+    Ok(had)
+}
+
+/// Removes all rows that meet conditions, and tells how many the head had, and how many the plain list.
+fn remove_where<M: CrackerMap>(
+    alloc: Global,
+    trial: &mut Trial<M>,
+    conds: &[Cond],
+) -> Result<(u64, u64), Refusal> {
+    let keys = met(alloc, trial, conds)?;
+    let had = remove_each(trial, keys.as_slice())?;
+    Ok((had, keys.len() as u64))
+}
+
+/// The reply to a removal.
+fn gone(is_gone: bool) -> Reply {
+    if is_gone {
+        Reply::Removed
+    } else {
+        Reply::NoSuchKey
+    }
+}
+
+/// What the head replies to a call, and what the plain list does.
+pub(crate) fn replies<R: Threads + Sync, M: CrackerMap>(
+    rt: &R,
+    alloc: Global,
+    trial: &mut Trial<M>,
+    call: &Call,
+) -> Result<(Reply, Reply), Refusal> {
+    match call {
+        Call::Select(query) => {
+            let (reply, scans) = trial.head.ask(rt, query)?;
+            trial.scans = trial.scans.wrapping_add(scans);
+            Ok((reply, answer(alloc, trial.rows.as_slice(), query)?))
+        }
+        Call::Insert(cells) => {
+            let (key, plain) = insert(trial, *cells)?;
+            Ok((Reply::Inserted(key), Reply::Inserted(plain)))
+        }
+        Call::Delete(key) => {
+            let (has, had) = remove(trial, *key)?;
+            Ok((gone(has), gone(had)))
+        }
+        Call::DeleteWhere(conds) => {
+            let (has, had) = remove_where(alloc, trial, conds.as_slice())?;
+            Ok((Reply::RemovedMany(has), Reply::RemovedMany(had)))
+        }
+    }
+}
+
+/// The same, as they are written.
+fn written<R: Threads + Sync, M: CrackerMap>(
+    rt: &R,
+    alloc: Global,
+    trial: &mut Trial<M>,
+    call: &Call,
+    out: &mut Counted<Vec<u8>>,
+    plain: &mut Counted<Vec<u8>>,
+) -> Result<(), Refusal> {
+    let (reply, other) = replies(rt, alloc, trial, call)?;
+    write_reply(&trial.schema, call, &reply, out)?;
+    write_reply(&trial.schema, call, &other, plain)
+}
+
+/// Makes the call of a line, and answers whether the head replies as the plain list does. Tells what the head replies,
+/// and after it what the plain list does where that is another reply.
+pub(crate) fn tell<R: Threads + Sync, M: CrackerMap>(
+    rt: &R,
+    alloc: Global,
+    trial: &mut Trial<M>,
+    line: &str,
+    text: &mut String,
+) -> Result<bool, Fail> {
+    let Some(call) = parse_known(alloc, &trial.schema, 1, line)? else {
+        return Ok(false);
+    };
+    let mut out = Counted::new(Vec::new(alloc));
+    let mut plain = Counted::new(Vec::new(alloc));
+    written(rt, alloc, trial, &call, &mut out, &mut plain)?;
+    push_bytes(text, out.inner.as_slice())?;
+    if out.inner.as_slice() == plain.inner.as_slice() {
+        return Ok(true);
+    }
+    text.push_str("for ")?;
+    push_bytes(text, plain.inner.as_slice())?;
+    Ok(false)
+}
+
+/// Adds bytes to a text.
+fn push_bytes(text: &mut String, bytes: &[u8]) -> Result<(), Fail> {
+    match std::str::from_utf8(bytes) {
+        Ok(more) => Ok(text.push_str(more)?),
+        Err(_) => Ok(text.push_str("no text")?),
+    }
+}
