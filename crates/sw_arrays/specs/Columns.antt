@@ -1,8 +1,10 @@
 -- Tables as columns of numbers.
-use Rattle.std.specs.Prelude.{◌+◌, ◌*◌, ◌-◌, ◌==◌, ◌&&◌, ◌||◌, if◌then◌else◌, ℕ, zero, suc, ℤ, pos, Bool, true, false, not, List, [], ◌∷◌, ◌++◌, length, map, take, drop, codes, nat_le, nat_lt, slice_get, unwrap_or, Option, None, Some, Result, Ok, Err}
+use Rattle.std.specs.Prelude.{◌+◌, ◌*◌, ◌-◌, ◌==◌, ◌&&◌, ◌||◌, if◌then◌else◌, ℕ, zero, suc, ℤ, pos, Bool, true, false, not, List, [], ◌∷◌, ◌++◌, length, map, take, drop, codes, nat_le, nat_lt, slice_get, unwrap_or, is_some, Option, None, Some, Result, Ok, Err}
 use Rattle.sw_rows.specs.Domains.{Domain}
+use Rattle.sw_rows.specs.Domains as kind
 use Rattle.sw_rows.specs.Faults.{Fault, bad_table, too_many}
 use Rattle.sw_rows.specs.Header.{Column, has_texts, header_of, holding, is_name, texts_of}
+use Rattle.sw_rows.specs.Spelling.{kind_text}
 use Rattle.sw_rows.specs.Tables.{◌>>=◌, Table, padded}
 use Rattle.sw_rows.specs.Texts.{cell_given, has_text, is_text, with_text}
 use Rattle.sw_rows.specs.declared.query.Call.{Call}
@@ -31,6 +33,17 @@ first_lacking d c row zero = None
 first_lacking d c row (suc many) =
     if is_cell_there d (cell_in c row) then first_lacking d c (row + 1) many else Some (row + 1)
 
+-- whether any number is a cell of the kind
+abbrev pub is_of_numbers : Domain → Bool
+is_of_numbers kind.Int = true
+is_of_numbers (kind.Fix places) = true
+is_of_numbers kind.Flag = false
+is_of_numbers (kind.Text texts) = false
+
+-- whether the last of so many rows has a cell, or there is no row
+abbrev pub has_last : Cells → ℕ → Bool
+has_last c many = (many == 0) || is_some (cell_in c (many - 1))
+
 -- the cells of a row, with zeros after them
 abbrev pub cells_at : List Cells → ℕ → List ℤ
 cells_at columns row = padded (map (λ c. unwrap_or (cell_in c row) (pos 0)) columns)
@@ -46,18 +59,23 @@ insert_at columns row = call.Insert (cells_at columns row)
 
 -- ---- headers
 
--- the word of a kind's number
-abbrev pub kind_word : ℕ → List ℕ
-kind_word kind =
-    if kind == 0 then codes "int"
-    else if kind == 7 then codes "flag"
-    else if kind == 8 then codes "text"
-    else if nat_lt kind 7 then codes "fix" ++ (48 + kind) ∷ []
-    else []
+-- the kind of a number: 0 of int, 1 to 6 of so many decimals, 7 of flag, 8 of text
+abbrev pub kind_numbered : ℕ → Option Domain
+kind_numbered number =
+    if number == 0 then Some kind.Int
+    else if number == 7 then Some kind.Flag
+    else if number == 8 then Some (kind.Text [])
+    else if nat_lt number 7 then Some (kind.Fix number)
+    else None
+
+-- the word of a kind, if there is one
+abbrev pub kind_word : Option Domain → List ℕ
+kind_word None = []
+kind_word (Some d) = kind_text d
 
 -- the field of a header that a name and a kind's number spell; of what is no name, an empty one
 abbrev pub field_of : Attribute → List ℕ
-field_of a = if is_name a.name.now then a.name.now ++ codes ":" ++ kind_word a.kind else []
+field_of a = if is_name a.name.now then a.name.now ++ codes ":" ++ kind_word (kind_numbered a.kind) else []
 
 -- ---- texts
 
@@ -69,14 +87,23 @@ is_new_text columns text = has_texts columns && is_text text && not (has_text (t
 abbrev pub between : ℕ → ℕ → List ℕ → List ℕ
 between start end bytes = take (end - start) (drop start bytes)
 
+-- whether a new text stands from one place to another
+abbrev pub ends_new : List Column → List ℕ → ℕ → ℕ → Bool
+ends_new columns bytes start end =
+    nat_le start end && nat_le end (length bytes) && is_new_text columns (between start end bytes)
+
+-- attributes that know one text more
+abbrev pub knowing_one : List Column → List ℕ → List Column
+knowing_one columns text = holding (with_text (texts_of columns) text) columns
+
 -- attributes that know texts, each of which ends at its place and begins where the one before it ends; the first that is
 -- no new text is a fault of the header, whose fields go on with the texts
 abbrev pub knowing : ℕ → List ℕ → ℕ → List ℕ → List Column → Result (List Column) Fault
 knowing field bytes start [] columns = Ok columns
 knowing field bytes start (end ∷ ends) columns =
-    if nat_le start end && nat_le end (length bytes) && is_new_text columns (between start end bytes)
+    if ends_new columns bytes start end
     then (cell_given (texts_of columns) (between start end bytes)
-    >>= λ code. knowing (field + 1) bytes end ends (holding (with_text (texts_of columns) (between start end bytes)) columns))
+    >>= λ code. knowing (field + 1) bytes end ends (knowing_one columns (between start end bytes)))
     else Err (bad_table 0 field)
 
 -- ---- tables

@@ -3,7 +3,7 @@
 ghost use Rattle.std.specs.Prelude.{◌≡◌, ◌≤◌, ◌*◌, ◌<◌, ◌^◌, ℕ, List, length, map, pos, slice_get, slice_index_or, unwrap_or, true};
 ghost use Rattle.sw_rows.specs.Tables.{padded};
 ghost use Rattle.sw_lang.specs.Replies.{kind_at};
-ghost use Rattle.sw_arrays.specs.Columns.{cell_in, cells_at, first_lacking, is_cell_there};
+ghost use Rattle.sw_arrays.specs.Columns.{cell_in, cells_at, first_lacking, has_last, is_cell_there, is_of_numbers};
 
 use crate::cells::is_cell;
 use sw_rows::{Kind, Schema};
@@ -67,6 +67,7 @@ fn is_cell_there(schema: &Schema, attr: usize, column: Cells<'_>, row: usize) ->
 
 /// Whether any number is a cell of an attribute.
 fn is_of_numbers(schema: &Schema, attr: usize) -> bool
+    ensures { result ≡ is_of_numbers (kind_at schema.now attr) }
 {
     if attr >= schema.len() {
         return true;
@@ -76,6 +77,7 @@ fn is_of_numbers(schema: &Schema, attr: usize) -> bool
 
 /// Whether there is a cell in the last of so many rows, or there is no row.
 fn has_last(column: Cells<'_>, many: usize) -> bool
+    ensures { result ≡ has_last column many }
 {
     many == 0 || cell_in(column, many - 1).is_some()
 }

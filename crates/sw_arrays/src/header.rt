@@ -1,13 +1,16 @@
 //! Attributes as they are given.
 
-ghost use Rattle.std.specs.Prelude.{◌≡◌, ◌≤◌, length, map, string_bytes, IfOk};
+ghost use Rattle.std.specs.Prelude.{◌≡◌, [], map, option_map, string_bytes, IfOk, IfSome};
+ghost use Rattle.sw_rows.specs.Cells.{HasPlaces};
+ghost use Rattle.sw_rows.specs.Domains.{domain};
 ghost use Rattle.sw_rows.specs.Gives.{Gives};
 ghost use Rattle.sw_rows.specs.Header.{header_of};
-ghost use Rattle.sw_arrays.specs.Columns.{columns_in, field_of, kind_word};
+ghost use Rattle.sw_arrays.specs.Columns.{columns_in, field_of, kind_numbered, kind_word};
 
 use crate::columns::Cells;
 use std::alloc::{AllocError, Global};
-use sw_rows::{Refusal, Schema, TextKey, is_name};
+use sw_lang::kind_name;
+use sw_rows::{Kind, Refusal, Schema, TextKey, is_name};
 
 /// An attribute: its name; the number of its kind, 0 of int, 1 to 6 of fix1 to fix6, 7 of flag, 8 of text; and its cells.
 #[repr(C)]
@@ -18,21 +21,27 @@ pub struct Attribute<'a> {
     pub cells: Cells<'a>,
 }
 
-/// The word of a kind's number, an empty one of any other.
-fn kind_word(kind: u32) -> &'static str
-    ensures { result.now ≡ kind_word kind }
+/// The kind of a number.
+fn kind_numbered(number: u32) -> Option<Kind>
+    ensures value { option_map (domain []) result ≡ kind_numbered number }
+    ensures places { IfSome result HasPlaces }
 {
-    match kind {
-        0 => "int",
-        1 => "fix1",
-        2 => "fix2",
-        3 => "fix3",
-        4 => "fix4",
-        5 => "fix5",
-        6 => "fix6",
-        7 => "flag",
-        8 => "text",
-        _ => "",
+    match number {
+        0 => Some(Kind::Int),
+        1 | 2 | 3 | 4 | 5 | 6 => Some(Kind::Fix(number as u8)),
+        7 => Some(Kind::Flag),
+        8 => Some(Kind::Text),
+        _ => None,
+    }
+}
+
+/// The word of a kind's number, an empty one where no kind has it.
+fn kind_word(number: u32) -> &'static str
+    ensures { result.now ≡ kind_word (kind_numbered number) }
+{
+    match kind_numbered(number) {
+        Some(kind) => kind_name(kind),
+        None => "",
     }
 }
 

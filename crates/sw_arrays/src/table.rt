@@ -1,10 +1,12 @@
 //! Tables of columns.
 
-ghost use Rattle.std.specs.Prelude.{◌≡◌, ◌≤◌, ◌+◌, length, IfOk, IsOkUnless, OnErr, OnOk};
+ghost use Rattle.std.specs.Prelude.{◌≡◌, ◌≤◌, ◌+◌, true, length, if◌then◌else◌, option_map, None, Some, IfOk, IfSome};
 ghost use Rattle.sw_rows.specs.Gives.{Gives};
+ghost use Rattle.sw_rows.specs.Header.{has_texts};
 ghost use Rattle.sw_rows.specs.Tables.{shown_packed};
-ghost use Rattle.sw_table.specs.Packed.{Packed};
-ghost use Rattle.sw_arrays.specs.Columns.{all_there, few_rows, is_new_text, knowing, rows_in, table_in};
+ghost use Rattle.sw_rows.specs.Texts.{is_text};
+ghost use Rattle.sw_rows.specs.declared.table.TheConstants.{MOST_ROWS};
+ghost use Rattle.sw_arrays.specs.Columns.{all_there, between, ends_new, knowing, rows_in, table_in};
 
 use crate::columns::{Cells, cells_at, first_lacking};
 use crate::header::{Attribute, columns_in, schema_of};
@@ -23,6 +25,8 @@ pub struct Given<'a> {
 
 /// The text from one place to another, if it is one and not known, and an attribute may have it.
 fn new_text<'a>(schema: &Schema, texts: &'a [u8], start: u64, end: u64) -> Option<&'a str>
+    ensures { option_map (λ text. text.now) result ≡ (if ends_new schema.now texts.now start end then Some (between start end texts.now) else None) }
+    ensures may { IfSome result (λ text. (is_text text.now ≡ true) × (has_texts schema.now ≡ true)) }
 {
     if start > end || end > texts.len() as u64 || !schema.has_texts() {
         return None;
@@ -36,6 +40,7 @@ fn new_text<'a>(schema: &Schema, texts: &'a [u8], start: u64, end: u64) -> Optio
 
 /// Makes texts known, each of which ends at its place. A fault is one of the header, whose fields go on with the texts.
 fn know(schema: &mut Schema, texts: &[u8], ends: &[u64]) -> Result<(), Refusal>
+    ensures { Gives ⊥ (λ done. schema.new) result (knowing (length schema.old + 1) texts.now 0 ends.now schema.old) }
 {
     let columns = schema.len() as u64;
     let mut start = 0;
@@ -53,6 +58,7 @@ fn know(schema: &mut Schema, texts: &[u8], ends: &[u64]) -> Result<(), Refusal>
 
 /// That each column has a cell of its kind in each row.
 fn check(schema: &Schema, columns: &[Cells<'_>], many: usize) -> Result<(), Refusal>
+    ensures { Gives ⊥ (λ done. tt) result (all_there schema.now many 0 columns.now) }
 {
     for attr in 0..columns.len() {
         if let Some(rec) = first_lacking(schema, attr, columns[attr], many) {
@@ -70,6 +76,11 @@ fn rows_in(
     columns: &[Cells<'_>],
     many: usize,
 ) -> Result<PackedRows, AllocError>
+    requires some { 1 ≤ width }
+    requires most { width ≤ 8 }
+    requires columns { length columns.now ≡ width }
+    requires few { many ≤ MOST_ROWS }
+    ensures { IfOk result (λ p. p.items ≡ rows_in columns.now many) }
 {
     let mut rows = PackedRows::with_capacity(alloc, width, many)?;
     for row in 0..many {
