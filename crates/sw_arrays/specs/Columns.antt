@@ -6,7 +6,7 @@ use Rattle.sw_rows.specs.Faults.{Fault, bad_table, too_many}
 use Rattle.sw_rows.specs.Header.{Column, has_texts, header_of, holding, is_name, texts_of}
 use Rattle.sw_rows.specs.Spelling.{kind_text}
 use Rattle.sw_rows.specs.Tables.{◌>>=◌, Table, padded}
-use Rattle.sw_rows.specs.Texts.{cell_given, has_text, is_text, with_text}
+use Rattle.sw_rows.specs.Texts.{cell_given, code_of, is_text, with_text}
 use Rattle.sw_rows.specs.declared.query.Call.{Call}
 use Rattle.sw_rows.specs.declared.query.Call.TheVariants as call
 use Rattle.sw_rows.specs.declared.table.TheConstants.{MOST_ROWS}
@@ -79,9 +79,9 @@ field_of a = if is_name a.name.now then a.name.now ++ codes ":" ++ kind_word (ki
 
 -- ---- texts
 
--- a text that attributes do not know, and may
+-- a text that attributes may know, and do not
 abbrev pub is_new_text : List Column → List ℕ → Bool
-is_new_text columns text = has_texts columns && is_text text && not (has_text (texts_of columns) text)
+is_new_text columns text = has_texts columns && is_text text && not (is_some (code_of (texts_of columns) text))
 
 -- the bytes from one place to another
 abbrev pub between : ℕ → ℕ → List ℕ → List ℕ

@@ -20,7 +20,7 @@ pub struct Cells<'a> {
 /// The cell of a row, if there is one.
 #[inline]
 pub fn cell_in(column: Cells<'_>, row: usize) -> Option<i64>
-    ensures { result ≡ cell_in column row }
+    ensures { result ≡ cell_in column.entry row }
 {
     let Some(place) = (row as u64).checked_mul(column.stride) else {
         return None;
@@ -34,7 +34,7 @@ pub fn cell_in(column: Cells<'_>, row: usize) -> Option<i64>
 /// The same, 0 where there is none.
 #[inline]
 fn cell_or_zero(column: Cells<'_>, row: usize) -> i64
-    ensures { result ≡ unwrap_or (cell_in column row) (pos 0) }
+    ensures { result ≡ unwrap_or (cell_in column.entry row) (pos 0) }
 {
     match cell_in(column, row) {
         Some(cell) => cell,
@@ -43,6 +43,7 @@ fn cell_or_zero(column: Cells<'_>, row: usize) -> i64
 }
 
 /// The cells of a row, with zeros after them.
+#[tactic(auto, using(crate::proofs::Rows::row_next, crate::proofs::Rows::row_whole))]
 #[inline]
 pub fn cells_at(columns: &[Cells<'_>], row: usize) -> [i64; 8]
     requires { length columns.now ≤ 8 }
@@ -57,7 +58,7 @@ pub fn cells_at(columns: &[Cells<'_>], row: usize) -> [i64; 8]
 
 /// Whether a row has a cell of the attribute's kind.
 fn is_cell_there(schema: &Schema, attr: usize, column: Cells<'_>, row: usize) -> bool
-    ensures { result ≡ is_cell_there (kind_at schema.now attr) (cell_in column row) }
+    ensures { result ≡ is_cell_there (kind_at schema.now attr) (cell_in column.entry row) }
 {
     match cell_in(column, row) {
         Some(cell) => is_cell(schema, attr, cell),
@@ -77,14 +78,15 @@ fn is_of_numbers(schema: &Schema, attr: usize) -> bool
 
 /// Whether there is a cell in the last of so many rows, or there is no row.
 fn has_last(column: Cells<'_>, many: usize) -> bool
-    ensures { result ≡ has_last column many }
+    ensures { result ≡ has_last column.entry many }
 {
     many == 0 || cell_in(column, many - 1).is_some()
 }
 
 /// The first row that has no cell of the attribute's kind, each of them looked at.
+#[tactic(auto, using(crate::proofs::Rows::lacking_goes, crate::proofs::Rows::lacking_ends, crate::proofs::Rows::lacking_none))]
 fn found_lacking(schema: &Schema, attr: usize, column: Cells<'_>, many: usize) -> Option<u64>
-    ensures { result ≡ first_lacking (kind_at schema.now attr) column 0 many }
+    ensures { result ≡ first_lacking (kind_at schema.now attr) column.entry 0 many }
 {
     for row in 0..many {
         if !is_cell_there(schema, attr, column, row) {
@@ -95,8 +97,9 @@ fn found_lacking(schema: &Schema, attr: usize, column: Cells<'_>, many: usize) -
 }
 
 /// The first of so many rows that has no cell of the attribute's kind, from 1.
+#[tactic(auto, using(crate::proofs::Rows::numbers_there))]
 pub fn first_lacking(schema: &Schema, attr: usize, column: Cells<'_>, many: usize) -> Option<u64>
-    ensures { result ≡ first_lacking (kind_at schema.now attr) column 0 many }
+    ensures { result ≡ first_lacking (kind_at schema.now attr) column.entry 0 many }
 {
     if is_of_numbers(schema, attr) && has_last(column, many) {
         return None;

@@ -1,12 +1,12 @@
 //! Tables of columns.
 
-ghost use Rattle.std.specs.Prelude.{◌≡◌, ◌≤◌, ◌+◌, true, length, if◌then◌else◌, option_map, None, Some, IfOk, IfSome};
+ghost use Rattle.std.specs.Prelude.{◌≡◌, ◌≤◌, ◌+◌, true, length, if◌then◌else◌, option_map, is_some, None, Some, IfOk, IfSome};
 ghost use Rattle.sw_rows.specs.Gives.{Gives};
-ghost use Rattle.sw_rows.specs.Header.{has_texts};
+ghost use Rattle.sw_rows.specs.Header.{has_texts, texts_of};
 ghost use Rattle.sw_rows.specs.Tables.{shown_packed};
-ghost use Rattle.sw_rows.specs.Texts.{is_text};
+ghost use Rattle.sw_rows.specs.Texts.{code_of, is_text};
 ghost use Rattle.sw_rows.specs.declared.table.TheConstants.{MOST_ROWS};
-ghost use Rattle.sw_arrays.specs.Columns.{all_there, between, ends_new, knowing, rows_in, table_in};
+ghost use Rattle.sw_arrays.specs.Columns.{all_there, between, ends_new, is_new_text, knowing, rows_in, table_in};
 
 use crate::columns::{Cells, cells_at, first_lacking};
 use crate::header::{Attribute, columns_in, schema_of};
@@ -23,22 +23,46 @@ pub struct Given<'a> {
     pub ends: &'a [u64],
 }
 
-/// The text from one place to another, if it is one and not known, and an attribute may have it.
-fn new_text<'a>(schema: &Schema, texts: &'a [u8], start: u64, end: u64) -> Option<&'a str>
-    ensures { option_map (λ text. text.now) result ≡ (if ends_new schema.now texts.now start end then Some (between start end texts.now) else None) }
-    ensures may { IfSome result (λ text. (is_text text.now ≡ true) × (has_texts schema.now ≡ true)) }
+/// Whether a text is known.
+#[tactic(auto, using(crate::proofs::Knows::code_some, crate::proofs::Knows::code_none))]
+fn is_known(schema: &Schema, text: &str) -> bool
+    ensures { result ≡ is_some (code_of (texts_of schema.now) text.now) }
 {
-    if start > end || end > texts.len() as u64 || !schema.has_texts() {
-        return None;
-    }
-    let text = read_text(&texts[start as usize..end as usize])?;
     match schema.code(text) {
-        Some(_) => None,
-        None => Some(text),
+        Some(_) => true,
+        None => false,
     }
 }
 
+/// The text of bytes, if they are one that attributes may know, and do not.
+#[tactic(auto, using(crate::proofs::Knows::known_ends, crate::proofs::Knows::new_goes))]
+fn new_text<'a>(schema: &Schema, bytes: &'a [u8]) -> Option<&'a str>
+    ensures value { option_map (λ text. text.now) result ≡ (if is_new_text schema.now bytes.now then Some bytes.now else None) }
+    ensures may { IfSome result (λ text. (is_text text.now ≡ true) × (has_texts schema.now ≡ true)) }
+{
+    if !schema.has_texts() {
+        return None;
+    }
+    let text = read_text(bytes)?;
+    if is_known(schema, text) {
+        return None;
+    }
+    Some(text)
+}
+
+/// The new text from one place to another, if there is one.
+fn text_between<'a>(schema: &Schema, texts: &'a [u8], start: u64, end: u64) -> Option<&'a str>
+    ensures value { option_map (λ text. text.now) result ≡ (if ends_new schema.now texts.now start end then Some (between start end texts.now) else None) }
+    ensures may { IfSome result (λ text. (is_text text.now ≡ true) × (has_texts schema.now ≡ true)) }
+{
+    if start > end || end > texts.len() as u64 {
+        return None;
+    }
+    new_text(schema, &texts[start as usize..end as usize])
+}
+
 /// Makes texts known, each of which ends at its place. A fault is one of the header, whose fields go on with the texts.
+#[tactic(auto, using(crate::proofs::Knows::text_goes, crate::proofs::Knows::text_ends, crate::proofs::Knows::code_fails, crate::proofs::Knows::texts_done))]
 fn know(schema: &mut Schema, texts: &[u8], ends: &[u64]) -> Result<(), Refusal>
     ensures { Gives ⊥ (λ done. schema.new) result (knowing (length schema.old + 1) texts.now 0 ends.now schema.old) }
 {
@@ -46,7 +70,7 @@ fn know(schema: &mut Schema, texts: &[u8], ends: &[u64]) -> Result<(), Refusal>
     let mut start = 0;
     for place in 0..ends.len() {
         let end = ends[place];
-        let Some(text) = new_text(schema, texts, start, end) else {
+        let Some(text) = text_between(schema, texts, start, end) else {
             let field = columns + 1 + place as u64;
             return Err(Refusal::BadTable { rec: 0, field });
         };
@@ -57,6 +81,7 @@ fn know(schema: &mut Schema, texts: &[u8], ends: &[u64]) -> Result<(), Refusal>
 }
 
 /// That each column has a cell of its kind in each row.
+#[tactic(auto, using(crate::proofs::Rows::column_goes, crate::proofs::Rows::column_ends, crate::proofs::Rows::columns_done))]
 fn check(schema: &Schema, columns: &[Cells<'_>], many: usize) -> Result<(), Refusal>
     ensures { Gives ⊥ (λ done. tt) result (all_there schema.now many 0 columns.now) }
 {
@@ -70,19 +95,18 @@ fn check(schema: &Schema, columns: &[Cells<'_>], many: usize) -> Result<(), Refu
 }
 
 /// The first rows of columns.
+#[tactic(auto, using(crate::proofs::Rows::row_within, crate::proofs::Rows::rows_next))]
 fn rows_in(
     alloc: Global,
-    width: usize,
     columns: &[Cells<'_>],
     many: usize,
 ) -> Result<PackedRows, AllocError>
-    requires some { 1 ≤ width }
-    requires most { width ≤ 8 }
-    requires columns { length columns.now ≡ width }
+    requires some { 1 ≤ length columns.now }
+    requires most { length columns.now ≤ 8 }
     requires few { many ≤ MOST_ROWS }
     ensures { IfOk result (λ p. p.items ≡ rows_in columns.now many) }
 {
-    let mut rows = PackedRows::with_capacity(alloc, width, many)?;
+    let mut rows = PackedRows::with_capacity(alloc, columns.len(), many)?;
     for row in 0..many {
         let cells = cells_at(columns, row);
         let key = row as u64 + 1;
@@ -97,12 +121,13 @@ fn rows_in(
 /// attributes, rows or texts than there may be; `BadTable` of record 0 at the first text that is none, or known, or which no
 /// attribute may have, counted on from the attributes; `BadTable` of the first row of the first column that has no cell of its
 /// kind there; in this order. `NoMemory` comes at any time.
+#[tactic(auto, using(crate::proofs::Rows::some_columns, crate::proofs::Rows::few_columns))]
 pub fn table_in(
     alloc: Global,
     key: TextKey,
     given: Given<'_>,
 ) -> Result<(Schema, PackedRows), Refusal>
-    ensures { Gives ⊥ shown_packed result (table_in given) }
+    ensures { Gives ⊥ shown_packed result (table_in given.entry) }
 {
     let mut schema = schema_of(alloc, key, given.attributes)?;
     if given.rows > MOST_ROWS {
@@ -114,7 +139,7 @@ pub fn table_in(
     };
     let many = given.rows as usize;
     check(&schema, &columns, many)?;
-    match rows_in(alloc, schema.len(), &columns, many) {
+    match rows_in(alloc, &columns, many) {
         Ok(rows) => Ok((schema, rows)),
         Err(_) => Err(Refusal::NoMemory),
     }
