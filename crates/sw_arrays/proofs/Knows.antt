@@ -11,20 +11,20 @@ use Rattle.sw_rows.specs.declared.refusal.Refusal.{Refusal}
 use Rattle.sw_rows.proofs.Options.{fails_then}
 use Rattle.sw_arrays.specs.Columns.{between, ends_new, is_new_text, knowing, knowing_one}
 
-next_end : (es : List ℕ) (i e : ℕ) → i < length es → e ≡ get_or es i e → drop i es ≡ e ∷ drop (i + 1) es
-next_end es i e lt is = drop_more es i e lt ∙ ap (λ (x : ℕ). x ∷ drop (i + 1) es) (sym is)
+next_end : (es : List ℕ) (i e d : ℕ) → i < length es → get_or es i d ≡ e → drop i es ≡ e ∷ drop (i + 1) es
+next_end es i e d lt is = drop_more es i d lt ∙ ap (λ (x : ℕ). x ∷ drop (i + 1) es) is
 
 -- a new text
-pub text_goes : (field start i e : ℕ) (bytes es text : List ℕ) (columns : List Column) (code : ℤ) (whole : Result (List Column) Fault)
-    → i < length es → e ≡ get_or es i e → Some text ≡ cond (ends_new columns bytes start e) (Some (between start e bytes)) None
+pub text_goes : (field start i e d : ℕ) (bytes es text : List ℕ) (columns : List Column) (code : ℤ) (whole : Result (List Column) Fault)
+    → i < length es → get_or es i d ≡ e → Some text ≡ cond (ends_new columns bytes start e) (Some (between start e bytes)) None
     → cell_given (texts_of columns) text ≡ Ok code → knowing field bytes start (drop i es) columns ≡ whole
     → knowing (field + 1) bytes e (drop (i + 1) es) (knowing_one columns text) ≡ whole
-text_goes field start i e bytes es text columns code whole lt is new given so = by-test (ends_new columns bytes start e) refl new
+text_goes field start i e d bytes es text columns code whole lt is new given so = by-test (ends_new columns bytes start e) refl new
   where
     by-test : (b : Bool) → ends_new columns bytes start e ≡ b → Some text ≡ cond b (Some (between start e bytes)) None → knowing (field + 1) bytes e (drop (i + 1) es) (knowing_one columns text) ≡ whole
     by-test true test h =
         let same : text ≡ between start e bytes = cc in
-        let step : (cell_given (texts_of columns) (between start e bytes) >>= λ code. knowing (field + 1) bytes e (drop (i + 1) es) (knowing_one columns (between start e bytes))) ≡ whole = rw test at (rw (next_end es i e lt is) at so) in
+        let step : (cell_given (texts_of columns) (between start e bytes) >>= λ code. knowing (field + 1) bytes e (drop (i + 1) es) (knowing_one columns (between start e bytes))) ≡ whole = rw test at (rw (next_end es i e d lt is) at so) in
         let mine : (cell_given (texts_of columns) text >>= λ code. knowing (field + 1) bytes e (drop (i + 1) es) (knowing_one columns text)) ≡ whole = rw same step in
         rw given at mine
     by-test false test h = absurd (none-some text (sym h))
@@ -55,25 +55,25 @@ new_goes columns bytes text may read new = by-test (is_text bytes) refl read
     by-test false test h = absurd (none-some text (sym h))
 
 -- a text that is none
-pub text_ends : (field start i e : ℕ) (bytes es : List ℕ) (columns : List Column) (whole : Result (List Column) Fault)
-    → i < length es → e ≡ get_or es i e → None ≡ cond (ends_new columns bytes start e) (Some (between start e bytes)) None
+pub text_ends : (field start i e d : ℕ) (bytes es : List ℕ) (columns : List Column) (whole : Result (List Column) Fault)
+    → i < length es → get_or es i d ≡ e → None ≡ cond (ends_new columns bytes start e) (Some (between start e bytes)) None
     → knowing field bytes start (drop i es) columns ≡ whole → whole ≡ Err (bad_table 0 field)
-text_ends field start i e bytes es columns whole lt is none so = by-test (ends_new columns bytes start e) refl none
+text_ends field start i e d bytes es columns whole lt is none so = by-test (ends_new columns bytes start e) refl none
   where
     by-test : (b : Bool) → ends_new columns bytes start e ≡ b → None ≡ cond b (Some (between start e bytes)) None → whole ≡ Err (bad_table 0 field)
     by-test true test h = absurd (none-some (between start e bytes) h)
-    by-test false test h = sym (rw test at (rw (next_end es i e lt is) at so))
+    by-test false test h = sym (rw test at (rw (next_end es i e d lt is) at so))
 
 -- a text that gets no code
-pub code_fails : (field start i e : ℕ) (bytes es text : List ℕ) (columns : List Column) (x : Refusal) (whole : Result (List Column) Fault)
-    → i < length es → e ≡ get_or es i e → Some text ≡ cond (ends_new columns bytes start e) (Some (between start e bytes)) None
+pub code_fails : (field start i e d : ℕ) (bytes es text : List ℕ) (columns : List Column) (x : Refusal) (whole : Result (List Column) Fault)
+    → i < length es → get_or es i d ≡ e → Some text ≡ cond (ends_new columns bytes start e) (Some (between start e bytes)) None
     → Fails ⊥ x (cell_given (texts_of columns) text) → knowing field bytes start (drop i es) columns ≡ whole → Fails ⊥ x whole
-code_fails field start i e bytes es text columns x whole lt is new fails so = by-test (ends_new columns bytes start e) refl new
+code_fails field start i e d bytes es text columns x whole lt is new fails so = by-test (ends_new columns bytes start e) refl new
   where
     by-test : (b : Bool) → ends_new columns bytes start e ≡ b → Some text ≡ cond b (Some (between start e bytes)) None → Fails ⊥ x whole
     by-test true test h =
         let same : text ≡ between start e bytes = cc in
-        let step : (cell_given (texts_of columns) text >>= λ code. knowing (field + 1) bytes e (drop (i + 1) es) (knowing_one columns text)) ≡ whole = rw same (rw test at (rw (next_end es i e lt is) at so)) in
+        let step : (cell_given (texts_of columns) text >>= λ code. knowing (field + 1) bytes e (drop (i + 1) es) (knowing_one columns text)) ≡ whole = rw same (rw test at (rw (next_end es i e d lt is) at so)) in
         subst (Fails {Y = List Column} ⊥ x) step (fails_then (λ code. knowing (field + 1) bytes e (drop (i + 1) es) (knowing_one columns text)) x (cell_given (texts_of columns) text) fails)
     by-test false test h = absurd (none-some text (sym h))
 

@@ -74,8 +74,10 @@ fn know(schema: &mut Schema, texts: &[u8], ends: &[u64]) -> Result<(), Refusal>
             let field = columns + 1 + place as u64;
             return Err(Refusal::BadTable { rec: 0, field });
         };
-        schema.add_text(text)?;
-        start = end;
+        match schema.add_text(text) {
+            Ok(_) => start = end,
+            Err(e) => return Err(e),
+        }
     }
     Ok(())
 }
