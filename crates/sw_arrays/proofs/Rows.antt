@@ -7,15 +7,16 @@ use Rattle.std.proofs.lemmas.Option.{none-some, slice_get-get_or, slice_get_with
 use Rattle.std.proofs.lemmas.Nat.{mul-le}
 use Rattle.sw_rows.specs.Domains.{Domain}
 use Rattle.sw_rows.specs.Domains as kind
-use Rattle.sw_rows.specs.Faults.{Fault, bad_table, too_many}
+use Rattle.sw_rows.specs.Faults.{bad_table, too_many}
 use Rattle.sw_rows.specs.Header.{Column, header_after, header_of}
 use Rattle.sw_rows.specs.Tables.{padded}
 use Rattle.sw_table.specs.Packed.{zeros}
 use Rattle.sw_table.specs.declared.row.Row.{Row}
 use Rattle.sw_lang.specs.Replies.{kind_at}
-use Rattle.sw_arrays.specs.Columns.{all_there, cell_in, cells_at, columns_in, field_of, first_lacking, has_last, is_cell_there, is_of_numbers, rows_in}
+use Rattle.sw_arrays.specs.Columns.{cell_in, cells_at, columns_in, field_of, first_lacking, has_last, is_cell_there, is_of_numbers, lacking_in, rows_in}
 use Rattle.sw_rows.proofs.Options.{err-ok, unless_ok}
 use Rattle.sw_arrays.specs.declared.columns.Cells.{Cells}
+use Rattle.sw_arrays.specs.declared.columns.Place.{Place}
 use Rattle.sw_arrays.specs.declared.header.Attribute.{Attribute}
 use Rattle.sw_arrays.proofs.Blocks.{part_filled, set_next}
 
@@ -119,15 +120,15 @@ numbers_there d c (suc many) h last =
 next_column : (cs : List Cells) (i : ℕ) (c : Cells) → i < length cs → c ≡ get_or cs i c → drop i cs ≡ c ∷ drop (i + 1) cs
 next_column cs i c lt is = drop_more cs i c lt ∙ ap (λ (x : Cells). x ∷ drop (i + 1) cs) (sym is)
 
-pub column_goes : (schema : List Column) (many i : ℕ) (cs : List Cells) (c : Cells) (whole : Result (Unit {0}) Fault) → i < length cs → c ≡ get_or cs i c
-    → first_lacking (kind_at schema i) c 0 many ≡ None → all_there schema many i (drop i cs) ≡ whole → all_there schema many (i + 1) (drop (i + 1) cs) ≡ whole
+pub column_goes : (schema : List Column) (many i : ℕ) (cs : List Cells) (c : Cells) (whole : Option Place) → i < length cs → c ≡ get_or cs i c
+    → first_lacking (kind_at schema i) c 0 many ≡ None → lacking_in schema many i (drop i cs) ≡ whole → lacking_in schema many (i + 1) (drop (i + 1) cs) ≡ whole
 column_goes schema many i cs c whole lt is none so = rw none at (rw (next_column cs i c lt is) at so)
 
-pub column_ends : (schema : List Column) (many i row : ℕ) (cs : List Cells) (c : Cells) (whole : Result (Unit {0}) Fault) → i < length cs → c ≡ get_or cs i c
-    → first_lacking (kind_at schema i) c 0 many ≡ Some row → all_there schema many i (drop i cs) ≡ whole → whole ≡ Err (bad_table row (i + 1))
+pub column_ends : (schema : List Column) (many i row : ℕ) (cs : List Cells) (c : Cells) (whole : Option Place) → i < length cs → c ≡ get_or cs i c
+    → first_lacking (kind_at schema i) c 0 many ≡ Some row → lacking_in schema many i (drop i cs) ≡ whole → whole ≡ Some (record { row = row; column = i + 1 })
 column_ends schema many i row cs c whole lt is some so = sym (rw some at (rw (next_column cs i c lt is) at so))
 
-pub columns_done : (schema : List Column) (many : ℕ) (cs : List Cells) (whole : Result (Unit {0}) Fault) → all_there schema many (length cs) (drop (length cs) cs) ≡ whole → whole ≡ Ok tt
+pub columns_done : (schema : List Column) (many : ℕ) (cs : List Cells) (whole : Option Place) → lacking_in schema many (length cs) (drop (length cs) cs) ≡ whole → whole ≡ None
 columns_done schema many cs whole so = sym (rw (drop_all (length cs) cs (omega arith)) at so)
 
 -- ---- the attributes of a header

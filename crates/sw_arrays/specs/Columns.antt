@@ -1,5 +1,5 @@
 -- Tables as columns of numbers.
-use Rattle.std.specs.Prelude.{◌+◌, ◌*◌, ◌-◌, ◌==◌, ◌&&◌, ◌||◌, if◌then◌else◌, ℕ, zero, suc, ℤ, pos, Bool, true, false, not, List, [], ◌∷◌, ◌++◌, length, map, take, drop, codes, nat_le, nat_lt, slice_get, unwrap_or, is_some, Option, None, Some, Result, Ok, Err}
+use Rattle.std.specs.Prelude.{◌+◌, ◌*◌, ◌-◌, ◌==◌, ◌&&◌, ◌||◌, if◌then◌else◌, ℕ, zero, suc, ℤ, pos, Bool, true, false, not, List, [], ◌∷◌, ◌++◌, length, map, take, drop, codes, nat_le, nat_lt, slice_get, unwrap_or, is_some, is_none, Option, None, Some, Result, Ok, Err}
 use Rattle.sw_rows.specs.Domains.{Domain}
 use Rattle.sw_rows.specs.Domains as kind
 use Rattle.sw_rows.specs.Faults.{Fault, bad_table, too_many}
@@ -14,6 +14,7 @@ use Rattle.sw_table.specs.declared.row.Row.{Row}
 use Rattle.sw_lang.specs.Replies.{kind_at}
 use Rattle.sw_arrays.specs.Asked.{is_cell}
 use Rattle.sw_arrays.specs.declared.columns.Cells.{Cells}
+use Rattle.sw_arrays.specs.declared.columns.Place.{Place}
 use Rattle.sw_arrays.specs.declared.header.Attribute.{Attribute}
 use Rattle.sw_arrays.specs.declared.table.Given.{Given}
 
@@ -114,20 +115,28 @@ columns_in attributes = map (λ a. a.cells) attributes
 abbrev pub few_rows : ℕ → Result ℕ Fault
 few_rows many = if nat_lt MOST_ROWS many then Err (too_many MOST_ROWS) else Ok many
 
-abbrev pub or_lacking : ℕ → Option ℕ → Result (Unit {0}) Fault → Result (Unit {0}) Fault
-or_lacking attr None more = more
-or_lacking attr (Some row) more = Err (bad_table row (attr + 1))
+-- the first cell that columns lack from an attribute on, column by column
+abbrev pub or_later : ℕ → Option Place → Option ℕ → Option Place
+or_later attr later None = later
+or_later attr later (Some row) = Some (record { row = row; column = attr + 1 })
 
--- the columns from an attribute on have a cell of its kind in each row, or the first fault, column by column
-abbrev pub all_there : List Column → ℕ → ℕ → List Cells → Result (Unit {0}) Fault
-all_there schema many attr [] = Ok tt
-all_there schema many attr (c ∷ cs) =
-    or_lacking attr (first_lacking (kind_at schema attr) c 0 many) (all_there schema many (attr + 1) cs)
+abbrev pub lacking_in : List Column → ℕ → ℕ → List Cells → Option Place
+lacking_in schema many attr [] = None
+lacking_in schema many attr (c ∷ cs) =
+    or_later attr (lacking_in schema many (attr + 1) cs) (first_lacking (kind_at schema attr) c 0 many)
+
+-- columns of cells of each attribute, for so many rows
+abbrev pub are_rows : List Column → List Cells → ℕ → Bool
+are_rows schema columns many = (length columns == length schema) && is_none (lacking_in schema many 0 columns)
+
+abbrev pub none_lacking : Option Place → Result (Unit {0}) Fault
+none_lacking None = Ok tt
+none_lacking (Some p) = Err (bad_table p.row p.column)
 
 -- the table that columns spell, or the first fault: of the header, of the number of rows, of the texts, of the cells
 abbrev pub table_in : Given → Result Table Fault
 table_in g =
     header_of (map field_of g.attributes.now) >>= λ columns. few_rows g.rows
     >>= λ many. knowing (length columns + 1) g.texts.now 0 g.ends.now columns
-    >>= λ known. all_there known many 0 (columns_in g.attributes.now)
+    >>= λ known. none_lacking (lacking_in known many 0 (columns_in g.attributes.now))
     >>= λ there. Ok (record { columns = known; rows = rows_in (columns_in g.attributes.now) many })

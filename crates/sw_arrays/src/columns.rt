@@ -3,7 +3,7 @@
 ghost use Rattle.std.specs.Prelude.{◌≡◌, ◌≤◌, ◌*◌, ◌<◌, ◌^◌, ℕ, List, length, map, pos, slice_get, slice_index_or, unwrap_or, true};
 ghost use Rattle.sw_rows.specs.Tables.{padded};
 ghost use Rattle.sw_lang.specs.Replies.{kind_at};
-ghost use Rattle.sw_arrays.specs.Columns.{cell_in, cells_at, first_lacking, has_last, is_cell_there, is_of_numbers};
+ghost use Rattle.sw_arrays.specs.Columns.{are_rows, cell_in, cells_at, first_lacking, has_last, is_cell_there, is_of_numbers, lacking_in};
 
 use crate::cells::is_cell;
 use sw_rows::{Kind, Schema};
@@ -15,6 +15,14 @@ use sw_rows::{Kind, Schema};
 pub struct Cells<'a> {
     pub cells: &'a [i64],
     pub stride: u64,
+}
+
+/// Where a cell is wanted: its row and its column, both from 1.
+#[repr(C)]
+#[derive(Clone, Copy)]
+pub struct Place {
+    pub row: u64,
+    pub column: u64,
 }
 
 /// The cell of a row, if there is one.
@@ -98,11 +106,32 @@ fn found_lacking(schema: &Schema, attr: usize, column: Cells<'_>, many: usize) -
 
 /// The first of so many rows that has no cell of the attribute's kind, from 1.
 #[tactic(auto, using(crate::proofs::Rows::numbers_there))]
-pub fn first_lacking(schema: &Schema, attr: usize, column: Cells<'_>, many: usize) -> Option<u64>
+fn first_lacking(schema: &Schema, attr: usize, column: Cells<'_>, many: usize) -> Option<u64>
     ensures { result ≡ first_lacking (kind_at schema.now attr) column.entry 0 many }
 {
     if is_of_numbers(schema, attr) && has_last(column, many) {
         return None;
     }
     found_lacking(schema, attr, column, many)
+}
+
+/// The first cell that columns lack, column by column.
+#[tactic(auto, using(crate::proofs::Rows::column_goes, crate::proofs::Rows::column_ends, crate::proofs::Rows::columns_done))]
+pub(crate) fn lacking_in(schema: &Schema, columns: &[Cells<'_>], many: usize) -> Option<Place>
+    ensures { result ≡ lacking_in schema.now many 0 columns.now }
+{
+    for attr in 0..columns.len() {
+        if let Some(row) = first_lacking(schema, attr, columns[attr], many) {
+            let column = attr as u64 + 1;
+            return Some(Place { row, column });
+        }
+    }
+    None
+}
+
+/// Whether columns have a cell of each attribute, for so many rows.
+pub fn are_rows(schema: &Schema, columns: &[Cells<'_>], many: usize) -> bool
+    ensures { result ≡ are_rows schema.now columns.now many }
+{
+    columns.len() == schema.len() && lacking_in(schema, columns, many).is_none()
 }

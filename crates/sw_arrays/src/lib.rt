@@ -11,7 +11,7 @@ mod table;
 
 pub use asked::{Asked, Wanted, call_of};
 pub use cells::{is_cell, row_of};
-pub use columns::{Cells, cells_at, first_lacking};
+pub use columns::{Cells, Place, are_rows, cells_at};
 pub use copied::{cells_into, keys_into};
 pub use header::Attribute;
 pub use range::{Fault, Range, conds_of};

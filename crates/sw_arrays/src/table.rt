@@ -6,9 +6,9 @@ ghost use Rattle.sw_rows.specs.Header.{has_texts, texts_of};
 ghost use Rattle.sw_rows.specs.Tables.{shown_packed};
 ghost use Rattle.sw_rows.specs.Texts.{code_of, is_text};
 ghost use Rattle.sw_rows.specs.declared.table.TheConstants.{MOST_ROWS};
-ghost use Rattle.sw_arrays.specs.Columns.{all_there, between, ends_new, is_new_text, knowing, rows_in, table_in};
+ghost use Rattle.sw_arrays.specs.Columns.{between, ends_new, is_new_text, knowing, lacking_in, none_lacking, rows_in, table_in};
 
-use crate::columns::{Cells, cells_at, first_lacking};
+use crate::columns::{Cells, cells_at, lacking_in};
 use crate::header::{Attribute, columns_in, schema_of};
 use std::alloc::{AllocError, Global};
 use sw_rows::{MOST_ROWS, PackedRows, Refusal, Row, Schema, TextKey, read_text};
@@ -82,18 +82,17 @@ fn know(schema: &mut Schema, texts: &[u8], ends: &[u64]) -> Result<(), Refusal>
     Ok(())
 }
 
-/// That each column has a cell of its kind in each row.
-#[tactic(auto, using(crate::proofs::Rows::column_goes, crate::proofs::Rows::column_ends, crate::proofs::Rows::columns_done))]
+/// That columns lack no cell.
 fn check(schema: &Schema, columns: &[Cells<'_>], many: usize) -> Result<(), Refusal>
-    ensures { Gives ⊥ (λ done. tt) result (all_there schema.now many 0 columns.now) }
+    ensures { Gives ⊥ (λ done. done) result (none_lacking (lacking_in schema.now many 0 columns.now)) }
 {
-    for attr in 0..columns.len() {
-        if let Some(rec) = first_lacking(schema, attr, columns[attr], many) {
-            let field = attr as u64 + 1;
-            return Err(Refusal::BadTable { rec, field });
-        }
+    match lacking_in(schema, columns, many) {
+        Some(place) => Err(Refusal::BadTable {
+            rec: place.row,
+            field: place.column,
+        }),
+        None => Ok(()),
     }
-    Ok(())
 }
 
 /// The first rows of columns.
