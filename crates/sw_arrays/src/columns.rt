@@ -131,7 +131,8 @@ pub(crate) fn lacking_in(schema: &Schema, columns: &[Cells<'_>], many: usize) ->
 
 /// Whether columns have a cell of each attribute, for so many rows.
 pub fn are_rows(schema: &Schema, columns: &[Cells<'_>], many: usize) -> bool
-    ensures { result ≡ are_rows schema.now columns.now many }
+    ensures are { result ≡ are_rows schema.now columns.now many }
+    ensures few { result ≡ true → length columns.now ≤ 8 }
 {
     columns.len() == schema.len() && lacking_in(schema, columns, many).is_none()
 }

@@ -15,6 +15,7 @@ use sw_rows::{MOST_ROWS, PackedRows, Refusal, Row, Schema, TextKey, read_text};
 
 /// A table as it is given: its attributes with their cells, how many rows there are, and the texts for which cells of texts
 /// stand: their bytes, one behind the other, and where each ends. The first has the code 1.
+#[repr(C)]
 #[derive(Clone, Copy)]
 pub struct Given<'a> {
     pub attributes: &'a [Attribute<'a>],
