@@ -19,7 +19,7 @@ TRIALS = {
     "met-in-run": (ENGINE, "3/---/2/; legal: 2 entries"),
     "counted 12 select b where a >= 10 and a <= 15": (ENGINE, "legal; 1: 7, 3: 5, 2 rows; 2 begun, 4 steps, 4 asked"),
     "told 0 insert 1, 9, 0|count where a < 10": (ENGINE, "legal; key 5; 2"),
-    "closed": (ENGINE, "2 boxes; 9 made 2 given 1; 2 entries"),
+    "closed": (ENGINE, "2 boxes, no place, place 0, place 1; 9 made 2 given 1; 2 entries"),
     "viewed-late": (ENGINE, "4 1; 1: 7, 3: 5, 4: 2, 5: 9, 4 rows; 9 made 1 given 0; 2 entries"),
     "table a:int\\n5\\n\nshell count\\n.quit\\ncount\\n": (SHELL, "1"),
     "table a:int\\n5\\n\nshell .history h.json\\n": (SHELL, "[1 history h.json]"),
