@@ -66,7 +66,6 @@ struct Room<M: CrackerMap> {
     maps: Vec<M>,
     ghost some: { 0 < limit },
     ghost most: { limit ≤ MOST_ROWS },
-    ghost blank: { All (λ m. M.held m ≡ blank) maps.items },
 }
 
 /// What an engine is opened over, and the attributes with the texts of its table.
@@ -94,6 +93,7 @@ fn ground_of<M: CrackerMap>(
     requires sound { IsStart room.limit (start_seen opened) }
     ensures table { IfOk result (λ g. (g.schema ≡ opened.schema) × (g.rows.items ≡ opened.rows.items)) }
     ensures limit { IfOk result (λ g. g.room.limit ≡ room.limit) }
+    ensures maps { IfOk result (λ g. g.room.maps.items ≡ room.maps.items) }
     ensures refused { IsOkUnless result NoMemory }
 {
     let Inputs {
@@ -127,6 +127,7 @@ where
     requires list { books.list.seen.book ≡ J.book }
     requires plain { IsPlain ⟦<Live<J> as Absorb<Op<J>>>⟧.state ⟦<Live<J> as Absorb<Op<J>>>⟧.applied }
     requires table { (ground.columns ≡ J.columns) × (ground.rows.items ≡ J.opening) × (ground.room.limit ≡ J.limit) }
+    requires blank { All (λ m. M.held m ≡ blank) ground.room.maps.items }
     ensures ticket { IfOk result (λ r. (r.1.0 ≡ 1) × (r.1.1 ≡ [])) }
     ensures schema { IfOk result (λ r. r.2 ≡ ground.schema) }
     ensures wide { IfOk result (λ r. length r.2 ≡ length J.columns) }
@@ -197,6 +198,7 @@ where
     requires list { books.list.seen.book ≡ J.book }
     requires plain { IsPlain ⟦<Live<J> as Absorb<Op<J>>>⟧.state ⟦<Live<J> as Absorb<Op<J>>>⟧.applied }
     requires table { (ground.columns ≡ J.columns) × (ground.rows.items ≡ J.opening) × (ground.room.limit ≡ J.limit) }
+    requires blank { All (λ m. M.held m ≡ blank) ground.room.maps.items }
     ensures left { IfOk result (IsLeftBy ground.schema J.opening J.limit console.old console.new) }
     ensures refused { IsOkUnless result NoMemory }
 {
@@ -232,6 +234,7 @@ where
     requires books { (books.sessions.name ≡ J.sessions) × (books.heads.name ≡ J.heads) }
     requires list { books.list.seen.book ≡ J.book }
     requires table { (ground.columns ≡ J.columns) × (ground.rows.items ≡ J.opening) × (ground.room.limit ≡ J.limit) }
+    requires blank { All (λ m. M.held m ≡ blank) ground.room.maps.items }
     ensures left { IfOk result (IsLeftBy ground.schema J.opening J.limit console.old console.new) }
     ensures refused { IsOkUnless result NoMemory }
 {
@@ -251,6 +254,7 @@ where
     B: BufRead + Drop,
     W: Sink + Drop,
     H: Host + Drop,
+    requires blank { All (λ m. M.held m ≡ blank) ground.room.maps.items }
     ensures left { IfOk result (IsLeftBy ground.schema ground.rows.items ground.room.limit console.old console.new) }
     ensures refused { IsOkUnless result NoMemory }
 {
@@ -293,6 +297,7 @@ where
     W: Sink + Drop,
     H: Host + Drop,
     requires sound { IsStart room.limit (start_seen opened) }
+    requires blank { All (λ m. M.held m ≡ blank) room.maps.items }
     ensures left { IfOk result (IsLeftBy opened.schema opened.rows.items room.limit console.old console.new) }
     ensures refused { IsOkUnless result NoMemory }
 {
