@@ -40,7 +40,7 @@ def by_program(folder, script, flag):
 
 
 def by_library(folder, script):
-    """Nanoseconds of all calls, how many, their answers added, and the memory."""
+    """Nanoseconds of all calls, and of all but the first, how many, their answers added, and the memory."""
     done = subprocess.run([folder / "figures", "t.csv", script], cwd=folder, capture_output=True, check=True, text=True)
     return [int(word) for word in done.stdout.split()]
 
@@ -48,14 +48,14 @@ def by_library(folder, script):
 def in_c(folder, given):
     sums, counts = ([], [], []), ([], [])
     for _ in range(given.rounds):
-        ours, many, answers, memory = by_library(folder, "sums.txt")
+        ours, _later, many, answers, memory = by_library(folder, "sums.txt")
         heads, run_memory, wanted = by_program(folder, "sums.txt", "--stats")
         assert answers == wanted, (answers, wanted)
         sums[0].append(ours / 1e6), sums[1].append(heads), sums[2].append(memory / run_memory)
-        ours, many, answers, _memory = by_library(folder, "counts.txt")
+        _all, later, many, answers, _memory = by_library(folder, "counts.txt")
         one, _memory, wanted = by_program(folder, "counts.txt", "--times")
         assert answers == wanted, (answers, wanted)
-        counts[0].append(ours / many), counts[1].append(one)
+        counts[0].append(later / (many - 1)), counts[1].append(one)
     ours, heads, memory = map(statistics.median, sums)
     print("%d sums: %.1f ms by typed calls, %d ms by the program's heads, ratio %.2f" % (given.calls, ours, heads, ours / max(heads, 1)))
     print("greatest memory: %.2f of a run's" % memory)

@@ -108,6 +108,17 @@ typedef struct {
 uint32_t sideways_open_columns(const sideways_columns *table, const uint8_t *cuts, size_t cuts_size, const sideways_options *options,
                                sideways *out);
 
+/* Where a table is none: the row, of which 0 is the header, and the column, from 1; both 0 under a code other than
+   SIDEWAYS_BAD_TABLE. Texts of a table of columns stand in row 0 behind the attributes: the first of 3 attributes' is column 4. */
+typedef struct {
+    uint64_t row;
+    uint64_t column;
+} sideways_place;
+
+/* Read a table, and tell why sideways_open and sideways_open_columns would refuse it, and where; SIDEWAYS_OK of what is a table. */
+uint32_t sideways_table_fault(const uint8_t *csv, size_t csv_size, sideways_place *place);
+uint32_t sideways_columns_fault(const sideways_columns *table, sideways_place *place);
+
 /* Opens the next session and tells its number, from 1; 0 where it is refused. 1,024 at most. */
 uint32_t sideways_session(sideways *h, uint64_t *number);
 

@@ -239,6 +239,21 @@ static void try_names(void) {
     sideways_free(h);
 }
 
+/* Where a text is no table. */
+static void try_places(void) {
+    sideways_place place = {77, 77};
+    CODE(SIDEWAYS_OK, sideways_table_fault(bytes(TABLE), strlen(TABLE), &place));
+    CHECK(place.row == 0 && place.column == 0);
+    CODE(SIDEWAYS_BAD_TABLE, sideways_table_fault(bytes("a,b:real\n1,2\n"), 13, &place));
+    CHECK(place.row == 0 && place.column == 2);
+    CODE(SIDEWAYS_BAD_TABLE, sideways_table_fault(bytes("a,b\n1,2\n3,x\ny,4\n"), 16, &place));
+    CHECK(place.row == 2 && place.column == 2);
+    CODE(SIDEWAYS_TOO_MANY, sideways_table_fault(bytes("a,b,c,d,e,f,g,h,i\n"), 18, &place));
+    CHECK(place.row == 0 && place.column == 0);
+    CODE(SIDEWAYS_BAD_TABLE, sideways_table_fault(NULL, 0, &place));
+    CHECK(place.row == 0 && place.column == 0);
+}
+
 static void try_opening(void) {
     sideways h = SIDEWAYS_CLOSED;
     CODE(SIDEWAYS_BAD_TABLE, sideways_open(NULL, 0, NULL, 0, &OPTIONS, &h));
@@ -322,38 +337,43 @@ static void try_columns(void) {
 static void try_bad_columns(void) {
     columns it;
     sideways h = SIDEWAYS_CLOSED;
-#define REFUSED(code, change)                              \
-    do {                                                   \
-        fill_columns(&it);                                 \
-        change;                                            \
-        CODE(code, open_columns(&it, &OPTIONS, &h));       \
-        CHECK(!h.is_open && h.at == NULL);                 \
+    sideways_place place;
+#define REFUSED(code, at_row, at_column, change)                      \
+    do {                                                              \
+        fill_columns(&it);                                            \
+        change;                                                       \
+        CODE(code, open_columns(&it, &OPTIONS, &h));                  \
+        CHECK(!h.is_open && h.at == NULL);                            \
+        place.row = place.column = 77;                                \
+        CODE(code, sideways_columns_fault(&it.table, &place));        \
+        CHECK(place.row == (at_row) && place.column == (at_column));  \
     } while (0)
-    REFUSED(SIDEWAYS_BAD_TABLE, it.table.attributes_size = 0);
-    REFUSED(SIDEWAYS_BAD_TABLE, it.attributes[1].name_size = 0);
-    REFUSED(SIDEWAYS_BAD_TABLE, it.attributes[1].name = bytes("\xff"));
-    REFUSED(SIDEWAYS_BAD_TABLE, it.attributes[1].name = bytes(":"));
-    REFUSED(SIDEWAYS_BAD_TABLE, (it.attributes[1].name = bytes("where"), it.attributes[1].name_size = 5));
-    REFUSED(SIDEWAYS_BAD_TABLE, it.attributes[1].name = bytes("a"));
-    REFUSED(SIDEWAYS_BAD_TABLE, it.attributes[0].kind = 9);
-    REFUSED(SIDEWAYS_BAD_TABLE, it.attributes[0].kind = UINT32_MAX);
-    REFUSED(SIDEWAYS_TOO_MANY, it.table.rows = 1048577);
-    REFUSED(SIDEWAYS_TOO_MANY, it.table.rows = UINT64_MAX);
-    REFUSED(SIDEWAYS_BAD_TABLE, it.table.rows = 5);
-    REFUSED(SIDEWAYS_BAD_TABLE, it.attributes[3].cells.cells_size = 6);
-    REFUSED(SIDEWAYS_BAD_TABLE, it.attributes[0].cells.stride = UINT64_MAX);
-    REFUSED(SIDEWAYS_BAD_TABLE, it.attributes[0].cells.stride = UINT64_MAX / 2 + 1);
-    REFUSED(SIDEWAYS_BAD_TABLE, it.cells[2][6] = 2);
-    REFUSED(SIDEWAYS_BAD_TABLE, it.cells[2][0] = -1);
-    REFUSED(SIDEWAYS_BAD_TABLE, it.cells[3][6] = 4);
-    REFUSED(SIDEWAYS_BAD_TABLE, it.cells[3][0] = 0);
-    REFUSED(SIDEWAYS_BAD_TABLE, it.ends[2] = 15);
-    REFUSED(SIDEWAYS_BAD_TABLE, it.ends[2] = 9);
-    REFUSED(SIDEWAYS_BAD_TABLE, it.ends[0] = UINT64_MAX);
-    REFUSED(SIDEWAYS_BAD_TABLE, it.table.texts = bytes("OsloOsloooit's"); it.ends[1] = 8);
-    REFUSED(SIDEWAYS_BAD_TABLE, it.table.texts = bytes("Osl\nBergenit's"));
-    REFUSED(SIDEWAYS_BAD_TABLE, it.table.texts = bytes("Osl\xff""Bergenit's"));
-    REFUSED(SIDEWAYS_BAD_TABLE, it.table.attributes_size = 3);
+    REFUSED(SIDEWAYS_BAD_TABLE, 0, 2, it.attributes[1].kind = 9; it.cells[2][6] = 2; it.table.rows = UINT64_MAX);
+    REFUSED(SIDEWAYS_BAD_TABLE, 0, 0, it.table.attributes_size = 0);
+    REFUSED(SIDEWAYS_BAD_TABLE, 0, 2, it.attributes[1].name_size = 0);
+    REFUSED(SIDEWAYS_BAD_TABLE, 0, 2, it.attributes[1].name = bytes("\xff"));
+    REFUSED(SIDEWAYS_BAD_TABLE, 0, 2, it.attributes[1].name = bytes(":"));
+    REFUSED(SIDEWAYS_BAD_TABLE, 0, 2, (it.attributes[1].name = bytes("where"), it.attributes[1].name_size = 5));
+    REFUSED(SIDEWAYS_BAD_TABLE, 0, 2, it.attributes[1].name = bytes("a"));
+    REFUSED(SIDEWAYS_BAD_TABLE, 0, 1, it.attributes[0].kind = 9);
+    REFUSED(SIDEWAYS_BAD_TABLE, 0, 1, it.attributes[0].kind = UINT32_MAX);
+    REFUSED(SIDEWAYS_TOO_MANY, 0, 0, it.table.rows = 1048577);
+    REFUSED(SIDEWAYS_TOO_MANY, 0, 0, it.table.rows = UINT64_MAX);
+    REFUSED(SIDEWAYS_BAD_TABLE, 5, 1, it.table.rows = 5);
+    REFUSED(SIDEWAYS_BAD_TABLE, 4, 4, it.attributes[3].cells.cells_size = 6);
+    REFUSED(SIDEWAYS_BAD_TABLE, 2, 1, it.attributes[0].cells.stride = UINT64_MAX);
+    REFUSED(SIDEWAYS_BAD_TABLE, 2, 1, it.attributes[0].cells.stride = UINT64_MAX / 2 + 1);
+    REFUSED(SIDEWAYS_BAD_TABLE, 4, 3, it.cells[2][6] = 2);
+    REFUSED(SIDEWAYS_BAD_TABLE, 1, 3, it.cells[2][0] = -1);
+    REFUSED(SIDEWAYS_BAD_TABLE, 4, 4, it.cells[3][6] = 4);
+    REFUSED(SIDEWAYS_BAD_TABLE, 1, 4, it.cells[3][0] = 0);
+    REFUSED(SIDEWAYS_BAD_TABLE, 0, 7, it.ends[2] = 15);
+    REFUSED(SIDEWAYS_BAD_TABLE, 0, 7, it.ends[2] = 9);
+    REFUSED(SIDEWAYS_BAD_TABLE, 0, 5, it.ends[0] = UINT64_MAX);
+    REFUSED(SIDEWAYS_BAD_TABLE, 0, 6, it.table.texts = bytes("OsloOsloooit's"); it.ends[1] = 8);
+    REFUSED(SIDEWAYS_BAD_TABLE, 0, 5, it.table.texts = bytes("Osl\nBergenit's"));
+    REFUSED(SIDEWAYS_BAD_TABLE, 0, 5, it.table.texts = bytes("Osl\xff""Bergenit's"));
+    REFUSED(SIDEWAYS_BAD_TABLE, 0, 4, it.table.attributes_size = 3);
 #undef REFUSED
     fill_columns(&it);
     sideways_attribute nine[9];
@@ -529,6 +549,7 @@ int main(void) {
     sideways_free(zeroed);
     try_example();
     try_opening();
+    try_places();
     try_lines();
     try_aggregates();
     try_bad_conditions();

@@ -221,6 +221,23 @@ class Kinds(unittest.TestCase):
             numpy.testing.assert_array_equal(table.select("b")["b"], column)
             numpy.testing.assert_array_equal(table.insert_many({"a": column, "b": column}), numpy.arange(column.size) + column.size + 1)
 
+    def test_one_cell_for_all_rows(self):
+        one = numpy.broadcast_to(numpy.int64(7), 1000)
+        table = Table.from_columns({"a": one, "b": numpy.arange(1000)})
+        self.assertEqual((table.sum("a"), table.count(a=7, b=(0, 9))), (7000, 10))
+        self.assertEqual(table.insert_many({"a": one, "b": one}).tolist(), list(range(1001, 2001)))
+
+    def test_texts_that_no_row_has(self):
+        table = Table.from_columns({"a": [1, 2], "city": ["Oslo", "Bergen"]}, texts=["Bonn", "Oslo", "Bonn"])
+        self.assertEqual(table.insert([3, "Bonn"]), 3)
+        self.assertEqual((table.count(city="Bonn"), table.count("city = 'Oslo'")), (1, 1))
+        self.assertEqual(table.exec("select city"), "1: 'Oslo'\n2: 'Bergen'\n3: 'Bonn'\n(3 rows)\n")
+        verdict = sideways.check(table.history())
+        self.assertTrue(verdict, verdict.explanation)
+        for columns, texts in (({"a": [1]}, ["x"]), ({"city": ["x"]}, ["\n"]), ({"city": ["x"]}, [5])):
+            with self.subTest(texts=texts), self.assertRaises((TypeError, ValueError)):
+                Table.from_columns(columns, texts=texts)
+
     def test_extremes(self):
         ends = [-(2**63), -1, 0, 2**63 - 1]
         table = Table.from_columns({"a": numpy.array(ends * 2)})
@@ -348,6 +365,11 @@ class Tables(unittest.TestCase):
                 Table.from_csv(text)
             self.assertEqual(found.exception.code, code)
             self.assertTrue(found.exception.explanation)
+        for text, place in ((b"a,b:real\n", "column 2 of the header"), (b"a,b\n1,2\n3,x\n", "column 2 of row 2")):
+            with self.assertRaisesRegex(sideways.BadTable, place):
+                Table.from_csv(text)
+        with self.assertRaisesRegex(sideways.BadTable, "column 2 of the header"):
+            Table.from_columns({"a": [1], "where": [2]})
         for options in ({"limit": 0}, {"limit": 2**20 + 1}, {"maps": 4097}, {"budget": 2**41}, {"cuts": "x"}, {"maps": -1}, {"budget": 2**64}):
             with self.subTest(options=options), self.assertRaises((sideways.Error, ValueError)):
                 Table.from_csv(b"a\n1\n", **options)

@@ -14,7 +14,7 @@ MOST_CELLS = 16777216
 MAPS = 64
 
 # Codes, kinds of bounds and kinds of attributes.
-MISUSE, NO_TEXT, NOT_LEGAL = 100, 104, 11
+BAD_TABLE, NOT_LEGAL, MISUSE, NO_TEXT = 2, 11, 100, 104
 NONE, BEFORE, AFTER = 0, 1, 2
 INT, FLAG, TEXT = 0, 7, 8
 
@@ -57,6 +57,10 @@ class Columns(ctypes.Structure):
     ]
 
 
+class Place(ctypes.Structure):
+    _fields_ = [("row", c_uint64), ("column", c_uint64)]
+
+
 class SumWords(ctypes.Structure):
     _fields_ = [("low", c_uint64), ("high", c_int64)]
 
@@ -82,6 +86,8 @@ _PARAMETERS = {
     "version": [],
     "open": [c_void_p, c_size_t] + _BYTES + [POINTER(Options), POINTER(Handle)],
     "open_columns": [POINTER(Columns)] + _BYTES + [POINTER(Options), POINTER(Handle)],
+    "table_fault": [c_void_p, c_size_t, POINTER(Place)],
+    "columns_fault": [POINTER(Columns), POINTER(Place)],
     "session": _TABLE + [POINTER(c_uint64)],
     "close": _TABLE,
     "exec": _CALL + _BYTES,

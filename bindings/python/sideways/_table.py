@@ -11,7 +11,7 @@ from typing import Any, Dict, List, Optional, Sequence, Union
 import numpy
 
 from . import _border as border
-from ._border import MAPS, MOST_CELLS, MOST_ROWS, TEXT, lib
+from ._border import BAD_TABLE, MAPS, MOST_CELLS, MOST_ROWS, TEXT, lib
 from ._columns import Given, as_array, as_cells, one_length
 from ._errors import Error, Full, answered, refusal
 from ._kinds import NAMES, array_of, cell_of, number_cells, value_of
@@ -350,7 +350,7 @@ class Table(Session):
 
         Raises:
             OSError: the file cannot be read.
-            BadTable: a field of the header or a row is none.
+            BadTable: a field of the header or a row is none; it tells which.
         """
         data = table
         if not isinstance(table, (bytes, bytearray, memoryview)):
@@ -358,7 +358,10 @@ class Table(Session):
                 data = file.read()
         at, kept = border.address_of(data)
         handle = border.Handle()
-        answered(lib.sideways_open(at, len(kept), *_cuts(cuts), _options(limit, budget, maps), handle))
+        code = lib.sideways_open(at, len(kept), *_cuts(cuts), _options(limit, budget, maps), handle)
+        if code == BAD_TABLE:
+            raise refusal(code, _fault(lib.sideways_table_fault, at, len(kept)))
+        answered(code)
         return cls._opened(handle)
 
     @classmethod
@@ -388,7 +391,10 @@ class Table(Session):
         if not isinstance(columns, Mapping) and not hasattr(columns, "items"):
             raise TypeError(f"wanted a mapping of names to columns, not {type(columns).__name__}")
         given, handle = Given(columns, kinds, texts), border.Handle()
-        answered(lib.sideways_open_columns(given.table, *_cuts(cuts), _options(limit, budget, maps), handle))
+        code = lib.sideways_open_columns(given.table, *_cuts(cuts), _options(limit, budget, maps), handle)
+        if code == BAD_TABLE:
+            raise refusal(code, _fault(lib.sideways_columns_fault, given.table))
+        answered(code)
         return cls._opened(handle)
 
     @classmethod
@@ -440,6 +446,14 @@ def _word(what: str, number: int) -> int:
     if not 0 <= number < 1 << 64:
         raise ValueError(f"{what} is a whole number from 0 on, of 64 bits, not {number}")
     return number
+
+
+def _fault(function, *table) -> str:
+    """Where a table is none, in words."""
+    place = border.Place()
+    function(*table, place)
+    row = f"row {place.row}" if place.row else "the header"
+    return f"column {place.column} of {row} is none of a table"
 
 
 def _options(limit: int, budget: int, maps: int) -> border.Options:

@@ -6,6 +6,7 @@ pub mod Handles
 pub mod Inserts
 pub mod Looks
 pub mod Opened
+pub mod Places
 pub mod Selects
 pub mod Shown
 pub mod Slots

@@ -37,7 +37,7 @@ pub(crate) fn make(state: &mut State, request: Request<'_>) -> Result<Reply, u32
         Ok(call) => call,
         Err(fault) => return Err(fault_code(fault)),
     };
-    match solo.call(request.session, &call) {
+    match solo.make(request.session, call) {
         Ok(reply) => Ok(reply),
         Err(e) => Err(code_of(&e)),
     }

@@ -19,11 +19,7 @@ use sw_solo::Solo;
 
 /// Inserts a row: its key, or 0 where there is no room. Refused, nothing has changed.
 #[tactic(auto, using(crate::proofs::Inserts::is_insert, crate::proofs::Inserts::key_is))]
-fn insert_one(
-    solo: &mut Solo<PairMap>,
-    session: u64,
-    cells: [i64; 8],
-) -> Result<u64, Refusal>
+fn insert_one(solo: &mut Solo<PairMap>, session: u64, cells: [i64; 8]) -> Result<u64, Refusal>
     requires some { 0 < session }
     requires opened { session ≤ solo.old.sessions }
     ensures made { OnOk result (solo.new ≡ with_call session (Insert cells) solo.old) }
@@ -31,7 +27,7 @@ fn insert_one(
     ensures kept { OnErr result (solo.new ≡ solo.old) }
     ensures refused { IfErr result (RefusesCall solo.old) }
 {
-    match solo.call(session, &Call::Insert(cells)) {
+    match solo.make(session, Call::Insert(cells)) {
         Ok(reply) => Ok(key_in(&reply)),
         Err(e) => Err(e),
     }

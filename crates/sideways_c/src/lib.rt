@@ -16,6 +16,7 @@ mod inserting;
 mod kept;
 mod lines;
 mod opening;
+mod places;
 mod selecting;
 mod slot;
 mod state;

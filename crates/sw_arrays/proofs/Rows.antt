@@ -112,8 +112,8 @@ numbers_there d c (suc many) h last =
     let end : is_some (cell_in c many) ≡ true = rw (some, less_one) at last in
     let less : many * c.stride < length c.cells.now = some_within c.cells.now (many * c.stride) end in
     none_lacking d c 0 (suc many) h (λ k lt.
-        let before : k * c.stride ≤ many * c.stride = mul-le k c.stride many c.stride (omega (arith, lt)) (omega arith) in
-        within_some c.cells.now (k * c.stride) (omega (arith, less, before)))
+    let before : k * c.stride ≤ many * c.stride = mul-le k c.stride many c.stride (omega (arith, lt)) (omega arith) in
+    within_some c.cells.now (k * c.stride) (omega (arith, less, before)))
 
 -- ---- columns one after another
 

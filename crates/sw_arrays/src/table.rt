@@ -98,11 +98,7 @@ fn check(schema: &Schema, columns: &[Cells<'_>], many: usize) -> Result<(), Refu
 
 /// The first rows of columns.
 #[tactic(auto, using(crate::proofs::Rows::row_within, crate::proofs::Rows::rows_next))]
-fn rows_in(
-    alloc: Global,
-    columns: &[Cells<'_>],
-    many: usize,
-) -> Result<PackedRows, AllocError>
+fn rows_in(alloc: Global, columns: &[Cells<'_>], many: usize) -> Result<PackedRows, AllocError>
     requires some { 1 ≤ length columns.now }
     requires most { length columns.now ≤ 8 }
     requires few { many ≤ MOST_ROWS }

@@ -212,22 +212,19 @@ impl<M: CrackerMap> Solo<M> {
         serve(*alloc, spine, cuts.of(place), &mut seats[place], query)
     }
 
-    fn select(&mut self, session: u64, query: &Query) -> Result<Reply, Refusal>
+    fn select(&mut self, session: u64, query: Query) -> Result<Reply, Refusal>
         requires some { 0 < session }
         requires opened { session ≤ self.old.sessions }
-        requires below { CallsBelow (length self.old.history.columns) (Select query.now) }
-        ensures called { IfOk result (HasCalled session (Select query.now) self.old self.new) }
+        requires below { CallsBelow (length self.old.history.columns) (Select query) }
+        ensures called { IfOk result (HasCalled session (Select query) self.old self.new) }
         ensures kept { OnErr result (self.new ≡ self.old) }
         ensures refused { IfErr result (RefusesCall self.old) }
     {
-        let Ok(asked) = query.copied(self.alloc) else {
-            return Err(Refusal::NoMemory);
-        };
-        let reply = self.ask(query)?;
+        let reply = self.ask(&query)?;
         let Ok(told) = reply.copied(self.alloc) else {
             return Err(Refusal::NoMemory);
         };
-        self.keep(session, asked, told)?;
+        self.keep(session, query, told)?;
         Ok(reply)
     }
 
@@ -265,6 +262,23 @@ impl<M: CrackerMap> Solo<M> {
     ///
     /// Refused `NoMemory`, or `HistoryFull`; then nothing has changed. The caller's conditions: the session was opened, and
     /// the call names attributes of the table, 1 to 8 where it asks for rows.
+    pub fn make(&mut self, session: u64, call: Call) -> Result<Reply, Refusal>
+        requires some { 0 < session }
+        requires opened { session ≤ self.old.sessions }
+        requires below { CallsBelow (length self.old.history.columns) call }
+        ensures called { IfOk result (HasCalled session call self.old self.new) }
+        ensures kept { OnErr result (self.new ≡ self.old) }
+        ensures refused { IfErr result (RefusesCall self.old) }
+    {
+        match call {
+            Call::Select(query) => self.select(session, query),
+            Call::Insert(cells) => self.change(session, Call::Insert(cells)),
+            Call::Delete(key) => self.change(session, Call::Delete(key)),
+            Call::DeleteWhere(conds) => self.change(session, Call::DeleteWhere(conds)),
+        }
+    }
+
+    /// The same of a copy of the call.
     pub fn call(&mut self, session: u64, call: &Call) -> Result<Reply, Refusal>
         requires some { 0 < session }
         requires opened { session ≤ self.old.sessions }
@@ -273,13 +287,8 @@ impl<M: CrackerMap> Solo<M> {
         ensures kept { OnErr result (self.new ≡ self.old) }
         ensures refused { IfErr result (RefusesCall self.old) }
     {
-        match call {
-            Call::Select(query) => self.select(session, query),
-            Call::Insert(_) | Call::Delete(_) | Call::DeleteWhere(_) => {
-                let made = copied(self.alloc, call)?;
-                self.change(session, made)
-            }
-        }
+        let made = copied(self.alloc, call)?;
+        self.make(session, made)
     }
 
     /// Gives a blank box to a head, which has it from its next select on. Refused `NoMemory`, and that very box comes back.
