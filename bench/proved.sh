@@ -34,13 +34,25 @@ build() {
       cp -rp "$top/crates/$library" "$work/crates/"
     fi
   done
+  if [ -n "${STANDS:-}" ]; then
+    stands "$name"
+  fi
   (cd "$work/crates/$name" && rt "$command" > "$work/build.log" 2>&1) || { tail -n 20 "$work/build.log"; exit 1; }
+}
+
+# stands NAME
+# Reads the driver's types and clauses over the libraries that the gate left, proves nothing, and ends the script.
+stands() {
+  (cd "$work" && python3 "$top/bench/stamps.py" "$(dirname "$(rt doc)")") || exit 1
+  (cd "$work/crates/$1" && rt check --only '' > "$work/build.log" 2>&1) || { tail -n 20 "$work/build.log"; exit 1; }
+  echo "$1 stands"
+  exit 0
 }
 
 # area NAME SOURCE
 # Builds SOURCE as a program over the crates up to heads, and the C++ peer as $work/peer.
 area() {
   build program "$1" "$2" \
-    sw_table sw_rows sw_lang sw_kernel sw_tape sw_budget sw_bits sw_slots sw_map test_maps sw_set test_areas sw_tie sw_chunks test_heads anyhow
+    sw_table sw_rows sw_lang sw_kernel sw_tape sw_budget sw_bits sw_slots sw_map test_maps sw_set test_areas sw_tie sw_chunks test_words test_heads anyhow
   g++ -O3 -march=native -o "$work/peer" "$top/bench/peers/peer.cpp"
 }

@@ -20,6 +20,11 @@ NO_OUTPUT = b"sideways: refused 13\n"
 KILLS, MEMORIES = 150, 40
 
 
+def unwritten(name, why="it cannot be written"):
+    """What is told where this cannot be written."""
+    return NO_OUTPUT + ("%s: %s\n" % (name, why)).encode()
+
+
 class Wrong(Exception):
     pass
 
@@ -136,7 +141,7 @@ class Ends:
                     self.put("h.json", old)
                 got = self.call(self.run + ["--history", "h.json"], preexec_fn=self.few_bytes(most), restore_signals=False)
                 whole = most >= len(self.history)
-                expected = (0, OUT, b"") if whole else (3, OUT, NO_OUTPUT)
+                expected = (0, OUT, b"") if whole else (3, OUT, unwritten("h.json"))
                 self.held("a history of at most %d bytes" % most, (expected, self.history if whole else old, []),
                           (got, self.bytes_of("h.json"), self.begun()))
 
@@ -185,9 +190,9 @@ class Ends:
         self.held("a name that is taken", (0, OUT, b""), self.call(words + ["h.json"]))
         self.held("who took it keeps it", (OLD, self.history), (self.take("sideways.1.part"), self.take("h.json")))
         self.held("a device", (0, OUT, b""), self.call(words + ["/dev/null"]))
-        self.held("a full device", (3, OUT, NO_OUTPUT), self.call(words + ["/dev/full"]))
-        self.held("a folder that is none", (3, OUT, NO_OUTPUT), self.call(words + ["none/h.json"]))
-        self.held("the folder itself", (3, OUT, NO_OUTPUT), self.call(words + ["."]))
+        self.held("a full device", (3, OUT, unwritten("/dev/full")), self.call(words + ["/dev/full"]))
+        self.held("a folder that is none", (3, OUT, unwritten("none/h.json")), self.call(words + ["none/h.json"]))
+        self.held("the folder itself", (3, OUT, unwritten(".", "a folder, wanted a file")), self.call(words + ["."]))
         self.held("nothing stands beside", [], self.begun())
 
     def may_not_write(self):
@@ -199,7 +204,7 @@ class Ends:
             self.folder.chmod(0o777)
             if self.call(["--help"], **more)[0] != 0:
                 return
-        self.held("a history that may not be written", (3, OUT, NO_OUTPUT), self.call(self.run + ["--history", "h.json"], **more))
+        self.held("a history that may not be written", (3, OUT, unwritten("h.json")), self.call(self.run + ["--history", "h.json"], **more))
         self.held("it stands", (OLD, []), (self.take("h.json"), self.begun()))
 
     # A history is no other file of its run
@@ -226,7 +231,12 @@ class Ends:
                 self.held("the replies' file", b"" if mode == "wb" else OLD, self.take("replies"))
         with open(self.folder / "told", "wb") as told:
             got = self.call(words + ["told"], stderr=told)
-        self.held("a history where it is told", (2, True), (got[0], self.bytes_of("told").startswith(b"error: the history would be")))
+        self.held("a history where it is told", (2, True), (got[0], self.bytes_of("told").startswith(
+            b"error: the history would be written over what is told on standard error\n")))
+        with open(self.folder / "told", "wb") as told:
+            got = self.call(self.run + ["--log", "told"], stderr=told)
+        self.held("a log where it is told", (2, True), (got[0], self.bytes_of("told").startswith(
+            b"error: the log would be written over what is told on standard error\n")))
         with open(self.folder / "t.csv", "rb") as table:
             got = self.call(["run", "--table", "/dev/stdin", "--script", "s.txt", "--history", "t.csv"], stdin=table)
             self.refused_words("a history that is the table of standard input", got, b"the table")
@@ -249,11 +259,15 @@ class Ends:
             with open(self.folder / "out", "wb") as out:
                 status, _, told = self.call(words + [name], stdout=out)
             self.held("%s %s" % (words[-1], name), (2, True, b""), (status, told.startswith(b"error: " + over), self.take("out")))
-        self.put("lines", b"count\n.write out\ncount\n")
-        with open(self.folder / "lines", "rb") as lines, open(self.folder / "out", "wb") as out:
-            status, _, told = self.call(["shell", "t.csv"], stdin=lines, stdout=out)
-        self.held("rows over the replies", (2, b"sideways: line 2: the rows would be written over the replies\n", b"4\n4\n"),
-                  (status, told, self.take("out")))
+        for command, over in ((b".write out", b"the rows would be written over the replies"),
+                              (b".history out", b"the history would be written over the replies"),
+                              (b".history ./t.csv", b"the history would be written over the table")):
+            self.put("lines", b"count\n" + command + b"\ncount\n")
+            with open(self.folder / "lines", "rb") as lines, open(self.folder / "out", "wb") as out:
+                status, _, told = self.call(["shell", "t.csv"], stdin=lines, stdout=out)
+            self.held("%s in a shell" % command, (2, b"sideways: line 2: " + over + b"\n", b"4\n4\n"), (status, told, self.take("out")))
+        with open(self.folder / "out", "wb") as out:
+            self.refused_words("a shell's history", self.call(["shell", "t.csv", "--history", "out"], stdout=out), b"the replies")
         self.held("values, table and log", (VALUES, TABLE, LOG), (self.bytes_of("v.csv"), self.bytes_of("t.csv"), self.bytes_of("l.csv")))
 
     # By ./sideways: limits that the program cannot mend
@@ -276,11 +290,11 @@ class Ends:
         words = ["run", "--table", "t.csv", "--script", "long.txt"]
         limit = lambda: resource.setrlimit(resource.RLIMIT_FSIZE, (1024, 1024))
         with open(self.folder / "out", "wb") as out:
-            self.held("replies of at most a KiB", (3, NO_OUTPUT), self.call(words, script, stdout=out, preexec_fn=limit)[::2])
+            self.held("replies of at most a KiB", (3, unwritten("standard output")), self.call(words, script, stdout=out, preexec_fn=limit)[::2])
         self.held("a beginning of the replies", (OUT * 600)[:1024], self.take("out"))
         self.put("h.json", OLD)
         got = self.call(words + ["--history", "h.json"], script, preexec_fn=limit)
-        self.held("a history of at most a KiB", (3, OUT * 600, NO_OUTPUT), got)
+        self.held("a history of at most a KiB", (3, OUT * 600, unwritten("h.json")), got)
         self.held("the history that was there", (OLD, []), (self.take("h.json"), self.begun()))
 
     def small_stacks(self):

@@ -155,7 +155,7 @@ class Logs:
         self.held("an order of it is the history", (self.folder / "h.json").read_bytes(), self.call(["order", "--table", "t.csv", "l.csv"]).stdout)
         self.held("a log of no call", (0, b"session,start,end,call,reply\n"),
                   (self.call(["run", "--table", "t.csv", "-e", "# none", "--log", "l.csv"]).returncode, (self.folder / "l.csv").read_bytes()))
-        self.held("a log on a full device", (3, b"sideways: refused 13\n"), (lambda done: (done.returncode, done.stderr))(
+        self.held("a log on a full device", (3, b"sideways: refused 13\n/dev/full: it cannot be written\n"), (lambda done: (done.returncode, done.stderr))(
             self.call(words + ["--log", "/dev/full"])))
 
     def clashes(self):

@@ -37,10 +37,27 @@ mkdir "$work/tar" && tar -xzf "$work"/one/*.tar.gz -C "$work/tar" --strip-compon
 see "$work/tar" site-functions
 dpkg-deb -x "$work"/one/*.deb "$work/deb" || wrong "the package of Debian cannot be unpacked"
 see "$work/deb/usr" vendor-completions
-"$top/bench/package.sh" "$program" 2>/dev/null
-[ $? -eq 2 ] || wrong "no folder is not refused"
-"$top/bench/package.sh" "$program" "$work/names/x" 2>/dev/null
-[ $? -eq 3 ] || wrong "a folder that cannot be made is not refused"
+
+# A refusal: its status, the last line on standard error, and the command.
+refused() {
+    status=$1 line=$2
+    shift 2
+    "$@" >/dev/null 2>"$work/told"
+    is=$?
+    [ "$is" = "$status" ] || wrong "status $is, wanted $status: $*"
+    [ "$(tail -n 1 "$work/told")" = "$line" ] || wrong "$(cat "$work/told"): wanted $line"
+}
+mkdir "$work/tree" "$work/tools" && cp "$top/sideways" "$work/tree/" && cp "$top/crates.txt" "$work/tree/" && mkdir "$work/tree/crates"
+printf '#!/bin/sh\nexit 1\n' >"$work/tools/dpkg" && cp "$work/tools/dpkg" "$work/tools/mute" && chmod 755 "$work/tools"/*
+refused 2 "use: ./sideways package FOLDER" "$top/bench/package.sh" "$program"
+refused 2 "use: ./sideways package FOLDER" "$top/bench/package.sh" "$program" ""
+refused 2 "use: ./sideways package FOLDER" "$top/bench/package.sh" "$program" "$work/one" "$work/two"
+refused 3 "sideways: not packed: $work/names/x cannot be made" "$top/bench/package.sh" "$program" "$work/names/x"
+refused 3 "sideways: not packed: $work/tools/mute does not tell its version" "$top/bench/package.sh" "$work/tools/mute" "$work/one"
+refused 3 "sideways: not packed: the tools of Debian (dpkg, dpkg-deb) are wanted" \
+    env PATH="$work/tools:$PATH" "$top/bench/package.sh" "$program" "$work/one"
+refused 3 "sideways: the program is not proved as the sources are, and so not packed; ./sideways prove makes it" \
+    "$work/tree/sideways" package "$work/one"
 
 "$program" run --table "$top/examples/t.csv" --script "$top/examples/ranges_twice.txt" --times 2>"$work/times.txt" >/dev/null || wrong "no times"
 sh "$top/examples/curve.sh" "$work/times.txt" >"$work/curve.svg" || wrong "no picture"

@@ -21,6 +21,11 @@ line 1, column 13: 'd' cannot stand there, wanted a, b, c
 """
 
 
+def unwritten(name, why="it cannot be written"):
+    """What is told where this cannot be written."""
+    return "sideways: refused 13\n%s: %s\n" % (name, why)
+
+
 class Wrong(Exception):
     pass
 
@@ -75,6 +80,7 @@ class Cases:
     def commands(self):
         self.shell(".names", ".names\n", 0, NAMES, "")
         self.shell(".quit", "count\n.quit\ncount\n", 0, "4\n", "")
+        self.shell("white space behind .quit", "count\n.quit \t\r\ncount\n", 0, "4\n", "")
         got = self.shell(".help", ".help\n", 0, None, "")
         self.holds("each command in the help", all("\n" + word in got[1] for word in WORDS if word.startswith(".")), got[1])
         got = self.shell(".stats", "count where a < 10\n.stats\n", 0, None, "")
@@ -85,6 +91,11 @@ class Cases:
         lines = got[2].splitlines()
         self.holds("one time", len(lines) == 3 and lines[1].split()[0] == "2" and lines[1].split()[1].isdigit(), lines)
         self.shell("no such command", ".nothing\ncount\n", 2, "4\n", "sideways: line 1: no such command; .help lists them\n")
+        for word, hint in (("quit", ".quit ends the shell"), ("exit", ".quit ends the shell"), (" help ", ".help lists the commands"),
+                           ("write o.csv", ".write FILE writes the live rows"), ("history h.json", ".history FILE keeps the history")):
+            got = self.shell("a command without its dot", word + "\ncount\n", 2, "4\n", None)
+            self.holds("the command that it is", got[2].startswith("sideways: refused 3 line 1 why Word\nline 1, column ")
+                       and got[2].endswith("\nline 1: %s\n" % hint), got)
         self.shell("a word behind a command", ".quit now\ncount\n", 2, "4\n", "sideways: line 1: no such command; .help lists them\n")
         for word in (".write", ".history", ".write  "):
             self.shell("no file", word + "\ncount\n", 2, "4\n", "sideways: line 1: the command wants the name of a file\n")
@@ -97,8 +108,8 @@ class Cases:
         self.case("it is a table", ["run", "--table", "o.csv", "-e", "sum a"], "", 0, "44\n", "")
         self.shell("a name with spaces", ".write   a b.csv \n", 0, "", "")
         self.holds("that file", self.bytes_of("a b.csv") == TABLE)
-        got = self.shell("a file that cannot be written", ".write folder/none/x.csv\ncount\n", 3, "4\n", "sideways: refused 13\n")
-        self.shell("a folder", ".write folder\ncount\n", 3, "4\n", "sideways: refused 13\n")
+        self.shell("a file that cannot be written", ".write folder/none/x.csv\ncount\n", 3, "4\n", unwritten("folder/none/x.csv"))
+        self.shell("a folder", ".write folder\ncount\n", 3, "4\n", unwritten("folder", "a folder, wanted a file"))
         self.shell(".history", ".history h.json\ncount\n.write o.csv\ninsert 1, 2, 3\ncount where d = 1\n", 2, "4\nkey 5\n", None)
         self.case("its check", ["check", "h.json"], "", 0, "legal: 2 entries\n", "")
         self.shell("--history", "count\n", 0, "4\n", "", ["--history", "i.json"])
@@ -109,7 +120,8 @@ class Cases:
         self.holds("the table", self.bytes_of("t.csv") == TABLE)
         got = self.shell("--history over the table", "", 2, "", None, ["--history", "t.csv"])
         self.holds("its words", "written over the table" in got[2], got[2])
-        self.shell("a history that cannot be written", "count\n", 3, "4\n", "sideways: refused 13\n", ["--history", "folder/none/h.json"])
+        self.shell("a history that cannot be written", "count\n", 3, "4\n", unwritten("folder/none/h.json"),
+                   ["--history", "folder/none/h.json"])
         (self.folder / "w.csv").write_bytes(TABLE)
         self.case("the table itself", ["shell", "w.csv"], "insert 1, 1, 1\n.write w.csv\n", 0, "key 5\n", "")
         self.holds("is written", self.bytes_of("w.csv") == TABLE + b"1,1,1\n")
@@ -145,7 +157,7 @@ class Cases:
         self.case("--names of a bad table", ["shell", "bad.csv", "--names"], "", 2, "", None)
         with open("/dev/full", "wb") as full:
             done = subprocess.run([self.program, "shell", "t.csv", "--names"], cwd=self.folder, stdout=full, stderr=subprocess.PIPE, timeout=60)
-        self.holds("--names to a full device", done.returncode == 3 and done.stderr == b"sideways: refused 13\n", done)
+        self.holds("--names to a full device", done.returncode == 3 and done.stderr.decode() == unwritten("standard output"), done)
         for words, said in ((["--limit", "0"], "0 is not in"), (["--limit", "1048577"], "is not in"), (["--maps", "4097"], "is not in"),
                             (["--budget", "1099511627777"], "is not in"), (["--script", "s.txt"], "--script"), (["more.csv"], "more.csv")):
             got = self.case("words that are refused", ["shell", "t.csv"] + words, "count\n", 2, "", None)
@@ -162,11 +174,15 @@ class Cases:
         with open("/dev/full", "wb") as full:
             done = subprocess.run([self.program, "shell", "t.csv", "--history", "f.json"], cwd=self.folder, input=b"count\ncount\n", stdout=full,
                                   stderr=subprocess.PIPE, timeout=60)
-        self.holds("a full device", done.returncode == 3 and done.stderr == b"sideways: refused 13\n", done)
+        self.holds("a full device", done.returncode == 3 and done.stderr.decode() == unwritten("standard output"), done)
         self.case("its history", ["check", "f.json"], "", 0, "legal: 1 entries\n", "")
         with open(os.devnull, "wb") as closed:
             done = subprocess.run([self.program, "shell", "t.csv"], cwd=self.folder, stdin=closed, capture_output=True, timeout=60)
-        self.holds("lines that cannot be read", done.returncode == 2 and done.stderr.startswith(b"sideways: refused 12\n"), done)
+        self.holds("lines that cannot be read", done.returncode == 2 and
+                   done.stderr == b"sideways: refused 12\nstandard input: it cannot be read\n", done)
+        for given in (b"count\n", b".names\n"):
+            done = gone([self.program, "shell", "t.csv"], self.folder, given)
+            self.holds("a reader that is gone", done == (3, unwritten("standard output", "its reader is gone")), done)
 
     # Each answer when its line is entered
 
@@ -200,6 +216,15 @@ class Cases:
         os.write(ours, b"\x04")
         self.holds("Ctrl-D", talk.wait(20) == 0)
         os.close(ours)
+
+
+def gone(words, folder, given=b""):
+    """The status and what is told where the reader of standard output is gone before it began."""
+    reader, writer = os.pipe()
+    os.close(reader)
+    done = subprocess.run(words, cwd=folder, input=given, stdout=writer, stderr=subprocess.PIPE, timeout=60)
+    os.close(writer)
+    return done.returncode, done.stderr.decode()
 
 
 def main():

@@ -123,12 +123,15 @@ waiting() { slow_script; "$program" run --table t.csv --script slow; }
 on_terminal() { script -qec "'$program' run $*" /dev/null </dev/null | tr -d '\r' | sed -n 1p; }
 calls_told() { slow_script; on_terminal --table t.csv --script slow "$@"; }
 lines_told() { slow_table; on_terminal --table slow --script count.txt "$@"; }
+values_told() { slow_table; script -qec "'$program' import slow $*" /dev/null </dev/null | tr -d '\r' | sed -n 1p; }
 case_of 'a quiet run' 0 4 '' run --quiet
 case_of 'a slow run, and no terminal' 0 4 '' waiting
 if command -v script >/dev/null; then
     case_of 'a slow script on a terminal' 0 'sideways: 1 calls made' '' calls_told
     case_of 'a slow table on a terminal' 0 'sideways: 5 lines of the table read' '' lines_told
     case_of 'a slow script on a terminal, and quiet' 0 4 '' calls_told --quiet
+    case_of 'slow values on a terminal' 0 'sideways: 5 lines of the values read' '' values_told
+    case_of 'slow values on a terminal, and quiet' 0 a_int:int,b_int:int,c_int:int '' values_told --quiet
     case_of 'a slow table on a terminal, and quiet' 0 4 '' lines_told --quiet
 else
     echo 'no command script: no run was made on a terminal'
@@ -185,8 +188,9 @@ case_of 'a history without memory' 3 '' 'sideways: refused 1' within 40000 "$pro
 case_of 'a table without memory' 3 '' 'sideways: refused 1' within 40000 "$program" run --table large --script count.txt
 case_of 'a script without memory' 3 '' 'sideways: refused 1' within 40000 "$program" run --table t.csv --script large
 
-# The first 400 allocations of a command refused in turn: the status is 3, and a line tells of it or the reply of the call that
-# was refused does; or all is as ever, where the program did without.
+# The first 400 allocations of a command, which is given a file, refused in turn: the status is 3, and a line tells of it or the
+# reply of the call that was refused does; or all is as ever, where the program did without.
+given=/dev/null
 refused_in_turn() {
     name=$1 plain=$2
     shift 2
@@ -194,7 +198,7 @@ refused_in_turn() {
     told=0
     number=1
     while [ "$number" -le 400 ]; do
-        REFUSED=$number LD_PRELOAD=$work/refusing.so "$@" >out 2>err
+        REFUSED=$number LD_PRELOAD=$work/refusing.so "$@" <"$given" >out 2>err
         is=$?
         if [ "$is" -eq 3 ] && { grep -qx 'sideways: refused 1' err || grep -qx 'refused 1' out; }; then
             told=$((told + 1))
@@ -210,6 +214,9 @@ refused_in_turn() {
 }
 
 printf 'select b where a >= 10\ninsert 1, 2, 3\ndelete where b > 5\n---\ncount\n' >calls.txt
+printf 'count\nselect b where a >= 10\n.names\n.stats\ninsert 1, 2, 3\n.write rows.csv\n.history kept.json\n.quit\n' >entered.txt
+printf 'n,city,ok,day\n1,Oslo,TRUE,2020-01-01\n2,Roma,false,2020-02-29\n' >values.csv
+printf 'n,city\n1,Oslo\n,%065d\n' 7 >long.csv
 if ${CC:-cc} -O1 -shared -fPIC -o refusing.so "$top/tests/refusing.c" -ldl 2>/dev/null; then
     refused_in_turn 'a run' 0 "$program" run --table t.csv --script calls.txt --history turn.json
     refused_in_turn 'a check' 0 "$program" check legal.json
@@ -217,6 +224,20 @@ if ${CC:-cc} -O1 -shared -fPIC -o refusing.so "$top/tests/refusing.c" -ldl 2>/de
     refused_in_turn 'an explanation' 1 "$program" check --explain illegal.json
     refused_in_turn 'help' 0 "$program" --help
     refused_in_turn 'an unknown flag' 2 "$program" run --fast
+    refused_in_turn 'replies as JSON' 0 "$program" run --table t.csv --script calls.txt --output json
+    refused_in_turn 'replies as records, under a header' 0 "$program" run --table t.csv --header a,-,c -e 'select a' -e 'sum c' --output csv
+    refused_in_turn 'a reply as a table' 0 "$program" run --table t.csv -e 'delete where b > 5' -e 'select b, a' --output table
+    refused_in_turn 'an import' 0 "$program" import values.csv
+    refused_in_turn 'an import with numbers for texts' 0 "$program" import long.csv --long number --dictionary texts.csv --empty 0
+    refused_in_turn 'an import that is refused' 2 "$program" import short.csv
+    refused_in_turn 'a description' 0 "$program" describe values.csv --header a,b:text,-,d:text
+    refused_in_turn 'a description as JSON' 0 "$program" describe t.csv --output json
+    refused_in_turn 'the names of a shell' 0 "$program" shell t.csv --names
+    given=entered.txt
+    refused_in_turn 'a shell' 0 "$program" shell t.csv --history entered.json
+    printf 'count where d = 1\ncount\n' >entered.txt
+    refused_in_turn 'a shell with a line that is refused' 2 "$program" shell t.csv
+    given=/dev/null
 else
     echo "no C compiler: allocations were not refused in turn"
 fi

@@ -13,6 +13,9 @@ TOP = Path(__file__).resolve().parents[1]
 TABLE = b"a:int,b:int,c:int\n12,7,1\n3,8,0\n12,5,1\n20,2,0\n"
 CITIES = b"city:text,n,price:fix2,ok:flag\nOslo,1,7.5,true\n\"Bergen, \"\"B\"\"\",2,-0.25,false\nOslo,3,3,true\n"
 BAD = b"name:text,n\n\"two\nlines\",1\nx,1.5\ny\nz,\xff\n"
+NAMES = "sideways import makes names of headings"
+FEWER = "sideways import chooses columns, and --header passes by those that it calls -"
+FULL = b"sideways: refused 13\nstandard output: it cannot be written\n"
 ANY = object()
 
 
@@ -63,7 +66,9 @@ class Cases:
         self.refused("both of standard input", ["run", "--table", "-", "--script", "-"], "cannot both be standard input", TABLE)
         self.refused("a call of two lines", ["run", "--table", "t.csv", "-e", "count\ncount"], "a call of -e is one line")
         self.refused("a script and a call", ["run", "--table", "t.csv", "--script", "s.txt", "-e", "count"], "cannot be used with")
-        self.refused("neither script nor call", ["run", "--table", "t.csv"], "required")
+        self.refused("neither script nor call", ["run", "--table", "t.csv"], "required arguments were not provided:\n  <--script <FILE>|-e <CALL>>\n")
+        self.refused("no call behind -e", ["run", "--table", "t.csv", "-e"], "a value is required for '-e <CALL>' but none was supplied")
+        self.refused("no header behind --header", ["run", "--table", "t.csv", "-e", "count", "--header"], "a value is required for '--header <HEADER>'")
         self.refused("a form that is none", ["run", "--table", "t.csv", "-e", "count", "--output", "xml"], "xml")
         with open(self.folder / "t.csv", "rb") as table:
             self.cases += 1
@@ -124,6 +129,20 @@ class Cases:
         refused("more columns than eight", wide, "more than 8 columns are asked for, and a table has at most 8",
                 ["--columns", "1,2,3,4,5,6,7,8,9"])
 
+        # What can be no table
+        a_name = "a name has 1 to 32 letters, digits and underscores, begins with no digit, and is no word of scripts"
+        blank = ("cells without a value: 1 in column 1 (a), the first in line 3; choose: --empty drop leaves their rows out, --empty VALUE writes VALUE "
+                 "in their place, --empty text makes texts of the column")
+        refused("a heading of two columns", b"a,a,b\n1,2,3\n", "2 columns have the heading `a`: give the number of one", ["--columns", "a"])
+        refused("a name that is none", b"a\n1\n", "`1x` is no name: " + a_name, ["--rename", "a=1x"])
+        refused("a name that is a word of scripts", b"a\n1\n", "`count` is no name: " + a_name, ["--rename", "a=count"])
+        refused("cells without a value", b"a,b\n1,x\n,y\n", blank)
+        refused("cells without a value, by a word", b"a,b\n1,x\nNA,y\n", blank, ["--null", "NA"])
+        refused("a value of another kind", b"a,b\n1,x\n,y\n", "`x` in place of cells without a value is no int: column 1 (a)", ["--empty", "x"])
+        refused("a row too many", b"a\n" + b"1\n" * 1048577, "line 1048578: more than 1048576 rows; --sample N writes the first N")
+        texts = b"".join(b"a%d,b%d\n" % (row, row) for row in range(524289))
+        refused("a text too many", b"a,b\n" + texts, "the table would be refused: 5 limit 1048576")
+
         # What cannot be read or written
         self.case("values that are not there", ["import", "none.csv"], 2, "", "sideways: refused 12\nnone.csv: there is no such file\n")
         self.case("values that are a folder", ["import", "folder"], 2, "", "sideways: refused 12\nfolder: a folder, wanted a file\n")
@@ -133,8 +152,8 @@ class Cases:
                   "sideways: refused 13\nnone/texts.csv: it cannot be written\n")
         self.ended("values of standard input that cannot be read", ["import", "-"], "stdin", self.folder, 2,
                    b"sideways: refused 12\nstandard input: it cannot be read\n")
-        self.ended("a table to a full device", ["import", "cities.csv"], "stdout", "/dev/full", 3,
-                   b"sideways: refused 13\nstandard output: it cannot be written\n")
+        self.ended("a table to a full device", ["import", "cities.csv"], "stdout", "/dev/full", 3, FULL)
+        self.gone("a table whose reader is gone", ["import", "cities.csv"])
 
         # The dictionary over another file
         (self.folder / "values.csv").write_bytes(CITIES)
@@ -175,6 +194,18 @@ class Cases:
         if (done.returncode, done.stderr) != (status, told):
             raise Wrong("WRONG: %s: %r" % (name, done))
 
+    def gone(self, name, words):
+        """One run whose standard output is a pipe that nobody reads."""
+        self.cases += 1
+        reader, writer = os.pipe()
+        os.close(reader)
+        try:
+            done = subprocess.run([self.program] + words, cwd=self.folder, stdout=writer, stderr=subprocess.PIPE, timeout=60)
+        finally:
+            os.close(writer)
+        if (done.returncode, done.stderr) != (3, b"sideways: refused 13\nstandard output: its reader is gone\n"):
+            raise Wrong("WRONG: %s: %r" % (name, done))
+
     # A header on the command line
 
     def headers(self):
@@ -195,13 +226,16 @@ class Cases:
                   "cities.csv line 3, price:fix1: 2 decimals, wanted a number with at most 1 decimal: '-0.25'\n")
         self.case("a cell behind lines that are passed by", ["run", "--table", "bad.csv", "--header", "-,n", "-e", "count"], 2, "",
                   "sideways: refused 2 record 2 field 1\nbad.csv line 4, n:int: 1 decimal, wanted a whole number: '1.5'; "
-                  "a name without a kind is an int\n")
+                  "a name without a kind is an int; sideways import finds kinds\n")
         self.case("a name that is none", run + ["a b,-,-,-", "-e", "count"], 2, "",
-                  "sideways: refused 2 record 0 field 1\n--header line 1, column 1: ' ' stands in a name, which has letters, digits and _: 'a b'\n")
+                  "sideways: refused 2 record 0 field 1\n--header line 1, column 1: ' ' stands in a name, which has letters, digits and _: 'a b'; %s\n"
+                  % NAMES)
         self.case("no column", run + ["-,-,-,-", "-e", "count"], 2, "",
-                  "sideways: refused 2 record 0 field 1\n--header line 1, column 1: a column without a name: ''\n")
+                  "sideways: refused 2 record 0 field 1\n--header line 1, column 1: a column without a name: ''; %s\n" % NAMES)
         self.case("no record", ["run", "--table", "-", "--header", "a", "-e", "count"], 2, "",
                   "sideways: refused 2 record 0 field 0\nstandard input: empty, wanted a header: names with kinds, as a:int,b:fix2,c:text\n")
+        self.case("more than eight columns", run + ["a,b,c,d,e,f,g,h,i", "-e", "count"], 2, "",
+                  "sideways: refused 5 limit 8\n--header line 1: 9 columns, at most 8; %s\n" % FEWER)
         self.refused("a header with quotes", run + ['"a",b,c,d', "-e", "count"], "a header of --header has no quotes and no line ends")
         self.refused("a header of two lines", ["describe", "cities.csv", "--header", "a\nb"], "a header of --header has no quotes and no line ends")
 
@@ -209,12 +243,12 @@ class Cases:
 
     def words(self):
         run = ["run", "--table"]
-        number = "bad.csv line 4, n:int: 1 decimal, wanted a whole number: '1.5'; a name without a kind is an int\n"
+        number = "bad.csv line 4, n:int: 1 decimal, wanted a whole number: '1.5'; a name without a kind is an int; sideways import finds kinds\n"
         self.case("a cell behind one of two lines", run + ["bad.csv", "-e", "count"], 2, "",
                   "sideways: refused 2 record 1 field 1\nbad.csv line 2, name:text: byte 4 is a control byte, which no text has: 'two\\nlines'\n")
         listed = "bad.csv line 2, name:text: byte 4 is a control byte, which no text has: 'two\\nlines'\n" + number + (
             "bad.csv line 5: 1 field, the header has 2: n:int is missing\n"
-            "bad.csv line 6, n:int: not a number, wanted a whole number: '\\xff'; a name without a kind is an int\nbad.csv: 4 faults\n")
+            "bad.csv line 6, n:int: not a number, wanted a whole number: '\\xff'; a name without a kind is an int; sideways import finds kinds\nbad.csv: 4 faults\n")
         self.case("all faults", run + ["bad.csv", "-e", "count", "--all-faults"], 2, "", "sideways: refused 2 record 1 field 1\n" + listed)
         self.case("all faults of standard input", run + ["-", "-e", "count", "--all-faults"], 2, "",
                   "sideways: refused 2 record 1 field 1\n" + listed.replace("bad.csv", "standard input"), BAD)
@@ -247,6 +281,13 @@ class Cases:
                   "cell of its column's kind and above those before it, at most 15 of a column\n")
         self.case("more rows than the limit", run + ["t.csv", "-e", "count", "--limit", "3"], 2, "",
                   "sideways: refused 5 limit 3\nt.csv: more than 3 rows\n")
+        self.case("more than eight columns", run + ["-", "-e", "count"], 2, "", "sideways: refused 5 limit 8\nstandard input line 1: 9 columns, "
+                  "at most 8; %s\n" % FEWER, b"a,b,c,d,e,f,g,h,i\n1,2,3,4,5,6,7,8,9\n")
+        for flag in ("--history", "--log"):
+            self.case("a file in no folder", run + ["t.csv", "-e", "count", flag, "none/x"], 3, "4\n",
+                      "sideways: refused 13\nnone/x: it cannot be written\n")
+            self.case("a folder as a file", run + ["t.csv", "-e", "count", flag, "folder"], 3, "4\n",
+                      "sideways: refused 13\nfolder: a folder, wanted a file\n")
         self.case("what explains a kind", ["explain", "2"], 0, ANY, "")
         if "without a kind is an int" not in self.call(["explain", "2"])[1]:
             raise Wrong("WRONG: explain 2 says nothing of a name without a kind")
@@ -275,8 +316,9 @@ class Cases:
         self.refused("a description of no file", ["describe"], "required")
         self.ended("a description of standard input that cannot be read", ["describe", "-"], "stdin", self.folder, 2, b"sideways: refused 12\n")
         for form in ("table", "json"):
-            self.ended("a description to a full device, as %s" % form, ["describe", "t.csv", "--output", form], "stdout", "/dev/full", 3,
-                       b"sideways: refused 13\n")
+            words = ["describe", "t.csv", "--output", form]
+            self.ended("a description to a full device, as %s" % form, words, "stdout", "/dev/full", 3, FULL)
+            self.gone("a description whose reader is gone, as %s" % form, words)
         self.refused("a description in a form that is none", ["describe", "t.csv", "--output", "csv"], "csv")
 
     # Replies in other forms
@@ -312,8 +354,9 @@ class Cases:
         self.case("a table of one column twice", run + ["-e", "select n, n", "--output", "table"], 2, "", ANY)
         self.case("a table of no call", run + ["-e", "# none", "--output", "table"], 2, "", ANY)
         for form in ("lines", "csv", "json", "table"):
-            self.ended("replies to a full device, as %s" % form, run + calls + ["--output", form], "stdout", "/dev/full", 3,
-                       b"sideways: refused 13\n")
+            words = run + calls + ["--output", form]
+            self.ended("replies to a full device, as %s" % form, words, "stdout", "/dev/full", 3, FULL)
+            self.gone("replies whose reader is gone, as %s" % form, words)
 
     # Orders of logs' calls, and from which records the entries came
 

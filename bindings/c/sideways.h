@@ -23,7 +23,7 @@ extern "C" {
 #endif
 
 /* The version of this border: a library of another one is not for this header. */
-#define SIDEWAYS_VERSION 1u
+#define SIDEWAYS_VERSION 2u
 
 /* ---- codes */
 
@@ -70,6 +70,43 @@ typedef struct {
    may be empty. The handle is closed before; refused, it stays closed. Texts are hashed under a key that everybody knows. */
 uint32_t sideways_open(const uint8_t *csv, size_t csv_size, const uint8_t *cuts, size_t cuts_size, const sideways_options *options,
                        sideways *out);
+
+/* Cells of a column: that of the first row comes first, and each other one stands `stride` places (of 8 bytes) behind that of the
+   row before it. With a stride of 0 all rows have the first one. */
+typedef struct {
+    const int64_t *cells;
+    size_t cells_size;
+    uint64_t stride;
+} sideways_cells;
+
+/* An attribute of a table of columns: its name, 1 to 32 letters, digits and _; its kind (SIDEWAYS_INT and so on, below); its cells. */
+typedef struct {
+    const uint8_t *name;
+    size_t name_size;
+    uint32_t kind;
+    sideways_cells cells;
+} sideways_attribute;
+
+/* A table as columns. The texts for which cells of texts stand lie one behind the other: each ends where `ends` says, and begins
+   where the one before it ends; the first has the code 1. Attributes of texts share them, and rows need not have all of them. */
+typedef struct {
+    const sideways_attribute *attributes;
+    size_t attributes_size;
+    uint64_t rows;
+    const uint8_t *texts;
+    size_t texts_size;
+    const uint64_t *ends;
+    size_t ends_size;
+} sideways_columns;
+
+/* Opens an engine over a table of columns, whose rows have the keys 1, 2, 3 and so on. The rest is as at sideways_open. The first of
+   these is told: SIDEWAYS_BAD_TABLE where an attribute has no name, a name that an earlier one has, or no kind; SIDEWAYS_TOO_MANY of
+   more than 8 attributes (before any is looked at), 1,048,576 rows, 1,048,576 texts; SIDEWAYS_BAD_TABLE where a text is none (more
+   than 64 bytes, no UTF-8, control characters), stands twice, ends before it begins or behind them all, or no attribute is of texts;
+   SIDEWAYS_BAD_TABLE where a row has no cell of the attribute's kind: a flag that is not 0 or 1, a code without a text, or no cell
+   within `cells_size`; then what sideways_open tells of cuts and of the limit. */
+uint32_t sideways_open_columns(const sideways_columns *table, const uint8_t *cuts, size_t cuts_size, const sideways_options *options,
+                               sideways *out);
 
 /* Opens the next session and tells its number, from 1; 0 where it is refused. 1,024 at most. */
 uint32_t sideways_session(sideways *h, uint64_t *number);
@@ -150,6 +187,12 @@ uint32_t sideways_column(sideways *h, size_t column, size_t from, int64_t *out, 
 /* Inserts a row of as many cells as there are attributes, and tells its key; 0 where the table is full. */
 uint32_t sideways_insert(sideways *h, uint64_t session, const int64_t *cells, size_t cells_size, uint64_t *key);
 
+/* Inserts rows of as many columns as there are attributes, one call a row, in their order, and tells the key of each (0 where the
+   table is full), and how many stand: all of them, or under another code than 0 those before the row that was refused, which stand
+   in the history; the other keys are as they were. Where any cell is none, SIDEWAYS_BAD_CELL, none stands. */
+uint32_t sideways_insert_many(sideways *h, uint64_t session, const sideways_cells *columns, size_t columns_size, uint64_t *keys,
+                              size_t keys_size, size_t *stand);
+
 /* Deletes the row of a key: removed is 1, or 0 where there is none. */
 uint32_t sideways_delete(sideways *h, uint64_t session, uint64_t key, uint64_t *removed);
 
@@ -162,7 +205,7 @@ uint32_t sideways_delete_where(sideways *h, uint64_t session, const sideways_con
 size_t sideways_attributes(sideways *h);
 
 /* The kind of an attribute: 0 of int, 1 to 6 of fix1 to fix6, 7 of flag, 8 of text. */
-enum { SIDEWAYS_INT = 0, SIDEWAYS_FLAG = 7, SIDEWAYS_TEXT = 8 };
+enum { SIDEWAYS_INT = 0, SIDEWAYS_FIX1 = 1, SIDEWAYS_FIX2 = 2, SIDEWAYS_FIX3 = 3, SIDEWAYS_FIX4 = 4, SIDEWAYS_FIX5 = 5, SIDEWAYS_FIX6 = 6, SIDEWAYS_FLAG = 7, SIDEWAYS_TEXT = 8 };
 uint32_t sideways_kind(sideways *h, uint64_t attribute, uint32_t *kind);
 
 /* Copies the name of an attribute, 1 to 32 bytes, as much as there is room for, and tells its length. */

@@ -266,6 +266,171 @@ static void try_opening(void) {
     sideways_free(h);
 }
 
+/* Whether two handles tell the same history, of the same calls. */
+static void same_history(sideways *one, sideways *two) {
+    size_t size, other;
+    CODE(SIDEWAYS_OK, sideways_close(one));
+    CODE(SIDEWAYS_OK, sideways_close(two));
+    uint8_t *first = whole_text(one, &size), *second = whole_text(two, &other);
+    uint64_t entry;
+    CHECK(size == other && memcmp(first, second, size) == 0);
+    CODE(SIDEWAYS_OK, sideways_check(first, size, &entry));
+    free(first);
+    free(second);
+}
+
+/* A table of columns is that of its text. */
+static void try_columns(void) {
+    columns it;
+    fill_columns(&it);
+    sideways h = SIDEWAYS_CLOSED, text = opened();
+    uint64_t number, found;
+    CODE(SIDEWAYS_OK, open_columns(&it, &OPTIONS, &h));
+    CODE(SIDEWAYS_MISUSE, open_columns(&it, &OPTIONS, &h));
+    memset(&it, 0xff, sizeof it);
+    CODE(SIDEWAYS_OK, sideways_session(&h, &number));
+    CODE(SIDEWAYS_OK, line(&h, 1, "select a, p, ok, city"));
+    CODE(SIDEWAYS_OK, line(&text, 1, "select a, p, ok, city"));
+    CHECK(has_text(&h, "1: 12, 7.50, true, 'Oslo'\n2: 3, 8.00, false, 'Bergen'\n3: 12, -0.25, true, 'Oslo'\n4: 20, 2.00, false, 'it''s'\n(4 rows)\n"));
+    same_history(&h, &text);
+    sideways_free(text);
+    sideways_free(h);
+    /* no rows, no cells: NULL may stand where there is nothing */
+    h = (sideways)SIDEWAYS_CLOSED;
+    sideways_attribute none = {bytes("a"), 1, SIDEWAYS_INT, {NULL, 0, 0}};
+    const sideways_columns empty = {&none, 1, 0, NULL, 0, NULL, 0};
+    CODE(SIDEWAYS_OK, sideways_open_columns(&empty, NULL, 0, &OPTIONS, &h));
+    CODE(SIDEWAYS_OK, sideways_session(&h, &number));
+    CODE(SIDEWAYS_OK, sideways_count(&h, 1, NULL, 0, &found));
+    CHECK(found == 0);
+    sideways_free(h);
+    /* one cell for all rows, a text that no row has, and an empty one */
+    h = (sideways)SIDEWAYS_CLOSED;
+    const int64_t one[1] = {1};
+    const uint64_t ends[2] = {0, 3};
+    sideways_attribute same = {bytes("t"), 1, SIDEWAYS_TEXT, {one, 1, 0}};
+    const sideways_columns repeated = {&same, 1, 1000, bytes("new"), 3, ends, 2};
+    CODE(SIDEWAYS_OK, sideways_open_columns(&repeated, NULL, 0, &OPTIONS, &h));
+    CODE(SIDEWAYS_OK, sideways_session(&h, &number));
+    CODE(SIDEWAYS_OK, line(&h, 1, "count where t = ''"));
+    CHECK(has_text(&h, "1000\n"));
+    CODE(SIDEWAYS_OK, line(&h, 1, "insert 'new'"));
+    CHECK(has_text(&h, "key 1001\n"));
+    sideways_free(h);
+}
+
+static void try_bad_columns(void) {
+    columns it;
+    sideways h = SIDEWAYS_CLOSED;
+#define REFUSED(code, change)                              \
+    do {                                                   \
+        fill_columns(&it);                                 \
+        change;                                            \
+        CODE(code, open_columns(&it, &OPTIONS, &h));       \
+        CHECK(!h.is_open && h.at == NULL);                 \
+    } while (0)
+    REFUSED(SIDEWAYS_BAD_TABLE, it.table.attributes_size = 0);
+    REFUSED(SIDEWAYS_BAD_TABLE, it.attributes[1].name_size = 0);
+    REFUSED(SIDEWAYS_BAD_TABLE, it.attributes[1].name = bytes("\xff"));
+    REFUSED(SIDEWAYS_BAD_TABLE, it.attributes[1].name = bytes(":"));
+    REFUSED(SIDEWAYS_BAD_TABLE, (it.attributes[1].name = bytes("where"), it.attributes[1].name_size = 5));
+    REFUSED(SIDEWAYS_BAD_TABLE, it.attributes[1].name = bytes("a"));
+    REFUSED(SIDEWAYS_BAD_TABLE, it.attributes[0].kind = 9);
+    REFUSED(SIDEWAYS_BAD_TABLE, it.attributes[0].kind = UINT32_MAX);
+    REFUSED(SIDEWAYS_TOO_MANY, it.table.rows = 1048577);
+    REFUSED(SIDEWAYS_TOO_MANY, it.table.rows = UINT64_MAX);
+    REFUSED(SIDEWAYS_BAD_TABLE, it.table.rows = 5);
+    REFUSED(SIDEWAYS_BAD_TABLE, it.attributes[3].cells.cells_size = 6);
+    REFUSED(SIDEWAYS_BAD_TABLE, it.attributes[0].cells.stride = UINT64_MAX);
+    REFUSED(SIDEWAYS_BAD_TABLE, it.attributes[0].cells.stride = UINT64_MAX / 2 + 1);
+    REFUSED(SIDEWAYS_BAD_TABLE, it.cells[2][6] = 2);
+    REFUSED(SIDEWAYS_BAD_TABLE, it.cells[2][0] = -1);
+    REFUSED(SIDEWAYS_BAD_TABLE, it.cells[3][6] = 4);
+    REFUSED(SIDEWAYS_BAD_TABLE, it.cells[3][0] = 0);
+    REFUSED(SIDEWAYS_BAD_TABLE, it.ends[2] = 15);
+    REFUSED(SIDEWAYS_BAD_TABLE, it.ends[2] = 9);
+    REFUSED(SIDEWAYS_BAD_TABLE, it.ends[0] = UINT64_MAX);
+    REFUSED(SIDEWAYS_BAD_TABLE, it.table.texts = bytes("OsloOsloooit's"); it.ends[1] = 8);
+    REFUSED(SIDEWAYS_BAD_TABLE, it.table.texts = bytes("Osl\nBergenit's"));
+    REFUSED(SIDEWAYS_BAD_TABLE, it.table.texts = bytes("Osl\xff""Bergenit's"));
+    REFUSED(SIDEWAYS_BAD_TABLE, it.table.attributes_size = 3);
+#undef REFUSED
+    fill_columns(&it);
+    sideways_attribute nine[9];
+    for (int i = 0; i < 9; i++) nine[i] = it.attributes[0];
+    it.table.attributes = nine, it.table.attributes_size = 9;
+    CODE(SIDEWAYS_TOO_MANY, open_columns(&it, &OPTIONS, &h));
+    fill_columns(&it);
+    sideways_options few = SIDEWAYS_OPTIONS;
+    few.limit = 3;
+    CODE(SIDEWAYS_TOO_MANY, open_columns(&it, &few, &h));
+    few.limit = 0;
+    CODE(SIDEWAYS_BAD_OPTIONS, open_columns(&it, &few, &h));
+    CODE(SIDEWAYS_BAD_LINE, sideways_open_columns(&it.table, bytes("a"), 1, &OPTIONS, &h));
+    CHECK(!h.is_open && h.at == NULL);
+}
+
+/* Many rows at once stand as each alone. */
+static void try_insert_many(void) {
+    sideways h = SIDEWAYS_CLOSED, each = SIDEWAYS_CLOSED;
+    sideways_options small = SIDEWAYS_OPTIONS;
+    small.limit = 6;
+    uint64_t number, keys[4] = {77, 77, 77, 77}, key;
+    size_t stand = 77;
+    CODE(SIDEWAYS_OK, open_text(TABLE, &small, &h));
+    CODE(SIDEWAYS_OK, open_text(TABLE, &small, &each));
+    CODE(SIDEWAYS_OK, sideways_session(&h, &number));
+    CODE(SIDEWAYS_OK, sideways_session(&each, &number));
+    columns it;
+    fill_columns(&it);
+    sideways_cells cells[4];
+    for (int i = 0; i < 4; i++) cells[i] = it.attributes[i].cells;
+    CODE(SIDEWAYS_NO_SESSION, sideways_insert_many(&h, 2, cells, 4, keys, 3, &stand));
+    CHECK(stand == 0);
+    CODE(SIDEWAYS_BAD_CELL, sideways_insert_many(&h, 1, cells, 3, keys, 3, &stand));
+    CODE(SIDEWAYS_BAD_CELL, sideways_insert_many(&h, 1, NULL, 0, keys, 3, &stand));
+    cells[3].cells_size = 6;
+    CODE(SIDEWAYS_BAD_CELL, sideways_insert_many(&h, 1, cells, 4, keys, 4, &stand));
+    cells[3].cells_size = 7;
+    it.cells[3][6] = 4;
+    CODE(SIDEWAYS_BAD_CELL, sideways_insert_many(&h, 1, cells, 4, keys, 4, &stand));
+    CHECK(stand == 0 && keys[0] == 77 && keys[3] == 77);
+    CODE(SIDEWAYS_OK, sideways_insert_many(&h, 1, cells, 4, NULL, 0, &stand));
+    CHECK(stand == 0);
+    CODE(SIDEWAYS_OK, sideways_insert_many(&h, 1, cells, 4, keys, 3, &stand));
+    CHECK(stand == 3 && keys[0] == 5 && keys[1] == 6 && keys[2] == 0 && keys[3] == 77);
+    for (int row = 0; row < 3; row++) {
+        const int64_t one[4] = {it.cells[0][2 * row], it.cells[1][2 * row], it.cells[2][2 * row], it.cells[3][2 * row]};
+        CODE(SIDEWAYS_OK, sideways_insert(&each, 1, one, 4, &key));
+        CHECK(key == keys[row]);
+    }
+    same_history(&h, &each);
+    sideways_free(each);
+    sideways_free(h);
+}
+
+/* A history takes 1,048,576 entries: those that find no room stand before the one that is refused. */
+static void try_full_history(void) {
+    enum { MOST = 1048576 };
+    sideways h = SIDEWAYS_CLOSED;
+    sideways_options small = {1, 0, 0};
+    uint64_t number, found, *keys = calloc(MOST + 2, sizeof *keys);
+    const int64_t one[1] = {7};
+    const sideways_cells cells = {one, 1, 0};
+    size_t stand;
+    CHECK(keys != NULL);
+    keys[MOST] = 77;
+    CODE(SIDEWAYS_OK, open_text("a\n", &small, &h));
+    CODE(SIDEWAYS_OK, sideways_session(&h, &number));
+    CODE(SIDEWAYS_OK, sideways_count(&h, 1, NULL, 0, &found));
+    CODE(SIDEWAYS_HISTORY_FULL, sideways_insert_many(&h, 1, &cells, 1, keys, MOST + 2, &stand));
+    CHECK(stand == MOST - 1 && keys[0] == 1 && keys[1] == 0 && keys[MOST] == 77);
+    CODE(SIDEWAYS_HISTORY_FULL, sideways_insert_many(&h, 1, &cells, 1, keys, 1, &stand));
+    CHECK(stand == 0);
+    free(keys);
+    sideways_free(h);
+}
+
 /* A handle that is closed, ended or zeroed is told to be. Rows are read with another code where a text is left. */
 static void try_unopened(sideways *h) {
     uint32_t no_rows = h->is_open ? SIDEWAYS_NO_ROWS : SIDEWAYS_MISUSE;
@@ -290,6 +455,9 @@ static void try_unopened(sideways *h) {
     CODE(no_rows, sideways_keys(h, 0, keys, 1, &copied));
     CODE(no_rows, sideways_column(h, 0, 0, cells, 1, &copied));
     CODE(SIDEWAYS_MISUSE, sideways_insert(h, 1, cells, 1, &n));
+    const sideways_cells column = {cells, 1, 1};
+    CODE(SIDEWAYS_MISUSE, sideways_insert_many(h, 1, &column, 1, keys, 1, &copied));
+    CHECK(copied == 0 && keys[0] == 77);
     CODE(SIDEWAYS_MISUSE, sideways_delete(h, 1, 1, &n));
     CODE(SIDEWAYS_MISUSE, sideways_delete_where(h, 1, &low, 1, &n));
     CODE(SIDEWAYS_MISUSE, sideways_kind(h, 0, &kind));
@@ -366,6 +534,10 @@ int main(void) {
     try_bad_conditions();
     try_selects();
     try_changes();
+    try_columns();
+    try_bad_columns();
+    try_insert_many();
+    try_full_history();
     try_names();
     try_histories();
     puts("calls: all passed");

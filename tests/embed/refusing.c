@@ -67,13 +67,31 @@ static void try_changes(sideways *h) {
         TRIED(sideways_insert(h, 1, row, 4, &key));
         CHECK(key == i);
     }
+    /* of many rows those stand that came before the one that was refused, and the rest are given once more */
+    columns it;
+    fill_columns(&it);
+    sideways_cells cells[4];
+    uint64_t keys[4] = {0};
+    size_t stand = 0, more = 0;
+    for (int i = 0; i < 4; i++) cells[i] = it.attributes[i].cells;
+    uint32_t code = sideways_insert_many(h, 1, cells, 4, keys, 4, &stand);
+    if (code != SIDEWAYS_OK) {
+        CODE(SIDEWAYS_NO_MEMORY, code);
+        CHECK(stand < 4 && keys[stand] == 0);
+        refused_many = 0;
+        for (int i = 0; i < 4; i++) cells[i].cells += 2 * stand, cells[i].cells_size -= 2 * stand;
+        CODE(SIDEWAYS_OK, sideways_insert_many(h, 1, cells, 4, keys + stand, 4 - stand, &more));
+    }
+    CHECK(stand + more == 4);
+    for (uint64_t i = 0; i < 4; i++) CHECK(keys[i] == 15 + i);
+    made += 4;
     TRIED(sideways_delete(h, 1, 2, &removed));
     CHECK(removed == 1);
     sideways_cond low = within(A, 10, 15);
     TRIED(sideways_delete_where(h, 1, &low, 1, &removed));
-    CHECK(removed == 2);
+    CHECK(removed == 4);
     TRIED(sideways_count(h, 1, NULL, 0, &found));
-    CHECK(found == 11);
+    CHECK(found == 13);
     made += 13;
 }
 
@@ -141,6 +159,14 @@ static void try_text(void) {
     whole(&h);
 }
 
+static void try_open_columns(void) {
+    columns it;
+    fill_columns(&it);
+    sideways h = SIDEWAYS_CLOSED;
+    TRIED(open_columns(&it, &OPTIONS, &h));
+    whole(&h);
+}
+
 /* Runs with one more request refused each time, until a run comes to its end before. */
 static uint64_t try_each(void (*run)(void), uint64_t many) {
     for (refused_from = 1;; refused_from++) {
@@ -154,7 +180,8 @@ static uint64_t try_each(void (*run)(void), uint64_t many) {
 
 int main(void) {
     uint64_t one = try_each(try_text, 1), all = try_each(try_text, UINT64_MAX);
-    CHECK(one > 50 && all > 50);
-    printf("refusing: all passed, %llu requests refused\n", (unsigned long long)(one + all));
+    uint64_t columns_one = try_each(try_open_columns, 1), columns_all = try_each(try_open_columns, UINT64_MAX);
+    CHECK(one > 50 && all > 50 && columns_one > 50 && columns_all > 50);
+    printf("refusing: all passed, %llu requests refused\n", (unsigned long long)(one + all + columns_one + columns_all));
     return 0;
 }

@@ -63,6 +63,32 @@ static inline sideways_cond within(uint64_t attribute, int64_t least, int64_t gr
     return cond;
 }
 
+/* The same table as columns: cells with a stride of 2, the texts one behind the other. The tests change what they try. */
+typedef struct {
+    int64_t cells[4][8];
+    uint64_t ends[3];
+    sideways_attribute attributes[4];
+    sideways_columns table;
+} columns;
+
+static inline void fill_columns(columns *it) {
+    static const int64_t cells[4][8] = {{12, 9, 3, 9, 12, 9, 20}, {750, 9, 800, 9, -25, 9, 200}, {1, 9, 0, 9, 1, 9, 0}, {1, 9, 2, 9, 1, 9, 3}};
+    static const char *names[4] = {"a", "p", "ok", "city"};
+    static const uint32_t kinds[4] = {SIDEWAYS_INT, SIDEWAYS_FIX2, SIDEWAYS_FLAG, SIDEWAYS_TEXT};
+    memcpy(it->cells, cells, sizeof cells);
+    for (int i = 0; i < 4; i++) {
+        sideways_attribute one = {bytes(names[i]), strlen(names[i]), kinds[i], {it->cells[i], 7, 2}};
+        it->attributes[i] = one;
+    }
+    it->ends[0] = 4, it->ends[1] = 10, it->ends[2] = 14;
+    sideways_columns table = {it->attributes, 4, 4, bytes("OsloBergenit's"), 14, it->ends, 3};
+    it->table = table;
+}
+
+static inline uint32_t open_columns(const columns *it, const sideways_options *options, sideways *out) {
+    return sideways_open_columns(&it->table, NULL, 0, options, out);
+}
+
 /* All of the text that a handle keeps; the caller frees it. */
 static inline uint8_t *whole_text(sideways *h, size_t *size) {
     *size = sideways_text_size(h);

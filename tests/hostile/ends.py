@@ -8,7 +8,8 @@ from pathlib import Path
 from histories import check
 from memory import preload, refusing
 from model import run
-from running import TOP, bytes_of, ended, options, told, wrong
+from running import TOP, bytes_of, ended, options, without_words, wrong
+import running
 
 TABLE = b"a:int,b:int,c:int\n12,7,1\n3,8,0\n12,5,1\n20,2,0\n"
 SCRIPT = b"count\nselect b, c where a >= 10\ninsert 1, 2, 3\n---\nsum a\nmin b where c = 0\ndelete 2\nselect a\n"
@@ -25,6 +26,12 @@ _, LONG_OUT, _, LONG_HISTORY = run(LONG_TABLE, LONG_SCRIPT)
 
 # The name of a history until it is whole.
 BEGUN = "sideways.1.part"
+
+def told(program, words, folder, **more):
+    """A run, as `running.told` has it, without the words behind a fault line."""
+    status, out, fault = running.told(program, words, folder, **more)
+    return status, out, without_words(fault)
+
 
 # What the library tells of the failed read or write.
 MET = "read or write failed\n"
@@ -65,7 +72,7 @@ class Ends:
     def streams(self, words, program=None, **more):
         """A run with streams of its own; its status and what it told."""
         done = subprocess.run((program or [self.program]) + words, cwd=self.folder, stdin=subprocess.DEVNULL, timeout=60, **more)
-        return done.returncode, None if done.stderr is None else done.stderr.decode()
+        return done.returncode, None if done.stderr is None else without_words(done.stderr.decode())
 
     # Pipes
 
@@ -83,7 +90,7 @@ class Ends:
         child = subprocess.Popen([self.program] + many, cwd=self.folder, stdout=subprocess.PIPE, stderr=subprocess.PIPE)
         line = child.stdout.readline()
         child.stdout.close()
-        self.held("one line read, then closed", many, (b"1: 0\n", NO_OUTPUT.encode(), 3), (line, child.stderr.read(), child.wait(60)))
+        self.held("one line read, then closed", many, (b"1: 0\n", NO_OUTPUT.encode(), 3), (line, without_words(child.stderr.read().decode()).encode(), child.wait(60)))
         reader, writer = os.pipe()
         os.set_blocking(writer, False)
         self.held("a full pipe that does not wait", many, (3, NO_OUTPUT), self.streams(many, stdout=writer, stderr=subprocess.PIPE))

@@ -10,7 +10,7 @@ from collections import Counter
 from pathlib import Path
 from histories import check
 from model import run
-from running import bytes_of, ended, options, told, wrong
+from running import bytes_of, ended, options, told, without_words, wrong
 
 PAGE = 4096
 NO_OUTPUT = "sideways: refused 13\n"
@@ -104,7 +104,7 @@ class Full:
             done = subprocess.run([self.program] + words, cwd=self.folder, stdin=subprocess.DEVNULL, stdout=streams[0], stderr=streams[1],
                                   timeout=300)
         self.counts[name, done.returncode] += 1
-        return (done.returncode, None if out else done.stdout.decode(errors="replace"), None if fault else done.stderr.decode(errors="replace"))
+        return (done.returncode, None if out else done.stdout.decode(errors="replace"), None if fault else without_words(done.stderr.decode(errors="replace")))
 
     def checked(self, script, path, history):
         """Checks a history that stands there."""

@@ -35,6 +35,12 @@ def told(program, words, folder, **more):
     return done.returncode, done.stdout.decode(errors="replace"), done.stderr.decode(errors="replace")
 
 
+def without_words(text):
+    """What is told on standard error up to its fault line: the words behind that are held by tests/words.py."""
+    at = text.find("sideways: refused ")
+    return text if at < 0 else text[:text.find("\n", at) + 1]
+
+
 class Wrong(Exception):
     pass
 

@@ -4,7 +4,7 @@ import ctypes
 import os
 from ctypes import POINTER, c_bool, c_char_p, c_int64, c_size_t, c_uint32, c_uint64, c_void_p
 
-VERSION = 1
+VERSION = 2
 
 #: The path of the shared library: that beside this file, or what the variable SIDEWAYS_LIBRARY names.
 LIBRARY = os.environ.get("SIDEWAYS_LIBRARY") or os.path.join(os.path.dirname(os.path.abspath(__file__)), "libsideways.so")
@@ -37,6 +37,26 @@ class Cond(ctypes.Structure):
     ]
 
 
+class Cells(ctypes.Structure):
+    _fields_ = [("cells", c_void_p), ("cells_size", c_size_t), ("stride", c_uint64)]
+
+
+class Attribute(ctypes.Structure):
+    _fields_ = [("name", c_char_p), ("name_size", c_size_t), ("kind", c_uint32), ("cells", Cells)]
+
+
+class Columns(ctypes.Structure):
+    _fields_ = [
+        ("attributes", POINTER(Attribute)),
+        ("attributes_size", c_size_t),
+        ("rows", c_uint64),
+        ("texts", c_char_p),
+        ("texts_size", c_size_t),
+        ("ends", c_void_p),
+        ("ends_size", c_size_t),
+    ]
+
+
 class SumWords(ctypes.Structure):
     _fields_ = [("low", c_uint64), ("high", c_int64)]
 
@@ -61,6 +81,7 @@ _CALL = [POINTER(Handle), c_uint64]
 _PARAMETERS = {
     "version": [],
     "open": [c_void_p, c_size_t] + _BYTES + [POINTER(Options), POINTER(Handle)],
+    "open_columns": [POINTER(Columns)] + _BYTES + [POINTER(Options), POINTER(Handle)],
     "session": _TABLE + [POINTER(c_uint64)],
     "close": _TABLE,
     "exec": _CALL + _BYTES,
@@ -74,6 +95,7 @@ _PARAMETERS = {
     "keys": _TABLE + [c_size_t, c_void_p, c_size_t, POINTER(c_size_t)],
     "column": _TABLE + [c_size_t, c_size_t, c_void_p, c_size_t, POINTER(c_size_t)],
     "insert": _CALL + [c_void_p, c_size_t, POINTER(c_uint64)],
+    "insert_many": _CALL + [POINTER(Cells), c_size_t, c_void_p, c_size_t, POINTER(c_size_t)],
     "delete": _CALL + [c_uint64, POINTER(c_uint64)],
     "delete_where": _CALL + _CONDS + [POINTER(c_uint64)],
     "attributes": _TABLE,

@@ -1,15 +1,15 @@
-"""Columns of values as the text of a table, block by block."""
+"""Columns of values as the border takes them: cells of 64 bits, and the texts for which some of them stand."""
 
 import re
 from numbers import Integral
 
 import numpy
 
+from . import _border as border
 from ._border import FLAG, INT, TEXT
 from ._errors import refusal
-from ._kinds import NAMES, check_texts, kind_of, number_cells
+from ._kinds import check_texts, kind_of, number_cells
 
-_BLOCK = 1 << 16
 _NAME = re.compile(r"[A-Za-z_][A-Za-z0-9_]{0,31}")
 
 
@@ -45,22 +45,53 @@ def _is_missing(value) -> bool:
     return value is None or type(value).__name__ == "NAType" or (isinstance(value, float) and value != value)
 
 
-def table_text(columns, kinds) -> bytes:
-    """Columns as a table of comma-separated values."""
-    kinds, arrays, fields = dict(kinds or {}), {}, []
-    for name, column in columns.items():
-        if not isinstance(name, str) or not _NAME.fullmatch(name):
-            raise refusal(2, f"{name!r} is no name of an attribute: it has 1 to 32 letters, digits and _, the first no digit")
-        arrays[name] = as_array(name, column)
-        kind = kind_of(kinds.pop(name)) if name in kinds else found_kind(name, arrays[name])
-        fields.append((f"{name}:{NAMES[kind]}", _field(name, kind, arrays[name])))
-    if kinds:
-        raise ValueError(f"kinds names {', '.join(map(repr, kinds))}, which no column is")
-    rows = one_length(arrays)
-    parts = [",".join(header for header, _field in fields).encode("ascii"), b"\n"]
-    for first in range(0, rows, _BLOCK):
-        parts.append(_records([field for _header, field in fields], first, min(first + _BLOCK, rows)))
-    return b"".join(parts)
+class Given:
+    """A table of columns for the time of a call that opens it. `table` is what the border takes."""
+
+    def __init__(self, columns, kinds, texts):
+        kinds, codes, self._kept = dict(kinds or {}), {}, []
+        for text in texts:
+            codes.setdefault(text, len(codes) + 1)
+        arrays, found = {}, []
+        for name, column in columns.items():
+            if not isinstance(name, str) or not _NAME.fullmatch(name):
+                raise refusal(2, f"{name!r} is no name of an attribute: it has 1 to 32 letters, digits and _, the first no digit")
+            arrays[name] = as_array(name, column)
+            found.append(kind_of(kinds.pop(name)) if name in kinds else found_kind(name, arrays[name]))
+        if kinds:
+            raise ValueError(f"kinds names {', '.join(map(repr, kinds))}, which no column is")
+        rows = one_length(arrays)
+        attributes = (border.Attribute * len(arrays))()
+        for attribute, kind, (name, array) in zip(attributes, found, arrays.items()):
+            cells = text_cells(codes, array) if kind == TEXT else number_cells(name, kind, array)
+            attribute.name, attribute.name_size, attribute.kind = name.encode("ascii"), len(name), kind
+            attribute.cells = self.keep(cells)
+        check_texts(codes)
+        data = [text.encode("utf-8") for text in codes]
+        ends = numpy.cumsum([len(text) for text in data], dtype=numpy.uint64)
+        self._kept.append(ends)
+        joined = b"".join(data)
+        self.table = border.Columns(attributes, len(attributes), rows, joined, len(joined), ends.ctypes.data, ends.size)
+
+    def keep(self, cells: numpy.ndarray) -> border.Cells:
+        column, kept = as_cells(cells)
+        self._kept.append(kept)
+        return column
+
+
+def as_cells(array: numpy.ndarray):
+    """An array of int64 as a column of cells, which are not copied where they can be read as they lie, and what has to be kept
+    meanwhile."""
+    step = array.strides[0]
+    if step < 0 or step % 8 or not array.flags.aligned:
+        array, step = numpy.ascontiguousarray(array), 8
+    size = (array.size - 1) * (step // 8) + 1 if array.size else 0
+    return border.Cells(array.ctypes.data, size, step // 8), array
+
+
+def text_cells(codes, array: numpy.ndarray) -> numpy.ndarray:
+    """The codes of texts; a new text gets the next one."""
+    return numpy.fromiter((codes.setdefault(text, len(codes) + 1) for text in array.tolist()), numpy.int64, array.size)
 
 
 def one_length(arrays) -> int:
@@ -69,58 +100,3 @@ def one_length(arrays) -> int:
     if len(sizes) > 1:
         raise ValueError("the columns have lengths that differ: " + ", ".join(f"{name!r} {array.size}" for name, array in arrays.items()))
     return max(sizes, default=0)
-
-
-def _records(fields, first: int, last: int) -> bytes:
-    """Rows as records: fields of fixed width with zero bytes between their ends, which no table has and which are then left out."""
-    parts = []
-    for field in fields:
-        parts += [field(first, last), numpy.full((last - first, 1), ord(","), numpy.uint8)]
-    parts[-1][:] = ord("\n")
-    wide = numpy.concatenate(parts, axis=1).ravel()
-    return wide.tobytes() if wide.all() else wide[wide != 0].tobytes()
-
-
-def _field(name: str, kind: int, array: numpy.ndarray):
-    """What gives the fields of a column from a row to another as a matrix of bytes, a row each."""
-    if kind == TEXT:
-        places = {text: place for place, text in enumerate(dict.fromkeys(array.tolist()))}
-        check_texts(places)
-        return _words([_quoted(text) for text in places], numpy.fromiter(map(places.__getitem__, array.tolist()), numpy.int64, array.size))
-    cells = number_cells(name, kind, array)
-    if kind == FLAG:
-        return _words([b"false", b"true"], cells)
-    return lambda first, last: _digits(cells[first:last], kind)
-
-
-def _quoted(text: str) -> bytes:
-    return b'"' + text.encode("utf-8").replace(b'"', b'""') + b'"'
-
-
-def _words(words, places):
-    """Words by their places, filled up with zero bytes."""
-    width = max(map(len, words), default=1)
-    table = numpy.frombuffer(b"".join(word.ljust(width, b"\0") for word in words), numpy.uint8).reshape(len(words), width)
-    return lambda first, last: table[places[first:last]]
-
-
-def _digits(cells: numpy.ndarray, decimals: int) -> numpy.ndarray:
-    """Numbers with as many digits as the greatest of them has, zeros in front, a sign or none, and a dot before the decimals."""
-    below = cells < 0
-    signed = bool(below.any())
-    rest = numpy.where(below, ~cells, cells).astype(numpy.uint64) + below if signed else cells.astype(numpy.uint64)
-    most = int(rest.max())
-    rest = rest.astype(numpy.uint32 if most < 1 << 32 else numpy.uint64)
-    wanted = max(len(str(most)), decimals + 1)
-    found = numpy.zeros((cells.size, signed + wanted + (decimals > 0)), numpy.uint8)
-    if signed:
-        found[:, 0] = below * numpy.uint8(ord("-"))
-    place = found.shape[1]
-    for digit in range(wanted):
-        place -= 1
-        if digit == decimals and decimals:
-            found[:, place] = ord(".")
-            place -= 1
-        rest, before = rest // rest.dtype.type(10), rest
-        found[:, place] = before - rest * rest.dtype.type(10) + rest.dtype.type(ord("0"))
-    return found

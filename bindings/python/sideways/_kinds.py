@@ -134,6 +134,8 @@ def number_cells(name: str, kind: int, column: numpy.ndarray) -> numpy.ndarray:
 
 def _whole_cells(name: str, kind: int, column: numpy.ndarray) -> numpy.ndarray:
     ten = 10**kind
+    if kind == INT and numpy.can_cast(column.dtype, numpy.int64):
+        return column.astype(numpy.int64, copy=False)
     if column.size and not LEAST <= int(column.min()) * ten <= int(column.max()) * ten <= GREATEST:
         raise ValueError(f"column {name!r} has a number of more than 64 signed bits as {NAMES[kind]}")
     cells = column.astype(numpy.int64, copy=False)

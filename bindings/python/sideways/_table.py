@@ -12,7 +12,7 @@ import numpy
 
 from . import _border as border
 from ._border import MAPS, MOST_CELLS, MOST_ROWS, TEXT, lib
-from ._columns import as_array, one_length, table_text
+from ._columns import Given, as_array, as_cells, one_length
 from ._errors import Error, Full, answered, refusal
 from ._kinds import NAMES, array_of, cell_of, number_cells, value_of
 from ._where import Conds
@@ -189,13 +189,14 @@ class Session:
         if len(values) != len(engine.attributes):
             raise ValueError(f"a row has {len(engine.attributes)} values, not {len(values)}")
         with engine.lock:
-            row_cells = numpy.empty((1, len(values)), numpy.int64)
+            cells = (ctypes.c_int64 * len(values))()
             for place, ((_place, kind), value) in enumerate(zip(engine.attributes.values(), values)):
-                row_cells[0, place] = self._known(value) if kind == TEXT else cell_of(kind, value)
-            keys = self._insert_rows(row_cells)
-        if keys[0] == 0:
+                cells[place] = self._known(value) if kind == TEXT else cell_of(kind, value)
+            answered(lib.sideways_insert(engine.handle, self.number, cells, len(values), self._found))
+            key = self._found.value
+        if key == 0:
             raise Full()
-        return int(keys[0])
+        return key
 
     def insert_many(self, columns: Mapping, /) -> numpy.ndarray:
         """Inserts a row for each place of these columns, in order; each row is a call of its own in the history.
@@ -212,25 +213,18 @@ class Session:
         """
         engine = self._engine
         arrays = {name: as_array(name, column) for name, column in zip(engine.attributes, self._in_order(columns))}
-        rows = numpy.empty((one_length(arrays), len(arrays)), numpy.int64)
+        rows, kept = one_length(arrays), []
+        keys, stand, cells = numpy.zeros(rows, numpy.uint64), ctypes.c_size_t(), (border.Cells * len(arrays))()
         with engine.lock:
             for name, (place, kind) in engine.attributes.items():
-                rows[:, place] = self._known_cells(arrays[name]) if kind == TEXT else number_cells(name, kind, arrays[name])
-            keys = self._insert_rows(rows)
+                column = self._known_cells(arrays[name]) if kind == TEXT else number_cells(name, kind, arrays[name])
+                cells[place], array = as_cells(column)
+                kept.append(array)
+            code = lib.sideways_insert_many(engine.handle, self.number, cells, len(cells), keys.ctypes.data, rows, stand)
+        if code:
+            raise refusal(code, f"{stand.value} of {rows} rows were inserted" if stand.value else "")
         if keys.size and keys[-1] == 0:
             raise Full(keys)
-        return keys
-
-    def _insert_rows(self, rows: numpy.ndarray) -> numpy.ndarray:
-        """Inserts rows of cells, a call for each, and gives their keys. The lock is held."""
-        insert, handle, number, key = lib.sideways_insert, self._engine.handle, self.number, self._found
-        many, width = rows.shape
-        at, step, keys = rows.ctypes.data, rows.strides[0], numpy.zeros(many, numpy.uint64)
-        for row in range(many):
-            code = insert(handle, number, at + row * step, width, key)
-            if code:
-                raise refusal(code, f"{row} of {many} rows were inserted" if row else "")
-            keys[row] = key.value
         return keys
 
     def delete(self, key: int, /) -> bool:
@@ -373,6 +367,7 @@ class Table(Session):
         columns: Mapping,
         *,
         kinds: Optional[Mapping] = None,
+        texts: Sequence[str] = (),
         cuts: str = "",
         limit: int = MOST_ROWS,
         budget: int = MOST_CELLS,
@@ -382,16 +377,19 @@ class Table(Session):
 
         Arrays of whole numbers become `int`, of bool `flag`, of str `text`. Floats and Decimals want to be told how many decimals
         they have: `kinds={"price": "fix2"}`; each has to be a number of that many decimals. A name has 1 to 32 letters, digits and
-        underscores. What the engine reads is the text of a table that is made of the columns. A row that is inserted later may have the
-        texts alone that some row here has.
+        underscores. Arrays of int64 are read as they lie, whatever their stride. A row that is inserted later may have the texts alone
+        that some row here has, or that are among `texts`.
 
         Args:
             kinds: kinds of columns by name, where others are wanted than those.
+            texts: further texts that the table knows; one of the columns is of texts then.
             cuts, limit, budget, maps: as of `from_csv`.
         """
         if not isinstance(columns, Mapping) and not hasattr(columns, "items"):
             raise TypeError(f"wanted a mapping of names to columns, not {type(columns).__name__}")
-        return cls.from_csv(table_text(columns, kinds), cuts=cuts, limit=limit, budget=budget, maps=maps)
+        given, handle = Given(columns, kinds, texts), border.Handle()
+        answered(lib.sideways_open_columns(given.table, *_cuts(cuts), _options(limit, budget, maps), handle))
+        return cls._opened(handle)
 
     @classmethod
     def from_pandas(cls, frame, **options: Any) -> "Table":

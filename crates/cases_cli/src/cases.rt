@@ -7,7 +7,6 @@ use crate::faults::fault;
 use crate::files::{checked, cuts, explained, file};
 use crate::sinks::{Failing, noted};
 use crate::sources::Faltering;
-use crate::text::unescaped;
 use std::alloc::{AllocError, Global};
 use std::sync::Wait;
 use std::thread::Threads;
@@ -56,6 +55,8 @@ const AMPLE: Way<'static> = Way {
     cuts: "",
     threads: false,
 };
+
+use test_words::unescaped;
 
 /// Ways that change no reply: no box; no cell; an area below 12 and one from there, of an attribute a that has one; and each
 /// block in a thread of its own.

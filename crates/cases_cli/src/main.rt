@@ -1,4 +1,4 @@
-//! Cases of runs, history files, faults and writes as data: `stdin` has a case a line, and `stdout` what each has to give.
+//! Cases of runs, history files, faults and writes as data: `stdin` has a case a line, `stdout` each behind > and below it what it has to give.
 //!
 //! A line is a word and a TEXT, in which \n, \r, \t, \\ and \xHH stand for bytes. One that begins with # is skipped.
 //!
@@ -22,16 +22,19 @@ mod faults;
 mod files;
 mod sinks;
 mod sources;
-mod text;
 
 use crate::cases::Bench;
 use std::io;
+use test_words::mark;
 
 fn main(rt: HostRuntime) -> io::Result<()> {
     let alloc = rt.alloc();
     let mut bench = Bench::new(alloc);
     for line in rt.lines(alloc) {
-        let told = bench.take(&rt, alloc, line?.as_str())?;
+        let line = line?;
+        let case = line.as_str();
+        println!(rt; "{}{case}", mark(case))?;
+        let told = bench.take(&rt, alloc, case)?;
         if !told.is_empty() {
             println!(rt; "{told}")?;
         }

@@ -1,11 +1,11 @@
 //! A case a line.
 
-use crate::text::unescaped;
 use std::alloc::{AllocError, Global};
 use sw_import::{
     Asked, Blank, Fault, How, Imported, Long, Rules, Times, dictionary_of, import, told,
 };
 use sw_rows::{Conds, Counted, Query, Refusal, Reply, TextKey, Want, load, scan};
+use test_words::unescaped;
 
 /// What is chosen for tables.
 #[derive(Drop)]

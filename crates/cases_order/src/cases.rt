@@ -5,13 +5,13 @@ ghost use Rattle.sw_logs.specs.Openings.{IsOpening};
 ghost use Rattle.sw_logs.specs.Orders.{AllFit};
 ghost use Rattle.sw_rows.specs.declared.table.TheConstants.{MOST_ROWS};
 
-use crate::text::unescaped;
 use std::alloc::{AllocError, Global};
 use sw_lang::write_call;
 use sw_logs::{By, Fault, Logged, Opening, Order, read_log, read_opening};
 use sw_order::{Nobody, Outcome, Reached, Rules, find_order, write_reached};
 use sw_rows::{Counted, MOST_ROWS, Refusal, Schema, TextKey};
 use sw_spine::{Entry, State};
+use test_words::unescaped;
 
 /// The header of every log.
 const HEADER: &str = "session,start,end,call,reply\n";

@@ -1,11 +1,11 @@
 //! The table that cases are about, and which case a line is.
 
 use crate::told::{held, or_refused, text_of};
-use crate::words::{number, place, push_unescaped, split};
 use crate::{calls, refusals, replies, sinks, tables};
 use std::alloc::{AllocError, Global};
 use sw_lang::parse_line;
 use sw_rows::{Call, Counted, Refusal, Row, Schema, Update, has_key, update, update_all};
+use test_words::{number, place, push_unescaped, split};
 
 /// A table, and the updates that were made of it.
 #[derive(Drop)]

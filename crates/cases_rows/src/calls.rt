@@ -2,10 +2,10 @@
 
 use crate::sinks::Slow;
 use crate::told::{held, text_of};
-use crate::words::place;
 use std::alloc::{AllocError, Global};
 use sw_lang::{Cuts, parse_cuts, parse_line, write_call};
 use sw_rows::{Call, Cond, Conds, Query, Refusal, Schema, Want};
+use test_words::place;
 
 /// Adds numbers, each after a blank.
 fn push_numbers(alloc: Global, text: &mut String, numbers: &[usize]) -> Result<(), AllocError> {

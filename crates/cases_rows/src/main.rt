@@ -1,4 +1,4 @@
-//! Cases of texts as data: `stdin` has a case a line, and `stdout` what each has to tell.
+//! Cases of texts as data: `stdin` has a case a line, `stdout` each behind > and below it what it has to tell.
 //!
 //! A line is a command, with its arguments after colons, then a blank and a text; README.md has the list. A text has
 //! \n, \r, \t, \\ and \xHH for bytes. An empty line and one that begins with # tell nothing.
@@ -12,13 +12,14 @@ mod sinks;
 mod sources;
 mod tables;
 mod told;
-mod words;
 
 use crate::bench::{Bench, told_of};
 use std::io;
+use test_words::mark;
 
-/// Prints what the case of a line tells.
+/// Prints a line, and what its case tells.
 fn step(rt: &HostRuntime, bench: &mut Bench, line: &str) -> io::Result<()> {
+    println!(rt; "{}{line}", mark(line))?;
     let told = told_of(rt.alloc(), bench, line)?;
     if !told.is_empty() {
         println!(rt; "{told}")?;

@@ -1,9 +1,9 @@
 //! Printed refusals.
 
 use crate::told::held;
-use crate::words::{number, split};
 use std::alloc::Global;
 use sw_rows::{Name, Refusal, Why};
+use test_words::{number, split};
 
 /// The reason of a number, in the order in which they are declared.
 fn why(place: u64) -> Why {

@@ -5,13 +5,13 @@ ghost use Rattle.sw_lang.specs.Fits.{FitsCall};
 
 use crate::sinks::Slow;
 use crate::told::{held, push_line, text_of};
-use crate::words::{cell, number};
 use std::alloc::{AllocError, Global};
 use sw_lang::{parse_line, write_reply};
 use sw_rows::{
     Call, Cells, Conds, Counted, Names, PackedRows, Query, Refusal, Reply, ReplyRows, Row, Schema,
     Sink, Want, answer, matching_keys,
 };
+use test_words::{cell, number};
 
 /// The call of a line; of a line without one the deletion of key 0.
 fn call_of(alloc: Global, schema: &mut Schema, text: &str) -> Result<Call, Refusal>

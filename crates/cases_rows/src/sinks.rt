@@ -1,12 +1,12 @@
 //! A sink that takes little, and fails; and texts that go to it.
 
 use crate::told::{held, text_of};
-use crate::words::{cell, number, split};
 use std::alloc::Global;
 use std::io;
 use std::io::Write;
 use sw_lang::{write_all, write_number};
 use sw_rows::{Counted, Refusal, Sink};
+use test_words::{cell, number, split};
 
 /// A writer that takes at most so many bytes at a time, and fails at one of its writes, counted from 1.
 #[derive(Drop)]

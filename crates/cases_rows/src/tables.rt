@@ -2,9 +2,9 @@
 
 use crate::sources::Faltering;
 use crate::told::{held, or_refused, push_line};
-use crate::words::{number, place, split};
 use std::alloc::{AllocError, Global};
 use sw_rows::{Counted, Refusal, Row, Schema, Source, TextKey, load, read_all, read_cell};
+use test_words::{number, place, split};
 
 /// The attributes of a table.
 fn header(alloc: Global, schema: &Schema) -> Result<String, AllocError> {

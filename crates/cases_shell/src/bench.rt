@@ -5,14 +5,14 @@ ghost use Rattle.sw_rows.specs.declared.table.TheConstants.{MOST_ROWS};
 
 use crate::ends::{Failing, Faltering};
 use crate::notes::Notes;
-use crate::text::unescaped;
 use std::alloc::{AllocError, Global};
 use std::io::{BufRead, BufReader};
 use std::sync::Wait;
 use std::thread::Threads;
 use sw_cli::{Options, blank_boxes, check_file, write_record};
 use sw_rows::{Counted, MOST_ROWS, Refusal, Sink, TextKey};
-use sw_shell::{Ended, converse};
+use sw_shell::{Console, Ended, converse};
+use test_words::unescaped;
 
 /// A limit of rows.
 #[derive(Clone, Copy)]
@@ -31,14 +31,12 @@ fn limit_of(text: &str) -> Limit {
 }
 
 /// A shell over a table.
-fn shell<R: Threads + Wait + Sync, B: BufRead, W: Sink>(
+fn shell<R: Threads + Wait + Sync, B: BufRead + Drop, W: Sink + Drop>(
     rt: &R,
     alloc: Global,
     table: &[u8],
     limit: Limit,
-    lines: &mut B,
-    out: &mut W,
-    host: &mut Notes,
+    console: &mut Console<B, W, Notes>,
 ) -> Result<Ended, Refusal> {
     let options = Options {
         limit: limit.rows,
@@ -47,16 +45,8 @@ fn shell<R: Threads + Wait + Sync, B: BufRead, W: Sink>(
         key: TextKey::fixed(),
     };
     let maps = blank_boxes(alloc, 1 << 20, 64)?;
-    converse(
-        rt,
-        alloc,
-        &mut Counted::new(table),
-        &options,
-        maps,
-        lines,
-        out,
-        host,
-    )
+    let mut table = Counted::new(table);
+    converse(rt, alloc, &mut table, &options, maps, console)
 }
 
 /// Why a shell ended, if it failed.
@@ -127,13 +117,14 @@ impl Bench {
         word: &str,
         lines: &[u8],
     ) -> Result<String, AllocError> {
-        let mut host = Notes::new(alloc);
-        let mut out = Counted::new(Vec::new(alloc));
-        let mut lines = lines;
+        let mut console = Console {
+            lines,
+            out: Counted::new(Vec::new(alloc)),
+            host: Notes::new(alloc),
+        };
         let table = self.table.as_slice();
-        let ended = shell(
-            rt, alloc, table, self.limit, &mut lines, &mut out, &mut host,
-        );
+        let ended = shell(rt, alloc, table, self.limit, &mut console);
+        let Console { out, host, .. } = console;
         match word {
             "file" => String::from_utf8_lossy(alloc, file_of(alloc, &ended).as_slice()),
             "check" => verdict(alloc, &ended),
@@ -149,13 +140,14 @@ impl Bench {
         lines: &[u8],
         left: u64,
     ) -> Result<String, AllocError> {
-        let mut host = Notes::new(alloc);
-        let mut out = Counted::new(Failing::new(alloc, left));
-        let mut lines = lines;
+        let mut console = Console {
+            lines,
+            out: Counted::new(Failing::new(alloc, left)),
+            host: Notes::new(alloc),
+        };
         let table = self.table.as_slice();
-        let ended = shell(
-            rt, alloc, table, self.limit, &mut lines, &mut out, &mut host,
-        );
+        let ended = shell(rt, alloc, table, self.limit, &mut console);
+        let Console { out, host, .. } = console;
         let mut text = told(alloc, out.inner.bytes(), &host, why(&ended))?;
         text.push_str("; ")?;
         text.push_str(verdict(alloc, &ended)?.as_str())?;
@@ -170,15 +162,17 @@ impl Bench {
         lines: &[u8],
         left: u64,
     ) -> Result<String, AllocError> {
-        let Ok(mut lines) = BufReader::new(alloc, Faltering::new(lines, left)) else {
+        let Ok(lines) = BufReader::new(alloc, Faltering::new(lines, left)) else {
             return Err(AllocError);
         };
-        let mut host = Notes::new(alloc);
-        let mut out = Counted::new(Vec::new(alloc));
+        let mut console = Console {
+            lines,
+            out: Counted::new(Vec::new(alloc)),
+            host: Notes::new(alloc),
+        };
         let table = self.table.as_slice();
-        let ended = shell(
-            rt, alloc, table, self.limit, &mut lines, &mut out, &mut host,
-        );
+        let ended = shell(rt, alloc, table, self.limit, &mut console);
+        let Console { out, host, .. } = console;
         let mut text = told(alloc, out.inner.as_slice(), &host, why(&ended))?;
         text.push_str("; ")?;
         text.push_str(verdict(alloc, &ended)?.as_str())?;

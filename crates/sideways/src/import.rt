@@ -1,7 +1,7 @@
 //! The words of `import`, and what they ask for.
 
-use clap::{Arg, ArgAction, ArgMatches, Command};
-use std::alloc::{AllocError, Global};
+use crate::args::{Takes, Verb, Word};
+use clap::ArgMatches;
 use sw_program::{Asked, Blank, How, Import, Long, Rules, Times};
 use sw_rows::MOST_ROWS;
 
@@ -24,160 +24,112 @@ const LONG: &[&str] = &["cut", "drop", "number"];
 /// What may become of records with fewer fields than the header.
 const RAGGED: &[&str] = &["fill"];
 
-fn value<'a>(alloc: Global, name: &'a str, of: &'a str, help: &'a str) -> Arg<'a> {
-    Arg::new(alloc, name)
-        .long(name)
-        .value_name(of)
-        .help(help)
-        .action(ArgAction::Set)
-}
-
-fn file<'a>(alloc: Global) -> Arg<'a> {
-    Arg::new(alloc, "file")
-        .value_name("FILE")
-        .help("The values, comma-separated, with headings in the first record; - is standard input")
-        .required(true)
-        .action(ArgAction::Set)
-}
-
-fn columns<'a>(alloc: Global) -> Arg<'a> {
-    value(
-        alloc,
-        "columns",
-        "LIST",
-        "The columns that are written, in this order, by heading or by number from 1, divided by commas; else the first eight",
-    )
-}
-
-fn names<'a>(alloc: Global) -> Arg<'a> {
-    value(
-        alloc,
-        "rename",
-        "COLUMN=NAME",
-        "The name of a column, where its heading is not to give it; may be given again",
-    )
-    .action(ArgAction::Append)
-}
-
-fn kinds<'a>(alloc: Global) -> Arg<'a> {
-    value(
-        alloc,
-        "kind",
-        "COLUMN=KIND",
-        "The kind of a column, where its cells are not to give it: int, fix1 to fix6, flag, text, seconds or days; may be given again",
-    )
-    .action(ArgAction::Append)
-}
-
-fn times<'a>(alloc: Global) -> Arg<'a> {
-    value(
-        alloc,
-        "times",
-        "AS",
-        "What becomes of columns of ISO 8601 dates and times: whole seconds since 1970 in UTC, or of dates alone days since then, or texts",
-    )
-    .default_value("seconds")
-    .value_parser(TIMES)
-}
-
-fn empty<'a>(alloc: Global) -> Arg<'a> {
-    value(
-        alloc,
-        "empty",
-        "CHOICE",
-        "What becomes of empty cells of numbers, flags and times, which are refused else: drop leaves their rows out, text makes the column one of texts, anything else is written in their place",
-    )
-    .allow_hyphen_values(true)
-}
-
-fn null<'a>(alloc: Global) -> Arg<'a> {
-    value(
-        alloc,
-        "null",
-        "WORD",
-        "A word that stands for no value, as an empty cell does, in columns of numbers, flags and times",
-    )
-    .allow_hyphen_values(true)
-}
-
-fn long<'a>(alloc: Global) -> Arg<'a> {
-    value(
-        alloc,
-        "long",
-        "CHOICE",
-        "What becomes of texts of more than 64 bytes or with control bytes, which are refused else: cut writes the longest beginning that can be a text, drop leaves their rows out, number writes numbers that stand for the texts of the column",
-    )
-    .value_parser(LONG)
-}
-
-fn dictionary<'a>(alloc: Global) -> Arg<'a> {
-    value(
-        alloc,
-        "dictionary",
-        "FILE",
-        "Where the texts are written for which --long number writes numbers: column, number and text, comma-separated",
-    )
-}
-
-fn sample<'a>(alloc: Global) -> Arg<'a> {
-    value(
-        alloc,
-        "sample",
-        "ROWS",
-        "How many rows are written, from the first on: 1 to 1048576; the kinds still come from all",
-    )
-    .value_parser(clap::value_parser!(u64).range(1..=MOST_ROWS as i64))
-}
-
-fn ragged<'a>(alloc: Global) -> Arg<'a> {
-    value(
-        alloc,
-        "ragged",
-        "CHOICE",
-        "What becomes of records with fewer fields than the header, which are refused else: fill takes the missing ones for empty",
-    )
-    .value_parser(RAGGED)
-}
-
-fn delimiter<'a>(alloc: Global) -> Arg<'a> {
-    value(
-        alloc,
-        "delimiter",
-        "BYTE",
-        "What divides the values of a record: one character of ASCII, or \\t",
-    )
-    .default_value(",")
-    .allow_hyphen_values(true)
-}
-
-fn no_header<'a>(alloc: Global) -> Arg<'a> {
-    Arg::new(alloc, "no-header")
-        .long("no-header")
-        .help(
-            "The first record has values, and no headings; the headings are column_1, column_2 and so on",
-        )
-        .action(ArgAction::SetTrue)
-}
-
-/// The command `import`: the file, which of its columns are written, and what becomes of their cells.
-pub(crate) fn import_command<'a>(alloc: Global) -> Result<Command<'a>, AllocError> {
-    Command::new(alloc, "import")
-        .about("Makes a table of comma-separated values, on standard output")
-        .after_help(EXAMPLES)
-        .arg(file(alloc))?
-        .arg(columns(alloc))?
-        .arg(names(alloc))?
-        .arg(kinds(alloc))?
-        .arg(times(alloc))?
-        .arg(empty(alloc))?
-        .arg(null(alloc))?
-        .arg(long(alloc))?
-        .arg(dictionary(alloc))?
-        .arg(sample(alloc))?
-        .arg(ragged(alloc))?
-        .arg(delimiter(alloc))?
-        .arg(no_header(alloc))
-}
+/// The words of `import`: the file, which of its columns are written, and what becomes of their cells.
+pub(crate) const IMPORT: Verb = Verb {
+    name: "import",
+    about: "Makes a table of comma-separated values, on standard output",
+    examples: EXAMPLES,
+    words: &[
+        Word {
+            name: "file",
+            of: "FILE",
+            takes: Takes::Place,
+            usual: None,
+            help: "The values, comma-separated, with headings in the first record; - is standard input",
+        },
+        Word {
+            name: "columns",
+            of: "LIST",
+            takes: Takes::Text,
+            usual: None,
+            help: "The columns that are written, in this order, by heading or by number from 1, divided by commas; else the first eight",
+        },
+        Word {
+            name: "rename",
+            of: "COLUMN=NAME",
+            takes: Takes::Texts,
+            usual: None,
+            help: "The name of a column, where its heading is not to give it; may be given again",
+        },
+        Word {
+            name: "kind",
+            of: "COLUMN=KIND",
+            takes: Takes::Texts,
+            usual: None,
+            help: "The kind of a column, where its cells are not to give it: int, fix1 to fix6, flag, text, seconds or days; may be given again",
+        },
+        Word {
+            name: "times",
+            of: "AS",
+            takes: Takes::OneOf(TIMES),
+            usual: Some("seconds"),
+            help: "What becomes of columns of ISO 8601 dates and times: whole seconds since 1970 in UTC, or of dates alone days since then, or texts",
+        },
+        Word {
+            name: "empty",
+            of: "CHOICE",
+            takes: Takes::AnyText,
+            usual: None,
+            help: "What becomes of empty cells of numbers, flags and times, which are refused else: drop leaves their rows out, text makes the column one of texts, anything else is written in their place",
+        },
+        Word {
+            name: "null",
+            of: "WORD",
+            takes: Takes::AnyText,
+            usual: None,
+            help: "A word that stands for no value, as an empty cell does, in columns of numbers, flags and times",
+        },
+        Word {
+            name: "long",
+            of: "CHOICE",
+            takes: Takes::OneOf(LONG),
+            usual: None,
+            help: "What becomes of texts of more than 64 bytes or with control bytes, which are refused else: cut writes the longest beginning that can be a text, drop leaves their rows out, number writes numbers that stand for the texts of the column",
+        },
+        Word {
+            name: "dictionary",
+            of: "FILE",
+            takes: Takes::Text,
+            usual: None,
+            help: "Where the texts are written for which --long number writes numbers: column, number and text, comma-separated",
+        },
+        Word {
+            name: "sample",
+            of: "ROWS",
+            takes: Takes::Within(1, MOST_ROWS as i64),
+            usual: None,
+            help: "How many rows are written, from the first on: 1 to 1048576; the kinds still come from all",
+        },
+        Word {
+            name: "ragged",
+            of: "CHOICE",
+            takes: Takes::OneOf(RAGGED),
+            usual: None,
+            help: "What becomes of records with fewer fields than the header, which are refused else: fill takes the missing ones for empty",
+        },
+        Word {
+            name: "delimiter",
+            of: "BYTE",
+            takes: Takes::AnyText,
+            usual: Some(","),
+            help: "What divides the values of a record: one character of ASCII, or \\t",
+        },
+        Word {
+            name: "no-header",
+            of: "",
+            takes: Takes::Nothing,
+            usual: None,
+            help: "The first record has values, and no headings; the headings are column_1, column_2 and so on",
+        },
+        Word {
+            name: "quiet",
+            of: "",
+            takes: Takes::Nothing,
+            usual: None,
+            help: "Leaves out the lines that tell on standard error, where that is a terminal, how many lines were read: one a second, after the first second",
+        },
+    ],
+};
 
 /// The words of an argument that may be given again.
 fn words<'g, 'a>(given: &'g ArgMatches<'a>, name: &str) -> &'g [&'a str] {
@@ -256,11 +208,15 @@ pub(crate) const NO_DELIMITER: &str =
     "the delimiter is one character of ASCII, no quote and no end of a line, or \\t";
 
 /// The table that the words ask for; none where the delimiter is none.
-pub(crate) fn import_of<'g, 'a: 'g>(given: &'g ArgMatches<'a>) -> Option<Import<'g>> {
+pub(crate) fn import_of<'g, 'a: 'g>(
+    given: &'g ArgMatches<'a>,
+    is_terminal: bool,
+) -> Option<Import<'g>> {
     let delimiter = delimiter_of(given)?;
     Some(Import {
         file: given.get_str("file")?,
         how: how_of(given, delimiter),
         dictionary: given.get_str("dictionary"),
+        progress: is_terminal && !given.get_flag("quiet"),
     })
 }

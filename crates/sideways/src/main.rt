@@ -5,6 +5,7 @@
 //! read is refused, and 3 where a call, the output or memory is.
 #![tactic(auto)]
 
+mod args;
 mod import;
 mod order;
 mod shell;
@@ -286,13 +287,11 @@ fn make_order<
 }
 
 /// Makes the table that the words ask for, unless their delimiter is none, or the dictionary would be written over another of its files.
-fn make_import<R: Files + RandomSource + Print + Eprint + Input + Threads + Sync, E: Sink + Drop>(
-    rt: &R,
-    alloc: Global,
-    given: &ArgMatches<'_>,
-    errors: &mut Errors<E>,
-) -> Result<u8, Refusal> {
-    let Some(import) = import_of(given) else {
+fn make_import<
+    R: Files + RandomSource + Clock + Print + Eprint + Input + Threads + Sync,
+    E: Sink + Drop,
+>(rt: &R, alloc: Global, given: &ArgMatches<'_>, errors: &mut Errors<E>) -> Result<u8, Refusal> {
+    let Some(import) = import_of(given, errors.is_terminal) else {
         return refuse_words(rt, alloc, NO_DELIMITER);
     };
     match import.clash(rt) {
@@ -312,7 +311,7 @@ fn make_command<
         Some(("order", given)) => make_order(rt, alloc, given, errors),
         Some(("import", given)) => make_import(rt, alloc, given, errors),
         Some(("shell", given)) => make_shell(rt, alloc, given, errors),
-        Some(("explain", given)) => explain(rt, given.get_one::<u64>("number")),
+        Some(("explain", given)) => explain(rt, alloc, given.get_one::<u64>("number")),
         Some((_, given)) => make_run(rt, alloc, given, errors),
         None => Ok(2),
     }

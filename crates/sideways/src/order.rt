@@ -1,10 +1,10 @@
 //! The words of `order`, and what it asks for.
 
+use crate::args::{LIMIT, Takes, Verb, Word, command_of, with};
 use clap::{Arg, ArgAction, ArgMatches, Command};
 use std::alloc::{AllocError, Global};
 use sw_logs::By;
 use sw_program::{Limit, Ordering, Way};
-use sw_rows::MOST_ROWS;
 
 /// The greatest number of states.
 const MOST_STATES: i64 = 1_000_000_000;
@@ -29,14 +29,72 @@ Examples:
 Status 0: found; 1: none, with nothing left to try, and why; 2: the table or a log is refused; 3: given up.
 ";
 
-fn table<'a>(alloc: Global) -> Arg<'a> {
-    Arg::new(alloc, "table")
-        .long("table")
-        .value_name("FILE")
-        .help("The table that the calls were made on; its rows have the keys 1, 2, 3 and so on")
-        .required(true)
-        .action(ArgAction::Set)
-}
+/// Which calls may have to stand before which.
+const BY: &[&str] = &["times", "sessions"];
+
+/// Which keys inserts may be given.
+const KEYS: &[&str] = &["counted", "any"];
+
+/// The words of `order` before the logs.
+const ORDER: Verb = Verb {
+    name: "order",
+    about: "Looks for an order of the calls in sessions' logs in which a plain list of rows gives each reply, and writes it as a history",
+    examples: EXAMPLES,
+    words: &[Word {
+        name: "table",
+        of: "FILE",
+        takes: Takes::Needed,
+        usual: None,
+        help: "The table that the calls were made on; its rows have the keys 1, 2, 3 and so on",
+    }],
+};
+
+/// The words of `order` behind the logs.
+const MORE: &[Word] = &[
+    Word {
+        name: "by",
+        of: "WHAT",
+        takes: Takes::OneOf(BY),
+        usual: Some("times"),
+        help: "Which calls have to stand before which: by times, a call that ended before another began; by sessions, a session's calls in their order alone",
+    },
+    Word {
+        name: "keys",
+        of: "WHAT",
+        takes: Takes::OneOf(KEYS),
+        usual: Some("counted"),
+        help: "Which keys inserts are given: counted, one more than the rows ever inserted; any, whatever the store gave, which the history renames to these",
+    },
+    Word {
+        name: "slack",
+        of: "TIME",
+        takes: Takes::Number,
+        usual: Some("0"),
+        help: "By how much the sessions' clocks may differ, in the logs' unit of time",
+    },
+    Word {
+        name: "states",
+        of: "N",
+        takes: Takes::Within(1, MOST_STATES),
+        usual: Some("4000000"),
+        help: "How many states are remembered at most, some 40 bytes each: 1 to 1000000000",
+    },
+    LIMIT,
+    Word {
+        name: "where",
+        of: "FILE",
+        takes: Takes::Text,
+        usual: None,
+        help: "Where it is written from which log and record each entry of the history came",
+    },
+    Word {
+        name: "quiet",
+        of: "",
+        takes: Takes::Nothing,
+        usual: None,
+        help: "Leaves out the lines that tell on a terminal how far the search is",
+    },
+];
 
 fn logs<'a>(alloc: Global) -> Arg<'a> {
     Arg::new(alloc, "logs")
@@ -47,103 +105,10 @@ fn logs<'a>(alloc: Global) -> Arg<'a> {
         .action(ArgAction::Append)
 }
 
-fn by<'a>(alloc: Global) -> Arg<'a> {
-    Arg::new(alloc, "by")
-        .long("by")
-        .value_name("WHAT")
-        .help(
-            "Which calls have to stand before which: by times, a call that ended before another began; by sessions, a session's calls in their order alone",
-        )
-        .default_value("times")
-        .value_parser(["times", "sessions"].as_slice())
-        .action(ArgAction::Set)
-}
-
-fn keys<'a>(alloc: Global) -> Arg<'a> {
-    Arg::new(alloc, "keys")
-        .long("keys")
-        .value_name("WHAT")
-        .help(
-            "Which keys inserts are given: counted, one more than the rows ever inserted; any, whatever the store gave, which the history renames to these",
-        )
-        .default_value("counted")
-        .value_parser(["counted", "any"].as_slice())
-        .action(ArgAction::Set)
-}
-
-fn number<'a>(alloc: Global, name: &'a str, of: &'a str, help: &'a str, usual: &'a str) -> Arg<'a> {
-    Arg::new(alloc, name)
-        .long(name)
-        .value_name(of)
-        .help(help)
-        .default_value(usual)
-        .action(ArgAction::Set)
-}
-
-fn slack<'a>(alloc: Global) -> Arg<'a> {
-    number(
-        alloc,
-        "slack",
-        "TIME",
-        "By how much the sessions' clocks may differ, in the logs' unit of time",
-        "0",
-    )
-    .value_parser(clap::value_parser!(u64))
-}
-
-fn states<'a>(alloc: Global) -> Arg<'a> {
-    number(
-        alloc,
-        "states",
-        "N",
-        "How many states are remembered at most, some 40 bytes each: 1 to 1000000000",
-        "4000000",
-    )
-    .value_parser(clap::value_parser!(u64).range(1..=MOST_STATES))
-}
-
-fn limit<'a>(alloc: Global) -> Arg<'a> {
-    number(
-        alloc,
-        "limit",
-        "ROWS",
-        "How many rows are ever inserted at most, those of the table included: 1 to 1048576",
-        "1048576",
-    )
-    .value_parser(clap::value_parser!(u64).range(1..=MOST_ROWS as i64))
-}
-
-fn origins<'a>(alloc: Global) -> Arg<'a> {
-    Arg::new(alloc, "where")
-        .long("where")
-        .value_name("FILE")
-        .help("Where it is written from which log and record each entry of the history came")
-        .action(ArgAction::Set)
-}
-
-fn quiet<'a>(alloc: Global) -> Arg<'a> {
-    Arg::new(alloc, "quiet")
-        .long("quiet")
-        .help("Leaves out the lines that tell on a terminal how far the search is")
-        .action(ArgAction::SetTrue)
-}
-
 /// The words of `order`.
 pub(crate) fn order_command<'a>(alloc: Global) -> Result<Command<'a>, AllocError> {
-    Command::new(alloc, "order")
-        .about(
-            "Looks for an order of the calls in sessions' logs in which a plain list of rows gives each reply, and writes it as a history",
-        )
-        .after_help(EXAMPLES)
-        .arg(table(alloc))?
-        .arg(logs(alloc))?
-        .arg(by(alloc))?
-        .arg(keys(alloc))?
-        .arg(slack(alloc))?
-        .arg(states(alloc))?
-        .arg(limit(alloc))?
-        .arg(origins(alloc))?
-        .arg(quiet(alloc))
+    let command = command_of(alloc, &ORDER)?.arg(logs(alloc))?;
+    with(alloc, command, MORE)
 }
 
 /// Which calls have to stand before which.

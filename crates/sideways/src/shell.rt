@@ -1,8 +1,6 @@
 //! The words of `shell`.
 
-use crate::words::{all_faults, budget, cuts, header, history, limit, maps};
-use clap::{Arg, ArgAction, Command};
-use std::alloc::{AllocError, Global};
+use crate::args::{ALL_FAULTS, BUDGET, CUTS, HEADER, HISTORY, LIMIT, MAPS, Takes, Verb, Word};
 
 /// What stands behind the flags in the help.
 const EXAMPLES: &str = "\
@@ -21,30 +19,31 @@ Status 0: all was answered; 2: a line, the table or the command line was refused
 ";
 
 /// The words of `shell`.
-pub(crate) fn shell_command<'a>(alloc: Global) -> Result<Command<'a>, AllocError> {
-    Command::new(alloc, "shell")
-        .about("Answers calls over a table, each when it is entered")
-        .after_help(EXAMPLES)
-        .arg(
-            Arg::new(alloc, "file")
-                .value_name("FILE")
-                .help("The table")
-                .required(true)
-                .action(ArgAction::Set),
-        )?
-        .arg(header(alloc))?
-        .arg(budget(alloc))?
-        .arg(maps(alloc))?
-        .arg(cuts(alloc))?
-        .arg(limit(alloc))?
-        .arg(all_faults(alloc))?
-        .arg(history(alloc))?
-        .arg(
-            Arg::new(alloc, "names")
-                .long("names")
-                .help(
-                    "Prints the names of the table's attributes and the words that a line may have, one a line, for completion, and ends",
-                )
-                .action(ArgAction::SetTrue),
-        )
-}
+pub(crate) const SHELL: Verb = Verb {
+    name: "shell",
+    about: "Answers calls over a table, each when it is entered",
+    examples: EXAMPLES,
+    words: &[
+        Word {
+            name: "file",
+            of: "FILE",
+            takes: Takes::Place,
+            usual: None,
+            help: "The table",
+        },
+        HEADER,
+        BUDGET,
+        MAPS,
+        CUTS,
+        LIMIT,
+        ALL_FAULTS,
+        HISTORY,
+        Word {
+            name: "names",
+            of: "",
+            takes: Takes::Nothing,
+            usual: None,
+            help: "Prints the names of the table's attributes and the words that a line may have, one a line, for completion, and ends",
+        },
+    ],
+};

@@ -1,5 +1,6 @@
 pub mod Calls
 pub mod Executing
+pub mod Inserts
 pub mod Opens
 pub mod Replying
 pub mod Selected

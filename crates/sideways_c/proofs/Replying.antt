@@ -97,7 +97,7 @@ replies_max session a ranges old new r m = of_reply IsLeast (asked.Select (wante
 
 -- ---- changes
 
-inserts_by : (full : Bool) (key : ℕ) → IsInsert (if full then reply.Full else reply.Inserted key)
+pub inserts_by : (full : Bool) (key : ℕ) → IsInsert (if full then reply.Full else reply.Inserted key)
 inserts_by true key = tt
 inserts_by false key = tt
 

@@ -3,6 +3,7 @@ pub mod Checked
 pub mod Codes
 pub mod Executed
 pub mod Handles
+pub mod Inserts
 pub mod Looks
 pub mod Opened
 pub mod Selects

@@ -1,9 +1,10 @@
 -- Engines that are opened and ended.
 use Rattle.std.specs.Prelude.{ℕ, ◌≡◌, ◌≤◌, ◌<◌, ◌+◌, ◌==◌, ◌&&◌, ◌⊎◌, if◌then◌else◌, Bool, true, false, nat_le, nat_lt, List, Option, None, Some, Result, Ok, Err}
 use Rattle.std.specs.Str.{is_utf8}
+use Rattle.sw_rows.specs.Faults.{Fault}
 use Rattle.sw_rows.specs.Gives.{Fails}
 use Rattle.sw_rows.specs.Header.{Column}
-use Rattle.sw_rows.specs.Tables.{Table, table_of}
+use Rattle.sw_rows.specs.Tables.{Table}
 use Rattle.sw_rows.specs.declared.refusal.Refusal.{Refusal}
 use Rattle.sw_rows.specs.declared.refusal.Refusal.TheVariants.{BadLine, NoMemory}
 use Rattle.sw_rows.specs.declared.refusal.Why.TheVariants as why
@@ -41,38 +42,38 @@ pub record AreSound (o : Options) : Type 0 where
 abbrev pub cuts_in : List Column → List ℕ → Result CutLists Refusal
 cuts_in columns text = if is_utf8 text then refused 0 (cuts_at columns text) else Err (BadLine 0 why.Cuts)
 
--- what the engine of a table and cuts is refused for: a fault of the table; or one of the cuts; or more rows than the limit;
--- or there is no memory
-abbrev pub IsNotOpening : List ℕ → List ℕ → ℕ → Refusal → Type 0
-IsNotOpening table cuts limit e =
-    Fails (Unit {0}) e (table_of table)
-    ⊎ ((t : Table) × (table_of table ≡ Ok t) × ((cuts_in t.columns cuts ≡ Err e) ⊎ RefusesRows limit t.rows e))
+-- what the engine of what was read and of cuts is refused for: a fault of the table; or one of the cuts; or more rows than
+-- the limit; or there is no memory
+abbrev pub IsNotOpening : Result Table Fault → List ℕ → ℕ → Refusal → Type 0
+IsNotOpening read cuts limit e =
+    Fails (Unit {0}) e read
+    ⊎ ((t : Table) × (read ≡ Ok t) × ((cuts_in t.columns cuts ≡ Err e) ⊎ RefusesRows limit t.rows e))
 
--- an engine with no calls and no sessions over the table that these bytes spell
-abbrev pub IsOpening : List ℕ → List ℕ → ℕ → Result SoloState Refusal → Type 0
-IsOpening table cuts limit (Ok s) =
-    (t : Table) × (lists : CutLists) × (table_of table ≡ Ok t) × (cuts_in t.columns cuts ≡ Ok lists)
+-- an engine with no calls and no sessions over the table that was read
+abbrev pub IsOpening : Result Table Fault → List ℕ → ℕ → Result SoloState Refusal → Type 0
+IsOpening read cuts limit (Ok s) =
+    (t : Table) × (lists : CutLists) × (read ≡ Ok t) × (cuts_in t.columns cuts ≡ Ok lists)
     × (s ≡ new_solo t.columns t.rows limit)
-IsOpening table cuts limit (Err e) = IsNotOpening table cuts limit e
+IsOpening read cuts limit (Err e) = IsNotOpening read cuts limit e
 
 -- the handle of such an engine
-abbrev pub IsHandleOf : List ℕ → List ℕ → ℕ → Option Shown → Type 0
-IsHandleOf table cuts limit h = (s : SoloState) × IsOpening table cuts limit (Ok s) × (h ≡ Some (over s))
+abbrev pub IsHandleOf : Result Table Fault → List ℕ → ℕ → Option Shown → Type 0
+IsHandleOf read cuts limit h = (s : SoloState) × IsOpening read cuts limit (Ok s) × (h ≡ Some (over s))
 
-abbrev pub IsHandleOr : List ℕ → List ℕ → ℕ → Result Sideways Refusal → Type 0
-IsHandleOr table cuts limit (Ok h) = IsHandleOf table cuts limit (seen h)
-IsHandleOr table cuts limit (Err e) = IsNotOpening table cuts limit e
+abbrev pub IsHandleOr : Result Table Fault → List ℕ → ℕ → Result Sideways Refusal → Type 0
+IsHandleOr read cuts limit (Ok h) = IsHandleOf read cuts limit (seen h)
+IsHandleOr read cuts limit (Err e) = IsNotOpening read cuts limit e
 
 -- what comes of a closed handle under options that are sound, and under others
-abbrev pub OpensUnder : Bool → List ℕ → List ℕ → ℕ → Option Shown → ℕ → Type 0
-OpensUnder true table cuts limit new code =
-    ((code ≡ OK) × IsHandleOf table cuts limit new)
-    ⊎ ((e : Refusal) × IsNotOpening table cuts limit e × (code ≡ code_of e) × (new ≡ None))
-OpensUnder false table cuts limit new code = (code ≡ BAD_OPTIONS) × (new ≡ None)
+abbrev pub OpensUnder : Bool → Result Table Fault → List ℕ → ℕ → Option Shown → ℕ → Type 0
+OpensUnder true read cuts limit new code =
+    ((code ≡ OK) × IsHandleOf read cuts limit new)
+    ⊎ ((e : Refusal) × IsNotOpening read cuts limit e × (code ≡ code_of e) × (new ≡ None))
+OpensUnder false read cuts limit new code = (code ≡ BAD_OPTIONS) × (new ≡ None)
 
-abbrev pub OpensHandle : List ℕ → List ℕ → Options → Option Shown → Option Shown → ℕ → Type 0
-OpensHandle table cuts options None new code = OpensUnder (are_sound options) table cuts options.limit new code
-OpensHandle table cuts options (Some h) new code = (code ≡ MISUSE) × (new ≡ Some h)
+abbrev pub OpensHandle : Result Table Fault → List ℕ → Options → Option Shown → Option Shown → ℕ → Type 0
+OpensHandle read cuts options None new code = OpensUnder (are_sound options) read cuts options.limit new code
+OpensHandle read cuts options (Some h) new code = (code ≡ MISUSE) × (new ≡ Some h)
 
 -- ---- sessions
 

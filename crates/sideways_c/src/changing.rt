@@ -11,7 +11,7 @@ use sw_arrays::{Asked, Range};
 use sw_rows::Reply;
 
 /// The key of an inserted row, or 0 where there was no room.
-fn key_in(reply: &Reply) -> u64
+pub(crate) fn key_in(reply: &Reply) -> u64
     requires { IsInsert reply.now }
     ensures { IsKeyTold result reply.now }
 {

@@ -12,6 +12,7 @@ mod handle;
 mod histories;
 mod holder;
 mod inner;
+mod inserting;
 mod kept;
 mod lines;
 mod opening;

@@ -1,10 +1,13 @@
 //! Engines that are opened and ended, and their sessions.
 
-ghost use Rattle.std.specs.Prelude.{◌≡◌, true, IfOk, IsOkUnless};
+ghost use Rattle.std.specs.Prelude.{◌≡◌, true, Ok, IfOk, IsOkUnless};
+ghost use Rattle.sw_rows.specs.Tables.{shown_packed, table_of};
 ghost use Rattle.sw_rows.specs.declared.refusal.Refusal.TheVariants.{NoMemory};
 ghost use Rattle.sw_lang.specs.Cuts.{FitCuts};
 ghost use Rattle.sw_lang.specs.Reading.{Answers};
+ghost use Rattle.sw_spine.specs.Table.{is_numbered};
 ghost use Rattle.sw_histories.specs.RecordText.{record_text};
+ghost use Rattle.sw_arrays.specs.Columns.{table_in};
 ghost use Rattle.sideways_c.specs.Handles.{engine_in, seen};
 ghost use Rattle.sideways_c.specs.Opened.{AreSound, ClosesHandle, ClosesIn, EnrolsHandle, EnrolsIn, IsHandleOr, IsOpening, OpensHandle, are_sound, cuts_in, number_told};
 
@@ -15,10 +18,11 @@ use crate::holder::Sideways;
 use crate::state::State;
 use core::mem::replace_with;
 use std::alloc::Global;
+use sw_arrays::{Given, table_in};
 use sw_histories::write_record;
 use sw_lang::{Cuts, parse_cuts};
 use sw_map::PairMap;
-use sw_rows::{Counted, MOST_ROWS, Refusal, Schema, TextKey, Why, load};
+use sw_rows::{Counted, MOST_ROWS, PackedRows, Refusal, Schema, TextKey, Why, load};
 use sw_solo::Solo;
 use sw_spine::Record;
 
@@ -62,30 +66,33 @@ fn cuts_of(alloc: Global, schema: &Schema, text: &[u8]) -> Result<Cuts, Refusal>
     }
 }
 
-/// An engine over the table of these bytes, with these cuts and no session.
+/// How an engine is opened over rows that were read.
+#[derive(Clone, Copy)]
+struct Over<'a> {
+    cuts: &'a [u8],
+    options: Options,
+}
+
+/// An engine over a table that was read, with these cuts and no session.
 fn opened(
     alloc: Global,
-    table: &[u8],
-    cuts: &[u8],
-    options: Options,
+    schema: Schema,
+    rows: PackedRows,
+    over: Over<'_>,
 ) -> Result<Solo<PairMap>, Refusal>
-    requires { AreSound options }
-    ensures { IsOpening table.now cuts.now options.limit result }
+    requires sound { AreSound over.options }
+    requires numbered { is_numbered 1 rows.items ≡ true }
+    ensures { IsOpening (Ok (shown_packed (schema, rows))) over.entry.cuts.now over.entry.options.limit result }
 {
-    let mut source = Counted::new(table);
-    let (schema, rows) = match load(alloc, TextKey::fixed(), &mut source) {
-        Ok(found) => found,
-        Err(e) => return Err(e),
-    };
-    let cuts = match cuts_of(alloc, &schema, cuts) {
+    let cuts = match cuts_of(alloc, &schema, over.cuts) {
         Ok(cuts) => cuts,
         Err(e) => return Err(e),
     };
-    let mut solo = match Solo::open(alloc, schema, rows, cuts, options.limit) {
+    let mut solo = match Solo::open(alloc, schema, rows, cuts, over.options.limit) {
         Ok(solo) => solo,
         Err(e) => return Err(e),
     };
-    match supply(alloc, &mut solo, options.budget, options.maps) {
+    match supply(alloc, &mut solo, over.options.budget, over.options.maps) {
         Ok(()) => Ok(solo),
         Err(e) => Err(e),
     }
@@ -94,19 +101,44 @@ fn opened(
 /// A handle of such an engine.
 fn opened_handle(
     alloc: Global,
-    table: &[u8],
-    cuts: &[u8],
-    options: Options,
+    schema: Schema,
+    rows: PackedRows,
+    over: Over<'_>,
 ) -> Result<Sideways, Refusal>
-    requires { AreSound options }
-    ensures { IsHandleOr table.now cuts.now options.limit result }
+    requires sound { AreSound over.options }
+    requires numbered { is_numbered 1 rows.items ≡ true }
+    ensures { IsHandleOr (Ok (shown_packed (schema, rows))) over.entry.cuts.now over.entry.options.limit result }
 {
-    let solo = match opened(alloc, table, cuts, options) {
+    let solo = match opened(alloc, schema, rows, over) {
         Ok(solo) => solo,
         Err(e) => return Err(e),
     };
     match handle_of(alloc, State::over(alloc, solo)) {
         Ok(h) => Ok(h),
+        Err(e) => Err(e),
+    }
+}
+
+/// A handle of the engine over the table of these bytes.
+fn from_bytes(alloc: Global, table: &[u8], over: Over<'_>) -> Result<Sideways, Refusal>
+    requires { AreSound over.options }
+    ensures { IsHandleOr (table_of table.now) over.entry.cuts.now over.entry.options.limit result }
+{
+    let mut source = Counted::new(table);
+    match load(alloc, TextKey::fixed(), &mut source) {
+        Ok((schema, rows)) => opened_handle(alloc, schema, rows, over),
+        Err(e) => Err(e),
+    }
+}
+
+/// A handle of the engine over the table of these columns.
+#[tactic(auto, using(crate::proofs::Opens::fails_any))]
+fn from_columns(alloc: Global, table: Given<'_>, over: Over<'_>) -> Result<Sideways, Refusal>
+    requires { AreSound over.options }
+    ensures { IsHandleOr (table_in table.entry) over.entry.cuts.now over.entry.options.limit result }
+{
+    match table_in(alloc, TextKey::fixed(), table) {
+        Ok((schema, rows)) => opened_handle(alloc, schema, rows, over),
         Err(e) => Err(e),
     }
 }
@@ -120,7 +152,7 @@ pub extern "C" fn sideways_open(
     options: &Options,
     out: &mut Sideways,
 ) -> u32
-    ensures { OpensHandle table.now cuts.now options.now (seen out.old) (seen out.new) result }
+    ensures { OpensHandle (table_of table.now) cuts.now options.now (seen out.old) (seen out.new) result }
 {
     if out.is_open {
         return MISUSE;
@@ -128,7 +160,35 @@ pub extern "C" fn sideways_open(
     if !are_sound(options) {
         return BAD_OPTIONS;
     }
-    match opened_handle(alloc, table, cuts, *options) {
+    let options = *options;
+    match from_bytes(alloc, table, Over { cuts, options }) {
+        Ok(made) => {
+            *out = made;
+            OK
+        }
+        Err(e) => code_of(&e),
+    }
+}
+
+/// The same over the table of columns.
+#[unsafe(no_mangle)]
+pub extern "C" fn sideways_open_columns(
+    alloc: Global,
+    table: &Given<'_>,
+    cuts: &[u8],
+    options: &Options,
+    out: &mut Sideways,
+) -> u32
+    ensures { OpensHandle (table_in table.now) cuts.now options.now (seen out.old) (seen out.new) result }
+{
+    if out.is_open {
+        return MISUSE;
+    }
+    if !are_sound(options) {
+        return BAD_OPTIONS;
+    }
+    let options = *options;
+    match from_columns(alloc, *table, Over { cuts, options }) {
         Ok(made) => {
             *out = made;
             OK

@@ -16,7 +16,7 @@ use sw_rows::{Kind, Schema};
 use sw_solo::{SeatStats, Solo};
 
 /// Takes the engine out, and leaves another in its place.
-fn exchanged(h: Sideways, solo: Option<Solo<PairMap>>) -> (Sideways, Option<Solo<PairMap>>)
+pub(crate) fn exchanged(h: Sideways, solo: Option<Solo<PairMap>>) -> (Sideways, Option<Solo<PairMap>>)
     requires { h.is_open ≡ true }
     ensures { HasExchangedEngine solo result.1 (seen h) (seen result.0) }
 {

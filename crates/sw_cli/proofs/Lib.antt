@@ -2,7 +2,8 @@ pub mod Blocks
 pub mod Calls
 pub mod Complete
 pub mod Lists
-pub mod Mine
+pub mod Entries
+pub mod Left
 pub mod Outcomes
 pub mod Ran
 pub mod Records

@@ -8,9 +8,9 @@ use Rattle.sw_table.specs.declared.row.Row.{Row}
 use Rattle.sw_table.specs.declared.row.Update.{Update}
 use Rattle.sw_rows.specs.Header.{Column, IsSchema, kinds_of}
 use Rattle.sw_rows.specs.declared.query.Call.{Call}
-use Rattle.sw_rows.specs.declared.reply.Reply.{Reply}
+use Rattle.sw_lang.specs.Grammar.{IsLine}
 use Rattle.sw_lang.proofs.Lines.{line_found}
-use Rattle.sw_spine.specs.History.{Agrees, AllAgree, History, all_given, is_absent, is_given, is_open, is_select, mine, with_answer}
+use Rattle.sw_spine.specs.History.{Agrees, AllAgree, History, all_given, is_absent, is_given, is_open}
 use Rattle.sw_spine.specs.Rest.{none_open}
 use Rattle.sw_spine.specs.Table.{opened, updates_then}
 use Rattle.sw_spine.specs.declared.history.Entry.{Entry}
@@ -20,10 +20,14 @@ use Rattle.sw_histories.specs.ReadBack.{HasCells, IsCalled, IsOfRun, IsStateOf}
 use Rattle.sw_histories.proofs.LegalFiles.{files_found_legal}
 use Rattle.sw_cli.specs.Outcomes.{Outcome, calls_of}
 use Rattle.sw_cli.specs.Run.{Leaves, Start, is_session, start_of}
-use Rattle.sw_cli.specs.RunRecords.{IsGiven, IsGivenIfVoid, IsLeft, RecordsAreFoundLegal, RecordsAreOfRuns, VoidsAreGiven}
+use Rattle.sw_cli.specs.RunRecords.{IsLeft, RecordsAreFoundLegal, RecordsAreOfRuns}
 use Rattle.sw_cli.proofs.Learned.{IsRead}
-use Rattle.sw_cli.proofs.Mine.{AllOfMine, all_mine, first_mine, rest_mine}
+use Rattle.sw_cli.proofs.Entries.{AllOfEntries, all_entries}
 use Rattle.sw_cli.proofs.TextCalls.{AllOver, start_over}
+
+-- a call that some line gives
+abbrev IsGiven : List Column → Call → Type 0
+IsGiven columns c = (line : List ℕ) × IsLine columns line (Some c)
 
 -- no session but the first so many has entries
 abbrev AllAlone : ℕ → List Entry → Type 0
@@ -43,25 +47,26 @@ first-alone n e es h = by_test (is_session n e.session) refl
         let same : (e.session == e.session) ≡ true = grind (arith, nat_tests) in
         absurd (true≢false (sym apart ∙ ap not same))
 
--- its call is one that a line gives, and what has become of it goes with the call
-state-given : (columns : List Column) (limit : ℕ) (us : List Update) (c : Call) (st : State) (rest : List (Call × Reply)) → Agrees columns limit us c st → is_given st ≡ true → not (is_open st) ≡ true → IsGivenIfVoid columns c st → ((x : Call) → IsRead columns x → IsGiven columns x) → All (λ (m : Call × Reply). IsRead columns m.0) (with_answer c st rest) → IsGiven columns c × IsStateOf c st
-state-given columns limit us c (Answered r) rest agrees given closed void line mine_are = (line c (All-head (λ (m : Call × Reply). IsRead columns m.0) (c, r) rest mine_are), tt)
-state-given columns limit us c (Lines ls) rest agrees given closed void line mine_are = absurd (true≢false (sym given))
-state-given columns limit us c Open rest agrees given closed void line mine_are = absurd (true≢false (sym closed))
-state-given columns limit us c Void rest agrees given closed void line mine_are = (void, agrees)
+-- what has become of an entry goes with its call
+state-given : (columns : List Column) (limit : ℕ) (us : List Update) (c : Call) (st : State) → Agrees columns limit us c st → is_given st ≡ true → not (is_open st) ≡ true → IsStateOf c st
+state-given columns limit us c (Answered r) agrees given closed = tt
+state-given columns limit us c (Lines ls) agrees given closed = absurd (true≢false (sym given))
+state-given columns limit us c Open agrees given closed = absurd (true≢false (sym closed))
+state-given columns limit us c Void agrees given closed = agrees
 
-entries-called : (columns : List Column) (n limit : ℕ) (us : List Update) (es : List Entry) → n ≤ 1024 → ((x : Call) → IsRead columns x → IsGiven columns x) → AllAgree columns limit us es → all_given es ≡ true → none_open es ≡ true → AllOfMine (IsRead columns) es → AllAlone n es → VoidsAreGiven columns es → All (IsCalled columns) es
-entries-called columns n limit us [] few line agree given closed mine_are alone voids = All-nil (IsCalled columns)
-entries-called columns n limit us (e ∷ es) few line agree given closed mine_are alone voids =
+entries-called : (columns : List Column) (n limit : ℕ) (us : List Update) (es : List Entry) → n ≤ 1024 → ((x : Call) → IsRead columns x → IsGiven columns x) → AllAgree columns limit us es → all_given es ≡ true → none_open es ≡ true → AllOfEntries (IsRead columns) es → AllAlone n es → All (IsCalled columns) es
+entries-called columns n limit us [] few line agree given closed read alone = All-nil (IsCalled columns)
+entries-called columns n limit us (e ∷ es) few line agree given closed read alone =
     let kept = and_parts (is_given e.state) (all_given es) given in
     let shut = and_parts (not (is_open e.state)) (none_open es) closed in
-    let is = state-given columns limit us e.call e.state (mine e.session es) agree.0 kept.0 shut.0 (All-head (λ (x : Entry). IsGivenIfVoid columns x.call x.state) e es voids) line (first_mine (IsRead columns) e es mine_are) in
+    let is = state-given columns limit us e.call e.state agree.0 kept.0 shut.0 in
+    let called : IsGiven columns e.call = line e.call (All-head (λ (x : Entry). IsRead columns x.call) e es read) in
     let session = first-alone n e es alone in
     let first : 0 < e.session = grind (arith, nat_tests, session) in
     let last : e.session ≤ n = grind (arith, nat_tests, session) in
-    let here : IsCalled columns e = record { line = is.0.0; call = is.0.1; first = first; last = omega (arith, last, few); state = is.1 } in
+    let here : IsCalled columns e = record { line = called.0; call = called.1; first = first; last = omega (arith, last, few); state = is } in
     All-cons (IsCalled columns) e es here
-    (entries-called columns n limit (updates_then limit us e.call) es few line agree.1 kept.1 shut.1 (rest_mine (IsRead columns) e es mine_are) (rest-alone n e es alone) (All-tail (λ (x : Entry). IsGivenIfVoid columns x.call x.state) e es voids))
+    (entries-called columns n limit (updates_then limit us e.call) es few line agree.1 kept.1 shut.1 (All-tail (λ (x : Entry). IsRead columns x.call) e es read) (rest-alone n e es alone))
 
 pub records_of_runs : RecordsAreOfRuns
 records_of_runs limit cuts table script s h read l =
@@ -70,9 +75,9 @@ records_of_runs limit cuts table script s h read l =
     let many : length l.told ≡ length s.blocks = sym (length-map l.told calls_of) ∙ ap (λ (bs : List (List Call)). length bs) l.leaves.calls in
     let few : length l.told ≤ 1024 = omega (arith, many, o.few) in
     let line : (x : Call) → IsRead s.columns x → IsGiven s.columns x = λ x is. (is.0, line_found s.columns is.0 (Some x) is.1) in
-    let mine_are = all_mine (IsRead s.columns) limit s l.told l.old l.new h l.leaves o.read in
+    let were_read = all_entries (IsRead s.columns) limit s l.told l.old l.new h l.leaves o.read in
     let agree : AllAgree s.columns h.limit (opened h.rows) h.entries = subst (λ (cs : List Column). AllAgree cs h.limit (opened h.rows) h.entries) r.columns_are r.legal in
-    let calls = entries-called s.columns (length l.told) h.limit (opened h.rows) h.entries few line agree r.given r.closed mine_are r.alone l.voids in
+    let calls = entries-called s.columns (length l.told) h.limit (opened h.rows) h.entries few line agree r.given r.closed were_read r.alone in
     record {
       sound = l.sound;
       schema = subst IsSchema (sym r.columns_are) o.schema;

@@ -16,17 +16,16 @@ use Rattle.sw_rows.specs.declared.query.Cond.{Cond}
 use Rattle.sw_rows.specs.declared.reply.Reply.{Reply}
 use Rattle.sw_rows.specs.declared.reply.Reply.TheVariants.{RemovedMany}
 use Rattle.sw_rows.proofs.TextRowLaws.{answer_over_texts, matching_over_texts}
-use Rattle.sw_spine.specs.History.{Agrees, AllAgree, History, all_given, is_given, is_select, mine, with_answer}
+use Rattle.sw_spine.specs.History.{Agrees, AllAgree, History, all_given, is_given, is_select}
 use Rattle.sw_spine.specs.Table.{inserts, opened, removals, reply_to, row, updates_then}
 use Rattle.sw_spine.specs.declared.history.Entry.{Entry}
 use Rattle.sw_spine.specs.declared.history.State.{State}
 use Rattle.sw_spine.specs.declared.history.State.TheVariants.{Answered, Lines, Open, Void}
-use Rattle.sw_spine.proofs.Histories.{mine_absent}
 use Rattle.sw_spine.proofs.StoreLemmas.{rows_of_opened, rows_push}
-use Rattle.sw_cli.specs.Outcomes.{Outcome, answered, calls_of}
-use Rattle.sw_cli.specs.Run.{Leaves, Start, is_session, start_of}
+use Rattle.sw_cli.specs.Outcomes.{Outcome}
+use Rattle.sw_cli.specs.Run.{Leaves, Start, start_of}
 use Rattle.sw_cli.specs.TextCalls.{AreEntriesOverTexts, AreRepliesOverTexts, GivesOverTexts, IsOverTexts, IsReplyOverTexts}
-use Rattle.sw_cli.proofs.Mine.{AllOfMine, all_mine, first_mine, rest_mine}
+use Rattle.sw_cli.proofs.Entries.{all_entries}
 use Rattle.sw_cli.proofs.TextCalls.{start_over}
 
 -- ---- rows stay coded
@@ -90,13 +89,9 @@ run_over limit cuts table script s calls h one =
 
 -- ---- replies of a record
 
--- an answered call is over texts
-abbrev Over : List Column → Call × Reply → Type 0
-Over columns m = IsOverTexts columns m.0
-
--- so are those of each session
-abbrev AllMine : List Column → List Entry → Type 0
-AllMine columns es = AllOfMine (IsOverTexts columns) es
+-- the call of an entry is over texts
+abbrev Over : List Column → Entry → Type 0
+Over columns e = IsOverTexts columns e.call
 
 select-keeps : (columns : List Column) (limit : ℕ) (us : List Update) (c : Call) → is_select c ≡ true → HasCoded columns us → HasCoded columns (updates_then limit us c)
 select-keeps columns limit us (Select q) is h = none-keeps columns us h
@@ -105,13 +100,11 @@ select-keeps columns limit us (Delete key) is h = absurd (true≢false (sym is))
 select-keeps columns limit us (DeleteWhere conds) is h = absurd (true≢false (sym is))
 
 -- an entry gives a reply over texts, where it gives one, and rows stay coded
-entry-over : (columns : List Column) (limit : ℕ) (us : List Update) (c : Call) (st : State) (rest : List (Call × Reply)) → IsSchema columns → HasCoded columns us → Agrees columns limit us c st → is_given st ≡ true → All (Over columns) (with_answer c st rest) → GivesOverTexts columns (rows_of us) c st × HasCoded columns (updates_then limit us c)
-entry-over columns limit us c (Answered r) rest is h agrees given mine_are =
-    let over : IsOverTexts columns c = All-head (Over columns) (c, r) rest mine_are in
-    (subst (IsReplyOverTexts columns (rows_of us) c) (sym agrees) (reply-over columns limit us c is h over), call_keeps columns limit us c h over)
-entry-over columns limit us c (Lines ls) rest is h agrees given mine_are = absurd (true≢false (sym given))
-entry-over columns limit us c Open rest is h agrees given mine_are = (tt, select-keeps columns limit us c agrees h)
-entry-over columns limit us c Void rest is h agrees given mine_are = (tt, select-keeps columns limit us c agrees h)
+entry-over : (columns : List Column) (limit : ℕ) (us : List Update) (c : Call) (st : State) → IsSchema columns → HasCoded columns us → Agrees columns limit us c st → is_given st ≡ true → IsOverTexts columns c → GivesOverTexts columns (rows_of us) c st × HasCoded columns (updates_then limit us c)
+entry-over columns limit us c (Answered r) is h agrees given over = (subst (IsReplyOverTexts columns (rows_of us) c) (sym agrees) (reply-over columns limit us c is h over), call_keeps columns limit us c h over)
+entry-over columns limit us c (Lines ls) is h agrees given over = absurd (true≢false (sym given))
+entry-over columns limit us c Open is h agrees given over = (tt, select-keeps columns limit us c agrees h)
+entry-over columns limit us c Void is h agrees given over = (tt, select-keeps columns limit us c agrees h)
 
 and-left : (a b : Bool) → (a && b) ≡ true → a ≡ true
 and-left true b h = refl
@@ -121,11 +114,11 @@ and-right : (a b : Bool) → (a && b) ≡ true → b ≡ true
 and-right true b h = h
 and-right false b h = absurd cc
 
-entries-over : (columns : List Column) (limit : ℕ) (us : List Update) (es : List Entry) → IsSchema columns → HasCoded columns us → AllAgree columns limit us es → all_given es ≡ true → AllMine columns es → AreEntriesOverTexts columns limit us es
+entries-over : (columns : List Column) (limit : ℕ) (us : List Update) (es : List Entry) → IsSchema columns → HasCoded columns us → AllAgree columns limit us es → all_given es ≡ true → All (Over columns) es → AreEntriesOverTexts columns limit us es
 entries-over columns limit us [] is h agree given over = tt
 entries-over columns limit us (e ∷ es) is h agree given over =
-    let first = entry-over columns limit us e.call e.state (mine e.session es) is h agree.0 (and-left (is_given e.state) (all_given es) given) (first_mine (IsOverTexts columns) e es over) in
-    (first.0, entries-over columns limit (updates_then limit us e.call) es is first.1 agree.1 (and-right (is_given e.state) (all_given es) given) (rest_mine (IsOverTexts columns) e es over))
+    let first = entry-over columns limit us e.call e.state is h agree.0 (and-left (is_given e.state) (all_given es) given) (All-head (Over columns) e es over) in
+    (first.0, entries-over columns limit (updates_then limit us e.call) es is first.1 agree.1 (and-right (is_given e.state) (all_given es) given) (All-tail (Over columns) e es over))
 
 legal-from : (c d : List Column) (m n : ℕ) (x y : List Row) (h : History) → c ≡ d → m ≡ n → x ≡ y → AllAgree c m (opened x) h.entries → AllAgree d n (opened y) h.entries
 legal-from c d m n x y h ec em ex a = subst (λ (d : List Column). AllAgree d n (opened y) h.entries) ec (subst (λ (n : ℕ). AllAgree c n (opened y) h.entries) em (subst (λ (y : List Row). AllAgree c m (opened y) h.entries) ex a))
@@ -135,4 +128,4 @@ record_over limit cuts table script s told old new h read l =
     let o = start_over limit cuts table script s read in
     let r = l.record_is in
     let agree : AllAgree s.columns limit (opened s.rows) h.entries = legal-from h.columns s.columns h.limit limit h.rows s.rows h r.columns_are r.limit_is r.rows_are r.legal in
-    entries-over s.columns limit (opened s.rows) h.entries o.schema (opened-coded s.columns s.rows o.rows) agree r.given (all_mine (IsOverTexts s.columns) limit s told old new h l o.calls)
+    entries-over s.columns limit (opened s.rows) h.entries o.schema (opened-coded s.columns s.rows o.rows) agree r.given (all_entries (IsOverTexts s.columns) limit s told old new h l o.calls)

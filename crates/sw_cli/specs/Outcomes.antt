@@ -1,5 +1,5 @@
 -- What the calls of a script came to, and the text of it.
-use Rattle.std.specs.Prelude.{◌≡◌, ℕ, zero, suc, ◌+◌, ◌++◌, List, [], ◌∷◌, codes, length, map, All, IfErr, Result, Ok, Err}
+use Rattle.std.specs.Prelude.{◌≡◌, ◌⊎◌, ℕ, zero, suc, ◌+◌, ◌++◌, true, List, [], ◌∷◌, codes, length, map, All, IfErr, Result, Ok, Err}
 use Rattle.sw_rows.specs.Header.{Column}
 use Rattle.sw_rows.specs.declared.query.Call.{Call}
 use Rattle.sw_rows.specs.declared.reply.Reply.{Reply}
@@ -7,7 +7,9 @@ use Rattle.sw_rows.specs.declared.refusal.Refusal.{Refusal}
 use Rattle.sw_rows.specs.declared.refusal.Refusal.TheVariants as refusal
 use Rattle.sw_lang.specs.Replies.{reply_bytes}
 use Rattle.sw_engine.specs.Desk.{RefusesCall}
-use Rattle.sw_spine.specs.History.{History, mine}
+use Rattle.sw_spine.specs.History.{History, is_select, mine}
+use Rattle.sw_spine.specs.declared.history.State.{State}
+use Rattle.sw_spine.specs.declared.history.State.TheVariants as state
 
 -- what came of a call: its reply, or why it was refused
 abbrev pub Told : Type 0
@@ -49,6 +51,19 @@ abbrev pub answered : List Outcome → List (Call × Reply)
 answered [] = []
 answered ((c, Ok r) ∷ told) = (c, r) ∷ answered told
 answered ((c, Err e) ∷ told) = answered told
+
+-- what a call left among its session's entries: answered, its entry with the reply; refused, none, or of a select a void
+-- one
+abbrev pub Left : Call → Told → List (Call × State) → Type 0
+Left c (Ok r) es = es ≡ (c, state.Answered r) ∷ []
+Left c (Err e) es = (es ≡ []) ⊎ ((is_select c ≡ true) × (es ≡ (c, state.Void) ∷ []))
+
+-- what the calls of a block left, one after another
+abbrev pub AllLeft : List Outcome → List (Call × State) → Type 0
+AllLeft [] es = es ≡ []
+AllLeft (o ∷ told) es =
+    (first : List (Call × State)) × (rest : List (Call × State))
+    × (es ≡ first ++ rest) × Left o.0 o.1 first × AllLeft told rest
 
 -- the line of a call that was refused: the number of the refusal
 abbrev pub refused_line : Refusal → List ℕ

@@ -17,7 +17,8 @@ use Rattle.sw_spine.specs.History.{History, IsLegal, all_given, is_absent, mine}
 use Rattle.sw_spine.specs.Rest.{none_open}
 use Rattle.sw_spine.specs.Table.{opened, reply_to, updates_then}
 use Rattle.sw_histories.specs.Told.{◌>>=◌}
-use Rattle.sw_cli.specs.Outcomes.{AllSayWhy, Outcome, all_answered, answered, calls_of, sessions_from, text_of}
+use Rattle.sw_engine.specs.Own.{own}
+use Rattle.sw_cli.specs.Outcomes.{AllLeft, AllSayWhy, Outcome, all_answered, answered, calls_of, sessions_from, text_of}
 use Rattle.sw_cli.specs.Script.{Script, blocks_of}
 
 -- ---- what a run starts from
@@ -68,8 +69,9 @@ abbrev pub is_session : ℕ → ℕ → Bool
 is_session n session = nat_lt 0 session && nat_le session n
 
 -- The record of a table whose sessions 1, 2, 3 and so on made the calls of these outcomes, one block each: it is legal,
--- from the attributes, rows and limit of the table; the answered calls of block i are those of session i, no other
--- session has entries, and none is open.
+-- from the attributes, rows and limit of the table; the entries of session i are those that the calls of block i left, in
+-- order: each with its reply, or void where a select was refused, or none; the answered ones are those of the block, no
+-- other session has entries, and none is open.
 pub record IsRecordOf (columns : List Column) (rows : List Row) (limit : ℕ) (told : List (List Outcome)) (h : History)
     : Type 0 where
   pub columns_are : h.columns ≡ columns
@@ -77,6 +79,7 @@ pub record IsRecordOf (columns : List Column) (rows : List Row) (limit : ℕ) (t
   pub limit_is : h.limit ≡ limit
   pub legal : IsLegal h
   pub given : all_given h.entries ≡ true
+  pub left_are : (i : ℕ) → i < length told → AllLeft (slice_index_or told i []) (own (i + 1) h.entries)
   pub answered_are : (i : ℕ) → i < length told → mine (i + 1) h.entries ≡ answered (slice_index_or told i [])
   pub alone : (session : ℕ) → is_session (length told) session ≡ false → is_absent session h.entries ≡ true
   pub closed : none_open h.entries ≡ true

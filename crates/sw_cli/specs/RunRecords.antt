@@ -1,13 +1,7 @@
 -- The record of a run as the record of a history file.
-use Rattle.std.specs.Prelude.{◌≡◌, ℕ, List, All, Option, Result, Ok, Some, length}
-use Rattle.sw_rows.specs.Header.{Column}
-use Rattle.sw_rows.specs.declared.query.Call.{Call}
+use Rattle.std.specs.Prelude.{◌≡◌, ℕ, List, Option, Result, Ok, length}
 use Rattle.sw_rows.specs.declared.refusal.Refusal.{Refusal}
-use Rattle.sw_lang.specs.Grammar.{IsLine}
 use Rattle.sw_spine.specs.History.{History, IsSound}
-use Rattle.sw_spine.specs.declared.history.Entry.{Entry}
-use Rattle.sw_spine.specs.declared.history.State.{State}
-use Rattle.sw_spine.specs.declared.history.State.TheVariants.{Answered, Lines, Open, Void}
 use Rattle.sw_histories.specs.FileChecks.{ChecksFile}
 use Rattle.sw_histories.specs.FoundLegal.{IsFoundLegal}
 use Rattle.sw_histories.specs.ReadBack.{IsOfRun}
@@ -15,28 +9,13 @@ use Rattle.sw_histories.specs.RecordText.{record_text}
 use Rattle.sw_cli.specs.Outcomes.{Outcome}
 use Rattle.sw_cli.specs.Run.{Leaves, Start, start_of}
 
--- a call that some line gives
-abbrev pub IsGiven : List Column → Call → Type 0
-IsGiven columns c = (line : List ℕ) × IsLine columns line (Some c)
-
--- a select that was given up is one that some line gives
-abbrev pub IsGivenIfVoid : List Column → Call → State → Type 0
-IsGivenIfVoid columns c (Answered r) = Unit {0}
-IsGivenIfVoid columns c (Lines ls) = Unit {0}
-IsGivenIfVoid columns c Open = Unit {0}
-IsGivenIfVoid columns c Void = IsGiven columns c
-
-abbrev pub VoidsAreGiven : List Column → List Entry → Type 0
-VoidsAreGiven columns es = All (λ e. IsGivenIfVoid columns e.call e.state) es
-
--- whatever run left this record of this start, in which each select that was given up is one that some line gives
+-- whatever run left this record of this start
 pub record IsLeft (limit : ℕ) (s : Start) (h : History) : Type 0 where
   pub told : List (List Outcome)
   pub old : Option (List ℕ)
   pub new : Option (List ℕ)
   pub leaves : Leaves limit s told old new h
   pub sound : IsSound h
-  pub voids : VoidsAreGiven s.columns h.entries
 
 -- such a record is one of which history files tell
 abbrev pub RecordsAreOfRuns : Type 0

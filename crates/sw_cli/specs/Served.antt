@@ -2,22 +2,23 @@
 use Rattle.std.specs.Prelude.{◌≡◌, ◌<◌, ◌≤◌, ◌+◌, ◌∷◌, ℕ, List, [], length, slice_index_or, All, Option, Result, OnOk, IfErr, IfOk}
 use Rattle.sw_rows.specs.Gives.{Raised}
 use Rattle.sw_rows.specs.declared.query.Call.{Call}
-use Rattle.sw_rows.specs.declared.reply.Reply.{Reply}
 use Rattle.sw_rows.specs.declared.refusal.Refusal.{Refusal}
 use Rattle.sw_rows.specs.declared.refusal.Refusal.TheVariants as refusal
 use Rattle.sw_lang.specs.Sinks.{Took, TookBeginning}
 use Rattle.sw_spine.specs.History.{History}
-use Rattle.sw_cli.specs.Outcomes.{Outcome, SaysWhy, Told, answered, blocks_told, outcomes_of, text_of}
+use Rattle.sw_engine.specs.Own.{own_of}
+use Rattle.sw_engine.specs.Published.{Shown}
+use Rattle.sw_cli.specs.Outcomes.{AllLeft, Outcome, SaysWhy, Told, answered, blocks_told, outcomes_of, text_of}
 use Rattle.sw_cli.specs.Sides.{SinkSeen}
 use Rattle.sw_cli.specs.declared.ended.Ended.{Ended}
 
 -- tickets with the numbers n, n + 1, n + 2 and so on, to each of which the answered calls of a block's outcomes were
--- answered
-abbrev pub AreAnswered : ℕ → List (List Outcome) → List (ℕ × List (Call × Reply)) → Type 0
+-- answered, and which has the entries that these left
+abbrev pub AreAnswered : ℕ → List (List Outcome) → List Shown → Type 0
 AreAnswered n [] [] = Unit {0}
 AreAnswered n [] (t ∷ ts) = ⊥
 AreAnswered n (b ∷ bs) [] = ⊥
-AreAnswered n (b ∷ bs) (t ∷ ts) = (t.0 ≡ n) × (t.1 ≡ answered b) × AreAnswered (n + 1) bs ts
+AreAnswered n (b ∷ bs) (t ∷ ts) = (t.0 ≡ n) × (t.1 ≡ answered b) × AllLeft b (own_of t) × AreAnswered (n + 1) bs ts
 
 -- place by place
 abbrev pub Each : {X Y : Type 0} → (X → Y → Type 0) → List X → List Y → Type 0
@@ -26,17 +27,19 @@ Each {X} {Y} P xs ys =
     × ((i : ℕ) (x : X) (y : Y) → i < length xs → P (slice_index_or xs i x) (slice_index_or ys i y))
 
 -- a session that has made no call, and the calls that it is to make, with room for what comes of them
-pub record IsFresh (made : List (Call × Reply)) (told : List Told) (room : ℕ) (calls : List Call) : Type 0 where
-  pub none : made ≡ []
+pub record IsFresh (session : Shown) (told : List Told) (room : ℕ) (calls : List Call) : Type 0 where
+  pub none : session.1 ≡ []
+  pub own : own_of session ≡ []
   pub empty : told ≡ []
   pub fits : length calls ≤ room
 
--- the session of this number made these calls: something came of each, those that were answered are its ticket's, and
--- the others say why
-pub record IsDone (session : ℕ) (calls : List Call) (ticket : ℕ × List (Call × Reply)) (told : List Told) : Type 0 where
+-- the session of this number made these calls: something came of each, those that were answered are its ticket's, which
+-- has the entries that they left, and the others say why
+pub record IsDone (session : ℕ) (calls : List Call) (ticket : Shown) (told : List Told) : Type 0 where
   pub number : ticket.0 ≡ session
   pub all : length told ≡ length calls
   pub made : ticket.1 ≡ answered (outcomes_of calls told)
+  pub left : AllLeft (outcomes_of calls told) (own_of ticket)
   pub why : All SaysWhy told
 
 -- the sink took all of a text; or it failed, and took a beginning

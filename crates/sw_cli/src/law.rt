@@ -48,9 +48,8 @@ pub fn replies_are_over_texts()
         → AreEntriesOverTexts s.columns limit (opened s.rows) h.entries }
 {}
 
-/// The record that a run leaves is one of which history files tell (`IsOfRun`), where each select that it was refused and
-/// that stands in it as void is one that some line gives: no clause says of a run that it is. So the check finds the file
-/// of that record legal: status 0 and `legal: N entries`, unless memory is wanting or the sink fails.
+/// The record that a run leaves is one of which history files tell (`IsOfRun`). So the check finds the file of that record
+/// legal: status 0 and `legal: N entries`, unless memory is wanting or the sink fails.
 ///
 /// The function does nothing.
 pub fn files_of_runs_are_legal()

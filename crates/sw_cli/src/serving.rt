@@ -50,7 +50,7 @@ fn make_block<J: Naming, M: CrackerMap, O: Onlooker, R: Threads + Wait + Sync>(
 ) -> Done<J>
 where
     Live<J>: Absorb<Op<J>, State = [Update; 0]>,
-    requires fresh { IsFresh job.session.1 job.told.items (vec_capacity job.told) job.calls.now }
+    requires fresh { IsFresh job.session job.told.items (vec_capacity job.told) job.calls.now }
     requires below { AllCallsBelow (length J.columns) job.calls.now }
     ensures { IsDone job.entry.session.0 job.entry.calls.now result.ticket result.told }
 {
@@ -84,7 +84,7 @@ where
     requires order { InOrder 1 tickets.items }
     requires many { length tickets.items ≡ length blocks.now }
     ensures fresh { IfOk result
-        (λ v. All (λ j. IsFresh j.session.1 j.told.items (vec_capacity j.told) j.calls.now) v.items) }
+        (λ v. All (λ j. IsFresh j.session j.told.items (vec_capacity j.told) j.calls.now) v.items) }
     ensures numbers { IfOk result (λ v. AreCounted 1 (map (λ j. j.session.0) v.items)) }
     ensures calls { IfOk result (λ v. map (λ j. j.calls.now) v.items ≡ blocks.now) }
 {
@@ -112,7 +112,7 @@ fn make_in_turn<'e, J: Naming, M: CrackerMap, O: Onlooker, R: Threads + Wait + S
 ) -> Result<Vec<Done<J>>, AllocError>
 where
     Live<J>: Absorb<Op<J>, State = [Update; 0]>,
-    requires fresh { All (λ j. IsFresh j.session.1 j.told.items (vec_capacity j.told) j.calls.now) jobs.items }
+    requires fresh { All (λ j. IsFresh j.session j.told.items (vec_capacity j.told) j.calls.now) jobs.items }
     requires below { All (λ j. AllCallsBelow (length J.columns) j.calls.now) jobs.items }
     ensures { IfOk result (λ v. Each (λ j d. IsDone j.session.0 j.calls.now d.ticket d.told) jobs.entry.items v.items) }
 {
@@ -131,7 +131,7 @@ fn make_at_once<'e, J: Naming + Send + Sync, M: CrackerMap, O: Onlooker, R: Thre
 ) -> Result<Vec<Done<J>>, AllocError>
 where
     Live<J>: Absorb<Op<J>, State = [Update; 0]> + Send + Sync,
-    requires fresh { All (λ j. IsFresh j.session.1 j.told.items (vec_capacity j.told) j.calls.now) jobs.items }
+    requires fresh { All (λ j. IsFresh j.session j.told.items (vec_capacity j.told) j.calls.now) jobs.items }
     requires below { All (λ j. AllCallsBelow (length J.columns) j.calls.now) jobs.items }
     ensures { IfOk result (λ v. Each (λ j d. IsDone j.session.0 j.calls.now d.ticket d.told) jobs.entry.items v.items) }
 {
@@ -139,7 +139,7 @@ where
         rt,
         jobs,
         &|job: Job<'_, J, M>| -> Done<J>
-            requires fresh { IsFresh job.session.1 job.told.items (vec_capacity job.told) job.calls.now }
+            requires fresh { IsFresh job.session job.told.items (vec_capacity job.told) job.calls.now }
             requires below { AllCallsBelow (length J.columns) job.calls.now }
             ensures { IsDone job.entry.session.0 job.entry.calls.now result.ticket result.told }
         { make_block(rt, job, onlooker) },
@@ -156,7 +156,7 @@ fn make_all<'e, J: Naming + Send + Sync, M: CrackerMap, O: Onlooker, R: Threads 
 ) -> Result<Vec<Done<J>>, AllocError>
 where
     Live<J>: Absorb<Op<J>, State = [Update; 0]> + Send + Sync,
-    requires fresh { All (λ j. IsFresh j.session.1 j.told.items (vec_capacity j.told) j.calls.now) jobs.items }
+    requires fresh { All (λ j. IsFresh j.session j.told.items (vec_capacity j.told) j.calls.now) jobs.items }
     requires below { All (λ j. AllCallsBelow (length J.columns) j.calls.now) jobs.items }
     ensures { IfOk result (λ v. Each (λ j d. IsDone j.session.0 j.calls.now d.ticket d.told) jobs.entry.items v.items) }
 {

@@ -3,8 +3,6 @@
 
 mod column;
 mod counting;
-#[cfg(test)]
-mod tests;
 
 pub use column::{Column, count_of};
 pub use counting::{MOST_FREQUENT, frequent};

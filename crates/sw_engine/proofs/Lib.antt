@@ -4,6 +4,8 @@ pub mod Heads
 pub mod Turns
 pub mod Parts
 pub mod Published
+pub mod Later
 pub mod Owned
+pub mod Placed
 pub mod Whole
 pub mod Shelves

@@ -1,17 +1,27 @@
 -- What one more entry, and an entry that is settled, do to the sessions' own entries.
-use Rattle.std.proofs.Common.{◌≡◌, ◌≢◌, ◌⊎◌, inl, inr, ◌++◌, ◌==◌, ℕ, Bool, true, false, List, [], ◌∷◌, Option, Some, None, refl, sym, ap, ◌∙◌, arith, cond, subst}
+use Rattle.std.proofs.Common.{◌≡◌, ◌≢◌, ◌⊎◌, inl, inr, ◌++◌, ◌==◌, ℕ, Bool, true, false, List, [], ◌∷◌, Option, Some, None, refl, sym, ap, ◌∙◌, ◌+◌, arith, cond, subst}
 use Rattle.std.proofs.lemmas.Bool.Decides.{nat_tests}
 use Rattle.sw_table.specs.declared.row.Update.{Update}
 use Rattle.sw_rows.specs.declared.query.Query.{Query}
 use Rattle.sw_rows.specs.declared.query.Call.{Call}
 use Rattle.sw_rows.specs.declared.query.Call.TheVariants as call
 use Rattle.sw_spine.specs.Table.{opened, updates_then}
-use Rattle.sw_spine.specs.History.{entry, is_absent, is_open, settled, waiting_after, waits}
-use Rattle.sw_spine.specs.Books.{Books, reply_now, waits_for, with_answered, with_open, with_published, with_settled}
+use Rattle.sw_spine.specs.History.{entry, is_absent, is_open, mine, settled, waiting_after, waits}
+use Rattle.sw_rows.specs.declared.refusal.Refusal.{Refusal}
+use Rattle.sw_rows.specs.declared.refusal.Refusal.TheVariants as refusal
+use Rattle.sw_engine.specs.Desk.{TellsFull}
+use Rattle.sw_spine.specs.Books.{Books, Opens, RefusesEntry, is_opened, reply_now, waits_for, with_answered, with_open, with_published, with_settled}
 use Rattle.sw_spine.specs.declared.history.Entry.{Entry}
 use Rattle.sw_spine.specs.declared.history.State.{State}
 use Rattle.sw_spine.specs.declared.history.State.TheVariants as state
-use Rattle.sw_engine.specs.Own.{Adds, Settles, own, own_settled}
+use Rattle.sw_table.specs.declared.row.Row.{Row}
+use Rattle.sw_spine.proofs.Histories.{mine_absent}
+use Rattle.sw_tie.specs.declared.Share.{Share}
+use Rattle.sw_versions.specs.Rules.{updates_in}
+use Rattle.sw_engine.specs.Later.{Begin}
+use Rattle.sw_engine.specs.Own.{Adds, IsNew, Settles, own, own_settled}
+use Rattle.sw_engine.specs.Published.{IsNewShare, published_of, session_shown}
+use Rattle.sw_engine.proofs.Later.{begin_push, begin_self, begin_settled}
 
 -- ---- of entries
 
@@ -42,22 +52,67 @@ settled_last s limit us (x ∷ es) c st none = grind (arith, nat_tests, none, se
 
 -- ---- of books
 
--- the own entries of all other sessions stay
+-- the own entries of all other sessions stay, and the entries begin those afterwards
 abbrev pub KeepsOwn : ℕ → Books → Books → Type 0
-KeepsOwn session old new = (s : ℕ) → s ≢ session → own s new.entries ≡ own s old.entries
+KeepsOwn session old new = ((s : ℕ) → s ≢ session → own s new.entries ≡ own s old.entries) × Begin old.entries new.entries
 
 pub open_keeps : (session : ℕ) (q : Query) (head : ℕ) (b x : Books) → x ≡ with_open session q head b → KeepsOwn session b x
-open_keeps session q head b x is k apart = ap (λ (y : Books). own k y.entries) is ∙ own_push_other k b.entries (entry session (call.Select q) state.Open) (λ e. apart (sym e))
+open_keeps session q head b x is = (
+  (λ k apart. ap (λ (y : Books). own k y.entries) is ∙ own_push_other k b.entries (entry session (call.Select q) state.Open) (λ e. apart (sym e))),
+  subst (λ (y : Books). Begin b.entries y.entries) (sym is) (begin_push b.entries (entry session (call.Select q) state.Open)),
+)
 
 pub settled_keeps : (session : ℕ) (st : State) (b x : Books) → x ≡ with_settled session st b → KeepsOwn session b x
-settled_keeps session st b x is k apart = ap (λ (y : Books). own k y.entries) is ∙ own_settled_other session st k b.entries apart
+settled_keeps session st b x is = (
+  (λ k apart. ap (λ (y : Books). own k y.entries) is ∙ own_settled_other session st k b.entries apart),
+  subst (λ (y : Books). Begin b.entries y.entries) (sym is) (begin_settled session st b.entries),
+)
 
 pub answered_keeps : (session : ℕ) (c : Call) (b x : Books) → x ≡ with_answered session c b → KeepsOwn session b x
-answered_keeps session c b x is k apart = ap (λ (y : Books). own k y.entries) is ∙ own_push_other k b.entries (entry session c (state.Answered (reply_now c b))) (λ e. apart (sym e))
+answered_keeps session c b x is = (
+  (λ k apart. ap (λ (y : Books). own k y.entries) is ∙ own_push_other k b.entries (entry session c (state.Answered (reply_now c b))) (λ e. apart (sym e))),
+  subst (λ (y : Books). Begin b.entries y.entries) (sym is) (begin_push b.entries (entry session c (state.Answered (reply_now c b)))),
+)
 
 pub published_keeps : (session n : ℕ) (b x : Books) → x ≡ with_published n b → KeepsOwn session b x
-published_keeps session n b x is k apart = ap (λ (y : Books). own k y.entries) is
+published_keeps session n b x is = (
+  (λ k apart. ap (λ (y : Books). own k y.entries) is),
+  subst (λ (y : Books). Begin b.entries y.entries) (sym is) (begin_self b.entries),
+)
 
 -- a select that began and was settled
 pub settles_added : (session : ℕ) (c : Call) (st : State) (a b d : Books) → waits_for session a ≡ None → Adds session c state.Open a b → Settles session st b d → Adds session c st a d
 settles_added session c st a b d none adds settles = settles ∙ ap (own_settled st) adds ∙ settled_last session a.limit (opened a.rows) a.entries c st none
+
+-- why a visit that adds an entry is refused tells whether the history is full
+pub tells_full : (b : Books) (e : Refusal) → RefusesEntry b e → TellsFull b.entries e
+tells_full b refusal.NoMemory h = tt
+tells_full b (refusal.HistoryFull _) h = h.1
+tells_full b (refusal.TooMany _) h = tt
+tells_full b (refusal.BadTable _ _) h = tt
+tells_full b (refusal.BadLine _ _) h = tt
+tells_full b (refusal.UnknownAttribute _) h = tt
+tells_full b (refusal.NoBlank _ _) h = tt
+tells_full b (refusal.Short _ _ _) h = tt
+tells_full b (refusal.Contended _ _) h = tt
+tells_full b (refusal.SharesOut _ _) h = tt
+tells_full b (refusal.NotLegal _) h = tt
+tells_full b refusal.Input h = tt
+tells_full b refusal.Output h = tt
+tells_full b (refusal.Ahead _ _) h = tt
+
+-- a session that was just opened has no entries
+pub new_absent : (b x : Books) (n : ℕ) → Opens b x n → ((s : ℕ) → is_opened s b ≡ false → is_absent s b.entries ≡ true) → is_absent n x.entries ≡ true
+new_absent b x n opens known =
+    let next : n ≡ b.sessions + 1 = opens.0 ∙ ap (λ (y : Books). y.sessions) opens.2 in
+    let unknown : is_opened n b ≡ false = grind (arith, nat_tests, next) in
+    ap (λ (y : Books). is_absent n y.entries) opens.2 ∙ known n unknown
+
+-- a session that was just opened
+pub new_session : (opening : List Row) (name : ℕ) (b : Books) (n : ℕ) (share : Share Books) (receipt : List (List Update)) → IsNewShare name b n share → updates_in receipt ≡ published_of opening share.value → IsNew (session_shown opening n share.value receipt)
+new_session opening name b n share receipt h is = record {
+  number = h.0 ∙ ap (λ (x : Books). x.sessions) (sym h.3);
+  none = ap (λ (x : Books). mine n x.entries) h.3 ∙ mine_absent n b.entries h.5;
+  own = ap (λ (x : Books). own n x.entries) h.3 ∙ own_absent n b.entries h.5;
+  receipt = is;
+}

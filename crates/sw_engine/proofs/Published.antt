@@ -13,7 +13,9 @@ use Rattle.sw_versions.proofs.Prefixes.{prefix_length, prefix_trans}
 use Rattle.sw_spine.specs.Books.{Books, updates, with_session}
 use Rattle.sw_spine.specs.Table.{opened}
 use Rattle.sw_spine.proofs.StoreLemmas.{rows_of_opened}
-use Rattle.sw_engine.specs.Published.{AreBehind, IsWhole, published_of}
+use Rattle.sw_engine.specs.Later.{Begin}
+use Rattle.sw_engine.specs.Published.{AreBehind, Grows, IsWhole, published_of}
+use Rattle.sw_engine.proofs.Later.{begin_self, begin_trans}
 use Rattle.sw_engine.specs.Desk.{IsShown, IsTied}
 use Rattle.sw_engine.proofs.Ties.{get_set, length_push}
 
@@ -39,11 +41,29 @@ behind_set limit opening s s' x rows rows' k behind grows whole new are j r e = 
     (λ p. (prefix_trans (published_of opening r.0) (published_of opening s) (published_of opening s') (behind j r p.1).0 grows, (behind j r p.1).1))
     (get_set rows k j (x, false) r (sym (ap (λ (l : List (Books × Bool)). slice_get l j) are) ∙ e))
 
+-- one share came back
+pub behind_give : (limit : ℕ) (opening : List Row) (s : Books) (rows rows' : List (Books × Bool)) (k : ℕ) (a : Books) → AreBehind limit opening s rows → slice_get rows k ≡ Some (a, false) → rows' ≡ set rows k (a, true) → AreBehind limit opening s rows'
+behind_give limit opening s rows rows' k a behind at are j r e = ⊎_elim
+    (λ p. subst (λ (u : Books × Bool). IsPrefix (published_of opening u.0) (published_of opening s) × IsWhole limit opening u.0) p.1 (behind k (a, false) at))
+    (λ p. behind j r p.1)
+    (get_set rows k j (a, true) r (sym (ap (λ (l : List (Books × Bool)). slice_get l j) are) ∙ e))
+
 -- the session's share goes from what it showed to the new state
-pub share_grows : (limit : ℕ) (opening : List Row) (s s' a x : Books) (rows : List (Books × Bool)) (k : ℕ) → AreBehind limit opening s rows → slice_get rows k ≡ Some (a, false) → IsPrefix (published_of opening s) (published_of opening s') → x ≡ s' → IsPrefix (published_of opening a) (published_of opening x)
-share_grows limit opening s s' a x rows k behind at grows new =
-    subst (λ (b : Books). IsPrefix (published_of opening a) (published_of opening b)) (sym new)
-    (prefix_trans (published_of opening a) (published_of opening s) (published_of opening s') (behind k (a, false) at).0 grows)
+pub share_grows : (limit : ℕ) (opening : List Row) (s s' a x : Books) (rows heads : List (Books × Bool)) (k : ℕ) → IsTied s rows heads → AreBehind limit opening s rows → slice_get rows k ≡ Some (a, false) → IsPrefix (published_of opening s) (published_of opening s') → Begin s.entries s'.entries → x ≡ s' → Grows opening a x
+share_grows limit opening s s' a x rows heads k tied behind at grows begins new =
+    subst (λ (b : Books). Grows opening a b) (sym new) (
+      prefix_trans (published_of opening a) (published_of opening s) (published_of opening s') (behind k (a, false) at).0 grows,
+      begin_trans a.entries s.entries s'.entries (tied.shown k (a, false) at).3 begins,
+    )
+
+pub grows_self : (opening : List Row) (a x : Books) → x ≡ a → Grows opening a x
+grows_self opening a x same = subst (λ (b : Books). Grows opening a b) (sym same) (prefix_same (published_of opening a) (published_of opening a) refl, begin_self a.entries)
+
+pub grows_trans : (opening : List Row) (a b d : Books) → Grows opening a b → Grows opening b d → Grows opening a d
+grows_trans opening a b d first then = (
+  prefix_trans (published_of opening a) (published_of opening b) (published_of opening d) first.0 then.0,
+  begin_trans a.entries b.entries d.entries first.1 then.1,
+)
 
 -- what stands in a list with one more at its end
 get_push : {A : Type 0} (xs : List A) (k : ℕ) (x y : A) → slice_get (xs ++ x ∷ []) k ≡ Some y → (slice_get xs k ≡ Some y) ⊎ (x ≡ y)
@@ -57,7 +77,7 @@ pub enrol_tied : (s s' x : Books) (rows rows' heads : List (Books × Bool)) → 
 enrol_tied s s' x rows rows' heads t is new are = rw (are, new, is) record {
   shown = λ k r e. ⊎_elim
       (λ at. t.shown k r at)
-      (λ n. subst (λ (u : Books × Bool). IsShown (k + 1) u.0 (with_session s)) n (refl, refl, refl))
+      (λ n. subst (λ (u : Books × Bool). IsShown (k + 1) u.0 (with_session s)) n (refl, refl, refl, begin_self s.entries))
       (get_push rows k (with_session s, false) r e);
   taken = λ j r e. t.taken j r e;
   as_many = length_push rows (with_session s, false) ∙ ap (λ n. n + 1) t.as_many;

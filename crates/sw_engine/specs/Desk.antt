@@ -17,11 +17,13 @@ use Rattle.sw_spine.specs.Table.{is_numbered, opened}
 use Rattle.sw_spine.specs.History.{entry, mine}
 use Rattle.sw_spine.specs.Books.{Books, new_books, took, waits_for}
 use Rattle.sw_spine.specs.Receivable.{AreUpdates}
+use Rattle.sw_spine.specs.declared.history.Entry.{Entry}
 use Rattle.sw_spine.specs.declared.history.State.TheVariants as state
 use Rattle.sw_spine.specs.declared.spine.TheConstants.{MOST_ENTRIES, MOST_SESSIONS}
 use Rattle.sw_tie.specs.declared.Book.{Book}
-use Rattle.sw_engine.specs.Published.{AreBehind, EndsEntry}
-use Rattle.sw_engine.specs.Own.{own}
+use Rattle.sw_engine.specs.Later.{Begin}
+use Rattle.sw_engine.specs.Published.{AreBehind, EndsEntry, Shown}
+use Rattle.sw_engine.specs.Own.{IsNew, own}
 use Rattle.sw_tie.specs.declared.Share.{Share}
 
 -- what a desk shows: the spine, whether each session's ticket came back, and how many heads have a share
@@ -36,11 +38,11 @@ desk books sessions heads = record { books = books; given = map (λ r. r.1) sess
 abbrev pub new_desk : List Column → List Row → ℕ → DeskState
 new_desk columns rows limit = record { books = new_books columns rows limit; given = []; heads = 0 }
 
--- the same calls were answered to a session, it waits for the same, and its own entries are the same
+-- the same calls were answered to a session, it waits for the same, its own entries are the same, and all entries stay
 abbrev pub IsShown : ℕ → Books → Books → Type 0
 IsShown session a b =
     (mine session a.entries ≡ mine session b.entries) × (waits_for session a ≡ waits_for session b)
-    × (own session a.entries ≡ own session b.entries)
+    × (own session a.entries ≡ own session b.entries) × Begin a.entries b.entries
 
 -- each row of the sessions' book shows what the spine keeps of its session; the sessions' numbers begin at 1
 abbrev pub AreShown : Books → List (Books × Bool) → Type 0
@@ -162,6 +164,11 @@ RefusesCall refusal.NoMemory = Unit {0}
 RefusesCall (refusal.HistoryFull entries) = entries ≡ MOST_ENTRIES
 RefusesCall other = ⊥
 
+-- a call is refused since the history is full only where it is
+abbrev pub TellsFull : List Entry → Refusal → Type 0
+TellsFull es (refusal.HistoryFull entries) = length es ≡ MOST_ENTRIES
+TellsFull es other = Unit {0}
+
 -- why no session is opened
 abbrev pub TooManySessions : Refusal → Type 0
 TooManySessions refusal.NoMemory = Unit {0}
@@ -169,7 +176,7 @@ TooManySessions (refusal.TooMany limit) = limit ≡ MOST_SESSIONS
 TooManySessions other = ⊥
 
 -- these tickets came back one after the other, each for the first time; the sessions' numbers begin at 1
-abbrev pub AreGiven : {X : Type 0} → List (ℕ × X) → List Bool → List Bool → Type 0
+abbrev pub AreGiven : List Shown → List Bool → List Bool → Type 0
 AreGiven [] before after = before ≡ after
 AreGiven (t ∷ ts) before after =
     (n : ℕ) × (t.0 ≡ n + 1) × (slice_get before n ≡ Some false) × AreGiven ts (set before n true) after
@@ -179,10 +186,10 @@ abbrev pub IsNamed : {X : Type 0} → ℕ → List (ℕ × X) → Type 0
 IsNamed k [] = ⊥
 IsNamed k (t ∷ ts) = (t.0 ≡ k) ⊎ IsNamed k ts
 
--- tickets with the numbers n, n + 1, n + 2 and so on, to which no call was answered
-abbrev pub InOrder : {X : Type 0} → ℕ → List (ℕ × List X) → Type 0
+-- the tickets of new sessions with the numbers n, n + 1, n + 2 and so on
+abbrev pub InOrder : ℕ → List Shown → Type 0
 InOrder n [] = Unit {0}
-InOrder n (t ∷ ts) = (t.0 ≡ n) × (t.1 ≡ []) × InOrder (n + 1) ts
+InOrder n (t ∷ ts) = (t.0 ≡ n) × IsNew t × InOrder (n + 1) ts
 
 -- the numbers n, n + 1, n + 2 and so on
 abbrev pub AreCounted : ℕ → List ℕ → Type 0

@@ -2,5 +2,6 @@ pub mod Published
 pub mod Desk
 pub mod Locked
 pub mod Headline
+pub mod Later
 pub mod Own
 pub mod Leading

@@ -1,5 +1,5 @@
 -- What the shelf under the lock has of the history's updates, and what the sessions' shares show of it.
-use Rattle.std.specs.Prelude.{ℕ, ◌≡◌, ◌≤◌, ◌+◌, ◌++◌, List, [], Bool, None, Some, MatchResult, Result, drop, length, slice_get, take}
+use Rattle.std.specs.Prelude.{ℕ, ◌≡◌, ◌≤◌, ◌+◌, ◌++◌, List, [], Bool, true, None, Some, MatchResult, Result, drop, length, slice_get, take}
 use mathlib.Core.List.{IsPrefix}
 use Rattle.sw_table.specs.declared.row.Row.{Row}
 use Rattle.sw_table.specs.declared.row.Update.{Update}
@@ -9,7 +9,7 @@ use Rattle.sw_rows.specs.declared.query.Call.TheVariants as call
 use Rattle.sw_rows.specs.declared.reply.Reply.{Reply}
 use Rattle.sw_rows.specs.declared.refusal.Refusal.{Refusal}
 use Rattle.sw_rows.specs.declared.refusal.Refusal.TheVariants as refusal
-use Rattle.sw_spine.specs.History.{mine, updates_after}
+use Rattle.sw_spine.specs.History.{is_absent, mine, updates_after}
 use Rattle.sw_spine.specs.Books.{Books, updates, waits_for, with_answered, with_published}
 use Rattle.sw_spine.specs.Table.{opened, reply_to}
 use Rattle.sw_spine.specs.declared.history.Entry.{Entry}
@@ -17,6 +17,7 @@ use Rattle.sw_tie.specs.declared.Share.{Share}
 use Rattle.sw_versions.specs.Known.{Known, Shelved}
 use Rattle.sw_versions.specs.Rules.{updates_in}
 use Rattle.sw_versions.specs.declared.viewer.TheConstants.{MOST_VIEWERS}
+use Rattle.sw_engine.specs.Later.{Begin}
 
 -- the updates after the opening rows
 abbrev pub later : List Row → Books → List Update
@@ -25,6 +26,10 @@ later opening b = drop (length opening) (updates b)
 -- those of them that are published
 abbrev pub published_of : List Row → Books → List Update
 published_of opening b = drop (length opening) (take b.published (updates b))
+
+-- what a share shows grows: what is published begins what is published afterwards, and the entries begin those afterwards
+abbrev pub Grows : List Row → Books → Books → Type 0
+Grows opening old new = IsPrefix (published_of opening old) (published_of opening new) × Begin old.entries new.entries
 
 -- the updates of the first so many of some entries, the opening rows first
 abbrev pub updates_first : ℕ → List Row → List Entry → ℕ → List Update
@@ -93,12 +98,28 @@ RefusesViewing other = ⊥
 
 -- ---- receipts
 
--- what a session shows of them: the batches that it has the receipt of; and what its share shows, which is the updates that
--- are published and the entries of the history
+-- what a session shows of them: the batches that it has the receipt of; and what its share shows, which is, as of its last
+-- visit, the updates that are published, the entries of the history and how many sessions were made
 pub record Receipted : Type 0 where
   pub given : List (List Update)
   pub published : List Update
   pub entries : List Entry
+  pub sessions : ℕ
+
+-- what a session shows, and its ticket: its number, the calls that were answered to it, and that
+abbrev pub Shown : Type 0
+Shown = ℕ × List (Call × Reply) × Receipted
+
+abbrev pub session_shown : List Row → ℕ → Books → List (List Update) → Shown
+session_shown opening session b receipt = (
+  session,
+  mine session b.entries,
+  record { given = receipt; published = published_of opening b; entries = b.entries; sessions = b.sessions },
+)
+
+-- of them, the number and the calls that were answered
+abbrev pub answered_to : Shown → ℕ × List (Call × Reply)
+answered_to s = (s.0, s.1)
 
 -- a call that is no select, or a meeting, where it is answered, gives the receipt of what is published then, which
 -- begins with the one before; refused, the receipt stays
@@ -122,8 +143,8 @@ IsHeld name limit opening session share receipt =
     (share.name ≡ name) × (session ≡ share.number + 1) × (waits_for session share.value ≡ None)
     × IsPrefix (updates_in receipt) (published_of opening share.value) × IsWhole limit opening share.value
 
--- the share of a session that was just opened
+-- the share of a session that was just opened, which has no entries
 abbrev pub IsNewShare : ℕ → Books → ℕ → Share Books → Type 0
 IsNewShare name b session share =
     (session ≡ b.sessions) × (share.name ≡ name) × (session ≡ share.number + 1) × (share.value ≡ b)
-    × (waits_for session b ≡ None) × (mine session b.entries ≡ [])
+    × (waits_for session b ≡ None) × (is_absent session b.entries ≡ true)

@@ -8,9 +8,9 @@ ghost use Rattle.sw_spine.specs.History.{CallsBelow, is_select, mine};
 ghost use Rattle.sw_spine.specs.Books.{RefusesRows, RefusesSession, new_books, updates, waits_for, with_answered, with_published, with_session, with_settled};
 ghost use Rattle.sw_spine.specs.declared.history.State.TheVariants.{Answered, Open, Void};
 ghost use mathlib.Core.List.{IsPrefix};
-ghost use Rattle.sw_engine.specs.Published.{EndsEntry, IsHeld, IsNewShare, IsOfFirst, IsWhole, later, published_of};
-ghost use Rattle.sw_engine.specs.Own.{Adds, Settles, Stays};
-ghost use Rattle.sw_engine.specs.Desk.{AreGiven, IsAnswered, IsAtRest, IsBegun, IsOf, IsShareOf, IsTold, RefusesCall, latched, new_desk};
+ghost use Rattle.sw_engine.specs.Published.{EndsEntry, Grows, IsHeld, IsNewShare, IsOfFirst, IsWhole, later, session_shown};
+ghost use Rattle.sw_engine.specs.Own.{Adds, IsEnded, IsLastOwn, Settles, Stays};
+ghost use Rattle.sw_engine.specs.Desk.{AreGiven, IsAnswered, IsAtRest, IsBegun, IsOf, IsShareOf, IsTold, RefusesCall, TellsFull, latched, new_desk};
 
 use crate::counting::Counters;
 use crate::latch::LatchedHead;
@@ -20,7 +20,7 @@ use std::snapshot::Snapshot;
 use sw_chunks::Waiting;
 use sw_map::CrackerMap;
 use sw_rows::{Call, PackedRows, Query, Refusal, Reply, Schema, Update};
-use sw_spine::Spine;
+use sw_spine::{Entry, Spine};
 use sw_tie::{Book, Share};
 use sw_versions::{Front, Naming, Opened};
 
@@ -44,7 +44,8 @@ impl Blank {
     }
 }
 
-/// What a session carries: its number, and the calls that were answered to it, as contracts see it.
+/// What a session carries. Contracts see what they see of the session: its number, the calls that were answered to it, its
+/// receipt, and the history as it was at its last visit, with the session's own entries.
 #[derive(Drop)]
 pub struct Ticket<J: Naming> {
     pub(crate) number: u64,
@@ -53,15 +54,11 @@ pub struct Ticket<J: Naming> {
 }
 
 impl<J: Naming> Model for Ticket<J> {
-    ghost use Rattle.std.specs.Prelude.{ℕ, List};
-    ghost use Rattle.sw_rows.specs.declared.query.Call.{Call};
-    ghost use Rattle.sw_rows.specs.declared.reply.Reply.{Reply};
-    ghost use Rattle.sw_spine.specs.History.{mine};
-    ghost use Rattle.sw_engine.specs.Published.{IsHeld};
+    ghost use Rattle.sw_engine.specs.Published.{IsHeld, Shown, session_shown};
 
-    ghost Value = { ℕ × List (Call × Reply) };
+    ghost Value = { Shown };
 
-    ghost view = { λ t. (t.number, mine t.number t.share.value.entries) };
+    ghost view = { λ t. session_shown J.opening t.number t.share.value t.receipt };
 
     ghost invariant = { λ t. IsHeld J.sessions J.limit J.opening t.number t.share t.receipt };
 }
@@ -69,7 +66,7 @@ impl<J: Naming> Model for Ticket<J> {
 impl<J: Naming> Ticket<J> {
     pub(crate) fn new(number: u64, share: Share<Spine>, receipt: Front<J>) -> Ticket<J>
         requires { IsHeld J.sessions J.limit J.opening number share receipt }
-        ensures { result ≡ (number, mine number share.value.entries) }
+        ensures { result ≡ session_shown J.opening number share.value receipt }
     {
         Ticket {
             number,
@@ -77,6 +74,19 @@ impl<J: Naming> Ticket<J> {
             receipt,
         }
     }
+}
+
+/// The place of a session's last entry.
+fn last_of(entries: &[Entry], session: u64) -> Option<u64>
+    ensures { IsLastOwn session entries.now result }
+{
+    for behind in 0..entries.len() {
+        let place = entries.len() - 1 - behind;
+        if entries[place].session == session {
+            return Some(place as u64);
+        }
+    }
+    None
 }
 
 /// The spine, with the books of the sessions and of the heads.
@@ -172,6 +182,8 @@ impl<J: Naming> Desk<J> {
             sessions,
             ..
         } = self;
+        // for the prover: no entry is of a session that was not opened
+        let _entries = spine.entries();
         let number = spine.open_session()?;
         let share = sessions.open(Snapshot::of(spine));
         *many += 1;
@@ -194,6 +206,7 @@ impl<J: Naming> Desk<J> {
 
     /// A select begins: its entry stands open at the end of the history, and the head takes the updates that it lacks. So it
     /// has all updates before that place. Refused, the history is as it was.
+    #[tactic(auto, using(crate::proofs::Owned::tells_full))]
     pub fn begin<M: CrackerMap>(
         &mut self,
         number: u64,
@@ -213,10 +226,11 @@ impl<J: Naming> Desk<J> {
         ensures kept { OnErr result (self.new.books ≡ self.old.books) }
         ensures updates { updates self.new.books ≡ updates self.old.books }
         ensures published { self.new.books.published ≡ self.old.books.published }
-        ensures grows { IsPrefix (published_of J.opening share.old.value) (published_of J.opening share.new.value) }
+        ensures grows { Grows J.opening share.old.value share.new.value }
         ensures whole { IsWhole J.limit J.opening share.new.value }
         ensures same { head.new ≡ record head.old { taken = head.new.taken } }
         ensures refused { IfErr result (λ e. RefusesCall e) }
+        ensures full { IfErr result (TellsFull self.new.books.entries) }
     {
         let Desk {
             spine,
@@ -247,7 +261,7 @@ impl<J: Naming> Desk<J> {
         ensures own { Settles number (Answered reply) share.old.value share.new.value }
         ensures finished { self.new.books ≡ with_settled number (Answered reply) self.old.books }
         ensures updates { updates self.new.books ≡ updates self.old.books }
-        ensures grows { IsPrefix (published_of J.opening share.old.value) (published_of J.opening share.new.value) }
+        ensures grows { Grows J.opening share.old.value share.new.value }
         ensures whole { IsWhole J.limit J.opening share.new.value }
     {
         let Desk {
@@ -269,7 +283,7 @@ impl<J: Naming> Desk<J> {
         ensures own { Settles number Void share.old.value share.new.value }
         ensures voided { self.new.books ≡ with_settled number Void self.old.books }
         ensures updates { updates self.new.books ≡ updates self.old.books }
-        ensures grows { IsPrefix (published_of J.opening share.old.value) (published_of J.opening share.new.value) }
+        ensures grows { Grows J.opening share.old.value share.new.value }
         ensures whole { IsWhole J.limit J.opening share.new.value }
     {
         let Desk {
@@ -283,6 +297,7 @@ impl<J: Naming> Desk<J> {
     }
 
     /// A call that is no select is answered at the end of the history. Refused, the history is as it was.
+    #[tactic(auto, using(crate::proofs::Owned::tells_full))]
     pub fn commit(
         &mut self,
         number: u64,
@@ -300,9 +315,10 @@ impl<J: Naming> Desk<J> {
         ensures answered { OnOk result (self.new.books ≡ with_answered number call self.old.books) }
         ensures kept { OnErr result (self.new.books ≡ self.old.books) }
         ensures updates { OnOk result (updates self.new.books ≡ updates_then J.limit (updates self.old.books) call) }
-        ensures grows { IsPrefix (published_of J.opening share.old.value) (published_of J.opening share.new.value) }
+        ensures grows { Grows J.opening share.old.value share.new.value }
         ensures whole { IsWhole J.limit J.opening share.new.value }
         ensures refused { IfErr result (λ e. RefusesCall e) }
+        ensures full { IfErr result (TellsFull self.new.books.entries) }
     {
         let Desk {
             spine,
@@ -329,7 +345,7 @@ impl<J: Naming> Desk<J> {
         ensures own { Stays number share.old.value share.new.value }
         ensures published { self.new.books ≡ with_published count self.old.books }
         ensures shown { share.new.value ≡ self.new.books }
-        ensures grows { IsPrefix (published_of J.opening share.old.value) (published_of J.opening share.new.value) }
+        ensures grows { Grows J.opening share.old.value share.new.value }
         ensures whole { IsWhole J.limit J.opening share.new.value }
     {
         let Desk {
@@ -340,6 +356,36 @@ impl<J: Naming> Desk<J> {
         sessions.agree(share);
         spine.set_published(count);
         sessions.set(share, Snapshot::of(spine));
+    }
+
+    /// The session's share shows the history as it is. Nothing else changes.
+    pub fn look(&mut self, number: u64, share: &mut Share<Spine>)
+        requires rest { IsAtRest J.sessions number share.old }
+        ensures rest { IsAtRest J.sessions number share.new }
+        ensures mine { mine number share.new.value.entries ≡ mine number share.old.value.entries }
+        ensures own { Stays number share.old.value share.new.value }
+        ensures same { self.new.books ≡ self.old.books }
+        ensures shown { share.new.value ≡ self.new.books }
+        ensures grows { Grows J.opening share.old.value share.new.value }
+        ensures whole { IsWhole J.limit J.opening share.new.value }
+    {
+        let count = self.spine.published();
+        self.publish(number, share, count);
+    }
+
+    /// The place of the session's last entry, of those that its share shows. Nothing changes.
+    pub fn place(&mut self, number: u64, share: &mut Share<Spine>) -> Option<u64>
+        requires share { IsShareOf J.sessions number share.old }
+        ensures same { (self.new ≡ self.old) × (share.new ≡ share.old) }
+        ensures place { IsLastOwn number share.old.value.entries result }
+    {
+        let Desk {
+            spine,
+            sessions,
+            ..
+        } = self;
+        sessions.agree(share);
+        last_of(spine.entries(), number)
     }
 
     /// The updates after the opening rows, which are those of all entries of the history.
@@ -354,10 +400,11 @@ impl<J: Naming> Desk<J> {
         self.spine.updates_from(opening)
     }
 
-    /// A session's ticket comes back. The history has just its answered calls, and it waits for nothing.
+    /// A session's ticket comes back. The history has just its answered calls and its own entries, and it waits for nothing.
     pub fn give(&mut self, ticket: Ticket<J>)
         ensures books { self.new.books ≡ self.old.books }
         ensures mine { mine ticket.0 self.old.books.entries ≡ ticket.1 }
+        ensures ended { IsEnded self.old.books.entries ticket }
         ensures rest { waits_for ticket.0 self.old.books ≡ None }
         ensures given { AreGiven (ticket ∷ []) self.old.given self.new.given }
     {
@@ -369,6 +416,7 @@ impl<J: Naming> Desk<J> {
     pub fn give_all(&mut self, tickets: Vec<Ticket<J>>)
         ensures books { self.new.books ≡ self.old.books }
         ensures mine { All (λ t. mine t.0 self.old.books.entries ≡ t.1) tickets.items }
+        ensures ended { All (IsEnded self.old.books.entries) tickets.items }
         ensures rest { All (λ t. waits_for t.0 self.old.books ≡ None) tickets.items }
         ensures given { AreGiven tickets.items self.old.given self.new.given }
     {

@@ -1,6 +1,6 @@
 //! Heads under their latches, the history under its lock, and the sessions.
 
-ghost use Rattle.std.specs.Prelude.{◌≡◌, ◌<◌, ◌≤◌, ◌+◌, ◌++◌, ◌∷◌, [], ℕ, true, drop, length, take, vec_len, IfErr, IfOk, IsOkUnless, MatchResult, OnErr, OnOk, false};
+ghost use Rattle.std.specs.Prelude.{◌≡◌, ◌<◌, ◌≤◌, ◌+◌, ◌++◌, ◌∷◌, [], ℕ, true, drop, length, map, take, vec_len, All, IfErr, IfOk, IsOkUnless, MatchResult, OnErr, OnOk, false};
 ghost use Rattle.sw_rows.specs.declared.query.Call.TheVariants.{Select, Insert, Delete, DeleteWhere};
 ghost use Rattle.sw_rows.specs.declared.refusal.Refusal.TheVariants.{NoMemory};
 ghost use Rattle.sw_rows.specs.declared.table.TheConstants.{MOST_ROWS};
@@ -9,15 +9,16 @@ ghost use Rattle.sw_map.specs.Held.{blank};
 ghost use Rattle.sw_spine.specs.Table.{is_numbered};
 ghost use Rattle.sw_spine.specs.History.{CallsBelow, is_select, mine};
 ghost use Rattle.sw_spine.specs.Books.{RefusesRows};
-ghost use Rattle.sw_engine.specs.Desk.{InOrder, IsAtRest, IsTold, KeepsBoxes, RefusesCall, RefusesClose, RefusesOpening, TooManySessions, new_desk};
+ghost use Rattle.sw_engine.specs.Desk.{InOrder, IsAtRest, IsTold, KeepsBoxes, RefusesCall, RefusesClose, RefusesOpening, TellsFull, TooManySessions, new_desk};
 ghost use mathlib.Core.List.{IsPrefix};
 ghost use Rattle.sw_versions.specs.Lists.{IsLonger};
 ghost use Rattle.sw_versions.specs.Pending.{IsPlain};
 ghost use Rattle.sw_versions.specs.Refused.{IsAhead};
 ghost use Rattle.sw_versions.specs.Rules.{updates_in};
-ghost use Rattle.sw_engine.specs.Published.{CallGives, EndWithEntries, GivesReceipt, IsOfFirst, IsWhole, RefusesViewing, published_of};
+ghost use Rattle.sw_engine.specs.Published.{CallGives, EndWithEntries, GivesReceipt, Grows, IsOfFirst, IsWhole, RefusesViewing, answered_to, published_of};
 ghost use Rattle.sw_engine.specs.Headline.{IsHistoryOfOneThread};
-ghost use Rattle.sw_engine.specs.Own.{Commits, LeavesCall, LeavesCommit, LeavesSelect, Selects, Stays, own_of};
+ghost use Rattle.sw_engine.specs.Later.{Begin};
+ghost use Rattle.sw_engine.specs.Own.{Commits, IsEnded, IsLastOwn, IsNew, LeavesCall, LeavesCommit, LeavesSelect, Selects, Stays, own_of};
 
 use crate::conds::add_all;
 use crate::counting::HeadStats;
@@ -192,9 +193,9 @@ where
         Ok((engine, tickets))
     }
 
-    /// A ticket's session.
+    /// A ticket's session, which shows what the ticket shows.
     pub fn attach(&self, ticket: Ticket<J>) -> Session<'_, J, M>
-        ensures { (result.0 ≡ ticket.0) × (result.1 ≡ ticket.1) }
+        ensures { result ≡ ticket }
     {
         let Ticket {
             number,
@@ -209,11 +210,11 @@ where
         }
     }
 
-    /// The next session, with the receipt of what is published.
+    /// The next session, which has no entries, with the receipt of what is published. Its number is new: it is that of all
+    /// sessions that were made by then.
     #[tactic(auto, using(crate::proofs::Published::prefix_same))]
     pub fn session<R: Wait>(&self, rt: &R) -> Result<Session<'_, J, M>, Refusal>
-        ensures new { IfOk result (λ s. s.1 ≡ []) }
-        ensures receipt { IfOk result (λ s. updates_in s.2.given ≡ s.2.published) }
+        ensures new { IfOk result IsNew }
         ensures refused { IfErr result (λ e. TooManySessions e) }
     {
         let (number, share, receipt) = self.visit(rt).enrol()?;
@@ -242,7 +243,9 @@ where
     }
 
     /// Ends the engine where as many tickets come back as sessions were made: the record is the history of one thread over a
-    /// plain list of rows, and each session's answered entries are the calls that were answered to it.
+    /// plain list of rows, and each session's answered entries are the calls that were answered to it. Of each session it has
+    /// just the entries that the session showed, void ones too, each at its place; and it begins with the entries that the
+    /// session saw, those of others as they were, or settled since.
     ///
     /// Refused `SharesOut` with both numbers otherwise; then the engine and the tickets come back, and it has waited
     /// for nobody. It takes no memory. Where it is not refused it ends the writer of the copies; no viewer is left
@@ -252,7 +255,9 @@ where
         rt: &R,
         tickets: Vec<Ticket<J>>,
     ) -> Result<Record, (Engine<J, M>, Vec<Ticket<J>>, Refusal)>
-        ensures headline { IfOk result (λ r. IsHistoryOfOneThread J.columns J.opening J.limit tickets.items r) }
+        ensures headline { IfOk result
+            (IsHistoryOfOneThread J.columns J.opening J.limit (map answered_to tickets.items)) }
+        ensures ended { IfOk result (λ r. All (IsEnded r.entries) tickets.items) }
         ensures refused { IfErr result (λ e. RefusesClose tickets.items e.1.items e.2) }
     {
         let Engine {
@@ -418,9 +423,10 @@ where
         ensures mine { IfOk result (λ r. IsTold number (Select query.now) r share.old.value share.new.value) }
         ensures err { OnErr result (mine number share.new.value.entries ≡ mine number share.old.value.entries) }
         ensures own { Selects number query.now result share.old.value share.new.value }
-        ensures grows { IsPrefix (published_of J.opening share.old.value) (published_of J.opening share.new.value) }
+        ensures grows { Grows J.opening share.old.value share.new.value }
         ensures whole { IsWhole J.limit J.opening share.new.value }
         ensures refused { IfErr result (λ e. RefusesCall e) }
+        ensures full { IfErr result (TellsFull share.new.value.entries) }
     {
         let Ok(asked) = query.copied(self.alloc) else {
             return Err(Refusal::NoMemory);
@@ -449,7 +455,7 @@ where
         ensures rest { IsAtRest J.sessions number share.new }
         ensures mine { mine number share.new.value.entries ≡ mine number share.old.value.entries }
         ensures own { Stays number share.old.value share.new.value }
-        ensures grows { IsPrefix (published_of J.opening share.old.value) (published_of J.opening share.new.value) }
+        ensures grows { Grows J.opening share.old.value share.new.value }
         ensures whole { IsWhole J.limit J.opening share.new.value }
         ensures receipt { IfOk result (λ r. updates_in r ≡ published_of J.opening share.new.value) }
         ensures ends { IfOk result (λ r. EndWithEntries J.limit J.opening share.new.value.entries r) }
@@ -479,12 +485,13 @@ where
         ensures mine { IfOk result (λ r. IsTold number call r share.old.value share.new.value) }
         ensures err { OnErr result (mine number share.new.value.entries ≡ mine number share.old.value.entries) }
         ensures own { Commits number call result share.old.value share.new.value }
-        ensures grows { IsPrefix (published_of J.opening share.old.value) (published_of J.opening share.new.value) }
+        ensures grows { Grows J.opening share.old.value share.new.value }
         ensures whole { IsWhole J.limit J.opening share.new.value }
         ensures receipt { OnOk result (updates_in receipt.new ≡ published_of J.opening share.new.value) }
         ensures longer { OnOk result (IsPrefix receipt.old receipt.new) }
         ensures kept { OnErr result (receipt.new ≡ receipt.old) }
         ensures refused { IfErr result (λ e. RefusesCall e) }
+        ensures full { IfErr result (TellsFull share.new.value.entries) }
     {
         let (reply, published) = self.visit(rt).commit(rt, number, share, call)?;
         // for the prover: of two beginnings the one with no more updates begins the other, batch by batch
@@ -511,23 +518,11 @@ impl<'e, J: Naming, M: CrackerMap> Model for Session<'e, J, M>
 where
     Live<J>: Absorb<Op<J>, State = [Update; 0]>,
 {
-    ghost use Rattle.std.specs.Prelude.{ℕ, List};
-    ghost use Rattle.sw_rows.specs.declared.query.Call.{Call};
-    ghost use Rattle.sw_rows.specs.declared.reply.Reply.{Reply};
-    ghost use Rattle.sw_spine.specs.History.{mine};
-    ghost use Rattle.sw_engine.specs.Published.{IsHeld, Receipted, published_of};
+    ghost use Rattle.sw_engine.specs.Published.{IsHeld, Shown, session_shown};
 
-    ghost Value = { ℕ × List (Call × Reply) × Receipted };
+    ghost Value = { Shown };
 
-    ghost view = { λ s. (
-      s.number,
-      mine s.number s.share.value.entries,
-      record {
-        given = s.receipt;
-        published = published_of J.opening s.share.value;
-        entries = s.share.value.entries;
-      },
-    ) };
+    ghost view = { λ s. session_shown J.opening s.number s.share.value s.receipt };
 
     ghost invariant = { λ s. IsHeld J.sessions J.limit J.opening s.number s.share s.receipt };
 }
@@ -550,8 +545,10 @@ where
         ensures mine { IfOk result (λ r. self.new.1 ≡ self.old.1 ++ (Select query.now, r) ∷ []) }
         ensures err { OnErr result (self.new.1 ≡ self.old.1) }
         ensures own { LeavesSelect query.now result self.old self.new }
+        ensures grows { Begin self.old.2.entries self.new.2.entries }
         ensures receipt { self.new.2.given ≡ self.old.2.given }
         ensures refused { IfErr result (λ e. RefusesCall e) }
+        ensures full { IfErr result (TellsFull self.new.2.entries) }
     {
         self.engine.select(rt, self.number, &mut self.share, query)
     }
@@ -564,8 +561,10 @@ where
         ensures mine { IfOk result (λ r. self.new.1 ≡ self.old.1 ++ (call, r) ∷ []) }
         ensures err { OnErr result (self.new.1 ≡ self.old.1) }
         ensures own { LeavesCommit call result self.old self.new }
+        ensures grows { Begin self.old.2.entries self.new.2.entries }
         ensures receipt { GivesReceipt result self.old.2 self.new.2 }
         ensures refused { IfErr result (λ e. RefusesCall e) }
+        ensures full { IfErr result (TellsFull self.new.2.entries) }
     {
         let Session {
             engine,
@@ -582,8 +581,10 @@ where
         ensures mine { IfOk result (λ r. self.new.1 ≡ self.old.1 ++ (Insert cells, r) ∷ []) }
         ensures err { OnErr result (self.new.1 ≡ self.old.1) }
         ensures own { LeavesCommit (Insert cells) result self.old self.new }
+        ensures grows { Begin self.old.2.entries self.new.2.entries }
         ensures receipt { GivesReceipt result self.old.2 self.new.2 }
         ensures refused { IfErr result (λ e. RefusesCall e) }
+        ensures full { IfErr result (TellsFull self.new.2.entries) }
     {
         self.commit(rt, Call::Insert(cells))
     }
@@ -594,8 +595,10 @@ where
         ensures mine { IfOk result (λ r. self.new.1 ≡ self.old.1 ++ (Delete key, r) ∷ []) }
         ensures err { OnErr result (self.new.1 ≡ self.old.1) }
         ensures own { LeavesCommit (Delete key) result self.old self.new }
+        ensures grows { Begin self.old.2.entries self.new.2.entries }
         ensures receipt { GivesReceipt result self.old.2 self.new.2 }
         ensures refused { IfErr result (λ e. RefusesCall e) }
+        ensures full { IfErr result (TellsFull self.new.2.entries) }
     {
         self.commit(rt, Call::Delete(key))
     }
@@ -610,8 +613,10 @@ where
         ensures mine { IfOk result (λ r. self.new.1 ≡ self.old.1 ++ (DeleteWhere conds.now, r) ∷ []) }
         ensures err { OnErr result (self.new.1 ≡ self.old.1) }
         ensures own { LeavesCommit (DeleteWhere conds.now) result self.old self.new }
+        ensures grows { Begin self.old.2.entries self.new.2.entries }
         ensures receipt { GivesReceipt result self.old.2 self.new.2 }
         ensures refused { IfErr result (λ e. RefusesCall e) }
+        ensures full { IfErr result (TellsFull self.new.2.entries) }
     {
         let mut asked = Conds::new(self.engine.alloc);
         if add_all(&mut asked, conds).is_err() {
@@ -627,8 +632,10 @@ where
         ensures mine { IfOk result (λ r. self.new.1 ≡ self.old.1 ++ (call.now, r) ∷ []) }
         ensures err { OnErr result (self.new.1 ≡ self.old.1) }
         ensures own { LeavesCall call.now result self.old self.new }
+        ensures grows { Begin self.old.2.entries self.new.2.entries }
         ensures receipt { CallGives call.now result self.old.2 self.new.2 }
         ensures refused { IfErr result (λ e. RefusesCall e) }
+        ensures full { IfErr result (TellsFull self.new.2.entries) }
     {
         match call {
             Call::Select(query) => self.select(rt, query),
@@ -651,6 +658,21 @@ where
         self.receipt.again()
     }
 
+    /// The place of the session's last entry in the history, the first place being 0, or none where it has no entry. So it is
+    /// its place in the record that `close` answers, and of two sessions' calls that with the lower one came first.
+    pub fn place<R: Wait>(&mut self, rt: &R) -> Option<u64>
+        ensures same { self.new ≡ self.old }
+        ensures place { IsLastOwn self.old.0 self.old.2.entries result }
+    {
+        let Session {
+            engine,
+            number,
+            share,
+            ..
+        } = self;
+        engine.visit(rt).place(*number, share)
+    }
+
     /// A viewer learns what is published, and the session has the receipt of it. What an earlier call could not publish, since
     /// viewers read or there was no memory, is published before; for that it waits for viewers that read, and does without where
     /// there is no memory.
@@ -668,6 +690,7 @@ where
         ensures number { self.new.0 ≡ self.old.0 }
         ensures mine { self.new.1 ≡ self.old.1 }
         ensures own { own_of self.new ≡ own_of self.old }
+        ensures grows { Begin self.old.2.entries self.new.2.entries }
         ensures receipt { GivesReceipt result self.old.2 self.new.2 }
         ensures told { IfOk result (λ r. r ≡ self.new.2.given) }
         ensures ends { IfOk result (λ r. EndWithEntries J.limit J.opening self.new.2.entries r) }
@@ -690,9 +713,9 @@ where
         Ok(published)
     }
 
-    /// The session's ticket, which cannot be copied.
+    /// The session's ticket, which shows what the session shows, and cannot be copied.
     pub fn end(self) -> Ticket<J>
-        ensures { (result.0 ≡ self.entry.0) × (result.1 ≡ self.entry.1) }
+        ensures { result ≡ self.entry }
     {
         let Session {
             number,

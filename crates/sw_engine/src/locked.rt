@@ -13,9 +13,9 @@ ghost use Rattle.sw_versions.specs.Lists.{IsLonger};
 ghost use Rattle.sw_versions.specs.Refused.{IsAhead, RefusesViewer};
 ghost use Rattle.sw_versions.specs.Rules.{updates_in};
 ghost use Rattle.sw_versions.specs.declared.viewer.TheConstants.{MOST_VIEWERS};
-ghost use Rattle.sw_engine.specs.Own.{Adds, Settles, Stays};
-ghost use Rattle.sw_engine.specs.Desk.{InOrder, IsAnswered, IsAtRest, IsBegun, IsShareOf, IsTold, RefusesCall, RefusesMany};
-ghost use Rattle.sw_engine.specs.Published.{EndWithEntries, IsNewShare, IsWhole, later, new_viewer, no_versions, published_of, with_committed, with_viewer};
+ghost use Rattle.sw_engine.specs.Own.{Adds, IsLastOwn, IsNew, Settles, Stays};
+ghost use Rattle.sw_engine.specs.Desk.{InOrder, IsAnswered, IsAtRest, IsBegun, IsShareOf, IsTold, RefusesCall, RefusesMany, TellsFull};
+ghost use Rattle.sw_engine.specs.Published.{EndWithEntries, Grows, IsNewShare, IsWhole, later, new_viewer, no_versions, published_of, with_committed, with_viewer};
 
 use crate::desk::{Desk, Ticket};
 use crate::latch::LatchedHead;
@@ -112,7 +112,7 @@ where
     /// The next session's ticket.
     #[tactic(auto, using(crate::proofs::Published::prefix_same))]
     fn ticket(&mut self) -> Result<Ticket<J>, Refusal>
-        ensures ticket { IfOk result (λ t. (t.0 ≡ self.new.desk.books.sessions) × (t.1 ≡ [])) }
+        ensures ticket { IfOk result (λ t. (t.0 ≡ self.new.desk.books.sessions) × IsNew t) }
         ensures made { OnOk result (self.new.desk.books ≡ with_session self.old.desk.books) }
         ensures refused { IfErr result (λ e. (self.new ≡ self.old) × RefusesSession self.old.desk.books e) }
     {
@@ -150,15 +150,22 @@ where
         ensures stays { OnErr result (Stays number share.old.value share.new.value) }
         ensures waits { OnOk result (waits_for number share.new.value ≡ Some (Select query, head.new.taken)) }
         ensures rest { OnErr result (waits_for number share.new.value ≡ None) }
-        ensures grows { IsPrefix (published_of J.opening share.old.value) (published_of J.opening share.new.value) }
+        ensures grows { Grows J.opening share.old.value share.new.value }
         ensures whole { IsWhole J.limit J.opening share.new.value }
         ensures begun { OnOk result (IsBegun number query self.old.desk.books self.new.desk.books) }
         ensures kept { OnErr result (self.new.desk.books ≡ self.old.desk.books) }
         ensures shelf { self.new.shelf ≡ self.old.shelf }
         ensures same { head.new ≡ record head.old { taken = head.new.taken } }
         ensures refused { IfErr result (λ e. RefusesCall e) }
+        ensures full { IfErr result (TellsFull share.new.value.entries) }
     {
-        self.desk.begin(number, share, head, query)
+        match self.desk.begin(number, share, head, query) {
+            Ok(()) => Ok(()),
+            Err(refusal) => {
+                self.desk.look(number, share);
+                Err(refusal)
+            }
+        }
     }
 
     /// The session's open select is answered at the desk.
@@ -168,7 +175,7 @@ where
         ensures rest { IsAtRest J.sessions number share.new }
         ensures mine { IsAnswered number reply share.old.value share.new.value }
         ensures own { Settles number (Answered reply) share.old.value share.new.value }
-        ensures grows { IsPrefix (published_of J.opening share.old.value) (published_of J.opening share.new.value) }
+        ensures grows { Grows J.opening share.old.value share.new.value }
         ensures whole { IsWhole J.limit J.opening share.new.value }
         ensures finished { self.new.desk.books ≡ with_settled number (Answered reply) self.old.desk.books }
         ensures shelf { self.new.shelf ≡ self.old.shelf }
@@ -183,7 +190,7 @@ where
         ensures rest { IsAtRest J.sessions number share.new }
         ensures mine { mine number share.new.value.entries ≡ mine number share.old.value.entries }
         ensures own { Settles number Void share.old.value share.new.value }
-        ensures grows { IsPrefix (published_of J.opening share.old.value) (published_of J.opening share.new.value) }
+        ensures grows { Grows J.opening share.old.value share.new.value }
         ensures whole { IsWhole J.limit J.opening share.new.value }
         ensures voided { self.new.desk.books ≡ with_settled number Void self.old.desk.books }
         ensures shelf { self.new.shelf ≡ self.old.shelf }
@@ -205,7 +212,7 @@ where
         ensures rest { IsAtRest J.sessions number share.new }
         ensures mine { mine number share.new.value.entries ≡ mine number share.old.value.entries }
         ensures own { Stays number share.old.value share.new.value }
-        ensures grows { IsPrefix (published_of J.opening share.old.value) (published_of J.opening share.new.value) }
+        ensures grows { Grows J.opening share.old.value share.new.value }
         ensures whole { IsWhole J.limit J.opening share.new.value }
         ensures shown { share.new.value ≡ self.new.desk.books }
         ensures receipt { result ≡ self.new.shelf.published }
@@ -243,7 +250,7 @@ where
         ensures err { OnErr result (mine number share.new.value.entries ≡ mine number share.old.value.entries) }
         ensures adds { IfOk result (λ r. Adds number call (Answered r.0) share.old.value share.new.value) }
         ensures stays { OnErr result (Stays number share.old.value share.new.value) }
-        ensures grows { IsPrefix (published_of J.opening share.old.value) (published_of J.opening share.new.value) }
+        ensures grows { Grows J.opening share.old.value share.new.value }
         ensures whole { IsWhole J.limit J.opening share.new.value }
         ensures shown { OnOk result (share.new.value ≡ self.new.desk.books) }
         ensures receipt { IfOk result (λ r. r.1 ≡ self.new.shelf.published) }
@@ -257,10 +264,18 @@ where
         ensures viewers { self.new.shelf.viewers ≡ self.old.shelf.viewers }
         ensures kept { OnErr result ((self.new.desk.books ≡ self.old.desk.books) × (self.new.shelf ≡ self.old.shelf)) }
         ensures refused { IfErr result (λ e. RefusesCall e) }
+        ensures full { IfErr result (TellsFull share.new.value.entries) }
     {
-        let reply = self.desk.commit(number, share, call)?;
-        let receipt = self.publish(rt, number, share, WhileRead::PutsOff);
-        Ok((reply, receipt))
+        match self.desk.commit(number, share, call) {
+            Ok(reply) => {
+                let receipt = self.publish(rt, number, share, WhileRead::PutsOff);
+                Ok((reply, receipt))
+            }
+            Err(refusal) => {
+                self.desk.look(number, share);
+                Err(refusal)
+            }
+        }
     }
 
     /// All updates that are not published yet are published at once, or none of them where there is no memory for it. For that
@@ -280,7 +295,7 @@ where
         ensures rest { IsAtRest J.sessions number share.new }
         ensures mine { mine number share.new.value.entries ≡ mine number share.old.value.entries }
         ensures own { Stays number share.old.value share.new.value }
-        ensures grows { IsPrefix (published_of J.opening share.old.value) (published_of J.opening share.new.value) }
+        ensures grows { Grows J.opening share.old.value share.new.value }
         ensures whole { IsWhole J.limit J.opening share.new.value }
         ensures shown { share.new.value ≡ self.new.desk.books }
         ensures told { updates_in self.new.shelf.published ≡ published_of J.opening share.new.value }
@@ -300,6 +315,15 @@ where
     {
         let _receipt = self.publish(rt, number, share, WhileRead::Waits);
         self.shelf.meet(&self.book, viewer)
+    }
+
+    /// The place of the session's last entry, of those that its share shows. Nothing changes.
+    pub fn place(&mut self, number: u64, share: &mut Share<Spine>) -> Option<u64>
+        requires share { IsShareOf J.sessions number share.old }
+        ensures same { (self.new ≡ self.old) × (share.new ≡ share.old) }
+        ensures place { IsLastOwn number share.old.value.entries result }
+    {
+        self.desk.place(number, share)
     }
 
     /// A viewer, which has learnt what is published. The first one has the two copies of the rows made.

@@ -7,7 +7,7 @@ use std::alloc::{AllocError, Global};
 use sw_rows::{Kind, MOST_BYTES_OF_TEXT, MOST_NUMBER, read_cell_bytes, read_text};
 
 /// What is told besides of a cell whose attribute has its kind by none being named.
-pub(crate) const BARE: &str = "; a name without a kind is an int";
+pub(crate) const BARE: &str = "; a name without a kind is an int; sideways import finds kinds";
 
 /// Whether a field is a cell of a kind.
 pub(crate) fn is_cell(kind: Kind, field: &[u8]) -> bool

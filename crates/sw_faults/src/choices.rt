@@ -144,6 +144,16 @@ impl Choices<'_, '_> {
         }
         Ok(())
     }
+
+    /// Adds all that may stand there.
+    fn add_all(&mut self) -> Result<(), AllocError> {
+        self.add_names()?;
+        self.add_words(&WORDS)?;
+        self.add_comma()?;
+        self.add_comparisons()?;
+        self.add_values()?;
+        self.add_end()
+    }
 }
 
 /// The words of the grammar that may stand at a place where no value does.
@@ -163,12 +173,7 @@ pub(crate) fn choices_behind(
         front,
         text: String::new(alloc),
     };
-    choices.add_names()?;
-    choices.add_words(&WORDS)?;
-    choices.add_comma()?;
-    choices.add_comparisons()?;
-    choices.add_values()?;
-    choices.add_end()?;
+    choices.add_all()?;
     let Choices { text, .. } = choices;
     Ok(text)
 }

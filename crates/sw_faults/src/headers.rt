@@ -81,22 +81,21 @@ fn wrong_name(alloc: Global, name: &[u8]) -> Result<String, AllocError> {
     String::from_str(alloc, "a word of the language is no name")
 }
 
-/// What is wrong with a field of a header that is none, or whose name stands before it.
-fn wrong_field(alloc: Global, field: &[u8]) -> Result<String, AllocError> {
-    let (name, kind) = parts(field);
-    match kind {
-        Some(kind) if !is_kind(kind) => String::from_str(
-            alloc,
-            "an unknown kind, wanted int, fix1 to fix6, flag or text",
-        ),
-        _ if is_name(name) => String::from_str(alloc, "a name that stands twice"),
-        _ => wrong_name(alloc, name),
-    }
-}
+/// How a name is had of a heading that is none.
+const NAMES: &str = "sideways import makes names of headings";
 
-/// What is wrong with a field of a header, and the field.
+/// What is wrong with a field of a header that is none, or whose name stands before it, and the field.
 pub(crate) fn wrong(alloc: Global, field: &[u8]) -> Result<String, AllocError> {
-    let what = wrong_field(alloc, field)?;
+    let (name, kind) = parts(field);
     let field = shown(alloc, field)?;
-    format!(in alloc; "{what}: {field}")
+    match kind {
+        Some(kind) if !is_kind(kind) => {
+            format!(in alloc; "an unknown kind, wanted int, fix1 to fix6, flag or text: {field}")
+        }
+        _ if is_name(name) => format!(in alloc; "a name that stands twice: {field}; {NAMES}"),
+        _ => {
+            let what = wrong_name(alloc, name)?;
+            format!(in alloc; "{what}: {field}; {NAMES}")
+        }
+    }
 }

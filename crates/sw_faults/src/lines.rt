@@ -93,9 +93,21 @@ fn text_of(bytes: &[u8]) -> &str {
 
 /// How far a line is read before it is refused: what stands before the token at fault, and that token; where the line ends
 /// too early, all of it and no token.
+#[derive(Clone, Copy)]
 struct Place<'a> {
     front: &'a str,
     token: &'a str,
+}
+
+impl Place<'_> {
+    /// What is wrong there.
+    fn wrong(&self, alloc: Global) -> Result<String, AllocError> {
+        if self.token.is_empty() {
+            return String::from_str(alloc, "the line ends too early");
+        }
+        let token = shown(alloc, self.token.as_bytes())?;
+        format!(in alloc; "{token} cannot stand there")
+    }
 }
 
 /// The token of a line at which it is refused: the first with which its beginning is refused.
@@ -141,20 +153,13 @@ fn wrong_token(
     at: &str,
     line: &str,
 ) -> Result<String, AllocError> {
-    let Place { front, token } = place_of(alloc, schema, line)?;
-    let choices = choices_behind(alloc, schema, front)?;
-    let column = front.chars().count();
+    let place = place_of(alloc, schema, line)?;
+    let choices = choices_behind(alloc, schema, place.front)?;
+    let wrong = place.wrong(alloc)?;
+    let column = place.front.chars().count();
     let picture = pointed(alloc, line, column)?;
     let column = column.saturating_add(1);
-    if token.is_empty() {
-        return format!(in alloc;
-            "{at}, column {column}: the line ends too early, wanted {choices}\n{picture}"
-        );
-    }
-    let token = shown(alloc, token.as_bytes())?;
-    format!(in alloc;
-        "{at}, column {column}: {token} cannot stand there, wanted {choices}\n{picture}"
-    )
+    format!(in alloc; "{at}, column {column}: {wrong}, wanted {choices}\n{picture}")
 }
 
 /// What is wrong with a line that is refused, of which `at` tells where it is: a line of words, and below it the line with a caret

@@ -18,7 +18,6 @@ fn unmarked(bytes: &[u8]) -> &[u8] {
 }
 
 /// A table's bytes, and the records in them, which are taken one after another.
-#[derive(Drop)]
 pub(crate) struct Records<'a> {
     /// All bytes.
     bytes: &'a [u8],
@@ -132,6 +131,22 @@ impl<'a> Records<'a> {
             Some((front, _)) => self.line.saturating_add(ends_in(front, self.last)),
             None => self.line,
         }
+    }
+}
+
+// By hand: a drop of what is derived is written out at each way out of a function.
+impl Drop for Records<'_> {
+    fn drop(self) {
+        let Self {
+            bytes: _,
+            left: _,
+            counted: _,
+            last: _,
+            line: _,
+            reader: _reader,
+            row: _row,
+            long: _,
+        } = self;
     }
 }
 

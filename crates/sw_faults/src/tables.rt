@@ -38,13 +38,24 @@ fn in_words(alloc: Global, many: usize, what: &str) -> Result<String, AllocError
 }
 
 /// What is known of a table once its header was read.
-#[derive(Drop)]
 struct Head<'a> {
     alloc: Global,
     name: &'a str,
     schema: Schema,
     /// For each attribute whether its kind is left out, which makes it one of whole numbers.
     bare: Vec<bool>,
+}
+
+// By hand, as with `Records`.
+impl Drop for Head<'_> {
+    fn drop(self) {
+        let Self {
+            alloc: _,
+            name: _,
+            schema: _schema,
+            bare: _bare,
+        } = self;
+    }
 }
 
 /// For each field of a header whether its kind is left out.
@@ -134,6 +145,30 @@ impl<'a> Head<'a> {
         }
         self.wrong_at(records, field.saturating_sub(1).min(8) as usize)
     }
+
+    /// What is wrong with the row of a number at a field, both from 1; nothing where there is no such row.
+    fn wrong_of(
+        &self,
+        records: &mut Records<'_>,
+        rec: u64,
+        field: u64,
+    ) -> Result<String, AllocError> {
+        if find(records, rec)? {
+            self.wrong_row(records, field)
+        } else {
+            Ok(String::new(self.alloc))
+        }
+    }
+
+    /// The faults of all rows behind the header, as they are listed.
+    fn all_wrong(&self, records: &mut Records<'_>) -> Result<String, AllocError> {
+        let mut listed = Listed {
+            text: String::new(self.alloc),
+            many: 0,
+        };
+        listed.add_rows(self, records)?;
+        listed.ended(self.alloc, self.name, !records.is_long())
+    }
 }
 
 /// What is wrong with the header that was taken last, at a field, from 0.
@@ -198,13 +233,10 @@ pub(crate) fn bad_row(
     field: u64,
 ) -> Result<String, AllocError> {
     let mut records = Records::new(alloc, sheet.bytes);
-    let Some(head) = Head::take(alloc, key, sheet.name, &mut records)? else {
-        return Ok(String::new(alloc));
-    };
-    if !find(&mut records, rec)? {
-        return Ok(String::new(alloc));
+    match Head::take(alloc, key, sheet.name, &mut records)? {
+        Some(head) => head.wrong_of(&mut records, rec, field),
+        None => Ok(String::new(alloc)),
     }
-    head.wrong_row(&mut records, field)
 }
 
 /// How many columns a table's header has, in words, where they are more than a number.
@@ -286,6 +318,17 @@ impl Listed {
         Ok(())
     }
 
+    /// Adds the faults of all rows that are left.
+    fn add_rows(&mut self, head: &Head<'_>, records: &mut Records<'_>) -> Result<(), AllocError> {
+        for _ in 0..u64::MAX {
+            if !records.next()? {
+                break;
+            }
+            self.add_row(head, records)?;
+        }
+        Ok(())
+    }
+
     /// What is listed, and then how many there are; `is_whole` tells whether all rows were looked at.
     fn ended(self, alloc: Global, name: &str, is_whole: bool) -> Result<String, AllocError> {
         let Listed { mut text, many } = self;
@@ -318,18 +361,8 @@ pub fn all_faults(
     bytes: &[u8],
 ) -> Result<String, AllocError> {
     let mut records = Records::new(alloc, bytes);
-    let mut listed = Listed {
-        text: String::new(alloc),
-        many: 0,
-    };
-    let Some(head) = Head::take(alloc, key, name, &mut records)? else {
-        return Ok(String::new(alloc));
-    };
-    for _ in 0..u64::MAX {
-        if !records.next()? {
-            break;
-        }
-        listed.add_row(&head, &mut records)?;
+    match Head::take(alloc, key, name, &mut records)? {
+        Some(head) => head.all_wrong(&mut records),
+        None => Ok(String::new(alloc)),
     }
-    listed.ended(alloc, name, !records.is_long())
 }

@@ -13,6 +13,9 @@ const MOST_CUTS: u64 = 15;
 
 const MOST_BLOCKS: u64 = 1024;
 
+/// How a file of more columns is asked.
+const FEWER: &str = "sideways import chooses columns, and --header passes by those that it calls -";
+
 /// A text that was read.
 #[derive(Clone, Copy, Debug)]
 pub struct Text<'a> {
@@ -148,7 +151,7 @@ fn of_columns(alloc: Global, asked: &Asked<'_>) -> Result<String, AllocError> {
     match columns_past(alloc, bytes, MOST_ATTRS as usize)? {
         Some(found) => {
             format!(in alloc;
-                "{} line 1: {found}, at most {MOST_ATTRS}\n",
+                "{} line 1: {found}, at most {MOST_ATTRS}; {FEWER}\n",
                 asked.table.name
             )
         }

@@ -8,6 +8,3 @@ mod source;
 
 pub use header::Header;
 pub use source::{Headed, text_under};
-
-#[cfg(test)]
-mod tests;

@@ -225,6 +225,41 @@ fn names_of(
     Ok(names)
 }
 
+/// The column at a place.
+fn column_of(
+    alloc: Global,
+    header: &ByteRecord,
+    asked: &Asked<'_>,
+    place: usize,
+    name: Name,
+) -> Result<Column, Fault> {
+    let given = form_asked(alloc, header, asked, place)?;
+    Ok(Column {
+        place,
+        heading: String::from_utf8_lossy(alloc, field(header, place))?,
+        name,
+        given,
+    })
+}
+
+/// The columns at some places.
+fn columns_at(
+    alloc: Global,
+    header: &ByteRecord,
+    asked: &Asked<'_>,
+    places: &[usize],
+) -> Result<Vec<Column>, Fault> {
+    let names = names_of(alloc, header, asked, places)?;
+    let mut columns = Vec::new(alloc);
+    for (place, name) in places.iter().zip(names) {
+        let column = column_of(alloc, header, asked, *place, name)?;
+        if columns.push(column).is_err() {
+            return Err(Fault::NoMemory);
+        }
+    }
+    Ok(columns)
+}
+
 /// The columns that are written: those that are asked for, or else the first eight.
 pub(crate) fn columns_of(
     alloc: Global,
@@ -237,18 +272,5 @@ pub(crate) fn columns_of(
     };
     see_written(alloc, header, asked.names, places.as_slice())?;
     see_written(alloc, header, asked.kinds, places.as_slice())?;
-    let mut columns = Vec::new(alloc);
-    let names = names_of(alloc, header, asked, places.as_slice())?;
-    for (place, name) in places.as_slice().iter().zip(names) {
-        let column = Column {
-            place: *place,
-            heading: String::from_utf8_lossy(alloc, field(header, *place))?,
-            name,
-            given: form_asked(alloc, header, asked, *place)?,
-        };
-        if columns.push(column).is_err() {
-            return Err(Fault::NoMemory);
-        }
-    }
-    Ok(columns)
+    columns_at(alloc, header, asked, places.as_slice())
 }

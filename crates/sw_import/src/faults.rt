@@ -88,84 +88,67 @@ impl fmt::Display for Lacks {
 }
 
 /// Why no table is made.
-#[derive(Debug, Drop, Error)]
+#[derive(Debug, Drop)]
 pub enum Fault {
     /// A growth was refused.
-    #[error("no memory")]
     NoMemory,
     /// There is no record.
-    #[error("there is no record, and so no heading")]
     NoHeader,
     /// No column has a heading or number that was asked for.
-    #[error("no column has the heading or the number `{asked}`: there are {count} columns")]
     NoColumn {
         asked: String,
         count: u64,
     },
     /// More columns than one have a heading that was asked for.
-    #[error("{count} columns have the heading `{asked}`: give the number of one")]
     ManyAlike {
         asked: String,
         count: u64,
     },
     /// More columns are asked for than a table has.
-    #[error("more than 8 columns are asked for, and a table has at most 8")]
     ManyColumns,
     /// A new name or a kind is asked for of a column that is not written.
-    #[error("`{asked}` is asked of a column that is not written")]
     NotWritten {
         asked: String,
     },
     /// What is asked of a column is not divided by an equals sign.
-    #[error("`{asked}` has no `=` between the heading and what is asked of its column")]
     NoEquals {
         asked: String,
     },
     /// A name is none.
-    #[error("`{name}` is no name: a name has 1 to 32 letters, digits and underscores, begins with no digit, and is no word of scripts")]
     NoName {
         name: String,
     },
     /// A name is that of another column.
-    #[error("`{name}` is the name of more columns than one")]
     NameTwice {
         name: String,
     },
     /// A kind is none.
-    #[error("`{kind}` is no kind: int, fix1 to fix6, flag, text, seconds or days")]
     NoKind {
         kind: String,
     },
     /// A record has fewer fields than the header.
-    #[error("line {line}: {found} fields, and the header has {wanted}; --ragged fill takes fields that are missing at the end for empty ones")]
     Ragged {
         line: u64,
         found: u64,
         wanted: u64,
     },
     /// A record has more fields than the header.
-    #[error("line {line}: {found} fields, and the header has {wanted}")]
     Wide {
         line: u64,
         found: u64,
         wanted: u64,
     },
     /// There are more rows than a table has.
-    #[error("line {line}: more than 1048576 rows; --sample N writes the first N")]
     ManyRows {
         line: u64,
     },
     /// Blank cells stand in columns of numbers, flags or times.
-    #[error("cells without a value: {0}; choose: --empty drop leaves their rows out, --empty VALUE writes VALUE in their place, --empty text makes texts of the column")]
     Blanks(Lacks),
     /// Texts are too long.
-    #[error("texts of more than 64 bytes, or with bytes below 32 or 127: {0}; choose: --long cut writes the longest beginning that can be a text, --long drop leaves their rows out, --long number writes numbers that stand for the texts")]
     Longs(Lacks),
     /// Texts are not UTF-8.
-    #[error("texts that are not UTF-8: {0}; iconv -f LATIN1 -t UTF-8 makes UTF-8 of a file in Latin-1")]
     Encodings(Lacks),
     /// A cell is none of the kind that was asked for its column.
-    #[error("line {line}, {at}: `{cell}` is no {kind}")]
     Cell {
         line: u64,
         at: At,
@@ -173,22 +156,141 @@ pub enum Fault {
         kind: &'static str,
     },
     /// The value for blank cells is none of the kind of a column that has some.
-    #[error("`{value}` in place of cells without a value is no {kind}: {at}")]
     Value {
         value: String,
         at: At,
         kind: &'static str,
     },
     /// What is wrong with values that another byte may divide: they have one column, and its heading has that byte.
-    #[error("{why}; one column, whose heading has a divider: --delimiter '{divider}' divides there")]
     Undivided {
         why: String,
         divider: &'static str,
     },
     /// The table would be none.
-    #[error("the table would be refused: {0}")]
     Table(Refusal),
 }
+
+impl Fault {
+    /// Tells what is wrong with what is asked of columns.
+    fn of_asked<W: fmt::Write>(&self, f: &mut fmt::Formatter<W>) -> fmt::Result {
+        match self {
+            Fault::NoHeader => f.write_str("there is no record, and so no heading"),
+            Fault::NoColumn { asked, count } => write!(
+                f,
+                "no column has the heading or the number `{asked}`: there are {count} columns"
+            ),
+            Fault::ManyAlike { asked, count } => write!(
+                f,
+                "{count} columns have the heading `{asked}`: give the number of one"
+            ),
+            Fault::ManyColumns => f.write_str(
+                "more than 8 columns are asked for, and a table has at most 8",
+            ),
+            Fault::NotWritten { asked } => write!(
+                f,
+                "`{asked}` is asked of a column that is not written"
+            ),
+            Fault::NoEquals { asked } => write!(
+                f,
+                "`{asked}` has no `=` between the heading and what is asked of its column"
+            ),
+            Fault::NoName { name } => write!(
+                f,
+                "`{name}` is no name: a name has 1 to 32 letters, digits and underscores, begins with no digit, and is no word of scripts"
+            ),
+            Fault::NameTwice { name } => write!(f, "`{name}` is the name of more columns than one"),
+            Fault::NoKind { kind } => write!(
+                f,
+                "`{kind}` is no kind: int, fix1 to fix6, flag, text, seconds or days"
+            ),
+            _ => Ok(()),
+        }
+    }
+
+    /// Tells what is wrong with a record, or a cell of it.
+    fn of_records<W: fmt::Write>(&self, f: &mut fmt::Formatter<W>) -> fmt::Result {
+        match self {
+            Fault::Ragged {
+                line,
+                found,
+                wanted,
+            } => write!(
+                f,
+                "line {line}: {found} fields, and the header has {wanted}; --ragged fill takes fields that are missing at the end for empty ones"
+            ),
+            Fault::Wide {
+                line,
+                found,
+                wanted,
+            } => write!(
+                f,
+                "line {line}: {found} fields, and the header has {wanted}"
+            ),
+            Fault::ManyRows { line } => write!(
+                f,
+                "line {line}: more than 1048576 rows; --sample N writes the first N"
+            ),
+            Fault::Cell {
+                line,
+                at,
+                cell,
+                kind,
+            } => write!(f, "line {line}, {at}: `{cell}` is no {kind}"),
+            Fault::Value { value, at, kind } => write!(
+                f,
+                "`{value}` in place of cells without a value is no {kind}: {at}"
+            ),
+            _ => Ok(()),
+        }
+    }
+
+    /// Tells what else keeps a table from being made.
+    fn of_table<W: fmt::Write>(&self, f: &mut fmt::Formatter<W>) -> fmt::Result {
+        match self {
+            Fault::NoMemory => f.write_str("no memory"),
+            Fault::Blanks(it) => write!(
+                f,
+                "cells without a value: {it}; choose: --empty drop leaves their rows out, --empty VALUE writes VALUE in their place, --empty text makes texts of the column"
+            ),
+            Fault::Longs(it) => write!(
+                f,
+                "texts of more than 64 bytes, or with bytes below 32 or 127: {it}; choose: --long cut writes the longest beginning that can be a text, --long drop leaves their rows out, --long number writes numbers that stand for the texts"
+            ),
+            Fault::Encodings(it) => write!(
+                f,
+                "texts that are not UTF-8: {it}; iconv -f LATIN1 -t UTF-8 makes UTF-8 of a file in Latin-1"
+            ),
+            Fault::Undivided { why, divider } => write!(
+                f,
+                "{why}; one column, whose heading has a divider: --delimiter '{divider}' divides there"
+            ),
+            Fault::Table(it) => write!(f, "the table would be refused: {it}"),
+            _ => Ok(()),
+        }
+    }
+}
+
+// By hand, in parts: one function for all messages is dear to prove.
+impl fmt::Display for Fault {
+    fn fmt<W: fmt::Write>(&self, f: &mut fmt::Formatter<W>) -> fmt::Result {
+        match self {
+            Fault::Ragged { .. }
+            | Fault::Wide { .. }
+            | Fault::ManyRows { .. }
+            | Fault::Cell { .. }
+            | Fault::Value { .. } => self.of_records(f),
+            Fault::NoMemory
+            | Fault::Blanks(_)
+            | Fault::Longs(_)
+            | Fault::Encodings(_)
+            | Fault::Undivided { .. }
+            | Fault::Table(_) => self.of_table(f),
+            _ => self.of_asked(f),
+        }
+    }
+}
+
+impl std::error::Error for Fault {}
 
 impl Fault {
     /// Whether memory was wanting.

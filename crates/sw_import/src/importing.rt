@@ -113,11 +113,21 @@ fn headings(alloc: Global, count: usize) -> Result<ByteRecord, AllocError> {
     Ok(header)
 }
 
+/// Reads the first record of a text, and whether there is one.
+fn read_first(
+    alloc: Global,
+    how: &How<'_>,
+    text: &[u8],
+    first: &mut ByteRecord,
+) -> Result<bool, AllocError> {
+    let mut rdr = open(alloc, how.delimiter, text);
+    next(&mut rdr, first)
+}
+
 /// The record of the headings of a text.
 fn header_of(alloc: Global, how: &How<'_>, text: &[u8]) -> Result<ByteRecord, Fault> {
-    let mut rdr = open(alloc, how.delimiter, text);
     let mut first = ByteRecord::new(alloc);
-    if !next(&mut rdr, &mut first)? {
+    if !read_first(alloc, how, text, &mut first)? {
         return Err(Fault::NoHeader);
     }
     if how.has_header {
@@ -190,6 +200,23 @@ fn learn_record(plan: &mut [Planned], row: &ByteRecord) -> Result<(), AllocError
     Ok(())
 }
 
+/// Adds the texts of the records that are left for which numbers are written.
+fn learn_all(
+    rdr: &mut Reader<&[u8]>,
+    row: &mut ByteRecord,
+    plan: &mut [Planned],
+) -> Result<(), AllocError>
+    requires { IsOpen rdr.old }
+{
+    'rows: for _ in 0..u64::MAX {
+        if !next(rdr, row)? {
+            break;
+        }
+        learn_record(plan, row)?;
+    }
+    Ok(())
+}
+
 /// Gathers the texts for which numbers are written, where there are such.
 fn learn(alloc: Global, values: Values<'_>, plan: &mut [Planned]) -> Result<(), AllocError> {
     if !plan.iter().any(|planned| planned.form == Form::Code) {
@@ -197,13 +224,7 @@ fn learn(alloc: Global, values: Values<'_>, plan: &mut [Planned]) -> Result<(), 
     }
     let mut row = ByteRecord::new(alloc);
     let mut rdr = values.rows(alloc, &mut row)?;
-    'rows: for _ in 0..u64::MAX {
-        if !next(&mut rdr, &mut row)? {
-            break;
-        }
-        learn_record(plan, &row)?;
-    }
-    Ok(())
+    learn_all(&mut rdr, &mut row, plan)
 }
 
 /// The columns of a header that are not written.
@@ -315,17 +336,22 @@ fn make_under(
     })
 }
 
+/// What is wrong with values, told with the byte that may divide them.
+fn undivided(alloc: Global, fault: &Fault, divider: &'static str) -> Fault {
+    match format!(in alloc; "{fault}") {
+        Ok(why) => Fault::Undivided { why, divider },
+        Err(_) => Fault::NoMemory,
+    }
+}
+
 /// What is wrong with values, told with the byte that may divide them, where they have one column and its heading has such a byte.
 fn with_divider(alloc: Global, header: &ByteRecord, fault: Fault) -> Fault {
     if fault.is_memory() || header.len() != 1 {
         return fault;
     }
-    let Some(divider) = divider_in(field(header, 0)) else {
-        return fault;
-    };
-    match format!(in alloc; "{fault}") {
-        Ok(why) => Fault::Undivided { why, divider },
-        Err(_) => Fault::NoMemory,
+    match divider_in(field(header, 0)) {
+        Some(divider) => undivided(alloc, &fault, divider),
+        None => fault,
     }
 }
 

@@ -23,7 +23,6 @@ pub struct Rules {
 }
 
 /// What is known while calls become tasks.
-#[derive(Drop)]
 struct Builder {
     alloc: Global,
     problem: Problem,
@@ -33,6 +32,19 @@ struct Builder {
     unnamed: Vec<usize>,
     /// The number of each session among those that made calls.
     session_numbers: Vec<Option<usize>>,
+}
+
+// By hand, as with `Problem`.
+impl Drop for Builder {
+    fn drop(self) {
+        let Self {
+            alloc: _,
+            problem: _problem,
+            rows: _rows,
+            unnamed: _unnamed,
+            session_numbers: _session_numbers,
+        } = self;
+    }
 }
 
 /// The least cell that is not left of a lower bound; None where there is none.
@@ -106,38 +118,63 @@ fn shown(row: &[i64; 8], attrs: &[usize], out: &mut Vec<i64>) -> Result<(), Allo
 
 impl Builder {
     fn new(alloc: Global, opening: &Opening, rules: Rules) -> Result<Builder, AllocError> {
-        let mut cells = Vec::with_capacity(alloc, opening.rows.len())?;
-        let mut keys = Vec::with_capacity(alloc, opening.rows.len())?;
-        for place in 0..opening.rows.len() {
-            let row = opening.rows.get(place);
-            cells.push(row.cells)?;
-            keys.push(row.key)?;
-        }
-        let count = cells.len();
-        Ok(Builder {
+        let mut builder = Builder {
             alloc,
-            problem: Problem {
-                tasks: Vec::new(alloc),
-                ranges: Vec::new(alloc),
-                given: Vec::new(alloc),
-                cells,
-                keys,
-                makers: vec![in alloc; None; count]?,
-                indexes: Vec::new(alloc),
-                sessions: Vec::new(alloc),
-                earliest: Vec::new(alloc),
-                soonest: Vec::new(alloc),
-                loose: Vec::new(alloc),
-                known: 0,
-                opening: count,
-                limit: opening.limit,
-                has_times: matches!(rules.by, By::Times { .. }),
-                any_keys: rules.any_keys,
-            },
+            problem: Problem::new(alloc, opening.limit, rules),
             rows: BTreeMap::new(alloc),
             unnamed: Vec::new(alloc),
-            session_numbers: vec![in alloc; None; MOST_SESSIONS + 1]?,
-        })
+            session_numbers: Vec::new(alloc),
+        };
+        builder.begin(opening)?;
+        Ok(builder)
+    }
+
+    /// Takes the opening rows in.
+    fn begin(&mut self, opening: &Opening) -> Result<(), AllocError> {
+        self.session_numbers = vec![in self.alloc; None; MOST_SESSIONS + 1]?;
+        let count = opening.rows.len();
+        self.problem.cells.reserve(count)?;
+        self.problem.keys.reserve(count)?;
+        self.problem.makers.reserve(count)?;
+        for place in 0..count {
+            let row = opening.rows.get(place);
+            self.problem.cells.push(row.cells)?;
+            self.problem.keys.push(row.key)?;
+            self.problem.makers.push(None)?;
+        }
+        self.problem.opening = count;
+        Ok(())
+    }
+
+    /// What the search is given.
+    fn into_problem(self) -> Problem {
+        let Self {
+            alloc: _,
+            problem,
+            rows: _rows,
+            unnamed: _unnamed,
+            session_numbers: _session_numbers,
+        } = self;
+        problem
+    }
+
+    /// Takes the calls in.
+    fn add_calls(
+        &mut self,
+        schema: &Schema,
+        calls: &[Logged],
+        rules: Rules,
+    ) -> Result<(), AllocError> {
+        self.add_rows(calls)?;
+        if rules.any_keys && !self.unnamed.is_empty() {
+            self.name_all(schema, calls)?;
+        }
+        self.add_tasks(schema, calls, rules.by)?;
+        self.add_indexes(schema.len())?;
+        for session in 0..self.problem.sessions.len() {
+            self.add_leasts(session);
+        }
+        Ok(())
     }
 
     /// Adds a row that an insert brings.
@@ -629,15 +666,6 @@ pub(crate) fn problem_of(
     rules: Rules,
 ) -> Result<Problem, AllocError> {
     let mut builder = Builder::new(alloc, opening, rules)?;
-    builder.add_rows(calls)?;
-    if rules.any_keys && !builder.unnamed.is_empty() {
-        builder.name_all(&opening.schema, calls)?;
-    }
-    builder.add_tasks(&opening.schema, calls, rules.by)?;
-    builder.add_indexes(opening.schema.len())?;
-    for session in 0..builder.problem.sessions.len() {
-        builder.add_leasts(session);
-    }
-    let Builder { problem, .. } = builder;
-    Ok(problem)
+    builder.add_calls(&opening.schema, calls, rules)?;
+    Ok(builder.into_problem())
 }

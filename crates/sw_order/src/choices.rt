@@ -15,7 +15,6 @@ use crate::window::{due, head, may_precede, next_calls, soonest};
 use std::alloc::{AllocError, Global};
 
 /// The set as it grows.
-#[derive(Drop)]
 pub(crate) struct Choices {
     alloc: Global,
     members: Vec<usize>,
@@ -27,6 +26,22 @@ pub(crate) struct Choices {
     others: Vec<usize>,
     rows: Vec<usize>,
     pub(crate) next: Vec<usize>,
+}
+
+// By hand, as with `Problem`.
+impl Drop for Choices {
+    fn drop(self) {
+        let Self {
+            alloc: _,
+            members: _members,
+            sets: _sets,
+            set: _,
+            latest: _,
+            others: _others,
+            rows: _rows,
+            next: _next,
+        } = self;
+    }
 }
 
 /// What of a sum's rows could bring it to what it has to be.

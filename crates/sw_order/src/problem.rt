@@ -1,11 +1,13 @@
 //! What the search is given: calls, rows and sessions.
 
+use crate::building::Rules;
 use crate::index::Index;
 use crate::small::{Part, at, items_of};
 use crate::tasks::{MANY, NO_TASK, Range, Task, Weigh};
+use std::alloc::Global;
+use sw_logs::By;
 
 /// The calls with the rows that may ever live.
-#[derive(Drop)]
 pub(crate) struct Problem {
     pub(crate) tasks: Vec<Task>,
     pub(crate) ranges: Vec<Range>,
@@ -33,7 +35,53 @@ pub(crate) struct Problem {
     pub(crate) any_keys: bool,
 }
 
+// By hand: the drop of a derived one is written out at each way out of a function.
+impl Drop for Problem {
+    fn drop(self) {
+        let Self {
+            tasks: _tasks,
+            ranges: _ranges,
+            given: _given,
+            cells: _cells,
+            keys: _keys,
+            makers: _makers,
+            indexes: _indexes,
+            sessions: _sessions,
+            earliest: _earliest,
+            soonest: _soonest,
+            loose: _loose,
+            known: _,
+            opening: _,
+            limit: _,
+            has_times: _,
+            any_keys: _,
+        } = self;
+    }
+}
+
 impl Problem {
+    /// No calls and no rows.
+    pub(crate) fn new(alloc: Global, limit: u64, rules: Rules) -> Problem {
+        Problem {
+            tasks: Vec::new(alloc),
+            ranges: Vec::new(alloc),
+            given: Vec::new(alloc),
+            cells: Vec::new(alloc),
+            keys: Vec::new(alloc),
+            makers: Vec::new(alloc),
+            indexes: Vec::new(alloc),
+            sessions: Vec::new(alloc),
+            earliest: Vec::new(alloc),
+            soonest: Vec::new(alloc),
+            loose: Vec::new(alloc),
+            known: 0,
+            opening: 0,
+            limit,
+            has_times: matches!(rules.by, By::Times { .. }),
+            any_keys: rules.any_keys,
+        }
+    }
+
     #[inline]
     pub(crate) fn task(&self, number: usize) -> Task {
         at(&self.tasks, number, NO_TASK)

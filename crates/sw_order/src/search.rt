@@ -57,7 +57,6 @@ struct Frame {
 }
 
 /// A search.
-#[derive(Drop)]
 pub(crate) struct Search {
     pub(crate) state: State,
     choices: Choices,
@@ -72,6 +71,26 @@ pub(crate) struct Search {
     kept: usize,
     best_time: u64,
     best_is_set: bool,
+}
+
+// By hand, as with `Problem`.
+impl Drop for Search {
+    fn drop(self) {
+        let Self {
+            state: _state,
+            choices: _choices,
+            frames: _frames,
+            options: _options,
+            tried: _tried,
+            met: _met,
+            states: _,
+            steps: _,
+            best: _best,
+            kept: _,
+            best_time: _,
+            best_is_set: _,
+        } = self;
+    }
 }
 
 impl Search {

@@ -22,7 +22,6 @@ struct Step {
 }
 
 /// The calls placed and the rows that live after them.
-#[derive(Drop)]
 pub(crate) struct State {
     alloc: Global,
     live: Vec<bool>,
@@ -49,31 +48,68 @@ pub(crate) struct State {
     watched_at: Vec<usize>,
 }
 
+// By hand, as with `Problem`.
+impl Drop for State {
+    fn drop(self) {
+        let Self {
+            alloc: _,
+            live: _live,
+            keys: _keys,
+            top: _,
+            came: _,
+            mark: _,
+            changes: _changes,
+            steps: _steps,
+            is_placed: _is_placed,
+            heads: _heads,
+            left: _,
+            sums: _sums,
+            is_watched: _is_watched,
+            watched: _watched,
+            watched_at: _watched_at,
+        } = self;
+    }
+}
+
 impl State {
     /// Nothing is placed, and the opening rows live.
     pub(crate) fn new(alloc: Global, problem: &Problem) -> Result<State, AllocError> {
-        let count = problem.tasks.len();
-        let mut live = vec![in alloc; false; problem.cells.len()]?;
-        for row in 0..problem.opening {
-            put(&mut live, row, true);
-        }
-        Ok(State {
+        let mut state = State {
             alloc,
-            live,
-            keys: problem.keys.clone()?,
+            live: Vec::new(alloc),
+            keys: Vec::new(alloc),
             top: problem.opening as u64,
             came: problem.opening as u64,
             mark: UNMARKED,
             changes: Vec::new(alloc),
             steps: Vec::new(alloc),
-            is_placed: vec![in alloc; false; count]?,
-            heads: vec![in alloc; 0; problem.sessions.len()]?,
+            is_placed: Vec::new(alloc),
+            heads: Vec::new(alloc),
             left: problem.known,
-            sums: vec![in alloc; 0; count]?,
-            is_watched: vec![in alloc; false; count]?,
+            sums: Vec::new(alloc),
+            is_watched: Vec::new(alloc),
             watched: Vec::new(alloc),
-            watched_at: vec![in alloc; 0; count]?,
-        })
+            watched_at: Vec::new(alloc),
+        };
+        state.begin(problem)?;
+        Ok(state)
+    }
+
+    /// Makes room for the rows and the calls.
+    fn begin(&mut self, problem: &Problem) -> Result<(), AllocError> {
+        let alloc = self.alloc;
+        let count = problem.tasks.len();
+        self.live = vec![in alloc; false; problem.cells.len()]?;
+        for row in 0..problem.opening {
+            put(&mut self.live, row, true);
+        }
+        self.keys = problem.keys.clone()?;
+        self.is_placed = vec![in alloc; false; count]?;
+        self.heads = vec![in alloc; 0; problem.sessions.len()]?;
+        self.sums = vec![in alloc; 0; count]?;
+        self.is_watched = vec![in alloc; false; count]?;
+        self.watched_at = vec![in alloc; 0; count]?;
+        Ok(())
     }
 
     /// The state's mark.

@@ -54,13 +54,25 @@ fn width_of(over: &str, words: &[String]) -> usize {
 }
 
 /// The words of all attributes, a list for each sort.
-#[derive(Drop)]
 struct Words {
     names: Vec<String>,
     kinds: Vec<String>,
     distinct: Vec<String>,
     least: Vec<String>,
     greatest: Vec<String>,
+}
+
+// By hand: the drop of a derived one is written out at each way out of a function.
+impl Drop for Words {
+    fn drop(self) {
+        let Self {
+            names: _names,
+            kinds: _kinds,
+            distinct: _distinct,
+            least: _least,
+            greatest: _greatest,
+        } = self;
+    }
 }
 
 impl Words {

@@ -20,10 +20,19 @@ use sw_lang::{kind_name, write_all};
 use sw_rows::{Call, Kind, Refusal, Reply, ReplyRows, Schema, Sink};
 
 /// Records that are written to memory, and the one that is being made.
-#[derive(Drop)]
 struct Records {
     writer: Writer<Vec<u8>>,
     record: ByteRecord,
+}
+
+// By hand: the drop of a derived one is written out at each way out of a function.
+impl Drop for Records {
+    fn drop(self) {
+        let Self {
+            writer: _writer,
+            record: _record,
+        } = self;
+    }
 }
 
 impl Records {
@@ -63,7 +72,10 @@ impl Records {
         ensures { (bytes : List ℕ) (fields : List (List ℕ)) → IsMade self bytes fields
             → IfOk result (λ text. text.items ≡ bytes) }
     {
-        let Records { writer, .. } = self;
+        let Self {
+            writer,
+            record: _record,
+        } = self;
         match writer.into_inner() {
             Ok(bytes) => Ok(bytes),
             Err(_) => Err(AllocError),

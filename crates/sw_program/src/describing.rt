@@ -3,7 +3,9 @@
 ghost use Rattle.std.specs.Prelude.{◌≡◌, IfOk};
 
 use crate::inputs::{Keeping, Kept, Place, is_read_once, open_table};
-use crate::wording::{Asking, Keeps, words};
+use crate::outflow::{Outflow, Reader};
+use crate::shaping::flush;
+use crate::wording::{Asking, Keeps, of_output, words};
 use std::alloc::{AllocError, Global};
 use std::hash::RandomState;
 use std::io;
@@ -13,7 +15,7 @@ use std::rt::Files;
 use std::thread::Threads;
 use sw_describe::{Column, frequent};
 use sw_outputs::{Described, write_description, write_json_description};
-use sw_rows::{Counted, Kind, PackedRows, Refusal, Schema, TextKey, load_in_parts};
+use sw_rows::{Counted, Kind, PackedRows, Refusal, Schema, Sink, TextKey, load_in_parts};
 
 /// A description that is asked for.
 #[derive(Clone, Copy, Debug)]
@@ -65,27 +67,37 @@ fn describe_all(
     Ok(columns)
 }
 
-/// Writes what a table has on standard output.
-fn write_columns<R: Print>(
-    rt: &R,
+/// Writes what a table has.
+fn write_to<W: Sink>(
     alloc: Global,
     is_json: bool,
     table: &Loaded,
     columns: &[Described],
+    out: &mut W,
 ) -> Result<(), Refusal> {
-    let Ok(buffer) = BufWriter::new(alloc, io::writer(rt)) else {
+    let (schema, rows) = table;
+    if is_json {
+        write_json_description(alloc, schema, rows.len(), columns, out)
+    } else {
+        write_description(alloc, schema, rows.len(), columns, out)
+    }
+}
+
+/// Writes what a table has, all of it.
+fn write_columns<W: Write + Drop>(
+    alloc: Global,
+    is_json: bool,
+    table: &Loaded,
+    columns: &[Described],
+    out: W,
+) -> Result<(), Refusal> {
+    let Ok(buffer) = BufWriter::new(alloc, out) else {
         return Err(Refusal::NoMemory);
     };
     let mut out = Counted::new(buffer);
-    let (schema, rows) = table;
-    if is_json {
-        write_json_description(alloc, schema, rows.len(), columns, &mut out)?;
-    } else {
-        write_description(alloc, schema, rows.len(), columns, &mut out)?;
-    }
-    match out.inner.flush() {
-        Ok(()) => Ok(()),
-        Err(_) => Err(Refusal::Output),
+    match write_to(alloc, is_json, table, columns, &mut out) {
+        Ok(()) => flush(&mut out),
+        Err(refusal) => Err(refusal),
     }
 }
 
@@ -95,6 +107,7 @@ fn describe<R: RandomSource + Print>(
     alloc: Global,
     is_json: bool,
     table: &Loaded,
+    reader: &Reader,
 ) -> Result<u8, Refusal>
     ensures { IfOk result (λ status. status ≡ 0) }
 {
@@ -104,7 +117,8 @@ fn describe<R: RandomSource + Print>(
     let Ok(columns) = describe_all(alloc, state, table) else {
         return Err(Refusal::NoMemory);
     };
-    write_columns(rt, alloc, is_json, table, columns.as_slice())?;
+    let out = Outflow::new(io::writer(rt), reader);
+    write_columns(alloc, is_json, table, columns.as_slice(), out)?;
     Ok(0)
 }
 
@@ -154,9 +168,29 @@ impl Description<'_> {
         }
     }
 
+    /// Describes a table that was read, and puts into words why that cannot be written.
+    fn describe<R: RandomSource + Print>(
+        &self,
+        rt: &R,
+        alloc: Global,
+        table: &Loaded,
+        told: &mut Option<String>,
+    ) -> Result<u8, Refusal>
+        ensures { IfOk result (λ status. status ≡ 0) }
+    {
+        let reader = Reader::new();
+        match describe(rt, alloc, self.is_json, table, &reader) {
+            Ok(status) => Ok(status),
+            Err(refusal) => {
+                *told = of_output(alloc, &reader, &refusal);
+                Err(refusal)
+            }
+        }
+    }
+
     /// Reads the table and writes on standard output what its columns have; answers the exit status 0. Refused as `load`
     /// is, `Input` where the table cannot be opened or the system gives no random bytes, and `Output` where standard output
-    /// fails. What a refusal of the table means is put into `words`, where words can be found.
+    /// fails. What a refusal means is put into `told`, where words can be found.
     pub fn make<R: Files + RandomSource + Print + Input + Threads + Sync>(
         &self,
         rt: &R,
@@ -167,7 +201,7 @@ impl Description<'_> {
     {
         let Came { read, kept } = read_at(rt, alloc, self.table, self.header);
         match read {
-            Ok(table) => describe(rt, alloc, self.is_json, &table),
+            Ok(table) => self.describe(rt, alloc, &table, told),
             Err(refusal) => {
                 let kept = Keeps {
                     table: kept,

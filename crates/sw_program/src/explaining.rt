@@ -2,7 +2,9 @@
 
 ghost use Rattle.std.specs.Prelude.{◌≡◌, ◌≤◌, IfOk, IfSome};
 
+use std::alloc::Global;
 use std::io;
+use std::io::{BufWriter, Write};
 use sw_lang::write_all;
 use sw_rows::{Counted, Refusal, Sink};
 
@@ -44,7 +46,8 @@ refused 2 record R field F: a field of the table cannot be read.
   name is not one, stands twice, or has an unknown kind after its colon. In a row the field is missing, is one too many, or
   is no cell of its attribute's kind: int, fix1 to fix6, flag (true, false), or text (at most 64 bytes of UTF-8, no control
   bytes). A name without a kind is an int: write city:text in the header where texts stand.
-  What to do: mend that field; run --all-faults lists every bad one. A record may go over several lines of the file, where a quoted field has line ends in it.
+  What to do: mend that field, or let sideways import make the table of the file; run --all-faults lists every bad one. A
+  record may go over several lines of the file, where a quoted field has line ends in it.
 ";
 
 const BAD_LINE: &str = "\
@@ -69,7 +72,7 @@ refused 5 limit L: there is more of something than L, the most that is taken.
   268435456: bytes of the table or of the script. 8: attributes of a table. 1024: blocks of a script. 15: cuts of an
   attribute. 1048576: rows of the table, calls of the script, different texts of both, or entries of a history. Another
   number: rows of the table, by --limit.
-  What to do: take less of it, or give a greater --limit where that was it.
+  What to do: take less of it, or give a greater --limit where that was it; sideways import --columns chooses columns.
 ";
 
 const NO_BLANK: &str = "\
@@ -140,10 +143,17 @@ fn write_explanations<W: Sink>(only: Option<u64>, out: &mut W) -> Result<(), Ref
 }
 
 /// Writes on standard output what the refusal of a number means, or of all numbers where none is given, and answers the
-/// exit status 0. Refused `Output` where it cannot be written.
-pub fn explain<R: Print>(rt: &R, only: Option<u64>) -> Result<u8, Refusal>
+/// exit status 0. Refused `Output` where it cannot be written, and `NoMemory`.
+pub fn explain<R: Print>(rt: &R, alloc: Global, only: Option<u64>) -> Result<u8, Refusal>
     ensures { IfOk result (λ status. status ≡ 0) }
 {
-    write_explanations(only, &mut Counted::new(io::writer(rt)))?;
-    Ok(0)
+    let Ok(buffer) = BufWriter::new(alloc, io::writer(rt)) else {
+        return Err(Refusal::NoMemory);
+    };
+    let mut out = Counted::new(buffer);
+    write_explanations(only, &mut out)?;
+    match out.inner.flush() {
+        Ok(()) => Ok(0),
+        Err(_) => Err(Refusal::Output),
+    }
 }

@@ -3,14 +3,16 @@
 ghost use Rattle.std.specs.Prelude.{◌≡◌, ◌⊎◌, IfOk};
 
 use crate::clash::is_output;
-use crate::inputs::Place;
-use crate::wording::{of_unread, of_unwritten};
+use crate::inputs::{Place, open_place};
+use crate::outflow::{Outflow, Reader};
+use crate::seeing::{LinesSeen, Seen, Sights};
+use crate::wording::{of_output, of_unread, of_unwritten};
 use std::alloc::Global;
 use std::io;
 use std::random::RandomSource;
-use std::rt::Files;
+use std::rt::{Clock, Files};
 use std::thread::Threads;
-use sw_files::{FileId, begin_file, read_file};
+use sw_files::{FileId, begin_file};
 use sw_import::{Fault, How, Imported, dictionary_of, import_in_parts, told as summary};
 use sw_lang::write_all;
 use sw_rows::{Counted, Refusal, Sink, TextKey, read_all};
@@ -27,31 +29,35 @@ pub struct Import<'a> {
     pub how: How<'a>,
     /// Where the texts go for which numbers are written, if anywhere.
     pub dictionary: Option<&'a str>,
+    /// Whether standard error is told how many lines were read, from a second after the beginning on, once a second.
+    pub progress: bool,
 }
 
-/// Reads the values, to their end.
-fn read_values<R: Files + Input>(
+/// Reads the values, to their end, and tells how far that is where it is asked.
+fn read_values<R: Files + Clock + Eprint + Input>(
     rt: &R,
     alloc: Global,
     place: Place<'_>,
+    progress: bool,
 ) -> Result<Vec<u8>, Refusal> {
-    if place.is_standard() {
-        read_all(alloc, &mut Counted::new(rt.reader()), usize::MAX)
-    } else {
-        read_file(rt, alloc, place.name())
+    let seen = Seen::new(rt, Sights::of_progress(progress), false);
+    match open_place(rt, place) {
+        Ok(source) => {
+            let source = Counted::new(source);
+            let mut source = LinesSeen::new(source, &seen, "lines of the values read");
+            read_all(alloc, &mut source, usize::MAX)
+        }
+        Err(refusal) => Err(refusal),
     }
 }
 
-/// Writes the texts for which numbers were written, if that is asked.
+/// Writes the texts for which numbers were written to a file.
 fn keep_dictionary<R: Files>(
     rt: &R,
     alloc: Global,
-    path: Option<&str>,
+    path: &str,
     made: &Imported,
 ) -> Result<(), Refusal> {
-    let Some(path) = path else {
-        return Ok(());
-    };
     let Ok(bytes) = dictionary_of(alloc, made) else {
         return Err(Refusal::NoMemory);
     };
@@ -72,6 +78,17 @@ fn refuse<E: Sink>(alloc: Global, file: &str, fault: &Fault, errors: &mut E) -> 
     };
     let _ = write_all(errors, text.as_bytes());
     Ok(2)
+}
+
+/// Tells what was done for a table. Answers the exit status.
+fn tell<E: Sink>(alloc: Global, file: &str, made: &Imported, errors: &mut E) -> Result<u8, Refusal>
+    ensures { IfOk result (λ status. status ≡ 0) }
+{
+    let Ok(text) = summary(alloc, file, made) else {
+        return Err(Refusal::NoMemory);
+    };
+    let _ = write_all(errors, text.as_bytes());
+    Ok(0)
 }
 
 /// What came of the values of an import: a table, or why there is none.
@@ -101,14 +118,14 @@ impl Import<'_> {
 
     /// Reads the values and makes the table. Refused `Input` where the values cannot be opened or read or the system gives
     /// no random bytes for the key of texts, and `NoMemory`; `told` gets what that means in words.
-    fn read<R: Files + Input + RandomSource + Threads + Sync>(
+    fn read<R: Files + Clock + Eprint + Input + RandomSource + Threads + Sync>(
         &self,
         rt: &R,
         alloc: Global,
         told: &mut Option<String>,
     ) -> Result<Came, Refusal> {
         let place = Place::new(self.file);
-        let bytes = match read_values(rt, alloc, place) {
+        let bytes = match read_values(rt, alloc, place, self.progress) {
             Ok(bytes) => bytes,
             Err(refusal) => {
                 *told = of_unread(rt, alloc, place, &refusal);
@@ -139,15 +156,21 @@ impl Import<'_> {
         made: &Imported,
         told: &mut Option<String>,
     ) -> Result<(), Refusal> {
-        if let Err(refusal) = keep_dictionary(rt, alloc, self.dictionary, made) {
-            *told = of_unwritten(rt, alloc, self.dictionary, &refusal);
-            return Err(refusal);
+        if let Some(path) = self.dictionary {
+            if let Err(refusal) = keep_dictionary(rt, alloc, path, made) {
+                *told = of_unwritten(rt, alloc, path, &refusal);
+                return Err(refusal);
+            }
         }
-        if let Err(refusal) = write_all(&mut Counted::new(io::writer(rt)), made.bytes.as_slice()) {
-            *told = of_unwritten(rt, alloc, None, &refusal);
-            return Err(refusal);
+        let reader = Reader::new();
+        let mut out = Counted::new(Outflow::new(io::writer(rt), &reader));
+        match write_all(&mut out, made.bytes.as_slice()) {
+            Ok(()) => Ok(()),
+            Err(refusal) => {
+                *told = of_output(alloc, &reader, &refusal);
+                Err(refusal)
+            }
         }
-        Ok(())
     }
 
     /// Makes the table: it goes to standard output, the texts for which numbers stand to their file, and what was done to
@@ -155,7 +178,7 @@ impl Import<'_> {
     /// Refused `Input` where the values cannot be opened or read or the system gives no random bytes for the key of texts,
     /// `Output` where the table or the texts cannot be written, and `NoMemory`. What a refusal means is put into `told`,
     /// where there is memory for it.
-    pub fn make<R: Files + Input + RandomSource + Print + Threads + Sync, E: Sink>(
+    pub fn make<R: Files + Clock + Input + RandomSource + Print + Eprint + Threads + Sync, E: Sink>(
         &self,
         rt: &R,
         alloc: Global,
@@ -164,15 +187,12 @@ impl Import<'_> {
     ) -> Result<u8, Refusal>
         ensures { IfOk result (λ status. (status ≡ 0) ⊎ (status ≡ 2)) }
     {
-        let made = match self.read(rt, alloc, told)? {
-            Ok(made) => made,
-            Err(fault) => return refuse(alloc, self.file, &fault, errors),
-        };
-        self.write(rt, alloc, &made, told)?;
-        let Ok(text) = summary(alloc, self.file, &made) else {
-            return Err(Refusal::NoMemory);
-        };
-        let _ = write_all(errors, text.as_bytes());
-        Ok(0)
+        match self.read(rt, alloc, told)? {
+            Ok(made) => match self.write(rt, alloc, &made, told) {
+                Ok(()) => tell(alloc, self.file, &made, errors),
+                Err(refusal) => Err(refusal),
+            },
+            Err(fault) => refuse(alloc, self.file, &fault, errors),
+        }
     }
 }

@@ -181,7 +181,6 @@ impl Kept {
 }
 
 /// A source before another, which keeps what goes by, where that is asked.
-#[derive(Drop)]
 pub(crate) struct Keeping<S: Source + Drop> {
     source: S,
     kept: Kept,
@@ -195,8 +194,21 @@ impl<S: Source + Drop> Keeping<S> {
 
     /// What went by.
     pub(crate) fn into_kept(self) -> Kept {
-        let Keeping { kept, .. } = self;
+        let Self {
+            source: _source,
+            kept,
+        } = self;
         kept
+    }
+}
+
+// By hand: the drop of a derived one is written out at each way out of a function.
+impl<S: Source + Drop> Drop for Keeping<S> {
+    fn drop(self) {
+        let Self {
+            source: _source,
+            kept: _kept,
+        } = self;
     }
 }
 

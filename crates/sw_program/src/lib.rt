@@ -12,6 +12,7 @@ mod inputs;
 mod logging;
 mod ordering;
 mod origins;
+mod outflow;
 mod running;
 mod seeing;
 mod settings;

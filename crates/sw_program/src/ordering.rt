@@ -161,16 +161,7 @@ fn order_over<R: Files + Clock + Eprint + Sync>(
 {
     let mut opening = opening;
     read_logs(rt, alloc, &mut opening.schema, ordering.logs, calls)?;
-    let seen = Seen::new(
-        rt,
-        Sights {
-            heads: false,
-            progress: ordering.progress,
-            calls: false,
-            faults: false,
-        },
-        false,
-    );
+    let seen = Seen::new(rt, Sights::of_progress(ordering.progress), false);
     let rules = rules_of(ordering.way);
     match find_order(alloc, opening, calls.as_slice(), rules, &seen) {
         Ok(outcome) => Ok(outcome),

@@ -1,6 +1,6 @@
 //! From which records of logs the entries of a history came, as `order --where` has it.
 
-use csv::{ByteRecord, ReaderBuilder};
+use csv::{ByteRecord, Reader, ReaderBuilder};
 use std::alloc::{AllocError, Global};
 use sw_lang::{write_all, write_number};
 use sw_rows::{Refusal, Sink};
@@ -53,19 +53,29 @@ impl Origins {
             .has_headers(false)
             .flexible(true)
             .from_reader(alloc, bytes);
-        let mut row = ByteRecord::new(alloc);
+        origins.add_all(alloc, &mut rdr, &mut ByteRecord::new(alloc))?;
+        Ok(origins)
+    }
+
+    /// Adds those that a reader has left.
+    fn add_all(
+        &mut self,
+        alloc: Global,
+        rdr: &mut Reader<&[u8]>,
+        row: &mut ByteRecord,
+    ) -> Result<(), AllocError> {
         for _ in 0..u64::MAX {
-            match rdr.read_byte_record(&mut row) {
+            match rdr.read_byte_record(row) {
                 Ok(true) => {
-                    if let Some(source) = source_of(alloc, &row)? {
-                        origins.sources.push(source)?;
+                    if let Some(source) = source_of(alloc, row)? {
+                        self.sources.push(source)?;
                     }
                 }
-                Ok(false) => return Ok(origins),
+                Ok(false) => return Ok(()),
                 Err(_) => return Err(AllocError),
             }
         }
-        Ok(origins)
+        Ok(())
     }
 
     /// From where an entry came, if it is told.

@@ -7,10 +7,11 @@ ghost use Rattle.sw_map.specs.Held.{blank};
 use crate::clash::Clash;
 use crate::inputs::{Keeping, Kept, Place, Script, is_read_once, open_script, open_table};
 use crate::logging::{Times, Watch, keep_log};
+use crate::outflow::Outflow;
 use crate::seeing::{LinesSeen, Seen, Sights};
 use crate::settings::Settings;
 use crate::shaping::{Form, script_bytes, shape};
-use crate::wording::{Asking, Keeps};
+use crate::wording::{Asking, Keeps, of_output, of_unwritten};
 use crate::{stacks, wording};
 use std::alloc::Global;
 use std::io;
@@ -49,11 +50,21 @@ pub struct Run<'a> {
 }
 
 /// What is known after a run: the record, whether a call was refused, and what each head tells of itself.
-#[derive(Drop)]
 struct AfterRun {
     history: Record,
     has_refused: bool,
     stats: Vec<HeadStats>,
+}
+
+// By hand, as with `Keeping`.
+impl Drop for AfterRun {
+    fn drop(self) {
+        let Self {
+            history: _history,
+            has_refused: _,
+            stats: _stats,
+        } = self;
+    }
 }
 
 /// Runs a script over a table, of which both are open.
@@ -113,7 +124,7 @@ fn run_between<
         key: TextKey::new(rt)?,
     };
     if run.form == Form::Lines {
-        let out = Counted::new(io::writer(rt));
+        let out = Counted::new(Outflow::new(io::writer(rt), watch.seen.reader()));
         return run_open(rt, alloc, table, script, out, &options, maps, watch);
     }
     let out = Counted::new(io::sink());
@@ -178,7 +189,10 @@ fn run_named<R: Files + RandomSource + Clock + Print + Eprint + Input + Threads 
     watch: &Watch<'_, '_, R>,
 ) -> Came {
     let table = match open_table(rt, alloc, run.table, run.header) {
-        Ok(table) => LinesSeen::new(Counted::new(table), watch.seen),
+        Ok(table) => {
+            let table = Counted::new(table);
+            LinesSeen::new(table, watch.seen, "lines of the table read")
+        }
         Err(refusal) => return unopened(refusal),
     };
     let script = match open_script(rt, run.script) {
@@ -197,16 +211,23 @@ fn keep_at<R: Files>(rt: &R, alloc: Global, history: &Record, path: &str) -> Res
     file.end(rt, written)
 }
 
-/// Writes a record to the file of a path, if there is one.
+/// Writes a record to the file of a path, if there is one; `words` gets why that was refused.
 pub(crate) fn keep<R: Files>(
     rt: &R,
     alloc: Global,
     history: &Record,
     path: Option<&str>,
+    words: &mut Option<String>,
 ) -> Result<(), Refusal> {
-    match path {
-        Some(path) => keep_at(rt, alloc, history, path),
-        None => Ok(()),
+    let Some(path) = path else {
+        return Ok(());
+    };
+    match keep_at(rt, alloc, history, path) {
+        Ok(()) => Ok(()),
+        Err(refusal) => {
+            *words = of_unwritten(rt, alloc, path, &refusal);
+            Err(refusal)
+        }
     }
 }
 
@@ -223,21 +244,6 @@ fn tell<R: Clock + Eprint, E: Sink>(
         write_stats_line(name, &ended.stats[head], seen.millis(head), errors)?;
     }
     Ok(())
-}
-
-/// Writes what a run leaves in files: its history, then the log of its calls.
-fn leave<R: Files>(
-    rt: &R,
-    alloc: Global,
-    run: &Run<'_>,
-    history: &Record,
-    times: Option<Times>,
-) -> Result<(), Refusal> {
-    keep(rt, alloc, history, run.history)?;
-    match (times, run.log) {
-        (Some(times), Some(path)) => keep_log(rt, alloc, history, times, path),
-        _ => Ok(()),
-    }
 }
 
 /// What is left to do after a run whose files were written: what the heads tell where that is asked. Answers the exit
@@ -279,6 +285,65 @@ impl Run<'_> {
         }
     }
 
+    /// Puts into words why the run that this refusal ended was not made.
+    fn tell<R: Files + RandomSource + Clock + Eprint>(
+        &self,
+        rt: &R,
+        alloc: Global,
+        seen: &Seen<'_, R>,
+        refusal: &Refusal,
+        kept: Keeps,
+    ) -> Option<String> {
+        match refusal {
+            Refusal::Output => of_output(alloc, seen.reader(), refusal),
+            _ => wording::words(rt, alloc, &self.asking(), refusal, kept),
+        }
+    }
+
+    /// Writes the replies in the form that is asked, where they did not go out as lines; `words` gets why that was refused.
+    fn shape<R: Clock + Print + Eprint>(
+        &self,
+        alloc: Global,
+        seen: &Seen<'_, R>,
+        history: &Record,
+        script: Option<&[u8]>,
+        words: &mut Option<String>,
+    ) -> Result<(), Refusal> {
+        let out = Outflow::new(io::writer(seen.rt()), seen.reader());
+        match shape(alloc, self.form, history, script, out) {
+            Ok(()) => Ok(()),
+            Err(refusal) => {
+                *words = match &refusal {
+                    Refusal::Output => of_output(alloc, seen.reader(), &refusal),
+                    _ => wording::of_form(alloc, &refusal, self.script),
+                };
+                Err(refusal)
+            }
+        }
+    }
+
+    /// Writes what the run leaves in files: its history, then the log of its calls; `words` gets why one was refused.
+    fn leave<R: Files>(
+        &self,
+        rt: &R,
+        alloc: Global,
+        history: &Record,
+        times: Option<Times>,
+        words: &mut Option<String>,
+    ) -> Result<(), Refusal> {
+        keep(rt, alloc, history, self.history, words)?;
+        let (Some(times), Some(path)) = (times, self.log) else {
+            return Ok(());
+        };
+        match keep_log(rt, alloc, history, times, path) {
+            Ok(()) => Ok(()),
+            Err(refusal) => {
+                *words = of_unwritten(rt, alloc, path, &refusal);
+                Err(refusal)
+            }
+        }
+    }
+
     /// Makes the run: the replies go to standard output, then the history and the log to their files, then what the heads
     /// tell to `errors`. Answers the exit status: 0 where all calls were answered, else 3. Refused as `run_with` is, `Input` where
     /// the table or the script cannot be opened or the system gives no random bytes for the key of texts, and `Output` where
@@ -304,16 +369,13 @@ impl Run<'_> {
         let ended = match ended {
             Ok(ended) => ended,
             Err(refusal) => {
-                *words = wording::words(rt, alloc, &self.asking(), &refusal, kept);
+                *words = self.tell(rt, alloc, &seen, &refusal, kept);
                 return Err(refusal);
             }
         };
         let script = script_bytes(self.script, &kept.script);
-        if let Err(refusal) = shape(rt, alloc, self.form, &ended.history, script) {
-            *words = wording::of_form(alloc, &refusal, self.script);
-            return Err(refusal);
-        }
-        leave(rt, alloc, self, &ended.history, watch.into_times())?;
+        self.shape(alloc, &seen, &ended.history, script, words)?;
+        self.leave(rt, alloc, &ended.history, watch.into_times(), words)?;
         finish(self, &ended, &seen, errors)
     }
 }

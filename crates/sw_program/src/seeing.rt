@@ -1,5 +1,6 @@
 //! What is seen of a run while it goes: the time in the selects of each head, the time of each call, and how far the run is.
 
+use crate::outflow::Reader;
 use std::io;
 use std::rt::Clock;
 use std::sync::atomic::{AtomicU64, Ordering};
@@ -40,9 +41,22 @@ pub(crate) struct Seen<'r, R: Clock + Eprint> {
     rt: &'r R,
     began: Option<Instant>,
     sights: Sights,
+    reader: Reader,
     due: AtomicU64,
     calls: AtomicU64,
     nanos: [AtomicU64; 8],
+}
+
+impl Sights {
+    /// Nothing but how far it is, where that is asked.
+    pub(crate) fn of_progress(progress: bool) -> Sights {
+        Sights {
+            heads: false,
+            progress,
+            calls: false,
+            faults: false,
+        }
+    }
 }
 
 impl<'r, R: Clock + Eprint> Seen<'r, R> {
@@ -57,6 +71,7 @@ impl<'r, R: Clock + Eprint> Seen<'r, R> {
             rt,
             began,
             sights,
+            reader: Reader::new(),
             due: AtomicU64::new(SECOND),
             calls: AtomicU64::new(0),
             nanos: [
@@ -70,6 +85,11 @@ impl<'r, R: Clock + Eprint> Seen<'r, R> {
                 AtomicU64::new(0),
             ],
         }
+    }
+
+    /// Whoever reads its replies.
+    pub(crate) fn reader(&self) -> &Reader {
+        &self.reader
     }
 
     /// What the run stands on.
@@ -148,21 +168,27 @@ fn ends_in(bytes: &[u8]) -> u64 {
     ends
 }
 
-/// A source of a table before another, which tells how many lines went by. It counts them only where they are told.
+/// A source before another, which tells how many lines of what went by. It counts them only where they are told.
 #[derive(Drop)]
 pub(crate) struct LinesSeen<'s, 'r, S: Source + Drop, R: Clock + Eprint> {
     source: S,
     read: u64,
     seen: &'s Seen<'r, R>,
+    what: &'static str,
 }
 
 impl<'s, 'r, S: Source + Drop, R: Clock + Eprint> LinesSeen<'s, 'r, S, R> {
-    /// A source of which no line went by.
-    pub(crate) fn new(source: S, seen: &'s Seen<'r, R>) -> LinesSeen<'s, 'r, S, R> {
+    /// A source of which no line went by, with the words behind their number.
+    pub(crate) fn new(
+        source: S,
+        seen: &'s Seen<'r, R>,
+        what: &'static str,
+    ) -> LinesSeen<'s, 'r, S, R> {
         LinesSeen {
             source,
             read: 0,
             seen,
+            what,
         }
     }
 }
@@ -177,8 +203,7 @@ impl<S: Source + Drop, R: Clock + Eprint> Source for LinesSeen<'_, '_, S, R> {
         if self.seen.sights.progress {
             let (given, _) = buf.split_at(count);
             self.read = self.read.saturating_add(ends_in(given));
-            self.seen
-                .tell(self.seen.now(), self.read, "lines of the table read");
+            self.seen.tell(self.seen.now(), self.read, self.what);
         }
         Ok(count)
     }

@@ -2,7 +2,6 @@
 
 use crate::inputs::{Kept, Script};
 use std::alloc::{AllocError, Global};
-use std::io;
 use std::io::{BufWriter, Write};
 use sw_faults::call_lines;
 use sw_outputs::{Told, makes_table, write_csv, write_json, write_table};
@@ -85,12 +84,23 @@ fn reply_of(entry: &Entry) -> Option<&Reply> {
 }
 
 /// The calls of a record, block after block, each with its line, where lines are known.
-#[derive(Drop)]
 struct Calls<'r> {
     schema: &'r Schema,
     entries: &'r [Entry],
     places: Vec<Place>,
     lines: Option<Vec<u32>>,
+}
+
+// By hand, as with `Keeping`.
+impl Drop for Calls<'_> {
+    fn drop(self) {
+        let Self {
+            schema: _,
+            entries: _,
+            places: _places,
+            lines: _lines,
+        } = self;
+    }
 }
 
 impl Calls<'_> {
@@ -193,23 +203,23 @@ fn calls_of<'r>(
 }
 
 /// Writes what is left of a buffer.
-fn flush<W: Write + Drop>(out: &mut Counted<BufWriter<W>>) -> Result<(), Refusal> {
+pub(crate) fn flush<W: Write + Drop>(out: &mut Counted<BufWriter<W>>) -> Result<(), Refusal> {
     match out.inner.flush() {
         Ok(()) => Ok(()),
         Err(_) => Err(Refusal::Output),
     }
 }
 
-/// Writes the replies of a run in a form on standard output; nothing where they went out as lines.
+/// Writes the replies of a run in a form; nothing where they went out as lines.
 ///
-/// Refused `Output` where standard output fails, `NoMemory`, and `BadLine` of the last call where a table is asked of which
+/// Refused `Output` where the output fails, `NoMemory`, and `BadLine` of the last call where a table is asked of which
 /// that makes none; then nothing was written.
-pub(crate) fn shape<R: Print>(
-    rt: &R,
+pub(crate) fn shape<W: Write + Drop>(
     alloc: Global,
     form: Form,
     record: &Record,
     script: Option<&[u8]>,
+    out: W,
 ) -> Result<(), Refusal> {
     if form == Form::Lines {
         return Ok(());
@@ -217,10 +227,12 @@ pub(crate) fn shape<R: Print>(
     let Ok(calls) = calls_of(alloc, record, script) else {
         return Err(Refusal::NoMemory);
     };
-    let Ok(buffer) = BufWriter::new(alloc, io::writer(rt)) else {
+    let Ok(buffer) = BufWriter::new(alloc, out) else {
         return Err(Refusal::NoMemory);
     };
     let mut out = Counted::new(buffer);
-    write_all_told(alloc, form, &calls, &mut out)?;
-    flush(&mut out)
+    match write_all_told(alloc, form, &calls, &mut out) {
+        Ok(()) => flush(&mut out),
+        Err(refusal) => Err(refusal),
+    }
 }

@@ -3,22 +3,27 @@
 ghost use Rattle.std.specs.Prelude.{◌≡◌, IfOk};
 
 use crate::clash::Clash;
-use crate::inputs::{Keeping, Kept, Place, Script, is_read_once, open_table};
+use crate::inputs::{Inflow, Keeping, Kept, Place, Script, is_read_once, open_table};
+use crate::outflow::{Outflow, Reader};
 use crate::running::keep;
 use crate::settings::Settings;
 use crate::terminal::Terminal;
-use crate::wording::{Asking, Keeps, words};
+use crate::wording::{Asking, Keeps, of_output, of_unread, words};
 use std::alloc::Global;
 use std::io;
-use std::io::BufReader;
+use std::io::{BufRead, BufReader};
 use std::random::RandomSource;
 use std::rt::{Clock, Files};
 use std::sync::Wait;
 use std::thread::Threads;
 use sw_cli::{Options, blank_boxes};
+use sw_headers::Headed;
 use sw_lang::write_all;
 use sw_rows::{Counted, Refusal, Schema, Sink, Source, TextKey, load_in_parts};
-use sw_shell::{Ended, converse};
+use sw_shell::{Console, Ended, Host, converse};
+
+/// A table that is open, of which is kept what can be read only once.
+type Table<F, I> = Keeping<Counted<Headed<Inflow<'static, F, I>>>>;
 
 /// A shell that is asked for.
 #[derive(Clone, Copy, Debug)]
@@ -84,13 +89,13 @@ impl Shell<'_> {
     }
 
     /// Talks over a table that is open.
-    fn talk<R: Files + Clock + Print + Eprint + Input + Threads + Wait + Sync, T: Source, E: Sink>(
+    fn talk<R: Threads + Wait + Sync, T: Source, B: BufRead + Drop, W: Sink + Drop, H: Host + Drop>(
         &self,
         rt: &R,
         alloc: Global,
         key: TextKey,
         table: &mut T,
-        host: &mut Terminal<'_, R, E>,
+        console: &mut Console<B, W, H>,
     ) -> Result<Ended, Refusal> {
         let settings = &self.settings;
         let maps = blank_boxes(alloc, settings.budget, settings.maps)?;
@@ -100,11 +105,37 @@ impl Shell<'_> {
             threads: false,
             key,
         };
-        let Ok(mut lines) = BufReader::new(alloc, rt.reader()) else {
-            return Err(Refusal::NoMemory);
-        };
-        let mut out = Counted::new(io::writer(rt));
-        converse(rt, alloc, table, &options, maps, &mut lines, &mut out, host)
+        converse(rt, alloc, table, &options, maps, console)
+    }
+
+    /// Opens the table. Refused `Input` where that cannot be done, which is put into words, and `NoMemory`.
+    fn open<R: Files + RandomSource + Input>(
+        &self,
+        rt: &R,
+        alloc: Global,
+        words: &mut Option<String>,
+    ) -> Result<Table<R::File, R::Reader>, Refusal> {
+        match open_table(rt, alloc, self.table, self.header) {
+            Ok(source) => {
+                let kept = Kept::new(alloc, is_read_once(rt, self.table));
+                Ok(Keeping::new(Counted::new(source), kept))
+            }
+            Err(refusal) => {
+                *words = self.tell(rt, alloc, &refusal, Kept::Often);
+                Err(refusal)
+            }
+        }
+    }
+
+    /// The path of the history's file, if there is one.
+    fn history_path(&self, alloc: Global) -> Result<Option<String>, Refusal> {
+        match self.history {
+            Some(path) => match String::from_str(alloc, path) {
+                Ok(path) => Ok(Some(path)),
+                Err(_) => Err(Refusal::NoMemory),
+            },
+            None => Ok(None),
+        }
     }
 
     /// Begins the shell: reads the table, and then answers each line of standard input when it is entered, on standard output;
@@ -112,7 +143,7 @@ impl Shell<'_> {
     ///
     /// Answers the exit status: 0 where all was answered and obeyed; 3 where a call or a file that was to be written was refused;
     /// else 2, where a line was. Refused as a run is before its first call, and where standard input, standard output or the
-    /// history's file fails; what a refusal of the table means is put into `words`.
+    /// history's file fails; what a refusal means is put into `words`.
     pub fn make<
         R: Files + RandomSource + Clock + Print + Eprint + Input + Threads + Wait + Sync,
         E: Sink,
@@ -124,26 +155,26 @@ impl Shell<'_> {
         words: &mut Option<String>,
     ) -> Result<u8, Refusal> {
         let key = TextKey::new(rt)?;
-        let source = match open_table(rt, alloc, self.table, self.header) {
-            Ok(source) => Counted::new(source),
-            Err(refusal) => {
-                *words = self.tell(rt, alloc, &refusal, Kept::Often);
-                return Err(refusal);
-            }
+        let history = self.history_path(alloc)?;
+        let mut table = self.open(rt, alloc, words)?;
+        let Ok(lines) = BufReader::new(alloc, rt.reader()) else {
+            return Err(Refusal::NoMemory);
         };
-        let mut table = Keeping::new(source, Kept::new(alloc, is_read_once(rt, self.table)));
-        let history = match self.history {
-            Some(path) => match String::from_str(alloc, path) {
-                Ok(path) => Some(path),
-                Err(_) => return Err(Refusal::NoMemory),
-            },
-            None => None,
+        let reader = Reader::new();
+        let mut console = Console {
+            lines,
+            out: Counted::new(Outflow::new(io::writer(rt), &reader)),
+            host: Terminal::new(rt, alloc, key, self, &reader, errors, history),
         };
-        let mut host = Terminal::new(rt, alloc, key, self.table, errors, self.prompts, history);
-        let ended = self.talk(rt, alloc, key, &mut table, &mut host);
+        let ended = self.talk(rt, alloc, key, &mut table, &mut console);
+        let Console { host, .. } = console;
         let (history, status) = host.into_end();
         match ended {
-            Ok(ended) => finish(rt, alloc, &ended, history, status),
+            Ok(ended) => {
+                let reader = &reader;
+                finish(rt, alloc, ended, history, Telling { reader, words })?;
+                Ok(status)
+            }
             Err(refusal) => {
                 *words = self.tell(rt, alloc, &refusal, table.into_kept());
                 Err(refusal)
@@ -162,19 +193,9 @@ impl Shell<'_> {
         ensures { IfOk result (λ status. status ≡ 0) }
     {
         let key = TextKey::new(rt)?;
-        let source = match open_table(rt, alloc, self.table, self.header) {
-            Ok(source) => Counted::new(source),
-            Err(refusal) => {
-                *words = self.tell(rt, alloc, &refusal, Kept::Often);
-                return Err(refusal);
-            }
-        };
-        let mut table = Keeping::new(source, Kept::new(alloc, is_read_once(rt, self.table)));
+        let mut table = self.open(rt, alloc, words)?;
         match load_in_parts(rt, alloc, key, &mut table) {
-            Ok((schema, _)) => {
-                write_words(&schema, &mut Counted::new(io::writer(rt)))?;
-                Ok(0)
-            }
+            Ok((schema, _)) => print_words(rt, alloc, &schema, words),
             Err(refusal) => {
                 *words = self.tell(rt, alloc, &refusal, table.into_kept());
                 Err(refusal)
@@ -183,24 +204,54 @@ impl Shell<'_> {
     }
 }
 
-/// What is left to do when a shell has ended: its history is kept, also where it ended by a failure.
+/// Writes the words that a line may have to standard output; `told` gets why that was refused. Answers 0.
+fn print_words<R: Print>(
+    rt: &R,
+    alloc: Global,
+    schema: &Schema,
+    told: &mut Option<String>,
+) -> Result<u8, Refusal>
+    ensures { IfOk result (λ status. status ≡ 0) }
+{
+    let reader = Reader::new();
+    let mut out = Counted::new(Outflow::new(io::writer(rt), &reader));
+    match write_words(schema, &mut out) {
+        Ok(()) => Ok(0),
+        Err(refusal) => {
+            *told = of_output(alloc, &reader, &refusal);
+            Err(refusal)
+        }
+    }
+}
+
+/// Who reads what a shell writes, and where it is told in words why that failed.
+#[derive(Drop)]
+struct Telling<'t> {
+    reader: &'t Reader,
+    words: &'t mut Option<String>,
+}
+
+/// What is left to do when no more lines are taken: the history is kept, also where a failure ended the shell, by which it is refused
+/// then.
 fn finish<R: Files>(
     rt: &R,
     alloc: Global,
-    ended: &Ended,
-    history: Option<String>,
-    status: u8,
-) -> Result<u8, Refusal> {
-    let path = match &history {
+    ended: Ended,
+    path: Option<String>,
+    told: Telling<'_>,
+) -> Result<(), Refusal> {
+    let path = match &path {
         Some(path) => Some(path.as_str()),
         None => None,
     };
-    keep(rt, alloc, &ended.history, path)?;
-    match &ended.failure {
-        Some(Refusal::Input) => Err(Refusal::Input),
-        Some(Refusal::Output) => Err(Refusal::Output),
-        Some(Refusal::TooMany { limit }) => Err(Refusal::TooMany { limit: *limit }),
-        Some(_) => Err(Refusal::NoMemory),
-        None => Ok(status),
-    }
+    keep(rt, alloc, &ended.history, path, told.words)?;
+    let Ended { failure, .. } = ended;
+    let Some(refusal) = failure else {
+        return Ok(());
+    };
+    *told.words = match &refusal {
+        Refusal::Input => of_unread(rt, alloc, Place::new("-"), &refusal),
+        _ => of_output(alloc, told.reader, &refusal),
+    };
+    Err(refusal)
 }

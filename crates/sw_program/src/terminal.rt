@@ -2,6 +2,9 @@
 
 use crate::clash::{Clash, is_output};
 use crate::inputs::{Place, Script};
+use crate::outflow::{Outflow, Reader};
+use crate::shelling::Shell;
+use crate::wording::of_unwritten;
 use std::alloc::{AllocError, Global};
 use std::io;
 use std::rt::{Clock, Files};
@@ -21,7 +24,7 @@ const PROMPT: &[u8] = b"sideways> ";
 const GREETING: &[u8] = b"A call a line; .help lists the commands.\n";
 
 const HELP: &[u8] = b"\
-A line is a call, as in a script: select, count, sum, min, max, insert, delete.
+A line is a call, as in a script: select, count, sum, min, max, insert, delete; as select a, b where c >= 5.
 .names          the attributes, with their kinds
 .stats          what each head tells of itself, as run --stats does
 .times          tells on standard error what each call takes, in nanoseconds; again: no more
@@ -87,6 +90,7 @@ pub(crate) struct Terminal<'t, R: Files + Clock + Print + Eprint, E: Sink> {
     alloc: Global,
     key: TextKey,
     table: Place<'t>,
+    reader: &'t Reader,
     errors: &'t mut E,
     prompts: bool,
     greeted: bool,
@@ -109,6 +113,29 @@ fn bare(alloc: Global, key: TextKey, schema: &Schema) -> Result<Option<Schema>, 
     Ok(Schema::of(alloc, key, fields.as_slice()).ok())
 }
 
+/// The command that the word of a line names without its dot, and what it does.
+fn meant(word: &str) -> Option<&'static str> {
+    match word {
+        "quit" | "exit" | "q" => Some(".quit ends the shell"),
+        "help" | "?" => Some(".help lists the commands"),
+        "names" => Some(".names writes the attributes"),
+        "stats" => Some(".stats tells of the heads"),
+        "times" => Some(".times tells what calls take"),
+        "write" => Some(".write FILE writes the live rows"),
+        "history" => Some(".history FILE keeps the history"),
+        _ => None,
+    }
+}
+
+/// The command that a line is for but for its dot, if it is for one.
+fn meant_by(line: Line<'_>) -> Option<&'static str> {
+    let text = str::from_utf8(line.bytes).ok()?.trim_ascii();
+    match text.split_once(' ') {
+        Some((word, _)) => meant(word),
+        None => meant(text),
+    }
+}
+
 /// What is wrong with a line, in words; nothing where none are found.
 fn words_of(
     alloc: Global,
@@ -120,7 +147,11 @@ fn words_of(
         return Ok(String::new(alloc));
     };
     let at = format!(in alloc; "line {}", line.number)?;
-    wrong_line(alloc, &mut schema, at.as_str(), line.bytes)
+    let mut words = wrong_line(alloc, &mut schema, at.as_str(), line.bytes)?;
+    if let Some(command) = meant_by(line) {
+        words.push_str(format!(in alloc; "{at}: {command}\n")?.as_str())?;
+    }
+    Ok(words)
 }
 
 /// Writes the attributes, one a line, with their kinds.
@@ -135,24 +166,25 @@ fn write_names<W: Sink>(schema: &Schema, out: &mut W) -> Result<(), Refusal> {
 }
 
 impl<'t, R: Files + Clock + Print + Eprint, E: Sink> Terminal<'t, R, E> {
-    /// What stands around a shell over a table, which prompts where that is asked, and keeps its history in the file of a path,
-    /// if there is one.
+    /// What stands around a shell, whose standard output has this reader, and which keeps its history in the file of a path, if there
+    /// is one.
     pub(crate) fn new(
         rt: &'t R,
         alloc: Global,
         key: TextKey,
-        table: Place<'t>,
+        shell: &Shell<'t>,
+        reader: &'t Reader,
         errors: &'t mut E,
-        prompts: bool,
         history: Option<String>,
     ) -> Terminal<'t, R, E> {
         Terminal {
             rt,
             alloc,
             key,
-            table,
+            table: shell.table,
+            reader,
             errors,
-            prompts,
+            prompts: shell.prompts,
             greeted: false,
             times: Times::new(),
             history,
@@ -170,9 +202,14 @@ impl<'t, R: Files + Clock + Print + Eprint, E: Sink> Terminal<'t, R, E> {
         (history, status)
     }
 
+    /// Standard output.
+    fn out(&self) -> Counted<Outflow<'t, io::Printer<'t, R>>> {
+        Counted::new(Outflow::new(io::writer(self.rt), self.reader))
+    }
+
     /// Writes a text to standard output.
     fn print(&self, text: &[u8]) -> Result<(), Refusal> {
-        write_all(&mut Counted::new(io::writer(self.rt)), text)
+        write_all(&mut self.out(), text)
     }
 
     /// A command is wrong: tells its line, and why.
@@ -191,7 +228,7 @@ impl<'t, R: Files + Clock + Print + Eprint, E: Sink> Terminal<'t, R, E> {
 
     /// Writes what each head tells of itself.
     fn print_stats(&self, schema: &Schema, stats: &[HeadStats]) -> Result<(), Refusal> {
-        let mut out = Counted::new(io::writer(self.rt));
+        let mut out = self.out();
         write_stats_title(&mut out)?;
         for head in 0..schema.len().min(stats.len()) {
             let name = schema.name(head).as_bytes();
@@ -228,9 +265,13 @@ impl<'t, R: Files + Clock + Print + Eprint, E: Sink> Terminal<'t, R, E> {
         call: &Call,
         reply: &Reply,
     ) -> Result<(), Refusal> {
-        match self.write_rows(schema, file, call, reply) {
-            Ok(()) => Ok(()),
-            Err(refusal) => self.tell(&refusal),
+        let Err(refusal) = self.write_rows(schema, file, call, reply) else {
+            return Ok(());
+        };
+        self.tell(&refusal)?;
+        match of_unwritten(self.rt, self.alloc, file, &refusal) {
+            Some(words) => write_all(self.errors, words.as_bytes()),
+            None => Ok(()),
         }
     }
 
@@ -322,7 +363,7 @@ impl<R: Files + Clock + Print + Eprint, E: Sink> Host for Terminal<'_, R, E> {
     ) -> Result<(), Refusal> {
         match errand {
             Errand::Help => self.print(HELP),
-            Errand::Names => write_names(schema, &mut Counted::new(io::writer(self.rt))),
+            Errand::Names => write_names(schema, &mut self.out()),
             Errand::Times => self.turn_times(),
             Errand::Stats(stats) => self.print_stats(schema, stats),
             Errand::Write { file, .. } if is_output(self.rt, file) => {

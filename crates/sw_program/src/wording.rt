@@ -1,6 +1,7 @@
 //! A refusal of a run in words: the texts of the run are looked at again.
 
 use crate::inputs::{Kept, Place, Script};
+use crate::outflow::Reader;
 use std::alloc::{AllocError, Global};
 use std::fs::File;
 use std::io::ErrorKind;
@@ -117,21 +118,30 @@ pub(crate) fn of_unread<R: Files>(
     format!(in alloc; "{}: {why}\n", called(place)).ok()
 }
 
-/// The words of a file that was refused when it was to be written, or of standard output where no file is named; nothing
-/// where there is no memory for them.
+/// The words of a file that was refused when it was to be written; nothing where there is no memory for them.
 pub(crate) fn of_unwritten<R: Files>(
     rt: &R,
     alloc: Global,
-    path: Option<&str>,
+    path: &str,
     refusal: &Refusal,
 ) -> Option<String> {
-    let why = match (refusal, path) {
-        (Refusal::NoMemory, _) => "there is no memory for it",
-        (_, Some(path)) if is_folder(rt, path) => "a folder, wanted a file",
+    let why = match refusal {
+        Refusal::NoMemory => "there is no memory for it",
+        _ if is_folder(rt, path) => "a folder, wanted a file",
         _ => "it cannot be written",
     };
-    let name = path.unwrap_or(STANDARD_OUTPUT);
-    format!(in alloc; "{name}: {why}\n").ok()
+    format!(in alloc; "{path}: {why}\n").ok()
+}
+
+/// The words of standard output that refused bytes for this reader; nothing of other refusals, nor where there is no memory for
+/// them.
+pub(crate) fn of_output(alloc: Global, reader: &Reader, refusal: &Refusal) -> Option<String> {
+    let why = match refusal {
+        Refusal::Output if reader.is_gone() => "its reader is gone",
+        Refusal::Output => "it cannot be written",
+        _ => return None,
+    };
+    format!(in alloc; "{STANDARD_OUTPUT}: {why}\n").ok()
 }
 
 /// The words of a table or a script that cannot be read.
@@ -239,20 +249,25 @@ fn texts_again<R: Files>(rt: &R, alloc: Global, asking: &Asking<'_>, kept: Keeps
     }
 }
 
-/// Whether a refusal is of a field of the header.
-fn is_of_header(refusal: &Refusal) -> bool {
+/// How many columns a table has at most.
+const MOST_COLUMNS: usize = 8;
+
+/// Whether a refusal is of a header that was given: of a field of it, or of more names than a table has columns.
+fn is_of_header(header: &str, refusal: &Refusal) -> bool {
     match refusal {
         Refusal::BadTable { rec: 0, field } => *field > 0,
+        Refusal::TooMany { .. } => {
+            header.split(',').filter(|word| *word != "-").count() > MOST_COLUMNS
+        }
         _ => false,
     }
 }
 
 /// What the table is called in the words of a refusal: by the header that was given, where that is refused.
 fn called_table<'a>(asking: &Asking<'a>, refusal: &Refusal) -> &'a str {
-    if asking.header.is_some() && is_of_header(refusal) {
-        HEADER
-    } else {
-        called(asking.table)
+    match asking.header {
+        Some(header) if is_of_header(header, refusal) => HEADER,
+        _ => called(asking.table),
     }
 }
 

@@ -1,5 +1,5 @@
 -- A legal history of replies as they were given is legal over any attributes.
-use Rattle.std.proofs.Common.{◌≡◌, ◌∙◌, ◌⊎◌, ◌+◌, ◌++◌, ap, sym, subst, arith, ℕ, suc, true, false, All, List, [], ◌∷◌, length, length-append}
+use Rattle.std.proofs.Common.{◌≡◌, ◌∙◌, ◌⊎◌, ap, sym, subst, ℕ, true, All, List, [], ◌∷◌}
 use Rattle.std.proofs.lemmas.Bool.{and_parts, false≢true}
 use Rattle.sw_rows.specs.Header.{Column}
 use Rattle.sw_rows.specs.declared.query.Call.{Call}
@@ -8,7 +8,7 @@ use Rattle.sw_rows.specs.declared.reply.Reply.{Reply}
 use Rattle.sw_table.specs.declared.row.Row.{Row}
 use Rattle.sw_spine.specs.History.{Agrees, AllAgree, History, IsLegal, all_given, history, is_absent, is_given, mine}
 use Rattle.sw_spine.specs.Rest.{none_open}
-use Rattle.sw_engine.specs.Desk.{InOrder, IsNamed}
+use Rattle.sw_engine.specs.Desk.{IsNamed}
 use Rattle.sw_engine.specs.Headline.{IsHistoryOfOneThread}
 use Rattle.sw_spine.specs.Table.{opened, updates_then}
 use Rattle.sw_spine.specs.declared.history.Entry.{Entry}
@@ -47,10 +47,3 @@ over_columns a b rows limit ts h k one columns same_rows same_limit same legal =
   others = subst (λ (es : List Entry). (s : ℕ) → (is_absent s es ≡ true) ⊎ IsNamed s ts) (sym same) one.others;
   closed = ap none_open same ∙ one.closed;
 }
-
--- of one ticket in order
-pub only_ticket : {X : Type 0} (ts rest : List (ℕ × List X)) (t : ℕ × List X) → length ts ≡ 1 → InOrder 1 ts → ts ≡ rest ++ t ∷ [] → (t.0 ≡ 1) × (t.1 ≡ [])
-only_ticket ts [] t one order is = let o = subst (InOrder 1) is order in (o.0, o.1)
-only_ticket ts (r ∷ rest) t one order is =
-    let many : length ts ≡ suc (length rest + 1) = ap length is ∙ ap suc (length-append rest (t ∷ [])) in
-    absurd (let no : ⊥ = omega (arith, one, many) in no)

@@ -9,14 +9,16 @@ use Rattle.sw_rows.specs.declared.refusal.Refusal.TheVariants as refusal
 use Rattle.sw_cli.specs.Run.{Start, start_of}
 use Rattle.sw_cli.specs.Sides.{FailedInTurn, SourceFailed, SourceSeen, SpellTable, source_seen}
 use Rattle.sw_cli.specs.Starts.{IfBoth, ReadsFrom, ReadsStart, RefusedFrom, start_seen}
+use Rattle.sw_cli.specs.declared.running.Options.{Options}
 use Rattle.sw_cli.specs.declared.start.Inputs.{Inputs}
-use Rattle.sw_shell.specs.Shelled.{IsLeftBy, ReadsTable, Shelled}
+use Rattle.sw_shell.specs.Shelled.{IsLeftBy, ReadsTable, Shelled, Shells}
+use Rattle.sw_shell.specs.Traffic.{Traffic}
 use Rattle.sw_shell.specs.declared.opening.Ended.{Ended}
 
 -- for want of memory nothing is answered of the table
-pub read_without : (limit : ℕ) (cuts : List ℕ) (o : Option (List ℕ)) (before after : ℕ) → ReadsTable limit cuts (source_seen o before after) (Err refusal.NoMemory)
-read_without limit cuts None before after = tt
-read_without limit cuts (Some bytes) before after = tt
+pub read_without : (asked : Options) (o : Option (List ℕ)) (before after : ℕ) → ReadsTable asked (source_seen o before after) (Err refusal.NoMemory)
+read_without asked None before after = tt
+read_without asked (Some bytes) before after = tt
 
 weaker : (I J : Type 0) (e : Refusal) (read : Result Start Refusal) → (I → J) → RefusedFrom I e read → RefusedFrom J e read
 weaker I J refusal.NoMemory read f h = tt
@@ -36,36 +38,37 @@ read_first I X Y read (Ok opened) never h = h
 read_first I X Y read (Err e) never h = weaker (I ⊎ (X × Y)) I e read (only_first I X Y never) h
 
 -- a script without bytes, whose source counts no failure, is none
-pub read_alone : (limit : ℕ) (cuts : List ℕ) (o l : Option (List ℕ)) (a b before after : ℕ) (result : Result Inputs Refusal)
+pub read_alone : (asked : Options) (o l : Option (List ℕ)) (a b before after : ℕ) (result : Result Inputs Refusal)
     → l ≡ Some [] → before ≡ 0 → after ≡ 0
-    → ReadsStart limit cuts (source_seen o a b) (source_seen l before after) result
-    → ReadsTable limit cuts (source_seen o a b) result
-read_alone limit cuts None l a b before after result none was is read = tt
-read_alone limit cuts (Some bytes) l a b before after result none was is read =
+    → ReadsStart asked.limit asked.cuts.now (source_seen o a b) (source_seen l before after) result
+    → ReadsTable asked (source_seen o a b) result
+read_alone asked None l a b before after result none was is read = tt
+read_alone asked (Some bytes) l a b before after result none was is read =
     let t = source_seen (Some bytes) a b in
     let s = source_seen l before after in
-    let F : List ℕ → List ℕ → Type 0 = λ x y. ReadsFrom (FailedInTurn t s x) start_seen result (start_of limit cuts x y) in
+    let F : List ℕ → List ℕ → Type 0 = λ x y. ReadsFrom (FailedInTurn t s x) start_seen result (start_of asked.limit asked.cuts.now x y) in
     let known : F bytes [] = subst (λ (k : Option (List ℕ)). IfBoth (Some bytes) k F) none read in
-    read_first (SourceFailed t) (SpellTable bytes) (SourceFailed s) (start_of limit cuts bytes []) result (never_raised before after was is) known
+    read_first (SourceFailed t) (SpellTable bytes) (SourceFailed s) (start_of asked.limit asked.cuts.now bytes []) result (never_raised before after was is) known
 
 -- a shell over the table that was read
-shelled_over : (I : Type 0) (limit : ℕ) (cuts : List ℕ) (o left old new : Option (List ℕ)) (opened : Inputs) (result : Result Ended Refusal)
+shelled_over : (I : Type 0) (limit : ℕ) (cuts : List ℕ) (o : Option (List ℕ)) (old new : Traffic) (opened : Inputs) (result : Result Ended Refusal)
     → IfSome o (λ bytes. ReadsFrom I start_seen (Ok opened) (start_of limit cuts bytes []))
-    → IfOk result (IsLeftBy opened.schema opened.rows.items limit left old new) → IsOkUnless result refusal.NoMemory
-    → IfSome o (λ bytes. Shelled I limit cuts bytes left old new result)
-shelled_over I limit cuts None left old new opened result read is refused = tt
-shelled_over I limit cuts (Some bytes) left old new opened (Ok e) read is refused = (start_seen opened, read, is)
-shelled_over I limit cuts (Some bytes) left old new opened (Err e) read is refused =
+    → IfOk result (IsLeftBy opened.schema opened.rows.items limit old new) → IsOkUnless result refusal.NoMemory
+    → IfSome o (λ bytes. Shelled I limit cuts bytes old new result)
+shelled_over I limit cuts None old new opened result read is refused = tt
+shelled_over I limit cuts (Some bytes) old new opened (Ok e) read is refused = (start_seen opened, read, is)
+shelled_over I limit cuts (Some bytes) old new opened (Err e) read is refused =
     subst (λ (x : Refusal). RefusedFrom I x (start_of limit cuts bytes [])) (sym refused) tt
 
-pub shelled_by : (limit : ℕ) (cuts : List ℕ) (left old new : Option (List ℕ)) (t : SourceSeen) (opened : Inputs) (result : Result Ended Refusal)
-    → ReadsTable limit cuts t (Ok opened)
-    → IfOk result (IsLeftBy opened.schema opened.rows.items limit left old new) → IsOkUnless result refusal.NoMemory
-    → IfSome t.left (λ bytes. Shelled (SourceFailed t) limit cuts bytes left old new result)
-shelled_by limit cuts left old new t opened result read is refused = shelled_over (SourceFailed t) limit cuts t.left left old new opened result read is refused
+pub shelled_by : (asked : Options) (old new : Traffic) (t : SourceSeen) (opened : Inputs) (result : Result Ended Refusal)
+    → ReadsTable asked t (Ok opened)
+    → IfOk result (IsLeftBy opened.schema opened.rows.items asked.limit old new) → IsOkUnless result refusal.NoMemory
+    → Shells asked t old new result
+shelled_by asked old new t opened result read is refused =
+    shelled_over (SourceFailed t) asked.limit asked.cuts.now t.left old new opened result read is refused
 
 -- its record is legal
-pub legal_by : (columns : List Column) (rows : List Row) (limit : ℕ) (left old new : Option (List ℕ)) (result : Result Ended Refusal)
-    → IfOk result (IsLeftBy columns rows limit left old new) → IfOk result (λ e. IsLegal e.history)
-legal_by columns rows limit left old new (Ok e) is = is.history.legal
-legal_by columns rows limit left old new (Err e) is = tt
+pub legal_by : (columns : List Column) (rows : List Row) (limit : ℕ) (old new : Traffic) (result : Result Ended Refusal)
+    → IfOk result (IsLeftBy columns rows limit old new) → IfOk result (λ e. IsLegal e.history)
+legal_by columns rows limit old new (Ok e) is = is.history.legal
+legal_by columns rows limit old new (Err e) is = tt

@@ -1,3 +1,5 @@
+pub mod Commands
 pub mod Lines
 pub mod Shelled
 pub mod Talks
+pub mod Traffic

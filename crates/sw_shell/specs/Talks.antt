@@ -1,6 +1,6 @@
 -- What the lines come to that are entered one after another.
 use Rattle.std.specs.Prelude.{◌≡◌, ◌⊎◌, ◌++◌, ℕ, zero, suc, Bool, true, false, List, [], ◌∷◌, Option, Some, None, Result, Ok, Err}
-use Rattle.std.specs.Io.KnownBytes.{Keeps}
+use Rattle.std.specs.Io.KnownBytes.{IsAtEnd, Keeps}
 use Rattle.bstr.specs.Text.{without_terminator}
 use Rattle.sw_rows.specs.Header.{Column}
 use Rattle.sw_rows.specs.declared.query.Call.{Call}
@@ -15,7 +15,9 @@ use Rattle.sw_engine.specs.Headline.{IsHistoryOfOneThread}
 use Rattle.sw_cli.specs.Outcomes.{SaysWhy, Told, told_bytes}
 use Rattle.sw_cli.specs.Script.{call_of_line}
 use Rattle.sw_cli.specs.Sides.{SinkSeen}
-use Rattle.sw_shell.specs.Lines.{IsNext, is_command}
+use Rattle.sw_shell.specs.Lines.{IsNext, IsQuit, is_command, is_quit}
+use Rattle.sw_shell.specs.Traffic.{Traffic}
+use Rattle.sw_shell.specs.declared.host.Line.{Line}
 
 -- a shell between two lines: the attributes with the texts that are known by now, the calls that were answered with their
 -- replies, and the bytes that its sink has taken, where they are known
@@ -26,6 +28,10 @@ pub record Said : Type 0 where
 
 abbrev pub said : List Column → List (Call × Reply) → Option (List ℕ) → Said
 said columns made taken = record { columns = columns; made = made; taken = taken }
+
+-- a seat of this number, attributes and calls, whose sink has taken these bytes
+abbrev pub said_at : ℕ × List Column × List (Call × Reply) → Option (List ℕ) → Said
+said_at seat taken = said seat.1 seat.2 taken
 
 -- how much of a text a sink took: all of it, or a beginning
 abbrev pub Taking : Type 1
@@ -76,6 +82,11 @@ pub record IsHeard (W : Taking) (n : ℕ) (line : List ℕ) (a b : Said) : Type 
   pub answers : Answers said (call_of_line a.columns n line)
   pub came : Comes W line said a b
 
+-- what hearing a line comes to; where that is refused, the sink took a beginning
+abbrev pub Heard : Result (Unit {0}) Refusal → Line → Said → Said → Type 0
+Heard (Ok x) l a b = IsHeard Took l.number l.bytes.now a b
+Heard (Err e) l a b = IsHeard TookBeginning l.number l.bytes.now a b
+
 -- a line that is a command makes no call
 abbrev pub CameBy : Bool → Taking → ℕ → List ℕ → Said → Said → Type 0
 CameBy true W n line a b = IsUnheard a b
@@ -85,6 +96,22 @@ CameBy false W n line a b = IsHeard W n line a b
 abbrev pub Came : Taking → ℕ → List ℕ → Said → Said → Type 0
 Came W n line a b = CameBy (is_command line) W n line a b
 
+-- a line was taken that does not end the shell
+pub record IsTaken (W : Taking) (n : ℕ) (line : List ℕ) (a b : Said) : Type 0 where
+  pub stays : is_quit line ≡ false
+  pub came : Came W n line a b
+
+-- a line ends the shell, and nothing is heard
+pub record IsTheEnd (line : List ℕ) (a b : Said) : Type 0 where
+  pub ends : is_quit line ≡ true
+  pub unheard : IsUnheard a b
+
+-- what taking a line comes to: there are to be more, or it ends the shell; where that is refused, the sink took a beginning
+abbrev pub Taken : Result Bool Refusal → Line → Said → Said → Type 0
+Taken (Ok true) l a b = IsTaken Took l.number l.bytes.now a b
+Taken (Ok false) l a b = IsTheEnd l.bytes.now a b
+Taken (Err e) l a b = IsTaken TookBeginning l.number l.bytes.now a b
+
 -- and beside it the bytes that its reader has left, where they are known
 pub record Seen : Type 0 where
   pub said : Said
@@ -93,12 +120,16 @@ pub record Seen : Type 0 where
 abbrev pub seen : Said → Option (List ℕ) → Seen
 seen said left = record { said = said; left = left }
 
--- the next line was entered, and came to this
+-- a seat beside what went through its console
+abbrev pub seen_at : ℕ × List Column × List (Call × Reply) → Traffic → Seen
+seen_at seat t = seen (said_at seat t.taken) t.left
+
+-- the next line was entered, which is not `.quit`, and came to this
 pub record IsEntered (W : Taking) (a b : Seen) : Type 0 where
   pub line : List ℕ
   pub number : ℕ
   pub next : IsNext a.left b.left line
-  pub came : Came W number (without_terminator line) a.said b.said
+  pub taken : IsTaken W number (without_terminator line) a.said b.said
 
 -- so many lines were entered, one after another
 abbrev pub Reached : ℕ → Seen → Seen → Type 0
@@ -109,15 +140,20 @@ Reached (suc n) a c = (b : Seen) × Reached n a b × IsEntered Took b c
 abbrev pub IsBroken : Seen → Seen → Type 0
 IsBroken a b = IsUnheard a.said b.said ⊎ IsEntered TookBeginning a b
 
--- how it ends: without a failure nothing more is heard
+-- no line is left, or the next one is `.quit`; and nothing more is heard
+pub record IsOver (a b : Seen) : Type 0 where
+  pub why : IsAtEnd a.left ⊎ IsQuit a.left b.left
+  pub unheard : IsUnheard a.said b.said
+
+-- how it ends: without a failure it is over
 abbrev pub Ends : Option Refusal → Seen → Seen → Type 0
-Ends None a b = IsUnheard a.said b.said
+Ends None a b = IsOver a b
 Ends (Some e) a b = IsBroken a b
 
--- what one turn comes to: a line was entered, or it ends
+-- what one turn comes to: a line was entered, or it is over
 abbrev pub Turned : Result Bool Refusal → Seen → Seen → Type 0
 Turned (Ok true) a b = IsEntered Took a b
-Turned (Ok false) a b = IsUnheard a.said b.said
+Turned (Ok false) a b = IsOver a b
 Turned (Err e) a b = IsBroken a b
 
 -- lines were entered, each of which was answered before the next one, until it ended
@@ -127,12 +163,12 @@ pub record Talked (failure : Option Refusal) (first last : Seen) : Type 0 where
   pub reached : Reached lines first before
   pub ends : Ends failure before last
 
--- What a shell leaves over a table of these attributes and rows, whose reader had these bytes left, and whose sink had taken
--- the old ones: the history of one thread over a plain list of rows, from the rows of the table and its attributes with the texts
--- that came, in which the calls that were answered, and no others, are those of session 1.
-pub record IsLeft (columns : List Column) (rows : List Row) (limit : ℕ) (left old new : Option (List ℕ))
-    (failure : Option Refusal) (h : History) : Type 0 where
+-- What a shell leaves over a table of these attributes and rows, through whose console went what parts new from old: the history
+-- of one thread over a plain list of rows, from the rows of the table and its attributes with the texts that came, in which the
+-- calls that were answered, and no others, are those of session 1.
+pub record IsLeft (columns : List Column) (rows : List Row) (limit : ℕ) (old new : Traffic) (failure : Option Refusal) (h : History)
+    : Type 0 where
   pub last : Seen
-  pub talked : Talked failure (seen (said columns [] old) left) last
-  pub wrote : last.said.taken ≡ new
+  pub talked : Talked failure (seen (said columns [] old.taken) old.left) last
+  pub wrote : last.said.taken ≡ new.taken
   pub history : IsHistoryOfOneThread last.said.columns rows limit ((1, last.said.made) ∷ []) h

@@ -2,6 +2,7 @@
 #![tactic(auto)]
 
 mod commands;
+mod console;
 mod growing;
 mod host;
 mod lines;
@@ -11,6 +12,7 @@ mod telling;
 mod turns;
 
 pub use commands::Command;
+pub use console::Console;
 pub use growing::with_columns;
 pub use host::{Errand, Host, Line};
 pub use opening::{Ended, converse};

@@ -1,6 +1,7 @@
 //! Lines, read one at a time.
 
-ghost use Rattle.std.specs.Prelude.{◌≡◌, [], OnOk};
+ghost use Rattle.std.specs.Prelude.{◌≡◌, [], false, IfOk, OnOk};
+ghost use Rattle.std.specs.Io.KnownBytes.{IsAtEnd};
 ghost use Rattle.bstr.specs.Text.{without_terminator};
 ghost use Rattle.sw_shell.specs.Lines.{IsNext};
 
@@ -10,7 +11,8 @@ use sw_rows::Refusal;
 /// Reads the next line with its end; false at the end of the lines. Refused `NoMemory`, and `Input` where the reader fails.
 pub(crate) fn read_line<B: BufRead>(lines: &mut B, line: &mut Vec<u8>) -> Result<bool, Refusal>
     requires { line.old.items ≡ [] }
-    ensures { OnOk result (IsNext (B.remaining lines.old) (B.remaining lines.new) line.new.items) }
+    ensures next { OnOk result (IsNext (B.remaining lines.old) (B.remaining lines.new) line.new.items) }
+    ensures ended { IfOk result (λ more. more ≡ false → IsAtEnd (B.remaining lines.old)) }
 {
     match lines.read_until(b'\n', line) {
         Ok(count) => Ok(count > 0),

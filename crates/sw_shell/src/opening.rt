@@ -1,19 +1,19 @@
 //! A shell over a table that was read, from its first line to its record.
 
-ghost use Rattle.std.specs.Prelude.{◌≡◌, ◌<◌, ◌≤◌, ◌∷◌, [], ℕ, true, length, All, IfOk, IfSome, IsOkUnless, vec_capacity};
+ghost use Rattle.std.specs.Prelude.{◌≡◌, ◌<◌, ◌≤◌, ◌∷◌, [], ℕ, true, length, All, IfOk, IsOkUnless, vec_capacity};
 ghost use Rattle.sw_map.specs.Held.{blank};
 ghost use Rattle.sw_lang.specs.Cuts.{AreCuts, cuts_on};
-ghost use Rattle.sw_rows.specs.Gives.{Raised};
 ghost use Rattle.sw_rows.specs.declared.refusal.Refusal.TheVariants.{NoMemory};
 ghost use Rattle.sw_rows.specs.declared.table.TheConstants.{MOST_ROWS};
 ghost use Rattle.sw_spine.specs.History.{IsLegal};
 ghost use Rattle.sw_spine.specs.Table.{is_numbered};
 ghost use Rattle.sw_versions.specs.Pending.{IsPlain};
 ghost use Rattle.sw_engine.specs.Headline.{IsHistoryOfOneThread};
-ghost use Rattle.sw_cli.specs.Sides.{source_seen};
 ghost use Rattle.sw_cli.specs.Starts.{IsStart, start_seen};
-ghost use Rattle.sw_shell.specs.Shelled.{IsLeftBy, ReadsTable, Shelled};
+ghost use Rattle.sw_shell.specs.Shelled.{IsLeftBy, ReadsTable, Shells};
+ghost use Rattle.sw_shell.specs.Traffic.{source_by};
 
+use crate::console::Console;
 use crate::growing::with_columns;
 use crate::host::Host;
 use crate::seat::Seat;
@@ -59,17 +59,24 @@ fn stand_ins(alloc: Global, columns: usize) -> Result<Schema, Refusal>
     Ok(schema)
 }
 
+/// How much an engine may have: so many rows, and these boxes for its maps.
+#[derive(Drop)]
+struct Room<M: CrackerMap> {
+    limit: u64,
+    maps: Vec<M>,
+    ghost some: { 0 < limit },
+    ghost most: { limit ≤ MOST_ROWS },
+}
+
 /// What an engine is opened over, and the attributes with the texts of its table.
 #[derive(Drop)]
-struct Ground {
+struct Ground<M: CrackerMap> {
     columns: Schema,
     schema: Schema,
     rows: PackedRows,
     cuts: Cuts,
-    limit: u64,
-    ghost some: { 0 < limit },
-    ghost most: { limit ≤ MOST_ROWS },
-    ghost few: { length rows.items ≤ limit },
+    room: Room<M>,
+    ghost few: { length rows.items ≤ room.limit },
     ghost numbered: { is_numbered 1 rows.items ≡ true },
     ghost lists: { length cuts ≡ length columns },
     ghost lawful: { (a : ℕ) → a < length columns → AreCuts (cuts_on cuts a) },
@@ -78,11 +85,15 @@ struct Ground {
 }
 
 /// The ground of a table that was read. The one refusal is `NoMemory`.
-fn ground_of(alloc: Global, opened: Inputs, limit: u64) -> Result<Ground, Refusal>
-    requires some { 0 < limit }
-    requires most { limit ≤ MOST_ROWS }
-    requires sound { IsStart limit (start_seen opened) }
-    ensures same { IfOk result (λ g. (g.schema ≡ opened.schema) × (g.rows.items ≡ opened.rows.items) × (g.limit ≡ limit)) }
+fn ground_of<M: CrackerMap>(
+    alloc: Global,
+    opened: Inputs,
+    room: Room<M>,
+) -> Result<Ground<M>, Refusal>
+    requires sound { IsStart room.limit (start_seen opened) }
+    ensures table { IfOk result (λ g. (g.schema ≡ opened.schema) × (g.rows.items ≡ opened.rows.items)) }
+    ensures limit { IfOk result (λ g. g.room.limit ≡ room.limit) }
+    ensures maps { IfOk result (λ g. g.room.maps.items ≡ room.maps.items) }
     ensures refused { IsOkUnless result NoMemory }
 {
     let Inputs {
@@ -99,7 +110,7 @@ fn ground_of(alloc: Global, opened: Inputs, limit: u64) -> Result<Ground, Refusa
         schema,
         rows,
         cuts,
-        limit,
+        room,
     })
 }
 
@@ -108,16 +119,15 @@ fn opened_engine<J: Naming, M: CrackerMap, R: Wait>(
     rt: &R,
     alloc: Global,
     books: Blank,
-    ground: Ground,
-    maps: Vec<M>,
+    ground: Ground<M>,
 ) -> Result<(Engine<J, M>, Ticket<J>, Schema), Refusal>
 where
     Live<J>: Absorb<Op<J>, State = [Update; 0]>,
     requires books { (books.sessions.name ≡ J.sessions) × (books.heads.name ≡ J.heads) }
     requires list { books.list.seen.book ≡ J.book }
     requires plain { IsPlain ⟦<Live<J> as Absorb<Op<J>>>⟧.state ⟦<Live<J> as Absorb<Op<J>>>⟧.applied }
-    requires table { (ground.columns ≡ J.columns) × (ground.rows.items ≡ J.opening) × (ground.limit ≡ J.limit) }
-    requires blank { All (λ m. M.held m ≡ blank) maps.items }
+    requires table { (ground.columns ≡ J.columns) × (ground.rows.items ≡ J.opening) × (ground.room.limit ≡ J.limit) }
+    requires blank { All (λ m. M.held m ≡ blank) ground.room.maps.items }
     ensures ticket { IfOk result (λ r. (r.1.0 ≡ 1) × (r.1.1 ≡ [])) }
     ensures schema { IfOk result (λ r. r.2 ≡ ground.schema) }
     ensures wide { IfOk result (λ r. length r.2 ≡ length J.columns) }
@@ -128,9 +138,10 @@ where
         schema,
         rows,
         cuts,
-        limit,
+        room,
         ..
     } = ground;
+    let Room { limit, maps, .. } = room;
     let many = columns.len();
     let Ok((engine, mut tickets)) = Engine::<J, M>::open_for(
         alloc, books, columns, rows, cuts, limit, 1,
@@ -168,33 +179,35 @@ where
 }
 
 /// Talks over an engine of these names. The one refusal is `NoMemory`.
-fn talk_with<J: Naming, M: CrackerMap, H: Host, R: Threads + Wait + Sync, B: BufRead, W: Sink>(
+fn talk_with<J, M, R, B, W, H>(
     rt: &R,
     alloc: Global,
     books: Blank,
-    ground: Ground,
-    maps: Vec<M>,
-    lines: &mut B,
-    out: &mut W,
-    host: &mut H,
+    ground: Ground<M>,
+    console: &mut Console<B, W, H>,
 ) -> Result<Ended, Refusal>
 where
+    J: Naming,
+    M: CrackerMap,
+    R: Threads + Wait + Sync,
+    B: BufRead + Drop,
+    W: Sink + Drop,
+    H: Host + Drop,
     Live<J>: Absorb<Op<J>, State = [Update; 0]>,
     requires books { (books.sessions.name ≡ J.sessions) × (books.heads.name ≡ J.heads) }
     requires list { books.list.seen.book ≡ J.book }
     requires plain { IsPlain ⟦<Live<J> as Absorb<Op<J>>>⟧.state ⟦<Live<J> as Absorb<Op<J>>>⟧.applied }
-    requires table { (ground.columns ≡ J.columns) × (ground.rows.items ≡ J.opening) × (ground.limit ≡ J.limit) }
-    requires blank { All (λ m. M.held m ≡ blank) maps.items }
-    ensures left { IfOk result (IsLeftBy ground.schema J.opening J.limit
-        (B.remaining lines.old) (W.taken out.old) (W.taken out.new)) }
+    requires table { (ground.columns ≡ J.columns) × (ground.rows.items ≡ J.opening) × (ground.room.limit ≡ J.limit) }
+    requires blank { All (λ m. M.held m ≡ blank) ground.room.maps.items }
+    ensures left { IfOk result (IsLeftBy ground.schema J.opening J.limit console.old console.new) }
     ensures refused { IsOkUnless result NoMemory }
 {
     let Ok(back) = Vec::with_capacity(alloc, 1) else {
         return Err(Refusal::NoMemory);
     };
-    let (engine, ticket, schema) = opened_engine::<J, M, R>(rt, alloc, books, ground, maps)?;
+    let (engine, ticket, schema) = opened_engine::<J, M, R>(rt, alloc, books, ground)?;
     let mut seat = Seat::new(alloc, &engine, ticket, schema);
-    let failure = talk(rt, alloc, &mut seat, lines, out, host);
+    let failure = talk(rt, alloc, &mut seat, console);
     let (ticket, schema) = seat.end();
     match closed(rt, engine, back, ticket, schema) {
         Ok(history) => Ok(Ended { history, failure }),
@@ -204,43 +217,48 @@ where
 
 /// Talks as `talk_with` does. Here the names of the books stand for any, but what a viewer's copy makes of an update is
 /// known, which a bound of `talk_with` asks for.
-fn talk_by<J: Naming, M: CrackerMap, H: Host, R: Threads + Wait + Sync, B: BufRead, W: Sink>(
+fn talk_by<J, M, R, B, W, H>(
     rt: &R,
     alloc: Global,
     books: Blank,
-    ground: Ground,
-    maps: Vec<M>,
-    lines: &mut B,
-    out: &mut W,
-    host: &mut H,
+    ground: Ground<M>,
+    console: &mut Console<B, W, H>,
 ) -> Result<Ended, Refusal>
+where
+    J: Naming,
+    M: CrackerMap,
+    R: Threads + Wait + Sync,
+    B: BufRead + Drop,
+    W: Sink + Drop,
+    H: Host + Drop,
     requires books { (books.sessions.name ≡ J.sessions) × (books.heads.name ≡ J.heads) }
     requires list { books.list.seen.book ≡ J.book }
-    requires table { (ground.columns ≡ J.columns) × (ground.rows.items ≡ J.opening) × (ground.limit ≡ J.limit) }
-    requires blank { All (λ m. M.held m ≡ blank) maps.items }
-    ensures left { IfOk result (IsLeftBy ground.schema J.opening J.limit
-        (B.remaining lines.old) (W.taken out.old) (W.taken out.new)) }
+    requires table { (ground.columns ≡ J.columns) × (ground.rows.items ≡ J.opening) × (ground.room.limit ≡ J.limit) }
+    requires blank { All (λ m. M.held m ≡ blank) ground.room.maps.items }
+    ensures left { IfOk result (IsLeftBy ground.schema J.opening J.limit console.old console.new) }
     ensures refused { IsOkUnless result NoMemory }
 {
-    talk_with::<J, M, H, R, B, W>(rt, alloc, books, ground, maps, lines, out, host)
+    talk_with::<J, M, R, B, W, H>(rt, alloc, books, ground, console)
 }
 
 /// A shell over a table that was read.
-fn talk_over<M: CrackerMap, H: Host, R: Threads + Wait + Sync, B: BufRead, W: Sink>(
+fn talk_over<M, R, B, W, H>(
     rt: &R,
     alloc: Global,
-    ground: Ground,
-    maps: Vec<M>,
-    lines: &mut B,
-    out: &mut W,
-    host: &mut H,
+    ground: Ground<M>,
+    console: &mut Console<B, W, H>,
 ) -> Result<Ended, Refusal>
-    requires blank { All (λ m. M.held m ≡ blank) maps.items }
-    ensures left { IfOk result (IsLeftBy ground.schema ground.rows.items ground.limit
-        (B.remaining lines.old) (W.taken out.old) (W.taken out.new)) }
+where
+    M: CrackerMap,
+    R: Threads + Wait + Sync,
+    B: BufRead + Drop,
+    W: Sink + Drop,
+    H: Host + Drop,
+    requires blank { All (λ m. M.held m ≡ blank) ground.room.maps.items }
+    ensures left { IfOk result (IsLeftBy ground.schema ground.rows.items ground.room.limit console.old console.new) }
     ensures refused { IsOkUnless result NoMemory }
 {
-    talk_by::<Brand, M, H, R, B, W>(rt, alloc, Blank::new(), ground, maps, lines, out, host)
+    talk_by::<Brand, M, R, B, W, H>(rt, alloc, Blank::new(), ground, console)
 }
 
 /// A table and cuts, read as a run without a script reads them.
@@ -251,8 +269,7 @@ fn read_table<R: Threads + Sync, T: Source>(
     table: &mut T,
     options: &Options<'_>,
 ) -> Result<Inputs, Refusal>
-    ensures spelled { ReadsTable options.now.limit options.now.cuts.now
-        (source_seen (T.left table.old) (T.failed table.old) (T.failed table.new)) result }
+    ensures spelled { ReadsTable options.now (source_by T.left T.failed table.old table.new) result }
     ensures sound { IfOk result (λ o. IsStart options.now.limit (start_seen o)) }
 {
     let nothing: &[u8] = &[];
@@ -265,33 +282,33 @@ fn read_table<R: Threads + Sync, T: Source>(
     read
 }
 
-/// A shell over a table that was read, within this limit of rows.
-fn talk_on<M: CrackerMap, H: Host, R: Threads + Wait + Sync, B: BufRead, W: Sink>(
+/// A shell over a table that was read, within this room.
+fn talk_on<M, R, B, W, H>(
     rt: &R,
     alloc: Global,
     opened: Inputs,
-    limit: u64,
-    maps: Vec<M>,
-    lines: &mut B,
-    out: &mut W,
-    host: &mut H,
+    room: Room<M>,
+    console: &mut Console<B, W, H>,
 ) -> Result<Ended, Refusal>
-    requires some { 0 < limit }
-    requires most { limit ≤ MOST_ROWS }
-    requires sound { IsStart limit (start_seen opened) }
-    requires blank { All (λ m. M.held m ≡ blank) maps.items }
-    ensures left { IfOk result (IsLeftBy opened.schema opened.rows.items limit
-        (B.remaining lines.old) (W.taken out.old) (W.taken out.new)) }
+where
+    M: CrackerMap,
+    R: Threads + Wait + Sync,
+    B: BufRead + Drop,
+    W: Sink + Drop,
+    H: Host + Drop,
+    requires sound { IsStart room.limit (start_seen opened) }
+    requires blank { All (λ m. M.held m ≡ blank) room.maps.items }
+    ensures left { IfOk result (IsLeftBy opened.schema opened.rows.items room.limit console.old console.new) }
     ensures refused { IsOkUnless result NoMemory }
 {
-    match ground_of(alloc, opened, limit) {
-        Ok(ground) => talk_over(rt, alloc, ground, maps, lines, out, host),
+    match ground_of(alloc, opened, room) {
+        Ok(ground) => talk_over(rt, alloc, ground, console),
         Err(refusal) => Err(refusal),
     }
 }
 
 /// Reads a table and cuts as a run without a script does, and then takes lines, each of which is answered before the next one is
-/// read, until there are no more, one ends the shell, or something fails. The maps are boxes, dealt out as in a run.
+/// read, until there are no more, one is `.quit`, or something fails. The maps are boxes, dealt out as in a run.
 ///
 /// A line is a call, whose reply is written as in a run; or nothing, or a comment; or it begins with a dot, and is a command of the
 /// shell (`Command`). What cannot be read as either is told to the host, and changes nothing; the texts of a line that is a
@@ -301,26 +318,31 @@ fn talk_on<M: CrackerMap, H: Host, R: Threads + Wait + Sync, B: BufRead, W: Sink
 /// sink (`Output`) or of the host ends the shell, and is told beside the record. The caller's conditions are those of
 /// `run_with`.
 #[tactic(auto, using(crate::proofs::Shelling::legal_by))]
-pub fn converse<M: CrackerMap, H: Host, R: Threads + Wait + Sync, T: Source, B: BufRead, W: Sink>(
+pub fn converse<M, R, T, B, W, H>(
     rt: &R,
     alloc: Global,
     table: &mut T,
     options: &Options<'_>,
     maps: Vec<M>,
-    lines: &mut B,
-    out: &mut W,
-    host: &mut H,
+    console: &mut Console<B, W, H>,
 ) -> Result<Ended, Refusal>
+where
+    M: CrackerMap,
+    R: Threads + Wait + Sync,
+    T: Source,
+    B: BufRead + Drop,
+    W: Sink + Drop,
+    H: Host + Drop,
     requires some { 0 < options.now.limit }
     requires most { options.now.limit ≤ MOST_ROWS }
     requires blank { All (λ m. M.held m ≡ blank) maps.items }
-    ensures shelled { IfSome (T.left table.old) (λ bytes.
-        Shelled (Raised (T.failed table.old) (T.failed table.new)) options.now.limit options.now.cuts.now bytes
-        (B.remaining lines.old) (W.taken out.old) (W.taken out.new) result) }
+    ensures shelled { Shells options.now (source_by T.left T.failed table.old table.new)
+        console.old console.new result }
     ensures legal { IfOk result (λ e. IsLegal e.history) }
 {
+    let limit = options.limit;
     match read_table(rt, alloc, table, options) {
-        Ok(opened) => talk_on(rt, alloc, opened, options.limit, maps, lines, out, host),
+        Ok(opened) => talk_on(rt, alloc, opened, Room { limit, maps }, console),
         Err(refusal) => Err(refusal),
     }
 }

@@ -2,12 +2,12 @@
 
 ghost use Rattle.std.specs.Prelude.{◌≡◌, ◌≤◌, length, IfOk, IfSome, OnErr, OnOk};
 ghost use Rattle.sw_cli.specs.Script.{call_of_line};
-ghost use Rattle.sw_cli.specs.Sides.{sink_seen};
 ghost use Rattle.sw_lang.specs.Learning.{learned};
 ghost use Rattle.sw_lang.specs.Reading.{Answers};
 ghost use Rattle.sw_rows.specs.Scan.{AsksBelow};
 ghost use Rattle.sw_spine.specs.History.{CallsBelow};
 ghost use Rattle.sw_shell.specs.Talks.{IsTold};
+ghost use Rattle.sw_shell.specs.Traffic.{sink_by};
 
 use crate::host::{Host, Line};
 use crate::telling::write_at_once;
@@ -118,7 +118,7 @@ where
         requires { CallsBelow (length J.columns) call.now }
         ensures same { (self.new.0 ≡ self.old.0) × (self.new.1 ≡ self.old.1) }
         ensures told { IsTold self.old.1 call.now result self.old.2 self.new.2
-            (sink_seen (W.taken out.old) (W.taken out.new) (W.failed out.old) (W.failed out.new)) }
+            (sink_by W.taken W.failed out.old out.new) }
     {
         host.begins();
         let told = self.session.call(rt, call);

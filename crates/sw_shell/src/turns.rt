@@ -1,10 +1,11 @@
 //! Lines in turn, each of which is answered before the next one is read.
 
-ghost use Rattle.std.specs.Prelude.{◌≡◌, [], ◌⊎◌, false, IfOk, OnErr, OnOk};
-ghost use Rattle.sw_lang.specs.Sinks.{Took, TookBeginning};
-ghost use Rattle.sw_shell.specs.Talks.{Came, IsHeard, IsUnheard, Talked, Turned, said, seen};
+ghost use Rattle.std.specs.Prelude.{◌≡◌, ◌⊎◌, [], false, not, IfOk, OnErr};
+ghost use Rattle.sw_shell.specs.Lines.{is_quit};
+ghost use Rattle.sw_shell.specs.Talks.{Heard, Taken, Talked, Turned, said_at, seen_at};
 
 use crate::commands::{Command, is_command};
+use crate::console::Console;
 use crate::host::{Errand, Host, Line};
 use crate::lines::{read_line, without_end};
 use crate::seat::Seat;
@@ -59,7 +60,7 @@ where
     }
 }
 
-/// Obeys the command of a line, and tells whether there are to be more lines.
+/// Obeys the command of a line, and tells whether there are to be more lines: after `.quit` there are not.
 fn obey<J: Naming, M: CrackerMap, H: Host, R: Wait>(
     rt: &R,
     seat: &mut Seat<'_, J, M>,
@@ -68,7 +69,9 @@ fn obey<J: Naming, M: CrackerMap, H: Host, R: Wait>(
 ) -> Result<bool, Refusal>
 where
     Live<J>: Absorb<Op<J>, State = [Update; 0]>,
-    ensures { seat.new ≡ seat.old }
+    ensures same { seat.new ≡ seat.old }
+    ensures quits { IfOk result (λ more. more ≡ not (is_quit line.entry.bytes.now)) }
+    ensures stays { OnErr result (is_quit line.entry.bytes.now ≡ false) }
 {
     let obeyed = match Command::read(line.bytes) {
         Command::Quit => return Ok(false),
@@ -98,10 +101,7 @@ fn hear<J: Naming, M: CrackerMap, H: Host, R: Threads + Wait + Sync, W: Sink>(
 where
     Live<J>: Absorb<Op<J>, State = [Update; 0]>,
     ensures number { seat.new.0 ≡ seat.old.0 }
-    ensures came { OnOk result (IsHeard Took line.entry.number line.entry.bytes.now
-        (said seat.old.1 seat.old.2 (W.taken out.old)) (said seat.new.1 seat.new.2 (W.taken out.new))) }
-    ensures broke { OnErr result (IsHeard TookBeginning line.entry.number line.entry.bytes.now
-        (said seat.old.1 seat.old.2 (W.taken out.old)) (said seat.new.1 seat.new.2 (W.taken out.new))) }
+    ensures heard { Heard result line.entry (said_at seat.old (W.taken out.old)) (said_at seat.new (W.taken out.new)) }
 {
     match seat.read(line) {
         Ok(Some(call)) => seat.call(rt, &call, out, host),
@@ -111,6 +111,7 @@ where
 }
 
 /// Takes a line, and tells whether there are to be more.
+#[tactic(auto, using(crate::proofs::Talking::taken_by, crate::proofs::Talking::taken_heard))]
 fn enter<J: Naming, M: CrackerMap, H: Host, R: Threads + Wait + Sync, W: Sink>(
     rt: &R,
     seat: &mut Seat<'_, J, M>,
@@ -121,12 +122,7 @@ fn enter<J: Naming, M: CrackerMap, H: Host, R: Threads + Wait + Sync, W: Sink>(
 where
     Live<J>: Absorb<Op<J>, State = [Update; 0]>,
     ensures number { seat.new.0 ≡ seat.old.0 }
-    ensures came { OnOk result (Came Took line.entry.number line.entry.bytes.now
-        (said seat.old.1 seat.old.2 (W.taken out.old)) (said seat.new.1 seat.new.2 (W.taken out.new))) }
-    ensures quits { IfOk result (λ more. more ≡ false → IsUnheard
-        (said seat.old.1 seat.old.2 (W.taken out.old)) (said seat.new.1 seat.new.2 (W.taken out.new))) }
-    ensures broke { OnErr result (Came TookBeginning line.entry.number line.entry.bytes.now
-        (said seat.old.1 seat.old.2 (W.taken out.old)) (said seat.new.1 seat.new.2 (W.taken out.new))) }
+    ensures taken { Taken result line.entry (said_at seat.old (W.taken out.old)) (said_at seat.new (W.taken out.new)) }
 {
     if is_command(line.bytes) {
         return obey(rt, seat, line, host);
@@ -138,30 +134,34 @@ where
 }
 
 /// Waits for the next line, and takes it: whether there are to be more.
-fn turn<J: Naming, M: CrackerMap, H: Host, R: Threads + Wait + Sync, B: BufRead, W: Sink>(
+#[tactic(auto, using(crate::proofs::Talking::turned_by, crate::proofs::Talking::unheard_same))]
+fn turn<J, M, R, B, W, H>(
     rt: &R,
     seat: &mut Seat<'_, J, M>,
     number: u32,
-    lines: &mut B,
     line: &mut Vec<u8>,
-    out: &mut W,
-    host: &mut H,
+    console: &mut Console<B, W, H>,
 ) -> Result<bool, Refusal>
 where
+    J: Naming,
+    M: CrackerMap,
+    R: Threads + Wait + Sync,
+    B: BufRead + Drop,
+    W: Sink + Drop,
+    H: Host + Drop,
     Live<J>: Absorb<Op<J>, State = [Update; 0]>,
     ensures number { seat.new.0 ≡ seat.old.0 }
-    ensures turned { Turned result
-        (seen (said seat.old.1 seat.old.2 (W.taken out.old)) (B.remaining lines.old))
-        (seen (said seat.new.1 seat.new.2 (W.taken out.new)) (B.remaining lines.new)) }
+    ensures turned { Turned result (seen_at seat.old console.old) (seen_at seat.new console.new) }
 {
-    if let Err(refusal) = host.awaits() {
+    if let Err(refusal) = console.host.awaits() {
         return Err(refusal);
     }
     line.clear();
-    match read_line(lines, line) {
+    match read_line(&mut console.lines, line) {
         Ok(true) => {
             let bytes = without_end(line.as_slice());
-            enter(rt, seat, Line { bytes, number }, out, host)
+            let line = Line { bytes, number };
+            enter(rt, seat, line, &mut console.out, &mut console.host)
         }
         Ok(false) => Ok(false),
         Err(refusal) => Err(refusal),
@@ -169,31 +169,26 @@ where
 }
 
 /// Takes lines until there are no more, or one ends the shell; why it ended, if that was a failure.
-pub(crate) fn talk<
-    J: Naming,
-    M: CrackerMap,
-    H: Host,
-    R: Threads + Wait + Sync,
-    B: BufRead,
-    W: Sink,
->(
+pub(crate) fn talk<J, M, R, B, W, H>(
     rt: &R,
     alloc: Global,
     seat: &mut Seat<'_, J, M>,
-    lines: &mut B,
-    out: &mut W,
-    host: &mut H,
+    console: &mut Console<B, W, H>,
 ) -> Option<Refusal>
 where
+    J: Naming,
+    M: CrackerMap,
+    R: Threads + Wait + Sync,
+    B: BufRead + Drop,
+    W: Sink + Drop,
+    H: Host + Drop,
     Live<J>: Absorb<Op<J>, State = [Update; 0]>,
     ensures number { seat.new.0 ≡ seat.old.0 }
-    ensures talked { Talked result
-        (seen (said seat.old.1 seat.old.2 (W.taken out.old)) (B.remaining lines.old))
-        (seen (said seat.new.1 seat.new.2 (W.taken out.new)) (B.remaining lines.new)) }
+    ensures talked { Talked result (seen_at seat.old console.old) (seen_at seat.new console.new) }
 {
     let mut line = Vec::new(alloc);
     for number in 1..MOST_LINES {
-        match turn(rt, seat, number, lines, &mut line, out, host) {
+        match turn(rt, seat, number, &mut line, console) {
             Ok(true) => {}
             Ok(false) => return None,
             Err(refusal) => return Some(refusal),

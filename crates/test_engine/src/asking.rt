@@ -273,8 +273,23 @@ where
     held(tickets.push(one.end()))
 }
 
+/// Tells where a session's last entry stands.
+fn tell_place<J: Naming, M: CrackerMap, R: Wait>(
+    rt: &R,
+    session: &mut Session<'_, J, M>,
+    text: &mut String,
+) -> Result<(), Refusal>
+where
+    Live<J>: Absorb<Op<J>, State = [Update; 0]>,
+{
+    match session.place(rt) {
+        Some(place) => held(write!(text, ", place {place}")),
+        None => held(text.push_str(", no place")),
+    }
+}
+
 /// Takes up to five boxes back from the first head, and tells how many went. Adds the tickets of a session that inserts a row of
-/// zeros and deletes the row of key 1, and of one that makes no call.
+/// zeros and deletes the row of key 1, and tells where its entries stand, and of one that makes no call.
 fn shed<J: Naming, M: CrackerMap, R: Wait>(
     rt: &R,
     engine: &Engine<J, M>,
@@ -287,8 +302,11 @@ where
 {
     held(write!(text, "{} boxes", engine.shed(rt, 0, 5)))?;
     let mut session = engine.session(rt)?;
+    tell_place(rt, &mut session, text)?;
     session.insert(rt, [0; 8])?;
+    tell_place(rt, &mut session, text)?;
     session.delete(rt, 1)?;
+    tell_place(rt, &mut session, text)?;
     held(tickets.push(session.end()))?;
     let other = engine.session(rt)?.end();
     held(tickets.push(other))

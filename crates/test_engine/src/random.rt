@@ -7,27 +7,10 @@ use crate::running::{add_block, add_call};
 use crate::told::held;
 use std::alloc::{AllocError, Global};
 use sw_rows::{Call, Refusal, Schema};
+use test_words::Dice;
 
 /// How many calls a session makes.
 const CALLS: usize = 60;
-
-/// A fixed sequence of numbers.
-#[derive(Drop)]
-struct Dice {
-    state: u64,
-}
-
-impl Dice {
-    /// The next number below a limit, or 0.
-    fn roll(&mut self, below: u64) -> u64 {
-        let mut x = self.state;
-        x ^= x << 13;
-        x ^= x >> 7;
-        x ^= x << 17;
-        self.state = x;
-        (x >> 32) % below.max(1)
-    }
-}
 
 const NAMES: [&str; 8] = ["a", "b", "c", "d", "e", "f", "g", "h"];
 
@@ -100,7 +83,7 @@ pub(crate) fn random_blocks(
 ) -> Result<Vec<Vec<Call>>, Refusal>
     ensures { IfOk result (λ v. All (λ b. All (λ c. CallsBelow (length schema.now) c) b.items) v.items) }
 {
-    let mut dice = Dice { state };
+    let mut dice = Dice::of(state);
     let mut blocks = Vec::new(alloc);
     for place in 0..sessions {
         let many = if sessions == 3 && place == 2 {

@@ -110,13 +110,13 @@ const TABLES: &[OfTable] = &[
         table: b"a,Organization Name\n",
         rec: 0,
         field: 2,
-        words: "t.csv line 1, column 2: ' ' stands in a name, which has letters, digits and _: 'Organization Name'\n",
+        words: "t.csv line 1, column 2: ' ' stands in a name, which has letters, digits and _: 'Organization Name'; sideways import makes names of headings\n",
     },
     OfTable {
         table: b"a,a:flag\n",
         rec: 0,
         field: 2,
-        words: "t.csv line 1, column 2: a name that stands twice: 'a:flag'\n",
+        words: "t.csv line 1, column 2: a name that stands twice: 'a:flag'; sideways import makes names of headings\n",
     },
     OfTable {
         table: b"a:integer\n",
@@ -128,13 +128,13 @@ const TABLES: &[OfTable] = &[
         table: b"a,\n",
         rec: 0,
         field: 2,
-        words: "t.csv line 1, column 2: a column without a name: ''\n",
+        words: "t.csv line 1, column 2: a column without a name: ''; sideways import makes names of headings\n",
     },
     OfTable {
         table: b"count\n",
         rec: 0,
         field: 1,
-        words: "t.csv line 1, column 1: a word of the language is no name: 'count'\n",
+        words: "t.csv line 1, column 1: a word of the language is no name: 'count'; sideways import makes names of headings\n",
     },
     OfTable {
         table: b"a,b,c:text\n1,2\n",
@@ -197,7 +197,7 @@ const LIMITS: &[OfLimit] = &[
     OfLimit {
         limit: 8,
         table: b"a,b,c,d,e,f,g,h,i\n",
-        words: "t.csv line 1: 9 columns, at most 8\n",
+        words: "t.csv line 1: 9 columns, at most 8; sideways import chooses columns, and --header passes by those that it calls -\n",
     },
     OfLimit {
         limit: 8,
@@ -276,7 +276,7 @@ const ENTRIES: &[OfEntry] = &[
 
 const ALL: &[All] = &[All {
     table: b"a,b:flag\nx,true\n1\n2,yes\n3,false\n",
-    words: "t.csv line 2, a:int: not a number, wanted a whole number: 'x'; a name without a kind is an int\nt.csv line 3: 1 field, the header has 2: b:flag is missing\nt.csv line 4, b:flag: neither true nor false: 'yes'\nt.csv: 3 faults\n",
+    words: "t.csv line 2, a:int: not a number, wanted a whole number: 'x'; a name without a kind is an int; sideways import finds kinds\nt.csv line 3: 1 field, the header has 2: b:flag is missing\nt.csv line 4, b:flag: neither true nor false: 'yes'\nt.csv: 3 faults\n",
 }];
 
 const CUTS: &str =
@@ -284,10 +284,10 @@ const CUTS: &str =
 
 /// The end of a list of more than a thousand faults.
 const THOUSAND: &str =
-    "t.csv line 1001, a:int: not a number, wanted a whole number: 'x'; a name without a kind is an int\nt.csv: 1005 faults, of which the first 1000 are listed\n";
+    "t.csv line 1001, a:int: not a number, wanted a whole number: 'x'; a name without a kind is an int; sideways import finds kinds\nt.csv: 1005 faults, of which the first 1000 are listed\n";
 
 const LONG: &str =
-    "t.csv line 2, a:int: not a number, wanted a whole number: 'x'; a name without a kind is an int\nt.csv line 3: more than 4096 fields, the header has 2\nt.csv: 2 faults, as far as it was read\n";
+    "t.csv line 2, a:int: not a number, wanted a whole number: 'x'; a name without a kind is an int; sideways import finds kinds\nt.csv line 3: more than 4096 fields, the header has 2\nt.csv: 2 faults, as far as it was read\n";
 
 fn asked<'a>(table: &'a [u8], script: &'a [u8], origin: Origin, cuts: &'a str) -> Asked<'a> {
     Asked {

@@ -3,9 +3,9 @@
 
 #[cfg(test)]
 mod cases;
-#[cfg(test)]
-mod dice;
 mod growing;
+#[cfg(test)]
+mod lines;
 #[cfg(test)]
 mod mixes;
 #[cfg(test)]

@@ -1,6 +1,6 @@
 //! Mixes of updates and queries on many heads, beside the plain answer.
 
-use crate::dice::{Dice, NAMES};
+use crate::lines::{Lines, NAMES};
 use crate::scenes::{Boxes, Scene, Trouble, play};
 use crate::steps::merge;
 use crate::trials::{Shape, Trial, open, supply, tell};
@@ -104,7 +104,7 @@ const GROWING: &[Trouble] = &[
 ];
 
 /// Mixes of a recipe: one for each of these troubles, capacities and numbers of boxes, with up to so many cuts, by
-/// dice of a seed.
+/// lines of a seed.
 #[derive(Clone, Copy)]
 struct Group<'t> {
     seed: u64,
@@ -253,23 +253,23 @@ const OF_MANY_THAT_GO: &[Group<'static>] = &[
     },
 ];
 
-/// A mix that is made: its recipe, its dice, up to how many cuts there are, and how many areas were scanned.
+/// A mix that is made: its recipe, its lines, up to how many cuts there are, and how many areas were scanned.
 #[derive(Drop)]
 pub(crate) struct Mix {
     recipe: Recipe,
-    dice: Dice,
+    lines: Lines,
     cuts: u32,
     scans: usize,
 }
 
 /// The key of one of the rows that there are, or rarely another.
-fn some_key<M: CrackerMap>(trial: &Trial<M>, dice: &mut Dice) -> u64 {
+fn some_key<M: CrackerMap>(trial: &Trial<M>, lines: &mut Lines) -> u64 {
     let many = trial.rows.len();
-    let key = u64::from(dice.roll(64));
-    if many == 0 || dice.is_one_in(8) {
+    let key = u64::from(lines.roll(64));
+    if many == 0 || lines.is_one_in(8) {
         return key;
     }
-    trial.rows[dice.roll(1 << 30) as usize % many].key
+    trial.rows[lines.roll(1 << 30) as usize % many].key
 }
 
 /// A call of a mix.
@@ -279,15 +279,15 @@ fn push_call<M: CrackerMap>(
     head: usize,
     line: &mut String,
 ) -> Result<(), AllocError> {
-    let kind = mix.dice.roll(10);
+    let kind = mix.lines.roll(10);
     if kind < mix.recipe.come {
-        mix.dice.push_row(line)
+        mix.lines.push_row(line)
     } else if kind - mix.recipe.come < mix.recipe.go {
-        write!(line, "delete {}", some_key(trial, &mut mix.dice))
+        write!(line, "delete {}", some_key(trial, &mut mix.lines))
     } else if kind - mix.recipe.come - mix.recipe.go < mix.recipe.many_go {
-        mix.dice.push_deletion(line)
+        mix.lines.push_deletion(line)
     } else {
-        mix.dice.push_query(head, line)
+        mix.lines.push_query(head, line)
     }
 }
 
@@ -298,17 +298,17 @@ fn tend<M: CrackerMap>(
     mix: &mut Mix,
     head: usize,
 ) -> Result<(), Fail> {
-    match mix.dice.roll(24) {
+    match mix.lines.roll(24) {
         0 => {
-            let _cells = trial.head.evict(u64::from(mix.dice.roll(400)));
+            let _cells = trial.head.evict(u64::from(mix.lines.roll(400)));
         }
         1 => {
             let mut line = String::new(alloc);
-            mix.dice.push_query(head, &mut line)?;
+            mix.lines.push_query(head, &mut line)?;
             merge(alloc, trial, line.as_str())?;
         }
         2 if mix.recipe.boxes_go => {
-            let _gone = trial.head.shed(mix.dice.roll(3) as usize);
+            let _gone = trial.head.shed(mix.lines.roll(3) as usize);
         }
         3 if mix.recipe.boxes_go => supply(trial)?,
         _ => {}
@@ -341,8 +341,8 @@ fn call_all<R: Threads + Sync, M: CrackerMap>(
 /// The cells of the rows that there are at first.
 fn cells_for(alloc: Global, mix: &mut Mix) -> Result<Vec<[i64; 8]>, AllocError> {
     let mut cells = Vec::new(alloc);
-    for _turn in 0..mix.dice.roll(mix.recipe.rows) {
-        cells.push(mix.dice.cells())?;
+    for _turn in 0..mix.lines.roll(mix.recipe.rows) {
+        cells.push(mix.lines.cells())?;
     }
     Ok(cells)
 }
@@ -357,8 +357,8 @@ pub(crate) fn mixed<R: Threads + Sync, M: CrackerMap>(
     text: &mut String,
 ) -> Result<(), Fail> {
     let cells = cells_for(alloc, mix)?;
-    let cuts = mix.dice.cuts(alloc, mix.cuts)?;
-    let head = mix.dice.roll(5);
+    let cuts = mix.lines.cuts(alloc, mix.cuts)?;
+    let head = mix.lines.roll(5);
     let shape = Shape {
         header: &NAMES,
         attribute: u8::try_from(head).unwrap_or(0),
@@ -437,7 +437,7 @@ fn mix_all<R: Threads + Sync>(
     for group in groups {
         let mut mix = Mix {
             recipe: group.recipe,
-            dice: Dice::new(group.seed),
+            lines: Lines::new(group.seed),
             cuts: group.cuts,
             scans: 0,
         };

@@ -5,7 +5,7 @@ ghost use Rattle.sw_rows.specs.Scan.{AsksBelow, CondsBelow};
 ghost use Rattle.sw_spine.specs.History.{CallsBelow};
 
 use crate::bench::{call_of, four_rows, schema};
-use crate::random::{Dice, call_line};
+use crate::random::{Lines, call_line};
 use std::alloc::Global;
 use sw_rows::{
     Call, Cond, LiveTable, PackedRows, Query, Refusal, Reply, Row, Schema, Update, answer, has_key,
@@ -177,9 +177,9 @@ impl Stand {
 fn played(alloc: Global, seed: u64) -> Result<Stand, Refusal> {
     let schema = schema(alloc)?;
     let mut stand = opened_stand(alloc)?;
-    let mut dice = Dice::of(seed);
+    let mut lines = Lines::of(seed);
     for _turn in 0..TURNS {
-        let line = call_line(alloc, &mut dice)?;
+        let line = call_line(alloc, &mut lines)?;
         stand.make_line(alloc, &schema, line.as_str())?;
     }
     Ok(stand)

@@ -7,6 +7,7 @@ use crate::bench::{Step, Text, four_rows, make, opened};
 use std::alloc::{AllocError, Global};
 use sw_rows::{Counted, Refusal, Row};
 use sw_spine::Spine;
+use test_words::Dice;
 
 /// How many visits of each kind there are.
 const TURNS: usize = 200;
@@ -26,32 +27,24 @@ const ENDS: [i64; 2] = [i64::MIN, i64::MAX];
 /// What a select of a number begins with.
 const NUMBERS: [&str; 4] = ["count", "sum b", "min c", "max a"];
 
-/// A fixed sequence of numbers, and the lines of calls that it makes.
+/// A fixed sequence of numbers makes the lines of calls.
 #[derive(Drop)]
-pub(crate) struct Dice {
-    state: u64,
+pub(crate) struct Lines {
+    dice: Dice,
 }
 
-impl Dice {
-    /// The sequence of a seed.
-    pub(crate) fn of(seed: u64) -> Dice {
-        Dice { state: seed | 1 }
-    }
-
-    /// The next number below a limit, or 0.
-    fn roll(&mut self, below: u64) -> u64 {
-        let mut x = self.state;
-        x ^= x << 13;
-        x ^= x >> 7;
-        x ^= x << 17;
-        self.state = x;
-        (x >> 32) % below.max(1)
+impl Lines {
+    /// The lines of a seed.
+    pub(crate) fn of(seed: u64) -> Lines {
+        Lines {
+            dice: Dice::of(seed),
+        }
     }
 
     /// A condition on an attribute, after a word.
     fn push_cond(&mut self, word: &str, name: &str, line: &mut String) -> Result<(), AllocError> {
-        let sign = SIGNS[(self.roll(5) % 5) as usize];
-        write!(line, " {word} {name} {sign} {}", self.roll(12))
+        let sign = SIGNS[(self.dice.roll(5) % 5) as usize];
+        write!(line, " {word} {name} {sign} {}", self.dice.roll(12))
     }
 
     /// Two conditions.
@@ -62,21 +55,21 @@ impl Dice {
 
     /// The next cell: one of twelve, or the least or the greatest of all.
     fn cell(&mut self) -> i64 {
-        match self.roll(10) {
-            0 => ENDS[(self.roll(2) % 2) as usize],
-            _ => (self.roll(12) % 12) as i64,
+        match self.dice.roll(10) {
+            0 => ENDS[(self.dice.roll(2) % 2) as usize],
+            _ => (self.dice.roll(12) % 12) as i64,
         }
     }
 
     /// A row that comes.
     fn push_row(&mut self, line: &mut String) -> Result<(), AllocError> {
-        let (a, b, c) = (self.cell(), self.cell(), self.roll(2));
+        let (a, b, c) = (self.cell(), self.cell(), self.dice.roll(2));
         write!(line, "insert {a}, {b}, {c}")
     }
 
     /// Bounds on an attribute: two, which may take no cell, or one cell, or one bound.
     fn push_bounds(&mut self, line: &mut String) -> Result<(), AllocError> {
-        match self.roll(4) {
+        match self.dice.roll(4) {
             0 => write!(line, " where a = {} and b < {}", self.cell(), self.cell()),
             1 => write!(
                 line,
@@ -91,13 +84,13 @@ impl Dice {
 
     /// A select of a number.
     fn push_number(&mut self, line: &mut String) -> Result<(), AllocError> {
-        line.push_str(NUMBERS[(self.roll(4) % 4) as usize])?;
+        line.push_str(NUMBERS[(self.dice.roll(4) % 4) as usize])?;
         self.push_bounds(line)
     }
 
     /// A select of rows, or of a number.
     fn push_select(&mut self, line: &mut String) -> Result<(), AllocError> {
-        if self.roll(2) == 0 {
+        if self.dice.roll(2) == 0 {
             return self.push_number(line);
         }
         line.push_str("select a, b, c")?;
@@ -106,7 +99,7 @@ impl Dice {
 
     /// A change: a row comes, one goes, or all go that meet a condition or two.
     fn push_change(&mut self, line: &mut String) -> Result<(), AllocError> {
-        match self.roll(12) {
+        match self.dice.roll(12) {
             0 => {
                 line.push_str("delete")?;
                 self.push_cond("where", "a", line)
@@ -115,14 +108,14 @@ impl Dice {
                 line.push_str("delete")?;
                 self.push_conds(line)
             }
-            3 | 4 => write!(line, "delete {}", self.roll(60)),
+            3 | 4 => write!(line, "delete {}", self.dice.roll(60)),
             _ => self.push_row(line),
         }
     }
 
     /// A change, or, as often, a select of a number.
     fn push_call(&mut self, line: &mut String) -> Result<(), AllocError> {
-        match self.roll(2) {
+        match self.dice.roll(2) {
             0 => self.push_change(line),
             _ => self.push_number(line),
         }
@@ -130,27 +123,27 @@ impl Dice {
 }
 
 /// The line of a change.
-fn change_of(alloc: Global, dice: &mut Dice) -> Result<String, Refusal> {
+fn change_of(alloc: Global, lines: &mut Lines) -> Result<String, Refusal> {
     let mut line = String::new(alloc);
-    match dice.push_change(&mut line) {
+    match lines.push_change(&mut line) {
         Ok(()) => Ok(line),
         Err(_) => Err(Refusal::NoMemory),
     }
 }
 
 /// The line of a select.
-fn select_of(alloc: Global, dice: &mut Dice) -> Result<String, Refusal> {
+fn select_of(alloc: Global, lines: &mut Lines) -> Result<String, Refusal> {
     let mut line = String::new(alloc);
-    match dice.push_select(&mut line) {
+    match lines.push_select(&mut line) {
         Ok(()) => Ok(line),
         Err(_) => Err(Refusal::NoMemory),
     }
 }
 
 /// The line of a change, or of a select of a number.
-pub(crate) fn call_line(alloc: Global, dice: &mut Dice) -> Result<String, Refusal> {
+pub(crate) fn call_line(alloc: Global, lines: &mut Lines) -> Result<String, Refusal> {
     let mut line = String::new(alloc);
-    match dice.push_call(&mut line) {
+    match lines.push_call(&mut line) {
         Ok(()) => Ok(line),
         Err(_) => Err(Refusal::NoMemory),
     }
@@ -161,16 +154,16 @@ fn visit(
     alloc: Global,
     spine: &mut Spine,
     rows: &mut Vec<Row>,
-    dice: &mut Dice,
+    lines: &mut Lines,
     text: &mut Text,
 ) -> Result<(), Refusal>
     requires rest { IsAtRest spine.old rows.old.items }
     ensures { OnOk result (IsAtRest spine.new rows.new.items) }
 {
-    let line = change_of(alloc, dice)?;
+    let line = change_of(alloc, lines)?;
     make(alloc, spine, rows, &Step::Change(line.as_str()), text)?;
-    let asked = select_of(alloc, dice)?;
-    let line = change_of(alloc, dice)?;
+    let asked = select_of(alloc, lines)?;
+    let line = change_of(alloc, lines)?;
     let step = Step::Around(asked.as_str(), line.as_str());
     make(alloc, spine, rows, &step, text)
 }
@@ -180,13 +173,13 @@ fn visit_all(
     alloc: Global,
     spine: &mut Spine,
     rows: &mut Vec<Row>,
-    dice: &mut Dice,
+    lines: &mut Lines,
     text: &mut Text,
 ) -> Result<(), Refusal>
     requires rest { IsAtRest spine.old rows.old.items }
 {
     for _turn in 0..TURNS {
-        visit(alloc, spine, rows, dice, text)?;
+        visit(alloc, spine, rows, lines, text)?;
     }
     Ok(())
 }
@@ -199,8 +192,8 @@ fn is_legal(alloc: Global, seed: u64, limit: u64) -> Result<bool, Refusal> {
     let mut rows = four_rows(alloc)?;
     let mut spine = opened(alloc, rows.as_slice(), limit)?;
     let mut text = Counted::new(Vec::new(alloc));
-    let mut dice = Dice::of(seed);
-    visit_all(alloc, &mut spine, &mut rows, &mut dice, &mut text)?;
+    let mut lines = Lines::of(seed);
+    visit_all(alloc, &mut spine, &mut rows, &mut lines, &mut text)?;
     Ok(spine.into_record().check().is_ok())
 }
 

@@ -1,6 +1,8 @@
 use Rattle.std.proofs.Common.{rules, ◌≡◌, ◌+◌, ◌<◌, [], ◌∷◌, ◌++◌, length, map, take, get_or, sym, ap, ◌∙◌, subst, arith, vec_capacity}
 use Rattle.std.proofs.lemmas.List.Elements.{All-push}
 use Rattle.sw_engine.specs.Desk.{AreCounted, InOrder}
+use Rattle.sw_engine.specs.Own.{own_of}
+use Rattle.sw_engine.specs.Published.{Shown}
 use Rattle.sw_cli.specs.Served.{IsFresh}
 use Rattle.sw_cli.proofs.Lists.{counted_push, length_map, length_push, map_push, take_push}
 use Rattle.sw_cli.proofs.serving.jobs.Goals as goal
@@ -18,8 +20,8 @@ loop-ticket-preserved g c =
     record {
       order = subst (λ n. InOrder n c.next.new.self.rest.items) (let s : 1 + length xs + 1 ≡ 1 + length c.push.new.self.items = omega (arith, k) in s) h.2;
       many = omega (arith, i.many, k, ap length steps);
-      fresh = rw e (All-push (λ j. IsFresh j.session.1 j.told.items (vec_capacity j.told) j.calls.now) xs _ i.fresh (record { none = c.attach.ensures.1 ∙ h.1; empty = search rules; fits = search rules }));
-      numbers = rw e (subst (AreCounted 1) (sym (map_push (λ j. j.session.0) xs _)) (counted_push 1 (1 + length xs) (map (λ j. j.session.0) xs) _ i.numbers (omega (arith, length_map (λ j. j.session.0) xs)) (c.attach.ensures.0 ∙ h.0)));
+      fresh = rw e (All-push (λ j. IsFresh j.session j.told.items (vec_capacity j.told) j.calls.now) xs _ i.fresh (record { none = ap (λ (s : Shown). s.1) c.attach.ensures ∙ h.1.none; own = ap own_of c.attach.ensures ∙ h.1.own; empty = search rules; fits = search rules }));
+      numbers = rw e (subst (AreCounted 1) (sym (map_push (λ j. j.session.0) xs _)) (counted_push 1 (1 + length xs) (map (λ j. j.session.0) xs) _ i.numbers (omega (arith, length_map (λ j. j.session.0) xs)) (ap (λ (s : Shown). s.0) c.attach.ensures ∙ h.0)));
       calls =
           take_push c.args.blocks.now (map (λ j. j.calls.now) xs) (map (λ j. j.calls.now) c.push.new.self.items) c.calls-calls.result.now (length xs) i.calls inside (ap (map (λ j. j.calls.now)) e ∙ (map_push (λ j. j.calls.now) xs _ ∙ ap (λ v. map (λ j. j.calls.now) xs ++ v ∷ []) here)) ∙ ap (λ n. take n c.args.blocks.now) (sym k);
     }

@@ -1,12 +1,12 @@
 use Rattle.std.proofs.Common.{◌≡◌, ◌∙◌, ◌+◌, ◌<◌, ℕ, List, [], length, map, get_or, sym, ap, arith, All}
 use Rattle.std.proofs.lemmas.List.{get_or-map}
 use Rattle.sw_rows.specs.declared.query.Call.{Call}
-use Rattle.sw_rows.specs.declared.reply.Reply.{Reply}
+use Rattle.sw_engine.specs.Published.{Shown}
 use Rattle.sw_cli.specs.Outcomes.{AreTold, SaysWhy, Told, blocks_told}
 use Rattle.sw_cli.specs.Served.{AreAnswered}
 use Rattle.sw_cli.specs.Script.{AllCallsBelow}
 use Rattle.sw_cli.proofs.Lists.{all_map, at_place, counted_at, length_map}
-use Rattle.sw_cli.proofs.Records.{blocks_why, collected, record_of}
+use Rattle.sw_cli.proofs.Records.{blocks_why, collected, no_ticket, record_of}
 use Rattle.sw_cli.proofs.serving.serve.Given.{Over}
 use Rattle.sw_cli.proofs.serving.serve.Goals as goal
 
@@ -32,12 +32,12 @@ all_made g c =
     let j = (at_place w i ltw).0 in
     let d = (at_place done i ltd).0 in
     let made = c.in-Ok-make_all.ensures.1 i j d ltw in
-    let ticket : get_or tickets i (0, []) ≡ (get_or done i d).ticket = ap (λ (l : List (ℕ × List (Call × Reply))). get_or l i (0, [])) c.in-Ok-parted.ensures.tickets ∙ get_or-map (λ d. d.ticket) done i d (0, []) ltd in
+    let ticket : get_or tickets i no_ticket ≡ (get_or done i d).ticket = ap (λ (l : List Shown). get_or l i no_ticket) c.in-Ok-parted.ensures.tickets ∙ get_or-map (λ d. d.ticket) done i d no_ticket ltd in
     let told : get_or tells i [] ≡ (get_or done i d).told = ap (λ (l : List (List Told)). get_or l i []) c.in-Ok-parted.ensures.told ∙ get_or-map (λ d. d.told) done i d [] ltd in
     let calls : get_or blocks i [] ≡ (get_or w i j).calls.now = ap (λ (l : List (List Call)). get_or l i []) (sym c.in-Ok.ensures.calls) ∙ get_or-map (λ j. j.calls.now) w i j [] ltw in
     let count = counted_at 1 (map (λ j. j.session.0) w) i 0 c.in-Ok.ensures.numbers (let e = length_map (λ j. j.session.0) w in omega (arith, e, ltw)) in
     let session : (get_or w i j).session.0 ≡ 1 + i = sym (get_or-map (λ j. j.session.0) w i j 0 ltw) ∙ count in
-    (rw ticket (made.number ∙ session), rw (told, calls) made.all, rw (ticket, told, calls) made.made))
+    (rw ticket (made.number ∙ session), rw (told, calls) made.all, rw (ticket, told, calls) made.made, rw (ticket, told, calls) made.left))
 
 pub returns-in-Ok-close-clause-told : goal.returns-in-Ok-close-clause-told
 returns-in-Ok-close-clause-told g c = (all_made g c).0
@@ -62,4 +62,4 @@ returns-in-Ok-close-clause-why g c = blocks_why c.args.blocks.now c.in-Ok-parted
 
 pub returns-in-Ok-close-clause-record_is : goal.returns-in-Ok-close-clause-record_is
 returns-in-Ok-close-clause-record_is g c =
-    record_of g.J.Naming.columns g.J.Naming.opening g.J.Naming.limit (blocks_told c.args.blocks.now c.in-Ok-parted.told.items) c.in-Ok-parted.ended.items c.in-Ok-close.record (all_made g c).1 c.in-Ok-close.ensures.headline
+    record_of g.J.Naming.columns g.J.Naming.opening g.J.Naming.limit (blocks_told c.args.blocks.now c.in-Ok-parted.told.items) c.in-Ok-parted.ended.items c.in-Ok-close.record (all_made g c).1 c.in-Ok-close.ensures.headline c.in-Ok-close.ensures.ended

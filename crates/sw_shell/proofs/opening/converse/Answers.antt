@@ -4,7 +4,7 @@ use Rattle.sw_shell.proofs.opening.converse.Goals as goal
 
 pub returns-in-Ok-clause-shelled : goal.returns-in-Ok-clause-shelled
 returns-in-Ok-clause-shelled g c =
-    shelled_by c.args.options.now.limit c.args.options.now.cuts.now _ _ _ (source_seen (g.T.Source.left c.args.table.now) _ _) c.in-Ok.opened c.talk_on.result
+    shelled_by c.args.options.now _ _ (source_seen (g.T.Source.left c.args.table.now) _ _) c.in-Ok.opened c.talk_on.result
     c.in-Ok.ensures.spelled c.talk_on.ensures.left c.talk_on.ensures.refused
 
 pub returns-in-Err-clause-shelled : goal.returns-in-Err-clause-shelled

@@ -12,7 +12,7 @@ use Rattle.sw_engine.specs.Published.{IsWhole}
 use Rattle.sw_engine.specs.Own.{own}
 use Rattle.sw_engine.proofs.Owned.{open_keeps, own_push}
 use Rattle.sw_engine.proofs.Ties.{all_taken, begin_tied, head_below, is_of_same, length_set, mine_is, own_is, waits_is}
-use Rattle.sw_engine.proofs.Published.{behind_set, prefix_same, published_kept, share_grows}
+use Rattle.sw_engine.proofs.Published.{behind_set, grows_self, prefix_same, published_kept, share_grows}
 use Rattle.sw_engine.proofs.Whole.{ends_open, whole_after}
 use Rattle.sw_engine.proofs.desk.Desk.begin.Goals as goal
 
@@ -97,7 +97,7 @@ returns-clause-grows g c =
     let h = c.args.share.now in
     let x = c.begin.new.self in
     let kept = published_kept g.J.Naming.opening s.spine x (ap (λ (b : Books). b.published) c.in_ok-begin.ensures.begun) c.begin.ensures.updates in
-    share_grows g.J.Naming.limit g.J.Naming.opening s.spine x h.value c.set.new.share.value s.sessions.rows h.number c.self.invariant.behind c.agree.ensures.value (prefix_same _ _ (sym kept)) (c.set.ensures.value ∙ c.of.ensures)
+    share_grows g.J.Naming.limit g.J.Naming.opening s.spine x h.value c.set.new.share.value s.sessions.rows s.heads.rows h.number c.self.invariant.tied c.self.invariant.behind c.agree.ensures.value (prefix_same _ _ (sym kept)) (open_keeps c.args.number c.args.query c.head.inside.number s.spine x c.in_ok-begin.ensures.begun).1 (c.set.ensures.value ∙ c.of.ensures)
 
 pub returns-clause-whole : goal.returns-clause-whole
 returns-clause-whole g c =
@@ -106,3 +106,6 @@ returns-clause-whole g c =
     let done = c.in_ok-begin.ensures.begun in
     let ends = ends_open g.J.Naming.limit g.J.Naming.opening c.args.number c.args.query c.head.inside.number s.spine x done c.self.invariant.ends in
     subst (IsWhole g.J.Naming.limit g.J.Naming.opening) (sym (c.set.ensures.value ∙ c.of.ensures)) (whole_after g.J.Naming.columns g.J.Naming.opening g.J.Naming.limit s.spine x c.self.invariant.of (ap (λ (b : Books). b.columns) done) (ap (λ (b : Books). b.rows) done) (ap (λ (b : Books). b.limit) done) ends)
+
+pub returns-in_err-begin-clause-grows : goal.returns-in_err-begin-clause-grows
+returns-in_err-begin-clause-grows g c = grows_self g.J.Naming.opening c.args.share.now.value _ (ap (λ b. b.value) c.agree.ensures.same.1)

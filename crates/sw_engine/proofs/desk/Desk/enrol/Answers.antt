@@ -1,6 +1,7 @@
-use Rattle.std.proofs.Common.{◌≡◌, ◌+◌, length, false, sym, subst, ap, ◌∙◌}
+use Rattle.std.proofs.Common.{◌≡◌, ◌+◌, length, false, sym, subst, ap, ◌∙◌, arith}
 use Rattle.sw_spine.specs.Books.{Books, with_session}
 use Rattle.sw_engine.specs.Published.{IsWhole, published_of}
+use Rattle.sw_engine.proofs.Owned.{new_absent}
 use Rattle.sw_engine.proofs.Published.{behind_push, enrol_tied}
 use Rattle.sw_engine.proofs.Ties.{is_of_same, length_push}
 use Rattle.sw_engine.proofs.Whole.{ends_session, whole_after}
@@ -29,3 +30,19 @@ returns-clause-whole g c =
     let is : x ≡ with_session s.spine = c.in_ok-number.ensures.opened.2 in
     let ends = ends_session g.J.Naming.limit g.J.Naming.opening s.spine x is c.self.invariant.ends in
     subst (IsWhole g.J.Naming.limit g.J.Naming.opening) (sym (c.open-share.ensures.share.1 ∙ c.of.ensures)) (whole_after g.J.Naming.columns g.J.Naming.opening g.J.Naming.limit s.spine x c.self.invariant.of (ap (λ (b : Books). b.columns) is) (ap (λ (b : Books). b.rows) is) (ap (λ (b : Books). b.limit) is) ends)
+
+pub returns-clause-share : goal.returns-clause-share
+returns-clause-share g c =
+    let s = c.self.inside in
+    let x = c.open_session.new.self in
+    let n = c.in_ok-number.number in
+    let opens = c.in_ok-number.ensures.opened in
+    let many : x.sessions ≡ s.spine.sessions + 1 = ap (λ (b : Books). b.sessions) opens.2 in
+    let place : n ≡ c.open-share.result.number + 1 = let a = opens.0 in let r = c.open-share.ensures.share.0 in let l = c.self.invariant.tied.as_many in omega (arith, a, many, r, l) in (
+      opens.0,
+      c.open-share.ensures.name.1 ∙ c.self.invariant.sessions_named,
+      place,
+      c.open-share.ensures.share.1 ∙ c.of.ensures,
+      c.in_ok-number.ensures.begun.1,
+      new_absent s.spine x n opens c.entries-entries.ensures.known,
+    )

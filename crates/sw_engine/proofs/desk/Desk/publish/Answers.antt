@@ -68,7 +68,7 @@ returns-clause-grows g c =
     let x = c.set_published.new.self in
     let low : s.spine.published ≤ c.args.count = subst (λ (d : DeskState). d.books.published ≤ c.args.count) (sym c.self.view_is) c.requires.low in
     let grows : IsPrefix (published_of g.J.Naming.opening s.spine) (published_of g.J.Naming.opening x) = subst (λ (b : Books). IsPrefix (published_of g.J.Naming.opening s.spine) (published_of g.J.Naming.opening b)) (sym c.set_published.ensures) (published_grows g.J.Naming.opening s.spine c.args.count low) in
-    share_grows g.J.Naming.limit g.J.Naming.opening s.spine x h.value c.set.new.share.value s.sessions.rows h.number c.self.invariant.behind c.agree.ensures.value grows (c.set.ensures.value ∙ c.of.ensures)
+    share_grows g.J.Naming.limit g.J.Naming.opening s.spine x h.value c.set.new.share.value s.sessions.rows s.heads.rows h.number c.self.invariant.tied c.self.invariant.behind c.agree.ensures.value grows (published_keeps c.args.number c.args.count s.spine x c.set_published.ensures).1 (c.set.ensures.value ∙ c.of.ensures)
 
 pub returns-clause-whole : goal.returns-clause-whole
 returns-clause-whole g c =

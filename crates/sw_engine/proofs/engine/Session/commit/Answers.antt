@@ -9,6 +9,6 @@ invariant_of-self g c =
       c.commit.ensures.rest.0,
       c.commit.ensures.rest.1,
       c.commit.ensures.rest.2,
-      held_after c.commit.result s.receipt c.commit.new.receipt (published_of opening s.share.value) (published_of opening c.commit.new.share.value) c.self.invariant.3 c.commit.ensures.grows c.commit.ensures.receipt c.commit.ensures.kept,
+      held_after c.commit.result s.receipt c.commit.new.receipt (published_of opening s.share.value) (published_of opening c.commit.new.share.value) c.self.invariant.3 c.commit.ensures.grows.0 c.commit.ensures.receipt c.commit.ensures.kept,
       c.commit.ensures.whole,
     )

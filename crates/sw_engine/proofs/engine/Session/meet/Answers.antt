@@ -1,10 +1,8 @@
-use Rattle.std.proofs.Common.{◌∙◌, ℕ, List, ap, subst, sym}
+use Rattle.std.proofs.Common.{◌∙◌, List, ap, subst, sym}
 use mathlib.Core.List.{IsPrefix}
-use Rattle.sw_rows.specs.declared.query.Call.{Call}
-use Rattle.sw_rows.specs.declared.reply.Reply.{Reply}
 use Rattle.sw_versions.specs.Rules.{updates_in}
 use Rattle.sw_table.specs.declared.row.Update.{Update}
-use Rattle.sw_engine.specs.Published.{EndWithEntries, Receipted, published_of}
+use Rattle.sw_engine.specs.Published.{EndWithEntries, Shown, published_of}
 use Rattle.sw_engine.proofs.Published.{begins_longer}
 use Rattle.sw_engine.proofs.Shelves.{begin_ends}
 use Rattle.sw_engine.proofs.engine.Session.meet.Goals as goal
@@ -21,7 +19,7 @@ returns-clause-receipt g c =
     let s = c.self.inside in
     let opening = g.J.Naming.opening in
     let published = c.in_ok-published.published in
-    let longer : IsPrefix s.receipt published = begins_longer c.begins-begins.result s.receipt published (published_of opening s.share.value) (published_of opening c.meet.new.share.value) c.begins-begins.ensures c.self.invariant.3 c.meet.ensures.grows c.in_ok-published.ensures.receipt in (
+    let longer : IsPrefix s.receipt published = begins_longer c.begins-begins.result s.receipt published (published_of opening s.share.value) (published_of opening c.meet.new.share.value) c.begins-begins.ensures c.self.invariant.3 c.meet.ensures.grows.0 c.in_ok-published.ensures.receipt in (
       ap updates_in c.again.ensures ∙ c.in_ok-published.ensures.receipt,
-      subst (λ (v : ℕ × List (Call × Reply) × Receipted). IsPrefix v.2.given c.again.result) c.self.view_is (subst (λ (l : List (List Update)). IsPrefix s.receipt l) (sym c.again.ensures) longer),
+      subst (λ (v : Shown). IsPrefix v.2.given c.again.result) c.self.view_is (subst (λ (l : List (List Update)). IsPrefix s.receipt l) (sym c.again.ensures) longer),
     )

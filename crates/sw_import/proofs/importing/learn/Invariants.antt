@@ -1,5 +1,0 @@
-use Rattle.sw_import.specs.Records.{IsOpen}
-use Rattle.sw_import.proofs.importing.learn.Given as goal
-
-abbrev pub invariant-rows : goal.invariant-rows
-invariant-rows l = IsOpen l.rdr
