@@ -21,7 +21,7 @@ const CAPACITY: u64 = 1 << 20;
 const MOST_MAPS: usize = 20_000_000;
 
 /// How often a head grows at most, and after how many growths that found the budget contended it is enough.
-const MOST_HEADS: usize = 20_000;
+const MOST_HEADS: usize = 2_000;
 
 const ENOUGH: u64 = 20;
 
