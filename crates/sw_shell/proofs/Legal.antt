@@ -1,5 +1,5 @@
 -- A legal history of replies as they were given is legal over any attributes.
-use Rattle.std.proofs.Common.{◌≡◌, ◌∙◌, ◌⊎◌, ◌+◌, ◌++◌, ap, sym, subst, arith, ℕ, suc, true, All, List, [], ◌∷◌, length, length-append}
+use Rattle.std.proofs.Common.{◌≡◌, ◌∙◌, ◌⊎◌, ◌+◌, ◌++◌, ap, sym, subst, arith, ℕ, suc, true, false, All, List, [], ◌∷◌, length, length-append}
 use Rattle.std.proofs.lemmas.Bool.{and_parts, false≢true}
 use Rattle.sw_rows.specs.Header.{Column}
 use Rattle.sw_rows.specs.declared.query.Call.{Call}
