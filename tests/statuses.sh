@@ -200,7 +200,7 @@ refused_in_turn() {
     while [ "$number" -le 400 ]; do
         REFUSED=$number LD_PRELOAD=$work/refusing.so "$@" <"$given" >out 2>err
         is=$?
-        if [ "$is" -eq 3 ] && { grep -qx 'sideways: refused 1' err || grep -qx 'refused 1' out; }; then
+        if [ "$is" -eq 3 ] && { grep -qx 'sideways: refused 1' err || grep -qx 'refused 1' out || grep -q '^sideways: calls were refused' err; }; then
             told=$((told + 1))
         elif [ "$is" -ne "$plain" ]; then
             verdict=FAILED

@@ -24,6 +24,7 @@ use sw_cli::{
     write_stats_title,
 };
 use sw_files::begin_file;
+use sw_lang::write_all;
 use sw_map::{CrackerMap, PairMap};
 use sw_rows::{Counted, Refusal, Sink, Source, TextKey};
 use sw_spine::Record;
@@ -246,8 +247,11 @@ fn tell<R: Clock + Eprint, E: Sink>(
     Ok(())
 }
 
-/// What is left to do after a run whose files were written: what the heads tell where that is asked. Answers the exit
-/// status.
+/// What is told where calls were refused, and their lines stand nowhere.
+const REFUSED: &[u8] = b"sideways: calls were refused; --output lines shows which\n";
+
+/// What is left to do after a run whose files were written: to tell of refused calls that have no line, and what the heads tell where
+/// that is asked. Answers the exit status.
 fn finish<R: Clock + Eprint, E: Sink>(
     run: &Run<'_>,
     ended: &AfterRun,
@@ -256,6 +260,9 @@ fn finish<R: Clock + Eprint, E: Sink>(
 ) -> Result<u8, Refusal>
     ensures { IfOk result (λ status. (status ≡ 0) ⊎ (status ≡ 3)) }
 {
+    if ended.has_refused && run.form != Form::Lines {
+        write_all(errors, REFUSED)?;
+    }
     if run.sights.heads {
         tell(ended, seen, errors)?;
     }
