@@ -22,7 +22,7 @@ _sideways() {
     check) COMPREPLY=($(compgen -W "--explain --from-logs -h --help" -- "$word") $(compgen -f -- "$word")) ;;
     describe) COMPREPLY=($(compgen -W "--header --output --all-faults -h --help" -- "$word") $(compgen -f -- "$word")) ;;
     order) COMPREPLY=($(compgen -W "--table --by --keys --slack --states --limit --where --quiet -h --help" -- "$word") $(compgen -f -- "$word")) ;;
-    import) COMPREPLY=($(compgen -W "--columns --rename --kind --times --empty --null --long --dictionary --sample --ragged --delimiter --no-header -h --help" -- "$word") $(compgen -f -- "$word")) ;;
+    import) COMPREPLY=($(compgen -W "--columns --rename --kind --times --empty --null --long --dictionary --sample --ragged --delimiter --no-header --quiet -h --help" -- "$word") $(compgen -f -- "$word")) ;;
     explain) COMPREPLY=($(compgen -W "-h --help" -- "$word")) ;;
     esac
 }
