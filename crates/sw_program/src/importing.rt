@@ -5,7 +5,7 @@ ghost use Rattle.std.specs.Prelude.{◌≡◌, ◌⊎◌, IfOk};
 use crate::clash::is_output;
 use crate::inputs::{Place, open_place};
 use crate::outflow::{Outflow, Reader};
-use crate::seeing::{LinesSeen, Seen, Sights};
+use crate::seeing::{LinesSeen, Seen, Sights, What};
 use crate::wording::{of_output, of_unread, of_unwritten};
 use std::alloc::Global;
 use std::io;
@@ -44,7 +44,7 @@ fn read_values<R: Files + Clock + Eprint + Input>(
     match open_place(rt, place) {
         Ok(source) => {
             let source = Counted::new(source);
-            let mut source = LinesSeen::new(source, &seen, "lines of the values read");
+            let mut source = LinesSeen::new(source, &seen, What::Values);
             read_all(alloc, &mut source, usize::MAX)
         }
         Err(refusal) => Err(refusal),

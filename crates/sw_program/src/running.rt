@@ -8,7 +8,7 @@ use crate::clash::Clash;
 use crate::inputs::{Keeping, Kept, Place, Script, is_read_once, open_script, open_table};
 use crate::logging::{Times, Watch, keep_log};
 use crate::outflow::Outflow;
-use crate::seeing::{LinesSeen, Seen, Sights};
+use crate::seeing::{LinesSeen, Seen, Sights, What};
 use crate::settings::Settings;
 use crate::shaping::{Form, script_bytes, shape};
 use crate::wording::{Asking, Keeps, of_output, of_unwritten};
@@ -192,7 +192,7 @@ fn run_named<R: Files + RandomSource + Clock + Print + Eprint + Input + Threads 
     let table = match open_table(rt, alloc, run.table, run.header) {
         Ok(table) => {
             let table = Counted::new(table);
-            LinesSeen::new(table, watch.seen, "lines of the table read")
+            LinesSeen::new(table, watch.seen, What::Table)
         }
         Err(refusal) => return unopened(refusal),
     };

@@ -168,22 +168,35 @@ fn ends_in(bytes: &[u8]) -> u64 {
     ends
 }
 
+/// What is read.
+#[derive(Clone, Copy)]
+pub(crate) enum What {
+    /// A table.
+    Table,
+    /// Values from outside.
+    Values,
+}
+
+/// The words behind the number of its lines that were read.
+fn lines_read(what: What) -> &'static str {
+    match what {
+        What::Table => "lines of the table read",
+        What::Values => "lines of the values read",
+    }
+}
+
 /// A source before another, which tells how many lines of what went by. It counts them only where they are told.
 #[derive(Drop)]
 pub(crate) struct LinesSeen<'s, 'r, S: Source + Drop, R: Clock + Eprint> {
     source: S,
     read: u64,
     seen: &'s Seen<'r, R>,
-    what: &'static str,
+    what: What,
 }
 
 impl<'s, 'r, S: Source + Drop, R: Clock + Eprint> LinesSeen<'s, 'r, S, R> {
-    /// A source of which no line went by, with the words behind their number.
-    pub(crate) fn new(
-        source: S,
-        seen: &'s Seen<'r, R>,
-        what: &'static str,
-    ) -> LinesSeen<'s, 'r, S, R> {
+    /// A source of which no line went by.
+    pub(crate) fn new(source: S, seen: &'s Seen<'r, R>, what: What) -> LinesSeen<'s, 'r, S, R> {
         LinesSeen {
             source,
             read: 0,
@@ -203,7 +216,8 @@ impl<S: Source + Drop, R: Clock + Eprint> Source for LinesSeen<'_, '_, S, R> {
         if self.seen.sights.progress {
             let (given, _) = buf.split_at(count);
             self.read = self.read.saturating_add(ends_in(given));
-            self.seen.tell(self.seen.now(), self.read, self.what);
+            let words = lines_read(self.what);
+            self.seen.tell(self.seen.now(), self.read, words);
         }
         Ok(count)
     }

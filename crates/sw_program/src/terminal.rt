@@ -85,12 +85,12 @@ impl Times {
 
 /// A terminal, or a pipe: replies and what commands tell go to standard output, and what is wrong to `errors`.
 #[derive(Drop)]
-pub(crate) struct Terminal<'t, R: Files + Clock + Print + Eprint, E: Sink> {
+pub(crate) struct Terminal<'t, 'o, R: Files + Clock + Print + Eprint, E: Sink> {
     rt: &'t R,
     alloc: Global,
     key: TextKey,
     table: Place<'t>,
-    reader: &'t Reader,
+    reader: &'o Reader,
     errors: &'t mut E,
     prompts: bool,
     greeted: bool,
@@ -165,7 +165,7 @@ fn write_names<W: Sink>(schema: &Schema, out: &mut W) -> Result<(), Refusal> {
     Ok(())
 }
 
-impl<'t, R: Files + Clock + Print + Eprint, E: Sink> Terminal<'t, R, E> {
+impl<'t, 'o, R: Files + Clock + Print + Eprint, E: Sink> Terminal<'t, 'o, R, E> {
     /// What stands around a shell, whose standard output has this reader, and which keeps its history in the file of a path, if there
     /// is one.
     pub(crate) fn new(
@@ -173,10 +173,10 @@ impl<'t, R: Files + Clock + Print + Eprint, E: Sink> Terminal<'t, R, E> {
         alloc: Global,
         key: TextKey,
         shell: &Shell<'t>,
-        reader: &'t Reader,
+        reader: &'o Reader,
         errors: &'t mut E,
         history: Option<String>,
-    ) -> Terminal<'t, R, E> {
+    ) -> Terminal<'t, 'o, R, E> {
         Terminal {
             rt,
             alloc,
@@ -203,7 +203,7 @@ impl<'t, R: Files + Clock + Print + Eprint, E: Sink> Terminal<'t, R, E> {
     }
 
     /// Standard output.
-    fn out(&self) -> Counted<Outflow<'t, io::Printer<'t, R>>> {
+    fn out(&self) -> Counted<Outflow<'o, io::Printer<'t, R>>> {
         Counted::new(Outflow::new(io::writer(self.rt), self.reader))
     }
 
@@ -311,7 +311,7 @@ impl<'t, R: Files + Clock + Print + Eprint, E: Sink> Terminal<'t, R, E> {
     }
 }
 
-impl<R: Files + Clock + Print + Eprint, E: Sink> Host for Terminal<'_, R, E> {
+impl<R: Files + Clock + Print + Eprint, E: Sink> Host for Terminal<'_, '_, R, E> {
     fn awaits(&mut self) -> Result<(), Refusal> {
         if !self.prompts {
             return Ok(());

@@ -25,21 +25,22 @@ const MOST_HEADS: usize = 2_000;
 
 const ENOUGH: u64 = 20;
 
-/// Takes cells and gives them back, until it is told to end.
+/// Takes cells and gives them back.
+fn pressed(purse: Purse) -> Purse {
+    match purse.lease(64) {
+        Ok(lease) => lease.give_back(),
+        Err((back, _refusal)) => back,
+    }
+}
+
+/// Takes cells and gives them back again and again, until it is told to end.
 fn press(purse: Purse, is_over: Arc<AtomicBool>) {
     let mut purse = purse;
     for _turn in 0..u64::MAX {
         if is_over.load(Ordering::SeqCst) {
             return;
         }
-        match purse.lease(64) {
-            Ok(lease) => {
-                purse = lease.give_back();
-            }
-            Err((back, _)) => {
-                purse = back;
-            }
-        }
+        purse = pressed(purse);
     }
 }
 
