@@ -85,13 +85,13 @@ impl Times {
 
 /// A terminal, or a pipe: replies and what commands tell go to standard output, and what is wrong to `errors`.
 #[derive(Drop)]
-pub(crate) struct Terminal<'t, 'o, R: Files + Clock + Print + Eprint, E: Sink> {
+pub(crate) struct Terminal<'t, 'p, 'o, 'e, R: Files + Clock + Print + Eprint, E: Sink> {
     rt: &'t R,
     alloc: Global,
     key: TextKey,
-    table: Place<'t>,
+    table: Place<'p>,
     reader: &'o Reader,
-    errors: &'t mut E,
+    errors: &'e mut E,
     prompts: bool,
     greeted: bool,
     times: Times,
@@ -165,18 +165,18 @@ fn write_names<W: Sink>(schema: &Schema, out: &mut W) -> Result<(), Refusal> {
     Ok(())
 }
 
-impl<'t, 'o, R: Files + Clock + Print + Eprint, E: Sink> Terminal<'t, 'o, R, E> {
+impl<'t, 'p, 'o, 'e, R: Files + Clock + Print + Eprint, E: Sink> Terminal<'t, 'p, 'o, 'e, R, E> {
     /// What stands around a shell, whose standard output has this reader, and which keeps its history in the file of a path, if there
     /// is one.
     pub(crate) fn new(
         rt: &'t R,
         alloc: Global,
         key: TextKey,
-        shell: &Shell<'t>,
+        shell: &Shell<'p>,
         reader: &'o Reader,
-        errors: &'t mut E,
+        errors: &'e mut E,
         history: Option<String>,
-    ) -> Terminal<'t, 'o, R, E> {
+    ) -> Terminal<'t, 'p, 'o, 'e, R, E> {
         Terminal {
             rt,
             alloc,
@@ -311,7 +311,7 @@ impl<'t, 'o, R: Files + Clock + Print + Eprint, E: Sink> Terminal<'t, 'o, R, E> 
     }
 }
 
-impl<R: Files + Clock + Print + Eprint, E: Sink> Host for Terminal<'_, '_, R, E> {
+impl<R: Files + Clock + Print + Eprint, E: Sink> Host for Terminal<'_, '_, '_, '_, R, E> {
     fn awaits(&mut self) -> Result<(), Refusal> {
         if !self.prompts {
             return Ok(());
