@@ -84,11 +84,12 @@ def changed(folder, body):
 
 
 def tried(folder, crate, places):
-    """The lines that a program tells of lines of its input; or whether the tests of a crate pass."""
+    """The lines that a program tells of lines of its input, which some show again behind `> `; or whether the tests of a crate pass."""
     folder = folder / "crates" / crate
     if places != [crate]:
         done = subprocess.run(["rt", "try"], cwd=folder, input="\n".join(places) + "\n", capture_output=True, text=True)
-        return done.stdout.splitlines() or [f"status {done.returncode}"]
+        told = [line for line in done.stdout.splitlines() if not line.startswith("> ")]
+        return told or [f"status {done.returncode}"]
     done = subprocess.run(["rt", "try", "--test"], cwd=folder, capture_output=True, text=True)
     return ["passed" if done.returncode == 0 else f"failed, status {done.returncode}"]
 
