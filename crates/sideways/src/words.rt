@@ -190,11 +190,8 @@ fn call<'a>(alloc: Global) -> Arg<'a> {
 
 /// Where the calls come from: one of the two, so that what is missing is told with both.
 fn calls<'a>(alloc: Global) -> Result<ArgGroup<'a>, AllocError> {
-    Ok(
-        ArgGroup::new(alloc, "calls")
-            .args(&["script", "call"])?
-            .required(true),
-    )
+    let group = ArgGroup::new(alloc, "calls").arg("script")?.arg("call")?;
+    Ok(group.required(true))
 }
 
 /// A run with its script or its calls.
