@@ -1,6 +1,7 @@
 #!/usr/bin/env bash
 # Tells whether the drivers below this folder that have a program of their own still stand on the crates as they are: reads the types and
-# clauses of each, over the libraries that `rt ci` left in this tree, and proves nothing. The gate runs it (tests/after.sh).
+# clauses of each, over the libraries that `rt ci` left in this tree, and proves nothing. By hand: it copies these
+# libraries for each, which takes minutes.
 #
 #     bench/build.sh
 #

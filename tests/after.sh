@@ -16,7 +16,6 @@ step sh "$top/tests/crates.sh"
 step python3 "$top/tests/examples.py"
 step python3 "$top/bench/claims.py" --check
 step python3 "$top/bench/pages.py" --check
-step bash "$top/bench/build.sh"
 step sh "$top/tests/statuses.sh"
 step python3 "$top/tests/words.py"
 step python3 "$top/tests/shells.py"
