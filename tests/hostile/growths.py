@@ -9,7 +9,7 @@ Ends with 1 and the first run that is wrong."""
 import json
 from collections import Counter
 from histories import check
-from memory import FAULT, REFUSED, of_sessions, preload, refusing, told_story
+from memory import FAULT, FAULTS, REFUSED, of_sessions, preload, refusing, told_story
 from model import run
 from running import Holder, ended, options, told, wrong
 
@@ -70,7 +70,7 @@ class Growths(Holder):
             wrong(name, files, words, (0, plain, ""), (status, out, fault))
         for after in range(0 if more else at - 1):
             status, out, fault = told(self.program, words, folder, **refusing(self.library, SHARE=1, AFTER=after))
-            if status != 3 or (fault != FAULT and REFUSED not in out.split("\n")):
+            if status != 3 or (fault not in FAULTS and REFUSED not in out.split("\n")):
                 wrong("%s, all from %d on" % (name, after + 1), files, words, "status 3 and refusal 1", (status, out, fault))
             tally["all"] += 1
         self.tallies.append(tally)
@@ -81,7 +81,7 @@ class Growths(Holder):
         """Judges a run of which one allocation was refused, and says what was refused then."""
         status, out, fault = ended
         refused = out.split("\n").count(REFUSED)
-        if (status, fault) not in ((0, ""), (3, ""), (3, FAULT)) or refused > 1 or (status == 0) == bool(refused or fault):
+        if (status, fault) not in ((0, ""), (3, ""), *((3, it) for it in FAULTS)) or refused > 1 or (status == 0) == bool(refused or fault):
             wrong(name, files, words, "status 0, or 3 and one refusal", ended)
         if status == 0 and out != plain:
             wrong(name, files, words, plain, out)

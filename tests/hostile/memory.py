@@ -13,6 +13,8 @@ from reading import load, parse_script
 from running import TOP, Holder, Wrong, ended, options, told, wrong
 
 REFUSED, FAULT = "refused 1", "sideways: refused 1\n"
+# What a refused run tells, and what follows it in words where it was the history that found no memory.
+FAULTS = (FAULT, FAULT + "h.json: there is no memory for it\n")
 
 
 def told_story(table, script, out):
@@ -63,7 +65,7 @@ class Runs(Holder):
         folder = self.fresh(number, files)
         words = ["run", "--table", "t.csv", "--script", "s.txt"] + words
         status, out, fault = told(self.program, words, folder, **more)
-        if (status, fault) not in ((0, ""), (3, ""), (3, FAULT)):
+        if (status, fault) not in ((0, ""), (3, ""), *((3, it) for it in FAULTS)):
             wrong(name, files, words, "status 0, or 3 and the line of refusal 1", (status, fault, out[:200]))
         is_refused = bool(fault) or REFUSED in out.split("\n")
         if (status == 3) != is_refused or not (out or fault):
