@@ -9,6 +9,7 @@ import shutil
 import subprocess
 import sys
 import tempfile
+from itertools import accumulate
 from pathlib import Path
 
 TOP = Path(__file__).resolve().parents[1]
@@ -83,13 +84,26 @@ def changed(folder, body):
     path.write_text(text.replace(old, new))
 
 
+def told_of(lines, places):
+    """What a program tells of each place: a line, or, where the lines of its input stand behind `> `, what stands behind the place's last."""
+    if not any(line.startswith("> ") for line in lines):
+        return lines
+    told = []
+    for line in lines:
+        if line.startswith("> "):
+            told.append([])
+        elif line:
+            told[-1].append(line)
+    ends = accumulate(len(place.split("\n")) for place in places)
+    return ["/".join(told[end - 1]) for end in ends if end <= len(told)]
+
+
 def tried(folder, crate, places):
-    """The lines that a program tells of lines of its input, which some show again behind `> `; or whether the tests of a crate pass."""
+    """What a program tells of lines of its input; or whether the tests of a crate pass."""
     folder = folder / "crates" / crate
     if places != [crate]:
         done = subprocess.run(["rt", "try"], cwd=folder, input="\n".join(places) + "\n", capture_output=True, text=True)
-        told = [line for line in done.stdout.splitlines() if not line.startswith("> ")]
-        return told or [f"status {done.returncode}"]
+        return told_of(done.stdout.splitlines(), places) or [f"status {done.returncode}"]
     done = subprocess.run(["rt", "try", "--test"], cwd=folder, capture_output=True, text=True)
     return ["passed" if done.returncode == 0 else f"failed, status {done.returncode}"]
 
