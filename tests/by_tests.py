@@ -9,6 +9,7 @@ import shutil
 import subprocess
 import sys
 import tempfile
+from itertools import accumulate
 from pathlib import Path
 
 TOP = Path(__file__).resolve().parents[1]
@@ -20,6 +21,7 @@ TRIALS = {
     "counted 12 select b where a >= 10 and a <= 15": (ENGINE, "legal; 1: 7, 3: 5, 2 rows; 2 begun, 4 steps, 4 asked"),
     "told 0 insert 1, 9, 0|count where a < 10": (ENGINE, "legal; key 5; 2"),
     "closed": (ENGINE, "2 boxes, no place, place 0, place 1; 9 made 2 given 1; 2 entries"),
+    "viewed": (ENGINE, "4 1; 5 2; 5 2; 4 1; 4 1; 14 more, then 5 limit 16; 9 made 2 given 1; 2 entries"),
     "viewed-late": (ENGINE, "4 1; 1: 7, 3: 5, 4: 2, 5: 9, 4 rows; 9 made 1 given 0; 2 entries"),
     "table a:int\\n5\\n\nshell count\\n.quit\\ncount\\n": (SHELL, "1"),
     "table a:int\\n5\\n\nshell .history h.json\\n": (SHELL, "[1 history h.json]"),
@@ -40,7 +42,7 @@ BODIES = {
     "always_shares_out": ("An engine is never closed, as if a share were missing", "sw_engine/src/engine.rt",
                           "        let made = desk.sessions();\n", "        let made = tickets.len() as u64 + 1;\n", "closed"),
     "never_published": ("What was changed beside a viewer is never published", "sw_versions/src/shelf.rt",
-                        "copies.len() == many && copies.is_time(while_read)", "copies.len() == many && many == u64::MAX", "viewed-late"),
+                        "copies.len() == many && copies.is_time(while_read)", "copies.len() == many && many == u64::MAX", "viewed"),
     "viewers_always_refused": ("A viewer is refused each query, as if its reader had no place", "sw_engine/src/viewing.rt",
                                "        self.reader.answer(query)\n",
                                "        let _ = query;\n        Err(Refusal::TooMany { limit: 16 })\n", "viewed-late"),
@@ -83,13 +85,26 @@ def changed(folder, body):
     path.write_text(text.replace(old, new))
 
 
+def told_of(lines, places):
+    """What a program tells of each place: a line, or, where the lines of its input stand behind `> `, what stands behind the place's last."""
+    if not any(line.startswith("> ") for line in lines):
+        return lines
+    told = []
+    for line in lines:
+        if line.startswith("> "):
+            told.append([])
+        elif line:
+            told[-1].append(line)
+    ends = accumulate(len(place.split("\n")) for place in places)
+    return ["/".join(told[end - 1]) for end in ends if end <= len(told)]
+
+
 def tried(folder, crate, places):
-    """The lines that a program tells of lines of its input, which some show again behind `> `; or whether the tests of a crate pass."""
+    """What a program tells of lines of its input; or whether the tests of a crate pass."""
     folder = folder / "crates" / crate
     if places != [crate]:
         done = subprocess.run(["rt", "try"], cwd=folder, input="\n".join(places) + "\n", capture_output=True, text=True)
-        told = [line for line in done.stdout.splitlines() if not line.startswith("> ")]
-        return told or [f"status {done.returncode}"]
+        return told_of(done.stdout.splitlines(), places) or [f"status {done.returncode}"]
     done = subprocess.run(["rt", "try", "--test"], cwd=folder, capture_output=True, text=True)
     return ["passed" if done.returncode == 0 else f"failed, status {done.returncode}"]
 

@@ -69,9 +69,10 @@ def functions(crate, edit):
         path = value.strip() if key == "file" else path
         if key == "old":
             above = text_of(f"{TOP}/crates/{crate}/{path}").partition(value)[0] + value
-            named = list(re.finditer(r"^( *)(?:pub(?:\(\w+\))? )?fn (\w+)", above, re.M))[-1]
-            impls = re.findall(r"^impl(?:<.*?>)? (?:.* for )?(\w+)", above[: named.start()], re.M)
-            found["::".join([*path[4:-3].split("/"), *impls[-1:] * bool(named[1]), named[2]])] = None
+            for named in list(re.finditer(r"^( *)(?:pub(?:\(\w+\))? )?fn (\w+)", above, re.M))[-1:]:
+                impls = re.findall(r"^impl(?:<.*?>)? (?:.* for )?(\w+)", above[: named.start()], re.M)
+                module = path[4:-3].split("/") if path != "src/lib.rt" else []
+                found["::".join([*module, *impls[-1:] * bool(named[1]), named[2]])] = None
     return found
 
 
