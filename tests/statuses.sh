@@ -225,12 +225,11 @@ if ${CC:-cc} -O1 -shared -fPIC -o refusing.so "$top/tests/refusing.c" -ldl 2>/de
     refused_in_turn 'help' 0 "$program" --help
     refused_in_turn 'an unknown flag' 2 "$program" run --fast
     refused_in_turn 'replies as JSON' 0 "$program" run --table t.csv --script calls.txt --output json
-    refused_in_turn 'replies as records, under a header' 0 "$program" run --table t.csv --header a,-,c -e 'select a' -e 'sum c' --output csv
-    refused_in_turn 'a reply as a table' 0 "$program" run --table t.csv -e 'delete where b > 5' -e 'select b, a' --output table
+    refused_in_turn 'replies as records' 0 "$program" run --table t.csv -e 'select a' -e 'sum c' --output csv
     refused_in_turn 'an import' 0 "$program" import values.csv
     refused_in_turn 'an import with numbers for texts' 0 "$program" import long.csv --long number --dictionary texts.csv --empty 0
     refused_in_turn 'an import that is refused' 2 "$program" import short.csv
-    refused_in_turn 'a description' 0 "$program" describe values.csv --header a,b:text,-,d:text
+    refused_in_turn 'a description' 0 "$program" describe t.csv
     refused_in_turn 'a description as JSON' 0 "$program" describe t.csv --output json
     refused_in_turn 'the names of a shell' 0 "$program" shell t.csv --names
     given=entered.txt
