@@ -1,6 +1,6 @@
 //! An area, and its single changes.
 
-ghost use Rattle.std.specs.Prelude.{◌≡◌, ◌<◌, ◌≤◌, ◌+◌, ◌^◌, ◌++◌, false, true, List, [], length, map, All, Decides, IfErr, IfOk, IsOk, IsOkUnless, MatchOption, OnErr, remove, slice_index_or, vec_capacity, vec_len};
+ghost use Rattle.std.specs.Prelude.{◌≡◌, ◌<◌, ◌≤◌, ◌+◌, ◌^◌, ◌++◌, false, true, List, [], length, map, All, IfErr, IfOk, IsOk, IsOkUnless, MatchOption, OnErr, remove, slice_index_or, vec_capacity, vec_len};
 ghost use Rattle.sw_table.specs.declared.row.Row.{Row};
 ghost use Rattle.sw_table.specs.declared.row.Update.TheVariants.{Insert};
 ghost use Rattle.sw_rows.specs.declared.refusal.Refusal.TheVariants.{NoMemory};
@@ -19,7 +19,7 @@ ghost use Rattle.sw_set.specs.Merged.{without_inbox};
 ghost use Rattle.sw_set.specs.Needs.{head_in};
 ghost use Rattle.sw_rows.specs.Gives.{MemoryAside};
 ghost use Rattle.sw_set.specs.Outcomes.{AreAppendedOr, CameToWaitOr, HasBegunAnewOr, HasLoggedOr, HasMadeAt, HasMadeRoomOr, HasRestartedOr, IsLongerOr, IsSuppliedOr, rows_standing};
-ghost use Rattle.sw_set.specs.Prepared.{ComesFromMap, IsPreparedFor, IsReady, StandReady, stands_if};
+ghost use Rattle.sw_set.specs.Prepared.{ComesFromMap, IsPreparedFor, IsReady, stands_if};
 ghost use Rattle.sw_set.specs.Boxed.{HasAt, HasGrownAt, IsCleared, IsFree, IsFreshBut, IsOneCleared, IsSameButBoxes, IsShed};
 ghost use Rattle.sw_set.specs.Shelf.{AreaState, IsAreaLawful, IsSameArea, LiesIn, MayComeAfterLoad, MayMerge, MayMergeAll, MayReceiveAll, Rises, arranged_rows, key_of, lies_within, loaded_area, rows_in, rows_left_by, tape_rows, with_box, with_inbox};
 ghost use Rattle.sw_set.specs.Aligning.{AlignsBoxes};
@@ -33,7 +33,7 @@ use crate::live::LiveRows;
 use crate::pick::{find_blank, find_leased, find_map, find_unneeded};
 use crate::position::place_of_row;
 use crate::ready::Ready;
-use crate::resting::stand_ready;
+use crate::resting::find_at_end;
 use std::alloc::Global;
 use std::marker::Model;
 use std::mem;
@@ -440,11 +440,12 @@ impl<M: CrackerMap> Area<M> {
         }
     }
 
-    /// Whether of each of these tails a map stands at the tape's end.
-    pub(crate) fn stand_ready(&self, tails: &[Tail]) -> bool
-        ensures { Decides result (StandReady tails.now self.now.tape self.now.boxes) }
+    /// The box that has the map of a tail at the tape's end, if one has it.
+    pub(crate) fn at_end(&self, tail: Tail) -> Option<usize>
+        ensures { FindsUnless
+            (λ m. ¬ IsReady tail self.now.tape m) (λ m. IsReady tail self.now.tape m) self.now.boxes result }
     {
-        stand_ready(self.boxes.as_slice(), tails, &self.tape)
+        find_at_end(self.boxes.as_slice(), tail, &self.tape)
     }
 
     /// The greatest number of pairs after any entry of the tape.

@@ -1,9 +1,10 @@
 //! An area that is ready for a query as it stands, so that many may be answered from it at a time.
 
-ghost use Rattle.std.specs.Prelude.{◌≡◌, true, map, Any, Decides, IfOk, IfSome};
+ghost use Rattle.std.specs.Prelude.{◌≡◌, true, Decides, IfOk, IfSome};
 ghost use Rattle.sw_rows.specs.Gives.{MemoryAside};
 ghost use Rattle.sw_set.specs.Prepared.{IsPreparedFor, IsReady, StandReady, is_touched};
 ghost use Rattle.sw_set.specs.Resting.{IsAtRest, IsToldWhere};
+ghost use Rattle.sw_set.specs.Sought.{FindsUnless};
 
 use crate::area::Area;
 use crate::finding::is_ready;
@@ -14,24 +15,26 @@ use sw_map::{CrackerMap, Tail};
 use sw_rows::{Query, Refusal};
 use sw_tape::Tape;
 
-/// Whether a box has the map of a tail at the tape's end.
-fn has_ready<M: CrackerMap>(boxes: &[M], tail: Tail, tape: &Tape) -> bool
-    ensures { Decides result (Any (IsReady tail tape.now) (map M.held boxes.now)) }
+/// The box that has the map of a tail at the tape's end, if one has it.
+pub(crate) fn find_at_end<M: CrackerMap>(boxes: &[M], tail: Tail, tape: &Tape) -> Option<usize>
+    ensures { FindsUnless
+        (λ m. ¬ IsReady tail tape.now (M.held m)) (λ m. IsReady tail tape.now (M.held m)) boxes.now result }
 {
     for at in 0..boxes.len() {
         if is_ready(&boxes[at], tail, tape) {
-            return true;
+            return Some(at);
         }
     }
-    false
+    None
 }
 
 /// Whether of each of these tails a map stands at the tape's end.
-pub(crate) fn stand_ready<M: CrackerMap>(boxes: &[M], tails: &[Tail], tape: &Tape) -> bool
-    ensures { Decides result (StandReady tails.now tape.now (map M.held boxes.now)) }
+fn stand_ready<M: CrackerMap>(area: &Area<M>, tails: &[Tail]) -> bool
+    ensures { Decides result (StandReady tails.now area.now.tape area.now.boxes) }
 {
     for at in 0..tails.len() {
-        if !has_ready(boxes, tails[at], tape) {
+        let tail = tails[at];
+        if area.at_end(tail).is_none() {
             return false;
         }
     }
@@ -49,11 +52,11 @@ impl<M: CrackerMap> Area<M> {
     {
         let lower = lower_from(edge(self.from()), lower_of(&query.conds));
         let upper = upper_upto(edge(self.below()), upper_of(&query.conds));
-        if !self.waiting().is_empty() || !all_stand(self, lower, upper) {
+        if self.waiting().len() > 0 || !all_stand(self, lower, upper) {
             return Ok(None);
         }
         let tails = needed_tails(self.alloc(), self.attribute(), query)?;
-        if !self.stand_ready(tails.as_slice()) {
+        if !stand_ready(self, tails.as_slice()) {
             return Ok(None);
         }
         Ok(Some(range_of(self, lower, upper, tails.as_slice())))
