@@ -9,3 +9,4 @@ pub mod Owned
 pub mod Placed
 pub mod Whole
 pub mod Shelves
+pub mod Closing

@@ -76,8 +76,8 @@ get_push (z ∷ xs) (suc k) x y e = get_push xs k x y e
 pub enrol_tied : (s s' x : Books) (rows rows' heads : List (Books × Bool)) → IsTied s rows heads → s' ≡ with_session s → x ≡ s' → rows' ≡ rows ++ (x, false) ∷ [] → IsTied s' rows' heads
 enrol_tied s s' x rows rows' heads t is new are = rw (are, new, is) record {
   shown = λ k r e. ⊎_elim
-      (λ at. t.shown k r at)
-      (λ n. subst (λ (u : Books × Bool). IsShown (k + 1) u.0 (with_session s)) n (refl, refl, refl, begin_self s.entries))
+      (λ at. let o = t.shown k r at in (o.0, o.1, o.2, o.3, (let few = o.4 in omega (arith, few))))
+      (λ n. subst (λ (u : Books × Bool). IsShown (k + 1) u.0 (with_session s)) n (refl, refl, refl, begin_self s.entries, omega arith))
       (get_push rows k (with_session s, false) r e);
   taken = λ j r e. t.taken j r e;
   as_many = length_push rows (with_session s, false) ∙ ap (λ n. n + 1) t.as_many;
@@ -99,7 +99,7 @@ take_grows (suc n) (suc m) [] le = ([], refl)
 take_grows (suc n) (suc m) (x ∷ xs) le =
     let r = take_grows n m xs (omega (arith, le)) in (r.0, ap (λ ys. x ∷ ys) r.1)
 
-drop_grows : {A : Type 0} (m : ℕ) (xs ys : List A) → IsPrefix xs ys → IsPrefix (drop m xs) (drop m ys)
+pub drop_grows : {A : Type 0} (m : ℕ) (xs ys : List A) → IsPrefix xs ys → IsPrefix (drop m xs) (drop m ys)
 drop_grows zero xs ys p = p
 drop_grows (suc m) [] ys p = (drop (suc m) ys, refl)
 drop_grows (suc m) (x ∷ xs) [] p = absurd (cc (p.1))

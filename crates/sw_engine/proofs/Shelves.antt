@@ -1,7 +1,7 @@
 -- What a visit leaves on the shelf of what viewers read.
 use Rattle.std.proofs.Common.{◌≡◌, ◌⊎◌, ⊎_elim, ℕ, zero, suc, ◌+◌, ◌≤◌, List, [], ◌∷◌, ◌++◌, length, take, drop, inl, inr, refl, sym, ◌∙◌, ap, subst, arith, length-append}
-use Rattle.std.specs.Prelude.{Err, IfErr, IfOk, Ok, OnErr, OnOk, Result}
-use Rattle.std.proofs.lemmas.List.{append-nil, drop-take, length-drop, take-append-le}
+use Rattle.std.specs.Prelude.{Bool, Err, IfErr, IfOk, MatchBool, Ok, OnErr, OnOk, Result, false, true}
+use Rattle.std.proofs.lemmas.List.{append-nil, drop-take, length-drop, take-append-drop, take-append-le}
 use Rattle.std.proofs.Math.Seq.{take-length}
 use mathlib.Core.List.{IsPrefix}
 use Rattle.sw_rows.specs.Header.{Column}
@@ -22,8 +22,9 @@ use Rattle.sw_spine.specs.declared.history.State.{State}
 use Rattle.sw_spine.proofs.Histories.{length_settled}
 use Rattle.sw_spine.proofs.StoreLemmas.{length_opened}
 use Rattle.sw_engine.specs.Desk.{IsBegun}
-use Rattle.sw_engine.specs.Published.{EndWithEntries, EndsEntry, IsOfFirst, IsShelfOf, later, no_versions, published_of, with_viewer}
+use Rattle.sw_engine.specs.Published.{EndWithEntries, EndsEntry, IsOfFirst, IsShelfOf, TellsAll, later, no_versions, published_of, with_viewer}
 use Rattle.sw_engine.proofs.Ties.{length_push}
+use Rattle.sw_engine.proofs.Published.{drop_grows}
 use Rattle.sw_engine.proofs.Whole.{first_settled}
 
 -- ---- where batches end
@@ -92,8 +93,21 @@ pushed_end limit opening es xs us ends all k = ⊎_elim
 -- ---- what is on the shelf
 
 -- what is published begins the updates after the opening rows
-shown_begins : (limit : ℕ) (opening : List Row) (b : Books) (s : Shelved) → IsShelfOf limit opening b s → IsPrefix (updates_in s.published) (later opening b)
+pub shown_begins : (limit : ℕ) (opening : List Row) (b : Books) (s : Shelved) → IsShelfOf limit opening b s → IsPrefix (updates_in s.published) (later opening b)
 shown_begins limit opening b s is = prefix_trans (updates_in s.published) (updates_in s.booked) (later opening b) (all_begins s.published s.booked is.published) is.booked
+
+same_rest : {A : Type 0} (xs ys zs : List A) → xs ++ ys ≡ xs ++ zs → ys ≡ zs
+same_rest [] ys zs e = e
+same_rest (x ∷ xs) ys zs e = same_rest xs ys zs (let both : (x ≡ x) × (xs ++ ys ≡ xs ++ zs) = cc e in both.1)
+
+-- whether batches have all updates, by whether they have all those after the opening rows
+pub tells_all : (limit : ℕ) (opening : List Row) (es : List Entry) (batches : List (List Update)) (all : List Update) (has : Bool) → MatchBool has (updates_in batches ≡ all) (updates_in batches ≡ all → ⊥) → opened opening ++ all ≡ updates_after limit (opened opening) es → TellsAll limit opening es batches has
+tells_all limit opening es batches all true same every = ap (λ (l : List Update). opened opening ++ l) same ∙ every
+tells_all limit opening es batches all false other every = λ is. other (same_rest (opened opening) (updates_in batches) all (is ∙ sym every))
+
+-- what the spine has as published begins all updates
+pub published_begins : (opening : List Row) (b : Books) → IsPrefix (published_of opening b) (later opening b)
+published_begins opening b = drop_grows (length opening) (take b.published (updates b)) (updates b) (drop b.published (updates b), take-append-drop b.published (updates b))
 
 -- what the spine has as published is what the shelf has
 pub published_is : (limit : ℕ) (opening : List Row) (b : Books) (s : Shelved) → IsShelfOf limit opening b s → published_of opening b ≡ updates_in s.published

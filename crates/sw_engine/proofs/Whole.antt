@@ -107,6 +107,14 @@ all_end columns opening limit b of = (
   (λ i. length (updates_after (of.limit_is i) (opened (of.rows_are i)) (sym (take-length b.entries) i))),
 )
 
+-- the opening rows, and all updates after them
+pub all_later : (columns : List Column) (opening : List Row) (limit : ℕ) (b : Books) → IsOf columns opening limit b → opened opening ++ later opening b ≡ updates_after limit (opened opening) b.entries
+all_later columns opening limit b of =
+    let all : updates b ≡ updates_after limit (opened opening) b.entries = (λ i. updates_after (of.limit_is i) (opened (of.rows_are i)) b.entries) in
+    let begins : IsPrefix (opened opening) (updates_after limit (opened opening) b.entries) = prefix_then limit (opened opening) b.entries in
+    let rest : later opening b ≡ begins.0 = ap (drop (length opening)) (all ∙ sym begins.1) ∙ (ap (λ n. drop n (opened opening ++ begins.0)) (sym (length_opened opening)) ∙ drop-append_seam (opened opening) begins.0) in
+    ap (λ (l : List Update). opened opening ++ l) rest ∙ begins.1
+
 -- all updates after the opening rows are those of all entries
 pub all_first : (columns : List Column) (opening : List Row) (limit : ℕ) (b : Books) → IsOf columns opening limit b → IsOfFirst limit opening b.entries (later opening b)
 all_first columns opening limit b of =

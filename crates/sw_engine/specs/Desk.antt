@@ -1,5 +1,5 @@
 -- What ties the books of the sessions and of the heads to the spine.
-use Rattle.std.specs.Prelude.{ℕ, ◌≡◌, ◌≢◌, ◌<◌, ◌≤◌, ◌+◌, ◌⊎◌, ◌++◌, List, [], ◌∷◌, length, map, set, Bool, true, false, Option, Some, None, is_some, slice_get, IfSome}
+use Rattle.std.specs.Prelude.{ℕ, ◌≡◌, ◌≢◌, ◌<◌, ◌≤◌, ◌+◌, ◌⊎◌, ◌++◌, List, [], ◌∷◌, length, map, set, Bool, true, false, Option, Some, None, is_some, slice_get, All, IfSome}
 use Rattle.sw_rows.specs.Header.{Column}
 use Rattle.sw_table.specs.declared.row.Row.{Row}
 use Rattle.sw_table.specs.declared.row.Update.{Update}
@@ -38,11 +38,12 @@ desk books sessions heads = record { books = books; given = map (λ r. r.1) sess
 abbrev pub new_desk : List Column → List Row → ℕ → DeskState
 new_desk columns rows limit = record { books = new_books columns rows limit; given = []; heads = 0 }
 
--- the same calls were answered to a session, it waits for the same, its own entries are the same, and all entries stay
+-- the same calls were answered to a session, it waits for the same, its own entries are the same, all entries stay, and
+-- no fewer sessions were made
 abbrev pub IsShown : ℕ → Books → Books → Type 0
 IsShown session a b =
     (mine session a.entries ≡ mine session b.entries) × (waits_for session a ≡ waits_for session b)
-    × (own session a.entries ≡ own session b.entries) × Begin a.entries b.entries
+    × (own session a.entries ≡ own session b.entries) × Begin a.entries b.entries × (a.sessions ≤ b.sessions)
 
 -- each row of the sessions' book shows what the spine keeps of its session; the sessions' numbers begin at 1
 abbrev pub AreShown : Books → List (Books × Bool) → Type 0
@@ -65,9 +66,10 @@ pub record IsOf (columns : List Column) (rows : List Row) (limit : ℕ) (s : Boo
   pub limit_is : s.limit ≡ limit
 
 -- the books have these names, one row was opened for each session, and both are tied to the spine, which began from
--- this table; no session's row is ahead of what is published, and that ends with an entry
-pub record IsDesk (sessions_name heads_name : ℕ) (columns : List Column) (rows : List Row) (limit : ℕ)
-    (s : Books) (many : ℕ) (sessions heads : Book Books) : Type 0 where
+-- this table; no session's row is ahead of what is published, and that ends with an entry; and there are no more
+-- sessions than there may be
+pub record IsDesk (sessions_name heads_name : ℕ) (columns : List Column) (rows : List Row) (limit may : ℕ)
+    (s : Books) (many most : ℕ) (sessions heads : Book Books) : Type 0 where
   pub sessions_named : sessions.name ≡ sessions_name
   pub heads_named : heads.name ≡ heads_name
   pub many_are : many ≡ length sessions.rows
@@ -75,6 +77,9 @@ pub record IsDesk (sessions_name heads_name : ℕ) (columns : List Column) (rows
   pub tied : IsTied s sessions.rows heads.rows
   pub behind : AreBehind limit rows s sessions.rows
   pub ends : EndsEntry limit rows s.entries s.published
+  pub most_is : most ≡ may
+  pub few : may ≤ MOST_SESSIONS
+  pub within : s.sessions ≤ may
 
 -- the share of a session
 abbrev pub IsShareOf : ℕ → ℕ → Share Books → Type 0
@@ -169,11 +174,17 @@ abbrev pub TellsFull : List Entry → Refusal → Type 0
 TellsFull es (refusal.HistoryFull entries) = length es ≡ MOST_ENTRIES
 TellsFull es other = Unit {0}
 
--- why no session is opened
-abbrev pub TooManySessions : Refusal → Type 0
-TooManySessions refusal.NoMemory = Unit {0}
-TooManySessions (refusal.TooMany limit) = limit ≡ MOST_SESSIONS
-TooManySessions other = ⊥
+-- why no session is opened: as many were as there may be, or no memory with fewer
+abbrev pub RefusesNext : ℕ → Books → Refusal → Type 0
+RefusesNext most b refusal.NoMemory = b.sessions < most
+RefusesNext most b (refusal.TooMany limit) = (limit ≡ most) × (b.sessions ≡ most)
+RefusesNext most b other = ⊥
+
+-- the same, for who does not see how many were
+abbrev pub TooManySessions : ℕ → Refusal → Type 0
+TooManySessions most refusal.NoMemory = Unit {0}
+TooManySessions most (refusal.TooMany limit) = limit ≡ most
+TooManySessions most other = ⊥
 
 -- these tickets came back one after the other, each for the first time; the sessions' numbers begin at 1
 abbrev pub AreGiven : List Shown → List Bool → List Bool → Type 0
@@ -196,20 +207,32 @@ abbrev pub AreCounted : ℕ → List ℕ → Type 0
 AreCounted n [] = Unit {0}
 AreCounted n (k ∷ ks) = (k ≡ n) × AreCounted (n + 1) ks
 
--- why an engine is not closed: as many tickets as came back, and another number of sessions
-abbrev pub RefusesClose : {X : Type 0} → List X → List X → Refusal → Type 0
-RefusesClose given back e =
-    (back ≡ given) × (made : ℕ) × (e ≡ refusal.SharesOut made (length given)) × (made ≢ length given)
+-- so many sessions were made: that of a ticket, and no fewer than it showed
+abbrev pub IsMade : ℕ → Shown → Type 0
+IsMade made t = (t.0 ≤ made) × (t.2.sessions ≤ made)
+
+-- as many tickets as sessions may be made, that of the last one among them
+abbrev pub AreAll : ℕ → List Shown → Type 0
+AreAll most ts = (length ts ≡ most) × (0 < most → IsNamed most ts)
+
+-- so many sessions were made, and another number of tickets came back
+abbrev pub AreOut : ℕ → ℕ → Refusal → Type 0
+AreOut made given e = (e ≡ refusal.SharesOut made given) × (made ≢ given)
+
+-- why an engine is not closed; then the tickets come back, and are of sessions that were made, which are no more than may be
+abbrev pub RefusesClose : ℕ → List Shown → List Shown → Refusal → Type 0
+RefusesClose most given back e =
+    (back ≡ given) × (made : ℕ) × AreOut made (length given) e × (made ≤ most) × All (IsMade made) given
 
 -- why tickets are refused to so many sessions
-abbrev pub RefusesMany : ℕ → Refusal → Type 0
-RefusesMany sessions refusal.NoMemory = Unit {0}
-RefusesMany sessions (refusal.TooMany most) = (MOST_SESSIONS < sessions) × (most ≡ MOST_SESSIONS)
-RefusesMany sessions other = ⊥
+abbrev pub RefusesMany : ℕ → ℕ → Refusal → Type 0
+RefusesMany most sessions refusal.NoMemory = Unit {0}
+RefusesMany most sessions (refusal.TooMany limit) = (most < sessions) × (limit ≡ most)
+RefusesMany most sessions other = ⊥
 
 -- why no engine is opened with the tickets of so many sessions
-abbrev pub RefusesOpening : ℕ → List Row → ℕ → Refusal → Type 0
-RefusesOpening limit rows sessions refusal.NoMemory = length rows ≤ limit
-RefusesOpening limit rows sessions (refusal.TooMany most) =
-    ((limit < length rows) × (most ≡ limit)) ⊎ ((MOST_SESSIONS < sessions) × (most ≡ MOST_SESSIONS))
-RefusesOpening limit rows sessions other = ⊥
+abbrev pub RefusesOpening : ℕ → List Row → ℕ → ℕ → Refusal → Type 0
+RefusesOpening limit rows most sessions refusal.NoMemory = length rows ≤ limit
+RefusesOpening limit rows most sessions (refusal.TooMany n) =
+    ((limit < length rows) × (n ≡ limit)) ⊎ ((most < sessions) × (n ≡ most))
+RefusesOpening limit rows most sessions other = ⊥

@@ -1,5 +1,5 @@
 -- What the shelf under the lock has of the history's updates, and what the sessions' shares show of it.
-use Rattle.std.specs.Prelude.{ℕ, ◌≡◌, ◌≤◌, ◌+◌, ◌++◌, List, [], Bool, true, None, Some, MatchResult, Result, drop, length, slice_get, take}
+use Rattle.std.specs.Prelude.{ℕ, ◌≡◌, ◌≤◌, ◌+◌, ◌++◌, List, [], Bool, true, None, Some, MatchBool, MatchResult, Result, drop, length, slice_get, take}
 use mathlib.Core.List.{IsPrefix}
 use Rattle.sw_table.specs.declared.row.Row.{Row}
 use Rattle.sw_table.specs.declared.row.Update.{Update}
@@ -14,7 +14,7 @@ use Rattle.sw_spine.specs.Books.{Books, updates, waits_for, with_answered, with_
 use Rattle.sw_spine.specs.Table.{opened, reply_to}
 use Rattle.sw_spine.specs.declared.history.Entry.{Entry}
 use Rattle.sw_tie.specs.declared.Share.{Share}
-use Rattle.sw_versions.specs.Known.{Known, Shelved}
+use Rattle.sw_versions.specs.Known.{Known, Shelved, opened_over}
 use Rattle.sw_versions.specs.Rules.{updates_in}
 use Rattle.sw_versions.specs.declared.viewer.TheConstants.{MOST_VIEWERS}
 use Rattle.sw_engine.specs.Later.{Begin}
@@ -50,6 +50,15 @@ IsOfFirst limit opening es list =
 abbrev pub EndWithEntries : ℕ → List Row → List Entry → List (List Update) → Type 0
 EndWithEntries limit opening es batches = (k : ℕ) → IsOfFirst limit opening es (updates_in (take k batches))
 
+-- batches that have all updates of the entries, after the opening rows
+abbrev pub HaveAll : ℕ → List Row → List Entry → List (List Update) → Type 0
+HaveAll limit opening es batches = opened opening ++ updates_in batches ≡ updates_after limit (opened opening) es
+
+-- whether they have
+abbrev pub TellsAll : ℕ → List Row → List Entry → List (List Update) → Bool → Type 0
+TellsAll limit opening es batches all =
+    MatchBool all (HaveAll limit opening es batches) (HaveAll limit opening es batches → ⊥)
+
 -- what is published of books is all updates of the first so many entries
 abbrev pub IsWhole : ℕ → List Row → Books → Type 0
 IsWhole limit opening b = IsOfFirst limit opening b.entries (published_of opening b)
@@ -80,7 +89,7 @@ with_committed opening session c s b =
 
 -- a new viewer has seen, and was told, what is published
 abbrev pub new_viewer : Shelved → Known
-new_viewer s = record { seen = s.published; told = s.published }
+new_viewer s = opened_over s.published
 
 -- what the plain table answers a query after the opening rows and a list of updates
 abbrev pub answer_after : ℕ → List Row → List Update → Query → Reply

@@ -4,13 +4,14 @@ ghost use Rattle.std.specs.Prelude.{◌≡◌, ℕ, List, [], ◌∷◌, ◌++�
 ghost use Rattle.sw_rows.specs.declared.query.Call.TheVariants.{Select};
 ghost use Rattle.sw_rows.specs.declared.table.TheConstants.{MOST_ROWS};
 ghost use Rattle.sw_spine.specs.Table.{is_numbered, opened, reply_to, updates_then};
-ghost use Rattle.sw_spine.specs.History.{CallsBelow, is_select, mine};
-ghost use Rattle.sw_spine.specs.Books.{RefusesRows, RefusesSession, new_books, updates, waits_for, with_answered, with_published, with_session, with_settled};
+ghost use Rattle.sw_spine.specs.History.{CallsBelow, is_select, mine, updates_after};
+ghost use Rattle.sw_spine.specs.Books.{RefusesRows, new_books, updates, waits_for, with_answered, with_published, with_session, with_settled};
 ghost use Rattle.sw_spine.specs.declared.history.State.TheVariants.{Answered, Open, Void};
+ghost use Rattle.sw_spine.specs.declared.spine.TheConstants.{MOST_SESSIONS};
 ghost use mathlib.Core.List.{IsPrefix};
 ghost use Rattle.sw_engine.specs.Published.{EndsEntry, Grows, IsHeld, IsNewShare, IsOfFirst, IsWhole, later, session_shown};
 ghost use Rattle.sw_engine.specs.Own.{Adds, IsEnded, IsLastOwn, Settles, Stays};
-ghost use Rattle.sw_engine.specs.Desk.{AreGiven, IsAnswered, IsAtRest, IsBegun, IsOf, IsShareOf, IsTold, RefusesCall, TellsFull, latched, new_desk};
+ghost use Rattle.sw_engine.specs.Desk.{AreGiven, IsAnswered, IsAtRest, IsBegun, IsMade, IsOf, IsShareOf, IsTold, RefusesCall, RefusesNext, TellsFull, latched, new_desk};
 
 use crate::counting::Counters;
 use crate::latch::LatchedHead;
@@ -20,26 +21,40 @@ use std::snapshot::Snapshot;
 use sw_chunks::Waiting;
 use sw_map::CrackerMap;
 use sw_rows::{Call, PackedRows, Query, Refusal, Reply, Schema, Update};
-use sw_spine::{Entry, Spine};
+use sw_spine::{Entry, MOST_SESSIONS, Spine};
 use sw_tie::{Book, Share};
 use sw_versions::{Front, Naming, Opened};
 
-/// Books that no engine has yet.
+/// Books that no engine has yet, and how many sessions it may have.
 #[derive(Drop)]
 pub struct Blank {
     pub(crate) sessions: Book<Spine>,
     pub(crate) heads: Book<Spine>,
     pub(crate) list: Opened,
+    pub(crate) most: u64,
     pub ghost no_session: { sessions.rows ≡ [] },
     pub ghost no_head: { heads.rows ≡ [] },
+    pub ghost few: { most ≤ MOST_SESSIONS },
 }
 
 impl Blank {
-    pub fn new() -> Blank {
+    /// Books of an engine that may have 1,024 sessions.
+    pub fn new() -> Blank
+        ensures { result.most ≡ MOST_SESSIONS }
+    {
+        Blank::for_sessions(MOST_SESSIONS)
+    }
+
+    /// Books of an engine that may have so many sessions. Who has the tickets of all of them can close it, whatever others do.
+    pub fn for_sessions(most: usize) -> Blank
+        requires { most ≤ MOST_SESSIONS }
+        ensures { result.most ≡ most }
+    {
         Blank {
             sessions: Book::new(),
             heads: Book::new(),
             list: Opened::new(),
+            most: most as u64,
         }
     }
 }
@@ -94,6 +109,7 @@ fn last_of(entries: &[Entry], session: u64) -> Option<u64>
 pub struct Desk<J: Naming> {
     spine: Spine,
     many: u64,
+    most: u64,
     sessions: Book<Spine>,
     heads: Book<Spine>,
     of: PhantomData<J>,
@@ -106,21 +122,23 @@ impl<J: Naming> Model for Desk<J> {
 
     ghost view = { λ d. desk d.spine d.sessions.rows d.heads.rows };
 
-    ghost invariant = { λ d. IsDesk J.sessions J.heads J.columns J.opening J.limit d.spine d.many d.sessions d.heads };
+    ghost invariant = { λ d. IsDesk J.sessions J.heads J.columns J.opening J.limit J.most d.spine d.many d.most d.sessions d.heads };
 }
 
 impl<J: Naming> Desk<J> {
-    /// A desk over opening rows, with no session and no head.
+    /// A desk over opening rows, with no session and no head, for at most so many sessions.
     pub fn open(
         alloc: Global,
         sessions: Book<Spine>,
         heads: Book<Spine>,
+        most: u64,
         schema: Schema,
         rows: PackedRows,
         limit: u64,
     ) -> Result<Desk<J>, Refusal>
         requires books { (sessions.name ≡ J.sessions) × (heads.name ≡ J.heads) }
         requires none { (sessions.rows ≡ []) × (heads.rows ≡ []) }
+        requires may { (most ≡ J.most) × (most ≤ MOST_SESSIONS) }
         requires table { (schema ≡ J.columns) × (rows.items ≡ J.opening) × (limit ≡ J.limit) }
         requires some { 0 < limit }
         requires most { limit ≤ MOST_ROWS }
@@ -133,6 +151,7 @@ impl<J: Naming> Desk<J> {
         Ok(Desk {
             spine,
             many: 0,
+            most,
             sessions,
             heads,
             of: PhantomData,
@@ -168,20 +187,25 @@ impl<J: Naming> Desk<J> {
 
     /// The next session's number and share.
     ///
-    /// Refused `TooMany` of limit 1,024 where that many were opened, `NoMemory` otherwise; a refused one opened none.
+    /// Refused `TooMany` where as many were opened as there may be, `NoMemory` otherwise; a refused one opened none.
+    #[tactic(auto, using(crate::proofs::Closing::next_refused))]
     pub fn enrol(&mut self) -> Result<(u64, Share<Spine>), Refusal>
         ensures share { IfOk result (λ t. IsNewShare J.sessions self.new.books t.0 t.1) }
         ensures whole { IfOk result (λ t. IsWhole J.limit J.opening t.1.value) }
         ensures made { OnOk result (self.new.books ≡ with_session self.old.books) }
         ensures given { OnOk result (self.new.given ≡ self.old.given ++ false ∷ []) }
-        ensures refused { IfErr result (λ e. (self.new ≡ self.old) × RefusesSession self.old.books e) }
+        ensures refused { IfErr result (λ e. (self.new ≡ self.old) × RefusesNext J.most self.old.books e) }
     {
         let Desk {
             spine,
             many,
+            most,
             sessions,
             ..
         } = self;
+        if *many >= *most {
+            return Err(Refusal::TooMany { limit: *most });
+        }
         // for the prover: no entry is of a session that was not opened
         let _entries = spine.entries();
         let number = spine.open_session()?;
@@ -190,9 +214,10 @@ impl<J: Naming> Desk<J> {
         Ok((number, share))
     }
 
-    /// How many sessions were opened.
+    /// How many sessions were opened: no more than there may be.
     pub fn sessions(&self) -> u64
-        ensures { result ≡ length self.now.given }
+        ensures many { result ≡ length self.now.given }
+        ensures few { result ≤ J.most }
     {
         self.many
     }
@@ -389,15 +414,38 @@ impl<J: Naming> Desk<J> {
     }
 
     /// The updates after the opening rows, which are those of all entries of the history.
+    #[tactic(auto, using(crate::proofs::Whole::all_later))]
     pub fn later(&self) -> &[Update]
         ensures later { result.now ≡ later J.opening self.now.books }
         ensures opening { length J.opening ≤ length (updates self.now.books) }
         ensures entries { IsOfFirst J.limit J.opening self.now.books.entries (later J.opening self.now.books) }
+        ensures all { opened J.opening ++ result.now ≡ updates_after J.limit (opened J.opening) self.now.books.entries }
     {
         // for the prover: the opening rows are among the updates
         let _count = self.spine.published();
         let opening = self.spine.opening_rows().len() as u64;
         self.spine.updates_from(opening)
+    }
+
+    /// A ticket is held against the books, and nothing changes: it is of one of the sessions that were opened, and its session
+    /// saw no more than these.
+    fn hold(&mut self, ticket: &mut Ticket<J>)
+        ensures desk { self.new ≡ self.old }
+        ensures ticket { ticket.new ≡ ticket.old }
+        ensures made { IsMade (length self.old.given) ticket.old }
+    {
+        self.sessions.agree(&mut ticket.share);
+    }
+
+    /// All these tickets are.
+    pub fn hold_all(&mut self, tickets: &mut [Ticket<J>])
+        ensures desk { self.new ≡ self.old }
+        ensures tickets { tickets.new ≡ tickets.old }
+        ensures made { All (IsMade (length self.old.given)) tickets.old }
+    {
+        for place in 0..tickets.len() {
+            self.hold(&mut tickets[place]);
+        }
     }
 
     /// A session's ticket comes back. The history has just its answered calls and its own entries, and it waits for nothing.

@@ -1,6 +1,6 @@
 //! Heads under their latches, the history under its lock, and the sessions.
 
-ghost use Rattle.std.specs.Prelude.{◌≡◌, ◌<◌, ◌≤◌, ◌+◌, ◌++◌, ◌∷◌, [], ℕ, true, drop, length, map, take, vec_len, All, IfErr, IfOk, IsOkUnless, MatchResult, OnErr, OnOk, false};
+ghost use Rattle.std.specs.Prelude.{◌≡◌, ◌<◌, ◌≤◌, ◌+◌, ◌++◌, ◌∷◌, [], ℕ, true, drop, length, map, take, vec_len, All, IfErr, IfOk, IsOk, IsOkUnless, MatchResult, OnErr, OnOk, false};
 ghost use Rattle.sw_rows.specs.declared.query.Call.TheVariants.{Select, Insert, Delete, DeleteWhere};
 ghost use Rattle.sw_rows.specs.declared.refusal.Refusal.TheVariants.{NoMemory};
 ghost use Rattle.sw_rows.specs.declared.table.TheConstants.{MOST_ROWS};
@@ -9,13 +9,13 @@ ghost use Rattle.sw_map.specs.Held.{blank};
 ghost use Rattle.sw_spine.specs.Table.{is_numbered};
 ghost use Rattle.sw_spine.specs.History.{CallsBelow, is_select, mine};
 ghost use Rattle.sw_spine.specs.Books.{RefusesRows};
-ghost use Rattle.sw_engine.specs.Desk.{InOrder, IsAtRest, IsTold, KeepsBoxes, RefusesCall, RefusesClose, RefusesOpening, TellsFull, TooManySessions, new_desk};
+ghost use Rattle.sw_engine.specs.Desk.{AreAll, InOrder, IsAtRest, IsMade, IsTold, KeepsBoxes, RefusesCall, RefusesClose, RefusesOpening, TellsFull, TooManySessions, new_desk};
 ghost use mathlib.Core.List.{IsPrefix};
 ghost use Rattle.sw_versions.specs.Lists.{IsLonger};
 ghost use Rattle.sw_versions.specs.Pending.{IsPlain};
 ghost use Rattle.sw_versions.specs.Refused.{IsAhead};
 ghost use Rattle.sw_versions.specs.Rules.{updates_in};
-ghost use Rattle.sw_engine.specs.Published.{CallGives, EndWithEntries, GivesReceipt, Grows, IsOfFirst, IsWhole, RefusesViewing, answered_to, published_of};
+ghost use Rattle.sw_engine.specs.Published.{CallGives, EndWithEntries, GivesReceipt, Grows, HaveAll, IsOfFirst, IsWhole, RefusesViewing, TellsAll, answered_to, published_of};
 ghost use Rattle.sw_engine.specs.Headline.{IsHistoryOfOneThread};
 ghost use Rattle.sw_engine.specs.Later.{Begin};
 ghost use Rattle.sw_engine.specs.Own.{Commits, IsEnded, IsLastOwn, IsNew, LeavesCall, LeavesCommit, LeavesSelect, Selects, Stays, own_of};
@@ -27,6 +27,7 @@ use crate::latch::{LatchedHead, head_of};
 use crate::locked::LockedDesk;
 use crate::opening::Opening;
 use crate::viewing::{Receipt, Viewer};
+use crossbeam_utils::Backoff;
 use left_right::Absorb;
 use std::alloc::{AllocError, Global};
 use std::hint::spin_loop;
@@ -128,7 +129,7 @@ where
         cuts: Cuts,
         limit: u64,
     ) -> Result<Engine<J, M>, Refusal>
-        requires books { (books.sessions.name ≡ J.sessions) × (books.heads.name ≡ J.heads) }
+        requires books { (books.sessions.name ≡ J.sessions) × (books.heads.name ≡ J.heads) × (books.most ≡ J.most) }
         requires list { books.list.seen.book ≡ J.book }
         requires plain { IsPlain ⟦<Live<J> as Absorb<Op<J>>>⟧.state ⟦<Live<J> as Absorb<Op<J>>>⟧.applied }
         requires table { (schema ≡ J.columns) × (rows.items ≡ J.opening) × (limit ≡ J.limit) }
@@ -145,7 +146,7 @@ where
 
     /// The same, with the tickets of its first sessions, whose numbers are 1, 2, 3 and so on.
     ///
-    /// Refused also `TooMany` of limit 1,024 where more sessions are asked for.
+    /// Refused also `TooMany` where more sessions are asked for than the books are for.
     pub fn open_for(
         alloc: Global,
         books: Blank,
@@ -155,7 +156,7 @@ where
         limit: u64,
         sessions: usize,
     ) -> Result<(Engine<J, M>, Vec<Ticket<J>>), Refusal>
-        requires books { (books.sessions.name ≡ J.sessions) × (books.heads.name ≡ J.heads) }
+        requires books { (books.sessions.name ≡ J.sessions) × (books.heads.name ≡ J.heads) × (books.most ≡ J.most) }
         requires list { books.list.seen.book ≡ J.book }
         requires plain { IsPlain ⟦<Live<J> as Absorb<Op<J>>>⟧.state ⟦<Live<J> as Absorb<Op<J>>>⟧.applied }
         requires table { (schema ≡ J.columns) × (rows.items ≡ J.opening) × (limit ≡ J.limit) }
@@ -165,7 +166,7 @@ where
         requires lists { length cuts ≡ length schema }
         requires cuts { (a : ℕ) → a < length schema → AreCuts (cuts_on cuts a) }
         ensures opened { IfOk result (λ e. (length e.1.items ≡ sessions) × InOrder 1 e.1.items) }
-        ensures refused { IfErr result (λ e. RefusesOpening limit rows.items sessions e) }
+        ensures refused { IfErr result (RefusesOpening limit rows.items J.most sessions) }
     {
         if rows.len() as u64 > limit {
             return Err(Refusal::TooMany { limit });
@@ -176,9 +177,10 @@ where
             sessions: given,
             heads,
             list,
+            most,
             ..
         } = books;
-        let mut desk = Desk::open(alloc, given, heads, schema, rows, limit)?;
+        let mut desk = Desk::open(alloc, given, heads, most, schema, rows, limit)?;
         let Ok(latches) = all_latches(alloc, &mut desk, columns) else {
             return Err(Refusal::NoMemory);
         };
@@ -211,11 +213,11 @@ where
     }
 
     /// The next session, which has no entries, with the receipt of what is published. Its number is new: it is that of all
-    /// sessions that were made by then.
+    /// sessions that were made by then. Refused `TooMany` where as many were as the books are for, `NoMemory` otherwise.
     #[tactic(auto, using(crate::proofs::Published::prefix_same))]
     pub fn session<R: Wait>(&self, rt: &R) -> Result<Session<'_, J, M>, Refusal>
         ensures new { IfOk result IsNew }
-        ensures refused { IfErr result (λ e. TooManySessions e) }
+        ensures refused { IfErr result (TooManySessions J.most) }
     {
         let (number, share, receipt) = self.visit(rt).enrol()?;
         Ok(Session {
@@ -248,8 +250,9 @@ where
     /// session saw, those of others as they were, or settled since.
     ///
     /// Refused `SharesOut` with both numbers otherwise; then the engine and the tickets come back, and it has waited
-    /// for nobody. It takes no memory. Where it is not refused it ends the writer of the copies; no viewer is left
-    /// then, by their types.
+    /// for nobody. Where all tickets come back that there may be, it is not refused. It takes no memory. Where it is not
+    /// refused it ends the writer of the copies; no viewer is left then, by their types.
+    #[tactic(auto, using(crate::proofs::Closing::all_made))]
     pub fn close<R: Wait>(
         self,
         rt: &R,
@@ -258,7 +261,9 @@ where
         ensures headline { IfOk result
             (IsHistoryOfOneThread J.columns J.opening J.limit (map answered_to tickets.items)) }
         ensures ended { IfOk result (λ r. All (IsEnded r.entries) tickets.items) }
-        ensures refused { IfErr result (λ e. RefusesClose tickets.items e.1.items e.2) }
+        ensures made { IfOk result (λ _. All (IsMade (length tickets.items)) tickets.items) }
+        ensures all { AreAll J.most tickets.items → IsOk result }
+        ensures refused { IfErr result (λ e. RefusesClose J.most tickets.items e.1.items e.2) }
     {
         let Engine {
             alloc,
@@ -266,20 +271,19 @@ where
             latches,
             desk,
         } = self;
-        let desk = desk.into_inner();
-        let made = desk.sessions();
-        let given = tickets.len() as u64;
-        if made != given {
+        let mut desk = desk.into_inner();
+        let mut back = tickets;
+        if let Err(refusal) = desk.all_back(&mut back[..]) {
             let engine = Engine {
                 alloc,
                 opening,
                 latches,
                 desk: Mutex::new(desk),
             };
-            return Err((engine, tickets, Refusal::SharesOut { made, given }));
+            return Err((engine, back, refusal));
         }
         let mut desk = desk.end(rt);
-        desk.give_all(tickets);
+        desk.give_all(back);
         Ok(desk.into_spine().into_record())
     }
 
@@ -444,6 +448,42 @@ where
         Ok(reply)
     }
 
+    /// Publishes all updates of the history that are not published yet, in visits between which it waits for viewers that read
+    /// the copy that is to be written. Refused `NoMemory` alone.
+    #[tactic(auto, using(crate::proofs::Published::grows_self, crate::proofs::Published::grows_trans))]
+    fn publish<R: Wait>(
+        &self,
+        rt: &R,
+        number: u64,
+        share: &mut Share<Spine>,
+    ) -> Result<Receipt<J>, Refusal>
+        requires rest { IsAtRest J.sessions number share.old }
+        requires whole { IsWhole J.limit J.opening share.old.value }
+        ensures rest { IsAtRest J.sessions number share.new }
+        ensures mine { mine number share.new.value.entries ≡ mine number share.old.value.entries }
+        ensures own { Stays number share.old.value share.new.value }
+        ensures grows { Grows J.opening share.old.value share.new.value }
+        ensures whole { IsWhole J.limit J.opening share.new.value }
+        ensures receipt { IfOk result (λ r. updates_in r ≡ published_of J.opening share.new.value) }
+        ensures all { IfOk result (HaveAll J.limit J.opening share.new.value.entries) }
+        ensures refused { IsOkUnless result NoMemory }
+    {
+        let backoff = Backoff::new();
+        for _ in rt.forever() {
+            let came = self.visit(rt).publish(rt, number, share);
+            if came.whole {
+                return Ok(came.receipt);
+            }
+            if !came.put_off {
+                return Err(Refusal::NoMemory);
+            }
+            backoff.snooze();
+        }
+        unreachable!()
+    }
+
+    /// Publishes as `publish` does, memory aside, and then the viewer is met.
+    #[tactic(auto, using(crate::proofs::Published::grows_trans))]
     fn meet<R: Wait>(
         &self,
         rt: &R,
@@ -452,6 +492,7 @@ where
         reader: &mut sw_versions::Viewer<J>,
     ) -> Result<Receipt<J>, Refusal>
         requires rest { IsAtRest J.sessions number share.old }
+        requires whole { IsWhole J.limit J.opening share.old.value }
         ensures rest { IsAtRest J.sessions number share.new }
         ensures mine { mine number share.new.value.entries ≡ mine number share.old.value.entries }
         ensures own { Stays number share.old.value share.new.value }
@@ -465,6 +506,7 @@ where
         ensures refused { IfErr result
             (IsAhead J.opening (updates_in reader.old.seen) (published_of J.opening share.new.value)) }
     {
+        let _published = self.publish(rt, number, share);
         self.visit(rt).meet(rt, number, share, reader)
     }
 
@@ -658,6 +700,53 @@ where
         self.receipt.again()
     }
 
+    /// Publishes all updates of the history that are not published yet, and the session has the receipt of all of them. For that
+    /// it waits for viewers that read, and does not hold the history meanwhile.
+    ///
+    /// Refused `NoMemory` alone; then the session's receipt is as it was, and a later call publishes them.
+    pub fn publish<R: Wait>(&mut self, rt: &R) -> Result<Receipt<J>, Refusal>
+        ensures number { self.new.0 ≡ self.old.0 }
+        ensures mine { self.new.1 ≡ self.old.1 }
+        ensures own { own_of self.new ≡ own_of self.old }
+        ensures grows { Begin self.old.2.entries self.new.2.entries }
+        ensures receipt { GivesReceipt result self.old.2 self.new.2 }
+        ensures told { IfOk result (λ r. r ≡ self.new.2.given) }
+        ensures all { IfOk result (HaveAll J.limit J.opening self.new.2.entries) }
+        ensures refused { IsOkUnless result NoMemory }
+    {
+        let Session {
+            engine,
+            number,
+            share,
+            receipt,
+        } = self;
+        let published = engine.publish(rt, *number, share)?;
+        // for the prover: as in a commit
+        let _begins = receipt.begins(&published);
+        *receipt = published.again();
+        Ok(published)
+    }
+
+    /// Whether the session's receipt has all updates of the history, as it is now: what a commit could not publish, since a
+    /// viewer read or there was no memory, it lacks.
+    #[tactic(auto, using(sw_versions::proofs::Prefixes::prefix_trans))]
+    pub fn is_whole<R: Wait>(&mut self, rt: &R) -> bool
+        ensures number { self.new.0 ≡ self.old.0 }
+        ensures mine { self.new.1 ≡ self.old.1 }
+        ensures own { own_of self.new ≡ own_of self.old }
+        ensures grows { Begin self.old.2.entries self.new.2.entries }
+        ensures receipt { self.new.2.given ≡ self.old.2.given }
+        ensures all { TellsAll J.limit J.opening self.new.2.entries self.new.2.given result }
+    {
+        let Session {
+            engine,
+            number,
+            share,
+            receipt,
+        } = self;
+        engine.visit(rt).has_all(*number, share, receipt)
+    }
+
     /// The place of the session's last entry in the history, the first place being 0, or none where it has no entry. So it is
     /// its place in the record that `close` answers, and of two sessions' calls that with the lower one came first.
     pub fn place<R: Wait>(&mut self, rt: &R) -> Option<u64>
@@ -674,8 +763,8 @@ where
     }
 
     /// A viewer learns what is published, and the session has the receipt of it. What an earlier call could not publish, since
-    /// viewers read or there was no memory, is published before; for that it waits for viewers that read, and does without where
-    /// there is no memory.
+    /// viewers read or there was no memory, is published before; for that it waits for viewers that read, without holding the
+    /// history meanwhile, and does without where there is no memory.
     ///
     /// Where it is answered, the viewer saw at its last answer of each entry of the history all updates, or none; and so at each
     /// answer before, since what was seen then begins what it saw last.

@@ -1,12 +1,12 @@
 //! What lies under the lock: the desk, and the shelf of what viewers read.
 
-ghost use Rattle.std.specs.Prelude.{◌≡◌, ◌⊎◌, ◌<◌, ◌≤◌, ◌+◌, [], false, None, Some, length, IfErr, IfOk, IsSome, IsSomeAnd, OnErr, OnOk, true};
+ghost use Rattle.std.specs.Prelude.{◌≡◌, ◌⊎◌, ◌<◌, ◌≤◌, ◌+◌, [], ⊥, false, None, Some, length, All, IfErr, IfOk, IsSome, IsSomeAnd, MatchBool, OnErr, OnOk, true};
 ghost use mathlib.Core.List.{IsPrefix};
 ghost use Rattle.sw_rows.specs.declared.query.Call.TheVariants.{Select};
 ghost use Rattle.sw_rows.specs.declared.table.TheConstants.{MOST_ROWS};
 ghost use Rattle.sw_spine.specs.Table.{is_numbered, reply_to};
 ghost use Rattle.sw_spine.specs.History.{CallsBelow, is_select, mine};
-ghost use Rattle.sw_spine.specs.Books.{RefusesSession, new_books, waits_for, with_published, with_session, with_settled};
+ghost use Rattle.sw_spine.specs.Books.{new_books, waits_for, with_published, with_session, with_settled};
 ghost use Rattle.sw_spine.specs.declared.history.State.TheVariants.{Answered, Open, Void};
 ghost use Rattle.sw_versions.specs.Pending.{HasShownOr, IsPlain};
 ghost use Rattle.sw_versions.specs.Lists.{IsLonger};
@@ -14,8 +14,8 @@ ghost use Rattle.sw_versions.specs.Refused.{IsAhead, RefusesViewer};
 ghost use Rattle.sw_versions.specs.Rules.{updates_in};
 ghost use Rattle.sw_versions.specs.declared.viewer.TheConstants.{MOST_VIEWERS};
 ghost use Rattle.sw_engine.specs.Own.{Adds, IsLastOwn, IsNew, Settles, Stays};
-ghost use Rattle.sw_engine.specs.Desk.{InOrder, IsAnswered, IsAtRest, IsBegun, IsShareOf, IsTold, RefusesCall, RefusesMany, TellsFull};
-ghost use Rattle.sw_engine.specs.Published.{EndWithEntries, Grows, IsNewShare, IsWhole, later, new_viewer, no_versions, published_of, with_committed, with_viewer};
+ghost use Rattle.sw_engine.specs.Desk.{AreOut, InOrder, IsAnswered, IsAtRest, IsBegun, IsMade, IsShareOf, IsTold, RefusesCall, RefusesMany, RefusesNext, TellsFull};
+ghost use Rattle.sw_engine.specs.Published.{EndWithEntries, Grows, IsNewShare, IsWhole, later, new_viewer, no_versions, published_of, TellsAll, with_committed, with_viewer};
 
 use crate::desk::{Desk, Ticket};
 use crate::latch::LatchedHead;
@@ -27,7 +27,27 @@ use sw_map::CrackerMap;
 use sw_rows::{Call, PackedRows, Query, Refusal, Reply, Update};
 use sw_spine::Spine;
 use sw_tie::Share;
-use sw_versions::{Book, Front, Live, Naming, Op, Opened, Shelf, Viewer, WhileRead};
+use sw_versions::{Book, Front, Live, Naming, Op, Opened, Shelf, Viewer};
+
+/// What a publishing came to.
+#[derive(Drop)]
+pub struct Published<J: Naming> {
+    /// The receipt of what is published.
+    pub receipt: Front<J>,
+    /// Whether it has all updates of the history.
+    pub whole: bool,
+    /// Whether it was put off, since a viewer still reads the copy that would be written.
+    pub put_off: bool,
+}
+
+/// Whether a beginning of updates has all of them.
+#[tactic(auto, using(sw_versions::proofs::Prefixes::prefix_whole))]
+fn has_all<J: Naming>(receipt: &Front<J>, updates: &[Update]) -> bool
+    requires { IsPrefix (updates_in receipt.now) updates.now }
+    ensures { MatchBool result (updates_in receipt.now ≡ updates.now) (updates_in receipt.now ≡ updates.now → ⊥) }
+{
+    receipt.len() == updates.len() as u64
+}
 
 /// The desk, and the shelf of what viewers read, with the book of its updates. Until there is a viewer the shelf has no
 /// copies of the rows.
@@ -86,7 +106,7 @@ where
         ensures whole { IfOk result (λ t. IsWhole J.limit J.opening t.1.value) }
         ensures made { OnOk result (self.new.desk.books ≡ with_session self.old.desk.books) }
         ensures shelf { self.new.shelf ≡ self.old.shelf }
-        ensures refused { IfErr result (λ e. (self.new ≡ self.old) × RefusesSession self.old.desk.books e) }
+        ensures refused { IfErr result (λ e. (self.new ≡ self.old) × RefusesNext J.most self.old.desk.books e) }
     {
         let (number, share) = self.desk.enrol()?;
         Ok((number, share, self.shelf.published()))
@@ -97,7 +117,7 @@ where
     pub fn enrol_all(&mut self, alloc: Global, many: usize) -> Result<Vec<Ticket<J>>, Refusal>
         requires { self.old.desk.books.sessions ≡ 0 }
         ensures all { IfOk result (λ v. (length v.items ≡ many) × InOrder 1 v.items) }
-        ensures refused { IfErr result (λ e. RefusesMany many e) }
+        ensures refused { IfErr result (RefusesMany J.most many) }
     {
         let mut tickets = Vec::new(alloc);
         for _ in 0..many {
@@ -114,17 +134,29 @@ where
     fn ticket(&mut self) -> Result<Ticket<J>, Refusal>
         ensures ticket { IfOk result (λ t. (t.0 ≡ self.new.desk.books.sessions) × IsNew t) }
         ensures made { OnOk result (self.new.desk.books ≡ with_session self.old.desk.books) }
-        ensures refused { IfErr result (λ e. (self.new ≡ self.old) × RefusesSession self.old.desk.books e) }
+        ensures refused { IfErr result (λ e. (self.new ≡ self.old) × RefusesNext J.most self.old.desk.books e) }
     {
         let (number, share, receipt) = self.enrol()?;
         Ok(Ticket::new(number, share, receipt))
     }
 
-    /// How many sessions were opened.
-    pub fn sessions(&self) -> u64
-        ensures { result ≡ length self.now.desk.given }
+    /// Whether as many tickets came back as sessions were made; otherwise both numbers are told. Nothing changes. The tickets
+    /// are held against the books, so they are of sessions that were made, and their sessions saw no more than these.
+    pub fn all_back(&mut self, tickets: &mut [Ticket<J>]) -> Result<(), Refusal>
+        ensures same { self.new ≡ self.old }
+        ensures tickets { tickets.new ≡ tickets.old }
+        ensures made { All (IsMade (length self.old.desk.given)) tickets.old }
+        ensures few { length self.old.desk.given ≤ J.most }
+        ensures back { OnOk result (length self.old.desk.given ≡ length tickets.old) }
+        ensures out { IfErr result (AreOut (length self.old.desk.given) (length tickets.old)) }
     {
-        self.desk.sessions()
+        self.desk.hold_all(tickets);
+        let made = self.desk.sessions();
+        let given = tickets.len() as u64;
+        if made != given {
+            return Err(Refusal::SharesOut { made, given });
+        }
+        Ok(())
     }
 
     /// The opening rows.
@@ -199,15 +231,14 @@ where
     }
 
     /// All updates that are not published yet are published at once, or none of them: where there is no memory for it, or a
-    /// viewer still reads the copy that would be written and is not waited for. Either way the session's share shows what is
-    /// published, of which this is the receipt.
-    fn publish<R: Wait>(
+    /// viewer still reads the copy that would be written. Either way the session's share shows what is published, of which
+    /// the receipt is given, with whether that has all updates of the history.
+    pub fn publish<R: Wait>(
         &mut self,
         rt: &R,
         number: u64,
         share: &mut Share<Spine>,
-        while_read: WhileRead,
-    ) -> Front<J>
+    ) -> Published<J>
         requires rest { IsAtRest J.sessions number share.old }
         ensures rest { IsAtRest J.sessions number share.new }
         ensures mine { mine number share.new.value.entries ≡ mine number share.old.value.entries }
@@ -215,8 +246,9 @@ where
         ensures grows { Grows J.opening share.old.value share.new.value }
         ensures whole { IsWhole J.limit J.opening share.new.value }
         ensures shown { share.new.value ≡ self.new.desk.books }
-        ensures receipt { result ≡ self.new.shelf.published }
-        ensures told { updates_in result ≡ published_of J.opening share.new.value }
+        ensures receipt { result.receipt ≡ self.new.shelf.published }
+        ensures told { updates_in result.receipt ≡ published_of J.opening share.new.value }
+        ensures all { TellsAll J.limit J.opening share.new.value.entries result.receipt result.whole }
         ensures books { self.new.desk.books
             ≡ with_published (length J.opening + length (updates_in self.new.shelf.published)) self.old.desk.books }
         ensures published { HasShownOr (later J.opening self.new.desk.books) self.old.shelf self.new.shelf }
@@ -225,11 +257,33 @@ where
         ensures viewers { self.new.shelf.viewers ≡ self.old.shelf.viewers }
     {
         let LockedDesk { desk, shelf, book } = self;
-        shelf.catch_up(rt, book, desk.later(), while_read);
+        let put_off = shelf.catch_up(rt, book, desk.later());
         let receipt = shelf.published();
         let count = book.count(&receipt);
+        let whole = has_all(&receipt, desk.later());
         desk.publish(number, share, count);
-        receipt
+        Published {
+            receipt,
+            whole,
+            put_off,
+        }
+    }
+
+    /// The session's share shows the history as it is. Whether a receipt of what was published has all its updates.
+    pub fn has_all(&mut self, number: u64, share: &mut Share<Spine>, receipt: &Front<J>) -> bool
+        requires rest { IsAtRest J.sessions number share.old }
+        requires held { IsPrefix (updates_in receipt.now) (published_of J.opening share.old.value) }
+        ensures rest { IsAtRest J.sessions number share.new }
+        ensures mine { mine number share.new.value.entries ≡ mine number share.old.value.entries }
+        ensures own { Stays number share.old.value share.new.value }
+        ensures same { self.new.desk.books ≡ self.old.desk.books }
+        ensures shelf { self.new.shelf ≡ self.old.shelf }
+        ensures grows { Grows J.opening share.old.value share.new.value }
+        ensures whole { IsWhole J.limit J.opening share.new.value }
+        ensures all { TellsAll J.limit J.opening share.new.value.entries receipt.now result }
+    {
+        self.desk.look(number, share);
+        has_all(receipt, self.desk.later())
     }
 
     /// A call that is no select is answered at the end of the history. Then all updates that are not published yet are published at
@@ -268,8 +322,8 @@ where
     {
         match self.desk.commit(number, share, call) {
             Ok(reply) => {
-                let receipt = self.publish(rt, number, share, WhileRead::PutsOff);
-                Ok((reply, receipt))
+                let came = self.publish(rt, number, share);
+                Ok((reply, came.receipt))
             }
             Err(refusal) => {
                 self.desk.look(number, share);
@@ -278,9 +332,9 @@ where
         }
     }
 
-    /// All updates that are not published yet are published at once, or none of them where there is no memory for it. For that
-    /// this waits for viewers that read. Then a viewer learns what is published, if that begins with all that it has seen, and
-    /// the receipt of it is given. Either way the session's share shows what is published.
+    /// All updates that are not published yet are published at once, or none of them: where there is no memory for it, or a
+    /// viewer still reads the copy that would be written. Then a viewer learns what is published, if that begins with all that it
+    /// has seen, and the receipt of it is given. Either way the session's share shows what is published.
     ///
     /// Refused `Ahead` where the viewer has seen more than is published, both counted with the opening rows; then the viewer is
     /// as it was.
@@ -313,7 +367,7 @@ where
         ensures refused { IfErr result
             (IsAhead J.opening (updates_in viewer.old.seen) (updates_in self.new.shelf.published)) }
     {
-        let _receipt = self.publish(rt, number, share, WhileRead::Waits);
+        let _came = self.publish(rt, number, share);
         self.shelf.meet(&self.book, viewer)
     }
 

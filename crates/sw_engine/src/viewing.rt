@@ -1,6 +1,6 @@
 //! Viewers, which read the live rows without waiting.
 
-ghost use Rattle.std.specs.Prelude.{◌≡◌, IfErr, IfOk};
+ghost use Rattle.std.specs.Prelude.{◌≡◌, IfErr, IfOk, OnOk};
 ghost use mathlib.Core.List.{IsPrefix};
 ghost use Rattle.sw_rows.specs.Scan.{AsksBelow};
 ghost use Rattle.sw_engine.specs.Published.{answer_after};
@@ -39,8 +39,9 @@ impl<'e, J: Naming> Viewer<'e, J> {
     /// and with all that was told, batch by batch: the reply of the plain table there. It takes memory for a list of rows
     /// alone.
     ///
-    /// Refused `NoMemory`, or `TooMany` of limit 16 where its reader has no place any more; after a refusal it has seen
-    /// and was told what it had. The caller's condition: attributes are below 8.
+    /// Refused `NoMemory`; or `TooMany` of limit 16 where its reader could not come to the copies any more, which is counted;
+    /// or `Ahead` where the copy that it came to lacks updates, which no body makes. After a refusal it has seen and was told
+    /// what it had. The caller's condition: attributes are below 8.
     pub fn answer(&mut self, query: &Query) -> Result<Reply, Refusal>
         requires { AsksBelow 8 query.now }
         ensures answered { IfOk result (λ r. r
@@ -48,15 +49,24 @@ impl<'e, J: Naming> Viewer<'e, J> {
         ensures seen { IfOk result (λ _. IsPrefix self.old.seen self.new.seen) }
         ensures told { IfOk result (λ _. IsPrefix self.old.told self.new.seen) }
         ensures same { self.new.told ≡ self.old.told }
-        ensures refused { IfErr result (λ e. (self.new ≡ self.old) × RefusesAnswer query.now.want e) }
+        ensures came { OnOk result (self.new.failed ≡ self.old.failed) }
+        ensures refused { IfErr result (RefusesAnswer query.now.want self.old self.new) }
     {
         self.reader.answer(query)
+    }
+
+    /// How often it could not come to the copies. The count stays at its type's greatest number once it is there.
+    pub fn failures(&self) -> u64
+        ensures { result ≡ self.now.failed }
+    {
+        self.reader.failures()
     }
 
     /// The receipt's list counts as told. It takes no memory.
     pub fn learn(&mut self, receipt: Receipt<J>)
         ensures told { IsLonger self.old.told receipt self.new.told }
         ensures seen { self.new.seen ≡ self.old.seen }
+        ensures failed { self.new.failed ≡ self.old.failed }
     {
         self.reader.learn(receipt);
     }

@@ -123,7 +123,7 @@ fn opened_engine<J: Naming, M: CrackerMap, R: Wait>(
 ) -> Result<(Engine<J, M>, Ticket<J>, Schema), Refusal>
 where
     Live<J>: Absorb<Op<J>, State = [Update; 0]>,
-    requires books { (books.sessions.name ≡ J.sessions) × (books.heads.name ≡ J.heads) }
+    requires books { (books.sessions.name ≡ J.sessions) × (books.heads.name ≡ J.heads) × (books.most ≡ J.most) }
     requires list { books.list.seen.book ≡ J.book }
     requires plain { IsPlain ⟦<Live<J> as Absorb<Op<J>>>⟧.state ⟦<Live<J> as Absorb<Op<J>>>⟧.applied }
     requires table { (ground.columns ≡ J.columns) × (ground.rows.items ≡ J.opening) × (ground.room.limit ≡ J.limit) }
@@ -194,7 +194,7 @@ where
     W: Sink + Drop,
     H: Host + Drop,
     Live<J>: Absorb<Op<J>, State = [Update; 0]>,
-    requires books { (books.sessions.name ≡ J.sessions) × (books.heads.name ≡ J.heads) }
+    requires books { (books.sessions.name ≡ J.sessions) × (books.heads.name ≡ J.heads) × (books.most ≡ J.most) }
     requires list { books.list.seen.book ≡ J.book }
     requires plain { IsPlain ⟦<Live<J> as Absorb<Op<J>>>⟧.state ⟦<Live<J> as Absorb<Op<J>>>⟧.applied }
     requires table { (ground.columns ≡ J.columns) × (ground.rows.items ≡ J.opening) × (ground.room.limit ≡ J.limit) }
@@ -231,7 +231,7 @@ where
     B: BufRead + Drop,
     W: Sink + Drop,
     H: Host + Drop,
-    requires books { (books.sessions.name ≡ J.sessions) × (books.heads.name ≡ J.heads) }
+    requires books { (books.sessions.name ≡ J.sessions) × (books.heads.name ≡ J.heads) × (books.most ≡ J.most) }
     requires list { books.list.seen.book ≡ J.book }
     requires table { (ground.columns ≡ J.columns) × (ground.rows.items ≡ J.opening) × (ground.room.limit ≡ J.limit) }
     requires blank { All (λ m. M.held m ≡ blank) ground.room.maps.items }

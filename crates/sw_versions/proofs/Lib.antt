@@ -2,3 +2,4 @@ pub mod Batches
 pub mod Adding
 pub mod Prefixes
 pub mod Writing
+pub mod Refusals

@@ -2,10 +2,15 @@
 use Rattle.std.specs.Prelude.{List, [], Option, None, ℕ}
 use Rattle.sw_table.specs.declared.row.Update.{Update}
 
--- the list of batches that a viewer saw last, and the one that it was told of
+-- the list of batches that a viewer saw last, the one that it was told of, and how often it could not come to the copies
 pub record Known : Type 0 where
   pub seen : List (List Update)
   pub told : List (List Update)
+  pub failed : ℕ
+
+-- a viewer that was just opened over a list
+abbrev pub opened_over : List (List Update) → Known
+opened_over list = record { seen = list; told = list; failed = 0 }
 
 -- an update, its place among those of a list of batches, and the list
 pub record Placed : Type 0 where

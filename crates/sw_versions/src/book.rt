@@ -59,8 +59,8 @@ impl Plain<&[Update], [Update; 0], u64> for Add {
     ghost state = { λ updates. None };
 }
 
-/// What an engine is named by: which list of updates it has, the names of the books of its sessions and of its heads, and the
-/// table that its history began from. Each call of a program picks them.
+/// What an engine is named by: which list of updates it has, the names of the books of its sessions and of its heads, the table
+/// that its history began from, and how many sessions it may have. Each call of a program picks them.
 pub trait Naming {
     ghost use Rattle.std.specs.Prelude.{ℕ, List};
     ghost use Rattle.logbook.specs.Pages.{Book};
@@ -78,6 +78,8 @@ pub trait Naming {
     ghost opening: { List Row };
 
     ghost limit: { ℕ };
+
+    ghost most: { ℕ };
 }
 
 impl Naming for Brand {
@@ -94,6 +96,8 @@ impl Naming for Brand {
     ghost opening = { [] };
 
     ghost limit = { 0 };
+
+    ghost most = { 0 };
 }
 
 /// A book with an empty list, which has no name yet.

@@ -3,7 +3,7 @@
 ghost use Rattle.std.specs.Prelude.{◌≡◌, ◌⊎◌, ◌<◌, ◌+◌, ◌++◌, ◌∷◌, [], None, Some, drop, fold, length, slice_get, IfOk, IfSome, MatchResult, OnErr, OnOk, is_some, true};
 ghost use Rattle.sw_table.specs.Live.{live_rows};
 ghost use Rattle.sw_versions.specs.Lists.{rows_after};
-ghost use Rattle.sw_versions.specs.Known.{wrote};
+ghost use Rattle.sw_versions.specs.Known.{opened_over, wrote};
 ghost use Rattle.sw_versions.specs.Pending.{HasPublishedOr, IsPlain, all_of};
 ghost use Rattle.sw_versions.specs.Rules.{updates_in};
 ghost use Rattle.sw_versions.specs.declared.viewer.TheConstants.{MOST_VIEWERS};
@@ -11,7 +11,7 @@ ghost use Rattle.sw_versions.specs.declared.viewer.TheConstants.{MOST_VIEWERS};
 use crate::book::{Front, Naming};
 use crate::live::{Live, Op};
 use crate::viewer::{MOST_VIEWERS, Viewer};
-use crate::visits::{Visitors, WhileRead};
+use crate::visits::Visitors;
 use core::mem::replace_with;
 use crossbeam_utils::rule::Unruled;
 use left_right::Absorb;
@@ -166,12 +166,9 @@ where
         }
     }
 
-    /// Whether it is time to publish: no viewer still reads the copy from before the last publishing, or it is to be waited for.
-    pub(crate) fn is_time(&self, while_read: WhileRead) -> bool {
-        match while_read {
-            WhileRead::Waits => true,
-            WhileRead::PutsOff => !self.visitors.any_reads_on(self.viewers),
-        }
+    /// Whether a viewer still reads the copy from before the last publishing, which is the one to be written.
+    pub(crate) fn is_read(&self) -> bool {
+        self.visitors.any_reads_on(self.viewers)
     }
 
     /// Publishes a list, where the writer has all its updates and nothing waits. Without memory for it readers see what
@@ -195,7 +192,7 @@ where
     /// was got.
     pub(crate) fn viewer(&mut self, alloc: Global) -> Option<Viewer<J>>
         ensures few { IfSome result (λ _. self.old.viewers < MOST_VIEWERS) }
-        ensures some { IfSome result (λ v. v ≡ record { seen = self.old.published; told = self.old.published }) }
+        ensures some { IfSome result (λ v. v ≡ opened_over self.old.published) }
         ensures counted { IfSome result (λ _. self.new ≡ record self.old { viewers = self.old.viewers + 1 }) }
         ensures none { result ≡ None → self.new ≡ self.old }
     {

@@ -13,4 +13,3 @@ pub use book::{Book, Front, Naming, Opened};
 pub use live::{Live, Op};
 pub use shelf::Shelf;
 pub use viewer::{MOST_VIEWERS, Viewer};
-pub use visits::WhileRead;

@@ -1,11 +1,12 @@
 //! A copy of the rows that readers take, and what is written to both copies.
 
-ghost use Rattle.std.specs.Prelude.{◌≡◌, ◌<◌, ◌++◌, ◌∷◌, [], IfOk, IfSome, IsOk, IsOkUnless, IsTrue, MatchResult, OnErr, OnOk, Some, slice_get};
+ghost use Rattle.std.specs.Prelude.{◌≡◌, ◌<◌, ◌++◌, ◌∷◌, [], IfErr, IfOk, IsOk, IsOkUnless, IsTrue, MatchResult, OnErr, OnOk, Some, slice_get};
 ghost use mathlib.Core.List.{IsPrefix};
 ghost use Rattle.sw_rows.specs.Scan.{AsksBelow, TakesMemory, answer};
 ghost use Rattle.sw_table.specs.Live.{RisesFrom, live_rows};
 ghost use Rattle.sw_table.specs.Updates.{rows_then};
 ghost use Rattle.sw_versions.specs.Lists.{rows_after};
+ghost use Rattle.sw_versions.specs.Refused.{IsBehind};
 ghost use Rattle.sw_versions.specs.Rules.{updates_in};
 
 use crate::book::{Front, Naming};
@@ -124,15 +125,19 @@ impl<J: Naming> Live<J> {
         }
     }
 
-    /// The list, where all its updates were made: it is not within a batch.
+    /// The list, where all its updates were made: it is not within a batch. Otherwise how many it has, and how many were made.
     #[tactic(auto, using(crate::proofs::Batches::all_taken))]
-    pub(crate) fn whole(&self) -> Option<&Front<J>>
-        ensures { IfSome result (λ f. updates_in f.now ≡ self.now) }
+    pub(crate) fn whole(&self) -> Result<&Front<J>, Refusal>
+        ensures whole { IfOk result (λ f. updates_in f.now ≡ self.now) }
+        ensures part { IfErr result IsBehind }
     {
         if self.made == self.front.len() {
-            Some(&self.front)
+            Ok(&self.front)
         } else {
-            None
+            Err(Refusal::Ahead {
+                seen: self.front.len(),
+                told: self.made,
+            })
         }
     }
 

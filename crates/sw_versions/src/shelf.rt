@@ -1,9 +1,9 @@
 //! What lies under the lock: how far the book is written, and the copies, once there is a viewer.
 
-ghost use Rattle.std.specs.Prelude.{◌≡◌, ◌⊎◌, ◌<◌, ◌+◌, length, IfErr, IfOk, OnErr, OnOk};
+ghost use Rattle.std.specs.Prelude.{◌≡◌, ◌⊎◌, ◌<◌, ◌+◌, length, IfErr, IfOk, IsTrue, OnErr, OnOk};
 ghost use mathlib.Core.List.{IsPrefix};
 ghost use Rattle.sw_table.specs.Live.{RisesFrom};
-ghost use Rattle.sw_versions.specs.Known.{wrote};
+ghost use Rattle.sw_versions.specs.Known.{opened_over, wrote};
 ghost use Rattle.sw_versions.specs.Lists.{IsLonger, rows_after};
 ghost use Rattle.sw_versions.specs.Pending.{HasBookedOr, HasShownOr, IsPlain, all_of};
 ghost use Rattle.sw_versions.specs.Refused.{IsAhead, RefusesViewer};
@@ -14,7 +14,6 @@ use crate::book::{Book, Front, Naming};
 use crate::copies::Copies;
 use crate::live::{Live, Op, table_after};
 use crate::viewer::{MOST_VIEWERS, Viewer};
-use crate::visits::WhileRead;
 use left_right::Absorb;
 use std::alloc::{AllocError, Global};
 use std::marker::Model;
@@ -107,15 +106,15 @@ where
     }
 }
 
-/// Publishes what stands in the book, where the writer has all updates, and it is time.
+/// Publishes what stands in the book, where the writer has all updates and no viewer still reads the copy from before the last
+/// publishing. Whether it was put off, since one does.
 #[tactic(auto, using(crate::proofs::Prefixes::prefix_whole, crate::proofs::Prefixes::prefix_self))]
 fn publish_all<J: Naming, R: Wait>(
     rt: &R,
     booked: &Front<J>,
     copies: &mut Copies<J>,
     updates: &[Update],
-    while_read: WhileRead,
-)
+) -> bool
 where
     Live<J>: Absorb<Op<J>, State = [Update; 0]>,
     requires begins { IsPrefix (updates_in booked.now) updates.now }
@@ -127,11 +126,17 @@ where
         ⊎ ((copies.new.published ≡ booked.now) × (updates_in booked.now ≡ updates.now)) }
     ensures grows { IsPrefix copies.old.published copies.new.published }
     ensures viewers { copies.new.viewers ≡ copies.old.viewers }
+    ensures off { IsTrue result → copies.new.published ≡ copies.old.published }
 {
     let many = updates.len() as u64;
-    if !copies.waits() && copies.len() == many && copies.is_time(while_read) {
-        copies.publish(rt, booked);
+    if copies.waits() || copies.len() != many {
+        return false;
     }
+    if copies.is_read() {
+        return true;
+    }
+    copies.publish(rt, booked);
+    false
 }
 
 impl<J: Naming> Shelf<J>
@@ -161,34 +166,29 @@ where
     }
 
     /// All updates of the history that the book lacks go into it as one batch, or none of them; and all that are not published yet
-    /// are published at once, or none of them. Where a viewer still reads the copy from before the last publishing, this waits for it, or leaves
-    /// them for a later call, as it is told.
+    /// are published at once, or none of them. Where a viewer still reads the copy from before the last publishing it leaves them for
+    /// a later call, and tells so.
     ///
     /// Refused memory leaves them for a later call too. The caller's condition: what stands in the book begins the updates, which are
     /// those after the opening rows.
     #[tactic(auto, using(crate::proofs::Prefixes::prefix_trans, crate::proofs::Prefixes::prefix_self, crate::proofs::Batches::booked_updates))]
-    pub fn catch_up<R: Wait>(
-        &mut self,
-        rt: &R,
-        book: &Book<J>,
-        updates: &[Update],
-        while_read: WhileRead,
-    )
+    pub fn catch_up<R: Wait>(&mut self, rt: &R, book: &Book<J>, updates: &[Update]) -> bool
         requires { IsPrefix (updates_in self.old.booked) updates.now }
         ensures booked { IsPrefix (updates_in self.new.booked) updates.now }
         ensures batch { HasBookedOr updates.now self.old.booked self.new.booked }
         ensures published { HasShownOr updates.now self.old self.new }
         ensures grows { IsPrefix self.old.published self.new.published }
         ensures viewers { self.new.viewers ≡ self.old.viewers }
+        ensures off { IsTrue result → self.new.published ≡ self.old.published }
     {
         let Shelf { booked, copies, .. } = self;
         book_all(booked, book, updates);
         match copies {
             Some(copies) => {
                 hand_all(booked, copies, updates);
-                publish_all(rt, booked, copies, updates, while_read);
+                publish_all(rt, booked, copies, updates)
             }
-            None => {}
+            None => false,
         }
     }
 
@@ -216,7 +216,7 @@ where
         requires rise { RisesFrom 0 J.opening }
         requires begins { IsPrefix (updates_in self.old.booked) updates.now }
         ensures few { OnOk result (self.old.viewers < MOST_VIEWERS) }
-        ensures opened { IfOk result (λ v. v ≡ record { seen = self.old.published; told = self.old.published }) }
+        ensures opened { IfOk result (λ v. v ≡ opened_over self.old.published) }
         ensures counted { IfOk result (λ _. self.new ≡ record self.old { viewers = self.old.viewers + 1 }) }
         ensures refused { IfErr result (λ e. (self.new ≡ self.old) × RefusesViewer self.old.viewers e) }
     {
@@ -232,7 +232,7 @@ where
     /// One more reader of the copies.
     fn open_viewer(&mut self) -> Result<Viewer<J>, Refusal>
         ensures few { OnOk result (self.old.viewers < MOST_VIEWERS) }
-        ensures opened { IfOk result (λ v. v ≡ record { seen = self.old.published; told = self.old.published }) }
+        ensures opened { IfOk result (λ v. v ≡ opened_over self.old.published) }
         ensures counted { IfOk result (λ _. self.new ≡ record self.old { viewers = self.old.viewers + 1 }) }
         ensures refused { IfErr result (λ e. (self.new ≡ self.old) × RefusesViewer self.old.viewers e) }
     {

@@ -1,10 +1,11 @@
 //! A viewer, which reads without waiting.
 
-ghost use Rattle.std.specs.Prelude.{◌≡◌, ◌<◌, ◌+◌, length, true, false, IfErr, IfOk};
+ghost use Rattle.std.specs.Prelude.{◌≡◌, ◌<◌, ◌+◌, length, true, false, IfErr, IfOk, IfSome, OnOk};
 ghost use mathlib.Core.List.{IsPrefix};
 ghost use Rattle.sw_rows.specs.Scan.{AsksBelow, answer};
 ghost use Rattle.sw_versions.specs.Lists.{IsLonger, rows_after};
-ghost use Rattle.sw_versions.specs.Refused.{RefusesAnswer};
+ghost use Rattle.sw_versions.specs.Known.{opened_over};
+ghost use Rattle.sw_versions.specs.Refused.{IsBehind, RefusesAnswer, RefusesLook};
 ghost use Rattle.sw_versions.specs.Rules.{updates_in};
 
 use crate::book::{Front, Naming};
@@ -21,7 +22,7 @@ use sw_rows::{Query, Refusal, Reply};
 pub const MOST_VIEWERS: u64 = 16;
 
 /// A reader of the rows, which waits for nobody. Contracts see the list of batches of updates that it saw last, and the one
-/// that it was told of: of each batch it saw all updates, or none.
+/// that it was told of: of each batch it saw all updates, or none. They also see how often it could not come to the copies.
 #[derive(Drop)]
 pub struct Viewer<J: Naming> {
     alloc: Global,
@@ -29,6 +30,7 @@ pub struct Viewer<J: Naming> {
     visits: Visits,
     seen: Front<J>,
     told: Front<J>,
+    failed: u64,
 }
 
 impl<J: Naming> Model for Viewer<J> {
@@ -36,15 +38,31 @@ impl<J: Naming> Model for Viewer<J> {
 
     ghost Value = { Known };
 
-    ghost view = { λ v. record { seen = v.seen; told = v.told } };
+    ghost view = { λ v. record { seen = v.seen; told = v.told; failed = v.failed } };
 }
 
 type Home<J> = Reader<Live<J>, (), Unruled>;
 
 type Found<J> = Result<(Reply, Front<J>), Refusal>;
 
+/// Of two beginnings the shorter one begins the longer one. Refused `Ahead`, with both numbers of updates, where the list has
+/// fewer than what is to begin it.
+fn hold<J: Naming>(known: &Front<J>, list: &Front<J>) -> Result<(), Refusal>
+    ensures begins { OnOk result (IsPrefix known.now list.now) }
+    ensures behind { IfErr result IsBehind }
+{
+    if known.begins(list) {
+        return Ok(());
+    }
+    Err(Refusal::Ahead {
+        seen: known.len(),
+        told: list.len(),
+    })
+}
+
 /// What a query is answered over one copy, with its list, where all updates of that were made, and it begins with all that
-/// was seen and told: by bodies it always is so.
+/// was seen and told: by bodies it always is so. Refused `Ahead` otherwise.
+#[tactic(auto, using(crate::proofs::Refusals::behind_look))]
 fn look<J: Naming>(
     alloc: Global,
     live: &Live<J>,
@@ -55,45 +73,35 @@ fn look<J: Naming>(
     requires { AsksBelow 8 query.now }
     ensures answered { IfOk result (λ t. t.0 ≡ answer (rows_after J.opening (updates_in t.1)) query.now) }
     ensures begins { IfOk result (λ t. IsPrefix seen.now t.1 × IsPrefix told.now t.1) }
-    ensures refused { IfErr result (RefusesAnswer query.now.want) }
+    ensures refused { IfErr result (RefusesLook query.now.want) }
 {
-    let refused = Refusal::TooMany {
-        limit: MOST_VIEWERS,
-    };
-    let Some(list) = live.whole() else {
-        return Err(refused);
-    };
-    if !seen.begins(list) || !told.begins(list) {
-        return Err(refused);
-    }
+    let list = live.whole()?;
+    hold(seen, list)?;
+    hold(told, list)?;
     let reply = live.answer(alloc, query)?;
     Ok((reply, list.again()))
 }
 
-/// The same by one enter. The reader comes back.
+/// The same by one enter, and nothing where the reader could not enter. The reader comes back.
 fn read<J: Naming>(
     alloc: Global,
     reader: Home<J>,
     seen: &Front<J>,
     told: &Front<J>,
     query: &Query,
-) -> (Home<J>, Found<J>)
+) -> (Home<J>, Option<Found<J>>)
     requires { AsksBelow 8 query.now }
-    ensures answered { IfOk result.1 (λ t. t.0 ≡ answer (rows_after J.opening (updates_in t.1)) query.now) }
-    ensures begins { IfOk result.1 (λ t. IsPrefix seen.now t.1 × IsPrefix told.now t.1) }
-    ensures refused { IfErr result.1 (RefusesAnswer query.now.want) }
+    ensures answered { IfSome result.1
+        (λ f. IfOk f (λ t. t.0 ≡ answer (rows_after J.opening (updates_in t.1)) query.now)) }
+    ensures begins { IfSome result.1 (λ f. IfOk f (λ t. IsPrefix seen.now t.1 × IsPrefix told.now t.1)) }
+    ensures refused { IfSome result.1 (λ f. IfErr f (RefusesLook query.now.want)) }
 {
     match reader.enter_as::<Unruled>() {
         Ok(reading) => {
             let found = look(alloc, reading.get(), seen, told, query);
-            (reading.leave(), found)
+            (reading.leave(), Some(found))
         }
-        Err(reader) => (
-            reader,
-            Err(Refusal::TooMany {
-                limit: MOST_VIEWERS,
-            }),
-        ),
+        Err(reader) => (reader, None),
     }
 }
 
@@ -105,7 +113,7 @@ impl<J: Naming> Viewer<J> {
         visits: Visits,
         opened: Front<J>,
     ) -> Viewer<J>
-        ensures { result ≡ record { seen = opened; told = opened } }
+        ensures { result ≡ opened_over opened }
     {
         let seen = opened.again();
         Viewer {
@@ -114,14 +122,17 @@ impl<J: Naming> Viewer<J> {
             visits,
             seen,
             told: opened,
+            failed: 0,
         }
     }
 
     /// What a query is answered over the rows of the list that is then seen, which begins with all that was seen before and
     /// with all that was told, batch by batch. It takes memory for a list of rows alone, and waits for nobody.
     ///
-    /// Refused `NoMemory`, or `TooMany` of limit 16 where the reader has no place any more; after a refusal the viewer has seen
-    /// and was told what it had. The caller's condition: attributes are below 8.
+    /// Refused `NoMemory`; or `TooMany` of limit 16 where the reader could not come to the copies any more, which is counted; or
+    /// `Ahead` where the copy that it came to lacks updates, which no body here makes. After a refusal the viewer has seen and was
+    /// told what it had. The caller's condition: attributes are below 8.
+    #[tactic(auto, using(crate::proofs::Refusals::look_answer))]
     pub fn answer(&mut self, query: &Query) -> Result<Reply, Refusal>
         requires { AsksBelow 8 query.now }
         ensures answered { IfOk result (λ reply. reply
@@ -129,7 +140,8 @@ impl<J: Naming> Viewer<J> {
         ensures seen { IfOk result (λ _. IsPrefix self.old.seen self.new.seen) }
         ensures told { IfOk result (λ _. IsPrefix self.old.told self.new.seen) }
         ensures same { self.new.told ≡ self.old.told }
-        ensures refused { IfErr result (λ e. (self.new ≡ self.old) × RefusesAnswer query.now.want e) }
+        ensures came { OnOk result (self.new.failed ≡ self.old.failed) }
+        ensures refused { IfErr result (RefusesAnswer query.now.want self.old self.new) }
     {
         let alloc = self.alloc;
         self.visits.step();
@@ -141,15 +153,29 @@ impl<J: Naming> Viewer<J> {
             { read(alloc, reader, seen, told, query) },
         );
         self.visits.step();
+        let Some(found) = found else {
+            self.failed = self.failed.saturating_add(1);
+            return Err(Refusal::TooMany {
+                limit: MOST_VIEWERS,
+            });
+        };
         let (reply, seen) = found?;
         self.seen = seen;
         Ok(reply)
+    }
+
+    /// How often it could not come to the copies. The count stays at its type's greatest number once it is there.
+    pub fn failures(&self) -> u64
+        ensures { result ≡ self.now.failed }
+    {
+        self.failed
     }
 
     /// The receipt's list counts as told. It takes no memory, and waits for nobody.
     pub fn learn(&mut self, receipt: Front<J>)
         ensures told { IsLonger self.old.told receipt self.new.told }
         ensures seen { self.new.seen ≡ self.old.seen }
+        ensures failed { self.new.failed ≡ self.old.failed }
     {
         self.told = self.told.longer(&receipt);
     }
@@ -159,6 +185,7 @@ impl<J: Naming> Viewer<J> {
         ensures met { result ≡ true → IsPrefix self.old.seen published.now }
         ensures told { result ≡ true → IsLonger self.old.told published.now self.new.told }
         ensures seen { self.new.seen ≡ self.old.seen }
+        ensures failed { self.new.failed ≡ self.old.failed }
         ensures ahead { result ≡ false → (self.new ≡ self.old)
             × (length (updates_in published.now) < length (updates_in self.old.seen)) }
     {

@@ -7,15 +7,6 @@ use std::alloc::{AllocError, Global};
 use std::sync::Arc;
 use std::sync::atomic::{AtomicU64, Ordering};
 
-/// What publishing does while a viewer still reads the copy from before the last publishing, which is the one to be written.
-#[derive(Clone, Copy)]
-pub enum WhileRead {
-    /// It waits until the viewer is done.
-    Waits,
-    /// It is left for a later time.
-    PutsOff,
-}
-
 /// How often a viewer came to the copies and went: an odd number while it reads. The viewer counts, and the writer looks.
 /// Each count has a line of the processors' caches for itself, so that no viewer waits for another's.
 #[derive(Drop)]

@@ -400,7 +400,7 @@ fn ask_on<J: Naming, M: CrackerMap, R: Wait>(
 ) -> Result<(), Refusal>
 where
     Live<J>: Absorb<Op<J>, State = [Update; 0]>,
-    requires books { (books.sessions.name ≡ J.sessions) × (books.heads.name ≡ J.heads) }
+    requires books { (books.sessions.name ≡ J.sessions) × (books.heads.name ≡ J.heads) × (books.most ≡ J.most) }
     requires list { books.list.seen.book ≡ J.book }
     requires plain { IsPlain ⟦<Live<J> as Absorb<Op<J>>>⟧.state ⟦<Live<J> as Absorb<Op<J>>>⟧.applied }
     requires table { (table.schema ≡ J.columns) × (table.rows.items ≡ J.opening) × (table.limit ≡ J.limit) }
@@ -427,7 +427,7 @@ fn ask_picked<J: Naming, M: CrackerMap, R: Wait>(
     asked: Asked,
     text: &mut String,
 ) -> Result<(), Refusal>
-    requires books { (books.sessions.name ≡ J.sessions) × (books.heads.name ≡ J.heads) }
+    requires books { (books.sessions.name ≡ J.sessions) × (books.heads.name ≡ J.heads) × (books.most ≡ J.most) }
     requires list { books.list.seen.book ≡ J.book }
     requires table { (table.schema ≡ J.columns) × (table.rows.items ≡ J.opening) × (table.limit ≡ J.limit) }
 {

@@ -134,7 +134,7 @@ pub(crate) fn opened<J: Naming, M: CrackerMap, R: Wait>(
 ) -> Result<(Engine<J, M>, Vec<Ticket<J>>), Refusal>
 where
     Live<J>: Absorb<Op<J>, State = [Update; 0]>,
-    requires books { (books.sessions.name ≡ J.sessions) × (books.heads.name ≡ J.heads) }
+    requires books { (books.sessions.name ≡ J.sessions) × (books.heads.name ≡ J.heads) × (books.most ≡ J.most) }
     requires list { books.list.seen.book ≡ J.book }
     requires plain { IsPlain ⟦<Live<J> as Absorb<Op<J>>>⟧.state ⟦<Live<J> as Absorb<Op<J>>>⟧.applied }
     requires table { (table.schema ≡ J.columns) × (table.rows.items ≡ J.opening) × (table.limit ≡ J.limit) }

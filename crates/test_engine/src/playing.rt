@@ -449,7 +449,7 @@ fn play_on<J: Naming + Send + Sync, M: CrackerMap, R: Threads + Wait + Sync>(
 ) -> Result<Played, Refusal>
 where
     Live<J>: Absorb<Op<J>, State = [Update; 0]> + Send + Sync,
-    requires books { (books.sessions.name ≡ J.sessions) × (books.heads.name ≡ J.heads) }
+    requires books { (books.sessions.name ≡ J.sessions) × (books.heads.name ≡ J.heads) × (books.most ≡ J.most) }
     requires list { books.list.seen.book ≡ J.book }
     requires plain { IsPlain ⟦<Live<J> as Absorb<Op<J>>>⟧.state ⟦<Live<J> as Absorb<Op<J>>>⟧.applied }
     requires table { (table.schema ≡ J.columns) × (table.rows.items ≡ J.opening) × (table.limit ≡ J.limit) }
@@ -491,7 +491,7 @@ fn play_picked<J: Naming + Send + Sync, M: CrackerMap, R: Threads + Wait + Sync>
     later: &mut Vec<M>,
     plan: Plan,
 ) -> Result<Played, Refusal>
-    requires books { (books.sessions.name ≡ J.sessions) × (books.heads.name ≡ J.heads) }
+    requires books { (books.sessions.name ≡ J.sessions) × (books.heads.name ≡ J.heads) × (books.most ≡ J.most) }
     requires list { books.list.seen.book ≡ J.book }
     requires table { (table.schema ≡ J.columns) × (table.rows.items ≡ J.opening) × (table.limit ≡ J.limit) }
     requires below { All (λ b. All (λ c. CallsBelow (length J.columns) c) b.items) blocks.now }

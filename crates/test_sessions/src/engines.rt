@@ -195,7 +195,7 @@ fn play_on<J: Naming, M: CrackerMap, R: Print + Threads + Wait + Sync>(
 ) -> io::Result<bool>
 where
     Live<J>: Absorb<Op<J>, State = [Update; 0]>,
-    requires books { (books.sessions.name ≡ J.sessions) × (books.heads.name ≡ J.heads) }
+    requires books { (books.sessions.name ≡ J.sessions) × (books.heads.name ≡ J.heads) × (books.most ≡ J.most) }
     requires list { books.list.seen.book ≡ J.book }
     requires plain { IsPlain ⟦<Live<J> as Absorb<Op<J>>>⟧.state ⟦<Live<J> as Absorb<Op<J>>>⟧.applied }
     requires table { (table.schema ≡ J.columns) × (table.rows.items ≡ J.opening) × (LIMIT ≡ J.limit) }
@@ -224,7 +224,7 @@ pub(crate) fn play<J: Naming, M: CrackerMap, R: Print + Threads + Wait + Sync>(
     lines: &[String],
     maps: Vec<M>,
 ) -> io::Result<bool>
-    requires books { (books.sessions.name ≡ J.sessions) × (books.heads.name ≡ J.heads) }
+    requires books { (books.sessions.name ≡ J.sessions) × (books.heads.name ≡ J.heads) × (books.most ≡ J.most) }
     requires list { books.list.seen.book ≡ J.book }
     requires table { (table.schema ≡ J.columns) × (table.rows.items ≡ J.opening) × (LIMIT ≡ J.limit) }
     requires numbered { is_numbered 1 table.rows.items ≡ true }

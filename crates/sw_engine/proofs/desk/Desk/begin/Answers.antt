@@ -1,4 +1,4 @@
-use Rattle.std.proofs.Common.{◌≡◌, ℕ, List, [], ◌∷◌, ◌++◌, refl, length, set, false, Some, None, sym, ap, ◌∙◌, subst}
+use Rattle.std.proofs.Common.{arith, ◌≡◌, ℕ, List, [], ◌∷◌, ◌++◌, refl, length, set, false, Some, None, sym, ap, ◌∙◌, subst}
 use Rattle.sw_table.specs.declared.row.Update.{Update}
 use Rattle.sw_rows.specs.declared.query.Call.{Call}
 use Rattle.sw_rows.specs.declared.query.Call.TheVariants.{Select}
@@ -47,6 +47,9 @@ invariant_of-self-2 g c =
       tied = begin_tied s.spine x s.sessions.rows c.set.new.self.rows s.heads.rows c.set-2.new.self.rows h.number c.args.number m.number c.head.inside.number c.of.result.value c.of-2.result.value c.self.invariant.tied c.requires.rest.1 c.head.invariant.number_is c.begin.ensures.others (open_keeps c.args.number c.args.query c.head.inside.number s.spine x done) c.begin.ensures.heads (ap (λ (b : Books). b.sessions) done) c.of.ensures c.of-2.ensures rows heads;
       behind = behind_set g.J.Naming.limit g.J.Naming.opening s.spine x c.of.result.value s.sessions.rows c.set.new.self.rows h.number c.self.invariant.behind (prefix_same _ _ (sym (published_kept g.J.Naming.opening s.spine x (ap (λ (b : Books). b.published) done) c.begin.ensures.updates))) (whole_after g.J.Naming.columns g.J.Naming.opening g.J.Naming.limit s.spine x c.self.invariant.of (ap (λ (b : Books). b.columns) done) (ap (λ (b : Books). b.rows) done) (ap (λ (b : Books). b.limit) done) ends) c.of.ensures rows;
       ends = ends;
+      most_is = c.self.invariant.most_is;
+      few = c.self.invariant.few;
+      within = let same : x.sessions ≡ s.spine.sessions = ap (λ (b : Books). b.sessions) done in let had = c.self.invariant.within in omega (arith, same, had);
     }
 
 pub invariant_of-head-2 : goal.invariant_of-head-2

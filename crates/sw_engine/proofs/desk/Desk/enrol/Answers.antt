@@ -21,6 +21,9 @@ invariant_of-self-2 g c =
       tied = enrol_tied s.spine x c.of.result.value s.sessions.rows c.open-share.new.self.rows s.heads.rows c.self.invariant.tied is c.of.ensures rows;
       behind = behind_push g.J.Naming.limit g.J.Naming.opening s.spine x c.of.result.value s.sessions.rows c.open-share.new.self.rows c.self.invariant.behind (sym (ap (published_of g.J.Naming.opening) is)) (whole_after g.J.Naming.columns g.J.Naming.opening g.J.Naming.limit s.spine x c.self.invariant.of (ap (λ (b : Books). b.columns) is) (ap (λ (b : Books). b.rows) is) (ap (λ (b : Books). b.limit) is) ends) c.of.ensures rows;
       ends = ends;
+      most_is = c.self.invariant.most_is;
+      few = c.self.invariant.few;
+      within = let many : x.sessions ≡ s.spine.sessions + 1 = ap (λ (b : Books). b.sessions) is in let room = c.if-many-ge-most.false in let i = c.self.invariant in omega (arith, many, room, i.most_is, i.many_are, i.tied.as_many);
     }
 
 pub returns-clause-whole : goal.returns-clause-whole

@@ -23,4 +23,7 @@ invariant_of-result g c =
       };
       behind = λ k r e. absurd (omega (arith, get_below c.args.sessions.rows k r e, none));
       ends = ends_new j.columns j.opening j.limit c.in_ok-spine.spine is;
+      most_is = c.requires.may.0;
+      few = let may = c.requires.may in omega (arith, may.0, may.1);
+      within = let many : c.in_ok-spine.spine.sessions ≡ 0 = ap (λ (b : Books). b.sessions) is in omega (arith, many);
     }

@@ -1,4 +1,4 @@
-use Rattle.std.proofs.Common.{◌≡◌, ◌+◌, ◌≤◌, length, set, false, None, sym, ap, ◌∙◌, subst}
+use Rattle.std.proofs.Common.{arith, ◌≡◌, ◌+◌, ◌≤◌, length, set, false, None, sym, ap, ◌∙◌, subst}
 use mathlib.Core.List.{IsPrefix}
 use Rattle.sw_spine.specs.History.{mine}
 use Rattle.sw_spine.specs.Books.{Books, KeepsOthers, KeepsTaken, took, waits_for}
@@ -34,6 +34,9 @@ invariant_of-self g c =
       tied = visit_tied s.spine x s.sessions.rows c.set.new.self.rows s.heads.rows h.number c.args.number c.of.result.value c.self.invariant.tied c.requires.rest.1 others (published_keeps c.args.number c.args.count s.spine x done) taken (ap (λ (b : Books). b.sessions) done) c.of.ensures rows;
       behind = behind_set g.J.Naming.limit g.J.Naming.opening s.spine x c.of.result.value s.sessions.rows c.set.new.self.rows h.number c.self.invariant.behind grows (whole_after g.J.Naming.columns g.J.Naming.opening g.J.Naming.limit s.spine x c.self.invariant.of (ap (λ (b : Books). b.columns) done) (ap (λ (b : Books). b.rows) done) (ap (λ (b : Books). b.limit) done) ends) c.of.ensures rows;
       ends = ends;
+      most_is = c.self.invariant.most_is;
+      few = c.self.invariant.few;
+      within = let same : x.sessions ≡ s.spine.sessions = ap (λ (b : Books). b.sessions) done in let had = c.self.invariant.within in omega (arith, same, had);
     }
 
 pub returns-clause-rest : goal.returns-clause-rest

@@ -8,5 +8,5 @@ pub returns-in_err-tickets-clause-refused : goal.returns-in_err-tickets-clause-r
 returns-in_err-tickets-clause-refused g c =
     let rows = c.args.rows.items in
     let few : length rows ≤ c.args.limit = (let no = c.if-len-limit.false in let many = c.len.ensures.many in omega (arith, no, many)) in
-    handed_on (λ (e : Refusal). RefusesOpening c.args.limit rows c.args.sessions e) c.from_residual-in_err-tickets.result c.in_err-tickets.field-0.0 c.from_residual-in_err-tickets.ensures.1
-    (opens_for_few c.args.limit c.args.sessions rows c.in_err-tickets.field-0.0 few c.in_err-tickets.ensures.refused)
+    handed_on (λ (e : Refusal). RefusesOpening c.args.limit rows g.J.Naming.most c.args.sessions e) c.from_residual-in_err-tickets.result c.in_err-tickets.field-0.0 c.from_residual-in_err-tickets.ensures.1
+    (opens_for_few c.args.limit g.J.Naming.most c.args.sessions rows c.in_err-tickets.field-0.0 few c.in_err-tickets.ensures.refused)

@@ -11,7 +11,7 @@ invariant_of-self g c =
     (shelf_answered j.limit j.opening c.args.number c.args.call had c.commit.new.self.books c.self.inside.shelf (update_by j.limit (updates had) c.args.call) c.self.invariant.0 c.in-Ok.ensures.answered c.in-Ok.ensures.updates, c.self.invariant.1)
 
 pub returns-in-Ok-clause-grows : goal.returns-in-Ok-clause-grows
-returns-in-Ok-clause-grows g c = grows_trans g.J.Naming.opening c.args.share.now.value c.commit.new.share.value c.publish-receipt.new.share.value c.commit.ensures.grows c.publish-receipt.ensures.grows
+returns-in-Ok-clause-grows g c = grows_trans g.J.Naming.opening c.args.share.now.value c.commit.new.share.value c.publish-came.new.share.value c.commit.ensures.grows c.publish-came.ensures.grows
 
 pub returns-in-Err-clause-grows : goal.returns-in-Err-clause-grows
 returns-in-Err-clause-grows g c = grows_trans g.J.Naming.opening c.args.share.now.value c.commit.new.share.value c.look.new.share.value c.commit.ensures.grows c.look.ensures.grows

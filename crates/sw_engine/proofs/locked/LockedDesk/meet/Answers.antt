@@ -9,9 +9,9 @@ use Rattle.sw_engine.proofs.locked.LockedDesk.meet.Goals as goal
 pub returns-clause-ends : goal.returns-clause-ends
 returns-clause-ends g c =
     let j = g.J.Naming in
-    let v = c.publish-receipt.new.self in
-    let ends : EndWithEntries j.limit j.opening c.publish-receipt.new.share.value.entries v.shelf.published =
-    subst (λ (x : Books). EndWithEntries j.limit j.opening x.entries v.shelf.published) (sym c.publish-receipt.ensures.shown) c.publish-receipt.ensures.entries in
+    let v = c.publish-came.new.self in
+    let ends : EndWithEntries j.limit j.opening c.publish-came.new.share.value.entries v.shelf.published =
+    subst (λ (x : Books). EndWithEntries j.limit j.opening x.entries v.shelf.published) (sym c.publish-came.ensures.shown) c.publish-came.ensures.entries in
     IfOk-weaker c.meet.result _ _
-    (λ r is. subst (λ (l : List (List Update)). EndWithEntries j.limit j.opening c.publish-receipt.new.share.value.entries l) (sym (is ∙ ap (λ (x : LockState). x.shelf.published) c.self.view_is)) ends)
+    (λ r is. subst (λ (l : List (List Update)). EndWithEntries j.limit j.opening c.publish-came.new.share.value.entries l) (sym (is ∙ ap (λ (x : LockState). x.shelf.published) c.self.view_is)) ends)
     c.meet.ensures.receipt
