@@ -63,6 +63,7 @@ CALLS = [
         "seen": "that list begins with the list that it had seen before, batch by batch",
         "told": "it begins with every list that it was told of",
         "same": "what it was told stands",
+        "came": "an answer counts no failure of its reader to come to a copy",
         "refused": "after a refusal it has seen and was told what it had",
     }),
 ]
