@@ -1,5 +1,5 @@
 -- The areas of a head, asked one after the other.
-use Rattle.std.specs.Prelude.{◌≡◌, ◌≢◌, ◌<◌, ◌≤◌, ◌*◌, ℕ, ℤ, Bool, List, Result, Err, min, [], ◌∷◌, if◌then◌else◌, true, false, filter, get_or, length, map}
+use Rattle.std.specs.Prelude.{◌≡◌, ◌≢◌, ◌<◌, ◌≤◌, ◌*◌, ℕ, ℤ, Bool, List, Result, Err, min, [], ◌∷◌, if◌then◌else◌, true, false, filter, get_or, length, map, All}
 use Rattle.sw_rows.specs.declared.query.Query.{Query}
 use Rattle.sw_rows.specs.declared.reply.Reply.{Reply}
 use Rattle.sw_table.specs.declared.row.Row.{Row}
@@ -12,6 +12,7 @@ use Rattle.sw_set.specs.declared.ready.Ready.{Ready}
 use Rattle.sw_set.specs.Needs.{head_in, needed}
 use Rattle.sw_set.specs.Merged.{StandsForSame}
 use Rattle.sw_set.specs.Prepared.{IsPreparedFor, IsSameButBoxes, is_touched}
+use Rattle.sw_set.specs.Resting.{IsAtRest}
 use Rattle.sw_set.specs.Shelf.{AreaState, rows_in}
 use Rattle.sw_chunks.specs.Cleared.{AreEach}
 use Rattle.sw_chunks.specs.Cuts.{Interval}
@@ -47,6 +48,14 @@ with_all q first (x ∷ xs) = with_all q (with_area q first x) xs
 -- an area that a query does not touch does not scan
 abbrev pub ScansIfTouched : Query → AreaState → Bool → Type 0
 ScansIfTouched q x scanned = is_touched x q ≡ false → scanned ≡ false
+
+-- an area that a query touches is ready for it as it stands
+abbrev pub RestsIfTouched : Query → AreaState → Type 0
+RestsIfTouched q x = is_touched x q ≡ true → IsAtRest q x
+
+-- each of these areas is
+abbrev pub AreAtRest : Query → List AreaState → Type 0
+AreAtRest q xs = All (RestsIfTouched q) xs
 
 -- an area is prepared for a query, and the query's bounds stand in ranges of its tape
 abbrev pub IsReadyFor : Query → AreaState → Ready → Type 0

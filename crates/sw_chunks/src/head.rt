@@ -1,6 +1,6 @@
 //! A head: the areas of one attribute, by a rising list of cuts.
 
-ghost use Rattle.std.specs.Prelude.{◌≡◌, ◌≤◌, ◌<◌, ◌^◌, ◌++◌, ◌∷◌, [], length, All, IfOk, IsOkUnless, MatchOption, MatchResult, None, OnErr, OnOk, Some, get_or, slice_get};
+ghost use Rattle.std.specs.Prelude.{◌≡◌, ◌≤◌, ◌<◌, ◌^◌, ◌++◌, ◌∷◌, [], length, All, IfOk, IfSome, IsOkUnless, MatchOption, MatchResult, None, OnErr, OnOk, Some, get_or, slice_get};
 ghost use Rattle.sw_rows.specs.Scan.{AsksBelow, answer};
 ghost use Rattle.sw_table.specs.Updates.{rows_of};
 ghost use Rattle.sw_rows.specs.declared.refusal.Refusal.TheVariants.{NoMemory};
@@ -9,7 +9,9 @@ ghost use Rattle.sw_map.specs.Held.{blank};
 ghost use Rattle.sw_set.specs.Aligning.{AlignsBoxes, HasAlignedOr, MayAlign};
 ghost use Rattle.sw_set.specs.Merged.{StandsForSame};
 ghost use Rattle.sw_set.specs.Needs.{head_in};
+ghost use Rattle.sw_set.specs.Resting.{IsToldWhere};
 ghost use Rattle.sw_set.specs.Shelf.{Rises, key_of};
+ghost use Rattle.sw_chunks.specs.Asked.{AreAtRest};
 ghost use Rattle.sw_chunks.specs.Cuts.{RiseAbove};
 ghost use Rattle.sw_chunks.specs.Cleared.{AreClearedBut, AreEach};
 ghost use Rattle.sw_chunks.specs.Shelved.{AreShed};
@@ -24,6 +26,7 @@ use crate::clearing::clear_but;
 use crate::dealing::{areas_of, owners_kept};
 use crate::figures::{Figures, figures_of};
 use crate::places::add_owners;
+use crate::resting::answer_resting;
 use crate::routing::route_all;
 use crate::scanning::scan_areas;
 use crate::shelving::{fewest, shed_all};
@@ -270,6 +273,19 @@ impl<M: CrackerMap> Head<M> {
             self.clock,
             query,
         )
+    }
+
+    /// The answer of a query where each area that it touches is ready for it as it stands, so that many may be answered
+    /// at a time; none where one of them has updates to merge, a range to log, or a map to make or align. Nothing
+    /// changes, and uses of maps are not stamped. The one refusal is `NoMemory`.
+    pub fn answer_at_rest(&self, query: &Query) -> Result<Option<Reply>, Refusal>
+        requires asks { AsksBelow 8 query.now }
+        requires head { head_in query.now.conds ≡ self.now.attribute }
+        ensures rests { IfOk result (IsToldWhere (AreAtRest query.now self.now.areas)) }
+        ensures answered { IfOk result (λ it. IfSome it (λ reply. reply ≡ answer (rows_of self.now.updates) query.now)) }
+        ensures refused { IsOkUnless result NoMemory }
+    {
+        answer_resting(self.alloc, self.areas.as_slice(), query)
     }
 
     /// The plain answer over all rows: the areas that the query touches are merged and scanned. No map is made for it,

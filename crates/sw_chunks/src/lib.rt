@@ -9,6 +9,7 @@ mod head;
 mod joining;
 mod laws;
 mod places;
+mod resting;
 mod routing;
 mod scanning;
 mod shelving;

@@ -1,5 +1,5 @@
 -- The texts that a line makes known.
-use Rattle.std.specs.Prelude.{ℕ, List, [], ◌∷◌, ◌++◌, length, nat_lt, if◌then◌else◌}
+use Rattle.std.specs.Prelude.{ℕ, List, [], ◌∷◌, ◌++◌, length, nat_lt, if◌then◌else◌, ◌≡◌, true}
 use Rattle.sw_rows.specs.Header.{Column, has_texts, holding, texts_of}
 use Rattle.sw_rows.specs.Texts.{is_text, with_texts}
 use Rattle.sw_lang.specs.declared.parse.TheConstants.{MOST_LINE}
@@ -10,6 +10,10 @@ use Rattle.sw_lang.specs.Tokens.{Tok, quoted, tokens}
 abbrev pub quoted_text : Tok → List (List ℕ)
 quoted_text (quoted text) = if is_text text then text ∷ [] else []
 quoted_text t = []
+
+-- a token is a quoted text that may be the text of a cell
+abbrev pub Quotes : Tok → List ℕ → Type 0
+Quotes t text = (quoted_text t ≡ text ∷ []) × (is_text text ≡ true)
 
 abbrev pub quoted_texts : List Tok → List (List ℕ)
 quoted_texts [] = []

@@ -2,11 +2,13 @@
 use Rattle.std.specs.Prelude.{ℕ, ℤ, Bool, true, false, List, [], ◌∷◌, ◌++◌, map, slice_index_or, Option, Some, None, codes, decimal, if◌then◌else◌}
 use Rattle.std.specs.List.{flat_map}
 use Rattle.std.specs.Ordering.{int_eq}
+use denote.Ref.{Bor}
 use Rattle.sw_rows.specs.Domains.{is_of_texts}
 use Rattle.sw_rows.specs.Header.{Column, kinds_of, names_of}
 use Rattle.sw_rows.specs.declared.bound.Bound.{Bound}
 use Rattle.sw_rows.specs.declared.bound.Bound.TheVariants.{Before, After}
 use Rattle.sw_rows.specs.declared.query.Cond.{Cond}
+use Rattle.sw_rows.specs.declared.query.Query.{Query}
 use Rattle.sw_rows.specs.declared.query.Want.{Want}
 use Rattle.sw_rows.specs.declared.query.Want.TheVariants as want
 use Rattle.sw_rows.specs.declared.query.Call.{Call}
@@ -24,6 +26,13 @@ more_names ns = flat_map (λ n. codes ", " ++ n) ns
 abbrev pub names_text : List (List ℕ) → List ℕ
 names_text [] = []
 names_text (n ∷ ns) = n ++ more_names ns
+
+-- the names of attributes, and such behind others
+abbrev pub attrs_text : List Column → List ℕ → List ℕ
+attrs_text columns attrs = names_text (map (name_at columns) attrs)
+
+abbrev pub more_attrs : List Column → List ℕ → List ℕ
+more_attrs columns attrs = more_names (map (name_at columns) attrs)
 
 -- an attribute, an operator with its spaces, and a value
 abbrev pub comparison : List Column → ℕ → List ℕ → ℤ → List ℕ
@@ -72,17 +81,46 @@ terms_text started (t ∷ ts) = (joiner started ++ t) ++ terms_text true ts
 abbrev pub where_text : List Column → Bool → List Cond → List ℕ
 where_text columns started conds = terms_text started (flat_map (cond_terms columns) conds)
 
+-- a comparison after its joiner
+abbrev pub term_text : Bool → List Column → ℕ → List ℕ → ℤ → List ℕ
+term_text started columns a op v = joiner started ++ comparison columns a op v
+
+-- the comparisons of a condition's lower bound, of its upper one, and of both
+abbrev pub lower_text : Bool → List Column → Cond → List ℕ
+lower_text started columns c = terms_text started (lower_terms columns c.attr c.lower)
+
+abbrev pub upper_text : Bool → List Column → Cond → List ℕ
+upper_text started columns c = terms_text started (upper_terms columns c.attr c.upper)
+
+abbrev pub bounds_text : Bool → List Column → Cond → List ℕ
+bounds_text started columns c =
+    terms_text started (lower_terms columns c.attr c.lower ++ upper_terms columns c.attr c.upper)
+
+-- those of two texts, and of a condition on texts
+abbrev pub equal_text : Bool → List Column → ℕ → Bor ℤ × Bor ℤ → List ℕ
+equal_text started columns a texts = terms_text started (equal_terms columns a texts.0.now texts.1.now)
+
+abbrev pub text_cond_text : Bool → List Column → Cond → List ℕ
+text_cond_text started columns c = terms_text started (text_terms columns c.attr c.lower c.upper)
+
 -- what is asked for
 abbrev pub want_text : List Column → Want → List ℕ
-want_text columns (want.Rows names) = codes "select " ++ names_text (map (name_at columns) names)
+want_text columns (want.Rows names) = codes "select " ++ attrs_text columns names
 want_text columns want.Count = codes "count"
 want_text columns (want.Sum a) = codes "sum " ++ name_at columns a
 want_text columns (want.Min a) = codes "min " ++ name_at columns a
 want_text columns (want.Max a) = codes "max " ++ name_at columns a
 
+abbrev pub query_text : List Column → Query → List ℕ
+query_text columns q = want_text columns q.want ++ where_text columns false q.conds
+
+-- a cell for each attribute
+abbrev pub row_text : List Column → List ℤ → List ℕ
+row_text columns cells = cells_text (kinds_of columns) cells
+
 -- a call; an inserted row has a cell for each attribute, and conditions of a delete have bounds
 abbrev pub call_text : List Column → Call → List ℕ
-call_text columns (call.Select q) = want_text columns q.want ++ where_text columns false q.conds
-call_text columns (call.Insert cells) = codes "insert " ++ cells_text (kinds_of columns) cells
+call_text columns (call.Select q) = query_text columns q
+call_text columns (call.Insert cells) = codes "insert " ++ row_text columns cells
 call_text columns (call.Delete key) = codes "delete " ++ decimal key
 call_text columns (call.DeleteWhere conds) = codes "delete" ++ where_text columns false conds

@@ -26,6 +26,7 @@ use Rattle.sw_lang.specs.declared.term.Term.{Term}
 use Rattle.sw_lang.specs.Replies.{kind_at}
 use Rattle.sw_lang.specs.Terms.{add_term}
 use Rattle.sw_lang.specs.Tokens.{Tok, word, op, comma, quoted, tokens, after_blanks}
+use denote.Ref.{Bor}
 
 infixl 10 ◌>>=◌
 abbrev pub ◌>>=◌ : {A B : Type 0} → Result A Fault → (A → Result B Fault) → Result B Fault
@@ -45,6 +46,13 @@ Gives view (Err e) read = Fails e read
 abbrev pub Tells : {X Y : Type 0} → (X → Y) → Result X Fault → Result Y Fault → Type 0
 Tells view (Ok x) read = read ≡ Ok (view x)
 Tells view (Err f) read = read ≡ Err f
+
+-- the same of a function that answers the bytes that are left, or a value and these
+abbrev pub TellsRest : Result (Bor (List ℕ)) Fault → Result (List Tok) Fault → Type 0
+TellsRest result read = Tells (λ rest. tokens rest.now) result read
+
+abbrev pub TellsThen : {X : Type 0} → Result (X × Bor (List ℕ)) Fault → Result (X × List Tok) Fault → Type 0
+TellsThen result read = Tells (λ p. (p.0, tokens p.1.now)) result read
 
 -- ---- single tokens
 
@@ -192,6 +200,9 @@ past_comma (z ∷ zs) (t ∷ ts) = if is_comma t then Ok ts else Err (Bad why.Wo
 -- the next value of a list, of which others stand before
 unfoldable pub next_value : List ℤ → Domain → List Tok → Result (ℤ × List Tok) Fault
 next_value values kind ts = past_comma values ts >>= first_by (value_of kind)
+
+abbrev pub TellsNext : List ℤ → Domain → List ℕ → Result (ℤ × Bor (List ℕ)) Fault → Type 0
+TellsNext values kind text result = TellsThen result (next_value values kind (tokens text))
 
 -- one value of each kind, with commas between, after those that stand before, and nothing more
 abbrev pub values_at : List ℤ → List Domain → List Tok → Result (List ℤ) Fault

@@ -6,6 +6,7 @@ use Rattle.std.specs.Ordering.{int_eq}
 use Rattle.sw_rows.specs.Header.{Column, kinds_of}
 use Rattle.sw_rows.specs.Domains.{Domain}
 use Rattle.sw_rows.specs.Domains as kind
+use Rattle.sw_rows.specs.Replies.{reply_row}
 use Rattle.sw_rows.specs.Texts.{text_at}
 use Rattle.sw_rows.specs.declared.query.Call.{Call}
 use Rattle.sw_rows.specs.declared.query.Call.TheVariants as call
@@ -67,9 +68,19 @@ cells_text [] zs = []
 cells_text (k ∷ ks) [] = []
 cells_text (k ∷ ks) (z ∷ zs) = cell_text k z ++ more_cells ks zs
 
+-- the domains of attributes, and the cells that they show
+abbrev pub kinds_at : List Column → List ℕ → List Domain
+kinds_at columns attrs = map (kind_at columns) attrs
+
+abbrev pub shown : List Column → List ℕ → List ℤ → List ℕ
+shown columns attrs cells = cells_text (kinds_at columns attrs) cells
+
 -- a row: its key, a colon, and its cells
 abbrev pub row_line : List Domain → ReplyRow → List ℕ
 row_line kinds r = decimal r.key ++ (codes ": " ++ cells_text kinds r.cells)
+
+abbrev pub row_shown : List Column → List ℕ → ℕ → List ℤ → List ℕ
+row_shown columns attrs key cells = row_line (kinds_at columns attrs) (reply_row key cells)
 
 abbrev pub rows_line : ℕ → List ℕ
 rows_line n = codes "(" ++ (decimal n ++ codes " rows)")
@@ -122,3 +133,11 @@ with_ends ls = flat_map (λ l. l ++ codes "\n") ls
 -- the bytes of the reply to a call
 abbrev pub reply_bytes : List Column → Call → Reply → List ℕ
 reply_bytes columns c r = with_ends (reply_lines columns c r)
+
+-- rows as lines
+abbrev pub rows_shown : List Column → List ℕ → List ReplyRow → List ℕ
+rows_shown columns attrs rows = with_ends (map (row_line (kinds_at columns attrs)) rows)
+
+-- and how many there are
+abbrev pub rows_text : List Domain → List ReplyRow → List ℕ
+rows_text kinds rows = with_ends (map (row_line kinds) rows ++ rows_line (length rows) ∷ [])

@@ -19,3 +19,7 @@ pub record Writes (old new : Option (List ℕ)) (failed_old failed_new : ℕ) (r
     (text : List ℕ) : Type 0 where
   pub whole : OnOk result (Took old new text × (failed_new ≡ failed_old))
   pub part : IfErr result (λ e. (e ≡ refusal.Output) × TookBeginning old new text × Raised failed_old failed_new)
+
+-- the same of a sink, by what it has taken and how often it failed, between two moments
+abbrev pub Wrote : {W : Type 0} → (W → Option (List ℕ)) → (W → ℕ) → W → W → Result (Unit {0}) Refusal → List ℕ → Type 0
+Wrote taken failed old new result text = Writes (taken old) (taken new) (failed old) (failed new) result text

@@ -1,6 +1,7 @@
 -- The tokens of a line, told from the left.
-use Rattle.std.specs.Prelude.{ℕ, Bool, false, ◌||◌, ◌&&◌, List, [], ◌∷◌, ◌++◌, drop, slice_index, ◌==◌, if◌then◌else◌}
+use Rattle.std.specs.Prelude.{ℕ, Bool, false, ◌||◌, ◌&&◌, List, [], ◌∷◌, ◌++◌, drop, slice_index, ◌==◌, if◌then◌else◌, ◌≡◌, ◌<◌, ◌+◌, length, take}
 use Rattle.sw_rows.specs.Header.{is_name_byte}
+use Rattle.sw_rows.specs.declared.texts.TheConstants.{MOST_BYTES_OF_TEXT}
 use Rattle.sw_lang.specs.declared.token.Op.{Op}
 use Rattle.sw_lang.specs.declared.token.Op.TheVariants.{Lt, Le, Eq, Ge, Gt}
 use Rattle.sw_lang.specs.declared.token.Token.{Token}
@@ -101,3 +102,15 @@ tokens text = tokens_after (run []) text
 abbrev pub after_blanks : List ℕ → List ℕ
 after_blanks [] = []
 after_blanks (b ∷ bs) = if is_blank b then after_blanks bs else b ∷ bs
+
+-- a text that begins behind a quote has no quote that closes it; or the n-th byte is that quote
+abbrev pub IsUnclosed : List ℕ → Type 0
+IsUnclosed text = tokens_after (inside []) text ≡ stray ∷ []
+
+abbrev pub IsClosedAt : List ℕ → ℕ → Type 0
+IsClosedAt text n =
+    tokens_after (inside []) text ≡ quoted (undoubled (take n text)) ∷ tokens (drop (n + 1) text)
+
+-- the text between quotes is longer than that of a cell may be
+abbrev pub IsTooLong : List ℕ → Type 0
+IsTooLong raw = MOST_BYTES_OF_TEXT < length (undoubled raw)

@@ -1,9 +1,8 @@
 //! The texts of a line, made known before it is read.
 
-ghost use Rattle.std.specs.Prelude.{◌≡◌, [], ◌∷◌, true, MatchOption, IfErr, OnErr, OnOk};
+ghost use Rattle.std.specs.Prelude.{◌≡◌, [], true, MatchOption, IfErr, OnErr, OnOk};
 ghost use Rattle.sw_rows.specs.Header.{has_texts};
-ghost use Rattle.sw_rows.specs.Texts.{is_text};
-ghost use Rattle.sw_lang.specs.Learning.{knowing, learned, quoted_text, quoted_texts};
+ghost use Rattle.sw_lang.specs.Learning.{knowing, learned, quoted_text, quoted_texts, Quotes};
 ghost use Rattle.sw_lang.specs.Tokens.{tok, tokens};
 
 use crate::parse::{MOST_LINE, is_comment};
@@ -13,8 +12,7 @@ use sw_rows::{MOST_BYTES_OF_TEXT, Refusal, Schema, read_text};
 
 /// The text of a quoted token, in this buffer, where it may be the text of a cell.
 fn quoted_text<'b>(token: Token, buffer: &'b mut [u8; MOST_BYTES_OF_TEXT]) -> Option<&'b str>
-    ensures { MatchOption result (quoted_text (tok token.entry) ≡ [])
-        (λ text. (quoted_text (tok token.entry) ≡ text.now ∷ []) × (is_text text.now ≡ true)) }
+    ensures { MatchOption result (quoted_text (tok token.entry) ≡ []) (λ text. Quotes (tok token.entry) text.now) }
 {
     let Token::Quoted(raw) = token else {
         return None;

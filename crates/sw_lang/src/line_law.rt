@@ -1,23 +1,21 @@
 //! Laws of the grammar of lines. Each function has no body to speak of: its contract is the law.
 
-ghost use Rattle.std.specs.Prelude.{ℤ, IsUtf8, ◌≡◌, ◌≤◌, ◌+◌, ◌*◌, ◌==◌, ℕ, false, List, [], ◌∷◌, ◌++◌, length, codes, slice_index, fold, map, Ok, Option};
+ghost use Rattle.std.specs.Prelude.{ℤ, IsUtf8, ◌≡◌, ◌≤◌, ◌+◌, ◌*◌, ◌==◌, ℕ, false, List, [], length, codes, slice_index, fold, map};
 ghost use Rattle.sw_lang.specs.declared.term.Term.{Term};
 ghost use Rattle.sw_rows.specs.Header.{kinds_of};
-ghost use Rattle.sw_rows.specs.TextRows.{AsksOfTexts, IsRowCoded};
+ghost use Rattle.sw_rows.specs.TextRows.{AsksOfTexts};
 ghost use Rattle.sw_rows.specs.declared.query.Query.{Query};
-ghost use Rattle.sw_lang.specs.Fits.{FitsCells, FitsQuery};
+ghost use Rattle.sw_lang.specs.Fits.{FitsQuery};
 ghost use Rattle.sw_lang.specs.Terms.{add_term, conditions};
 ghost use Rattle.sw_lang.specs.Agreement.{FindsAllRelated, FindsRelated};
 ghost use Rattle.sw_lang.specs.Grammar.{IsLine};
 ghost use Rattle.sw_lang.specs.Cuts.{IsCuts};
 ghost use Rattle.sw_lang.specs.CutsReading.{cuts_at};
-ghost use Rattle.sw_rows.specs.Header.{Column, IsSchema};
-ghost use Rattle.sw_rows.specs.declared.query.Call.{Call};
-ghost use Rattle.sw_lang.specs.Learning.{knowing};
-ghost use Rattle.sw_lang.specs.ReadBack.{PrintedCallsAreLines, PrintedCallsAreRead};
+ghost use Rattle.sw_rows.specs.Header.{Column};
+ghost use Rattle.sw_lang.specs.ReadBack.{PrintedCallsAreLines, PrintedCallsAreRead, MakesCodedRow, IsOneToken, KeepsItsCall};
 ghost use Rattle.sw_lang.specs.Reading.{line_at};
 ghost use Rattle.sw_lang.specs.Replies.{doubled, quoted_text};
-ghost use Rattle.sw_lang.specs.Tokens.{quoted, tokens, undoubled};
+ghost use Rattle.sw_lang.specs.Tokens.{undoubled};
 ghost use Rattle.sw_lang.specs.Examples.{calls, cities, cut_texts, mixed, mixed_cuts, printed_lines, printed_of, refusals, text_lines, text_printed, three};
 
 /// The format's examples are read as the format says.
@@ -58,9 +56,7 @@ pub fn lines_are_read_as_related()
 /// What is read of a line under a schema is read of it under the schema that knows more texts, as that which has
 /// learned further lines.
 pub fn lines_keep_their_calls()
-    ensures { (schema : List Column) (more : List (List ℕ)) (text : List ℕ) (call : Option Call)
-        → IsSchema schema → IsSchema (knowing more schema) → line_at schema text ≡ Ok call
-        → line_at (knowing more schema) text ≡ Ok call }
+    ensures { (schema : List Column) (more : List (List ℕ)) (text : List ℕ) → KeepsItsCall schema more text }
 {}
 
 /// Where a line is a call, what `write_call` prints of the call is a line too, of at most 4,096 bytes, and is the same
@@ -73,8 +69,7 @@ pub fn printed_calls_are_read()
 /// What `write_quoted` writes of a text is one token of a line, a quoted text of just these bytes, whatever follows but
 /// a quote. It is at most twice as long as the text, its two quotes aside.
 pub fn quoted_texts_are_read_back()
-    ensures read { (text rest : List ℕ) → (slice_index rest 0 == 39) ≡ false
-        → tokens (quoted_text text ++ rest) ≡ quoted text ∷ tokens rest }
+    ensures read { (text rest : List ℕ) → (slice_index rest 0 == 39) ≡ false → IsOneToken text rest }
     ensures same { (text : List ℕ) → undoubled (doubled text) ≡ text }
     ensures few_bytes { (text : List ℕ) → length (quoted_text text) ≤ 2 + 2 * length text }
     ensures utf8 { (text : List ℕ) → IsUtf8 text → IsUtf8 (quoted_text text) }
@@ -85,8 +80,7 @@ pub fn quoted_texts_are_read_back()
 /// texts: so that answers to it are answers over texts (`sw_rows::text_answers`).
 pub fn lines_ask_of_texts()
     ensures queries { (schema : List Column) (q : Query) → FitsQuery schema q → AsksOfTexts (kinds_of schema) q }
-    ensures rows { (schema : List Column) (key : ℕ) (cells : List ℤ) → FitsCells (kinds_of schema) cells
-        → IsRowCoded (kinds_of schema) (record { key = key; cells = cells }) }
+    ensures rows { (schema : List Column) (key : ℕ) (cells : List ℤ) → MakesCodedRow schema key cells }
 {}
 
 /// Reading a text of cuts from left to right finds just what the relation of cuts relates to the text.

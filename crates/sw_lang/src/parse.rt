@@ -3,7 +3,7 @@
 ghost use Rattle.std.specs.Prelude.{◌≡◌, ◌<◌, ◌≤◌, [], ℤ, List, length, IfOk, IfSome, ◌==◌};
 ghost use Rattle.sw_lang.specs.Shown.{AreSound, domain_of};
 ghost use Rattle.sw_lang.specs.Agreement.{AnswersRelated};
-ghost use Rattle.sw_lang.specs.Reading.{aggregate_at, asked, call_at, call_of, cells_at, delete_at, delete_key, delete_where, first_by, insert_at, is_comment, line_at, name_of, names_at, next_value, nothing_left, past_comma, refusal_of, refusal_over_known, refused, refused_over_known, select_at, term_at, terms_at, where_at, Answers, Gives, Tells};
+ghost use Rattle.sw_lang.specs.Reading.{aggregate_at, asked, call_at, call_of, cells_at, delete_at, delete_key, delete_where, first_by, insert_at, is_comment, line_at, name_of, names_at, nothing_left, past_comma, refusal_of, refusal_over_known, refused, refused_over_known, select_at, term_at, terms_at, where_at, Answers, Gives, Tells, TellsNext, TellsRest};
 ghost use Rattle.sw_lang.specs.Tokens.{tok, tokens};
 ghost use Rattle.sw_lang.specs.Grammar.{IsLine};
 ghost use Rattle.sw_lang.specs.Fits.{FitsCall};
@@ -148,8 +148,7 @@ fn max_at(alloc: Global, schema: &Schema, text: &[u8]) -> Result<Call, ParseErro
 /// The bytes past the comma that stands before a value, or all of them before the first.
 #[tactic(auto, unfolding(crate::specs::Reading::past_comma))]
 fn past_comma(is_first: bool, text: &[u8]) -> Result<&[u8], Fault>
-    ensures gives { (values : List ℤ) → is_first ≡ (length values == 0)
-        → Tells (λ rest. tokens rest.now) result (past_comma values (tokens text.now)) }
+    ensures gives { (zs : List ℤ) → is_first ≡ (length zs == 0) → TellsRest result (past_comma zs (tokens text.now)) }
 {
     if is_first {
         return Ok(text);
@@ -170,9 +169,7 @@ fn next_value<'a>(
     text: &'a [u8],
 ) -> Result<(i64, &'a [u8]), Fault>
     requires { AreSound values }
-    ensures { (before : List ℤ) → is_first ≡ (length before == 0)
-        → Tells (λ p. (p.0, tokens p.1.now)) result
-        (next_value before (domain_of values.entry) (tokens text.now)) }
+    ensures { (zs : List ℤ) → is_first ≡ (length zs == 0) → TellsNext zs (domain_of values.entry) text.now result }
 {
     let rest = past_comma(is_first, text)?;
     let (value, rest) = value_at(values, rest)?;

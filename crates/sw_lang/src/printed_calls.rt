@@ -1,11 +1,10 @@
 //! Calls go out as text.
 
-ghost use Rattle.std.specs.Prelude.{◌≡◌, ◌++◌, ◌||◌, codes, decimal, false, is_some, map};
-ghost use Rattle.sw_lang.specs.PrintedCalls.{call_text, comparison, cond_terms, equal_terms, text_terms, joiner, lower_terms, more_names, name_at, names_text, terms_text, upper_terms, want_text, where_text};
-ghost use Rattle.sw_lang.specs.Replies.{cell_text, cells_text};
-ghost use Rattle.sw_lang.specs.Sinks.{Writes};
+ghost use Rattle.std.specs.Prelude.{◌≡◌, ◌++◌, ◌||◌, codes, decimal, false, is_some};
+ghost use Rattle.sw_lang.specs.PrintedCalls.{call_text, comparison, cond_terms, joiner, name_at, terms_text, want_text, where_text, attrs_text, bounds_text, equal_text, lower_text, more_attrs, query_text, row_text, term_text, text_cond_text, upper_text};
+ghost use Rattle.sw_lang.specs.Replies.{cell_text};
+ghost use Rattle.sw_lang.specs.Sinks.{Wrote};
 ghost use Rattle.sw_lang.specs.Shown.{AreSound, domain_of};
-ghost use Rattle.sw_rows.specs.Header.{kinds_of};
 
 use crate::domain::{AttrValues, values_or_int};
 use crate::printed_cells::write_cell;
@@ -16,8 +15,7 @@ use sw_rows::{Bound, Call, Cond, Query, Refusal, Schema, Sink, Want};
 
 /// The name of an attribute.
 fn write_name<W: Sink>(schema: &Schema, attr: usize, out: &mut W) -> Result<(), Refusal>
-    ensures { Writes (W.taken out.old) (W.taken out.new) (W.failed out.old) (W.failed out.new) result
-        (name_at schema.now attr) }
+    ensures { Wrote W.taken W.failed out.old out.new result (name_at schema.now attr) }
 {
     if attr < schema.len() {
         write_all(out, schema.name(attr).as_bytes())
@@ -28,16 +26,14 @@ fn write_name<W: Sink>(schema: &Schema, attr: usize, out: &mut W) -> Result<(), 
 
 /// A comma, a space and a name.
 fn write_next_name<W: Sink>(schema: &Schema, attr: usize, out: &mut W) -> Result<(), Refusal>
-    ensures { Writes (W.taken out.old) (W.taken out.new) (W.failed out.old) (W.failed out.new) result
-        (codes ", " ++ name_at schema.now attr) }
+    ensures { Wrote W.taken W.failed out.old out.new result (codes ", " ++ name_at schema.now attr) }
 {
     write_all(out, b", ")?;
     write_name(schema, attr, out)
 }
 
 fn write_more_names<W: Sink>(schema: &Schema, attrs: &[usize], out: &mut W) -> Result<(), Refusal>
-    ensures { Writes (W.taken out.old) (W.taken out.new) (W.failed out.old) (W.failed out.new) result
-        (more_names (map (name_at schema.now) attrs.now)) }
+    ensures { Wrote W.taken W.failed out.old out.new result (more_attrs schema.now attrs.now) }
 {
     let mut attrs = attrs;
     while let Some((attr, later)) = attrs.split_first() {
@@ -53,16 +49,14 @@ fn write_some_names<W: Sink>(
     later: &[usize],
     out: &mut W,
 ) -> Result<(), Refusal>
-    ensures { Writes (W.taken out.old) (W.taken out.new) (W.failed out.old) (W.failed out.new) result
-        (name_at schema.now attr ++ more_names (map (name_at schema.now) later.now)) }
+    ensures { Wrote W.taken W.failed out.old out.new result (name_at schema.now attr ++ more_attrs schema.now later.now) }
 {
     write_name(schema, attr, out)?;
     write_more_names(schema, later, out)
 }
 
 fn write_names<W: Sink>(schema: &Schema, attrs: &[usize], out: &mut W) -> Result<(), Refusal>
-    ensures { Writes (W.taken out.old) (W.taken out.new) (W.failed out.old) (W.failed out.new) result
-        (names_text (map (name_at schema.now) attrs.now)) }
+    ensures { Wrote W.taken W.failed out.old out.new result (attrs_text schema.now attrs.now) }
 {
     match attrs.split_first() {
         Some((attr, later)) => write_some_names(schema, *attr, later, out),
@@ -71,8 +65,7 @@ fn write_names<W: Sink>(schema: &Schema, attrs: &[usize], out: &mut W) -> Result
 }
 
 fn write_select<W: Sink>(schema: &Schema, attrs: &[usize], out: &mut W) -> Result<(), Refusal>
-    ensures { Writes (W.taken out.old) (W.taken out.new) (W.failed out.old) (W.failed out.new) result
-        (codes "select " ++ names_text (map (name_at schema.now) attrs.now)) }
+    ensures { Wrote W.taken W.failed out.old out.new result (codes "select " ++ attrs_text schema.now attrs.now) }
 {
     write_all(out, b"select ")?;
     write_names(schema, attrs, out)
@@ -85,8 +78,7 @@ fn write_aggregate<W: Sink>(
     attr: usize,
     out: &mut W,
 ) -> Result<(), Refusal>
-    ensures { Writes (W.taken out.old) (W.taken out.new) (W.failed out.old) (W.failed out.new) result
-        (word.now ++ name_at schema.now attr) }
+    ensures { Wrote W.taken W.failed out.old out.new result (word.now ++ name_at schema.now attr) }
 {
     write_all(out, word)?;
     write_name(schema, attr, out)
@@ -94,8 +86,7 @@ fn write_aggregate<W: Sink>(
 
 /// What is asked for.
 fn write_want<W: Sink>(schema: &Schema, want: &Want, out: &mut W) -> Result<(), Refusal>
-    ensures { Writes (W.taken out.old) (W.taken out.new) (W.failed out.old) (W.failed out.new) result
-        (want_text schema.now want.now) }
+    ensures { Wrote W.taken W.failed out.old out.new result (want_text schema.now want.now) }
 {
     match want {
         Want::Rows(attrs) => write_select(schema, attrs.as_slice(), out),
@@ -114,8 +105,7 @@ fn write_compared<W: Sink>(
     out: &mut W,
 ) -> Result<(), Refusal>
     requires { AreSound values }
-    ensures { Writes (W.taken out.old) (W.taken out.new) (W.failed out.old) (W.failed out.new) result
-        (op.now ++ cell_text (domain_of values.entry) value.now) }
+    ensures { Wrote W.taken W.failed out.old out.new result (op.now ++ cell_text (domain_of values.entry) value.now) }
 {
     write_all(out, op)?;
     write_cell(values, value, out)
@@ -128,15 +118,14 @@ fn write_comparison<W: Sink>(
     value: &i64,
     out: &mut W,
 ) -> Result<(), Refusal>
-    ensures { Writes (W.taken out.old) (W.taken out.new) (W.failed out.old) (W.failed out.new) result
-        (comparison schema.now attr op.now value.now) }
+    ensures { Wrote W.taken W.failed out.old out.new result (comparison schema.now attr op.now value.now) }
 {
     write_name(schema, attr, out)?;
     write_compared(values_or_int(schema, attr), op, value, out)
 }
 
 fn write_joiner<W: Sink>(started: bool, out: &mut W) -> Result<(), Refusal>
-    ensures { Writes (W.taken out.old) (W.taken out.new) (W.failed out.old) (W.failed out.new) result (joiner started) }
+    ensures { Wrote W.taken W.failed out.old out.new result (joiner started) }
 {
     write_all(out, if started { b" and " } else { b" where " })
 }
@@ -150,8 +139,7 @@ fn write_term<W: Sink>(
     value: &i64,
     out: &mut W,
 ) -> Result<(), Refusal>
-    ensures { Writes (W.taken out.old) (W.taken out.new) (W.failed out.old) (W.failed out.new) result
-        (joiner started ++ comparison schema.now attr op.now value.now) }
+    ensures { Wrote W.taken W.failed out.old out.new result (term_text started schema.now attr op.now value.now) }
 {
     write_joiner(started, out)?;
     write_comparison(schema, attr, op, value, out)
@@ -163,8 +151,7 @@ fn write_lower<W: Sink>(
     cond: &Cond,
     out: &mut W,
 ) -> Result<(), Refusal>
-    ensures { Writes (W.taken out.old) (W.taken out.new) (W.failed out.old) (W.failed out.new) result
-        (terms_text started (lower_terms schema.now cond.now.attr cond.now.lower)) }
+    ensures { Wrote W.taken W.failed out.old out.new result (lower_text started schema.now cond.now) }
 {
     match &cond.lower {
         Some(Bound::Before(value)) => write_term(schema, started, cond.attr, b" >= ", value, out),
@@ -179,8 +166,7 @@ fn write_upper<W: Sink>(
     cond: &Cond,
     out: &mut W,
 ) -> Result<(), Refusal>
-    ensures { Writes (W.taken out.old) (W.taken out.new) (W.failed out.old) (W.failed out.new) result
-        (terms_text started (upper_terms schema.now cond.now.attr cond.now.upper)) }
+    ensures { Wrote W.taken W.failed out.old out.new result (upper_text started schema.now cond.now) }
 {
     match &cond.upper {
         Some(Bound::Before(value)) => write_term(schema, started, cond.attr, b" < ", value, out),
@@ -204,8 +190,7 @@ fn write_equal<W: Sink>(
     texts: (&i64, &i64),
     out: &mut W,
 ) -> Result<(), Refusal>
-    ensures { Writes (W.taken out.old) (W.taken out.new) (W.failed out.old) (W.failed out.new) result
-        (terms_text started (equal_terms schema.now attr texts.entry.0.now texts.entry.1.now)) }
+    ensures { Wrote W.taken W.failed out.old out.new result (equal_text started schema.now attr texts.entry) }
 {
     let (lower, upper) = texts;
     write_term(schema, started, attr, b" = ", lower, out)?;
@@ -222,9 +207,7 @@ fn write_bounds<W: Sink>(
     cond: &Cond,
     out: &mut W,
 ) -> Result<(), Refusal>
-    ensures { Writes (W.taken out.old) (W.taken out.new) (W.failed out.old) (W.failed out.new) result
-        (terms_text started (lower_terms schema.now cond.now.attr cond.now.lower
-        ++ upper_terms schema.now cond.now.attr cond.now.upper)) }
+    ensures { Wrote W.taken W.failed out.old out.new result (bounds_text started schema.now cond.now) }
 {
     write_lower(schema, started, cond, out)?;
     write_upper(schema, continues(started, cond.lower), cond, out)
@@ -237,8 +220,7 @@ fn write_text_cond<W: Sink>(
     cond: &Cond,
     out: &mut W,
 ) -> Result<(), Refusal>
-    ensures { Writes (W.taken out.old) (W.taken out.new) (W.failed out.old) (W.failed out.new) result
-        (terms_text started (text_terms schema.now cond.now.attr cond.now.lower cond.now.upper)) }
+    ensures { Wrote W.taken W.failed out.old out.new result (text_cond_text started schema.now cond.now) }
 {
     match (&cond.lower, &cond.upper) {
         (Some(Bound::Before(lower)), Some(Bound::After(upper))) => {
@@ -255,8 +237,7 @@ fn write_cond<W: Sink>(
     cond: &Cond,
     out: &mut W,
 ) -> Result<(), Refusal>
-    ensures { Writes (W.taken out.old) (W.taken out.new) (W.failed out.old) (W.failed out.new) result
-        (terms_text started (cond_terms schema.now cond.now)) }
+    ensures { Wrote W.taken W.failed out.old out.new result (terms_text started (cond_terms schema.now cond.now)) }
 {
     if are_texts(values_or_int(schema, cond.attr)) {
         write_text_cond(schema, started, cond, out)
@@ -274,8 +255,7 @@ fn starts(started: bool, cond: &Cond) -> bool
 
 /// The comparisons of conditions.
 fn write_where<W: Sink>(schema: &Schema, conds: &[Cond], out: &mut W) -> Result<(), Refusal>
-    ensures { Writes (W.taken out.old) (W.taken out.new) (W.failed out.old) (W.failed out.new) result
-        (where_text schema.now false conds.now) }
+    ensures { Wrote W.taken W.failed out.old out.new result (where_text schema.now false conds.now) }
 {
     let mut conds = conds;
     let mut started = false;
@@ -288,8 +268,7 @@ fn write_where<W: Sink>(schema: &Schema, conds: &[Cond], out: &mut W) -> Result<
 }
 
 fn write_query<W: Sink>(schema: &Schema, query: &Query, out: &mut W) -> Result<(), Refusal>
-    ensures { Writes (W.taken out.old) (W.taken out.new) (W.failed out.old) (W.failed out.new) result
-        (want_text schema.now query.now.want ++ where_text schema.now false query.now.conds) }
+    ensures { Wrote W.taken W.failed out.old out.new result (query_text schema.now query.now) }
 {
     write_want(schema, &query.want, out)?;
     write_where(schema, query.conds.as_slice(), out)
@@ -300,31 +279,27 @@ const ATTRS: [usize; 8] = [0, 1, 2, 3, 4, 5, 6, 7];
 
 /// A cell for each attribute.
 fn write_row_cells<W: Sink>(schema: &Schema, cells: &[i64], out: &mut W) -> Result<(), Refusal>
-    ensures { Writes (W.taken out.old) (W.taken out.new) (W.failed out.old) (W.failed out.new) result
-        (cells_text (kinds_of schema.now) cells.now) }
+    ensures { Wrote W.taken W.failed out.old out.new result (row_text schema.now cells.now) }
 {
     write_cells(schema, &ATTRS[..schema.len()], cells, out)
 }
 
 fn write_insert<W: Sink>(schema: &Schema, cells: &[i64], out: &mut W) -> Result<(), Refusal>
-    ensures { Writes (W.taken out.old) (W.taken out.new) (W.failed out.old) (W.failed out.new) result
-        (codes "insert " ++ cells_text (kinds_of schema.now) cells.now) }
+    ensures { Wrote W.taken W.failed out.old out.new result (codes "insert " ++ row_text schema.now cells.now) }
 {
     write_all(out, b"insert ")?;
     write_row_cells(schema, cells, out)
 }
 
 fn write_delete<W: Sink>(key: u64, out: &mut W) -> Result<(), Refusal>
-    ensures { Writes (W.taken out.old) (W.taken out.new) (W.failed out.old) (W.failed out.new) result
-        (codes "delete " ++ decimal key) }
+    ensures { Wrote W.taken W.failed out.old out.new result (codes "delete " ++ decimal key) }
 {
     write_all(out, b"delete ")?;
     write_number(key, out)
 }
 
 fn write_delete_where<W: Sink>(schema: &Schema, conds: &[Cond], out: &mut W) -> Result<(), Refusal>
-    ensures { Writes (W.taken out.old) (W.taken out.new) (W.failed out.old) (W.failed out.new) result
-        (codes "delete" ++ where_text schema.now false conds.now) }
+    ensures { Wrote W.taken W.failed out.old out.new result (codes "delete" ++ where_text schema.now false conds.now) }
 {
     write_all(out, b"delete")?;
     write_where(schema, conds, out)
@@ -336,8 +311,7 @@ fn write_delete_where<W: Sink>(schema: &Schema, conds: &[Cond], out: &mut W) -> 
 /// as equality with the text of its lower bound, and with that of its upper bound where it is another. Takes no memory.
 /// Refused `Output` where the sink fails; then a beginning of the text went out.
 pub fn write_call<W: Sink>(schema: &Schema, call: &Call, out: &mut W) -> Result<(), Refusal>
-    ensures { Writes (W.taken out.old) (W.taken out.new) (W.failed out.old) (W.failed out.new) result
-        (call_text schema.now call.now) }
+    ensures { Wrote W.taken W.failed out.old out.new result (call_text schema.now call.now) }
 {
     match call {
         Call::Select(query) => write_query(schema, query, out),

@@ -2,7 +2,7 @@
 
 ghost use Rattle.std.specs.Prelude.{[], ◌≡◌, ◌<◌, ◌≤◌, ◌+◌, ◌^◌, ◌++◌, codes, decimal};
 ghost use Rattle.sw_lang.specs.Replies.{cell_text, extreme_text, fixed_text, padded_digits, sum_text, with_point};
-ghost use Rattle.sw_lang.specs.Sinks.{Writes};
+ghost use Rattle.sw_lang.specs.Sinks.{Wrote};
 ghost use Rattle.sw_rows.specs.Domains.{domain};
 ghost use Rattle.sw_rows.specs.Domains as kind;
 ghost use Rattle.sw_rows.specs.Header.{texts_of};
@@ -31,8 +31,7 @@ fn write_fraction<W: Sink>(places: u8, fraction: u64, out: &mut W) -> Result<(),
     requires some { 1 ≤ places }
     requires few { places ≤ 6 }
     requires below { fraction < 10 ^ places }
-    ensures { Writes (W.taken out.old) (W.taken out.new) (W.failed out.old) (W.failed out.new) result
-        (codes "." ++ padded_digits places (decimal fraction)) }
+    ensures { Wrote W.taken W.failed out.old out.new result (codes "." ++ padded_digits places (decimal fraction)) }
 {
     let mut text = *b".000000";
     let end = places as usize + 1;
@@ -44,8 +43,7 @@ fn write_fraction<W: Sink>(places: u8, fraction: u64, out: &mut W) -> Result<(),
 fn write_with_point<W: Sink>(places: u8, units: u128, out: &mut W) -> Result<(), Refusal>
     requires some { 1 ≤ places }
     requires few { places ≤ 6 }
-    ensures { Writes (W.taken out.old) (W.taken out.new) (W.failed out.old) (W.failed out.new) result
-        (with_point places units) }
+    ensures { Wrote W.taken W.failed out.old out.new result (with_point places units) }
 {
     let one = power_of_ten(places);
     let fraction = (units % one) as u64;
@@ -57,8 +55,7 @@ fn write_with_point<W: Sink>(places: u8, units: u128, out: &mut W) -> Result<(),
 fn write_below_zero<W: Sink>(places: u8, units: u128, out: &mut W) -> Result<(), Refusal>
     requires some { 1 ≤ places }
     requires few { places ≤ 6 }
-    ensures { Writes (W.taken out.old) (W.taken out.new) (W.failed out.old) (W.failed out.new) result
-        (codes "-" ++ with_point places units) }
+    ensures { Wrote W.taken W.failed out.old out.new result (codes "-" ++ with_point places units) }
 {
     write_all(out, b"-")?;
     write_with_point(places, units, out)
@@ -68,8 +65,7 @@ fn write_below_zero<W: Sink>(places: u8, units: u128, out: &mut W) -> Result<(),
 fn write_fixed<W: Sink>(places: u8, units: i128, out: &mut W) -> Result<(), Refusal>
     requires some { 1 ≤ places }
     requires few { places ≤ 6 }
-    ensures { Writes (W.taken out.old) (W.taken out.new) (W.failed out.old) (W.failed out.new) result
-        (fixed_text places units) }
+    ensures { Wrote W.taken W.failed out.old out.new result (fixed_text places units) }
 {
     if units < 0 {
         write_below_zero(places, units.unsigned_abs(), out)
@@ -81,8 +77,7 @@ fn write_fixed<W: Sink>(places: u8, units: i128, out: &mut W) -> Result<(), Refu
 /// Writes a number or a flag of a kind.
 fn write_number_cell<W: Sink>(kind: Kind, cell: &i64, out: &mut W) -> Result<(), Refusal>
     requires { AreSound (values.Numbers kind) }
-    ensures { Writes (W.taken out.old) (W.taken out.new) (W.failed out.old) (W.failed out.new) result
-        (cell_text (domain [] kind) cell.now) }
+    ensures { Wrote W.taken W.failed out.old out.new result (cell_text (domain [] kind) cell.now) }
 {
     match kind {
         Kind::Int => write_number(*cell, out),
@@ -95,8 +90,7 @@ fn write_number_cell<W: Sink>(kind: Kind, cell: &i64, out: &mut W) -> Result<(),
 
 /// Writes the text of a code.
 fn write_text_cell<W: Sink>(schema: &Schema, cell: &i64, out: &mut W) -> Result<(), Refusal>
-    ensures { Writes (W.taken out.old) (W.taken out.new) (W.failed out.old) (W.failed out.new) result
-        (cell_text (kind.Text (texts_of schema.now)) cell.now) }
+    ensures { Wrote W.taken W.failed out.old out.new result (cell_text (kind.Text (texts_of schema.now)) cell.now) }
 {
     match schema.text(*cell) {
         Some(text) => write_quoted(text.as_bytes(), out),
@@ -111,8 +105,7 @@ pub(crate) fn write_cell<W: Sink>(
     out: &mut W,
 ) -> Result<(), Refusal>
     requires { AreSound values }
-    ensures { Writes (W.taken out.old) (W.taken out.new) (W.failed out.old) (W.failed out.new) result
-        (cell_text (domain_of values.entry) cell.now) }
+    ensures { Wrote W.taken W.failed out.old out.new result (cell_text (domain_of values.entry) cell.now) }
 {
     match values {
         AttrValues::Numbers(kind) => write_number_cell(kind, cell, out),
@@ -123,8 +116,7 @@ pub(crate) fn write_cell<W: Sink>(
 /// Writes a sum; one of codes, for which no line asks, is a whole number.
 pub(crate) fn write_sum<W: Sink>(values: AttrValues, sum: i128, out: &mut W) -> Result<(), Refusal>
     requires { AreSound values }
-    ensures { Writes (W.taken out.old) (W.taken out.new) (W.failed out.old) (W.failed out.new) result
-        (sum_text (domain_of values.entry) sum) }
+    ensures { Wrote W.taken W.failed out.old out.new result (sum_text (domain_of values.entry) sum) }
 {
     match values {
         AttrValues::Numbers(Kind::Fix(places)) => write_fixed(places, sum, out),
@@ -141,8 +133,7 @@ pub(crate) fn write_extreme<W: Sink>(
     out: &mut W,
 ) -> Result<(), Refusal>
     requires { AreSound values }
-    ensures { Writes (W.taken out.old) (W.taken out.new) (W.failed out.old) (W.failed out.new) result
-        (extreme_text (domain_of values.entry) extreme) }
+    ensures { Wrote W.taken W.failed out.old out.new result (extreme_text (domain_of values.entry) extreme) }
 {
     match extreme {
         Some(cell) => write_cell(values, &cell, out),

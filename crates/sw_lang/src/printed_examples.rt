@@ -4,7 +4,7 @@
 
 ghost use Rattle.std.specs.Prelude.{◌≡◌, ◌∷◌, ◌++◌, [], codes, negsuc, pos};
 ghost use Rattle.sw_lang.specs.PrintedCalls.{call_text};
-ghost use Rattle.sw_lang.specs.PrintedExamples.{abc, above, asking, asking_where, at_least, at_most, below, cond, priced, row};
+ghost use Rattle.sw_lang.specs.PrintedExamples.{abc, asking, asking_where, cond, priced, row, between, cheap_sum, deleting_by_two, equal_to, inserting, rows_by_two, short_rows, rows_bytes, two_rows};
 ghost use Rattle.sw_rows.specs.Domains as kind;
 ghost use Rattle.sw_lang.specs.Replies.{cell_text, extreme_text, fixed_text, reply_bytes, sum_text};
 
@@ -33,15 +33,10 @@ pub fn flags_and_sums()
 
 /// Rows are lines of their key and their cells, and then how many there are.
 pub fn rows_as_lines()
-    ensures one_cell { reply_bytes abc (asking (Want.Rows (1 ∷ [])))
-        (Reply.Rows (row 1 (pos 7 ∷ []) ∷ row 3 (pos 5 ∷ []) ∷ []))
-        ≡ codes "1: 7\n3: 5\n(2 rows)\n" }
-    ensures two_cells { reply_bytes abc (asking (Want.Rows (1 ∷ 2 ∷ [])))
-        (Reply.Rows (row 1 (pos 7 ∷ pos 1 ∷ []) ∷ row 3 (pos 5 ∷ pos 1 ∷ []) ∷ []))
-        ≡ codes "1: 7, 1\n3: 5, 1\n(2 rows)\n" }
-    ensures one_row { reply_bytes priced (asking (Want.Rows (0 ∷ []))) (Reply.Rows (row 2 (negsuc 24 ∷ []) ∷ []))
-        ≡ codes "2: -0.25\n(1 rows)\n" }
-    ensures no_rows { reply_bytes abc (asking (Want.Rows (0 ∷ []))) (Reply.Rows []) ≡ codes "(0 rows)\n" }
+    ensures one_cell { rows_bytes abc (1 ∷ []) short_rows ≡ codes "1: 7\n3: 5\n(2 rows)\n" }
+    ensures two_cells { rows_bytes abc (1 ∷ 2 ∷ []) two_rows ≡ codes "1: 7, 1\n3: 5, 1\n(2 rows)\n" }
+    ensures one_row { rows_bytes priced (0 ∷ []) (row 2 (negsuc 24 ∷ []) ∷ []) ≡ codes "2: -0.25\n(1 rows)\n" }
+    ensures no_rows { rows_bytes abc (0 ∷ []) [] ≡ codes "(0 rows)\n" }
 {}
 
 /// Other replies are a line each.
@@ -59,29 +54,17 @@ pub fn single_lines()
 
 /// A condition is printed by its bounds, the lower one first.
 pub fn conditions_as_comparisons()
-    ensures equal { call_text abc (asking_where Want.Count (cond 0 (at_least (pos 5)) (at_most (pos 5)) ∷ []))
-        ≡ codes "count where a >= 5 and a <= 5" }
-    ensures open_ends { call_text abc (asking_where Want.Count (cond 0 (above (pos 5)) (below (pos 9)) ∷ []))
-        ≡ codes "count where a > 5 and a < 9" }
-    ensures two { call_text abc (asking_where (Want.Rows (0 ∷ 2 ∷ []))
-        (cond 1 None (below (pos 6)) ∷ cond 0 (at_least (negsuc 9)) None ∷ []))
-        ≡ codes "select a, c where b < 6 and a >= -10" }
+    ensures equal { call_text abc (asking_where Want.Count (equal_to 0 5 ∷ [])) ≡ codes "count where a >= 5 and a <= 5" }
+    ensures open_ends { call_text abc (asking_where Want.Count (between 0 5 9 ∷ [])) ≡ codes "count where a > 5 and a < 9" }
+    ensures two { call_text abc rows_by_two ≡ codes "select a, c where b < 6 and a >= -10" }
     ensures without_bounds { call_text abc (asking_where (Want.Max 2) (cond 0 None None ∷ [])) ≡ codes "max c" }
-    ensures kinds { call_text priced (asking_where (Want.Sum 0)
-        (cond 1 (at_least (pos 1)) (at_most (pos 1)) ∷ cond 0 None (below (pos 20)) ∷ []))
-        ≡ codes "sum price where ok >= true and ok <= true and price < 0.20" }
+    ensures kinds { call_text priced cheap_sum ≡ codes "sum price where ok >= true and ok <= true and price < 0.20" }
 {}
 
 /// Inserts have a cell for each attribute, deletes a key or conditions.
 pub fn updates_as_words()
-    ensures insert { call_text abc
-        (Call.Insert (pos 1 ∷ pos 9 ∷ pos 0 ∷ pos 0 ∷ pos 0 ∷ pos 0 ∷ pos 0 ∷ pos 0 ∷ []))
-        ≡ codes "insert 1, 9, 0" }
-    ensures kinds { call_text priced
-        (Call.Insert (pos 750 ∷ pos 1 ∷ pos 0 ∷ pos 0 ∷ pos 0 ∷ pos 0 ∷ pos 0 ∷ pos 0 ∷ []))
-        ≡ codes "insert 7.50, true" }
+    ensures insert { call_text abc (inserting (1 ∷ 9 ∷ 0 ∷ [])) ≡ codes "insert 1, 9, 0" }
+    ensures kinds { call_text priced (inserting (750 ∷ 1 ∷ [])) ≡ codes "insert 7.50, true" }
     ensures delete { call_text abc (Call.Delete 18446744073709551615) ≡ codes "delete 18446744073709551615" }
-    ensures conditions { call_text abc
-        (Call.DeleteWhere (cond 0 (at_least (pos 12)) (at_most (pos 12)) ∷ cond 1 None (below (pos 6)) ∷ []))
-        ≡ codes "delete where a >= 12 and a <= 12 and b < 6" }
+    ensures conditions { call_text abc deleting_by_two ≡ codes "delete where a >= 12 and a <= 12 and b < 6" }
 {}

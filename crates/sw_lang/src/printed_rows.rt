@@ -1,10 +1,9 @@
 //! Rows go out as lines.
 
-ghost use Rattle.std.specs.Prelude.{◌≡◌, ◌++◌, ◌∷◌, [], codes, decimal, length, map};
-ghost use Rattle.sw_lang.specs.Replies.{cell_text, cells_text, kind_at, more_cells, row_line, rows_line, with_ends};
-ghost use Rattle.sw_lang.specs.Sinks.{Writes};
+ghost use Rattle.std.specs.Prelude.{◌≡◌, ◌++◌, ◌∷◌, codes, decimal, map};
+ghost use Rattle.sw_lang.specs.Replies.{cell_text, kind_at, more_cells, rows_line, kinds_at, row_shown, rows_text, shown, rows_shown};
+ghost use Rattle.sw_lang.specs.Sinks.{Wrote};
 ghost use Rattle.sw_lang.specs.Shown.{AreSound, domain_of};
-ghost use Rattle.sw_rows.specs.Replies.{reply_row};
 
 use crate::domain::{AttrValues, values_or_int};
 use crate::printed_cells::write_cell;
@@ -14,8 +13,7 @@ use sw_rows::{Refusal, ReplyRows, Schema, Sink};
 /// A comma, a space and a cell.
 fn write_next_cell<W: Sink>(values: AttrValues, cell: &i64, out: &mut W) -> Result<(), Refusal>
     requires { AreSound values }
-    ensures { Writes (W.taken out.old) (W.taken out.new) (W.failed out.old) (W.failed out.new) result
-        (codes ", " ++ cell_text (domain_of values.entry) cell.now) }
+    ensures { Wrote W.taken W.failed out.old out.new result (codes ", " ++ cell_text (domain_of values.entry) cell.now) }
 {
     write_all(out, b", ")?;
     write_cell(values, cell, out)
@@ -28,8 +26,7 @@ fn write_more_cells<W: Sink>(
     cells: &[i64],
     out: &mut W,
 ) -> Result<(), Refusal>
-    ensures { Writes (W.taken out.old) (W.taken out.new) (W.failed out.old) (W.failed out.new) result
-        (more_cells (map (kind_at schema.now) attrs.now) cells.now) }
+    ensures { Wrote W.taken W.failed out.old out.new result (more_cells (map (kind_at schema.now) attrs.now) cells.now) }
 {
     let mut attrs = attrs;
     let mut cells = cells;
@@ -53,8 +50,7 @@ fn write_some_cells<W: Sink>(
     after: &[i64],
     out: &mut W,
 ) -> Result<(), Refusal>
-    ensures { Writes (W.taken out.old) (W.taken out.new) (W.failed out.old) (W.failed out.new) result
-        (cells_text (map (kind_at schema.now) (attr ∷ later.now)) (cell.now ∷ after.now)) }
+    ensures { Wrote W.taken W.failed out.old out.new result (shown schema.now (attr ∷ later.now) (cell.now ∷ after.now)) }
 {
     write_cell(values_or_int(schema, attr), cell, out)?;
     write_more_cells(schema, later, after, out)
@@ -67,8 +63,7 @@ pub(crate) fn write_cells<W: Sink>(
     cells: &[i64],
     out: &mut W,
 ) -> Result<(), Refusal>
-    ensures { Writes (W.taken out.old) (W.taken out.new) (W.failed out.old) (W.failed out.new) result
-        (cells_text (map (kind_at schema.now) attrs.now) cells.now) }
+    ensures { Wrote W.taken W.failed out.old out.new result (shown schema.now attrs.now cells.now) }
 {
     let Some((attr, later)) = attrs.split_first() else {
         return Ok(());
@@ -86,8 +81,7 @@ fn write_after_key<W: Sink>(
     cells: &[i64],
     out: &mut W,
 ) -> Result<(), Refusal>
-    ensures { Writes (W.taken out.old) (W.taken out.new) (W.failed out.old) (W.failed out.new) result
-        (codes ": " ++ cells_text (map (kind_at schema.now) attrs.now) cells.now) }
+    ensures { Wrote W.taken W.failed out.old out.new result (codes ": " ++ shown schema.now attrs.now cells.now) }
 {
     write_all(out, b": ")?;
     write_cells(schema, attrs, cells, out)
@@ -101,8 +95,7 @@ fn write_row<W: Sink>(
     cells: &[i64],
     out: &mut W,
 ) -> Result<(), Refusal>
-    ensures { Writes (W.taken out.old) (W.taken out.new) (W.failed out.old) (W.failed out.new) result
-        (row_line (map (kind_at schema.now) attrs.now) (reply_row key cells.now)) }
+    ensures { Wrote W.taken W.failed out.old out.new result (row_shown schema.now attrs.now key cells.now) }
 {
     write_number(key, out)?;
     write_after_key(schema, attrs, cells, out)
@@ -116,8 +109,7 @@ fn write_row_line<W: Sink>(
     cells: &[i64],
     out: &mut W,
 ) -> Result<(), Refusal>
-    ensures { Writes (W.taken out.old) (W.taken out.new) (W.failed out.old) (W.failed out.new) result
-        (row_line (map (kind_at schema.now) attrs.now) (reply_row key cells.now) ++ codes "\n") }
+    ensures { Wrote W.taken W.failed out.old out.new result (row_shown schema.now attrs.now key cells.now ++ codes "\n") }
 {
     write_row(schema, attrs, key, cells, out)?;
     write_all(out, b"\n")
@@ -130,8 +122,7 @@ fn write_row_lines<W: Sink>(
     rows: &ReplyRows,
     out: &mut W,
 ) -> Result<(), Refusal>
-    ensures { Writes (W.taken out.old) (W.taken out.new) (W.failed out.old) (W.failed out.new) result
-        (with_ends (map (row_line (map (kind_at schema.now) attrs.now)) rows.now)) }
+    ensures { Wrote W.taken W.failed out.old out.new result (rows_shown schema.now attrs.now rows.now) }
 {
     let mut left = rows.left();
     while let Some((key, cells)) = left.next() {
@@ -142,8 +133,7 @@ fn write_row_lines<W: Sink>(
 
 /// How many rows there are, without the bracket before it.
 fn write_count_end<W: Sink>(count: usize, out: &mut W) -> Result<(), Refusal>
-    ensures { Writes (W.taken out.old) (W.taken out.new) (W.failed out.old) (W.failed out.new) result
-        ((decimal count ++ codes " rows)") ++ codes "\n") }
+    ensures { Wrote W.taken W.failed out.old out.new result ((decimal count ++ codes " rows)") ++ codes "\n") }
 {
     write_number(count, out)?;
     write_all(out, b" rows)\n")
@@ -151,8 +141,7 @@ fn write_count_end<W: Sink>(count: usize, out: &mut W) -> Result<(), Refusal>
 
 /// How many rows there are, as a line.
 fn write_rows_line<W: Sink>(count: usize, out: &mut W) -> Result<(), Refusal>
-    ensures { Writes (W.taken out.old) (W.taken out.new) (W.failed out.old) (W.failed out.new) result
-        (rows_line count ++ codes "\n") }
+    ensures { Wrote W.taken W.failed out.old out.new result (rows_line count ++ codes "\n") }
 {
     write_all(out, b"(")?;
     write_count_end(count, out)
@@ -165,8 +154,7 @@ pub(crate) fn write_rows<W: Sink>(
     rows: &ReplyRows,
     out: &mut W,
 ) -> Result<(), Refusal>
-    ensures { Writes (W.taken out.old) (W.taken out.new) (W.failed out.old) (W.failed out.new) result
-        (with_ends (map (row_line (map (kind_at schema.now) attrs.now)) rows.now ++ rows_line (length rows.now) ∷ [])) }
+    ensures { Wrote W.taken W.failed out.old out.new result (rows_text (kinds_at schema.now attrs.now) rows.now) }
 {
     write_row_lines(schema, attrs, rows, out)?;
     write_rows_line(rows.len(), out)

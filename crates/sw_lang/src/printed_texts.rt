@@ -2,7 +2,7 @@
 
 ghost use Rattle.std.specs.Prelude.{◌≡◌, ◌<◌, ◌++◌, ◌==◌, codes, length, position, IfSome};
 ghost use Rattle.sw_lang.specs.Replies.{doubled, quoted_text};
-ghost use Rattle.sw_lang.specs.Sinks.{Writes};
+ghost use Rattle.sw_lang.specs.Sinks.{Wrote};
 
 use crate::sinks::write_all;
 use sw_rows::{Refusal, Sink};
@@ -17,8 +17,7 @@ fn quote_at(text: &[u8]) -> Option<usize>
 
 /// Bytes and two quotes.
 fn write_run<W: Sink>(run: &[u8], out: &mut W) -> Result<(), Refusal>
-    ensures { Writes (W.taken out.old) (W.taken out.new) (W.failed out.old) (W.failed out.new) result
-        (run.now ++ codes "''") }
+    ensures { Wrote W.taken W.failed out.old out.new result (run.now ++ codes "''") }
 {
     write_all(out, run)?;
     write_all(out, b"''")
@@ -26,8 +25,7 @@ fn write_run<W: Sink>(run: &[u8], out: &mut W) -> Result<(), Refusal>
 
 /// Bytes, each quote twice.
 fn write_doubled<W: Sink>(text: &[u8], out: &mut W) -> Result<(), Refusal>
-    ensures { Writes (W.taken out.old) (W.taken out.new) (W.failed out.old) (W.failed out.new) result
-        (doubled text.now) }
+    ensures { Wrote W.taken W.failed out.old out.new result (doubled text.now) }
 {
     let mut rest = text;
     while let Some(place) = quote_at(rest) {
@@ -41,8 +39,7 @@ fn write_doubled<W: Sink>(text: &[u8], out: &mut W) -> Result<(), Refusal>
 
 /// The same and the quote behind it.
 fn write_closed<W: Sink>(text: &[u8], out: &mut W) -> Result<(), Refusal>
-    ensures { Writes (W.taken out.old) (W.taken out.new) (W.failed out.old) (W.failed out.new) result
-        (doubled text.now ++ codes "'") }
+    ensures { Wrote W.taken W.failed out.old out.new result (doubled text.now ++ codes "'") }
 {
     write_doubled(text, out)?;
     write_all(out, b"'")
@@ -50,8 +47,7 @@ fn write_closed<W: Sink>(text: &[u8], out: &mut W) -> Result<(), Refusal>
 
 /// Writes a text between quotes, each of its own quotes twice.
 pub(crate) fn write_quoted<W: Sink>(text: &[u8], out: &mut W) -> Result<(), Refusal>
-    ensures { Writes (W.taken out.old) (W.taken out.new) (W.failed out.old) (W.failed out.new) result
-        (quoted_text text.now) }
+    ensures { Wrote W.taken W.failed out.old out.new result (quoted_text text.now) }
 {
     write_all(out, b"'")?;
     write_closed(text, out)

@@ -1,7 +1,7 @@
 //! Quoted texts: the bytes between the quotes of one, where each quote of the text stands twice.
 
-ghost use Rattle.std.specs.Prelude.{◌≡◌, ◌<◌, ◌≤◌, ◌+◌, [], ◌∷◌, ◌==◌, ◌&&◌, drop, slice_index, take, length, MatchOption, IfSome};
-ghost use Rattle.sw_lang.specs.Tokens.{inside, quoted, stray, tokens, tokens_after, undoubled};
+ghost use Rattle.std.specs.Prelude.{◌≡◌, ◌<◌, ◌≤◌, ◌==◌, ◌&&◌, slice_index, take, length, MatchOption, IfSome};
+ghost use Rattle.sw_lang.specs.Tokens.{undoubled, IsClosedAt, IsTooLong, IsUnclosed};
 ghost use Rattle.sw_rows.specs.declared.texts.TheConstants.{MOST_BYTES_OF_TEXT};
 
 use sw_rows::MOST_BYTES_OF_TEXT;
@@ -19,9 +19,7 @@ fn is_quote(text: &[u8], at: usize) -> bool
 /// How many bytes stand before the quote that closes a text, which begins behind its first quote.
 #[tactic(auto, using(crate::proofs::QuotedTexts::pair_read, crate::proofs::QuotedTexts::closed_at))]
 pub(crate) fn raw_len(text: &[u8]) -> Option<usize>
-    ensures tokens { MatchOption result (tokens_after (inside []) text.now ≡ stray ∷ [])
-        (λ n. tokens_after (inside []) text.now
-        ≡ quoted (undoubled (take n text.now)) ∷ tokens (drop (n + 1) text.now)) }
+    ensures tokens { MatchOption result (IsUnclosed text.now) (λ n. IsClosedAt text.now n) }
     ensures within { IfSome result (λ n. n < length text.now) }
 {
     let mut at = 0;
@@ -46,8 +44,7 @@ fn is_second(held: bool, byte: u8) -> bool
 
 /// Puts a quoted text's text at the buffer's front and answers how long it is, and None where it does not fit.
 fn fill(raw: &[u8], buffer: &mut [u8; MOST_BYTES_OF_TEXT]) -> Option<usize>
-    ensures text { MatchOption result (MOST_BYTES_OF_TEXT < length (undoubled raw.now))
-        (λ n. take n buffer.new ≡ undoubled raw.now) }
+    ensures text { MatchOption result (IsTooLong raw.now) (λ n. take n buffer.new ≡ undoubled raw.now) }
     ensures within { IfSome result (λ n. n ≤ MOST_BYTES_OF_TEXT) }
 {
     let mut len = 0;
@@ -74,8 +71,7 @@ pub(crate) fn undoubled<'b>(
     raw: &[u8],
     buffer: &'b mut [u8; MOST_BYTES_OF_TEXT],
 ) -> Option<&'b [u8]>
-    ensures { MatchOption result (MOST_BYTES_OF_TEXT < length (undoubled raw.now))
-        (λ text. text.now ≡ undoubled raw.now) }
+    ensures { MatchOption result (IsTooLong raw.now) (λ text. text.now ≡ undoubled raw.now) }
 {
     let len = fill(raw, buffer)?;
     Some(&buffer[..len])

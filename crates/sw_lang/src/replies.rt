@@ -1,8 +1,8 @@
 //! Replies go out as lines.
 
-ghost use Rattle.std.specs.Prelude.{◌≡◌, ◌++◌, ◌∷◌, [], codes, decimal, length, map};
-ghost use Rattle.sw_lang.specs.Replies.{extreme_text, first_kind, kinds_called, kinds_wanted, removed_line, reply_bytes, row_line, rows_line, sum_text, with_ends};
-ghost use Rattle.sw_lang.specs.Sinks.{Writes};
+ghost use Rattle.std.specs.Prelude.{◌≡◌, ◌++◌, codes, decimal};
+ghost use Rattle.sw_lang.specs.Replies.{extreme_text, first_kind, kinds_called, kinds_wanted, removed_line, reply_bytes, sum_text, rows_text};
+ghost use Rattle.sw_lang.specs.Sinks.{Wrote};
 ghost use Rattle.sw_lang.specs.Shown.{AreSound, domain_of};
 
 use crate::domain::{AttrValues, values_or_int};
@@ -43,8 +43,7 @@ fn write_rows_wanted<W: Sink>(
     rows: &ReplyRows,
     out: &mut W,
 ) -> Result<(), Refusal>
-    ensures { Writes (W.taken out.old) (W.taken out.new) (W.failed out.old) (W.failed out.new) result
-        (with_ends (map (row_line (kinds_wanted schema.now want.now)) rows.now ++ rows_line (length rows.now) ∷ [])) }
+    ensures { Wrote W.taken W.failed out.old out.new result (rows_text (kinds_wanted schema.now want.now) rows.now) }
 {
     match want {
         Want::Rows(attrs) => write_rows(schema, attrs.as_slice(), rows, out),
@@ -61,8 +60,7 @@ fn write_rows_called<W: Sink>(
     rows: &ReplyRows,
     out: &mut W,
 ) -> Result<(), Refusal>
-    ensures { Writes (W.taken out.old) (W.taken out.new) (W.failed out.old) (W.failed out.new) result
-        (with_ends (map (row_line (kinds_called schema.now call.now)) rows.now ++ rows_line (length rows.now) ∷ [])) }
+    ensures { Wrote W.taken W.failed out.old out.new result (rows_text (kinds_called schema.now call.now) rows.now) }
 {
     match call {
         Call::Select(query) => write_rows_wanted(schema, &query.want, rows, out),
@@ -74,8 +72,7 @@ fn write_rows_called<W: Sink>(
 
 /// A number as a line.
 fn write_number_line<W: Sink>(number: u64, out: &mut W) -> Result<(), Refusal>
-    ensures { Writes (W.taken out.old) (W.taken out.new) (W.failed out.old) (W.failed out.new) result
-        (decimal number ++ codes "\n") }
+    ensures { Wrote W.taken W.failed out.old out.new result (decimal number ++ codes "\n") }
 {
     write_number(number, out)?;
     write_all(out, b"\n")
@@ -83,8 +80,7 @@ fn write_number_line<W: Sink>(number: u64, out: &mut W) -> Result<(), Refusal>
 
 fn write_sum_line<W: Sink>(values: AttrValues, sum: i128, out: &mut W) -> Result<(), Refusal>
     requires { AreSound values }
-    ensures { Writes (W.taken out.old) (W.taken out.new) (W.failed out.old) (W.failed out.new) result
-        (sum_text (domain_of values.entry) sum ++ codes "\n") }
+    ensures { Wrote W.taken W.failed out.old out.new result (sum_text (domain_of values.entry) sum ++ codes "\n") }
 {
     write_sum(values, sum, out)?;
     write_all(out, b"\n")
@@ -96,16 +92,14 @@ fn write_extreme_line<W: Sink>(
     out: &mut W,
 ) -> Result<(), Refusal>
     requires { AreSound values }
-    ensures { Writes (W.taken out.old) (W.taken out.new) (W.failed out.old) (W.failed out.new) result
-        (extreme_text (domain_of values.entry) extreme ++ codes "\n") }
+    ensures { Wrote W.taken W.failed out.old out.new result (extreme_text (domain_of values.entry) extreme ++ codes "\n") }
 {
     write_extreme(values, extreme, out)?;
     write_all(out, b"\n")
 }
 
 fn write_key_line<W: Sink>(key: u64, out: &mut W) -> Result<(), Refusal>
-    ensures { Writes (W.taken out.old) (W.taken out.new) (W.failed out.old) (W.failed out.new) result
-        ((codes "key " ++ decimal key) ++ codes "\n") }
+    ensures { Wrote W.taken W.failed out.old out.new result ((codes "key " ++ decimal key) ++ codes "\n") }
 {
     write_all(out, b"key ")?;
     write_number_line(key, out)
@@ -113,8 +107,7 @@ fn write_key_line<W: Sink>(key: u64, out: &mut W) -> Result<(), Refusal>
 
 /// How many rows are gone, without the bracket before it.
 fn write_removed_end<W: Sink>(many: u64, out: &mut W) -> Result<(), Refusal>
-    ensures { Writes (W.taken out.old) (W.taken out.new) (W.failed out.old) (W.failed out.new) result
-        ((decimal many ++ codes " removed)") ++ codes "\n") }
+    ensures { Wrote W.taken W.failed out.old out.new result ((decimal many ++ codes " removed)") ++ codes "\n") }
 {
     write_number(many, out)?;
     write_all(out, b" removed)\n")
@@ -122,8 +115,7 @@ fn write_removed_end<W: Sink>(many: u64, out: &mut W) -> Result<(), Refusal>
 
 /// How many rows are gone, as a line.
 fn write_removed_line<W: Sink>(many: u64, out: &mut W) -> Result<(), Refusal>
-    ensures { Writes (W.taken out.old) (W.taken out.new) (W.failed out.old) (W.failed out.new) result
-        (removed_line many ++ codes "\n") }
+    ensures { Wrote W.taken W.failed out.old out.new result (removed_line many ++ codes "\n") }
 {
     write_all(out, b"(")?;
     write_removed_end(many, out)
@@ -139,8 +131,7 @@ pub fn write_reply<W: Sink>(
     reply: &Reply,
     out: &mut W,
 ) -> Result<(), Refusal>
-    ensures { Writes (W.taken out.old) (W.taken out.new) (W.failed out.old) (W.failed out.new) result
-        (reply_bytes schema.now call.now reply.now) }
+    ensures { Wrote W.taken W.failed out.old out.new result (reply_bytes schema.now call.now reply.now) }
 {
     match reply {
         Reply::Rows(rows) => write_rows_called(schema, call, rows, out),

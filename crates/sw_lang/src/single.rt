@@ -6,7 +6,7 @@ ghost use Rattle.sw_rows.specs.Domains as kind;
 ghost use Rattle.sw_rows.specs.Header.{texts_of};
 ghost use Rattle.sw_lang.specs.Shown.{AreSound, domain_of};
 ghost use Rattle.sw_rows.specs.Header.{is_name};
-ghost use Rattle.sw_lang.specs.Reading.{attr_of, first_by, is_comma, is_word, key_of, key_value, name_of, number_name, op_for, op_of, quoted_value, value_of, word_value, Gives, Tells};
+ghost use Rattle.sw_lang.specs.Reading.{attr_of, first_by, is_comma, is_word, key_of, key_value, name_of, number_name, op_for, op_of, quoted_value, value_of, word_value, Gives, Tells, TellsThen};
 ghost use Rattle.sw_lang.specs.Tokens.{tok, tokens, undoubled};
 
 use crate::domain::{AttrValues, attr_values};
@@ -237,8 +237,7 @@ pub(crate) fn number_name_at<'a>(
 
 #[tactic(auto, unfolding(crate::specs::Reading::first_by))]
 pub(crate) fn op_at<'a>(values: AttrValues, text: &'a [u8]) -> Result<(Op, &'a [u8]), Fault>
-    ensures gives { Tells (λ p. (p.0, tokens p.1.now)) result
-        (first_by (op_for (domain_of values.entry)) (tokens text.now)) }
+    ensures gives { TellsThen result (first_by (op_for (domain_of values.entry)) (tokens text.now)) }
     ensures shorter { IfOk result (λ p. length p.1.now < length text.now) }
 {
     let Some((token, rest)) = next_token(text) else {
@@ -251,8 +250,7 @@ pub(crate) fn op_at<'a>(values: AttrValues, text: &'a [u8]) -> Result<(Op, &'a [
 #[tactic(auto, unfolding(crate::specs::Reading::first_by))]
 pub(crate) fn value_at<'a>(values: AttrValues, text: &'a [u8]) -> Result<(i64, &'a [u8]), Fault>
     requires { AreSound values }
-    ensures gives { Tells (λ p. (p.0, tokens p.1.now)) result
-        (first_by (value_of (domain_of values.entry)) (tokens text.now)) }
+    ensures gives { TellsThen result (first_by (value_of (domain_of values.entry)) (tokens text.now)) }
     ensures shorter { IfOk result (λ p. length p.1.now < length text.now) }
 {
     let Some((token, rest)) = next_token(text) else {

@@ -1,6 +1,6 @@
 //! Whole texts and numbers go out to a sink that takes parts.
 
-ghost use Rattle.sw_lang.specs.Sinks.{Writes};
+ghost use Rattle.sw_lang.specs.Sinks.{Wrote};
 
 use itoa::{Buffer, Integer};
 use sw_rows::{Refusal, Sink};
@@ -9,7 +9,7 @@ use sw_rows::{Refusal, Sink};
 ///
 /// Refused `Output` where the sink fails; then a beginning of the bytes went out.
 pub fn write_all<W: Sink>(out: &mut W, bytes: &[u8]) -> Result<(), Refusal>
-    ensures { Writes (W.taken out.old) (W.taken out.new) (W.failed out.old) (W.failed out.new) result bytes.now }
+    ensures { Wrote W.taken W.failed out.old out.new result bytes.now }
 {
     let mut rest = bytes;
     while !rest.is_empty() {
@@ -28,8 +28,7 @@ pub fn write_all<W: Sink>(out: &mut W, bytes: &[u8]) -> Result<(), Refusal>
 ///
 /// Refused `Output` where the sink fails; then a beginning of the text went out.
 pub fn write_number<N: Integer, W: Sink>(number: N, out: &mut W) -> Result<(), Refusal>
-    ensures { Writes (W.taken out.old) (W.taken out.new) (W.failed out.old) (W.failed out.new) result
-        (N.text number) }
+    ensures { Wrote W.taken W.failed out.old out.new result (N.text number) }
 {
     let mut buffer = Buffer::new();
     write_all(out, buffer.format(number).as_bytes())

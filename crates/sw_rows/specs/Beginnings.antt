@@ -1,5 +1,9 @@
 -- The records of the beginning of a text, against those of the whole.
-use Rattle.std.specs.Prelude.{◌≡◌, ◌++◌, ◌∷◌, ℕ, List, []}
+use Rattle.std.specs.Prelude.{◌≡◌, ◌++◌, ◌∷◌, ℕ, List, [], IfSome, Option}
+use Rattle.sw_rows.specs.Gives.{Fails}
+use Rattle.sw_rows.specs.Header.{Column}
+use Rattle.sw_rows.specs.Tables.{table_seeing}
+use Rattle.sw_rows.specs.declared.refusal.Refusal.{Refusal}
 
 abbrev Fields : Type 0
 Fields = List (List ℕ)
@@ -18,3 +22,8 @@ Begins (r ∷ []) [] = ⊥
 Begins (r ∷ s ∷ rs) [] = ⊥
 Begins (r ∷ []) (t ∷ ts) = GoesOn r t
 Begins (r ∷ s ∷ rs) (t ∷ ts) = (r ≡ t) × Begins (s ∷ rs) ts
+
+-- a refusal, if there is one, is that of each table of these attributes whose records begin so
+abbrev pub RefusesAll : List Column → Records → Option Refusal → Type 0
+RefusesAll columns front refused =
+    (all : Records) → Begins front all → IfSome refused (λ e. Fails ⊥ e (table_seeing columns all))

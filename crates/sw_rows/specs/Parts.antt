@@ -1,10 +1,10 @@
 -- Rows that were read in parts, each part with records of its own from 1.
-use Rattle.std.specs.Prelude.{◌≡◌, ◌+◌, ◌≤◌, ◌==◌, ◌<◌, ◌^◌, All, get_or, if◌then◌else◌, ℕ, ℤ, pos, Bool, not, List, [], ◌∷◌, ◌++◌, length, map, nat_lt, slice_get, Some, Result, Ok, Err}
+use Rattle.std.specs.Prelude.{◌≡◌, ◌+◌, ◌≤◌, ◌==◌, ◌<◌, ◌^◌, All, get_or, if◌then◌else◌, ℕ, ℤ, pos, Bool, not, List, [], ◌∷◌, ◌++◌, length, map, nat_lt, slice_get, Some, Result, Ok, Err, IfSome, Option}
 use Rattle.std.specs.List.{list_all}
 use Rattle.csv.specs.Reading.{default_config, records}
 use Rattle.sw_rows.specs.Domains.{Domain, is_of_texts, under}
-use Rattle.sw_rows.specs.Gives.{Gives}
-use Rattle.sw_rows.specs.Header.{Column, Fault, bad_table, kinds_of, too_many}
+use Rattle.sw_rows.specs.Gives.{Gives, Fails}
+use Rattle.sw_rows.specs.Header.{Column, Fault, bad_table, kinds_of, too_many, header_of}
 use Rattle.sw_rows.specs.Tables.{◌>>=◌, rows_after, texts_in}
 use Rattle.sw_rows.specs.Texts.{code_of, with_texts}
 use Rattle.sw_rows.specs.declared.refusal.Refusal.{Refusal}
@@ -59,6 +59,20 @@ rows_behind rows (Err e) = Err (fault_behind (length rows) e)
 abbrev pub rows_joined : Result (List Row) Fault → Result (List Row) Fault → Result (List Row) Fault
 rows_joined first rest = first >>= λ rows. rows_behind rows rest
 
+-- what the refusal of a part is behind so many rows
+abbrev pub FailsBehind : ℕ → Refusal → Refusal → Type 0
+FailsBehind count alone behind = (rows : List Row) (read : Result (List Row) Fault)
+    → length rows ≡ count → Fails ⊥ alone read → Fails ⊥ behind (rows_behind rows read)
+
+-- what two parts give together
+abbrev pub GivesBoth : Result Packed Refusal → Result Packed Refusal → Result Packed Refusal → Type 0
+GivesBoth first rest both = (a b : Result (List Row) Fault)
+    → GivesRows first a → GivesRows rest b → GivesRows both (rows_joined a b)
+
+-- a text is one record, the header of these attributes
+abbrev pub IsHeader : List ℕ → List Column → Type 0
+IsHeader text columns = (h : List (List ℕ)) × (records default_config text ≡ h ∷ []) × (header_of h ≡ Ok columns)
+
 -- a part with texts of its own, by its records: each of its texts once, in the order in which they are first seen, and
 -- its rows, which are the same over these and any further texts
 pub record IsRead (columns : List Column) (text : List ℕ) (read : Part) : Type 0 where
@@ -66,6 +80,11 @@ pub record IsRead (columns : List Column) (text : List ℕ) (read : Part) : Type
   pub rows : (more : List (List ℕ)) → rows_after (under (with_texts read.texts more) (kinds_of columns)) []
       (records default_config text) ≡ Ok read.rows.items
   pub part : IsPart (length columns) read.rows
+
+-- what is made of two parts, if anything, is their text read as one
+abbrev pub JoinsParts : List Column → Part → Part → Option Part → Type 0
+JoinsParts columns first rest joined = (a b whole : List ℕ) → AreRecordsOfBoth a b whole
+    → IsRead columns a first → IsRead columns b rest → IfSome joined (IsRead columns whole)
 
 -- a code for each of some texts, in their order: that which it has among others
 abbrev pub AreCodes : List (List ℕ) → List (List ℕ) → List ℤ → Type 0

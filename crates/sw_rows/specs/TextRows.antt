@@ -4,7 +4,8 @@ use Rattle.std.specs.List.{list_all}
 use Rattle.sw_rows.specs.Bounds.{is_within}
 use Rattle.sw_rows.specs.Domains.{Domain, is_of_texts}
 use Rattle.sw_rows.specs.Domains as kind
-use Rattle.sw_rows.specs.Scan.{AsksBelow, cell_of, greatest, least, total}
+use Rattle.sw_rows.specs.Header.{Column, kinds_of, knowing}
+use Rattle.sw_rows.specs.Scan.{AsksBelow, cell_of, greatest, least, total, answer, matching, meets}
 use Rattle.sw_rows.specs.Texts.{text_at}
 use Rattle.sw_rows.specs.declared.bound.Bound.{Bound}
 use Rattle.sw_rows.specs.declared.bound.Bound.TheVariants as bound
@@ -194,3 +195,30 @@ pub record AsksOfTexts (ds : List Domain) (q : Query) : Type 0 where
   pub below : AsksBelow (length ds) q
   pub conds : All (λ c. IsTextCond (domain_at ds c.attr) c) q.conds
   pub sums : SumsNumbers ds q.want
+
+-- ---- answers over codes are what they are over texts
+
+-- a row of codes meets a condition just where the row of its texts meets the condition on texts
+abbrev pub MeetsOverTexts : List Column → Row → Cond → Type 0
+MeetsOverTexts columns r c = let ds = kinds_of columns in
+    IsRowCoded ds r → IsTextCond (domain_at ds c.attr) c → meets_seen (row_seen ds r) (cond_seen ds c) ≡ meets r c
+
+-- the same rows match
+abbrev pub MatchingOverTexts : List Column → List Row → Query → Type 0
+MatchingOverTexts columns rs q = let ds = kinds_of columns in
+    AreCoded ds rs → AsksOfTexts ds q
+    → matching_seen (conds_seen ds q.conds) (rows_seen ds rs) ≡ rows_seen ds (matching q.conds rs)
+
+-- the answer over codes, with its cells seen as their texts, is the answer over texts
+abbrev pub AnswerOverTexts : List Column → List Row → Query → Type 0
+AnswerOverTexts columns rs q = let ds = kinds_of columns in
+    AreCoded ds rs → AsksOfTexts ds q
+    → answer_seen (rows_seen ds rs) (conds_seen ds q.conds) q.want ≡ reply_seen (domains_shown ds q.want) (answer rs q)
+
+-- rows of codes are such still as the attributes get to know more texts, and are seen as before
+abbrev pub StayCoded : List Column → List (List ℕ) → List Row → Type 0
+StayCoded columns more rs = AreCoded (kinds_of columns) rs → AreCoded (kinds_of (knowing more columns)) rs
+
+abbrev pub StaySeen : List Column → List (List ℕ) → List Row → Type 0
+StaySeen columns more rs =
+    AreCoded (kinds_of columns) rs → rows_seen (kinds_of (knowing more columns)) rs ≡ rows_seen (kinds_of columns) rs

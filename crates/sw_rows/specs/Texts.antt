@@ -54,6 +54,10 @@ next_code texts = if are_full texts then Err (too_many MOST_TEXTS) else Ok (leng
 abbrev pub code_given : List (List ℕ) → List ℕ → Result ℕ Fault
 code_given texts text = option_map_or (λ code. Ok code) (code_of texts text) (next_code texts)
 
+-- a text is new, and there is no code for it
+abbrev pub HasNoRoom : List (List ℕ) → List ℕ → Type 0
+HasNoRoom texts text = code_given texts text ≡ Err (too_many MOST_TEXTS)
+
 -- a code as the number of a cell
 abbrev pub as_cell : Result ℕ Fault → Result ℤ Fault
 as_cell (Ok code) = Ok (pos code)

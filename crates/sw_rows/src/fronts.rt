@@ -2,10 +2,10 @@
 
 ghost use Rattle.std.specs.Prelude.{◌≡◌, ◌<◌, ◌≤◌, ◌++◌, ℕ, List, length, IfSome};
 ghost use Rattle.csv.specs.Reading.{default_config, records, strip_bom};
-ghost use Rattle.sw_rows.specs.Beginnings.{Begins};
+ghost use Rattle.sw_rows.specs.Beginnings.{RefusesAll};
 ghost use Rattle.sw_rows.specs.Gives.{Fails};
 ghost use Rattle.sw_rows.specs.Records.{IsPlain, records_left};
-ghost use Rattle.sw_rows.specs.Tables.{seeing, table_in, table_with};
+ghost use Rattle.sw_rows.specs.Tables.{table_in};
 
 use crate::parts::{feed_at, has_no_quote};
 use crate::records;
@@ -94,8 +94,7 @@ fn refused_row(
     requires plain { IsPlain rdr.old }
     requires some { 0 < length columns.now }
     requires count { count ≡ length (records_left rdr.old) }
-    ensures { (all : List (List (List ℕ))) → Begins (records_left rdr.old) all
-        → IfSome result (λ e. Fails ⊥ e (table_with (seeing columns.now all) all)) }
+    ensures { RefusesAll columns.now (records_left rdr.old) result }
 {
     let mut texts = columns.no_texts(alloc);
     let most = columns.len() as u64;

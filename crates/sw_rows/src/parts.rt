@@ -6,7 +6,7 @@ ghost use Rattle.std.specs.Thread.{IsSync};
 ghost use Rattle.csv.specs.Reading.{default_config, is_bom, records, strip_bom};
 ghost use Rattle.sw_rows.specs.Gives.{Fails, Gives};
 ghost use Rattle.sw_rows.specs.Header.{Fault, has_texts, header_of};
-ghost use Rattle.sw_rows.specs.Parts.{AreRecordsOfBoth, GivesRows, IsPart, begins_plain, has_no_quote, rows_behind, rows_joined, rows_of_part};
+ghost use Rattle.sw_rows.specs.Parts.{AreRecordsOfBoth, GivesRows, IsPart, begins_plain, has_no_quote, rows_behind, rows_of_part, FailsBehind, GivesBoth, IsHeader};
 ghost use Rattle.sw_rows.specs.Tables.{shown_packed, table_in};
 ghost use Rattle.sw_rows.specs.declared.table.TheConstants.{MOST_ROWS};
 ghost use Rattle.sw_table.specs.declared.row.Row.{Row};
@@ -108,8 +108,7 @@ pub(crate) fn append(rows: &mut PackedRows, more: &PackedRows) -> Result<(), Ref
 /// The refusal of a part that lies behind so many rows.
 fn behind(count: u64, refusal: Refusal) -> Refusal
     requires { count ≤ MOST_ROWS }
-    ensures { (rows : List Row) (read : Result (List Row) Fault) → length rows ≡ count → Fails ⊥ refusal read
-        → Fails ⊥ result (rows_behind rows read) }
+    ensures { FailsBehind count refusal result }
 {
     match refusal {
         Refusal::BadTable { rec, field } if rec <= MOST_ROWS - count => Refusal::BadTable {
@@ -132,8 +131,7 @@ fn joined(
     requires first { IfOk first (λ rows. IsPart rows.width rows) }
     requires rest { IfOk first (λ rows. IfOk rest (IsPart rows.width)) }
     ensures width { (n : ℕ) → IfOk first (IsPart n) → IfOk result (λ all. all.width ≡ n) }
-    ensures gives { (a b : Result (List Row) Fault) → GivesRows first a → GivesRows rest b
-        → GivesRows result (rows_joined a b) }
+    ensures gives { GivesBoth first rest result }
 {
     let mut rows = match first {
         Ok(rows) => rows,
@@ -214,8 +212,7 @@ fn unmarked(bytes: &[u8]) -> &[u8]
 /// The attributes of bytes that are one record, where they are that and it is a header.
 fn read_head(alloc: Global, key: TextKey, head: &[u8]) -> Option<Columns>
     requires { begins_plain head.now ≡ true }
-    ensures head { IfSome result (λ s. (h : List (List ℕ)) × (records default_config head.now ≡ h ∷ [])
-        × (header_of h ≡ Ok s)) }
+    ensures head { IfSome result (IsHeader head.now) }
     ensures some { IfSome result (λ s. 0 < length s) }
 {
     let mut rdr = records::open(alloc, head);

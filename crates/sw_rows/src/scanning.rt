@@ -148,7 +148,7 @@ fn select<P: Places>(
 /// The keys of the live rows that meet each condition.
 fn keys<P: Places>(alloc: Global, rows: &P, sieve: &Sieve<'_>) -> Result<Vec<u64>, AllocError>
     requires { CondsBelow 8 sieve.now }
-    ensures { IfOk result (λ found. found.items ≡ map key_of (matching sieve.now
+    ensures { IfOk result (λ ks. ks.items ≡ map key_of (matching sieve.now
         (kept (P.flags rows.now) (P.rows rows.now)))) }
 {
     let mut found = Vec::new(alloc);
@@ -169,7 +169,7 @@ pub fn matching_keys<P: Places>(
     conds: &[Cond],
 ) -> Result<Vec<u64>, AllocError>
     requires { CondsBelow 8 conds.now }
-    ensures { IfOk result (λ found. found.items ≡ map key_of (matching conds.now
+    ensures { IfOk result (λ ks. ks.items ≡ map key_of (matching conds.now
         (kept (P.flags rows.now) (P.rows rows.now)))) }
 {
     keys(alloc, rows, &Sieve::new(conds))

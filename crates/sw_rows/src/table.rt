@@ -3,12 +3,12 @@
 ghost use Rattle.std.specs.Prelude.{[], ◌++◌, ◌≡◌, ◌<◌, ◌≤◌, ℕ, List, drop, false, length, Err, Ok, Some, IfOk, OnErr, OnOk, slice_get};
 ghost use Rattle.csv.specs.Records.{fields_of};
 ghost use Rattle.sw_rows.specs.Cells.{HasPlaces};
-ghost use Rattle.sw_rows.specs.Domains.{domain, under};
+ghost use Rattle.sw_rows.specs.Domains.{domain};
 ghost use Rattle.sw_rows.specs.Domains as kind;
 ghost use Rattle.sw_rows.specs.Gives.{Gives};
 ghost use Rattle.sw_rows.specs.Header.{kinds_of};
 ghost use Rattle.sw_rows.specs.Records.{IsPlain, records_left};
-ghost use Rattle.sw_rows.specs.Tables.{cell_at, cells_of, over_seen, padded, rows_after, seeing, shown_packed, table_in, table_of_records, table_with, text_field, text_fields, texts_in, then_padded};
+ghost use Rattle.sw_rows.specs.Tables.{padded, shown_packed, table_in, table_of_records, text_field, NoText, GivesCell, GivesCells, GivesRowsOf, table_seeing, with_fields, with_records};
 ghost use Rattle.sw_rows.specs.Texts.{is_text, with_texts};
 ghost use Rattle.sw_rows.specs.declared.table.TheConstants.{MOST_ROWS};
 ghost use Rattle.sw_table.specs.Packed.{zeros};
@@ -44,8 +44,7 @@ impl At {
 
 /// Reads a field of texts: the code of its text, which is added where it is new.
 fn read_text_field(texts: &mut Texts, at: At, field: &[u8]) -> Result<i64, Refusal>
-    ensures gives { (more : List (List ℕ)) → Gives ⊥ (λ cell. cell) result
-        (cell_at at.rec at.field (over_seen texts.old (kind.Text []) field.now more) field.now) }
+    ensures gives { GivesCell at.rec at.field texts.old (kind.Text []) field.now result }
     ensures learned { OnOk result (texts.new ≡ with_texts texts.old (text_field (kind.Text []) field.now)) }
     ensures no_text { is_text field.now ≡ false → result ≡ Err (Refusal.BadTable at.rec at.field) }
 {
@@ -61,10 +60,9 @@ fn read_text_field(texts: &mut Texts, at: At, field: &[u8]) -> Result<i64, Refus
 /// Reads the field of a cell of a kind.
 fn read_field(kind: Kind, texts: &mut Texts, at: At, field: &[u8]) -> Result<i64, Refusal>
     requires { HasPlaces kind }
-    ensures gives { (more : List (List ℕ)) → Gives ⊥ (λ cell. cell) result
-        (cell_at at.rec at.field (over_seen texts.old (domain [] kind) field.now more) field.now) }
+    ensures gives { GivesCell at.rec at.field texts.old (domain [] kind) field.now result }
     ensures learned { OnOk result (texts.new ≡ with_texts texts.old (text_field (domain [] kind) field.now)) }
-    ensures no_text { text_field (domain [] kind) field.now ≡ []
+    ensures no_text { NoText (domain [] kind) field.now
         → OnErr result (result ≡ Err (Refusal.BadTable at.rec at.field)) }
 {
     if let Kind::Text = kind {
@@ -84,11 +82,8 @@ fn read_cells(
     row: &ByteRecord,
 ) -> Result<[i64; 8], Refusal>
     requires { rec ≤ MOST_ROWS }
-    ensures gives { (more : List (List ℕ)) → Gives ⊥ (λ cells. cells) result (then_padded (cells_of rec
-        (under (with_texts texts.old (text_fields (kinds_of columns.now) (fields_of row.now) ++ more))
-        (kinds_of columns.now)) (fields_of row.now))) }
-    ensures learned { OnOk result
-        (texts.new ≡ with_texts texts.old (text_fields (kinds_of columns.now) (fields_of row.now))) }
+    ensures gives { GivesCells rec texts.old columns.now (fields_of row.now) result }
+    ensures learned { OnOk result (texts.new ≡ with_fields texts.old columns.now (fields_of row.now)) }
     ensures within { IfOk result (λ cells. drop (length columns.now) cells ≡ drop (length columns.now) zeros) }
 {
     let count = columns.len();
@@ -126,11 +121,8 @@ pub(crate) fn read_rows(
 ) -> Result<PackedRows, Refusal>
     requires plain { IsPlain rdr.old }
     requires some { 0 < length columns.now }
-    ensures gives { (more : List (List ℕ)) → Gives ⊥ (λ rows. rows.items) result (rows_after
-        (under (with_texts texts.old (texts_in (kinds_of columns.now) (records_left rdr.old) ++ more))
-        (kinds_of columns.now)) [] (records_left rdr.old)) }
-    ensures learned { OnOk result
-        (texts.new ≡ with_texts texts.old (texts_in (kinds_of columns.now) (records_left rdr.old))) }
+    ensures gives { GivesRowsOf texts.old columns.now (records_left rdr.old) result }
+    ensures learned { OnOk result (texts.new ≡ with_records texts.old columns.now (records_left rdr.old)) }
     ensures width { IfOk result (λ rows. rows.width ≡ length columns.now) }
 {
     let count = columns.len();
@@ -166,8 +158,7 @@ fn read_under(
 ) -> Result<(Schema, PackedRows), Refusal>
     requires plain { IsPlain rdr.old }
     requires some { 0 < length columns }
-    ensures gives { Gives ⊥ shown_packed result
-        (table_with (seeing columns (records_left rdr.old)) (records_left rdr.old)) }
+    ensures gives { Gives ⊥ shown_packed result (table_seeing columns (records_left rdr.old)) }
     ensures width { IfOk result (λ t. t.1.width ≡ length t.0) }
 {
     let mut texts = columns.no_texts(alloc);

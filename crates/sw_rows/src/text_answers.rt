@@ -4,13 +4,12 @@
 
 ghost use Rattle.std.specs.Prelude.{◌≡◌, ◌<◌, ◌∷◌, [], ℕ, List, codes, length, pos};
 ghost use Rattle.sw_rows.specs.Domains as kind;
-ghost use Rattle.sw_rows.specs.Examples.{asking, at_least, city_bytes, city_columns, city_rows, city_rows_seen, coded, in_city, on, seen_row, shown, two_cities};
-ghost use Rattle.sw_rows.specs.Header.{Column, IsSchema, holding, kinds_of, texts_of};
-ghost use Rattle.sw_rows.specs.Scan.{answer, matching, meets};
+ghost use Rattle.sw_rows.specs.Examples.{asking, city_bytes, city_columns, city_rows, city_rows_seen, coded, in_city, two_cities, coded_from_two, counted_in, seen_city, seen_from_two, showing};
+ghost use Rattle.sw_rows.specs.Header.{Column, IsSchema, kinds_of};
+ghost use Rattle.sw_rows.specs.Scan.{answer};
 ghost use Rattle.sw_rows.specs.Tables.{Table, table_of};
-ghost use Rattle.sw_rows.specs.Texts.{with_texts};
 ghost use Rattle.sw_rows.specs.TextRows as seen;
-ghost use Rattle.sw_rows.specs.TextRows.{AreCoded, AsksOfTexts, IsRowCoded, IsTextCond, answer_seen, cell_seen, cond_seen, conds_seen, domain_at, domains_shown, matching_seen, meets_seen, reply_seen, row_seen, rows_seen};
+ghost use Rattle.sw_rows.specs.TextRows.{AreCoded, cell_seen, cond_seen, rows_seen, AnswerOverTexts, MatchingOverTexts, MeetsOverTexts, StayCoded, StaySeen};
 ghost use Rattle.sw_rows.specs.declared.query.Cond.{Cond};
 ghost use Rattle.sw_rows.specs.declared.query.Query.{Query};
 ghost use Rattle.sw_table.specs.declared.row.Row.{Row};
@@ -22,16 +21,9 @@ use crate::reply::Reply;
 ///
 /// So the same rows match, and the answer over codes, with its cells seen as their texts, is the answer over texts.
 pub fn answers_are_over_texts()
-    ensures meets { (columns : List Column) (r : Row) (c : Cond) → IsSchema columns → c.attr < length columns
-        → (let ds = kinds_of columns in IsRowCoded ds r → IsTextCond (domain_at ds c.attr) c
-        → meets_seen (row_seen ds r) (cond_seen ds c) ≡ meets r c) }
-    ensures matching { (columns : List Column) (rs : List Row) (q : Query) → IsSchema columns
-        → (let ds = kinds_of columns in AreCoded ds rs → AsksOfTexts ds q
-        → matching_seen (conds_seen ds q.conds) (rows_seen ds rs) ≡ rows_seen ds (matching q.conds rs)) }
-    ensures answer { (columns : List Column) (rs : List Row) (q : Query) → IsSchema columns
-        → (let ds = kinds_of columns in AreCoded ds rs → AsksOfTexts ds q
-        → answer_seen (rows_seen ds rs) (conds_seen ds q.conds) q.want
-        ≡ reply_seen (domains_shown ds q.want) (answer rs q)) }
+    ensures meets { (cs : List Column) (r : Row) (c : Cond) → IsSchema cs → c.attr < length cs → MeetsOverTexts cs r c }
+    ensures matching { (cs : List Column) (rs : List Row) (q : Query) → IsSchema cs → MatchingOverTexts cs rs q }
+    ensures answer { (cs : List Column) (rs : List Row) (q : Query) → IsSchema cs → AnswerOverTexts cs rs q }
 {}
 
 /// The cells of a table that is read are codes, where they are of texts.
@@ -41,13 +33,8 @@ pub fn tables_have_coded_cells()
 
 /// Rows stay what they are as the attributes get to know more texts: their cells are codes still, of the same texts.
 pub fn rows_keep_their_texts()
-    ensures coded { (columns : List Column) (more : List (List ℕ)) (rs : List Row) → IsSchema columns
-        → AreCoded (kinds_of columns) rs
-        → AreCoded (kinds_of (holding (with_texts (texts_of columns) more) columns)) rs }
-    ensures seen { (columns : List Column) (more : List (List ℕ)) (rs : List Row) → IsSchema columns
-        → AreCoded (kinds_of columns) rs
-        → rows_seen (kinds_of (holding (with_texts (texts_of columns) more) columns)) rs
-        ≡ rows_seen (kinds_of columns) rs }
+    ensures coded { (cs : List Column) (more : List (List ℕ)) (rs : List Row) → IsSchema cs → StayCoded cs more rs }
+    ensures seen { (cs : List Column) (more : List (List ℕ)) (rs : List Row) → IsSchema cs → StaySeen cs more rs }
 {}
 
 /// The bytes of a table with an attribute of texts, and its rows as they are seen.
@@ -67,20 +54,13 @@ pub fn counts_of_cities()
 /// The same over texts.
 pub fn counts_of_cities_seen()
     ensures named { cond_seen (kinds_of city_columns) (coded 2 1) ≡ in_city (codes "Bergen, N" ∷ codes "Oslo" ∷ []) }
-    ensures oslo { answer_seen city_rows_seen (in_city (codes "Oslo" ∷ []) ∷ []) Want.Count
-        ≡ seen.plain (Reply.Count 2) }
-    ensures both { answer_seen city_rows_seen (in_city (codes "Bergen, N" ∷ codes "Oslo" ∷ []) ∷ []) Want.Count
-        ≡ seen.plain (Reply.Count 0) }
-    ensures unknown { answer_seen city_rows_seen (in_city (codes "Moss" ∷ []) ∷ []) Want.Count
-        ≡ seen.plain (Reply.Count 0) }
+    ensures oslo { counted_in (codes "Oslo" ∷ []) ≡ seen.plain (Reply.Count 2) }
+    ensures both { counted_in (codes "Bergen, N" ∷ codes "Oslo" ∷ []) ≡ seen.plain (Reply.Count 0) }
+    ensures unknown { counted_in (codes "Moss" ∷ []) ≡ seen.plain (Reply.Count 0) }
 {}
 
 /// The cities of rows with a number from 2 on: over codes, and over texts.
 pub fn cities_from_two()
-    ensures over_codes { answer city_rows (asking (on 1 (at_least 2) None ∷ []) (Want.Rows (0 ∷ [])))
-        ≡ Reply.Rows (shown 2 (pos 2 ∷ []) ∷ shown 3 (pos 1 ∷ []) ∷ []) }
-    ensures over_texts { answer_seen city_rows_seen (cond_seen (kinds_of city_columns) (on 1 (at_least 2) None) ∷ [])
-        (Want.Rows (0 ∷ []))
-        ≡ seen.rows (seen_row 2 (seen.text (codes "Bergen, N") ∷ [])
-        ∷ seen_row 3 (seen.text (codes "Oslo") ∷ []) ∷ []) }
+    ensures over_codes { coded_from_two ≡ showing ((2, (2 ∷ [])) ∷ (3, (1 ∷ [])) ∷ []) }
+    ensures over_texts { seen_from_two ≡ seen.rows (seen_city 2 (codes "Bergen, N") ∷ seen_city 3 (codes "Oslo") ∷ []) }
 {}

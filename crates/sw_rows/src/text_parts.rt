@@ -4,8 +4,8 @@ ghost use Rattle.std.specs.Prelude.{◌≡◌, ◌<◌, ℕ, List, true, length,
 ghost use Rattle.std.specs.Thread.{IsSync};
 ghost use Rattle.csv.specs.Reading.{default_config, records};
 ghost use Rattle.sw_rows.specs.Header.{has_texts, kinds_of};
-ghost use Rattle.sw_rows.specs.Parts.{AreCodes, AreRecordsOfBoth, IsPart, IsRead, begins_plain, row_exchanged};
-ghost use Rattle.sw_rows.specs.Tables.{seeing, shown_packed, table_with};
+ghost use Rattle.sw_rows.specs.Parts.{AreCodes, IsPart, IsRead, begins_plain, row_exchanged, JoinsParts};
+ghost use Rattle.sw_rows.specs.Tables.{shown_packed, table_seeing};
 ghost use Rattle.sw_rows.specs.Texts.{with_texts};
 
 use crate::kind::Kind;
@@ -79,8 +79,7 @@ fn exchange_texts(columns: &Columns, rows: &mut PackedRows, codes: &[i64])
 fn joined(alloc: Global, columns: &Columns, first: Part, rest: Part) -> Option<Part>
     requires first { IsPart (length columns.now) first.rows }
     requires rest { IsPart (length columns.now) rest.rows }
-    ensures { (a b whole : List ℕ) → AreRecordsOfBoth a b whole → IsRead columns.now a first
-        → IsRead columns.now b rest → IfSome result (IsRead columns.now whole) }
+    ensures { JoinsParts columns.now first rest result }
 {
     let Part {
         mut rows,
@@ -147,8 +146,7 @@ pub(crate) fn read_text_table<R: Threads + Sync>(
     requires plain { begins_plain body.now ≡ true }
     requires some { 0 < length columns }
     requires texts { has_texts columns ≡ true }
-    ensures gives { IfSome result (λ t. table_with (seeing columns (records default_config body.now))
-        (records default_config body.now) ≡ Ok (shown_packed t)) }
+    ensures gives { IfSome result (λ t. table_seeing columns (records default_config body.now) ≡ Ok (shown_packed t)) }
     ensures width { IfSome result (λ t. t.1.width ≡ length t.0) }
 {
     let Part { rows, texts } = read_halves(rt, alloc, &columns, body, HALVINGS)?;

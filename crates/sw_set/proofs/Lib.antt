@@ -26,6 +26,7 @@ pub mod Receiving
 pub mod Refined
 pub mod Refused
 pub mod Removals
+pub mod AtRest
 pub mod Restarts
 pub mod Rowed
 pub mod Shelves

@@ -5,6 +5,7 @@ pub mod Aligning
 pub mod Sought
 pub mod Boxed
 pub mod Prepared
+pub mod Resting
 pub mod Preparing
 pub mod Codes
 pub mod Choice

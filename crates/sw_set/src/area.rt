@@ -33,6 +33,7 @@ use crate::live::LiveRows;
 use crate::pick::{find_blank, find_leased, find_map, find_unneeded};
 use crate::position::place_of_row;
 use crate::ready::Ready;
+use crate::resting::find_at_end;
 use std::alloc::Global;
 use std::marker::Model;
 use std::mem;
@@ -437,6 +438,14 @@ impl<M: CrackerMap> Area<M> {
             None => true,
             Some(b) => self.tape.marked(b),
         }
+    }
+
+    /// The box that has the map of a tail at the tape's end, if one has it.
+    pub(crate) fn at_end(&self, tail: Tail) -> Option<usize>
+        ensures { FindsUnless
+            (λ m. ¬ IsReady tail self.now.tape m) (λ m. IsReady tail self.now.tape m) self.now.boxes result }
+    {
+        find_at_end(self.boxes.as_slice(), tail, &self.tape)
     }
 
     /// The greatest number of pairs after any entry of the tape.

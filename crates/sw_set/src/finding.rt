@@ -11,7 +11,7 @@ use sw_map::{CrackerMap, Tail};
 use sw_tape::Tape;
 
 /// Whether a box has the map of a tail at the tape's end.
-fn is_ready<M: CrackerMap>(it: &M, tail: Tail, tape: &Tape) -> bool
+pub(crate) fn is_ready<M: CrackerMap>(it: &M, tail: Tail, tape: &Tape) -> bool
     ensures { Decides result (IsReady tail tape.now (M.held it.now)) }
 {
     !it.is_blank() && it.tail() == tail && it.cursor() == tape.len()

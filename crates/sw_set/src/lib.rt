@@ -20,6 +20,7 @@ mod position;
 mod prepare;
 mod ready;
 mod replies;
+mod resting;
 mod totals;
 mod window;
 

@@ -26,7 +26,11 @@ use sw_rows::{Bound, Query, Refusal, Reply};
 use sw_tape::{MAX_ENTRIES, Tape};
 
 /// Whether both bounds, where they are there, stand in ranges of the tape.
-fn all_stand<M: CrackerMap>(area: &Area<M>, lower: Option<Bound>, upper: Option<Bound>) -> bool
+pub(crate) fn all_stand<M: CrackerMap>(
+    area: &Area<M>,
+    lower: Option<Bound>,
+    upper: Option<Bound>,
+) -> bool
     ensures { result ≡ stand_both lower upper area.now.tape }
 {
     area.stands(lower) && area.stands(upper)
@@ -86,7 +90,7 @@ fn place_in_box<M: CrackerMap>(
 }
 
 /// The range of the bounds, in an area whose needed maps stand at the tape's end.
-fn range_of<M: CrackerMap>(
+pub(crate) fn range_of<M: CrackerMap>(
     area: &Area<M>,
     lower: Option<Bound>,
     upper: Option<Bound>,

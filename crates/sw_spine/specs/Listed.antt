@@ -29,6 +29,10 @@ pub record Given : Type 0 where
   pub live : List Bool
   pub places : List ℕ
 
+-- the rows that a pass over the places meets: those that are live
+abbrev pub met : Given → List Row
+met g = kept (flags_at g.places g.live) (rows_at g.places g.rows)
+
 -- the places are listed, of rows that are not too many, with a flag each
 pub record IsListed (given : List Row) (live : List Bool) (some : List ℕ) (from : ℕ) : Type 0 where
   pub most : length given ≤ MOST_ROWS

@@ -17,7 +17,7 @@ pub(crate) struct Listing {
 
 /// The rows ever inserted, opening rows first, with a flag each, and the places to go over.
 #[derive(Drop)]
-pub(crate) struct Given<'a> {
+pub struct Given<'a> {
     pub(crate) rows: &'a PackedRows,
     pub(crate) came: &'a PackedRows,
     pub(crate) live: &'a [bool],

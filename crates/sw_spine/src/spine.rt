@@ -1,19 +1,28 @@
 //! The spine.
 
-ghost use Rattle.std.specs.Prelude.{ℕ, ◌≡◌, ◌<◌, ◌≤◌, ◌-◌, ◌++◌, [], true, false, Some, None, drop, length, slice_index_or, slice_set, IfErr, IfOk, IfSome, IsSome, IsSomeAnd, MatchResult, OnErr, OnOk};
+ghost use Rattle.std.specs.Prelude.{ℕ, ◌≡◌, ◌<◌, ◌≤◌, ◌-◌, ◌++◌, ◌∷◌, [], true, false, Some, None, drop, length, slice_index_or, slice_set, IfErr, IfOk, IfSome, IsSome, IsSomeAnd, MatchResult, OnErr, OnOk};
+ghost use Rattle.sw_lang.specs.Learning.{knowing, learned};
+ghost use Rattle.sw_lang.specs.Reading.{Answers, line_at, refused};
+ghost use Rattle.sw_table.specs.Updates.{rows_of};
+ghost use Rattle.sw_rows.specs.Gives.{Gives};
+ghost use Rattle.sw_rows.specs.Header.{has_texts, texts_of};
+ghost use Rattle.sw_rows.specs.Texts.{cell_given, is_text};
+ghost use Rattle.sw_spine.specs.Listed.{met};
 ghost use Rattle.sw_rows.specs.declared.query.Call.TheVariants.{Select, Insert, Delete, DeleteWhere};
 ghost use Rattle.sw_spine.specs.Table.{inserted, is_numbered, removed, reply_to, updates_then};
 ghost use Rattle.sw_spine.specs.History.{CallsBelow, IsLegal, IsSound, all_given, is_absent, is_select, mine, open_place, settled};
 ghost use Rattle.sw_spine.specs.Receivable.{AreUpdates};
 ghost use Rattle.sw_spine.specs.Rest.{none_open};
 ghost use Rattle.sw_rows.specs.declared.table.TheConstants.{MOST_ROWS};
-ghost use Rattle.sw_spine.specs.Books.{HasAnswered, HasBegun, HasOneMore, IsCount, IsNewSpine, IsNotBegun, IsRefusedBy, KeepsOtherHeads, KeepsOthers, KeepsTaken, Opens, RefusesEntry, RefusesRows, RefusesSession, history_of, is_opened, took, untaken, updates, waits_for, with_open, with_published, with_settled};
+ghost use Rattle.sw_spine.specs.Books.{HasAnswered, HasBegun, HasOneMore, IsCount, IsNewSpine, IsNotBegun, IsRefusedBy, KeepsOtherHeads, KeepsOthers, KeepsTaken, Opens, RefusesEntry, RefusesRows, RefusesSession, forgetting, history_of, is_opened, took, untaken, updates, waits_for, with_columns, with_open, with_published, with_settled};
 ghost use Rattle.sw_spine.specs.declared.history.State.TheVariants.{Answered, Void};
 
-use crate::history::{Entry, Record, State};
+use crate::given::Given;
+use crate::history::{Entry, Record, RecordRef, State};
 use crate::store::Store;
 use std::alloc::{AllocError, Global};
 use std::marker::Model;
+use sw_lang::parse_line;
 use sw_rows::{Call, Conds, PackedRows, Query, Refusal, Reply, Schema, Update};
 
 /// The greatest number of entries of a history.
@@ -172,6 +181,67 @@ impl Spine {
         ensures known { (s : ℕ) → is_opened s self.now ≡ false → is_absent s self.now.entries ≡ true }
     {
         self.entries.as_slice()
+    }
+
+    /// The history so far, as a record that is read where it stands. It is legal.
+    pub fn record(&self) -> RecordRef<'_>
+        ensures record_is { result ≡ history_of self.now }
+        ensures legal { IsLegal (history_of self.now) }
+    {
+        RecordRef {
+            schema: &self.schema,
+            rows: self.store.rows(),
+            limit: self.store.limit(),
+            entries: self.entries.as_slice(),
+        }
+    }
+
+    /// The rows ever inserted, of which a pass meets those that the plain table has at the history's end.
+    pub fn given(&self) -> Given<'_>
+        ensures { met result ≡ rows_of (updates self.now) }
+    {
+        self.store.given()
+    }
+
+    /// The call of a line, whose texts become known, as `parse_line` of sw_lang reads it. Refused, nothing has changed.
+    pub fn read_line(&mut self, line: u32, text: &str) -> Result<Option<Call>, Refusal>
+        ensures read { Answers result (refused line (line_at (learned self.old.columns text.now) text.now)) }
+        ensures below { IfOk result (λ call. IfSome call (CallsBelow (length self.old.columns))) }
+        ensures learned { OnOk result (self.new ≡ with_columns (learned self.old.columns text.now) self.old) }
+        ensures unchanged { OnErr result (self.new ≡ self.old) }
+        ensures wide { length self.new.columns ≡ length self.old.columns }
+    {
+        let alloc = *self.entries.allocator();
+        match parse_line(alloc, &mut self.schema, line, text) {
+            Ok(call) => Ok(call),
+            Err(e) => Err(e),
+        }
+    }
+
+    /// The code of a text, which becomes known where it is not. Refused, nothing has changed: `TooMany` where there are as
+    /// many texts as there may be, or `NoMemory`.
+    ///
+    /// The caller's conditions: an attribute is of texts, and the text may be one of a cell.
+    pub fn add_text(&mut self, text: &str) -> Result<i64, Refusal>
+        requires some { has_texts self.old.columns ≡ true }
+        requires text { is_text text.now ≡ true }
+        ensures code { Gives ⊥ (λ code. code) result (cell_given (texts_of self.old.columns) text.now) }
+        ensures added { OnOk result (self.new ≡ with_columns (knowing (text.now ∷ []) self.old.columns) self.old) }
+        ensures unchanged { OnErr result (self.new ≡ self.old) }
+        ensures wide { length self.new.columns ≡ length self.old.columns }
+    {
+        match self.schema.add_text(text) {
+            Ok(code) => Ok(code),
+            Err(e) => Err(e),
+        }
+    }
+
+    /// Forgets the texts that came last, so that the first `count` are left. Where there are no more, nothing changes.
+    pub fn forget_texts(&mut self, count: usize)
+        ensures left { self.new ≡ with_columns (forgetting count self.old.columns) self.old }
+        ensures wide { length self.new.columns ≡ length self.old.columns }
+    {
+        self.schema.forget_texts(count);
     }
 
     /// A select begins: its place is the end of the history, and the updates that the head has not taken go to the

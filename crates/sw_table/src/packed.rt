@@ -94,11 +94,22 @@ fn make_room(out: &mut Vec<i64>, more: usize) -> Result<(), AllocError>
 
 /// A list of rows of as many attributes as its width: no more cells than those are kept of a row, one row after
 /// another.
-#[derive(Debug, Drop)]
+#[derive(Debug)]
 pub struct PackedRows {
     width: usize,
     keys: Keys,
     cells: Vec<i64>,
+}
+
+// By hand: the drop of a derived one is written out at each way out of a function.
+impl Drop for PackedRows {
+    fn drop(self) {
+        let Self {
+            width: _,
+            keys: _keys,
+            cells: _cells,
+        } = self;
+    }
 }
 
 impl Model for PackedRows {

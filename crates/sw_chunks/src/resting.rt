@@ -1,0 +1,80 @@
+//! A query over areas at rest: each that it touches is ready for it as it stands, so that nothing changes.
+
+ghost use Rattle.std.specs.Prelude.{◌≡◌, [], true, All, IfOk, IfSome, IsOkUnless};
+ghost use Rattle.sw_rows.specs.Gives.{MemoryAside};
+ghost use Rattle.sw_rows.specs.Scan.{AsksBelow, answer, answer_over};
+ghost use Rattle.sw_rows.specs.declared.refusal.Refusal.TheVariants.{NoMemory};
+ghost use Rattle.sw_set.specs.Needs.{head_in};
+ghost use Rattle.sw_set.specs.Prepared.{is_touched};
+ghost use Rattle.sw_set.specs.Resting.{IsAtRest, IsToldWhere};
+ghost use Rattle.sw_set.specs.Shelf.{AreaState, rows_in};
+ghost use Rattle.sw_chunks.specs.Asked.{AreaFits, AreasFit, AreAtRest, RestsIfTouched, with_all, with_area};
+
+use crate::joining::join;
+use std::alloc::Global;
+use sw_map::CrackerMap;
+use sw_rows::{Query, Refusal, Reply};
+use sw_set::{Area, nothing};
+
+/// The reply of an area that the query touches, if it is ready for it as it stands.
+fn reply_at_rest<M: CrackerMap>(area: &Area<M>, query: &Query) -> Result<Option<Reply>, Refusal>
+    requires touched { is_touched area.now query.now ≡ true }
+    requires asks { AsksBelow 8 query.now }
+    requires head { head_in query.now.conds ≡ area.now.attribute }
+    ensures rests { IfOk result (IsToldWhere (IsAtRest query.now area.now)) }
+    ensures answered { IfOk result (λ it. IfSome it (λ reply. reply ≡ answer (rows_in area.now) query.now)) }
+    ensures refused { IsOkUnless result NoMemory }
+{
+    let Some(ready) = area.ready_at_rest(query)? else {
+        return Ok(None);
+    };
+    let reply = area.collect(&ready, query)?;
+    Ok(Some(reply))
+}
+
+/// A reply, with that of one area more if the query touches it, where that area is ready for it as it stands.
+fn add_at_rest<M: CrackerMap>(
+    alloc: Global,
+    area: &Area<M>,
+    query: &Query,
+    first: Reply,
+) -> Result<Option<Reply>, Refusal>
+    requires asks { AsksBelow 8 query.now }
+    requires head { head_in query.now.conds ≡ area.now.attribute }
+    requires fits { AreaFits query.now first area.now }
+    ensures rests { IfOk result (IsToldWhere (RestsIfTouched query.now area.now)) }
+    ensures answered { IfOk result (λ it. IfSome it (λ reply. reply ≡ with_area query.now first area.now)) }
+    ensures refused { IsOkUnless result NoMemory }
+{
+    if !area.touches(query) {
+        return Ok(Some(first));
+    }
+    let Some(reply) = reply_at_rest(area, query)? else {
+        return Ok(None);
+    };
+    let both = join(alloc, &query.want, first, reply)?;
+    Ok(Some(both))
+}
+
+/// The replies of the areas that a query touches, put together, if each of these is ready for it as it stands.
+pub(crate) fn answer_resting<M: CrackerMap>(
+    alloc: Global,
+    areas: &[Area<M>],
+    query: &Query,
+) -> Result<Option<Reply>, Refusal>
+    requires asks { AsksBelow 8 query.now }
+    requires head { All (λ (x : AreaState). head_in query.now.conds ≡ x.attribute) areas.now }
+    requires fits { AreasFit query.now (answer_over [] query.now.want) areas.now }
+    ensures rests { IfOk result (IsToldWhere (AreAtRest query.now areas.now)) }
+    ensures answered { IfOk result (λ it. IfSome it (λ r. r ≡ with_all query.now (answer_over [] query.now.want) areas.now)) }
+    ensures refused { IsOkUnless result NoMemory }
+{
+    let mut reply = nothing(alloc, &query.want);
+    for k in 0..areas.len() {
+        let Some(both) = add_at_rest(alloc, &areas[k], query, reply)? else {
+            return Ok(None);
+        };
+        reply = both;
+    }
+    Ok(Some(reply))
+}
