@@ -98,6 +98,7 @@ fn all_latches<J: Naming, M: CrackerMap>(
 /// A head under a latch for each attribute, and the history under its lock.
 ///
 /// A latch is taken before the lock, and never after it.
+#[derive(Drop)]
 pub struct Engine<J: Naming, M: CrackerMap>
 where
     Live<J>: Absorb<Op<J>, State = [Update; 0]>,
@@ -109,21 +110,6 @@ where
     ghost as_many: { vec_len latches ≡ length J.columns },
     ghost some: { 0 < length J.columns },
     ghost few: { length J.columns ≤ 8 },
-}
-
-// By hand: the drop of a derived one is written out at each way out of a function.
-impl<J: Naming, M: CrackerMap> Drop for Engine<J, M>
-where
-    Live<J>: Absorb<Op<J>, State = [Update; 0]>,
-{
-    fn drop(self) {
-        let Self {
-            alloc: _,
-            opening: _opening,
-            latches: _latches,
-            desk: _desk,
-        } = self;
-    }
 }
 
 impl<J: Naming, M: CrackerMap> Engine<J, M>
@@ -559,6 +545,7 @@ where
 
 /// A session. Contracts see its number, the calls that were answered to it, and the list of updates that it has the
 /// receipt of, beside the one that its share shows as published.
+#[derive(Drop)]
 pub struct Session<'e, J: Naming, M: CrackerMap>
 where
     Live<J>: Absorb<Op<J>, State = [Update; 0]>,
@@ -567,21 +554,6 @@ where
     number: u64,
     share: Share<Spine>,
     receipt: Receipt<J>,
-}
-
-// By hand, as of an engine.
-impl<'e, J: Naming, M: CrackerMap> Drop for Session<'e, J, M>
-where
-    Live<J>: Absorb<Op<J>, State = [Update; 0]>,
-{
-    fn drop(self) {
-        let Self {
-            engine: _,
-            number: _,
-            share: _share,
-            receipt: _receipt,
-        } = self;
-    }
 }
 
 impl<'e, J: Naming, M: CrackerMap> Model for Session<'e, J, M>
