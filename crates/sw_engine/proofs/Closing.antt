@@ -10,7 +10,7 @@ use Rattle.sw_rows.specs.declared.refusal.Refusal.TheVariants as refusal
 use Rattle.sw_spine.specs.Books.{Books, RefusesSession}
 use Rattle.sw_spine.specs.declared.spine.TheConstants.{MOST_SESSIONS}
 use Rattle.sw_engine.specs.Desk.{AreAll, AreCounted, IsMade, IsNamed, IsTied, RefusesNext}
-use Rattle.sw_engine.specs.Published.{Shown, session_shown}
+use Rattle.sw_engine.specs.Published.{Shown, answered_to, session_shown}
 use Rattle.sw_engine.proofs.Ties.{get_below, nat_cases, shown_is}
 
 -- ---- why the next session is not opened
@@ -65,7 +65,7 @@ held_more made n ts d lt held one k e less = ⊎_elim
     (nat_cases k n)
 
 -- one that has the number of the last session that may be made is of a session that was made
-named_made : (most made : ℕ) (ts : List Shown) → All (IsMade made) ts → IsNamed most ts → most ≤ made
+named_made : (most made : ℕ) (ts : List Shown) → All (IsMade made) ts → IsNamed most (map answered_to ts) → most ≤ made
 named_made most made [] all named = absurd named
 named_made most made (t ∷ ts) all named = ⊎_elim
     (λ is. let m = (All-head (IsMade made) t ts all).0 in omega (arith, is, m))
@@ -78,12 +78,12 @@ all_made zero made ts are all within = omega (arith, within, are.0)
 all_made (suc n) made ts are all within = let m = named_made (suc n) made ts all (are.1 (omega arith)) in omega (arith, within, are.0, m)
 
 -- of tickets in order the last has the number of all
-counted_named : (n k : ℕ) (ts : List Shown) → AreCounted n (map (λ t. t.0) ts) → k < length ts → IsNamed (n + k) ts
+counted_named : (n k : ℕ) (ts : List Shown) → AreCounted n (map (λ t. t.0) ts) → k < length ts → IsNamed (n + k) (map answered_to ts)
 counted_named n k [] counted lt = absurd (omega (arith, lt))
 counted_named n zero (t ∷ ts) counted lt = inl (counted.0 ∙ (let e : n ≡ n + 0 = omega arith in e))
-counted_named n (suc k) (t ∷ ts) counted lt = inr (subst (λ m. IsNamed m ts) (let e : n + 1 + k ≡ n + suc k = omega arith in e) (counted_named (n + 1) k ts counted.1 (omega (arith, lt))))
+counted_named n (suc k) (t ∷ ts) counted lt = inr (subst (λ m. IsNamed m (map answered_to ts)) (let e : n + 1 + k ≡ n + suc k = omega arith in e) (counted_named (n + 1) k ts counted.1 (omega (arith, lt))))
 
 -- tickets numbered 1 to as many as may be made are all
 pub all_counted : (most : ℕ) (ts : List Shown) → AreCounted 1 (map (λ t. t.0) ts) → length ts ≡ most → AreAll most ts
 all_counted zero ts counted many = (many, λ some. absurd (omega (arith, some)))
-all_counted (suc n) ts counted many = (many, λ some. counted_named 1 n ts counted (omega (arith, many)))
+all_counted (suc n) ts counted many = (many, λ some. subst (λ m. IsNamed m (map answered_to ts)) (let e : 1 + n ≡ suc n = omega arith in e) (counted_named 1 n ts counted (omega (arith, many))))

@@ -98,7 +98,7 @@ shown_begins limit opening b s is = prefix_trans (updates_in s.published) (updat
 
 same_rest : {A : Type 0} (xs ys zs : List A) → xs ++ ys ≡ xs ++ zs → ys ≡ zs
 same_rest [] ys zs e = e
-same_rest (x ∷ xs) ys zs e = same_rest xs ys zs (let both : (x ≡ x) × (xs ++ ys ≡ xs ++ zs) = cc e in both.1)
+same_rest (x ∷ xs) ys zs e = same_rest xs ys zs (cc e)
 
 -- whether batches have all updates, by whether they have all those after the opening rows
 pub tells_all : (limit : ℕ) (opening : List Row) (es : List Entry) (batches : List (List Update)) (all : List Update) (has : Bool) → MatchBool has (updates_in batches ≡ all) (updates_in batches ≡ all → ⊥) → opened opening ++ all ≡ updates_after limit (opened opening) es → TellsAll limit opening es batches has

@@ -22,7 +22,7 @@ use Rattle.sw_spine.specs.declared.history.State.TheVariants as state
 use Rattle.sw_spine.specs.declared.spine.TheConstants.{MOST_ENTRIES, MOST_SESSIONS}
 use Rattle.sw_tie.specs.declared.Book.{Book}
 use Rattle.sw_engine.specs.Later.{Begin}
-use Rattle.sw_engine.specs.Published.{AreBehind, EndsEntry, Shown}
+use Rattle.sw_engine.specs.Published.{AreBehind, EndsEntry, Shown, answered_to}
 use Rattle.sw_engine.specs.Own.{IsNew, own}
 use Rattle.sw_tie.specs.declared.Share.{Share}
 
@@ -213,7 +213,7 @@ IsMade made t = (t.0 ≤ made) × (t.2.sessions ≤ made)
 
 -- as many tickets as sessions may be made, that of the last one among them
 abbrev pub AreAll : ℕ → List Shown → Type 0
-AreAll most ts = (length ts ≡ most) × (0 < most → IsNamed most ts)
+AreAll most ts = (length ts ≡ most) × (0 < most → IsNamed most (map answered_to ts))
 
 -- so many sessions were made, and another number of tickets came back
 abbrev pub AreOut : ℕ → ℕ → Refusal → Type 0

@@ -273,6 +273,60 @@ where
     held(tickets.push(one.end()))
 }
 
+/// Tells whether a session's receipt has all updates.
+fn tell_whole<J: Naming, M: CrackerMap, R: Wait>(
+    rt: &R,
+    session: &mut Session<'_, J, M>,
+    text: &mut String,
+) -> Result<(), Refusal>
+where
+    Live<J>: Absorb<Op<J>, State = [Update; 0]>,
+{
+    let all = session.is_whole(rt);
+    held(text.push_str(if all { "all" } else { "not all" }))
+}
+
+/// A session inserts, so that the receipt of another one lacks a row; that one publishes, and a viewer that learns its receipt looks.
+fn publish_beside<J: Naming, M: CrackerMap, R: Wait>(
+    rt: &R,
+    alloc: Global,
+    one: &mut Session<'_, J, M>,
+    two: &mut Session<'_, J, M>,
+    viewer: &mut Viewer<'_, J>,
+    text: &mut String,
+) -> Result<(), Refusal>
+where
+    Live<J>: Absorb<Op<J>, State = [Update; 0]>,
+{
+    one.insert(rt, [1, 9, 0, 0, 0, 0, 0, 0])?;
+    tell_whole(rt, one, text)?;
+    held(text.push_str("; "))?;
+    tell_whole(rt, two, text)?;
+    held(text.push_str("; "))?;
+    viewer.learn(two.publish(rt)?);
+    look(alloc, text, viewer)?;
+    tell_whole(rt, two, text)
+}
+
+/// Tells whose receipts have all updates before and after a publishing, and adds the sessions' tickets.
+fn publish_on<J: Naming, M: CrackerMap, R: Wait>(
+    rt: &R,
+    alloc: Global,
+    engine: &Engine<J, M>,
+    tickets: &mut Vec<Ticket<J>>,
+    text: &mut String,
+) -> Result<(), Refusal>
+where
+    Live<J>: Absorb<Op<J>, State = [Update; 0]>,
+{
+    let mut one = engine.session(rt)?;
+    let mut two = engine.session(rt)?;
+    let mut viewer = engine.viewer(rt)?;
+    publish_beside(rt, alloc, &mut one, &mut two, &mut viewer, text)?;
+    held(tickets.push(one.end()))?;
+    held(tickets.push(two.end()))
+}
+
 /// Tells where a session's last entry stands.
 fn tell_place<J: Naming, M: CrackerMap, R: Wait>(
     rt: &R,
@@ -364,6 +418,8 @@ pub(crate) enum Asked {
     LateViews,
     /// What a viewer sees around a call that deletes several rows.
     DeletionViews,
+    /// Whose receipts have all updates around a publishing.
+    Publishing,
 }
 
 /// Asks it, and closes the engine, first without the last ticket.
@@ -384,6 +440,7 @@ where
         Asked::Views => look_on(rt, alloc, &engine, &mut tickets, text)?,
         Asked::LateViews => look_late(rt, alloc, &engine, &mut tickets, text)?,
         Asked::DeletionViews => look_at_deletion(rt, alloc, &engine, &mut tickets, text)?,
+        Asked::Publishing => publish_on(rt, alloc, &engine, &mut tickets, text)?,
     }
     close_twice(rt, engine, tickets, text)
 }

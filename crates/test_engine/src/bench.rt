@@ -76,6 +76,7 @@ fn tell_fixed<R: Threads + Wait + Sync>(
         "viewed" => ask(rt, alloc, Asked::Views, text),
         "viewed-late" => ask(rt, alloc, Asked::LateViews, text),
         "viewed-many" => ask(rt, alloc, Asked::DeletionViews, text),
+        "published" => ask(rt, alloc, Asked::Publishing, text),
         "crowded" => crowded(rt, alloc, text),
         "met-in-run" => met_in_run(rt, alloc, text),
         _ => Ok(()),
