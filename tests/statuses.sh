@@ -219,6 +219,7 @@ printf 'n,city,ok,day\n1,Oslo,TRUE,2020-01-01\n2,Roma,false,2020-02-29\n' >value
 printf 'n,city\n1,Oslo\n,%065d\n' 7 >long.csv
 if ${CC:-cc} -O1 -shared -fPIC -o refusing.so "$top/tests/refusing.c" -ldl 2>/dev/null; then
     refused_in_turn 'a run' 0 "$program" run --table t.csv --script calls.txt --history turn.json
+    refused_in_turn 'a run under a header' 0 "$program" run --table t.csv --header 'a:int,-,c:int' -e 'select a where c >= 1' -e count
     refused_in_turn 'a check' 0 "$program" check legal.json
     refused_in_turn 'a check of what is not legal' 1 "$program" check illegal.json
     refused_in_turn 'an explanation' 1 "$program" check --explain illegal.json
@@ -226,12 +227,15 @@ if ${CC:-cc} -O1 -shared -fPIC -o refusing.so "$top/tests/refusing.c" -ldl 2>/de
     refused_in_turn 'an unknown flag' 2 "$program" run --fast
     refused_in_turn 'replies as JSON' 0 "$program" run --table t.csv --script calls.txt --output json
     refused_in_turn 'replies as records' 0 "$program" run --table t.csv -e 'select a' -e 'sum c' --output csv
+    refused_in_turn 'a reply as a table' 0 "$program" run --table t.csv -e 'select a' -e 'select a, b where c >= 1' --output table
     refused_in_turn 'an import' 0 "$program" import values.csv
     refused_in_turn 'an import with numbers for texts' 0 "$program" import long.csv --long number --dictionary texts.csv --empty 0
     refused_in_turn 'an import that is refused' 2 "$program" import short.csv
     refused_in_turn 'a description' 0 "$program" describe t.csv
+    refused_in_turn 'a description under a header' 0 "$program" describe t.csv --header 'a:int,-,c:int'
     refused_in_turn 'a description as JSON' 0 "$program" describe t.csv --output json
     refused_in_turn 'the names of a shell' 0 "$program" shell t.csv --names
+    refused_in_turn 'the names of a shell under a header' 0 "$program" shell t.csv --header 'a:int,-,c:int' --names
     given=entered.txt
     refused_in_turn 'a shell' 0 "$program" shell t.csv --history entered.json
     printf 'count where d = 1\ncount\n' >entered.txt

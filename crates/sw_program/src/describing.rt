@@ -147,7 +147,10 @@ fn read_at<R: Files + RandomSource + Input + Threads + Sync>(
     };
     let mut source = Keeping::new(source, Kept::new(alloc, is_read_once(rt, place)));
     let read = match TextKey::new(rt) {
-        Ok(key) => load_in_parts(rt, alloc, key, &mut source),
+        Ok(key) => match load_in_parts(rt, alloc, key, &mut source) {
+            Ok(table) => Ok(table),
+            Err(refusal) => Err(source.why(refusal)),
+        },
         Err(refusal) => Err(refusal),
     };
     Came {

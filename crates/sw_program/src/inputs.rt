@@ -1,10 +1,14 @@
 //! Where the table and the script of a run come from.
 
-ghost use Rattle.std.specs.Prelude.{IsOkUnless};
+ghost use Rattle.std.specs.Prelude.{◌≡◌, ◌↔◌, false, true, IfErr, IsOkUnless, OnErr, OnOk};
+ghost use Rattle.std.specs.Io.{ReadsAtMost};
+ghost use Rattle.std.specs.Io.KnownBytes.{ReadConsumes};
+ghost use Rattle.std.specs.IoError.{error_kind};
+ghost use Rattle.sw_rows.specs.Gives.{Raised};
 
 use std::alloc::Global;
 use std::io;
-use std::io::Read;
+use std::io::{ErrorKind, Read};
 use std::rt::Files;
 use sw_files::{FileId, open_input};
 use sw_headers::{Headed, Header};
@@ -184,12 +188,29 @@ impl Kept {
 pub(crate) struct Keeping<S: Source + Drop> {
     source: S,
     kept: Kept,
+    /// Whether its last failure was a want of memory.
+    is_short: bool,
 }
 
 impl<S: Source + Drop> Keeping<S> {
     /// A source of which nothing went by.
     pub(crate) fn new(source: S, kept: Kept) -> Keeping<S> {
-        Keeping { source, kept }
+        Keeping {
+            source,
+            kept,
+            is_short: false,
+        }
+    }
+
+    /// Why it was refused to read this source: `NoMemory` in place of `Input` where memory was wanting.
+    pub(crate) fn why(&self, refusal: Refusal) -> Refusal
+        ensures short { self.now.is_short ≡ true → refusal ≡ Refusal.Input → result ≡ Refusal.NoMemory }
+        ensures other { self.now.is_short ≡ false → result ≡ refusal }
+    {
+        match refusal {
+            Refusal::Input if self.is_short => Refusal::NoMemory,
+            _ => refusal,
+        }
     }
 
     /// What went by.
@@ -197,6 +218,7 @@ impl<S: Source + Drop> Keeping<S> {
         let Self {
             source: _source,
             kept,
+            is_short: _,
         } = self;
         kept
     }
@@ -208,6 +230,7 @@ impl<S: Source + Drop> Drop for Keeping<S> {
         let Self {
             source: _source,
             kept: _kept,
+            is_short: _,
         } = self;
     }
 }
@@ -217,11 +240,24 @@ impl<S: Source + Drop> Source for Keeping<S> {
 
     ghost failed = { λ s. S.failed s.source };
 
-    fn read_some(&mut self, buf: &mut [u8]) -> io::Result<usize> {
-        let count = self.source.read_some(buf)?;
-        let (given, _) = buf.split_at(count);
-        self.kept.keep(given);
-        Ok(count)
+    fn read_some(&mut self, buf: &mut [u8]) -> io::Result<usize>
+        ensures bound { ReadsAtMost result buf.new }
+        ensures bytes { ReadConsumes (S.left self.old.source) (S.left self.new.source) result buf.new }
+        ensures went { OnOk result (S.failed self.new.source ≡ S.failed self.old.source) }
+        ensures raised { OnErr result (Raised (S.failed self.old.source) (S.failed self.new.source)) }
+        ensures short { IfErr result (λ e. self.new.is_short ≡ true ↔ error_kind e ≡ ErrorKind.OutOfMemory) }
+    {
+        match self.source.read_some(buf) {
+            Ok(count) => {
+                let (given, _) = buf.split_at(count);
+                self.kept.keep(given);
+                Ok(count)
+            }
+            Err(error) => {
+                self.is_short = error.kind() == ErrorKind::OutOfMemory;
+                Err(error)
+            }
+        }
     }
 
     fn failures(&self) -> u64 {

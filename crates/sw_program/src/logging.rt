@@ -4,6 +4,7 @@ use crate::seeing::Seen;
 use csv::{ByteRecord, Writer};
 use std::alloc::{AllocError, Global};
 use std::rt::{Clock, Files};
+use std::sync::atomic::{AtomicU64, Ordering};
 use std::sync::{Mutex, Wait};
 use sw_cli::Onlooker;
 use sw_files::begin_file;
@@ -71,22 +72,107 @@ impl Times {
     }
 }
 
-/// Who looks on while a run makes its calls: what is seen of it, and when its calls were made, where a log is asked for.
+/// Why the last call of a run was refused, if it was, as its threads note it. The record does not tell: a call that was
+/// refused may have no entry.
+#[derive(Drop)]
+struct Last {
+    /// Four times the number of the last block of which a call has ended, and more by why its last call was refused: 0 where it was
+    /// not, 1 for want of memory, 2 where the history was full.
+    word: AtomicU64,
+    /// How many entries the history had when it was full.
+    entries: AtomicU64,
+}
+
+impl Last {
+    /// No call has ended yet.
+    fn new() -> Last {
+        Last {
+            word: AtomicU64::new(0),
+            entries: AtomicU64::new(0),
+        }
+    }
+
+    /// What is more in the word for an answer.
+    fn weight(&self, answer: &Result<Reply, Refusal>) -> u64 {
+        match answer {
+            Ok(_) => 0,
+            Err(Refusal::HistoryFull { entries }) => {
+                self.entries.store(*entries, Ordering::SeqCst);
+                2
+            }
+            Err(_) => 1,
+        }
+    }
+
+    /// Notes that a call of a block has ended, after all others of that block so far.
+    fn note(&self, block: u64, answer: &Result<Reply, Refusal>) {
+        let word = block.saturating_mul(4).saturating_add(self.weight(answer));
+        let mut found = self.word.load(Ordering::SeqCst);
+        for _ in 0..u64::MAX {
+            if found / 4 > block {
+                return;
+            }
+            match self
+                .word
+                .compare_exchange(found, word, Ordering::SeqCst, Ordering::SeqCst)
+            {
+                Ok(_) => return,
+                Err(other) => found = other,
+            }
+        }
+    }
+
+    /// Why the last call was refused, if it was.
+    fn refusal(&self) -> Option<Refusal> {
+        match self.word.load(Ordering::SeqCst) % 4 {
+            0 => None,
+            2 => Some(Refusal::HistoryFull {
+                entries: self.entries.load(Ordering::SeqCst),
+            }),
+            _ => Some(Refusal::NoMemory),
+        }
+    }
+}
+
+/// Who looks on while a run makes its calls: what is seen of it, when its calls were made, where a log is asked for, and why the
+/// last was refused, where its reply is to go out alone.
 #[derive(Drop)]
 pub(crate) struct Watch<'s, 'r, R: Clock + Eprint + Wait> {
     pub(crate) seen: &'s Seen<'r, R>,
     times: Option<Times>,
+    last: Option<Last>,
 }
 
 impl<'s, 'r, R: Clock + Eprint + Wait> Watch<'s, 'r, R> {
     /// Nothing was noted yet.
-    pub(crate) fn new(alloc: Global, seen: &'s Seen<'r, R>, is_logged: bool) -> Watch<'s, 'r, R> {
+    pub(crate) fn new(
+        alloc: Global,
+        seen: &'s Seen<'r, R>,
+        is_logged: bool,
+        is_last_alone: bool,
+    ) -> Watch<'s, 'r, R> {
         let times = if is_logged {
             Some(Times::new(alloc))
         } else {
             None
         };
-        Watch { seen, times }
+        let last = if is_last_alone {
+            Some(Last::new())
+        } else {
+            None
+        };
+        Watch { seen, times, last }
+    }
+
+    /// Refused as the last call was, where its reply was to go out alone.
+    pub(crate) fn answers_last(&self) -> Result<(), Refusal> {
+        let Some(last) = &self.last else {
+            return Ok(());
+        };
+        match last.refusal() {
+            Some(refusal) => Err(refusal),
+            None => Ok(()),
+        }
     }
 
     /// When the calls were made, where a log is asked for.
@@ -104,6 +190,9 @@ impl<R: Clock + Eprint + Wait + Sync> Onlooker for Watch<'_, '_, R> {
     fn ended(&self, block: u64, call: &Call, begun: u64, answer: &Result<Reply, Refusal>) {
         let time = self.seen.time();
         self.seen.sees(call, begun, time.unwrap_or(0));
+        if let Some(last) = &self.last {
+            last.note(block, answer);
+        }
         if let (Some(times), Ok(_)) = (&self.times, answer) {
             let timed = Timed {
                 block,

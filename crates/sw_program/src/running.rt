@@ -163,7 +163,10 @@ fn run_keeping<
     mut script: Keeping<S>,
     watch: &Watch<'_, '_, R>,
 ) -> Came {
-    let ended = run_between(rt, alloc, &mut table, &mut script, run, watch);
+    let ended = match run_between(rt, alloc, &mut table, &mut script, run, watch) {
+        Ok(ended) => Ok(ended),
+        Err(refusal) => Err(script.why(table.why(refusal))),
+    };
     let kept = Keeps {
         table: table.into_kept(),
         script: script.into_kept(),
@@ -371,7 +374,8 @@ impl Run<'_> {
         ensures { IfOk result (λ status. (status ≡ 0) ⊎ (status ≡ 3)) }
     {
         let seen = Seen::new(rt, self.sights, self.log.is_some());
-        let watch = Watch::new(alloc, &seen, self.log.is_some());
+        let is_last_alone = self.form == Form::Table;
+        let watch = Watch::new(alloc, &seen, self.log.is_some(), is_last_alone);
         let Came { ended, kept } = run_named(rt, alloc, self, &watch);
         let ended = match ended {
             Ok(ended) => ended,
@@ -380,6 +384,7 @@ impl Run<'_> {
                 return Err(refusal);
             }
         };
+        watch.answers_last()?;
         let script = script_bytes(self.script, &kept.script);
         self.shape(alloc, &seen, &ended.history, script, words)?;
         self.leave(rt, alloc, &ended.history, watch.into_times(), words)?;

@@ -176,6 +176,7 @@ impl Shell<'_> {
                 Ok(status)
             }
             Err(refusal) => {
+                let refusal = table.why(refusal);
                 *words = self.tell(rt, alloc, &refusal, table.into_kept());
                 Err(refusal)
             }
@@ -197,6 +198,7 @@ impl Shell<'_> {
         match load_in_parts(rt, alloc, key, &mut table) {
             Ok((schema, _)) => print_words(rt, alloc, &schema, words),
             Err(refusal) => {
+                let refusal = table.why(refusal);
                 *words = self.tell(rt, alloc, &refusal, table.into_kept());
                 Err(refusal)
             }

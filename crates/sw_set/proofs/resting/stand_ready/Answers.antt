@@ -8,7 +8,7 @@ returns-then-is_none g c =
     let x = c.args.area.now in (
       λ f. absurd (true≢false (sym f)),
       λ ready. absurd (stand-not x.tape x.boxes c.args.tails.now c.loop-at.at _ c.loop-at-test.true
-        (found-none _ x.boxes c.at_end.result c.at_end.ensures none) ready),
+          (found-none _ x.boxes c.at_end.result c.at_end.ensures none) ready),
     )
 
 pub loop-at-preserved : goal.loop-at-preserved
