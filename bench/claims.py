@@ -63,8 +63,8 @@ CALLS = [
         "seen": "that list begins with the list that it had seen before, batch by batch",
         "told": "it begins with every list that it was told of",
         "same": "what it was told stands",
-        "came": "an answer counts no failure of its reader to come to a copy",
-        "refused": "after a refusal it has seen and was told what it had",
+        "came": "where it is answered, the count of times that it could not come to the copies stands",
+        "refused": "after a refusal it has seen and was told what it had; it is refused `TooMany` only where it could not come, and counts that",
     }),
 ]
 

@@ -132,7 +132,7 @@ def main(words):
     if words[0] == "--controls":
         return tell_controls(words[1:])
     how = {"cwd": TOP, "stdout": subprocess.PIPE, "stderr": subprocess.STDOUT, "encoding": "utf-8", "errors": "replace"}
-    said = text_of(words[1]) if words[0] == "--log" else subprocess.run([*RT, "must-fail", *words], **how).stdout
+    said = text_of(words[1]) if words[0] == "--log" else subprocess.run([sys.executable, f"{TOP}/tests/wrong.py", *words], **how).stdout
     crates = words[2:] if words[0] == "--log" else words
     tried, lost = {}, []
     for crate, name, told in TOLD.findall(said):

@@ -1,6 +1,7 @@
 -- What is known of the tickets that come to a close.
-use Rattle.std.proofs.Common.{◌≡◌, ◌⊎◌, inl, inr, ⊎_elim, ℕ, zero, suc, ◌+◌, ◌<◌, ◌≤◌, ◌≢◌, List, [], ◌∷◌, length, map, refl, sym, ◌∙◌, ap, subst, arith, All}
-use Rattle.std.proofs.lemmas.List.{length-map}
+use Rattle.std.proofs.Common.{◌≡◌, ◌⊎◌, inl, inr, ⊎_elim, ℕ, zero, suc, ◌+◌, ◌<◌, ◌≤◌, ◌≢◌, List, [], ◌∷◌, ◌++◌, drop, length, map, take, refl, sym, ◌∙◌, ap, subst, arith, All}
+use Rattle.std.proofs.lemmas.List.{length-map, take-append-le}
+use Rattle.std.proofs.Math.Seq.{take-length}
 use Rattle.std.proofs.lemmas.List.Elements.{All-head, All-tail}
 use Rattle.std.specs.Prelude.{Bool, Some, false, get_or, slice_get, slice_set}
 use Rattle.sw_table.specs.declared.row.Row.{Row}
@@ -9,7 +10,7 @@ use Rattle.sw_rows.specs.declared.refusal.Refusal.{Refusal}
 use Rattle.sw_rows.specs.declared.refusal.Refusal.TheVariants as refusal
 use Rattle.sw_spine.specs.Books.{Books, RefusesSession}
 use Rattle.sw_spine.specs.declared.spine.TheConstants.{MOST_SESSIONS}
-use Rattle.sw_engine.specs.Desk.{AreAll, AreCounted, IsMade, IsNamed, IsTied, RefusesNext}
+use Rattle.sw_engine.specs.Desk.{AreAll, AreCounted, AreOut, IsMade, IsNamed, IsTied, RefusesNext}
 use Rattle.sw_engine.specs.Published.{Shown, answered_to, session_shown}
 use Rattle.sw_engine.proofs.Ties.{get_below, nat_cases, shown_is}
 
@@ -76,6 +77,15 @@ named_made most made (t ∷ ts) all named = ⊎_elim
 pub all_made : (most made : ℕ) (ts : List Shown) → AreAll most ts → All (IsMade made) ts → made ≤ most → made ≡ length ts
 all_made zero made ts are all within = omega (arith, within, are.0)
 all_made (suc n) made ts are all within = let m = named_made (suc n) made ts all (are.1 (omega arith)) in omega (arith, within, are.0, m)
+
+-- so a close is not refused there
+pub never_out : (most made : ℕ) (ts : List Shown) (e : Refusal) → All (IsMade made) ts → made ≤ most → AreOut made (length ts) e → AreAll most ts → ⊥
+never_out most made ts e all within out are = out.1 (all_made most made ts are all within)
+
+-- a list of which all was lent out, and came back as it was
+pub slice_back : {A : Type 0} (n : ℕ) (xs ys : List A) → ys ≡ xs → n ≡ length xs → take n (ys ++ drop (length ys) xs) ≡ xs
+slice_back n xs ys same many =
+    (λ i. take (many i) (same i ++ drop (length (same i)) xs)) ∙ (take-append-le (length xs) xs (drop (length xs) xs) (omega arith) ∙ take-length xs)
 
 -- of tickets in order the last has the number of all
 counted_named : (n k : ℕ) (ts : List Shown) → AreCounted n (map (λ t. t.0) ts) → k < length ts → IsNamed (n + k) (map answered_to ts)

@@ -252,7 +252,6 @@ where
     /// Refused `SharesOut` with both numbers otherwise; then the engine and the tickets come back, and it has waited
     /// for nobody. Where all tickets come back that there may be, it is not refused. It takes no memory. Where it is not
     /// refused it ends the writer of the copies; no viewer is left then, by their types.
-    #[tactic(auto, using(crate::proofs::Closing::all_made))]
     pub fn close<R: Wait>(
         self,
         rt: &R,
@@ -273,7 +272,7 @@ where
         } = self;
         let mut desk = desk.into_inner();
         let mut back = tickets;
-        if let Err(refusal) = desk.all_back(&mut back[..]) {
+        if let Err(refusal) = desk.all_back(&mut back) {
             let engine = Engine {
                 alloc,
                 opening,

@@ -142,15 +142,16 @@ where
 
     /// Whether as many tickets came back as sessions were made; otherwise both numbers are told. Nothing changes. The tickets
     /// are held against the books, so they are of sessions that were made, and their sessions saw no more than these.
-    pub fn all_back(&mut self, tickets: &mut [Ticket<J>]) -> Result<(), Refusal>
+    #[tactic(auto, using(crate::proofs::Closing::slice_back))]
+    pub fn all_back(&mut self, tickets: &mut Vec<Ticket<J>>) -> Result<(), Refusal>
         ensures same { self.new ≡ self.old }
-        ensures tickets { tickets.new ≡ tickets.old }
-        ensures made { All (IsMade (length self.old.desk.given)) tickets.old }
+        ensures tickets { tickets.new.items ≡ tickets.old.items }
+        ensures made { All (IsMade (length self.old.desk.given)) tickets.old.items }
         ensures few { length self.old.desk.given ≤ J.most }
-        ensures back { OnOk result (length self.old.desk.given ≡ length tickets.old) }
-        ensures out { IfErr result (AreOut (length self.old.desk.given) (length tickets.old)) }
+        ensures back { OnOk result (length self.old.desk.given ≡ length tickets.old.items) }
+        ensures out { IfErr result (AreOut (length self.old.desk.given) (length tickets.old.items)) }
     {
-        self.desk.hold_all(tickets);
+        self.desk.hold_all(tickets.as_mut_slice());
         let made = self.desk.sessions();
         let given = tickets.len() as u64;
         if made != given {

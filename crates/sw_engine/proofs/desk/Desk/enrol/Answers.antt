@@ -23,7 +23,7 @@ invariant_of-self-2 g c =
       ends = ends;
       most_is = c.self.invariant.most_is;
       few = c.self.invariant.few;
-      within = let many : x.sessions ≡ s.spine.sessions + 1 = ap (λ (b : Books). b.sessions) is in let room = c.if-many-ge-most.false in let i = c.self.invariant in omega (arith, many, room, i.most_is, i.many_are, i.tied.as_many);
+      within = let many : x.sessions ≡ s.spine.sessions + 1 = ap (λ (b : Books). b.sessions) is in let room = c.if-many-most.false in let i = c.self.invariant in omega (arith, many, room, i.most_is, i.many_are, i.tied.as_many);
     }
 
 pub returns-clause-whole : goal.returns-clause-whole

@@ -7,8 +7,8 @@ use Rattle.sw_engine.specs.Published.{EndWithEntries, IsShelfOf, TellsAll, later
 use Rattle.sw_engine.proofs.Shelves.{published_is, shelf_caught, shelf_count, shelf_ends, shelf_high, shelf_low, shown_begins, tells_all}
 use Rattle.sw_engine.proofs.locked.LockedDesk.publish.Goals as goal
 
-pub catch_up-requires : goal.catch_up-requires
-catch_up-requires g c =
+pub catch_up-put_off-requires : goal.catch_up-put_off-requires
+catch_up-put_off-requires g c =
     subst (λ (us : List Update). IsPrefix (updates_in c.self.inside.shelf.booked) us) (sym c.later.ensures.later) c.self.invariant.0.booked
 
 pub publish-requires-clause-low : goal.publish-requires-clause-low
@@ -62,8 +62,8 @@ returns-clause-entries g c =
     let caught = shelf_caught j.limit j.opening b c.self.inside.shelf v c.later.result.now c.count-count.result c.self.invariant.0 c.later.ensures.later c.later.ensures.entries c.catch_up-put_off.ensures.booked c.catch_up-put_off.ensures.batch c.catch_up-put_off.ensures.published is in
     subst (λ (x : Books). EndWithEntries j.limit j.opening x.entries v.published) (sym c.publish.ensures.published) (shelf_ends j.limit j.opening (with_published c.count-count.result b) v caught)
 
-pub has_all-requires : goal.has_all-requires
-has_all-requires g c =
+pub has_all-whole-requires : goal.has_all-whole-requires
+has_all-whole-requires g c =
     let j = g.J.Naming in
     let b = c.self.inside.desk.books in
     let v = c.catch_up-put_off.new.self in
