@@ -1,4 +1,4 @@
-"""Sorts refusals of wrong bodies by where they came, tries controls, and prints a table for each crate (docs/REFUSALS.md).
+"""Sorts refusals of wrong bodies by where they came, tries controls, and prints a table for each crate (tests/REFUSALS.md).
 
 A control, tests/controls/CRATE/NAME.edit, is a text of the same meaning as the real body at the place of a wrong one, which has
 to be proved; or one line, 'lemma: NAME FILE', names a lemma that no body does what the wrong one does. Ends with status 1 where
