@@ -308,8 +308,7 @@ where
     tell_whole(rt, two, text)
 }
 
-/// Tells how a third session is refused, and whose receipts have all updates before and after a publishing, and adds the
-/// sessions' tickets.
+/// Tells whose receipts have all updates before and after a publishing, and adds the sessions' tickets.
 fn publish_on<J: Naming, M: CrackerMap, R: Wait>(
     rt: &R,
     alloc: Global,
@@ -322,9 +321,6 @@ where
 {
     let mut one = engine.session(rt)?;
     let mut two = engine.session(rt)?;
-    if let Err(refusal) = engine.session(rt) {
-        held(write!(text, "{refusal}; "))?;
-    }
     let mut viewer = engine.viewer(rt)?;
     publish_beside(rt, alloc, &mut one, &mut two, &mut viewer, text)?;
     held(tickets.push(one.end()))?;
@@ -495,7 +491,7 @@ fn ask_picked<J: Naming, M: CrackerMap, R: Wait>(
     ask_on::<J, M, R>(rt, alloc, books, table, boxes, asked, text)
 }
 
-/// The same over the four rows, with two boxes at the first head, by an engine that may have two sessions.
+/// The same over the four rows, with two boxes at the first head.
 pub(crate) fn ask<R: Wait>(
     rt: &R,
     alloc: Global,
@@ -505,6 +501,5 @@ pub(crate) fn ask<R: Wait>(
     let boxes = Boxes::at(alloc, refusing(alloc, 2, 1 << 20, 0)?, Vec::new(alloc));
     let schema = Schema::of(alloc, TextKey::fixed(), &HEADER)?;
     let table = Table::of(alloc, TABLE, schema)?;
-    let books = Blank::for_sessions(2);
-    ask_picked::<Brand, Refusing, R>(rt, alloc, books, table, boxes, asked, text)
+    ask_picked::<Brand, Refusing, R>(rt, alloc, Blank::new(), table, boxes, asked, text)
 }
