@@ -247,6 +247,9 @@ query_fits schema cs w all fits = record {
   names = fits.2;
 }
 
+pub asked_query_fits : (schema : List Column) (w : Wanted) (ranges : List Range) (x : Want) (cs : List Cond) → want_in schema w ≡ Ok x → conds_after schema [] ranges ≡ Ok cs → FitsQuery schema (record { conds = cs; want = x })
+asked_query_fits schema w ranges x cs asked held = query_fits schema cs x (conds_fit schema [] ranges cs held (none_fit schema)) (want_fits schema w x asked)
+
 select_by : (schema : List Column) (w : Result Want Fault) (r : Result (List Cond) Fault) (c : Call) → ((w >>= λ want. r >>= λ conds. Ok (record { conds = conds; want = want })) >>= λ q. Ok (call.Select q)) ≡ Ok c
     → ((x : Want) → w ≡ Ok x → WantFits schema x) → ((cs : List Cond) → r ≡ Ok cs → AllFit schema cs) → FitsCall schema c
 select_by schema (Ok x) (Ok cs) c h f g = subst (FitsCall schema) (same_ok (call.Select (record { conds = cs; want = x })) c h) (query_fits schema cs x (g cs refl) (f x refl))

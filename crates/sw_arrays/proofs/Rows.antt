@@ -1,15 +1,13 @@
 -- Columns, row by row.
-use Rattle.std.proofs.Common.{◌≡◌, ◌∙◌, ◌<◌, ◌≤◌, ◌+◌, ◌-◌, ◌*◌, ◌++◌, ◌&&◌, ◌||◌, ℕ, zero, suc, ℤ, pos, Bool, true, false, cond, eqb, is_some, nat_lt, List, [], ◌∷◌, length, get_or, set, take, drop, map, replicate, slice_get, unwrap_or, Option, None, Some, Result, Ok, Err, refl, sym, ap, subst, arith}
+use Rattle.std.proofs.Common.{◌≡◌, ◌∙◌, ◌<◌, ◌≤◌, ◌+◌, ◌-◌, ◌*◌, ◌++◌, ℕ, zero, suc, ℤ, pos, true, false, eqb, is_some, nat_lt, List, [], ◌∷◌, length, get_or, set, take, drop, map, replicate, slice_get, unwrap_or, Option, None, Some, Ok, refl, sym, ap, arith}
 use Rattle.std.proofs.lemmas.Bool.{false≢true, ltb-false}
 use Rattle.std.proofs.lemmas.Bool.Decides.{nat_tests}
-use Rattle.std.proofs.lemmas.List.{drop-append-le, drop-map, drop-replicate, drop_all, drop_more, length-append, length-map, take_all}
-use Rattle.std.proofs.lemmas.Option.{none-some, slice_get-get_or, slice_get_within}
+use Rattle.std.proofs.lemmas.List.{drop-append-le, drop-map, drop-replicate, drop_all, drop_more, length-map, take_all}
 use Rattle.std.proofs.lemmas.Nat.{mul-le}
 use Rattle.sw_rows.specs.Domains.{Domain}
 use Rattle.sw_rows.specs.Domains as kind
 use Rattle.sw_rows.specs.Faults.{bad_table, too_many}
 use Rattle.sw_rows.specs.Header.{Column, header_after, header_of}
-use Rattle.sw_rows.specs.Tables.{padded}
 use Rattle.sw_table.specs.Packed.{zeros}
 use Rattle.sw_table.specs.declared.row.Row.{Row}
 use Rattle.sw_lang.specs.Replies.{kind_at}

@@ -93,6 +93,14 @@ abbrev pub ends_new : List Column → List ℕ → ℕ → ℕ → Bool
 ends_new columns bytes start end =
     nat_le start end && nat_le end (length bytes) && is_new_text columns (between start end bytes)
 
+-- bytes that are a new text, and those from one place to another, if they are one
+abbrev pub new_text : List Column → List ℕ → Option (List ℕ)
+new_text columns bytes = if is_new_text columns bytes then Some bytes else None
+
+abbrev pub text_between : List Column → List ℕ → ℕ → ℕ → Option (List ℕ)
+text_between columns bytes start end =
+    if ends_new columns bytes start end then Some (between start end bytes) else None
+
 -- attributes that know one text more
 abbrev pub knowing_one : List Column → List ℕ → List Column
 knowing_one columns text = holding (with_text (texts_of columns) text) columns

@@ -2,7 +2,7 @@
 
 ghost use Rattle.std.specs.Prelude.{◌≡◌, nat_lt, IfOk};
 ghost use Rattle.std.specs.List.{list_all};
-ghost use Rattle.sw_lang.specs.Fits.{FitsCall};
+ghost use Rattle.sw_lang.specs.Fits.{FitsCall, FitsQuery};
 ghost use Rattle.sw_arrays.specs.Asked.{Answers, are_names, call_asked, delete_asked, names_in, number_in, query_in, want_in};
 
 use crate::cells::row_of;
@@ -98,13 +98,15 @@ fn want_of(alloc: Global, schema: &Schema, wanted: Wanted<'_>) -> Result<Want, F
     }
 }
 
-fn query_of(
+/// The query that numbers ask for. It fits the table as that of a line does.
+pub fn query_of(
     alloc: Global,
     schema: &Schema,
     wanted: Wanted<'_>,
     ranges: &[Range],
 ) -> Result<Query, Fault>
-    ensures { Answers (λ query. query) result (query_in schema.now wanted.entry ranges.now) }
+    ensures answers { Answers (λ query. query) result (query_in schema.now wanted.entry ranges.now) }
+    ensures fits { IfOk result (FitsQuery schema.now) }
 {
     let want = match want_of(alloc, schema, wanted) {
         Ok(want) => want,

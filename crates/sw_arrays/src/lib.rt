@@ -9,7 +9,7 @@ mod header;
 mod range;
 mod table;
 
-pub use asked::{Asked, Wanted, call_of};
+pub use asked::{Asked, Wanted, call_of, query_of};
 pub use cells::{is_cell, row_of};
 pub use columns::{Cells, Place, are_rows, cells_at};
 pub use copied::{cells_into, keys_into};

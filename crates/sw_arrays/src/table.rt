@@ -1,12 +1,12 @@
 //! Tables of columns.
 
-ghost use Rattle.std.specs.Prelude.{◌≡◌, ◌≤◌, ◌+◌, true, length, if◌then◌else◌, option_map, is_some, None, Some, IfOk, IfSome};
+ghost use Rattle.std.specs.Prelude.{◌≡◌, ◌≤◌, ◌+◌, true, length, option_map, is_some, IfOk, IfSome};
 ghost use Rattle.sw_rows.specs.Gives.{Gives};
 ghost use Rattle.sw_rows.specs.Header.{has_texts, texts_of};
 ghost use Rattle.sw_rows.specs.Tables.{shown_packed};
 ghost use Rattle.sw_rows.specs.Texts.{code_of, is_text};
 ghost use Rattle.sw_rows.specs.declared.table.TheConstants.{MOST_ROWS};
-ghost use Rattle.sw_arrays.specs.Columns.{between, ends_new, is_new_text, knowing, lacking_in, none_lacking, rows_in, table_in};
+ghost use Rattle.sw_arrays.specs.Columns.{knowing, lacking_in, new_text, none_lacking, rows_in, table_in, text_between};
 
 use crate::columns::{Cells, cells_at, lacking_in};
 use crate::header::{Attribute, columns_in, schema_of};
@@ -38,7 +38,7 @@ fn is_known(schema: &Schema, text: &str) -> bool
 /// The text of bytes, if they are one that attributes may know, and do not.
 #[tactic(auto, using(crate::proofs::Knows::known_ends, crate::proofs::Knows::new_goes))]
 fn new_text<'a>(schema: &Schema, bytes: &'a [u8]) -> Option<&'a str>
-    ensures value { option_map (λ text. text.now) result ≡ (if is_new_text schema.now bytes.now then Some bytes.now else None) }
+    ensures value { option_map (λ text. text.now) result ≡ new_text schema.now bytes.now }
     ensures may { IfSome result (λ text. (is_text text.now ≡ true) × (has_texts schema.now ≡ true)) }
 {
     if !schema.has_texts() {
@@ -53,7 +53,7 @@ fn new_text<'a>(schema: &Schema, bytes: &'a [u8]) -> Option<&'a str>
 
 /// The new text from one place to another, if there is one.
 fn text_between<'a>(schema: &Schema, texts: &'a [u8], start: u64, end: u64) -> Option<&'a str>
-    ensures value { option_map (λ text. text.now) result ≡ (if ends_new schema.now texts.now start end then Some (between start end texts.now) else None) }
+    ensures value { option_map (λ text. text.now) result ≡ text_between schema.now texts.now start end }
     ensures may { IfSome result (λ text. (is_text text.now ≡ true) × (has_texts schema.now ≡ true)) }
 {
     if start > end || end > texts.len() as u64 {

@@ -13,7 +13,7 @@ use serde_json::{Value, json};
 use std::alloc::{AllocError, Global};
 use sw_lang::{kind_name, write_all, write_call};
 use sw_rows::{Call, Counted, Kind, PackedRows, Refusal, Row, Schema, Sink};
-use sw_spine::{Entry, Lines, Record, State};
+use sw_spine::{Entry, Lines, Record, RecordRef, State};
 
 /// The bytes of a call. They go to memory, so no memory is the one failure.
 fn call_bytes(alloc: Global, schema: &Schema, call: &Call) -> Result<Vec<u8>, AllocError>
@@ -269,28 +269,28 @@ fn put_number(alloc: Global, number: u64, text: &mut Vec<u8>) -> Result<(), Allo
 }
 
 /// Puts what stands before the rows.
-fn put_front(alloc: Global, history: &Record, text: &mut Vec<u8>) -> Result<(), AllocError>
+fn put_front(alloc: Global, history: &RecordRef<'_>, text: &mut Vec<u8>) -> Result<(), AllocError>
     ensures { OnOk result (text.new.items ≡ front_text text.old.items history.now) }
 {
     text.extend_from_slice(b"{\"attributes\":")?;
-    put_attributes(alloc, &history.schema, text)?;
+    put_attributes(alloc, history.schema, text)?;
     text.extend_from_slice(b",\"entries\":")?;
-    put_entries(alloc, &history.schema, history.entries.as_slice(), text)?;
+    put_entries(alloc, history.schema, history.entries, text)?;
     text.extend_from_slice(b",\"format\":")?;
-    let format = format_of(&history.schema, history.entries.as_slice());
+    let format = format_of(history.schema, history.entries);
     put_number(alloc, format, text)?;
     text.extend_from_slice(b",\"limit\":")?;
     put_number(alloc, history.limit, text)?;
     Ok(())
 }
 
-fn record_bytes(alloc: Global, history: &Record) -> Result<Vec<u8>, AllocError>
+fn record_bytes(alloc: Global, history: &RecordRef<'_>) -> Result<Vec<u8>, AllocError>
     ensures { IfOk result (λ text. text.items ≡ record_text history.now) }
 {
     let mut text = Vec::new(alloc);
     put_front(alloc, history, &mut text)?;
     text.extend_from_slice(b",\"rows\":")?;
-    put_rows(alloc, &history.schema, &history.rows, &mut text)?;
+    put_rows(alloc, history.schema, history.rows, &mut text)?;
     text.push(b'}')?;
     Ok(text)
 }
@@ -302,6 +302,18 @@ fn record_bytes(alloc: Global, history: &Record) -> Result<Vec<u8>, AllocError>
 /// Refused `NoMemory`, and then nothing was written, or `Output` where the sink fails, and then a beginning of the text
 /// was.
 pub fn write_record<W: Sink>(alloc: Global, history: &Record, out: &mut W) -> Result<(), Refusal>
+    ensures { WritesText (W.taken out.old) (W.taken out.new) (W.failed out.old) (W.failed out.new) result
+        (record_text history.now) }
+{
+    write_record_ref(alloc, &history.by_ref(), out)
+}
+
+/// The same of a record that is read where it stands.
+pub fn write_record_ref<W: Sink>(
+    alloc: Global,
+    history: &RecordRef<'_>,
+    out: &mut W,
+) -> Result<(), Refusal>
     ensures { WritesText (W.taken out.old) (W.taken out.new) (W.failed out.old) (W.failed out.new) result
         (record_text history.now) }
 {

@@ -1,5 +1,5 @@
 -- Seats beside a history that grows, and sessions that wait for nothing.
-use Rattle.std.proofs.Common.{◌≡◌, ◌≢◌, ◌<◌, ◌≤◌, ◌+◌, ◌++◌, ◌∙◌, ℕ, List, [], ◌∷◌, length, take, slice_index_or, None, refl, sym, ap, subst, arith, length-append, append-nil, ⊎_elim}
+use Rattle.std.proofs.Common.{◌≡◌, ◌≢◌, ◌<◌, ◌≤◌, ◌+◌, ◌++◌, ◌∙◌, ℕ, List, [], ◌∷◌, length, take, slice_index_or, None, Result, Ok, Err, OnOk, OnErr, refl, sym, ap, subst, arith, length-append, append-nil, ⊎_elim}
 use Rattle.std.proofs.lemmas.Bool.Decides.{eqb_tells, leb_tells}
 use Rattle.std.proofs.lemmas.List.{take-append-le, length-map}
 use Rattle.std.proofs.Math.ListN.{get_or-append}
@@ -10,8 +10,9 @@ use Rattle.sw_table.specs.declared.row.Update.{Update}
 use Rattle.sw_table.specs.declared.row.Update.TheVariants as update
 use Rattle.sw_lang.specs.Cuts.{CutLists}
 use Rattle.sw_spine.specs.Table.{opened}
-use Rattle.sw_spine.specs.Books.{Books, KeepsOthers, new_books, updates, waits_for}
-use Rattle.sw_solo.specs.Called.{AllRest}
+use Rattle.sw_spine.specs.Books.{Books, KeepsOthers, new_books, updates, waits_for, with_columns}
+use Rattle.sw_solo.specs.Called.{AllRest, solo_of}
+use Rattle.sw_solo.specs.Called.{with_columns as solo_with_columns}
 use Rattle.sw_solo.specs.Seats.{AreNewSeats, AreSeated, AreTableCuts, IsSeated, SeatState, new_seat, received_or}
 
 -- one visit leaves all others at rest
@@ -83,3 +84,34 @@ seat_set b ss ts p s a many here there is = record {
       (λ q. subst (IsSeated b k) (sym (there k d q.1)) (a.each k d (omega (arith, lt, many))))
       (eqb_tells k p);
 }
+
+-- ---- other texts
+
+columns_seated : (cs : List Column) (b : Books) (ss : List SeatState) → length cs ≡ length b.columns → AreSeated b ss → AreSeated (with_columns cs b) ss
+columns_seated cs b ss wide a = record {
+  many = a.many ∙ sym wide;
+  each = λ k d lt. let w = a.each k d lt in record { place_is = w.place_is; count = record { low = w.count.low; high = w.count.high }; received = w.received };
+}
+
+columns_cuts : (cs : List Column) (b : Books) (cuts : CutLists) → length cs ≡ length b.columns → AreTableCuts b cuts → AreTableCuts (with_columns cs b) cuts
+columns_cuts cs b cuts wide a = record {
+  lists = a.lists ∙ sym wide;
+  lawful = λ k lt. a.lawful k (subst (λ (n : ℕ). k < n) wide lt);
+}
+
+abbrev pub Stand : Books → List SeatState → CutLists → ℕ → Type 0
+Stand b ss cuts n = AllRest b × AreSeated b ss × AreTableCuts b cuts × (n ≡ b.sessions)
+
+-- what stands beside a history stands beside it over other texts
+pub columns_stand : {A E : Type 0} (r : Result A E) (cs : List Column) (b f : Books) (ss : List SeatState) (cuts : CutLists) (n : ℕ) → OnOk r (f ≡ with_columns cs b) → OnErr r (f ≡ b)
+    → length f.columns ≡ length b.columns → Stand b ss cuts n → Stand f ss cuts n
+columns_stand (Ok x) cs b f ss cuts n is same wide a =
+    let w : length cs ≡ length b.columns = ap (λ (x : Books). length x.columns) (sym is) ∙ wide in
+    subst (λ (x : Books). Stand x ss cuts n) (sym is) (a.0, columns_seated cs b ss w a.1, columns_cuts cs b cuts w a.2, a.3)
+columns_stand (Err e) cs b f ss cuts n is same wide a = subst (λ (x : Books). Stand x ss cuts n) (sym same) a
+
+pub columns_left : (cs : List Column) (b f : Books) (ss : List SeatState) (cuts : CutLists) (n : ℕ) → f ≡ with_columns cs b → length f.columns ≡ length b.columns → Stand b ss cuts n → Stand f ss cuts n
+columns_left cs b f ss cuts n is wide a = columns_stand {A = Unit {0}} {E = Unit {0}} (Ok tt) cs b f ss cuts n is tt wide a
+
+pub solo_columns : (cs : List Column) (b f : Books) → f ≡ with_columns cs b → solo_of f ≡ solo_with_columns cs (solo_of b)
+solo_columns cs b f is = ap solo_of is

@@ -23,6 +23,10 @@ solo_of b = record { history = history_of b; sessions = b.sessions }
 abbrev pub new_solo : List Column → List Row → ℕ → SoloState
 new_solo columns rows limit = record { history = record { columns = columns; rows = rows; limit = limit; entries = [] }; sessions = 0 }
 
+-- its attributes know other texts
+abbrev pub with_columns : List Column → SoloState → SoloState
+with_columns columns s = record s { history = record s.history { columns = columns } }
+
 -- what the plain table replies at the history's end
 abbrev pub reply_in : SoloState → Call → Reply
 reply_in s c = reply_to s.history.limit (updates_of s.history) c

@@ -1,7 +1,11 @@
 //! The engine.
 
-ghost use Rattle.std.specs.Prelude.{ℕ, ◌≡◌, ◌<◌, ◌≤◌, ◌+◌, true, false, length, IfErr, IfOk, IsOkUnless, OnErr, OnOk};
-ghost use Rattle.sw_rows.specs.Header.{IsSchema};
+ghost use Rattle.std.specs.Prelude.{ℕ, ◌≡◌, ◌<◌, ◌≤◌, ◌+◌, ◌∷◌, [], true, false, length, IfErr, IfOk, IfSome, IsOkUnless, OnErr, OnOk};
+ghost use Rattle.sw_rows.specs.Gives.{Gives};
+ghost use Rattle.sw_rows.specs.Header.{IsSchema, has_texts, texts_of};
+ghost use Rattle.sw_rows.specs.Texts.{cell_given, is_text};
+ghost use Rattle.sw_lang.specs.Learning.{knowing, learned};
+ghost use Rattle.sw_lang.specs.Reading.{Answers, line_at, refused};
 ghost use Rattle.sw_rows.specs.Scan.{AsksBelow, answer};
 ghost use Rattle.sw_rows.specs.declared.query.Call.TheVariants.{Select};
 ghost use Rattle.sw_rows.specs.declared.refusal.Refusal.TheVariants.{NoMemory};
@@ -11,10 +15,11 @@ ghost use Rattle.sw_map.specs.Held.{blank};
 ghost use Rattle.sw_set.specs.Needs.{head_in};
 ghost use Rattle.sw_table.specs.Updates.{rows_of};
 ghost use Rattle.sw_spine.specs.Table.{is_numbered};
-ghost use Rattle.sw_spine.specs.History.{CallsBelow, IsLegal, is_select};
+ghost use Rattle.sw_spine.specs.Listed.{met};
+ghost use Rattle.sw_spine.specs.History.{CallsBelow, IsLegal, is_select, updates_of};
 ghost use Rattle.sw_spine.specs.Rest.{none_open};
-ghost use Rattle.sw_spine.specs.Books.{RefusesRows, updates};
-ghost use Rattle.sw_solo.specs.Called.{HasCalled, RefusesCall, RefusesSession, new_solo, reply_in};
+ghost use Rattle.sw_spine.specs.Books.{RefusesRows, forgetting, updates};
+ghost use Rattle.sw_solo.specs.Called.{HasCalled, RefusesCall, RefusesSession, new_solo, reply_in, with_columns};
 ghost use Rattle.sw_solo.specs.Seats.{AreNewSeats, IsSeated};
 
 use crate::seat::{Seat, SeatStats};
@@ -22,8 +27,8 @@ use std::alloc::{AllocError, Global};
 use std::marker::Model;
 use sw_lang::Cuts;
 use sw_map::CrackerMap;
-use sw_rows::{Call, PackedRows, Query, Refusal, Reply, Schema, Update};
-use sw_spine::{Record, Spine};
+use sw_rows::{Call, PackedRows, Query, Refusal, Reply, Schema, Update, scan};
+use sw_spine::{Given, Record, RecordRef, Spine};
 
 /// The attribute whose head is asked: that of the first condition, or the first attribute.
 fn place_of(query: &Query) -> usize
@@ -191,6 +196,69 @@ impl<M: CrackerMap> Solo<M> {
         ensures { result ≡ self.now.sessions }
     {
         self.sessions
+    }
+
+    /// The history so far, as a record that is read where it stands. It is legal, and no entry of it is open.
+    pub fn history(&self) -> RecordRef<'_>
+        ensures record_is { result ≡ self.now.history }
+        ensures legal { IsLegal self.now.history }
+    {
+        self.spine.record()
+    }
+
+    /// The rows ever inserted, of which a pass meets those that the plain table has at the history's end. Many may go over
+    /// them while no call is made.
+    pub fn view(&self) -> Given<'_>
+        ensures { met result ≡ rows_of (updates_of self.now.history) }
+    {
+        self.spine.given()
+    }
+
+    /// What a query is answered over these rows. It is no call: no head is asked, and nothing is kept of it.
+    pub fn look(&self, query: &Query) -> Result<Reply, Refusal>
+        requires { AsksBelow (length self.now.history.columns) query.now }
+        ensures answered { IfOk result (λ r. r ≡ reply_in self.now (Select query.now)) }
+        ensures refused { IsOkUnless result NoMemory }
+    {
+        known(&self.spine);
+        scan(self.alloc, &self.view(), query)
+    }
+
+    /// The call of a line, whose texts become known, as `parse_line` of sw_lang reads it. Refused, nothing has changed.
+    pub fn read_line(&mut self, line: u32, text: &str) -> Result<Option<Call>, Refusal>
+        ensures read { Answers result (refused line (line_at (learned self.old.history.columns text.now) text.now)) }
+        ensures below { IfOk result (λ call. IfSome call (CallsBelow (length self.old.history.columns))) }
+        ensures learned { OnOk result (self.new ≡ with_columns (learned self.old.history.columns text.now) self.old) }
+        ensures unchanged { OnErr result (self.new ≡ self.old) }
+    {
+        match self.spine.read_line(line, text) {
+            Ok(call) => Ok(call),
+            Err(e) => Err(e),
+        }
+    }
+
+    /// The code of a text, which becomes known where it is not. Refused, nothing has changed: `TooMany` where there are as
+    /// many texts as there may be, or `NoMemory`.
+    ///
+    /// The caller's conditions: an attribute is of texts, and the text may be one of a cell.
+    pub fn add_text(&mut self, text: &str) -> Result<i64, Refusal>
+        requires some { has_texts self.old.history.columns ≡ true }
+        requires text { is_text text.now ≡ true }
+        ensures code { Gives ⊥ (λ code. code) result (cell_given (texts_of self.old.history.columns) text.now) }
+        ensures added { OnOk result (self.new ≡ with_columns (knowing (text.now ∷ []) self.old.history.columns) self.old) }
+        ensures unchanged { OnErr result (self.new ≡ self.old) }
+    {
+        match self.spine.add_text(text) {
+            Ok(code) => Ok(code),
+            Err(e) => Err(e),
+        }
+    }
+
+    /// Forgets the texts that came last, so that the first `count` are left. Where there are no more, nothing changes.
+    pub fn forget_texts(&mut self, count: usize)
+        ensures { self.new ≡ with_columns (forgetting count self.old.history.columns) self.old }
+    {
+        self.spine.forget_texts(count);
     }
 
     /// What a query is answered, by the head of its first condition's attribute. Nothing that contracts see changes.

@@ -6,8 +6,7 @@ use Rattle.sw_arrays.proofs.Fits.{asked_fits}
 use Rattle.sw_arrays.proofs.asked.call_of.Goals as goal
 
 pub returns-in-Ok-clause-fits : goal.returns-in-Ok-clause-fits
-returns-in-Ok-clause-fits c =
-    asked_fits c.args.schema.now (asked.Select c.in-Select.wanted c.in-Select.ranges) (call.Select c.in-Ok.query) (ap (λ r. r >>= λ q. Ok (call.Select q)) c.in-Ok.ensures)
+returns-in-Ok-clause-fits c = c.in-Ok.ensures.fits
 
 pub returns-in-Ok-row_of-clause-fits : goal.returns-in-Ok-row_of-clause-fits
 returns-in-Ok-row_of-clause-fits c =

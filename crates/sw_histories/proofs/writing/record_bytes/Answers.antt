@@ -16,6 +16,6 @@ returns c =
     let front : c.put_front.new.text.items ≡ front_text [] h = c.in_ok-put_front.ensures ∙ ap (λ t. front_text t h) c.new-text.ensures.items in
     let named : c.extend_from_slice.new.self.items ≡ front_text [] h ++ codes ",\"rows\":" = c.in_ok-extend_from_slice.ensures.items ∙ ap (λ t. t ++ codes ",\"rows\":") front in
     let grown = c.in_ok-put_rows.ensures
-    ∙ ap (λ t. t ++ rows inside.schema inside.rows.items) named
+    ∙ ap (λ t. t ++ rows inside.schema.now inside.rows.now.items) named
     ∙ ap (λ (o : History). (front_text [] h ++ codes ",\"rows\":") ++ rows o.columns o.rows) c.history.view_is in
     c.in_ok-push.ensures.items ∙ ap (λ t. t ++ 125 ∷ []) grown ∙ record_parts h
