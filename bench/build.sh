@@ -1,7 +1,6 @@
 #!/usr/bin/env bash
 # Tells whether the drivers below this folder that have a program of their own still stand on the crates as they are: reads the types and
-# clauses of each, over the libraries that `rt ci` left in this tree, and proves nothing. By hand: it copies these
-# libraries for each, which takes minutes.
+# clauses of each, over the libraries that `rt ci` left in this tree, which it links, and proves nothing. Some minutes; the gate runs it.
 #
 #     bench/build.sh
 #

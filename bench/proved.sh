@@ -31,13 +31,29 @@ build() {
   for library in $uses; do
     if [ -d "$top/crates/$library" ]; then
       grep -E "^$library\b" "$top/crates.txt" >> "$work/crates.txt"
-      cp -rp "$top/crates/$library" "$work/crates/"
+      bring "$library"
     fi
   done
   if [ -n "${STANDS:-}" ]; then
     stands "$name"
   fi
   (cd "$work/crates/$name" && rt "$command" > "$work/build.log" 2>&1) || { tail -n 20 "$work/build.log"; exit 1; }
+}
+
+# bring LIBRARY
+# Copies a crate with its library into the work folder; where a driver is only read (STANDS), links it, but for its stamp.
+bring() {
+  local to=$work/crates/$1
+  if [ -n "${STANDS:-}" ]; then
+    mkdir -p "$to/out"
+    cp -rp "$top/crates/$1"/[!o]* "$to/"
+    if [ -d "$top/crates/$1/out/rlib" ]; then
+      cp -al "$top/crates/$1/out/rlib" "$to/out/rlib" 2> /dev/null || cp -rp "$top/crates/$1/out/rlib" "$to/out/"
+      rm -f "$to/out/rlib/stamp"
+    fi
+  else
+    cp -rp "$top/crates/$1" "$work/crates/"
+  fi
 }
 
 # stands NAME

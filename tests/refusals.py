@@ -1,4 +1,4 @@
-"""Sorts refusals of wrong bodies by where they came, tries controls, and prints a table for each crate (docs/REFUSALS.md).
+"""Sorts refusals of wrong bodies by where they came, tries controls, and prints a table for each crate (tests/REFUSALS.md).
 
 A control, tests/controls/CRATE/NAME.edit, is a text of the same meaning as the real body at the place of a wrong one, which has
 to be proved; or one line, 'lemma: NAME FILE', names a lemma that no body does what the wrong one does. Ends with status 1 where
@@ -63,16 +63,20 @@ def apply(edit, folder):
 
 def functions(crate, edit):
     """The functions that an edit changes, as `rt check --only` names them."""
-    path, found = "", {}
+    path, was, found, texts = "", "", {}, {}
     for line in text_of(edit).split("\n"):
         key, _, value = line.partition(": ")
         path = value.strip() if key == "file" else path
         if key == "old":
-            above = text_of(f"{TOP}/crates/{crate}/{path}").partition(value)[0] + value
+            texts.setdefault(path, text_of(f"{TOP}/crates/{crate}/{path}"))
+            was, above = value, texts[path].partition(value)[0] + value
             for named in list(re.finditer(r"^( *)(?:pub(?:\(\w+\))? )?fn (\w+)", above, re.M))[-1:]:
                 impls = re.findall(r"^impl(?:<.*?>)? (?:.* for )?(\w+)", above[: named.start()], re.M)
                 module = path[4:-3].split("/") if path != "src/lib.rt" else []
                 found["::".join([*module, *impls[-1:] * bool(named[1]), named[2]])] = None
+        elif key == "new":
+            # (an old text stands once in what the pairs before it left)
+            texts[path] = texts[path].replace(was, value)
     return found
 
 
@@ -98,8 +102,8 @@ def is_proved(crate, edits):
         for edit in edits:
             apply(edit, folder)
         how = {"cwd": folder, "stdout": subprocess.DEVNULL, "stderr": subprocess.STDOUT}
-        changed = {name: None for edit in edits for name in functions(crate, edit)}
-        return all(subprocess.run([*RT, "check", "--only", name], **how).returncode == 0 for name in changed)
+        changed = sorted({name for edit in edits for name in functions(crate, edit)})
+        return subprocess.run([*RT, "check", "--jobs", "1", *[word for it in changed for word in ("--only", it)]], **how).returncode == 0
 
 
 def controls_of(crate, names):

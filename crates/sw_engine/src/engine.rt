@@ -449,7 +449,6 @@ where
 
     /// Publishes all updates of the history that are not published yet, in visits between which it waits for viewers that read
     /// the copy that is to be written. Refused `NoMemory` alone.
-    #[tactic(auto, using(crate::proofs::Published::grows_self, crate::proofs::Published::grows_trans))]
     fn publish<R: Wait>(
         &self,
         rt: &R,
@@ -482,7 +481,6 @@ where
     }
 
     /// Publishes as `publish` does, memory aside, and then the viewer is met.
-    #[tactic(auto, using(crate::proofs::Published::grows_trans))]
     fn meet<R: Wait>(
         &self,
         rt: &R,

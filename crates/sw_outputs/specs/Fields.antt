@@ -48,7 +48,12 @@ abbrev pub keyed_records : List Column → List ℕ → List ReplyRow → List (
 keyed_records columns attrs rows =
     (codes "key" ∷ map (name_at columns) attrs) ∷ map (keyed_fields (map (kind_at columns) attrs)) rows
 
+-- their text without these names
+abbrev pub keyed_text : List Column → List ℕ → List ReplyRow → List ℕ
+keyed_text columns attrs rows = records_text (map (keyed_fields (map (kind_at columns) attrs)) rows)
+
 -- one column of one number, or of none
+
 abbrev pub scalar_records : List ℕ → Option (List ℕ) → List (List (List ℕ))
 scalar_records name None = (name ∷ []) ∷ []
 scalar_records name (Some number) = (name ∷ []) ∷ (number ∷ []) ∷ []
@@ -102,6 +107,10 @@ header_field columns a = name_at columns a ++ (codes ":" ++ kind_text (kind_at c
 -- a row without its key
 abbrev pub row_fields : List Domain → ReplyRow → List (List ℕ)
 row_fields kinds r = cell_fields kinds r.cells
+
+-- the text of rows without their keys
+abbrev pub rows_text : List Column → List ℕ → List ReplyRow → List ℕ
+rows_text columns attrs rows = records_text (map (row_fields (map (kind_at columns) attrs)) rows)
 
 -- a header, and the rows
 abbrev pub table_records : List Column → List ℕ → List ReplyRow → List (List (List ℕ))

@@ -1,11 +1,12 @@
 -- The line of JSON of a call: where it stands, its text, and its reply as values.
-use Rattle.std.specs.Prelude.{ℕ, ℤ, pos, List, [], ◌∷◌, ◌++◌, map, codes, decimal, Option, Some, None, unwrap_or}
+use Rattle.std.specs.Prelude.{ℕ, ℤ, pos, List, [], ◌∷◌, ◌++◌, map, codes, decimal, Option, Some, None, true, unwrap_or}
 use Rattle.std.specs.Fmt.{signed_decimal}
 use Rattle.std.specs.Ordering.{int_eq}
 use Rattle.json.specs.Json.{Json, null, boolean, number, string, array, object, no_members, member}
 use Rattle.sw_rows.specs.Domains.{Domain}
 use Rattle.sw_rows.specs.Domains as kind
 use Rattle.sw_rows.specs.Header.{Column}
+use Rattle.sw_rows.specs.Replies.{reply_row}
 use Rattle.sw_rows.specs.Texts.{text_at}
 use Rattle.sw_rows.specs.declared.query.Call.{Call}
 use Rattle.sw_rows.specs.declared.query.Call.TheVariants as call
@@ -16,7 +17,7 @@ use Rattle.sw_rows.specs.declared.reply.Reply.TheVariants as reply
 use Rattle.sw_rows.specs.declared.reply.ReplyRow.{ReplyRow}
 use Rattle.sw_lang.specs.PrintedCalls.{call_text, name_at}
 use Rattle.sw_lang.specs.Replies.{first_kind, fixed_text, kind_at, kinds_called, sum_text}
-use Rattle.sw_outputs.specs.Texts.{items_of, value_text}
+use Rattle.sw_outputs.specs.Texts.{items_of, items_text, value_text}
 use Rattle.sw_outputs.specs.declared.told.Told.{Told}
 use denote.Ref.{Bor}
 
@@ -162,3 +163,26 @@ told_text columns t = value_text (told_json columns t)
 
 abbrev pub told_line : List Column → Told → List ℕ
 told_line columns t = told_text columns t ++ codes "\n"
+
+-- ---- the texts of parts
+
+-- further items of a list, and its end
+abbrev pub further : List Json → List ℕ
+further items = items_text true (items_of items)
+
+-- the cells of a row, the row, and rows
+abbrev pub cells_shown : List Column → List ℕ → List ℤ → List Json
+cells_shown columns attrs cells = cells_json (map (kind_at columns) attrs) cells
+
+abbrev pub shown_row : List Column → List ℕ → ℕ × Bor (List ℤ) → List ℕ
+shown_row columns attrs row = value_text (row_json (map (kind_at columns) attrs) (reply_row row.0 row.1.now))
+
+abbrev pub shown_rows : List Column → List ℕ → List ReplyRow → List ℕ
+shown_rows columns attrs rows = value_text (list_json (map (row_json (map (kind_at columns) attrs)) rows))
+
+-- the number of a reply, and what a call was answered
+abbrev pub number_text : List Column → Call → Reply → List ℕ
+number_text columns c r = value_text (number_json (kind_called columns c) r)
+
+abbrev pub answer_text : List Column → Told → List ℕ
+answer_text columns told = value_text (answer_json columns told.call.now told.reply)

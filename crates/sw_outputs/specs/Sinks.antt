@@ -9,3 +9,7 @@ abbrev pub WritesMade : Option (List ℕ) → Option (List ℕ) → ℕ → ℕ 
 WritesMade old new failed_old failed_new result text =
     ((result ≡ Err refusal.NoMemory) × (new ≡ old) × (failed_new ≡ failed_old))
     ⊎ Writes old new failed_old failed_new result text
+
+-- the same of a sink, by what it has taken and how often it failed, between two moments
+abbrev pub WroteMade : {W : Type 0} → (W → Option (List ℕ)) → (W → ℕ) → W → W → Result (Unit {0}) Refusal → List ℕ → Type 0
+WroteMade taken failed old new result text = WritesMade (taken old) (taken new) (failed old) (failed new) result text

@@ -51,8 +51,7 @@ pub(crate) fn line_of(
     call: &Call,
     reply: &Reply,
 ) -> Result<Vec<u8>, AllocError>
-    ensures { IfOk result (λ text. (line : List ℕ)
-        → reply_lines schema.now call.now reply.now ≡ line ∷ [] → text.items ≡ line) }
+    ensures { IfOk result (λ t. (l : List ℕ) → reply_lines schema.now call.now reply.now ≡ l ∷ [] → t.items ≡ l) }
 {
     let mut bytes = lines_of(alloc, schema, call, reply)?;
     let _end = bytes.pop();
@@ -83,8 +82,7 @@ pub(crate) fn kind_or_int(schema: &Schema, attr: usize) -> Kind
 
 /// The text that a cell of a kind stands for, where that is of texts.
 fn text_of_kind(schema: &Schema, kind: Kind, cell: i64) -> Option<&str>
-    ensures json { IfSome result (λ text. quoted text.now
-        ≡ value_text (cell_json (domain (texts_of schema.now) kind) cell)) }
+    ensures json { IfSome result (λ t. quoted t.now ≡ value_text (cell_json (domain (texts_of schema.now) kind) cell)) }
     ensures field { IfSome result (λ text. text.now ≡ cell_field (domain (texts_of schema.now) kind) cell) }
     ensures plain { IfNone result (IsPlain (domain (texts_of schema.now) kind) cell) }
 {

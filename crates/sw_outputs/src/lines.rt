@@ -3,12 +3,11 @@
 ghost use Rattle.std.specs.Prelude.{◌≡◌, IfOk, List, codes, map, true};
 ghost use Rattle.json.specs.Print.{quoted};
 ghost use Rattle.sw_lang.specs.PrintedCalls.{call_text};
-ghost use Rattle.sw_lang.specs.Replies.{kind_at, sum_text};
-ghost use Rattle.sw_rows.specs.Replies.{reply_row};
+ghost use Rattle.sw_lang.specs.Replies.{sum_text};
 ghost use Rattle.sw_rows.specs.Header.{Column};
-ghost use Rattle.sw_outputs.specs.JsonLines.{answer_json, attrs_shown, called_word, cell_json, cells_json, count_json, kind_called, kind_if, line_json, list_json, name_json, names_json, number_json, one_json, place_text, row_json, rows_json, scalar_json, told_line};
-ghost use Rattle.sw_outputs.specs.Sinks.{WritesMade};
-ghost use Rattle.sw_outputs.specs.Texts.{Puts, comma_if, items_of, items_text, value_text};
+ghost use Rattle.sw_outputs.specs.JsonLines.{attrs_shown, called_word, cell_json, count_json, kind_called, kind_if, line_json, name_json, names_json, one_json, place_text, rows_json, scalar_json, told_line, answer_text, cells_shown, further, number_text, shown_row, shown_rows};
+ghost use Rattle.sw_outputs.specs.Sinks.{WroteMade};
+ghost use Rattle.sw_outputs.specs.Texts.{Puts, comma_if, value_text};
 
 use crate::cells::{line_of, name_of, put_cell, put_number, put_text};
 use crate::told::Told;
@@ -63,8 +62,7 @@ fn put_names(
     attrs: &[usize],
     line: &mut Vec<u8>,
 ) -> Result<(), AllocError>
-    ensures { Puts result line.old.items line.new.items
-        (items_text true (items_of (map (name_json schema.now) attrs.now))) }
+    ensures { Puts result line.old.items line.new.items (further (map (name_json schema.now) attrs.now)) }
 {
     let mut rest = attrs;
     while let Some((attr, later)) = rest.split_first() {
@@ -98,8 +96,7 @@ fn put_cells(
     cells: &[i64],
     line: &mut Vec<u8>,
 ) -> Result<(), AllocError>
-    ensures { Puts result line.old.items line.new.items
-        (items_text true (items_of (cells_json (map (kind_at schema.now) attrs.now) cells.now))) }
+    ensures { Puts result line.old.items line.new.items (further (cells_shown schema.now attrs.now cells.now)) }
 {
     let mut attrs = attrs;
     let mut cells = cells;
@@ -125,8 +122,7 @@ fn put_row(
     row: (u64, &[i64]),
     line: &mut Vec<u8>,
 ) -> Result<(), AllocError>
-    ensures { Puts result line.old.items line.new.items
-        (value_text (row_json (map (kind_at schema.now) attrs.now) (reply_row row.entry.0 row.entry.1.now))) }
+    ensures { Puts result line.old.items line.new.items (shown_row schema.now attrs.now row.entry) }
 {
     let (key, cells) = row;
     line.push(b'[')?;
@@ -152,8 +148,7 @@ fn put_rows(
     rows: &ReplyRows,
     line: &mut Vec<u8>,
 ) -> Result<(), AllocError>
-    ensures { Puts result line.old.items line.new.items
-        (value_text (list_json (map (row_json (map (kind_at schema.now) attrs.now)) rows.now))) }
+    ensures { Puts result line.old.items line.new.items (shown_rows schema.now attrs.now rows.now) }
 {
     line.push(b'[')?;
     let mut is_later = false;
@@ -224,8 +219,7 @@ fn put_extreme(
     cell: i64,
     line: &mut Vec<u8>,
 ) -> Result<(), AllocError>
-    ensures { Puts result line.old.items line.new.items
-        (value_text (cell_json (kind_called schema.now call.now) cell)) }
+    ensures { Puts result line.old.items line.new.items (value_text (cell_json (kind_called schema.now call.now) cell)) }
 {
     match attr_called(call) {
         Some(attr) => put_cell(alloc, schema, attr, cell, line),
@@ -256,8 +250,7 @@ fn put_value(
     reply: &Reply,
     line: &mut Vec<u8>,
 ) -> Result<(), AllocError>
-    ensures { Puts result line.old.items line.new.items
-        (value_text (number_json (kind_called schema.now call.now) reply.now)) }
+    ensures { Puts result line.old.items line.new.items (number_text schema.now call.now reply.now) }
 {
     match reply {
         Reply::Count(number) | Reply::Inserted(number) | Reply::RemovedMany(number) => {
@@ -294,8 +287,7 @@ fn put_scalar(
 
 /// Puts that a call was refused.
 fn put_refused(line: &mut Vec<u8>) -> Result<(), AllocError>
-    ensures { Puts result line.old.items line.new.items
-        (value_text (one_json (codes "refused") (count_json 1))) }
+    ensures { Puts result line.old.items line.new.items (value_text (one_json (codes "refused") (count_json 1))) }
 {
     line.extend_from_slice(b"{\"refused\":1}")?;
     Ok(())
@@ -308,8 +300,7 @@ fn put_answer(
     told: &Told<'_>,
     line: &mut Vec<u8>,
 ) -> Result<(), AllocError>
-    ensures { Puts result line.old.items line.new.items
-        (value_text (answer_json schema.now told.now.call.now told.now.reply)) }
+    ensures { Puts result line.old.items line.new.items (answer_text schema.now told.now) }
 {
     match told.reply {
         Some(Reply::Rows(rows)) => put_shown(alloc, schema, shown(told.call), rows, line),
@@ -370,8 +361,7 @@ pub fn write_json<W: Sink>(
     told: &Told<'_>,
     out: &mut W,
 ) -> Result<(), Refusal>
-    ensures { WritesMade (W.taken out.old) (W.taken out.new) (W.failed out.old) (W.failed out.new) result
-        (told_line schema.now told.now) }
+    ensures { WroteMade W.taken W.failed out.old out.new result (told_line schema.now told.now) }
 {
     match line_told(alloc, schema, told) {
         Ok(line) => write_all(out, line.as_slice()),

@@ -1,14 +1,13 @@
 //! Replies as comma-separated values.
 
-ghost use Rattle.std.specs.Prelude.{◌≡◌, ◌∷◌, ◌++◌, [], List, ℕ, IfOk, None, OnOk, Some, map, option_map};
-ghost use Rattle.csv.specs.Writing.{default_writer, row_text};
+ghost use Rattle.std.specs.Prelude.{◌≡◌, [], List, ℕ, IfOk, None, Some, map, option_map};
 ghost use Rattle.sw_rows.specs.Spelling.{kind_text};
 ghost use Rattle.sw_lang.specs.PrintedCalls.{name_at};
 ghost use Rattle.sw_lang.specs.Replies.{kind_at, sum_text};
-ghost use Rattle.sw_outputs.specs.Fields.{answer_records, attrs_differ, cell_field, cell_fields, csv_text, header_field, keyed_fields, keyed_records, makes_table, number_field, one_column, records_text, row_fields, scalar_records, table_text, table_told};
+ghost use Rattle.sw_outputs.specs.Fields.{answer_records, attrs_differ, cell_field, cell_fields, csv_text, header_field, keyed_records, makes_table, number_field, one_column, records_text, scalar_records, table_text, table_told, keyed_text, rows_text};
 ghost use Rattle.sw_outputs.specs.JsonLines.{kind_called};
-ghost use Rattle.sw_outputs.specs.Records.{IsMade};
-ghost use Rattle.sw_outputs.specs.Sinks.{WritesMade};
+ghost use Rattle.sw_outputs.specs.Records.{IsMade, AddsField, AddsText, EndsRecord, EndsWith};
+ghost use Rattle.sw_outputs.specs.Sinks.{WroteMade};
 
 use crate::cells::{field_text, kind_or_int, line_of, name_of};
 use crate::lines::{attr_called, called, shown};
@@ -48,8 +47,7 @@ impl Records {
 
     /// Adds a field to the record.
     fn add(&mut self, field: &[u8]) -> Result<(), AllocError>
-        ensures { (bytes : List ℕ) (fields : List (List ℕ)) → IsMade self.old bytes fields
-            → OnOk result (IsMade self.new bytes (fields ++ field.now ∷ [])) }
+        ensures { AddsField result self.old self.new field.now }
     {
         self.record.push_field(field)?;
         Ok(())
@@ -57,8 +55,7 @@ impl Records {
 
     /// Ends the record. Over memory, only memory can fail.
     fn end(&mut self) -> Result<(), AllocError>
-        ensures { (bytes : List ℕ) (fields : List (List ℕ)) → IsMade self.old bytes fields
-            → OnOk result (IsMade self.new (bytes ++ row_text default_writer fields) []) }
+        ensures { EndsRecord result self.old self.new }
     {
         let Ok(()) = self.writer.write_byte_record(&self.record) else {
             return Err(AllocError);
@@ -69,8 +66,7 @@ impl Records {
 
     /// The bytes of all records.
     fn into_bytes(self) -> Result<Vec<u8>, AllocError>
-        ensures { (bytes : List ℕ) (fields : List (List ℕ)) → IsMade self bytes fields
-            → IfOk result (λ text. text.items ≡ bytes) }
+        ensures { (bs : List ℕ) (fs : List (List ℕ)) → IsMade self bs fs → IfOk result (λ text. text.items ≡ bs) }
     {
         let Self {
             writer,
@@ -84,8 +80,7 @@ impl Records {
 
     /// Adds a number as a field.
     fn add_number<N: Integer>(&mut self, number: N) -> Result<(), AllocError>
-        ensures { (bytes : List ℕ) (fields : List (List ℕ)) → IsMade self.old bytes fields
-            → OnOk result (IsMade self.new bytes (fields ++ N.text number ∷ [])) }
+        ensures { AddsField result self.old self.new (N.text number) }
     {
         let mut buffer = Buffer::new();
         let text = buffer.format(number);
@@ -113,8 +108,7 @@ fn header_text(alloc: Global, schema: &Schema, attr: usize) -> Result<Vec<u8>, A
 
 /// Adds the names of some attributes, and ends the record.
 fn add_names(schema: &Schema, attrs: &[usize], records: &mut Records) -> Result<(), AllocError>
-    ensures { (bytes : List ℕ) (fields : List (List ℕ)) → IsMade records.old bytes fields → OnOk result
-        (IsMade records.new (bytes ++ row_text default_writer (fields ++ map (name_at schema.now) attrs.now)) []) }
+    ensures { EndsWith result records.old records.new (map (name_at schema.now) attrs.now) }
 {
     let mut rest = attrs;
     while let Some((attr, later)) = rest.split_first() {
@@ -133,8 +127,7 @@ fn add_header(
     attrs: &[usize],
     records: &mut Records,
 ) -> Result<(), AllocError>
-    ensures { (bytes : List ℕ) (fields : List (List ℕ)) → IsMade records.old bytes fields → OnOk result
-        (IsMade records.new (bytes ++ row_text default_writer (fields ++ map (header_field schema.now) attrs.now)) []) }
+    ensures { EndsWith result records.old records.new (map (header_field schema.now) attrs.now) }
 {
     let mut rest = attrs;
     while let Some((attr, later)) = rest.split_first() {
@@ -154,9 +147,7 @@ fn add_cells(
     cells: &[i64],
     records: &mut Records,
 ) -> Result<(), AllocError>
-    ensures { (bytes : List ℕ) (fields : List (List ℕ)) → IsMade records.old bytes fields
-        → OnOk result (IsMade records.new (bytes ++ row_text default_writer
-        (fields ++ cell_fields (map (kind_at schema.now) attrs.now) cells.now)) []) }
+    ensures { EndsWith result records.old records.new (cell_fields (map (kind_at schema.now) attrs.now) cells.now) }
 {
     let mut attrs = attrs;
     let mut cells = cells;
@@ -181,8 +172,7 @@ fn add_keyed_rows(
     rows: &ReplyRows,
     records: &mut Records,
 ) -> Result<(), AllocError>
-    ensures { (bytes : List ℕ) → IsMade records.old bytes [] → OnOk result (IsMade records.new
-        (bytes ++ records_text (map (keyed_fields (map (kind_at schema.now) attrs.now)) rows.now)) []) }
+    ensures { AddsText result records.old records.new (keyed_text schema.now attrs.now rows.now) }
 {
     let mut left = rows.left();
     while let Some((key, cells)) = left.next() {
@@ -200,8 +190,7 @@ fn add_rows(
     rows: &ReplyRows,
     records: &mut Records,
 ) -> Result<(), AllocError>
-    ensures { (bytes : List ℕ) → IsMade records.old bytes [] → OnOk result (IsMade records.new
-        (bytes ++ records_text (map (row_fields (map (kind_at schema.now) attrs.now)) rows.now)) []) }
+    ensures { AddsText result records.old records.new (rows_text schema.now attrs.now rows.now) }
 {
     let mut left = rows.left();
     while let Some((_, cells)) = left.next() {
@@ -276,8 +265,7 @@ fn number_of(
     call: &Call,
     reply: &Reply,
 ) -> Result<Option<Vec<u8>>, AllocError>
-    ensures { IfOk result (λ text. option_map (λ bytes. bytes.items) text
-        ≡ number_field (kind_called schema.now call.now) reply.now) }
+    ensures { IfOk result (λ t. option_map (λ b. b.items) t ≡ number_field (kind_called schema.now call.now) reply.now) }
 {
     match reply {
         Reply::Rows(_) | Reply::Full | Reply::Least(None) => Ok(None),
@@ -361,8 +349,7 @@ pub fn write_csv<W: Sink>(
     told: &Told<'_>,
     out: &mut W,
 ) -> Result<(), Refusal>
-    ensures { WritesMade (W.taken out.old) (W.taken out.new) (W.failed out.old) (W.failed out.new) result
-        (csv_text schema.now told.now) }
+    ensures { WroteMade W.taken W.failed out.old out.new result (csv_text schema.now told.now) }
 {
     match values_told(alloc, schema, told) {
         Ok(text) => write_all(out, text.as_slice()),
@@ -406,8 +393,7 @@ pub fn write_table<W: Sink>(
     told: &Told<'_>,
     out: &mut W,
 ) -> Result<(), Refusal>
-    ensures { WritesMade (W.taken out.old) (W.taken out.new) (W.failed out.old) (W.failed out.new) result
-        (table_told schema.now told.now) }
+    ensures { WroteMade W.taken W.failed out.old out.new result (table_told schema.now told.now) }
 {
     match told.reply {
         Some(Reply::Rows(rows)) => match table_rows(alloc, schema, shown(told.call), rows) {

@@ -121,6 +121,25 @@ where
     }
 }
 
+/// The receipt that is posted behind an insertion: where there are viewers all is published for it, whoever reads meanwhile.
+fn published<J: Naming, M: CrackerMap, R: Wait>(
+    rt: &R,
+    board: &Board<J>,
+    session: &mut Session<'_, J, M>,
+    tally: &mut Tally,
+) -> Receipt<J>
+where
+    Live<J>: Absorb<Op<J>, State = [Update; 0]>,
+{
+    if board.plan.viewers > 0 {
+        match session.publish(rt) {
+            Ok(receipt) => return receipt,
+            Err(_) => tally.answered = false,
+        }
+    }
+    session.receipt()
+}
+
 /// Makes a call until it is answered, as often as is planned. Posts the receipt of an insertion.
 fn insist<J: Naming, M: CrackerMap, R: Threads + Wait + Sync>(
     rt: &R,
@@ -135,7 +154,7 @@ where
 {
     for _ in 0..board.plan.turns {
         match session.call(rt, call) {
-            Ok(Reply::Inserted(_)) => return board.post(rt, session.receipt()),
+            Ok(Reply::Inserted(_)) => return board.post(rt, published(rt, board, session, tally)),
             Ok(_) => return,
             Err(_) => tally.refused = tally.refused.wrapping_add(1),
         }

@@ -182,6 +182,21 @@ const BOXES_COME_AND_GO: &[(Step<'static>, &str)] = &[
 ];
 
 /// A row that comes is rippled in.
+const A_QUERY_AT_REST_CHANGES_NOTHING: &[(Step<'static>, &str)] = &[
+    (Step::AtRest("count where a >= 10"), "not at rest"),
+    (Step::Call("count where a >= 10"), "3\n"),
+    (Step::Counts, "1 begins, 2 steps, 0 tails"),
+    (Step::AtRest("count where a >= 10"), "3\n"),
+    // the bound stands, and no map of b does
+    (Step::AtRest("sum b where a < 10"), "not at rest"),
+    (Step::AtRest("count where a < 11"), "not at rest"),
+    (Step::Counts, "0 begins, 0 steps, 0 tails"),
+    (Step::Call("insert 1, 9, 0"), "key 5\n"),
+    (Step::AtRest("count where a >= 10"), "not at rest"),
+    (Step::Call("count where a < 10"), "2\n"),
+    (Step::AtRest("count where a >= 10"), "3\n"),
+];
+
 const A_ROW_THAT_COMES_IS_RIPPLED_IN: &[(Step<'static>, &str)] = &[
     RANGE,
     (Step::Counts, "2 begins, 4 steps, 4 tails"),
@@ -605,6 +620,12 @@ const AREAS: &[Case<'static>] = &[
 
 /// One area: rows that come and go, what makes a tape begin anew, and what waits for room.
 const MERGES: &[Case<'static>] = &[
+    Case {
+        name: "a_query_at_rest_changes_nothing",
+        shape: ONE_AREA,
+        boxes: AMPLE,
+        steps: A_QUERY_AT_REST_CHANGES_NOTHING,
+    },
     Case {
         name: "a_row_that_comes_is_rippled_in",
         shape: ONE_AREA,

@@ -1,7 +1,7 @@
 //! Heads under updates: keys are given out in order, and nothing is received or asked that a head may not receive or be
 //! asked.
 
-ghost use Rattle.std.specs.Prelude.{◌≡◌, ◌∷◌, [], length, replicate, true, false, IfErr, IfOk, MatchResult, None};
+ghost use Rattle.std.specs.Prelude.{◌≡◌, ◌∷◌, [], length, replicate, true, false, IfErr, IfOk, IfSome, MatchResult, None};
 ghost use Rattle.sw_rows.specs.declared.refusal.Refusal.TheVariants.{NoMemory};
 ghost use Rattle.sw_rows.specs.Scan.{AsksBelow, answer};
 ghost use Rattle.sw_table.specs.Updates.{has_key, rows_of};
@@ -172,6 +172,17 @@ impl<M: CrackerMap> GrowingHead<M> {
             return Err(Refusal::Input);
         }
         self.head.answer(rt, query)
+    }
+
+    /// The answer of a query where each area that it touches is ready for it as it stands. Refused as `ask`.
+    pub fn ask_at_rest(&self, query: &Query) -> Result<Option<Reply>, Refusal>
+        ensures answered { IfOk result (λ it. IfSome it (λ r. r ≡ answer (rows_of self.now.updates) query.now)) }
+        ensures refused { IfErr result IsMemoryOrInput }
+    {
+        if !may_ask(self.head.attribute(), query) {
+            return Err(Refusal::Input);
+        }
+        self.head.answer_at_rest(query)
     }
 
     /// The plain answer over all rows: the areas that the query touches are merged. Refused as `ask`.

@@ -1,7 +1,7 @@
 //! Steps of a head, and what is seen of them.
 
 use crate::scenes::Watch;
-use crate::trials::{Trial, supply, tell};
+use crate::trials::{Trial, supply, tell, tell_at_rest};
 use std::alloc::{AllocError, Global};
 use std::sync::atomic::{AtomicU64, Ordering};
 use std::test::Fail;
@@ -22,6 +22,8 @@ pub(crate) enum Step<'t> {
     DeletesUpTo(u64),
     /// Merges what waits in the areas that a query touches.
     Merge(&'t str),
+    /// Asks a query of the head as it stands: the reply, or that it is not at rest.
+    AtRest(&'t str),
     /// Clears maps until so many cells came back: how many did.
     Evict(u64),
     /// Drops up to so many boxes: how many.
@@ -201,6 +203,7 @@ fn take<R: Threads + Sync, M: CrackerMap>(
         Step::Calls(many, line) => called_often(rt, alloc, trial, many, line, text),
         Step::DeletesUpTo(last) => deleted_up_to(rt, alloc, trial, last, text),
         Step::Merge(line) => merge(alloc, trial, line),
+        Step::AtRest(line) => tell_at_rest(alloc, trial, line, text),
         Step::Supply => Ok(supply(trial)?),
         _ => Ok(tend(trial, watch, step, text)?),
     }

@@ -204,6 +204,27 @@ pub(crate) fn tell<R: Threads + Sync, M: CrackerMap>(
     Ok(false)
 }
 
+/// Asks the query of a line where the head is at rest for it, and tells the reply, or that it is not.
+pub(crate) fn tell_at_rest<M: CrackerMap>(
+    alloc: Global,
+    trial: &Trial<M>,
+    line: &str,
+    text: &mut String,
+) -> Result<(), Fail> {
+    let Some(call) = parse_known(alloc, &trial.schema, 1, line)? else {
+        return Ok(());
+    };
+    let Call::Select(query) = &call else {
+        return Ok(());
+    };
+    let Some(reply) = trial.head.ask_at_rest(query)? else {
+        return Ok(text.push_str("not at rest")?);
+    };
+    let mut out = Counted::new(Vec::new(alloc));
+    write_reply(&trial.schema, &call, &reply, &mut out)?;
+    push_bytes(text, out.inner.as_slice())
+}
+
 /// Adds bytes to a text.
 fn push_bytes(text: &mut String, bytes: &[u8]) -> Result<(), Fail> {
     match std::str::from_utf8(bytes) {
