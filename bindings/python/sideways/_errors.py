@@ -76,6 +76,8 @@ _CLASSES = {
 
 def refusal(code: int, told: str = "") -> Error:
     """The exception for a code other than 0."""
+    if code == MISUSE:
+        told = told or "the table is closed"
     return _CLASSES.get(code, Error)(code, told)
 
 
