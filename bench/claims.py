@@ -28,7 +28,8 @@ HEADING = [
 # Each theorem that is a definition: its name on the page, the crate and file of specs/ where it stands, and its words, where it is no
 # record whose fields have them.
 THEOREMS = [
-    ("The headline", "What `Engine::close` answers with `Ok`, its clause `headline`.", "sw_engine", "Headline", "IsHistoryOfOneThread", []),
+    ("The headline", "What `Engine::close` answers with `Ok`, its clause `headline`. By `given` no reply is kept as lines, for which alone the definitions of"
+     " sw_lang are.", "sw_engine", "Headline", "IsHistoryOfOneThread", []),
     ("A run of the program", "What `sw_cli::run` answers, its clause `answers`.", "sw_cli", "Answers", "RunAnswers", []),
     ("The check of a history file", "What `check_file` writes and answers, its one clause.", "sw_histories", "FileChecks", "ChecksFile", [
         "`Ok status`: the bytes are a history, and its verdict was written: `legal` and the number of entries, status 0, where it is legal;"
