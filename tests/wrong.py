@@ -11,6 +11,7 @@ crate. Prints a line for each as `rt must-fail` does, which tests/refusals.sh re
 cannot be tried. It is no part of the gate: `rt ci` tries them there.
 """
 import argparse
+import contextlib
 import glob
 import os
 import re
@@ -128,8 +129,9 @@ class Tries:
         """For each of these bodies, the line that refuses it or what is wrong: all are tried at once, and those by themselves that are
         not refused so."""
         found = {}
-        if len(bodies) > 1:
-            found = self.check(bodies, False)[2]
+        # (an old text need not stand once beside what another body changed: apply then exits)
+        with contextlib.suppress(SystemExit):
+            found = self.check(bodies, False)[2] if len(bodies) > 1 else {}
         return [(body, found[body], "") if found.get(body) else (body, *self.alone(body, not body.is_of_functions())) for body in bodies]
 
 

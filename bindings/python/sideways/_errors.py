@@ -42,11 +42,11 @@ class HistoryFull(Error):
 
 
 class Closed(Error, ValueError):
-    """Refused 100: the table was closed, or its history was taken."""
+    """Refused 100: the table was closed."""
 
 
 class BadCell(Error, ValueError):
-    """Refused 106: a cell is none of its attribute's kind, as a text that the table does not know."""
+    """Refused 106: a cell is none of its attribute's kind, as a text of more than 64 bytes."""
 
 
 class Full(Error):
