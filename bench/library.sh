@@ -20,9 +20,6 @@ fail() {
 for tool in ar "${CC:-cc}" python3; do
     command -v "$tool" >/dev/null 2>&1 || fail "$tool is wanted"
 done
-# The three functions over malloc, realloc and free that the archive calls.
-heap=$(dirname "$(rt doc 2>/dev/null)")/c/liblibc_c.a
-[ -f "$heap" ] || fail "liblibc_c.a of the toolchain is wanted"
 work=$(mktemp -d) || exit 3
 trap 'rm -rf "$work"' EXIT
 trap 'exit 130' HUP INT TERM
@@ -30,11 +27,11 @@ made=$work/made
 mkdir -p "$made/docs" "$made/examples" || fail "a folder cannot be made"
 
 # The archive's members and ours as one. `ar -M` reads plain names alone, and tells faults without a status.
-for part in sideways_codes sideways_locked; do
+for part in sideways_codes sideways_heap sideways_locked; do
     "${CC:-cc}" -std=c99 -O2 -fPIC -Wall -Wextra -c "$top/bindings/c/$part.c" -o "$work/$part.o" || fail "$part.c cannot be compiled"
 done
-cp "$archive" "$work/engine.a" && cp "$heap" "$work/heap.a" || fail "an archive cannot be copied"
-printf '%s\n' 'create all.a' 'addlib engine.a' 'addlib heap.a' 'addmod sideways_codes.o' 'addmod sideways_locked.o' save end >"$work/members"
+cp "$archive" "$work/engine.a" || fail "the archive cannot be copied"
+printf '%s\n' 'create all.a' 'addlib engine.a' 'addmod sideways_codes.o' 'addmod sideways_heap.o' 'addmod sideways_locked.o' save end >"$work/members"
 (cd "$work" && ar -MD <members && ranlib -D all.a) >"$work/log" 2>&1 || fail "$(cat "$work/log")"
 mv "$work/all.a" "$made/libsideways.a" || fail "$(cat "$work/log")"
 

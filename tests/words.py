@@ -408,6 +408,26 @@ class Cases:
         self.case("a log of standard input that is none", ["order", "--table", "t.csv", "-"], 2, "", ANY, b"x\n")
         self.refused("keys that are neither", words + ["--keys", "some"], "counted")
 
+    def flaws(self):
+        """What is wrong with a log: its line, the field, and what was wanted there."""
+        head = "session,start,end,call,reply\n"
+        for name, log, told in (
+                ("another header", "session,start,end,call\n", "line 1, header: wanted the columns session, start, end, call, reply"),
+                ("a field too few", head + "1,0,1,count\n", "line 2, record: wanted as many fields as the header has"),
+                ("bytes that are no UTF-8", head.encode() + b"1,0,1,count,\xff\n", "line 2, record: wanted UTF-8"),
+                ("no session", head + "0,0,1,count,4\n", "line 2, session: wanted a whole number from 1 to 1024"),
+                ("a session too many", head + "1025,0,1,count,4\n", "line 2, session: wanted a whole number from 1 to 1024"),
+                ("no time", head + "1,0,1,count,4\n1,now,1,count,4\n",
+                 "line 3, start and end: wanted whole numbers from 0 to 18446744073709551615"),
+                ("an end before its start", head + "1,2,1,count,4\n", "line 2, end: wanted a time that is not before the start"),
+                ("no call", head + "1,0,1,,4\n", "line 2, call: wanted a call, and there is none"),
+                ("no call that can be read", head + "1,0,1,fetch,4\n", "line 2, call: wanted a call of a script, and it has none: Word"),
+                ("a call of another table", head + "1,0,1,count where d = 1,4\n", "line 2, call: wanted an attribute of the table, and d is none")):
+            (self.folder / "odd.csv").write_bytes(log if isinstance(log, bytes) else log.encode())
+            self.case("a log with %s" % name, ["order", "--table", "t.csv", "odd.csv"], 2, "", "odd.csv %s\n" % told)
+        self.case("a log that is not there", ["order", "--table", "t.csv", "none.csv"], 2, "", "none.csv: cannot be read\n")
+        self.case("a table that is not there", ["order", "--table", "none.csv", "odd.csv"], 2, "", "sideways: refused 12\n")
+
     # Help
 
     def helps(self):
@@ -432,7 +452,7 @@ def main():
     with tempfile.TemporaryDirectory() as folder:
         cases = Cases(Path(given.program).resolve(), folder)
         try:
-            for part in (cases.inputs, cases.headers, cases.imports, cases.words, cases.descriptions, cases.forms, cases.origins, cases.keys,
+            for part in (cases.inputs, cases.headers, cases.imports, cases.words, cases.descriptions, cases.forms, cases.origins, cases.keys, cases.flaws,
                          cases.helps, cases.version):
                 part()
         except Wrong as wrong:

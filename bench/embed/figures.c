@@ -2,8 +2,8 @@
 
        figures TABLE SCRIPT
 
-   Prints the nanoseconds of all calls together and of all but the first, how many they were, all answers added, and the greatest
-   memory in KiB. */
+   Prints the nanoseconds of all calls together, the median of one, how many they were, all answers added, and the greatest memory in
+   KiB. */
 #include "sideways.h"
 #include <stdio.h>
 #include <stdlib.h>
@@ -29,6 +29,11 @@ static void answered(uint32_t code) {
 
 static long long between(const struct timespec *from, const struct timespec *to) {
     return (to->tv_sec - from->tv_sec) * 1000000000LL + (to->tv_nsec - from->tv_nsec);
+}
+
+static int ascending(const void *one, const void *other) {
+    long long a = *(const long long *)one, b = *(const long long *)other;
+    return (a > b) - (a < b);
 }
 
 /* The conditions of a script, and which of its calls are sums. */
@@ -63,9 +68,13 @@ int main(int argc, char **argv) {
     answered(sideways_open((const uint8_t *)table, size, NULL, 0, &options, &h));
     free(table);
     answered(sideways_session(&h, &session));
-    struct timespec begun, first = {0, 0}, ended;
+    long long *took = calloc(many, sizeof *took);
+    if (took == NULL) return 3;
+    struct timespec begun, before, after;
     clock_gettime(CLOCK_MONOTONIC, &begun);
+    after = begun;
     for (size_t i = 0; i < many; i++) {
+        before = after;
         if (sums[i]) {
             sideways_sum_words sum;
             answered(sideways_sum(&h, session, 1, &conds[i], 1, &sum));
@@ -74,12 +83,13 @@ int main(int argc, char **argv) {
             answered(sideways_count(&h, session, &conds[i], 1, &found));
             answers += found;
         }
-        if (i == 0) clock_gettime(CLOCK_MONOTONIC, &first);
+        clock_gettime(CLOCK_MONOTONIC, &after);
+        took[i] = between(&before, &after);
     }
-    clock_gettime(CLOCK_MONOTONIC, &ended);
+    qsort(took, many, sizeof *took, ascending);
     struct rusage usage;
     getrusage(RUSAGE_SELF, &usage);
-    printf("%lld %lld %zu %llu %ld\n", between(&begun, &ended), between(&first, &ended), many, (unsigned long long)answers, usage.ru_maxrss);
+    printf("%lld %lld %zu %llu %ld\n", between(&begun, &after), took[many / 2], many, (unsigned long long)answers, usage.ru_maxrss);
     sideways_free(h);
     return 0;
 }

@@ -1,10 +1,11 @@
 #!/usr/bin/env python3
 """What the library costs beside the program, numpy and pandas, over ROWS random rows of three attributes.
 
-    bench/embed/measure.py [--rows 1000000] [--calls 1000] [--repeats 100000] [--rounds 5] [--python python3]
+    bench/embed/measure.py [--rows 1000000] [--calls 1000] [--repeats 100000] [--rounds 5] [--python python3] [--library FOLDER]
 
-Proves the program and makes the library. By turns it makes CALLS sums over random ranges, and REPEATS counts of one range, by typed calls
-from C and by a run of the program; and CALLS counts in Python beside masks of numpy and the query of pandas. Prints the medians."""
+Proves the program and makes the library, or takes the one that a FOLDER has and the program as it was built. By turns it makes CALLS sums over
+random ranges, and REPEATS counts of one range, by typed calls from C and by a run of the program; opens three columns from C beside a copy of
+them; and makes CALLS counts in Python beside masks of numpy and the query of pandas. Prints the medians."""
 import argparse, glob, os, random, statistics, subprocess, sys, tempfile, zipfile
 from pathlib import Path
 
@@ -40,7 +41,7 @@ def by_program(folder, script, flag):
 
 
 def by_library(folder, script):
-    """Nanoseconds of all calls, and of all but the first, how many, their answers added, and the memory."""
+    """Nanoseconds of all calls, and the median of one, how many they were, their answers added, and the memory."""
     done = subprocess.run([folder / "figures", "t.csv", script], cwd=folder, capture_output=True, check=True, text=True)
     return [int(word) for word in done.stdout.split()]
 
@@ -48,19 +49,25 @@ def by_library(folder, script):
 def in_c(folder, given):
     sums, counts = ([], [], []), ([], [])
     for _ in range(given.rounds):
-        ours, _later, many, answers, memory = by_library(folder, "sums.txt")
+        ours, _one, _many, answers, memory = by_library(folder, "sums.txt")
         heads, run_memory, wanted = by_program(folder, "sums.txt", "--stats")
         assert answers == wanted, (answers, wanted)
         sums[0].append(ours / 1e6), sums[1].append(heads), sums[2].append(memory / run_memory)
-        _all, later, many, answers, _memory = by_library(folder, "counts.txt")
+        _all, typed, _many, answers, _memory = by_library(folder, "counts.txt")
         one, _memory, wanted = by_program(folder, "counts.txt", "--times")
         assert answers == wanted, (answers, wanted)
-        counts[0].append(later / (many - 1)), counts[1].append(one)
+        counts[0].append(typed), counts[1].append(one)
     ours, heads, memory = map(statistics.median, sums)
     print("%d sums: %.1f ms by typed calls, %d ms by the program's heads, ratio %.2f" % (given.calls, ours, heads, ours / max(heads, 1)))
     print("greatest memory: %.2f of a run's" % memory)
     ours, run = map(statistics.median, counts)
     print("a count of a range that was asked before: %.0f ns by a typed call, %.0f ns in a run" % (ours, run))
+
+
+def columns_in_c(folder, given):
+    words = [folder / "columns", str(given.rows), "21"]
+    copy, opened = map(int, subprocess.run(words, capture_output=True, check=True, text=True).stdout.split())
+    print("sideways_open_columns: %.1f ms, %.2f of a copy of the columns" % (opened / 1e6, opened / copy))
 
 
 def in_python(folder, given):
@@ -84,18 +91,22 @@ def main():
     for name, number in (("rows", 1000000), ("calls", 1000), ("repeats", 100000), ("rounds", 5)):
         parser.add_argument("--" + name, type=int, default=number)
     parser.add_argument("--python", default=sys.executable, help="a Python with numpy")
+    parser.add_argument("--library", type=Path, help="the library as it was made; nothing is proved then")
     given = parser.parse_args()
     with tempfile.TemporaryDirectory() as home:
         folder = Path(home)
-        subprocess.run([TOP / "sideways", "prove"], check=True)
-        subprocess.run([TOP / "sideways", "library", folder / "lib"], check=True, stdout=subprocess.DEVNULL)
-        compiler = os.environ.get("CC", "cc")
-        words = [compiler, "-O2", str(TOP / "bench/embed/figures.c"), "-I" + str(folder / "lib"), str(folder / "lib/libsideways.a")]
-        subprocess.run(words + ["-o", str(folder / "figures")], check=True)
-        with zipfile.ZipFile(glob.glob(str(folder / "lib/*.whl"))[0]) as wheel:
+        library = given.library or folder / "lib"
+        if given.library is None:
+            subprocess.run([TOP / "sideways", "prove"], check=True)
+            subprocess.run([TOP / "sideways", "library", library], check=True, stdout=subprocess.DEVNULL)
+        for name in ("figures", "columns"):
+            words = [os.environ.get("CC", "cc"), "-O2", TOP / "bench/embed" / (name + ".c"), "-I", library, library / "libsideways.a"]
+            subprocess.run(words + ["-o", folder / name], check=True)
+        with zipfile.ZipFile(glob.glob(str(library / "*.whl"))[0]) as wheel:
             wheel.extractall(folder / "python")
         write_inputs(folder, given)
         in_c(folder, given)
+        columns_in_c(folder, given)
         in_python(folder, given)
 
 

@@ -23,7 +23,7 @@ extern "C" {
 #endif
 
 /* The version of this border: a library of another one is not for this header. */
-#define SIDEWAYS_VERSION 2u
+#define SIDEWAYS_VERSION 3u
 
 /* ---- codes */
 
@@ -46,7 +46,7 @@ enum {
     SIDEWAYS_BAD_CONDITION = 105,    /* a condition has no bound or an unknown kind of bound, its bounds are none of its
                                         attribute's kind, or an earlier condition is on the same attribute */
     SIDEWAYS_BAD_CELL = 106,         /* a cell is none of its attribute's kind, or there are more or fewer cells than wanted */
-    SIDEWAYS_NO_ROWS = 107           /* the last call of this handle was no select, so there are no rows to be read */
+    SIDEWAYS_NO_ROWS = 107           /* nothing was selected or viewed by this handle, so there are no rows to be read */
 };
 
 /* ---- handles */
@@ -122,6 +122,10 @@ uint32_t sideways_columns_fault(const sideways_columns *table, sideways_place *p
 /* Opens the next session and tells its number, from 1; 0 where it is refused. 1,024 at most. */
 uint32_t sideways_session(sideways *h, uint64_t *number);
 
+/* Keeps the history so far as the text (docs/HISTORIES.md), and the engine goes on: it is legal, and has the calls that were made.
+   Refused for want of memory, the text is as it was. */
+uint32_t sideways_history(sideways *h);
+
 /* Ends the engine: the text is now that of its history (docs/HISTORIES.md), and the handle has no engine any more: all but
    sideways_text_size, sideways_text and sideways_free answer SIDEWAYS_MISUSE, or SIDEWAYS_NO_ROWS where rows are read. Refused
    for want of memory, it has ended too. */
@@ -134,11 +138,16 @@ void sideways_free(sideways h);
 /* ---- lines and texts */
 
 /* Executes a line of a script (docs/FORMATS.md, 'Calls') as a session's. The text is then that of its reply; it is empty where
-   the line has no call. A text in quotes that the table does not know is refused 3. Refused, the text is as it was, save under
-   SIDEWAYS_NO_TEXT, where the call was made. */
+   the line has no call. A text in quotes that the table does not know becomes known with the call. Refused, no text has become
+   known, and the text of the handle is as it was; under SIDEWAYS_NO_TEXT too, where the call was made. */
 uint32_t sideways_exec(sideways *h, uint64_t session, const uint8_t *line, size_t line_size);
 
-/* How many bytes the text has that was kept last: a reply's, a history's, an explanation's; 0 of a closed handle. */
+/* Answers the code for which sideways_exec would refuse a line as one that is no call, and the text is then words about that: the
+   column, what stands there, what could stand there, and the line with a caret below it. Of a line that is not refused the code is
+   SIDEWAYS_OK and the text empty. Nothing else changes; no call is made. */
+uint32_t sideways_line_fault(sideways *h, const uint8_t *line, size_t line_size);
+
+/* How many bytes the text has that was kept last: a reply's, a history's, words about a line or a history; 0 of a closed handle. */
 size_t sideways_text_size(sideways *h);
 
 /* Copies that text from a place on, as much as there is room for, and answers how many bytes that was. */
@@ -181,10 +190,15 @@ uint32_t sideways_min(sideways *h, uint64_t session, uint64_t attribute, const s
 uint32_t sideways_max(sideways *h, uint64_t session, uint64_t attribute, const sideways_cond *conds, size_t conds_size,
                       sideways_least *greatest);
 
-/* Selects 1 to 8 attributes, which may repeat, and tells how many rows there are. The rows are kept until the next select or the
-   close, in ascending order of their keys, and are read by the two functions below. */
+/* Selects 1 to 8 attributes, which may repeat, and tells how many rows there are. The rows are kept until the next select, the next
+   view or the close, in ascending order of their keys, and are read by the two functions below. */
 uint32_t sideways_select(sideways *h, uint64_t session, const uint64_t *attributes, size_t attributes_size,
                          const sideways_cond *conds, size_t conds_size, uint64_t *rows);
+
+/* The same rows by a pass over the plain table as it is now, with no call: the history stays as it is, no session is wanted, and no
+   head is asked. They are kept as those of a select are. */
+uint32_t sideways_view(sideways *h, const uint64_t *attributes, size_t attributes_size, const sideways_cond *conds, size_t conds_size,
+                       uint64_t *rows);
 
 /* Copies the keys of the kept rows, from a row on (0 is the first), as many as there is room for, and tells how many. */
 uint32_t sideways_keys(sideways *h, size_t from, uint64_t *out, size_t out_size, size_t *copied);
@@ -224,6 +238,11 @@ uint32_t sideways_name(sideways *h, uint64_t attribute, uint8_t *out, size_t out
 
 /* The code of a text that the table knows, from 1; 0 where it knows none such. Texts are compared byte by byte. */
 uint32_t sideways_code_of(sideways *h, const uint8_t *text, size_t text_size, int64_t *code);
+
+/* Tells the code of a text, which becomes known where it is not: the next one. Codes stay what they are. Refused SIDEWAYS_BAD_CELL
+   where no attribute is of texts, or the text is none (more than 64 bytes, no UTF-8, control characters), SIDEWAYS_TOO_MANY of
+   1,048,576 texts. It is no call, and stands not in the history. */
+uint32_t sideways_learn(sideways *h, const uint8_t *text, size_t text_size, int64_t *code);
 
 /* Copies the text of a code, at most 64 bytes, as much as there is room for, and tells its length. Refused SIDEWAYS_BAD_CELL where
    no text has this code. The codes are 1 to sideways_texts_known. */

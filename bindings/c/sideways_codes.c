@@ -33,7 +33,7 @@ const char *sideways_code_text(uint32_t code) {
     case SIDEWAYS_BAD_CONDITION:
         return "a condition has no bound or an unknown kind of bound, its bounds are none of its attribute's kind, or its attribute has one already";
     case SIDEWAYS_BAD_CELL: return "a cell is none of its attribute's kind, or there are more or fewer cells than wanted";
-    case SIDEWAYS_NO_ROWS: return "no rows are kept: there was no select, or the table is closed";
+    case SIDEWAYS_NO_ROWS: return "no rows are kept: nothing was selected or viewed, or the table is closed";
     default: return "no code of this library";
     }
 }

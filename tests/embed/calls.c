@@ -14,7 +14,7 @@ static void try_lines(void) {
     CHECK(sideways_text(&h, 0, NULL, 0) == 0);
     CODE(SIDEWAYS_BAD_LINE, line(&h, 1, "selec p"));
     CODE(SIDEWAYS_BAD_LINE, line(&h, 1, "count where a > 1x"));
-    CODE(SIDEWAYS_BAD_LINE, line(&h, 1, "count where city = 'Paris'"));
+    CODE(SIDEWAYS_BAD_LINE, line(&h, 1, "count where city < 'Paris'"));
     CODE(SIDEWAYS_UNKNOWN_ATTRIBUTE, line(&h, 1, "count where d = 1"));
     CODE(SIDEWAYS_NO_SESSION, line(&h, 0, "count"));
     CODE(SIDEWAYS_NO_SESSION, line(&h, 2, "count"));
@@ -32,6 +32,111 @@ static void try_lines(void) {
     CODE(SIDEWAYS_BAD_LINE, line(&h, 1, long_line));
     free(long_line);
     CODE(SIDEWAYS_OK, sideways_close(&h));
+    sideways_free(h);
+}
+
+/* Why a line is refused, in words; nothing else changes. */
+static void try_line_faults(void) {
+    sideways h = opened();
+#define FAULT(code, text, words)                                                        \
+    do {                                                                                \
+        CODE(code, sideways_line_fault(&h, bytes(text), strlen(text)));                 \
+        CHECK(has_text(&h, words));                                                     \
+        if ((code) != SIDEWAYS_OK) CODE(code, line(&h, 1, text));                       \
+    } while (0)
+    FAULT(SIDEWAYS_BAD_LINE, "count where a > 1x", "the line, column 17: '1x' cannot stand there, wanted a whole number\n  count where a > 1x\n                  ^\n");
+    FAULT(SIDEWAYS_BAD_LINE, "count where", "the line, column 12: the line ends too early, wanted a, p, ok, city\n  count where\n             ^\n");
+    FAULT(SIDEWAYS_BAD_LINE, "sum p where city < 'x'", "the line, column 18: '<' cannot stand there, wanted =, since texts are compared by it alone\n"
+          "  sum p where city < 'x'\n                   ^\n");
+    FAULT(SIDEWAYS_UNKNOWN_ATTRIBUTE, "min d", "the line, column 5: 'd' cannot stand there, wanted a, p, ok\n  min d\n      ^\n");
+    FAULT(SIDEWAYS_OK, "count where city = 'Paris'", "");
+    FAULT(SIDEWAYS_OK, "# none", "");
+    CODE(SIDEWAYS_BAD_LINE, sideways_line_fault(&h, bytes("count \xff"), 7));
+    CHECK(sideways_text_size(&h) > 0 && sideways_texts_known(&h) == 3);
+#undef FAULT
+    sideways_free(h);
+}
+
+/* Texts that come while the engine is open: codes stay, and what is refused leaves none. */
+static void try_new_texts(void) {
+    sideways h = opened();
+    int64_t code = 77;
+    char longest[66];
+    memset(longest, 'x', sizeof longest);
+    CODE(SIDEWAYS_OK, sideways_learn(&h, bytes("Bergen"), 6, &code));
+    CHECK(code == 2 && sideways_texts_known(&h) == 3);
+    CODE(SIDEWAYS_OK, sideways_learn(&h, bytes("Bonn"), 4, &code));
+    CHECK(code == 4 && sideways_texts_known(&h) == 4);
+    CODE(SIDEWAYS_OK, sideways_learn(&h, NULL, 0, &code));
+    CHECK(code == 5);
+    code = 77;
+    CODE(SIDEWAYS_BAD_CELL, sideways_learn(&h, bytes(longest), 65, &code));
+    CODE(SIDEWAYS_BAD_CELL, sideways_learn(&h, bytes("\xff"), 1, &code));
+    CODE(SIDEWAYS_BAD_CELL, sideways_learn(&h, bytes("a\nb"), 3, &code));
+    CHECK(code == 77 && sideways_texts_known(&h) == 5);
+    CODE(SIDEWAYS_OK, sideways_learn(&h, bytes(longest), 64, &code));
+    CHECK(code == 6);
+    const int64_t row[4] = {5, 100, 1, 4};
+    uint64_t key;
+    CODE(SIDEWAYS_OK, sideways_insert(&h, 1, row, 4, &key));
+    CODE(SIDEWAYS_OK, line(&h, 1, "insert 6, 1, true, 'Genf'"));
+    CODE(SIDEWAYS_BAD_LINE, line(&h, 1, "insert 6, 1, true, 'Rom', 'Ulm'"));
+    CODE(SIDEWAYS_OK, line(&h, 1, "count where city = 'Wien'"));
+    CHECK(has_text(&h, "0\n") && sideways_texts_known(&h) == 8);
+    CODE(SIDEWAYS_OK, line(&h, 1, "select city where a >= 5 and a <= 6"));
+    CHECK(has_text(&h, "5: 'Bonn'\n6: 'Genf'\n(2 rows)\n"));
+    CODE(SIDEWAYS_OK, sideways_close(&h));
+    size_t size;
+    uint64_t entry;
+    uint8_t *history = whole_text(&h, &size);
+    CODE(SIDEWAYS_OK, sideways_check(history, size, &entry));
+    free(history);
+    sideways_free(h);
+    h = (sideways)SIDEWAYS_CLOSED;
+    CODE(SIDEWAYS_OK, open_text("a\n1\n", &OPTIONS, &h));
+    CODE(SIDEWAYS_BAD_CELL, sideways_learn(&h, bytes("x"), 1, &code));
+    sideways_free(h);
+}
+
+/* A history while the engine is open is that of the calls so far, and a view is no call. */
+static void try_open_histories(void) {
+    sideways h = opened();
+    size_t size, copied;
+    uint64_t rows = 77, entry, keys[4];
+    int64_t cells[4];
+    const uint64_t shown[2] = {A, CITY}, none[1] = {4};
+    sideways_cond low = within(A, 10, 15), bad = within(4, 1, 2);
+    CODE(SIDEWAYS_OK, line(&h, 1, "delete 1"));
+    CODE(SIDEWAYS_OK, line(&h, 1, "insert 11, 1, true, 'Genf'"));
+    CODE(SIDEWAYS_OK, sideways_view(&h, shown, 2, &low, 1, &rows));
+    CHECK(rows == 2);
+    CODE(SIDEWAYS_OK, sideways_keys(&h, 0, keys, 4, &copied));
+    CHECK(copied == 2 && keys[0] == 3 && keys[1] == 5);
+    CODE(SIDEWAYS_OK, sideways_column(&h, 1, 0, cells, 4, &copied));
+    CHECK(copied == 2 && cells[0] == 1 && cells[1] == 4);
+    rows = 77;
+    CODE(SIDEWAYS_NO_ATTRIBUTE, sideways_view(&h, none, 1, NULL, 0, &rows));
+    CODE(SIDEWAYS_NO_ATTRIBUTE, sideways_view(&h, NULL, 0, NULL, 0, &rows));
+    CODE(SIDEWAYS_NO_ATTRIBUTE, sideways_view(&h, shown, 2, &bad, 1, &rows));
+    CHECK(rows == 77);
+    CODE(SIDEWAYS_OK, sideways_history(&h));
+    uint8_t *first = whole_text(&h, &size);
+    CODE(SIDEWAYS_OK, sideways_check(first, size, &entry));
+    first[size] = 0;
+    CHECK(strstr((char *)first, "select") == NULL && strstr((char *)first, "delete 1") != NULL);
+    CODE(SIDEWAYS_OK, sideways_keys(&h, 0, keys, 4, &copied));
+    CHECK(copied == 2);
+    CODE(SIDEWAYS_OK, line(&h, 1, "count"));
+    CODE(SIDEWAYS_OK, sideways_history(&h));
+    CHECK(sideways_text_size(&h) > size);
+    size_t more, whole;
+    uint8_t *second = whole_text(&h, &more);
+    CODE(SIDEWAYS_OK, sideways_close(&h));
+    uint8_t *last = whole_text(&h, &whole);
+    CHECK(whole == more && memcmp(last, second, whole) == 0);
+    free(first);
+    free(second);
+    free(last);
     sideways_free(h);
 }
 
@@ -466,7 +571,11 @@ static void try_unopened(sideways *h) {
     sideways_stats stats;
     CODE(SIDEWAYS_MISUSE, sideways_session(h, &n));
     CODE(SIDEWAYS_MISUSE, sideways_close(h));
+    CODE(SIDEWAYS_MISUSE, sideways_history(h));
     CODE(SIDEWAYS_MISUSE, sideways_exec(h, 1, bytes("count"), 5));
+    CODE(SIDEWAYS_MISUSE, sideways_line_fault(h, bytes("count"), 5));
+    CODE(SIDEWAYS_MISUSE, sideways_view(h, shown, 1, &low, 1, &n));
+    CODE(SIDEWAYS_MISUSE, sideways_learn(h, bytes("x"), 1, cells));
     CODE(SIDEWAYS_MISUSE, sideways_count(h, 1, &low, 1, &n));
     CODE(SIDEWAYS_MISUSE, sideways_sum(h, 1, A, &low, 1, &sum));
     CODE(SIDEWAYS_MISUSE, sideways_min(h, 1, A, &low, 1, &least));
@@ -551,6 +660,9 @@ int main(void) {
     try_opening();
     try_places();
     try_lines();
+    try_line_faults();
+    try_new_texts();
+    try_open_histories();
     try_aggregates();
     try_bad_conditions();
     try_selects();

@@ -24,7 +24,8 @@ static void try_without_entries(void) {
         CODE(SIDEWAYS_OK, sideways_code_of(&h, bytes("Bergen"), 6, &code));
         CODE(SIDEWAYS_OK, sideways_text_of(&h, code, room, sizeof room, &size));
         if (i % 16 == 0) CODE(SIDEWAYS_BAD_LINE, line(&h, 1, "count where a >"));
-        if (i % 16 == 0) CODE(SIDEWAYS_BAD_LINE, line(&h, 1, "count where city = 'Paris'"));
+        if (i % 16 == 0) CODE(SIDEWAYS_BAD_LINE, line(&h, 1, "insert 1, 1, true, 'Paris', 'Rom'"));
+        if (i % 1000 == 0) CODE(SIDEWAYS_OK, sideways_view(&h, shown, 1, NULL, 0, &found));
     }
     CHECK(heap_bytes == bytes_before && heap_grants == grants_before);
     CODE(SIDEWAYS_OK, line(&h, 1, ""));

@@ -55,6 +55,7 @@ static void try_calls(sideways *h) {
     CHECK(rows == 2);
     TRIED(sideways_keys(h, 0, keys, 8, &copied));
     CHECK(copied == 2 && keys[0] == 1 && keys[1] == 3);
+    TRIED(sideways_view(h, shown, 2, &low, 1, &rows));
     TRIED(sideways_column(h, 1, 0, cells, 8, &copied));
     CHECK(copied == 2 && cells[0] == 1 && cells[1] == 1);
     made += 5;
@@ -110,6 +111,29 @@ static void try_names(sideways *h) {
     TRIED(sideways_head_stats(h, A, &stats));
 }
 
+/* Texts that become known, and those of a call that was refused, which do not; words about a line; the history so far. */
+static void try_texts(sideways *h) {
+    int64_t code = 0;
+    uint64_t known = sideways_texts_known(h);
+    TRIED(sideways_learn(h, bytes("Bonn"), 4, &code));
+    CHECK(code == 4 && sideways_texts_known(h) == known + 1);
+    uint32_t first = line(h, 1, "insert 1, 1, true, 'Genf'");
+    CHECK(sideways_texts_known(h) == known + 1 + (first != SIDEWAYS_NO_MEMORY));
+    if (first == SIDEWAYS_NO_MEMORY) {
+        refused_many = 0;
+        CODE(SIDEWAYS_OK, line(h, 1, "insert 1, 1, true, 'Genf'"));
+    }
+    made++;
+    uint32_t fault = sideways_line_fault(h, bytes("count where city = Ulm"), 22);
+    if (fault != SIDEWAYS_BAD_LINE) {
+        CODE(SIDEWAYS_NO_MEMORY, fault);
+        refused_many = 0;
+        CODE(SIDEWAYS_BAD_LINE, sideways_line_fault(h, bytes("count where city = Ulm"), 22));
+    }
+    TRIED(sideways_history(h));
+    CHECK(sideways_texts_known(h) == known + 2);
+}
+
 /* How many times a text stands in another. */
 static uint64_t times_in(const char *text, const char *part) {
     uint64_t times = 0;
@@ -149,6 +173,7 @@ static void whole(sideways *h) {
     try_calls(h);
     try_changes(h);
     try_names(h);
+    try_texts(h);
     try_end(h);
     sideways_free(*h);
 }

@@ -69,7 +69,7 @@ def random_ranges(draw):
     ranges = {}
     for name in draw.sample(["a", "b", "c", "price", "ok", "city"], draw.randrange(4)):
         if name == "city":
-            ranges[name] = draw.choice(CITIES + ["nowhere"])
+            ranges[name] = draw.choice(CITIES + ["nowhere", f"new {draw.randrange(40)}"])
         elif name == "ok":
             ranges[name] = draw.random() < 0.5
         elif name == "price":
@@ -116,8 +116,10 @@ class Random(unittest.TestCase):
         elif kind in (2, 3, 4):
             names = draw.sample(list(model.columns), draw.randrange(1, 7))
             self.hold_rows(table.select(names, **words), model, names, mask)
+            self.hold_view(table, model, names, words, mask)
         elif kind == 5 and model.keys.size:
-            self.hold_insert(table, model, random_columns(draw, draw.randrange(1, 9), model.columns["city"].tolist()))
+            cities = model.columns["city"].tolist() + [f"new {draw.randrange(40)}"]
+            self.hold_insert(table, model, random_columns(draw, draw.randrange(1, 9), cities))
         elif kind == 6:
             key = draw.randrange(model.keys.size + 3)
             stands = 0 < key <= model.keys.size and bool(model.live[key - 1])
@@ -146,6 +148,11 @@ class Random(unittest.TestCase):
         numpy.testing.assert_array_equal(found["key"], model.keys[mask])
         for name in names:
             numpy.testing.assert_array_equal(found[name], model.columns[name][mask], name)
+
+    def hold_view(self, table, model, names, words, mask):
+        before = table.history()
+        self.hold_rows(table.view(names, **words), model, names, mask)
+        self.assertEqual(table.history(), before)
 
     def hold_insert(self, table, model, columns):
         if len(columns["city"]) == 1:
@@ -226,6 +233,25 @@ class Kinds(unittest.TestCase):
         table = Table.from_columns({"a": one, "b": numpy.arange(1000)})
         self.assertEqual((table.sum("a"), table.count(a=7, b=(0, 9))), (7000, 10))
         self.assertEqual(table.insert_many({"a": one, "b": one}).tolist(), list(range(1001, 2001)))
+
+    def test_new_texts(self):
+        table = Table.from_columns({"a": [1], "city": ["Oslo"]})
+        self.assertEqual(table.insert([2, "Bonn"]), 2)
+        self.assertEqual(table.insert_many({"a": [3, 4], "city": ["Rom", "Bonn"]}).tolist(), [3, 4])
+        self.assertEqual(table.exec("insert 5, 'Ulm'"), "key 5\n")
+        self.assertEqual((table.count(city="Wien"), table.count(city="Ulm"), table.count("city = 'Bonn'")), (0, 1, 2))
+        self.assertEqual(table.select("city")["city"].tolist(), ["Oslo", "Bonn", "Rom", "Bonn", "Ulm"])
+        before = table.history()
+        for line in ("insert 6, 'Genf', 1", "insert 6 'Genf'", "count where city < 'Genf'"):
+            with self.assertRaises(sideways.BadLine):
+                table.exec(line)
+        self.assertEqual(table.view("a", city="Genf")["a"].shape, (0,))
+        self.assertEqual(table.history(), before)
+        for text in ("x" * 65, "\n"):
+            with self.assertRaises(sideways.BadCell):
+                table.count(city=text)
+        self.assertEqual(len(json.loads(before)["entries"]), 8)
+        self.assertTrue(sideways.check(before))
 
     def test_texts_that_no_row_has(self):
         table = Table.from_columns({"a": [1, 2], "city": ["Oslo", "Bergen"]}, texts=["Bonn", "Oslo", "Bonn"])
@@ -339,6 +365,20 @@ class Conditions(unittest.TestCase):
         wanted = "refused 3: 'Oslo' cannot stand there, wanted a text in single quotes\n  a >= 1 and city = Oslo\n                    ^\n"
         self.assertEqual(str(found.exception), wanted)
 
+    def test_a_refused_line_in_words(self):
+        cases = [("sum where a > 1", 3, "column 5: 'where' cannot stand there, wanted a, p, ok, class"), ("count where d = 1", 4, "column 13: 'd'")]
+        cases += [("", None, None), ("select a where city = Oslo", 3, "column 23: 'Oslo' cannot stand there, wanted a text in single quotes\n")]
+        cases += [("count where", 3, "column 12: the line ends too early, wanted a, p, ok, city, class"), ("x" * 5000, 3, "5000 bytes, at most 4096")]
+        for line, code, words in cases:
+            with self.subTest(line=line[:40]):
+                if code is None:
+                    self.assertEqual(self.table.exec(line), "")
+                    continue
+                with self.assertRaises(sideways.Error) as found:
+                    self.table.exec(line)
+                self.assertEqual(found.exception.code, code)
+                self.assertIn(words, str(found.exception))
+
     def test_values_of_another_kind(self):
         for ranges in ({"a": "x"}, {"a": None}, {"a": True}, {"ok": 1}, {"city": 5}, {"city": ("Oslo", "Paris")}, {"a": (1, 2, 3)}, {"p": b"x"}):
             with self.subTest(ranges=ranges), self.assertRaises((TypeError, ValueError)):
@@ -389,11 +429,11 @@ class Tables(unittest.TestCase):
     def test_rows_that_are_none(self):
         table = Table.from_columns({"a": [1], "city": ["Oslo"]})
         self.assertEqual(table.insert([2, "Oslo"]), 2)
-        rows = [[1], [1, "Oslo", 3], [1, "Bonn"], ["x", "Oslo"], [1.5, "Oslo"], [1, 2], {"a": 1}, {"a": 1, "city": "Oslo", "b": 2}]
+        rows = [[1], [1, "Oslo", 3], [1, "x" * 65], ["x", "Oslo"], [1.5, "Oslo"], [1, 2], {"a": 1}, {"a": 1, "city": "Oslo", "b": 2}]
         for row in rows:
             with self.subTest(row=row), self.assertRaises((TypeError, ValueError, LookupError)):
                 table.insert(row)
-        for columns in ({"a": [1]}, {"a": [1, 2], "city": ["Oslo"]}, {"a": [1], "city": ["Bonn"]}, {"a": [0.5], "city": ["Oslo"]}):
+        for columns in ({"a": [1]}, {"a": [1, 2], "city": ["Oslo"]}, {"a": [1], "city": ["\x00"]}, {"a": [0.5], "city": ["Oslo"]}):
             with self.subTest(columns=columns), self.assertRaises((TypeError, ValueError)):
                 table.insert_many(columns)
         self.assertEqual(table.insert_many({"a": [], "city": []}).shape, (0,))
@@ -408,18 +448,17 @@ class Tables(unittest.TestCase):
             self.assertEqual((table.number, session.number), (1, 2))
             self.assertEqual(session.count(), 2)
             history = table.history()
-        self.assertEqual(table.history(), history)
-        for call in (table.count, session.count, table.session, table.select, table.stats, lambda: table.exec("count"), lambda: table.insert([1])):
+            self.assertEqual(table.history(), history)
+            table.insert([3])
+            self.assertEqual([len(json.loads(it)["entries"]) for it in (history, table.history())], [1, 2])
+        calls = [table.count, session.count, table.session, table.select, table.view, table.stats, table.history]
+        for call in calls + [lambda: table.exec("count"), lambda: table.insert([1])]:
             with self.assertRaises(sideways.Closed) as found:
                 call()
             self.assertEqual(found.exception.code, 100)
         table.close()
         table.close()
         self.assertIn("closed", repr(table))
-        unasked = Table.from_columns({"a": [1]})
-        unasked.close()
-        with self.assertRaises(sideways.Closed):
-            unasked.history()
 
     def test_names_of_any_sort(self):
         names = ["self", "key", "key_", "attribute", "columns", "session", "where_", "name"]

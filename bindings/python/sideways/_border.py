@@ -4,7 +4,7 @@ import ctypes
 import os
 from ctypes import POINTER, c_bool, c_char_p, c_int64, c_size_t, c_uint32, c_uint64, c_void_p
 
-VERSION = 2
+VERSION = 3
 
 #: The path of the shared library: that beside this file, or what the variable SIDEWAYS_LIBRARY names.
 LIBRARY = os.environ.get("SIDEWAYS_LIBRARY") or os.path.join(os.path.dirname(os.path.abspath(__file__)), "libsideways.so")
@@ -14,7 +14,7 @@ MOST_CELLS = 16777216
 MAPS = 64
 
 # Codes, kinds of bounds and kinds of attributes.
-BAD_TABLE, NOT_LEGAL, MISUSE, NO_TEXT = 2, 11, 100, 104
+BAD_TABLE, BAD_LINE, UNKNOWN_ATTRIBUTE, TOO_MANY, NOT_LEGAL, MISUSE, NO_TEXT, BAD_CELL = 2, 3, 4, 5, 11, 100, 104, 106
 NONE, BEFORE, AFTER = 0, 1, 2
 INT, FLAG, TEXT = 0, 7, 8
 
@@ -89,8 +89,10 @@ _PARAMETERS = {
     "table_fault": [c_void_p, c_size_t, POINTER(Place)],
     "columns_fault": [POINTER(Columns), POINTER(Place)],
     "session": _TABLE + [POINTER(c_uint64)],
+    "history": _TABLE,
     "close": _TABLE,
     "exec": _CALL + _BYTES,
+    "line_fault": _TABLE + _BYTES,
     "text_size": _TABLE,
     "text": _TABLE + [c_size_t, c_void_p, c_size_t],
     "count": _CALL + _CONDS + [POINTER(c_uint64)],
@@ -98,6 +100,7 @@ _PARAMETERS = {
     "min": _CALL + [c_uint64] + _CONDS + [POINTER(Least)],
     "max": _CALL + [c_uint64] + _CONDS + [POINTER(Least)],
     "select": _CALL + [POINTER(c_uint64), c_size_t] + _CONDS + [POINTER(c_uint64)],
+    "view": _TABLE + [POINTER(c_uint64), c_size_t] + _CONDS + [POINTER(c_uint64)],
     "keys": _TABLE + [c_size_t, c_void_p, c_size_t, POINTER(c_size_t)],
     "column": _TABLE + [c_size_t, c_size_t, c_void_p, c_size_t, POINTER(c_size_t)],
     "insert": _CALL + [c_void_p, c_size_t, POINTER(c_uint64)],
@@ -108,6 +111,7 @@ _PARAMETERS = {
     "kind": _TABLE + [c_uint64, POINTER(c_uint32)],
     "name": _TABLE + [c_uint64, c_char_p, c_size_t, POINTER(c_size_t)],
     "code_of": _TABLE + _BYTES + [POINTER(c_int64)],
+    "learn": _TABLE + _BYTES + [POINTER(c_int64)],
     "text_of": _TABLE + [c_int64, c_char_p, c_size_t, POINTER(c_size_t)],
     "head_stats": _TABLE + [c_uint64, POINTER(Stats)],
     "check": [c_void_p, c_size_t, POINTER(c_uint64)],

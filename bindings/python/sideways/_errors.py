@@ -42,11 +42,11 @@ class HistoryFull(Error):
 
 
 class Closed(Error, ValueError):
-    """Refused 100: the table was closed, or its history was taken."""
+    """Refused 100: the table was closed."""
 
 
 class BadCell(Error, ValueError):
-    """Refused 106: a cell is none of its attribute's kind, as a text that the table does not know."""
+    """Refused 106: a cell is none of its attribute's kind, as a text of more than 64 bytes."""
 
 
 class Full(Error):
@@ -76,6 +76,8 @@ _CLASSES = {
 
 def refusal(code: int, told: str = "") -> Error:
     """The exception for a code other than 0."""
+    if code == MISUSE:
+        told = told or "the table is closed"
     return _CLASSES.get(code, Error)(code, told)
 
 

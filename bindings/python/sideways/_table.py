@@ -11,7 +11,7 @@ from typing import Any, Dict, List, Optional, Sequence, Union
 import numpy
 
 from . import _border as border
-from ._border import BAD_TABLE, MAPS, MOST_CELLS, MOST_ROWS, TEXT, lib
+from ._border import BAD_CELL, BAD_LINE, BAD_TABLE, MAPS, MOST_CELLS, MOST_ROWS, TEXT, TOO_MANY, UNKNOWN_ATTRIBUTE, lib
 from ._columns import Given, as_array, as_cells, one_length
 from ._errors import Error, Full, answered, refusal
 from ._kinds import NAMES, array_of, cell_of, number_cells, value_of
@@ -36,13 +36,24 @@ class _Engine:
         while self.key_name in self.attributes:
             self.key_name += "_"
         self.texts = {}
-        self.history = None
+        self.codes = {}
 
     def code_of(self, text: str) -> int:
         """The code of a text, 0 where the table does not know it. The lock is held."""
         data, code = text.encode("utf-8"), ctypes.c_int64()
         answered(lib.sideways_code_of(self.handle, data, len(data), code))
         return code.value
+
+    def learn(self, text: str) -> int:
+        """The code of a text, which becomes known where it is not. The lock is held."""
+        code = self.codes.get(text)
+        if code is None:
+            data, found = text.encode("utf-8"), ctypes.c_int64()
+            refused = lib.sideways_learn(self.handle, data, len(data), found)
+            if refused:
+                raise refusal(refused, f"{text[:40]!r} is no text of at most 64 bytes without control characters" if refused == BAD_CELL else "")
+            code = self.codes[text] = found.value
+        return code
 
     def text_of(self, code: int) -> str:
         """The text of a code. The lock is held."""
@@ -62,15 +73,6 @@ class _Engine:
         texts[:] = [self.text_of(code) for code in codes.tolist()]
         return texts[places]
 
-    def end(self) -> bytes:
-        """Ends the engine, and gives its history."""
-        with self.lock:
-            if self.history is None:
-                answered(lib.sideways_close(self.handle))
-                self.history = border.text_kept(self.handle)
-                self.free()
-            return self.history
-
     def free(self) -> None:
         handle, self.handle = self.handle, border.Handle()
         lib.sideways_free(handle)
@@ -87,8 +89,8 @@ class Session:
 
     Where conditions are asked for, `where` is a text as `"a >= 10 and city = 'Oslo'"`, in the language of scripts, and each further
     keyword a range of the attribute that it names: `a=(10, 15)` is at least 10 and at most 15, `a=(10, None)` at least 10, and
-    `a=12` is 12. All of them have to be met; with none, all rows are meant. A text that the table does not know is in no row: what
-    asks for one is answered here, and stands not in the history.
+    `a=12` is 12. All of them have to be met; with none, all rows are meant. A text that the table does not know becomes known with
+    the call. What asks for two texts of one attribute is answered here, and stands not in the history.
 
     Attributes:
         number: the session's number, from 1.
@@ -142,16 +144,24 @@ class Session:
             A dict of arrays of shape (rows,): first `"key"`, the rows' keys as uint64 (`"key_"` where an attribute has that name),
             then each attribute: int64 of int, float64 of fix1 to fix6, bool of flag, object (str) of text.
         """
+        return self._shown(lambda *asked: lib.sideways_select(self._engine.handle, self.number, *asked), self._engine.learn, columns, where, ranges)
+
+    def view(
+        self, columns: Union[str, Sequence[str], None] = None, /, where: Optional[str] = None, **ranges: Any
+    ) -> Dict[str, numpy.ndarray]:
+        """The same rows by a pass over the table as it is now. It is no call: the history stays as it is, and no head is asked."""
+        return self._shown(lambda *asked: lib.sideways_view(self._engine.handle, *asked), self._engine.code_of, columns, where, ranges)
+
+    def _shown(self, function, code_of, columns, where, ranges) -> Dict[str, numpy.ndarray]:
         engine = self._engine
         names = [columns] if isinstance(columns, str) else list(engine.attributes if columns is None else dict.fromkeys(columns))
         with engine.lock:
-            conds = self._conds(where, ranges)
+            conds = self._conds(where, ranges, code_of)
             asked = [conds.place(name) for name in names]
             rows = ctypes.c_uint64()
             if not conds.none:
                 places = (ctypes.c_uint64 * len(asked))(*[place for place, _kind in asked])
-                many = conds.fill(self._room)
-                answered(lib.sideways_select(engine.handle, self.number, places, len(asked), self._room, many, rows))
+                answered(function(places, len(asked), self._room, conds.fill(self._room), rows))
             return self._rows(rows.value, names, [kind for _place, kind in asked])
 
     def _rows(self, rows: int, names: List[str], kinds: List[int]) -> Dict[str, numpy.ndarray]:
@@ -243,15 +253,19 @@ class Session:
     def exec(self, line: str, /) -> str:
         """Makes the call of a line of a script, as `"select a, b where a >= 10"`, and gives the lines of its reply.
 
-        A line of blanks, or one that begins with `#`, has no call, and its reply is empty.
+        A line of blanks, or one that begins with `#`, has no call, and its reply is empty. The exception for a line that is no call
+        tells where it is wrong, and what could stand there.
         """
-        data = line.encode("utf-8")
+        data, handle = line.encode("utf-8"), self._engine.handle
         with self._engine.lock:
-            answered(lib.sideways_exec(self._engine.handle, self.number, data, len(data)))
-            return border.text_kept(self._engine.handle).decode("utf-8")
+            code = lib.sideways_exec(handle, self.number, data, len(data))
+            if code in (BAD_LINE, UNKNOWN_ATTRIBUTE, TOO_MANY) and lib.sideways_line_fault(handle, data, len(data)) == code:
+                raise refusal(code, border.text_kept(handle).decode("utf-8").rstrip("\n"))
+            answered(code)
+            return border.text_kept(handle).decode("utf-8")
 
-    def _conds(self, where: Optional[str], ranges: Dict[str, Any]) -> Conds:
-        conds = Conds(self._engine.attributes, self._engine.code_of)
+    def _conds(self, where: Optional[str], ranges: Dict[str, Any], code_of=None) -> Conds:
+        conds = Conds(self._engine.attributes, code_of or self._engine.learn)
         if where is not None:
             conds.add_line(where)
         for name, wanted in ranges.items():
@@ -300,10 +314,7 @@ class Session:
         """The code of a text to be inserted. The lock is held."""
         if not isinstance(text, str):
             raise TypeError(f"wanted a text, not {text!r}")
-        code = self._engine.code_of(text)
-        if code == 0:
-            raise refusal(106, f"{text!r} is a text that the table does not know: none of the rows that it was opened with has it")
-        return code
+        return self._engine.learn(text)
 
     def _known_cells(self, array: numpy.ndarray) -> numpy.ndarray:
         codes = {}
@@ -380,12 +391,11 @@ class Table(Session):
 
         Arrays of whole numbers become `int`, of bool `flag`, of str `text`. Floats and Decimals want to be told how many decimals
         they have: `kinds={"price": "fix2"}`; each has to be a number of that many decimals. A name has 1 to 32 letters, digits and
-        underscores. Arrays of int64 are read as they lie, whatever their stride. A row that is inserted later may have the texts alone
-        that some row here has, or that are among `texts`.
+        underscores. Arrays of int64 are read as they lie, whatever their stride.
 
         Args:
             kinds: kinds of columns by name, where others are wanted than those.
-            texts: further texts that the table knows; one of the columns is of texts then.
+            texts: further texts that the table knows from the start; one of the columns is of texts then.
             cuts, limit, budget, maps: as of `from_csv`.
         """
         if not isinstance(columns, Mapping) and not hasattr(columns, "items"):
@@ -421,11 +431,13 @@ class Table(Session):
         return found
 
     def history(self) -> bytes:
-        """Ends the table, and gives its history as the bytes of a history file, which is legal. It may be asked for again."""
-        return self._engine.end()
+        """The history so far as the bytes of a history file, which is legal. The table stays open."""
+        with self._engine.lock:
+            answered(lib.sideways_history(self._engine.handle))
+            return border.text_kept(self._engine.handle)
 
     def close(self) -> None:
-        """Gives back what the table has in memory. Its history is lost, unless it was asked for. A closed table may be closed."""
+        """Gives back what the table has in memory. Its history is lost, unless it was asked for before. A closed table may be closed."""
         with self._engine.lock:
             self._engine.free()
 

@@ -1,13 +1,12 @@
 -- Rows that are inserted one after another.
-use Rattle.std.proofs.Common.{◌≡◌, ◌∙◌, ◌<◌, ◌≤◌, ◌+◌, ◌-◌, ◌++◌, ℕ, zero, suc, ℤ, Bool, List, [], ◌∷◌, length, get_or, set, drop, length-append, refl, sym, ap, subst, arith, inl, inr}
-use Rattle.std.specs.Prelude.{◌==◌, if◌then◌else◌, true, false}
+use Rattle.std.proofs.Common.{◌≡◌, ◌∙◌, ◌<◌, ◌+◌, ◌-◌, ◌++◌, ℕ, zero, suc, ℤ, List, [], ◌∷◌, length, set, drop, length-append, refl, sym, ap, subst, arith, inl, inr}
+use Rattle.std.specs.Prelude.{◌==◌}
 use Rattle.std.proofs.lemmas.List.{append_assoc, drop_more, set-append_right}
 use Rattle.sw_rows.specs.declared.query.Call.TheVariants as call
 use Rattle.sw_rows.specs.declared.reply.Reply.{Reply}
-use Rattle.sw_rows.specs.declared.reply.Reply.TheVariants as reply
 use Rattle.sw_arrays.specs.Columns.{insert_at}
 use Rattle.sw_arrays.specs.declared.columns.Cells.{Cells}
-use Rattle.sw_spine.specs.Table.{inserts, reply_to}
+use Rattle.sw_spine.specs.Table.{inserts}
 use Rattle.sw_spine.specs.History.{updates_of}
 use Rattle.sw_solo.specs.Called.{SoloState, reply_in, with_call}
 use Rattle.sideways_c.specs.Asks.{IsInsert, IsKeyTold}

@@ -1,4 +1,3 @@
-pub mod Calls
 pub mod Executing
 pub mod Inserts
 pub mod Opens

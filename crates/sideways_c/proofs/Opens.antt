@@ -1,5 +1,5 @@
 -- The rows of a table that was read.
-use Rattle.std.proofs.Common.{◌≡◌, refl, subst, ℕ, zero, suc, ◌+◌, Bool, true, List, [], ◌∷◌, ◌++◌, length, length-append, map, Some, Result, Ok, Err, arith, inl, inr, slice_get, eqb, ◌&&◌}
+use Rattle.std.proofs.Common.{◌≡◌, ◌∙◌, refl, sym, ap, subst, ℕ, zero, suc, ◌+◌, Bool, true, List, [], ◌∷◌, ◌++◌, length, length-append, map, Option, Some, Result, Ok, Err, arith, inl, inr, slice_get, eqb, ◌&&◌}
 use Rattle.std.proofs.lemmas.Bool.{and_parts}
 use Rattle.std.proofs.lemmas.Bool.Decides.{Decides-eqb}
 use Rattle.sw_rows.proofs.RowLaws.{keys-count}
@@ -17,7 +17,13 @@ use Rattle.sw_spine.specs.Table.{is_numbered}
 use Rattle.sw_arrays.specs.Columns.{cells_at, columns_in, few_rows, field_of, knowing, lacking_in, none_lacking, rows_in, table_in}
 use Rattle.sw_arrays.specs.declared.columns.Cells.{Cells}
 use Rattle.sw_arrays.specs.declared.table.Given.{Given}
-use Rattle.sideways_c.specs.Opened.{IsNotOpening, cuts_in}
+use Rattle.std.specs.Global.{Vec}
+use Rattle.std.specs.Prelude.{MatchOption}
+use Rattle.sw_solo.specs.Called.{SoloState}
+use Rattle.sideways_c.specs.Handles.{Tells}
+use Rattle.sideways_c.specs.Opened.{IsNotOpening, KeepsHistoryIn, SpellsHistory, TellsHistory, cuts_in}
+use Rattle.sideways_c.specs.Shown.{Shown}
+use Rattle.sideways_c.specs.declared.codes.TheConstants.{MISUSE, OK}
 
 both-true : (a b : Bool) → a ≡ true → b ≡ true → (a && b) ≡ true
 both-true a b h k = rw (h, k) refl
@@ -98,3 +104,15 @@ columns_numbered g t h =
     let d = then_ok (none_lacking (lacking_in c.0 b.0 0 columns)) (λ there. Ok (record { columns = c.0; rows = rows_in columns b.0 })) t c.2 in
     let is : rows_in columns b.0 ≡ t.rows = cc in
     subst (λ rs. is_numbered 1 rs ≡ true) is (rows_numbered columns b.0)
+
+-- ---- the history so far
+
+pub history_told : (s : SoloState) (text : Vec ℕ) (old new : Shown) → old.engine ≡ Some s → SpellsHistory s (Ok text) → new ≡ record old { text = text.items } → KeepsHistoryIn old new OK
+history_told s text old new e m made =
+    let told : TellsHistory s old new OK = inl (refl, made ∙ ap (λ (x : List ℕ). record old { text = x }) m.0, m.1) in
+    subst (λ (o : Option SoloState). MatchOption o (Tells MISUSE old new OK) (λ x. TellsHistory x old new OK)) (sym e) told
+
+pub history_untold : (s : SoloState) (old new : Shown) (code : ℕ) → old.engine ≡ Some s → SpellsHistory s (Err code) → new ≡ old → KeepsHistoryIn old new code
+history_untold s old new code e m same =
+    let untold : TellsHistory s old new code = inr (m, same) in
+    subst (λ (o : Option SoloState). MatchOption o (Tells MISUSE old new code) (λ x. TellsHistory x old new code)) (sym e) untold

@@ -1,5 +1,5 @@
 -- A select and the rows that are kept of it.
-use Rattle.std.proofs.Common.{◌≡◌, ◌∙◌, ℕ, Bool, true, false, List, [], length, Option, None, Some, Result, Ok, Err, refl, sym, ap, subst}
+use Rattle.std.proofs.Common.{◌≡◌, ◌∙◌, ℕ, Bool, true, false, List, [], length, Option, None, Some, Result, Ok, Err, refl, sym, ap, subst, inl, inr}
 use Rattle.std.specs.Prelude.{MatchOption, is_some}
 use Rattle.std.proofs.lemmas.Bool.{false≢true}
 use denote.Ref.{Bor}
@@ -10,14 +10,19 @@ use Rattle.sw_rows.specs.declared.query.Want.TheVariants as want
 use Rattle.sw_rows.specs.declared.reply.Reply.{Reply}
 use Rattle.sw_rows.specs.declared.reply.Reply.TheVariants as reply
 use Rattle.sw_rows.specs.declared.reply.ReplyRow.{ReplyRow}
+use Rattle.sw_rows.specs.declared.query.Query.{Query}
 use Rattle.sw_spine.specs.Table.{reply_to}
-use Rattle.sw_solo.specs.Called.{HasCalled, SoloState}
-use Rattle.sw_arrays.specs.Asked.{◌>>=◌, conds_after, names_in}
+use Rattle.sw_spine.specs.History.{updates_of}
+use Rattle.sw_solo.specs.Called.{HasCalled, SoloState, reply_in}
+use Rattle.sw_arrays.specs.Asked.{◌>>=◌, Answers, conds_after, names_in, query_in}
+use Rattle.sw_arrays.specs.declared.asked.Wanted.TheVariants as wanted
 use Rattle.sw_arrays.specs.declared.range.Fault.{Fault}
+use Rattle.sw_arrays.specs.declared.range.Fault.TheVariants.{NoMemory, NoAttribute, BadCondition, BadCell}
 use Rattle.sw_arrays.specs.declared.range.Range.{Range}
 use Rattle.sideways_c.specs.Asks.{AskedBy, AskedOn, IsRows, IsTold}
 use Rattle.sideways_c.specs.Handles.{shown}
-use Rattle.sideways_c.specs.Selects.{SelectsBy, SelectsIn, TellsSelect, kept_rows, select_of}
+use Rattle.sideways_c.specs.Codes.{fault_code}
+use Rattle.sideways_c.specs.Selects.{Sees, SeesIn, SeesOf, SelectsBy, SelectsIn, TellsSelect, TellsView, kept_rows, select_of}
 use Rattle.sideways_c.specs.Shown.{Shown, has_session}
 use Rattle.sideways_c.specs.declared.inner.Inner.{Inner}
 use Rattle.sideways_c.specs.declared.codes.TheConstants.{MISUSE, NO_SESSION}
@@ -82,3 +87,30 @@ none_shown (Some i) h = absurd (false≢true (sym h))
 
 pub closed_select : (session : ℕ) (names : Bor (List ℕ)) (ranges : Bor (List Range)) (o : Option Shown) (was : ℕ) → o ≡ None → TellsSelect session names ranges o o MISUSE was was
 closed_select session names ranges o was e = subst (λ (x : Option Shown). TellsSelect session names ranges x x MISUSE was was) (sym e) (Err MISUSE, (refl, refl), (refl, refl))
+
+-- ---- views
+
+-- the reply to a query for rows has rows
+pub sees_rows : (names : Bor (List ℕ)) (ranges : Bor (List Range)) (s : SoloState) (q : Query) (r : Reply) → query_in s.history.columns (wanted.Rows names) ranges.now ≡ Ok q → r ≡ reply_in s (call.Select q) → IsRows r
+sees_rows names ranges s q r asked is =
+    subst IsRows (sym is) (rows_hold names ranges s.history.columns s.history.limit (updates_of s.history) (call.Select q) (ap (λ (x : Result Query Fault). x >>= λ y. Ok (call.Select y)) asked))
+
+-- numbers that are no query
+pub not_seen : (names : Bor (List ℕ)) (ranges : Bor (List Range)) (s : SoloState) (f : Fault) (code : ℕ) → Answers (λ (x : Query). x) (Err f) (query_in s.history.columns (wanted.Rows names) ranges.now) → code ≡ fault_code f
+    → Sees names ranges s (Err code)
+not_seen names ranges s NoMemory code h is = inl is
+not_seen names ranges s NoAttribute code h is = inr (NoAttribute, h, is)
+not_seen names ranges s BadCondition code h is = inr (BadCondition, h, is)
+not_seen names ranges s BadCell code h is = inr (BadCell, h, is)
+
+pub view_kept : (names : Bor (List ℕ)) (ranges : Bor (List Range)) (s : SoloState) (old new : Shown) (rows : List ReplyRow) (many : ℕ) → old.engine ≡ Some s → Sees names ranges s (Ok rows) → many ≡ length rows
+    → new ≡ record old { kept = Some (kept_rows rows (length names.now)) } → SeesIn names ranges old new (Ok many)
+view_kept names ranges s old new rows many e m count is =
+    subst (λ (o : Option SoloState). MatchOption o (IsTold {A = ℕ} MISUSE old new (Ok many)) (λ x. SeesOf names ranges x old new (Ok many))) (sym e) (rows, m, count, is)
+
+pub view_refused : (names : Bor (List ℕ)) (ranges : Bor (List Range)) (s : SoloState) (old new : Shown) (code : ℕ) → old.engine ≡ Some s → Sees names ranges s (Err code) → new ≡ old → SeesIn names ranges old new (Err code)
+view_refused names ranges s old new code e m is =
+    subst (λ (o : Option SoloState). MatchOption o (IsTold {A = ℕ} MISUSE old new (Err code)) (λ x. SeesOf names ranges x old new (Err code))) (sym e) (m, is)
+
+pub closed_view : (names : Bor (List ℕ)) (ranges : Bor (List Range)) (o : Option Shown) (was : ℕ) → o ≡ None → TellsView names ranges o o MISUSE was was
+closed_view names ranges o was e = subst (λ (x : Option Shown). TellsView names ranges x x MISUSE was was) (sym e) (Err MISUSE, (refl, refl), (refl, refl))

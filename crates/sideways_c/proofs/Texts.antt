@@ -7,7 +7,8 @@ use Rattle.sw_rows.specs.Texts.{code_of}
 use Rattle.sw_rows.specs.declared.refusal.Refusal.TheVariants.{BadLine}
 use Rattle.sw_rows.specs.declared.refusal.Why.TheVariants as why
 use Rattle.sw_lang.specs.CutsReading.{cuts_at}
-use Rattle.sw_lang.specs.Reading.{line_at, refused, refused_over_known}
+use Rattle.sw_lang.specs.Learning.{learned}
+use Rattle.sw_lang.specs.Reading.{line_at, refused}
 use Rattle.sideways_c.specs.Executed.{call_in}
 use Rattle.sideways_c.specs.Looks.{code_known, or_zero}
 use Rattle.sideways_c.specs.Opened.{cuts_in}
@@ -16,7 +17,7 @@ not_utf8 : (line : List ℕ) (b : Bool) → is_utf8 line ≡ b → ¬ (IsUtf8 li
 not_utf8 line true e h = absurd (h (IsUtf8-from_is_utf8 line e))
 not_utf8 line false e h = e
 
-pub text_call : (columns : List Column) (line : List ℕ) → IsUtf8 line → call_in columns line ≡ refused_over_known 1 (line_at columns line)
+pub text_call : (columns : List Column) (line : List ℕ) → IsUtf8 line → call_in columns line ≡ refused 1 (line_at (learned columns line) line)
 text_call columns line text = rw (is_utf8-from_IsUtf8 line text) refl
 
 pub other_call : (columns : List Column) (line : List ℕ) → ¬ (IsUtf8 line) → call_in columns line ≡ Err (BadLine 1 why.Encoding)

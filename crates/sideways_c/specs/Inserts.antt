@@ -1,5 +1,5 @@
 -- Rows that are inserted one after another.
-use Rattle.std.specs.Prelude.{ℕ, zero, suc, ◌≡◌, ◌≤◌, ◌<◌, ◌⊎◌, Bool, true, false, List, [], ◌∷◌, ◌++◌, drop, length, Option, None, Some}
+use Rattle.std.specs.Prelude.{ℕ, zero, suc, ◌≡◌, ◌<◌, ◌⊎◌, Bool, true, false, List, [], ◌∷◌, ◌++◌, drop, length, Option, None, Some}
 use Rattle.sw_rows.specs.declared.reply.Reply.{Reply}
 use Rattle.sw_rows.specs.declared.reply.Reply.TheVariants as reply
 use Rattle.sw_rows.specs.declared.refusal.Refusal.{Refusal}

@@ -4,6 +4,7 @@ pub mod Codes
 pub mod Executed
 pub mod Handles
 pub mod Inserts
+pub mod Learns
 pub mod Looks
 pub mod Opened
 pub mod Places

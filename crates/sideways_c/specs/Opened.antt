@@ -1,5 +1,6 @@
 -- Engines that are opened and ended.
 use Rattle.std.specs.Prelude.{ℕ, ◌≡◌, ◌≤◌, ◌<◌, ◌+◌, ◌==◌, ◌&&◌, ◌⊎◌, if◌then◌else◌, Bool, true, false, nat_le, nat_lt, List, Option, None, Some, Result, Ok, Err}
+use Rattle.std.specs.Global.{Vec}
 use Rattle.std.specs.Str.{is_utf8}
 use Rattle.sw_rows.specs.Faults.{Fault}
 use Rattle.sw_rows.specs.Gives.{Fails}
@@ -92,6 +93,25 @@ EnrolsHandle old new code = OnHandle EnrolsIn old new code
 abbrev pub number_told : Option SoloState → ℕ → ℕ
 number_told None code = 0
 number_told (Some s) code = if code == OK then s.sessions + 1 else 0
+
+-- ---- the history
+
+-- the bytes of the history so far, which is legal; or there was no memory for them
+abbrev pub SpellsHistory : SoloState → Result (Vec ℕ) ℕ → Type 0
+SpellsHistory s (Ok text) = (text.items ≡ record_text s.history) × IsLegal s.history
+SpellsHistory s (Err code) = code ≡ code_of NoMemory
+
+-- the text is these bytes
+abbrev pub TellsHistory : SoloState → Shown → Shown → ℕ → Type 0
+TellsHistory s old new code =
+    ((code ≡ OK) × (new ≡ record old { text = record_text s.history }) × IsLegal s.history)
+    ⊎ ((code ≡ code_of NoMemory) × (new ≡ old))
+
+abbrev pub KeepsHistoryIn : Shown → Shown → ℕ → Type 0
+KeepsHistoryIn old new code = OnEngine TellsHistory old new code
+
+abbrev pub KeepsHistory : Option Shown → Option Shown → ℕ → Type 0
+KeepsHistory old new code = OnHandle KeepsHistoryIn old new code
 
 -- ---- the end
 

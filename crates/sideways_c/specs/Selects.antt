@@ -1,17 +1,22 @@
 -- Selects whose rows are kept.
-use Rattle.std.specs.Prelude.{ℕ, ℤ, ◌≡◌, Bool, true, false, List, drop, length, nat_le, Option, None, Some, MatchOption, Result, Ok, Err}
+use Rattle.std.specs.Prelude.{ℕ, ℤ, ◌≡◌, ◌⊎◌, Bool, true, false, List, drop, length, nat_le, Option, None, Some, MatchOption, Result, Ok, Err}
 use denote.Ref.{Bor}
 use Rattle.sw_rows.specs.declared.query.Call.{Call}
+use Rattle.sw_rows.specs.declared.query.Call.TheVariants as call
+use Rattle.sw_rows.specs.declared.query.Query.{Query}
+use Rattle.sw_rows.specs.declared.refusal.Refusal.TheVariants.{NoMemory}
 use Rattle.sw_rows.specs.declared.reply.Reply.TheVariants as reply
 use Rattle.sw_rows.specs.declared.reply.ReplyRow.{ReplyRow}
-use Rattle.sw_arrays.specs.Asked.{call_asked}
+use Rattle.sw_arrays.specs.Asked.{call_asked, query_in}
 use Rattle.sw_arrays.specs.Blocks.{column_in, filled, keys_in, many_in}
 use Rattle.sw_arrays.specs.declared.asked.Asked.{Asked}
 use Rattle.sw_arrays.specs.declared.asked.Asked.TheVariants as asked
 use Rattle.sw_arrays.specs.declared.asked.Wanted.TheVariants as wanted
+use Rattle.sw_arrays.specs.declared.range.Fault.{Fault}
 use Rattle.sw_arrays.specs.declared.range.Range.{Range}
-use Rattle.sw_solo.specs.Called.{HasCalled, SoloState}
+use Rattle.sw_solo.specs.Called.{HasCalled, SoloState, reply_in}
 use Rattle.sideways_c.specs.Asks.{IsNotMade, IsTold}
+use Rattle.sideways_c.specs.Codes.{code_of, fault_code}
 use Rattle.sideways_c.specs.Shown.{Shown, has_session}
 use Rattle.sideways_c.specs.declared.codes.TheConstants.{MISUSE, NO_ATTRIBUTE, NO_ROWS, NO_SESSION, OK}
 use Rattle.sideways_c.specs.declared.kept.Kept.{Kept}
@@ -51,6 +56,36 @@ IsManyTold (Err told) code was rows = (code ≡ told) × (rows ≡ was)
 abbrev pub TellsSelect : ℕ → Bor (List ℕ) → Bor (List Range) → Option Shown → Option Shown → ℕ → ℕ → ℕ → Type 0
 TellsSelect session names ranges old new code was rows =
     (r : Result ℕ ℕ) × SelectsOver session names ranges old new r × IsManyTold r code was rows
+
+-- ---- views
+
+-- the rows that the plain table replies to a query with at the history's end; or the numbers are none, or there was no memory
+abbrev pub Sees : Bor (List ℕ) → Bor (List Range) → SoloState → Result (List ReplyRow) ℕ → Type 0
+Sees names ranges s (Ok rows) =
+    (q : Query) × (query_in s.history.columns (wanted.Rows names) ranges.now ≡ Ok q)
+    × (reply_in s (call.Select q) ≡ reply.Rows rows)
+Sees names ranges s (Err told) =
+    (told ≡ code_of NoMemory)
+    ⊎ ((f : Fault) × (query_in s.history.columns (wanted.Rows names) ranges.now ≡ Err f) × (told ≡ fault_code f))
+
+-- they are kept, and nothing else has changed
+abbrev pub SeesOf : Bor (List ℕ) → Bor (List Range) → SoloState → Shown → Shown → Result ℕ ℕ → Type 0
+SeesOf names ranges s old new (Ok many) =
+    (rows : List ReplyRow) × Sees names ranges s (Ok rows) × (many ≡ length rows)
+    × (new ≡ record old { kept = Some (kept_rows rows (length names.now)) })
+SeesOf names ranges s old new (Err code) = Sees names ranges s (Err code) × (new ≡ old)
+
+abbrev pub SeesIn : Bor (List ℕ) → Bor (List Range) → Shown → Shown → Result ℕ ℕ → Type 0
+SeesIn names ranges old new r = MatchOption old.engine (IsTold MISUSE old new r) (λ s. SeesOf names ranges s old new r)
+
+abbrev pub SeesOver : Bor (List ℕ) → Bor (List Range) → Option Shown → Option Shown → Result ℕ ℕ → Type 0
+SeesOver names ranges None new r = (r ≡ Err MISUSE) × (new ≡ None)
+SeesOver names ranges (Some old) None r = ⊥
+SeesOver names ranges (Some old) (Some new) r = SeesIn names ranges old new r
+
+abbrev pub TellsView : Bor (List ℕ) → Bor (List Range) → Option Shown → Option Shown → ℕ → ℕ → ℕ → Type 0
+TellsView names ranges old new code was rows =
+    (r : Result ℕ ℕ) × SeesOver names ranges old new r × IsManyTold r code was rows
 
 -- ---- blocks
 

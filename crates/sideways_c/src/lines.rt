@@ -1,31 +1,34 @@
 //! Lines that are executed, and the text that was kept last.
 
-ghost use Rattle.std.specs.Prelude.{◌≡◌, ◌<◌, ◌≤◌, drop, length, true, IfOk, IfSome, Some, min};
+ghost use Rattle.std.specs.Prelude.{◌≡◌, ◌<◌, ◌≤◌, drop, length, true, IfOk, IfSome, OnErr, OnOk, Some, min};
 ghost use Rattle.sw_arrays.specs.Blocks.{filled, many_in};
 ghost use Rattle.sw_lang.specs.Reading.{Answers};
 ghost use Rattle.sw_lang.specs.Replies.{reply_bytes};
 ghost use Rattle.sw_spine.specs.History.{CallsBelow};
-ghost use Rattle.sideways_c.specs.Executed.{Executes, ExecutesIn, ExecutesLine, call_in};
+ghost use Rattle.sideways_c.specs.Executed.{Executes, ExecutesIn, ExecutesLine, FaultsHandle, FaultsIn, IsLineRefusal, call_in, learning};
 ghost use Rattle.sideways_c.specs.Handles.{HasExchangedText, seen, text_in};
 
 use crate::codes::{MISUSE, NO_SESSION, NO_TEXT, OK, code_of};
 use crate::handle::{kept, taken};
 use crate::holder::Sideways;
 use crate::state::{State, has_session};
+use crate::words::words_of;
 use core::mem::{replace, replace_with};
 use std::alloc::Global;
-use sw_lang::{parse_known, write_reply};
+use sw_lang::write_reply;
 use sw_map::PairMap;
 use sw_rows::{Call, Counted, Refusal, Reply, Schema, Why};
 use sw_solo::Solo;
 
-/// The call of a line, over the texts that the schema knows.
-fn call_of_line(alloc: Global, schema: &Schema, line: &[u8]) -> Result<Option<Call>, Refusal>
-    ensures spelled { Answers result (call_in schema.now line.now) }
-    ensures below { IfOk result (λ call. IfSome call (CallsBelow (length schema.now))) }
+/// The call of a line, whose texts become known. Refused, nothing has changed.
+pub(crate) fn read(solo: &mut Solo<PairMap>, line: &[u8]) -> Result<Option<Call>, Refusal>
+    ensures spelled { Answers result (call_in solo.old.history.columns line.now) }
+    ensures below { IfOk result (λ call. IfSome call (CallsBelow (length solo.old.history.columns))) }
+    ensures learned { OnOk result (solo.new ≡ learning line.now solo.old) }
+    ensures unchanged { OnErr result (solo.new ≡ solo.old) }
 {
     match std::str::from_utf8(line) {
-        Ok(text) => parse_known(alloc, schema, 1, text),
+        Ok(text) => solo.read_line(1, text),
         Err(_) => {
             let why = Why::Encoding;
             Err(Refusal::BadLine { line: 1, why })
@@ -46,6 +49,7 @@ fn told(alloc: Global, schema: &Schema, call: &Call, reply: &Reply) -> Option<Ve
 
 /// Executes a line as a session's, and answers the text of its reply; None where the call was made and there was no memory
 /// for its text. Refused, nothing has changed.
+#[tactic(auto, using(crate::proofs::Executing::forgets, crate::proofs::Executing::refused_same))]
 fn execute(
     alloc: Global,
     solo: &mut Solo<PairMap>,
@@ -54,16 +58,43 @@ fn execute(
 ) -> Result<Option<Vec<u8>>, Refusal>
     requires some { 0 < session }
     requires opened { session ≤ solo.old.sessions }
-    ensures { Executes session (call_in solo.old.history.columns line.now) solo.old solo.new result }
+    ensures { Executes session line.now (call_in solo.old.history.columns line.now) solo.old solo.new result }
 {
-    let call = match call_of_line(alloc, solo.schema(), line) {
+    // for the prover: the table has attributes
+    let _columns = solo.schema().len();
+    let texts = solo.schema().texts_known();
+    let call = match read(solo, line) {
         Ok(Some(call)) => call,
-        Ok(None) => return Ok(Some(Vec::new(alloc))),
+        Ok(None) => {
+            solo.forget_texts(texts);
+            return Ok(Some(Vec::new(alloc)));
+        }
         Err(e) => return Err(e),
     };
     match solo.call(session, &call) {
         Ok(reply) => Ok(told(alloc, solo.schema(), &call, &reply)),
-        Err(e) => Err(e),
+        Err(e) => {
+            solo.forget_texts(texts);
+            Err(e)
+        }
+    }
+}
+
+/// Why a line is refused, if it is. Nothing changes.
+#[tactic(auto, using(crate::proofs::Executing::forgets))]
+fn refusal_of(solo: &mut Solo<PairMap>, line: &[u8]) -> Option<Refusal>
+    ensures same { solo.new ≡ solo.old }
+    ensures why { IsLineRefusal (call_in solo.old.history.columns line.now) result }
+{
+    // for the prover: the table has attributes
+    let _columns = solo.schema().len();
+    let known = solo.schema().texts_known();
+    match read(solo, line) {
+        Ok(_) => {
+            solo.forget_texts(known);
+            None
+        }
+        Err(e) => Some(e),
     }
 }
 
@@ -119,6 +150,50 @@ pub extern "C" fn sideways_exec(h: &mut Sideways, session: u64, line: &[u8]) -> 
         bytes: line,
     };
     replace_with(h, asked, executed)
+}
+
+/// Tells whether a line is refused, and keeps words about that.
+fn tell_fault(state: &mut State, line: &[u8]) -> u32
+    ensures { FaultsIn line.now state.old state.new result }
+{
+    let State { solo, text, .. } = state;
+    let Some(solo) = solo else {
+        return MISUSE;
+    };
+    let alloc = *text.allocator();
+    match refusal_of(solo, line) {
+        None => {
+            *text = Vec::new(alloc);
+            OK
+        }
+        Some(e) => match words_of(alloc, solo.schema(), line) {
+            Ok(words) => {
+                *text = words;
+                code_of(&e)
+            }
+            Err(e) => code_of(&e),
+        },
+    }
+}
+
+fn fault_told<'a>(h: Sideways, line: &'a [u8]) -> (Sideways, u32)
+    requires { h.is_open ≡ true }
+    ensures { FaultsHandle line.now (seen h) (seen result.0) result.1 }
+{
+    let mut inner = taken(h);
+    let code = tell_fault(&mut inner.state, line);
+    (kept(inner), code)
+}
+
+/// Tells why a line would be refused. The text is words about that: where in the line, and what could stand there.
+#[unsafe(no_mangle)]
+pub extern "C" fn sideways_line_fault(h: &mut Sideways, line: &[u8]) -> u32
+    ensures { FaultsHandle line.now (seen h.old) (seen h.new) result }
+{
+    if !h.is_open {
+        return MISUSE;
+    }
+    replace_with(h, line, fault_told)
 }
 
 fn measured(h: Sideways, _none: ()) -> (Sideways, usize)

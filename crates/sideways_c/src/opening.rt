@@ -9,7 +9,7 @@ ghost use Rattle.sw_spine.specs.Table.{is_numbered};
 ghost use Rattle.sw_histories.specs.RecordText.{record_text};
 ghost use Rattle.sw_arrays.specs.Columns.{table_in};
 ghost use Rattle.sideways_c.specs.Handles.{engine_in, seen};
-ghost use Rattle.sideways_c.specs.Opened.{AreSound, ClosesHandle, ClosesIn, EnrolsHandle, EnrolsIn, IsHandleOr, IsOpening, OpensHandle, are_sound, cuts_in, number_told};
+ghost use Rattle.sideways_c.specs.Opened.{AreSound, ClosesHandle, ClosesIn, EnrolsHandle, EnrolsIn, IsHandleOr, IsOpening, KeepsHistory, KeepsHistoryIn, OpensHandle, SpellsHistory, are_sound, cuts_in, number_told};
 
 use crate::boxes::supply;
 use crate::codes::{BAD_OPTIONS, MISUSE, OK, code_of};
@@ -19,12 +19,12 @@ use crate::state::State;
 use core::mem::replace_with;
 use std::alloc::Global;
 use sw_arrays::{Given, table_in};
-use sw_histories::write_record;
+use sw_histories::write_record_ref;
 use sw_lang::{Cuts, parse_cuts};
 use sw_map::PairMap;
 use sw_rows::{Counted, MOST_ROWS, PackedRows, Refusal, Schema, TextKey, Why, load};
 use sw_solo::Solo;
-use sw_spine::Record;
+use sw_spine::RecordRef;
 
 /// How many cells the maps of an engine have together at most.
 const MOST_CELLS: u64 = 1_099_511_627_776;
@@ -237,15 +237,63 @@ pub extern "C" fn sideways_session(h: &mut Sideways, number: &mut u64) -> u32
 }
 
 /// The bytes of a history file. The one refusal is `NoMemory`.
-fn spelled(alloc: Global, history: &Record) -> Result<Vec<u8>, Refusal>
+fn spelled(alloc: Global, history: &RecordRef<'_>) -> Result<Vec<u8>, Refusal>
     ensures text { IfOk result (λ text. text.items ≡ record_text history.now) }
     ensures refused { IsOkUnless result NoMemory }
 {
     let mut out = Counted::new(Vec::new(alloc));
-    match write_record(alloc, history, &mut out) {
+    match write_record_ref(alloc, history, &mut out) {
         Ok(()) => Ok(out.inner),
         Err(_) => Err(Refusal::NoMemory),
     }
+}
+
+/// The bytes of the history so far, or a code.
+fn history_of(alloc: Global, solo: &Solo<PairMap>) -> Result<Vec<u8>, u32>
+    ensures { SpellsHistory solo.now result }
+{
+    match spelled(alloc, &solo.history()) {
+        Ok(text) => Ok(text),
+        Err(e) => Err(code_of(&e)),
+    }
+}
+
+/// Keeps these bytes.
+#[tactic(auto, using(crate::proofs::Opens::history_told, crate::proofs::Opens::history_untold))]
+fn keep_history(state: &mut State) -> u32
+    ensures { KeepsHistoryIn state.old state.new result }
+{
+    let alloc = *state.text.allocator();
+    let Some(solo) = &state.solo else {
+        return MISUSE;
+    };
+    match history_of(alloc, solo) {
+        Ok(bytes) => {
+            state.text = bytes;
+            OK
+        }
+        Err(code) => code,
+    }
+}
+
+fn history_kept(h: Sideways, _none: ()) -> (Sideways, u32)
+    requires { h.is_open ≡ true }
+    ensures { KeepsHistory (seen h) (seen result.0) result.1 }
+{
+    let mut inner = taken(h);
+    let code = keep_history(&mut inner.state);
+    (kept(inner), code)
+}
+
+/// Keeps the bytes of the history so far as the text. The engine goes on.
+#[unsafe(no_mangle)]
+pub extern "C" fn sideways_history(h: &mut Sideways) -> u32
+    ensures { KeepsHistory (seen h.old) (seen h.new) result }
+{
+    if !h.is_open {
+        return MISUSE;
+    }
+    replace_with(h, (), history_kept)
 }
 
 /// Ends the engine, and keeps the bytes of its history.
@@ -257,7 +305,7 @@ fn end(state: &mut State) -> u32
     };
     let alloc = *state.text.allocator();
     state.kept = None;
-    match spelled(alloc, &solo.close()) {
+    match spelled(alloc, &solo.close().by_ref()) {
         Ok(text) => {
             state.text = text;
             OK

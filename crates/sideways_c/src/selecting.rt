@@ -2,18 +2,21 @@
 
 ghost use Rattle.std.specs.Prelude.{◌≡◌, true};
 ghost use Rattle.sideways_c.specs.Handles.{HasExchangedRows, seen};
-ghost use Rattle.sideways_c.specs.Selects.{CopiesColumn, CopiesColumnOf, CopiesKeys, SelectsIn, SelectsOver, TellsSelect};
+ghost use Rattle.sideways_c.specs.Selects.{CopiesColumn, CopiesColumnOf, CopiesKeys, Sees, SeesIn, SeesOver, SelectsIn, SelectsOver, TellsSelect, TellsView};
 ghost use Rattle.sideways_c.specs.Asks.{IsRows};
 
 use crate::asking::{Request, make};
-use crate::codes::{MISUSE, NO_ATTRIBUTE, NO_ROWS, OK};
+use crate::codes::{MISUSE, NO_ATTRIBUTE, NO_ROWS, OK, code_of, fault_code};
 use crate::handle::{kept, taken};
 use crate::holder::Sideways;
 use crate::kept::Kept;
 use crate::state::State;
 use core::mem::{replace, replace_with};
-use sw_arrays::{Asked, Range, Wanted, cells_into, keys_into};
+use std::alloc::Global;
+use sw_arrays::{Asked, Range, Wanted, cells_into, keys_into, query_of};
+use sw_map::PairMap;
 use sw_rows::{Reply, ReplyRows};
+use sw_solo::Solo;
 
 /// A select of a session.
 #[derive(Clone, Copy)]
@@ -85,6 +88,81 @@ pub extern "C" fn sideways_select(
         ranges,
     };
     match replace_with(h, asked, selected) {
+        Ok(many) => {
+            *rows = many as u64;
+            OK
+        }
+        Err(code) => code,
+    }
+}
+
+/// A query for rows of the plain table.
+#[derive(Clone, Copy)]
+struct View<'a> {
+    attributes: &'a [u64],
+    ranges: &'a [Range],
+}
+
+/// The rows that the plain table has and that meet the conditions, or a code.
+#[tactic(auto, using(crate::proofs::Selected::sees_rows, crate::proofs::Selected::not_seen))]
+fn rows_seen(alloc: Global, solo: &Solo<PairMap>, view: View<'_>) -> Result<ReplyRows, u32>
+    ensures { Sees view.entry.attributes view.entry.ranges solo.now result }
+{
+    let wanted = Wanted::Rows(view.attributes);
+    let query = match query_of(alloc, solo.schema(), wanted, view.ranges) {
+        Ok(query) => query,
+        Err(fault) => return Err(fault_code(fault)),
+    };
+    match solo.look(&query) {
+        Ok(reply) => Ok(rows_in(reply)),
+        Err(e) => Err(code_of(&e)),
+    }
+}
+
+/// Keeps these rows: how many there are, or a code.
+#[tactic(auto, using(crate::proofs::Selected::view_kept, crate::proofs::Selected::view_refused))]
+fn keep_view(state: &mut State, view: View<'_>) -> Result<usize, u32>
+    ensures { SeesIn view.entry.attributes view.entry.ranges state.old state.new result }
+{
+    let alloc = *state.text.allocator();
+    let Some(solo) = &state.solo else {
+        return Err(MISUSE);
+    };
+    match rows_seen(alloc, solo, view) {
+        Ok(rows) => {
+            let many = rows.len();
+            let columns = view.attributes.len();
+            state.kept = Some(Kept { rows, columns });
+            Ok(many)
+        }
+        Err(code) => Err(code),
+    }
+}
+
+fn viewed<'a>(h: Sideways, view: View<'a>) -> (Sideways, Result<usize, u32>)
+    requires { h.is_open ≡ true }
+    ensures { SeesOver view.entry.attributes view.entry.ranges (seen h) (seen result.0) result.1 }
+{
+    let mut inner = taken(h);
+    let told = keep_view(&mut inner.state, view);
+    (kept(inner), told)
+}
+
+/// Keeps attributes of the rows that the plain table has and that meet the conditions, and tells how many there are. It is
+/// no call: the history stays as it is, and no head is asked.
+#[unsafe(no_mangle)]
+pub extern "C" fn sideways_view(
+    h: &mut Sideways,
+    attributes: &[u64],
+    ranges: &[Range],
+    rows: &mut u64,
+) -> u32
+    ensures { TellsView attributes.entry ranges.entry (seen h.old) (seen h.new) result rows.old rows.new }
+{
+    if !h.is_open {
+        return MISUSE;
+    }
+    match replace_with(h, View { attributes, ranges }, viewed) {
         Ok(many) => {
             *rows = many as u64;
             OK

@@ -1,4 +1,4 @@
-use Rattle.std.proofs.Common.{rules, ◌≡◌, ◌∙◌, Ok, Err, refl}
+use Rattle.std.proofs.Common.{◌≡◌, ◌∙◌, Ok, Err, refl}
 use Rattle.sw_rows.specs.Tables.{shown_packed}
 use Rattle.sw_lang.specs.Cuts.{CutLists}
 use Rattle.sw_lang.specs.Reading.{Answers}

@@ -1,6 +1,6 @@
 -- `of` takes the box apart.
 use Rattle.std.proofs.Common.{◌≡◌, List, [], ◌∷◌, ◌++◌, refl, sym, ap, ◌∙◌, subst, Some}
-use mir.Syntax.{Ty, a_type, dcons, dnil, impl, tcons, tnil, ty_struct, ty_ptr, ty_unit}
+use mir.Syntax.{Ty, dnil, impl, tcons, tnil, ty_struct, ty_ptr, ty_unit}
 use mir.Syntax as Syntax
 use mathlib.Core.Path as Path'
 use mir.Raw.{raw as bare}
