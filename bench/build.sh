@@ -1,6 +1,6 @@
 #!/usr/bin/env bash
 # Tells whether the drivers below this folder that have a program of their own still stand on the crates as they are: reads the types and
-# clauses of each, over the libraries that `rt ci` left in this tree, which it links, and proves nothing. Some minutes; the gate runs it.
+# clauses of each, over the libraries that `rt ci` left in this tree, which it links, and proves nothing. Some minutes.
 #
 #     bench/build.sh
 #

@@ -60,7 +60,7 @@ bring() {
 # Reads the driver's types and clauses over the libraries that the gate left, proves nothing, and ends the script.
 stands() {
   (cd "$work" && python3 "$top/bench/stamps.py" "$(dirname "$(rt doc)")") || exit 1
-  (cd "$work/crates/$1" && rt check --only '' > "$work/build.log" 2>&1) || { tail -n 20 "$work/build.log"; exit 1; }
+  (cd "$work/crates/$1" && rt check --jobs 1 --only '' > "$work/build.log" 2>&1) || { tail -n 20 "$work/build.log"; exit 1; }
   echo "$1 stands"
   exit 0
 }

@@ -103,6 +103,10 @@ if [ -n "$python" ]; then
     fi
     export PYTHONPATH="$work/python"
     quietly "$python" "$tests/tables.py"
+    echo 'unsigned sideways_version(void); unsigned sideways_version(void) { return 2; }' >"$work/old.c"
+    quietly "$cc" -shared -fPIC "$work/old.c" -o "$work/old.so"
+    SIDEWAYS_LIBRARY="$work/old.so" "$python" -c 'import sideways' 2>"$work/told" && wrong "a library of another version is taken"
+    grep -q '^ImportError: .* has version 2, wanted ' "$work/told" || wrong "a library of another version is not told: $(cat "$work/told")"
     quietly "$python" "$lib/examples/curve.py" "$top/tests/embed/ages.csv" age
     [ "$(grep -c '<polyline points="[0-9]' "$work/told")" = 2 ] || wrong "another picture"
 else

@@ -1,6 +1,7 @@
 #!/usr/bin/env python3
 """What is left after each end of the program: a history file is the old one or the new one, a history is never written over
-another file of its run, a limit of file sizes is a refusal, small stacks end nothing, and an answer that is not proved says so.
+another file of its run, a limit of file sizes is a refusal, small stacks end nothing, lines go out as calls are answered, and an answer that is
+not proved says so.
 
     tests/ends.py [--program PATH]
 
@@ -17,7 +18,7 @@ OLD = b"what stood there"
 VALUES = b"name,n\n%s,2\nb,3\n" % (b"long" * 20)
 LOG = b"session,start,end,call,reply\n1,0,1,count,4\n"
 NO_OUTPUT = b"sideways: refused 13\n"
-KILLS, MEMORIES = 150, 40
+KILLS, MEMORIES, EARLY_CALLS = 150, 40, 10_000
 
 
 def unwritten(name, why="it cannot be written"):
@@ -317,6 +318,35 @@ class Ends:
             self.held("%s with stacks of %d KiB" % (words[4], soft >> 10), wanted, got)
         self.held("both were answered", [0, 0], [got[0] for got in expected.values()])
 
+    # Lines that go out as calls are answered
+
+    def spent(self, words, lines):
+        """The status, what was told, the processor's seconds and the most KiB of memory of a run whose reader takes so many lines, or all."""
+        child = subprocess.Popen([self.program] + words, cwd=self.folder, stdout=subprocess.PIPE, stderr=subprocess.PIPE)
+        for line in child.stdout:
+            lines -= 1
+            if lines == 0:
+                break
+        child.stdout.close()
+        told = child.stderr.read()
+        _, status, used = os.wait4(child.pid, 0)
+        child.returncode = os.waitstatus_to_exitcode(status)
+        return child.returncode, told, used.ru_utime + used.ru_stime, used.ru_maxrss
+
+    def early_lines(self):
+        """A reader that takes one line ends a run long before its last call; and a run in turn keeps no second copy of its replies."""
+        self.put("rows.csv", b"a,b\n" + b"".join(b"%d,%d\n" % (at, at % 7) for at in range(100)))
+        self.put("rows.txt", b"select a, b where a >= 0\n" * EARLY_CALLS)
+        words = ["run", "--table", "rows.csv", "--script", "rows.txt"]
+        whole, first, threads = self.spent(words, 0), self.spent(words, 1), self.spent(words + ["--threads"], 0)
+        self.held("all lines", [(0, b"")] * 2, [whole[:2], threads[:2]])
+        self.held("one line", (3, NO_OUTPUT + b"standard output: its reader is gone\n"), first[:2])
+        self.held("the time until one line is taken, beside that of all", True, first[2] < whole[2] * 0.8)
+        self.held("the memory until one line is taken, beside that of all", True, first[3] < whole[3] * 0.9)
+        self.held("the memory in turn, beside that with threads", True, whole[3] < threads[3] * 0.95)
+        print("  one line: %.2f of %.2f s, %d of %d MiB; with threads %d MiB"
+              % (first[2], whole[2], first[3] >> 10, whole[3] >> 10, threads[3] >> 10))
+
     # An answer that is not proved
 
     def unproved(self):
@@ -378,7 +408,7 @@ def main():
     with tempfile.TemporaryDirectory() as folder:
         ends = Ends(program, folder)
         for what in (ends.killed_runs, ends.wanting_memory, ends.full_disks, ends.other_writers, ends.in_place_of, ends.may_not_write,
-                     ends.other_files, ends.other_lists, ends.size_limits, ends.small_stacks, ends.unproved):
+                     ends.other_files, ends.other_lists, ends.size_limits, ends.small_stacks, ends.early_lines, ends.unproved):
             before = ends.cases
             try:
                 what()

@@ -426,7 +426,14 @@ class Cases:
             (self.folder / "odd.csv").write_bytes(log if isinstance(log, bytes) else log.encode())
             self.case("a log with %s" % name, ["order", "--table", "t.csv", "odd.csv"], 2, "", "odd.csv %s\n" % told)
         self.case("a log that is not there", ["order", "--table", "t.csv", "none.csv"], 2, "", "none.csv: cannot be read\n")
-        self.case("a table that is not there", ["order", "--table", "none.csv", "odd.csv"], 2, "", "sideways: refused 12\n")
+        self.case("a table that is not there", ["order", "--table", "none.csv", "odd.csv"], 2, "",
+                  "sideways: refused 12\nnone.csv: there is no such file\n")
+        self.case("a table that is a folder", ["order", "--table", "folder", "odd.csv"], 2, "",
+                  "sideways: refused 12\nfolder: a folder, wanted a file\n")
+        self.case("a history that is not there", ["check", "none.json"], 2, "", "sideways: refused 12\nnone.json: there is no such file\n")
+        self.case("a history that is a folder", ["check", "folder"], 2, "", "sideways: refused 12\nfolder: a folder, wanted a file\n")
+        self.case("a history from logs that are told nowhere", ["check", "--explain", "--from-logs", "none.csv", "t.csv"], 2, "",
+                  "sideways: refused 12\nnone.csv: there is no such file\n")
 
     # Help
 

@@ -2,7 +2,8 @@
 
        columns ROWS ROUNDS
 
-   Prints the medians in nanoseconds, by the clock: of a copy into fresh memory, and of sideways_open_columns. */
+   Prints the medians in nanoseconds, by the clock: of a copy into memory of malloc, which has it from the round before save in the
+   first, and of sideways_open_columns, which has its own in the same way. */
 #include "sideways.h"
 #include <stdio.h>
 #include <stdlib.h>

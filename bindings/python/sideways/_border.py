@@ -123,8 +123,11 @@ _SIZES = {"text_size", "text", "attributes"}
 def _loaded():
     try:
         library = ctypes.CDLL(LIBRARY)
-    except OSError as fault:
+        version = library.sideways_version()
+    except (OSError, AttributeError) as fault:
         raise ImportError(f"the library of sideways cannot be loaded: {fault}") from None
+    if version != VERSION:
+        raise ImportError(f"{LIBRARY} has version {version}, wanted {VERSION}")
     for name, parameters in _PARAMETERS.items():
         function = getattr(library, "sideways_" + name)
         function.argtypes = parameters
@@ -133,9 +136,6 @@ def _loaded():
     library.sideways_free.restype = None
     library.sideways_code_text.argtypes = [c_uint32]
     library.sideways_code_text.restype = c_char_p
-    version = library.sideways_version()
-    if version != VERSION:
-        raise ImportError(f"{LIBRARY} has version {version}, wanted {VERSION}")
     return library
 
 

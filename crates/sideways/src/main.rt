@@ -282,7 +282,7 @@ fn make_order<
     };
     match ordering.clash(rt) {
         Some(why) => refuse_words(rt, alloc, why),
-        None => ordering.make(rt, alloc, &mut errors.sink),
+        None => ordering.make(rt, alloc, &mut errors.sink, &mut errors.words),
     }
 }
 

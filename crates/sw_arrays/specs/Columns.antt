@@ -1,5 +1,5 @@
 -- Tables as columns of numbers.
-use Rattle.std.specs.Prelude.{◌+◌, ◌*◌, ◌-◌, ◌==◌, ◌&&◌, ◌||◌, if◌then◌else◌, ℕ, zero, suc, ℤ, pos, Bool, true, false, not, List, [], ◌∷◌, ◌++◌, length, map, take, drop, codes, nat_le, nat_lt, slice_get, unwrap_or, is_some, is_none, Option, None, Some, Result, Ok, Err}
+use Rattle.std.specs.Prelude.{◌<◌, ◌+◌, ◌*◌, ◌-◌, ◌==◌, ◌&&◌, ◌||◌, if◌then◌else◌, ℕ, zero, suc, ℤ, pos, Bool, true, false, not, List, [], ◌∷◌, ◌++◌, length, map, take, drop, codes, nat_le, nat_lt, slice_get, unwrap_or, is_some, is_none, Option, None, Some, Result, Ok, Err, All}
 use Rattle.sw_rows.specs.Domains.{Domain}
 use Rattle.sw_rows.specs.Domains as kind
 use Rattle.sw_rows.specs.Faults.{Fault, bad_table, too_many}
@@ -24,6 +24,13 @@ use Rattle.sw_arrays.specs.declared.table.Given.{Given}
 abbrev pub cell_in : Cells → ℕ → Option ℤ
 cell_in c row = slice_get c.cells.now (row * c.stride)
 
+-- a column has a cell of a row, and columns of each of so many rows
+abbrev pub HasCell : ℕ → Cells → Type 0
+HasCell row c = row * c.stride < length c.cells.now
+
+abbrev pub HaveCells : ℕ → List Cells → Type 0
+HaveCells many columns = (row : ℕ) → row < many → All (HasCell row) columns
+
 abbrev pub is_cell_there : Domain → Option ℤ → Bool
 is_cell_there d None = false
 is_cell_there d (Some z) = is_cell d z
@@ -45,9 +52,18 @@ is_of_numbers (kind.Text texts) = false
 abbrev pub has_last : Cells → ℕ → Bool
 has_last c many = (many == 0) || is_some (cell_in c (many - 1))
 
--- the cells of a row, with zeros after them
+-- the cells of a row
+abbrev pub row_cells : List Cells → ℕ → List ℤ
+row_cells columns row = map (λ c. unwrap_or (cell_in c row) (pos 0)) columns
+
+-- the same, with zeros after them
 abbrev pub cells_at : List Cells → ℕ → List ℤ
-cells_at columns row = padded (map (λ c. unwrap_or (cell_in c row) (pos 0)) columns)
+cells_at columns row = padded (row_cells columns row)
+
+-- the cells of the first rows, one row's after another's
+abbrev pub flat_cells : List Cells → ℕ → List ℤ
+flat_cells columns zero = []
+flat_cells columns (suc many) = flat_cells columns many ++ row_cells columns many
 
 -- the first rows of columns, whose keys are 1, 2, 3 and so on
 abbrev pub rows_in : List Cells → ℕ → List Row

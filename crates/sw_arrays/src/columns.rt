@@ -1,12 +1,15 @@
 //! Columns of cells as they are given.
 
-ghost use Rattle.std.specs.Prelude.{◌≡◌, ◌≤◌, ◌*◌, ◌<◌, ◌^◌, ℕ, List, length, map, pos, slice_get, slice_index_or, unwrap_or, true};
+ghost use Rattle.std.specs.Prelude.{◌≡◌, ◌≤◌, ◌*◌, ◌+◌, ◌++◌, ◌<◌, ◌^◌, ℕ, List, length, map, pos, slice_get, slice_index_or, unwrap_or, vec_len, true, All, IfOk};
 ghost use Rattle.sw_rows.specs.Tables.{padded};
+ghost use Rattle.sw_rows.specs.declared.table.TheConstants.{MOST_ROWS};
+ghost use Rattle.sw_table.specs.Packed.{HasRoomFor, IsSameRoom};
 ghost use Rattle.sw_lang.specs.Replies.{kind_at};
-ghost use Rattle.sw_arrays.specs.Columns.{are_rows, cell_in, cells_at, first_lacking, has_last, is_cell_there, is_of_numbers, lacking_in};
+ghost use Rattle.sw_arrays.specs.Columns.{HasCell, HaveCells, are_rows, cell_in, cells_at, first_lacking, flat_cells, has_last, is_cell_there, is_of_numbers, lacking_in, row_cells};
 
 use crate::cells::is_cell;
-use sw_rows::{Kind, Schema};
+use std::alloc::{AllocError, Global};
+use sw_rows::{Kind, MOST_ROWS, Schema};
 
 /// The cells of a column: that of the first row comes first, and each other one stands `stride` places behind that of the row
 /// before it.
@@ -62,6 +65,48 @@ pub fn cells_at(columns: &[Cells<'_>], row: usize) -> [i64; 8]
         cells[attr] = cell_or_zero(columns[attr], row);
     }
     cells
+}
+
+/// The cell of a row that has one.
+#[tactic(auto, using(crate::proofs::Rows::cell_is))]
+#[inline]
+fn cell_there(column: Cells<'_>, row: usize) -> i64
+    requires { HasCell row column }
+    ensures { result ≡ unwrap_or (cell_in column.entry row) (pos 0) }
+{
+    column.cells[row * column.stride as usize]
+}
+
+/// Adds the cells of a row, which each column has, at the end of a list that has room for them.
+#[inline]
+fn push_cells(columns: &[Cells<'_>], row: usize, out: &mut Vec<i64>)
+    requires there { All (HasCell row) columns.now }
+    requires room { HasRoomFor (length columns.now) out.old }
+    ensures items { out.new.items ≡ out.old.items ++ row_cells columns.now row }
+    ensures len { vec_len out.new ≡ vec_len out.old + length columns.now }
+    ensures room { IsSameRoom out.old out.new }
+{
+    for attr in 0..columns.len() {
+        out.push_reserved(cell_there(columns[attr], row));
+    }
+}
+
+/// The cells of the first rows, one row's after another's. The one error is that there is no memory for them.
+pub(crate) fn flat_cells(
+    alloc: Global,
+    columns: &[Cells<'_>],
+    many: usize,
+) -> Result<Vec<i64>, AllocError>
+    requires most { length columns.now ≤ 8 }
+    requires few { many ≤ MOST_ROWS }
+    requires there { HaveCells many columns.now }
+    ensures { IfOk result (λ cells. cells.items ≡ flat_cells columns.now many) }
+{
+    let mut cells = Vec::with_capacity(alloc, many * columns.len())?;
+    for row in 0..many {
+        push_cells(columns, row, &mut cells);
+    }
+    Ok(cells)
 }
 
 /// Whether a row has a cell of the attribute's kind.

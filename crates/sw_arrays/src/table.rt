@@ -6,12 +6,12 @@ ghost use Rattle.sw_rows.specs.Header.{has_texts, texts_of};
 ghost use Rattle.sw_rows.specs.Tables.{shown_packed};
 ghost use Rattle.sw_rows.specs.Texts.{code_of, is_text};
 ghost use Rattle.sw_rows.specs.declared.table.TheConstants.{MOST_ROWS};
-ghost use Rattle.sw_arrays.specs.Columns.{knowing, lacking_in, new_text, none_lacking, rows_in, table_in, text_between};
+ghost use Rattle.sw_arrays.specs.Columns.{HaveCells, knowing, lacking_in, new_text, none_lacking, rows_in, table_in, text_between};
 
-use crate::columns::{Cells, cells_at, lacking_in};
+use crate::columns::{Cells, flat_cells, lacking_in};
 use crate::header::{Attribute, columns_in, schema_of};
 use std::alloc::{AllocError, Global};
-use sw_rows::{MOST_ROWS, PackedRows, Refusal, Row, Schema, TextKey, read_text};
+use sw_rows::{MOST_ROWS, PackedRows, Refusal, Schema, TextKey, read_text};
 
 /// A table as it is given: its attributes with their cells, how many rows there are, and the texts for which cells of texts
 /// stand: their bytes, one behind the other, and where each ends. The first has the code 1.
@@ -97,20 +97,16 @@ fn check(schema: &Schema, columns: &[Cells<'_>], many: usize) -> Result<(), Refu
 }
 
 /// The first rows of columns.
-#[tactic(auto, using(crate::proofs::Rows::row_within, crate::proofs::Rows::rows_next))]
+#[tactic(auto, using(crate::proofs::Rows::flat_long, crate::proofs::Rows::flat_rows))]
 fn rows_in(alloc: Global, columns: &[Cells<'_>], many: usize) -> Result<PackedRows, AllocError>
     requires some { 1 ≤ length columns.now }
     requires most { length columns.now ≤ 8 }
     requires few { many ≤ MOST_ROWS }
+    requires there { HaveCells many columns.now }
     ensures { IfOk result (λ p. p.items ≡ rows_in columns.now many) }
 {
-    let mut rows = PackedRows::with_capacity(alloc, columns.len(), many)?;
-    for row in 0..many {
-        let cells = cells_at(columns, row);
-        let key = row as u64 + 1;
-        rows.push(&Row { key, cells })?;
-    }
-    Ok(rows)
+    let cells = flat_cells(alloc, columns, many)?;
+    Ok(PackedRows::of_cells(columns.len(), many, cells))
 }
 
 /// The table of columns: its attributes and its rows.
@@ -119,7 +115,7 @@ fn rows_in(alloc: Global, columns: &[Cells<'_>], many: usize) -> Result<PackedRo
 /// attributes, rows or texts than there may be; `BadTable` of record 0 at the first text that is none, or known, or which no
 /// attribute may have, counted on from the attributes; `BadTable` of the first row of the first column that has no cell of its
 /// kind there; in this order. `NoMemory` comes at any time.
-#[tactic(auto, using(crate::proofs::Rows::some_columns, crate::proofs::Rows::few_columns))]
+#[tactic(auto, using(crate::proofs::Rows::some_columns, crate::proofs::Rows::few_columns, crate::proofs::Rows::all_there))]
 pub fn table_in(
     alloc: Global,
     key: TextKey,

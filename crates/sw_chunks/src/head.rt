@@ -33,6 +33,7 @@ use crate::shelving::{fewest, shed_all};
 use crate::telling::{tell_all, tell_rows};
 use std::alloc::Global;
 use std::marker::Model;
+use std::sync::atomic::{AtomicU64, Ordering};
 use std::thread::Threads;
 use sw_map::{CrackerMap, Tail};
 use sw_rows::{PackedRows, Query, Refusal, Reply, Row, Update};
@@ -44,7 +45,6 @@ use sw_tie::Book;
 ///
 /// Contracts see its attribute, its cuts and the list of all updates that it was opened with and received: that list
 /// stands in a book that takes no bytes. They also see its areas.
-#[derive(Drop)]
 pub struct Head<M: CrackerMap> {
     alloc: Global,
     attribute: u8,
@@ -54,7 +54,23 @@ pub struct Head<M: CrackerMap> {
     /// is empty.
     owners: Vec<(u64, u8)>,
     told: Book<Update>,
-    clock: u64,
+    /// The number of the last query, by which its maps are stamped. Those who share the head count too.
+    clock: AtomicU64,
+}
+
+// By hand: the drop of a derived one is written out at each way out of a function.
+impl<M: CrackerMap> Drop for Head<M> {
+    fn drop(self) {
+        let Self {
+            alloc: _,
+            attribute: _,
+            cuts: _cuts,
+            areas: _areas,
+            owners: _owners,
+            told: _told,
+            clock: _,
+        } = self;
+    }
 }
 
 impl<M: CrackerMap> Model for Head<M> {
@@ -115,7 +131,7 @@ impl<M: CrackerMap> Head<M> {
             areas,
             owners,
             told,
-            clock: 0,
+            clock: AtomicU64::new(0),
         })
     }
 
@@ -265,19 +281,18 @@ impl<M: CrackerMap> Head<M> {
         ensures few { IfOk result (λ r. r.1 ≤ length (touched_of query.now self.old.areas)) }
         ensures refused { IsOkUnless result NoMemory }
     {
-        self.clock = self.clock.saturating_add(1);
-        answer_areas(
-            align,
-            self.alloc,
-            self.areas.as_mut_slice(),
-            self.clock,
-            query,
-        )
+        let now = self.tick();
+        answer_areas(align, self.alloc, self.areas.as_mut_slice(), now, query)
+    }
+
+    /// The next query's number.
+    fn tick(&self) -> u64 {
+        self.clock.fetch_add(1, Ordering::SeqCst).wrapping_add(1)
     }
 
     /// The answer of a query where each area that it touches is ready for it as it stands, so that many may be answered
     /// at a time; none where one of them has updates to merge, a range to log, or a map to make or align. Nothing
-    /// changes, and uses of maps are not stamped. The one refusal is `NoMemory`.
+    /// changes but the stamps of the maps that it used. The one refusal is `NoMemory`.
     pub fn answer_at_rest(&self, query: &Query) -> Result<Option<Reply>, Refusal>
         requires asks { AsksBelow 8 query.now }
         requires head { head_in query.now.conds ≡ self.now.attribute }
@@ -285,7 +300,7 @@ impl<M: CrackerMap> Head<M> {
         ensures answered { IfOk result (λ it. IfSome it (λ reply. reply ≡ answer (rows_of self.now.updates) query.now)) }
         ensures refused { IsOkUnless result NoMemory }
     {
-        answer_resting(self.alloc, self.areas.as_slice(), query)
+        answer_resting(self.alloc, self.areas.as_slice(), self.tick(), query)
     }
 
     /// The plain answer over all rows: the areas that the query touches are merged and scanned. No map is made for it,

@@ -16,8 +16,12 @@ use sw_map::CrackerMap;
 use sw_rows::{Query, Refusal, Reply};
 use sw_set::{Area, nothing};
 
-/// The reply of an area that the query touches, if it is ready for it as it stands.
-fn reply_at_rest<M: CrackerMap>(area: &Area<M>, query: &Query) -> Result<Option<Reply>, Refusal>
+/// The reply of an area that the query touches, if it is ready for it as it stands; the maps used are stamped with a number.
+fn reply_at_rest<M: CrackerMap>(
+    area: &Area<M>,
+    now: u64,
+    query: &Query,
+) -> Result<Option<Reply>, Refusal>
     requires touched { is_touched area.now query.now ≡ true }
     requires asks { AsksBelow 8 query.now }
     requires head { head_in query.now.conds ≡ area.now.attribute }
@@ -28,6 +32,7 @@ fn reply_at_rest<M: CrackerMap>(area: &Area<M>, query: &Query) -> Result<Option<
     let Some(ready) = area.ready_at_rest(query)? else {
         return Ok(None);
     };
+    area.note_use(query, now);
     let reply = area.collect(&ready, query)?;
     Ok(Some(reply))
 }
@@ -36,6 +41,7 @@ fn reply_at_rest<M: CrackerMap>(area: &Area<M>, query: &Query) -> Result<Option<
 fn add_at_rest<M: CrackerMap>(
     alloc: Global,
     area: &Area<M>,
+    now: u64,
     query: &Query,
     first: Reply,
 ) -> Result<Option<Reply>, Refusal>
@@ -49,7 +55,7 @@ fn add_at_rest<M: CrackerMap>(
     if !area.touches(query) {
         return Ok(Some(first));
     }
-    let Some(reply) = reply_at_rest(area, query)? else {
+    let Some(reply) = reply_at_rest(area, now, query)? else {
         return Ok(None);
     };
     let both = join(alloc, &query.want, first, reply)?;
@@ -60,6 +66,7 @@ fn add_at_rest<M: CrackerMap>(
 pub(crate) fn answer_resting<M: CrackerMap>(
     alloc: Global,
     areas: &[Area<M>],
+    now: u64,
     query: &Query,
 ) -> Result<Option<Reply>, Refusal>
     requires asks { AsksBelow 8 query.now }
@@ -71,7 +78,7 @@ pub(crate) fn answer_resting<M: CrackerMap>(
 {
     let mut reply = nothing(alloc, &query.want);
     for k in 0..areas.len() {
-        let Some(both) = add_at_rest(alloc, &areas[k], query, reply)? else {
+        let Some(both) = add_at_rest(alloc, &areas[k], now, query, reply)? else {
             return Ok(None);
         };
         reply = both;

@@ -4,14 +4,17 @@ pub mod Complete
 pub mod Lists
 pub mod Entries
 pub mod Left
+pub mod Legal
 pub mod Outcomes
 pub mod Ran
 pub mod Records
 pub mod RefusedLines
 pub mod RunRecords
+pub mod Pages
 pub mod Going
 pub mod Learned
 pub mod Starts
 pub mod TextCalls
 pub mod TextReplies
+pub mod Turned
 pub mod Waiting

@@ -20,7 +20,7 @@ use Rattle.sw_cli.proofs.Lists.{length_map}
 
 -- a ticket for a place where there is none
 abbrev pub no_ticket : Shown
-no_ticket = (0, [], record { given = []; published = []; entries = []; sessions = 0 })
+no_ticket = (0, [], record { given = []; missed = 0; published = []; entries = []; sessions = 0 })
 
 -- what a session of each block was answered
 pub collected : (k : ℕ) (bs : List (List Call)) (ts : List (List Told)) (vs : List Shown) → length ts ≡ length bs → length vs ≡ length bs
@@ -82,7 +82,7 @@ record_of columns rows limit told tickets h are is ended = record {
 
 -- ---- why calls were refused
 
-call_why : (cs : List Call) (ts : List Told) → All SaysWhy ts → All (λ (o : Outcome). SaysWhy o.1) (outcomes_of cs ts)
+pub call_why : (cs : List Call) (ts : List Told) → All SaysWhy ts → All (λ (o : Outcome). SaysWhy o.1) (outcomes_of cs ts)
 call_why [] ts h = All-nil (λ (o : Outcome). SaysWhy o.1)
 call_why (c ∷ cs) [] h = All-nil (λ (o : Outcome). SaysWhy o.1)
 call_why (c ∷ cs) (t ∷ ts) h = All-cons (λ (o : Outcome). SaysWhy o.1) (c, t) (outcomes_of cs ts) (All-head SaysWhy t ts h) (call_why cs ts (All-tail SaysWhy t ts h))

@@ -17,7 +17,7 @@ use Rattle.sw_spine.specs.declared.history.Entry.{Entry}
 use Rattle.sw_spine.specs.declared.history.State.{State}
 use Rattle.sw_spine.specs.declared.history.State.TheVariants.{Answered, Lines, Open, Void}
 use Rattle.sw_histories.specs.ReadBack.{HasCells, IsCalled, IsOfRun, IsStateOf}
-use Rattle.sw_histories.proofs.LegalFiles.{files_found_legal}
+use Rattle.sw_histories.proofs.Back.LegalFiles.{files_found_legal}
 use Rattle.sw_cli.specs.Outcomes.{Outcome, calls_of}
 use Rattle.sw_cli.specs.Run.{Leaves, Start, is_session, start_of}
 use Rattle.sw_cli.specs.RunRecords.{IsLeft, RecordsAreFoundLegal, RecordsAreOfRuns}

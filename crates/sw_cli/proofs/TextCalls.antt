@@ -32,7 +32,7 @@ use Rattle.sw_cli.specs.Script.{Script, SoFar, all_blocks, blocks_of, call_of_li
 use Rattle.sw_cli.specs.TextCalls.{IsOverTexts}
 use Rattle.sw_cli.specs.declared.script.TheConstants.{MOST_BLOCKS, MOST_CALLS}
 use Rattle.sw_histories.specs.ReadBack.{HasCells}
-use Rattle.sw_histories.proofs.TableCells.{table_cells}
+use Rattle.sw_histories.proofs.Back.TableCells.{table_cells}
 use Rattle.sw_cli.proofs.Learned.{IsRead, cells_after, coded_after, read_after}
 
 -- ---- answers of several steps

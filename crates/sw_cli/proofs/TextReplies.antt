@@ -25,6 +25,7 @@ use Rattle.sw_spine.proofs.StoreLemmas.{rows_of_opened, rows_push}
 use Rattle.sw_cli.specs.Outcomes.{Outcome}
 use Rattle.sw_cli.specs.Run.{Leaves, Start, start_of}
 use Rattle.sw_cli.specs.TextCalls.{AreEntriesOverTexts, AreRepliesOverTexts, GivesOverTexts, IsOverTexts, IsReplyOverTexts}
+use Rattle.sw_cli.specs.TextLaws.{IsClosedOverTexts}
 use Rattle.sw_cli.proofs.Entries.{all_entries}
 use Rattle.sw_cli.proofs.TextCalls.{start_over}
 
@@ -129,3 +130,10 @@ record_over limit cuts table script s told old new h read l =
     let r = l.record_is in
     let agree : AllAgree s.columns limit (opened s.rows) h.entries = legal-from h.columns s.columns h.limit limit h.rows s.rows h r.columns_are r.limit_is r.rows_are r.legal in
     entries-over s.columns limit (opened s.rows) h.entries o.schema (opened-coded s.columns s.rows o.rows) agree r.given (all_entries (IsOverTexts s.columns) limit s told old new h l o.calls)
+
+-- so are the replies of an engine that was closed
+pub closed_over : (columns : List Column) (rows : List Row) (limit : ℕ) (tickets : List (ℕ × List (Call × Reply))) (h : History) → IsClosedOverTexts columns rows limit tickets h → AreEntriesOverTexts columns limit (opened rows) h.entries
+closed_over columns rows limit tickets h is =
+    let one = is.history in
+    let agree : AllAgree columns limit (opened rows) h.entries = legal-from h.columns columns h.limit limit h.rows rows h one.columns_are one.limit_is one.rows_are one.legal in
+    entries-over columns limit (opened rows) h.entries is.schema (opened-coded columns rows is.coded) agree one.given is.calls

@@ -1,5 +1,5 @@
 -- Whether a line of bytes is that of a refused call, where the bytes may come in pieces.
-use Rattle.std.specs.Prelude.{◌==◌, ◌&&◌, ◌||◌, ℕ, Bool, true, false, List, [], ◌∷◌, codes, drop, nat_lt}
+use Rattle.std.specs.Prelude.{◌≡◌, ◌==◌, ◌&&◌, ◌||◌, ◌++◌, ℕ, Bool, true, false, List, [], ◌∷◌, codes, drop, nat_lt}
 use Rattle.sw_cli.specs.declared.watching.Place.{Place}
 use Rattle.sw_cli.specs.declared.watching.Place.TheVariants.{Beginning, Further}
 use Rattle.sw_cli.specs.declared.watching.Watch.{Watch}
@@ -31,3 +31,7 @@ comes Further bs = tells_from false bs
 -- whether a line begins so, of the bytes that were seen and then these
 abbrev pub tells_then : Watch → List ℕ → Bool
 tells_then w bs = w.refused || comes w.place bs
+
+-- these bytes more were seen
+abbrev pub Notes : Watch → Watch → List ℕ → Type 0
+Notes old new bs = (later : List ℕ) → tells_then new later ≡ tells_then old (bs ++ later)

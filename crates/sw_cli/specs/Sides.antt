@@ -13,6 +13,10 @@ pub record SourceSeen : Type 0 where
 abbrev pub source_seen : Option (List ℕ) → ℕ → ℕ → SourceSeen
 source_seen left before after = record { left = left; failed_before = before; failed_after = after }
 
+-- a source from one moment to another, by what it has left and how often it failed
+abbrev pub source_by : {S : Type 0} → (S → Option (List ℕ)) → (S → ℕ) → S → S → SourceSeen
+source_by left failed old new = source_seen (left old) (failed old) (failed new)
+
 -- a sink: the bytes that it had taken before and after, and its failures before and after
 pub record SinkSeen : Type 0 where
   pub taken_before : Option (List ℕ)
@@ -23,6 +27,10 @@ pub record SinkSeen : Type 0 where
 abbrev pub sink_seen : Option (List ℕ) → Option (List ℕ) → ℕ → ℕ → SinkSeen
 sink_seen taken_before taken_after before after =
     record { taken_before = taken_before; taken_after = taken_after; failed_before = before; failed_after = after }
+
+-- a sink from one moment to another, by what it has taken and how often it failed
+abbrev pub sink_by : {W : Type 0} → (W → Option (List ℕ)) → (W → ℕ) → W → W → SinkSeen
+sink_by taken failed old new = sink_seen (taken old) (taken new) (failed old) (failed new)
 
 -- the source failed
 abbrev pub SourceFailed : SourceSeen → Type 0

@@ -1,15 +1,16 @@
 //! A sink that is written by the block.
 
 ghost use Rattle.std.specs.Prelude.{◌≡◌, ◌≤◌, IfOk, [], ◌∷◌, List, ℕ, Option, None, OnOk, OnErr, true, vec_capacity, vec_len};
-ghost use Rattle.std.specs.Io.KnownBytes.{Keeps, append_known};
+ghost use Rattle.std.specs.Io.KnownBytes.{append_known};
 ghost use Rattle.sw_rows.specs.Gives.{Raised};
 ghost use Rattle.sw_cli.specs.declared.buffered.TheConstants.{BLOCK};
-ghost use Rattle.sw_cli.specs.Sent.{extends, with_waiting};
+ghost use Rattle.sw_cli.specs.Sent.{GoesOut, KeepsBy, extends, with_waiting};
+ghost use Rattle.sw_cli.specs.Sides.{sink_by};
 
 use std::alloc::{AllocError, Global};
 use std::io;
 use std::marker::{Brand, PhantomData};
-use sw_rows::Sink;
+use sw_rows::{Refusal, Sink};
 
 /// How many bytes a block has.
 pub(crate) const BLOCK: usize = 65536;
@@ -74,8 +75,7 @@ impl<J: Base, W: Sink> Buffered<J, W> {
 
     /// Gives the sink all that waits. After an error what it has not taken still waits.
     pub(crate) fn send(&mut self) -> io::Result<()>
-        ensures kept { Keeps (with_waiting (W.taken self.old.sink) self.old.sent self.old.block.items)
-            (with_waiting (W.taken self.new.sink) self.new.sent self.new.block.items) }
+        ensures kept { KeepsBy self.old self.new (λ b. with_waiting (W.taken b.sink) b.sent b.block.items) }
         ensures sent { OnOk result (self.new.block.items ≡ []) }
         ensures went { OnOk result (W.failed self.new.sink ≡ W.failed self.old.sink) }
         ensures raised { OnErr result (Raised (W.failed self.old.sink) (W.failed self.new.sink)) }
@@ -87,6 +87,21 @@ impl<J: Base, W: Sink> Buffered<J, W> {
         self.sent = 0;
         self.block.clear();
         Ok(())
+    }
+
+    /// Sends what waits, where all was written that was to be, and hands the sink back. Refused as the writing was, or
+    /// `Output` where the sink fails.
+    pub(crate) fn end(self, written: Result<(), Refusal>) -> (W, Result<(), Refusal>)
+        ensures { GoesOut J.base self.sent self.block.items (sink_by W.taken W.failed self.sink result.0) written result.1 }
+    {
+        let mut block = self;
+        match written {
+            Ok(()) => match block.send() {
+                Ok(()) => (block.into_sink(), Ok(())),
+                Err(_) => (block.into_sink(), Err(Refusal::Output)),
+            },
+            Err(refusal) => (block.into_sink(), Err(refusal)),
+        }
     }
 }
 

@@ -1,7 +1,7 @@
 //! What the blocks of a script came to.
 
 ghost use Rattle.std.specs.Prelude.{◌≡◌};
-ghost use Rattle.sw_lang.specs.Sinks.{Writes};
+ghost use Rattle.sw_lang.specs.Sinks.{Wrote};
 ghost use Rattle.sw_cli.specs.Outcomes.{AreTold, blocks_told, text_of};
 
 use crate::script::Block;
@@ -21,8 +21,7 @@ pub(crate) struct Ended {
 impl Ended {
     /// Writes the lines of what came of the blocks.
     pub(crate) fn write<W: Sink>(&self, out: &mut W) -> Result<(), Refusal>
-        ensures { Writes (W.taken out.old) (W.taken out.new) (W.failed out.old) (W.failed out.new) result
-            (text_of self.now.history.columns (blocks_told self.now.blocks.items self.now.told.items)) }
+        ensures { Wrote W.taken W.failed out.old out.new result (text_of self.now.history.columns (blocks_told self.now.blocks.items self.now.told.items)) }
     {
         write_blocks(
             &self.history.schema,

@@ -1,9 +1,9 @@
 //! Refusals on standard error.
 
 ghost use Rattle.std.specs.Prelude.{◌≡◌, ◌++◌, codes, decimal};
-ghost use Rattle.sw_cli.specs.Faults.{fault_line, labelled, refusal_text, status_of};
+ghost use Rattle.sw_cli.specs.Faults.{fault_line, labelled, line_text, refusal_text, short_text, status_of};
 ghost use Rattle.sw_rows.specs.Refusals.{why_name};
-ghost use Rattle.sw_lang.specs.Sinks.{Writes};
+ghost use Rattle.sw_lang.specs.Sinks.{Wrote};
 
 use sw_lang::{write_all, write_number};
 use sw_rows::{Refusal, Sink, Why};
@@ -25,8 +25,7 @@ pub fn status(refusal: &Refusal) -> u8
 
 /// A number after its label.
 pub(crate) fn write_labelled<W: Sink>(label: &[u8], number: u64, out: &mut W) -> Result<(), Refusal>
-    ensures { Writes (W.taken out.old) (W.taken out.new) (W.failed out.old) (W.failed out.new) result
-        (labelled label.now number) }
+    ensures { Wrote W.taken W.failed out.old out.new result (labelled label.now number) }
 {
     write_all(out, label)?;
     write_number(number, out)
@@ -40,7 +39,7 @@ pub(crate) fn write_pair<W: Sink>(
     next: u64,
     out: &mut W,
 ) -> Result<(), Refusal>
-    ensures { Writes (W.taken out.old) (W.taken out.new) (W.failed out.old) (W.failed out.new) result
+    ensures { Wrote W.taken W.failed out.old out.new result
         (labelled label.now number ++ labelled next_label.now next) }
 {
     write_labelled(label, number, out)?;
@@ -48,7 +47,7 @@ pub(crate) fn write_pair<W: Sink>(
 }
 
 fn write_why_name<W: Sink>(why: Why, out: &mut W) -> Result<(), Refusal>
-    ensures { Writes (W.taken out.old) (W.taken out.new) (W.failed out.old) (W.failed out.new) result (why_name why) }
+    ensures { Wrote W.taken W.failed out.old out.new result (why_name why) }
 {
     match why {
         Why::Encoding => write_all(out, b"Encoding"),
@@ -62,33 +61,28 @@ fn write_why_name<W: Sink>(why: Why, out: &mut W) -> Result<(), Refusal>
 }
 
 fn write_why<W: Sink>(why: Why, out: &mut W) -> Result<(), Refusal>
-    ensures { Writes (W.taken out.old) (W.taken out.new) (W.failed out.old) (W.failed out.new) result
-        (codes " why " ++ why_name why) }
+    ensures { Wrote W.taken W.failed out.old out.new result (codes " why " ++ why_name why) }
 {
     write_all(out, b" why ")?;
     write_why_name(why, out)
 }
 
 fn write_bad_line<W: Sink>(line: u64, why: Why, out: &mut W) -> Result<(), Refusal>
-    ensures { Writes (W.taken out.old) (W.taken out.new) (W.failed out.old) (W.failed out.new) result
-        (labelled (codes "3 line ") line ++ (codes " why " ++ why_name why)) }
+    ensures { Wrote W.taken W.failed out.old out.new result (line_text line why) }
 {
     write_labelled(b"3 line ", line, out)?;
     write_why(why, out)
 }
 
 fn write_unknown<W: Sink>(name: &[u8], out: &mut W) -> Result<(), Refusal>
-    ensures { Writes (W.taken out.old) (W.taken out.new) (W.failed out.old) (W.failed out.new) result
-        (codes "4 name " ++ name.now) }
+    ensures { Wrote W.taken W.failed out.old out.new result (codes "4 name " ++ name.now) }
 {
     write_all(out, b"4 name ")?;
     write_all(out, name)
 }
 
 fn write_short<W: Sink>(used: u64, want: u64, capacity: u64, out: &mut W) -> Result<(), Refusal>
-    ensures { Writes (W.taken out.old) (W.taken out.new) (W.failed out.old) (W.failed out.new) result
-        (labelled (codes "7 used ") used
-        ++ (labelled (codes " want ") want ++ labelled (codes " capacity ") capacity)) }
+    ensures { Wrote W.taken W.failed out.old out.new result (short_text used want capacity) }
 {
     write_labelled(b"7 used ", used, out)?;
     write_pair(b" want ", want, b" capacity ", capacity, out)
@@ -96,8 +90,7 @@ fn write_short<W: Sink>(used: u64, want: u64, capacity: u64, out: &mut W) -> Res
 
 /// The number of a refusal and its fields.
 fn write_text<W: Sink>(refusal: &Refusal, out: &mut W) -> Result<(), Refusal>
-    ensures { Writes (W.taken out.old) (W.taken out.new) (W.failed out.old) (W.failed out.new) result
-        (refusal_text refusal.now) }
+    ensures { Wrote W.taken W.failed out.old out.new result (refusal_text refusal.now) }
 {
     match refusal {
         Refusal::NoMemory => write_all(out, b"1"),
@@ -132,8 +125,7 @@ fn write_text<W: Sink>(refusal: &Refusal, out: &mut W) -> Result<(), Refusal>
 }
 
 fn write_text_line<W: Sink>(refusal: &Refusal, out: &mut W) -> Result<(), Refusal>
-    ensures { Writes (W.taken out.old) (W.taken out.new) (W.failed out.old) (W.failed out.new) result
-        (refusal_text refusal.now ++ codes "\n") }
+    ensures { Wrote W.taken W.failed out.old out.new result (refusal_text refusal.now ++ codes "\n") }
 {
     write_text(refusal, out)?;
     write_all(out, b"\n")
@@ -143,8 +135,7 @@ fn write_text_line<W: Sink>(refusal: &Refusal, out: &mut W) -> Result<(), Refusa
 ///
 /// Takes no memory. Refused `Output` where the sink fails; then a beginning of the line went out.
 pub fn write_fault<W: Sink>(refusal: &Refusal, out: &mut W) -> Result<(), Refusal>
-    ensures { Writes (W.taken out.old) (W.taken out.new) (W.failed out.old) (W.failed out.new) result
-        (fault_line refusal.now) }
+    ensures { Wrote W.taken W.failed out.old out.new result (fault_line refusal.now) }
 {
     write_all(out, b"sideways: refused ")?;
     write_text_line(refusal, out)

@@ -4,7 +4,7 @@ ghost use Rattle.std.specs.Prelude.{◌≡◌, ◌<◌, ◌++◌, ℕ, List, [],
 ghost use Rattle.std.specs.Io.{WritesAtMost};
 ghost use Rattle.std.specs.Io.KnownBytes.{WriteAppends};
 ghost use Rattle.sw_rows.specs.Gives.{Raised};
-ghost use Rattle.sw_cli.specs.RefusedLines.{tells_refusal, tells_then};
+ghost use Rattle.sw_cli.specs.RefusedLines.{Notes, tells_refusal, tells_then};
 
 use crate::watching::Watch;
 use std::io;
@@ -49,8 +49,7 @@ impl<W: Sink> Sink for Noting<W> {
         ensures moves { IfOk result (λ n. 0 < length buf.now → 0 < n) }
         ensures went { OnOk result (W.failed self.new.sink ≡ W.failed self.old.sink) }
         ensures raised { OnErr result (Raised (W.failed self.old.sink) (W.failed self.new.sink)) }
-        ensures noted { IfOk result (λ n. (later : List ℕ) →
-            tells_then self.new.watch later ≡ tells_then self.old.watch (take n buf.now ++ later)) }
+        ensures noted { IfOk result (λ n. Notes self.old.watch self.new.watch (take n buf.now)) }
         ensures kept { OnErr result (self.new.watch ≡ self.old.watch) }
     {
         let count = self.sink.write_some(buf)?;

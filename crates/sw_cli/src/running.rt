@@ -10,7 +10,7 @@ ghost use Rattle.sw_cli.specs.Answers.{RunAnswers};
 ghost use Rattle.sw_cli.specs.Outcomes.{AllSayWhy};
 ghost use Rattle.sw_cli.specs.Run.{IsRecordOf};
 ghost use Rattle.sw_cli.specs.Served.{SendsLines, told_in};
-ghost use Rattle.sw_cli.specs.Sides.{sink_seen, source_seen};
+ghost use Rattle.sw_cli.specs.Sides.{sink_by, source_by};
 ghost use Rattle.sw_cli.specs.Starts.{Goes, IsStart, start_seen};
 
 use crate::buffered::{Base, Buffered, block};
@@ -18,6 +18,7 @@ use crate::ended::Ended;
 use crate::looking_on::{Nobody, Onlooker};
 use crate::serving::serve;
 use crate::start::{Inputs, read_start};
+use crate::turning::{Ground, make_in_turn};
 use core::mem::replace_with;
 use left_right::Absorb;
 use std::alloc::Global;
@@ -55,23 +56,22 @@ struct Outgoing {
 /// Writes the lines of what came of blocks through a block of bytes before a sink, and hands the sink back.
 fn write_since<B: Base, W: Sink>(sink: W, outgoing: Outgoing) -> (W, Result<Record, Refusal>)
     requires { B.base ≡ W.taken sink }
-    ensures { SendsLines (sink_seen (W.taken sink) (W.taken result.0) (W.failed sink) (W.failed result.0))
+    ensures { SendsLines (sink_by W.taken W.failed sink result.0)
         outgoing.ended result.1 }
 {
     let Outgoing { memory, ended } = outgoing;
     let mut buffered: Buffered<B, W> = Buffered::new(memory, sink);
-    match ended.write(&mut buffered) {
-        Ok(()) => match buffered.send() {
-            Ok(()) => (buffered.into_sink(), Ok(ended.into_history())),
-            Err(_) => (buffered.into_sink(), Err(Refusal::Output)),
-        },
-        Err(e) => (buffered.into_sink(), Err(e)),
+    let written = ended.write(&mut buffered);
+    let (sink, sent) = buffered.end(written);
+    match sent {
+        Ok(()) => (sink, Ok(ended.into_history())),
+        Err(e) => (sink, Err(e)),
     }
 }
 
 /// The same from what the sink has taken now.
 fn write_outgoing<W: Sink>(sink: W, outgoing: Outgoing) -> (W, Result<Record, Refusal>)
-    ensures { SendsLines (sink_seen (W.taken sink) (W.taken result.0) (W.failed sink) (W.failed result.0))
+    ensures { SendsLines (sink_by W.taken W.failed sink result.0)
         outgoing.ended result.1 }
 {
     write_since::<Brand, W>(sink, outgoing)
@@ -124,7 +124,6 @@ where
     let (history, told) = serve(
         rt,
         alloc,
-        options.threads,
         engine,
         tickets,
         blocks.as_slice(),
@@ -166,8 +165,8 @@ fn make<J: Naming + Send + Sync, M: CrackerMap, O: Onlooker, R: Threads + Wait +
     make_with::<J, M, O, R>(rt, alloc, books, opened, options, maps, stats, onlooker)
 }
 
-/// Makes the blocks of a run that was opened, and writes what came of them.
-fn make_and_write<M: CrackerMap, O: Onlooker, R: Threads + Wait + Sync, W: Sink>(
+/// Makes the blocks of a run that was opened, each in a thread of its own, and then writes what came of them.
+fn make_at_once<M: CrackerMap, O: Onlooker, R: Threads + Wait + Sync, W: Sink>(
     rt: &R,
     alloc: Global,
     opened: Inputs,
@@ -182,7 +181,7 @@ fn make_and_write<M: CrackerMap, O: Onlooker, R: Threads + Wait + Sync, W: Sink>
     requires sound { IsStart options.now.limit (start_seen opened) }
     requires blank { All (λ m. M.held m ≡ blank) maps.items }
     ensures { Goes options.now.limit (start_seen opened)
-        (sink_seen (W.taken out.old) (W.taken out.new) (W.failed out.old) (W.failed out.new)) result }
+        (sink_by W.taken W.failed out.old out.new) result }
 {
     match make::<Brand, M, O, R>(
         rt,
@@ -199,15 +198,43 @@ fn make_and_write<M: CrackerMap, O: Onlooker, R: Threads + Wait + Sync, W: Sink>
     }
 }
 
+/// Makes the blocks of a run that was opened, and writes what came of them.
+fn make_and_write<M: CrackerMap, O: Onlooker, R: Threads + Wait + Sync, W: Sink>(
+    rt: &R,
+    alloc: Global,
+    opened: Inputs,
+    options: &Options<'_>,
+    maps: Vec<M>,
+    out: &mut W,
+    stats: &mut Vec<HeadStats>,
+    onlooker: &O,
+) -> Result<Record, Refusal>
+    requires some { 0 < options.now.limit }
+    requires most { options.now.limit ≤ MOST_ROWS }
+    requires sound { IsStart options.now.limit (start_seen opened) }
+    requires blank { All (λ m. M.held m ≡ blank) maps.items }
+    ensures { Goes options.now.limit (start_seen opened) (sink_by W.taken W.failed out.old out.new) result }
+{
+    if options.threads {
+        return make_at_once(rt, alloc, opened, options, maps, out, stats, onlooker);
+    }
+    match Ground::new(alloc, opened, options.limit, maps) {
+        Ok(ground) => make_in_turn(rt, ground, onlooker, out, stats),
+        Err(e) => Err(e),
+    }
+}
+
 /// Reads a table, a script and cuts, makes the calls of the script's blocks, block i as session i, and writes the lines
 /// of what came of them, with a line `---` between two blocks. The maps are boxes: box i, from 0, is dealt to the head
 /// of attribute i mod n, where there are n attributes.
 ///
 /// The table is read first, then the script, then the cuts; then the rows are held against the limit. The first fault
 /// in that order refuses the run before any call: `BadTable`, `BadLine`, `UnknownAttribute`, `TooMany`, `Input` where a
-/// source failed, or `NoMemory`; nothing was written then. Blocks run one after another, or each in a thread of its
-/// own; their lines go out in the order of the script when all have ended. A call that is refused writes `refused` and
-/// the refusal's number, changes no row, and the calls after it are made. `Output` comes only where the sink failed.
+/// source failed, or `NoMemory`; nothing was written then. Blocks run one after another, and the lines of each call go out in
+/// blocks of 64 KiB as it is answered; or each in a thread of its own, and their lines go out in the order of the script when
+/// all have ended. A call that is refused writes `refused` and the refusal's number, changes no row, and the calls after it
+/// are made. `Output` comes only where the sink failed; of blocks that run one after another the calls behind that are not
+/// made.
 /// The caller's conditions: the limit is 1 to 1,048,576, and the boxes are blank.
 pub fn run_with<M: CrackerMap, R: Threads + Wait + Sync, T: Source, S: Source, W: Sink>(
     rt: &R,
@@ -222,9 +249,9 @@ pub fn run_with<M: CrackerMap, R: Threads + Wait + Sync, T: Source, S: Source, W
     requires most { options.now.limit ≤ MOST_ROWS }
     requires blank { All (λ m. M.held m ≡ blank) maps.items }
     ensures { RunAnswers options.now.limit options.now.cuts.now
-        (source_seen (T.left table.old) (T.failed table.old) (T.failed table.new))
-        (source_seen (S.left script.old) (S.failed script.old) (S.failed script.new))
-        (sink_seen (W.taken out.old) (W.taken out.new) (W.failed out.old) (W.failed out.new)) result }
+        (source_by T.left T.failed table.old table.new)
+        (source_by S.left S.failed script.old script.new)
+        (sink_by W.taken W.failed out.old out.new) result }
 {
     let mut stats = Vec::new(alloc);
     run_told(
@@ -256,9 +283,9 @@ pub fn run_told<
     requires most { options.now.limit ≤ MOST_ROWS }
     requires blank { All (λ m. M.held m ≡ blank) maps.items }
     ensures { RunAnswers options.now.limit options.now.cuts.now
-        (source_seen (T.left table.old) (T.failed table.old) (T.failed table.new))
-        (source_seen (S.left script.old) (S.failed script.old) (S.failed script.new))
-        (sink_seen (W.taken out.old) (W.taken out.new) (W.failed out.old) (W.failed out.new)) result }
+        (source_by T.left T.failed table.old table.new)
+        (source_by S.left S.failed script.old script.new)
+        (sink_by W.taken W.failed out.old out.new) result }
 {
     match read_start(rt, alloc, table, script, options) {
         Ok(opened) => make_and_write(rt, alloc, opened, options, maps, out, stats, onlooker),
@@ -280,9 +307,9 @@ pub fn run<R: Threads + Wait + Sync, T: Source, S: Source, W: Sink>(
     requires most { options.now.limit ≤ MOST_ROWS }
     requires blank { All (λ m. (CrackerMap-box m).held m.value ≡ blank) maps.items }
     ensures { RunAnswers options.now.limit options.now.cuts.now
-        (source_seen (T.left table.old) (T.failed table.old) (T.failed table.new))
-        (source_seen (S.left script.old) (S.failed script.old) (S.failed script.new))
-        (sink_seen (W.taken out.old) (W.taken out.new) (W.failed out.old) (W.failed out.new)) result }
+        (source_by T.left T.failed table.old table.new)
+        (source_by S.left S.failed script.old script.new)
+        (sink_by W.taken W.failed out.old out.new) result }
 {
     run_with(rt, alloc, table, script, out, options, maps)
 }

@@ -1,6 +1,6 @@
-//! Blocks of calls, made one after another or each in a thread of its own.
+//! Blocks of calls, each made in a thread of its own.
 
-ghost use Rattle.std.specs.Prelude.{◌≡◌, length, map, All, IfOk, IsOkUnless, vec_capacity};
+ghost use Rattle.std.specs.Prelude.{◌≡◌, ◌≤◌, ◌+◌, length, map, All, IfOk, IsOkUnless, vec_capacity, vec_len};
 ghost use Rattle.sw_rows.specs.declared.refusal.Refusal.TheVariants.{NoMemory};
 ghost use Rattle.sw_engine.specs.Desk.{AreCounted, InOrder};
 ghost use Rattle.sw_cli.specs.Outcomes.{AllSayWhy, AreTold, blocks_told};
@@ -103,26 +103,6 @@ where
     Ok(jobs)
 }
 
-/// Makes the calls of the jobs one job after another.
-fn make_in_turn<'e, J: Naming, M: CrackerMap, O: Onlooker, R: Threads + Wait + Sync>(
-    rt: &R,
-    alloc: Global,
-    jobs: Vec<Job<'e, J, M>>,
-    onlooker: &O,
-) -> Result<Vec<Done<J>>, AllocError>
-where
-    Live<J>: Absorb<Op<J>, State = [Update; 0]>,
-    requires fresh { All (λ j. IsFresh j.session j.told.items (vec_capacity j.told) j.calls.now) jobs.items }
-    requires below { All (λ j. AllCallsBelow (length J.columns) j.calls.now) jobs.items }
-    ensures { IfOk result (λ v. Each (λ j d. IsDone j.session.0 j.calls.now d.ticket d.told) jobs.entry.items v.items) }
-{
-    let mut done = Vec::new(alloc);
-    for job in jobs {
-        done.push(make_block(rt, job, onlooker))?;
-    }
-    Ok(done)
-}
-
 /// Makes the calls of each job in a thread of its own; where no thread starts, on the calling one.
 fn make_at_once<'e, J: Naming + Send + Sync, M: CrackerMap, O: Onlooker, R: Threads + Wait + Sync>(
     rt: &R,
@@ -146,27 +126,6 @@ where
     )
 }
 
-/// Makes the calls of the jobs: at once, or one job after another.
-fn make_all<'e, J: Naming + Send + Sync, M: CrackerMap, O: Onlooker, R: Threads + Wait + Sync>(
-    rt: &R,
-    alloc: Global,
-    at_once: bool,
-    jobs: Vec<Job<'e, J, M>>,
-    onlooker: &O,
-) -> Result<Vec<Done<J>>, AllocError>
-where
-    Live<J>: Absorb<Op<J>, State = [Update; 0]> + Send + Sync,
-    requires fresh { All (λ j. IsFresh j.session j.told.items (vec_capacity j.told) j.calls.now) jobs.items }
-    requires below { All (λ j. AllCallsBelow (length J.columns) j.calls.now) jobs.items }
-    ensures { IfOk result (λ v. Each (λ j d. IsDone j.session.0 j.calls.now d.ticket d.told) jobs.entry.items v.items) }
-{
-    if at_once {
-        make_at_once(rt, jobs, onlooker)
-    } else {
-        make_in_turn(rt, alloc, jobs, onlooker)
-    }
-}
-
 /// The tickets of what was done, and what came of the calls.
 fn parted<J: Naming>(
     alloc: Global,
@@ -185,27 +144,26 @@ fn parted<J: Naming>(
     Ok((tickets, all_told))
 }
 
-/// Adds what each head of an engine tells of itself.
-fn tell_heads<J: Naming, M: CrackerMap, R: Wait>(
+/// Adds what each head of an engine tells of itself, for which there is room.
+pub(crate) fn tell_heads<J: Naming, M: CrackerMap, R: Wait>(
     rt: &R,
     engine: &Engine<J, M>,
     stats: &mut Vec<HeadStats>,
-) -> Result<(), AllocError>
+)
 where
     Live<J>: Absorb<Op<J>, State = [Update; 0]>,
+    requires { vec_len stats.old + length J.columns ≤ vec_capacity stats.old }
 {
     for head in 0..engine.heads() {
-        stats.push(engine.stats(rt, head))?;
+        stats.push_reserved(engine.stats(rt, head));
     }
-    Ok(())
 }
 
-/// Makes the calls of each block by the session of the ticket at its place, and tells the record and what came of the
+/// Makes the calls of each block by the session of the ticket at its place, in a thread of its own, and tells the record and what came of the
 /// calls, and adds what each head tells of itself. The one refusal is `NoMemory`.
 pub(crate) fn serve<J: Naming + Send + Sync, M: CrackerMap, O: Onlooker, R: Threads + Wait + Sync>(
     rt: &R,
     alloc: Global,
-    at_once: bool,
     engine: Engine<J, M>,
     tickets: Vec<Ticket<J>>,
     blocks: &[Block],
@@ -226,15 +184,16 @@ where
     let Ok(work) = jobs(alloc, &engine, tickets, blocks) else {
         return Err(Refusal::NoMemory);
     };
-    let Ok(done) = make_all(rt, alloc, at_once, work, onlooker) else {
+    let Ok(done) = make_at_once(rt, work, onlooker) else {
         return Err(Refusal::NoMemory);
     };
     let Ok((ended, told)) = parted(alloc, done) else {
         return Err(Refusal::NoMemory);
     };
-    if tell_heads(rt, &engine, stats).is_err() {
+    if stats.reserve(engine.heads()).is_err() {
         return Err(Refusal::NoMemory);
     }
+    tell_heads(rt, &engine, stats);
     match engine.close(rt, ended) {
         Ok(record) => Ok((record, told)),
         Err(_) => Err(Refusal::NoMemory),

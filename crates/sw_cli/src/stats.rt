@@ -1,7 +1,7 @@
 //! What each head tells of itself after a run, as a table.
 
 ghost use Rattle.std.specs.Prelude.{◌++◌};
-ghost use Rattle.sw_lang.specs.Sinks.{Writes};
+ghost use Rattle.sw_lang.specs.Sinks.{Wrote};
 ghost use Rattle.sw_cli.specs.Stats.{after_areas, after_entries, after_maps, after_scans, numbers_text, stats_line, stats_title};
 
 use crate::fault::{write_labelled, write_pair};
@@ -11,8 +11,7 @@ use sw_rows::{Refusal, Sink};
 
 /// The milliseconds, and the line's end.
 fn write_after_scans<W: Sink>(millis: u64, out: &mut W) -> Result<(), Refusal>
-    ensures { Writes (W.taken out.old) (W.taken out.new) (W.failed out.old) (W.failed out.new) result
-        (after_scans millis) }
+    ensures { Wrote W.taken W.failed out.old out.new result (after_scans millis) }
 {
     write_labelled(b" ", millis, out)?;
     write_all(out, b"\n")
@@ -20,8 +19,7 @@ fn write_after_scans<W: Sink>(millis: u64, out: &mut W) -> Result<(), Refusal>
 
 /// The cells of the leases, how many areas scanned, and what comes after.
 fn write_after_maps<W: Sink>(stats: &HeadStats, millis: u64, out: &mut W) -> Result<(), Refusal>
-    ensures { Writes (W.taken out.old) (W.taken out.new) (W.failed out.old) (W.failed out.new) result
-        (after_maps stats.now millis) }
+    ensures { Wrote W.taken W.failed out.old out.new result (after_maps stats.now millis) }
 {
     write_pair(b" ", stats.figures.cells, b" ", stats.scans, out)?;
     write_after_scans(millis, out)
@@ -29,8 +27,7 @@ fn write_after_maps<W: Sink>(stats: &HeadStats, millis: u64, out: &mut W) -> Res
 
 /// How often areas were begun anew, how many maps there are, and what comes after.
 fn write_after_entries<W: Sink>(stats: &HeadStats, millis: u64, out: &mut W) -> Result<(), Refusal>
-    ensures { Writes (W.taken out.old) (W.taken out.new) (W.failed out.old) (W.failed out.new) result
-        (after_entries stats.now millis) }
+    ensures { Wrote W.taken W.failed out.old out.new result (after_entries stats.now millis) }
 {
     write_pair(b" ", stats.figures.restarts, b" ", stats.figures.maps, out)?;
     write_after_maps(stats, millis, out)
@@ -38,8 +35,7 @@ fn write_after_entries<W: Sink>(stats: &HeadStats, millis: u64, out: &mut W) -> 
 
 /// The pieces, the entries of the tapes, and what comes after.
 fn write_after_areas<W: Sink>(stats: &HeadStats, millis: u64, out: &mut W) -> Result<(), Refusal>
-    ensures { Writes (W.taken out.old) (W.taken out.new) (W.failed out.old) (W.failed out.new) result
-        (after_areas stats.now millis) }
+    ensures { Wrote W.taken W.failed out.old out.new result (after_areas stats.now millis) }
 {
     write_pair(b" ", stats.figures.pieces, b" ", stats.figures.entries, out)?;
     write_after_entries(stats, millis, out)
@@ -47,8 +43,7 @@ fn write_after_areas<W: Sink>(stats: &HeadStats, millis: u64, out: &mut W) -> Re
 
 /// The queries, the areas, and what comes after.
 fn write_numbers<W: Sink>(stats: &HeadStats, millis: u64, out: &mut W) -> Result<(), Refusal>
-    ensures { Writes (W.taken out.old) (W.taken out.new) (W.failed out.old) (W.failed out.new) result
-        (numbers_text stats.now millis) }
+    ensures { Wrote W.taken W.failed out.old out.new result (numbers_text stats.now millis) }
 {
     write_pair(b" ", stats.queries, b" ", stats.figures.areas, out)?;
     write_after_areas(stats, millis, out)
@@ -58,7 +53,7 @@ fn write_numbers<W: Sink>(stats: &HeadStats, millis: u64, out: &mut W) -> Result
 ///
 /// Takes no memory. Refused `Output` where the sink fails; then a beginning of the line went out.
 pub fn write_stats_title<W: Sink>(out: &mut W) -> Result<(), Refusal>
-    ensures { Writes (W.taken out.old) (W.taken out.new) (W.failed out.old) (W.failed out.new) result stats_title }
+    ensures { Wrote W.taken W.failed out.old out.new result stats_title }
 {
     write_all(
         out,
@@ -76,8 +71,7 @@ pub fn write_stats_line<W: Sink>(
     millis: u64,
     out: &mut W,
 ) -> Result<(), Refusal>
-    ensures { Writes (W.taken out.old) (W.taken out.new) (W.failed out.old) (W.failed out.new) result
-        (stats_line name.now stats.now millis) }
+    ensures { Wrote W.taken W.failed out.old out.new result (stats_line name.now stats.now millis) }
 {
     write_all(out, name)?;
     write_numbers(stats, millis, out)

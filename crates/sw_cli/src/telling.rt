@@ -1,7 +1,7 @@
 //! The lines of what came of calls.
 
 ghost use Rattle.std.specs.Prelude.{◌≡◌, length};
-ghost use Rattle.sw_lang.specs.Sinks.{Writes};
+ghost use Rattle.sw_lang.specs.Sinks.{Wrote};
 ghost use Rattle.sw_cli.specs.Outcomes.{AreTold, block_bytes, blocks_told, line_before, outcomes_of, refused_line, text_of, told_bytes};
 
 use crate::script::Block;
@@ -11,8 +11,7 @@ use sw_rows::{Call, Refusal, Reply, Schema, Sink};
 
 /// Writes the line of a call that was refused: the number of the refusal. It is 10 where the history is full, else 1.
 fn write_refused<W: Sink>(refusal: &Refusal, out: &mut W) -> Result<(), Refusal>
-    ensures { Writes (W.taken out.old) (W.taken out.new) (W.failed out.old) (W.failed out.new) result
-        (refused_line refusal.now) }
+    ensures { Wrote W.taken W.failed out.old out.new result (refused_line refusal.now) }
 {
     match refusal {
         Refusal::HistoryFull { .. } => write_all(out, b"refused 10\n"),
@@ -29,8 +28,7 @@ pub fn write_told<W: Sink>(
     told: &Result<Reply, Refusal>,
     out: &mut W,
 ) -> Result<(), Refusal>
-    ensures { Writes (W.taken out.old) (W.taken out.new) (W.failed out.old) (W.failed out.new) result
-        (told_bytes schema.now call.now told.now) }
+    ensures { Wrote W.taken W.failed out.old out.new result (told_bytes schema.now call.now told.now) }
 {
     match told {
         Ok(reply) => write_reply(schema, call, reply, out),
@@ -40,8 +38,7 @@ pub fn write_told<W: Sink>(
 
 /// Writes the line before a block that comes after so many others: none before the first.
 pub(crate) fn write_divider<W: Sink>(before: usize, out: &mut W) -> Result<(), Refusal>
-    ensures { Writes (W.taken out.old) (W.taken out.new) (W.failed out.old) (W.failed out.new) result
-        (line_before before) }
+    ensures { Wrote W.taken W.failed out.old out.new result (line_before before) }
 {
     if before == 0 {
         return Ok(());
@@ -81,8 +78,7 @@ fn write_block<W: Sink>(
     out: &mut W,
 ) -> Result<(), Refusal>
     requires { length told.now ≡ length calls.now }
-    ensures { Writes (W.taken out.old) (W.taken out.new) (W.failed out.old) (W.failed out.new) result
-        (block_bytes schema.now (outcomes_of calls.now told.now)) }
+    ensures { Wrote W.taken W.failed out.old out.new result (block_bytes schema.now (outcomes_of calls.now told.now)) }
 {
     for place in 0..calls.len() {
         write_told(schema, &calls[place], &told[place], out)?;
@@ -98,8 +94,7 @@ pub(crate) fn write_blocks<W: Sink>(
     out: &mut W,
 ) -> Result<(), Refusal>
     requires { AreTold blocks.now told.now }
-    ensures { Writes (W.taken out.old) (W.taken out.new) (W.failed out.old) (W.failed out.new) result
-        (text_of schema.now (blocks_told blocks.now told.now)) }
+    ensures { Wrote W.taken W.failed out.old out.new result (text_of schema.now (blocks_told blocks.now told.now)) }
 {
     for place in 0..blocks.len() {
         write_divider(place, out)?;

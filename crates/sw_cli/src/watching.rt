@@ -1,7 +1,7 @@
 //! Whether a line of bytes that come in pieces is that of a refused call.
 
 ghost use Rattle.std.specs.Prelude.{◌≡◌, ◌++◌, ◌∷◌, ◌||◌, ℕ, List, []};
-ghost use Rattle.sw_cli.specs.RefusedLines.{comes, tells_refusal, tells_then};
+ghost use Rattle.sw_cli.specs.RefusedLines.{Notes, comes, tells_refusal, tells_then};
 
 /// How the line of a refused call begins.
 const REFUSED: [u8; 8] = *b"refused ";
@@ -64,7 +64,7 @@ impl Watch {
 
     /// Sees more bytes.
     pub(crate) fn note(&mut self, bytes: &[u8])
-        ensures { (later : List ℕ) → tells_then self.new later ≡ tells_then self.old (bytes.now ++ later) }
+        ensures { Notes self.old self.new bytes.now }
     {
         let mut rest = bytes;
         while let Some((byte, more)) = rest.split_first() {

@@ -36,8 +36,8 @@ next_refused most b (refusal.Ahead _ _) fewer few why = absurd why
 -- ---- tickets of sessions that were made
 
 -- one whose share agrees with its row
-pub is_made : (opening : List Row) (s : Books) (rows heads : List (Books × Bool)) (k n : ℕ) (a : Books) (receipt : List (List Update)) → IsTied s rows heads → slice_get rows k ≡ Some (a, false) → n ≡ k + 1 → IsMade (length (map (λ r. r.1) rows)) (session_shown opening n a receipt)
-is_made opening s rows heads k n a receipt tied at is =
+pub is_made : (opening : List Row) (s : Books) (rows heads : List (Books × Bool)) (k n : ℕ) (a : Books) (receipt : List (List Update)) (missed : ℕ) → IsTied s rows heads → slice_get rows k ≡ Some (a, false) → n ≡ k + 1 → IsMade (length (map (λ r. r.1) rows)) (session_shown opening n a receipt missed)
+is_made opening s rows heads k n a receipt missed tied at is =
     let low = get_below rows k (a, false) at in
     let many : length (map (λ (r : Books × Bool). r.1) rows) ≡ length rows = length-map rows (λ (r : Books × Bool). r.1) in
     let saw : a.sessions ≤ s.sessions = (shown_is s rows heads k n a tied at is).4 in

@@ -109,8 +109,8 @@ new_absent b x n opens known =
     ap (λ (y : Books). is_absent n y.entries) opens.2 ∙ known n unknown
 
 -- a session that was just opened
-pub new_session : (opening : List Row) (name : ℕ) (b : Books) (n : ℕ) (share : Share Books) (receipt : List (List Update)) → IsNewShare name b n share → updates_in receipt ≡ published_of opening share.value → IsNew (session_shown opening n share.value receipt)
-new_session opening name b n share receipt h is = record {
+pub new_session : (opening : List Row) (name : ℕ) (b : Books) (n : ℕ) (share : Share Books) (receipt : List (List Update)) (missed : ℕ) → IsNewShare name b n share → updates_in receipt ≡ published_of opening share.value → IsNew (session_shown opening n share.value receipt missed)
+new_session opening name b n share receipt missed h is = record {
   number = h.0 ∙ ap (λ (x : Books). x.sessions) (sym h.3);
   none = ap (λ (x : Books). mine n x.entries) h.3 ∙ mine_absent n b.entries h.5;
   own = ap (λ (x : Books). own n x.entries) h.3 ∙ own_absent n b.entries h.5;

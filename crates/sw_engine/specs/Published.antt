@@ -3,6 +3,7 @@ use Rattle.std.specs.Prelude.{ℕ, ◌≡◌, ◌≤◌, ◌+◌, ◌++◌, List
 use mathlib.Core.List.{IsPrefix}
 use Rattle.sw_table.specs.declared.row.Row.{Row}
 use Rattle.sw_table.specs.declared.row.Update.{Update}
+use Rattle.sw_rows.specs.Gives.{Raised}
 use Rattle.sw_rows.specs.declared.query.Query.{Query}
 use Rattle.sw_rows.specs.declared.query.Call.{Call}
 use Rattle.sw_rows.specs.declared.query.Call.TheVariants as call
@@ -80,7 +81,7 @@ pub record IsShelfOf (limit : ℕ) (opening : List Row) (b : Books) (s : Shelved
 
 -- nothing stands in the book, nothing is published, and no viewer was opened
 abbrev pub no_versions : Shelved
-no_versions = record { booked = []; published = []; viewers = 0 }
+no_versions = record { booked = []; published = []; viewers = 0; missed = 0 }
 
 -- a call is answered at the end of the history, and the spine has the number of the updates that are published
 abbrev pub with_committed : List Row → ℕ → Call → Shelved → Books → Books
@@ -107,10 +108,12 @@ RefusesViewing other = ⊥
 
 -- ---- receipts
 
--- what a session shows of them: the batches that it has the receipt of; and what its share shows, which is, as of its last
--- visit, the updates that are published, the entries of the history and how many sessions were made
+-- what a session shows of them: the batches that it has the receipt of; how often it could not publish for want of memory; and
+-- what its share shows, which is, as of its last visit, the updates that are published, the entries of the history and how many
+-- sessions were made
 pub record Receipted : Type 0 where
   pub given : List (List Update)
+  pub missed : ℕ
   pub published : List Update
   pub entries : List Entry
   pub sessions : ℕ
@@ -119,11 +122,17 @@ pub record Receipted : Type 0 where
 abbrev pub Shown : Type 0
 Shown = ℕ × List (Call × Reply) × Receipted
 
-abbrev pub session_shown : List Row → ℕ → Books → List (List Update) → Shown
-session_shown opening session b receipt = (
+abbrev pub session_shown : List Row → ℕ → Books → List (List Update) → ℕ → Shown
+session_shown opening session b receipt missed = (
   session,
   mine session b.entries,
-  record { given = receipt; published = published_of opening b; entries = b.entries; sessions = b.sessions },
+  record {
+    given = receipt;
+    missed = missed;
+    published = published_of opening b;
+    entries = b.entries;
+    sessions = b.sessions;
+  },
 )
 
 -- of them, the number and the calls that were answered
@@ -137,6 +146,11 @@ GivesReceipt told old new =
     MatchResult told
     (λ _. (updates_in new.given ≡ new.published) × IsPrefix old.given new.given)
     (λ _. new.given ≡ old.given)
+
+-- a publish is refused only where there was no memory for it, which is counted
+abbrev pub CountsMisses : {A : Type 0} → Result A Refusal → Receipted → Receipted → Type 0
+CountsMisses told old new =
+    MatchResult told (λ _. new.missed ≡ old.missed) (λ e. (e ≡ refusal.NoMemory) × Raised old.missed new.missed)
 
 -- a select leaves it
 abbrev pub CallGives : {A E : Type 0} → Call → Result A E → Receipted → Receipted → Type 0

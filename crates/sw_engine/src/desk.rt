@@ -15,6 +15,7 @@ ghost use Rattle.sw_engine.specs.Desk.{AreGiven, IsAnswered, IsAtRest, IsBegun, 
 
 use crate::counting::Counters;
 use crate::latch::LatchedHead;
+use crate::misses::Misses;
 use std::alloc::Global;
 use std::marker::{Model, PhantomData};
 use std::snapshot::Snapshot;
@@ -60,12 +61,13 @@ impl Blank {
 }
 
 /// What a session carries. Contracts see what they see of the session: its number, the calls that were answered to it, its
-/// receipt, and the history as it was at its last visit, with the session's own entries.
+/// receipt, how often it could not publish, and the history as it was at its last visit, with the session's own entries.
 #[derive(Drop)]
 pub struct Ticket<J: Naming> {
     pub(crate) number: u64,
     pub(crate) share: Share<Spine>,
     pub(crate) receipt: Front<J>,
+    pub(crate) misses: Misses,
 }
 
 impl<J: Naming> Model for Ticket<J> {
@@ -73,20 +75,26 @@ impl<J: Naming> Model for Ticket<J> {
 
     ghost Value = { Shown };
 
-    ghost view = { λ t. session_shown J.opening t.number t.share.value t.receipt };
+    ghost view = { λ t. session_shown J.opening t.number t.share.value t.receipt t.misses };
 
     ghost invariant = { λ t. IsHeld J.sessions J.limit J.opening t.number t.share t.receipt };
 }
 
 impl<J: Naming> Ticket<J> {
-    pub(crate) fn new(number: u64, share: Share<Spine>, receipt: Front<J>) -> Ticket<J>
+    pub(crate) fn new(
+        number: u64,
+        share: Share<Spine>,
+        receipt: Front<J>,
+        misses: Misses,
+    ) -> Ticket<J>
         requires { IsHeld J.sessions J.limit J.opening number share receipt }
-        ensures { result ≡ session_shown J.opening number share.value receipt }
+        ensures { result ≡ session_shown J.opening number share.value receipt misses }
     {
         Ticket {
             number,
             share,
             receipt,
+            misses,
         }
     }
 }

@@ -15,7 +15,7 @@ ghost use Rattle.sw_versions.specs.Lists.{IsLonger};
 ghost use Rattle.sw_versions.specs.Pending.{IsPlain};
 ghost use Rattle.sw_versions.specs.Refused.{IsAhead};
 ghost use Rattle.sw_versions.specs.Rules.{updates_in};
-ghost use Rattle.sw_engine.specs.Published.{CallGives, EndWithEntries, GivesReceipt, Grows, HaveAll, IsOfFirst, IsWhole, RefusesViewing, TellsAll, answered_to, published_of};
+ghost use Rattle.sw_engine.specs.Published.{CallGives, CountsMisses, EndWithEntries, GivesReceipt, Grows, HaveAll, IsOfFirst, IsWhole, RefusesViewing, TellsAll, answered_to, published_of};
 ghost use Rattle.sw_engine.specs.Headline.{IsHistoryOfOneThread};
 ghost use Rattle.sw_engine.specs.Later.{Begin};
 ghost use Rattle.sw_engine.specs.Own.{Commits, IsEnded, IsLastOwn, IsNew, LeavesCall, LeavesCommit, LeavesSelect, Selects, Stays, own_of};
@@ -24,7 +24,8 @@ use crate::conds::add_all;
 use crate::counting::HeadStats;
 use crate::desk::{Blank, Desk, Ticket};
 use crate::latch::{LatchedHead, head_of};
-use crate::locked::LockedDesk;
+use crate::locked::{LockedDesk, Miss};
+use crate::misses::Misses;
 use crate::opening::Opening;
 use crate::viewing::{Receipt, Viewer};
 use crossbeam_utils::Backoff;
@@ -203,12 +204,14 @@ where
             number,
             share,
             receipt,
+            misses,
         } = ticket;
         Session {
             engine: self,
             number,
             share,
             receipt,
+            misses,
         }
     }
 
@@ -220,11 +223,13 @@ where
         ensures refused { IfErr result (TooManySessions J.most) }
     {
         let (number, share, receipt) = self.visit(rt).enrol()?;
+        let misses = Misses::new();
         Ok(Session {
             engine: self,
             number,
             share,
             receipt,
+            misses,
         })
     }
 
@@ -448,13 +453,13 @@ where
     }
 
     /// Publishes all updates of the history that are not published yet, in visits between which it waits for viewers that read
-    /// the copy that is to be written. Refused `NoMemory` alone.
+    /// the copy that is to be written. Without memory for it what a visit missed.
     fn publish<R: Wait>(
         &self,
         rt: &R,
         number: u64,
         share: &mut Share<Spine>,
-    ) -> Result<Receipt<J>, Refusal>
+    ) -> Result<Receipt<J>, Miss>
         requires rest { IsAtRest J.sessions number share.old }
         requires whole { IsWhole J.limit J.opening share.old.value }
         ensures rest { IsAtRest J.sessions number share.new }
@@ -464,7 +469,6 @@ where
         ensures whole { IsWhole J.limit J.opening share.new.value }
         ensures receipt { IfOk result (λ r. updates_in r ≡ published_of J.opening share.new.value) }
         ensures all { IfOk result (HaveAll J.limit J.opening share.new.value.entries) }
-        ensures refused { IsOkUnless result NoMemory }
     {
         let backoff = Backoff::new();
         for _ in rt.forever() {
@@ -472,8 +476,8 @@ where
             if came.whole {
                 return Ok(came.receipt);
             }
-            if !came.put_off {
-                return Err(Refusal::NoMemory);
+            if let Some(miss) = came.miss {
+                return Err(miss);
             }
             backoff.snooze();
         }
@@ -551,6 +555,7 @@ where
     number: u64,
     share: Share<Spine>,
     receipt: Receipt<J>,
+    misses: Misses,
 }
 
 impl<'e, J: Naming, M: CrackerMap> Model for Session<'e, J, M>
@@ -561,7 +566,7 @@ where
 
     ghost Value = { Shown };
 
-    ghost view = { λ s. session_shown J.opening s.number s.share.value s.receipt };
+    ghost view = { λ s. session_shown J.opening s.number s.share.value s.receipt s.misses };
 
     ghost invariant = { λ s. IsHeld J.sessions J.limit J.opening s.number s.share s.receipt };
 }
@@ -610,6 +615,7 @@ where
             number,
             share,
             receipt,
+            ..
         } = self;
         engine.commit(rt, *number, share, receipt, call)
     }
@@ -700,7 +706,8 @@ where
     /// Publishes all updates of the history that are not published yet, and the session has the receipt of all of them. For that
     /// it waits for viewers that read, and does not hold the history meanwhile.
     ///
-    /// Refused `NoMemory` alone; then the session's receipt is as it was, and a later call publishes them.
+    /// Refused `NoMemory` alone, where there was no memory for it, which is counted: never since a viewer reads. Then the
+    /// session's receipt is as it was, and a later call publishes them.
     pub fn publish<R: Wait>(&mut self, rt: &R) -> Result<Receipt<J>, Refusal>
         ensures number { self.new.0 ≡ self.old.0 }
         ensures mine { self.new.1 ≡ self.old.1 }
@@ -709,19 +716,34 @@ where
         ensures receipt { GivesReceipt result self.old.2 self.new.2 }
         ensures told { IfOk result (λ r. r ≡ self.new.2.given) }
         ensures all { IfOk result (HaveAll J.limit J.opening self.new.2.entries) }
-        ensures refused { IsOkUnless result NoMemory }
+        ensures refused { CountsMisses result self.old.2 self.new.2 }
     {
         let Session {
             engine,
             number,
             share,
             receipt,
+            misses,
         } = self;
-        let published = engine.publish(rt, *number, share)?;
+        let published = match engine.publish(rt, *number, share) {
+            Ok(published) => published,
+            Err(miss) => {
+                misses.add(miss);
+                return Err(Refusal::NoMemory);
+            }
+        };
         // for the prover: as in a commit
         let _begins = receipt.begins(&published);
         *receipt = published.again();
         Ok(published)
+    }
+
+    /// How often a publish of the session was refused, since there was no memory for it. The count stays at its type's greatest
+    /// number once it is there.
+    pub fn misses(&self) -> u64
+        ensures { result ≡ self.now.2.missed }
+    {
+        self.misses.count()
     }
 
     /// Whether the session's receipt has all updates of the history, as it is now: what a commit could not publish, since a
@@ -740,6 +762,7 @@ where
             number,
             share,
             receipt,
+            ..
         } = self;
         engine.visit(rt).has_all(*number, share, receipt)
     }
@@ -791,6 +814,7 @@ where
             number,
             share,
             receipt,
+            ..
         } = self;
         let published = engine.meet(rt, *number, share, &mut viewer.reader)?;
         // for the prover: as in a commit
@@ -807,8 +831,9 @@ where
             number,
             share,
             receipt,
+            misses,
             ..
         } = self;
-        Ticket::new(number, share, receipt)
+        Ticket::new(number, share, receipt, misses)
     }
 }

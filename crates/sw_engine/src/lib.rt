@@ -9,6 +9,7 @@ mod engine;
 mod latch;
 mod leading;
 mod locked;
+mod misses;
 mod opening;
 mod viewing;
 

@@ -1,6 +1,6 @@
 //! What lies under the lock: the desk, and the shelf of what viewers read.
 
-ghost use Rattle.std.specs.Prelude.{◌≡◌, ◌⊎◌, ◌<◌, ◌≤◌, ◌+◌, [], false, None, Some, length, All, IfErr, IfOk, IsSome, IsSomeAnd, MatchBool, OnErr, OnOk, true};
+ghost use Rattle.std.specs.Prelude.{◌≡◌, ◌⊎◌, ◌<◌, ◌≤◌, ◌+◌, [], false, None, Some, is_some, length, All, IfErr, IfOk, IsSome, IsSomeAnd, MatchBool, OnErr, OnOk, true};
 ghost use mathlib.Core.List.{IsPrefix};
 ghost use Rattle.sw_rows.specs.declared.query.Call.TheVariants.{Select};
 ghost use Rattle.sw_rows.specs.declared.table.TheConstants.{MOST_ROWS};
@@ -8,10 +8,11 @@ ghost use Rattle.sw_spine.specs.Table.{is_numbered, reply_to};
 ghost use Rattle.sw_spine.specs.History.{CallsBelow, is_select, mine};
 ghost use Rattle.sw_spine.specs.Books.{new_books, waits_for, with_published, with_session, with_settled};
 ghost use Rattle.sw_spine.specs.declared.history.State.TheVariants.{Answered, Open, Void};
-ghost use Rattle.sw_versions.specs.Pending.{HasShownOr, IsPlain};
+ghost use Rattle.sw_versions.specs.Pending.{HasShownOr, IsPlain, TellsCame};
 ghost use Rattle.sw_versions.specs.Lists.{IsLonger};
 ghost use Rattle.sw_versions.specs.Refused.{IsAhead, RefusesViewer};
 ghost use Rattle.sw_versions.specs.Rules.{updates_in};
+ghost use Rattle.sw_versions.specs.declared.came.Came.TheVariants.{Missed};
 ghost use Rattle.sw_versions.specs.declared.viewer.TheConstants.{MOST_VIEWERS};
 ghost use Rattle.sw_engine.specs.Own.{Adds, IsLastOwn, IsNew, Settles, Stays};
 ghost use Rattle.sw_engine.specs.Desk.{AreOut, InOrder, IsAnswered, IsAtRest, IsBegun, IsMade, IsShareOf, IsTold, RefusesCall, RefusesMany, RefusesNext, TellsFull};
@@ -19,6 +20,7 @@ ghost use Rattle.sw_engine.specs.Published.{EndWithEntries, Grows, IsNewShare, I
 
 use crate::desk::{Desk, Ticket};
 use crate::latch::LatchedHead;
+use crate::misses::Misses;
 use left_right::Absorb;
 use std::alloc::Global;
 use std::marker::Model;
@@ -27,7 +29,26 @@ use sw_map::CrackerMap;
 use sw_rows::{Call, PackedRows, Query, Refusal, Reply, Update};
 use sw_spine::Spine;
 use sw_tie::Share;
-use sw_versions::{Book, Front, Live, Naming, Op, Opened, Shelf, Viewer};
+use sw_versions::{Book, Came, Front, Live, Naming, Op, Opened, Shelf, Viewer};
+
+/// A publishing that there was no memory for. Only a visit that came to one makes it.
+#[derive(Drop)]
+pub(crate) struct Miss {
+    of: Came,
+    ghost missed: { of ≡ Missed },
+}
+
+impl Miss {
+    /// One where that came of it.
+    fn of(came: Came) -> Option<Miss>
+        ensures { MatchBool (is_some result) (came ≡ Missed) (came ≡ Missed → ⊥) }
+    {
+        match came {
+            Came::Missed => Some(Miss { of: came }),
+            _ => None,
+        }
+    }
+}
 
 /// What a publishing came to.
 #[derive(Drop)]
@@ -36,8 +57,10 @@ pub struct Published<J: Naming> {
     pub receipt: Front<J>,
     /// Whether it has all updates of the history.
     pub whole: bool,
-    /// Whether it was put off, since a viewer still reads the copy that would be written.
-    pub put_off: bool,
+    /// Whether all of them are published, or why not.
+    pub came: Came,
+    /// That there was no memory for it.
+    pub miss: Option<Miss>,
 }
 
 /// Whether a beginning of updates has all of them.
@@ -137,7 +160,8 @@ where
         ensures refused { IfErr result (λ e. (self.new ≡ self.old) × RefusesNext J.most self.old.desk.books e) }
     {
         let (number, share, receipt) = self.enrol()?;
-        Ok(Ticket::new(number, share, receipt))
+        let misses = Misses::new();
+        Ok(Ticket::new(number, share, receipt, misses))
     }
 
     /// Whether as many tickets came back as sessions were made; otherwise both numbers are told. Nothing changes. The tickets
@@ -252,13 +276,15 @@ where
         ensures all { TellsAll J.limit J.opening share.new.value.entries result.receipt result.whole }
         ensures books { self.new.desk.books
             ≡ with_published (length J.opening + length (updates_in self.new.shelf.published)) self.old.desk.books }
+        ensures came { TellsCame result.came (later J.opening self.new.desk.books) self.old.shelf self.new.shelf }
+        ensures missed { MatchBool (is_some result.miss) (result.came ≡ Missed) (result.came ≡ Missed → ⊥) }
         ensures published { HasShownOr (later J.opening self.new.desk.books) self.old.shelf self.new.shelf }
         ensures entries { EndWithEntries J.limit J.opening self.new.desk.books.entries self.new.shelf.published }
         ensures longer { IsPrefix self.old.shelf.published self.new.shelf.published }
         ensures viewers { self.new.shelf.viewers ≡ self.old.shelf.viewers }
     {
         let LockedDesk { desk, shelf, book } = self;
-        let put_off = shelf.catch_up(rt, book, desk.later());
+        let came = shelf.catch_up(rt, book, desk.later());
         let receipt = shelf.published();
         let count = book.count(&receipt);
         let whole = has_all(&receipt, desk.later());
@@ -266,7 +292,8 @@ where
         Published {
             receipt,
             whole,
-            put_off,
+            came,
+            miss: Miss::of(came),
         }
     }
 

@@ -16,6 +16,7 @@ later_same : (e f : Entry) → IsLater e f → is_open e.state ≡ false → f �
 later_same e f (inl same) closed = same
 later_same e f (inr l) closed = absurd (false≢true (sym closed ∙ l.0))
 
+-- an entry that is not open stays at its place
 pub placed : (es fs : List Entry) (p : ℕ) (e : Entry) → Begin es fs → slice_get es p ≡ Some e → is_open e.state ≡ false → slice_get fs p ≡ Some e
 placed [] fs p e begin at closed = absurd (cc)
 placed (x ∷ es) [] p e begin at closed = absurd begin
@@ -41,6 +42,7 @@ first_same limit us (e ∷ es) (f ∷ fs) (suc n) begin le =
     ap (λ (c : Call). updates_after limit (updates_then limit us c) (take n fs)) (later_call e f begin.0)
     ∙ first_same limit (updates_then limit us e.call) es fs n begin.1 (omega (arith, le))
 
+-- what batches end with stays
 pub ends_stay : (limit : ℕ) (opening : List Row) (es fs : List Entry) (batches : List (List Update)) → Begin es fs → EndWithEntries limit opening es batches → EndWithEntries limit opening fs batches
 ends_stay limit opening es fs batches begin ends k = first_stays (updates_in (take k batches)) (ends k)
   where

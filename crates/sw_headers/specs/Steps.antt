@@ -84,9 +84,12 @@ or_quotes false (b ∷ bytes) = b ∷ bytes
 abbrev pub closing : List ℕ → List Bool → Place → List ℕ
 closing header keeps p = or_quotes p.has_bytes (ending header keeps p)
 
--- the same of a record that is not the first
-abbrev pub closing_later : List Bool → Place → List ℕ
-closing_later keeps p = or_quotes p.has_bytes (replicate (commas keeps p.field) 44)
+-- the same of the first record, and of another one
+abbrev pub closing_first : List ℕ → List Bool → Place → List ℕ
+closing_first header keeps p = or_quotes p.has_bytes header
+
+abbrev pub closing_later : List ℕ → List Bool → Place → List ℕ
+closing_later header keeps p = or_quotes p.has_bytes (replicate (commas keeps p.field) 44)
 
 -- the place before a record that is not the first
 abbrev pub fresh : Place → Place

@@ -1,5 +1,5 @@
 -- What the records of a text are under a header that stands in place of its first.
-use Rattle.std.specs.Prelude.{◌≡◌, ◌+◌, ◌++◌, ◌==◌, ◌&&◌, ◌||◌, ℕ, Bool, true, not, List, [], ◌∷◌, get_or, if◌then◌else◌, length, map, nat_lt, replicate}
+use Rattle.std.specs.Prelude.{◌≡◌, ◌+◌, ◌++◌, ◌==◌, ◌&&◌, ◌||◌, ℕ, Bool, true, false, not, List, [], ◌∷◌, get_or, if◌then◌else◌, length, map, nat_lt, replicate}
 use Rattle.std.specs.List.{list_all}
 use Rattle.csv.specs.Reading.{default_config, records, strip_bom}
 
@@ -49,6 +49,10 @@ record_under keeps fields =
 abbrev pub records_under : List ℕ → List Bool → List Fields → List Fields
 records_under header keeps [] = []
 records_under header keeps (first ∷ others) = words header ∷ map (record_under keeps) others
+
+-- of three columns the second is passed by, in examples
+abbrev pub without_second : List Bool
+without_second = true ∷ false ∷ true ∷ []
 
 -- no double quote, no line end, and no byte order mark at the front
 abbrev pub is_plain_byte : ℕ → Bool

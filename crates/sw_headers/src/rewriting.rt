@@ -5,7 +5,7 @@
 
 ghost use Rattle.std.specs.Prelude.{◌≡◌, ◌<◌, ◌≤◌, ◌==◌, ◌||◌, ◌++◌, [], length, position, replicate, take, true, IfOk, OnOk};
 ghost use Rattle.std.specs.List.{list_all};
-ghost use Rattle.sw_headers.specs.Steps.{Goes, TakesIn, begun, by, closing, closing_later, copied, copied_run, entered, fed, finished, fresh, inside, is_kept, is_line_end, is_mark, missed_after, missed_in, next_spot, opened, or_quotes, outside, start, stays, stepped, taken, unmarked};
+ghost use Rattle.sw_headers.specs.Steps.{Goes, TakesIn, begun, by, closing, closing_first, closing_later, copied, copied_run, entered, fed, finished, fresh, inside, is_kept, is_line_end, is_mark, missed_after, missed_in, next_spot, opened, outside, start, stays, stepped, taken, unmarked};
 ghost use Rattle.sw_headers.specs.declared.rewriting.Spot.TheVariants.{Before, Plain, Quoted};
 
 use crate::header::Header;
@@ -355,8 +355,7 @@ impl Rewriter {
 
     /// The first record at hand ends: the header stands in its place.
     fn close_first(&mut self) -> Result<(), AllocError>
-        ensures { OnOk result (Goes self.old self.new
-            (self.old.place, or_quotes self.old.place.has_bytes self.old.header.record.items)) }
+        ensures { OnOk result (Goes self.old self.new (self.old.place, by closing_first self.old)) }
     {
         if !self.place.has_bytes && self.header.record().is_empty() {
             return self.push_many(b'"', 2);
@@ -367,7 +366,7 @@ impl Rewriter {
     /// A record at hand ends. One with fewer fields than the text has columns becomes one with another number than are kept,
     /// and one of which nothing was given on an empty field.
     fn close_other(&mut self) -> Result<(), AllocError>
-        ensures { OnOk result (Goes self.old self.new (self.old.place, closing_later self.old.header.keeps.items self.old.place)) }
+        ensures { OnOk result (Goes self.old self.new (self.old.place, by closing_later self.old)) }
     {
         let commas = self.header.commas(self.place.field);
         if !self.place.has_bytes && commas == 0 {

@@ -48,21 +48,29 @@ parted_text n given listed = codes "given, " ++ (line_at n given ++ (codes "the 
 abbrev pub ShowsParting : List (List ℕ) → List (List ℕ) → List ℕ → Type 0
 ShowsParting given listed text = (n : ℕ) × PartAt n given listed × (text ≡ parted_text n given listed)
 
+-- the same of an entry under these attributes, whose reply stands first
+abbrev pub ShowsPartingOf : List Column → Entry → List (List ℕ) → List ℕ → Type 0
+ShowsPartingOf columns e listed text = ShowsParting (given_lines columns e.call e.state) listed text
+
 -- a text explains why the entry at a place, counted from 1, does not agree: it names the entry, shows its reply and the
 -- list's where they part, and then says more
 abbrev pub Explains : History → ℕ → List ℕ → Type 0
 Explains h place text =
     (e : Entry) × (listed : Reply) × (parting : List ℕ) × (more : List ℕ)
     × (slice_get h.entries (place - 1) ≡ Some e) × IsExpectedAt h (place - 1) listed
-    × ShowsParting (given_lines h.columns e.call e.state) (reply_lines h.columns e.call listed) parting
+    × ShowsPartingOf h.columns e (reply_lines h.columns e.call listed) parting
     × (text ≡ entry_line h.columns place e ++ (parting ++ more))
+
+-- what is said of an entry that does not agree: the verdict's line, and why
+abbrev pub said : ℕ → List ℕ → List ℕ
+said place why = illegal_line place ++ why
 
 -- the verdict's line, and where the history is not legal its explanation
 abbrev pub IsExplained : History → ℕ → List ℕ → Type 0
 IsExplained h status text =
     (IsLegal h × (status ≡ 0) × (text ≡ legal_line (length h.entries)))
     ⊎ ((place : ℕ) × (why : List ℕ) × IsFirstFault h place × Explains h place why
-    × (status ≡ 1) × (text ≡ illegal_line place ++ why))
+    × (status ≡ 1) × (text ≡ said place why))
 
 abbrev pub HasExplained : History → ℕ → Option (List ℕ) → Option (List ℕ) → ℕ → ℕ → Type 0
 HasExplained h status old new f g = (text : List ℕ) × IsExplained h status text × Took old new text × (g ≡ f)

@@ -8,11 +8,17 @@ use Rattle.sw_spine.specs.History.{History, IsLegal}
 use Rattle.sw_spine.specs.Checks.{IsFirstFault}
 use Rattle.sw_histories.specs.RecordReading.{record_at}
 
+abbrev pub count_line : ℕ → List ℕ
+count_line n = decimal n ++ codes " entries\n"
+
 abbrev pub legal_line : ℕ → List ℕ
-legal_line n = codes "legal: " ++ (decimal n ++ codes " entries\n")
+legal_line n = codes "legal: " ++ count_line n
+
+abbrev pub place_line : ℕ → List ℕ
+place_line place = decimal place ++ codes "\n"
 
 abbrev pub illegal_line : ℕ → List ℕ
-illegal_line place = codes "not legal: entry " ++ (decimal place ++ codes "\n")
+illegal_line place = codes "not legal: entry " ++ place_line place
 
 -- status 0 and the number of entries where the history is legal; otherwise status 1 and the first entry that is not
 abbrev pub IsVerdict : History → ℕ → List ℕ → Type 0

@@ -9,7 +9,9 @@ use Rattle.sw_rows.specs.declared.query.Call.TheVariants as call
 use Rattle.sw_rows.specs.declared.query.Want.TheVariants as want
 use Rattle.sw_lang.specs.PrintedExamples.{abc, asking, asking_where, at_least, at_most, cond}
 use Rattle.sw_spine.specs.History.{History, entry}
+use Rattle.sw_rows.specs.declared.reply.Reply.TheVariants as reply
 use Rattle.sw_spine.specs.declared.history.State.{State}
+use Rattle.sw_spine.specs.declared.history.State.TheVariants as state
 
 abbrev pub row_abc : ℕ → ℤ → ℤ → ℤ → Row
 row_abc key a b c = row_of key (padded (a ∷ b ∷ c ∷ []))
@@ -68,6 +70,10 @@ visited first second = record {
       entry 1 (asking_where want.Count (cond 0 (at_least (pos 1)) (at_most (pos 1)) ∷ [])) first
       ∷ entry 1 (call.Insert (padded (pos 3 ∷ pos 4 ∷ []))) second ∷ [];
 }
+
+-- the same after a run
+abbrev pub visited_once : History
+visited_once = visited (state.Answered (reply.Count 2)) (state.Answered (reply.Inserted 4))
 
 abbrev pub visited_file : List ℕ
 visited_file =

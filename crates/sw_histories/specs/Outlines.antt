@@ -20,8 +20,8 @@ use Rattle.sw_spine.specs.declared.history.Entry.{Entry}
 use Rattle.sw_histories.specs.FromTokens.{IsCount, data_from, items_from, members_from}
 use Rattle.sw_histories.specs.RecordReading.{Frame, array_at, columns_in, entries_after, frame, frame_of, has_members, history_of, items_list, limit_in, or_fault, rows_after, rows_up_to}
 use Rattle.sw_histories.specs.Told.{◌>>=◌, Reads}
-use Rattle.sw_histories.specs.declared.outline.ItemsAt.{ItemsAt}
-use Rattle.sw_histories.specs.declared.outline.Outline.{Outline}
+use Rattle.sw_histories.specs.declared.reading.outline.ItemsAt.{ItemsAt}
+use Rattle.sw_histories.specs.declared.reading.outline.Outline.{Outline}
 use Rattle.sw_histories.specs.declared.reading.Front.{Front}
 use Rattle.sw_histories.specs.declared.reading.Outer.{Outer}
 

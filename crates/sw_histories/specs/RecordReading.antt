@@ -129,6 +129,10 @@ cells_of kinds ds = if length ds == length kinds then option_map padded (cells_a
 abbrev pub row_in : List Domain → Data → Option (List ℤ)
 row_in kinds d = option_and_then (λ ds. cells_of kinds (items_list ds)) (as_array d)
 
+-- the cells of a row under attributes that know its texts
+abbrev pub row_read : List Column → Data → Option (List ℤ)
+row_read columns d = row_in (kinds_of (row_learned columns d)) d
+
 -- rows, and behind them one more of these cells, with the next key
 abbrev pub with_row : List Row → List ℤ → List Row
 with_row done cells = done ++ row_of (length done + 1) cells ∷ []
@@ -137,8 +141,7 @@ with_row done cells = done ++ row_of (length done + 1) cells ∷ []
 abbrev pub rows_after : List Column → List Row → List Data → Option (List Column × List Row)
 rows_after columns done [] = Some (columns, done)
 rows_after columns done (d ∷ ds) =
-    option_and_then (λ cells. rows_after (row_learned columns d) (with_row done cells) ds)
-    (row_in (kinds_of (row_learned columns d)) d)
+    option_and_then (λ cells. rows_after (row_learned columns d) (with_row done cells) ds) (row_read columns d)
 
 -- at most as many as the limit
 abbrev pub rows_up_to : List Column → ℕ → List Data → Option (List Column × List Row)

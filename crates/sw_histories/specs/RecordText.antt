@@ -136,3 +136,7 @@ pub record WritesText (old new : Option (List ℕ)) (f g : ℕ) (result : Result
     : Type 0 where
   pub whole : OnOk result (Took old new text × (g ≡ f))
   pub part : IfErr result (Stops old new f g text)
+
+-- the text of a record did so
+abbrev pub WritesRecord : History → Option (List ℕ) → Option (List ℕ) → ℕ → ℕ → Result (Unit {0}) Refusal → Type 0
+WritesRecord h old new f g result = WritesText old new f g result (record_text h)

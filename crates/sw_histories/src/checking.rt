@@ -1,8 +1,9 @@
 //! The check of a history file.
 
-ghost use Rattle.std.specs.Prelude.{◌++◌, codes, decimal};
 ghost use Rattle.sw_lang.specs.Sinks.{Writes};
-ghost use Rattle.sw_histories.specs.FileChecks.{ChecksFile, Judges, illegal_line, legal_line};
+ghost use Rattle.sw_histories.specs.FileChecks.{ChecksFile, Judges, count_line, illegal_line, legal_line, place_line};
+
+pub(crate) mod explaining;
 
 use crate::reading::read_record;
 use std::alloc::Global;
@@ -11,32 +12,28 @@ use sw_rows::{Refusal, Sink, TextKey};
 use sw_spine::Record;
 
 fn write_count<W: Sink>(count: usize, out: &mut W) -> Result<(), Refusal>
-    ensures { Writes (W.taken out.old) (W.taken out.new) (W.failed out.old) (W.failed out.new) result
-        (decimal count ++ codes " entries\n") }
+    ensures { Writes (W.taken out.old) (W.taken out.new) (W.failed out.old) (W.failed out.new) result (count_line count) }
 {
     write_number(count, out)?;
     write_all(out, b" entries\n")
 }
 
 pub(crate) fn write_legal<W: Sink>(count: usize, out: &mut W) -> Result<(), Refusal>
-    ensures { Writes (W.taken out.old) (W.taken out.new) (W.failed out.old) (W.failed out.new) result
-        (legal_line count) }
+    ensures { Writes (W.taken out.old) (W.taken out.new) (W.failed out.old) (W.failed out.new) result (legal_line count) }
 {
     write_all(out, b"legal: ")?;
     write_count(count, out)
 }
 
 fn write_place<W: Sink>(place: u64, out: &mut W) -> Result<(), Refusal>
-    ensures { Writes (W.taken out.old) (W.taken out.new) (W.failed out.old) (W.failed out.new) result
-        (decimal place ++ codes "\n") }
+    ensures { Writes (W.taken out.old) (W.taken out.new) (W.failed out.old) (W.failed out.new) result (place_line place) }
 {
     write_number(place, out)?;
     write_all(out, b"\n")
 }
 
 pub(crate) fn write_illegal<W: Sink>(place: u64, out: &mut W) -> Result<(), Refusal>
-    ensures { Writes (W.taken out.old) (W.taken out.new) (W.failed out.old) (W.failed out.new) result
-        (illegal_line place) }
+    ensures { Writes (W.taken out.old) (W.taken out.new) (W.failed out.old) (W.failed out.new) result (illegal_line place) }
 {
     write_all(out, b"not legal: entry ")?;
     write_place(place, out)

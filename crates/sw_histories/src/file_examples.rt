@@ -6,7 +6,7 @@
 ghost use Rattle.std.specs.Prelude.{◌≡◌, ◌∷◌, [], codes, Err, Ok};
 ghost use Rattle.sw_rows.specs.declared.refusal.Refusal.TheVariants.{BadLine};
 ghost use Rattle.sw_rows.specs.declared.refusal.Why.TheVariants as why;
-ghost use Rattle.sw_histories.specs.FileExamples.{counted, counted_under, deleted, deleted_under, visited, visited_file};
+ghost use Rattle.sw_histories.specs.FileExamples.{counted, counted_under, deleted, deleted_under, visited, visited_file, visited_once};
 ghost use Rattle.sw_histories.specs.ReadBack.{IsOfRun, KnowsInOrder};
 ghost use Rattle.sw_histories.specs.RecordReading.{record_at};
 ghost use Rattle.sw_histories.specs.RecordText.{record_text};
@@ -40,12 +40,11 @@ pub fn one_delete_where()
 /// Two calls on a table of texts: its file has format 2, and shows cells and calls with their texts, which get the same
 /// codes when it is read.
 pub fn two_calls_on_cities()
-    ensures written { record_text (visited (State.Answered (Reply.Count 2)) (State.Answered (Reply.Inserted 4)))
-        ≡ visited_file }
+    ensures written { record_text visited_once ≡ visited_file }
     ensures again { record_text (visited (State.Lines (codes "2" ∷ [])) (State.Lines (codes "key 4" ∷ [])))
         ≡ visited_file }
-    ensures of_run { IsOfRun (visited (State.Answered (Reply.Count 2)) (State.Answered (Reply.Inserted 4))) }
-    ensures in_order { KnowsInOrder (visited (State.Answered (Reply.Count 2)) (State.Answered (Reply.Inserted 4))) }
+    ensures of_run { IsOfRun visited_once }
+    ensures in_order { KnowsInOrder visited_once }
     ensures read { record_at visited_file
         ≡ Ok (visited (State.Lines (codes "2" ∷ [])) (State.Lines (codes "key 4" ∷ []))) }
 {}

@@ -2,16 +2,13 @@
 #![tactic(auto)]
 
 mod checking;
-mod explaining;
 pub mod file_examples;
 mod law;
-mod outline;
 mod reading;
-mod values;
 mod writing;
 
 pub use checking::check_file;
-pub use explaining::explain_file;
+pub use checking::explaining::explain_file;
 pub use law::{
     histories_are_read_as_related, legal_files_are_found_legal, records_are_read_back,
     tables_have_cells, texts_are_read_as_values,

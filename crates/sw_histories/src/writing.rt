@@ -7,7 +7,7 @@ ghost use Rattle.sw_lang.specs.PrintedCalls.{call_text};
 ghost use Rattle.sw_rows.specs.Cells.{HasPlaces};
 ghost use Rattle.sw_rows.specs.Domains.{domain};
 ghost use Rattle.sw_rows.specs.Header.{kinds_of, texts_of};
-ghost use Rattle.sw_histories.specs.RecordText.{Puts, WritesText, attribute_text, attributes_data, cell_data, entries_data, entry_data, format_of, front_text, has_delete_where, is_delete_where, item_text, least_format, record_text, row_data, rows_data, state_data, texts_data};
+ghost use Rattle.sw_histories.specs.RecordText.{Puts, WritesRecord, attribute_text, attributes_data, cell_data, entries_data, entry_data, format_of, front_text, has_delete_where, is_delete_where, item_text, least_format, record_text, row_data, rows_data, state_data, texts_data};
 
 use serde_json::{Value, json};
 use std::alloc::{AllocError, Global};
@@ -41,7 +41,7 @@ pub(crate) fn call_string(alloc: Global, schema: &Schema, call: &Call) -> Result
 /// A name with its type.
 fn attribute_string(alloc: Global, name: &str, kind: Kind) -> Result<String, AllocError>
     requires { HasPlaces kind }
-    ensures { (texts : List (List ℕ)) → IfOk result (λ text. string_bytes text
+    ensures { (texts : List (List ℕ)) → IfOk result (λ t. string_bytes t
         ≡ attribute_text (name.now, domain texts kind)) }
 {
     let mut text = String::from_str(alloc, name)?;
@@ -302,8 +302,7 @@ fn record_bytes(alloc: Global, history: &RecordRef<'_>) -> Result<Vec<u8>, Alloc
 /// Refused `NoMemory`, and then nothing was written, or `Output` where the sink fails, and then a beginning of the text
 /// was.
 pub fn write_record<W: Sink>(alloc: Global, history: &Record, out: &mut W) -> Result<(), Refusal>
-    ensures { WritesText (W.taken out.old) (W.taken out.new) (W.failed out.old) (W.failed out.new) result
-        (record_text history.now) }
+    ensures { WritesRecord history.now (W.taken out.old) (W.taken out.new) (W.failed out.old) (W.failed out.new) result }
 {
     write_record_ref(alloc, &history.by_ref(), out)
 }
@@ -314,8 +313,7 @@ pub fn write_record_ref<W: Sink>(
     history: &RecordRef<'_>,
     out: &mut W,
 ) -> Result<(), Refusal>
-    ensures { WritesText (W.taken out.old) (W.taken out.new) (W.failed out.old) (W.failed out.new) result
-        (record_text history.now) }
+    ensures { WritesRecord history.now (W.taken out.old) (W.taken out.new) (W.failed out.old) (W.failed out.new) result }
 {
     match record_bytes(alloc, history) {
         Ok(text) => write_all(out, text.as_slice()),

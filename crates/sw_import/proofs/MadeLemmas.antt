@@ -23,6 +23,7 @@ longest_miss n m cell e h =
     let is : n ≡ suc m = omega arith in
     rw is (miss m cell (rw is at h))
 
+-- bytes that are a text are taken for one
 pub utf8_true : (bytes : List ℕ) → IsUtf8 bytes → is_utf8 bytes ≡ true
 utf8_true bytes h = is_utf8-from_IsUtf8 bytes h
 
@@ -30,5 +31,6 @@ not_true : (b : Bool) → (b ≡ true → ⊥) → b ≡ false
 not_true true f = absurd (f refl)
 not_true false f = refl
 
+-- bytes that are none are not
 pub utf8_false : (bytes : List ℕ) → (IsUtf8 bytes → ⊥) → is_utf8 bytes ≡ false
 utf8_false bytes bad = not_true (is_utf8 bytes) (λ h. bad (IsUtf8-from_is_utf8 bytes h))

@@ -1,8 +1,9 @@
 -- The records of a text, and what a reader over memory has left of them.
-use Rattle.std.specs.Prelude.{◌≡◌, ◌+◌, ℕ, true, false, List, [], length, Option, Some}
+use Rattle.std.specs.Prelude.{◌≡◌, ◌+◌, ◌∷◌, if◌then◌else◌, ℕ, Bool, true, false, List, [], length, Option, Some}
 use Rattle.std.specs.Option.{option_map_or}
 use denote.Ref.{Bor}
 use Rattle.csv.specs.declared.parser.Config.{Config}
+use Rattle.csv.specs.Records.{Row, fields_of}
 use Rattle.csv.specs.declared.reader.Reader.{Reader}
 use Rattle.csv.specs.declared.reader.Trim.TheVariants as trim
 use Rattle.csv.specs.declared.parser.State.{State}
@@ -27,6 +28,11 @@ text_left rdr = source_of (λ (s : Bor (List ℕ)). Some s.now) rdr
 -- the records that a reader over memory has left
 abbrev pub records_left : Reader (Bor (List ℕ)) → List (List (List ℕ))
 records_left rdr = option_map_or (records_at (reader_config rdr) (reader_state rdr)) (text_left rdr) []
+
+-- the first record that a reader had left was read, where one was found; else it had none
+abbrev pub TakesRecord : Reader (Bor (List ℕ)) → Reader (Bor (List ℕ)) → Row → Bool → Type 0
+TakesRecord old new row found =
+    records_left old ≡ (if found then fields_of row ∷ records_left new else [])
 
 -- a reader of every record, each of any length, with no header row
 pub record IsOpen (rdr : Reader (Bor (List ℕ))) : Type 0 where

@@ -1,7 +1,7 @@
 -- A table that takes records in.
-use Rattle.std.specs.Prelude.{◌≡◌, ◌+◌, ◌⊎◌, ◌<◌, ◌^◌, ◌∷◌, ◌++◌, if◌then◌else◌, ℕ, true, false, List, [], length, nat_eq}
+use Rattle.std.specs.Prelude.{◌≡◌, ◌+◌, ◌⊎◌, ◌<◌, ◌^◌, ◌∷◌, ◌++◌, if◌then◌else◌, ℕ, true, false, List, [], length, nat_eq, Option}
 use Rattle.sw_import.specs.Imports.{AreWritten, has_fault, header_of, left_out_for, rows_by, rows_in, rows_made, told_for}
-use Rattle.sw_import.specs.Made.{sources_of}
+use Rattle.sw_import.specs.Made.{row_made, row_or, sources_of}
 use Rattle.sw_import.specs.Pages.{text_of}
 use Rattle.sw_import.specs.declared.importing.How.{How}
 use Rattle.sw_import.specs.declared.importing.Values.{Values}
@@ -20,6 +20,11 @@ abbrev pub TellsOneMore : ℕ → List Done → List Done → Type 0
 TellsOneMore place old new =
     (length new ≡ length old)
     × ((i : ℕ) → i < length old → TellsMore i (if nat_eq place i then 1 else 0) old new)
+
+-- what is made of a record: these fields, or no row where it is left out for the column at a place
+abbrev pub MakesRow : Maker → List (List ℕ) → Option ℕ → List (List ℕ) → Type 0
+MakesRow maker fields left_out made =
+    row_made maker.rules.now (sources_of maker.plan.now) fields ≡ row_or left_out made
 
 -- a table of its header alone
 pub record IsBegun (plan : List Planned) (table : Table) : Type 0 where
@@ -59,3 +64,7 @@ rows_of values = rows_in values.has_header values.delimiter values.text.now
 abbrev pub IsTableOf : How → List Planned → List (List (List ℕ)) → Table → Type 0
 IsTableOf how plan records table =
     AreWritten how.rules plan how.sample records table.pages table.rows table.done.items
+
+-- the same where a word can tell how many they are
+abbrev pub IsTableOfFew : How → List Planned → List (List (List ℕ)) → Table → Type 0
+IsTableOfFew how plan records table = length records < 2 ^ 64 → IsTableOf how plan records table

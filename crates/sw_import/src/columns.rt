@@ -25,7 +25,7 @@ pub struct Asked<'a> {
 }
 
 /// A column that is written.
-#[derive(Debug, Drop)]
+#[derive(Debug)]
 pub struct Column {
     /// Its place in each row, from 0.
     pub place: usize,
@@ -35,6 +35,18 @@ pub struct Column {
     pub name: Name,
     /// What its cells are, where that was asked for.
     pub given: Option<Form>,
+}
+
+// By hand: the drop of a derived one is written out at each way out of a function.
+impl Drop for Column {
+    fn drop(self) {
+        let Self {
+            place: _,
+            heading: _heading,
+            name: _name,
+            given: _,
+        } = self;
+    }
 }
 
 impl Column {

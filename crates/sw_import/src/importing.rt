@@ -3,7 +3,7 @@
 ghost use Rattle.std.specs.Prelude.{◌≡◌, ◌<◌, ◌^◌, length, vec_len, IfOk, OnOk};
 ghost use Rattle.sw_import.specs.Imports.{IsImportOf, IsTable};
 ghost use Rattle.sw_import.specs.Records.{IsOpen, records_left};
-ghost use Rattle.sw_import.specs.Taken.{IsTableOf, rows_of};
+ghost use Rattle.sw_import.specs.Taken.{IsTableOfFew, rows_of};
 
 use crate::columns::{Asked, Column, columns_of, field};
 use crate::evidence::Evidence;
@@ -37,7 +37,6 @@ pub struct How<'a> {
 }
 
 /// A table that was made, and what was done for it.
-#[derive(Drop)]
 pub struct Imported {
     /// The bytes of the table.
     pub bytes: Vec<u8>,
@@ -51,6 +50,20 @@ pub struct Imported {
     pub written: u64,
     /// The columns that were not written.
     pub others: Vec<At>,
+}
+
+// By hand: the drop of a derived one is written out at each way out of a function.
+impl Drop for Imported {
+    fn drop(self) {
+        let Self {
+            bytes: _bytes,
+            plan: _plan,
+            done: _done,
+            read: _,
+            written: _,
+            others: _others,
+        } = self;
+    }
 }
 
 /// The values of a text, and how many each record has.
@@ -253,8 +266,7 @@ fn write_table(
     how: &How<'_>,
     plan: &[Planned],
 ) -> Result<Table, Fault>
-    ensures { IfOk result (λ table. length (rows_of values.entry) < 2 ^ 64
-        → IsTableOf how.now plan.now (rows_of values.entry) table) }
+    ensures { IfOk result (IsTableOfFew how.now plan.now (rows_of values.entry)) }
 {
     let mut row = ByteRecord::new(alloc);
     let mut rdr = values.rows(alloc, &mut row)?;

@@ -10,7 +10,6 @@ use std::alloc::{AllocError, Global};
 use sw_rows::TextKey;
 
 /// What becomes of a column.
-#[derive(Drop)]
 pub struct Planned {
     /// The column.
     pub column: Column,
@@ -20,6 +19,18 @@ pub struct Planned {
     pub form: Form,
     /// The texts for which numbers are written, where it is a column of such.
     pub dictionary: Dictionary,
+}
+
+// By hand: the drop of a derived one is written out at each way out of a function.
+impl Drop for Planned {
+    fn drop(self) {
+        let Self {
+            column: _column,
+            evidence: _,
+            form: _,
+            dictionary: _dictionary,
+        } = self;
+    }
 }
 
 impl Planned {

@@ -1,9 +1,8 @@
 //! The records of comma-separated values.
 
-ghost use Rattle.std.specs.Prelude.{◌≡◌, ◌∷◌, [], if◌then◌else◌, IfOk};
+ghost use Rattle.std.specs.Prelude.{◌≡◌, IfOk};
 ghost use Rattle.csv.specs.Reading.{strip_bom};
-ghost use Rattle.csv.specs.Records.{fields_of};
-ghost use Rattle.sw_import.specs.Records.{IsOpen, records_left, records_of};
+ghost use Rattle.sw_import.specs.Records.{IsOpen, TakesRecord, records_left, records_of};
 
 use csv::{ByteRecord, Reader, ReaderBuilder};
 use std::alloc::{AllocError, Global};
@@ -24,8 +23,7 @@ pub(crate) fn open(alloc: Global, delimiter: u8, text: &[u8]) -> Reader<&[u8]>
 pub(crate) fn next(rdr: &mut Reader<&[u8]>, row: &mut ByteRecord) -> Result<bool, AllocError>
     requires { IsOpen rdr.old }
     ensures plain { IfOk result (λ _. IsOpen rdr.new) }
-    ensures row { IfOk result (λ found. records_left rdr.old
-        ≡ (if found then fields_of row.new ∷ records_left rdr.new else [])) }
+    ensures row { IfOk result (TakesRecord rdr.old rdr.new row.new) }
 {
     // Over memory, and with records of any length, only memory can fail.
     match rdr.read_byte_record(row) {

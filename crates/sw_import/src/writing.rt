@@ -3,9 +3,8 @@
 ghost use Rattle.std.specs.Prelude.{[], ◌≡◌, ◌∷◌, ◌++◌, ◌≤◌, IfOk, OnOk, is_some};
 ghost use Rattle.csv.specs.Records.{fields_of, partial_of};
 ghost use Rattle.sw_import.specs.Imports.{header_of, left_out_of, most_rows};
-ghost use Rattle.sw_import.specs.Made.{row_made, row_or, sources_of};
 ghost use Rattle.sw_import.specs.Records.{IsOpen, records_left};
-ghost use Rattle.sw_import.specs.Taken.{IsBegun, TakesIn, TakesRest, TellsOneMore};
+ghost use Rattle.sw_import.specs.Taken.{IsBegun, MakesRow, TakesIn, TakesRest, TellsOneMore};
 
 use crate::columns::field;
 use crate::evidence::Tally;
@@ -159,8 +158,7 @@ fn make_record(
     line: u64,
     made: &mut ByteRecord,
 ) -> Result<Option<usize>, Fault>
-    ensures { IfOk result (λ left_out. row_made maker.now.rules.now (sources_of maker.now.plan.now) (fields_of row.now)
-        ≡ row_or left_out (fields_of made.new)) }
+    ensures { IfOk result (λ left_out. MakesRow maker.now (fields_of row.now) left_out (fields_of made.new)) }
 {
     made.clear();
     let rules = maker.rules;

@@ -20,9 +20,16 @@ use sw_rows::{Refusal, Schema, Why};
 pub const MOST_CUTS: usize = 15;
 
 /// The cuts of one attribute.
-#[derive(Debug, Drop)]
+#[derive(Debug)]
 struct Values {
     items: Vec<i64>,
+}
+
+// By hand: the drop of a derived one is written out at each way out of a function.
+impl Drop for Values {
+    fn drop(self) {
+        let Self { items: _items } = self;
+    }
 }
 
 impl Model for Values {
@@ -57,9 +64,16 @@ impl Values {
 }
 
 /// For each attribute of a table the values at which its head is cut, rising.
-#[derive(Debug, Drop)]
+#[derive(Debug)]
 pub struct Cuts {
     lists: Vec<Values>,
+}
+
+// By hand: the drop of a derived one is written out at each way out of a function.
+impl Drop for Cuts {
+    fn drop(self) {
+        let Self { lists: _lists } = self;
+    }
 }
 
 impl Model for Cuts {

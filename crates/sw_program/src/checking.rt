@@ -2,6 +2,7 @@
 
 ghost use Rattle.std.specs.Prelude.{◌≡◌, ◌⊎◌, IfOk};
 
+use crate::inputs::Place;
 use crate::origins::Origins;
 use crate::wording;
 use std::alloc::Global;
@@ -78,12 +79,33 @@ fn check_bytes<R: Files + RandomSource + Print>(
     }
 }
 
+/// Why a history is refused that could be read, in words: what is wrong with an entry, or that it cannot be read from where
+/// entries came.
+fn why_refused<R: Files>(
+    rt: &R,
+    alloc: Global,
+    path: &str,
+    bytes: &[u8],
+    telling: Telling<'_>,
+    refusal: &Refusal,
+) -> Option<String> {
+    match (refusal, telling.origins) {
+        (Refusal::Input, Some(origins)) => wording::of_file(
+            rt,
+            alloc,
+            Place::new(origins),
+            refusal,
+        ),
+        _ => wording::of_history(alloc, path, bytes, refusal),
+    }
+}
+
 /// Reads a history file and writes the verdict on it, and what else is told of it; answers the exit status, 0 where it is
 /// legal, else 1.
 ///
 /// Refused `Input` where a file cannot be opened or read, or the system gives no random bytes for the key of texts, as
-/// `check_file` refuses its bytes, and `Output` where the verdict cannot be written. What is wrong with an entry that is
-/// refused is put into `words`, as a line.
+/// `check_file` refuses its bytes, and `Output` where the verdict cannot be written. Which file cannot be read, and what is
+/// wrong with an entry that is refused, is put into `words`, as a line.
 pub fn check_path<R: Files + RandomSource + Print>(
     rt: &R,
     alloc: Global,
@@ -93,11 +115,17 @@ pub fn check_path<R: Files + RandomSource + Print>(
 ) -> Result<u8, Refusal>
     ensures { IfOk result (λ status. (status ≡ 0) ⊎ (status ≡ 1)) }
 {
-    let bytes = read_file(rt, alloc, path)?;
+    let bytes = match read_file(rt, alloc, path) {
+        Ok(bytes) => bytes,
+        Err(refusal) => {
+            *words = wording::of_file(rt, alloc, Place::new(path), &refusal);
+            return Err(refusal);
+        }
+    };
     match check_bytes(rt, alloc, bytes.as_slice(), telling) {
         Ok(status) => Ok(status),
         Err(refusal) => {
-            *words = wording::of_history(alloc, path, bytes.as_slice(), &refusal);
+            *words = why_refused(rt, alloc, path, bytes.as_slice(), telling, &refusal);
             Err(refusal)
         }
     }

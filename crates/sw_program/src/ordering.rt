@@ -9,6 +9,7 @@ use crate::flaws;
 use crate::inputs::Place;
 use crate::seeing::{Seen, Sights};
 use crate::settings::Limit;
+use crate::wording::of_file;
 use std::alloc::Global;
 use std::io;
 use std::random::RandomSource;
@@ -307,14 +308,21 @@ impl Ordering<'_> {
     /// refused, and 3 where the search was given up.
     ///
     /// Refused as `read_opening` is, `Input` where the table cannot be opened or the system gives no random bytes for the
-    /// key of texts, and `Output` where what is found cannot be written.
+    /// key of texts, and `Output` where what is found cannot be written. That the table cannot be read is put into `words`.
     pub fn make<R: Files + RandomSource + Clock + Print + Eprint + Sync, E: Sink>(
         &self,
         rt: &R,
         alloc: Global,
         errors: &mut E,
+        words: &mut Option<String>,
     ) -> Result<u8, Refusal> {
-        let opening = open_table(rt, alloc, self)?;
+        let opening = match open_table(rt, alloc, self) {
+            Ok(opening) => opening,
+            Err(refusal) => {
+                *words = of_file(rt, alloc, Place::new(self.table), &refusal);
+                return Err(refusal);
+            }
+        };
         let mut calls = Vec::new(alloc);
         match order_over(rt, alloc, self, opening, &mut calls) {
             Ok(outcome) => tell(rt, alloc, self, calls.as_slice(), &outcome, errors),

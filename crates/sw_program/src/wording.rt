@@ -100,6 +100,19 @@ fn of_place<R: Files>(
     }
 }
 
+/// The words of a file that cannot be read, where that was refused; nothing where there is no memory for them.
+pub(crate) fn of_file<R: Files>(
+    rt: &R,
+    alloc: Global,
+    place: Place<'_>,
+    refusal: &Refusal,
+) -> Option<String> {
+    match refusal {
+        Refusal::Input => of_place(rt, alloc, place).ok()?,
+        _ => None,
+    }
+}
+
 /// The words of a file, or of standard input, that was refused when it was to be read; nothing where there is no memory
 /// for them.
 pub(crate) fn of_unread<R: Files>(

@@ -37,13 +37,13 @@ use crate::resting::find_at_end;
 use std::alloc::Global;
 use std::marker::Model;
 use std::mem;
+use std::sync::atomic::{AtomicU64, Ordering};
 use sw_map::{CrackerMap, Tail};
 use sw_rows::{Bound, PackedRows, Query, Refusal, Reply, Row, Update};
 use sw_tape::{Entry, Tape};
 
 /// The rows whose cells of one attribute lie in an interval, the tape that reorganised them, and the boxes whose maps
 /// replay it.
-#[derive(Drop)]
 pub struct Area<M: CrackerMap> {
     alloc: Global,
     attribute: u8,
@@ -53,10 +53,31 @@ pub struct Area<M: CrackerMap> {
     tape: Tape,
     live: LiveRows,
     boxes: Vec<M>,
-    stamps: Vec<u64>,
+    /// Those who share the area stamp too.
+    stamps: Vec<AtomicU64>,
     clock: u64,
     counts: bool,
     restarts: u64,
+}
+
+// By hand: the drop of a derived one is written out at each way out of a function.
+impl<M: CrackerMap> Drop for Area<M> {
+    fn drop(self) {
+        let Self {
+            alloc: _,
+            attribute: _,
+            from: _,
+            below: _,
+            inbox: _inbox,
+            tape: _tape,
+            live: _live,
+            boxes: _boxes,
+            stamps: _stamps,
+            clock: _,
+            counts: _,
+            restarts: _,
+        } = self;
+    }
 }
 
 impl<M: CrackerMap> Model for Area<M> {
@@ -139,7 +160,7 @@ impl<M: CrackerMap> Area<M> {
             return Err((it, Refusal::NoMemory));
         }
         self.boxes.push_reserved(it);
-        self.stamps.push_reserved(0);
+        self.stamps.push_reserved(AtomicU64::new(0));
         Ok(())
     }
 
@@ -213,13 +234,12 @@ impl<M: CrackerMap> Area<M> {
     pub(crate) fn stamp(&mut self, tails: &[Tail])
         ensures { self.new ≡ self.old }
     {
-        let now = self.clock;
-        stamp_needed(
-            self.boxes.as_slice(),
-            self.stamps.as_mut_slice(),
-            tails,
-            now,
-        );
+        self.stamp_by(tails, self.clock);
+    }
+
+    /// The same with a number of the caller's, by who shares the area.
+    pub(crate) fn stamp_by(&self, tails: &[Tail], now: u64) {
+        stamp_needed(self.boxes.as_slice(), self.stamps.as_slice(), tails, now);
     }
 
     /// Gives back the memory that stayed with blank boxes when the area began anew. `prepare` does so at its end; who merges
@@ -597,7 +617,7 @@ impl<M: CrackerMap> Area<M> {
         let Some(at) = self.leased(&[]) else {
             return None;
         };
-        Some(self.stamps[at])
+        Some(self.stamps[at].load(Ordering::SeqCst))
     }
 
     /// The cursor of the map of a tail, if there is one.
@@ -810,12 +830,10 @@ fn grow_box<M: CrackerMap>(it: &mut M, cells: u64) -> Result<bool, Refusal>
 }
 
 /// Sets the stamps of the boxes whose maps are needed.
-fn stamp_needed<M: CrackerMap>(boxes: &[M], stamps: &mut [u64], tails: &[Tail], now: u64)
-    ensures { length stamps.new ≡ length stamps.old }
-{
+fn stamp_needed<M: CrackerMap>(boxes: &[M], stamps: &[AtomicU64], tails: &[Tail], now: u64) {
     for at in 0..stamps.len() {
         if at < boxes.len() && is_needed(tails, boxes[at].tail()) {
-            stamps[at] = now;
+            stamps[at].store(now, Ordering::SeqCst);
         }
     }
 }

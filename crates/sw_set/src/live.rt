@@ -15,12 +15,22 @@ use sw_rows::{PackedRows, Places, Query, Refusal, Reply, Row, Update, scan};
 
 /// Which of the rows that a tape brought are live: of those in its load, and of those that came later. Each has a
 /// place: those of the load first, then the later ones, in the order in which they came.
-#[derive(Drop)]
 pub(crate) struct LiveRows {
     later: PackedRows,
     flags: Vec<bool>,
     /// How many flags are false.
     gone: usize,
+}
+
+// By hand: the drop of a derived one is written out at each way out of a function.
+impl Drop for LiveRows {
+    fn drop(self) {
+        let Self {
+            later: _later,
+            flags: _flags,
+            gone: _,
+        } = self;
+    }
 }
 
 impl Model for LiveRows {

@@ -1,9 +1,10 @@
 //! Which box: looks over the boxes of an area.
 
-ghost use Rattle.std.specs.Prelude.{◌≡◌, ◌⊎◌, false, true, Contains, Some, slice_index_or};
+ghost use Rattle.std.specs.Prelude.{◌≡◌, ◌⊎◌, false, true, Contains, Some};
 ghost use Rattle.sw_set.specs.Sought.{FindsUnless, HoldsMap, IsNeededIfMap, IsUnneeded, LacksMap};
 
 use crate::align::is_needed;
+use std::sync::atomic::{AtomicU64, Ordering};
 use sw_map::{CrackerMap, Tail};
 
 /// The box that has a map of the tail.
@@ -44,16 +45,18 @@ pub fn older(best: Option<(usize, u64)>, at: usize, stamp: u64) -> (usize, u64)
 }
 
 /// The stamp at a place; 0 behind the last.
-fn stamp_at(stamps: &[u64], at: usize) -> u64
-    ensures { result ≡ slice_index_or stamps.now at 0 }
-{
-    if at < stamps.len() { stamps[at] } else { 0 }
+fn stamp_at(stamps: &[AtomicU64], at: usize) -> u64 {
+    if at < stamps.len() {
+        stamps[at].load(Ordering::SeqCst)
+    } else {
+        0
+    }
 }
 
 /// The least recently used box whose map the tails lack.
 pub(crate) fn find_unneeded<M: CrackerMap>(
     boxes: &[M],
-    stamps: &[u64],
+    stamps: &[AtomicU64],
     tails: &[Tail],
 ) -> Option<usize>
     ensures { FindsUnless
@@ -82,7 +85,7 @@ fn is_leased<M: CrackerMap>(it: &M, tails: &[Tail]) -> bool
 /// The least recently used box with a lease for a map that the tails lack.
 pub(crate) fn find_leased<M: CrackerMap>(
     boxes: &[M],
-    stamps: &[u64],
+    stamps: &[AtomicU64],
     tails: &[Tail],
 ) -> Option<usize>
     ensures { FindsUnless

@@ -61,4 +61,12 @@ impl<M: CrackerMap> Area<M> {
         }
         Ok(Some(range_of(self, lower, upper, tails.as_slice())))
     }
+
+    /// Stamps the boxes whose maps a query needs with a number, as preparing it does, by who shares the area. Where there is
+    /// no memory for it, none is stamped. No clause speaks of stamps.
+    pub fn note_use(&self, query: &Query, now: u64) {
+        if let Ok(tails) = needed_tails(self.alloc(), self.attribute(), query) {
+            self.stamp_by(tails.as_slice(), now);
+        }
+    }
 }

@@ -3,7 +3,6 @@
 
 mod commands;
 mod console;
-mod growing;
 mod host;
 mod lines;
 mod opening;
@@ -13,6 +12,5 @@ mod turns;
 
 pub use commands::Command;
 pub use console::Console;
-pub use growing::with_columns;
 pub use host::{Errand, Host, Line};
 pub use opening::{Ended, converse};

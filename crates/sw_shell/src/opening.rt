@@ -9,12 +9,11 @@ ghost use Rattle.sw_spine.specs.History.{IsLegal};
 ghost use Rattle.sw_spine.specs.Table.{is_numbered};
 ghost use Rattle.sw_versions.specs.Pending.{IsPlain};
 ghost use Rattle.sw_engine.specs.Headline.{IsHistoryOfOneThread};
+ghost use Rattle.sw_cli.specs.Sides.{source_by};
 ghost use Rattle.sw_cli.specs.Starts.{IsStart, start_seen};
 ghost use Rattle.sw_shell.specs.Shelled.{IsLeftBy, ReadsTable, Shells};
-ghost use Rattle.sw_shell.specs.Traffic.{source_by};
 
 use crate::console::Console;
-use crate::growing::with_columns;
 use crate::host::Host;
 use crate::seat::Seat;
 use crate::turns::talk;
@@ -24,16 +23,13 @@ use std::io::BufRead;
 use std::marker::Brand;
 use std::sync::Wait;
 use std::thread::Threads;
-use sw_cli::{Inputs, Options, read_start};
+use sw_cli::{Inputs, Options, read_start, stand_ins, with_columns};
 use sw_engine::{Blank, Engine, Naming, Ticket, deal};
 use sw_lang::Cuts;
 use sw_map::CrackerMap;
-use sw_rows::{Counted, PackedRows, Refusal, Schema, Sink, Source, TextKey, Update};
+use sw_rows::{Counted, PackedRows, Refusal, Schema, Sink, Source, Update};
 use sw_spine::Record;
 use sw_versions::{Live, Op};
-
-/// Names of attributes, as many as there may be.
-const STAND_INS: [&str; 8] = ["a", "b", "c", "d", "e", "f", "g", "h"];
 
 /// What a shell leaves: the record, and why it ended, if that was a failure of its reader, its sink or its host.
 #[derive(Drop)]
@@ -42,21 +38,6 @@ pub struct Ended {
     pub history: Record,
     /// Why it ended, if not by the end of the lines or `.quit`.
     pub failure: Option<Refusal>,
-}
-
-/// Attributes that stand for others: an engine only counts them, and those that know the texts stay with the shell.
-fn stand_ins(alloc: Global, columns: usize) -> Result<Schema, Refusal>
-    requires { columns ≤ 8 }
-    ensures { IfOk result (λ s. length s ≡ columns) }
-{
-    let (names, _) = STAND_INS.split_at(columns);
-    let Ok(schema) = Schema::of(alloc, TextKey::fixed(), names) else {
-        return Err(Refusal::NoMemory);
-    };
-    if schema.len() != columns {
-        return Err(Refusal::NoMemory);
-    }
-    Ok(schema)
 }
 
 /// How much an engine may have: so many rows, and these boxes for its maps.

@@ -2,12 +2,12 @@
 
 ghost use Rattle.std.specs.Prelude.{◌≡◌, ◌≤◌, length, IfOk, IfSome, OnErr, OnOk};
 ghost use Rattle.sw_cli.specs.Script.{call_of_line};
+ghost use Rattle.sw_cli.specs.Sides.{sink_by};
 ghost use Rattle.sw_lang.specs.Learning.{learned};
 ghost use Rattle.sw_lang.specs.Reading.{Answers};
 ghost use Rattle.sw_rows.specs.Scan.{AsksBelow};
 ghost use Rattle.sw_spine.specs.History.{CallsBelow};
 ghost use Rattle.sw_shell.specs.Talks.{IsTold};
-ghost use Rattle.sw_shell.specs.Traffic.{sink_by};
 
 use crate::host::{Host, Line};
 use crate::telling::write_at_once;

@@ -1,7 +1,7 @@
 //! What came of a call, told at once.
 
 ghost use Rattle.sw_cli.specs.Outcomes.{told_bytes};
-ghost use Rattle.sw_shell.specs.Traffic.{WritesText, sink_by};
+ghost use Rattle.sw_lang.specs.Sinks.{Wrote};
 
 use std::alloc::Global;
 use sw_cli::write_told;
@@ -16,7 +16,7 @@ pub(crate) fn write_at_once<W: Sink>(
     told: &Result<Reply, Refusal>,
     out: &mut W,
 ) -> Result<(), Refusal>
-    ensures { WritesText (sink_by W.taken W.failed out.old out.new) result (told_bytes schema.now call.now told.now) }
+    ensures { Wrote W.taken W.failed out.old out.new result (told_bytes schema.now call.now told.now) }
 {
     let mut text = Counted::new(Vec::new(alloc));
     match write_told(schema, call, told, &mut text) {

@@ -22,12 +22,22 @@ const SHARE: usize = 4;
 
 /// A table with an index of the first rows for each attribute that is asked for often. A row that goes stays in it as a
 /// dead one, and those that came since are passed over. Contracts see the table alone.
-#[derive(Drop)]
 pub struct Indexed {
     table: LiveTable,
     indexes: [Option<Index>; 8],
     /// How many rows were passed over for each attribute that its index has not, since it was made.
     passed: [usize; 8],
+}
+
+// By hand: the drop of a derived one is written out at each way out of a function.
+impl Drop for Indexed {
+    fn drop(self) {
+        let Self {
+            table: _table,
+            indexes: _indexes,
+            passed: _,
+        } = self;
+    }
 }
 
 impl Model for Indexed {

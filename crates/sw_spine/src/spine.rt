@@ -14,7 +14,7 @@ ghost use Rattle.sw_spine.specs.History.{CallsBelow, IsLegal, IsSound, all_given
 ghost use Rattle.sw_spine.specs.Receivable.{AreUpdates};
 ghost use Rattle.sw_spine.specs.Rest.{none_open};
 ghost use Rattle.sw_rows.specs.declared.table.TheConstants.{MOST_ROWS};
-ghost use Rattle.sw_spine.specs.Books.{HasAnswered, HasBegun, HasOneMore, IsCount, IsNewSpine, IsNotBegun, IsRefusedBy, KeepsOtherHeads, KeepsOthers, KeepsTaken, Opens, RefusesEntry, RefusesRows, RefusesSession, forgetting, history_of, is_opened, took, untaken, updates, waits_for, with_columns, with_open, with_published, with_settled};
+ghost use Rattle.sw_spine.specs.Books.{HasAnswered, HasBegun, HasOneMore, IsCount, IsNewSpine, IsNotBegun, IsRefusedBy, KeepsOtherHeads, KeepsOthers, KeepsTaken, Opens, RefusesEntry, RefusesRows, RefusesSession, forgetting, history_of, is_opened, reply_now, took, untaken, updates, waits_for, with_answered, with_columns, with_open, with_published, with_settled};
 ghost use Rattle.sw_spine.specs.declared.history.State.TheVariants.{Answered, Void};
 
 use crate::given::Given;
@@ -37,7 +37,6 @@ pub const MOST_SESSIONS: usize = 1024;
 /// updates each of eight heads has taken, how many sessions were opened and how many updates are published, the opening
 /// rows counted among the updates. Of every spine it is known that its history is legal: each answered reply is that of
 /// one thread over a plain list of rows.
-#[derive(Drop)]
 pub struct Spine {
     schema: Schema,
     store: Store,
@@ -47,6 +46,21 @@ pub struct Spine {
     taken: [usize; 8],
     sessions: u64,
     published: u64,
+}
+
+// By hand: the drop of a derived one is written out at each way out of a function.
+impl Drop for Spine {
+    fn drop(self) {
+        let Self {
+            schema: _schema,
+            store: _store,
+            entries: _entries,
+            places: _places,
+            taken: _,
+            sessions: _,
+            published: _,
+        } = self;
+    }
 }
 
 impl Model for Spine {
@@ -317,6 +331,57 @@ impl Spine {
         Ok(())
     }
 
+    /// A select whose reply is known stands at the end of the history, answered. No head takes updates for it.
+    ///
+    /// Refused `HistoryFull` where the history has 1,048,576 entries, `NoMemory` otherwise; after a refusal nothing has
+    /// changed. The caller's conditions: the session was opened and has no open entry, the query names attributes of the
+    /// table, 1 to 8 where it asks for rows, and the reply is the plain table's at the history's end.
+    pub fn answer(&mut self, session: u64, query: Query, reply: Reply) -> Result<(), Refusal>
+        requires opened { is_opened session self.old ≡ true }
+        requires rest { waits_for session self.old ≡ None }
+        requires asks { CallsBelow (length self.old.columns) (Select query) }
+        requires reply { reply ≡ reply_now (Select query) self.old }
+        ensures answered { OnOk result (self.new ≡ with_answered session (Select query) self.old) }
+        ensures room { OnOk result (length self.old.entries < MOST_ENTRIES) }
+        ensures refused { IfErr result (IsRefusedBy RefusesEntry self.old self.new) }
+
+        // What follows of the books.
+        ensures rest { waits_for session self.new ≡ None }
+        ensures mine { OnOk result (HasOneMore session self.old self.new (Select query) reply) }
+        ensures others { KeepsOthers session self.old self.new }
+        ensures updates { updates self.new ≡ updates self.old }
+        ensures taken { KeepsTaken self.old self.new }
+    {
+        if self.entries.len() == MOST_ENTRIES {
+            return Err(Refusal::HistoryFull {
+                entries: MOST_ENTRIES as u64,
+            });
+        }
+        match self.add_answered(session, query, reply) {
+            Ok(()) => Ok(()),
+            Err(_) => Err(Refusal::NoMemory),
+        }
+    }
+
+    fn add_answered(&mut self, session: u64, query: Query, reply: Reply) -> Result<(), AllocError>
+        requires opened { is_opened session self.old ≡ true }
+        requires rest { waits_for session self.old ≡ None }
+        requires asks { CallsBelow (length self.old.columns) (Select query) }
+        requires reply { reply ≡ reply_now (Select query) self.old }
+        requires room { length self.old.entries < MOST_ENTRIES }
+        ensures { MatchResult result
+            (λ _. self.new ≡ with_answered session (Select query) self.old)
+            (λ _. self.new ≡ self.old) }
+    {
+        self.entries.reserve(1)?;
+        self.entries.push_reserved(Entry {
+            session,
+            call: Call::Select(query),
+            state: State::Answered(reply),
+        });
+        Ok(())
+    }
+
     /// The session's open select is answered. Nothing else changes, and no memory is taken.
     ///
     /// The caller's conditions: the session was opened and has an open entry, and the reply is the plain table's at the
@@ -507,7 +572,10 @@ impl Spine {
             schema,
             store,
             entries,
-            ..
+            places: _places,
+            taken: _,
+            sessions: _,
+            published: _,
         } = self;
         let limit = store.limit();
         let rows = store.into_rows();

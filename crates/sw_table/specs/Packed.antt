@@ -1,6 +1,7 @@
 -- Rows as one flat list of cells.
 use Rattle.std.specs.Prelude.{◌≡◌, ◌≤◌, ◌*◌, ◌+◌, ◌++◌, ◌∷◌, [], ℕ, ℤ, pos, List, length, take, drop, map, replicate, vec_len, vec_capacity, All}
 use Rattle.std.specs.Global.{Vec}
+use Rattle.std.specs.List.{range_with_len}
 use Rattle.sw_table.specs.declared.row.Row.{Row}
 
 abbrev pub zeros : List ℤ
@@ -19,6 +20,10 @@ rows_in n (key ∷ keys) cells = row_of n key cells ∷ rows_in n keys (drop n c
 pub record Packed : Type 0 where
   pub width : ℕ
   pub items : List Row
+
+-- so many rows of n cells each, whose keys are 1, 2, 3 and so on
+abbrev pub numbered : ℕ → ℕ → List ℤ → Packed
+numbered n many cells = record { width = n; items = rows_in n (range_with_len 1 many) cells }
 
 -- all cells of a row from the n-th on are 0
 abbrev pub IsWithin : ℕ → Row → Type 0

@@ -1,6 +1,7 @@
 //! The keys of a list of rows.
 
 ghost use Rattle.std.specs.Prelude.{◌≡◌, ◌≤◌, ◌<◌, ◌+◌, ◌-◌, ◌^◌, ◌++◌, ◌∷◌, [], true, false, ℕ, length, map, slice_index_or, take, All, IfOk, MatchOption, OnOk, OnErr};
+ghost use Rattle.std.specs.List.{range_with_len};
 ghost use Rattle.sw_table.specs.Kept.{kept};
 ghost use Rattle.sw_table.specs.Keys.{HasNo, IsKeyAt};
 ghost use Rattle.sw_table.specs.Live.{Rises};
@@ -44,6 +45,16 @@ impl Keys {
     {
         Keys {
             form: Form::Numbered(Numbers::new()),
+        }
+    }
+
+    /// So many keys from 1 on.
+    pub(crate) fn from_one(many: usize) -> Keys
+        requires { many < 2 ^ 63 }
+        ensures { result ≡ range_with_len 1 many }
+    {
+        Keys {
+            form: Form::Numbered(Numbers::from_one(many)),
         }
     }
 

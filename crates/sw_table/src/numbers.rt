@@ -35,6 +35,14 @@ impl Numbers {
         Numbers { first: 1, many: 0 }
     }
 
+    /// So many from 1 on.
+    pub(crate) fn from_one(many: usize) -> Numbers
+        requires { many < 2 ^ 63 }
+        ensures { result ≡ range_with_len 1 many }
+    {
+        Numbers { first: 1, many }
+    }
+
     /// How many there are.
     #[inline]
     pub(crate) fn len(&self) -> usize

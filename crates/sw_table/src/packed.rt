@@ -6,7 +6,7 @@ ghost use Rattle.sw_table.specs.Rows.{HasNoRow, IsRowAt, cell_of};
 ghost use Rattle.sw_table.specs.Exchanged.{with_exchanged};
 ghost use Rattle.sw_table.specs.Kept.{kept};
 ghost use Rattle.sw_table.specs.Live.{Rises, key_of};
-ghost use Rattle.sw_table.specs.Packed.{HasRoomFor, IsLeastWidth, IsSameRoom, IsWithin, KeepsWidth, Packed, behind, stretch, with_stretch, zeros};
+ghost use Rattle.sw_table.specs.Packed.{HasRoomFor, IsLeastWidth, IsSameRoom, IsWithin, KeepsWidth, Packed, behind, numbered, stretch, with_stretch, zeros};
 
 use crate::exchanging::exchange_cells;
 use crate::keeping::keep_cells;
@@ -145,6 +145,21 @@ impl PackedRows {
         let mut packed = PackedRows::new(alloc, width);
         packed.reserve(many)?;
         Ok(packed)
+    }
+
+    /// The rows of these cells, which stand one row's after another's, with the keys 1, 2, 3 and so on. Nothing is
+    /// copied.
+    pub fn of_cells(width: usize, many: usize, cells: Vec<i64>) -> PackedRows
+        requires some { 1 ≤ width }
+        requires most { width ≤ 8 }
+        requires whole { length cells.items ≡ many * width }
+        ensures { result ≡ numbered width many cells.items }
+    {
+        PackedRows {
+            width,
+            keys: Keys::from_one(many),
+            cells,
+        }
     }
 
     /// How many cells are kept of a row.

@@ -19,6 +19,7 @@
 #![tactic(auto)]
 
 ghost use Rattle.std.specs.Prelude.{◌≡◌, ℕ, List, [], ◌∷◌, ◌++◌, Bool, true, false, Some, length, set, slice_get};
+ghost use base.Fml.{ftrue};
 ghost use base.Stored.{coded_list, coded×, coded_bool};
 ghost use Rattle.sw_tie.specs.Tied.{book_owns, share_owns};
 
@@ -37,6 +38,8 @@ pub struct Book<T> {
 
 impl<T> Model for Book<T> {
     ghost also_owns = { λ b. book_owns T.row.coded.code b.name b.rows };
+
+    ghost also_shares = { λ _ _ _. ftrue };
 }
 
 /// The holder's side of one row of a book.
@@ -52,6 +55,8 @@ pub struct Share<T> {
 
 impl<T> Model for Share<T> {
     ghost also_owns = { λ s. share_owns T.row.coded.code s.name s.number s.value };
+
+    ghost also_shares = { λ _ _ _. ftrue };
 }
 
 impl<T> Book<T> {
@@ -175,3 +180,8 @@ impl<T> Drop for Share<T> {
 unsafe impl<T> Send for Book<T> {}
 
 unsafe impl<T> Send for Share<T> {}
+
+// A `&` to a token gives nothing of its rows: who opens, sets, agrees or gives has the token itself.
+unsafe impl<T> Sync for Book<T> {}
+
+unsafe impl<T> Sync for Share<T> {}

@@ -1,5 +1,5 @@
 -- What a publishing leaves.
-use Rattle.std.proofs.Common.{◌≡◌, ◌∙◌, ◌++◌, ◌∷◌, [], List, None, Option, Some, ap, append_assoc, fold, refl, subst, sym}
+use Rattle.std.proofs.Common.{◌≡◌, ◌∙◌, ◌++◌, ◌∷◌, [], List, None, Option, Some, ap, append_assoc, fold, refl, subst, sym, ℕ}
 use Rattle.std.proofs.lemmas.List.{append-nil}
 use Rattle.std.specs.Prelude.{Err, MatchResult, Ok, Result}
 use Rattle.sw_table.specs.declared.row.Update.{Update}
@@ -46,6 +46,6 @@ wrote_shelved booked w is = subst (λ (v : Written). IsPrefix (all_of v) (update
 )
 
 -- what stands in the book, with copies or without
-pub booked_of : (booked : List (List Update)) (w : Option Written) → (shelved booked w).booked ≡ booked
-booked_of booked None = refl
-booked_of booked (Some w) = refl
+pub booked_of : (booked : List (List Update)) (w : Option Written) (missed : ℕ) → (shelved booked w missed).booked ≡ booked
+booked_of booked None missed = refl
+booked_of booked (Some w) missed = refl

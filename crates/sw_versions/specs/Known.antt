@@ -19,20 +19,22 @@ pub record Placed : Type 0 where
   pub list : List (List Update)
 
 -- what the writer has: the batches that readers take, the operations that they do not see yet, one that waits for memory,
--- and how many viewers were ever opened
+-- how many viewers were ever opened, and how often a publishing failed for want of memory
 pub record Written : Type 0 where
   pub published : List (List Update)
   pub pending : List Placed
   pub waiting : Option Placed
   pub viewers : ℕ
+  pub failed : ℕ
 
 -- a writer that published these batches and has no more, with no viewer
 abbrev pub wrote : List (List Update) → Written
-wrote front = record { published = front; pending = []; waiting = None; viewers = 0 }
+wrote front = record { published = front; pending = []; waiting = None; viewers = 0; failed = 0 }
 
--- what a shelf shows: the batches that stand in the book, those that are published, and how many viewers were ever
--- opened
+-- what a shelf shows: the batches that stand in the book, those that are published, how many viewers were ever opened, and
+-- how often updates were left unpublished though no viewer stood in the way
 pub record Shelved : Type 0 where
   pub booked : List (List Update)
   pub published : List (List Update)
   pub viewers : ℕ
+  pub missed : ℕ

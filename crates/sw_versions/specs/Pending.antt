@@ -1,9 +1,12 @@
 -- How the book's updates, those that are published, and those of the writer hang together.
-use Rattle.std.specs.Prelude.{◌≡◌, ◌⊎◌, List, [], ◌∷◌, ◌++◌, drop, fold, length, map, MatchResult, Option, Result, Some, None}
+use Rattle.std.specs.Prelude.{◌≡◌, ◌⊎◌, ◌<◌, List, [], ◌∷◌, ◌++◌, drop, fold, length, map, is_some, true, MatchResult, Option, Result, Some, None, ℕ}
 use mathlib.Core.List.{IsPrefix}
+use Rattle.sw_rows.specs.Gives.{Raised}
 use Rattle.sw_table.specs.declared.row.Update.{Update}
 use Rattle.sw_versions.specs.Known.{Placed, Shelved, Written}
 use Rattle.sw_versions.specs.Rules.{updates_in}
+use Rattle.sw_versions.specs.declared.came.Came.{Came}
+use Rattle.sw_versions.specs.declared.came.Came.TheVariants as came
 
 -- the updates of operations
 abbrev pub updates_of : List Placed → List Update
@@ -31,9 +34,9 @@ HasPublishedOr state applied shown pending shown' pending' told =
     (λ _. (shown' ≡ shown) × (pending' ≡ pending))
 
 -- without copies what is published is a number, that of all updates of the book
-abbrev pub shelved : List (List Update) → Option Written → Shelved
-shelved booked None = record { booked = booked; published = booked; viewers = 0 }
-shelved booked (Some w) = record { booked = booked; published = w.published; viewers = w.viewers }
+abbrev pub shelved : List (List Update) → Option Written → ℕ → Shelved
+shelved booked None missed = record { booked = booked; published = booked; viewers = 0; missed = missed }
+shelved booked (Some w) missed = record { booked = booked; published = w.published; viewers = w.viewers; missed = missed }
 
 -- what the writer has begins what stands in the book, and so does what is published, batch by batch
 abbrev pub IsShelved : List (List Update) → Option Written → Type 0
@@ -48,3 +51,23 @@ HasBookedOr updates old new = (new ≡ old) ⊎ (new ≡ old ++ drop (length (up
 abbrev pub HasShownOr : List Update → Shelved → Shelved → Type 0
 HasShownOr updates old new =
     (new.published ≡ old.published) ⊎ ((new.published ≡ new.booked) × (updates_in new.booked ≡ updates))
+
+-- the writer lacks updates: there was no memory for one of them, or the book lacks some
+abbrev pub IsWanting : List Update → Written → Type 0
+IsWanting updates w = (is_some w.waiting ≡ true) ⊎ (length (all_of w) < length updates)
+
+-- What came of a publishing by the writer. Put off, it has all updates, and nothing changed; missed, it lacks some, or counts that
+-- there was no memory to publish them.
+abbrev pub CameOf : Came → List (List Update) → List Update → Written → Written → Type 0
+CameOf came.Shown booked updates old new = (new.published ≡ booked) × (updates_in booked ≡ updates)
+CameOf came.PutOff booked updates old new = (updates_in booked ≡ updates) × (old.waiting ≡ None) × (all_of old ≡ updates) × (new ≡ old)
+CameOf came.Missed booked updates old new = (new.published ≡ old.published) × (IsWanting updates new ⊎ Raised old.failed new.failed)
+
+-- what came of a publishing by the shelf: all is published; or nothing more is, though all updates stand in the book; or nothing
+-- more is, which is counted
+abbrev pub TellsCame : Came → List Update → Shelved → Shelved → Type 0
+TellsCame came.Shown updates old new =
+    (new.published ≡ new.booked) × (updates_in new.booked ≡ updates) × (new.missed ≡ old.missed)
+TellsCame came.PutOff updates old new =
+    (new.published ≡ old.published) × (updates_in new.booked ≡ updates) × (new.missed ≡ old.missed)
+TellsCame came.Missed updates old new = (new.published ≡ old.published) × Raised old.missed new.missed

@@ -1,6 +1,7 @@
 //! The two copies of the rows that readers take, with the writer of both.
 
-ghost use Rattle.std.specs.Prelude.{◌≡◌, ◌⊎◌, ◌<◌, ◌+◌, ◌++◌, ◌∷◌, [], None, Some, drop, fold, length, slice_get, IfOk, IfSome, MatchResult, OnErr, OnOk, is_some, true};
+ghost use Rattle.std.specs.Prelude.{◌≡◌, ◌<◌, ◌+◌, ◌++◌, ◌∷◌, [], None, Some, drop, fold, length, slice_get, IfOk, IfSome, MatchBool, MatchResult, OnErr, OnOk, is_some, true};
+ghost use Rattle.sw_rows.specs.Gives.{Raised};
 ghost use Rattle.sw_table.specs.Live.{live_rows};
 ghost use Rattle.sw_versions.specs.Lists.{rows_after};
 ghost use Rattle.sw_versions.specs.Known.{opened_over, wrote};
@@ -24,7 +25,6 @@ use sw_table::{LiveTable, Update};
 
 /// The writer of the copies, the batches that it published, how many updates it has, and the operation that it had no memory
 /// to take. It is ended by `end` alone: where it is dropped before, the copies stay where they are.
-#[derive(Drop)]
 pub struct Copies<J: Naming>
 where
     Live<J>: Absorb<Op<J>, State = [Update; 0]>,
@@ -34,7 +34,26 @@ where
     many: u64,
     waiting: Option<Op<J>>,
     viewers: u64,
+    failed: u64,
     visitors: Visitors,
+}
+
+// By hand: the drop of a derived one is written out at each way out of a function.
+impl<J: Naming> Drop for Copies<J>
+where
+    Live<J>: Absorb<Op<J>, State = [Update; 0]>,
+{
+    fn drop(self) {
+        let Self {
+            writer: _writer,
+            published: _published,
+            many: _,
+            waiting: _waiting,
+            viewers: _,
+            failed: _,
+            visitors: _visitors,
+        } = self;
+    }
 }
 
 impl<J: Naming> Model for Copies<J>
@@ -53,6 +72,7 @@ where
       pending = drop c.writer.value.behind c.writer.value.log.items;
       waiting = c.waiting;
       viewers = c.viewers;
+      failed = c.failed;
     } };
 
     ghost invariant = { λ c. IsPlain ⟦<Live<J> as Absorb<Op<J>>>⟧.state ⟦<Live<J> as Absorb<Op<J>>>⟧.applied
@@ -62,6 +82,7 @@ where
           pending = drop c.writer.value.behind c.writer.value.log.items;
           waiting = c.waiting;
           viewers = c.viewers;
+          failed = c.failed;
         })) };
 }
 
@@ -108,6 +129,7 @@ where
             many: front.len(),
             waiting: None,
             viewers: 0,
+            failed: 0,
             visitors,
         })
     }
@@ -171,20 +193,27 @@ where
         self.visitors.any_reads_on(self.viewers)
     }
 
-    /// Publishes a list, where the writer has all its updates and nothing waits. Without memory for it readers see what
-    /// they saw.
-    pub(crate) fn publish<R: Wait>(&mut self, rt: &R, list: &Front<J>)
+    /// Publishes a list, where the writer has all its updates and nothing waits: whether it did. Without memory for it readers
+    /// see what they saw, and that is counted.
+    pub(crate) fn publish<R: Wait>(&mut self, rt: &R, list: &Front<J>) -> bool
         requires none { self.old.waiting ≡ None }
         requires all { all_of self.old ≡ updates_in list.now }
-        ensures published { (self.new.published ≡ self.old.published) ⊎ (self.new.published ≡ list.now) }
+        ensures published { MatchBool result (self.new.published ≡ list.now)
+            ((self.new.published ≡ self.old.published) × Raised self.old.failed self.new.failed) }
         ensures all { all_of self.new ≡ all_of self.old }
         ensures viewers { self.new.viewers ≡ self.old.viewers }
     {
         let told = publish(rt, &mut self.writer);
         self.visitors.look(self.viewers);
         match told {
-            Ok(()) => self.published = list.again(),
-            Err(_) => {}
+            Ok(()) => {
+                self.published = list.again();
+                true
+            }
+            Err(_) => {
+                self.failed = self.failed.saturating_add(1);
+                false
+            }
         }
     }
 
@@ -211,7 +240,15 @@ where
 
     /// Waits for the readers, and ends the writer.
     pub(crate) fn end<R: Wait>(self, rt: &R) {
-        let Copies { writer, .. } = self;
+        let Copies {
+            writer,
+            published: _published,
+            many: _,
+            waiting: _waiting,
+            viewers: _,
+            failed: _,
+            visitors: _visitors,
+        } = self;
         drop(ManuallyDrop::into_inner(writer).take(rt));
     }
 }

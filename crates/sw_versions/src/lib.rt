@@ -3,6 +3,7 @@
 #![tactic(auto)]
 
 mod book;
+mod came;
 mod copies;
 mod live;
 mod shelf;
@@ -10,6 +11,7 @@ mod viewer;
 mod visits;
 
 pub use book::{Book, Front, Naming, Opened};
+pub use came::Came;
 pub use live::{Live, Op};
 pub use shelf::Shelf;
 pub use viewer::{MOST_VIEWERS, Viewer};

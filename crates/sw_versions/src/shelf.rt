@@ -1,16 +1,17 @@
 //! What lies under the lock: how far the book is written, and the copies, once there is a viewer.
 
-ghost use Rattle.std.specs.Prelude.{◌≡◌, ◌⊎◌, ◌<◌, ◌+◌, length, IfErr, IfOk, IsTrue, OnErr, OnOk};
+ghost use Rattle.std.specs.Prelude.{◌≡◌, ◌⊎◌, ◌<◌, ◌+◌, length, IfErr, IfOk, MatchBool, OnErr, OnOk};
 ghost use mathlib.Core.List.{IsPrefix};
 ghost use Rattle.sw_table.specs.Live.{RisesFrom};
 ghost use Rattle.sw_versions.specs.Known.{opened_over, wrote};
 ghost use Rattle.sw_versions.specs.Lists.{IsLonger, rows_after};
-ghost use Rattle.sw_versions.specs.Pending.{HasBookedOr, HasShownOr, IsPlain, all_of};
+ghost use Rattle.sw_versions.specs.Pending.{CameOf, HasBookedOr, HasShownOr, IsPlain, TellsCame, all_of};
 ghost use Rattle.sw_versions.specs.Refused.{IsAhead, RefusesViewer};
 ghost use Rattle.sw_versions.specs.Rules.{updates_in};
 ghost use Rattle.sw_versions.specs.declared.viewer.TheConstants.{MOST_VIEWERS};
 
 use crate::book::{Book, Front, Naming};
+use crate::came::Came;
 use crate::copies::Copies;
 use crate::live::{Live, Op, table_after};
 use crate::viewer::{MOST_VIEWERS, Viewer};
@@ -25,7 +26,6 @@ use sw_table::{PackedRows, Update};
 /// and what is published is a number.
 ///
 /// It is ended by `close` alone: where it is dropped before, the copies stay where they are.
-#[derive(Drop)]
 pub struct Shelf<J: Naming>
 where
     Live<J>: Absorb<Op<J>, State = [Update; 0]>,
@@ -33,6 +33,22 @@ where
     alloc: Global,
     booked: Front<J>,
     copies: Option<Copies<J>>,
+    missed: u64,
+}
+
+// By hand: the drop of a derived one is written out at each way out of a function.
+impl<J: Naming> Drop for Shelf<J>
+where
+    Live<J>: Absorb<Op<J>, State = [Update; 0]>,
+{
+    fn drop(self) {
+        let Self {
+            alloc: _,
+            booked: _booked,
+            copies: _copies,
+            missed: _,
+        } = self;
+    }
 }
 
 impl<J: Naming> Model for Shelf<J>
@@ -44,28 +60,31 @@ where
 
     ghost Value = { Shelved };
 
-    ghost view = { λ s. shelved s.booked s.copies };
+    ghost view = { λ s. shelved s.booked s.copies s.missed };
 
     ghost invariant = { λ s. IsPlain ⟦<Live<J> as Absorb<Op<J>>>⟧.state ⟦<Live<J> as Absorb<Op<J>>>⟧.applied
         × IsShelved s.booked s.copies };
 }
 
-/// All updates that the book lacks go into it as one batch, by one exchange, which adds them all or none.
+/// All updates that the book lacks go into it as one batch, by one exchange, which adds them all or none: whether it has all.
 #[tactic(auto, using(crate::proofs::Batches::all_booked, crate::proofs::Prefixes::prefix_self))]
-fn book_all<J: Naming>(booked: &mut Front<J>, book: &Book<J>, updates: &[Update])
+fn book_all<J: Naming>(booked: &mut Front<J>, book: &Book<J>, updates: &[Update]) -> bool
     requires { IsPrefix (updates_in booked.old) updates.now }
     ensures begins { IsPrefix (updates_in booked.new) updates.now }
     ensures batch { HasBookedOr updates.now booked.old booked.new }
     ensures grows { IsPrefix booked.old booked.new }
+    ensures all { MatchBool result (updates_in booked.new ≡ updates.now) (booked.new ≡ booked.old) }
 {
     let lacked = &updates[booked.len() as usize..];
     if lacked.is_empty() {
-        return;
+        return true;
     }
     let mut all = booked.again();
     if all.add(book, lacked) {
         *booked = all;
+        return true;
     }
+    false
 }
 
 /// The update that waits, or else the next one of the book, goes to the writer: whether it did.
@@ -107,14 +126,14 @@ where
 }
 
 /// Publishes what stands in the book, where the writer has all updates and no viewer still reads the copy from before the last
-/// publishing. Whether it was put off, since one does.
+/// publishing. What came of it.
 #[tactic(auto, using(crate::proofs::Prefixes::prefix_whole, crate::proofs::Prefixes::prefix_self))]
 fn publish_all<J: Naming, R: Wait>(
     rt: &R,
     booked: &Front<J>,
     copies: &mut Copies<J>,
     updates: &[Update],
-) -> bool
+) -> Came
 where
     Live<J>: Absorb<Op<J>, State = [Update; 0]>,
     requires begins { IsPrefix (updates_in booked.now) updates.now }
@@ -126,17 +145,20 @@ where
         ⊎ ((copies.new.published ≡ booked.now) × (updates_in booked.now ≡ updates.now)) }
     ensures grows { IsPrefix copies.old.published copies.new.published }
     ensures viewers { copies.new.viewers ≡ copies.old.viewers }
-    ensures off { IsTrue result → copies.new.published ≡ copies.old.published }
+    ensures came { CameOf result booked.now updates.now copies.old copies.new }
 {
     let many = updates.len() as u64;
-    if copies.waits() || copies.len() != many {
-        return false;
+    if copies.waits() || copies.len() < many {
+        return Came::Missed;
     }
     if copies.is_read() {
-        return true;
+        return Came::PutOff;
     }
-    copies.publish(rt, booked);
-    false
+    if copies.publish(rt, booked) {
+        Came::Shown
+    } else {
+        Came::Missed
+    }
 }
 
 impl<J: Naming> Shelf<J>
@@ -146,12 +168,13 @@ where
     /// A shelf with no copies. What is written to the book is published.
     pub fn new(alloc: Global, booked: Front<J>) -> Shelf<J>
         requires plain { IsPlain ⟦<Live<J> as Absorb<Op<J>>>⟧.state ⟦<Live<J> as Absorb<Op<J>>>⟧.applied }
-        ensures { result ≡ record { booked = booked; published = booked; viewers = 0 } }
+        ensures { result ≡ record { booked = booked; published = booked; viewers = 0; missed = 0 } }
     {
         Shelf {
             alloc,
             booked,
             copies: None,
+            missed: 0,
         }
     }
 
@@ -166,30 +189,40 @@ where
     }
 
     /// All updates of the history that the book lacks go into it as one batch, or none of them; and all that are not published yet
-    /// are published at once, or none of them. Where a viewer still reads the copy from before the last publishing it leaves them for
-    /// a later call, and tells so.
+    /// are published at once, or none of them, which is told. Where a viewer still reads the copy from before the last publishing it
+    /// leaves them for a later call.
     ///
-    /// Refused memory leaves them for a later call too. The caller's condition: what stands in the book begins the updates, which are
+    /// Refused memory leaves them for a later call too, and is counted. The caller's condition: what stands in the book begins the updates, which are
     /// those after the opening rows.
     #[tactic(auto, using(crate::proofs::Prefixes::prefix_trans, crate::proofs::Prefixes::prefix_self, crate::proofs::Batches::booked_updates))]
-    pub fn catch_up<R: Wait>(&mut self, rt: &R, book: &Book<J>, updates: &[Update]) -> bool
+    pub fn catch_up<R: Wait>(&mut self, rt: &R, book: &Book<J>, updates: &[Update]) -> Came
         requires { IsPrefix (updates_in self.old.booked) updates.now }
         ensures booked { IsPrefix (updates_in self.new.booked) updates.now }
         ensures batch { HasBookedOr updates.now self.old.booked self.new.booked }
         ensures published { HasShownOr updates.now self.old self.new }
         ensures grows { IsPrefix self.old.published self.new.published }
         ensures viewers { self.new.viewers ≡ self.old.viewers }
-        ensures off { IsTrue result → self.new.published ≡ self.old.published }
+        ensures came { TellsCame result updates.now self.old self.new }
     {
-        let Shelf { booked, copies, .. } = self;
-        book_all(booked, book, updates);
-        match copies {
+        let Shelf {
+            booked,
+            copies,
+            missed,
+            ..
+        } = self;
+        let whole = book_all(booked, book, updates);
+        let came = match copies {
             Some(copies) => {
                 hand_all(booked, copies, updates);
                 publish_all(rt, booked, copies, updates)
             }
-            None => false,
+            None if whole => Came::Shown,
+            None => Came::Missed,
+        };
+        if came == Came::Missed {
+            *missed = missed.saturating_add(1);
         }
+        came
     }
 
     /// Two copies of the rows that are published.
@@ -269,7 +302,12 @@ where
 
     /// Waits for the readers, and ends the writer.
     pub fn close<R: Wait>(self, rt: &R) {
-        let Shelf { copies, .. } = self;
+        let Shelf {
+            alloc: _,
+            booked: _booked,
+            copies,
+            missed: _,
+        } = self;
         if let Some(copies) = copies {
             copies.end(rt);
         }

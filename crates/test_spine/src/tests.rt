@@ -8,7 +8,9 @@ use crate::bench::{
     Step, Text, call_of, committed, four_rows, give_up, make_all, opened, schema, tell,
 };
 use std::alloc::{AllocError, Global};
-use sw_rows::{Call, Conds, Counted, MOST_ROWS, PackedRows, Query, Refusal, Row, Update, Want};
+use sw_rows::{
+    Call, Conds, Counted, MOST_ROWS, PackedRows, Query, Refusal, Reply, Row, Update, Want, scan,
+};
 use sw_spine::{
     Lines, Spine, keys_are_given_once, rows_in_order_are_numbered, updates_may_come,
     visits_keep_books,
@@ -187,6 +189,35 @@ fn takes_once(alloc: Global) -> Result<bool, Refusal> {
     Ok(is_taken && publish(&mut spine))
 }
 
+/// Whether a record that is read where it stands has one entry of session 1, and the opening rows.
+fn has_one_entry(spine: &Spine) -> bool {
+    let record = spine.record();
+    record.entries.len() == 1
+        && record
+            .entries
+            .first()
+            .is_some_and(|entry| entry.session == 1)
+        && record.rows.len() == 4
+        && record.limit == 1048576
+}
+
+/// Row 2 is deleted. It is said whether the history then shows that entry, and a pass meets the other three rows.
+fn delete_and_look(alloc: Global, spine: &mut Spine, rows: &[Row]) -> Result<bool, Refusal>
+    requires rest { IsAtRest spine.old rows.now }
+{
+    let _ = spine.commit(1, Call::Delete(2))?;
+    let left = scan(alloc, &spine.given(), &all_counted(alloc))?;
+    Ok(has_one_entry(spine) && matches!(left, Reply::Count(3)))
+}
+
+/// Whether a history shows its entries and rows while it goes on.
+fn shows_what_stands(alloc: Global) -> Result<bool, Refusal> {
+    let rows = four_rows(alloc)?;
+    let mut spine = opened(alloc, rows.as_slice(), 1048576)?;
+    let is_shown = delete_and_look(alloc, &mut spine, rows.as_slice())?;
+    Ok(is_shown && spine.open_session()? == 3)
+}
+
 /// Whether so many sessions that are opened have the numbers from 1 on.
 fn are_numbered(spine: &mut Spine, count: u64) -> Result<bool, Refusal> {
     for before in 0..count {
@@ -227,6 +258,7 @@ fn limits_hold_and_heads_take_once(rt: HostRuntime) -> Result<(), Refusal> {
     let alloc = rt.alloc();
     assert!(rt; takes_once(alloc)?);
     assert!(rt; takes_in_order(alloc)?);
+    assert!(rt; shows_what_stands(alloc)?);
     assert!(rt; are_limited(alloc)?);
     assert!(rt; are_refused(alloc)?);
     assert!(rt; matches!(lines_kept(alloc), Ok(1)));

@@ -3,7 +3,8 @@ use mir.Syntax.{w64}
 use mir.Val.{of_z, to_z}
 use Rattle.sw_table.specs.Packed.{zeros}
 use Rattle.sw_arrays.proofs.Blocks.{part_filled}
-use Rattle.sw_arrays.proofs.Rows.{row_cells, row_next, row_whole}
+use Rattle.sw_arrays.specs.Columns.{row_cells}
+use Rattle.sw_arrays.proofs.Rows.{row_next, row_whole}
 use Rattle.sw_arrays.proofs.columns.cells_at.Goals as goal
 
 pub loop-attr-preserved : goal.loop-attr-preserved

@@ -1,9 +1,7 @@
-use Rattle.sw_cli.specs.Sides.{sink_seen}
-use Rattle.sw_cli.specs.Starts.{start_seen}
-use Rattle.sw_cli.proofs.Going.{goes}
+use Rattle.std.proofs.Common.{◌≡◌, All, List, sym, subst}
+use Rattle.sw_map.specs.Held.{blank}
 use Rattle.sw_cli.proofs.running.make_and_write.Goals as goal
 
-pub returns-in-Ok : goal.returns-in-Ok
-returns-in-Ok g c =
-    let e = c.in-Ok.outgoing.ended in
-    goes c.args.options.now.limit (start_seen c.args.opened) e.blocks.items e.told.items e.history (sink_seen _ _ _ _) c.replace_with.result c.in-Ok.ensures.blocks e.all c.in-Ok.ensures.why c.in-Ok.ensures.record_is c.replace_with.ensures.0 c.replace_with.ensures.1
+pub make_in_turn-requires-clause-blank : goal.make_in_turn-requires-clause-blank
+make_in_turn-requires-clause-blank g c κs within =
+    subst (λ (ms : List g.row.M.Denot). All (λ (m : g.row.M.Denot). g.M.CrackerMap.held m ≡ blank) ms) (sym c.in-Ok.ensures.maps) c.requires.blank

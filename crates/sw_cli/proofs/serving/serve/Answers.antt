@@ -10,20 +10,20 @@ use Rattle.sw_cli.proofs.Records.{blocks_why, collected, no_ticket, record_of}
 use Rattle.sw_cli.proofs.serving.serve.Given.{Over}
 use Rattle.sw_cli.proofs.serving.serve.Goals as goal
 
-pub make_all-requires-clause-below : goal.make_all-requires-clause-below
-make_all-requires-clause-below g c κs within =
+pub make_at_once-requires-clause-below : goal.make_at_once-requires-clause-below
+make_at_once-requires-clause-below g c κs within =
     all_map (λ (cs : List Call). AllCallsBelow (length g.J.Naming.columns) cs) (λ j. j.calls.now) c.in-Ok.work.items c.args.blocks.now (sym c.in-Ok.ensures.calls) c.requires.blocks.below
 
 -- what the sessions of the blocks were answered
 all_made : (g : Over) (c : goal.In-Ok-close g) → AreTold c.args.blocks.now c.in-Ok-parted.told.items × AreAnswered 1 (blocks_told c.args.blocks.now c.in-Ok-parted.told.items) c.in-Ok-parted.ended.items
 all_made g c =
     let w = c.in-Ok.work.items in
-    let done = c.in-Ok-make_all.done.items in
+    let done = c.in-Ok-make_at_once.done.items in
     let blocks = c.args.blocks.now in
     let tells = c.in-Ok-parted.told.items in
     let tickets = c.in-Ok-parted.ended.items in
     let many : length w ≡ length blocks = sym (length_map (λ j. j.calls.now) w) ∙ ap length c.in-Ok.ensures.calls in
-    let dones : length done ≡ length w = c.in-Ok-make_all.ensures.0 in
+    let dones : length done ≡ length w = c.in-Ok-make_at_once.ensures.0 in
     let et : length tells ≡ length blocks = ap length c.in-Ok-parted.ensures.told ∙ (length_map (λ d. d.told) done ∙ (dones ∙ many)) in
     let ev : length tickets ≡ length blocks = ap length c.in-Ok-parted.ensures.tickets ∙ (length_map (λ d. d.ticket) done ∙ (dones ∙ many)) in
     collected 1 blocks tells tickets et ev (λ i less.
@@ -31,7 +31,7 @@ all_made g c =
     let ltd : i < length done = omega (arith, ltw, dones) in
     let j = (at_place w i ltw).0 in
     let d = (at_place done i ltd).0 in
-    let made = c.in-Ok-make_all.ensures.1 i j d ltw in
+    let made = c.in-Ok-make_at_once.ensures.1 i j d ltw in
     let ticket : get_or tickets i no_ticket ≡ (get_or done i d).ticket = ap (λ (l : List Shown). get_or l i no_ticket) c.in-Ok-parted.ensures.tickets ∙ get_or-map (λ d. d.ticket) done i d no_ticket ltd in
     let told : get_or tells i [] ≡ (get_or done i d).told = ap (λ (l : List (List Told)). get_or l i []) c.in-Ok-parted.ensures.told ∙ get_or-map (λ d. d.told) done i d [] ltd in
     let calls : get_or blocks i [] ≡ (get_or w i j).calls.now = ap (λ (l : List (List Call)). get_or l i []) (sym c.in-Ok.ensures.calls) ∙ get_or-map (λ j. j.calls.now) w i j [] ltw in
@@ -46,16 +46,16 @@ returns-in-Ok-close-clause-told g c = (all_made g c).0
 said_why : (g : Over) (c : goal.In-Ok-close g) → All (λ (t : List Told). All SaysWhy t) c.in-Ok-parted.told.items
 said_why g c = λ i e less.
     let w = c.in-Ok.work.items in
-    let done = c.in-Ok-make_all.done.items in
+    let done = c.in-Ok-make_at_once.done.items in
     let tells = c.in-Ok-parted.told.items in
     let many : length tells ≡ length done = ap length c.in-Ok-parted.ensures.told ∙ length_map (λ d. d.told) done in
-    let dones : length done ≡ length w = c.in-Ok-make_all.ensures.0 in
+    let dones : length done ≡ length w = c.in-Ok-make_at_once.ensures.0 in
     let ltd : i < length done = omega (arith, less, many) in
     let ltw : i < length w = omega (arith, ltd, dones) in
     let j = (at_place w i ltw).0 in
     let d = (at_place done i ltd).0 in
     let told : get_or tells i e ≡ (get_or done i d).told = ap (λ (l : List (List Told)). get_or l i e) c.in-Ok-parted.ensures.told ∙ get_or-map (λ d. d.told) done i d e ltd in
-    rw told (c.in-Ok-make_all.ensures.1 i j d ltw).why
+    rw told (c.in-Ok-make_at_once.ensures.1 i j d ltw).why
 
 pub returns-in-Ok-close-clause-why : goal.returns-in-Ok-close-clause-why
 returns-in-Ok-close-clause-why g c = blocks_why c.args.blocks.now c.in-Ok-parted.told.items (said_why g c)

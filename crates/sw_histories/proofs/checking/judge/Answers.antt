@@ -1,6 +1,6 @@
 use Rattle.std.proofs.Common.{◌≡◌, ap, inl, inr, length, refl, rules}
 use Rattle.sw_histories.specs.FileChecks.{illegal_line, legal_line}
-use Rattle.sw_histories.proofs.FileCheckLemmas.{judged_part}
+use Rattle.sw_histories.proofs.Found.FileCheckLemmas.{judged_part}
 use Rattle.sw_histories.proofs.checking.judge.Goals as goal
 
 pub returns-in-Ok : goal.returns-in-Ok

@@ -5,7 +5,7 @@ use Rattle.serde_json.proofs.OnLiterals.{serde_json_on_literals}
 use Rattle.sw_lang.specs.Reading.{call_at, call_of, line_at, where_at}
 use Rattle.sw_histories.specs.RecordReading.{record_at}
 use Rattle.sw_histories.specs.RecordText.{record_text}
-use Rattle.sw_histories.proofs.ExampleOfRun.{counted_of_run}
+use Rattle.sw_histories.proofs.Back.ExampleOfRun.{counted_of_run}
 use Rattle.sw_histories.proofs.file_examples.one_count.Goals as goal
 
 pub returns : goal.returns

@@ -5,7 +5,7 @@ use Rattle.serde_json.proofs.OnLiterals.{serde_json_on_literals}
 use Rattle.sw_lang.specs.Reading.{call_at, call_of, delete_at, delete_where, first_by, line_at, name_of, op_for, op_of, term_at, terms_at, value_of}
 use Rattle.sw_histories.specs.RecordReading.{record_at}
 use Rattle.sw_histories.specs.RecordText.{record_text}
-use Rattle.sw_histories.proofs.ExampleOfRun.{deleted_of_run}
+use Rattle.sw_histories.proofs.Back.ExampleOfRun.{deleted_of_run}
 use Rattle.sw_histories.proofs.file_examples.one_delete_where.Goals as goal
 
 pub returns : goal.returns

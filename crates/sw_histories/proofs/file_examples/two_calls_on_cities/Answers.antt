@@ -6,7 +6,7 @@ use Rattle.serde_json.proofs.OnLiterals.{serde_json_on_literals}
 use Rattle.sw_lang.specs.Reading.{call_at, call_of, cells_at, first_by, line_at, name_of, next_value, op_for, op_of, past_comma, term_at, terms_at, value_of, where_at}
 use Rattle.sw_histories.specs.RecordReading.{record_at}
 use Rattle.sw_histories.specs.RecordText.{record_text}
-use Rattle.sw_histories.proofs.ExampleOfRun.{visited_of_run}
+use Rattle.sw_histories.proofs.Back.ExampleOfRun.{visited_of_run}
 use Rattle.sw_histories.proofs.file_examples.two_calls_on_cities.Goals as goal
 
 pub returns : goal.returns

@@ -1,4 +1,4 @@
-use Rattle.sw_histories.proofs.RecordGrammar.{file_found, file_only}
+use Rattle.sw_histories.proofs.Related.RecordGrammar.{file_found, file_only}
 use Rattle.sw_histories.proofs.law.histories_are_read_as_related.Goals as goal
 
 pub returns-clause-found : goal.returns-clause-found

@@ -1,4 +1,4 @@
-use Rattle.sw_histories.proofs.LegalFiles.{files_found_legal, lines_legal}
+use Rattle.sw_histories.proofs.Back.LegalFiles.{files_found_legal, lines_legal}
 use Rattle.sw_histories.proofs.law.legal_files_are_found_legal.Goals as goal
 
 pub returns-clause-lines : goal.returns-clause-lines

@@ -1,5 +1,5 @@
-use Rattle.sw_histories.proofs.RunRecords.{records_read_back}
-use Rattle.sw_histories.proofs.WrittenAgain.{text_same}
+use Rattle.sw_histories.proofs.Back.RunRecords.{records_read_back}
+use Rattle.sw_histories.proofs.Back.WrittenAgain.{text_same}
 use Rattle.sw_histories.proofs.law.records_are_read_back.Goals as goal
 
 pub returns-clause-read : goal.returns-clause-read

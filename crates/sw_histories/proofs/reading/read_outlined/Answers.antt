@@ -9,8 +9,8 @@ use Rattle.sw_spine.specs.declared.spine.TheConstants.{MOST_ENTRIES}
 use Rattle.sw_histories.specs.Outlines.{Stands, outside_of, read_as, record_in}
 use Rattle.sw_histories.specs.Told.{◌>>=◌}
 use Rattle.sw_histories.specs.RecordReading.{entries_after, frame, history_with}
-use Rattle.sw_histories.proofs.RecordReadingLemmas.{frame_sound}
-use Rattle.sw_histories.proofs.EntriesLemmas.{answers_bind, few_enough, no_entries, no_record, outer_none, outer_some, record_is, some_at, stood, too_many}
+use Rattle.sw_histories.proofs.Found.RecordReadingLemmas.{frame_sound}
+use Rattle.sw_histories.proofs.Found.EntriesLemmas.{answers_bind, few_enough, no_entries, no_record, outer_none, outer_some, record_is, some_at, stood, too_many}
 use Rattle.sw_histories.proofs.reading.read_outlined.Goals as goal
 
 pub returns-in_default-clause-answers : goal.returns-in_default-clause-answers

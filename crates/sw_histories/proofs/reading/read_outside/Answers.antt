@@ -3,7 +3,7 @@ use Rattle.std.specs.Prelude.{option_and_then, option_map}
 use Rattle.json.specs.Lex.{tokens}
 use Rattle.sw_histories.specs.Outlines.{AreRows, front_as, values_at}
 use Rattle.sw_histories.specs.RecordReading.{frame, rows_up_to}
-use Rattle.sw_histories.proofs.EntriesLemmas.{outer_from, outer_read, rows_said, rows_stood, some_at}
+use Rattle.sw_histories.proofs.Found.EntriesLemmas.{outer_from, outer_read, rows_said, rows_stood, some_at}
 use Rattle.sw_histories.proofs.reading.read_outside.Goals as goal
 
 pub returns-in_default-2 : goal.returns-in_default-2

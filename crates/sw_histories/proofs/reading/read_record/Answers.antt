@@ -4,7 +4,7 @@ use Rattle.sw_spine.specs.History.{History}
 use Rattle.sw_histories.specs.Outlines.{record_in}
 use Rattle.sw_histories.specs.RecordReading.{record_at}
 use Rattle.sw_histories.specs.Told.{Reads}
-use Rattle.sw_histories.proofs.EntriesLemmas.{other_record, text_record}
+use Rattle.sw_histories.proofs.Found.EntriesLemmas.{other_record, text_record}
 use Rattle.sw_histories.proofs.reading.read_record.Goals as goal
 
 pub returns-in-Ok-clause-answers : goal.returns-in-Ok-clause-answers

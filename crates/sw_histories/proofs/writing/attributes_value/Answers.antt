@@ -6,7 +6,7 @@ use Rattle.serde_json.proofs.Views.{view-Array}
 use Rattle.sw_rows.specs.Domains.{domain}
 use Rattle.sw_rows.specs.Header.{texts_of}
 use Rattle.sw_histories.specs.RecordText.{attribute_text}
-use Rattle.sw_histories.proofs.RecordTextLemmas.{one_attribute, view_String}
+use Rattle.sw_histories.proofs.Back.RecordTextLemmas.{one_attribute, view_String}
 use Rattle.sw_histories.proofs.writing.attributes_value.Goals as goal
 
 pub loop-attr-preserved : goal.loop-attr-preserved

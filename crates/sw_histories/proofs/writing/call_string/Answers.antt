@@ -1,6 +1,6 @@
 use Rattle.std.proofs.Common.{IsUtf8, subst, sym}
 use Rattle.std.proofs.lemmas.Bool.{false≢true}
-use Rattle.sw_histories.proofs.RecordTextLemmas.{call_utf8}
+use Rattle.sw_histories.proofs.Back.RecordTextLemmas.{call_utf8}
 use Rattle.sw_histories.proofs.writing.call_string.Goals as goal
 
 pub unreachable-requires : goal.unreachable-requires

@@ -4,7 +4,7 @@ use Rattle.std.proofs.lemmas.List.{take_all}
 use Rattle.serde_json.specs.Data.{array, string}
 use Rattle.serde_json.specs.View.{items_of}
 use Rattle.serde_json.proofs.Views.{view-Array}
-use Rattle.sw_histories.proofs.RecordTextLemmas.{map_twice}
+use Rattle.sw_histories.proofs.Back.RecordTextLemmas.{map_twice}
 use Rattle.sw_histories.proofs.writing.lines_value.Goals as goal
 
 pub returns : goal.returns

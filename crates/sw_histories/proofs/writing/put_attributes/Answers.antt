@@ -1,6 +1,6 @@
 use Rattle.std.proofs.Common.{◌∙◌, ap}
 use Rattle.serde_json.specs.Written.{has_float}
-use Rattle.sw_histories.proofs.RecordTextLemmas.{attributes_have_none}
+use Rattle.sw_histories.proofs.Back.RecordTextLemmas.{attributes_have_none}
 use Rattle.sw_histories.proofs.writing.put_attributes.Goals as goal
 
 pub put_value-requires : goal.put_value-requires

@@ -3,7 +3,7 @@ use Rattle.std.specs.Prelude.{map}
 use Rattle.serde_json.specs.View.{items_of}
 use Rattle.serde_json.specs.Written.{items_text}
 use Rattle.sw_histories.specs.RecordText.{entry_data}
-use Rattle.sw_histories.proofs.RecordTextLemmas.{list_begun, none_left}
+use Rattle.sw_histories.proofs.Back.RecordTextLemmas.{list_begun, none_left}
 use Rattle.sw_histories.proofs.writing.put_entries.Goals as goal
 
 pub loop-entry-init : goal.loop-entry-init

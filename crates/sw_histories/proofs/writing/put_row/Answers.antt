@@ -1,7 +1,7 @@
 use Rattle.std.proofs.Common.{◌∙◌, ap}
 use Rattle.serde_json.specs.Written.{has_float}
 use Rattle.sw_rows.specs.Header.{kinds_of}
-use Rattle.sw_histories.proofs.RecordTextLemmas.{row_has_none}
+use Rattle.sw_histories.proofs.Back.RecordTextLemmas.{row_has_none}
 use Rattle.sw_histories.proofs.writing.put_row.Goals as goal
 
 pub put_value-requires : goal.put_value-requires

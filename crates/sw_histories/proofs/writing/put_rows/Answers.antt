@@ -7,7 +7,7 @@ use Rattle.serde_json.specs.Written.{comma_if, compact_text, items_text}
 use Rattle.sw_table.specs.declared.row.Row.{Row}
 use Rattle.sw_rows.specs.Header.{kinds_of}
 use Rattle.sw_histories.specs.RecordText.{row_data}
-use Rattle.sw_histories.proofs.RecordTextLemmas.{item_put, list_begun}
+use Rattle.sw_histories.proofs.Back.RecordTextLemmas.{item_put, list_begun}
 use Rattle.sw_histories.proofs.writing.put_rows.Goals as goal
 
 pub loop-place-init : goal.loop-place-init

@@ -5,7 +5,7 @@ use Rattle.serde_json.specs.Written.{compact_text}
 use Rattle.sw_rows.specs.Header.{Column, kinds_of}
 use Rattle.sw_spine.specs.History.{History}
 use Rattle.sw_histories.specs.RecordText.{front_text, list_data, row_data}
-use Rattle.sw_histories.proofs.RecordTextLemmas.{record_parts}
+use Rattle.sw_histories.proofs.Back.RecordTextLemmas.{record_parts}
 use Rattle.sw_histories.proofs.writing.record_bytes.Goals as goal
 
 pub returns : goal.returns

@@ -7,7 +7,7 @@ use Rattle.serde_json.proofs.Views.{view-Array}
 use Rattle.sw_rows.specs.Domains.{domain}
 use Rattle.sw_rows.specs.Header.{kinds_of, texts_of}
 use Rattle.sw_histories.specs.RecordText.{cell_data, cells_data}
-use Rattle.sw_histories.proofs.RecordTextLemmas.{cell_more, cells_over}
+use Rattle.sw_histories.proofs.Back.RecordTextLemmas.{cell_more, cells_over}
 use Rattle.sw_histories.proofs.writing.row_value.Goals as goal
 
 pub loop-attr-preserved : goal.loop-attr-preserved

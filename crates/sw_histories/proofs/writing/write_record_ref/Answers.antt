@@ -1,5 +1,5 @@
 use Rattle.std.proofs.Common.{◌∙◌}
-use Rattle.sw_histories.proofs.RecordTextLemmas.{writes_text}
+use Rattle.sw_histories.proofs.Back.RecordTextLemmas.{writes_text}
 use Rattle.sw_histories.proofs.writing.write_record_ref.Goals as goal
 
 pub returns-in-Ok : goal.returns-in-Ok

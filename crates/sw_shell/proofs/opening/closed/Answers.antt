@@ -1,5 +1,5 @@
 use Rattle.std.proofs.Common.{◌∷◌, []}
-use Rattle.sw_shell.proofs.Legal.{over_columns}
+use Rattle.sw_cli.proofs.Legal.{over_columns}
 use Rattle.sw_shell.proofs.opening.closed.Goals as goal
 
 pub returns-in-Ok-clause-history : goal.returns-in-Ok-clause-history

@@ -4,7 +4,7 @@ use Rattle.sw_shell.proofs.opening.ground_of.Goals as goal
 pub invariant_of-result : goal.invariant_of-result
 invariant_of-result g c =
     let sound = c.requires.sound in
-    let same : length c.in-Ok.columns ≡ length c.args.opened.schema = c.in-Ok.ensures ∙ c.len.ensures.value in
+    let same : length c.in-Ok.columns ≡ length c.args.opened.schema = c.in-Ok.ensures.many ∙ c.len.ensures.value in
     record {
       few = sound.few;
       numbered = sound.numbered;

@@ -9,6 +9,6 @@ pub returns-clause-made : goal.returns-clause-made
 returns-clause-made g c =
     let s = c.self.inside in
     let t = c.ticket.inside in
-    let shows : Shown = session_shown g.J.Naming.opening t.number t.share.value t.receipt in
-    let is = is_made g.J.Naming.opening s.spine s.sessions.rows s.heads.rows t.share.number t.number t.share.value t.receipt c.self.invariant.tied c.agree.ensures.value c.ticket.invariant.1 in
+    let shows : Shown = session_shown g.J.Naming.opening t.number t.share.value t.receipt t.misses in
+    let is = is_made g.J.Naming.opening s.spine s.sessions.rows s.heads.rows t.share.number t.number t.share.value t.receipt t.misses c.self.invariant.tied c.agree.ensures.value c.ticket.invariant.1 in
     subst (λ (v : Shown). IsMade (length c.args.self.now.given) v) c.ticket.view_is (subst (λ (d : DeskState). IsMade (length d.given) shows) c.self.view_is is)

@@ -14,8 +14,8 @@ loop-init g c = record {
 pub returns-then-came-clause-grows : goal.returns-then-came-clause-grows
 returns-then-came-clause-grows g c = grows_trans g.J.Naming.opening c.args.share.now.value c.loop.share.value c.publish-came.new.share.value c.loop.invariant.grows c.publish-came.ensures.grows
 
-pub returns-then-not-came-clause-grows : goal.returns-then-not-came-clause-grows
-returns-then-not-came-clause-grows g c = grows_trans g.J.Naming.opening c.args.share.now.value c.loop.share.value c.publish-came.new.share.value c.loop.invariant.grows c.publish-came.ensures.grows
+pub returns-in-Some-miss-clause-grows : goal.returns-in-Some-miss-clause-grows
+returns-in-Some-miss-clause-grows g c = grows_trans g.J.Naming.opening c.args.share.now.value c.loop.share.value c.publish-came.new.share.value c.loop.invariant.grows c.publish-came.ensures.grows
 
 pub loop-preserved : goal.loop-preserved
 loop-preserved g c = record {

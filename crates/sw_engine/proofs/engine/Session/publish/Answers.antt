@@ -10,8 +10,8 @@ pub returns-clause-receipt : goal.returns-clause-receipt
 returns-clause-receipt g c =
     let s = c.self.inside in
     let opening = g.J.Naming.opening in
-    let published = c.in_ok-published.published in
-    let longer : IsPrefix s.receipt published = begins_longer c.begins-begins.result s.receipt published (published_of opening s.share.value) (published_of opening c.publish.new.share.value) c.begins-begins.ensures c.self.invariant.3 c.publish.ensures.grows.0 c.in_ok-published.ensures.receipt in (
-      ap updates_in c.again.ensures ∙ c.in_ok-published.ensures.receipt,
+    let published = c.in-Ok.published in
+    let longer : IsPrefix s.receipt published = begins_longer c.begins-begins.result s.receipt published (published_of opening s.share.value) (published_of opening c.publish.new.share.value) c.begins-begins.ensures c.self.invariant.3 c.publish.ensures.grows.0 c.in-Ok.ensures.receipt in (
+      ap updates_in c.again.ensures ∙ c.in-Ok.ensures.receipt,
       subst (λ (v : Shown). IsPrefix v.2.given c.again.result) c.self.view_is (subst (λ (l : List (List Update)). IsPrefix s.receipt l) (sym c.again.ensures) longer),
     )

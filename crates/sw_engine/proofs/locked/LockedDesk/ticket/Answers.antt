@@ -9,5 +9,5 @@ returns-clause-ticket g c =
     let j = g.J.Naming in
     let e = c.in_ok-number.ensures in (
       ap (λ (s : Shown). s.0) c.new.ensures ∙ e.share.0,
-      subst IsNew (sym c.new.ensures) (new_session j.opening j.sessions c.enrol.new.self.desk.books c.in_ok-number.number c.in_ok-number.share c.in_ok-number.receipt e.share e.shown),
+      subst IsNew (sym c.new.ensures) (new_session j.opening j.sessions c.enrol.new.self.desk.books c.in_ok-number.number c.in_ok-number.share c.in_ok-number.receipt c.new-misses.result e.share e.shown),
     )

@@ -11,7 +11,7 @@ invariant_of-self g c =
     let s = c.self.inside in
     let w = s.writer.value in
     let w' = c.publish-told.new.writer in
-    let before : Written = record { published = s.published; pending = drop w.behind w.log.items; waiting = s.waiting; viewers = s.viewers } in
+    let before : Written = record { published = s.published; pending = drop w.behind w.log.items; waiting = s.waiting; viewers = s.viewers; failed = s.failed } in
     let none : before.waiting ≡ None = subst (λ (v : Written). v.waiting ≡ None) (sym c.self.view_is) c.requires.none in
     let all : all_of before ≡ updates_in c.args.list.now = subst (λ (v : Written). all_of v ≡ updates_in c.args.list.now) (sym c.self.view_is) c.requires.all in
     let ok = publishes_ok c.self.invariant.0 before w.desk.shown.value w'.desk.shown.value c.args.list.now (drop w'.behind w'.log.items) c.publish-told.result c.in-Ok.field-0 c.self.invariant.1 none all (rw (← c.deref_mut.ensures.value) c.publish-told.ensures) c.in-Ok.is in

@@ -1,0 +1,9 @@
+pub mod ExampleOfRun
+pub mod LegalFiles
+pub mod RecordBack
+pub mod RecordLaws
+pub mod RecordTextLemmas
+pub mod RecordTexts
+pub mod RunRecords
+pub mod TableCells
+pub mod WrittenAgain

@@ -1,0 +1,11 @@
+pub mod EntriesLemmas
+pub mod ExplainedLemmas
+pub mod FileCheckLemmas
+pub mod LearnedTexts
+pub mod NarrowedLines
+pub mod OutlineLemmas
+pub mod ReadParts
+pub mod RecordReadingLemmas
+pub mod TextReading
+pub mod TextUtf8
+pub mod ValueReading

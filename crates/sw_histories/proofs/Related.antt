@@ -1,0 +1,6 @@
+pub mod OtherCalls
+pub mod OtherCodes
+pub mod OtherFiles
+pub mod OtherHistories
+pub mod OtherTexts
+pub mod RecordGrammar

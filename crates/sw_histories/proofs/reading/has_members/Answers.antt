@@ -1,6 +1,0 @@
-use Rattle.serde_json.specs.View.{view}
-use Rattle.sw_histories.proofs.RecordReadingLemmas.{members_count}
-use Rattle.sw_histories.proofs.reading.has_members.Goals as goal
-
-pub returns-in-Some : goal.returns-in-Some
-returns-in-Some c = members_count (view c.args.value.now) c.in-Some.members.now.entries c.len.result c.args.count c.in-Some.ensures c.len.ensures.len
