@@ -617,6 +617,7 @@ where
         ensures own { LeavesSelect query.now result self.old self.new }
         ensures grows { Begin self.old.2.entries self.new.2.entries }
         ensures receipt { self.new.2.given ≡ self.old.2.given }
+        ensures missed { self.new.2.missed ≡ self.old.2.missed }
         ensures refused { IfErr result (λ e. RefusesCall e) }
         ensures full { IfErr result (TellsFull self.new.2.entries) }
     {
@@ -633,6 +634,7 @@ where
         ensures own { LeavesCommit call result self.old self.new }
         ensures grows { Begin self.old.2.entries self.new.2.entries }
         ensures receipt { GivesReceipt result self.old.2 self.new.2 }
+        ensures missed { self.new.2.missed ≡ self.old.2.missed }
         ensures refused { IfErr result (λ e. RefusesCall e) }
         ensures full { IfErr result (TellsFull self.new.2.entries) }
     {
@@ -654,6 +656,7 @@ where
         ensures own { LeavesCommit (Insert cells) result self.old self.new }
         ensures grows { Begin self.old.2.entries self.new.2.entries }
         ensures receipt { GivesReceipt result self.old.2 self.new.2 }
+        ensures missed { self.new.2.missed ≡ self.old.2.missed }
         ensures refused { IfErr result (λ e. RefusesCall e) }
         ensures full { IfErr result (TellsFull self.new.2.entries) }
     {
@@ -668,6 +671,7 @@ where
         ensures own { LeavesCommit (Delete key) result self.old self.new }
         ensures grows { Begin self.old.2.entries self.new.2.entries }
         ensures receipt { GivesReceipt result self.old.2 self.new.2 }
+        ensures missed { self.new.2.missed ≡ self.old.2.missed }
         ensures refused { IfErr result (λ e. RefusesCall e) }
         ensures full { IfErr result (TellsFull self.new.2.entries) }
     {
@@ -686,6 +690,7 @@ where
         ensures own { LeavesCommit (DeleteWhere conds.now) result self.old self.new }
         ensures grows { Begin self.old.2.entries self.new.2.entries }
         ensures receipt { GivesReceipt result self.old.2 self.new.2 }
+        ensures missed { self.new.2.missed ≡ self.old.2.missed }
         ensures refused { IfErr result (λ e. RefusesCall e) }
         ensures full { IfErr result (TellsFull self.new.2.entries) }
     {
@@ -705,6 +710,7 @@ where
         ensures own { LeavesCall call.now result self.old self.new }
         ensures grows { Begin self.old.2.entries self.new.2.entries }
         ensures receipt { CallGives call.now result self.old.2 self.new.2 }
+        ensures missed { self.new.2.missed ≡ self.old.2.missed }
         ensures refused { IfErr result (λ e. RefusesCall e) }
         ensures full { IfErr result (TellsFull self.new.2.entries) }
     {
@@ -781,6 +787,7 @@ where
         ensures own { own_of self.new ≡ own_of self.old }
         ensures grows { Begin self.old.2.entries self.new.2.entries }
         ensures receipt { self.new.2.given ≡ self.old.2.given }
+        ensures missed { self.new.2.missed ≡ self.old.2.missed }
         ensures all { TellsAll J.limit J.opening self.new.2.entries self.new.2.given result }
     {
         let Session {
@@ -827,6 +834,7 @@ where
         ensures own { own_of self.new ≡ own_of self.old }
         ensures grows { Begin self.old.2.entries self.new.2.entries }
         ensures receipt { GivesReceipt result self.old.2 self.new.2 }
+        ensures missed { self.new.2.missed ≡ self.old.2.missed }
         ensures told { IfOk result (λ r. r ≡ self.new.2.given) }
         ensures ends { IfOk result (λ r. EndWithEntries J.limit J.opening self.new.2.entries r) }
         ensures saw { IfOk result (λ _. EndWithEntries J.limit J.opening self.new.2.entries viewer.new.seen) }
