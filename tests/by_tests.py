@@ -44,12 +44,12 @@ BODIES = {
                                "        self.reader.answer(query)\n",
                                "        let _ = query;\n        Err(Refusal::Ahead { seen: 1, told: 0 })\n", "viewed-late"),
     "one_after_the_other": ("Maps that lack much are stepped one after the other",
-                            "sw_set/src/at_once.rt", "front, many.max(1), &step", "front, 1, &step", "test_areas"),
+                            "sw_set/src/prepare/at_once.rt", "front, many.max(1), &step", "front, 1, &step", "test_areas"),
     "attributes_from_the_last": ("Missing maps are made in the order of the key, then of the attributes from the last on",
-                                 "sw_set/src/making.rt", "ensure_map(area, tails, tails[i], cells)?;",
+                                 "sw_set/src/prepare/making.rt", "ensure_map(area, tails, tails[i], cells)?;",
                                  "ensure_map(area, tails, tails[if i == 0 { 0 } else { tails.len() - i }], cells)?;", "test_areas"),
     "one_refused_stops_all": ("Of maps that are stepped one after the other none is stepped after one that was refused",
-                              "sw_set/src/at_once.rt", "    thread::for_each_mut(rt, rest, 1, &step);\n",
+                              "sw_set/src/prepare/at_once.rt", "    thread::for_each_mut(rt, rest, 1, &step);\n",
                               "    for it in rest.iter_mut() {\n        if align_box(attribute, it, tails, tape).is_err() {\n"
                               "            return;\n        }\n    }\n", "test_areas"),
     "asked_a_third_time": ("An area that is short again is asked a third time",
@@ -57,7 +57,7 @@ BODIES = {
                            "        told = ready_again(align, &mut areas[k], query);\n        if told.is_err() {\n"
                            "            told = ready_again(align, &mut areas[k], query);\n        }\n", "test_heads"),
     "begun_after_contention": ("A map whose growth found the budget contended is begun again",
-                               "sw_set/src/making.rt", "        Err(Refusal::Contended { seen, found }) => {\n"
+                               "sw_set/src/prepare/making.rt", "        Err(Refusal::Contended { seen, found }) => {\n"
                                "            return Err(Refusal::Contended { seen, found });\n        }\n", "", "test_heads"),
     "quit_passed_by": ("A shell goes on behind .quit", "sw_shell/src/turns.rt", "        Command::Quit => return Ok(false),\n",
                        "        Command::Quit => return Ok(true),\n", "table a:int\\n5\\n\nshell count\\n.quit\\ncount\\n"),

@@ -12,7 +12,7 @@ use Rattle.sw_map.specs.Held.{Held, blank}
 use Rattle.sw_map.specs.Lawful.{rows_by}
 use Rattle.sw_set.specs.Merged.{IsBehind, IsMerged, LacksKeys}
 use Rattle.sw_set.specs.Shelf.{AreReceivable}
-use Rattle.sw_set.proofs.Boxes.{same-refl}
+use Rattle.sw_set.proofs.Areas.Boxes.{same-refl}
 use Rattle.test_areas.specs.Examples.{begun_area, cleared_area, cracked_tape, fifth_row, key_map, lagging_area, lagging_map, longer_tape, mapped_area, none_refused, old_row, second_map, shorter_tape, some_refused, strayed_tape, three_rows}
 
 pub comes_merged : IsMerged none_refused (Insert fifth_row) mapped_area (record mapped_area { tape = longer_tape })
