@@ -5,4 +5,3 @@ pub mod Cracking
 pub mod Tables
 pub mod Parts
 pub mod Looks
-pub mod Shared

@@ -21,7 +21,7 @@ use sw_tape::Entry;
 ///
 /// Contracts see what a map tells of a begin or growth that was refused, and of a step. Each kind of map says what that is;
 /// who calls maps of any kind knows it of none but those that refused such a call.
-pub trait CrackerMap: Send + Sync + Drop {
+pub trait CrackerMap: Send + Drop {
     ghost held: { Self → Held };
 
     ghost tells: { Self → Refusal → Type 0 };
