@@ -108,7 +108,7 @@ class Ends:
         self.held("a run with its memory", 0, self.call(words)[0])
         new, refused = self.take("h.json"), 0
         for step in range(MEMORIES):
-            # In 4 MiB the system cannot load the program.
+            # In 4 MiB the system cannot load the program, and ends it with status 127.
             most = (5 + step) << 20
             self.put("h.json", OLD)
             status, out, told = self.call(words, preexec_fn=lambda: resource.setrlimit(resource.RLIMIT_AS, (most, most)))
@@ -122,7 +122,8 @@ class Ends:
                 self.held("its status", 3 if b"refused 1" in lines else 0, status)
                 self.held("a history within %d MiB" % (most >> 20), (0, b"legal"), self.verdict("h.json"))
             else:
-                self.held("what is told", (3, True), (status, told.startswith(b"sideways: refused 1\n")))
+                is_told = status == 3 and told.startswith(b"sideways: refused 1\n")
+                self.held("what is told within %d MiB" % (most >> 20), True, is_told or (status == 127 and out == b""))
                 self.held("the history within %d MiB" % (most >> 20), OLD, kept)
             self.held("what is begun within %d MiB" % (most >> 20), [], self.begun())
         self.held("the last one is the whole history", new, self.take("h.json"))
