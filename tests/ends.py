@@ -81,7 +81,8 @@ class Ends:
         self.put("long.txt", SCRIPT * 6000)
         words = ["run", "--table", "t.csv", "--script", "long.txt", "--history", "h.json"]
         began = time.time()
-        self.held("a long run", 0, self.call(words)[0])
+        status, whole, _ = self.call(words)
+        self.held("a long run", 0, status)
         lasts, new, beside, kinds = time.time() - began, self.take("h.json"), 0, set()
         for at in range(KILLS):
             self.put("h.json", OLD)
@@ -92,10 +93,11 @@ class Ends:
                 except subprocess.TimeoutExpired:
                     child.kill()
                 child.wait()
-            kept = self.bytes_of("h.json")
+            kept, went = self.bytes_of("h.json"), self.bytes_of("out")
             kinds.add(kept)
             beside += len(self.begun())
             self.held("the history after a kill at %d of %d" % (at, KILLS), True, kept in (OLD, new))
+            self.held("the replies before it", True, whole.startswith(went) and (kept == OLD or went == whole))
         self.held("both histories are left by some kills", {OLD, new}, kinds)
         print("  beside the history %d of %d kills left what was begun" % (beside, KILLS))
 
@@ -106,21 +108,57 @@ class Ends:
         self.held("a run with its memory", 0, self.call(words)[0])
         new, refused = self.take("h.json"), 0
         for step in range(MEMORIES):
-            # In 4 MiB the system cannot load the program.
+            # In 4 MiB the system cannot load the program, and ends it with status 127.
             most = (5 + step) << 20
             self.put("h.json", OLD)
-            status, _, told = self.call(words, preexec_fn=lambda: resource.setrlimit(resource.RLIMIT_AS, (most, most)))
+            status, out, told = self.call(words, preexec_fn=lambda: resource.setrlimit(resource.RLIMIT_AS, (most, most)))
             # Under a call that was refused the history is another one, which is whole.
             answered = status == 0 or told == b""
-            kept = self.bytes_of("h.json")
+            kept, lines = self.bytes_of("h.json"), out.split(b"\n")
             refused += not answered
+            calls = sum(line in (b"4", b"(3 rows)", b"refused 1") for line in lines)
+            self.held("the replies within %d MiB" % (most >> 20), True, calls == 6000 or (out == b"" and not answered))
             if answered:
+                self.held("its status", 3 if b"refused 1" in lines else 0, status)
                 self.held("a history within %d MiB" % (most >> 20), (0, b"legal"), self.verdict("h.json"))
             else:
+                is_told = status == 3 and told.startswith(b"sideways: refused 1\n")
+                self.held("what is told within %d MiB" % (most >> 20), True, is_told or (status == 127 and out == b""))
                 self.held("the history within %d MiB" % (most >> 20), OLD, kept)
             self.held("what is begun within %d MiB" % (most >> 20), [], self.begun())
         self.held("the last one is the whole history", new, self.take("h.json"))
         self.held("some runs are refused", True, refused > 0)
+
+    def refused_inputs(self):
+        """What is refused before any call: nothing goes out, and the history that was there stands."""
+        self.put("short.csv", b"a,b\n1,2\n3\n")
+        self.put("word.txt", b"count\nfetch\n")
+        table, script = ["--table", "t.csv"], ["--script", "s.txt"]
+        for name, words, line in (("a command line", table + script + ["--fast"], b"error: "),
+                                  ("a table", ["--table", "short.csv"] + script, b"sideways: refused 2 record 2 field 2\n"),
+                                  ("a table that is not there", ["--table", "none.csv"] + script, b"sideways: refused 12\n"),
+                                  ("a script", table + ["--script", "word.txt"], b"sideways: refused 3 line 2 why Word\n"),
+                                  ("cuts", table + script + ["--cuts", "d=1"], b"sideways: refused 4 name d\n"),
+                                  ("rows past the limit", table + script + ["--limit", "3"], b"sideways: refused 5 limit 3\n")):
+            for more in ([], ["--threads"]):
+                self.put("h.json", OLD)
+                status, out, told = self.call(["run"] + words + more + ["--history", "h.json"])
+                self.held("%s that is refused" % name, (2, b"", True), (status, out, told.startswith(line)))
+                self.held("the history of a run that was refused", (OLD, []), (self.take("h.json"), self.begun()))
+
+    def lost_replies(self):
+        """Replies that cannot be written: the history that was there stands."""
+        for more in ([], ["--threads"]):
+            for why in ("it cannot be written", "its reader is gone"):
+                reader, writer = os.pipe()
+                os.close(reader)
+                self.put("h.json", OLD)
+                with open("/dev/full" if why.startswith("it ") else writer, "wb") as out:
+                    got = self.call(self.run + more + ["--history", "h.json"], stdout=out)
+                if why.startswith("it "):
+                    os.close(writer)
+                self.held("replies, %s" % why, (3, unwritten("standard output", why)), got[::2])
+                self.held("the history of a run whose replies were lost", (OLD, []), (self.take("h.json"), self.begun()))
 
     def verdict(self, name):
         status, out, _ = self.call(["check", name])
@@ -428,8 +466,9 @@ def main():
     began = time.time()
     with tempfile.TemporaryDirectory() as folder:
         ends = Ends(program, folder)
-        for what in (ends.killed_runs, ends.wanting_memory, ends.full_disks, ends.other_writers, ends.in_place_of, ends.may_not_write,
-                     ends.other_files, ends.other_lists, ends.size_limits, ends.small_stacks, ends.early_lines, ends.unproved):
+        for what in (ends.refused_inputs, ends.lost_replies, ends.killed_runs, ends.wanting_memory, ends.full_disks, ends.other_writers,
+                     ends.in_place_of, ends.may_not_write, ends.other_files, ends.other_lists, ends.size_limits, ends.small_stacks,
+                     ends.early_lines, ends.unproved):
             before = ends.cases
             try:
                 what()

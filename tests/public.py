@@ -3,8 +3,8 @@
 
     tests/public.py [CRATE..]
 
-An item is public where a crate's src/lib.rt hands it out. A line for each that only its own crate names, but laws, which are there to be
-read, and types of which a public signature or field speaks. Status 0 always: what stands for callers outside may stay."""
+An item is public where a crate's src/lib.rt hands it out. A line for each that only its own crate names, but laws and modules of laws,
+which are there to be read, and types of which a public signature or field speaks. Status 0 always: what stands for callers outside may stay."""
 import re
 import sys
 from pathlib import Path
@@ -13,8 +13,10 @@ TOP = Path(__file__).resolve().parents[1]
 PAGES = ["README.md", "docs/EMBEDDING.md", "docs/CONTRIBUTING.md"]
 ITEM = re.compile(r"^pub (?:const |unsafe )*(?:fn|struct|enum|trait|type|const|static|mod) (\w+)", re.M)
 LAW = re.compile(r"^pub fn (\w+)[^{]*?\n(?:    (?:requires|ensures)\b[^\n]*\n(?: {8}[^\n]*\n)*)+\{\}", re.M)
+FUNCTION = re.compile(r"^pub fn (\w+)", re.M)
 SAID = re.compile(r"^ *pub (?:fn [^{;]*?[{;]|\w+: [^\n]*|(?:struct|enum|trait|type) [^\n]*)", re.M)
 VARIANT = re.compile(r"^    [A-Z]\w*(?:\([^\n]*\)|\s*\{[^}]*\}),", re.M)
+GHOST = re.compile(r"^use Rattle\.(\w+\.specs\.declared[^\n]*)", re.M)
 USED = re.compile(r"^pub use ([^;]+);", re.M)
 
 
@@ -32,11 +34,14 @@ def handed_out(text):
 
 
 def spoken_of(folder):
-    """The names of laws, and those of which public signatures and fields speak."""
+    """The names of laws and of modules of laws, and those of which public signatures and fields speak."""
     names = set()
     for page in folder.rglob("src/**/*.rt"):
         text = page.read_text(encoding="utf-8")
-        names |= set(LAW.findall(text))
+        laws = set(LAW.findall(text))
+        names |= laws
+        if laws and laws == set(FUNCTION.findall(text)):
+            names.add(page.stem)
         for said in [*SAID.findall(text), *VARIANT.findall(text)]:
             head = re.split(r"\n +(?:requires|ensures)\b", said)[0]
             names |= set(re.findall(r"\w+", re.sub(r"^ *pub (?:fn|struct|enum|trait|type) \w+", "", head)))
@@ -50,6 +55,9 @@ def main():
         used[name] = set()
         for page in [*folder.rglob("src/**/*.rt"), *folder.rglob("tests/**/*.rt"), *folder.rglob("uses/**/*.rt")]:
             used[name] |= words(page.read_text(encoding="utf-8"))
+        for page in [*folder.rglob("specs/**/*.antt"), *folder.rglob("proofs/**/*.antt")]:
+            for line in GHOST.findall(page.read_text(encoding="utf-8")):
+                used[name] |= words(line)
     shown = set()
     for page in PAGES:
         if (TOP / page).exists():
@@ -59,8 +67,9 @@ def main():
         lib = crates[name] / "src/lib.rt"
         if not lib.exists():
             continue
+        own = words((crates[name] / "README.md").read_text(encoding="utf-8"))
         for item in sorted(handed_out(lib.read_text(encoding="utf-8")) - spoken_of(crates[name])):
-            if item not in shown and not any(item in used[other] for other in crates if other != name):
+            if item not in shown | own and not any(item in used[other] for other in crates if other != name):
                 many += 1
                 print(f"public: {name}: {item}")
     print(f"public: {many} are named by their own crate alone")

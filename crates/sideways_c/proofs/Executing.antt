@@ -19,6 +19,7 @@ use Rattle.sideways_c.specs.declared.codes.TheConstants.{MISUSE, NO_TEXT, OK}
 same_engine : (old : Shown) (s : SoloState) (text : List ℕ) → old.engine ≡ Some s → record old { engine = Some s; text = text } ≡ record old { text = text }
 same_engine old s text e = ap (λ (o : Option SoloState). record old { engine = o; text = text }) (sym e)
 
+-- an executed line, with its text
 pub line_told : (session : ℕ) (line : List ℕ) (read : Result (Option Call) Refusal) (s t : SoloState) (told : Vec ℕ) (old new : Shown) → old.engine ≡ Some s → IsExecuted session line read s t (Some told)
     → new ≡ record old { engine = Some t; text = told.items } → MakesLine session line read s old new OK
 line_told session line (Ok None) s t told old new e m is =
@@ -27,12 +28,14 @@ line_told session line (Ok None) s t told old new e m is =
 line_told session line (Ok (Some c)) s t told old new e m is = inr (inr (c, refl, inl (refl, is ∙ (λ i. record old { engine = Some (m.0 i); text = m.1 i }))))
 line_told session line (Err f) s t told old new e m is = absurd m
 
+-- an executed line for whose text there is no memory
 pub line_untold : (session : ℕ) (line : List ℕ) (read : Result (Option Call) Refusal) (s t : SoloState) (old new : Shown) → old.engine ≡ Some s → IsExecuted session line read s t None
     → new ≡ record old { engine = Some t } → MakesLine session line read s old new NO_TEXT
 line_untold session line (Ok None) s t old new e m is = absurd m
 line_untold session line (Ok (Some c)) s t old new e m is = inr (inr (c, refl, inr (refl, is ∙ (λ i. record old { engine = Some (m i) }))))
 line_untold session line (Err f) s t old new e m is = absurd m
 
+-- a refused line
 pub line_refused : (session : ℕ) (line : List ℕ) (read : Result (Option Call) Refusal) (s t : SoloState) (f : Refusal) (old new : Shown) (code : ℕ) → old.engine ≡ Some s → (t ≡ s) × IsNotExecuted read s f
     → code ≡ code_of f → new ≡ record old { engine = Some t } → MakesLine session line read s old new code
 line_refused session line read s t f old new code e m told is =
@@ -74,5 +77,6 @@ refuses_same cs s refusal.Input h = h
 refuses_same cs s refusal.Output h = h
 refuses_same cs s (refusal.Ahead seen told) h = h
 
+-- a call that is refused over more texts is refused over fewer
 pub refused_same : (line : List ℕ) (s t : SoloState) (e : Refusal) → t ≡ learning line s → RefusesCall t e → RefusesCall s e
 refused_same line s t e learned h = refuses_same (learning line s).history.columns s e (subst (λ (x : SoloState). RefusesCall x e) learned h)

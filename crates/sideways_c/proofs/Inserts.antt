@@ -17,6 +17,7 @@ use Rattle.sideways_c.proofs.Replying.{inserts_by}
 pub is_insert : (s : SoloState) (cells : List ℤ) (r : Reply) → r ≡ reply_in s (call.Insert cells) → IsInsert r
 is_insert s cells r h = subst IsInsert (sym h) (inserts_by (inserts (updates_of s.history) == s.history.limit) (inserts (updates_of s.history) + 1))
 
+-- the key that is told
 pub key_is : (key : ℕ) (r : Reply) → IsKeyTold key r → key ≡ key_told r
 key_is key r (inl h) = ap key_told (sym h)
 key_is key r (inr h) = h.1 ∙ ap key_told (sym h.0)
@@ -28,6 +29,7 @@ row_more session row columns first s t so made =
     let on : row + 1 ≡ suc row = omega arith in
     made ∙ (ap (with_call session (insert_at columns row)) so ∙ ap (λ n. with_inserts session columns n first) (sym on))
 
+-- one insert more leaves the number of sessions
 pub sessions_more : (session row : ℕ) (columns : List Cells) (first s t : SoloState) → t ≡ with_call session (insert_at columns row) s → s.sessions ≡ first.sessions → t.sessions ≡ first.sessions
 sessions_more session row columns first s t made so = ap (λ (x : SoloState). x.sessions) made ∙ so
 

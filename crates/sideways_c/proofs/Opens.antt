@@ -107,11 +107,13 @@ columns_numbered g t h =
 
 -- ---- the history so far
 
+-- the text is kept
 pub history_told : (s : SoloState) (text : Vec ℕ) (old new : Shown) → old.engine ≡ Some s → SpellsHistory s (Ok text) → new ≡ record old { text = text.items } → KeepsHistoryIn old new OK
 history_told s text old new e m made =
     let told : TellsHistory s old new OK = inl (refl, made ∙ ap (λ (x : List ℕ). record old { text = x }) m.0, m.1) in
     subst (λ (o : Option SoloState). MatchOption o (Tells MISUSE old new OK) (λ x. TellsHistory x old new OK)) (sym e) told
 
+-- without a text nothing changes
 pub history_untold : (s : SoloState) (old new : Shown) (code : ℕ) → old.engine ≡ Some s → SpellsHistory s (Err code) → new ≡ old → KeepsHistoryIn old new code
 history_untold s old new code e m same =
     let untold : TellsHistory s old new code = inr (m, same) in

@@ -25,6 +25,7 @@ use Rattle.sideways_c.specs.Shown.{Shown, has_session}
 use Rattle.sideways_c.specs.Asks.{AskedBy, AskedOver, IsCount, IsDelete, IsDeleteWhere, IsInsert, IsLeast, IsSum, IsTold, Told}
 use Rattle.sideways_c.specs.declared.codes.TheConstants.{MISUSE, NO_SESSION, OK}
 
+-- what is said of the reply to what is asked, of whatever engine
 abbrev pub Holds : (Reply → Type 0) → Asked → Type 0
 Holds P a = (columns : List Column) (limit : ℕ) (us : List Update) (c : Call) → call_asked columns a ≡ Ok c → P (reply_to limit us c)
 
@@ -35,6 +36,7 @@ in_session : (P : Reply → Type 0) (a : Asked) (b : Bool) (session : ℕ) (s : 
 in_session P a true session s old new r h m = subst P (sym m.3.0) (h s.history.columns s.history.limit (updates_of s.history) m.0 m.2)
 in_session P a false session s old new r h m = absurd (no_code r NO_SESSION m.0)
 
+-- what is said of each reply is said of the one that came
 pub on_engine : (P : Reply → Type 0) (a : Asked) (o : Option SoloState) (session : ℕ) (old new : Shown) (r : Reply) → Holds P a
     → MatchOption o (IsTold MISUSE old new (Ok r)) (λ s. AskedBy (has_session session s) session a s old new (Ok r)) → P r
 on_engine P a None session old new r h m = absurd (no_code r MISUSE m.0)
@@ -54,6 +56,7 @@ selects (Err f) w c h = absurd cc
 count_holds : (ranges : Bor (List Range)) → Holds IsCount (asked.Select wanted.Count ranges)
 count_holds ranges columns limit us c h = let is = selects (conds_after columns [] ranges.now) want.Count c h in subst (λ (x : Call). IsCount (reply_to limit us x)) is.1 tt
 
+-- a count is a number
 pub replies_count : (session : ℕ) (ranges : Bor (List Range)) (old new : Option Shown) (r : Reply) → AskedOver session (asked.Select wanted.Count ranges) old new (Ok r) → IsCount r
 replies_count session ranges old new r m = of_reply IsCount (asked.Select wanted.Count ranges) session old new r (count_holds ranges) m
 
@@ -86,17 +89,21 @@ max_holds a ranges columns limit us c h =
     let w = numbered (number_in columns a) want.Max is.1 is.2 in
     subst (λ (x : Call). IsLeast (reply_to limit us x)) is.3 (subst (λ (x : Want). IsLeast (reply_to limit us (call.Select (record { conds = is.0; want = x })))) w.1 tt)
 
+-- a sum is one
 pub replies_sum : (session a : ℕ) (ranges : Bor (List Range)) (old new : Option Shown) (r : Reply) → AskedOver session (asked.Select (wanted.Sum a) ranges) old new (Ok r) → IsSum r
 replies_sum session a ranges old new r m = of_reply IsSum (asked.Select (wanted.Sum a) ranges) session old new r (sum_holds a ranges) m
 
+-- a least is one or none
 pub replies_min : (session a : ℕ) (ranges : Bor (List Range)) (old new : Option Shown) (r : Reply) → AskedOver session (asked.Select (wanted.Min a) ranges) old new (Ok r) → IsLeast r
 replies_min session a ranges old new r m = of_reply IsLeast (asked.Select (wanted.Min a) ranges) session old new r (min_holds a ranges) m
 
+-- a greatest is one or none
 pub replies_max : (session a : ℕ) (ranges : Bor (List Range)) (old new : Option Shown) (r : Reply) → AskedOver session (asked.Select (wanted.Max a) ranges) old new (Ok r) → IsLeast r
 replies_max session a ranges old new r m = of_reply IsLeast (asked.Select (wanted.Max a) ranges) session old new r (max_holds a ranges) m
 
 -- ---- changes
 
+-- an insert tells a key or that there is no room
 pub inserts_by : (full : Bool) (key : ℕ) → IsInsert (if full then reply.Full else reply.Inserted key)
 inserts_by true key = tt
 inserts_by false key = tt
@@ -110,6 +117,7 @@ insert_holds cells columns limit us c h =
     let is = made_insert (row_in columns cells.now) c h in
     subst (λ (x : Call). IsInsert (reply_to limit us x)) is.1 (inserts_by (inserts us == limit) (inserts us + 1))
 
+-- so it does through the handle
 pub replies_insert : (session : ℕ) (cells : Bor (List ℤ)) (old new : Option Shown) (r : Reply) → AskedOver session (asked.Insert cells) old new (Ok r) → IsInsert r
 replies_insert session cells old new r m = of_reply IsInsert (asked.Insert cells) session old new r (insert_holds cells) m
 
@@ -122,6 +130,7 @@ delete_holds key columns limit us c h =
     let is : call.Delete key ≡ c = cc in
     subst (λ (x : Call). IsDelete (reply_to limit us x)) is (deletes_by (has_key key (rows_of us)))
 
+-- a delete tells whether there was a row
 pub replies_delete : (session key : ℕ) (old new : Option Shown) (r : Reply) → AskedOver session (asked.Delete key) old new (Ok r) → IsDelete r
 replies_delete session key old new r m = of_reply IsDelete (asked.Delete key) session old new r (delete_holds key) m
 
@@ -133,13 +142,16 @@ delete_where_holds : (ranges : Bor (List Range)) → Holds IsDeleteWhere (asked.
 delete_where_holds ranges columns limit us c h =
     let is = made_delete (delete_asked columns ranges.now) c h in subst (λ (x : Call). IsDeleteWhere (reply_to limit us x)) is.1 tt
 
+-- a delete under conditions tells how many rows
 pub replies_delete_where : (session : ℕ) (ranges : Bor (List Range)) (old new : Option Shown) (r : Reply) → AskedOver session (asked.DeleteWhere ranges) old new (Ok r) → IsDeleteWhere r
 replies_delete_where session ranges old new r m = of_reply IsDeleteWhere (asked.DeleteWhere ranges) session old new r (delete_where_holds ranges) m
 
 -- ---- what is told
 
+-- a call that was made, as the function tells it
 pub is_told : (session : ℕ) (a : Asked) (old new : Option Shown) (r : Reply) (tells : Reply → Type 0) (kept : Type 0) → AskedOver session a old new (Ok r) → tells r → Told session a old new OK tells kept
 is_told session a old new r tells kept made shows = (Ok r, made, (refl, shows))
 
+-- a call that was not made, as the function tells it
 pub is_kept : (session : ℕ) (a : Asked) (old new : Option Shown) (code : ℕ) (tells : Reply → Type 0) (kept : Type 0) → AskedOver session a old new (Err code) → kept → Told session a old new code tells kept
 is_kept session a old new code tells kept made same = (Err code, made, (refl, same))

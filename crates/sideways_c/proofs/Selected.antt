@@ -38,6 +38,7 @@ rows_hold names ranges columns limit us c h =
     let w = named (names_in columns names.now) is.1 is.2 in
     subst (λ (x : Call). IsRows (reply_to limit us x)) is.3 (subst (λ (x : Want). IsRows (reply_to limit us (call.Select (record { conds = is.0; want = x })))) w.1 tt)
 
+-- a select of attributes has rows
 pub replies_rows : (session : ℕ) (names : Bor (List ℕ)) (ranges : Bor (List Range)) (old new : Shown) (r : Reply) → AskedOn session (select_of names ranges) old new (Ok r) → IsRows r
 replies_rows session names ranges old new r m = on_engine IsRows (select_of names ranges) old.engine session old new r (rows_hold names ranges) m
 
@@ -59,6 +60,7 @@ kept_on : (o : Option SoloState) (session : ℕ) (names : Bor (List ℕ)) (range
 kept_on None session names ranges old new later r rows many m is count kept = absurd (no_code r MISUSE m.0)
 kept_on (Some s) session names ranges old new later r rows many m is count kept = kept_by (has_session session s) session names ranges s old new later r rows many m is count kept
 
+-- rows are kept until the next call
 pub rows_kept : (session : ℕ) (names : Bor (List ℕ)) (ranges : Bor (List Range)) (old new later : Shown) (r : Reply) (rows : List ReplyRow) (many : ℕ)
     → AskedOn session (select_of names ranges) old new (Ok r) → r ≡ reply.Rows rows → many ≡ length rows → later ≡ record new { kept = Some (kept_rows rows (length names.now)) }
     → SelectsIn session names ranges old later (Ok many)
@@ -76,6 +78,7 @@ refused_on : (o : Option SoloState) (session : ℕ) (names : Bor (List ℕ)) (ra
 refused_on None session names ranges old new code m = (cc, m.1)
 refused_on (Some s) session names ranges old new code m = refused_by (has_session session s) session names ranges s old new code m
 
+-- a refused select keeps none
 pub select_refused : (session : ℕ) (names : Bor (List ℕ)) (ranges : Bor (List Range)) (old new : Shown) (code : ℕ)
     → AskedOn session (select_of names ranges) old new (Err code) → SelectsIn session names ranges old new (Err code)
 select_refused session names ranges old new code m = refused_on old.engine session names ranges old new code m
@@ -85,6 +88,7 @@ pub none_shown : (v : Option Inner) → is_some v ≡ false → shown v ≡ None
 none_shown None h = refl
 none_shown (Some i) h = absurd (false≢true (sym h))
 
+-- a select on a handle that is closed
 pub closed_select : (session : ℕ) (names : Bor (List ℕ)) (ranges : Bor (List Range)) (o : Option Shown) (was : ℕ) → o ≡ None → TellsSelect session names ranges o o MISUSE was was
 closed_select session names ranges o was e = subst (λ (x : Option Shown). TellsSelect session names ranges x x MISUSE was was) (sym e) (Err MISUSE, (refl, refl), (refl, refl))
 
@@ -103,14 +107,17 @@ not_seen names ranges s NoAttribute code h is = inr (NoAttribute, h, is)
 not_seen names ranges s BadCondition code h is = inr (BadCondition, h, is)
 not_seen names ranges s BadCell code h is = inr (BadCell, h, is)
 
+-- rows of a view are kept likewise
 pub view_kept : (names : Bor (List ℕ)) (ranges : Bor (List Range)) (s : SoloState) (old new : Shown) (rows : List ReplyRow) (many : ℕ) → old.engine ≡ Some s → Sees names ranges s (Ok rows) → many ≡ length rows
     → new ≡ record old { kept = Some (kept_rows rows (length names.now)) } → SeesIn names ranges old new (Ok many)
 view_kept names ranges s old new rows many e m count is =
     subst (λ (o : Option SoloState). MatchOption o (IsTold {A = ℕ} MISUSE old new (Ok many)) (λ x. SeesOf names ranges x old new (Ok many))) (sym e) (rows, m, count, is)
 
+-- a refused view keeps none
 pub view_refused : (names : Bor (List ℕ)) (ranges : Bor (List Range)) (s : SoloState) (old new : Shown) (code : ℕ) → old.engine ≡ Some s → Sees names ranges s (Err code) → new ≡ old → SeesIn names ranges old new (Err code)
 view_refused names ranges s old new code e m is =
     subst (λ (o : Option SoloState). MatchOption o (IsTold {A = ℕ} MISUSE old new (Err code)) (λ x. SeesOf names ranges x old new (Err code))) (sym e) (m, is)
 
+-- a view on a handle that is closed
 pub closed_view : (names : Bor (List ℕ)) (ranges : Bor (List Range)) (o : Option Shown) (was : ℕ) → o ≡ None → TellsView names ranges o o MISUSE was was
 closed_view names ranges o was e = subst (λ (x : Option Shown). TellsView names ranges x x MISUSE was was) (sym e) (Err MISUSE, (refl, refl), (refl, refl))

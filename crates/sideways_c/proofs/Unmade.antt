@@ -20,6 +20,7 @@ not_made a s NoAttribute h = inr (NoAttribute, h, refl)
 not_made a s BadCondition h = inr (BadCondition, h, refl)
 not_made a s BadCell h = inr (BadCell, h, refl)
 
+-- a call that its words refuse changes nothing
 pub asked_fault : (session : ℕ) (a : Asked) (s : SoloState) (old new : Shown) (f : Fault) (code : ℕ) → old.engine ≡ Some s → has_session session s ≡ true
     → Answers (λ (x : Call). x) (Err f) (call_asked s.history.columns a) → code ≡ fault_code f → new ≡ old → AskedOn session a old new (Err code)
 asked_fault session a s old new f code e h answers is same =

@@ -9,7 +9,7 @@ use Rattle.sw_table.specs.declared.row.Row.{Row}
 use Rattle.sw_rows.specs.Scan.{cell_of}
 use Rattle.sw_set.specs.Shelf.{AreaState, Rises, key_of, lies_within}
 use Rattle.sw_kernel.specs.Replay.{loaded}
-use Rattle.sw_set.proofs.KeyOrder.{rises-filter}
+use Rattle.sw_set.proofs.Replying.KeyOrder.{rises-filter}
 use Rattle.sw_chunks.specs.Cuts.{Interval, RiseAbove, intervals, intervals_from, lies_in, place_in}
 use Rattle.sw_chunks.specs.Heads.{opened_area, part_of}
 use Rattle.sw_chunks.specs.Places.{owner_of, owners_of}

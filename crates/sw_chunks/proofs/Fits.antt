@@ -17,9 +17,9 @@ use Rattle.sw_table.specs.Updates.{rows_of, rows_then, without}
 use Rattle.sw_set.specs.Needs.{head_in}
 use Rattle.sw_set.specs.Prepared.{is_touched}
 use Rattle.sw_set.specs.Shelf.{AreaState, Rises, came_then, key_of, lies_within, rows_in}
-use Rattle.sw_set.proofs.KeyOrder.{rises-filter}
-use Rattle.sw_set.proofs.Longer.{all-without}
-use Rattle.sw_set.proofs.Receiving.{all-left, all-one, all-right}
+use Rattle.sw_set.proofs.Replying.KeyOrder.{rises-filter}
+use Rattle.sw_set.proofs.Areas.Longer.{all-without}
+use Rattle.sw_set.proofs.Areas.Receiving.{all-left, all-one, all-right}
 use Rattle.sw_chunks.specs.Cuts.{Interval, RiseAbove, intervals, intervals_from}
 use Rattle.sw_chunks.specs.Heads.{AreAreasOf, IsCell, RowFits, StandsFor, interval_of, meets_interval, part_of}
 use Rattle.sw_chunks.specs.Asked.{AreaFits, AreasFit, with_area}

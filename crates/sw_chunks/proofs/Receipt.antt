@@ -10,8 +10,8 @@ use Rattle.sw_rows.specs.Scan.{cell_of}
 use Rattle.sw_table.specs.Updates.{rows_of, rows_then, without}
 use Rattle.sw_kernel.proofs.Members.{Mem, mem-either, mem-filtered, mem-last, mem-left}
 use Rattle.sw_set.specs.Shelf.{AreReceivable, AreaState, Rises, came_in, came_then, key_of, lies_within, rows_in}
-use Rattle.sw_set.proofs.After.{came-rise, rows-rise}
-use Rattle.sw_set.proofs.Receiving.{all-one}
+use Rattle.sw_set.proofs.Areas.After.{came-rise, rows-rise}
+use Rattle.sw_set.proofs.Areas.Receiving.{all-one}
 use Rattle.sw_chunks.specs.Cleared.{AreEach}
 use Rattle.sw_chunks.specs.Cuts.{Interval, RiseAbove, intervals, place_in}
 use Rattle.sw_chunks.specs.Heads.{AreAreasOf, CellsFit, IsSameButInbox, RowFits, StandsFor, interval_of, part_of}

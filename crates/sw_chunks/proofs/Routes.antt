@@ -10,7 +10,7 @@ use Rattle.sw_rows.specs.Scan.{cell_of}
 use Rattle.sw_table.specs.Updates.{has_key, rows_then, without}
 use Rattle.sw_kernel.proofs.Members.{Mem, all-mem, mem-either, mem-filtered, mem-last, mem-left}
 use Rattle.sw_set.specs.Shelf.{AreReceivable, Rises, came_then, key_of, lies_within}
-use Rattle.sw_set.proofs.Longer.{rises-last, rises-without}
+use Rattle.sw_set.proofs.Areas.Longer.{rises-last, rises-without}
 use Rattle.sw_chunks.specs.Cuts.{Interval, RiseAbove, intervals, place_in}
 use Rattle.sw_chunks.specs.Places.{find_place, owners_of, place_by, place_of_row, sent}
 use Rattle.sw_chunks.specs.Routing.{routed}

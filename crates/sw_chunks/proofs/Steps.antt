@@ -7,9 +7,9 @@ use Rattle.sw_rows.specs.declared.reply.Reply.{Reply}
 use Rattle.sw_rows.specs.declared.refusal.Refusal.{Refusal}
 use Rattle.sw_rows.specs.Scan.{answer}
 use Rattle.sw_table.specs.Updates.{rows_then}
-use Rattle.sw_set.specs.declared.ready.Ready.{Ready}
-use Rattle.sw_set.proofs.Ends.{noted-stand}
-use Rattle.sw_set.proofs.Told.{if-ok}
+use Rattle.sw_set.specs.declared.area.ready.Ready.{Ready}
+use Rattle.sw_set.proofs.Preparing.Ends.{noted-stand}
+use Rattle.sw_set.proofs.Replying.Told.{if-ok}
 use Rattle.sw_set.specs.Merged.{StandsForSame}
 use Rattle.sw_set.specs.Prepared.{IsNotedFor, IsPreparedFor, IsSameButBoxes, area_lower, area_upper, is_touched, stands_if}
 use Rattle.sw_set.specs.Shelf.{AreaState, IsSameArea, came_in, logged_rows, rows_in}

@@ -8,7 +8,7 @@ use Rattle.sw_rows.specs.Scan.{answer, answer_over}
 use Rattle.sw_table.specs.Updates.{rows_of}
 use Rattle.sw_rows.specs.declared.refusal.Refusal.{Refusal}
 use Rattle.sw_rows.specs.declared.refusal.Refusal.TheVariants.{Short}
-use Rattle.sw_set.specs.declared.ready.Ready.{Ready}
+use Rattle.sw_set.specs.declared.area.ready.Ready.{Ready}
 use Rattle.sw_set.specs.Needs.{head_in, needed}
 use Rattle.sw_set.specs.Merged.{StandsForSame}
 use Rattle.sw_set.specs.Prepared.{IsPreparedFor, IsSameButBoxes, is_touched}
@@ -45,6 +45,10 @@ abbrev pub with_all : Query → Reply → List AreaState → Reply
 with_all q first [] = first
 with_all q first (x ∷ xs) = with_all q (with_area q first x) xs
 
+-- the replies of these areas together
+abbrev pub with_each : Query → List AreaState → Reply
+with_each q xs = with_all q (answer_over [] q.want) xs
+
 -- an area that a query does not touch does not scan
 abbrev pub ScansIfTouched : Query → AreaState → Bool → Type 0
 ScansIfTouched q x scanned = is_touched x q ≡ false → scanned ≡ false
@@ -80,7 +84,7 @@ abbrev pub AreasAnswer : Type 0
 AreasAnswer =
     (us : List Update) (a : ℕ) (cuts : List ℤ) (xs : List AreaState) (q : Query)
     → AreAreasOf a cuts xs → StandsFor us a cuts xs → head_in q.conds ≡ a
-    → with_all q (answer_over [] q.want) xs ≡ answer (rows_of us) q
+    → with_each q xs ≡ answer (rows_of us) q
 
 -- areas that stand for the same rows stand for the same updates
 abbrev pub SameStand : Type 0

@@ -8,7 +8,7 @@ ghost use Rattle.sw_set.specs.Needs.{head_in};
 ghost use Rattle.sw_set.specs.Prepared.{is_touched};
 ghost use Rattle.sw_set.specs.Resting.{IsAtRest, IsToldWhere};
 ghost use Rattle.sw_set.specs.Shelf.{AreaState, rows_in};
-ghost use Rattle.sw_chunks.specs.Asked.{AreaFits, AreasFit, AreAtRest, RestsIfTouched, with_all, with_area};
+ghost use Rattle.sw_chunks.specs.Asked.{AreaFits, AreasFit, AreAtRest, RestsIfTouched, with_area, with_each};
 
 use crate::joining::join;
 use std::alloc::Global;
@@ -73,7 +73,7 @@ pub(crate) fn answer_resting<M: CrackerMap>(
     requires head { All (λ (x : AreaState). head_in query.now.conds ≡ x.attribute) areas.now }
     requires fits { AreasFit query.now (answer_over [] query.now.want) areas.now }
     ensures rests { IfOk result (IsToldWhere (AreAtRest query.now areas.now)) }
-    ensures answered { IfOk result (λ it. IfSome it (λ r. r ≡ with_all query.now (answer_over [] query.now.want) areas.now)) }
+    ensures answered { IfOk result (λ it. IfSome it (λ r. r ≡ with_each query.now areas.now)) }
     ensures refused { IsOkUnless result NoMemory }
 {
     let mut reply = nothing(alloc, &query.want);

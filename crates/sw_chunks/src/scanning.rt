@@ -8,7 +8,7 @@ ghost use Rattle.sw_set.specs.Prepared.{is_touched};
 ghost use Rattle.sw_set.specs.Shelf.{rows_in};
 ghost use Rattle.sw_chunks.specs.Cleared.{AreEach};
 ghost use Rattle.sw_chunks.specs.Heads.{AreUntouchedSame};
-ghost use Rattle.sw_chunks.specs.Asked.{AreaFits, AreasFit, with_all, with_area};
+ghost use Rattle.sw_chunks.specs.Asked.{AreaFits, AreasFit, with_area, with_each};
 
 use crate::joining::join;
 use std::alloc::Global;
@@ -60,7 +60,7 @@ pub(crate) fn scan_areas<M: CrackerMap>(
     requires fits { AreasFit query.now (answer_over [] query.now.want) areas.old }
     ensures same { AreEach StandsForSame areas.old areas.new }
     ensures kept { AreUntouchedSame query.now areas.old areas.new }
-    ensures answered { IfOk result (λ r. r ≡ with_all query.now (answer_over [] query.now.want) areas.old) }
+    ensures answered { IfOk result (λ r. r ≡ with_each query.now areas.old) }
     ensures refused { IsOkUnless result NoMemory }
 {
     let mut reply = nothing(alloc, &query.want);

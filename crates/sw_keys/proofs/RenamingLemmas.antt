@@ -11,12 +11,14 @@ use Rattle.sw_logs.specs.Orders.{AllFit, StandOnce}
 use Rattle.sw_keys.specs.Renamings.{IsRenamed, IsRenamedCall}
 use Rattle.sw_logs.specs.declared.logged.Logged.{Logged}
 
+-- one pair more behind lists that agree item by item
 pub zip_more : {A B : Type 0} (R : A → B → Type 0) (xs : List A) (ys : List B) (x : A) (y : B) → AllZip R xs ys → R x y → AllZip R (xs ++ x ∷ []) (ys ++ y ∷ [])
 zip_more R [] [] x y all here = (here, tt)
 zip_more R [] (b ∷ ys) x y all here = absurd all
 zip_more R (a ∷ xs) [] x y all here = absurd all
 zip_more R (a ∷ xs) (b ∷ ys) x y all here = (all.0, zip_more R xs ys x y all.1 here)
 
+-- the same by the place that a walk has come to
 pub zip_step : {A B : Type 0} (R : A → B → Type 0) (xs : List A) (k : ℕ) (ys new : List B) (x : A) (y : B) → slice_get xs k ≡ Some x → new ≡ ys ++ y ∷ [] → R x y → AllZip R (take k xs) ys → AllZip R (take (k + 1) xs) new
 zip_step R xs k ys new x y at grown here all =
     let lt = slice_get_within xs k x at in
@@ -24,6 +26,7 @@ zip_step R xs k ys new x y at grown here all =
     let more = zip_more R (take k xs) ys (get_or xs k x) y all (subst (λ z. R z y) (sym is) here) in
     subst (λ l. AllZip R (take (k + 1) xs) l) (sym grown) (subst (λ l. AllZip R l (ys ++ y ∷ [])) (sym (take_more xs k x lt)) more)
 
+-- a walk that has passed every item has renamed the whole list
 pub zip_all : {A B : Type 0} (R : A → B → Type 0) (xs : List A) (k : ℕ) (ys : List B) → length xs ≤ k → AllZip R (take k xs) ys → AllZip R xs ys
 zip_all R xs k ys past all = subst (λ l. AllZip R l ys) (take_all k xs past) all
 
@@ -51,6 +54,7 @@ call_fit n names (call.Insert cells) new is fit = subst (λ (c : Call). CallsBel
 call_fit n names (call.Delete key) new is fit = subst (λ (c : Call). CallsBelow n c) (sym is.1) tt
 call_fit n names (call.DeleteWhere conds) new is fit = subst (λ (c : Call). CallsBelow n c) (sym is) fit
 
+-- calls that fit do so under other keys
 pub fit_renamed : (n : ℕ) (names : List ℕ) (calls new : List Logged) → AllZip (IsRenamed names) calls new → AllFit n calls → AllFit n new
 fit_renamed n names [] [] all fit = tt
 fit_renamed n names [] (d ∷ ds) all fit = absurd all

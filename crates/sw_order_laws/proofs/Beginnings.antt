@@ -27,6 +27,7 @@ use Rattle.sw_order_laws.proofs.Idle.{AreFew, few_then, idle_told}
 use Rattle.sw_order_laws.proofs.Placings.{ArePlaced, IsPlaced, call_is, entries_by_placed, placed_by_entries, placed_first, placed_join, placed_last, rising_calls}
 use Rattle.sw_order_laws.proofs.Standing.{AreInOrder, in_order, keeps_order}
 
+-- a beginning, as proofs take it apart: numbers in order, each call with its reply
 pub record IsLaid (keeping : By) (opening : Opening) (calls : List Logged) (places : List ℕ) : Type 0 where
   pub placed : ArePlaced opening.schema opening.limit calls (opened opening.rows.items) places
   pub order : AreInOrder keeping calls places
@@ -35,6 +36,7 @@ same_table : (columns schema : List Column) (rows items : List Row) (limit most 
 same_table columns schema rows items limit most es c r l h =
     subst (λ (x : List Column). AllAgree x most (opened items) es) c (subst (λ (x : List Row). AllAgree columns most (opened x) es) r (subst (λ (n : ℕ). AllAgree columns n (opened rows) es) l h))
 
+-- a beginning is laid
 pub laid : (keeping : By) (opening : Opening) (calls : List Logged) (places : List ℕ) → IsBeginning keeping opening calls places → IsLaid keeping opening calls places
 laid keeping opening calls places b = record {
   placed = placed_by_entries opening.schema opening.limit calls (opened opening.rows.items) places b.history.entries b.record_of.entries
@@ -42,6 +44,7 @@ laid keeping opening calls places b = record {
   order = in_order keeping calls places b.numbers b.once b.sessions b.times;
 }
 
+-- what is laid is a beginning
 pub begins : (keeping : By) (opening : Opening) (calls : List Logged) (places : List ℕ) → IsLaid keeping opening calls places → IsBeginning keeping opening calls places
 begins keeping opening calls places l =
     let made = entries_by_placed opening.schema opening.limit calls (opened opening.rows.items) places l.placed in
@@ -69,14 +72,17 @@ few_calls limit calls us (i ∷ is) few = few_calls limit calls (with_call limit
 few_opened : (opening : Opening) → IsOpening opening → AreFew opening.limit (opened opening.rows.items)
 few_opened opening o = record { most = o.most; within = let same = inserts_opened opening.rows.items in let few = o.few in omega (arith, same, few) }
 
+-- the calls that stand leave no more rows than the limit
 pub few_by : (opening : Opening) (calls : List Logged) (placed : List ℕ) → IsOpening opening → AreFew opening.limit (updates_by opening calls placed)
 few_by opening calls placed o = few_calls opening.limit calls (opened opening.rows.items) placed (few_opened opening o)
 
+-- their updates have rising keys
 pub rising_by : (opening : Opening) (calls : List Logged) (placed : List ℕ) → IsOpening opening → AreRising (updates_by opening calls placed)
 rising_by opening calls placed o = rising_calls opening.limit calls (opened opening.rows.items) placed (rising_opened opening.rows.items o.numbered)
 
 -- ---- calls that change nothing
 
+-- a call without an update changes nothing
 pub unchanged : (limit : ℕ) (calls : List Logged) (us : List Update) (i : ℕ) (c : Logged) → slice_get calls i ≡ Some c → update_by limit us c.call ≡ [] → with_call limit us (slice_get calls i) ≡ us
 unchanged limit calls us i c there idle = call_is limit calls us i c there ∙ (ap (λ (vs : List Update). us ++ vs) idle ∙ append-nil us)
 
@@ -87,6 +93,7 @@ pub record IsTold (columns : List Column) (limit : ℕ) (us vs : List Update) (c
   pub agrees : Agrees columns limit us c.call state
   pub same : reply_lines columns c.call (reply_to limit us c.call) ≡ reply_lines columns c.call (reply_to limit vs c.call)
 
+-- from what replies tell to what a search reads of them
 pub told : (columns : List Column) (limit : ℕ) (us vs : List Update) (c : Logged) (st : State) (o : Option (List (List ℕ))) → c.reply ≡ o → is_known c ≡ true → IsStateFor c.reply st → IsReplied columns limit us c → Agrees columns limit vs c.call st → IsTold columns limit us vs c
 told columns limit us vs c st None is known said replied agrees = absurd (let none : is_some c.reply ≡ false = ap (λ (x : Option (List (List ℕ))). is_some x) is in cc)
 told columns limit us vs c st (Some lines) is known said replied agrees =
@@ -105,6 +112,7 @@ replied_at columns limit calls us i c there p =
     let own : p.call ≡ c = same_Some p.call c (sym p.there ∙ there) in
     replied_if columns limit us c p.state c.reply refl (subst (λ (x : Logged). IsStateFor x.reply p.state) own p.said) (subst (λ (x : Logged). Agrees columns limit us x.call p.state) own p.agrees)
 
+-- a call that changes nothing moves to the front of those before it
 pub idle_moved : (columns : List Column) (limit : ℕ) (calls : List Logged) (us : List Update) (between rest : List ℕ) (i : ℕ) (c : Logged) → AreFew limit us → AreFew limit (after_calls limit calls us between) → slice_get calls i ≡ Some c → is_known c ≡ true → IsReplied columns limit us c → update_by limit us c.call ≡ [] → ArePlaced columns limit calls us (between ++ i ∷ rest) → ArePlaced columns limit calls us (i ∷ (between ++ rest))
 idle_moved columns limit calls us between rest i c few many there known replied idle all =
     let vs : List Update = after_calls limit calls us between in

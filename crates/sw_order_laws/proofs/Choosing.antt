@@ -36,6 +36,7 @@ record Stays (us vs : List Update) (c : Call) : Type 0 where
   more : inserts us ≤ inserts vs
   same : is_insert c ≡ true → inserts vs ≡ inserts us
 
+-- a filter that leaves none passes none
 pub all_none : (p : Row → Bool) (rs : List Row) → filter p rs ≡ [] → AllByRecursion (λ r. p r ≡ false) rs
 all_none p [] h = tt
 all_none p (r ∷ rs) h = by_test (all_none p rs) (p r) refl h
@@ -90,6 +91,7 @@ left_alone limit calls us vs c (i ∷ is) up s all =
     by_call None l = (tt, s)
     by_call (Some d) l = (apart_still limit us vs d.call c s l, stays_then limit us vs d.call c up s l.rows)
 
+-- calls that do not bear on another where it may be placed do not when they come
 pub left_alone_stays_apart : LeftAloneStaysApart
 left_alone_stays_apart opening calls placed between c opens all =
     let us : List Update = updates_by opening calls placed in
@@ -117,6 +119,7 @@ in_cons x xs i h = by_place h.0 h.1
     by_place zero e = inl (same_Some x i e)
     by_place (suc p) e = inr (p, e)
 
+-- a number stands in a list or does not
 pub in_or : (xs : List ℕ) (i : ℕ) → IsIn xs i ⊎ (IsIn xs i → ⊥)
 in_or [] i = inr (nowhere i)
 in_or (x ∷ xs) i = by_both (same_or x i) (in_or xs i)
@@ -155,6 +158,7 @@ first_chosen chosen (x ∷ xs) i c h = by_first (in_or chosen x) (in_cons x xs i
 
 -- ---- one of those that are enough comes next
 
+-- an order that begins with some calls goes on with one of those that are enough
 pub one_of_enough_comes_next : OneOfEnoughComesNext
 one_of_enough_comes_next keeping opening calls placed chosen opens enough can =
     let rest : List ℕ = can.0 in
@@ -221,6 +225,7 @@ by_reason keeping opening calls placed chosen between i c there f (waits w) = ab
 by_reason keeping opening calls placed chosen between i c there f (lacks l) = absurd (l between f.behind f.others f.whole)
 by_reason keeping opening calls placed chosen between i c there f (free s) = record { next = s.next; alone = all_alone opening.limit calls (updates_by opening calls placed) c.call between (λ o d b at. s.alone o d (before keeping opening calls placed chosen between i f o d b at)) }
 
+-- calls that ask for no more are enough
 pub closed_are_enough : ClosedAreEnough
 closed_are_enough keeping opening calls placed chosen closed = record { due = closed.due; is_due = closed.is_due; first = λ between i c there f. by_reason keeping opening calls placed chosen between i c there f (closed.each i c f.is_chosen there) }
 
@@ -234,6 +239,7 @@ stays_along limit calls us vs c (o ∷ os) up s h = stays_along limit calls us (
     by_call None l = s
     by_call (Some d) l = stays_then limit us vs d.call c up s l
 
+-- a call lacks its reply while nothing that it asks for comes or goes
 pub untouched_lack : UntouchedLack
 untouched_lack keeping opening calls placed chosen i c opens member there known differs leave between behind others w =
     let us : List Update = updates_by opening calls placed in
@@ -255,6 +261,7 @@ laid_first keeping opening calls xs ys l = record {
   order = record { numbers = (all_split (λ (n : ℕ). n < length calls) xs ys l.order.numbers).0; pairs = pairs_first (MayStand keeping calls) xs ys l.order.pairs };
 }
 
+-- where all was tried no order begins with these calls
 pub exhausted_has_no_end : ExhaustedHasNoEnd
 exhausted_has_no_end keeping opening calls placed opens (at_once p i idle more) can = exhausted_has_no_end keeping opening calls (p ++ i ∷ []) opens more (idle_calls_come_next keeping opening calls p i opens idle can)
 exhausted_has_no_end keeping opening calls placed opens (each_tried p chosen enough tried) can =
@@ -270,5 +277,6 @@ exhausted_has_no_end keeping opening calls placed opens (met_before one other be
     back : IsWhole keeping opening calls (one ++ can.0)
     back = alike_have_one_future keeping opening calls other one can.0 begun turned can.1
 
+-- where all was tried from the start there is none
 pub exhausted_has_no_order : ExhaustedHasNoOrder
 exhausted_has_no_order keeping opening calls opens tried o f = exhausted_has_no_end keeping opening calls [] opens tried (o.places.items, orders_are_whole keeping opening calls o f)

@@ -49,6 +49,7 @@ matching_few limit us conds few =
     let within = few.within in
     omega (arith, short, rows, most, within)
 
+-- a call leaves no more rows than the limit
 pub few_then : (limit : ℕ) (us : List Update) (c : Call) → AreFew limit us → AreFew limit (updates_then limit us c)
 few_then limit us (call.Select q) few = subst (AreFew limit) (sym (append-nil us)) few
 few_then limit us (call.Insert cells) few = by_room (inserts us == limit) refl

@@ -23,12 +23,14 @@ use Rattle.sw_order_laws.proofs.Standing.{AreInOrder, MayStand, exchanged_in, mo
 
 -- ---- orders that are found
 
+-- an order that is found is a whole beginning
 pub orders_are_whole : OrdersAreWhole
 orders_are_whole keeping opening calls o f = record {
   beginning = record { history = o.history; record_of = f.record_of; legal = f.legal; numbers = f.order.numbers; once = f.order.once; sessions = f.order.sessions; times = f.order.times };
   known = f.order.known;
 }
 
+-- a whole beginning is an order, with its history
 pub whole_are_orders : WholeAreOrders
 whole_are_orders keeping opening calls places w = (w.beginning.history, λ o h p. found o h p)
   where
@@ -62,6 +64,7 @@ next_whole keeping opening calls placed between rest i c next moved w =
       known = λ n d sd kd. moved_in placed between rest i n (w.known n d sd kd);
     }
 
+-- a call that changes nothing moves to where it may come next
 pub idle_calls_move : IdleCallsMove
 idle_calls_move keeping opening calls placed between rest i opens idle w =
     next_whole keeping opening calls placed between rest i idle.call idle.next
@@ -70,6 +73,7 @@ idle_calls_move keeping opening calls placed between rest i opens idle w =
     few_later : (between : List ℕ) → AreFew opening.limit (after_calls opening.limit calls (updates_by opening calls placed) between)
     few_later between = subst (AreFew opening.limit) (after_both opening.limit calls (opened opening.rows.items) placed between) (few_by opening calls (placed ++ between) opens)
 
+-- so does a call on which none of those between bears
 pub calls_apart_move : CallsApartMove
 calls_apart_move keeping opening calls placed between rest i c opens next apart w =
     next_whole keeping opening calls placed between rest i c next
@@ -81,6 +85,7 @@ calls_apart_move keeping opening calls placed between rest i c opens next apart 
 pub record StandsBehind (rest : List ℕ) (i : ℕ) : Type 0 where
   pub place : Around rest i
 
+-- a call with a reply that does not stand in the beginning stands behind it
 pub stands_behind : (keeping : By) (opening : Opening) (calls : List Logged) (placed rest : List ℕ) (i : ℕ) (c : Logged) → slice_get calls i ≡ Some c → is_known c ≡ true → (IsIn placed i → ⊥) → IsWhole keeping opening calls (placed ++ rest) → StandsBehind rest i
 stands_behind keeping opening calls placed rest i c there known fresh w = either (in_either placed rest i (w.known i c there known))
   where
@@ -92,6 +97,7 @@ stands_behind keeping opening calls placed rest i c there known fresh w = either
 pub comes_next : (keeping : By) (opening : Opening) (calls : List Logged) (placed rest : List ℕ) (i : ℕ) → IsWhole keeping opening calls (placed ++ i ∷ rest) → CanEnd keeping opening calls (placed ++ i ∷ [])
 comes_next keeping opening calls placed rest i w = (rest, subst (IsWhole keeping opening calls) (sym (append_assoc placed (i ∷ []) rest)) w)
 
+-- a call that changes nothing may as well come next
 pub idle_calls_come_next : IdleCallsComeNext
 idle_calls_come_next keeping opening calls placed i opens idle can =
     let s = stands_behind keeping opening calls placed can.0 i idle.call idle.next.there idle.known idle.next.fresh can.1 in
@@ -100,10 +106,12 @@ idle_calls_come_next keeping opening calls placed i opens idle can =
 
 -- ---- what replies tell, and what may be left out
 
+-- a reply that tells so is that of a call that changes nothing
 pub replies_tell_of_none : RepliesTellOfNone
 replies_tell_of_none opening calls placed c lines opens is replied tells =
     told_none opening.schema opening.limit (updates_by opening calls placed) c.call lines (few_by opening calls placed opens) (subst (λ (x : Option (List (List ℕ))). IfSome x (λ ls. ls ≡ reply_lines opening.schema c.call (reply_to opening.limit (updates_by opening calls placed) c.call))) is replied) tells
 
+-- a call of unknown outcome that changes nothing may be left out
 pub unknown_may_be_left_out : UnknownMayBeLeftOut
 unknown_may_be_left_out keeping opening calls placed rest i c there unknown idle w =
     let l = laid keeping opening calls (placed ++ i ∷ rest) w.beginning in
@@ -123,6 +131,7 @@ unknown_may_be_left_out keeping opening calls placed rest i c there unknown idle
 
 -- ---- two calls change places
 
+-- two neighbours that do not bear on one another change places
 pub calls_apart_change_places : CallsApartChangePlaces
 calls_apart_change_places keeping opening calls placed rest i j c d opens ti tj may apart w =
     moved_whole keeping opening calls placed (i ∷ []) rest j (record { other = λ (e : j ≡ i). other (sym e); precedes = λ x y sx sy ky. precedes x y sx sy ky }, tt)
@@ -140,6 +149,7 @@ calls_apart_change_places keeping opening calls placed rest i j c d opens ti tj 
         let second : d ≡ x = same_Some d x (sym tj ∙ sx) in
         subst (λ (z : Logged). MayPrecede keeping j z i y) second (subst (λ (z : Logged). MayPrecede keeping j d i z) first (may (subst (λ (z : Logged). is_known z ≡ true) (sym first) ky)))
 
+-- in either order they leave the same
 pub calls_apart_leave_the_same : CallsApartLeaveTheSame
 calls_apart_leave_the_same opening calls placed i j c d opens ti tj apart =
     let us : List Update = updates_by opening calls placed in
@@ -150,6 +160,7 @@ calls_apart_leave_the_same opening calls placed i j c d opens ti tj apart =
 
 -- ---- beginnings that are alike
 
+-- what ends one beginning ends another of the same state
 pub alike_have_one_future : AlikeHaveOneFuture
 alike_have_one_future keeping opening calls one other rest begun same w =
     let l = laid keeping opening calls (one ++ rest) w.beginning in

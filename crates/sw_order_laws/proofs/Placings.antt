@@ -34,9 +34,11 @@ abbrev pub ArePlaced : List Column → ℕ → List Logged → List Update → L
 ArePlaced columns limit calls us [] = Unit {0}
 ArePlaced columns limit calls us (i ∷ is) = IsPlaced columns limit calls us i × ArePlaced columns limit calls (with_call limit us (slice_get calls i)) is
 
+-- the call of a number
 pub call_is : (limit : ℕ) (calls : List Logged) (us : List Update) (i : ℕ) (c : Logged) → slice_get calls i ≡ Some c → with_call limit us (slice_get calls i) ≡ updates_then limit us c.call
 call_is limit calls us i c there = ap (with_call limit us) there
 
+-- entries that agree place their calls
 pub placed_by_entries : (columns : List Column) (limit : ℕ) (calls : List Logged) (us : List Update) (is : List ℕ) (es : List Entry) → AreEntriesOf calls is es → AllAgree columns limit us es → ArePlaced columns limit calls us is
 placed_by_entries columns limit calls us [] es are agree = tt
 placed_by_entries columns limit calls us (i ∷ is) [] are agree = absurd are
@@ -55,6 +57,7 @@ pub record AreMade (columns : List Column) (limit : ℕ) (calls : List Logged) (
   pub are : AreEntriesOf calls is entries
   pub agree : AllAgree columns limit us entries
 
+-- placed calls have entries that agree
 pub entries_by_placed : (columns : List Column) (limit : ℕ) (calls : List Logged) (us : List Update) (is : List ℕ) → ArePlaced columns limit calls us is → AreMade columns limit calls us is
 entries_by_placed columns limit calls us [] all = record { entries = []; are = tt; agree = tt }
 entries_by_placed columns limit calls us (i ∷ is) all =
@@ -69,24 +72,29 @@ entries_by_placed columns limit calls us (i ∷ is) all =
 
 -- ---- some calls, and then others
 
+-- the first of two lists in a row is placed
 pub placed_first : (columns : List Column) (limit : ℕ) (calls : List Logged) (us : List Update) (is js : List ℕ) → ArePlaced columns limit calls us (is ++ js) → ArePlaced columns limit calls us is
 placed_first columns limit calls us [] js all = tt
 placed_first columns limit calls us (i ∷ is) js all = (all.0, placed_first columns limit calls (with_call limit us (slice_get calls i)) is js all.1)
 
+-- the second is, behind the first
 pub placed_last : (columns : List Column) (limit : ℕ) (calls : List Logged) (us : List Update) (is js : List ℕ) → ArePlaced columns limit calls us (is ++ js) → ArePlaced columns limit calls (after_calls limit calls us is) js
 placed_last columns limit calls us [] js all = all
 placed_last columns limit calls us (i ∷ is) js all = placed_last columns limit calls (with_call limit us (slice_get calls i)) is js all.1
 
+-- both are
 pub placed_join : (columns : List Column) (limit : ℕ) (calls : List Logged) (us : List Update) (is js : List ℕ) → ArePlaced columns limit calls us is → ArePlaced columns limit calls (after_calls limit calls us is) js → ArePlaced columns limit calls us (is ++ js)
 placed_join columns limit calls us [] js first last = last
 placed_join columns limit calls us (i ∷ is) js first last = (first.0, placed_join columns limit calls (with_call limit us (slice_get calls i)) is js first.1 last)
 
+-- the updates after both
 pub after_both : (limit : ℕ) (calls : List Logged) (us : List Update) (is js : List ℕ) → after_calls limit calls us (is ++ js) ≡ after_calls limit calls (after_calls limit calls us is) js
 after_both limit calls us [] js = refl
 after_both limit calls us (i ∷ is) js = after_both limit calls (with_call limit us (slice_get calls i)) is js
 
 -- ---- the same replies
 
+-- what a state has to agree with is the reply
 pub agrees_same : (columns : List Column) (limit : ℕ) (us vs : List Update) (c : Call) (st : State) → reply_to limit us c ≡ reply_to limit vs c → Agrees columns limit us c st → Agrees columns limit vs c st
 agrees_same columns limit us vs c (state.Answered r) e h = h ∙ e
 agrees_same columns limit us vs c (state.Lines ls) e h = h ∙ ap (reply_lines columns c) e
@@ -106,10 +114,12 @@ placed_alike columns limit calls us vs (i ∷ is) a all =
       placed_alike columns limit calls (with_call limit us (slice_get calls i)) (with_call limit vs (slice_get calls i)) is (alike_with limit us vs (slice_get calls i) a) all.1,
     )
 
+-- keys rise with one call more
 pub rising_with : (limit : ℕ) (us : List Update) (o : Option Logged) → AreRising us → AreRising (with_call limit us o)
 rising_with limit us None up = up
 rising_with limit us (Some c) up = rising_then limit us c.call up
 
+-- keys rise with calls more
 pub rising_calls : (limit : ℕ) (calls : List Logged) (us : List Update) (is : List ℕ) → AreRising us → AreRising (after_calls limit calls us is)
 rising_calls limit calls us [] up = up
 rising_calls limit calls us (i ∷ is) up = rising_calls limit calls (with_call limit us (slice_get calls i)) is (rising_with limit us (slice_get calls i) up)
@@ -121,6 +131,7 @@ pub record HaveSwapped (columns : List Column) (limit : ℕ) (calls : List Logge
   pub first : IsPlaced columns limit calls us j
   pub second : IsPlaced columns limit calls (with_call limit us (slice_get calls j)) i
 
+-- two neighbours that are apart change places
 pub swapped : (columns : List Column) (limit : ℕ) (calls : List Logged) (us : List Update) (i j : ℕ) (c d : Logged) → AreRising us → slice_get calls i ≡ Some c → slice_get calls j ≡ Some d → AreApart limit us c.call d.call → IsPlaced columns limit calls us i → IsPlaced columns limit calls (with_call limit us (slice_get calls i)) j → HaveSwapped columns limit calls us i j
 swapped columns limit calls us i j c d up ti tj apart p q =
     let pc : Agrees columns limit us c.call p.state = subst (λ (x : Logged). Agrees columns limit us x.call p.state) (same_Some p.call c (sym p.there ∙ ti)) p.agrees in
@@ -152,6 +163,7 @@ swapped_alike limit calls us i j c d up ti tj apart =
 apart_from : (limit : ℕ) (us : List Update) (o : Option Logged) (d : Logged) (c : Call) → o ≡ Some d → IfSome o (λ x. AreApart limit us x.call c) → AreApart limit us d.call c
 apart_from limit us o d c is h = subst (λ (x : Option Logged). IfSome x (λ y. AreApart limit us y.call c)) is h
 
+-- a call moves to the front of those that are apart from it
 pub apart_moved : (columns : List Column) (limit : ℕ) (calls : List Logged) (us : List Update) (between rest : List ℕ) (i : ℕ) (c : Logged) → AreRising us → slice_get calls i ≡ Some c → AreAllApart limit calls us c.call between → ArePlaced columns limit calls us (between ++ i ∷ rest) → ArePlaced columns limit calls us (i ∷ (between ++ rest))
 apart_moved columns limit calls us [] rest i c up there apart all = all
 apart_moved columns limit calls us (b ∷ bs) rest i c up there apart all =

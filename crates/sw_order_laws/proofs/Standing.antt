@@ -21,6 +21,7 @@ pub record AreInOrder (keeping : By) (calls : List Logged) (places : List ℕ) :
 
 -- ---- by places, and by recursion
 
+-- what orders keep, of each call with each later one
 pub in_order : (keeping : By) (calls : List Logged) (places : List ℕ) → AreNumbersOf calls places → StandOnce places → KeepsSessions calls places → KeepsBy keeping calls places → AreInOrder keeping calls places
 in_order keeping calls places numbers once sessions times = record {
   numbers = all_given (λ (i : ℕ). i < length calls) places (λ p i e. subst (λ (n : ℕ). n < length calls) (get_or_from_slice_get places p i 0 e) (numbers p (slice_get_within places p i e)));
@@ -70,6 +71,7 @@ pub record KeepsOrder (keeping : By) (calls : List Logged) (places : List ℕ) :
   pub sessions : KeepsSessions calls places
   pub times : KeepsBy keeping calls places
 
+-- and back
 pub keeps_order : (keeping : By) (calls : List Logged) (places : List ℕ) → AreInOrder keeping calls places → KeepsOrder keeping calls places
 keeps_order keeping calls places o = record {
   numbers = numbers_are calls places o.numbers;
@@ -99,12 +101,14 @@ moved_numbers P placed between rest i all =
     let b = all_split P between (i ∷ rest) a.1 in
     all_join P placed (i ∷ (between ++ rest)) a.0 (b.1.0, all_join P between rest b.0 b.1.1)
 
+-- a call moves to the front of those that may stand behind it
 pub order_moved_by : (keeping : By) (calls : List Logged) (placed between rest : List ℕ) (i : ℕ) → AllByRecursion (MayStand keeping calls i) between → AreInOrder keeping calls (placed ++ (between ++ i ∷ rest)) → AreInOrder keeping calls (placed ++ i ∷ (between ++ rest))
 order_moved_by keeping calls placed between rest i may o = record {
   numbers = moved_numbers (λ (n : ℕ). n < length calls) placed between rest i o.numbers;
   pairs = pairs_moved (MayStand keeping calls) placed between rest i o.pairs may;
 }
 
+-- a call that may come next comes next
 pub order_moved : (keeping : By) (calls : List Logged) (placed between rest : List ℕ) (i : ℕ) (c : Logged) → MayComeNext keeping calls placed i c → AreInOrder keeping calls (placed ++ (between ++ i ∷ rest)) → AreInOrder keeping calls (placed ++ i ∷ (between ++ rest))
 order_moved keeping calls placed between rest i c next o = order_moved_by keeping calls placed between rest i (may_stand keeping calls placed between rest i c next o.pairs) o
 
@@ -126,6 +130,7 @@ moved_in placed between rest i n h = first (in_either placed (between ++ i ∷ r
 
 -- ---- one call is left out
 
+-- one call less is in order
 pub order_without : (keeping : By) (calls : List Logged) (placed rest : List ℕ) (i : ℕ) → AreInOrder keeping calls (placed ++ i ∷ rest) → AreInOrder keeping calls (placed ++ rest)
 order_without keeping calls placed rest i o =
     let numbers = all_split (λ (n : ℕ). n < length calls) placed (i ∷ rest) o.numbers in
@@ -134,6 +139,7 @@ order_without keeping calls placed rest i o =
       pairs = pairs_join (MayStand keeping calls) placed rest (pairs_first (MayStand keeping calls) placed (i ∷ rest) o.pairs) (pairs_last (MayStand keeping calls) placed (i ∷ rest) o.pairs).1 (all_weaker (λ x. AllByRecursion (MayStand keeping calls x) (i ∷ rest)) (λ x. AllByRecursion (MayStand keeping calls x) rest) placed (λ x a. a.1) (pairs_cross (MayStand keeping calls) placed (i ∷ rest) o.pairs));
     }
 
+-- what stands elsewhere is still there
 pub without_in : (placed rest : List ℕ) (i n : ℕ) → (i ≡ n → ⊥) → IsIn (placed ++ i ∷ rest) n → IsIn (placed ++ rest) n
 without_in placed rest i n other h = first (in_either placed (i ∷ rest) n h)
   where
@@ -147,12 +153,14 @@ without_in placed rest i n other h = first (in_either placed (i ∷ rest) n h)
 
 -- ---- a beginning changes places with another of the same calls
 
+-- a beginning with the same calls may stand in its place
 pub order_exchanged : (keeping : By) (calls : List Logged) (one other rest : List ℕ) → ((i : ℕ) → IsIn other i → IsIn one i) → AreInOrder keeping calls other → AreInOrder keeping calls (one ++ rest) → AreInOrder keeping calls (other ++ rest)
 order_exchanged keeping calls one other rest within own o = record {
   numbers = all_join (λ (n : ℕ). n < length calls) other rest own.numbers (all_split (λ (n : ℕ). n < length calls) one rest o.numbers).1;
   pairs = pairs_exchanged (MayStand keeping calls) one other rest within own.pairs o.pairs;
 }
 
+-- the whole has the same numbers then
 pub exchanged_in : (one other rest : List ℕ) (n : ℕ) → (IsIn one n → IsIn other n) → IsIn (one ++ rest) n → IsIn (other ++ rest) n
 exchanged_in one other rest n within h = either (in_either one rest n h)
   where

@@ -36,9 +36,11 @@ brings limit n (call.Insert cells) = cond (n == limit) [] (row (n + 1) cells ∷
 brings limit n (call.Delete key) = []
 brings limit n (call.DeleteWhere conds) = []
 
+-- what a call makes of rows that live
 abbrev pub rows_on : ℕ → ℕ → Call → List Row → List Row
 rows_on limit n c rs = filter (λ r. not (takes c r)) rs ++ brings limit n c
 
+-- how many were given after it
 abbrev pub given_on : ℕ → ℕ → Call → ℕ
 given_on limit n c = n + length (brings limit n c)
 
@@ -46,6 +48,7 @@ none_taken : (rs : List Row) → filter (λ (r : Row). true) rs ≡ rs
 none_taken [] = refl
 none_taken (r ∷ rs) = ap (λ (l : List Row). r ∷ l) (none_taken rs)
 
+-- nothing passes a test that nothing passes
 pub all_left : (rs : List Row) → filter (λ (r : Row). false) rs ≡ []
 all_left [] = refl
 all_left (r ∷ rs) = all_left rs
@@ -94,6 +97,7 @@ lacking_stay : (key : ℕ) (rs : List Row) → has_key key rs ≡ false → filt
 lacking_stay key [] h = refl
 lacking_stay key (r ∷ rs) h = grind (arith, nat_tests, h, lacking_stay key rs)
 
+-- the rows that live after a call depend on those before alone
 pub rows_after : (limit : ℕ) (us : List Update) (c : Call) → AreRising us → rows_of (updates_then limit us c) ≡ rows_on limit (inserts us) c (rows_of us)
 rows_after limit us (call.Select q) up = ap rows_of (append-nil us) ∙ sym (append-nil (filter (λ r. true) (rows_of us)) ∙ none_taken (rows_of us))
 rows_after limit us (call.Insert cells) up = by_room (inserts us == limit)
@@ -112,6 +116,7 @@ rows_after limit us (call.Delete key) up = by_key (has_key key (rows_of us)) ref
 rows_after limit us (call.DeleteWhere conds) up =
     sym (rows_of_more us (removals (matching conds (rows_of us)))) ∙ (drop_passing (meets_all conds) (rows_of us) up.rise ∙ sym (append-nil (filter (λ r. not (meets_all conds r)) (rows_of us))))
 
+-- so does how many were given
 pub given_after : (limit : ℕ) (us : List Update) (c : Call) → inserts (updates_then limit us c) ≡ given_on limit (inserts us) c
 given_after limit us (call.Select q) = ap inserts (append-nil us) ∙ omega arith
 given_after limit us (call.Insert cells) = by_room (inserts us == limit)
@@ -143,6 +148,7 @@ key_seen key (r ∷ rs) = by_test (r.key == key) refl (key_seen key rs)
     by_test true is rest = let same : (key == r.key) ≡ true = grind (arith, nat_tests, is) in rw same refl
     by_test false is rest = let other : (key == r.key) ≡ false = grind (arith, nat_tests, is) in rw other rest
 
+-- and a reply depends on the rows that the call asks for
 pub reply_is : (limit : ℕ) (us : List Update) (c : Call) → reply_to limit us c ≡ reply_on limit (inserts us) c (filter (asks c) (rows_of us))
 reply_is limit us (call.Select q) = refl
 reply_is limit us (call.Insert cells) = refl
@@ -165,6 +171,7 @@ changed_is limit us (call.DeleteWhere conds) = sym (append-nil (matching conds (
 abbrev pub Overlooks : ℕ → List Update → Call → Call → Type 0
 Overlooks limit us c d = AllByRecursion (λ r. asks d r ≡ false) (filter (takes c) (rows_of us)) × AllByRecursion (λ r. asks d r ≡ false) (brings limit (inserts us) c)
 
+-- a call whose changes another does not ask for
 pub overlooks : (limit : ℕ) (us : List Update) (c d : Call) → AsksForNone d (rows_changed limit us c) → Overlooks limit us c d
 overlooks limit us c d none =
     let all = recursion_from_All (λ r. asks d r ≡ false) (rows_changed limit us c) none in
@@ -178,10 +185,12 @@ seen_past_taken p q (r ∷ rs) a = by_test (seen_past_taken p q rs) (q r) a
     by_test rest true all = rest all.1 ∙ ap (λ (t : Bool). cond t (r ∷ filter p rs) (filter p rs)) (sym all.0)
     by_test rest false all = ap (λ (l : List Row). cond (p r) (r ∷ l) l) (rest all)
 
+-- a filter that passes none leaves none
 pub none_seen : (p : Row → Bool) (rs : List Row) → AllByRecursion (λ r. p r ≡ false) rs → filter p rs ≡ []
 none_seen p [] a = refl
 none_seen p (r ∷ rs) a = ap (λ (t : Bool). cond t (r ∷ filter p rs) (filter p rs)) a.0 ∙ none_seen p rs a.1
 
+-- rows that a call asks for stay where it overlooks another
 pub seen_stay : (limit : ℕ) (us : List Update) (c d : Call) → AreRising us → Overlooks limit us c d → filter (asks d) (rows_of (updates_then limit us c)) ≡ filter (asks d) (rows_of us)
 seen_stay limit us c d up o =
     ap (filter (asks d)) (rows_after limit us c up) ∙ (filter-append (asks d) (filter (λ r. not (takes c r)) (rows_of us)) (brings limit (inserts us) c)
@@ -194,9 +203,11 @@ brings_none limit n (call.Insert cells) h = absurd (cc)
 brings_none limit n (call.Delete key) h = refl
 brings_none limit n (call.DeleteWhere conds) h = refl
 
+-- what is no insert gives no row
 pub given_stay : (limit : ℕ) (us : List Update) (c : Call) → is_insert c ≡ false → inserts (updates_then limit us c) ≡ inserts us
 given_stay limit us c h = given_after limit us c ∙ (ap (λ (bs : List Row). inserts us + length bs) (brings_none limit (inserts us) c h) ∙ omega arith)
 
+-- of two that are not both true
 pub first_false : (a b : Bool) → (a && b) ≡ false → b ≡ true → a ≡ false
 first_false true true h is = absurd (cc)
 first_false true false h is = absurd (cc)
@@ -226,10 +237,12 @@ takes_asks (call.Insert cells) r h = refl
 takes_asks (call.Delete key) r h = h
 takes_asks (call.DeleteWhere conds) r h = h
 
+-- a delete that asks for none takes none out
 pub all_kept : (d : Call) (rs : List Row) → AllByRecursion (λ r. asks d r ≡ false) rs → filter (λ r. not (takes d r)) rs ≡ rs
 all_kept d [] a = refl
 all_kept d (r ∷ rs) a = ap (λ (t : Bool). cond (not t) (r ∷ filter (λ x. not (takes d x)) rs) (filter (λ x. not (takes d x)) rs)) (takes_asks d r a.0) ∙ ap (λ (l : List Row). r ∷ l) (all_kept d rs a.1)
 
+-- two filters in either order
 pub filters_swap : (p q : Row → Bool) (rs : List Row) → filter p (filter q rs) ≡ filter q (filter p rs)
 filters_swap p q [] = refl
 filters_swap p q (r ∷ rs) = by_tests (p r) (q r) refl refl (filters_swap p q rs)
@@ -262,9 +275,11 @@ alike_by_second limit us c d up still o = record {
   given = given_stay limit (updates_then limit us c) d still ∙ (given_after limit us c ∙ (ap (λ (n : ℕ). given_on limit n c) (sym (given_stay limit us d still)) ∙ sym (given_after limit (updates_then limit us d) c)));
 }
 
+-- what is alike is so the other way
 pub alike_other : (us vs : List Update) → AreAlike us vs → AreAlike vs us
 alike_other us vs a = record { rows = sym a.rows; given = sym a.given }
 
+-- calls that are apart leave what is alike in either order
 pub alike_swapped : (limit : ℕ) (us : List Update) (c d : Call) → AreRising us → AreApart limit us c d → AreAlike (updates_then limit (updates_then limit us c) d) (updates_then limit (updates_then limit us d) c)
 alike_swapped limit us c d up apart = by_test (is_insert d) refl
   where
@@ -274,6 +289,7 @@ alike_swapped limit us c d up apart = by_test (is_insert d) refl
 
 -- ---- lists that are alike
 
+-- what is alike has one reply
 pub alike_replies : (limit : ℕ) (us vs : List Update) (c : Call) → AreAlike us vs → reply_to limit us c ≡ reply_to limit vs c
 alike_replies limit us vs c a = reply_is limit us c ∙ (reply_same limit (inserts us) (inserts vs) c (filter (asks c) (rows_of us)) (filter (asks c) (rows_of vs)) (ap (filter (asks c)) a.rows) (λ is. a.given) ∙ sym (reply_is limit vs c))
 
@@ -293,6 +309,7 @@ update_is limit us (call.DeleteWhere conds) = refl
 same_updates : (limit : ℕ) (us vs : List Update) (c : Call) → AreAlike us vs → update_by limit us c ≡ update_by limit vs c
 same_updates limit us vs c a = update_is limit us c ∙ (ap (λ (n : ℕ). update_on limit n c (rows_of us)) a.given ∙ (ap (update_on limit (inserts vs) c) a.rows ∙ sym (update_is limit vs c)))
 
+-- and stays alike
 pub alike_then : (limit : ℕ) (us vs : List Update) (c : Call) → AreAlike us vs → AreAlike (updates_then limit us c) (updates_then limit vs c)
 alike_then limit us vs c a = record {
   rows = sym (rows_of_more us (update_by limit us c)) ∙ (ap (λ (l : List Row). fold rows_then l (update_by limit us c)) a.rows ∙ (ap (fold rows_then (rows_of vs)) (same_updates limit us vs c a) ∙ rows_of_more vs (update_by limit vs c)));

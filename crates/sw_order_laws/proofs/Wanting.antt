@@ -111,6 +111,7 @@ all_same : (rs : List Row) → filter (λ (r : Row). true) rs ≡ rs
 all_same [] = refl
 all_same (r ∷ rs) = ap (λ (l : List Row). r ∷ l) (all_same rs)
 
+-- no suiting rows where none come that it asks for: it lacks its reply
 pub wanting_more_lack : WantingMoreLack
 wanting_more_lack keeping opening calls placed chosen i c opens member there none others between behind apart w =
     let us : List Update = updates_by opening calls placed in
@@ -173,6 +174,7 @@ all_old given c (r ∷ rs) a =
     by_test true rest = ap (λ (l : List Row). r ∷ l) rest
     by_test false rest = rest
 
+-- no suiting rows where none go: it lacks its reply
 pub wanting_fewer_lack : WantingFewerLack
 wanting_fewer_lack keeping opening calls placed chosen i c opens member there none others between behind apart w =
     let us : List Update = updates_by opening calls placed in

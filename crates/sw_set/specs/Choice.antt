@@ -14,10 +14,10 @@ use Rattle.sw_map.specs.declared.tail.Tail.TheVariants.{Key, Cell}
 use Rattle.sw_map.specs.Held.{Held, blank, pairs_in, tails_in}
 use Rattle.sw_map.specs.Lawful.{IsLawful, rows_by}
 use Rattle.sw_set.specs.Prepared.{IsReady}
-use Rattle.sw_set.specs.declared.window.TheConstants.{BLOCK}
-use Rattle.sw_set.specs.declared.window.Side.{Side}
-use Rattle.sw_set.specs.declared.window.Side.TheVariants.{Head, Tail}
-use Rattle.sw_set.specs.declared.window.Column.{Column}
+use Rattle.sw_set.specs.declared.reply.window.TheConstants.{BLOCK}
+use Rattle.sw_set.specs.declared.reply.window.Side.{Side}
+use Rattle.sw_set.specs.declared.reply.window.Side.TheVariants.{Head, Tail}
+use Rattle.sw_set.specs.declared.reply.window.Column.{Column}
 
 -- ---- the range
 

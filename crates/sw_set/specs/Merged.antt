@@ -12,7 +12,7 @@ use Rattle.sw_kernel.specs.Tapes.{peak_from}
 use Rattle.sw_map.specs.declared.tail.Tail.TheVariants.{Key}
 use Rattle.sw_map.specs.Held.{Held, blank}
 use Rattle.sw_tape.specs.declared.tape.TheConstants.{MAX_ENTRIES}
-use Rattle.sw_set.specs.declared.merging.TheConstants.{MOST_REMOVALS_MERGED}
+use Rattle.sw_set.specs.declared.merge.TheConstants.{MOST_REMOVALS_MERGED}
 use Rattle.sw_set.specs.Shelf.{AreaState, BringsNoMore, arranged_rows, rows_in, tape_rows}
 use Rattle.sw_set.specs.Aligned.{AreSameMaps}
 use Rattle.sw_set.specs.Prepared.{IsReady}

@@ -1,5 +1,5 @@
 -- Merging on its way: one update, and a list of them up to a place.
-use Rattle.std.specs.Prelude.{◌≡◌, ◌<◌, ◌≤◌, ◌+◌, ◌-◌, ℕ, List, ◌∷◌, [], ◌++◌, fold, length, take, drop, get_or, All, Bool, cond, Result, MatchResult}
+use Rattle.std.specs.Prelude.{◌≡◌, ◌<◌, ◌≤◌, ◌+◌, ◌-◌, ℕ, List, ◌∷◌, [], ◌++◌, fold, length, take, drop, get_or, All, Bool, cond, Option, MatchOption, Result, MatchResult}
 use Rattle.sw_table.specs.declared.row.Row.{Row}
 use Rattle.sw_table.specs.declared.row.Update.{Update}
 use Rattle.sw_table.specs.declared.row.Update.TheVariants as update
@@ -7,10 +7,13 @@ use Rattle.sw_rows.specs.declared.refusal.Refusal.{Refusal}
 use Rattle.sw_rows.specs.declared.refusal.Refusal.TheVariants.{NoMemory}
 use Rattle.sw_kernel.specs.Replay.{Step, inserted}
 use Rattle.sw_kernel.specs.Tapes.{brought}
+use Rattle.sw_map.specs.declared.tail.Tail.TheVariants.{Key}
 use Rattle.sw_tape.specs.declared.tape.TheConstants.{MAX_ENTRIES}
 use Rattle.sw_set.specs.Shelf.{AreaState, MayMergeAll, came_then, rows_left_by, tape_rows}
 use Rattle.sw_set.specs.Aligned.{AreSameMaps}
-use Rattle.sw_set.specs.Merged.{AreMerged, IsBegunAnew, IsRemovalLogged, IsSameShell, MustBegin}
+use Rattle.sw_set.specs.Merged.{AreMerged, CannotTell, IsBegunAnew, IsRemovalLogged, IsSameShell, MustBegin}
+use Rattle.sw_set.specs.Prepared.{IsReady}
+use Rattle.sw_set.specs.Sought.{IsAt}
 
 -- an update is logged: the tape has one entry more
 abbrev pub IsLogged : Update → AreaState → AreaState → Type 0
@@ -23,6 +26,11 @@ pub record IsSameTape (x y : AreaState) : Type 0 where
   pub shell : IsSameShell x y
   pub tape : y.tape ≡ x.tape
   pub maps : AreSameMaps x.boxes y.boxes
+
+-- a box is found whose key map stands at the tape's end; none where no key map could tell a place; S says what is known of
+-- a refused step
+abbrev pub HasKeysOr : (List (Step Row) → Type 0) → AreaState → AreaState → Option ℕ → Type 0
+HasKeysOr S x y found = MatchOption found (CannotTell S x) (IsAt (IsReady Key y.tape) y.boxes)
 
 -- as is told, an update is logged, or it must have the area begun anew
 abbrev pub IsLoggedIf : (List (Step Row) → Type 0) → Bool → Update → AreaState → AreaState → Type 0

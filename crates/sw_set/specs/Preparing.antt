@@ -8,7 +8,7 @@ use Rattle.sw_kernel.specs.Tapes.{peak_from}
 use Rattle.sw_map.specs.declared.tail.Tail.{Tail}
 use Rattle.sw_map.specs.Held.{Held}
 use Rattle.sw_map.specs.Refusals.{IsBeginRefusal}
-use Rattle.sw_set.specs.declared.ready.Ready.{Ready}
+use Rattle.sw_set.specs.declared.area.ready.Ready.{Ready}
 use Rattle.sw_set.specs.Prepared.{IsBegunFor, IsNoted, IsNotedFor, IsPartlyNoted, IsPrepareRefusal, IsPrepared, IsPreparedFor, IsWhyUnprepared, cells_for}
 use Rattle.sw_set.specs.Boxed.{IsFree, IsHeld}
 use Rattle.sw_set.specs.Shelf.{AreaState, tape_rows}

@@ -16,6 +16,10 @@ IsAt {X} P xs at = (at < length xs) × ((d : X) → P (slice_index_or xs at d))
 abbrev pub FindsUnless : {X : Type 0} → (X → Type 0) → (X → Type 0) → List X → Option ℕ → Type 0
 FindsUnless missing there xs found = MatchOption found (All missing xs) (IsAt there xs)
 
+-- a place of a box is found of which the one holds, by what it holds, unless the other holds of every box
+abbrev pub FindsHeld : {M : Type 0} → (M → Held) → (Held → Type 0) → (Held → Type 0) → List M → Option ℕ → Type 0
+FindsHeld held missing there ms found = FindsUnless (λ m. missing (held m)) (λ m. there (held m)) ms found
+
 -- a value is told that some item shows, unless the other holds of every item
 abbrev pub TellsUnless : {X V : Type 0} → (X → Type 0) → (V → X → Type 0) → List X → Option V → Type 0
 TellsUnless missing shows xs told = MatchOption told (All missing xs) (λ v. Any (shows v) xs)

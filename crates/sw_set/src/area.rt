@@ -26,14 +26,20 @@ ghost use Rattle.sw_set.specs.Aligning.{AlignsBoxes};
 ghost use Rattle.sw_set.specs.Aligned.{AreSameMaps, HasRoomWhereNeeded, IsAtEnd, IsStalled};
 ghost use Rattle.sw_set.specs.Sought.{AreAllBlank, EndsBy, FindsUnless, HasCursor, HasReachedOr, HaveSomeMap, HoldsMap, IsCrackedAt, IsNeeded, IsNeededIfMap, IsUncracked, IsUnneeded, LacksMap, Shows, TellsUnless, shown_at};
 
-use crate::align::{align_boxes, align_map, is_needed};
-use crate::collect::collect_from;
-use crate::figures::{cells_among, maps_among};
-use crate::live::LiveRows;
-use crate::pick::{find_blank, find_leased, find_map, find_unneeded};
-use crate::position::place_of_row;
-use crate::ready::Ready;
-use crate::resting::find_at_end;
+pub(crate) mod figures;
+pub(crate) mod live;
+pub(crate) mod pick;
+pub(crate) mod ready;
+pub(crate) mod resting;
+
+use crate::area::figures::{cells_among, maps_among};
+use crate::area::live::LiveRows;
+use crate::area::pick::{find_blank, find_leased, find_map, find_unneeded};
+use crate::area::ready::Ready;
+use crate::area::resting::find_at_end;
+use crate::merge::position::place_of_row;
+use crate::prepare::align::{align_boxes, align_map, is_needed};
+use crate::reply::collect_from;
 use std::alloc::Global;
 use std::marker::Model;
 use std::mem;
@@ -805,7 +811,7 @@ fn trim_all<M: CrackerMap>(boxes: &mut [M])
     }
 }
 
-#[tactic(auto, using(crate::proofs::Refused::by_map))]
+#[tactic(auto, using(crate::proofs::Areas::Refused::by_map))]
 fn begin_box<M: CrackerMap>(
     it: &mut M,
     attribute: u8,
@@ -819,7 +825,7 @@ fn begin_box<M: CrackerMap>(
     it.begin(attribute, tail, cells)
 }
 
-#[tactic(auto, using(crate::proofs::Refused::by_map))]
+#[tactic(auto, using(crate::proofs::Areas::Refused::by_map))]
 fn grow_box<M: CrackerMap>(it: &mut M, cells: u64) -> Result<bool, Refusal>
     requires begun { (M.held it.old).is_blank ≡ false }
     requires more { (M.held it.old).cells < cells }

@@ -2,34 +2,17 @@
 //! replay it.
 #![tactic(auto)]
 
-mod align;
 mod area;
-mod at_once;
-mod choice;
-mod collect;
-mod figures;
-mod finding;
-mod in_turn;
-mod lacking;
-mod live;
-mod making;
-mod merging;
-mod needs;
-mod pick;
-mod position;
+mod merge;
 mod prepare;
-mod ready;
-mod replies;
-mod resting;
-mod totals;
-mod window;
+mod reply;
 
 pub use area::Area;
-pub use at_once::align_at_once;
-pub use collect::nothing;
-pub use in_turn::align_in_turn;
-pub use needs::needed_maps;
-pub use pick::older;
-pub use ready::Ready;
-pub use replies::push_row;
-pub use totals::{greater, lesser};
+pub use area::pick::older;
+pub use area::ready::Ready;
+pub use prepare::at_once::align_at_once;
+pub use prepare::in_turn::align_in_turn;
+pub use prepare::needs::needed_maps;
+pub use reply::nothing;
+pub use reply::replies::push_row;
+pub use reply::totals::{greater, lesser};

@@ -13,13 +13,20 @@ ghost use Rattle.sw_set.specs.Aligning.{AlignsBoxes, HasAlignedOr, MayAlign};
 ghost use Rattle.sw_set.specs.Shelf.{IsSameArea, rows_in};
 ghost use Rattle.sw_set.specs.Sought.{AreAllNeeded};
 
+pub(crate) mod align;
+pub(crate) mod at_once;
+pub(crate) mod in_turn;
+pub(crate) mod lacking;
+pub(crate) mod making;
+pub(crate) mod needs;
+
 use crate::area::Area;
-use crate::at_once::align_at_once;
-use crate::making::make_all;
-use crate::needs::{
+use crate::area::ready::Ready;
+use crate::prepare::at_once::align_at_once;
+use crate::prepare::making::make_all;
+use crate::prepare::needs::{
     edge, lower_from, lower_of, needed_maps, needed_tails, touches, upper_of, upper_upto,
 };
-use crate::ready::Ready;
 use std::thread::Threads;
 use sw_map::{CrackerMap, Tail};
 use sw_rows::{Bound, Query, Refusal, Reply};

@@ -60,6 +60,7 @@ shelled_over I limit cuts (Some bytes) old new opened (Ok e) read is refused = (
 shelled_over I limit cuts (Some bytes) old new opened (Err e) read is refused =
     subst (λ (x : Refusal). RefusedFrom I x (start_of limit cuts bytes [])) (sym refused) tt
 
+-- from the table that was read, and what the lines left, to the outcome of a shell
 pub shelled_by : (asked : Options) (old new : Traffic) (t : SourceSeen) (opened : Inputs) (result : Result Ended Refusal)
     → ReadsTable asked t (Ok opened)
     → IfOk result (IsLeftBy opened.schema opened.rows.items asked.limit old new) → IsOkUnless result refusal.NoMemory

@@ -17,6 +17,7 @@ use Rattle.sw_shell.specs.Lines.{IsNext, is_command, is_quit}
 use Rattle.sw_shell.specs.Talks.{CameBy, Ends, Heard, IsEntered, IsHeard, IsTaken, IsTold, IsUnheard, Reached, Said, Seen, Taken, Taking, Talked, Turned, said}
 use Rattle.sw_shell.specs.declared.host.Line.{Line}
 
+-- what does not change is kept
 pub keeps_same : (o : Option (List ℕ)) → Keeps o o
 keeps_same None = tt
 keeps_same (Some bytes) = refl
@@ -100,8 +101,10 @@ turned_by (Err e) l line a b next is t = inr (record {
 pub reached_more : (a b c : Seen) → ((n : ℕ) × Reached n a b) → IsEntered Took b c → (n : ℕ) × Reached n a c
 reached_more a b c r e = (suc r.0, (b, r.1, e))
 
+-- before any line a shell stands where it began
 pub reached_none : (a : Seen) → (n : ℕ) × Reached n a a
 reached_none a = (zero, refl)
 
+-- lines up to a place, and the end there, are the whole talk
 pub talked : (failure : Option Refusal) (a b c : Seen) → ((n : ℕ) × Reached n a b) → Ends failure b c → Talked failure a c
 talked failure a b c r e = record { lines = r.0; before = b; reached = r.1; ends = e }

@@ -39,6 +39,7 @@ may_follow a limit us vs most all = head_receives a limit (fold given_then 0 us)
 
 -- ---- rows in order
 
+-- the keys of numbered rows are below the first number and how many they are
 pub numbered_low : (n : ℕ) (rows : List Row) → is_numbered n rows ≡ true → All (λ (r : Row). r.key < n + length rows) rows
 numbered_low n [] h i d lt = absurd (omega (arith, lt))
 numbered_low n (r ∷ rows) h zero d lt = let key : r.key ≡ n = grind (arith, nat_tests, h) in omega (arith, key)
@@ -46,6 +47,7 @@ numbered_low n (r ∷ rows) h (suc i) d lt =
     let rest : is_numbered (n + 1) rows ≡ true = grind (arith, nat_tests, h) in
     let b = numbered_low (n + 1) rows rest i d (omega (arith, lt)) in omega (arith, b)
 
+-- the keys of a table's rows fit a map
 pub keys_fit : (rows : List Row) → is_numbered 1 rows ≡ true → length rows ≤ 1048576 → All (λ (r : Row). r.key < 2 ^ 63) rows
 keys_fit rows h most i d lt = let b = numbered_low 1 rows h i d lt in omega (arith, b, most)
 
@@ -56,6 +58,7 @@ numbered_above n k (r ∷ rows) h less =
     let rest : is_numbered (n + 1) rows ≡ true = grind (arith, nat_tests, h) in
     (omega (arith, key, less), numbered_above (n + 1) k rows rest (omega (arith, less)))
 
+-- the keys of numbered rows rise
 pub numbered_rise : (n : ℕ) (rows : List Row) → is_numbered n rows ≡ true → Rises key_of rows
 numbered_rise n [] h = tt
 numbered_rise n (r ∷ rows) h =
@@ -72,6 +75,7 @@ above_from v (c ∷ cs) h =
     let rest : rises (c ∷ cs) ≡ true = grind (arith, nat_tests, h) in
     (less, above_from c cs rest)
 
+-- cuts that are in rising order part the values from the lowest on
 pub cuts_rise : (cs : List ℤ) → rises cs ≡ true → RiseAbove None cs
 cuts_rise [] h = tt
 cuts_rise (c ∷ cs) h = above_from c cs h

@@ -24,6 +24,7 @@ pub made_seat : (place taken : ℕ) (rows : List Row) (o : Option HeadState) (h 
 made_seat place taken rows None h none new = λ i. record { place = place; received = Some (new i); taken = taken }
 made_seat place taken rows (Some x) h none new = absurd cc
 
+-- a head that is made already is that with what it has received
 pub same_seat : (place taken : ℕ) (rows : List Row) (o : Option HeadState) → is_some o ≡ true → seated place o taken ≡ with_received (received_or rows (seated place o taken)) (seated place o taken)
 same_seat place taken rows None some = absurd cc
 same_seat place taken rows (Some x) some = refl
@@ -51,6 +52,7 @@ now_served b s t u late w made is more =
     let all : received_or b.rows s ++ late ≡ updates b = ap (λ us. us ++ late) w.received ∙ (ap (λ vs. take s.taken (updates b) ++ vs) lacks ∙ take-append-drop s.taken (updates b)) in
     ap (λ (x : SeatState). x.received) (more ∙ ap (with_more late) made) ∙ ap (λ us. Some us) all
 
+-- a head that received what it lacked stands by the history
 pub seat_served : (b : Books) (s t u : SeatState) (late : List Update) → IsSeated b s.place s → t ≡ with_received (received_or b.rows s) s → late ≡ drop t.taken (updates b) → u ≡ with_more late t → IsSeated b s.place u
 seat_served b s t u late w made is more =
     let has : u.received ≡ Some (updates b) = now_served b s t u late w made is more in
@@ -86,5 +88,6 @@ asks_eight n q few asks = record { conds = λ k d lt. let low = asks.conds k d l
 pub seat_here : (b : Books) (ss : List SeatState) (p : ℕ) (s : SeatState) → AreSeated b ss → p < length ss → s ≡ slice_index_or ss p s → IsSeated b p s
 seat_here b ss p s a lt is = subst (IsSeated b p) (sym is) (a.each p s lt)
 
+-- a seat that stands by the history stands under its own place
 pub seat_own : (b : Books) (p : ℕ) (s : SeatState) → IsSeated b p s → IsSeated b s.place s
 seat_own b p s w = subst (λ (n : ℕ). IsSeated b n s) (sym w.place_is) w

@@ -33,12 +33,14 @@ seat_more b f more k s rows us w =
       received = ap (λ (rs : List Row). received_or rs s) rows ∙ (w.received ∙ (sym (take-append-le s.taken (updates b) more high) ∙ ap (take s.taken) (sym us)));
     }
 
+-- heads stand by a history with more updates
 pub seats_more : (b f : Books) (more : List Update) (ss : List SeatState) → f.columns ≡ b.columns → f.rows ≡ b.rows → updates f ≡ updates b ++ more → AreSeated b ss → AreSeated f ss
 seats_more b f more ss columns rows us a = record {
   many = a.many ∙ ap length (sym columns);
   each = λ k d lt. seat_more b f more k (slice_index_or ss k d) rows us (a.each k d lt);
 }
 
+-- heads stand by a history with the same updates
 pub seats_same : (b f : Books) (ss : List SeatState) → f.columns ≡ b.columns → f.rows ≡ b.rows → updates f ≡ updates b → AreSeated b ss → AreSeated f ss
 seats_same b f ss columns rows us a = seats_more b f [] ss columns rows (us ∙ sym (append-nil (updates b))) a
 
@@ -99,6 +101,7 @@ columns_cuts cs b cuts wide a = record {
   lawful = λ k lt. a.lawful k (subst (λ (n : ℕ). k < n) wide lt);
 }
 
+-- what stands beside a history: heads that rest, and cuts and sessions that are its own
 abbrev pub Stand : Books → List SeatState → CutLists → ℕ → Type 0
 Stand b ss cuts n = AllRest b × AreSeated b ss × AreTableCuts b cuts × (n ≡ b.sessions)
 
@@ -110,8 +113,10 @@ columns_stand (Ok x) cs b f ss cuts n is same wide a =
     subst (λ (x : Books). Stand x ss cuts n) (sym is) (a.0, columns_seated cs b ss w a.1, columns_cuts cs b cuts w a.2, a.3)
 columns_stand (Err e) cs b f ss cuts n is same wide a = subst (λ (x : Books). Stand x ss cuts n) (sym same) a
 
+-- it stands there where the texts are others
 pub columns_left : (cs : List Column) (b f : Books) (ss : List SeatState) (cuts : CutLists) (n : ℕ) → f ≡ with_columns cs b → length f.columns ≡ length b.columns → Stand b ss cuts n → Stand f ss cuts n
 columns_left cs b f ss cuts n is wide a = columns_stand {A = Unit {0}} {E = Unit {0}} (Ok tt) cs b f ss cuts n is tt wide a
 
+-- other texts of a history are those of the engine
 pub solo_columns : (cs : List Column) (b f : Books) → f ≡ with_columns cs b → solo_of f ≡ solo_with_columns cs (solo_of b)
 solo_columns cs b f is = ap solo_of is

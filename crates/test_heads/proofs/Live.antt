@@ -12,7 +12,7 @@ use Rattle.sw_table.specs.declared.row.Update.{Update}
 use Rattle.sw_table.specs.declared.row.Update.TheVariants.{Insert, Remove}
 use Rattle.sw_table.specs.Updates.{has_key, rows_of, rows_then, without}
 use Rattle.sw_set.specs.Shelf.{came_then}
-use Rattle.sw_set.proofs.Receiving.{IsBelow, all-one, has-last, has-without}
+use Rattle.sw_set.proofs.Areas.Receiving.{IsBelow, all-one, has-last, has-without}
 use Rattle.sw_chunks.specs.Cuts.{RiseAbove}
 use Rattle.sw_chunks.specs.Heads.{HeadState, IsSupplied, opened_area}
 use Rattle.sw_chunks.specs.Routing.{MayFollow, given_by}
@@ -37,6 +37,7 @@ long-numbered : (n : ℕ) (cs : List (List ℤ)) → length (map row_of (enumera
 long-numbered n [] = refl
 long-numbered n (c ∷ cs) = let e = long-numbered (n + 1) cs in omega (arith, e)
 
+-- at first all rows live
 pub live-opened : (us : List Update) (rows : List Row) (cs : List (List ℤ)) (live : List Bool) (many : ℕ) → us ≡ map Insert rows → rows ≡ numbered cs → many ≡ length rows → live ≡ false ∷ replicate many true → AreLive us live
 live-opened us rows cs live many is numbered-is many-is live-is = record {
   came = subst (λ n. IsBelow n (given_by us)) (sym long) (subst (IsBelow (1 + length cs)) (sym (ap given_by is ∙ given-opened rows ∙ numbered-is)) (numbered-below cs));
@@ -67,6 +68,7 @@ may-go a us key has = (has, tt)
 pushed : (live : List Bool) (key next : ℕ) (b : Bool) → next ≡ length live → b ≡ get_or live key false → (b || (key == next)) ≡ get_or (live ++ true ∷ []) key false
 pushed live key next b is at = grind (arith, nat_tests, common_steps, is, at, get_or_append_left live (true ∷ []) false key, get_or_push live true false key, past-end key (live ++ true ∷ []) false, past-end key live false, length-append live (true ∷ []))
 
+-- a row that came lives
 pub live-came : (us vs : List Update) (live now : List Bool) (r : Row) → AreLive us live → r.key ≡ length live → vs ≡ us ++ Insert r ∷ [] → now ≡ live ++ true ∷ [] → AreLive vs now
 live-came us vs live now r is key more now-is = record {
   came = came;
@@ -109,6 +111,7 @@ unset live k key b lt at = by (key == k) refl
     by true same = and-no b ∙ sym (get_or-set_at live key k false false (sym (eqb-true key k same)) lt)
     by false other = and-not b ∙ at ∙ sym (get_or-set_other live key k false false (λ e. absurd (true≢false (sym (eq-eqb key k (sym e)) ∙ other))))
 
+-- a row that went does not
 pub live-went : (us vs : List Update) (live now : List Bool) (key : ℕ) → AreLive us live → has_key key (rows_of us) ≡ true → vs ≡ us ++ Remove key ∷ [] → now ≡ set live key false → AreLive vs now
 live-went us vs live now key is has more now-is = record {
   came = subst (IsBelow (length now)) (sym (ap given_by more ∙ given-more us (Remove key))) (subst (λ n. IsBelow n (given_by us)) (sym (ap length now-is ∙ length-set live key false)) is.came);

@@ -6,6 +6,7 @@ use Rattle.std.proofs.lemmas.List.Elements.{All-cons, All-nil}
 use Rattle.sw_rows.specs.declared.query.Cond.{Cond}
 use Rattle.sw_lang.specs.Fits.{IsBound, is_bound}
 
+-- from the test over conditions to what a query asks of them
 pub all_bound : (cs : List Cond) → list_all (λ (c : Cond). is_bound c.lower c.upper) cs ≡ true → All IsBound cs
 all_bound [] h = All-nil IsBound
 all_bound (c ∷ cs) h =

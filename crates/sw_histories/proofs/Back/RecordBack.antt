@@ -120,6 +120,7 @@ record_flat h =
     let deep = under 3 _ _ names (under 3 _ _ entries (under 3 0 _ (omega arith) (under 3 0 _ (omega arith) last))) in
     omega (arith, deep)
 
+-- the law of `texts_are_read_as_values`
 pub record_read : TextsAreJson
 unfolding record_text
 record_read h w = text_read_back (record_data h) (record_plain h w) (record_flat h)

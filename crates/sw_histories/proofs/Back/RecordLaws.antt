@@ -224,6 +224,7 @@ items_found f h e = at (nat_le (length f.items) MOST_ENTRIES) refl e
         (leb-true (length f.items) MOST_ENTRIES few, (a.0, a.1, ok_same (history_with f a.0) h a.2))
     at false many g = absurd (err_ok (TooMany MOST_ENTRIES) h g)
 
+-- what the reader finds is related to the bytes
 pub record_found : (bytes : List ℕ) (h : History) → record_at bytes ≡ Ok h → IsReadRecord bytes h
 unfolding record_at
 record_found bytes h e =
@@ -251,6 +252,7 @@ record_found bytes h e =
       entries = subst (AreReadEntries f.0.format f.0.columns f.0.items es.1.0.0) (sym found.all_are) found.are;
     })
 
+-- what is related to the bytes is what the reader finds
 pub record_only : (bytes : List ℕ) (h : History) → IsReadRecord bytes h → record_at bytes ≡ Ok h
 record_only bytes h r =
     let f : Frame = frame r.known r.format h.limit h.rows r.items in

@@ -134,6 +134,7 @@ record_texts h r = (
   ),
 )
 
+-- for readers that take only text
 pub record_utf8 : (h : History) → IsOfRun h → IsUtf8 (record_text h)
 unfolding record_text
 record_utf8 h r = text_utf8 (record_data h) (record_texts h r)

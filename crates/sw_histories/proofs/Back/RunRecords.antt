@@ -312,6 +312,7 @@ rows_back h r o =
 
 -- ---- calls that may stand
 
+-- each entry is of a session below the number
 abbrev pub all_stand_under : ℕ → List Entry → Bool
 all_stand_under format es = list_all (λ e. may_stand format e.call) es
 
@@ -459,5 +460,6 @@ written h r o = record {
   entries = entries_back (format_of h.columns h.entries) h.columns (with_texts [] (shown_texts h.columns h.rows)) h.entries (all_stand h.columns h.entries) r.schema (all_known h o) r.calls;
 }
 
+-- the law of `records_are_read_back`
 pub records_read_back : RecordsAreReadBack
 records_read_back h r o = record_only (record_text h) (with_lines h) (written h r o)

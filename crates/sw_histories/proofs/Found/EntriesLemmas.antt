@@ -42,6 +42,7 @@ some_at o x P e h = subst (λ y. IfSome y P) e h
 
 -- ---- entries
 
+-- the data of what was read of a list
 abbrev pub listed : Option (Items × List Token) → Option (List Data)
 listed o = option_map (λ p. items_list p.0) o
 
@@ -212,6 +213,7 @@ outer_none ms ds there h = frame_outside ms ds there ∙ ap (option_map (with_it
 pub no_record : (text : List ℕ) (ms : Members) → read text ≡ Some (object ms) → frame_of (object ms) ≡ None → record_in text ≡ Err (BadLine 0 why.History)
 no_record text ms is none = ap (λ o. or_fault 0 o >>= history_of) is ∙ ap (λ f. or_fault 0 f >>= entries_of) none
 
+-- a text whose frame is read has the record that its entries make
 pub record_is : (text : List ℕ) (ms : Members) (f : Frame) → read text ≡ Some (object ms) → frame_of (object ms) ≡ Some f → record_in text ≡ entries_of f
 record_is text ms f is there = ap (λ o. or_fault 0 o >>= history_of) is ∙ ap (λ x. or_fault 0 x >>= entries_of) there
 

@@ -133,6 +133,7 @@ kept (object ms) none = refl
 
 -- ---- where items stand
 
+-- the tokens begin with this key, and these come behind it
 abbrev pub here : List Token → List ℕ → List Token → Type 0
 here us k s = read_key us ≡ Some (Some k, s)
 

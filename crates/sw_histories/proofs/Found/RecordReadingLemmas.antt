@@ -120,6 +120,7 @@ state_lines c d e vs ws o there is same found =
 
 -- ---- the whole text
 
+-- the record of a text that is JSON
 pub record_ok : (bytes : List ℕ) (d : Data) → IsUtf8 bytes → read bytes ≡ Some d → history_of d ≡ record_at bytes
 unfolding record_at
 record_ok bytes d text is =
@@ -130,6 +131,7 @@ json_none : (bytes : List ℕ) (b : Bool) → is_utf8 bytes ≡ b → (IsUtf8 by
 json_none bytes true e h = h (IsUtf8-from_is_utf8 bytes e)
 json_none bytes false e h = refl
 
+-- bytes that are no text, or no JSON, are refused
 pub record_bad : (bytes : List ℕ) → (IsUtf8 bytes → read bytes ≡ None) → record_at bytes ≡ Err (BadLine 0 why.History)
 unfolding record_at
 record_bad bytes h = ap (λ o. or_fault 0 o >>= history_of) (json_none bytes (is_utf8 bytes) refl h)

@@ -99,6 +99,7 @@ module _ (p : Parse json.Json) where
 
 -- ---- a list that grows at its end
 
+-- values in front of items
 abbrev pub items_before : List Value → Items → Items
 items_before [] rest = rest
 items_before (v ∷ vs) rest = item (view v) (items_before vs rest)
@@ -124,6 +125,7 @@ none_before (Some p) = refl
 
 -- ---- the whole text
 
+-- the data of a value behind which nothing stands
 abbrev pub whole : Option (json.Json × List Token) → Option Data
 whole o = option_and_then of_json (option_and_then (λ p. if_last p.0 p.1) o)
 

@@ -34,6 +34,7 @@ IsKnownTok ts us comma = ⊤
 IsKnownTok ts us (quoted text) = (code : ℕ) → is_text text ≡ true → code_of ts text ≡ Some code → (other : ℕ) × (code_of us text ≡ Some other)
 IsKnownTok ts us stray = ⊤
 
+-- the texts of tokens are known to both
 abbrev pub AreKnownToks : Texts → Texts → List Tok → Type 0
 AreKnownToks ts us [] = ⊤
 AreKnownToks ts us (t ∷ toks) = IsKnownTok ts us t × AreKnownToks ts us toks
@@ -150,6 +151,7 @@ where-same ts us cs toks conds o k (inr has) =
 
 -- ---- values of a row
 
+-- two lists of cells that are the same values, each by its texts
 abbrev pub Pairs : Texts → Texts → List Column → List ℤ → List ℤ → Type 0
 Pairs ts us [] [] [] = ⊤
 Pairs ts us (c ∷ cs) (z ∷ zs) (y ∷ ys) = SameCell ts us c.1 z y × Pairs ts us cs zs ys

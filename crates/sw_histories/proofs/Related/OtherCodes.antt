@@ -30,6 +30,7 @@ use Rattle.sw_lang.specs.declared.term.Term.{Term}
 use Rattle.sw_lang.specs.declared.token.Op.{Op}
 use Rattle.sw_lang.specs.declared.token.Op.TheVariants.{Lt, Le, Eq, Ge, Gt}
 
+-- the texts of each domain, by their codes
 abbrev pub Texts : Type 0
 Texts = List (List ℕ)
 
@@ -42,10 +43,12 @@ SameCell ts us (kind.Fix places) z y = z ≡ y
 SameCell ts us kind.Flag z y = z ≡ y
 SameCell ts us (kind.Text own) z y = (t : List ℕ) × (text_at ts z ≡ Some t) × (text_at us y ≡ Some t)
 
+-- two rows of one key whose cells are the same values, each by its texts
 pub record SameRow (ts us : Texts) (cs : List Column) (r s : Row) : Type 0 where
   pub key : r.key ≡ s.key
   pub cells : (a : ℕ) → SameCell ts us (kind_at cs a) (cell_of a r) (cell_of a s)
 
+-- that of two lists of rows
 abbrev pub SameRows : Texts → Texts → List Column → List Row → List Row → Type 0
 SameRows ts us cs [] [] = Unit {0}
 SameRows ts us cs [] (s ∷ ss) = ⊥
@@ -60,12 +63,14 @@ same_numbers ts us (kind.Text own) z y h s = absurd cc
 
 -- ---- comparisons
 
+-- two conditions on one attribute whose bounds are the same values
 pub record SameTerm (ts us : Texts) (cs : List Column) (t u : Term) : Type 0 where
   pub attr : t.attr ≡ u.attr
   pub op : t.op ≡ u.op
   pub fits : (is_of_texts (kind_at cs t.attr) && not (is_equality t.op)) ≡ false
   pub value : SameCell ts us (kind_at cs t.attr) t.value u.value
 
+-- that of two lists of conditions
 abbrev pub SameTerms : Texts → Texts → List Column → List Term → List Term → Type 0
 SameTerms ts us cs [] [] = Unit {0}
 SameTerms ts us cs [] (x ∷ xs) = ⊥

@@ -281,6 +281,7 @@ is-record h us r other es okay own split = record {
   entries = es.are;
 }
 
+-- a record, and what is read of its file: the same but for the codes of texts
 pub record ReadAs (h k : History) : Type 0 where
   pub read : record_at (record_text h) ≡ Ok k
   pub legal : IsLegal h → IsLegal k

@@ -23,6 +23,7 @@ use Rattle.sw_histories.proofs.Related.OtherCodes.{AsksNumbers, SameConds, SameR
 
 -- ---- calls
 
+-- two calls that are the same, each by its texts
 abbrev pub SameCall : Texts → Texts → List Column → Call → Call → Type 0
 SameCall ts us cs (Select q) (Select p) = (q.want ≡ p.want) × AsksNumbers cs q.want × SameConds ts us cs q.conds p.conds
 SameCall ts us cs (Insert zs) (Insert ys) = (key : ℕ) → SameRow ts us cs (row key zs) (row key ys)
@@ -68,6 +69,7 @@ select_same ts us cs (DeleteWhere xs) (Delete key) h = absurd h
 
 -- ---- updates
 
+-- what two such histories bring: rows of the same keys and values
 pub record SameUpdates (ts us : Texts) (cs : List Column) (one other : List Update) : Type 0 where
   pub rows : SameRows ts us cs (rows_of one) (rows_of other)
   pub given : inserts one ≡ inserts other

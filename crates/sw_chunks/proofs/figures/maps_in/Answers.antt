@@ -1,7 +1,7 @@
 use Rattle.std.proofs.Common.{◌∙◌, ◌+◌, ℕ, ap}
 use Rattle.sw_set.specs.Figures.{capped, maps_among}
 use Rattle.sw_set.specs.Shelf.{AreaState}
-use Rattle.sw_set.proofs.Sums.{capped_more}
+use Rattle.sw_set.proofs.Areas.Sums.{capped_more}
 use Rattle.sw_chunks.proofs.figures.maps_in.Goals as goal
 
 pub loop-area-preserved : goal.loop-area-preserved

@@ -1,7 +1,7 @@
 use Rattle.std.proofs.Common.{◌==◌, ◌&&◌, not, Bool, ap, sym, ◌∙◌}
 use Rattle.sw_table.specs.declared.row.Update.{Update}
 use Rattle.sw_table.specs.Updates.{has_key, rows_then}
-use Rattle.sw_set.proofs.Receiving.{has-without}
+use Rattle.sw_set.proofs.Areas.Receiving.{has-without}
 use Rattle.sw_set.proofs.area.holds_after.Goals as goal
 
 pub returns-then-held-2 : goal.returns-then-held-2

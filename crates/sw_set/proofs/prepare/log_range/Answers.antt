@@ -1,4 +1,4 @@
-use Rattle.sw_set.proofs.Noting.{same-logged, same-trans}
+use Rattle.sw_set.proofs.Preparing.Noting.{same-logged, same-trans}
 use Rattle.sw_set.proofs.prepare.log_range.Goals as goal
 
 pub returns-clause-same : goal.returns-clause-same

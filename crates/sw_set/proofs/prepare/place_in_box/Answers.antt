@@ -1,5 +1,5 @@
 use Rattle.sw_map.specs.Held.{blank}
-use Rattle.sw_set.proofs.Ends.{found-none}
+use Rattle.sw_set.proofs.Preparing.Ends.{found-none}
 use Rattle.sw_set.proofs.prepare.place_in_box.Goals as goal
 
 pub unreachable-requires : goal.unreachable-requires

@@ -3,8 +3,8 @@ use Rattle.sw_table.specs.declared.row.Row.{Row}
 use Rattle.sw_kernel.specs.Replay.{Step}
 use Rattle.sw_kernel.specs.Tapes.{peak_from}
 use Rattle.sw_set.specs.Prepared.{IsReady, cells_for, stands_if}
-use Rattle.sw_set.proofs.Ends.{held-of, noted-stand, ready-made, room-enough, room-made}
-use Rattle.sw_set.proofs.Refused.{told_on}
+use Rattle.sw_set.proofs.Preparing.Ends.{held-of, noted-stand, ready-made, room-enough, room-made}
+use Rattle.sw_set.proofs.Areas.Refused.{told_on}
 use Rattle.sw_set.proofs.prepare.prepare_range.Goals as goal
 
 pub align_by-requires-clause-room : goal.align_by-requires-clause-room

@@ -4,7 +4,7 @@ use Rattle.sw_map.specs.Held.{blank}
 use Rattle.sw_map.specs.Lawful.{rows_by}
 use Rattle.sw_kernel.specs.Arrangement.{joined}
 use Rattle.sw_set.specs.Prepared.{IsPlace}
-use Rattle.sw_set.proofs.Ends.{at-end_of, found-stands, key-missing, pairs-at_end, place-found, stands-left, stands-right}
+use Rattle.sw_set.proofs.Preparing.Ends.{at-end_of, found-stands, key-missing, pairs-at_end, place-found, stands-left, stands-right}
 use Rattle.sw_set.proofs.prepare.range_of.Goals as goal
 
 pub unreachable-requires : goal.unreachable-requires

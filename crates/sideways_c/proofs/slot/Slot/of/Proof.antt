@@ -82,6 +82,7 @@ L = arg_laws δX no inner.the_row inner_laws.the_row_laws refl
 abbrev LA : Laws A
 LA = arg_laws δZ no global.the_row global_laws.the_row_laws refl
 
+-- the statement that the check asks of `of`
 pub of_spec : {M : Type 1} → statement M
 unfolding Rattle.sideways_c.proofs.Destruct++none.drop.Code.code
 of_spec {M} 𝓤 𝓛 𝓜 𝓡 wired =

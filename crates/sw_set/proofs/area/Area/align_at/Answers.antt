@@ -1,4 +1,4 @@
-use Rattle.sw_set.proofs.Aligning.{at-aligned, at-ends, at-maps, at-place, at-stepped}
+use Rattle.sw_set.proofs.Areas.Aligning.{at-aligned, at-ends, at-maps, at-place, at-stepped}
 use Rattle.sw_kernel.specs.Tapes.{peak_from}
 use Rattle.std.proofs.Common.{◌≤◌, OnErr, subst, sym, get_or}
 use Rattle.sw_set.specs.Aligned.{IsStalled}

@@ -1,11 +1,11 @@
 use Rattle.std.proofs.Common.{◌≡◌, List, map, length, sym, subst, arith, All}
 use Rattle.std.proofs.lemmas.List.{length-map}
-use Rattle.sw_set.proofs.Shelves.{area-with, apart-same, leases-same, written}
+use Rattle.sw_set.proofs.Areas.Shelves.{area-with, apart-same, leases-same, written}
 use Rattle.sw_map.specs.Lawful.{IsLawful}
 use Rattle.sw_set.specs.Shelf.{AreaState}
 use Rattle.sw_set.specs.Aligning.{MayAlign}
 use Rattle.sw_set.specs.Aligned.{AreSameMaps, HasRoomWhereNeeded}
-use Rattle.sw_set.proofs.Boxes.{all-held}
+use Rattle.sw_set.proofs.Areas.Boxes.{all-held}
 use Rattle.sw_set.proofs.area.Area.align_by.Goals as goal
 
 pub invariant_of-self : goal.invariant_of-self

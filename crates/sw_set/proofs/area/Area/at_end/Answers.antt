@@ -4,7 +4,7 @@ use Rattle.sw_kernel.specs.Replay.{Step}
 use Rattle.sw_set.specs.Prepared.{IsReady}
 use Rattle.sw_set.specs.Shelf.{AreaState}
 use Rattle.sw_set.specs.Sought.{FindsUnless}
-use Rattle.sw_set.proofs.Looks.{look}
+use Rattle.sw_set.proofs.Areas.Looks.{look}
 use Rattle.sw_set.proofs.area.Area.at_end.Goals as goal
 
 pub returns : goal.returns

@@ -2,7 +2,7 @@ use Rattle.std.proofs.Common.{ap, sym, subst, List}
 use Rattle.sw_map.specs.Held.{Held}
 use Rattle.sw_set.specs.Shelf.{AreaState}
 use Rattle.sw_set.specs.Boxed.{IsCleared}
-use Rattle.sw_set.proofs.Views.{cleared-set}
+use Rattle.sw_set.proofs.Areas.Views.{cleared-set}
 use Rattle.sw_set.proofs.area.Area.clear.Goals as goal
 
 pub returns-in-Some-clause-cleared : goal.returns-in-Some-clause-cleared

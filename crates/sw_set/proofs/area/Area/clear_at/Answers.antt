@@ -1,5 +1,5 @@
 use Rattle.sw_map.specs.Held.{blank}
-use Rattle.sw_set.proofs.Shelves.{blank-not, area-set, lawful-of_blank, view-set}
+use Rattle.sw_set.proofs.Areas.Shelves.{blank-not, area-set, lawful-of_blank, view-set}
 use Rattle.sw_set.proofs.area.Area.clear_at.Goals as goal
 
 pub invariant_of-self : goal.invariant_of-self

@@ -6,7 +6,7 @@ use Rattle.sw_set.specs.Choice.{IsRun, meets_first, shown_rows}
 use Rattle.sw_set.specs.Needs.{needed}
 use Rattle.sw_set.specs.Prepared.{IsReady}
 use Rattle.sw_set.specs.Shelf.{AreaState, logged_rows, rows_in}
-use Rattle.sw_set.proofs.Ranges.{held-once, prepared-maps, prepared-runs, rows-received}
+use Rattle.sw_set.proofs.Preparing.Ranges.{held-once, prepared-maps, prepared-runs, rows-received}
 use Rattle.sw_set.proofs.area.Area.collect.Goals as goal
 
 pub collect_from-requires-clause-maps : goal.collect_from-requires-clause-maps

@@ -1,4 +1,4 @@
-use Rattle.sw_set.proofs.Views.{any-at}
+use Rattle.sw_set.proofs.Areas.Views.{any-at}
 use Rattle.std.proofs.Common.{◌≡◌, false}
 use Rattle.sw_set.proofs.area.Area.cursor.Goals as goal
 

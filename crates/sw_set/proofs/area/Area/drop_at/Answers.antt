@@ -1,8 +1,8 @@
 use Rattle.std.proofs.Common.{◌<◌, ◌-◌, ap, sym, ◌∙◌, map, List, subst, length, arith, vec_capacity, vec_len}
 use Rattle.std.proofs.lemmas.List.{length-map}
 use Rattle.sw_set.specs.Shelf.{AreaState}
-use Rattle.sw_set.proofs.Dropped.{area-removed, view-removed}
-use Rattle.sw_set.proofs.Shelves.{area_of}
+use Rattle.sw_set.proofs.Areas.Dropped.{area-removed, view-removed}
+use Rattle.sw_set.proofs.Areas.Shelves.{area_of}
 use Rattle.sw_set.proofs.area.Area.drop_at.Goals as goal
 
 pub invariant_of-self : goal.invariant_of-self

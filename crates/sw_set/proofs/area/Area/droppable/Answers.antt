@@ -1,6 +1,6 @@
 use Rattle.std.proofs.Common.{◌≡◌, ◌<◌, ap, false, [], Contains, List, subst, All, MatchOption, length, get_or}
 use Rattle.sw_set.specs.Shelf.{AreaState}
-use Rattle.sw_set.proofs.Dropped.{first-found}
+use Rattle.sw_set.proofs.Areas.Dropped.{first-found}
 use Rattle.sw_set.proofs.area.Area.droppable.Goals as goal
 
 pub returns : goal.returns

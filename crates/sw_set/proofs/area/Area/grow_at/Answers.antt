@@ -1,4 +1,4 @@
-use Rattle.sw_set.proofs.Grown.{grown-area, grown-at}
+use Rattle.sw_set.proofs.Areas.Grown.{grown-area, grown-at}
 use Rattle.sw_set.proofs.area.Area.grow_at.Goals as goal
 
 pub invariant_of-self : goal.invariant_of-self

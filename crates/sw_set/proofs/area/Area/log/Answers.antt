@@ -3,8 +3,8 @@ use Rattle.sw_table.specs.declared.row.Row.{Row}
 use Rattle.sw_kernel.specs.Replay.{Step}
 use Rattle.sw_set.specs.Shelf.{AreaState, IsAreaLawful}
 use Rattle.sw_set.specs.Tied.{IsTied}
-use Rattle.sw_set.proofs.Shelves.{area_of, area-logged, pushed}
-use Rattle.sw_set.proofs.Ties.{tied-ranged}
+use Rattle.sw_set.proofs.Areas.Shelves.{area_of, area-logged, pushed}
+use Rattle.sw_set.proofs.Areas.Ties.{tied-ranged}
 use Rattle.sw_set.proofs.area.Area.log.Goals as goal
 
 pub invariant_of-self : goal.invariant_of-self

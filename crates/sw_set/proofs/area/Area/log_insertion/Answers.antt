@@ -2,8 +2,8 @@ use Rattle.std.proofs.Common.{◌≡◌, ◌<◌, [], length, map, ap, sym, ◌�
 use Rattle.sw_table.specs.declared.row.Update.TheVariants.{Insert}
 use Rattle.sw_kernel.specs.Tapes.{brought}
 use Rattle.sw_set.specs.Shelf.{AreaState, MayReceive, logged_rows}
-use Rattle.sw_set.proofs.Logging.{area-inserted}
-use Rattle.sw_set.proofs.Ties.{tied-inserted}
+use Rattle.sw_set.proofs.Areas.Logging.{area-inserted}
+use Rattle.sw_set.proofs.Areas.Ties.{tied-inserted}
 use Rattle.sw_set.proofs.area.Area.log_insertion.Goals as goal
 
 pub invariant_of-self-in_default : goal.invariant_of-self-in_default

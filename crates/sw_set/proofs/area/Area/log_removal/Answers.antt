@@ -4,9 +4,9 @@ use Rattle.sw_table.specs.Updates.{has_key}
 use Rattle.sw_kernel.specs.Arrangement.{joined}
 use Rattle.sw_map.specs.Lawful.{rows_by}
 use Rattle.sw_set.specs.Shelf.{AreaState, logged_rows}
-use Rattle.sw_set.proofs.Logging.{area-removal}
-use Rattle.sw_set.proofs.Longer.{place-counted}
-use Rattle.sw_set.proofs.Ties.{tied-lacks, tied-removed}
+use Rattle.sw_set.proofs.Areas.Logging.{area-removal}
+use Rattle.sw_set.proofs.Areas.Longer.{place-counted}
+use Rattle.sw_set.proofs.Areas.Ties.{tied-lacks, tied-removed}
 use Rattle.sw_set.proofs.area.Area.log_removal.Goals as goal
 
 pub unreachable-requires : goal.unreachable-requires

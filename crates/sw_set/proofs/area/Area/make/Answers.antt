@@ -1,7 +1,7 @@
 use Rattle.std.proofs.Common.{map, sym, subst}
 use Rattle.sw_set.specs.Boxed.{IsFreshBut}
 use Rattle.sw_set.specs.Shelf.{AreaState}
-use Rattle.sw_set.proofs.Shelves.{area-set, tried-lawful, tried-leased, tried-fresh, tried-view}
+use Rattle.sw_set.proofs.Areas.Shelves.{area-set, tried-lawful, tried-leased, tried-fresh, tried-view}
 use Rattle.sw_set.proofs.area.Area.make.Goals as goal
 
 pub invariant_of-self : goal.invariant_of-self

@@ -1,5 +1,5 @@
 use Rattle.std.proofs.Common.{arith, ◌∙◌}
-use Rattle.sw_set.proofs.Removals.{none-waits}
+use Rattle.sw_set.proofs.Merging.Removals.{none-waits}
 use Rattle.sw_set.proofs.area.Area.merge.Goals as goal
 
 pub returns-then-removals_in-gt-MOST_REMOVALS_MERGED-clause-nothing :

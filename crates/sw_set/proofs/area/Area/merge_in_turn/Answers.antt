@@ -1,7 +1,7 @@
 use Rattle.std.proofs.Common.{◌-◌, length, drop, ap, sym, ◌∙◌, arith, vec_capacity, vec_len}
 use Rattle.sw_set.specs.Aligned.{IsStalled}
 use Rattle.sw_set.specs.Merged.{IsPartlyMerged, StandsForSame}
-use Rattle.sw_set.proofs.Merges.{partly-merged}
+use Rattle.sw_set.proofs.Merging.Merges.{partly-merged}
 use Rattle.sw_set.proofs.area.Area.merge_in_turn.Goals as goal
 
 stopped : (g : _) (c : goal.After-put_inbox-in-Err g) → IsPartlyMerged (IsStalled g.M.CrackerMap.stalls) c.args.self.now c.put_inbox-in-Err.new.self × StandsForSame c.args.self.now c.put_inbox-in-Err.new.self

@@ -1,6 +1,6 @@
 use Rattle.std.proofs.Common.{sym, ◌∙◌, rules}
-use Rattle.sw_set.proofs.Shelves.{area-new}
-use Rattle.sw_set.proofs.Ties.{tied-loaded}
+use Rattle.sw_set.proofs.Areas.Shelves.{area-new}
+use Rattle.sw_set.proofs.Areas.Ties.{tied-loaded}
 use Rattle.sw_set.proofs.area.Area.of.Goals as goal
 
 pub invariant_of-result : goal.invariant_of-result

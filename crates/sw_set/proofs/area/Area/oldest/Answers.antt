@@ -1,5 +1,5 @@
 use Rattle.std.proofs.Common.{◌≡◌, false}
-use Rattle.sw_set.proofs.Views.{any-at}
+use Rattle.sw_set.proofs.Areas.Views.{any-at}
 use Rattle.sw_set.proofs.area.Area.oldest.Goals as goal
 
 pub returns : goal.returns

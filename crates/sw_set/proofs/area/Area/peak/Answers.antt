@@ -1,5 +1,5 @@
 use Rattle.std.proofs.Common.{arith}
-use Rattle.sw_set.proofs.Noting.{peak-few}
+use Rattle.sw_set.proofs.Preparing.Noting.{peak-few}
 use Rattle.sw_set.proofs.area.Area.peak.Goals as goal
 
 pub returns-clause-few : goal.returns-clause-few

@@ -2,7 +2,7 @@ use Rattle.std.proofs.Common.{◌≡◌, ◌<◌, ◌≤◌, ◌∙◌, false, g
 use Rattle.std.proofs.lemmas.Int.{to_z-of_z}
 use Rattle.sw_map.specs.Held.{pairs_in}
 use Rattle.sw_kernel.specs.Arrangement.{joined}
-use Rattle.sw_set.proofs.Views.{any-at, all-own}
+use Rattle.sw_set.proofs.Areas.Views.{any-at, all-own}
 use Rattle.sw_set.proofs.area.Area.peek.Goals as goal
 
 pub returns-then-place-pairs_at : goal.returns-then-place-pairs_at

@@ -1,4 +1,4 @@
-use Rattle.sw_set.proofs.Views.{placed}
+use Rattle.sw_set.proofs.Areas.Views.{placed}
 use Rattle.sw_set.proofs.area.Area.place.Goals as goal
 
 pub returns-in-Some : goal.returns-in-Some

@@ -7,8 +7,8 @@ use Rattle.sw_kernel.specs.Arrangement.{joined}
 use Rattle.sw_map.specs.declared.tail.Tail.TheVariants.{Key}
 use Rattle.sw_map.specs.Lawful.{rows_by}
 use Rattle.sw_set.specs.Shelf.{AreaState, logged_rows}
-use Rattle.sw_set.proofs.Aligning.{at-aligned, at-head, at-place}
-use Rattle.sw_set.proofs.Ties.{tied-lacks, tied-row}
+use Rattle.sw_set.proofs.Areas.Aligning.{at-aligned, at-head, at-place}
+use Rattle.sw_set.proofs.Areas.Ties.{tied-lacks, tied-row}
 use Rattle.sw_set.proofs.area.Area.place_of.Goals as goal
 
 pub unreachable-requires : goal.unreachable-requires

@@ -1,6 +1,6 @@
 use Rattle.std.proofs.Common.{sym, subst}
 use Rattle.sw_set.specs.Shelf.{AreReceivable, AreaState, came_in, rows_in}
-use Rattle.sw_set.proofs.Shelves.{area-received}
+use Rattle.sw_set.proofs.Areas.Shelves.{area-received}
 use Rattle.sw_set.proofs.area.Area.receive.Goals as goal
 
 pub invariant_of-self : goal.invariant_of-self

@@ -4,10 +4,10 @@ use Rattle.sw_kernel.specs.Tapes.{brought}
 use Rattle.sw_tape.specs.Restart.{first_rows}
 use Rattle.sw_set.specs.Live.{live_among}
 use Rattle.sw_set.specs.Shelf.{AreReceivable, AreaState, logged_rows}
-use Rattle.sw_set.proofs.Longer.{logged-all}
-use Rattle.sw_set.proofs.Receiving.{receivable-less}
-use Rattle.sw_set.proofs.Restarts.{restarted-same}
-use Rattle.sw_set.proofs.Ties.{tied-after}
+use Rattle.sw_set.proofs.Areas.Longer.{logged-all}
+use Rattle.sw_set.proofs.Areas.Receiving.{receivable-less}
+use Rattle.sw_set.proofs.Merging.Restarts.{restarted-same}
+use Rattle.sw_set.proofs.Areas.Ties.{tied-after}
 use Rattle.sw_set.proofs.area.Area.restart.Goals as goal
 
 pub restart_with-requires-clause-receivable : goal.restart_with-requires-clause-receivable

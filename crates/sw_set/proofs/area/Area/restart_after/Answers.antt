@@ -4,9 +4,9 @@ use Rattle.sw_kernel.specs.Tapes.{brought}
 use Rattle.sw_tape.specs.Restart.{first_rows}
 use Rattle.sw_set.specs.Live.{live_among}
 use Rattle.sw_set.specs.Shelf.{AreReceivable, AreaState, Rises, came_then, key_of, lies_within, logged_rows}
-use Rattle.sw_set.proofs.After.{after-all, came-rise, rows-rise}
-use Rattle.sw_set.proofs.Longer.{logged-all}
-use Rattle.sw_set.proofs.Ties.{tied-after, tied-came}
+use Rattle.sw_set.proofs.Areas.After.{after-all, came-rise, rows-rise}
+use Rattle.sw_set.proofs.Areas.Longer.{logged-all}
+use Rattle.sw_set.proofs.Areas.Ties.{tied-after, tied-came}
 use Rattle.sw_set.proofs.area.Area.restart_after.Goals as goal
 
 pub after-requires-clause-rise : goal.after-requires-clause-rise

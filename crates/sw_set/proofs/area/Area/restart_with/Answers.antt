@@ -5,10 +5,10 @@ use Rattle.sw_map.specs.Held.{Held, blank}
 use Rattle.sw_tape.specs.Restart.{first_rows}
 use Rattle.sw_set.specs.Live.{live_among}
 use Rattle.sw_set.specs.Shelf.{AreReceivable, AreaState, Rises, key_of, lies_within}
-use Rattle.sw_set.proofs.Boxes.{held-all}
+use Rattle.sw_set.proofs.Areas.Boxes.{held-all}
 use Rattle.sw_table.proofs.LiveLaws.{kept-long}
-use Rattle.sw_set.proofs.Shelves.{area-begun, begun-shell, written}
-use Rattle.sw_set.proofs.Ties.{tied-loaded}
+use Rattle.sw_set.proofs.Areas.Shelves.{area-begun, begun-shell, written}
+use Rattle.sw_set.proofs.Areas.Ties.{tied-loaded}
 use Rattle.sw_set.proofs.area.Area.restart_with.Goals as goal
 
 pub invariant_of-self-2 : goal.invariant_of-self-2

@@ -1,4 +1,4 @@
-use Rattle.sw_set.proofs.Dropped.{shed-more, shed-none}
+use Rattle.sw_set.proofs.Areas.Dropped.{shed-more, shed-none}
 use Rattle.sw_set.proofs.area.Area.shed.Goals as goal
 
 pub loop-gone-init : goal.loop-gone-init

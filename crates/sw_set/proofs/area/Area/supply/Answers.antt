@@ -1,5 +1,5 @@
 use Rattle.std.proofs.Common.{arith}
-use Rattle.sw_set.proofs.Shelves.{area-more}
+use Rattle.sw_set.proofs.Areas.Shelves.{area-more}
 use Rattle.sw_set.proofs.area.Area.supply.Goals as goal
 
 pub invariant_of-self-2 : goal.invariant_of-self-2

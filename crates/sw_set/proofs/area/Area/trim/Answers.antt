@@ -1,6 +1,6 @@
 use Rattle.std.proofs.Common.{◌≡◌, ◌∙◌, List, map, length, ap, arith}
 use Rattle.std.proofs.lemmas.List.{length-map}
-use Rattle.sw_set.proofs.Shelves.{written}
+use Rattle.sw_set.proofs.Areas.Shelves.{written}
 use Rattle.sw_set.proofs.area.Area.trim.Goals as goal
 
 pub invariant_of-self : goal.invariant_of-self

@@ -1,0 +1,35 @@
+-- What looks at the map of a tail say of all boxes.
+use Rattle.std.proofs.Common.{◌≡◌, ◌≢◌, ℕ, ◌<◌, ◌⊎◌, inl, inr, false, true≢false, List, length, get_or, set, refl, sym, ◌∙◌, arith, subst, All, Any, MatchOption, Option, Some, None}
+use Rattle.std.proofs.Math.ListN.{length-set}
+use Rattle.sw_rows.specs.declared.bound.Bound.{Bound}
+use Rattle.sw_map.specs.declared.tail.Tail.{Tail}
+use Rattle.sw_map.specs.Held.{Held, blank, place_of}
+use Rattle.sw_set.specs.Shelf.{AreApart}
+use Rattle.sw_set.specs.Boxed.{IsCleared}
+use Rattle.sw_set.proofs.Areas.Boxes.{get_or_any, set-each}
+use Rattle.sw_set.proofs.Preparing.Ends.{only-place}
+
+-- what holds of the box at a place
+pub any-at : (ms : List Held) (at : ℕ) (P : Held → Type 0) → at < length ms → ((d : Held) → P (get_or ms at d)) → Any P ms
+any-at ms at P lt p = (at, get_or ms at blank, lt, get_or_any ms at (get_or ms at blank) blank lt, p blank)
+
+abbrev pub IsOwn : Tail → List Held → ℕ → Type 0
+IsOwn t ms at = (d : Held) → ((get_or ms at d).is_blank ≡ false) × ((get_or ms at d).tail ≡ t)
+
+-- what holds of the box of a tail holds of each box that has a map of that tail
+pub all-own : (ms : List Held) (at : ℕ) (t : Tail) (P : Held → Type 0) → AreApart ms → at < length ms → IsOwn t ms at → ((d : Held) → P (get_or ms at d)) → All (λ m. m.is_blank ≡ false → m.tail ≡ t → P m) ms
+all-own ms at t P apart lt own p k d l b e =
+    let here : k ≡ at = only-place ms k at d d apart l lt b (own d).0 (e ∙ sym (own d).1) in
+    subst (λ (j : ℕ). P (get_or ms j d)) (sym here) (p d)
+
+pub cleared-set : (ms : List Held) (at : ℕ) (t : Tail) → AreApart ms → at < length ms → IsOwn t ms at → IsCleared t ms (set ms at blank)
+unfolding AreApart
+cleared-set ms at t apart lt own = record {
+  many = length-set ms at blank;
+  gone = set-each (λ (j : ℕ) (v : Held). v.is_blank ≡ false → v.tail ≢ t) ms at blank (λ b. absurd (true≢false b)) (λ j e nj l b same. apart j at e e l lt nj b (own e).0 (same ∙ sym (own e).1));
+  kept = λ k d l. let s = length-set ms at blank in set-each (λ (j : ℕ) (v : Held). (v ≡ get_or ms j d) ⊎ ((v ≡ blank) × ((get_or ms j d).tail ≡ t))) ms at blank (inr (refl, (own d).1)) (λ j e nj lj. inl (get_or_any ms j e d lj)) k d (omega arith);
+}
+
+pub placed : (r : Option ℕ) (ms : List Held) (at : ℕ) (t : Tail) (b : Bound) → AreApart ms → at < length ms → IsOwn t ms at → ((d : Held) → r ≡ place_of b (get_or ms at d).pairs) → MatchOption r (All (λ m. m.is_blank ≡ false → m.tail ≡ t → place_of b m.pairs ≡ None) ms) (λ n. Any (λ m. (m.is_blank ≡ false) × (m.tail ≡ t) × (place_of b m.pairs ≡ Some n)) ms)
+placed None ms at t b apart lt own is = all-own ms at t (λ m. place_of b m.pairs ≡ None) apart lt own (λ d. sym (is d))
+placed (Some n) ms at t b apart lt own is = any-at ms at (λ m. (m.is_blank ≡ false) × (m.tail ≡ t) × (place_of b m.pairs ≡ Some n)) lt (λ d. ((own d).0, (own d).1, sym (is d)))

@@ -1,0 +1,6 @@
+pub mod Ends
+pub mod Needing
+pub mod Noting
+pub mod Ranges
+pub mod Tails
+pub mod Trying

@@ -1,0 +1,11 @@
+pub mod Answered
+pub mod Blocks
+pub mod Choosing
+pub mod Gathered
+pub mod KeyOrder
+pub mod Least
+pub mod Placed
+pub mod Refined
+pub mod Rowed
+pub mod Stock
+pub mod Told

@@ -1,0 +1,7 @@
+use Rattle.std.proofs.Common.{◌≡◌, false, Contains, MatchOption}
+use Rattle.sw_set.specs.Sought.{IsAt}
+use Rattle.sw_set.proofs.Areas.Picks.{Before}
+use Rattle.sw_set.proofs.area.pick.find_leased.Given as goal
+
+abbrev pub invariant-loop-at : goal.invariant-loop-at
+invariant-loop-at g l = MatchOption l.best (Before (λ (m : g.row.M.Denot). (g.M.CrackerMap.held m).is_blank ≡ false → Contains l.tails (g.M.CrackerMap.held m).tail) l.boxes l.at) (λ p. IsAt (λ (m : g.row.M.Denot). ((g.M.CrackerMap.held m).is_blank ≡ false) × ¬ Contains l.tails (g.M.CrackerMap.held m).tail) l.boxes p.0)

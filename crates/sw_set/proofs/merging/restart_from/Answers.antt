@@ -1,5 +1,0 @@
-use Rattle.sw_set.proofs.After.{receivable-take}
-use Rattle.sw_set.proofs.merging.restart_from.Goals as goal
-
-pub restart_after-requires-clause-receivable : goal.restart_after-requires-clause-receivable
-restart_after-requires-clause-receivable g c κs within = receivable-take _ _ _ _ _ _ _ c.requires.receivable

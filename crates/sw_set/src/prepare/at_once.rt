@@ -1,0 +1,136 @@
+//! Alignment of several maps at once.
+
+ghost use Rattle.std.specs.Prelude.{◌≡◌, ◌≤◌, false, length, map, All, MatchOption, IfSome};
+ghost use Rattle.sw_table.specs.declared.row.Row.{Row};
+ghost use Rattle.sw_kernel.specs.Replay.{Step};
+ghost use Rattle.sw_map.specs.Held.{KeysFit};
+ghost use Rattle.sw_map.specs.Lawful.{IsLawful};
+ghost use Rattle.sw_set.specs.Aligned.{AreSameMaps, HasRoomWhereNeeded, IsAtEnd, IsSteppedFrom, KeepMaps, MayBeAligned};
+ghost use Rattle.sw_rows.specs.Gives.{MemoryAside};
+ghost use Rattle.sw_set.specs.Sought.{AllAtCursor, IsAtCursor, IsBetween};
+
+use crate::prepare::align::{align_box, is_needed};
+use crate::prepare::lacking::lacks_much;
+use std::thread;
+use std::thread::Threads;
+use sw_map::{CrackerMap, Tail};
+use sw_rows::Refusal;
+use sw_tape::Tape;
+
+/// Steps the first boxes at once, each towards the tape's end, after the others one by one; a single one is stepped by
+/// the caller. A box whose step is refused stops at the cursor that it reached, and the others go on.
+fn step_first<R: Threads + Sync, M: CrackerMap>(
+    rt: &R,
+    attribute: u8,
+    boxes: &mut [M],
+    many: usize,
+    tails: &[Tail],
+    tape: &Tape,
+)
+    requires lawful { All (λ m. IsLawful attribute tape.now (M.held m)) boxes.old }
+    requires keys { All (λ (e : Step Row). KeysFit e) tape.now }
+    requires room { All (λ m. HasRoomWhereNeeded tails.now tape.now (M.held m)) boxes.old }
+    requires within { many ≤ length boxes.old }
+    ensures lawful { All (λ m. IsLawful attribute tape.now (M.held m)) boxes.new }
+    ensures many { length boxes.new ≡ length boxes.old }
+    ensures same { KeepMaps M.held boxes.old boxes.new }
+{
+    let (front, rest) = boxes.split_at_mut(many);
+    let step = |_: usize, it: &mut M|
+        requires { MayBeAligned attribute tape.now tails.now (M.held it.now) }
+        ensures { IsSteppedFrom attribute tape.entry.now (M.held it.entry.now) (M.held it.exit.now) }
+    {
+        let _ = align_box(attribute, it, tails, tape);
+    };
+    thread::for_each_mut(rt, rest, 1, &step);
+    thread::for_each_mut(rt, front, many.max(1), &step);
+}
+
+/// Whether a box has a needed map that lacks entries of a tape of this length.
+fn lacks<M: CrackerMap>(it: &M, tails: &[Tail], end: usize) -> bool
+    ensures { result ≡ false → IsAtCursor tails.now end (M.held it.now) }
+{
+    !it.is_blank() && is_needed(tails, it.tail()) && it.cursor() != end
+}
+
+/// The first box, from a place on, whose needed map lacks entries.
+pub(crate) fn find_lacking<M: CrackerMap>(
+    boxes: &[M],
+    from: usize,
+    tails: &[Tail],
+    end: usize,
+) -> Option<usize>
+    ensures { MatchOption result (AllAtCursor M.held from tails.now end boxes.now) (IsBetween from (length boxes.now)) }
+{
+    for at in from..boxes.len() {
+        if lacks(&boxes[at], tails, end) {
+            return Some(at);
+        }
+    }
+    None
+}
+
+/// The first box, from a place on, whose needed map lacks so much that a thread is worth its start.
+fn find_much<M: CrackerMap>(boxes: &[M], from: usize, tails: &[Tail], tape: &Tape) -> Option<usize>
+    ensures { IfSome result (IsBetween from (length boxes.now)) }
+{
+    for at in from..boxes.len() {
+        if lacks(&boxes[at], tails, tape.len()) && lacks_much(&boxes[at], tape) {
+            return Some(at);
+        }
+    }
+    None
+}
+
+/// Brings the boxes that lack much to the front, from the place `done` on, steps all that are there at once and the
+/// others one after the other, and puts each back at its place.
+fn step_lacking<R: Threads + Sync, M: CrackerMap>(
+    rt: &R,
+    attribute: u8,
+    boxes: &mut [M],
+    done: usize,
+    from: usize,
+    tails: &[Tail],
+    tape: &Tape,
+)
+    requires lawful { All (λ m. IsLawful attribute tape.now (M.held m)) boxes.old }
+    requires keys { All (λ (e : Step Row). KeysFit e) tape.now }
+    requires room { All (λ m. HasRoomWhereNeeded tails.now tape.now (M.held m)) boxes.old }
+    requires done { done ≤ from }
+    requires within { from ≤ length boxes.old }
+    ensures lawful { All (λ m. IsLawful attribute tape.now (M.held m)) boxes.new }
+    ensures many { length boxes.new ≡ length boxes.old }
+    ensures same { KeepMaps M.held boxes.old boxes.new }
+{
+    match find_much(boxes, from, tails, tape) {
+        None => step_first(rt, attribute, boxes, done, tails, tape),
+        Some(at) => {
+            boxes.swap(done, at);
+            step_lacking(rt, attribute, boxes, done + 1, at + 1, tails, tape);
+            boxes.swap(done, at);
+        }
+    }
+}
+
+/// Steps every box that has a needed map to the tape's end, those that lack much at once. Refused `NoMemory`, a box whose
+/// step was refused stands at the cursor that it reached, and all others at the end.
+pub fn align_at_once<R: Threads + Sync, M: CrackerMap>(
+    rt: &R,
+    attribute: u8,
+    boxes: &mut [M],
+    tails: &[Tail],
+    tape: &Tape,
+) -> Result<(), Refusal>
+    requires lawful { All (λ m. IsLawful attribute tape.now (M.held m)) boxes.old }
+    requires keys { All (λ (e : Step Row). KeysFit e) tape.now }
+    requires room { All (λ m. HasRoomWhereNeeded tails.now tape.now (M.held m)) boxes.old }
+    ensures lawful { All (IsLawful attribute tape.now) (map M.held boxes.new) }
+    ensures same { AreSameMaps (map M.held boxes.old) (map M.held boxes.new) }
+    ensures ends { MemoryAside result (λ _. All (IsAtEnd tails.now tape.now) (map M.held boxes.new)) }
+{
+    step_lacking(rt, attribute, boxes, 0, 0, tails, tape);
+    match find_lacking(boxes, 0, tails, tape.len()) {
+        None => Ok(()),
+        Some(_) => Err(Refusal::NoMemory),
+    }
+}

@@ -1,0 +1,52 @@
+//! Alignment of several maps in turn: no thread is started, and none is linked.
+
+ghost use Rattle.std.specs.Prelude.{◌≡◌, length, map, All};
+ghost use Rattle.sw_table.specs.declared.row.Row.{Row};
+ghost use Rattle.sw_kernel.specs.Replay.{Step};
+ghost use Rattle.sw_map.specs.Held.{KeysFit};
+ghost use Rattle.sw_map.specs.Lawful.{IsLawful};
+ghost use Rattle.sw_set.specs.Aligned.{AreSameMaps, HasRoomWhereNeeded, IsAtEnd, KeepMaps};
+ghost use Rattle.sw_rows.specs.Gives.{MemoryAside};
+
+use crate::prepare::align::align_box;
+use crate::prepare::at_once::find_lacking;
+use sw_map::{CrackerMap, Tail};
+use sw_rows::Refusal;
+use sw_tape::Tape;
+
+/// Steps the boxes one by one, each towards the tape's end. A box whose step is refused stops at the cursor that it
+/// reached, and the others go on.
+fn step_in_turn<M: CrackerMap>(attribute: u8, boxes: &mut [M], tails: &[Tail], tape: &Tape)
+    requires lawful { All (λ m. IsLawful attribute tape.now (M.held m)) boxes.old }
+    requires keys { All (λ (e : Step Row). KeysFit e) tape.now }
+    requires room { All (λ m. HasRoomWhereNeeded tails.now tape.now (M.held m)) boxes.old }
+    ensures lawful { All (λ m. IsLawful attribute tape.now (M.held m)) boxes.new }
+    ensures many { length boxes.new ≡ length boxes.old }
+    ensures same { KeepMaps M.held boxes.old boxes.new }
+{
+    for at in 0..boxes.len() {
+        let _ = align_box(attribute, &mut boxes[at], tails, tape);
+    }
+}
+
+/// Steps every box that has a needed map to the tape's end, one after the other. Refused `NoMemory`, a box whose step was
+/// refused stands at the cursor that it reached, and all others at the end.
+pub fn align_in_turn<M: CrackerMap>(
+    attribute: u8,
+    boxes: &mut [M],
+    tails: &[Tail],
+    tape: &Tape,
+) -> Result<(), Refusal>
+    requires lawful { All (λ m. IsLawful attribute tape.now (M.held m)) boxes.old }
+    requires keys { All (λ (e : Step Row). KeysFit e) tape.now }
+    requires room { All (λ m. HasRoomWhereNeeded tails.now tape.now (M.held m)) boxes.old }
+    ensures lawful { All (IsLawful attribute tape.now) (map M.held boxes.new) }
+    ensures same { AreSameMaps (map M.held boxes.old) (map M.held boxes.new) }
+    ensures ends { MemoryAside result (λ _. All (IsAtEnd tails.now tape.now) (map M.held boxes.new)) }
+{
+    step_in_turn(attribute, boxes, tails, tape);
+    match find_lacking(boxes, 0, tails, tape.len()) {
+        None => Ok(()),
+        Some(_) => Err(Refusal::NoMemory),
+    }
+}
