@@ -52,12 +52,8 @@ pub record Served {A : Type 0} (old new : Option (List ℕ)) (f g : ℕ) (result
 abbrev pub told_in : Ended → List (List Outcome)
 told_in e = blocks_told e.blocks.items e.told.items
 
--- the lines of it
-abbrev pub lines_of : Ended → List ℕ
-lines_of e = text_of e.history.columns (told_in e)
-
 -- the sink took the lines of what came of the blocks, and the record is answered; or it failed, and took a beginning
 abbrev pub SendsLines : SinkSeen → Ended → Result History Refusal → Type 0
 SendsLines w e result =
-    Served w.taken_before w.taken_after w.failed_before w.failed_after result (lines_of e) ×
+    Served w.taken_before w.taken_after w.failed_before w.failed_after result (text_of e.history.columns (told_in e)) ×
     IfOk result (λ h. h ≡ e.history)

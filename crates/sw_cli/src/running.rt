@@ -4,13 +4,12 @@ ghost use Rattle.std.specs.Prelude.{◌≡◌, ◌<◌, ◌≤◌, [], All, IfOk
 ghost use Rattle.sw_map.specs.Held.{blank};
 ghost use Rattle.sw_rows.specs.declared.refusal.Refusal.TheVariants.{NoMemory};
 ghost use Rattle.sw_rows.specs.declared.table.TheConstants.{MOST_ROWS};
-ghost use Rattle.sw_lang.specs.Sinks.{Wrote};
 ghost use Rattle.sw_versions.specs.Pending.{IsPlain};
 ghost use Rattle.sw_cli.specs.declared.buffered.TheConstants.{BLOCK};
 ghost use Rattle.sw_cli.specs.Answers.{RunAnswers};
 ghost use Rattle.sw_cli.specs.Outcomes.{AllSayWhy};
 ghost use Rattle.sw_cli.specs.Run.{IsRecordOf};
-ghost use Rattle.sw_cli.specs.Served.{SendsLines, lines_of, told_in};
+ghost use Rattle.sw_cli.specs.Served.{SendsLines, told_in};
 ghost use Rattle.sw_cli.specs.Sides.{sink_by, source_by};
 ghost use Rattle.sw_cli.specs.Starts.{Goes, IsStart, start_seen};
 
@@ -19,7 +18,6 @@ use crate::ended::Ended;
 use crate::looking_on::{Nobody, Onlooker};
 use crate::serving::serve;
 use crate::start::{Inputs, read_start};
-use crate::telling::write_blocks;
 use crate::turning::{Ground, make_in_turn};
 use core::mem::replace_with;
 use left_right::Absorb;
@@ -55,19 +53,7 @@ struct Outgoing {
     ghost room: { BLOCK ≤ vec_capacity memory },
 }
 
-/// Writes the lines of what came of blocks.
-fn write_ended<W: Sink>(ended: &Ended, out: &mut W) -> Result<(), Refusal>
-    ensures { Wrote W.taken W.failed out.old out.new result (lines_of ended.now) }
-{
-    write_blocks(
-        &ended.history.schema,
-        ended.blocks.as_slice(),
-        ended.told.as_slice(),
-        out,
-    )
-}
-
-/// The same through a block of bytes before a sink, which is handed back.
+/// Writes the lines of what came of blocks through a block of bytes before a sink, and hands the sink back.
 fn write_since<B: Base, W: Sink>(sink: W, outgoing: Outgoing) -> (W, Result<Record, Refusal>)
     requires { B.base ≡ W.taken sink }
     ensures { SendsLines (sink_by W.taken W.failed sink result.0)
@@ -75,7 +61,7 @@ fn write_since<B: Base, W: Sink>(sink: W, outgoing: Outgoing) -> (W, Result<Reco
 {
     let Outgoing { memory, ended } = outgoing;
     let mut buffered: Buffered<B, W> = Buffered::new(memory, sink);
-    let written = write_ended(&ended, &mut buffered);
+    let written = ended.write(&mut buffered);
     let (sink, sent) = buffered.end(written);
     match sent {
         Ok(()) => (sink, Ok(ended.into_history())),
