@@ -1,7 +1,7 @@
 #!/usr/bin/env python3
 """A run of CALLS selects over four rows, whose lines go out as calls are answered, beside the same with `--threads`, whose lines go out when
-all have ended. By turns; prints the medians of the seconds, the greatest memory, and the seconds until a reader like `head -1` has its line
-and until the run has ended then.
+all have ended. By turns; prints the medians of the seconds by the clock and of processors, the greatest memory, and the seconds until a reader
+like `head -1` has its line, with what the run spends that ends then.
 
     python3 bench/run/lines.py [--program crates/sideways/out/sideways] [--calls 1000000] [--rounds 3]
 
@@ -36,6 +36,12 @@ def first(words):
     return taken, spent
 
 
+def middle(spent):
+    """The medians of the seconds and the processor's, and the greatest memory in MB."""
+    return (statistics.median(one.seconds for one in spent), statistics.median(one.processor for one in spent),
+            max(one.kilobytes for one in spent) * 1024 // 10**6)
+
+
 def main():
     parser = argparse.ArgumentParser(description=__doc__, formatter_class=argparse.RawDescriptionHelpFormatter)
     parser.add_argument("--program", default=TOP / "crates/sideways/out/sideways")
@@ -54,9 +60,8 @@ def main():
         sys.exit("the sides write different lines")
     for name, _, found in sides:
         spent, _, taken, left = zip(*found)
-        print("%-12s %.2f s, %d MB; one line after %.2f s, and the end after %.2f s, %d MB" % (
-            name, statistics.median(s.seconds for s in spent), max(s.kilobytes for s in spent) * 1024 // 10**6,
-            statistics.median(taken), statistics.median(s.seconds for s in left), max(s.kilobytes for s in left) * 1024 // 10**6))
+        print("%-12s %.2f s, %.2f of processors, %d MB; one line after %.2f s, and the end after %.2f s, %.2f of processors, %d MB" % (
+            name, *middle(spent), statistics.median(taken), *middle(left)))
 
 
 if __name__ == "__main__":

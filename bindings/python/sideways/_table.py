@@ -6,7 +6,7 @@ import os
 import threading
 from collections.abc import Mapping
 from decimal import Decimal
-from typing import Any, Dict, List, Optional, Sequence, Union
+from typing import TYPE_CHECKING, Any, Dict, List, Optional, Sequence, Union
 
 import numpy
 
@@ -16,6 +16,9 @@ from ._columns import Given, as_array, as_cells, one_length
 from ._errors import Error, Full, answered, refusal
 from ._kinds import NAMES, array_of, cell_of, number_cells, value_of
 from ._where import Conds
+
+if TYPE_CHECKING:
+    import pandas
 
 Number = Union[int, Decimal]
 
@@ -177,7 +180,9 @@ class Session:
             found[name] = engine.values(kind, cells)
         return found
 
-    def to_pandas(self, columns: Union[str, Sequence[str], None] = None, /, where: Optional[str] = None, **ranges: Any):
+    def to_pandas(
+        self, columns: Union[str, Sequence[str], None] = None, /, where: Optional[str] = None, **ranges: Any
+    ) -> "pandas.DataFrame":
         """As `select`, but as a pandas DataFrame, whose index has the rows' keys."""
         import pandas
 
@@ -363,10 +368,7 @@ class Table(Session):
             OSError: the file cannot be read.
             BadTable: a field of the header or a row is none; it tells which.
         """
-        data = table
-        if not isinstance(table, (bytes, bytearray, memoryview)):
-            with open(table, "rb") as file:
-                data = file.read()
+        data = _read(table) if isinstance(table, (str, os.PathLike)) else table
         at, kept = border.address_of(data)
         handle = border.Handle()
         code = lib.sideways_open(at, len(kept), *_cuts(cuts), _options(limit, budget, maps), handle)
@@ -408,7 +410,7 @@ class Table(Session):
         return cls._opened(handle)
 
     @classmethod
-    def from_pandas(cls, frame, **options: Any) -> "Table":
+    def from_pandas(cls, frame: "pandas.DataFrame", **options: Any) -> "Table":
         """Opens a table over the columns of a pandas DataFrame; its index is passed by. The options are those of `from_columns`."""
         for name in frame.columns:
             if not isinstance(name, str):
@@ -458,6 +460,17 @@ def _word(what: str, number: int) -> int:
     if not 0 <= number < 1 << 64:
         raise ValueError(f"{what} is a whole number from 0 on, of 64 bits, not {number}")
     return number
+
+
+def _read(path: Union[str, os.PathLike]) -> bytes:
+    """The bytes of a file; of what is the text of a table rather than a path it is told that."""
+    try:
+        with open(path, "rb") as file:
+            return file.read()
+    except OSError:
+        if "\n" in str(path):
+            raise ValueError("a str is the path of a file here; the text of a table is given as bytes, as by .encode()") from None
+        raise
 
 
 def _fault(function, *table) -> str:
