@@ -413,8 +413,10 @@ class Tables(unittest.TestCase):
         for text, place in ((b"a,b:real\n", "column 2 of the header"), (b"a,b\n1,2\n3,x\n", "column 2 of row 2")):
             with self.assertRaisesRegex(sideways.BadTable, place):
                 Table.from_csv(text)
-        with self.assertRaisesRegex(sideways.BadTable, "column 2 of the header"):
+        with self.assertRaisesRegex(sideways.BadTable, "'where' is a word of the language"):
             Table.from_columns({"a": [1], "where": [2]})
+        with self.assertRaisesRegex(sideways.BadTable, "no header"):
+            Table.from_csv(b"")
         for options in ({"limit": 0}, {"limit": 2**20 + 1}, {"maps": 4097}, {"budget": 2**41}, {"cuts": "x"}, {"maps": -1}, {"budget": 2**64}):
             with self.subTest(options=options), self.assertRaises((sideways.Error, ValueError)):
                 Table.from_csv(b"a\n1\n", **options)

@@ -12,7 +12,7 @@ import numpy
 
 from . import _border as border
 from ._border import BAD_CELL, BAD_LINE, BAD_TABLE, MAPS, MOST_CELLS, MOST_ROWS, TEXT, TOO_MANY, UNKNOWN_ATTRIBUTE, lib
-from ._columns import Given, as_array, as_cells, one_length
+from ._columns import Given, as_array, as_cells, check_mapping, one_length
 from ._errors import Error, Full, answered, refusal
 from ._kinds import NAMES, array_of, cell_of, number_cells, value_of
 from ._where import Conds
@@ -158,6 +158,8 @@ class Session:
     def _shown(self, function, code_of, columns, where, ranges) -> Dict[str, numpy.ndarray]:
         engine = self._engine
         names = [columns] if isinstance(columns, str) else list(engine.attributes if columns is None else dict.fromkeys(columns))
+        if not names:
+            raise refusal(102, "no attribute was asked for")
         with engine.lock:
             conds = self._conds(where, ranges, code_of)
             asked = [conds.place(name) for name in names]
@@ -261,6 +263,8 @@ class Session:
         A line of blanks, or one that begins with `#`, has no call, and its reply is empty. The exception for a line that is no call
         tells where it is wrong, and what could stand there.
         """
+        if not isinstance(line, str):
+            raise TypeError(f"a line is a str, not {type(line).__name__}")
         data, handle = line.encode("utf-8"), self._engine.handle
         with self._engine.lock:
             code = lib.sideways_exec(handle, self.number, data, len(data))
@@ -307,6 +311,7 @@ class Session:
         return value_of(kind, least.value) if made and least.found else None
 
     def _in_order(self, given: Mapping) -> List[Any]:
+        check_mapping(given)
         for name in given:
             if name not in self._engine.attributes:
                 raise refusal(4, f"{name!r} is none of {', '.join(self._engine.attributes)}")
@@ -400,8 +405,7 @@ class Table(Session):
             texts: further texts that the table knows from the start; one of the columns is of texts then.
             cuts, limit, budget, maps: as of `from_csv`.
         """
-        if not isinstance(columns, Mapping) and not hasattr(columns, "items"):
-            raise TypeError(f"wanted a mapping of names to columns, not {type(columns).__name__}")
+        check_mapping(columns)
         given, handle = Given(columns, kinds, texts), border.Handle()
         code = lib.sideways_open_columns(given.table, *_cuts(cuts), _options(limit, budget, maps), handle)
         if code == BAD_TABLE:
@@ -412,6 +416,8 @@ class Table(Session):
     @classmethod
     def from_pandas(cls, frame: "pandas.DataFrame", **options: Any) -> "Table":
         """Opens a table over the columns of a pandas DataFrame; its index is passed by. The options are those of `from_columns`."""
+        if not hasattr(frame, "columns"):
+            raise TypeError(f"wanted a DataFrame, not {type(frame).__name__}")
         for name in frame.columns:
             if not isinstance(name, str):
                 raise TypeError(f"the column {name!r} has no name that is a text")
@@ -477,8 +483,11 @@ def _fault(function, *table) -> str:
     """Where a table is none, in words."""
     place = border.Place()
     function(*table, place)
-    row = f"row {place.row}" if place.row else "the header"
-    return f"column {place.column} of {row} is none of a table"
+    if not place.column:
+        return "there is no header"
+    if place.row:
+        return f"column {place.column} of row {place.row} is no cell of its kind, or is missing or beyond the last"
+    return f"column {place.column} of the header is no attribute: a name of its own, and perhaps a kind, as in price:fix2"
 
 
 def _options(limit: int, budget: int, maps: int) -> border.Options:
