@@ -47,10 +47,9 @@ bring() {
   if [ -n "${STANDS:-}" ]; then
     mkdir -p "$to/out"
     cp -rp "$top/crates/$1"/[!o]* "$to/"
-    if [ -d "$top/crates/$1/out/rlib" ]; then
-      cp -al "$top/crates/$1/out/rlib" "$to/out/rlib" 2> /dev/null || cp -rp "$top/crates/$1/out/rlib" "$to/out/"
-      rm -f "$to/out/rlib/stamp"
-    fi
+    [ -d "$top/crates/$1/out/rlib/$1.rlib" ] || { echo "$1 has no library here: run rt ci"; exit 1; }
+    cp -al "$top/crates/$1/out/rlib" "$to/out/rlib" 2> /dev/null || cp -rp "$top/crates/$1/out/rlib" "$to/out/"
+    rm -f "$to/out/rlib/stamp"
   else
     cp -rp "$top/crates/$1" "$work/crates/"
   fi

@@ -18,7 +18,7 @@ OLD = b"what stood there"
 VALUES = b"name,n\n%s,2\nb,3\n" % (b"long" * 20)
 LOG = b"session,start,end,call,reply\n1,0,1,count,4\n"
 NO_OUTPUT = b"sideways: refused 13\n"
-KILLS, MEMORIES, EARLY_CALLS = 150, 40, 10_000
+KILLS, MEMORIES, EARLY_CALLS = 150, 40, 2000
 
 
 def unwritten(name, why="it cannot be written"):
@@ -81,7 +81,8 @@ class Ends:
         self.put("long.txt", SCRIPT * 6000)
         words = ["run", "--table", "t.csv", "--script", "long.txt", "--history", "h.json"]
         began = time.time()
-        self.held("a long run", 0, self.call(words)[0])
+        status, whole, _ = self.call(words)
+        self.held("a long run", 0, status)
         lasts, new, beside, kinds = time.time() - began, self.take("h.json"), 0, set()
         for at in range(KILLS):
             self.put("h.json", OLD)
@@ -92,10 +93,11 @@ class Ends:
                 except subprocess.TimeoutExpired:
                     child.kill()
                 child.wait()
-            kept = self.bytes_of("h.json")
+            kept, went = self.bytes_of("h.json"), self.bytes_of("out")
             kinds.add(kept)
             beside += len(self.begun())
             self.held("the history after a kill at %d of %d" % (at, KILLS), True, kept in (OLD, new))
+            self.held("the replies before it", True, whole.startswith(went) and (kept == OLD or went == whole))
         self.held("both histories are left by some kills", {OLD, new}, kinds)
         print("  beside the history %d of %d kills left what was begun" % (beside, KILLS))
 
@@ -106,21 +108,57 @@ class Ends:
         self.held("a run with its memory", 0, self.call(words)[0])
         new, refused = self.take("h.json"), 0
         for step in range(MEMORIES):
-            # In 4 MiB the system cannot load the program.
+            # In 4 MiB the system cannot load the program, and ends it with status 127.
             most = (5 + step) << 20
             self.put("h.json", OLD)
-            status, _, told = self.call(words, preexec_fn=lambda: resource.setrlimit(resource.RLIMIT_AS, (most, most)))
+            status, out, told = self.call(words, preexec_fn=lambda: resource.setrlimit(resource.RLIMIT_AS, (most, most)))
             # Under a call that was refused the history is another one, which is whole.
             answered = status == 0 or told == b""
-            kept = self.bytes_of("h.json")
+            kept, lines = self.bytes_of("h.json"), out.split(b"\n")
             refused += not answered
+            calls = sum(line in (b"4", b"(3 rows)", b"refused 1") for line in lines)
+            self.held("the replies within %d MiB" % (most >> 20), True, calls == 6000 or (out == b"" and not answered))
             if answered:
+                self.held("its status", 3 if b"refused 1" in lines else 0, status)
                 self.held("a history within %d MiB" % (most >> 20), (0, b"legal"), self.verdict("h.json"))
             else:
+                is_told = status == 3 and told.startswith(b"sideways: refused 1\n")
+                self.held("what is told within %d MiB" % (most >> 20), True, is_told or (status == 127 and out == b""))
                 self.held("the history within %d MiB" % (most >> 20), OLD, kept)
             self.held("what is begun within %d MiB" % (most >> 20), [], self.begun())
         self.held("the last one is the whole history", new, self.take("h.json"))
         self.held("some runs are refused", True, refused > 0)
+
+    def refused_inputs(self):
+        """What is refused before any call: nothing goes out, and the history that was there stands."""
+        self.put("short.csv", b"a,b\n1,2\n3\n")
+        self.put("word.txt", b"count\nfetch\n")
+        table, script = ["--table", "t.csv"], ["--script", "s.txt"]
+        for name, words, line in (("a command line", table + script + ["--fast"], b"error: "),
+                                  ("a table", ["--table", "short.csv"] + script, b"sideways: refused 2 record 2 field 2\n"),
+                                  ("a table that is not there", ["--table", "none.csv"] + script, b"sideways: refused 12\n"),
+                                  ("a script", table + ["--script", "word.txt"], b"sideways: refused 3 line 2 why Word\n"),
+                                  ("cuts", table + script + ["--cuts", "d=1"], b"sideways: refused 4 name d\n"),
+                                  ("rows past the limit", table + script + ["--limit", "3"], b"sideways: refused 5 limit 3\n")):
+            for more in ([], ["--threads"]):
+                self.put("h.json", OLD)
+                status, out, told = self.call(["run"] + words + more + ["--history", "h.json"])
+                self.held("%s that is refused" % name, (2, b"", True), (status, out, told.startswith(line)))
+                self.held("the history of a run that was refused", (OLD, []), (self.take("h.json"), self.begun()))
+
+    def lost_replies(self):
+        """Replies that cannot be written: the history that was there stands."""
+        for more in ([], ["--threads"]):
+            for why in ("it cannot be written", "its reader is gone"):
+                reader, writer = os.pipe()
+                os.close(reader)
+                self.put("h.json", OLD)
+                with open("/dev/full" if why.startswith("it ") else writer, "wb") as out:
+                    got = self.call(self.run + more + ["--history", "h.json"], stdout=out)
+                if why.startswith("it "):
+                    os.close(writer)
+                self.held("replies, %s" % why, (3, unwritten("standard output", why)), got[::2])
+                self.held("the history of a run whose replies were lost", (OLD, []), (self.take("h.json"), self.begun()))
 
     def verdict(self, name):
         status, out, _ = self.call(["check", name])
@@ -320,32 +358,40 @@ class Ends:
 
     # Lines that go out as calls are answered
 
-    def spent(self, words, lines):
-        """The status, what was told, the processor's seconds and the most KiB of memory of a run whose reader takes so many lines, or all."""
-        child = subprocess.Popen([self.program] + words, cwd=self.folder, stdout=subprocess.PIPE, stderr=subprocess.PIPE)
-        for line in child.stdout:
-            lines -= 1
-            if lines == 0:
-                break
-        child.stdout.close()
-        told = child.stderr.read()
-        _, status, used = os.wait4(child.pid, 0)
-        child.returncode = os.waitstatus_to_exitcode(status)
-        return child.returncode, told, used.ru_utime + used.ru_stime, used.ru_maxrss
+    def spent(self, words, lines=None):
+        """A run whose reader takes so many lines, or all: its status, what was told, how many bytes went out, and the most KiB of memory."""
+        child = [sys.executable, "-S", "-c", MEASURED, str(self.folder / "memory"), self.program] + words
+        with open(self.folder / "told", "wb") as told:
+            run = subprocess.Popen(child, cwd=self.folder, stdin=subprocess.DEVNULL, stdout=subprocess.PIPE, stderr=told)
+        parts = iter(lambda: run.stdout.read(1 << 16), b"") if lines is None else (run.stdout.readline() for _ in range(lines))
+        taken = sum(len(part) for part in parts)
+        run.stdout.close()
+        return run.wait(), self.take("told"), taken, int(self.take("memory"))
 
     def early_lines(self):
-        """A reader that takes one line ends a run long before its last call; and a run in turn keeps no second copy of its replies."""
-        self.put("rows.csv", b"a,b\n" + b"".join(b"%d,%d\n" % (at, at % 7) for at in range(100)))
-        self.put("rows.txt", b"select a, b where a >= 0\n" * EARLY_CALLS)
-        words = ["run", "--table", "rows.csv", "--script", "rows.txt"]
-        whole, first, threads = self.spent(words, 0), self.spent(words, 1), self.spent(words + ["--threads"], 0)
-        self.held("all lines", [(0, b"")] * 2, [whole[:2], threads[:2]])
-        self.held("one line", (3, NO_OUTPUT + b"standard output: its reader is gone\n"), first[:2])
-        self.held("the time until one line is taken, beside that of all", True, first[2] < whole[2] * 0.8)
-        self.held("the memory until one line is taken, beside that of all", True, first[3] < whole[3] * 0.9)
-        self.held("the memory in turn, beside that with threads", True, whole[3] < threads[3] * 0.95)
-        print("  one line: %.2f of %.2f s, %d of %d MiB; with threads %d MiB"
-              % (first[2], whole[2], first[3] >> 10, whole[3] >> 10, threads[3] >> 10))
+        """A reader that takes one line ends a run at its first calls; and a run in turn keeps no second copy of its replies, nor their text.
+        With threads lines go out when all calls are made, and replies stand twice: what that takes is what is held against."""
+        self.put("rows.csv", b"a:text,b:text,c:text,d:text\n" + b"".join(b",".join([b"%064d" % at] * 4) + b"\n" for at in range(100)))
+        words = ["run", "--table", "rows.csv", "--script", "rows.txt", "--quiet"]
+        sides, grown, text, made = ([], ["--threads"]), [0, 0], 0, []
+        for calls in (EARLY_CALLS, 2 * EARLY_CALLS):
+            self.put("rows.txt", b"select a, b, c, d\n" * calls)
+            for side, more in enumerate(sides):
+                status, told, taken, most = self.spent(words + more)
+                self.held("all lines", (0, b""), (status, told))
+                grown[side] = most - grown[side]
+            text = taken - text
+        for more in sides:
+            status, told, _, _ = self.spent(words + ["--times"] + more, 1)
+            self.held("one line", (3, True), (status, told.endswith(NO_OUTPUT + b"standard output: its reader is gone\n")))
+            made.append(told.count(b"\n") - 2)
+        text >>= 10
+        print("  one line: %d of %d calls made, with threads %d; %d calls more have %d MiB of lines, and %.1f MiB of memory, with threads %.1f MiB"
+              % (made[0], calls, made[1], EARLY_CALLS, text >> 10, grown[0] / 1024, grown[1] / 1024))
+        self.held("with threads all calls are made before the first line", calls, made[1])
+        self.held("in turn few are", True, made[0] < calls / 20)
+        self.held("the lines do not stand in memory", True, grown[0] < text / 2)
+        self.held("the replies do not stand there twice", True, grown[0] < grown[1] * 0.75)
 
     # An answer that is not proved
 
@@ -383,6 +429,19 @@ class Ends:
         self.held("a source that is newer", True, self.call(self.run, script, **more)[2].startswith(line))
 
 
+# Runs a program and writes its most KiB of memory to a file. The system begins that figure with the most of the process that
+# starts a program, so a small one stands between.
+MEASURED = """
+import os, sys
+child = os.fork()
+if child == 0:
+    os.execv(sys.argv[2], sys.argv[2:])
+_, status, used = os.wait4(child, 0)
+with open(sys.argv[1], "w") as out:
+    out.write(str(used.ru_maxrss))
+sys.exit(os.waitstatus_to_exitcode(status))
+"""
+
 # Runs the program as `rt try` does: what it says itself comes after what the program told.
 STAND_IN = """#!/bin/sh
 [ "$1" = try ] && [ "$2" = -- ] || exit 9
@@ -407,8 +466,9 @@ def main():
     began = time.time()
     with tempfile.TemporaryDirectory() as folder:
         ends = Ends(program, folder)
-        for what in (ends.killed_runs, ends.wanting_memory, ends.full_disks, ends.other_writers, ends.in_place_of, ends.may_not_write,
-                     ends.other_files, ends.other_lists, ends.size_limits, ends.small_stacks, ends.early_lines, ends.unproved):
+        for what in (ends.refused_inputs, ends.lost_replies, ends.killed_runs, ends.wanting_memory, ends.full_disks, ends.other_writers,
+                     ends.in_place_of, ends.may_not_write, ends.other_files, ends.other_lists, ends.size_limits, ends.small_stacks,
+                     ends.early_lines, ends.unproved):
             before = ends.cases
             try:
                 what()

@@ -126,6 +126,10 @@ class Cases:
         refused("a quote that is not closed", b'a,b\n"x,1\n2,3\n', "line 2: 1 fields, and the header has 2; " + ragged)
         refused("Latin-1", b"name,n\nJos\xe9,1\n", "texts that are not UTF-8: 1 in column 1 (name), the first in line 2; iconv -f LATIN1 -t UTF-8 makes UTF-8 "
                 "of a file in Latin-1")
+        for mark, coding in ((b"\xff\xfe", "utf-16-le"), (b"\xfe\xff", "utf-16-be")):
+            got = self.case("UTF-16", ["import", "-"], 2, "", ANY, mark + "a,b\n1,2\n".encode(coding))
+            if not got[2].endswith("; the file begins as one in UTF-16 does, of which iconv -f UTF-16 -t UTF-8 makes UTF-8\n"):
+                raise Wrong("WRONG: UTF-16 is not told: %r" % got[2])
         refused("more columns than eight", wide, "more than 8 columns are asked for, and a table has at most 8",
                 ["--columns", "1,2,3,4,5,6,7,8,9"])
 

@@ -6,12 +6,14 @@
 Prints a line for each search: the seconds of its processor time and of the clock, the memory that it held at most, its
 status; then, for each kind of wrong log, how often the call that is named is the one that was made wrong or one that shows
 it, up to the first that no order has."""
-import argparse, os, subprocess, sys, tempfile, time
+import argparse, subprocess, sys, tempfile
 from pathlib import Path
 
 import making
 
 TOP = Path(__file__).resolve().parent.parent.parent
+sys.path.insert(0, str(TOP / "bench"))
+from timed import Begun
 
 # sessions, calls of each, rows, the share of its time that a session spends in calls, the width of ranges; seconds, megabytes
 PARTS = {
@@ -24,13 +26,9 @@ PARTS = {
 def order(program, folder, logs, flags=()):
     """Runs `order` over logs; answers its status, standard error, seconds of processor time and of the clock, and megabytes."""
     words = [str(program), "order", "--table", str(folder / "t.csv"), "--where", str(folder / "where.csv"), *flags, *map(str, logs)]
-    began = time.time()
     with open(folder / "h.json", "wb") as out, open(folder / "errors", "wb") as errors:
-        running = subprocess.Popen(words, stdout=out, stderr=errors)
-        _, status, used = os.wait4(running.pid, 0)
-        running.returncode = os.waitstatus_to_exitcode(status)
-    told = (folder / "errors").read_text()
-    return running.returncode, told, used.ru_utime + used.ru_stime, time.time() - began, used.ru_maxrss / 1024
+        spent = Begun(words, stdout=out, stderr=errors).ended()
+    return spent.status, (folder / "errors").read_text(), spent.processor, spent.seconds, spent.kilobytes / 1024
 
 
 def checked(program, folder):

@@ -1,9 +1,8 @@
 -- What the shelf under the lock has of the history's updates, and what the sessions' shares show of it.
-use Rattle.std.specs.Prelude.{ℕ, ◌≡◌, ◌≤◌, ◌+◌, ◌++◌, List, [], Bool, true, None, Some, MatchBool, MatchResult, Result, drop, length, slice_get, take}
+use Rattle.std.specs.Prelude.{ℕ, ◌≡◌, ◌≤◌, ◌+◌, ◌-◌, ◌^◌, ◌++◌, min, List, [], Bool, true, None, Some, MatchBool, MatchResult, Result, drop, length, slice_get, take}
 use mathlib.Core.List.{IsPrefix}
 use Rattle.sw_table.specs.declared.row.Row.{Row}
 use Rattle.sw_table.specs.declared.row.Update.{Update}
-use Rattle.sw_rows.specs.Gives.{Raised}
 use Rattle.sw_rows.specs.declared.query.Query.{Query}
 use Rattle.sw_rows.specs.declared.query.Call.{Call}
 use Rattle.sw_rows.specs.declared.query.Call.TheVariants as call
@@ -147,10 +146,14 @@ GivesReceipt told old new =
     (λ _. (updates_in new.given ≡ new.published) × IsPrefix old.given new.given)
     (λ _. new.given ≡ old.given)
 
+-- a count goes up by one, and no further than the greatest number of its type
+abbrev pub IsOneMore : ℕ → ℕ → Type 0
+IsOneMore old new = new ≡ min (old + 1) (2 ^ 64 - 1)
+
 -- a publish is refused only where there was no memory for it, which is counted
 abbrev pub CountsMisses : {A : Type 0} → Result A Refusal → Receipted → Receipted → Type 0
 CountsMisses told old new =
-    MatchResult told (λ _. new.missed ≡ old.missed) (λ e. (e ≡ refusal.NoMemory) × Raised old.missed new.missed)
+    MatchResult told (λ _. new.missed ≡ old.missed) (λ e. (e ≡ refusal.NoMemory) × IsOneMore old.missed new.missed)
 
 -- a select leaves it
 abbrev pub CallGives : {A E : Type 0} → Call → Result A E → Receipted → Receipted → Type 0

@@ -33,8 +33,10 @@ use left_right::Absorb;
 use std::alloc::{AllocError, Global};
 use std::hint::spin_loop;
 use std::marker::{Model, PhantomData};
+use std::sync::atomic::AtomicU64;
 use std::sync::{Mutex, MutexGuard, Wait};
 use std::thread::Threads;
+use std::time::Duration;
 use sw_lang::Cuts;
 use sw_map::CrackerMap;
 use sw_rows::{Call, Cond, Conds, PackedRows, Query, Refusal, Reply, Schema, Update};
@@ -42,15 +44,19 @@ use sw_spine::{Record, Spine};
 use sw_tie::Share;
 use sw_versions::{Live, Naming, Op};
 
-/// How often a lock or a latch is tried before a thread sleeps for it.
-const TRIES: usize = 100;
+/// How often a thread pauses between looks at a lock or a latch, before it sleeps.
+const PAUSES: u32 = 7;
 
-/// How long a thread pauses between two tries of the history's lock: about as long as some visits take.
-const VISIT: usize = 64;
+/// How long the first pause is; each one is twice as long as the one before. All of them take as long as a visit or a select
+/// may, and no longer than waking up from a sleep.
+const PAUSE: usize = 8;
 
-/// How long a thread pauses between two tries of a head's latch: about as long as some selects take, so that who has the
-/// latch makes several in a row, and the head's data stay in one processor's cache meanwhile.
-const SELECT: usize = 2048;
+/// How often a thread sleeps between looks at a latch, before it waits for its turn.
+const NAPS: u32 = 5;
+
+/// How long the first of these sleeps is, in microseconds; each one is twice as long as the one before. Who has the latch makes
+/// many selects in a row meanwhile, and the head's data stay in one processor's cache.
+const NAP: u64 = 100;
 
 /// How many opening rows are copied in one visit, but for the last.
 const PART: usize = 1024;
@@ -61,16 +67,37 @@ fn pause(long: usize) {
     }
 }
 
-/// What lies under a lock. It is tried for a while before the thread sleeps for it, since most others hold it for less
-/// time than a sleep takes.
-fn take<'l, T, R: Wait>(rt: &R, lock: &'l Mutex<T>, long: usize) -> MutexGuard<'l, T> {
-    for _ in 0..TRIES {
+/// Waits between two looks at a latch, longer at each: first with the processor, then asleep.
+fn rest<R: Wait>(rt: &R, look: u32) {
+    if look < PAUSES {
+        pause(PAUSE << look);
+    } else {
+        let long = NAP << (look - PAUSES).min(NAPS);
+        AtomicU64::new(0).park_timeout(rt, 0, Duration::from_micros(long));
+    }
+}
+
+/// What lies under the lock. Others mostly hold it for less time than a sleep takes, so the thread looks at it between pauses
+/// before it sleeps.
+fn take<'l, T, R: Wait>(rt: &R, lock: &'l Mutex<T>) -> MutexGuard<'l, T> {
+    for look in 0..PAUSES {
         if let Some(guard) = lock.try_lock() {
             return guard;
         }
-        pause(long);
+        pause(PAUSE << look);
     }
     lock.lock(rt)
+}
+
+/// What lies under a latch.
+fn take_latch<'l, T, R: Wait>(rt: &R, latch: &'l Mutex<T>) -> MutexGuard<'l, T> {
+    for look in 0..PAUSES + NAPS {
+        if let Some(guard) = latch.try_lock() {
+            return guard;
+        }
+        rest(rt, look);
+    }
+    latch.lock(rt)
 }
 
 /// A latch for each attribute's head.
@@ -236,8 +263,7 @@ where
     /// A viewer, which has learnt what is published. Until the first one there are no copies of the rows for viewers,
     /// and calls do no work for them.
     ///
-    /// Refused `NoMemory`, or `TooMany` of limit 16, where that many were ever opened or no place for a reader was got;
-    /// a refused one opened none.
+    /// Refused `TooMany` of limit 16 where that many were ever opened, `NoMemory` otherwise; a refused one opened none.
     pub fn viewer<R: Wait>(&self, rt: &R) -> Result<Viewer<'_, J>, Refusal>
         ensures opened { IfOk result (λ v. v.seen ≡ v.told) }
         ensures refused { IfErr result RefusesViewing }
@@ -325,7 +351,7 @@ where
 
     /// The history, for one visit.
     fn visit<R: Wait>(&self, rt: &R) -> MutexGuard<'_, LockedDesk<J>> {
-        take(rt, &self.desk, VISIT)
+        take(rt, &self.desk)
     }
 
     /// How wide the opening rows are packed, and how many there are.
@@ -439,7 +465,7 @@ where
         let Ok(asked) = query.copied(self.alloc) else {
             return Err(Refusal::NoMemory);
         };
-        let mut head = take(rt, &self.latches[head_of(query)], SELECT);
+        let mut head = take_latch(rt, &self.latches[head_of(query)]);
         if self.ready(rt, &mut *head).is_err() {
             return Err(Refusal::NoMemory);
         }
@@ -591,6 +617,7 @@ where
         ensures own { LeavesSelect query.now result self.old self.new }
         ensures grows { Begin self.old.2.entries self.new.2.entries }
         ensures receipt { self.new.2.given ≡ self.old.2.given }
+        ensures missed { self.new.2.missed ≡ self.old.2.missed }
         ensures refused { IfErr result (λ e. RefusesCall e) }
         ensures full { IfErr result (TellsFull self.new.2.entries) }
     {
@@ -607,6 +634,7 @@ where
         ensures own { LeavesCommit call result self.old self.new }
         ensures grows { Begin self.old.2.entries self.new.2.entries }
         ensures receipt { GivesReceipt result self.old.2 self.new.2 }
+        ensures missed { self.new.2.missed ≡ self.old.2.missed }
         ensures refused { IfErr result (λ e. RefusesCall e) }
         ensures full { IfErr result (TellsFull self.new.2.entries) }
     {
@@ -628,6 +656,7 @@ where
         ensures own { LeavesCommit (Insert cells) result self.old self.new }
         ensures grows { Begin self.old.2.entries self.new.2.entries }
         ensures receipt { GivesReceipt result self.old.2 self.new.2 }
+        ensures missed { self.new.2.missed ≡ self.old.2.missed }
         ensures refused { IfErr result (λ e. RefusesCall e) }
         ensures full { IfErr result (TellsFull self.new.2.entries) }
     {
@@ -642,6 +671,7 @@ where
         ensures own { LeavesCommit (Delete key) result self.old self.new }
         ensures grows { Begin self.old.2.entries self.new.2.entries }
         ensures receipt { GivesReceipt result self.old.2 self.new.2 }
+        ensures missed { self.new.2.missed ≡ self.old.2.missed }
         ensures refused { IfErr result (λ e. RefusesCall e) }
         ensures full { IfErr result (TellsFull self.new.2.entries) }
     {
@@ -660,6 +690,7 @@ where
         ensures own { LeavesCommit (DeleteWhere conds.now) result self.old self.new }
         ensures grows { Begin self.old.2.entries self.new.2.entries }
         ensures receipt { GivesReceipt result self.old.2 self.new.2 }
+        ensures missed { self.new.2.missed ≡ self.old.2.missed }
         ensures refused { IfErr result (λ e. RefusesCall e) }
         ensures full { IfErr result (TellsFull self.new.2.entries) }
     {
@@ -679,6 +710,7 @@ where
         ensures own { LeavesCall call.now result self.old self.new }
         ensures grows { Begin self.old.2.entries self.new.2.entries }
         ensures receipt { CallGives call.now result self.old.2 self.new.2 }
+        ensures missed { self.new.2.missed ≡ self.old.2.missed }
         ensures refused { IfErr result (λ e. RefusesCall e) }
         ensures full { IfErr result (TellsFull self.new.2.entries) }
     {
@@ -755,6 +787,7 @@ where
         ensures own { own_of self.new ≡ own_of self.old }
         ensures grows { Begin self.old.2.entries self.new.2.entries }
         ensures receipt { self.new.2.given ≡ self.old.2.given }
+        ensures missed { self.new.2.missed ≡ self.old.2.missed }
         ensures all { TellsAll J.limit J.opening self.new.2.entries self.new.2.given result }
     {
         let Session {
@@ -801,6 +834,7 @@ where
         ensures own { own_of self.new ≡ own_of self.old }
         ensures grows { Begin self.old.2.entries self.new.2.entries }
         ensures receipt { GivesReceipt result self.old.2 self.new.2 }
+        ensures missed { self.new.2.missed ≡ self.old.2.missed }
         ensures told { IfOk result (λ r. r ≡ self.new.2.given) }
         ensures ends { IfOk result (λ r. EndWithEntries J.limit J.opening self.new.2.entries r) }
         ensures saw { IfOk result (λ _. EndWithEntries J.limit J.opening self.new.2.entries viewer.new.seen) }

@@ -1,7 +1,7 @@
 //! How often a session could not publish.
 
 ghost use Rattle.std.specs.Prelude.{◌≡◌};
-ghost use Rattle.sw_rows.specs.Gives.{Raised};
+ghost use Rattle.sw_engine.specs.Published.{IsOneMore};
 
 use crate::locked::Miss;
 use std::marker::Model;
@@ -30,7 +30,7 @@ impl Misses {
 
     /// One more. The count stays at its type's greatest number once it is there.
     pub(crate) fn add(&mut self, _miss: Miss)
-        ensures { Raised self.old self.new }
+        ensures { IsOneMore self.old self.new }
     {
         self.count = self.count.saturating_add(1);
     }

@@ -20,6 +20,10 @@ use sw_rows::{Counted, Refusal, Sink, TextKey, read_all};
 /// What is told where there is no key for texts.
 const NO_KEY: &str = "the system gives no random bytes\n";
 
+/// What is told besides why no table was made, where the values begin as a text in UTF-16 does.
+const IS_WIDE: &str =
+    "; the file begins as one in UTF-16 does, of which iconv -f UTF-16 -t UTF-8 makes UTF-8";
+
 /// A table that is asked for.
 #[derive(Clone, Copy, Debug)]
 pub struct Import<'a> {
@@ -66,14 +70,28 @@ fn keep_dictionary<R: Files>(
     file.end(rt, written)
 }
 
-/// Tells why no table was made, where it is not for want of memory. Answers the exit status.
-fn refuse<E: Sink>(alloc: Global, file: &str, fault: &Fault, errors: &mut E) -> Result<u8, Refusal>
+/// What is told besides why no table was made of values.
+fn more_of(bytes: &[u8]) -> &'static str {
+    if bytes.starts_with(b"\xff\xfe") || bytes.starts_with(b"\xfe\xff") {
+        return IS_WIDE;
+    }
+    ""
+}
+
+/// Tells why no table was made, where it is not for want of memory, and more. Answers the exit status.
+fn refuse<E: Sink>(
+    alloc: Global,
+    file: &str,
+    fault: &Fault,
+    more: &str,
+    errors: &mut E,
+) -> Result<u8, Refusal>
     ensures { IfOk result (λ status. status ≡ 2) }
 {
     if fault.is_memory() {
         return Err(Refusal::NoMemory);
     }
-    let Ok(text) = format!(in alloc; "sideways: {file}: {fault}\n") else {
+    let Ok(text) = format!(in alloc; "sideways: {file}: {fault}{more}\n") else {
         return Err(Refusal::NoMemory);
     };
     let _ = write_all(errors, text.as_bytes());
@@ -116,14 +134,15 @@ impl Import<'_> {
         None
     }
 
-    /// Reads the values and makes the table. Refused `Input` where the values cannot be opened or read or the system gives
-    /// no random bytes for the key of texts, and `NoMemory`; `told` gets what that means in words.
+    /// Reads the values and makes the table; answers also what is told besides where there is none. Refused `Input` where the
+    /// values cannot be opened or read or the system gives no random bytes for the key of texts, and `NoMemory`; `told` gets
+    /// what that means in words.
     fn read<R: Files + Clock + Eprint + Input + RandomSource + Threads + Sync>(
         &self,
         rt: &R,
         alloc: Global,
         told: &mut Option<String>,
-    ) -> Result<Came, Refusal> {
+    ) -> Result<(Came, &'static str), Refusal> {
         let place = Place::new(self.file);
         let bytes = match read_values(rt, alloc, place, self.progress) {
             Ok(bytes) => bytes,
@@ -144,7 +163,7 @@ impl Import<'_> {
             *told = of_unread(rt, alloc, place, &Refusal::NoMemory);
             return Err(Refusal::NoMemory);
         }
-        Ok(came)
+        Ok((came, more_of(bytes.as_slice())))
     }
 
     /// Writes the texts for which numbers stand to their file, and the table to standard output. Refused `Output` where
@@ -187,12 +206,13 @@ impl Import<'_> {
     ) -> Result<u8, Refusal>
         ensures { IfOk result (λ status. (status ≡ 0) ⊎ (status ≡ 2)) }
     {
-        match self.read(rt, alloc, told)? {
+        let (came, more) = self.read(rt, alloc, told)?;
+        match came {
             Ok(made) => match self.write(rt, alloc, &made, told) {
                 Ok(()) => tell(alloc, self.file, &made, errors),
                 Err(refusal) => Err(refusal),
             },
-            Err(fault) => refuse(alloc, self.file, &fault, errors),
+            Err(fault) => refuse(alloc, self.file, &fault, more, errors),
         }
     }
 }

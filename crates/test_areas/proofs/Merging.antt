@@ -15,9 +15,11 @@ use Rattle.sw_set.specs.Shelf.{AreReceivable}
 use Rattle.sw_set.proofs.Areas.Boxes.{same-refl}
 use Rattle.test_areas.specs.Examples.{begun_area, cleared_area, cracked_tape, fifth_row, key_map, lagging_area, lagging_map, longer_tape, mapped_area, none_refused, old_row, second_map, shorter_tape, some_refused, strayed_tape, three_rows}
 
+-- a row that comes is logged
 pub comes_merged : IsMerged none_refused (Insert fifth_row) mapped_area (record mapped_area { tape = longer_tape })
 comes_merged = record { logged = λ _. (refl, refl); restarted = λ full. absurd (omega (arith, full)) }
 
+-- a row that goes is logged at its place
 pub goes_merged : IsMerged none_refused (Remove 2) mapped_area (record mapped_area { tape = shorter_tape })
 unfolding left_part right_part
 goes_merged = inl (
@@ -48,6 +50,7 @@ key_there place is own =
     let no : 1 ≡ 2 = subst (λ (n : ℕ). (get_or (joined (rows_by 0 cracked_tape)) n fifth_row).key ≡ 2) (sym is) (own fifth_row) in
     absurd (omega (arith, no))
 
+-- another place is no merge
 pub another_place_refused : IsMerged some_refused (Remove 2) mapped_area (record mapped_area { tape = strayed_tape }) → ⊥
 another_place_refused (inl w) = key_there w.1.place (ap third_place w.1.tape) w.1.own
 another_place_refused (inr w) = let no : 3 ≡ 1 = ap length w.1.tape in absurd (omega (arith, no))
@@ -62,10 +65,12 @@ all_blank zero d lt = refl
 all_blank (suc zero) d lt = refl
 all_blank (suc (suc k)) d lt = absurd (omega (arith, lt))
 
+-- without a key map the area restarts
 pub restarts_merged : IsMerged none_refused (Remove 2) cleared_area begun_area
 unfolding left_part right_part
 restarts_merged = inr (inr (inl no_keys), record { tape = refl; boxes = all_blank })
 
+-- with one that can tell, it may not restart
 pub restart_refused : IsMerged some_refused (Remove 2) mapped_area begun_area → ⊥
 restart_refused (inl w) = let no : 1 ≡ 3 = ap length w.1.tape in absurd (omega (arith, no))
 restart_refused (inr (inl full, w)) = let no : 2 ≡ 4096 = full in absurd (omega (arith, no))
@@ -77,24 +82,30 @@ restart_refused (inr (inr (inr stalled), w)) = none_behind stalled.0
     none_behind (suc zero, m, lt, is, behind) = let e : Cell 1 ≡ Key = ap (λ (v : Held). v.tail) is ∙ behind.tail_is in cc
     none_behind (suc (suc k), m, lt, is, behind) = absurd (omega (arith, lt))
 
+-- nor with one that lags, where no step was refused
 pub restart_refused_lagging : IsMerged none_refused (Remove 2) lagging_area begun_area → ⊥
 restart_refused_lagging (inl w) = let no : 1 ≡ 3 = ap length w.1.tape in absurd (omega (arith, no))
 restart_refused_lagging (inr (inl full, w)) = let no : 2 ≡ 4096 = full in absurd (omega (arith, no))
 restart_refused_lagging (inr (inr (inl lacks), w)) = let no : 64 < 4 = lacks 0 lagging_map (omega arith) (refl, refl) in absurd (omega (arith, no))
 restart_refused_lagging (inr (inr (inr stalled), w)) = stalled.1
 
+-- where one was, it restarts
 pub restarts_refused_step : IsMerged some_refused (Remove 2) lagging_area begun_area
 unfolding left_part right_part
 restarts_refused_step = inr (inr (inr ((0, lagging_map, omega arith, refl, record { begun = refl; tail_is = refl; room = omega arith; behind = omega arith }), tt)), record { tape = refl; boxes = all_blank })
 
+-- a row that lives may go
 pub removal_received : AreReceivable 0 None None four_rows four_rows (Remove 2 ∷ [])
 removal_received = (refl, tt)
 
+-- and not twice
 pub removed_twice : AreReceivable 0 None None four_rows four_rows (Remove 2 ∷ Remove 2 ∷ []) → ⊥
 removed_twice w = absurd (true≢false (sym w.1.0))
 
+-- a row may come and go
 pub insertion_received : AreReceivable 0 None None four_rows four_rows (Insert fifth_row ∷ Remove 5 ∷ [])
 insertion_received = ((All-from_recursion (λ (c : Row). c.key < 5) four_rows (omega arith, (omega arith, (omega arith, (omega arith, tt)))), omega arith, refl), (refl, tt))
 
+-- a key that came before may not come
 pub old_key_refused : AreReceivable 0 None None four_rows three_rows (Insert old_row ∷ []) → ⊥
 old_key_refused w = let no : 3 < 2 = w.0.0 2 fifth_row (omega arith) in absurd (omega (arith, no))

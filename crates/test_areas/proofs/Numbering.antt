@@ -20,6 +20,7 @@ one-more n (x ∷ cs) c =
     let e : n + 1 + length cs ≡ n + length (x ∷ cs) = omega arith in
     ap {B = List Row} (λ r. row_of (n, x) ∷ r) (one-more (n + 1) cs c ∙ ap {B = List Row} (λ k. rows_from (n + 1) cs ++ row_of (k, c) ∷ []) e)
 
+-- one row more
 pub numbered-more : (cs : List (List ℤ)) (i : ℕ) (d : List ℤ) → i < length cs → numbered (take (i + 1) cs) ≡ numbered (take i cs) ++ row_of (i + 1, get_or cs i d) ∷ []
 numbered-more cs i d lt =
     let long : length (take i cs) ≡ i = length-take-le i cs (omega arith) in
@@ -40,6 +41,7 @@ rising n (c ∷ cs) =
     let rest = rising (n + 1) cs in
     ((past n _ rest.1, rest.0), (omega arith, from-lower n (n + 1) _ (omega arith) rest.1))
 
+-- their keys rise
 pub numbered-rise : (cs : List (List ℤ)) → Rises key_of (numbered cs)
 numbered-rise cs = (rising 1 cs).0
 
@@ -47,6 +49,7 @@ few : (n m : ℕ) (cs : List (List ℤ)) → n + length cs ≤ m → AllByRecurs
 few n m [] le = tt
 few n m (c ∷ cs) le = (omega arith, few (n + 1) m cs (omega arith))
 
+-- and fit a map
 pub numbered-fit : (cs : List (List ℤ)) → All (λ (r : Row). r.key < 2 ^ 63) (numbered (take MOST_ROWS cs))
 numbered-fit cs =
     let long : length (take MOST_ROWS cs) ≡ min MOST_ROWS (length cs) = length-take MOST_ROWS cs in
