@@ -5,8 +5,8 @@
 #     tests/embed.sh [PROGRAM [ARCHIVE]]
 #
 # PROGRAM is the built program, by default crates/sideways/out/sideways, ARCHIVE crates/sideways_c/out/libsideways_c.a. What is wanted
-# for a test and not there (a C++ compiler, valgrind, a Python with numpy) is told, and its tests are left out. Ends with 1 at the
-# first that is wrong.
+# for a test and not there (the archive, a C++ compiler, valgrind, a Python with numpy) is told, and its tests are left out. Ends with 1
+# at the first that is wrong.
 set -u
 top=$(cd "$(dirname "$0")/.." && pwd)
 program=$(readlink -f "${1:-$top/crates/sideways/out/sideways}")
@@ -44,6 +44,29 @@ compile() {
 }
 
 has "$cc" "nothing can be tried" || exit 1
+# The headers, alone and as each standard has them.
+every="-Wall -Wextra -Wpedantic -Wshadow -Wconversion -Wsign-conversion -Wundef -Wcast-align -Werror"
+for header in sideways sideways_codes sideways_locked; do
+    printf '#include "%s.h"\n#include "%s.h"\n' "$header" "$header" >"$work/one.c"
+    echo 'sideways h = SIDEWAYS_CLOSED; sideways_options o = SIDEWAYS_OPTIONS; sideways_cond c = SIDEWAYS_BELOW(0, -5);' >>"$work/one.c"
+    echo 'void end(void); void end(void) { sideways_free(h); }' >>"$work/one.c"
+    [ "$header" != sideways_codes ] || printf '#include "%s.h"\nextern int none;\n' "$header" >"$work/one.c"
+    for standard in c99 c11; do
+        quietly "$cc" -std=$standard $every -Wstrict-prototypes -Wmissing-prototypes -I"$top/bindings/c" -c "$work/one.c" -o "$work/one.o"
+    done
+    if has "${CXX:-c++}" "the headers as C++17"; then
+        cp "$work/one.c" "$work/one.cc"
+        quietly "${CXX:-c++}" -std=c++17 $every -I"$top/bindings/c" -c "$work/one.cc" -o "$work/one.o"
+    fi
+done
+for part in codes heap locked; do
+    quietly "$cc" -std=c99 $every -c "$top/bindings/c/sideways_$part.c" -o "$work/one.o"
+done
+if [ ! -f "$archive" ]; then
+    echo "embed: LEFT OUT, there is no archive, as ./sideways library leaves one: all but the headers" >&2
+    exit 0
+fi
+
 export COMMIT="commit of a test"
 lib=$work/lib
 quietly "$top/bench/library.sh" "$archive" "$lib"
@@ -54,20 +77,6 @@ diff -r "$lib" "$work/again" >&2 || wrong "other bytes a second time"
 "$top/bench/library.sh" "$archive" "$lib/VERSION/x" >/dev/null 2>&1
 [ $? -eq 3 ] || wrong "a folder that cannot be made is not refused"
 
-# The headers, alone and as each standard has them.
-every="-Wall -Wextra -Wpedantic -Wshadow -Wconversion -Wsign-conversion -Wundef -Wcast-align -Werror"
-for header in sideways sideways_codes sideways_locked; do
-    printf '#include "%s.h"\n#include "%s.h"\n' "$header" "$header" >"$work/one.c"
-    echo 'sideways h = SIDEWAYS_CLOSED; sideways_options o = SIDEWAYS_OPTIONS; void end(void); void end(void) { sideways_free(h); }' >>"$work/one.c"
-    [ "$header" != sideways_codes ] || printf '#include "%s.h"\nextern int none;\n' "$header" >"$work/one.c"
-    for standard in c99 c11; do
-        quietly "$cc" -std=$standard $every -Wstrict-prototypes -Wmissing-prototypes -I"$lib" -c "$work/one.c" -o "$work/one.o"
-    done
-    if has "${CXX:-c++}" "the headers as C++17"; then
-        cp "$work/one.c" "$work/one.cc"
-        quietly "${CXX:-c++}" -std=c++17 $every -I"$lib" -c "$work/one.cc" -o "$work/one.o"
-    fi
-done
 quietly python3 "$tests/exports.py" "$lib"
 
 # Every function, its wrong uses, and memory.
@@ -111,6 +120,19 @@ if [ -n "$python" ]; then
     [ "$(grep -c '<polyline points="[0-9]' "$work/told")" = 2 ] || wrong "another picture"
 else
     echo "embed: LEFT OUT, there is no Python with numpy: the package of Python" >&2
+fi
+
+# The programs of the page, as one copies them.
+page=$lib/docs/EMBEDDING.md
+sed -n '/^    #include "sideways.h"/,/^    }/s/^    //p' "$page" >"$work/demo.c"
+quietly "$cc" -std=c11 -Wall -Wextra -Wpedantic "$work/demo.c" -I"$lib" "$lib/libsideways.a" -o "$work/demo"
+[ "$("$work/demo")" = 2 ] || wrong "the page's program in C prints another number"
+quietly "$cc" "$work/demo.c" -I"$lib" -L"$lib" -lsideways -Wl,-rpath,"$lib" -o "$work/demo"
+[ "$("$work/demo")" = 2 ] || wrong "the page's program in C prints another number with the shared library"
+if [ -n "$python" ]; then
+    sed -n '/^    import sideways/,/^    print/s/^    //p' "$page" >"$work/demo.py"
+    "$python" "$work/demo.py" >"$work/told" 2>&1 || wrong "the page's program in Python: $(cat "$work/told")"
+    [ "$(cat "$work/told")" = legal ] || wrong "the page's program in Python tells: $(cat "$work/told")"
 fi
 
 # The other examples, as their first lines have them.

@@ -61,7 +61,7 @@ typedef struct {
 
 typedef struct {
     uint64_t limit;  /* how many rows are ever inserted at most, those of the table included: 1 to 1,048,576 */
-    uint64_t budget; /* how many cells the maps may have together, at most 1,099,511,627,776; with none every query scans */
+    uint64_t budget; /* how many cells of 8 bytes the maps may have together, at most 1,099,511,627,776; with none every query scans */
     uint64_t maps;   /* how many maps there are, dealt out to the attributes in turn, at most 4,096; with none every query scans */
 } sideways_options;
 #define SIDEWAYS_OPTIONS {1048576u, 16777216u, 64u}
@@ -169,6 +169,14 @@ typedef struct {
     uint32_t upper_kind;
 } sideways_cond;
 
+/* What a condition begins with, as sideways_cond range = SIDEWAYS_BETWEEN(0, 10, 15): at least 10 and at most 15. */
+#define SIDEWAYS_BETWEEN(attribute, least, greatest) {(attribute), (least), (greatest), SIDEWAYS_BEFORE, SIDEWAYS_AFTER}
+#define SIDEWAYS_EQUAL(attribute, value) SIDEWAYS_BETWEEN(attribute, value, value)
+#define SIDEWAYS_AT_LEAST(attribute, least) {(attribute), (least), 0, SIDEWAYS_BEFORE, SIDEWAYS_NONE}
+#define SIDEWAYS_ABOVE(attribute, bound) {(attribute), (bound), 0, SIDEWAYS_AFTER, SIDEWAYS_NONE}
+#define SIDEWAYS_AT_MOST(attribute, greatest) {(attribute), 0, (greatest), SIDEWAYS_NONE, SIDEWAYS_AFTER}
+#define SIDEWAYS_BELOW(attribute, bound) {(attribute), 0, (bound), SIDEWAYS_NONE, SIDEWAYS_BEFORE}
+
 /* The sum as two words: high * 2^64 + low. */
 typedef struct {
     uint64_t low;
@@ -200,7 +208,8 @@ uint32_t sideways_select(sideways *h, uint64_t session, const uint64_t *attribut
 uint32_t sideways_view(sideways *h, const uint64_t *attributes, size_t attributes_size, const sideways_cond *conds, size_t conds_size,
                        uint64_t *rows);
 
-/* Copies the keys of the kept rows, from a row on (0 is the first), as many as there is room for, and tells how many. */
+/* Copies the keys of the kept rows, from a row on (0 is the first), as many as there is room for, and tells how many. It passes over
+   the rows before that one, so few large blocks are quicker than many small ones. */
 uint32_t sideways_keys(sideways *h, size_t from, uint64_t *out, size_t out_size, size_t *copied);
 
 /* The same of a column of the kept rows: the first attribute that was asked for is column 0. Refused SIDEWAYS_NO_ATTRIBUTE where

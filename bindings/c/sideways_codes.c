@@ -32,7 +32,9 @@ const char *sideways_code_text(uint32_t code) {
     case SIDEWAYS_NO_TEXT: return "the call was made and stands in the history, and there was no memory for its text";
     case SIDEWAYS_BAD_CONDITION:
         return "a condition has no bound or an unknown kind of bound, its bounds are none of its attribute's kind, or its attribute has one already";
-    case SIDEWAYS_BAD_CELL: return "a cell is none of its attribute's kind, or there are more or fewer cells than wanted";
+    case SIDEWAYS_BAD_CELL:
+        return "a cell is none of its attribute's kind, or there are more or fewer cells than wanted; a text has at most 64 bytes of UTF-8 "
+               "without control characters";
     case SIDEWAYS_NO_ROWS: return "no rows are kept: nothing was selected or viewed, or the table is closed";
     default: return "no code of this library";
     }

@@ -8,7 +8,6 @@
 #include "sideways_codes.h"
 #include <stdio.h>
 #include <stdlib.h>
-#include <string.h>
 
 enum { ROWS = 10000, MOST = 1048576, VALUES = 100000 };
 
@@ -57,7 +56,7 @@ static void same(int call, const char *what, long long ours, long long theirs) {
 }
 
 static void ask(int call, int64_t least, int64_t greatest) {
-    sideways_cond range = {0, least, greatest, SIDEWAYS_BEFORE, SIDEWAYS_AFTER};
+    sideways_cond range = SIDEWAYS_BETWEEN(0, least, greatest);
     sideways_sum_words sum;
     char what[80];
     answered(sideways_sum(&engine, session, 1, &range, 1, &sum));
@@ -78,16 +77,16 @@ static void change(int call, int64_t a, int64_t b) {
     }
 }
 
-/* Opens the engine over the store's rows, as the text of a table, which it reads and does not keep. */
+/* Opens the engine over the store's rows: its columns are read as they lie, and not kept. */
 static void open_engine(void) {
+    const sideways_attribute attributes[2] = {
+        {(const uint8_t *)"a", 1, SIDEWAYS_INT, {store_a, store_rows, 1}},
+        {(const uint8_t *)"b", 1, SIDEWAYS_INT, {store_b, store_rows, 1}},
+    };
+    const sideways_columns table = {attributes, 2, store_rows, NULL, 0, NULL, 0};
     const sideways_options options = SIDEWAYS_OPTIONS;
-    char *csv = malloc(ROWS * 44 + 8);
-    if (csv == NULL) exit(3);
-    size_t size = (size_t)sprintf(csv, "a,b\n");
-    for (int i = 0; i < ROWS; i++) size += (size_t)sprintf(csv + size, "%lld,%lld\n", (long long)store_a[i], (long long)store_b[i]);
-    answered(sideways_open((const uint8_t *)csv, size, NULL, 0, &options, &engine));
+    answered(sideways_open_columns(&table, NULL, 0, &options, &engine));
     answered(sideways_session(&engine, &session));
-    free(csv);
 }
 
 int main(int argc, char **argv) {

@@ -28,19 +28,16 @@ static void answered(uint32_t code) {
 
 static sideways_cond question(int number) {
     int64_t least = (int64_t)number * 7919 % VALUES;
-    sideways_cond range = {0, least, least + 5000, SIDEWAYS_BEFORE, SIDEWAYS_AFTER};
+    sideways_cond range = SIDEWAYS_BETWEEN(0, least, least + 5000);
     return range;
 }
 
-/* Opens a handle over rows, as the text of a table. */
+/* Opens a handle over a part of the column, which is read as it lies, and not kept. */
 static void open_part(part *it) {
+    const sideways_attribute attribute = {(const uint8_t *)"a", 1, SIDEWAYS_INT, {a + it->first, it->rows, 1}};
+    const sideways_columns table = {&attribute, 1, it->rows, NULL, 0, NULL, 0};
     const sideways_options options = SIDEWAYS_OPTIONS;
-    char *csv = malloc(it->rows * 22 + 8);
-    if (csv == NULL) exit(3);
-    size_t size = (size_t)sprintf(csv, "a\n");
-    for (size_t i = it->first; i < it->first + it->rows; i++) size += (size_t)sprintf(csv + size, "%lld\n", (long long)a[i]);
-    answered(sideways_open((const uint8_t *)csv, size, NULL, 0, &options, &it->handle));
-    free(csv);
+    answered(sideways_open_columns(&table, NULL, 0, &options, &it->handle));
 }
 
 static void *work(void *given) {

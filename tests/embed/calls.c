@@ -171,6 +171,13 @@ static void try_aggregates(void) {
     sideways_cond against = {A, 12, 12, SIDEWAYS_AFTER, SIDEWAYS_BEFORE};
     CODE(SIDEWAYS_OK, sideways_count(&h, 1, &against, 1, &found));
     CHECK(found == 0);
+    const sideways_cond spelled[6] = {SIDEWAYS_BETWEEN(A, 10, 15), SIDEWAYS_EQUAL(A, 12), SIDEWAYS_AT_LEAST(A, 12),
+                                      SIDEWAYS_ABOVE(A, 12),       SIDEWAYS_AT_MOST(A, 12), SIDEWAYS_BELOW(A, 12)};
+    const uint64_t rows[6] = {2, 2, 3, 1, 3, 1};
+    for (int i = 0; i < 6; i++) {
+        CODE(SIDEWAYS_OK, sideways_count(&h, 1, &spelled[i], 1, &found));
+        CHECK(found == rows[i]);
+    }
     CODE(SIDEWAYS_OK, sideways_close(&h));
     sideways_free(h);
 }

@@ -397,6 +397,11 @@ class Tables(unittest.TestCase):
             self.assertEqual(Table.from_csv(memoryview(b"a\n1\n")).count(), 1)
             with self.assertRaises(OSError):
                 Table.from_csv(path + ".none")
+            with self.assertRaisesRegex(ValueError, "given as bytes"):
+                Table.from_csv("a,b\n12,7\n")
+        for other in (0, None, [b"a\n1\n"]):
+            with self.subTest(other=other), self.assertRaisesRegex(TypeError, "wanted bytes"):
+                Table.from_csv(other)
 
     def test_refused_tables(self):
         cases = [(b"", 2), (b"a:real\n", 2), (b"a\nx\n", 2), (b"a,b\n1\n", 2), (b"a,a\n", 2), (b"a,b,c,d,e,f,g,h,i\n", 5)]
@@ -408,8 +413,10 @@ class Tables(unittest.TestCase):
         for text, place in ((b"a,b:real\n", "column 2 of the header"), (b"a,b\n1,2\n3,x\n", "column 2 of row 2")):
             with self.assertRaisesRegex(sideways.BadTable, place):
                 Table.from_csv(text)
-        with self.assertRaisesRegex(sideways.BadTable, "column 2 of the header"):
+        with self.assertRaisesRegex(sideways.BadTable, "'where' is a word of the language"):
             Table.from_columns({"a": [1], "where": [2]})
+        with self.assertRaisesRegex(sideways.BadTable, "no header"):
+            Table.from_csv(b"")
         for options in ({"limit": 0}, {"limit": 2**20 + 1}, {"maps": 4097}, {"budget": 2**41}, {"cuts": "x"}, {"maps": -1}, {"budget": 2**64}):
             with self.subTest(options=options), self.assertRaises((sideways.Error, ValueError)):
                 Table.from_csv(b"a\n1\n", **options)
@@ -483,6 +490,10 @@ class Tables(unittest.TestCase):
         for data in (b"", b"{}", history[:-1]):
             with self.assertRaises(sideways.BadLine):
                 sideways.check(data)
+        self.assertTrue(sideways.check(memoryview(history)))
+        for other in ("history.json", 5, None):
+            with self.subTest(other=other), self.assertRaisesRegex(TypeError, "wanted bytes"):
+                sideways.check(other)
 
     def test_sessions_on_threads(self):
         draw = random.Random(3)

@@ -151,6 +151,8 @@ def text_kept(handle):
 
 
 def address_of(data):
-    """A pointer to bytes for the time of a call, and what has to be kept meanwhile."""
+    """A pointer to bytes for the time of a call, and what has to be kept meanwhile, which are these bytes."""
+    if not isinstance(data, (bytes, bytearray, memoryview)):
+        raise TypeError(f"wanted bytes, as a file that is opened with 'rb' gives them, not {type(data).__name__}")
     kept = data if isinstance(data, bytes) else bytes(data)
     return ctypes.cast(ctypes.c_char_p(kept), c_void_p), kept

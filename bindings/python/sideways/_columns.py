@@ -1,6 +1,7 @@
 """Columns of values as the border takes them: cells of 64 bits, and the texts for which some of them stand."""
 
 import re
+from collections.abc import Mapping
 from numbers import Integral
 
 import numpy
@@ -9,8 +10,15 @@ from . import _border as border
 from ._border import FLAG, INT, TEXT
 from ._errors import refusal
 from ._kinds import check_texts, kind_of, number_cells
+from ._where import RESERVED
 
 _NAME = re.compile(r"[A-Za-z_][A-Za-z0-9_]{0,31}")
+
+
+def check_mapping(columns) -> None:
+    """Refuses what is no mapping, and no DataFrame either."""
+    if not isinstance(columns, Mapping) and not (hasattr(columns, "items") and hasattr(columns, "columns")):
+        raise TypeError(f"wanted a mapping of names to columns, not {type(columns).__name__}")
 
 
 def as_array(name: str, column) -> numpy.ndarray:
@@ -34,7 +42,9 @@ def found_kind(name: str, array: numpy.ndarray) -> int:
             if all(isinstance(value, sorts) for value in array):
                 return kind
     hint = f"say which it is, as kinds={{{name!r}: 'fix2'}} for numbers of two decimals"
-    if array.dtype.kind in "mM":
+    if array.dtype.kind == "S":
+        hint = "give texts as str, as of numpy.char.decode(column, 'utf-8')"
+    elif array.dtype.kind in "mM":
         hint = "give whole numbers, as of .astype('datetime64[s]').astype('int64')"
     elif array.dtype.kind == "O" and any(_is_missing(value) for value in array):
         hint = "a table has a value in each cell, and here one is missing"
@@ -56,6 +66,8 @@ class Given:
         for name, column in columns.items():
             if not isinstance(name, str) or not _NAME.fullmatch(name):
                 raise refusal(2, f"{name!r} is no name of an attribute: it has 1 to 32 letters, digits and _, the first no digit")
+            if name in RESERVED:
+                raise refusal(2, f"{name!r} is a word of the language, and no name of an attribute")
             arrays[name] = as_array(name, column)
             found.append(kind_of(kinds.pop(name)) if name in kinds else found_kind(name, arrays[name]))
         if kinds:

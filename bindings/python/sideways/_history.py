@@ -30,14 +30,14 @@ def check(history: bytes) -> Verdict:
     Raises:
         BadLine: the bytes are no history.
     """
-    at, _kept = address_of(history)
+    at, kept = address_of(history)
     entry = ctypes.c_uint64()
-    code = lib.sideways_check(at, len(history), entry)
+    code = lib.sideways_check(at, len(kept), entry)
     if code != NOT_LEGAL:
         answered(code)
         return Verdict(True, None, "legal\n")
     why = Handle()
-    code = lib.sideways_explain(at, len(history), why)
+    code = lib.sideways_explain(at, len(kept), why)
     try:
         if code != NOT_LEGAL:
             answered(code)

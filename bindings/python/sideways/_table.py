@@ -6,16 +6,19 @@ import os
 import threading
 from collections.abc import Mapping
 from decimal import Decimal
-from typing import Any, Dict, List, Optional, Sequence, Union
+from typing import TYPE_CHECKING, Any, Dict, List, Optional, Sequence, Union
 
 import numpy
 
 from . import _border as border
 from ._border import BAD_CELL, BAD_LINE, BAD_TABLE, MAPS, MOST_CELLS, MOST_ROWS, TEXT, TOO_MANY, UNKNOWN_ATTRIBUTE, lib
-from ._columns import Given, as_array, as_cells, one_length
+from ._columns import Given, as_array, as_cells, check_mapping, one_length
 from ._errors import Error, Full, answered, refusal
 from ._kinds import NAMES, array_of, cell_of, number_cells, value_of
 from ._where import Conds
+
+if TYPE_CHECKING:
+    import pandas
 
 Number = Union[int, Decimal]
 
@@ -155,6 +158,8 @@ class Session:
     def _shown(self, function, code_of, columns, where, ranges) -> Dict[str, numpy.ndarray]:
         engine = self._engine
         names = [columns] if isinstance(columns, str) else list(engine.attributes if columns is None else dict.fromkeys(columns))
+        if not names:
+            raise refusal(102, "no attribute was asked for")
         with engine.lock:
             conds = self._conds(where, ranges, code_of)
             asked = [conds.place(name) for name in names]
@@ -177,7 +182,9 @@ class Session:
             found[name] = engine.values(kind, cells)
         return found
 
-    def to_pandas(self, columns: Union[str, Sequence[str], None] = None, /, where: Optional[str] = None, **ranges: Any):
+    def to_pandas(
+        self, columns: Union[str, Sequence[str], None] = None, /, where: Optional[str] = None, **ranges: Any
+    ) -> "pandas.DataFrame":
         """As `select`, but as a pandas DataFrame, whose index has the rows' keys."""
         import pandas
 
@@ -256,6 +263,8 @@ class Session:
         A line of blanks, or one that begins with `#`, has no call, and its reply is empty. The exception for a line that is no call
         tells where it is wrong, and what could stand there.
         """
+        if not isinstance(line, str):
+            raise TypeError(f"a line is a str, not {type(line).__name__}")
         data, handle = line.encode("utf-8"), self._engine.handle
         with self._engine.lock:
             code = lib.sideways_exec(handle, self.number, data, len(data))
@@ -302,6 +311,7 @@ class Session:
         return value_of(kind, least.value) if made and least.found else None
 
     def _in_order(self, given: Mapping) -> List[Any]:
+        check_mapping(given)
         for name in given:
             if name not in self._engine.attributes:
                 raise refusal(4, f"{name!r} is none of {', '.join(self._engine.attributes)}")
@@ -363,10 +373,7 @@ class Table(Session):
             OSError: the file cannot be read.
             BadTable: a field of the header or a row is none; it tells which.
         """
-        data = table
-        if not isinstance(table, (bytes, bytearray, memoryview)):
-            with open(table, "rb") as file:
-                data = file.read()
+        data = _read(table) if isinstance(table, (str, os.PathLike)) else table
         at, kept = border.address_of(data)
         handle = border.Handle()
         code = lib.sideways_open(at, len(kept), *_cuts(cuts), _options(limit, budget, maps), handle)
@@ -398,8 +405,7 @@ class Table(Session):
             texts: further texts that the table knows from the start; one of the columns is of texts then.
             cuts, limit, budget, maps: as of `from_csv`.
         """
-        if not isinstance(columns, Mapping) and not hasattr(columns, "items"):
-            raise TypeError(f"wanted a mapping of names to columns, not {type(columns).__name__}")
+        check_mapping(columns)
         given, handle = Given(columns, kinds, texts), border.Handle()
         code = lib.sideways_open_columns(given.table, *_cuts(cuts), _options(limit, budget, maps), handle)
         if code == BAD_TABLE:
@@ -408,8 +414,10 @@ class Table(Session):
         return cls._opened(handle)
 
     @classmethod
-    def from_pandas(cls, frame, **options: Any) -> "Table":
+    def from_pandas(cls, frame: "pandas.DataFrame", **options: Any) -> "Table":
         """Opens a table over the columns of a pandas DataFrame; its index is passed by. The options are those of `from_columns`."""
+        if not hasattr(frame, "columns"):
+            raise TypeError(f"wanted a DataFrame, not {type(frame).__name__}")
         for name in frame.columns:
             if not isinstance(name, str):
                 raise TypeError(f"the column {name!r} has no name that is a text")
@@ -460,12 +468,26 @@ def _word(what: str, number: int) -> int:
     return number
 
 
+def _read(path: Union[str, os.PathLike]) -> bytes:
+    """The bytes of a file; of what is the text of a table rather than a path it is told that."""
+    try:
+        with open(path, "rb") as file:
+            return file.read()
+    except OSError:
+        if "\n" in str(path):
+            raise ValueError("a str is the path of a file here; the text of a table is given as bytes, as by .encode()") from None
+        raise
+
+
 def _fault(function, *table) -> str:
     """Where a table is none, in words."""
     place = border.Place()
     function(*table, place)
-    row = f"row {place.row}" if place.row else "the header"
-    return f"column {place.column} of {row} is none of a table"
+    if not place.column:
+        return "there is no header"
+    if place.row:
+        return f"column {place.column} of row {place.row} is no cell of its kind, or is missing or beyond the last"
+    return f"column {place.column} of the header is no attribute: a name of its own, and perhaps a kind, as in price:fix2"
 
 
 def _options(limit: int, budget: int, maps: int) -> border.Options:

@@ -7,7 +7,7 @@ from ._errors import refusal
 from ._kinds import NAMES, bound_of, spelled
 
 _TOKEN = re.compile(r"[ \t]*(?:(?P<word>[A-Za-z0-9_.+\-]+)|(?P<comparison><=|>=|<|=|>)|(?P<text>'(?:[^']|'')*')|(?P<stray>.))", re.DOTALL)
-_RESERVED = {"select", "count", "sum", "min", "max", "where", "and", "insert", "delete", "true", "false"}
+RESERVED = {"select", "count", "sum", "min", "max", "where", "and", "insert", "delete", "true", "false"}
 _NAME = re.compile(r"[A-Za-z_][A-Za-z0-9_]{0,31}")
 
 
@@ -74,7 +74,7 @@ class Conds:
         tokens = _Tokens(text)
         while True:
             name = tokens.take("word", "the name of an attribute")
-            if name in _RESERVED or not _NAME.fullmatch(name):
+            if name in RESERVED or not _NAME.fullmatch(name):
                 tokens.refuse("the name of an attribute")
             _attribute, kind = self.place(name)
             comparison = tokens.take("comparison", "a comparison")
