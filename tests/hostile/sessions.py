@@ -1,9 +1,10 @@
 #!/usr/bin/env python3
 """Calls of an engine, made one by one by the program test_sessions, with each allocation refused in turn, until a run meets
-no refusal: a refused call says `refused 1` and nothing else, and is then answered as in the run without a refusal; the record is legal, and
-has at most one entry more, which is void. Where publishing a change was refused the change is answered, each viewer answers as before, and
-the next insert or delete publishes both, also one that finds no such key. And worked examples over maps that refuse: the replies are the
-known ones, and of each kind of map it is told how many calls were made, and how many calls of maps were refused, which must be some.
+no refusal: a refused call says `refused 1` and nothing else, of a viewer perhaps `refused 5 limit 16`, and is then answered as in the
+run without a refusal; the record is legal, and has at most one entry more, which is void. Where publishing a change was refused the change
+is answered, each viewer answers as before, and the next insert or delete publishes both, also one that finds no such key. And worked
+examples over maps that refuse: the replies are the known ones, and of each kind of map it is told how many calls were made, and how many
+calls of maps were refused, which must be some.
 Ends with 1 and the first run that is wrong. The program is that of crates/test_sessions (`--program`)."""
 import tempfile, time
 from collections import Counter
@@ -112,7 +113,7 @@ class Sessions:
         are what may be told: the calls without a refusal, and then those with one change each whose publishing was refused."""
         refused = [it for it in made if it[1].startswith("refused")]
         for name, answer in refused:
-            if answer != "refused 1":
+            if answer != "refused 1" and (name, answer) != ("viewer", "refused 5 limit 16"):
                 wrong(words, "allocation %d" % at, "refused 1", (name, answer))
             self.kinds[name.split()[0]] += 1
         names = {name for name, _ in ways[0]} | {"table", "boxes"}

@@ -263,7 +263,8 @@ where
     /// A viewer, which has learnt what is published. Until the first one there are no copies of the rows for viewers,
     /// and calls do no work for them.
     ///
-    /// Refused `TooMany` of limit 16 where that many were ever opened, `NoMemory` otherwise; a refused one opened none.
+    /// Refused `NoMemory`, or `TooMany` of limit 16, where that many were ever opened or no place for a reader was got;
+    /// a refused one opened none.
     pub fn viewer<R: Wait>(&self, rt: &R) -> Result<Viewer<'_, J>, Refusal>
         ensures opened { IfOk result (λ v. v.seen ≡ v.told) }
         ensures refused { IfErr result RefusesViewing }

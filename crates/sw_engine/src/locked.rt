@@ -410,8 +410,8 @@ where
 
     /// A viewer, which has learnt what is published. The first one has the two copies of the rows made.
     ///
-    /// Refused `TooMany` of limit 16 where that many viewers were ever opened, and `NoMemory` where there is no memory for the
-    /// copies, or no place for a reader was got; then nothing has changed.
+    /// Refused `NoMemory` where there is no memory for them, and `TooMany` of limit 16 where that many viewers were
+    /// ever opened, or no place for a reader was got; then nothing has changed.
     pub fn viewer(&mut self) -> Result<Viewer<J>, Refusal>
         ensures few { OnOk result (self.old.shelf.viewers < MOST_VIEWERS) }
         ensures opened { IfOk result (λ v. v ≡ new_viewer self.old.shelf) }

@@ -1,5 +1,5 @@
 -- Why calls are refused.
-use Rattle.std.specs.Prelude.{◌≡◌, ◌+◌, ◌<◌, ◌≤◌, List, length, ℕ}
+use Rattle.std.specs.Prelude.{◌≡◌, ◌+◌, ◌<◌, List, length, ℕ}
 use Rattle.sw_rows.specs.Gives.{Raised}
 use Rattle.sw_rows.specs.Scan.{TakesMemory}
 use Rattle.sw_rows.specs.declared.query.Want.{Want}
@@ -10,11 +10,11 @@ use Rattle.sw_rows.specs.declared.refusal.Refusal.TheVariants as refusal
 use Rattle.sw_versions.specs.Known.{Known}
 use Rattle.sw_versions.specs.declared.viewer.TheConstants.{MOST_VIEWERS}
 
--- why no viewer is opened where so many were ever opened: as many were as there may be; or with fewer there is no memory for
--- the copies, or no place for a reader
+-- why no viewer is opened where so many were ever opened: there is no memory for the copies that the first one has
+-- made, or no place for a reader
 abbrev pub RefusesViewer : ℕ → Refusal → Type 0
-RefusesViewer viewers refusal.NoMemory = viewers < MOST_VIEWERS
-RefusesViewer viewers (refusal.TooMany limit) = (limit ≡ MOST_VIEWERS) × (MOST_VIEWERS ≤ viewers)
+RefusesViewer viewers refusal.NoMemory = viewers ≡ 0
+RefusesViewer viewers (refusal.TooMany limit) = limit ≡ MOST_VIEWERS
 RefusesViewer viewers other = ⊥
 
 -- the copy that a viewer came to lacks updates: of its own list, or of one that the viewer saw or was told of

@@ -1,12 +1,11 @@
 //! The two copies of the rows that readers take, with the writer of both.
 
-ghost use Rattle.std.specs.Prelude.{◌≡◌, ◌<◌, ◌+◌, ◌++◌, ◌∷◌, [], None, Some, drop, fold, length, slice_get, IfErr, IfOk, MatchBool, MatchResult, OnErr, OnOk, is_some, true};
+ghost use Rattle.std.specs.Prelude.{◌≡◌, ◌<◌, ◌+◌, ◌++◌, ◌∷◌, [], None, Some, drop, fold, length, slice_get, IfOk, IfSome, MatchBool, MatchResult, OnErr, OnOk, is_some, true};
 ghost use Rattle.sw_rows.specs.Gives.{Raised};
 ghost use Rattle.sw_table.specs.Live.{live_rows};
 ghost use Rattle.sw_versions.specs.Lists.{rows_after};
 ghost use Rattle.sw_versions.specs.Known.{opened_over, wrote};
 ghost use Rattle.sw_versions.specs.Pending.{HasPublishedOr, IsPlain, all_of};
-ghost use Rattle.sw_versions.specs.Refused.{RefusesViewer};
 ghost use Rattle.sw_versions.specs.Rules.{updates_in};
 ghost use Rattle.sw_versions.specs.declared.viewer.TheConstants.{MOST_VIEWERS};
 
@@ -22,7 +21,6 @@ use std::alloc::{AllocError, Global};
 use std::marker::Model;
 use std::mem::ManuallyDrop;
 use std::sync::Wait;
-use sw_rows::Refusal;
 use sw_table::{LiveTable, Update};
 
 /// The writer of the copies, the batches that it published, how many updates it has, and the operation that it had no memory
@@ -219,28 +217,24 @@ where
         }
     }
 
-    /// A viewer, which has learnt what is published. Refused `TooMany` of limit 16 where that many were opened, and `NoMemory` where
-    /// no place for a reader was got; then nothing has changed.
-    pub(crate) fn viewer(&mut self, alloc: Global) -> Result<Viewer<J>, Refusal>
-        ensures few { OnOk result (self.old.viewers < MOST_VIEWERS) }
-        ensures opened { IfOk result (λ v. v ≡ opened_over self.old.published) }
-        ensures counted { OnOk result (self.new ≡ record self.old { viewers = self.old.viewers + 1 }) }
-        ensures refused { IfErr result (λ e. (self.new ≡ self.old) × RefusesViewer self.old.viewers e) }
+    /// A viewer, which has learnt what is published; none where there were as many as there may be, or where no place for a reader
+    /// was got.
+    pub(crate) fn viewer(&mut self, alloc: Global) -> Option<Viewer<J>>
+        ensures few { IfSome result (λ _. self.old.viewers < MOST_VIEWERS) }
+        ensures some { IfSome result (λ v. v ≡ opened_over self.old.published) }
+        ensures counted { IfSome result (λ _. self.new ≡ record self.old { viewers = self.old.viewers + 1 }) }
+        ensures none { result ≡ None → self.new ≡ self.old }
     {
         if self.viewers >= MOST_VIEWERS {
-            return Err(Refusal::TooMany {
-                limit: MOST_VIEWERS,
-            });
+            return None;
         }
-        let Some(visits) = self.visitors.visits(self.viewers) else {
-            return Err(Refusal::NoMemory);
-        };
+        let visits = self.visitors.visits(self.viewers)?;
         match self.writer.factory().reader() {
             Ok(reader) => {
                 self.viewers += 1;
-                Ok(Viewer::new(alloc, reader, visits, self.published()))
+                Some(Viewer::new(alloc, reader, visits, self.published()))
             }
-            Err(_) => Err(Refusal::NoMemory),
+            Err(_) => None,
         }
     }
 

@@ -14,7 +14,7 @@ use crate::book::{Book, Front, Naming};
 use crate::came::Came;
 use crate::copies::Copies;
 use crate::live::{Live, Op, table_after};
-use crate::viewer::Viewer;
+use crate::viewer::{MOST_VIEWERS, Viewer};
 use left_right::Absorb;
 use std::alloc::{AllocError, Global};
 use std::marker::Model;
@@ -241,8 +241,8 @@ where
 
     /// A viewer, which has learnt what is published. The first one has the copies made.
     ///
-    /// Refused `TooMany` of limit 16 where that many viewers were ever opened, and `NoMemory` where there is no memory for the
-    /// copies, or no place for a reader was got; then nothing has changed. The caller's conditions: these are the opening rows, with
+    /// Refused `NoMemory` where there is no memory for them, and `TooMany` of limit 16 where that many viewers were ever opened,
+    /// or no place for a reader was got; then nothing has changed. The caller's conditions: these are the opening rows, with
     /// keys that rise from above 0, and what stands in the book begins the updates after them.
     pub fn viewer(&mut self, opening: &PackedRows, updates: &[Update]) -> Result<Viewer<J>, Refusal>
         requires rows { opening.now.items ≡ J.opening }
@@ -270,10 +270,13 @@ where
         ensures refused { IfErr result (λ e. (self.new ≡ self.old) × RefusesViewer self.old.viewers e) }
     {
         let alloc = self.alloc;
-        match &mut self.copies {
+        let opened = match &mut self.copies {
             Some(copies) => copies.viewer(alloc),
-            None => Err(Refusal::NoMemory),
-        }
+            None => None,
+        };
+        opened.ok_or(Refusal::TooMany {
+            limit: MOST_VIEWERS,
+        })
     }
 
     /// A viewer learns what is published, if that begins with all that it has seen, and who meets it is given the receipt.
