@@ -1,6 +1,7 @@
 #!/usr/bin/env python3
 """Gives the libraries that `rt ci` proved and left in this tree the stamps by which the toolchain knows them as built, so that `rt lib` of a
-crate above proves that crate alone. `./sideways library` calls it in the copy that it proves.
+crate above proves that crate alone, and tests/wrong.py finds them. A library that has a stamp keeps it, and one that is older than a source
+of its crate, or of one below, gets none.
 
     cd TREE && stamps.py KIT          KIT is the toolchain's folder
 
@@ -15,11 +16,15 @@ def main():
         import rtlib
 
         for crate in rtlib.crates_below(os.path.abspath("crates")):
-            folder = os.path.join(crate.folder, "out", "rlib")
-            if os.path.isdir(os.path.join(folder, crate.name + ".rlib")) and not crate.is_built():
-                with open(os.path.join(folder, "stamp"), "w", encoding="utf-8") as stamp:
-                    stamp.write(crate.stamp())
-    except (ImportError, AttributeError, OSError, TypeError) as fault:
+            stamp = os.path.join(crate.folder, "out", "rlib", "stamp")
+            if os.path.isdir(crate.rlib) and not os.path.exists(stamp):
+                sources = [file for it in [crate, *crate.below()] for file in rtlib.files_of(it.folder)]
+                if max(map(os.path.getmtime, sources)) > os.path.getmtime(crate.rlib):
+                    print(f"stamps: {crate.name} has a source that is newer than its library", file=sys.stderr)
+                    continue
+                with open(stamp, "w", encoding="utf-8") as it:
+                    it.write(crate.stamp())
+    except (ImportError, AttributeError, OSError, TypeError, ValueError) as fault:
         print(f"stamps: {fault}", file=sys.stderr)
         return 1
     return 0

@@ -1,6 +1,7 @@
 #!/usr/bin/env bash
-# What the gate runs after `rt ci`, over the programs that it built (tests/README.md).
-# Some minutes; ends with 1 at the first that fails.
+# What the gate runs after `rt ci`, over the programs and libraries that it built (tests/README.md): the wrong bodies of crates
+# that are dear to prove, and beside them the steps, which take one processor, one after another.
+# Some minutes; ends with 1 at the first step that fails, or where a wrong body is not refused.
 #
 #     tests/after.sh
 set -u
@@ -11,6 +12,16 @@ step() {
     echo "after: $*" >&2
     "$@" || { echo "after: FAILED: $*" >&2; exit 1; }
 }
+
+# (its checks end when it is ended)
+trying=
+room=$(mktemp -d) || exit
+trap '[ -z "$trying" ] || kill "$trying" 2>/dev/null; rm -rf "$room"' EXIT
+trap 'exit 130' HUP INT TERM
+(cd "$top" && step python3 bench/stamps.py "$(dirname "$(rt doc)")") || exit
+echo "after: tests/wrong.py, beside the other steps" >&2
+TMPDIR=$room nice -n 5 python3 "$top/tests/wrong.py" &
+trying=$!
 
 step sh "$top/tests/crates.sh"
 step python3 "$top/tests/examples.py"
@@ -34,4 +45,9 @@ step python3 "$top/tests/gone.py" "$(program sideways)"
 step python3 "$top/tests/hostile/calls.py" --program "$(program test_calls)"
 step python3 "$top/tests/hostile/sessions.py" --program "$(program test_sessions)"
 step python3 "$top/tests/hostile/growths.py" --program "$(program sideways)"
+echo "after: waiting for tests/wrong.py" >&2
+wait "$trying"
+status=$?
+trying=
+[ "$status" = 0 ] || { echo "after: FAILED: tests/wrong.py" >&2; exit 1; }
 echo "after: all passed" >&2

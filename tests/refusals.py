@@ -13,14 +13,10 @@ import subprocess
 import sys
 import tempfile
 
-TOP = os.path.dirname(os.path.dirname(os.path.abspath(__file__)))
+from bodies import TOP, Unfit, apply, functions, lemma_of, path_of, text_of
+
 RT = os.environ.get("RT", "rt").split()
-TOLD = re.compile(r"must-fail (\w+)/([\w.-]+)\.edit: (.*)")
-
-
-def text_of(path):
-    with open(path, encoding="utf-8") as it:
-        return it.read()
+TOLD = re.compile(r"^(?:rt: must-fail|wrong:) (\w+)/([\w-]+)(?:\.edit)?: (.*)", re.M)
 
 
 def kind_of(goal):
@@ -42,42 +38,6 @@ def where(crate, said):
     answers = glob.glob(f"{folder}/proofs/**/{function}/Answers.antt", recursive=True)
     hands = {kind_of(it) for path in answers if f"/{at[2]}/" in path for it in re.findall(r"^pub (\S+) :", text_of(path), re.M)}
     return "by hand" if kind_of(name) in hands else "goal", f"`{name}`" if goal and goal[2] else f"`{name}..`"
-
-
-def apply(edit, folder):
-    """Makes the changes of an edit in a copy of its crate."""
-    path = old = ""
-    for line in text_of(edit).split("\n"):
-        key, _, value = line.partition(": ")
-        if key == "file":
-            path = f"{folder}/{value.strip()}"
-        elif key == "old":
-            old = value
-        elif key == "new":
-            text = text_of(path)
-            if text.count(old) != 1:
-                sys.exit(f"{edit}: its old text does not stand once in {path}")
-            with open(path, "w", encoding="utf-8") as it:
-                it.write(text.replace(old, value))
-
-
-def functions(crate, edit):
-    """The functions that an edit changes, as `rt check --only` names them."""
-    path, was, found, texts = "", "", {}, {}
-    for line in text_of(edit).split("\n"):
-        key, _, value = line.partition(": ")
-        path = value.strip() if key == "file" else path
-        if key == "old":
-            texts.setdefault(path, text_of(f"{TOP}/crates/{crate}/{path}"))
-            was, above = value, texts[path].partition(value)[0] + value
-            for named in list(re.finditer(r"^( *)(?:pub(?:\(\w+\))? )?fn (\w+)", above, re.M))[-1:]:
-                impls = re.findall(r"^impl(?:<.*?>)? (?:.* for )?(\w+)", above[: named.start()], re.M)
-                module = path[4:-3].split("/") if path != "src/lib.rt" else []
-                found["::".join([*module, *impls[-1:] * bool(named[1]), named[2]])] = None
-        elif key == "new":
-            # (an old text stands once in what the pairs before it left)
-            texts[path] = texts[path].replace(was, value)
-    return found
 
 
 def linked(one, other):
@@ -110,13 +70,18 @@ def controls_of(crate, names):
     """What the controls of these wrong bodies come to: all at once, and where that is not proved each by itself."""
     found = {name: f"{TOP}/tests/controls/{crate}/{name}.edit" for name in names}
     found = {name: edit for name, edit in found.items() if os.path.isfile(edit)}
-    lemmas = {name: re.search(r"^lemma: (\S+) (\S+)$", text_of(edit), re.M) for name, edit in found.items()}
+    lemmas = {name: lemma_of(edit) for name, edit in found.items()}
     stands = lambda it: f"pub {it[1]} :" in text_of(f"{TOP}/crates/{crate}/{it[2]}")
     told = {name: "refuted" if stands(it) else "fails" for name, it in lemmas.items() if it}
     bodies = {name: edit for name, edit in found.items() if name not in told}
     if bodies and is_proved(crate, bodies.values()):
         return told | dict.fromkeys(bodies, "passes")
     return told | {name: "passes" if len(bodies) > 1 and is_proved(crate, [edit]) else "fails" for name, edit in bodies.items()}
+
+
+def tried_by(crate):
+    """The words that try the wrong bodies of a crate."""
+    return [*RT, "must-fail", crate] if os.path.isdir(f"{TOP}/crates/{crate}/must-fail") else [sys.executable, f"{TOP}/tests/wrong.py", crate]
 
 
 def tell_controls(words):
@@ -136,7 +101,7 @@ def main(words):
     if words[0] == "--controls":
         return tell_controls(words[1:])
     how = {"cwd": TOP, "stdout": subprocess.PIPE, "stderr": subprocess.STDOUT, "encoding": "utf-8", "errors": "replace"}
-    said = text_of(words[1]) if words[0] == "--log" else subprocess.run([sys.executable, f"{TOP}/tests/wrong.py", *words], **how).stdout
+    said = text_of(words[1]) if words[0] == "--log" else "".join(subprocess.run(tried_by(it), **how).stdout for it in words)
     crates = words[2:] if words[0] == "--log" else words
     tried, lost = {}, []
     for crate, name, told in TOLD.findall(said):
@@ -149,7 +114,7 @@ def main(words):
         shown = [name for name, (place, _) in places.items() if controls.get(name) in wanted.get(place, ("passes", "refuted"))]
         print(f"\n### {crate}: {len(shown)} of {len(places)}\n\n| Wrong body | Refused by | Where | Goal | Control |\n|---|---|---|---|---|")
         for name, (place, goal) in places.items():
-            first = text_of(f"{TOP}/crates/{crate}/must-fail/{name}.edit").split("\n")[0]
+            first = text_of(path_of(crate, name)).split("\n")[0]
             clause = re.sub(r"^.*?[;:] refused (by )?", "", first).rstrip(".")
             control = controls.get(name, "" if place == "goal" else "none")
             print(f"| {name} | {clause} | {place} | {goal} | {control} |")
@@ -162,4 +127,7 @@ def main(words):
 
 
 if __name__ == "__main__":
-    sys.exit(main(sys.argv[1:]))
+    try:
+        sys.exit(main(sys.argv[1:]))
+    except Unfit as fault:
+        sys.exit(f"refusals: {fault}")
