@@ -155,8 +155,8 @@ def tests_itself(rtlib, crates):
     control = Body(crate.name, "row_stays", pairs_of(f"{TOP}/tests/controls/sw_table/row_stays.edit"))
     below = Body(crate.name, "any_key_found", pairs_of(path_of("sw_table", "any_key_found")))
     unread = Body(crate.name, "unread", [(file, "self.live[place] = false;", "self.live[place] = no_such_name;")])
-    told = {body.name: line or fault for body, line, fault in Trial(crate, rtlib).told([control, below])}
-    told |= {body.name: line or fault for body, line, fault in Trial(crate, rtlib).told([unread])}
+    trial = Trial(crate, rtlib)
+    told = {body.name: line or fault for it in ([control, below], [unread]) for body, line, fault in trial.told(it)}
     wanted = {"row_stays": "NOT REFUSED: what it changes", "any_key_found": "note: src/finding.rt:", "unread": "NOT TRIED: its check"}
     wrong = [f"{name}: {told[name]}" for name, line in wanted.items() if not told[name].startswith(line)]
     for pairs in [(file, "no such text", "")], [(file, "impl Model", "impl Model")], [("specs/Live.antt", "Living", "Living")]:
@@ -164,6 +164,8 @@ def tests_itself(rtlib, crates):
             wrong.append(f"{Body(crate.name, 'unfit', pairs).functions}: taken as changed by {pairs}")
         except Unfit:
             pass
+    if not wrong:
+        print(f"wrong: its own test told a control, a wrong body and texts that cannot be tried apart, {trial.seconds:.0f} s of a processor", flush=True)
     return wrong
 
 

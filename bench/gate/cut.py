@@ -22,9 +22,10 @@ def main(folder, names):
             left += [it for it in words[name].split(":", 1)[1].split() if it in words]
     with open(f"{folder}/crates.txt", "w", encoding="utf-8") as it:
         it.write("".join(f"{line}\n" for name, line in words.items() if name in kept))
-    for name in os.listdir(f"{folder}/crates"):
-        if name not in kept:
-            shutil.rmtree(f"{folder}/crates/{name}")
+    for part in ("crates", "tests/wrong", "tests/controls"):
+        for name in os.listdir(f"{folder}/{part}"):
+            if name not in kept:
+                shutil.rmtree(f"{folder}/{part}/{name}")
 
 
 main(sys.argv[1], sys.argv[2:])

@@ -90,7 +90,7 @@ def part_of(pid):
         folder = ""
     if "--crate-name" in words[:-1]:
         crate = words[words.index("--crate-name") + 1]
-        if "/rt-edit-" in folder:
+        if "/rt-edit-" in folder or "/wrong-" in folder:
             return crate, "edits"
         return crate, "tests" if "--test" in words else "proof"
     for word in words:
