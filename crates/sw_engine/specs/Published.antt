@@ -1,5 +1,5 @@
 -- What the shelf under the lock has of the history's updates, and what the sessions' shares show of it.
-use Rattle.std.specs.Prelude.{ℕ, ◌≡◌, ◌≤◌, ◌+◌, ◌-◌, ◌^◌, ◌++◌, min, List, [], Bool, true, None, Some, MatchBool, MatchResult, Result, drop, length, slice_get, take}
+use Rattle.std.specs.Prelude.{ℕ, ◌≡◌, ◌≤◌, ◌+◌, ◌++◌, List, [], Bool, true, None, Some, MatchBool, MatchResult, Result, drop, length, slice_get, take}
 use mathlib.Core.List.{IsPrefix}
 use Rattle.sw_table.specs.declared.row.Row.{Row}
 use Rattle.sw_table.specs.declared.row.Update.{Update}
@@ -15,6 +15,7 @@ use Rattle.sw_spine.specs.Table.{opened, reply_to}
 use Rattle.sw_spine.specs.declared.history.Entry.{Entry}
 use Rattle.sw_tie.specs.declared.Share.{Share}
 use Rattle.sw_versions.specs.Known.{Known, Shelved, opened_over}
+pub use Rattle.sw_versions.specs.Pending.{IsOneMore}
 use Rattle.sw_versions.specs.Rules.{updates_in}
 use Rattle.sw_versions.specs.declared.viewer.TheConstants.{MOST_VIEWERS}
 use Rattle.sw_engine.specs.Later.{Begin}
@@ -145,10 +146,6 @@ GivesReceipt told old new =
     MatchResult told
     (λ _. (updates_in new.given ≡ new.published) × IsPrefix old.given new.given)
     (λ _. new.given ≡ old.given)
-
--- a count goes up by one, and no further than the greatest number of its type
-abbrev pub IsOneMore : ℕ → ℕ → Type 0
-IsOneMore old new = new ≡ min (old + 1) (2 ^ 64 - 1)
 
 -- a publish is refused only where there was no memory for it, which is counted
 abbrev pub CountsMisses : {A : Type 0} → Result A Refusal → Receipted → Receipted → Type 0

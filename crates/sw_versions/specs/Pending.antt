@@ -1,5 +1,5 @@
 -- How the book's updates, those that are published, and those of the writer hang together.
-use Rattle.std.specs.Prelude.{◌≡◌, ◌⊎◌, ◌<◌, List, [], ◌∷◌, ◌++◌, drop, fold, length, map, is_some, true, MatchResult, Option, Result, Some, None, ℕ}
+use Rattle.std.specs.Prelude.{◌≡◌, ◌⊎◌, ◌<◌, ◌+◌, ◌-◌, ◌^◌, List, [], ◌∷◌, ◌++◌, drop, fold, length, map, min, is_some, true, MatchResult, Option, Result, Some, None, ℕ}
 use mathlib.Core.List.{IsPrefix}
 use Rattle.sw_rows.specs.Gives.{Raised}
 use Rattle.sw_table.specs.declared.row.Update.{Update}
@@ -63,6 +63,10 @@ CameOf came.Shown booked updates old new = (new.published ≡ booked) × (update
 CameOf came.PutOff booked updates old new = (updates_in booked ≡ updates) × (old.waiting ≡ None) × (all_of old ≡ updates) × (new ≡ old)
 CameOf came.Missed booked updates old new = (new.published ≡ old.published) × (IsWanting updates new ⊎ Raised old.failed new.failed)
 
+-- a count goes up by one, and no further than the greatest number of its type
+abbrev pub IsOneMore : ℕ → ℕ → Type 0
+IsOneMore old new = new ≡ min (old + 1) (2 ^ 64 - 1)
+
 -- what came of a publishing by the shelf: all is published; or nothing more is, though all updates stand in the book; or nothing
 -- more is, which is counted
 abbrev pub TellsCame : Came → List Update → Shelved → Shelved → Type 0
@@ -70,4 +74,4 @@ TellsCame came.Shown updates old new =
     (new.published ≡ new.booked) × (updates_in new.booked ≡ updates) × (new.missed ≡ old.missed)
 TellsCame came.PutOff updates old new =
     (new.published ≡ old.published) × (updates_in new.booked ≡ updates) × (new.missed ≡ old.missed)
-TellsCame came.Missed updates old new = (new.published ≡ old.published) × Raised old.missed new.missed
+TellsCame came.Missed updates old new = (new.published ≡ old.published) × IsOneMore old.missed new.missed
