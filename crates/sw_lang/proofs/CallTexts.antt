@@ -100,6 +100,7 @@ equal_by : (b : Bool) (columns : List Column) (s : Bool) (a : ℕ) (v w : ℤ) �
 equal_by true columns s a v w e = rw e refl
 equal_by false columns s a v w e = rw e refl
 
+-- an equality with one bound or two begins with the comparison by =
 pub equal_first : (columns : List Column) (s : Bool) (a : ℕ) (v w : ℤ) → terms_text s (equal_terms columns a v w) ≡ (joiner s ++ comparison columns a (codes " = ") v) ++ terms_text true (equal_more columns a v w)
 equal_first columns s a v w = equal_by (int_eq v w) columns s a v w refl
 
@@ -107,6 +108,7 @@ apart : (b : Bool) (v w : ℤ) → int_eq v w ≡ b → (v ≡ w → ⊥) → b 
 apart true v w e other = absurd (other ((Decides-int_eq v w).0 e))
 apart false v w e other = refl
 
+-- with two bounds that differ it is two comparisons
 pub equal_two : (columns : List Column) (s : Bool) (a : ℕ) (v w : ℤ) → (v ≡ w → ⊥) → terms_text s (equal_terms columns a v w) ≡ (joiner s ++ comparison columns a (codes " = ") v) ++ (joiner true ++ comparison columns a (codes " = ") w)
 equal_two columns s a v w other = rw (apart (int_eq v w) v w refl other) (ap (λ l. (joiner s ++ comparison columns a (codes " = ") v) ++ l) (append-nil (joiner true ++ comparison columns a (codes " = ") w)))
 

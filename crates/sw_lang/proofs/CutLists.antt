@@ -53,13 +53,16 @@ on_next : (cuts : CutLists) (c : Cut) (cs : List Cut) (a : ℕ) → c.0 < length
 on_next cuts c cs a h =
     ap (λ l. l ++ values_on cs a) (on_new cuts c a h) ∙ append_assoc (cuts_on cuts a) (values_on (c ∷ []) a) (values_on cs a) ∙ ap (λ l. cuts_on cuts a ++ l) (first_on c cs a)
 
+-- one cut more leaves the number of lists
 pub new_length : (cuts : CutLists) (c : Cut) → length (with_new cuts c) ≡ length cuts
 new_length cuts c = length-set cuts c.0 (cuts_on cuts c.0 ++ c.1 ∷ [])
 
+-- and so do further cuts
 pub added_length : (cuts : CutLists) (cs : List Cut) → length (added cuts cs) ≡ length cuts
 added_length cuts [] = refl
 added_length cuts (c ∷ cs) = added_length (with_new cuts c) cs ∙ new_length cuts c
 
+-- the cuts on an attribute are those before and then the further ones on it
 pub added_on : (n : ℕ) (cuts : CutLists) (cs : List Cut) (a : ℕ) → length cuts ≡ n → AllWithin n cs → cuts_on (added cuts cs) a ≡ cuts_on cuts a ++ values_on cs a
 added_on n cuts [] a long w = sym (append-nil (cuts_on cuts a))
 added_on n cuts (c ∷ cs) a long w =
@@ -104,6 +107,7 @@ next_lawful n cuts c long within room l = λ a h.
     let here : eqb c.0 a ≡ true → HasRoom cuts (a, c.1) = λ e. subst (λ b. HasRoom cuts (b, c.1)) ((Decides-eqb c.0 a).0 e) room in
     subst AreCuts (sym (on_new cuts c a inside)) (new-lawful (eqb c.0 a) (cuts_on cuts a) c.1 (l a h) here)
 
+-- lists that are lawful stay so with further cuts that are allowed
 pub added_lawful : (n : ℕ) (cuts : CutLists) (cs : List Cut) → length cuts ≡ n → AllWithin n cs → Allowed cuts cs → AllLawful n cuts → AllLawful n (added cuts cs)
 added_lawful n cuts [] long w allowed l = l
 added_lawful n cuts (c ∷ cs) long w allowed l =
@@ -116,6 +120,7 @@ LawfulWith n cuts cs = (a : ℕ) → a < n → AreCuts (cuts_on cuts a ++ values
 room_for : (values : List ℤ) (z : ℤ) (zs : List ℤ) → AreCuts (values ++ z ∷ zs) → (length values < MOST_CUTS) × (list_all (λ y. int_lt y z) values ≡ true)
 room_for values z zs l = (omega (arith, l.few, length-append values (z ∷ zs)), rises_seam values z zs l.rise)
 
+-- the cuts of lawful lists were allowed one after another
 pub lawful_allowed : (n : ℕ) (cuts : CutLists) (cs : List Cut) → length cuts ≡ n → AllWithin n cs → LawfulWith n cuts cs → Allowed cuts cs
 lawful_allowed n cuts [] long w l = tt
 lawful_allowed n cuts (c ∷ cs) long w l =

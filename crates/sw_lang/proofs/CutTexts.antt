@@ -260,6 +260,7 @@ from_parts schema text cuts parts f is =
       lawful = λ a h. subst (λ (w : CutLists). AreCuts (cuts_on w a)) (sym f.made) (lawful a h);
     }
 
+-- the cuts that are read are related to the text
 pub cuts_found : (schema : List Column) (text : List ℕ) (cuts : CutLists) → cuts_at schema text ≡ Ok cuts → IsCuts schema text cuts
 unfolding cuts_at
 cuts_found schema [] cuts e = from_parts schema [] cuts [] (record { found = []; entries = tt; allowed = tt; made = sym (same_ok (no_cuts schema) cuts e) }) refl
@@ -289,6 +290,7 @@ read-by (c ∷ cs) schema text cuts ok is lists values lawful =
     ∙ parts_read schema (no_cuts schema) (slice_split is_divider text) (c ∷ cs) ok parts allowed
     ∙ ap (λ (w : CutLists). Ok w) (same_cuts schema cuts (c ∷ cs) lists values within)
 
+-- the cuts that are related to a text are read
 pub cuts_read : (schema : List Column) (text : List ℕ) (cuts : CutLists) → IsSchema schema → IsCuts schema text cuts → cuts_at schema text ≡ Ok cuts
 cuts_read schema text cuts ok is = read-by is.entries schema text cuts ok is.text_is is.lists is.values is.lawful
 
@@ -317,6 +319,7 @@ kinds_on : (schema : List Column) (cs : List Cut) (a : ℕ) → AllOfKind schema
 kinds_on schema [] a h = tt
 kinds_on schema (c ∷ cs) a h = kind-by (eqb c.0 a) schema c a (values_on cs a) refl h.0 (kinds_on schema cs a h.1)
 
+-- related cuts fit the table
 pub cuts_fit : (schema : List Column) (text : List ℕ) (cuts : CutLists) → IsCuts schema text cuts → FitCuts schema cuts
 cuts_fit schema text cuts is = record {
   lists = is.lists;

@@ -33,6 +33,7 @@ use Rattle.sw_lang.specs.Grammar.{HasTerms, IsCall, IsLine, IsName, IsNames, IsT
 use Rattle.sw_lang.proofs.Names.{Serves}
 use Rattle.sw_lang.proofs.Merge.{Distinct, conds_from, conds_from-conditions, distinct-more, eqb-turned, has, or-false}
 
+-- a name is of an attribute that there is
 pub name_within : (schema : List Column) (t : Tok) (i : ℕ) → IsName schema t i → i < length schema
 name_within schema t i (w, is, at) = rw length-map at (slice_get_within (names_of schema) i w at)
 
@@ -41,6 +42,7 @@ flag-kind true q z h = inr (cc)
 flag-kind false true z h = inl (cc)
 flag-kind false false z h = absurd cc
 
+-- a value is of its kind
 pub value_kind : (k : Domain) (t : Tok) (z : ℤ) → IsValue k t z → IsOfKind k z
 value_kind kind.Int t z h = tt
 value_kind (kind.Fix places) t z h = tt
@@ -105,6 +107,7 @@ upper_kind k Eq z h = h
 upper_kind k Ge z h = tt
 upper_kind k Gt z h = tt
 
+-- a term has one bound at least
 pub term_bound : (o : Op) (z : ℤ) → is_bound (lower_of o z) (upper_of o z) ≡ true
 term_bound Lt z = refl
 term_bound Le z = refl
@@ -205,10 +208,12 @@ from_fits : (schema : List Column) (cs : List Cond) (ts : List Term) → CondsFi
 from_fits schema cs [] h f = h
 from_fits schema cs (t ∷ ts) h f = from_fits schema (add_term cs t) ts (add_fits schema cs t h f.0) f.1
 
+-- the attributes of terms stay distinct as terms come
 pub attrs_distinct : (xs : List ℕ) (ts : List Term) → Distinct xs → Distinct (attrs_after xs ts)
 attrs_distinct xs [] d = d
 attrs_distinct xs (t ∷ ts) d = attrs_distinct (with_attr xs t.attr) ts (distinct-more xs t.attr d)
 
+-- conditions made for attributes have these attributes
 pub attrs-conditions : (ts : List Term) (xs : List ℕ) (f : ℕ → Cond) → ((a : ℕ) → (f a).attr ≡ a) → map (λ c. c.attr) (map f xs) ≡ xs
 attrs-conditions ts [] f h = refl
 attrs-conditions ts (x ∷ xs) f h = rw (h x, attrs-conditions ts xs f h) refl
@@ -217,6 +222,7 @@ apart : (xs : List ℕ) (a : ℕ) → has xs a ≡ false → AllByRecursion (λ 
 apart [] a h = tt
 apart (b ∷ xs) a h = let parts = or-false (eqb b a) (has xs a) h in (eqb-turned false b a parts.0, apart xs a parts.1)
 
+-- distinct by recursion is distinct by places
 pub distinct : (xs : List ℕ) → Distinct xs → IsDistinct nat_eq xs
 unfolding IsDistinct
 distinct [] d = tt
@@ -257,6 +263,7 @@ bounds : (schema : List Column) (cs : List Cond) → CondsFit schema cs → AllB
 bounds schema [] h = tt
 bounds schema (c ∷ cs) h = (h.0.3, bounds schema cs h.1)
 
+-- each name of a list is of an attribute that there is
 pub names_below : (schema : List Column) (ts : List Tok) (is : List ℕ) → IsNames schema ts is → AllByRecursion (λ a. a < length schema) is
 names_below schema ts [] h = absurd h
 names_below schema ts (i ∷ []) (a, e, is) = (name_within schema a i is, tt)
@@ -315,6 +322,7 @@ from_some : (cs : List Cond) (ts : List Term) → 1 ≤ length cs → 1 ≤ leng
 from_some cs [] h = h
 from_some cs (t ∷ ts) h = from_some (add_term cs t) ts (more_terms cs t)
 
+-- terms make one condition at least
 pub some_conds : (schema : List Column) (ts : List Tok) (terms : List Term) → IsTerms schema ts terms → 1 ≤ length (conditions terms)
 some_conds schema ts [] h = absurd h
 some_conds schema ts (t ∷ terms) h = subst (λ (w : List Cond). 1 ≤ length w) (conds_from-conditions (t ∷ terms)) (from_some (add_term [] t) terms (more_terms [] t))
@@ -328,12 +336,14 @@ conds_fit schema ts conds (terms, rest, e, is, made) =
       bound = All-from_recursion IsBound conds (bounds schema conds h.fit);
     }
 
+-- a related call fits the table
 pub call_fits : (schema : List Column) (ts : List Tok) (c : Call) → IsCall schema ts c → FitsCall schema c
 call_fits schema ts (Select q) (front, rest, parts, is, h) = want_fits schema front q.conds q.want is (where_fits schema rest q.conds h)
 call_fits schema ts (Insert cells) (zs, rest, e, is, pad) = subst (λ (w : List ℤ). FitsCells (kinds_of schema) w) (sym pad) (values_fit (kinds_of schema) rest zs (8 - length zs) is)
 call_fits schema ts (Delete key) h = tt
 call_fits schema ts (DeleteWhere conds) (rest, e, given) = conds_fit schema rest conds given
 
+-- the call of a related line fits the table
 pub line_fits : (schema : List Column) (text : List ℕ) (call : Option Call) → IsLine schema text call → IfSome call (λ c. FitsCall schema c)
 line_fits schema text None h = tt
 line_fits schema text (Some c) h = call_fits schema _ c h.2

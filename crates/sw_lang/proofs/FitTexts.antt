@@ -51,6 +51,7 @@ sums schema (Sum a) h = h
 sums schema (Min a) h = h
 sums schema (Max a) h = h
 
+-- a query that fits asks of texts by equality alone, and sums none
 pub asks_of_texts : (schema : List Column) (q : Query) → FitsQuery schema q → AsksOfTexts (kinds_of schema) q
 asks_of_texts schema q h = record {
   below = subst (λ n. AsksBelow n q) (sym (length-map schema (λ (c : Column). c.1))) h.attrs;
@@ -72,5 +73,6 @@ cells_coded (d ∷ ds) [] a h lt = absurd h
 cells_coded (d ∷ ds) (z ∷ zs) zero h lt = cell_coded d z h.0
 cells_coded (d ∷ ds) (z ∷ zs) (suc a) h lt = cells_coded ds zs a h.1 (omega (arith, lt))
 
+-- a row of cells that fit has codes of texts
 pub row_of_codes : (schema : List Column) (key : ℕ) (cells : List ℤ) → FitsCells (kinds_of schema) cells → IsRowCoded (kinds_of schema) (record { key = key; cells = cells })
 row_of_codes schema key cells h = λ a lt. cells_coded (kinds_of schema) cells a h lt

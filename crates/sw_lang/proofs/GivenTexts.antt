@@ -31,6 +31,7 @@ has-at (s ∷ ts) t (suc i) lt h = by-test (bytes_eq t s) (has-at ts t i (omega 
     by-test true more = refl
     by-test false more = more
 
+-- a text with a code is among the texts
 pub has_from_code : (ts : Texts) (t : List ℕ) (code : ℕ) → code_of ts t ≡ Some code → has_text ts t ≡ true
 has_from_code ts t code h =
     let there = code_only ts code t h in
@@ -136,6 +137,7 @@ all_given ts acc (x ∷ xs) most sound are h k =
     let next : AreTexts (with_text acc x) = texts_sound acc (x ∷ []) sound (ap (λ b. b && true) texts.0) in
     ((one.0, code_kept (with_text acc x) xs x one.0 (given_kept acc x one.0 one.1)), all_given ts (with_text acc x) xs most next texts.1 (in-more ts acc x h parts.0) parts.1)
 
+-- texts of two lists have codes where those of both together have
 pub codes_append : (us xs ys : Texts) → HaveCodes us (xs ++ ys) → HaveCodes us xs × HaveCodes us ys
 codes_append us [] ys h = (tt, h)
 codes_append us (x ∷ xs) ys h = let rest = codes_append us xs ys h.1 in ((h.0, rest.0), rest.1)

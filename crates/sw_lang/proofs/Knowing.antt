@@ -26,6 +26,7 @@ Texts = List (List ℕ)
 pub nothing_more : (s : List Column) → IsSchema s → knowing [] s ≡ s
 nothing_more s is = schema_held s is
 
+-- a schema without texts holds none
 pub numbers_held : (us : Texts) (cs : List Column) → has_texts cs ≡ false → holding us cs ≡ cs
 numbers_held us [] h = refl
 numbers_held us (c ∷ cs) h =
@@ -38,6 +39,7 @@ none_known s more none = numbers_held (with_texts (texts_of s) more) s none
 
 -- ---- further texts, and then others
 
+-- a schema with texts still has them when it knows more
 pub some_still : (s : List Column) (more : Texts) → has_texts s ≡ true → has_texts (knowing more s) ≡ true
 some_still s more some = holding_of_texts (with_texts (texts_of s) more) s ∙ some
 
@@ -82,9 +84,11 @@ pub record Learning (before now : List Column) (all left : Texts) : Type 0 where
   pub parts : seen ++ left ≡ all
   pub known : now ≡ knowing seen before
 
+-- at the beginning all texts are left to be learned
 pub begin : (s : List Column) (all : Texts) → IsSchema s → Learning s s all all
 begin s all is = record { seen = []; parts = refl; known = sym (nothing_more s is) }
 
+-- what is learned next is left no more
 pub step : (before now next : List Column) (all xs left : Texts) → has_texts before ≡ true → Learning before now all (xs ++ left) → next ≡ knowing xs now → Learning before next all left
 step before now next all xs left some l more =
     record {
@@ -93,12 +97,15 @@ step before now next all xs left some l more =
       known = more ∙ ap (knowing xs) l.known ∙ knowing_again before l.seen xs some;
     }
 
+-- where nothing is left, the schema knows all texts
 pub finish : (before now : List Column) (all : Texts) → Learning before now all [] → now ≡ knowing all before
 finish before now all l = l.known ∙ ap (λ xs. knowing xs before) (sym (append-nil l.seen) ∙ l.parts)
 
+-- while it learns a schema has texts
 pub some_now : (before now : List Column) (all left : Texts) → has_texts before ≡ true → Learning before now all left → has_texts now ≡ true
 some_now before now all left some l = ap has_texts l.known ∙ some_still before l.seen some
 
+-- a schema that forgets what it learned is the one before
 pub back : (before now : List Column) (all left : Texts) → IsSchema before → has_texts before ≡ true → Learning before now all left → holding (take (length (texts_of before)) (texts_of now)) now ≡ before
 back before now all left is some l = ap (λ (s : List Column). holding (take (length (texts_of before)) (texts_of s)) s) l.known ∙ forgotten before l.seen is some
 
@@ -118,9 +125,11 @@ none_if_comment : (text : List ℕ) (long comment : Bool) → comment ≡ true �
 none_if_comment text true comment h = refl
 none_if_comment text false comment h = rw h refl
 
+-- a line that is too long teaches nothing
 pub none_of_a_long_line : (s : List Column) (text : List ℕ) → IsSchema s → nat_lt MOST_LINE (length text) ≡ true → s ≡ learned s text
 none_of_a_long_line s text is h = passed_over s (texts_in_line text) is (none_if_long text (nat_lt MOST_LINE (length text)) (is_comment text) h)
 
+-- a comment teaches nothing
 pub none_of_a_comment : (s : List Column) (text : List ℕ) → IsSchema s → is_comment text ≡ true → s ≡ learned s text
 none_of_a_comment s text is h = passed_over s (texts_in_line text) is (none_if_comment text (nat_lt MOST_LINE (length text)) (is_comment text) h)
 
@@ -137,6 +146,7 @@ texts_known (c ∷ cs) h = by_domain c.1 (All-head (λ c. IsDomain c.1) c cs h) 
     by_domain kind.Flag s more = more
     by_domain (kind.Text own) s more = s
 
+-- a schema that knows more texts is a schema
 pub knowing_schema : (s : List Column) (more : Texts) → IsSchema s → list_all is_text more ≡ true → IsSchema (knowing more s)
 knowing_schema s more is sound = by_test (has_texts s) refl
   where
@@ -163,6 +173,7 @@ tokens_sound : (ts : List Tok) → list_all is_text (quoted_texts ts) ≡ true
 tokens_sound [] = refl
 tokens_sound (t ∷ ts) = list_all-append is_text (quoted_text t) (quoted_texts ts) ∙ and_from (list_all is_text (quoted_text t)) (list_all is_text (quoted_texts ts)) (token_sound t) (tokens_sound ts)
 
+-- the texts of a line may stand in cells
 pub line_sound : (text : List ℕ) → list_all is_text (texts_in_line text) ≡ true
 line_sound text = by_tests (nat_lt MOST_LINE (length text)) (is_comment text)
   where
@@ -171,6 +182,7 @@ line_sound text = by_tests (nat_lt MOST_LINE (length text)) (is_comment text)
     by_tests false true = refl
     by_tests false false = tokens_sound (tokens text)
 
+-- a schema that learned the texts of a line is a schema
 pub learned_schema : (s : List Column) (text : List ℕ) → IsSchema s → IsSchema (learned s text)
 learned_schema s text is = by_test (has_texts s)
   where

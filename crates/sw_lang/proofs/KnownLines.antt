@@ -176,5 +176,6 @@ line_kept ts more s text (Some c) o (few, e, is) = (few, e, call_kept ts (with_t
 
 -- ---- reading
 
+-- a line that is read is read as the same call when more texts are known
 pub read_still : (s : List Column) (more : Texts) (text : List ℕ) (call : Option Call) → IsSchema s → IsSchema (knowing more s) → line_at s text ≡ Ok call → line_at (knowing more s) text ≡ Ok call
 read_still s more text call is again h = line_read (knowing more s) text call again (line_kept (texts_of s) more s text call is.shared (line_found s text call h))

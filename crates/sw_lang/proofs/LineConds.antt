@@ -29,11 +29,13 @@ use Rattle.sw_lang.proofs.PrintedCells.{IsCell, cell_stored, word_is}
 use Rattle.sw_lang.proofs.PrintedMerge.{AllBound, attrs}
 use Rattle.sw_lang.proofs.PrintedTerms.{AreGood, IsGood, equal_term, equal_terms_of, lower_term, printed, printed_all, text_terms_of, upper_term}
 
+-- the kind of an attribute of a schema is a kind of cells
 pub kind_places : (schema : List Column) (a : ℕ) → IsSchema schema → a < length schema → IsDomain (kind_at schema a)
 kind_places schema a ok h =
     let within : a < length (kinds_of schema) = rw length-map h in
     places_at schema a (kind_at schema a) ok.sound (slice_get-get_or (kinds_of schema) a kind.Int within)
 
+-- a value of a line can be stored
 pub value_stored : (k : Domain) (t : Tok) (z : ℤ) → IsDomain k → IsValue k t z → IsCell k z
 value_stored k t z p (inl (w, is, value)) = cell_stored k w z p (word_is k w z value).1
 value_stored k t z p (inr (text, is, of_texts, value)) = cell_stored k text z p value
@@ -187,6 +189,7 @@ pub record CondsOf (schema : List Column) (conds : List Cond) : Type 0 where
   pub stored : AreStored schema conds
   pub once : Distinct (attrs conds)
 
+-- the conditions of a line have bounds at stored cells
 pub where_conds : (schema : List Column) (ts : List Tok) (conds : List Cond) → IsSchema schema → IsWhere schema ts conds → CondsOf schema conds
 where_conds schema ts conds ok (inl (none, no_conds)) = subst (λ (w : List Cond). CondsOf schema w) (sym no_conds) (record { stored = tt; once = tt })
 where_conds schema ts conds ok (inr (terms, rest, e, is, made)) =
@@ -197,6 +200,7 @@ where_conds schema ts conds ok (inr (terms, rest, e, is, made)) =
 
 -- ---- and of the terms that they are printed by
 
+-- such conditions have a bound each
 pub all_bound : (schema : List Column) (cs : List Cond) → AreStored schema cs → AllBound schema cs
 all_bound schema [] h = tt
 all_bound schema (c ∷ cs) h = (h.0.some, h.0.equal, all_bound schema cs h.1)
@@ -234,6 +238,7 @@ cond_good true schema c e s = rw e (text_good schema c.attr c.lower c.upper s.at
 cond_good false schema c e s =
     rw e (good_append schema (lower_term c.attr c.lower) (upper_term c.attr c.upper) (lower_good schema c.attr c.lower s.attr e s.lower) (upper_good schema c.attr c.upper s.attr e s.upper))
 
+-- such conditions are printed by comparisons that can be read
 pub printed_good : (schema : List Column) (cs : List Cond) → AreStored schema cs → AreGood schema (printed_all schema cs)
 printed_good schema [] h = tt
 printed_good schema (c ∷ cs) h =

@@ -60,6 +60,7 @@ no_where t key (w, is, value) = rw is (by_test (bytes_eq w (codes "where")) refl
         let none : None ≡ Some key = subst (λ (v : List ℕ). key_value v ≡ Some key) same value in
         absurd cc
 
+-- a related call is read
 pub call_read : (schema : List Column) (ts : List Tok) (c : Call) → IsSchema schema → IsCall schema ts c → ReadsCall schema ts c
 unfolding call_at call_of cells_at delete_at delete_key delete_where
 call_read schema ts (Select q) ok (front, rest, parts, is, h) = want_read schema q.want q.conds ts front rest ok parts is h
@@ -72,6 +73,7 @@ unfolding call_at
 no_call schema true = refl
 no_call schema false = refl
 
+-- what is related to a line is read from it
 pub line_read : (schema : List Column) (text : List ℕ) (call : Option Call) → IsSchema schema → IsLine schema text call → line_at schema text ≡ Ok call
 unfolding line_at
 line_read schema text None ok (short, inl comment) =
@@ -205,6 +207,7 @@ either_of : {A B C : Type 0} → (A → C) → (B → C) → A ⊎ B → C
 either_of f g (inl a) = f a
 either_of f g (inr b) = g b
 
+-- a call that is read is related to its tokens
 pub call_found : (schema : List Column) (t : Tok) (ts : List Tok) (c : Call) → call_of schema t ts ≡ Ok c → IsCall schema (t ∷ ts) c
 unfolding call_of
 call_found schema t ts c e =
@@ -241,6 +244,7 @@ line-by true comment schema text call l k e = absurd cc
 line-by false true schema text call l k e = subst (λ (w : Option Call). IsLine schema text w) (same_ok None call e) (ltb-false _ _ l, inl k)
 line-by false false schema text call l k e = tokens_found schema text (tokens text) call (ltb-false _ _ l) k refl e
 
+-- what is read from a line is related to it
 pub line_found : (schema : List Column) (text : List ℕ) (call : Option Call) → line_at schema text ≡ Ok call → IsLine schema text call
 unfolding line_at
 line_found schema text call e = line-by (nat_lt MOST_LINE (length text)) (is_comment text) schema text call refl refl e

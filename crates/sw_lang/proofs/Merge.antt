@@ -37,9 +37,11 @@ abbrev pub Distinct : List ℕ → Type 0
 Distinct [] = Unit {0}
 Distinct (a ∷ xs) = (has xs a ≡ false) × Distinct xs
 
+-- a number equals itself
 pub eqb-same : (n : ℕ) → eqb n n ≡ true
 eqb-same n = (Decides-eqb n n).1 refl
 
+-- equality of numbers either way round
 pub eqb-turned : (v : Bool) (m n : ℕ) → eqb m n ≡ v → eqb n m ≡ v
 eqb-turned true m n e = let same : m ≡ n = (Decides-eqb m n).0 e in (Decides-eqb n m).1 (sym same)
 eqb-turned false m n e = by_cases (eqb n m) refl
@@ -48,6 +50,7 @@ eqb-turned false m n e = by_cases (eqb n m) refl
     by_cases true f = let same : n ≡ m = (Decides-eqb n m).0 f in absurd (false≢true (sym e ∙ (Decides-eqb m n).1 (sym same)))
     by_cases false f = f
 
+-- where neither holds, both do not
 pub or-false : (p q : Bool) → (p || q) ≡ false → (p ≡ false) × (q ≡ false)
 or-false true q h = absurd cc
 or-false false q h = (refl, h)
@@ -97,6 +100,7 @@ step-by false lower upper t xs e d none = new-step lower upper t xs e (none e).0
 
 -- ---- what holds of the attributes so far goes on
 
+-- an attribute is among a list with one more, or is that one
 pub has-last : (xs : List ℕ) (b a : ℕ) → has (xs ++ b ∷ []) a ≡ (has xs a || eqb b a)
 has-last [] b a = or-none (eqb b a)
   where
@@ -121,6 +125,7 @@ distinct-by : (v : Bool) (xs : List ℕ) (a : ℕ) → has xs a ≡ v → Distin
 distinct-by true xs a e d = d
 distinct-by false xs a e d = distinct-last xs a e d
 
+-- a list of distinct attributes stays so with one more, or the same
 pub distinct-more : (xs : List ℕ) (a : ℕ) → Distinct xs → Distinct (with_attr xs a)
 distinct-more xs a d = distinct-by (has xs a) xs a refl d
 
@@ -140,6 +145,7 @@ still-by false lower upper t xs e none = λ a h. let parts = or-false (has xs a)
 
 -- ---- all terms
 
+-- terms one after another make the conditions of all at once, from any bounds
 pub merged : (lower upper : Bounds) (xs : List ℕ) (ts : List Term) → Distinct xs → Unbounded lower upper xs
     → conds_from (map (bounded lower upper) xs) ts ≡ map (λ a. record { attr = a; lower = lower_after a (lower a) ts; upper = upper_after a (upper a) ts }) (attrs_after xs ts)
 merged lower upper xs [] d none = refl
@@ -147,5 +153,6 @@ merged lower upper xs (t ∷ ts) d none =
     ap (λ cs. conds_from cs ts) (step-by (has xs t.attr) lower upper t xs refl d (none t.attr))
     ∙ merged (lower_with lower t) (upper_with upper t) (with_attr xs t.attr) ts (distinct-more xs t.attr d) (still-by (has xs t.attr) lower upper t xs refl none)
 
+-- the same from no conditions
 pub conds_from-conditions : (ts : List Term) → conds_from [] ts ≡ conditions ts
 conds_from-conditions ts = merged (λ _. None) (λ _. None) [] ts tt (λ a _. (refl, refl))

@@ -24,9 +24,11 @@ use Rattle.sw_lang.specs.Tokens.{Tok, word, op, comma, quoted, stray}
 use Rattle.sw_lang.specs.Reading.{◌>>=◌, attr_of, coded, found, valued, key_value, key_of, name_of, number_name, of_numbers, op_for, op_of, quoted_value, value_of, is_equality, is_word, is_comma, word_value}
 use Rattle.sw_lang.specs.Grammar.{IsKey, IsName, IsNumbersName, IsValue}
 
+-- texts that compare equal are equal
 pub same_bytes : (v w : List ℕ) → bytes_eq v w ≡ true → v ≡ w
 same_bytes v w h = (bytes_eq-Decides v w).0 h
 
+-- a text compares equal to itself
 pub bytes-same : (w : List ℕ) → bytes_eq w w ≡ true
 bytes-same w = (bytes_eq-Decides w w).1 refl
 
@@ -37,6 +39,7 @@ bytes-turned v w e = by_cases (bytes_eq w v) refl
     by_cases true f = absurd (false≢true (sym e ∙ (bytes_eq-Decides v w).1 (sym (same_bytes w v f))))
     by_cases false f = f
 
+-- a token that is taken for a word is that word
 pub word_is : (w : List ℕ) (t : Tok) → is_word w t ≡ true → t ≡ word w
 word_is w (word v) h = ap word (same_bytes v w h)
 word_is w (op o) h = absurd (false≢true h)
@@ -44,6 +47,7 @@ word_is w comma h = absurd (false≢true h)
 word_is w (quoted q) h = absurd (false≢true h)
 word_is w stray h = absurd (false≢true h)
 
+-- a token that is taken for a comma is one
 pub comma_is : (t : Tok) → is_comma t ≡ true → t ≡ comma
 comma_is (word v) h = absurd (false≢true h)
 comma_is (op o) h = absurd (false≢true h)
@@ -70,9 +74,11 @@ at_place schema w i h =
     let within : i < length (names_of schema) = rw length-map p.0 in
     slice_get-get_or (names_of schema) i [] within ∙ ap Some (get_or-map (λ c. c.0) schema i no_column [] p.0 ∙ sym (same_bytes w (get_or schema i no_column).0 p.1))
 
+-- a word that is taken for an attribute is its name
 pub attr_found : (schema : List Column) (malformed : Why) (w : List ℕ) (i : ℕ) → attr_of schema malformed w ≡ Ok i → slice_get (names_of schema) i ≡ Some w
 attr_found schema malformed w i h = at_place schema w i (named (is_name w) malformed w (position (λ c. bytes_eq w c.0) schema) i h).1
 
+-- a token that is taken for a name is that of the attribute
 pub name_found : (schema : List Column) (t : Tok) (i : ℕ) → name_of schema t ≡ Ok i → IsName schema t i
 unfolding name_of
 name_found schema (word w) i h = (w, refl, attr_found schema why.Word w i h)
@@ -110,6 +116,7 @@ all-true : (v : Bool) (cols : List Column) (i : ℕ) → is_name (get_or cols i 
 all-true true cols i e h all = refl
 all-true false cols i e h all = absurd (false≢true (sym (list_all_at (λ c. is_name c.0) cols i no_column h e) ∙ all))
 
+-- the place of a name is below the number of attributes
 pub attr_within : (schema : List Column) (w : List ℕ) (i : ℕ) → slice_get (names_of schema) i ≡ Some w → i < length schema
 attr_within schema w i at = rw length-map at (slice_get_within (names_of schema) i w at)
 
@@ -130,6 +137,7 @@ attr_read schema malformed w i ok at =
     let place : position_or_len (λ c. bytes_eq w c.0) schema ≡ i = rw here at (place-of schema i ok.sound.distinct within) in
     rw (good, place, lt-ltb i (length schema) within) refl
 
+-- a name is taken for its attribute
 pub name_read : (schema : List Column) (t : Tok) (i : ℕ) → IsSchema schema → IsName schema t i → name_of schema t ≡ Ok i
 unfolding name_of
 name_read schema t i ok (w, is, at) = rw is (attr_read schema why.Word w i ok at)
@@ -145,10 +153,12 @@ number-by (Ok i) schema t a e h =
     (name_found schema t a (e ∙ ap (λ (n : ℕ). Ok n) k.1), subst (λ (n : ℕ). is_of_texts (kind_at schema n) ≡ false) k.1 k.0)
 number-by (Err f) schema t a e h = absurd cc
 
+-- a token that is taken for a name of numbers is one
 pub number_found : (schema : List Column) (t : Tok) (a : ℕ) → number_name schema t ≡ Ok a → IsNumbersName schema t a
 unfolding number_name
 number_found schema t a h = number-by (name_of schema t) schema t a refl h
 
+-- a name of numbers is taken for its attribute
 pub number_read : (schema : List Column) (t : Tok) (a : ℕ) → IsSchema schema → IsNumbersName schema t a → number_name schema t ≡ Ok a
 unfolding number_name
 number_read schema t a ok (is, numbers) = rw (name_read schema t a ok is, numbers) refl
@@ -159,6 +169,7 @@ number_read schema t a ok (is, numbers) = rw (name_read schema t a ok is, number
 abbrev pub Serves : Domain → Op → Type 0
 Serves d o = (is_of_texts d && not (is_equality o)) ≡ false
 
+-- an operator that is taken is the token, and serves the kind
 pub op_found : (d : Domain) (t : Tok) (o : Op) → op_for d t ≡ Ok o → (t ≡ op o) × Serves d o
 unfolding op_for op_of
 op_found d (word w) o h = absurd cc
@@ -169,6 +180,7 @@ op_found d comma o h = absurd cc
 op_found d (quoted q) o h = absurd cc
 op_found d stray o h = absurd cc
 
+-- an operator that serves the kind is taken
 pub op_read : (d : Domain) (t : Tok) (o : Op) → t ≡ op o → Serves d o → op_for d t ≡ Ok o
 unfolding op_for op_of
 op_read d t o h serves = rw (h, serves) refl
@@ -186,6 +198,7 @@ quoted-by true true x z h = (refl, coded_is x z h)
 quoted-by true false x z h = absurd cc
 quoted-by false w x z h = absurd cc
 
+-- a token that is taken for a value writes it
 pub value_found : (k : Domain) (t : Tok) (z : ℤ) → value_of k t ≡ Ok z → IsValue k t z
 unfolding value_of
 value_found k (word w) z h = inl (w, refl, valued_is (word_value k w) z h)
@@ -202,11 +215,13 @@ quoted_read (kind.Text texts) text z t h =
     let is : is_text text ≡ true = (cell_spelled (kind.Text texts) text z h).0 in
     cond-true (is_text text) (coded (cell_value (kind.Text texts) text)) (Err (Bad why.Value)) is ∙ ap coded h
 
+-- a token that writes a value is taken for it
 pub value_read : (k : Domain) (t : Tok) (z : ℤ) → IsValue k t z → value_of k t ≡ Ok z
 unfolding value_of
 value_read k t z (inl (w, is, value)) = rw is (ap valued value)
 value_read k t z (inr (text, is, of_texts, value)) = rw is (quoted_read k text z of_texts value)
 
+-- a token that is taken for a key writes it
 pub key_found : (t : Tok) (n : ℕ) → key_of t ≡ Ok n → IsKey t n
 unfolding key_of
 key_found (word w) n h = (w, refl, valued_is (key_value w) n h)
@@ -215,6 +230,7 @@ key_found comma n h = absurd cc
 key_found (quoted q) n h = absurd cc
 key_found stray n h = absurd cc
 
+-- a token that writes a key is taken for it
 pub key_read : (t : Tok) (n : ℕ) → IsKey t n → key_of t ≡ Ok n
 unfolding key_of
 key_read t n (w, is, value) = rw is (ap valued value)

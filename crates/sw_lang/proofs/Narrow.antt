@@ -40,9 +40,11 @@ past : (v : Bool) (n len : ℕ) → ltb n len ≡ v → cond v (Some n) None ≡
 past true n len e h = absurd cc
 past false n len e h = ltb-false _ _ e
 
+-- a term on an attribute without a condition makes one at the end
 pub at_none : (cs : List Cond) (t : Term) → position (on t.attr) cs ≡ None → add_term cs t ≡ cs ++ cond_of t ∷ []
 at_none cs t h = new_last cs t (past (ltb (position_or_len (on t.attr) cs) (length cs)) (position_or_len (on t.attr) cs) (length cs) refl h)
 
+-- a term on an attribute with a condition narrows it in its place
 pub at_some : (cs : List Cond) (t : Term) (i : ℕ) (d : Cond) → position (on t.attr) cs ≡ Some i → add_term cs t ≡ set cs i (narrowed (get_or cs i d) t)
 at_some cs t i d h =
     let p = cond_some _ _ _ h in

@@ -174,6 +174,7 @@ pub record IsCoded (texts : List (List ℕ)) (z : ℤ) : Type 0 where
   pub sound : is_text text ≡ true
   pub value : cell_value (kind.Text texts) text ≡ Some z
 
+-- a cell of texts is the code of one
 pub text_coded : (texts : List (List ℕ)) (z : ℤ) → IsCell (kind.Text texts) z → IsCoded texts z
 text_coded texts z c =
     let code : ℕ = c.of_kind.0 in
@@ -192,9 +193,11 @@ text_coded texts z c =
 
 -- ---- a cell's text is one word, and not long
 
+-- a digit may stand in a word
 pub digit-word : (b : ℕ) → is_ascii_digit b ≡ true → is_word_byte b ≡ true
 digit-word b h = grind (arith, nat_tests)
 
+-- digits may stand in a word
 pub digits_word : (ds : List ℕ) → list_all is_ascii_digit ds ≡ true → list_all is_word_byte ds ≡ true
 digits_word ds h = all_like is_ascii_digit is_word_byte digit-word ds h
 
@@ -245,6 +248,7 @@ text_word (kind.Text texts) text z n w = absurd (true≢false n)
 pub word_is : (k : Domain) (w : List ℕ) (z : ℤ) → word_value k w ≡ Some z → (is_of_texts k ≡ false) × (cell_value k w ≡ Some z)
 word_is k w z h = unless_some (is_of_texts k) (cell_value k w) z h
 
+-- the word of a value is a word of cells
 pub value_word : (k : Domain) (w : List ℕ) (z : ℤ) → word_value k w ≡ Some z → IsCellWord w
 value_word k w z h = let is = word_is k w z h in text_word k w z is.0 (cell_spelled k w z is.1)
 
@@ -295,6 +299,7 @@ text_printed texts z c =
         let parts = and_parts (is_utf8 t && nat_le (length t) MOST_BYTES_OF_TEXT) (list_all is_text_byte t) h in
         leb-true (length t) MOST_BYTES_OF_TEXT (and_parts (is_utf8 t) (nat_le (length t) MOST_BYTES_OF_TEXT) parts.0).1
 
+-- a cell is printed as a word that is read as the cell
 pub cell_printed : (k : Domain) (z : ℤ) → IsCell k z → IsPrinted k z
 cell_printed kind.Int z c = number_printed kind.Int z refl refl (int_writes z c.fits)
 cell_printed (kind.Fix places) z c = number_printed (kind.Fix places) z refl refl (fixed_writes places z c.places.0 c.places.1 c.fits)
@@ -323,5 +328,6 @@ stored (kind.Text texts) text z p w =
       fits = subst (FitsSigned w64) (sym w.1.2) (record { sfits = omega (arith, within.1, p.few) });
     }
 
+-- the value of a text of a kind can be stored
 pub cell_stored : (k : Domain) (text : List ℕ) (z : ℤ) → IsDomain k → cell_value k text ≡ Some z → IsCell k z
 cell_stored k text z p h = stored k text z p (cell_spelled k text z h)

@@ -18,9 +18,11 @@ use Rattle.sw_lang.specs.Replies.{padded_digits}
 abbrev pub more : ℕ → ℕ → ℕ
 more n d = n * 10 + (d - 48)
 
+-- two tests that pass pass together
 pub and_both : (a b : Bool) → a ≡ true → b ≡ true → (a && b) ≡ true
 and_both a b h k = rw (h, k) refl
 
+-- what holds of the bytes of two texts holds of both together
 pub all_both : (p : ℕ → Bool) (xs ys : List ℕ) → list_all p xs ≡ true → list_all p ys ≡ true → list_all p (xs ++ ys) ≡ true
 all_both p xs ys h k = list_all-append p xs ys ∙ and_both (list_all p xs) (list_all p ys) h k
 
@@ -47,6 +49,7 @@ one-more n ds h w = record {
       fold-append more m ds ((48 + n % 10) ∷ []) ∙ ap (λ k. more k (48 + n % 10)) (w.after m) ∙ rw (long, power, product) (omega arith);
 }
 
+-- the decimal digits of a number write it
 pub decimal_writes : (n : ℕ) → n < 2 ^ 64 → Writes n (decimal n)
 decimal_writes n h = decimal_by_steps Writes one-digit one-more n h
 

@@ -164,6 +164,7 @@ cells_short (k ∷ ks) ts (z ∷ zs) pad p (a, rest, e, is, others) =
 
 -- ---- calls
 
+-- the printed text of a related call is no longer than a line may be
 pub call_short : (schema : List Column) (ts : List Tok) (c : Call) → IsSchema schema → IsCall schema ts c → length (call_text schema c) ≤ MOST_LINE
 call_short schema ts (Select q) ok (front, rest, parts, is, h) =
     omega (arith, want_short schema front q.want ok is, where_short schema q.conds ok (where_conds schema rest q.conds ok h), length-append (want_text schema q.want) (where_text schema false q.conds))

@@ -115,5 +115,6 @@ all schema done (c ∷ cs) n d b =
     ∙ all schema (done ++ c ∷ []) cs next d.1 b.2
     ∙ append_assoc done (c ∷ []) cs
 
+-- the comparisons that conditions are printed by make these conditions
 pub printed_make : (schema : List Column) (cs : List Cond) → Distinct (attrs cs) → AllBound schema cs → conditions (printed_all schema cs) ≡ cs
 printed_make schema cs d b = sym (conds_from-conditions (printed_all schema cs)) ∙ all schema [] cs (none_of-nil (attrs cs)) d b

@@ -23,6 +23,7 @@ pub record IsNameWord (w : List ℕ) : Type 0 where
 name-byte : (b : ℕ) → is_name_byte b ≡ true → is_word_byte b ≡ true
 name-byte b h = rw h refl
 
+-- a name may stand as a word
 pub word_of : (w : List ℕ) → is_name w ≡ true → IsNameWord w
 word_of w h =
     let word_is : is_word w ≡ true = (and_parts (is_word w) (not (is_reserved w)) h).0 in
@@ -41,12 +42,14 @@ all-true : (v : Bool) (cols : List Column) (i : ℕ) → is_name (get_or cols i 
 all-true true cols i e h all = refl
 all-true false cols i e h all = absurd (false≢true (sym (list_all_at (λ c. is_name c.0) cols i no_column h e) ∙ all))
 
+-- the name of an attribute may stand as a word
 pub name_word : (schema : List Column) (a : ℕ) → IsSchema schema → a < length schema → IsNameWord (name_at schema a)
 name_word schema a ok h =
     let here : name_at schema a ≡ (get_or schema a no_column).0 = get_or-map (λ c. c.0) schema a no_column [] h in
     let good : is_name (get_or schema a no_column).0 ≡ true = all-true (is_name (get_or schema a no_column).0) schema a refl h ok.sound.names in
     word_of (name_at schema a) (ap is_name here ∙ good)
 
+-- the word of the name of an attribute is related to it
 pub name_is : (schema : List Column) (a : ℕ) → a < length schema → IsName schema (word (name_at schema a)) a
 name_is schema a h =
     let within : a < length (names_of schema) = rw length-map h in

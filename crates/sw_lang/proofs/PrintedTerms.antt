@@ -92,6 +92,7 @@ cond-by false schema c e = rw e (bounds-text schema c.attr c.lower c.upper)
 cond-text : (schema : List Column) (c : Cond) → cond_terms schema c ≡ map (term_text schema) (printed schema c)
 cond-text schema c = cond-by (is_of_texts (kind_at schema c.attr)) schema c refl
 
+-- the comparisons of conditions, written one by one
 pub conds-text : (schema : List Column) (cs : List Cond) → flat_map (cond_terms schema) cs ≡ map (term_text schema) (printed_all schema cs)
 conds-text schema [] = refl
 conds-text schema (c ∷ cs) =
@@ -156,6 +157,7 @@ terms_are schema t (u ∷ us) ok good =
 
 -- ---- the conditions' text
 
+-- no word goes on into conditions that follow
 pub where_stops : (schema : List Column) (conds : List Cond) → Stops (where_text schema false conds)
 where_stops schema conds = by_terms (flat_map (cond_terms schema) conds)
   where
@@ -167,6 +169,7 @@ texts_where : (schema : List Column) (ts : List Term) (conds : List Cond) → Is
 texts_where schema [] conds ok good made = inl (refl, sym made)
 texts_where schema (t ∷ ts) conds ok good made = inr (t ∷ ts, tokens (started schema t ts), refl, terms_are schema t ts ok good, sym made)
 
+-- the tokens of printed conditions are related to them
 pub where_is : (schema : List Column) (conds : List Cond) → IsSchema schema → AreGood schema (printed_all schema conds) → conditions (printed_all schema conds) ≡ conds → IsWhere schema (tokens (where_text schema false conds)) conds
 where_is schema conds ok good made =
     subst (λ ts. IsWhere schema (tokens (terms_text false ts)) conds) (sym (conds-text schema conds)) (texts_where schema (printed_all schema conds) conds ok good made)

@@ -40,6 +40,7 @@ undone-by false b bs e ih =
     let here : undoubled (b ∷ doubled bs) ≡ b ∷ undoubled (doubled bs) = rw e refl in
     ap undoubled text ∙ here ∙ ap (λ (w : List ℕ). b ∷ w) ih
 
+-- a text whose quotes were doubled and undoubled is the text
 pub undoubled-doubled : (t : List ℕ) → undoubled (doubled t) ≡ t
 undoubled-doubled [] = refl
 undoubled-doubled (b ∷ bs) = undone-by (b == 39) b bs refl (undoubled-doubled bs)
@@ -54,6 +55,7 @@ doubled_length : (t : List ℕ) → length (doubled t) ≤ 2 * length t
 doubled_length [] = omega arith
 doubled_length (b ∷ bs) = doubled-by (b == 39) b bs refl (doubled_length bs)
 
+-- a text in quotes has two bytes more, and at most each byte twice
 pub quoted_length : (t : List ℕ) → length (quoted_text t) ≤ 2 + 2 * length t
 quoted_length t = omega (arith, doubled_length t, length-append (doubled t) (codes "'"))
 
@@ -88,6 +90,7 @@ none_is : (v : Bool) (n : ℕ) → cond v (Some n) None ≡ None → v ≡ false
 none_is true n e = absurd cc
 none_is false n e = refl
 
+-- a text without a quote is written as it is
 pub no_quotes : (text : List ℕ) → position (λ b. b == 39) text ≡ None → doubled text ≡ text
 no_quotes text e =
     let n : ℕ = position_or_len (λ b. b == 39) text in

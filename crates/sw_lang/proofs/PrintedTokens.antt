@@ -39,6 +39,7 @@ op_text Eq = codes " = "
 op_text Ge = codes " >= "
 op_text Gt = codes " > "
 
+-- no word goes on into an operator
 pub op_stops : (o : Op) (rest : List ℕ) → Stops (op_text o ++ rest)
 op_stops Lt rest = refl
 op_stops Le rest = refl
@@ -46,6 +47,7 @@ op_stops Eq rest = refl
 op_stops Ge rest = refl
 op_stops Gt rest = refl
 
+-- an operator at the front is one token
 pub front_op : (o : Op) (rest : List ℕ) → tokens (op_text o ++ rest) ≡ op o ∷ tokens rest
 front_op Lt rest = refl
 front_op Le rest = refl
@@ -53,11 +55,14 @@ front_op Eq rest = refl
 front_op Ge rest = refl
 front_op Gt rest = refl
 
+-- a comma and a blank at the front are one token
 pub front_comma : (rest : List ℕ) → tokens (codes ", " ++ rest) ≡ comma ∷ tokens rest
 front_comma rest = refl
 
+-- the word where between blanks is one token
 pub front_where : (rest : List ℕ) → tokens (codes " where " ++ rest) ≡ word (codes "where") ∷ tokens rest
 front_where rest = refl
 
+-- the word and between blanks is one token
 pub front_and : (rest : List ℕ) → tokens (codes " and " ++ rest) ≡ word (codes "and") ∷ tokens rest
 front_and rest = refl

@@ -10,6 +10,7 @@ pub record Inside (text : List ℕ) (at : ℕ) : Type 0 where
   pub same : tokens_after (inside []) text ≡ tokens_after (inside so_far) (drop at text)
   pub undone : (s : List ℕ) → undoubled (take at text ++ s) ≡ so_far ++ undoubled s
 
+-- before a text nothing of it is read
 pub nothing_read : (text : List ℕ) → Inside text 0
 nothing_read text = record { so_far = []; same = refl; undone = λ s. refl }
 
@@ -21,6 +22,7 @@ goes_on t rest b e = rw e refl
 stays : (b : ℕ) (s : List ℕ) → (b == 39) ≡ false → undoubled (b ∷ s) ≡ b ∷ undoubled s
 stays b s e = rw e refl
 
+-- a byte that is no quote stands inside
 pub byte_read : (text : List ℕ) (at : ℕ) → Inside text at → at < length text → (slice_index text at == 39) ≡ false → Inside text (at + 1)
 byte_read text at r h e =
     let b : ℕ = slice_index text at in
@@ -48,6 +50,7 @@ quote_taken : (text : List ℕ) (at : ℕ) → (slice_index text at == 39) ≡ t
 quote_taken text at e =
     take_more text at 0 (is_within text at e) ∙ ap (λ (b : ℕ). take at text ++ b ∷ []) (eqb-true (slice_index text at) 39 e)
 
+-- two quotes together stand inside, for one
 pub pair_read : (text : List ℕ) (at : ℕ) → Inside text at → (slice_index text at == 39) ≡ true → (slice_index text (at + 1) == 39) ≡ true → Inside text (at + 2)
 pair_read text at r e f =
     let two : at + 1 + 1 ≡ at + 2 = omega arith in
@@ -67,10 +70,12 @@ pair_read text at r e f =
 
 -- ---- the end
 
+-- a quote that no other follows has closed the text
 pub closed_before : (t rest : List ℕ) → (slice_index rest 0 == 39) ≡ false → tokens_after (behind t) rest ≡ quoted t ∷ tokens rest
 closed_before t [] e = refl
 closed_before t (b ∷ bs) e = rw e refl
 
+-- a quote inside that no other follows closes the text there
 pub closed_at : (text : List ℕ) (at : ℕ) → Inside text at → (slice_index text at == 39) ≡ true → (slice_index text (at + 1) == 39) ≡ false
     → tokens_after (inside []) text ≡ quoted (undoubled (take at text)) ∷ tokens (drop (at + 1) text)
 closed_at text at r e f =
@@ -83,11 +88,13 @@ closed_at text at r e f =
     ∙ closed_before r.so_far (drop (at + 1) text) (ap (λ n. n == 39) next ∙ f)
     ∙ ap (λ (t : List ℕ). quoted t ∷ tokens (drop (at + 1) text)) all
 
+-- a text that ends inside is a stray quote
 pub never_closed : (text : List ℕ) (at : ℕ) → Inside text at → length text ≤ at → tokens_after (inside []) text ≡ stray ∷ []
 never_closed text at r h = r.same ∙ ap (tokens_after (inside r.so_far)) (drop_all at text h)
 
 -- ---- the text of its bytes
 
+-- what is still to be read makes the whole longer
 pub too_long : (held : Bool) (front rest whole : List ℕ) → 1 ≤ length rest → (held && slice_index rest 0 == 39) ≡ false → front ++ undoubled_after held rest ≡ whole → length front < length whole
 too_long held front [] whole some e is = absurd (omega (arith, some))
 too_long held front (b ∷ bs) whole some e is =

@@ -82,6 +82,7 @@ chars_doubled (c ∷ cs) h =
 doubled_utf8 : (t : List ℕ) → IsUtf8 t → IsUtf8 (doubled t)
 doubled_utf8 t (cs, (ok, e)) = subst (λ bs. IsUtf8 (doubled bs)) e (chars_doubled cs ok)
 
+-- a text in quotes is UTF-8 where the text is
 pub quoted_utf8 : (t : List ℕ) → IsUtf8 t → IsUtf8 (quoted_text t)
 quoted_utf8 t h = IsUtf8-append (39 ∷ []) (doubled t ++ 39 ∷ []) one_quote (IsUtf8-append (doubled t) (39 ∷ []) (doubled_utf8 t h) one_quote)
 
@@ -102,5 +103,6 @@ all_last p (b ∷ bs) q h =
     let parts = and_parts (p b) (list_all p bs) h in
     and_from (p b) (list_all p (bs ++ 39 ∷ [])) parts.0 (all_last p bs q parts.1)
 
+-- what holds of a quote and of each byte of a text holds of each byte of it in quotes
 pub quoted_all : (p : ℕ → Bool) (t : List ℕ) → p 39 ≡ true → list_all p t ≡ true → list_all p (quoted_text t) ≡ true
 quoted_all p t q h = and_from (p 39) (list_all p (doubled t ++ 39 ∷ [])) q (all_last p (doubled t) q (doubled_all p t q h))

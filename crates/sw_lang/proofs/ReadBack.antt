@@ -113,6 +113,7 @@ given_back schema ts conds ok (terms, rest, e, is, made) = some_given (where_bac
 abbrev pub AllPlaces : List Domain → Type 0
 AllPlaces ks = AllByRecursion IsDomain ks
 
+-- the kinds of a schema are kinds of cells
 pub kinds_places : (columns : List Column) → AllByRecursion (λ c. IsDomain c.1) columns → AllPlaces (kinds_of columns)
 kinds_places [] h = tt
 kinds_places (c ∷ cs) h = (h.0, kinds_places cs h.1)
@@ -150,9 +151,11 @@ values_back (k ∷ ks) ts (z ∷ zs) pad p (a, rest, e, is, others) =
 
 -- ---- calls
 
+-- the digits of a key are one word
 pub key_run : (key : ℕ) → key < 2 ^ 64 → IsRun (decimal key)
 key_run key h = let w = decimal_writes key h in record { some = w.some; bytes = digits_word (decimal key) w.digits }
 
+-- the tokens of the printed text of a related call are related to it
 pub call_back : (schema : List Column) (ts : List Tok) (c : Call) → IsSchema schema → IsCall schema ts c → IsCall schema (tokens (call_text schema c)) c
 call_back schema ts (Select q) ok (front, rest, parts, is, h) =
     let conds : List ℕ = where_text schema false q.conds in
@@ -170,6 +173,7 @@ call_back schema ts (DeleteWhere conds) ok (rest, e, given) =
     let more : List ℕ = where_text schema false conds in
     (tokens more, front_word (codes "delete") more delete_run (where_stops schema conds), given_back schema rest conds ok given)
 
+-- the printed text of a call is no comment
 pub no_comment : (schema : List Column) (c : Call) → is_comment (call_text schema c) ≡ false
 no_comment schema (Select q) = by_want q.want
   where

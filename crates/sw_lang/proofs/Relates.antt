@@ -18,18 +18,22 @@ use Rattle.sw_lang.proofs.Merge.{conds_from, conds_from-conditions}
 use Rattle.sw_lang.proofs.Names.{comma_is, name_found, name_read, op_found, op_read, value_found, value_read, word_is}
 use Rattle.sw_lang.proofs.Steps.{more_names, more_terms, names_step, terms_step}
 
+-- where two steps give something, the first gave what the second took
 pub bind_ok : {A B : Type 0} (r : Result A Fault) (f : A → Result B Fault) (y : B) → (r >>= f) ≡ Ok y → (x : A) × (r ≡ Ok x) × (f x ≡ Ok y)
 bind_ok (Ok x) f y e = (x, refl, e)
 bind_ok (Err d) f y e = absurd cc
 
+-- answers that are the same answer the same
 pub same_ok : {A : Type 0} (x y : A) → ◌≡◌ {A = Result A Fault} (Ok x) (Ok y) → x ≡ y
 same_ok x y e = cc
 
+-- the same of a pair
 pub same_pair : {A : Type 0} (x y : A) (s t : List Tok) → ◌≡◌ {A = Result (A × List Tok) Fault} (Ok (x, s)) (Ok (y, t)) → (x ≡ y) × (s ≡ t)
 same_pair {A = A} x y s t e =
     let p : ◌≡◌ {A = A × List Tok} (x, s) (y, t) = cc in
     (ap (λ (w : A × List Tok). w.0) p, ap (λ (w : A × List Tok). w.1) p)
 
+-- where something was read first, it is of the first token
 pub first_is : {A : Type 0} (f : Tok → Result A Fault) (ts : List Tok) (x : A) (rest : List Tok) → first_by f ts ≡ Ok (x, rest) → (a : Tok) × (ts ≡ a ∷ rest) × (f a ≡ Ok x)
 unfolding first_by
 first_is {A = A} f [] x rest e = absurd cc
@@ -38,16 +42,19 @@ first_is {A = A} f (a ∷ ts) x rest e =
     let p = same_pair b.0 x ts rest b.2 in
     (a, ap (λ (w : List Tok). a ∷ w) p.1, b.1 ∙ ap (λ (w : A). Ok w) p.0)
 
+-- what the first token gives is read first
 pub first_read : {A : Type 0} (f : Tok → Result A Fault) (a : Tok) (x : A) (rest : List Tok) → f a ≡ Ok x → first_by f (a ∷ rest) ≡ Ok (x, rest)
 unfolding first_by
 first_read f a x rest e = rw e refl
 
 -- ---- terms
 
+-- a related term is read
 pub term_read : (schema : List Column) (a b c : Tok) (t : Term) (rest : List Tok) → IsSchema schema → IsTerm schema a b c t → term_at schema (a ∷ b ∷ c ∷ rest) ≡ Ok (t, rest)
 unfolding term_at first_by
 term_read schema a b c t rest ok h = rw (name_read schema a t.attr ok h.name, op_read (kind_at schema t.attr) b t.op h.op h.fits, value_read (kind_at schema t.attr) c t.value h.value) refl
 
+-- related terms are read onto the conditions before them
 pub terms_read : (schema : List Column) (conds : List Cond) (ts : List Tok) (us : List Term) → IsSchema schema → IsTerms schema ts us → terms_at schema conds ts ≡ Ok (conds_from conds us)
 terms_read schema conds ts [] ok h = absurd h
 terms_read schema conds ts (t ∷ []) ok (a, b, c, e, is) =
@@ -96,6 +103,7 @@ after n schema conds ts cs t (d ∷ rest) a b c parts is short ih e =
     let with_and : ts ≡ a ∷ b ∷ c ∷ word (codes "and") ∷ rest = parts ∙ ap (λ (w : Tok). a ∷ b ∷ c ∷ w ∷ rest) (word_is (codes "and") d j.0) in
     (t, f.0 ∷ f.1, (a, b, c, rest, with_and, is, f.2), f.3)
 
+-- conditions that are read are those of related terms
 pub terms_found : (n : ℕ) (schema : List Column) (conds : List Cond) (ts : List Tok) (cs : List Cond) → length ts ≤ n → terms_at schema conds ts ≡ Ok cs → Found schema conds ts cs
 terms_found zero schema conds ts cs short e =
     let b = bind_ok (term_at schema ts) (λ t. more_terms schema (add_term conds t.0) t.1) cs (sym (terms_step schema conds ts) ∙ e) in
@@ -109,19 +117,23 @@ terms_found (suc n) schema conds ts cs short e =
 
 -- ---- conditions
 
+-- related terms are read as their conditions
 pub given_read : (schema : List Column) (ts : List Tok) (terms : List Term) → IsSchema schema → IsTerms schema ts terms → terms_at schema [] ts ≡ Ok (conditions terms)
 given_read schema ts terms ok is = terms_read schema [] ts terms ok is ∙ ap (λ (w : List Cond). Ok w) (conds_from-conditions terms)
 
+-- related conditions are read
 pub where_read : (schema : List Column) (ts : List Tok) (conds : List Cond) → IsSchema schema → IsWhere schema ts conds → where_at schema ts ≡ Ok conds
 unfolding where_at
 where_read schema ts conds ok (inl (none, no_conds)) = rw (none, no_conds) refl
 where_read schema ts conds ok (inr (terms, rest, e, is, made)) = rw (e, made) (given_read schema rest terms ok is)
 
+-- conditions that are read after the word where are of related terms
 pub given_found : (schema : List Column) (t : Tok) (rest : List Tok) (conds : List Cond) → is_word (codes "where") t ≡ true → terms_at schema [] rest ≡ Ok conds → HasTerms schema (t ∷ rest) conds
 given_found schema t rest conds h e =
     let f = terms_found (length rest) schema [] rest conds (omega arith) e in
     (f.0 ∷ f.1, rest, ap (λ (w : Tok). w ∷ rest) (word_is (codes "where") t h), f.2, f.3 ∙ conds_from-conditions (f.0 ∷ f.1))
 
+-- conditions that are read are related to their tokens
 pub where_found : (schema : List Column) (ts : List Tok) (conds : List Cond) → where_at schema ts ≡ Ok conds → IsWhere schema ts conds
 unfolding where_at
 where_found schema [] conds e = inl (refl, sym (same_ok [] conds e))
@@ -136,6 +148,7 @@ abbrev pub NoComma : List Tok → Type 0
 NoComma [] = Unit {0}
 NoComma (t ∷ ts) = is_comma t ≡ false
 
+-- no comma stands first in conditions
 pub where-NoComma : (schema : List Column) (ts : List Tok) (conds : List Cond) → IsWhere schema ts conds → NoComma ts
 where-NoComma schema ts conds (inl (none, no_conds)) = rw none tt
 where-NoComma schema ts conds (inr (terms, rest, e, is, made)) = rw e refl
@@ -144,6 +157,7 @@ names-end : (schema : List Column) (room : Bool) (names : List ℕ) (rest : List
 names-end schema room names [] h = refl
 names-end schema room names (t ∷ ts) h = rw h refl
 
+-- related names are read onto those before them
 pub names_read : (schema : List Column) (done : List ℕ) (front rest : List Tok) (is : List ℕ) → IsSchema schema → IsNames schema front is → NoComma rest → length done + length is ≤ 8
     → names_at schema done (front ++ rest) ≡ Ok (done ++ is, rest)
 names_read schema done front rest [] ok h stops few = absurd h
@@ -200,6 +214,7 @@ after-name n schema done all ts (d ∷ more) rest a i parts is few short ih e =
         (a ∷ comma ∷ f.0, i, f.1 ∷ f.2, with_comma, (a, f.0, refl, is, f.4), f.5 ∙ append_assoc done (i ∷ []) (f.1 ∷ f.2), f.6)
     by_comma (inr (same, left)) = one-name schema done all ts (d ∷ more) rest a i parts is few same left
 
+-- names that are read are related to their tokens
 pub names_found : (n : ℕ) (schema : List Column) (all : List ℕ) (rest : List Tok) (done : List ℕ) (ts : List Tok) → length ts ≤ n → length done ≤ 7 → names_at schema done ts ≡ Ok (all, rest) → NamesFound schema done ts all rest
 names_found zero schema all rest done ts short few e =
     let b = bind_ok (first_by (name_of schema) ts) (λ p. more_names schema (nat_lt (length done) 7) (done ++ p.0 ∷ []) p.1) (all, rest) (sym (names_step schema done ts) ∙ e) in
@@ -213,6 +228,7 @@ names_found (suc n) schema all rest done ts short few e =
 
 -- ---- values
 
+-- further related values are read
 pub more_read : (y : ℤ) (ys : List ℤ) (ks : List Domain) (ts : List Tok) (zs : List ℤ) → MoreValues ks ts zs → values_at (y ∷ ys) ks ts ≡ Ok ((y ∷ ys) ++ zs)
 unfolding next_value past_comma
 more_read y ys [] ts zs (none, no_values) = rw (none, no_values) (ap (λ (w : List ℤ). Ok w) (sym (append_none (y ∷ ys))))
@@ -226,6 +242,7 @@ more_read y ys (k ∷ ks) ts (z ∷ zs) (a, rest, e, is, others) =
     let joined = rw append_assoc at more in
     rw (e, first_read (value_of k) a z rest (value_read k a z is)) joined
 
+-- related values are read
 pub values_read : (ks : List Domain) (ts : List Tok) (zs : List ℤ) → IsValues ks ts zs → values_at [] ks ts ≡ Ok zs
 unfolding next_value past_comma
 values_read [] ts zs (none, no_values) = rw (none, no_values) refl
@@ -252,6 +269,7 @@ append-none : (xs : List ℤ) → xs ++ [] ≡ xs
 append-none [] = refl
 append-none (x ∷ xs) = ap (λ (w : List ℤ). x ∷ w) (append-none xs)
 
+-- further values that are read are related to their tokens
 pub more_found : (y : ℤ) (ys : List ℤ) (ks : List Domain) (ts : List Tok) (all : List ℤ) → values_at (y ∷ ys) ks ts ≡ Ok all → MoreFound (y ∷ ys) ks ts all
 unfolding next_value
 more_found y ys [] ts all e =
@@ -264,6 +282,7 @@ more_found y ys (k ∷ ks) ts all e =
     let m = more_found y (ys ++ b.0.0 ∷ []) ks b.0.1 all b.2 in
     (b.0.0 ∷ m.0, (f.0, b.0.1, past-is y ys ts p.0 p.1 ∙ ap (λ (w : List Tok). comma ∷ w) f.1, value_found k f.0 b.0.0 f.2, m.1), m.2 ∙ append_assoc (y ∷ ys) (b.0.0 ∷ []) m.0)
 
+-- values that are read are related to their tokens
 pub values_found : (ks : List Domain) (ts : List Tok) (all : List ℤ) → values_at [] ks ts ≡ Ok all → IsValues ks ts all
 unfolding next_value past_comma
 values_found [] ts all e = let p = left-is [] all ts e in (p.0, sym p.1)

@@ -49,6 +49,7 @@ other_ends : {A B : Type 0} (x : A) (y : B) (u : A) (ts : List Tok) → nothing_
 other_ends x y u [] h = refl
 other_ends x y u (t ∷ ts) h = absurd cc
 
+-- tokens behind the last value are refused
 pub rest_ends : (f : Fault) (schema : List Column) (values : List ℤ) (i : ℕ) (all ts : List Tok) → length schema ≤ i
     → values_at values (drop i (kinds_of schema)) ts ≡ values_at [] (kinds_of schema) all → nothing_left (tt {0}) ts ≡ Err f → cells_at schema all ≡ Err f
 unfolding cells_at
@@ -56,6 +57,7 @@ rest_ends f schema values i all ts over so_far h =
     let one : values_at [] (kinds_of schema) all ≡ Err f = last schema values i all ts over so_far ∙ other_left (tt {0}) values f ts h in
     rw one refl
 
+-- where the values of a row are read, its other cells are 0
 pub row_read : (schema : List Column) (cells : List ℤ) (i : ℕ) (all ts : List Tok) → length schema ≤ i → length cells ≡ 8 → i ≤ 8 → ((k : ℕ) → i ≤ k → get_or cells k (pos 0) ≡ pos 0)
     → values_at (take i cells) (drop i (kinds_of schema)) ts ≡ values_at [] (kinds_of schema) all → nothing_left (tt {0}) ts ≡ Ok (tt {0}) → cells_at schema all ≡ Ok cells
 unfolding cells_at

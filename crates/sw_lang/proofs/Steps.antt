@@ -45,6 +45,7 @@ unfolding term_at first_by
 by-name-of schema a b c rest (Ok x) e = rw e (by-op schema x b c rest (op_for (kind_at schema x) b) refl)
 by-name-of schema a b c rest (Err f) e = rw e refl
 
+-- a term is read of the first three tokens
 pub term_at-of : (schema : List Column) (a b c : Tok) (rest : List Tok) → term_at schema (a ∷ b ∷ c ∷ rest) ≡ with_rest rest (term_of schema a b c)
 term_at-of schema a b c rest = by-name-of schema a b c rest (name_of schema a) refl
 
@@ -92,6 +93,7 @@ unfolding terms_at term_at first_by
 by-one schema conds a (Err e) e1 = rw e1 refl
 by-one schema conds a (Ok x) e1 = rw e1 refl
 
+-- a list of terms is one term and then the others
 pub terms_step : (schema : List Column) (conds : List Cond) (ts : List Tok) → terms_at schema conds ts ≡ (term_at schema ts >>= λ t. more_terms schema (add_term conds t.0) t.1)
 unfolding terms_at term_at first_by
 terms_step schema conds [] = refl
@@ -121,6 +123,7 @@ by-name schema names a (quoted q ∷ ts) (Ok x) h = rw h refl
 by-name schema names a (stray ∷ ts) (Err e) h = rw h refl
 by-name schema names a (stray ∷ ts) (Ok x) h = rw h refl
 
+-- a list of names is one name and then the others
 pub names_step : (schema : List Column) (names : List ℕ) (ts : List Tok)
     → names_at schema names ts ≡ (first_by (name_of schema) ts >>= λ p. more_names schema (nat_lt (length names) 7) (names ++ p.0 ∷ []) p.1)
 unfolding names_at first_by
@@ -129,23 +132,27 @@ names_step schema names (a ∷ ts) = by-name schema names a ts (name_of schema a
 
 -- ---- the loops' exits
 
+-- a term that is refused ends the list with its fault
 pub term_ends : (e : ParseError) (schema : List Column) (conds : List Cond) (ts : List Tok) (total : Result (List Cond) Fault) → Fails e (term_at schema ts) → terms_at schema conds ts ≡ total → Fails e total
 term_ends errors.Memory schema conds ts total h so_far = tt
 term_ends (errors.Fault f) schema conds ts total h so_far =
     let one : terms_at schema conds ts ≡ Err f = terms_step schema conds ts ∙ rw h refl in
     sym so_far ∙ one
 
+-- a term that is read goes on with the conditions that it leaves
 pub term_goes : (schema : List Column) (conds : List Cond) (ts : List Tok) (total : Result (List Cond) Fault) (t : Term) (rest : List Tok) → term_at schema ts ≡ Ok (t, rest) → terms_at schema conds ts ≡ total → more_terms schema (add_term conds t) rest ≡ total
 term_goes schema conds ts total t rest h so_far =
     let one : terms_at schema conds ts ≡ more_terms schema (add_term conds t) rest = terms_step schema conds ts ∙ rw h refl in
     sym one ∙ so_far
 
+-- a name that is refused ends the list with its fault
 pub name_ends : (e : ParseError) (schema : List Column) (names : List ℕ) (ts : List Tok) (total : Result (List ℕ × List Tok) Fault) → Fails e (first_by (name_of schema) ts) → names_at schema names ts ≡ total → Fails e total
 name_ends errors.Memory schema names ts total h so_far = tt
 name_ends (errors.Fault f) schema names ts total h so_far =
     let one : names_at schema names ts ≡ Err f = names_step schema names ts ∙ rw h refl in
     sym so_far ∙ one
 
+-- a name that is read goes on with the names so far
 pub name_goes : (schema : List Column) (names : List ℕ) (ts : List Tok) (total : Result (List ℕ × List Tok) Fault) (i : ℕ) (rest : List Tok) → first_by (name_of schema) ts ≡ Ok (i, rest) → names_at schema names ts ≡ total → more_names schema (nat_lt (length names) 7) (names ++ i ∷ []) rest ≡ total
 name_goes schema names ts total i rest h so_far =
     let one : names_at schema names ts ≡ more_names schema (nat_lt (length names) 7) (names ++ i ∷ []) rest = names_step schema names ts ∙ rw h refl in

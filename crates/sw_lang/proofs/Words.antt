@@ -34,6 +34,7 @@ some_run (b ∷ bs) h = rw h (omega arith)
 abbrev pub WordFront : List ℕ → List ℕ → Type 0
 WordFront s w = tokens s ≡ word (take (length w) s) ∷ tokens (drop (length w) s)
 
+-- a byte of a word at the front begins a word, the longest there is
 pub tokens-word : (s : List ℕ) → is_word_byte (slice_index s 0) ≡ true → WordFront s (take_while is_word_byte s)
 tokens-word s h =
     let len : length (take_while is_word_byte s) ≡ prefix_len is_word_byte s = length-prefix_len is_word_byte s in

@@ -335,12 +335,14 @@ table_begins cs rs ts rec field reads lt all b =
 
 -- ---- the whole
 
+-- the first record of a beginning begins that of the whole
 pub head_begins : (r : Fields) (rs ts : Records) → Begins (r ∷ rs) ts → (t : Fields) × (us : Records) × (ts ≡ t ∷ us) × (length r ≤ length t)
 head_begins r [] [] b = absurd b
 head_begins r (s ∷ rs) [] b = absurd b
 head_begins r [] (t ∷ ts) b = (t, ts, refl, no_less r t b)
 head_begins r (s ∷ rs) (t ∷ ts) b = (t, ts, refl, (let e : length r ≡ length t = ap length b.0 in omega arith))
 
+-- a record that is not the last of a beginning is the whole one
 pub tail_begins : (r : Fields) (rs ts : Records) → 0 < length rs → Begins (r ∷ rs) ts → (us : Records) × (ts ≡ r ∷ us) × Begins rs us
 tail_begins r [] ts h b = absurd (omega arith)
 tail_begins r (s ∷ rs) [] h b = absurd b
@@ -354,6 +356,7 @@ front_bom (x ∷ []) b h = absurd (omega arith)
 front_bom (x ∷ y ∷ []) b h = absurd (omega arith)
 front_bom (x ∷ y ∷ z ∷ a) b h = by_bool (is_bom x y z) (λ e. rw e refl) (λ e. rw e refl)
 
+-- a header of more than eight fields is refused
 pub header_long : (t : Fields) (us : Records) → 8 < length t → table_of_records (t ∷ us) ≡ Err (too_many 8)
 header_long [] us h = absurd (omega arith)
 header_long (f ∷ fs) us h =

@@ -93,18 +93,22 @@ pub after_skip : (s : State) (fs : List (List ℕ)) (f : List ℕ) (c : ℕ) (xs
 unfolding next_record
 after_skip s fs f c xs e = rw e refl
 
+-- a byte of a field goes on with it
 pub after_join : (s : State) (fs : List (List ℕ)) (f : List ℕ) (c : ℕ) (xs : List ℕ) → step default_config s c ≡ (st.InField, act.Copy) → records_within s fs f (c ∷ xs) ≡ records_within st.InField fs (f ++ c ∷ []) xs
 unfolding next_record
 after_join s fs f c xs e = rw e refl
 
+-- a comma ends a field
 pub after_divide : (s : State) (fs : List (List ℕ)) (f : List ℕ) (c : ℕ) (xs : List ℕ) → step default_config s c ≡ (st.StartField, act.EndField) → records_within s fs f (c ∷ xs) ≡ records_within st.StartField (fs ++ f ∷ []) [] xs
 unfolding next_record
 after_divide s fs f c xs e = rw e refl
 
+-- a line feed ends a record
 pub after_end : (s t : State) (fs : List (List ℕ)) (f : List ℕ) (c : ℕ) (xs : List ℕ) → step default_config s c ≡ (t, act.EndRecord) → records_within s fs f (c ∷ xs) ≡ (fs ++ f ∷ []) ∷ records_within t [] [] xs
 unfolding next_record
 after_end s t fs f c xs e = rw e (ap (λ rs. (fs ++ f ∷ []) ∷ rs) (records_step t xs))
 
+-- no bytes have no record
 pub none_left : records_at st.StartRecord [] ≡ []
 unfolding records_from next_record
 none_left = refl
@@ -195,6 +199,7 @@ unmarked (a ∷ []) h = refl
 unmarked (a ∷ b ∷ []) h = refl
 unmarked (a ∷ b ∷ c ∷ rest) h = by_bool (a == 239) (λ e. absurd (cc (rw e at h))) (λ n. rw n refl)
 
+-- fewer than three bytes begin with no byte order mark
 pub short_bom : (bytes : List ℕ) → length bytes < 3 → bytes ≡ strip_bom bytes
 unfolding strip_bom
 short_bom [] h = refl
@@ -202,6 +207,7 @@ short_bom (a ∷ []) h = refl
 short_bom (a ∷ b ∷ []) h = refl
 short_bom (a ∷ b ∷ c ∷ rest) h = absurd (omega arith)
 
+-- bytes that begin otherwise have no byte order mark to leave out
 pub no_bom : (bytes : List ℕ) → 3 ≤ length bytes → is_bom (get_or bytes 0 0) (get_or bytes 1 0) (get_or bytes 2 0) ≡ false → bytes ≡ strip_bom bytes
 unfolding strip_bom
 no_bom [] h n = refl
@@ -209,6 +215,7 @@ no_bom (a ∷ []) h n = refl
 no_bom (a ∷ b ∷ []) h n = refl
 no_bom (a ∷ b ∷ c ∷ rest) h n = rw n refl
 
+-- a byte order mark is left out
 pub one_bom : (bytes : List ℕ) → 3 ≤ length bytes → is_bom (get_or bytes 0 0) (get_or bytes 1 0) (get_or bytes 2 0) ≡ true → drop 3 bytes ≡ strip_bom bytes
 unfolding strip_bom
 one_bom [] h n = refl

@@ -18,6 +18,7 @@ Texts = List (List ℕ)
 
 -- ---- one domain
 
+-- the texts that were put in last count
 pub over_over : (ts us : Texts) (d : Domain) → over us (over ts d) ≡ over us d
 over_over ts us kind.Int = refl
 over_over ts us (kind.Fix places) = refl
@@ -30,6 +31,7 @@ over_domain ts us (word.Fix places) = refl
 over_domain ts us word.Flag = refl
 over_domain ts us word.Text = refl
 
+-- a domain is of texts whichever texts there are
 pub of_texts_over : (ts : Texts) (d : Domain) → is_of_texts (over ts d) ≡ is_of_texts d
 of_texts_over ts kind.Int = refl
 of_texts_over ts (kind.Fix places) = refl
@@ -63,6 +65,7 @@ own_over ts (kind.Text own) h = ap kind.Text (sym h)
 
 -- ---- attributes
 
+-- the texts that a schema holds last count
 pub holding_again : (ts us : Texts) (cs : List Column) → holding us (holding ts cs) ≡ holding us cs
 holding_again ts us [] = refl
 holding_again ts us (c ∷ cs) = ap (λ d. (c.0, d) ∷ holding us (holding ts cs)) (over_over ts us c.1) ∙ ap (λ ds. (c.0, over us c.1) ∷ ds) (holding_again ts us cs)
@@ -77,14 +80,17 @@ own_held ts (c ∷ cs) h =
 pub schema_held : (s : List Column) → IsSchema s → holding (texts_of s) s ≡ s
 schema_held s is = own_held (texts_of s) s is.shared
 
+-- a schema has as many columns whichever texts it holds
 pub holding_long : (ts : Texts) (cs : List Column) → length (holding ts cs) ≡ length cs
 holding_long ts [] = refl
 holding_long ts (c ∷ cs) = ap suc (holding_long ts cs)
 
+-- and the same names
 pub holding_names : (ts : Texts) (cs : List Column) → names_of (holding ts cs) ≡ names_of cs
 holding_names ts [] = refl
 holding_names ts (c ∷ cs) = ap (λ ns. c.0 ∷ ns) (holding_names ts cs)
 
+-- and the same kinds, over these texts
 pub holding_kinds : (ts : Texts) (cs : List Column) → kinds_of (holding ts cs) ≡ under ts (kinds_of cs)
 holding_kinds ts [] = refl
 holding_kinds ts (c ∷ cs) = ap (λ ds. over ts c.1 ∷ ds) (holding_kinds ts cs)
@@ -101,6 +107,7 @@ holding_named : (ts : Texts) (cs : List Column) → list_all (λ c. is_name c.0)
 holding_named ts [] = refl
 holding_named ts (c ∷ cs) = ap (λ b. is_name c.0 && b) (holding_named ts cs)
 
+-- and has an attribute of texts or has none, as before
 pub holding_of_texts : (ts : Texts) (cs : List Column) → has_texts (holding ts cs) ≡ has_texts cs
 holding_of_texts ts [] = refl
 holding_of_texts ts (c ∷ cs) = ap (λ b. b || has_texts (holding ts cs)) (of_texts_over ts c.1) ∙ ap (λ b. is_of_texts c.1 || b) (holding_of_texts ts cs)
@@ -181,6 +188,7 @@ schema_again ts us cs s own sound none =
 pub none_known : (ts : Texts) (cs : List Column) → texts_of (holding ts cs) ≡ ts → has_texts cs ≡ false → ts ≡ []
 none_known ts cs own h = sym own ∙ no_texts_held ts cs h
 
+-- kinds of numbers stay, whichever texts there are
 pub under_numbers : (ts : Texts) (cs : List Column) → has_texts cs ≡ false → under ts (kinds_of cs) ≡ kinds_of cs
 under_numbers ts [] h = refl
 under_numbers ts (c ∷ cs) h =
@@ -204,6 +212,7 @@ kind_first [] i d none h = absurd (none-some d h)
 kind_first (c ∷ cs) zero d none h = same_Some c.1 d h
 kind_first (c ∷ cs) (suc i) d none h = kind_first cs i d none h
 
+-- a schema has a kind for each column
 pub kinds_long : (cs : List Column) → length (kinds_of cs) ≡ length cs
 kinds_long cs = length-map cs (λ (c : Column). c.1)
 
@@ -214,9 +223,11 @@ texts_further cs i k h =
     let inside : i < length cs = subst (λ n. i < n) (kinds_long cs) (slice_get_within (kinds_of cs) i (domain [] k) h) in
     ap has_texts (drop_more cs i none inside) ∙ at_first (get_or cs i none) (drop (i + 1) cs) (domain [] k) (kind_first cs i (domain [] k) none h)
 
+-- where an attribute is of texts, there is one from it on
 pub texts_here : (cs : List Column) (i : ℕ) (k : Kind) → slice_get (kinds_of cs) i ≡ Some (domain [] k) → k ≡ word.Text → has_texts (drop i cs) ≡ true
 texts_here cs i k h t = texts_further cs i k h ∙ ap (λ x. is_of_texts (domain [] x) || has_texts (drop (i + 1) cs)) t
 
+-- behind the last column there is none
 pub texts_past : (cs : List Column) (i : ℕ) → length cs ≤ i → has_texts (drop i cs) ≡ false
 texts_past cs i h = ap has_texts (drop_all i cs h)
 
@@ -224,6 +235,7 @@ take_nothing : (n : ℕ) → take {A = List ℕ} n [] ≡ []
 take_nothing zero = refl
 take_nothing (suc n) = refl
 
+-- of no texts the first so many are none
 pub take_none : (n : ℕ) (ts : Texts) → ts ≡ [] → take n ts ≡ []
 take_none n ts h = ap (take n) h ∙ take_nothing n
 
@@ -240,6 +252,7 @@ kinds_of_texts (c ∷ cs) = ap (λ b. is_of_texts c.1 || b) (kinds_of_texts cs)
 pub domain_at : (cs : List Column) (a : ℕ) → AreColumns cs → a < length cs → IsDomain (slice_index_or (kinds_of cs) a kind.Int)
 domain_at cs a s h = subst IsDomain (kind_first cs a (slice_index_or (kinds_of cs) a kind.Int) ([], kind.Int) (slice_get-get_or (kinds_of cs) a kind.Int (subst (λ n. a < n) (sym (kinds_long cs)) h))) (s.domains a ([], kind.Int) h)
 
+-- behind the last column a kind counts as of numbers
 pub domain_past : (cs : List Column) (a : ℕ) → length cs ≤ a → slice_index_or (kinds_of cs) a kind.Int ≡ kind.Int
 domain_past [] a h = refl
 domain_past (c ∷ cs) zero h = absurd (omega (arith, h))

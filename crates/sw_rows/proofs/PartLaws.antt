@@ -72,6 +72,7 @@ padded_at (Ok cells) rec = refl
 padded_at (Err (Some field)) rec = refl
 padded_at (Err None) rec = refl
 
+-- the number of a record stands in its fault alone
 pub record_shape : (ks : List Domain) (fields : List (List ℕ)) → Shape (λ rec. then_padded (cells_of rec ks fields))
 record_shape ks fields = by_count (nat_eq (length fields) (length ks)) (cells_shape ks fields [])
   where

@@ -57,6 +57,7 @@ place_only ts i t h =
 not_zero : (code : ℕ) → 0 < code → (code == 0) ≡ false
 not_zero code some = grind (arith, nat_tests)
 
+-- codes count from 1
 pub text_next : (ts : Texts) (i : ℕ) → text_of ts (i + 1) ≡ slice_get ts i
 text_next ts i =
     let e : i + 1 - 1 ≡ i = omega arith in
@@ -77,14 +78,17 @@ placed_at ts code t h = by_place (position (bytes_eq t) ts) refl h
 coded : (ts : Texts) (i code : ℕ) (t : List ℕ) → i + 1 ≡ code → position (bytes_eq t) ts ≡ Some i → code_of ts t ≡ Some code
 coded ts i code t e h = ap (option_map (λ n. n + 1)) h ∙ ap (λ n. Some n) e
 
+-- the text of a code has that code
 pub code_there : (ts : Texts) (code : ℕ) (t : List ℕ) → texts_differ ts ≡ true → text_of ts code ≡ Some t → code_of ts t ≡ Some code
 code_there ts code t d h = let at = coded_at ts code t h in coded ts at.0 code t at.1 (place_there ts at.0 t d at.2)
 
+-- the code of a text has that text
 pub code_only : (ts : Texts) (code : ℕ) (t : List ℕ) → code_of ts t ≡ Some code → text_of ts code ≡ Some t
 code_only ts code t h =
     let at = placed_at ts code t h in
     ap (text_of ts) (sym at.1) ∙ text_next ts at.0 ∙ place_only ts at.0 t at.2
 
+-- a code is one of 1 to the number of texts
 pub code_within : (ts : Texts) (code : ℕ) (t : List ℕ) → code_of ts t ≡ Some code → (0 < code) × (code ≤ length ts)
 code_within ts code t h =
     let at = placed_at ts code t h in
@@ -92,6 +96,7 @@ code_within ts code t h =
     let next = at.1 in
     (omega arith, omega arith)
 
+-- and each of these has a text
 pub code_counted : (ts : Texts) (code : ℕ) → 0 < code → code ≤ length ts → is_some (text_of ts code) ≡ true
 code_counted ts zero some few = absurd (omega arith)
 code_counted ts (suc i) some few =
@@ -141,15 +146,18 @@ text_kept (s ∷ ts) rest (suc i) t h = text_kept ts rest i t h
 code-append : (ts rest : Texts) (t : List ℕ) (code : ℕ) → code_of ts t ≡ Some code → code_of (ts ++ rest) t ≡ Some code
 code-append ts rest t code h = let at = placed_at ts code t h in coded (ts ++ rest) at.0 code t at.1 (place_kept ts rest at.0 t at.2)
 
+-- a text keeps its code as texts are added
 pub code_kept : (ts more : Texts) (t : List ℕ) (code : ℕ) → code_of ts t ≡ Some code → code_of (with_texts ts more) t ≡ Some code
 code_kept ts more t code h = let all = grown ts more in ap (λ us. code_of us t) all.1 ∙ code-append ts all.0 t code h
 
+-- a code keeps its text as texts are added
 pub text_of_kept : (ts more : Texts) (t : List ℕ) (code : ℕ) → text_of ts code ≡ Some t → text_of (with_texts ts more) code ≡ Some t
 text_of_kept ts more t code h =
     let all = grown ts more in
     let at = coded_at ts code t h in
     ap (λ us. text_of us code) all.1 ∙ ap (text_of (ts ++ all.0)) (sym at.1) ∙ text_next (ts ++ all.0) at.0 ∙ text_kept ts all.0 at.0 t at.2
 
+-- the first so many texts are those before the added ones
 pub taken_back : (ts more : Texts) → take (length ts) (with_texts ts more) ≡ ts
 taken_back ts more = let all = grown ts more in ap (take (length ts)) all.1 ∙ take-append_seam ts all.0
 

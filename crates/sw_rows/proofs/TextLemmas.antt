@@ -40,6 +40,7 @@ text_known text (k ∷ ks) = ap (λ b. bytes_eq text (string_bytes k) || b) (tex
 pub text_code : (text : List ℕ) (ks : Strings) (ts : List (List ℕ)) (place : Option ℕ) → map string_bytes ks ≡ ts → place ≡ position (λ k. bytes_eq text (string_bytes k)) ks → option_map (λ i. i + 1) place ≡ code_of ts text
 text_code text ks ts place same found = ap (option_map (λ i. i + 1)) (found ∙ text_place text ks ∙ ap (position (bytes_eq text)) same)
 
+-- a text is known where a string of the set has its bytes
 pub text_known_among : (text : List ℕ) (ks : Strings) (ts : List (List ℕ)) (b : Bool) → map string_bytes ks ≡ ts → b ≡ list_any (λ k. bytes_eq text (string_bytes k)) ks → b ≡ has_text ts text
 text_known_among text ks ts b same found = found ∙ text_known text ks ∙ ap (λ us. has_text us text) same
 
@@ -48,6 +49,7 @@ text_last : (ks : Strings) (k : String Global) → has_text (map string_bytes ks
 text_last ks k h =
     ap (map string_bytes) (cond-false (list_any (string_eq k) ks) ks (ks ++ k ∷ []) (text_known (string_bytes k) ks ∙ h)) ∙ map-append string_bytes ks (k ∷ [])
 
+-- a string that goes in new stands last
 pub text_inserted : (text : List ℕ) (ks : Strings) (ts : List (List ℕ)) (k : String Global) → map string_bytes ks ≡ ts → string_bytes k ≡ text → has_text ts text ≡ false → map string_bytes (insert_key string_eq ks k) ≡ ts ++ text ∷ []
 text_inserted text ks ts k same kept new = text_last ks k (ap (λ us. has_text us (string_bytes k)) same ∙ ap (has_text ts) kept ∙ new) ∙ (λ j. same j ++ kept j ∷ [])
 
@@ -105,6 +107,7 @@ fewer zero ts = omega arith
 fewer (suc n) [] = omega arith
 fewer (suc n) (t ∷ ts) = let less = fewer n ts in omega arith
 
+-- the first so many texts are texts that may be known
 pub texts_fewer : (n : ℕ) (ts : List (List ℕ)) → AreTexts ts → AreTexts (take n ts)
 texts_fewer n ts s =
     let less = fewer n ts in
@@ -128,6 +131,7 @@ pub text_read : (bytes : List ℕ) → IsUtf8 bytes → length bytes ≤ MOST_BY
 text_read bytes utf8 short printed =
     and_from (is_utf8 bytes && nat_le (length bytes) MOST_BYTES_OF_TEXT) (list_all is_text_byte bytes) (and_from (is_utf8 bytes) (nat_le (length bytes) MOST_BYTES_OF_TEXT) (is_utf8-from_IsUtf8 bytes utf8) (le-leb (length bytes) MOST_BYTES_OF_TEXT short)) printed
 
+-- a text of a cell is UTF-8
 pub text_utf8 : (bytes : List ℕ) → is_text bytes ≡ true → IsUtf8 bytes
 text_utf8 bytes h = IsUtf8-from_is_utf8 bytes (and_parts (is_utf8 bytes) (nat_le (length bytes) MOST_BYTES_OF_TEXT) (and_parts (is_utf8 bytes && nat_le (length bytes) MOST_BYTES_OF_TEXT) (list_all is_text_byte bytes) h).0).0
 
@@ -135,6 +139,7 @@ not_true : (b : Bool) → (b ≡ true → ⊥) → b ≡ false
 not_true true f = absurd (f refl)
 not_true false f = refl
 
+-- what is not UTF-8 is no text of a cell
 pub text_refused : (bytes : List ℕ) → (IsUtf8 bytes → ⊥) → is_text bytes ≡ false
 text_refused bytes bad = not_true (is_text bytes) (λ h. bad (text_utf8 bytes h))
 

@@ -112,6 +112,7 @@ gathered start ts (u ∷ us) room = by_room (are_full ts) refl (gathered start (
 
 -- ---- codes
 
+-- codes stay right as texts are added
 pub codes_kept : (ts us more : Texts) (codes : List ℤ) → AreCodes ts us codes → AreCodes ts (with_texts us more) codes
 codes_kept ts us more codes h = λ i t e. (let at = h i t e in (at.0, code_kept us more t at.0 at.1, at.2))
 
@@ -239,6 +240,7 @@ coded_number (b ∷ ds) codes (z ∷ zs) (suc i) d e h = ap (λ v. cond (is_of_t
 abbrev with_cells : Row → List ℤ → Row
 with_cells r cells = record r { cells = cells }
 
+-- one attribute of texts more has its cells exchanged
 pub text_further : (ds : List Domain) (codes : List ℤ) (rs : List Row) (i : ℕ) (d : Domain) → slice_get ds i ≡ Some d → is_of_texts d ≡ true
     → map (with_exchanged i codes) (map (row_exchanged (take i ds) codes) rs) ≡ map (row_exchanged (take (i + 1) ds) codes) rs
 text_further ds codes [] i d e h = refl
@@ -247,6 +249,7 @@ text_further ds codes (r ∷ rs) i d e h =
     ap (λ v. with_cells r v ∷ map (with_exchanged i codes) (map (row_exchanged (take i ds) codes) rs)) (sym (coded_text ds codes r.cells i d e h) ∙ ap (λ n. cells_exchanged (take n ds) codes r.cells) next)
     ∙ ap (λ v. row_exchanged (take (i + 1) ds) codes r ∷ v) (text_further ds codes rs i d e h)
 
+-- an attribute of numbers has no cells to exchange
 pub number_further : (ds : List Domain) (codes : List ℤ) (rs : List Row) (i : ℕ) (d : Domain) → slice_get ds i ≡ Some d → is_of_texts d ≡ false
     → map (row_exchanged (take i ds) codes) rs ≡ map (row_exchanged (take (i + 1) ds) codes) rs
 number_further ds codes [] i d e h = refl
@@ -255,6 +258,7 @@ number_further ds codes (r ∷ rs) i d e h =
     ap (λ v. with_cells r v ∷ map (row_exchanged (take i ds) codes) rs) (sym (coded_number ds codes r.cells i d e h) ∙ ap (λ n. cells_exchanged (take n ds) codes r.cells) next)
     ∙ ap (λ v. row_exchanged (take (i + 1) ds) codes r ∷ v) (number_further ds codes rs i d e h)
 
+-- where no attribute is of texts rows stay
 pub none_coded : (codes : List ℤ) (rs : List Row) → map (row_exchanged [] codes) rs ≡ rs
 none_coded codes [] = refl
 none_coded codes (r ∷ rs) = ap (λ v. r ∷ v) (none_coded codes rs)
@@ -292,6 +296,7 @@ rows_both ds xs ys ts us more codes r s all first rest h e =
     let other : rows_after (under seen ds) [] ys ≡ Ok (map (row_exchanged ds codes) s) = rows_coded us seen codes (codes_kept us (with_texts ts us) more codes h) ds ys [] s (rest []) in
     rows_cut (under seen ds) xs ys ∙ ap (λ o. rows_joined o (rows_after (under seen ds) [] ys)) one ∙ ap (rows_behind r) other ∙ e
 
+-- the rows of two parts, those of the second with codes among all texts, are those of the whole
 pub parts_joined : (cs : List Column) (a b whole : List ℕ) (first rest all : Part) (codes : List ℤ) → AreRecordsOfBoth a b whole → IsRead cs a first → IsRead cs b rest → are_full rest.texts ≡ false
     → all.texts ≡ with_texts first.texts rest.texts → AreCodes rest.texts all.texts codes → rows_behind first.rows.items (Ok (map (row_exchanged (kinds_of cs) codes) rest.rows.items)) ≡ Ok all.rows.items → all.rows.width ≡ length cs
     → IsRead cs whole all
@@ -337,12 +342,14 @@ at_end : {A : Type 0} (xs : List A) (y : A) → slice_get (xs ++ y ∷ []) (leng
 at_end [] y = refl
 at_end (x ∷ xs) y = at_end xs y
 
+-- the text of a code stands one place before it
 pub text_there : (ts : Texts) (i : ℕ) (t : List ℕ) → Some t ≡ text_of ts (i + 1) → slice_get ts i ≡ Some t
 text_there ts i t h = sym (text_next ts i) ∙ sym h
 
 next_text : (ts : Texts) (i : ℕ) (t : List ℕ) → slice_get ts i ≡ Some t → take (i + 1) ts ≡ take i ts ++ t ∷ []
 next_text ts i t h = take_more ts i [] (slice_get_within ts i t h) ∙ ap (λ u. take i ts ++ u ∷ []) (get_or_from_slice_get ts i t [] h)
 
+-- one text more was added
 pub text_added : (start ts us : Texts) (i : ℕ) (t : List ℕ) → slice_get ts i ≡ Some t → us ≡ with_texts start (take i ts) → with_text us t ≡ with_texts start (take (i + 1) ts)
 text_added start ts us i t h e = ap (λ v. with_text v t) e ∙ sym (with_more start (take i ts) (t ∷ [])) ∙ ap (with_texts start) (sym (next_text ts i t h))
 
@@ -359,6 +366,7 @@ coded_now us codes k u t code is same given = (
   ap (slice_get (codes ++ pos code ∷ [])) is ∙ at_end codes (pos code),
 )
 
+-- one code more was found
 pub code_pushed : (ts us : Texts) (codes : List ℤ) (i : ℕ) (t : List ℕ) (code : ℕ) → slice_get ts i ≡ Some t → AreCodes (take i ts) us codes → length codes ≡ i → code_given us t ≡ Ok code
     → AreCodes (take (i + 1) ts) (with_text us t) (codes ++ pos code ∷ [])
 code_pushed ts us codes i t code h all long given = λ k u e.
@@ -368,6 +376,7 @@ code_pushed ts us codes i t code h all long given = λ k u e.
     (λ is. coded_still us codes k u t (pos code) (all k u is))
     (λ is same. coded_now us codes k u t code (is ∙ many ∙ sym long) same given)
 
+-- a kind that is not of texts has a domain that is not
 pub not_text : (k : Kind) → (k ≡ word.Text → ⊥) → is_of_texts (domain [] k) ≡ false
 not_text word.Int h = refl
 not_text (word.Fix places) h = refl
@@ -379,9 +388,11 @@ pub pushed : {A B X : Type 0} (r : Result A B) (new old now : X) → is_err r �
 pushed (Ok x) new old now h e = e
 pushed (Err x) new old now h e = absurd (true≢false h)
 
+-- codes are right for texts and codes that are the same
 pub codes_are : (ts us vs : Texts) (codes news : List ℤ) → us ≡ vs → codes ≡ news → AreCodes ts vs news → AreCodes ts us codes
 codes_are ts us vs codes news e f h = subst (λ v. AreCodes ts v codes) (sym e) (subst (λ v. AreCodes ts vs v) (sym f) h)
 
+-- a part of so many columns, by an equal number
 pub part_under : (n m : ℕ) (p : Packed) → m ≡ n → IsPart n p → IsPart m p
 part_under n m p e h = subst (λ k. IsPart k p) (sym e) h
 

@@ -143,12 +143,15 @@ same_over ds rs (want.Max a) h k = ap (λ zs. plain (reply.Least (greatest zs)))
 sound : (columns : List Column) → IsSchema columns → AreSound (kinds_of columns)
 sound columns s = domain_sound columns s.sound.domains
 
+-- a row meets a condition where the row of its texts meets that on texts
 pub meets_over_texts : (columns : List Column) (r : Row) (c : Cond) → IsSchema columns → c.attr < length columns → IsRowCoded (kinds_of columns) r → IsTextCond (domain_at (kinds_of columns) c.attr) c → meets_seen (row_seen (kinds_of columns) r) (cond_seen (kinds_of columns) c) ≡ meets r c
 meets_over_texts columns r c s lt h k = same_meets (kinds_of columns) r c (sound columns s) h (subst (λ n. c.attr < n) (sym (kinds_long columns)) lt) k
 
+-- the rows that match are those whose texts match
 pub matching_over_texts : (columns : List Column) (rs : List Row) (q : Query) → IsSchema columns → AreCoded (kinds_of columns) rs → AsksOfTexts (kinds_of columns) q → matching_seen (conds_seen (kinds_of columns) q.conds) (rows_seen (kinds_of columns) rs) ≡ rows_seen (kinds_of columns) (matching q.conds rs)
 matching_over_texts columns rs q s h asks = same_matching (kinds_of columns) q.conds rs (sound columns s) h asks.below.conds asks.conds
 
+-- the answer, seen as texts, is the answer over texts
 pub answer_over_texts : (columns : List Column) (rs : List Row) (q : Query) → IsSchema columns → AreCoded (kinds_of columns) rs → AsksOfTexts (kinds_of columns) q → answer_seen (rows_seen (kinds_of columns) rs) (conds_seen (kinds_of columns) q.conds) q.want ≡ reply_seen (domains_shown (kinds_of columns) q.want) (answer rs q)
 answer_over_texts columns rs q s h asks = ap (λ us. answer_over_seen us q.want) (matching_over_texts columns rs q s h asks) ∙ same_over (kinds_of columns) (matching q.conds rs) q.want asks.below.want asks.sums
 
@@ -177,6 +180,7 @@ rows_coded ds key (t ∷ ts) [] w k d lt = absurd w
 rows_coded ds key (t ∷ ts) (r ∷ rs) w zero d lt = row_coded ds key t r w.0.0 w.0.1 w.0.2
 rows_coded ds key (t ∷ ts) (r ∷ rs) w (suc k) d lt = rows_coded ds (key + 1) ts rs w.1 k d (omega arith)
 
+-- the cells of a table have codes of its texts
 pub table_coded : (bytes : List ℕ) (t : Table) → table_of bytes ≡ Ok t → AreCoded (kinds_of t.columns) t.rows
 table_coded bytes t h = let w = table_spelled bytes t h in rows_coded (kinds_of t.columns) 1 w.others t.rows w.rows_are
 
@@ -225,8 +229,10 @@ domains_over ts [] h a lt = absurd (omega arith)
 domains_over ts (c ∷ cs) h zero lt = h 0 c (omega arith)
 domains_over ts (c ∷ cs) h (suc a) lt = domains_over ts cs (λ k d below. h (suc k) d (omega arith)) a (omega arith)
 
+-- they still have when more texts are known
 pub coded_still : (columns : List Column) (more : Texts) (rs : List Row) → IsSchema columns → AreCoded (kinds_of columns) rs → AreCoded (kinds_of (holding (with_texts (texts_of columns) more) columns)) rs
 coded_still columns more rs s h = subst (λ ds. AreCoded ds rs) (sym (holding_kinds (with_texts (texts_of columns) more) columns)) (λ k d lt. codes_kept (texts_of columns) more (kinds_of columns) (get_or rs k d).cells (domains_over (texts_of columns) columns s.shared) (h k d lt))
 
+-- and are seen as the same texts
 pub seen_still : (columns : List Column) (more : Texts) (rs : List Row) → IsSchema columns → AreCoded (kinds_of columns) rs → rows_seen (kinds_of (holding (with_texts (texts_of columns) more) columns)) rs ≡ rows_seen (kinds_of columns) rs
 seen_still columns more rs s h = ap (λ ds. rows_seen ds rs) (holding_kinds (with_texts (texts_of columns) more) columns) ∙ rows_kept (texts_of columns) more (kinds_of columns) rs (domains_over (texts_of columns) columns s.shared) h

@@ -167,6 +167,7 @@ under lower p = not (is_above lower p.0)
 abbrev pub below : Option Bound → ℤ × ℕ → Bool
 below upper p = is_below upper p.0
 
+-- pairs in the order of cells: those under a lower bound come first
 pub under-parted : (lower : Option Bound) (ps : List (ℤ × ℕ)) → CellsRise ps → IsPartitionedBy (under lower) ps
 under-parted None ps up i j d le lt e = e
 under-parted (Some b) ps up i j d le lt e = not-not (is_left b (get_or ps i d).0) (left-still b _ _ (up i j d le lt) (not-back (is_left b (get_or ps j d).0) e))
@@ -179,6 +180,7 @@ under-parted (Some b) ps up i j d le lt e = not-not (is_left b (get_or ps i d).0
     not-back true h = refl
     not-back false h = h
 
+-- and those below an upper one
 pub below-parted : (upper : Option Bound) (ps : List (ℤ × ℕ)) → CellsRise ps → IsPartitionedBy (below upper) ps
 below-parted None ps up i j d le lt e = refl
 below-parted (Some b) ps up i j d le lt e = left-still b _ _ (up i j d le lt) e
@@ -223,6 +225,7 @@ between-is lower upper ps start end last one two low high s e l =
 not-less : (y z : ℤ) → is_lt (int_cmp z y) ≡ false → y ≤ℤ z
 not-less y z h = grind (arith, ints, h)
 
+-- pairs that are sorted by their cells have rising cells
 pub cells-rise : (ps : List (ℤ × ℕ)) → IsSortedByKey (λ (p : ℤ × ℕ). p.0) int_cmp ps → CellsRise ps
 cells-rise ps up i j d le lt = not-less _ _ (sorted_far (λ (x y : ℤ × ℕ). is_lt (int_cmp x.0 y.0)) (ranks_by int_cmp_total (λ (p : ℤ × ℕ). p.0)) ps up i j d le lt)
 
@@ -230,6 +233,7 @@ placed-length : (n : ℕ) (zs : List ℤ) → length (placed n zs) ≡ length zs
 placed-length n [] = refl
 placed-length n (z ∷ zs) = ap suc (placed-length (n + 1) zs)
 
+-- an index has a pair for each cell
 pub index-length : (zs : List ℤ) (ps : List (ℤ × ℕ)) → IsIndexOf zs ps → length ps ≡ length zs
 index-length zs ps of = length_permutation _ _ of ∙ placed-length 0 zs
 

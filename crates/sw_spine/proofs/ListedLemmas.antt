@@ -32,6 +32,7 @@ module _ {X : Type 0} where
   pub at-all : (d : X) (xs : List X) (n : ℕ) → length xs ≡ n → map (λ p. get_or xs p d) (range_with_len 0 n) ≡ xs
   at-all d xs n long = sym (fill_by_all (λ p. get_or xs p d) xs n d long (λ k lt. refl))
 
+-- places in turn lie inside
 pub inside-range : (n from many : ℕ) → from + many ≤ n → Inside n (range_with_len from many)
 inside-range n from zero le = tt
 inside-range n from (suc many) le = (omega (arith, le), inside-range n (from + 1) many (omega (arith, le)))
@@ -44,6 +45,7 @@ inside-more : (n m : ℕ) (ps : List ℕ) → n ≤ m → Inside n ps → Inside
 inside-more n m [] le h = tt
 inside-more n m (p ∷ ps) le h = let lt = h.0 in (omega (arith, lt, le), inside-more n m ps le h.1)
 
+-- some of the places inside lie inside
 pub inside-kept : (n : ℕ) (fs : List Bool) (ps : List ℕ) → Inside n ps → Inside n (kept fs ps)
 inside-kept n [] ps h = tt
 inside-kept n (b ∷ fs) [] h = tt
@@ -63,6 +65,7 @@ listed-more some from n le =
 
 -- ---- all of them at first
 
+-- at first all places are listed, one after another
 pub listed_new : (rows : List Row) → length rows ≤ 1048576 → IsListed rows (replicate (length rows) true) [] 0
 listed_new rows most =
     let n = length rows in
@@ -100,6 +103,7 @@ meets-more given live ps r many m =
           ∙ sym (kept-more live given r many);
     }
 
+-- a new row is listed behind the others
 pub listed_insert : (given : List Row) (live : List Bool) (some : List ℕ) (from : ℕ) (r : Row) → length given < 1048576 → IsListed given live some from → IsListed (given ++ r ∷ []) (live ++ true ∷ []) some from
 listed_insert given live some from r room l =
     let n = length given in
@@ -151,6 +155,7 @@ met-without given live i (p ∷ ps) num many h =
         left rest true is = rw is (ap (λ l. get_or given p no_row ∷ l) rest)
         left rest false is = rest
 
+-- a removed row may stay listed
 pub listed_remove : (given : List Row) (live : List Bool) (some : List ℕ) (from key : ℕ) → 0 < key → key - 1 < length live → is_numbered 1 given ≡ true → IsListed given live some from → IsListed given (set live (key - 1) false) some from
 listed_remove given live some from key first lt num l =
     let i = key - 1 in
@@ -181,6 +186,7 @@ module _ {X : Type 0} where
       by-flag rest true is = rw (is, is) (ap (λ l. g p ∷ l) rest)
       by-flag rest false is = rw is rest
 
+-- the places of live rows alone are a list as well
 pub listed_tidy : (given : List Row) (live : List Bool) (some : List ℕ) (from : ℕ) → IsListed given live some from → IsListed given live (kept (flags_at (listed some from (length given)) live) (listed some from (length given))) (length given)
 listed_tidy given live some from l =
     let n = length given in
@@ -196,15 +202,19 @@ listed_tidy given live some from l =
 
 -- ---- a place by its number
 
+-- how many places are listed
 pub listed_long : (some : List ℕ) (from many : ℕ) → length (listed some from many) ≡ length some + (many - from)
 listed_long some from many = length-append some (range_with_len from (many - from)) ∙ ap (λ n. length some + n) (length-range_with_len from (many - from))
 
+-- the first of them are those that are written out
 pub listed_early : (some : List ℕ) (from many i d : ℕ) → i < length some → get_or some i d ≡ get_or (listed some from many) i d
 listed_early some from many i d lt = sym (get_or_append_left some (range_with_len from (many - from)) d i lt)
 
+-- the others count on
 pub listed_late : (some : List ℕ) (from many i : ℕ) → length some ≤ i → i < length (listed some from many) → from + (i - length some) ≡ get_or (listed some from many) i 0
 listed_late some from many i past lt = sym (get_or-append_right some (range_with_len from (many - from)) (length some) i 0 refl past ∙ get_or-range_with_len from (many - from) (i - length some) 0 (omega (arith, listed_long some from many, lt, past)))
 
+-- each place is that of a row
 pub listed_inside : (n : ℕ) (ps : List ℕ) (i d : ℕ) → AllByRecursion (λ p. p < n) ps → i < length ps → get_or ps i d < n
 listed_inside n [] i d h lt = absurd (omega (arith, lt))
 listed_inside n (p ∷ ps) zero d h lt = h.0

@@ -85,6 +85,7 @@ met-by conds (false ∷ fs) (false ∷ live) (r ∷ rows) long many h = met-by c
 
 -- ---- a row that does not meet one condition
 
+-- a row that fails one condition fails all together
 pub not-met : (conds : List Cond) (c : Cond) (r : Row) → Contains conds c → meets r c ≡ false → meets_all conds r ≡ false
 not-met conds c r has out =
     let at = at_from_Contains conds c has in
@@ -105,6 +106,7 @@ passes-by conds c has (r ∷ rows) (z ∷ zs) rest is =
 
 -- ---- the pass
 
+-- the places that an index gives for one condition hold all matching rows
 pub meets-matching : (conds : List Cond) (c : Cond) (t : Living) (ps : List (ℤ × ℕ)) (some : List ℕ) → Contains conds c → length t.live ≡ length t.came → IsIndexOfFirst c.attr t.came ps → PlacesOf ps c.lower c.upper some → MeetsMatching conds t some (length ps)
 meets-matching conds c t ps some has many first found =
     let zs = first.cells in
@@ -129,9 +131,11 @@ meets-matching conds c t ps some has many first found =
 
 -- ---- indexes stay while rows come
 
+-- an index of all rows is one of the first so many
 pub first-whole : (attr : ℕ) (rows : List Row) (ps : List (ℤ × ℕ)) → IsIndexOf (column attr rows) ps → IsIndexOfFirst attr rows ps
 first-whole attr rows ps of = record { cells = column attr rows; rest = []; first = sym (append-nil (column attr rows)); all = of }
 
+-- and stays so as rows come
 pub first-more : (attr : ℕ) (rows : List Row) (r : Row) (ps : List (ℤ × ℕ)) → IsIndexOfFirst attr rows ps → IsIndexOfFirst attr (rows ++ r ∷ []) ps
 first-more attr rows r ps f = record {
   cells = f.cells;
@@ -144,6 +148,7 @@ some-more : (P Q : List (ℤ × ℕ) → Type 0) → ((ps : List (ℤ × ℕ)) �
 some-more P Q f None h = tt
 some-more P Q f (Some ps) h = f ps h
 
+-- all indexes stay so as rows come
 pub indexes-more : (rows : List Row) (r : Row) (ixs : List (Option (List (ℤ × ℕ)))) → AreIndexes rows ixs → AreIndexes (rows ++ r ∷ []) ixs
 indexes-more rows r ixs h a lt = some-more (IsIndexOfFirst a rows) (IsIndexOfFirst a (rows ++ r ∷ [])) (first-more a rows r) (get_or ixs a None) (h a lt)
 
@@ -157,6 +162,7 @@ indexes-set rows ixs attr ps h inside of a lt = ⊎_elim (λ less. other (λ e. 
     other : a ≢ attr → IfSome (get_or (set ixs attr (Some ps)) a None) (IsIndexOfFirst a rows)
     other apart = subst (λ (o : Option (List (ℤ × ℕ))). IfSome o (IsIndexOfFirst a rows)) (sym (get_or-set_other ixs attr a (Some ps) None apart)) (h a (omega (arith, lt, length-set ixs attr (Some ps))))
 
+-- at first there is no index
 pub no-indexes : (rows : List Row) (n : ℕ) → AreIndexes rows (replicate n None)
 no-indexes rows n a lt = subst (λ (o : Option (List (ℤ × ℕ))). IfSome o (IsIndexOfFirst a rows)) (sym (get_or-replicate n a None None (omega (arith, lt, length-replicate n (let e : Option (List (ℤ × ℕ)) = None in e))))) tt
 

@@ -35,6 +35,7 @@ rises_pushed : (n : ℕ) (rs : List Row) (r : Row) → Rises key_of rs → AllUp
 rises_pushed n [] r up below lt = (tt, tt)
 rises_pushed n (x ∷ rs) r up below lt = (all_pushed (λ (y : Row). key_of x < key_of y) rs r up.0 (omega (arith, below.0, lt)), rises_pushed n rs r up.1 below.1 lt)
 
+-- what holds of all rows holds of some of them
 pub all_filtered : (P : Row → Type 0) (p : Row → Bool) (rs : List Row) → AllByRecursion P rs → AllByRecursion P (filter p rs)
 all_filtered P p [] a = tt
 all_filtered P p (r ∷ rs) a = by_test (p r) (all_filtered P p rs a.1)
@@ -43,6 +44,7 @@ all_filtered P p (r ∷ rs) a = by_test (p r) (all_filtered P p rs a.1)
     by_test true later = (a.0, later)
     by_test false later = later
 
+-- some of the rows rise where all do
 pub rises_filtered : (p : Row → Bool) (rs : List Row) → Rises key_of rs → Rises key_of (filter p rs)
 rises_filtered p [] up = tt
 rises_filtered p (r ∷ rs) up = by_test (p r) (rises_filtered p rs up.1)
@@ -57,6 +59,7 @@ has_more : (x : Row) (rs ys : List Row) → AllByRecursion (λ (r : Row). has_ke
 has_more x rs [] a = tt
 has_more x rs (y ∷ ys) a = (grind (arith, nat_tests, a.0), has_more x rs ys a.1)
 
+-- each row has its key among the rows
 pub has_own : (rs : List Row) → AllByRecursion (λ (r : Row). has_key r.key rs ≡ true) rs
 has_own [] = tt
 has_own (r ∷ rs) = (grind (arith, nat_tests), has_more r rs rs (has_own rs))
@@ -76,6 +79,7 @@ pub record AreRising (us : List Update) : Type 0 where
   pub rise : Rises key_of (rows_of us)
   pub below : AllByRecursion (λ (r : Row). r.key ≤ inserts us) (rows_of us)
 
+-- rows stay rising with the next key
 pub rising_insert : (us : List Update) (r : Row) → AreRising us → r.key ≡ inserts us + 1 → AreRising (us ++ update.Insert r ∷ [])
 rising_insert us r s is =
     let rows = sym (rows_push us (update.Insert r)) in
@@ -87,6 +91,7 @@ rising_insert us r s is =
       below = subst (λ (n : ℕ). AllUpTo n (rows_of (us ++ update.Insert r ∷ []))) count (subst (AllUpTo (inserts us + 1)) rows all);
     }
 
+-- and as one is removed
 pub rising_remove : (us : List Update) (k : ℕ) → AreRising us → AreRising (us ++ update.Remove k ∷ [])
 rising_remove us k s =
     let rows = sym (rows_push us (update.Remove k)) in
@@ -96,6 +101,7 @@ rising_remove us k s =
       below = subst (λ (n : ℕ). AllUpTo n (rows_of (us ++ update.Remove k ∷ []))) (sym (inserts_remove us k)) (subst (AllUpTo (inserts us)) rows (all_filtered (λ (r : Row). r.key ≤ inserts us) test (rows_of us) s.below));
     }
 
+-- and as several are
 pub rising_removals : (us : List Update) (rs : List Row) → AreRising us → AreRising (us ++ removals rs)
 rising_removals us [] s = subst AreRising (sym (append-nil us)) s
 rising_removals us (r ∷ rs) s = subst AreRising (append_assoc us (update.Remove r.key ∷ []) (removals rs)) (rising_removals (us ++ update.Remove r.key ∷ []) rs (rising_remove us r.key s))
@@ -107,6 +113,7 @@ numbered_within n (r ∷ rs) h =
     let rest : is_numbered (n + 1 + 1) rs ≡ true = grind (arith, nat_tests, h) in
     (omega (arith, first), up_to_more (n + 1 + length rs) (n + length (r ∷ rs)) rs (omega arith) (numbered_within (n + 1) rs rest))
 
+-- opening rows that are numbered rise
 pub rising_opened : (rows : List Row) → is_numbered 1 rows ≡ true → AreRising (opened rows)
 rising_opened rows numbered =
     let same = sym (rows_of_opened rows) in
@@ -117,6 +124,7 @@ rising_opened rows numbered =
       below = subst (λ (n : ℕ). AllUpTo n (rows_of (opened rows))) (sym (inserts_opened rows)) (subst (AllUpTo (length rows)) same all);
     }
 
+-- rows stay rising behind each call
 pub rising_then : (limit : ℕ) (us : List Update) (c : Call) → AreRising us → AreRising (updates_then limit us c)
 rising_then limit us (call.Select q) s = subst AreRising (sym (append-nil us)) s
 rising_then limit us (call.Insert cells) s = by_room (inserts us == limit)
@@ -135,5 +143,6 @@ rising_after : (limit : ℕ) (us : List Update) (es : List Entry) → AreRising 
 rising_after limit us [] s = s
 rising_after limit us (e ∷ es) s = rising_after limit (updates_then limit us e.call) es (rising_then limit us e.call s)
 
+-- the rows of each history rise
 pub rows_rise : RowsRise
 rows_rise h numbered = (rising_after h.limit (opened h.rows) h.entries (rising_opened h.rows numbered)).rise
