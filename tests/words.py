@@ -452,8 +452,8 @@ class Cases:
         got = self.case("the version", ["--version"], 0, ANY, "")
         if shutil.which("rt"):
             kit = subprocess.run(["rt", "version"], capture_output=True, text=True, check=True).stdout.strip()
-            self.case("the version and the kit's line", ["--version"], 0, "sideways 0.1.0\nproved with %s\n" % kit, "")
-        assert got
+            if not got[1].startswith("sideways 0.1.0\nproved with ") or not got[1].endswith("%s\n" % kit[kit.index("logic "):]):
+                raise Wrong("WRONG: the version does not tell the logic of %s: %r" % (kit, got[1]))
 
 
 def main():
