@@ -393,6 +393,18 @@ class Ends:
         self.held("the lines do not stand in memory", True, grown[0] < text / 2)
         self.held("the replies do not stand there twice", True, grown[0] < grown[1] * 0.75)
 
+    def large_pages(self):
+        """./sideways tells the C library to ask for huge pages, unless the caller's environment tells it something: here a program that shows it."""
+        script = self.built()
+        shows = Path(script).parent / "crates/sideways/out/sideways"
+        shows.write_text('#!/bin/sh\nprintf %s "$GLIBC_TUNABLES"\n')
+        others = {name: value for name, value in os.environ.items() if name != "GLIBC_TUNABLES"}
+        for name, given, told in (
+                ("no word of the caller's", {}, b"glibc.malloc.hugetlb=1"),
+                ("an empty one", {"GLIBC_TUNABLES": ""}, b""),
+                ("another one", {"GLIBC_TUNABLES": "glibc.malloc.arena_max=2"}, b"glibc.malloc.arena_max=2")):
+            self.held("%s to the C library" % name, (0, told, b""), self.call(self.run, script, env={**others, **given}))
+
     # An answer that is not proved
 
     def unproved(self):
@@ -468,7 +480,7 @@ def main():
         ends = Ends(program, folder)
         for what in (ends.refused_inputs, ends.lost_replies, ends.killed_runs, ends.wanting_memory, ends.full_disks, ends.other_writers,
                      ends.in_place_of, ends.may_not_write, ends.other_files, ends.other_lists, ends.size_limits, ends.small_stacks,
-                     ends.early_lines, ends.unproved):
+                     ends.early_lines, ends.large_pages, ends.unproved):
             before = ends.cases
             try:
                 what()
