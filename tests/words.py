@@ -105,6 +105,15 @@ class Cases:
              ["--sample", "1", "--empty", "drop"], (3, 1))
         made("a row that is left out before the last of a sample", b"a,b\n1,x\n,y\n2,z\n,u\n", "a:int,b:text\n1,x\n2,z\n",
              ["a:int; rows left out for it: 1, the first in line 3", "b:text"], ["--sample", "2", "--empty", "drop"], (4, 2))
+        made("a first cell that stands for a missing value", b"a,b\nNA,1\n2,007\n", "a:text,b:text\nNA,1\n2,007\n",
+             ["a:text; texts, since line 2 has `NA`, which --null 'NA' takes for an empty cell",
+              "b:text; texts, since from line 3 on, with `007`, no other kind fits all cells"], rows=(2, 2))
+        made("a first cell of another kind", b"a,b\n\"1,000\",x\n900,y\n", "a:text,b:text\n\"1,000\",x\n900,y\n",
+             ["a:text; texts, since line 2 has `1,000`", "b:text"], rows=(2, 2))
+        made("texts by --empty text", b"a,b\n1,x\n,\n", "a:text,b:text\n1,x\n,\n",
+             ["a:text; texts by --empty text, for cells without a value: 1, the first in line 3", "b:text"], ["--empty", "text"], (2, 2))
+        made("a new name where none has headings", b"1,2\n", "column_1:int,x:int\n1,2\n", ["column_1:int", "x:int; column 2"],
+             ["--no-header", "--rename", "2=x"])
         made("line ends in quotes, cut", b'a,b\n"x\ny",1\n', "a:text,b:int\nx,1\n", ["a:text; texts cut: 1, the first in line 2", "b:int"],
              ["--long", "cut"])
         wide = b"\n".join([b",".join(b"c%d" % k for k in range(5000)), b",".join(b"%d" % k for k in range(5000)), b""])
@@ -114,6 +123,9 @@ class Cases:
         ragged = "--ragged fill takes fields that are missing at the end for empty ones"
         refused("an empty file", b"", "there is no record, and so no heading")
         refused("empty lines", b"\n\n\n", "there is no record, and so no heading")
+        refused("an empty file without headings", b"", "there is no record", ["--no-header"])
+        refused("a record too long without headings", b"1,2\n1,2,3\n", "line 2: 3 fields, and the first record has 2", ["--no-header"])
+        refused("a record too short without headings", b"1,2\n1\n", "line 2: 1 fields, and the first record has 2; " + ragged, ["--no-header"])
         refused("a record too long", b"a,b\n1,2,3\n", "line 2: 3 fields, and the header has 2")
         refused("a record too long, where short ones are filled", b"a,b\n1,2,3\n", "line 2: 3 fields, and the header has 2", ["--ragged", "fill"])
         refused("semicolons, and commas behind them", b"a;b\n1;2,5\n", "line 2: 2 fields, and the header has 1; one column, whose heading has a "

@@ -6,7 +6,7 @@ use sw_rows::Refusal;
 use thiserror::Error;
 
 /// How many bytes of a cell are shown at most.
-const MOST_SHOWN: usize = 40;
+pub(crate) const MOST_SHOWN: usize = 40;
 
 /// A byte as it is shown: itself where it is a character of ASCII, else as `\xHH`.
 fn push_shown(text: &mut String, byte: u8) -> Result<(), AllocError> {
@@ -92,8 +92,10 @@ impl fmt::Display for Lacks {
 pub enum Fault {
     /// A growth was refused.
     NoMemory,
-    /// There is no record.
+    /// There is no record, and the first would have the headings.
     NoHeader,
+    /// There is no record, and none would have headings.
+    NoRecord,
     /// No column has a heading or number that was asked for.
     NoColumn {
         asked: String,
@@ -126,17 +128,19 @@ pub enum Fault {
     NoKind {
         kind: String,
     },
-    /// A record has fewer fields than the header.
+    /// A record has fewer fields than the first one, which is the header or another.
     Ragged {
         line: u64,
         found: u64,
         wanted: u64,
+        first: &'static str,
     },
-    /// A record has more fields than the header.
+    /// A record has more fields than the first one.
     Wide {
         line: u64,
         found: u64,
         wanted: u64,
+        first: &'static str,
     },
     /// There are more rows than a table has.
     ManyRows {
@@ -175,6 +179,7 @@ impl Fault {
     fn of_asked<W: fmt::Write>(&self, f: &mut fmt::Formatter<W>) -> fmt::Result {
         match self {
             Fault::NoHeader => f.write_str("there is no record, and so no heading"),
+            Fault::NoRecord => f.write_str("there is no record"),
             Fault::NoColumn { asked, count } => write!(
                 f,
                 "no column has the heading or the number `{asked}`: there are {count} columns"
@@ -214,18 +219,17 @@ impl Fault {
                 line,
                 found,
                 wanted,
+                first,
             } => write!(
                 f,
-                "line {line}: {found} fields, and the header has {wanted}; --ragged fill takes fields that are missing at the end for empty ones"
+                "line {line}: {found} fields, and {first} has {wanted}; --ragged fill takes fields that are missing at the end for empty ones"
             ),
             Fault::Wide {
                 line,
                 found,
                 wanted,
-            } => write!(
-                f,
-                "line {line}: {found} fields, and the header has {wanted}"
-            ),
+                first,
+            } => write!(f, "line {line}: {found} fields, and {first} has {wanted}"),
             Fault::ManyRows { line } => write!(
                 f,
                 "line {line}: more than 1048576 rows; --sample N writes the first N"

@@ -50,6 +50,8 @@ pub struct Imported {
     pub written: u64,
     /// The columns that were not written.
     pub others: Vec<At>,
+    /// Whether the columns have headings of their own.
+    pub has_header: bool,
 }
 
 // By hand: the drop of a derived one is written out at each way out of a function.
@@ -62,6 +64,7 @@ impl Drop for Imported {
             read: _,
             written: _,
             others: _others,
+            has_header: _,
         } = self;
     }
 }
@@ -99,17 +102,24 @@ impl<'a> Values<'a> {
     fn refused(self, line: u64, fields: usize) -> Fault {
         let found = fields as u64;
         let wanted = self.width as u64;
+        let first = if self.has_header {
+            "the header"
+        } else {
+            "the first record"
+        };
         if found < wanted {
             Fault::Ragged {
                 line,
                 found,
                 wanted,
+                first,
             }
         } else {
             Fault::Wide {
                 line,
                 found,
                 wanted,
+                first,
             }
         }
     }
@@ -140,13 +150,11 @@ fn read_first(
 /// The record of the headings of a text.
 fn header_of(alloc: Global, how: &How<'_>, text: &[u8]) -> Result<ByteRecord, Fault> {
     let mut first = ByteRecord::new(alloc);
-    if !read_first(alloc, how, text, &mut first)? {
-        return Err(Fault::NoHeader);
-    }
-    if how.has_header {
-        Ok(first)
-    } else {
-        Ok(headings(alloc, first.len())?)
+    match (read_first(alloc, how, text, &mut first)?, how.has_header) {
+        (true, true) => Ok(first),
+        (true, false) => Ok(headings(alloc, first.len())?),
+        (false, true) => Err(Fault::NoHeader),
+        (false, false) => Err(Fault::NoRecord),
     }
 }
 
@@ -345,6 +353,7 @@ fn make_under(
         read,
         written: rows,
         others,
+        has_header: how.has_header,
     })
 }
 

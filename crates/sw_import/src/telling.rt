@@ -1,7 +1,7 @@
 //! What was done, in words.
 
 use crate::evidence::Tally;
-use crate::faults::shown_heading;
+use crate::faults::{shown, shown_heading};
 use crate::forms::Form;
 use crate::importing::Imported;
 use crate::planning::Planned;
@@ -30,25 +30,78 @@ fn change(form: Form) -> &'static str {
     }
 }
 
-/// Adds what became of a column.
-fn push_column(text: &mut String, planned: &Planned, done: &Done) -> Result<(), AllocError> {
-    let name = &planned.column.name;
-    let heading = planned.column.heading.as_str();
-    write!(text, "  {name}:{}", planned.form.word())?;
-    if name.as_str() != heading {
-        let shown = shown_heading(*text.allocator(), heading)?;
-        write!(text, "; heading `{shown}`")?;
+/// What is told where texts were made of a column of another kind.
+const BY_EMPTY: &str = "texts by --empty text, for cells without a value";
+
+/// Adds that a column is one of texts for a cell in a line before others of another kind.
+fn push_lone(text: &mut String, planned: &Planned) -> Result<(), AllocError> {
+    let line = planned.evidence.lone.first;
+    let cell = shown(*text.allocator(), planned.evidence.cause.as_bytes())?;
+    write!(text, "; texts, since line {line} has `{cell}`")
+}
+
+/// Adds that a column is one of texts for a cell with a usual word for a missing value.
+fn push_missing(text: &mut String, planned: &Planned) -> Result<(), AllocError> {
+    let line = planned.evidence.missing.first;
+    let cell = shown(*text.allocator(), planned.evidence.cause.as_bytes())?;
+    write!(
+        text,
+        "; texts, since line {line} has `{cell}`, which --null '{cell}' takes for an empty cell"
+    )
+}
+
+/// Adds that a column is one of texts for a cell behind others of another kind.
+fn push_odd(text: &mut String, planned: &Planned) -> Result<(), AllocError> {
+    let line = planned.evidence.odd.first;
+    let cell = shown(*text.allocator(), planned.evidence.cause.as_bytes())?;
+    write!(
+        text,
+        "; texts, since from line {line} on, with `{cell}`, no other kind fits all cells"
+    )
+}
+
+/// Adds why a column is one of texts, where that was not asked for and cells of another kind stand there.
+fn push_why_texts(text: &mut String, planned: &Planned) -> Result<(), AllocError> {
+    let seen = &planned.evidence;
+    match (planned.form, planned.column.given) {
+        (Form::Text, None) if seen.odd.count > 0 => push_odd(text, planned),
+        (Form::Text, None) if seen.is_lone() => push_lone(text, planned),
+        (Form::Text, None) if !seen.fits_other() => Ok(()),
+        (Form::Text, None) if seen.missing.count > 0 => push_missing(text, planned),
+        (Form::Text, Some(Form::Text)) => Ok(()),
+        (Form::Text, _) => push_tally(text, BY_EMPTY, seen.blank),
+        _ => Ok(()),
     }
+}
+
+/// Adds the heading of a column whose name is another one; where there are no headings, its number.
+fn push_heading(text: &mut String, planned: &Planned, has_header: bool) -> Result<(), AllocError> {
+    let heading = planned.column.heading.as_str();
+    if planned.column.name.as_str() == heading {
+        return Ok(());
+    }
+    if has_header {
+        let shown = shown_heading(*text.allocator(), heading)?;
+        write!(text, "; heading `{shown}`")
+    } else {
+        let number = (planned.column.place as u64).saturating_add(1);
+        write!(text, "; column {number}")
+    }
+}
+
+/// Adds what became of a column.
+fn push_column(
+    text: &mut String,
+    planned: &Planned,
+    done: &Done,
+    has_header: bool,
+) -> Result<(), AllocError> {
+    write!(text, "  {}:{}", planned.column.name, planned.form.word())?;
+    push_heading(text, planned, has_header)?;
     push_tally(text, change(planned.form), done.changed)?;
     push_tally(text, "cells without a value filled", done.filled)?;
     push_tally(text, "rows left out for it", done.left_out)?;
-    if planned.form == Form::Text && planned.evidence.odd.count > 0 {
-        let line = planned.evidence.odd.first;
-        write!(
-            text,
-            "; texts, since from line {line} on no other kind fits all cells"
-        )?;
-    }
+    push_why_texts(text, planned)?;
     text.push('\n')?;
     Ok(())
 }
@@ -117,7 +170,7 @@ pub fn told(alloc: Global, file: &str, made: &Imported) -> Result<String, AllocE
         "sideways: {file}: {read} rows read, {written} written, of {columns} columns\n"
     )?;
     for (planned, done) in made.plan.as_slice().iter().zip(made.done.as_slice()) {
-        push_column(&mut text, planned, done)?;
+        push_column(&mut text, planned, done, made.has_header)?;
     }
     push_others(&mut text, made)?;
     push_divider(&mut text, made)?;
