@@ -5,17 +5,19 @@
     tests/wrong.py --texts                        whether each, and each control, can be made of the text that stands; proves nothing
 
 A function is proved by its own text and the clauses of what it calls. So bodies that change different functions stand in one copy of
-the crate, and one check of these functions tells of each. A body is refused where a goal of a function that it changes stays open in
-src/, or a line of that function's own proof no longer holds (a control then tells whether by its form alone: REFUSALS.md). What shows
-neither is tried again without those that were refused, and at last by itself: it is not refused where it is proved, or where only
-another function fails, and not tried where the check could not be read to its end, was killed or hit a limit, or its text does not
-stand once in a function's body. Each of these ends the trial with status 1.
+the crate. Of functions that the search proves by itself, `--start` tells which goals it leaves open, and proves nothing of what they call:
+a body is refused where one is left. One check of the others, whose proofs have answers, tells of each whether a goal in src/ stays open,
+or a line of the function's own proof no longer holds (a control tells whether by its form alone: REFUSALS.md). What shows neither is
+tried again without those that were refused, and at last by itself: it is not refused where it is proved, or where only another function
+fails, and not tried where the check could not be read to its end, was killed or hit a limit, or its text does not stand once in a
+function's body. Each of these ends the trial with status 1.
 
 The libraries below a crate are those that `rt ci` or `rt lib` left; one that is not made of the text that stands is proved first. Every
 trial begins with its own test: a control beside a wrong body of what it calls, and texts that cannot be tried.
 """
 import argparse
 import collections
+import contextlib
 import glob
 import os
 import re
@@ -29,6 +31,7 @@ from bodies import TOP, Unfit, changed, lemma_of, pairs_of, path_of, spans_of, t
 
 SECONDS = 1800  # of one check
 PLACE = re.compile(r"(?:\./|note: )?((?:src|proofs)/\S+?):(\d+):\d+: (.*)")
+HOLE = re.compile(r"^-- (src/\S+:\d+:\d+)\npub (\S+) : .*\n\2 .*= \?$", re.M)
 # What an error says where a text names what is not there.
 UNREAD = re.compile(r"is not in scope|has no field|has no `|is no name|was not admitted|operand is missing|expected the end|cannot continue")
 Result = collections.namedtuple("Result", "said status")
@@ -63,7 +66,7 @@ class Body:
                 return line
             if not by_proof and any(place[1].startswith(f"proofs/{it.replace('::', '/')}/") for it in lost):
                 by_proof = line
-        stays = [it for it in lines if re.match(rf"fn {self.crate}::(?:{'|'.join(map(re.escape, lost))}): .*`search` did not prove ", it)] if lost else []
+        stays = [it for one in lost for it in lines if re.match(rf"fn {self.crate}::{re.escape(one)}: .*`search` did not prove ", it)]
         return by_proof or "".join(stays[:1])
 
 
@@ -74,9 +77,10 @@ class Trial:
         self.crate, self.rtlib, self.seconds = crate, rtlib, 0.0
         self.words = [*rtlib.guarded(), "timeout", "--foreground", str(SECONDS), rtlib.RATTLE, "check", *crate.words(["--jobs", "1"], keeps=False)]
 
-    def check(self, bodies):
-        """What a check of the functions that these bodies change says, with all of them in a copy, and for each the line that refuses it."""
-        with tempfile.TemporaryDirectory(prefix="wrong-") as folder, tempfile.TemporaryFile("w+", errors="replace") as told:
+    @contextlib.contextmanager
+    def copy(self, bodies):
+        """A copy of the crate with all of these bodies."""
+        with tempfile.TemporaryDirectory(prefix="wrong-") as folder:
             for part in self.rtlib.PARTS:
                 if os.path.isdir(f"{self.crate.folder}/{part}"):
                     shutil.copytree(f"{self.crate.folder}/{part}", f"{folder}/{part}")
@@ -84,23 +88,49 @@ class Trial:
                 for file, text in changed(body.pairs, folder)[0].items():
                     with open(f"{folder}/{file}", "w", encoding="utf-8") as it:
                         it.write(text)
+            yield folder
+
+    def started(self, bodies):
+        """For those of these bodies whose functions have no answers, in one copy, a goal that the search leaves open: `--start` writes down what
+        it leaves, and proves no other function."""
+        bodies = [it for it in bodies if not any(os.path.isfile(answers(self.crate.folder, one)) for one in it.functions)]
+        if not bodies:
+            return {}
+        with self.copy(bodies) as folder:
+            invariants = lambda where, name: os.path.isfile(answers(where, name).replace("Answers", "Invariants"))
+            result = self.ran([word for body in bodies for it in body.functions for word in ("--start", it)], folder)
+            if result.status != 0 or not re.match(r"started=\d+", result.said.strip().split("\n")[-1]):
+                return {}
+            found = {}
+            for body in bodies:
+                # (an invariant that was not found would leave all goals of its loop)
+                names = [it for it in body.functions if invariants(self.crate.folder, it) or not invariants(folder, it)]
+                goals = [goal for it in names if os.path.isfile(answers(folder, it)) for goal in HOLE.findall(text_of(answers(folder, it)))]
+                if goals:
+                    found[body] = f"note: {goals[0][0]}: it is not proved, by the search alone (`{goals[0][1]}`)"
+            return found
+
+    def check(self, bodies):
+        """What a check of the functions that these bodies change says, with all of them in a copy, and for each the line that refuses it."""
+        with self.copy(bodies) as folder:
             only = [word for body in bodies for name in body.functions for word in ("--only", name)]
-            result = self.ran(only, folder, told)
-            if result.status in (-9, 137):
-                # (killed, most likely for memory, which another check held)
-                result = self.ran(only, folder, told)
+            result = self.ran(only, folder)
             return result, {body: body.refusal(result.said, folder) for body in bodies if is_read(result)}
 
-    def ran(self, only, folder, told):
+    def ran(self, words, folder):
+        """What a check with these words says; once more where it is killed, most likely for memory, which another check held."""
+        result = self.ran_once(words, folder)
+        return self.ran_once(words, folder) if result.status in (-9, 137) else result
+
+    def ran_once(self, words, folder):
         """Runs one check, and counts its time."""
-        told.seek(0)
-        told.truncate(0)
-        ran = subprocess.Popen([*self.words, *only], cwd=folder, stdin=subprocess.DEVNULL, stdout=told, stderr=subprocess.STDOUT)
-        _, status, used = os.wait4(ran.pid, 0)
-        ran.returncode = os.waitstatus_to_exitcode(status)
-        self.seconds += used.ru_utime + used.ru_stime
-        told.seek(0)
-        return Result(told.read(), ran.returncode)
+        with tempfile.TemporaryFile("w+", errors="replace") as told:
+            ran = subprocess.Popen([*self.words, *words], cwd=folder, stdin=subprocess.DEVNULL, stdout=told, stderr=subprocess.STDOUT)
+            _, status, used = os.wait4(ran.pid, 0)
+            ran.returncode = os.waitstatus_to_exitcode(status)
+            self.seconds += used.ru_utime + used.ru_stime
+            told.seek(0)
+            return Result(told.read(), ran.returncode)
 
     def alone(self, body):
         """What a body comes to by itself: the line that refuses it, or else what is wrong."""
@@ -115,9 +145,10 @@ class Trial:
         return found[body], "" if found[body] else f"NOT REFUSED by a goal of what it changes: {fault[:200]}"
 
     def told(self, bodies):
-        """For each of these bodies, the line that refuses it or what is wrong: all at once, then those that are left, as long as some are
-        refused, and the last by themselves."""
-        found, left = {}, bodies
+        """For each of these bodies, the line that refuses it or what is wrong: by what the search leaves; then by a check of all that are
+        left, as long as some are refused; and the last by themselves."""
+        found = self.started(bodies)
+        left = [it for it in bodies if it not in found]
         while len(left) > 1:
             refused = {body: line for body, line in self.check(left)[1].items() if line}
             found.update(refused)
@@ -130,6 +161,11 @@ class Trial:
 def is_read(result):
     """Whether a check was run to its end, so that it tells of each function."""
     return result.status in (0, 1) and re.match(r"only=\d+ proved=\d+", result.said.strip().split("\n")[-1])
+
+
+def answers(folder, function):
+    """The file of a function's answers, in the folder of a crate."""
+    return f"{folder}/proofs/{function.replace('::', '/')}/Answers.antt"
 
 
 def is_goal(said):
@@ -154,10 +190,14 @@ def tests_itself(rtlib, crates):
     crate, file = crates["sw_table"], "src/live.rt"
     control = Body(crate.name, "row_stays", pairs_of(f"{TOP}/tests/controls/sw_table/row_stays.edit"))
     below = Body(crate.name, "any_key_found", pairs_of(path_of("sw_table", "any_key_found")))
+    same = Body(crate.name, "same", [("src/numbers.rt", "Numbers { first: 1, many }", "Numbers { first: 2 - 1, many }")])
     unread = Body(crate.name, "unread", [(file, "self.live[place] = false;", "self.live[place] = no_such_name;")])
     trial = Trial(crate, rtlib)
-    told = {body.name: line or fault for it in ([control, below], [unread]) for body, line, fault in trial.told(it)}
-    wanted = {"row_stays": "NOT REFUSED: what it changes", "any_key_found": "note: src/finding.rt:", "unread": "NOT TRIED: its check"}
+    left, refused = trial.started([same, below]), [it for it, line in trial.check([control, below])[1].items() if line]
+    told = {"left by the search": " ".join(it.name for it in left) + ".", "refused beside each other": " ".join(it.name for it in refused) + "."}
+    told |= {it.name: "".join(trial.alone(it)) for it in (control, unread)}
+    wanted = dict.fromkeys(("left by the search", "refused beside each other"), f"{below.name}.")
+    wanted |= {control.name: "NOT REFUSED: what it changes is still proved", unread.name: "NOT TRIED: its check ended with status 1"}
     wrong = [f"{name}: {told[name]}" for name, line in wanted.items() if not told[name].startswith(line)]
     for pairs in [(file, "no such text", "")], [(file, "impl Model", "impl Model")], [("specs/Live.antt", "Living", "Living")]:
         try:
@@ -165,7 +205,7 @@ def tests_itself(rtlib, crates):
         except Unfit:
             pass
     if not wrong:
-        print(f"wrong: its own test told a control, a wrong body and texts that cannot be tried apart, {trial.seconds:.0f} s of a processor", flush=True)
+        print(f"wrong: its own test told controls, a wrong body and texts that cannot be tried apart, {trial.seconds:.0f} s", flush=True)
     return wrong
 
 
