@@ -1,8 +1,7 @@
 //! Cells of an attribute, exchanged in place.
 
-ghost use Rattle.std.specs.Prelude.{◌≡◌, ◌<◌, ◌*◌, ◌^◌, ℕ, List, length, map};
-ghost use Rattle.sw_table.specs.Exchanged.{exchanged, with_exchanged};
-ghost use Rattle.sw_table.specs.Packed.{rows_in};
+ghost use Rattle.std.specs.Prelude.{◌≡◌, ◌<◌, ◌*◌, ◌^◌, length};
+ghost use Rattle.sw_table.specs.Exchanged.{exchanged, AreExchanged};
 
 /// The number that a code stands for, if it is one.
 #[inline]
@@ -28,8 +27,7 @@ pub(crate) fn exchange_cells(
 )
     requires within { attr < width }
     requires whole { length cells.old ≡ many * width }
-    ensures rows { (keys : List ℕ) → length keys ≡ many → rows_in width keys cells.new
-        ≡ map (with_exchanged attr codes.now) (rows_in width keys cells.old) }
+    ensures rows { AreExchanged width many attr codes.now cells.old cells.new }
     ensures whole { length cells.new ≡ length cells.old }
 {
     for place in 0..many {
