@@ -10,3 +10,5 @@ pub mod Placed
 pub mod Whole
 pub mod Shelves
 pub mod Closing
+pub mod Visits
+pub mod Called

@@ -9,7 +9,6 @@ use Rattle.sw_spine.specs.Table.{opened, updates_then}
 use Rattle.sw_spine.specs.History.{entry, is_absent, is_open, mine, settled, waiting_after, waits}
 use Rattle.sw_rows.specs.declared.refusal.Refusal.{Refusal}
 use Rattle.sw_rows.specs.declared.refusal.Refusal.TheVariants as refusal
-use Rattle.sw_engine.specs.Desk.{TellsFull}
 use Rattle.sw_spine.specs.Books.{Books, Opens, RefusesEntry, is_opened, reply_now, waits_for, with_answered, with_open, with_published, with_settled}
 use Rattle.sw_spine.specs.declared.history.Entry.{Entry}
 use Rattle.sw_spine.specs.declared.history.State.{State}
@@ -19,7 +18,8 @@ use Rattle.sw_spine.proofs.Histories.{mine_absent}
 use Rattle.sw_tie.specs.declared.Share.{Share}
 use Rattle.sw_versions.specs.Rules.{updates_in}
 use Rattle.sw_engine.specs.Later.{Begin}
-use Rattle.sw_engine.specs.Own.{Adds, IsNew, Settles, own, own_settled}
+use Rattle.sw_engine.specs.Own.{IsNew, own, own_settled}
+use Rattle.sw_engine.specs.Sessions.{Refuses}
 use Rattle.sw_engine.specs.Published.{IsNewShare, published_of, session_shown}
 use Rattle.sw_engine.proofs.Later.{begin_push, begin_self, begin_settled}
 
@@ -46,7 +46,7 @@ own_absent s [] h = refl
 own_absent s (x ∷ es) h = grind (arith, nat_tests, h, own_absent s es)
 
 -- where a session waits for nothing, the entry that it adds is the one that is settled
-settled_last : (s limit : ℕ) (us : List Update) (es : List Entry) (c : Call) (st : State) → waiting_after s limit us es ≡ None → own_settled st (own s es ++ (c, state.Open) ∷ []) ≡ own s es ++ (c, st) ∷ []
+pub settled_last : (s limit : ℕ) (us : List Update) (es : List Entry) (c : Call) (st : State) → waiting_after s limit us es ≡ None → own_settled st (own s es ++ (c, state.Open) ∷ []) ≡ own s es ++ (c, st) ∷ []
 settled_last s limit us [] c st none = refl
 settled_last s limit us (x ∷ es) c st none = grind (arith, nat_tests, none, settled_last s limit (updates_then limit us x.call) es c st)
 
@@ -80,26 +80,22 @@ published_keeps session n b x is = (
   subst (λ (y : Books). Begin b.entries y.entries) (sym is) (begin_self b.entries),
 )
 
--- a select that began and was settled
-pub settles_added : (session : ℕ) (c : Call) (st : State) (a b d : Books) → waits_for session a ≡ None → Adds session c state.Open a b → Settles session st b d → Adds session c st a d
-settles_added session c st a b d none adds settles = settles ∙ ap (own_settled st) adds ∙ settled_last session a.limit (opened a.rows) a.entries c st none
-
--- why a visit that adds an entry is refused tells whether the history is full
-pub tells_full : (b : Books) (e : Refusal) → RefusesEntry b e → TellsFull b.entries e
-tells_full b refusal.NoMemory h = tt
-tells_full b (refusal.HistoryFull _) h = h.1
-tells_full b (refusal.TooMany _) h = tt
-tells_full b (refusal.BadTable _ _) h = tt
-tells_full b (refusal.BadLine _ _) h = tt
-tells_full b (refusal.UnknownAttribute _) h = tt
-tells_full b (refusal.NoBlank _ _) h = tt
-tells_full b (refusal.Short _ _ _) h = tt
-tells_full b (refusal.Contended _ _) h = tt
-tells_full b (refusal.SharesOut _ _) h = tt
-tells_full b (refusal.NotLegal _) h = tt
-tells_full b refusal.Input h = tt
-tells_full b refusal.Output h = tt
-tells_full b (refusal.Ahead _ _) h = tt
+-- why a visit that adds an entry is refused
+pub refuses : (b : Books) (e : Refusal) → RefusesEntry b e → Refuses b.entries e
+refuses b refusal.NoMemory h = (tt, tt)
+refuses b (refusal.HistoryFull _) h = (h.0, h.1)
+refuses b (refusal.TooMany _) h = absurd h
+refuses b (refusal.BadTable _ _) h = absurd h
+refuses b (refusal.BadLine _ _) h = absurd h
+refuses b (refusal.UnknownAttribute _) h = absurd h
+refuses b (refusal.NoBlank _ _) h = absurd h
+refuses b (refusal.Short _ _ _) h = absurd h
+refuses b (refusal.Contended _ _) h = absurd h
+refuses b (refusal.SharesOut _ _) h = absurd h
+refuses b (refusal.NotLegal _) h = absurd h
+refuses b refusal.Input h = absurd h
+refuses b refusal.Output h = absurd h
+refuses b (refusal.Ahead _ _) h = absurd h
 
 -- a session that was just opened has no entries
 pub new_absent : (b x : Books) (n : ℕ) → Opens b x n → ((s : ℕ) → is_opened s b ≡ false → is_absent s b.entries ≡ true) → is_absent n x.entries ≡ true

@@ -81,15 +81,6 @@ pub record IsDesk (sessions_name heads_name : ℕ) (columns : List Column) (rows
   pub few : may ≤ MOST_SESSIONS
   pub within : s.sessions ≤ may
 
--- the share of a session
-abbrev pub IsShareOf : ℕ → ℕ → Share Books → Type 0
-IsShareOf name session share = (share.name ≡ name) × (session ≡ share.number + 1)
-
--- and the session waits for nothing
-abbrev pub IsAtRest : ℕ → ℕ → Share Books → Type 0
-IsAtRest name session share =
-    (share.name ≡ name) × (session ≡ share.number + 1) × (waits_for session share.value ≡ None)
-
 -- what a head has received: the opening rows, before it is made
 abbrev pub received_by : List Row → Option HeadState → List Update
 received_by rows None = opened rows
@@ -150,14 +141,6 @@ pub record IsNewHead (attribute : ℕ) (opening : List Row) (h : HeadState) : Ty
   pub attribute_is : h.attribute ≡ attribute
   pub updates_are : h.updates ≡ opened opening
   pub no_boxes : boxes_in h.areas ≡ 0
-
--- a session's answered calls are longer by just this call and this reply
-abbrev pub IsTold : ℕ → Call → Reply → Books → Books → Type 0
-IsTold session c reply old new = mine session new.entries ≡ mine session old.entries ++ (c, reply) ∷ []
-
--- the same, where the call is the query that the session waits for
-abbrev pub IsAnswered : ℕ → Reply → Books → Books → Type 0
-IsAnswered session reply old new = IfSome (waits_for session old) (λ w. IsTold session w.0 reply old new)
 
 -- the history has one open entry more, at its end
 abbrev pub IsBegun : ℕ → Query → Books → Books → Type 0

@@ -4,4 +4,5 @@ pub mod Locked
 pub mod Headline
 pub mod Later
 pub mod Own
+pub mod Sessions
 pub mod Leading

@@ -4,7 +4,6 @@ use Rattle.sw_rows.specs.declared.query.Query.{Query}
 use Rattle.sw_rows.specs.declared.query.Call.{Call}
 use Rattle.sw_rows.specs.declared.query.Call.TheVariants as call
 use Rattle.sw_rows.specs.declared.reply.Reply.{Reply}
-use Rattle.sw_spine.specs.Books.{Books}
 use Rattle.sw_spine.specs.History.{is_absent, is_open}
 use Rattle.sw_spine.specs.declared.history.Entry.{Entry}
 use Rattle.sw_spine.specs.declared.history.State.{State}
@@ -29,46 +28,19 @@ IsLastOwn s es None = is_absent s es ≡ true
 IsLastOwn s es (Some p) =
     (e : Entry) × (slice_get es p ≡ Some e) × (e.session ≡ s) × (is_absent s (drop (p + 1) es) ≡ true)
 
--- ---- what a visit makes of them, by what the session's share showed and shows
-
--- one entry more, at the end
-abbrev pub Adds : ℕ → Call → State → Books → Books → Type 0
-Adds session c st old new = own session new.entries ≡ own session old.entries ++ (c, st) ∷ []
-
--- the open one is in another state
-abbrev pub Settles : ℕ → State → Books → Books → Type 0
-Settles session st old new = own session new.entries ≡ own_settled st (own session old.entries)
-
-abbrev pub Stays : ℕ → Books → Books → Type 0
-Stays session old new = own session new.entries ≡ own session old.entries
-
 -- ---- what a call leaves of itself
-
--- at most one entry, of just that query, which is void
-abbrev pub GivesUp : ℕ → Query → Books → Books → Type 0
-GivesUp session q old new = Stays session old new ⊎ Adds session (call.Select q) state.Void old new
-
--- a select that is answered leaves its answered entry alone; refused, it is given up
-abbrev pub Selects : {E : Type 0} → ℕ → Query → Result Reply E → Books → Books → Type 0
-Selects session q told old new =
-    MatchResult told (λ r. Adds session (call.Select q) (state.Answered r) old new) (λ _. GivesUp session q old new)
-
--- another call that is answered leaves its answered entry alone; refused, none
-abbrev pub Commits : {E : Type 0} → ℕ → Call → Result Reply E → Books → Books → Type 0
-Commits session c told old new =
-    MatchResult told (λ r. Adds session c (state.Answered r) old new) (λ _. Stays session old new)
-
--- ---- the same, of what a session shows
 
 abbrev pub own_of : Shown → List (Call × State)
 own_of s = own s.0 s.2.entries
 
+-- a select that is answered leaves its answered entry alone; refused, at most one entry, of just that query, which is void
 abbrev pub LeavesSelect : {E : Type 0} → Query → Result Reply E → Shown → Shown → Type 0
 LeavesSelect q told old new =
     MatchResult told
     (λ r. own_of new ≡ own_of old ++ (call.Select q, state.Answered r) ∷ [])
     (λ _. (own_of new ≡ own_of old) ⊎ (own_of new ≡ own_of old ++ (call.Select q, state.Void) ∷ []))
 
+-- another call that is answered leaves its answered entry alone; refused, none
 abbrev pub LeavesCommit : {E : Type 0} → Call → Result Reply E → Shown → Shown → Type 0
 LeavesCommit c told old new =
     MatchResult told (λ r. own_of new ≡ own_of old ++ (c, state.Answered r) ∷ []) (λ _. own_of new ≡ own_of old)

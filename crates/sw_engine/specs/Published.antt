@@ -159,13 +159,6 @@ CallGives (call.Insert cells) told old new = GivesReceipt told old new
 CallGives (call.Delete key) told old new = GivesReceipt told old new
 CallGives (call.DeleteWhere conds) told old new = GivesReceipt told old new
 
--- the session's share waits for nothing, what the session has the receipt of begins what the share shows as published,
--- and that has of each entry all updates or none
-abbrev pub IsHeld : ℕ → ℕ → List Row → ℕ → Share Books → List (List Update) → Type 0
-IsHeld name limit opening session share receipt =
-    (share.name ≡ name) × (session ≡ share.number + 1) × (waits_for session share.value ≡ None)
-    × IsPrefix (updates_in receipt) (published_of opening share.value) × IsWhole limit opening share.value
-
 -- the share of a session that was just opened, which has no entries
 abbrev pub IsNewShare : ℕ → Books → ℕ → Share Books → Type 0
 IsNewShare name b session share =

@@ -1,21 +1,21 @@
 //! What lies under the lock.
 
-ghost use Rattle.std.specs.Prelude.{◌≡◌, ℕ, List, [], ◌∷◌, ◌++◌, ◌<◌, ◌+◌, ◌≤◌, length, true, false, Some, None, All, IfErr, IfOk, IsSome, IsSomeAnd, OnErr, OnOk};
+ghost use Rattle.std.specs.Prelude.{◌≡◌, ℕ, List, [], ◌∷◌, ◌++◌, ◌<◌, ◌+◌, ◌≤◌, length, true, false, None, All, IfErr, IfOk, IsSome, IsSomeAnd, OnErr, OnOk};
 ghost use Rattle.sw_rows.specs.declared.query.Call.TheVariants.{Select};
 ghost use Rattle.sw_rows.specs.declared.table.TheConstants.{MOST_ROWS};
 ghost use Rattle.sw_spine.specs.Table.{is_numbered, opened, reply_to, updates_then};
 ghost use Rattle.sw_spine.specs.History.{CallsBelow, is_select, mine, updates_after};
 ghost use Rattle.sw_spine.specs.Books.{RefusesRows, new_books, updates, waits_for, with_answered, with_published, with_session, with_settled};
-ghost use Rattle.sw_spine.specs.declared.history.State.TheVariants.{Answered, Open, Void};
+ghost use Rattle.sw_spine.specs.declared.history.State.TheVariants.{Answered, Void};
 ghost use Rattle.sw_spine.specs.declared.spine.TheConstants.{MOST_SESSIONS};
-ghost use mathlib.Core.List.{IsPrefix};
-ghost use Rattle.sw_engine.specs.Published.{EndsEntry, Grows, IsHeld, IsNewShare, IsOfFirst, IsWhole, later, session_shown};
-ghost use Rattle.sw_engine.specs.Own.{Adds, IsEnded, IsLastOwn, Settles, Stays};
-ghost use Rattle.sw_engine.specs.Desk.{AreGiven, IsAnswered, IsAtRest, IsBegun, IsMade, IsOf, IsShareOf, IsTold, RefusesCall, RefusesNext, TellsFull, latched, new_desk};
+ghost use Rattle.sw_engine.specs.Published.{EndsEntry, IsNewShare, IsOfFirst, IsWhole, later};
+ghost use Rattle.sw_engine.specs.Own.{IsEnded, IsLastOwn};
+ghost use Rattle.sw_engine.specs.Sessions.{Answers, Begins, Refuses, Sees, Settles, Stays};
+ghost use Rattle.sw_engine.specs.Desk.{AreGiven, IsBegun, IsMade, IsOf, RefusesNext, latched, new_desk};
 
 use crate::counting::Counters;
 use crate::latch::LatchedHead;
-use crate::misses::Misses;
+use crate::ticket::{SessionState, Ticket};
 use std::alloc::Global;
 use std::marker::{Model, PhantomData};
 use std::snapshot::Snapshot;
@@ -24,7 +24,7 @@ use sw_map::CrackerMap;
 use sw_rows::{Call, PackedRows, Query, Refusal, Reply, Schema, Update};
 use sw_spine::{Entry, MOST_SESSIONS, Spine};
 use sw_tie::{Book, Share};
-use sw_versions::{Front, Naming, Opened};
+use sw_versions::{Naming, Opened};
 
 /// Books that no engine has yet, and how many sessions it may have.
 #[derive(Drop)]
@@ -56,45 +56,6 @@ impl Blank {
             heads: Book::new(),
             list: Opened::new(),
             most: most as u64,
-        }
-    }
-}
-
-/// What a session carries. Contracts see what they see of the session: its number, the calls that were answered to it, its
-/// receipt, how often it could not publish, and the history as it was at its last visit, with the session's own entries.
-#[derive(Drop)]
-pub struct Ticket<J: Naming> {
-    pub(crate) number: u64,
-    pub(crate) share: Share<Spine>,
-    pub(crate) receipt: Front<J>,
-    pub(crate) misses: Misses,
-}
-
-impl<J: Naming> Model for Ticket<J> {
-    ghost use Rattle.sw_engine.specs.Published.{IsHeld, Shown, session_shown};
-
-    ghost Value = { Shown };
-
-    ghost view = { λ t. session_shown J.opening t.number t.share.value t.receipt t.misses };
-
-    ghost invariant = { λ t. IsHeld J.sessions J.limit J.opening t.number t.share t.receipt };
-}
-
-impl<J: Naming> Ticket<J> {
-    pub(crate) fn new(
-        number: u64,
-        share: Share<Spine>,
-        receipt: Front<J>,
-        misses: Misses,
-    ) -> Ticket<J>
-        requires { IsHeld J.sessions J.limit J.opening number share receipt }
-        ensures { result ≡ session_shown J.opening number share.value receipt misses }
-    {
-        Ticket {
-            number,
-            share,
-            receipt,
-            misses,
         }
     }
 }
@@ -238,32 +199,24 @@ impl<J: Naming> Desk<J> {
     }
 
     /// A select begins: its entry stands open at the end of the history, and the head takes the updates that it lacks. So it
-    /// has all updates before that place. Refused, the history is as it was.
-    #[tactic(auto, using(crate::proofs::Owned::tells_full))]
+    /// has all updates before that place. Refused, nothing has changed.
+    #[tactic(auto, using(crate::proofs::Owned::refuses))]
     pub fn begin<M: CrackerMap>(
         &mut self,
-        number: u64,
-        share: &mut Share<Spine>,
+        session: &mut SessionState<J>,
         head: &mut LatchedHead<J, M>,
         query: Query,
     ) -> Result<(), Refusal>
-        requires rest { IsAtRest J.sessions number share.old }
+        requires rest { session.old.waits ≡ None }
         requires asks { CallsBelow (length J.columns) (Select query) }
-        ensures share { IsShareOf J.sessions number share.new }
-        ensures mine { mine number share.new.value.entries ≡ mine number share.old.value.entries }
-        ensures adds { OnOk result (Adds number (Select query) Open share.old.value share.new.value) }
-        ensures stays { OnErr result (Stays number share.old.value share.new.value) }
-        ensures waits { OnOk result (waits_for number share.new.value ≡ Some (Select query, head.new.taken)) }
-        ensures rest { OnErr result (waits_for number share.new.value ≡ None) }
-        ensures begun { OnOk result (IsBegun number query self.old.books self.new.books) }
+        ensures begins { OnOk result (Begins query head.new.taken session.old session.new) }
+        ensures entries { OnOk result (IsBegun session.old.shown.0 query self.old.books self.new.books) }
         ensures kept { OnErr result (self.new.books ≡ self.old.books) }
+        ensures stays { OnErr result (session.new ≡ session.old) }
         ensures updates { updates self.new.books ≡ updates self.old.books }
         ensures published { self.new.books.published ≡ self.old.books.published }
-        ensures grows { Grows J.opening share.old.value share.new.value }
-        ensures whole { IsWhole J.limit J.opening share.new.value }
         ensures same { head.new ≡ record head.old { taken = head.new.taken } }
-        ensures refused { IfErr result (λ e. RefusesCall e) }
-        ensures full { IfErr result (TellsFull self.new.books.entries) }
+        ensures refused { IfErr result (Refuses self.new.books.entries) }
     {
         let Desk {
             spine,
@@ -271,6 +224,7 @@ impl<J: Naming> Desk<J> {
             heads,
             ..
         } = self;
+        let SessionState { number, share, .. } = session;
         let LatchedHead {
             number: place,
             inbox,
@@ -279,146 +233,124 @@ impl<J: Naming> Desk<J> {
         } = head;
         sessions.agree(share);
         heads.agree(mark);
-        spine.begin(number, query, *place, inbox)?;
+        spine.begin(*number, query, *place, inbox)?;
         sessions.set(share, Snapshot::of(spine));
         heads.set(mark, Snapshot::of(spine));
         Ok(())
     }
 
     /// The session's open select is answered. Nothing else of the history changes.
-    pub fn finish(&mut self, number: u64, share: &mut Share<Spine>, reply: Reply)
-        requires share { IsShareOf J.sessions number share.old }
-        requires reply { IsSomeAnd (waits_for number share.old.value) (λ w. reply ≡ reply_to J.limit w.1 w.0) }
-        ensures rest { IsAtRest J.sessions number share.new }
-        ensures mine { IsAnswered number reply share.old.value share.new.value }
-        ensures own { Settles number (Answered reply) share.old.value share.new.value }
-        ensures finished { self.new.books ≡ with_settled number (Answered reply) self.old.books }
+    pub fn finish(&mut self, session: &mut SessionState<J>, reply: Reply)
+        requires { IsSomeAnd session.old.waits (λ w. reply ≡ reply_to J.limit w.1 w.0) }
+        ensures settles { Settles (Answered reply) session.old session.new }
+        ensures finished { self.new.books ≡ with_settled session.old.shown.0 (Answered reply) self.old.books }
         ensures updates { updates self.new.books ≡ updates self.old.books }
-        ensures grows { Grows J.opening share.old.value share.new.value }
-        ensures whole { IsWhole J.limit J.opening share.new.value }
     {
         let Desk {
             spine,
             sessions,
             ..
         } = self;
+        let SessionState { number, share, .. } = session;
         sessions.agree(share);
-        spine.finish(number, reply);
+        spine.finish(*number, reply);
         sessions.set(share, Snapshot::of(spine));
     }
 
     /// The session's open select is given up, and its entry is void. Nothing else of the history changes.
-    pub fn void(&mut self, number: u64, share: &mut Share<Spine>)
-        requires share { IsShareOf J.sessions number share.old }
-        requires waits { IsSome (waits_for number share.old.value) }
-        ensures rest { IsAtRest J.sessions number share.new }
-        ensures mine { mine number share.new.value.entries ≡ mine number share.old.value.entries }
-        ensures own { Settles number Void share.old.value share.new.value }
-        ensures voided { self.new.books ≡ with_settled number Void self.old.books }
+    pub fn void(&mut self, session: &mut SessionState<J>)
+        requires { IsSome session.old.waits }
+        ensures settles { Settles Void session.old session.new }
+        ensures voided { self.new.books ≡ with_settled session.old.shown.0 Void self.old.books }
         ensures updates { updates self.new.books ≡ updates self.old.books }
-        ensures grows { Grows J.opening share.old.value share.new.value }
-        ensures whole { IsWhole J.limit J.opening share.new.value }
     {
         let Desk {
             spine,
             sessions,
             ..
         } = self;
+        let SessionState { number, share, .. } = session;
         sessions.agree(share);
-        spine.void(number);
+        spine.void(*number);
         sessions.set(share, Snapshot::of(spine));
     }
 
-    /// A call that is no select is answered at the end of the history. Refused, the history is as it was.
-    #[tactic(auto, using(crate::proofs::Owned::tells_full))]
-    pub fn commit(
-        &mut self,
-        number: u64,
-        share: &mut Share<Spine>,
-        call: Call,
-    ) -> Result<Reply, Refusal>
-        requires rest { IsAtRest J.sessions number share.old }
+    /// A call that is no select is answered at the end of the history. Refused, nothing has changed.
+    #[tactic(auto, using(crate::proofs::Owned::refuses))]
+    pub fn commit(&mut self, session: &mut SessionState<J>, call: Call) -> Result<Reply, Refusal>
+        requires rest { session.old.waits ≡ None }
         requires changes { is_select call ≡ false }
         requires below { CallsBelow (length J.columns) call }
-        ensures rest { IsAtRest J.sessions number share.new }
-        ensures mine { IfOk result (λ reply. IsTold number call reply share.old.value share.new.value) }
-        ensures err { OnErr result (mine number share.new.value.entries ≡ mine number share.old.value.entries) }
-        ensures adds { IfOk result (λ reply. Adds number call (Answered reply) share.old.value share.new.value) }
-        ensures stays { OnErr result (Stays number share.old.value share.new.value) }
-        ensures answered { OnOk result (self.new.books ≡ with_answered number call self.old.books) }
-        ensures kept { OnErr result (self.new.books ≡ self.old.books) }
+        ensures rest { session.new.waits ≡ None }
+        ensures answers { IfOk result (λ reply. Answers call reply session.old.shown session.new.shown) }
+        ensures committed { OnOk result (self.new.books ≡ with_answered session.old.shown.0 call self.old.books) }
         ensures updates { OnOk result (updates self.new.books ≡ updates_then J.limit (updates self.old.books) call) }
-        ensures grows { Grows J.opening share.old.value share.new.value }
-        ensures whole { IsWhole J.limit J.opening share.new.value }
-        ensures refused { IfErr result (λ e. RefusesCall e) }
-        ensures full { IfErr result (TellsFull self.new.books.entries) }
+        ensures kept { OnErr result (self.new.books ≡ self.old.books) }
+        ensures stays { OnErr result (session.new ≡ session.old) }
+        ensures refused { IfErr result (Refuses self.new.books.entries) }
     {
         let Desk {
             spine,
             sessions,
             ..
         } = self;
+        let SessionState { number, share, .. } = session;
         sessions.agree(share);
         // for the prover: what is published is among the updates
         let _count = spine.published();
-        let reply = spine.commit(number, call)?;
+        let reply = spine.commit(*number, call)?;
         sessions.set(share, Snapshot::of(spine));
         Ok(reply)
     }
 
-    /// So many of the updates are published, the opening rows counted, and the session's share shows it. Nothing else
-    /// changes. Of each entry of the history all updates are published then, or none.
-    pub fn publish(&mut self, number: u64, share: &mut Share<Spine>, count: u64)
-        requires rest { IsAtRest J.sessions number share.old }
+    /// So many of the updates are published, the opening rows counted, and the session shows it. Nothing else changes. Of each
+    /// entry of the history all updates are published then, or none.
+    pub fn publish(&mut self, session: &mut SessionState<J>, count: u64)
+        requires rest { session.old.waits ≡ None }
         requires low { self.old.books.published ≤ count }
         requires high { count ≤ length (updates self.old.books) }
         requires ends { EndsEntry J.limit J.opening self.old.books.entries count }
-        ensures rest { IsAtRest J.sessions number share.new }
-        ensures mine { mine number share.new.value.entries ≡ mine number share.old.value.entries }
-        ensures own { Stays number share.old.value share.new.value }
+        ensures rest { session.new.waits ≡ None }
+        ensures stays { Stays session.old.shown session.new.shown }
+        ensures sees { Sees J.opening self.new.books session.old.shown session.new.shown }
         ensures published { self.new.books ≡ with_published count self.old.books }
-        ensures shown { share.new.value ≡ self.new.books }
-        ensures grows { Grows J.opening share.old.value share.new.value }
-        ensures whole { IsWhole J.limit J.opening share.new.value }
     {
         let Desk {
             spine,
             sessions,
             ..
         } = self;
+        let SessionState { share, .. } = session;
         sessions.agree(share);
         spine.set_published(count);
         sessions.set(share, Snapshot::of(spine));
     }
 
-    /// The session's share shows the history as it is. Nothing else changes.
-    pub fn look(&mut self, number: u64, share: &mut Share<Spine>)
-        requires rest { IsAtRest J.sessions number share.old }
-        ensures rest { IsAtRest J.sessions number share.new }
-        ensures mine { mine number share.new.value.entries ≡ mine number share.old.value.entries }
-        ensures own { Stays number share.old.value share.new.value }
+    /// The session shows the history as it is. Nothing else changes.
+    pub fn look(&mut self, session: &mut SessionState<J>)
+        requires { session.old.waits ≡ None }
+        ensures rest { session.new.waits ≡ None }
+        ensures stays { Stays session.old.shown session.new.shown }
+        ensures sees { Sees J.opening self.new.books session.old.shown session.new.shown }
         ensures same { self.new.books ≡ self.old.books }
-        ensures shown { share.new.value ≡ self.new.books }
-        ensures grows { Grows J.opening share.old.value share.new.value }
-        ensures whole { IsWhole J.limit J.opening share.new.value }
     {
         let count = self.spine.published();
-        self.publish(number, share, count);
+        self.publish(session, count);
     }
 
-    /// The place of the session's last entry, of those that its share shows. Nothing changes.
-    pub fn place(&mut self, number: u64, share: &mut Share<Spine>) -> Option<u64>
-        requires share { IsShareOf J.sessions number share.old }
-        ensures same { (self.new ≡ self.old) × (share.new ≡ share.old) }
-        ensures place { IsLastOwn number share.old.value.entries result }
+    /// The place of the session's last entry, of those that it shows. Nothing changes.
+    pub fn place(&mut self, session: &mut SessionState<J>) -> Option<u64>
+        ensures same { (self.new ≡ self.old) × (session.new ≡ session.old) }
+        ensures place { IsLastOwn session.old.shown.0 session.old.shown.2.entries result }
     {
         let Desk {
             spine,
             sessions,
             ..
         } = self;
+        let SessionState { number, share, .. } = session;
         sessions.agree(share);
-        last_of(spine.entries(), number)
+        last_of(spine.entries(), *number)
     }
 
     /// The updates after the opening rows, which are those of all entries of the history.
@@ -435,14 +367,14 @@ impl<J: Naming> Desk<J> {
         self.spine.updates_from(opening)
     }
 
-    /// A ticket is held against the books, and nothing changes: it is of one of the sessions that were opened, and its session
-    /// saw no more than these.
-    fn hold(&mut self, ticket: &mut Ticket<J>)
+    /// A session is held against the books, and nothing changes: it is one of those that were opened, and saw no more than
+    /// these.
+    fn hold(&mut self, session: &mut SessionState<J>)
         ensures desk { self.new ≡ self.old }
-        ensures ticket { ticket.new ≡ ticket.old }
-        ensures made { IsMade (length self.old.given) ticket.old }
+        ensures session { session.new ≡ session.old }
+        ensures made { IsMade (length self.old.given) session.old.shown }
     {
-        self.sessions.agree(&mut ticket.share);
+        self.sessions.agree(&mut session.share);
     }
 
     /// All these tickets are.
@@ -452,19 +384,21 @@ impl<J: Naming> Desk<J> {
         ensures made { All (IsMade (length self.old.given)) tickets.old }
     {
         for place in 0..tickets.len() {
-            self.hold(&mut tickets[place]);
+            let ticket = &mut tickets[place];
+            self.hold(&mut ticket.state);
         }
     }
 
-    /// A session's ticket comes back. The history has just its answered calls and its own entries, and it waits for nothing.
-    pub fn give(&mut self, ticket: Ticket<J>)
+    /// A session comes back. The history has just its answered calls and its own entries, and it waits for nothing.
+    fn give(&mut self, session: SessionState<J>)
+        requires { session.waits ≡ None }
         ensures books { self.new.books ≡ self.old.books }
-        ensures mine { mine ticket.0 self.old.books.entries ≡ ticket.1 }
-        ensures ended { IsEnded self.old.books.entries ticket }
-        ensures rest { waits_for ticket.0 self.old.books ≡ None }
-        ensures given { AreGiven (ticket ∷ []) self.old.given self.new.given }
+        ensures mine { mine session.shown.0 self.old.books.entries ≡ session.shown.1 }
+        ensures ended { IsEnded self.old.books.entries session.shown }
+        ensures rest { waits_for session.shown.0 self.old.books ≡ None }
+        ensures given { AreGiven (session.shown ∷ []) self.old.given self.new.given }
     {
-        let Ticket { share, .. } = ticket;
+        let SessionState { share, .. } = session;
         self.sessions.give(share);
     }
 
@@ -477,7 +411,8 @@ impl<J: Naming> Desk<J> {
         ensures given { AreGiven tickets.items self.old.given self.new.given }
     {
         for ticket in tickets {
-            self.give(ticket);
+            let Ticket { state } = ticket;
+            self.give(state);
         }
     }
 

@@ -9,24 +9,25 @@ ghost use Rattle.sw_map.specs.Held.{blank};
 ghost use Rattle.sw_spine.specs.Table.{is_numbered};
 ghost use Rattle.sw_spine.specs.History.{CallsBelow, is_select, mine};
 ghost use Rattle.sw_spine.specs.Books.{RefusesRows};
-ghost use Rattle.sw_engine.specs.Desk.{AreAll, InOrder, IsAtRest, IsMade, IsTold, KeepsBoxes, RefusesCall, RefusesClose, RefusesOpening, TellsFull, TooManySessions, new_desk};
+ghost use Rattle.sw_engine.specs.Desk.{AreAll, InOrder, IsMade, KeepsBoxes, RefusesCall, RefusesClose, RefusesOpening, TellsFull, TooManySessions, new_desk};
 ghost use mathlib.Core.List.{IsPrefix};
 ghost use Rattle.sw_versions.specs.Lists.{IsLonger};
 ghost use Rattle.sw_versions.specs.Pending.{IsPlain};
 ghost use Rattle.sw_versions.specs.Refused.{IsAhead};
 ghost use Rattle.sw_versions.specs.Rules.{updates_in};
-ghost use Rattle.sw_engine.specs.Published.{CallGives, CountsMisses, EndWithEntries, GivesReceipt, Grows, HaveAll, IsOfFirst, IsWhole, RefusesViewing, TellsAll, answered_to, published_of};
+ghost use Rattle.sw_engine.specs.Published.{CallGives, CountsMisses, EndWithEntries, GivesReceipt, HaveAll, IsOfFirst, RefusesViewing, TellsAll, answered_to};
 ghost use Rattle.sw_engine.specs.Headline.{IsHistoryOfOneThread};
 ghost use Rattle.sw_engine.specs.Later.{Begin};
-ghost use Rattle.sw_engine.specs.Own.{Commits, IsEnded, IsLastOwn, IsNew, LeavesCall, LeavesCommit, LeavesSelect, Selects, Stays, own_of};
+ghost use Rattle.sw_engine.specs.Own.{IsEnded, IsLastOwn, IsNew, LeavesCall, LeavesCommit, LeavesSelect, own_of};
+ghost use Rattle.sw_engine.specs.Sessions.{Answers, GivesUp, Refuses, Stays};
 
 use crate::conds::add_all;
 use crate::counting::HeadStats;
-use crate::desk::{Blank, Desk, Ticket};
+use crate::desk::{Blank, Desk};
 use crate::latch::{LatchedHead, head_of};
 use crate::locked::{LockedDesk, Miss};
-use crate::misses::Misses;
 use crate::opening::Opening;
+use crate::ticket::Ticket;
 use crate::viewing::{Receipt, Viewer};
 use crossbeam_utils::Backoff;
 use left_right::Absorb;
@@ -40,8 +41,7 @@ use std::time::Duration;
 use sw_lang::Cuts;
 use sw_map::CrackerMap;
 use sw_rows::{Call, Cond, Conds, PackedRows, Query, Refusal, Reply, Schema, Update};
-use sw_spine::{Record, Spine};
-use sw_tie::Share;
+use sw_spine::Record;
 use sw_versions::{Live, Naming, Op};
 
 /// How often a thread pauses between looks at a lock or a latch, before it sleeps.
@@ -227,37 +227,20 @@ where
     pub fn attach(&self, ticket: Ticket<J>) -> Session<'_, J, M>
         ensures { result ≡ ticket }
     {
-        let Ticket {
-            number,
-            share,
-            receipt,
-            misses,
-        } = ticket;
         Session {
             engine: self,
-            number,
-            share,
-            receipt,
-            misses,
+            ticket,
         }
     }
 
     /// The next session, which has no entries, with the receipt of what is published. Its number is new: it is that of all
     /// sessions that were made by then. Refused `TooMany` where as many were as the books are for, `NoMemory` otherwise.
-    #[tactic(auto, using(crate::proofs::Published::prefix_same))]
     pub fn session<R: Wait>(&self, rt: &R) -> Result<Session<'_, J, M>, Refusal>
         ensures new { IfOk result IsNew }
         ensures refused { IfErr result (TooManySessions J.most) }
     {
-        let (number, share, receipt) = self.visit(rt).enrol()?;
-        let misses = Misses::new();
-        Ok(Session {
-            engine: self,
-            number,
-            share,
-            receipt,
-            misses,
-        })
+        let ticket = self.visit(rt).enrol()?;
+        Ok(self.attach(ticket))
     }
 
     /// A viewer, which has learnt what is published. Until the first one there are no copies of the rows for viewers,
@@ -443,25 +426,17 @@ where
         head.hand_over()
     }
 
-    #[tactic(auto, using(crate::proofs::Owned::settles_added))]
+    /// Takes the head's latch and, for a visit each, the lock: the select begins, the head answers, and the reply stands in the
+    /// history; or the select is given up.
     fn select<R: Threads + Wait + Sync>(
         &self,
         rt: &R,
-        number: u64,
-        share: &mut Share<Spine>,
+        ticket: &mut Ticket<J>,
         query: &Query,
     ) -> Result<Reply, Refusal>
-        requires rest { IsAtRest J.sessions number share.old }
-        requires asks { CallsBelow (length J.columns) (Select query.now) }
-        requires whole { IsWhole J.limit J.opening share.old.value }
-        ensures rest { IsAtRest J.sessions number share.new }
-        ensures mine { IfOk result (λ r. IsTold number (Select query.now) r share.old.value share.new.value) }
-        ensures err { OnErr result (mine number share.new.value.entries ≡ mine number share.old.value.entries) }
-        ensures own { Selects number query.now result share.old.value share.new.value }
-        ensures grows { Grows J.opening share.old.value share.new.value }
-        ensures whole { IsWhole J.limit J.opening share.new.value }
-        ensures refused { IfErr result (λ e. RefusesCall e) }
-        ensures full { IfErr result (TellsFull share.new.value.entries) }
+        requires { CallsBelow (length J.columns) (Select query.now) }
+        ensures answers { IfOk result (λ r. Answers (Select query.now) r ticket.old ticket.new) }
+        ensures refused { IfErr result (λ e. GivesUp query.now ticket.old ticket.new × Refuses ticket.new.2.entries e) }
     {
         let Ok(asked) = query.copied(self.alloc) else {
             return Err(Refusal::NoMemory);
@@ -470,36 +445,25 @@ where
         if self.ready(rt, &mut *head).is_err() {
             return Err(Refusal::NoMemory);
         }
-        self.visit(rt).begin(number, share, &mut *head, asked)?;
+        self.visit(rt).begin(&mut ticket.state, &mut *head, asked)?;
         let Ok((reply, kept)) = head.answer(rt, self.alloc, query) else {
-            self.visit(rt).void(number, share);
+            self.visit(rt).void(&mut ticket.state);
             return Err(Refusal::NoMemory);
         };
-        self.visit(rt).finish(number, share, kept);
+        self.visit(rt).finish(&mut ticket.state, kept);
         Ok(reply)
     }
 
     /// Publishes all updates of the history that are not published yet, in visits between which it waits for viewers that read
     /// the copy that is to be written. Without memory for it what a visit missed.
-    fn publish<R: Wait>(
-        &self,
-        rt: &R,
-        number: u64,
-        share: &mut Share<Spine>,
-    ) -> Result<Receipt<J>, Miss>
-        requires rest { IsAtRest J.sessions number share.old }
-        requires whole { IsWhole J.limit J.opening share.old.value }
-        ensures rest { IsAtRest J.sessions number share.new }
-        ensures mine { mine number share.new.value.entries ≡ mine number share.old.value.entries }
-        ensures own { Stays number share.old.value share.new.value }
-        ensures grows { Grows J.opening share.old.value share.new.value }
-        ensures whole { IsWhole J.limit J.opening share.new.value }
-        ensures receipt { IfOk result (λ r. updates_in r ≡ published_of J.opening share.new.value) }
-        ensures all { IfOk result (HaveAll J.limit J.opening share.new.value.entries) }
+    fn publish<R: Wait>(&self, rt: &R, ticket: &mut Ticket<J>) -> Result<Receipt<J>, Miss>
+        ensures stays { Stays ticket.old ticket.new }
+        ensures receipt { IfOk result (λ r. updates_in r ≡ ticket.new.2.published) }
+        ensures all { IfOk result (HaveAll J.limit J.opening ticket.new.2.entries) }
     {
         let backoff = Backoff::new();
         for _ in rt.forever() {
-            let came = self.visit(rt).publish(rt, number, share);
+            let came = self.visit(rt).publish(rt, ticket);
             if came.whole {
                 return Ok(came.receipt);
             }
@@ -509,65 +473,6 @@ where
             backoff.snooze();
         }
         unreachable!()
-    }
-
-    /// Publishes as `publish` does, memory aside, and then the viewer is met.
-    fn meet<R: Wait>(
-        &self,
-        rt: &R,
-        number: u64,
-        share: &mut Share<Spine>,
-        reader: &mut sw_versions::Viewer<J>,
-    ) -> Result<Receipt<J>, Refusal>
-        requires rest { IsAtRest J.sessions number share.old }
-        requires whole { IsWhole J.limit J.opening share.old.value }
-        ensures rest { IsAtRest J.sessions number share.new }
-        ensures mine { mine number share.new.value.entries ≡ mine number share.old.value.entries }
-        ensures own { Stays number share.old.value share.new.value }
-        ensures grows { Grows J.opening share.old.value share.new.value }
-        ensures whole { IsWhole J.limit J.opening share.new.value }
-        ensures receipt { IfOk result (λ r. updates_in r ≡ published_of J.opening share.new.value) }
-        ensures ends { IfOk result (λ r. EndWithEntries J.limit J.opening share.new.value.entries r) }
-        ensures met { IfOk result (λ r. IsPrefix reader.old.seen r × IsLonger reader.old.told r reader.new.told) }
-        ensures seen { reader.new.seen ≡ reader.old.seen }
-        ensures kept { OnErr result (reader.new ≡ reader.old) }
-        ensures refused { IfErr result
-            (IsAhead J.opening (updates_in reader.old.seen) (published_of J.opening share.new.value)) }
-    {
-        let _published = self.publish(rt, number, share);
-        self.visit(rt).meet(rt, number, share, reader)
-    }
-
-    #[tactic(auto, using(crate::proofs::Published::begins_longer))]
-    fn commit<R: Wait>(
-        &self,
-        rt: &R,
-        number: u64,
-        share: &mut Share<Spine>,
-        receipt: &mut Receipt<J>,
-        call: Call,
-    ) -> Result<Reply, Refusal>
-        requires rest { IsAtRest J.sessions number share.old }
-        requires changes { is_select call ≡ false }
-        requires below { CallsBelow (length J.columns) call }
-        requires held { IsPrefix (updates_in receipt.old) (published_of J.opening share.old.value) }
-        ensures rest { IsAtRest J.sessions number share.new }
-        ensures mine { IfOk result (λ r. IsTold number call r share.old.value share.new.value) }
-        ensures err { OnErr result (mine number share.new.value.entries ≡ mine number share.old.value.entries) }
-        ensures own { Commits number call result share.old.value share.new.value }
-        ensures grows { Grows J.opening share.old.value share.new.value }
-        ensures whole { IsWhole J.limit J.opening share.new.value }
-        ensures receipt { OnOk result (updates_in receipt.new ≡ published_of J.opening share.new.value) }
-        ensures longer { OnOk result (IsPrefix receipt.old receipt.new) }
-        ensures kept { OnErr result (receipt.new ≡ receipt.old) }
-        ensures refused { IfErr result (λ e. RefusesCall e) }
-        ensures full { IfErr result (TellsFull share.new.value.entries) }
-    {
-        let (reply, published) = self.visit(rt).commit(rt, number, share, call)?;
-        // for the prover: of two beginnings the one with no more updates begins the other, batch by batch
-        let _begins = receipt.begins(&published);
-        *receipt = published;
-        Ok(reply)
     }
 }
 
@@ -579,23 +484,18 @@ where
     Live<J>: Absorb<Op<J>, State = [Update; 0]>,
 {
     engine: &'e Engine<J, M>,
-    number: u64,
-    share: Share<Spine>,
-    receipt: Receipt<J>,
-    misses: Misses,
+    ticket: Ticket<J>,
 }
 
 impl<'e, J: Naming, M: CrackerMap> Model for Session<'e, J, M>
 where
     Live<J>: Absorb<Op<J>, State = [Update; 0]>,
 {
-    ghost use Rattle.sw_engine.specs.Published.{IsHeld, Shown, session_shown};
+    ghost use Rattle.sw_engine.specs.Published.{Shown};
 
     ghost Value = { Shown };
 
-    ghost view = { λ s. session_shown J.opening s.number s.share.value s.receipt s.misses };
-
-    ghost invariant = { λ s. IsHeld J.sessions J.limit J.opening s.number s.share s.receipt };
+    ghost view = { λ s. s.ticket };
 }
 
 impl<'e, J: Naming, M: CrackerMap> Session<'e, J, M>
@@ -622,7 +522,7 @@ where
         ensures refused { IfErr result (λ e. RefusesCall e) }
         ensures full { IfErr result (TellsFull self.new.2.entries) }
     {
-        self.engine.select(rt, self.number, &mut self.share, query)
+        self.engine.select(rt, &mut self.ticket, query)
     }
 
     /// Commits a call that is no select, and has the receipt of what is published then.
@@ -639,14 +539,10 @@ where
         ensures refused { IfErr result (λ e. RefusesCall e) }
         ensures full { IfErr result (TellsFull self.new.2.entries) }
     {
-        let Session {
-            engine,
-            number,
-            share,
-            receipt,
-            ..
-        } = self;
-        engine.commit(rt, *number, share, receipt, call)
+        let Session { engine, ticket } = self;
+        let (reply, published) = engine.visit(rt).commit(rt, ticket, call)?;
+        ticket.receive(published);
+        Ok(reply)
     }
 
     /// Inserts a row.
@@ -733,7 +629,7 @@ where
         ensures whole { IsOfFirst J.limit J.opening self.now.2.entries self.now.2.published }
         ensures mine { self.now.1 ≡ mine self.now.0 self.now.2.entries }
     {
-        self.receipt.again()
+        self.ticket.state.receipt().again()
     }
 
     /// Publishes all updates of the history that are not published yet, and the session has the receipt of all of them. For that
@@ -751,24 +647,17 @@ where
         ensures all { IfOk result (HaveAll J.limit J.opening self.new.2.entries) }
         ensures refused { CountsMisses result self.old.2 self.new.2 }
     {
-        let Session {
-            engine,
-            number,
-            share,
-            receipt,
-            misses,
-        } = self;
-        let published = match engine.publish(rt, *number, share) {
-            Ok(published) => published,
-            Err(miss) => {
-                misses.add(miss);
-                return Err(Refusal::NoMemory);
+        let Session { engine, ticket } = self;
+        match engine.publish(rt, ticket) {
+            Ok(published) => {
+                ticket.receive(published.again());
+                Ok(published)
             }
-        };
-        // for the prover: as in a commit
-        let _begins = receipt.begins(&published);
-        *receipt = published.again();
-        Ok(published)
+            Err(miss) => {
+                ticket.miss(miss);
+                Err(Refusal::NoMemory)
+            }
+        }
     }
 
     /// How often a publish of the session was refused, since there was no memory for it. The count stays at its type's greatest
@@ -776,12 +665,11 @@ where
     pub fn misses(&self) -> u64
         ensures { result ≡ self.now.2.missed }
     {
-        self.misses.count()
+        self.ticket.state.misses()
     }
 
     /// Whether the session's receipt has all updates of the history, as it is now: what a commit could not publish, since a
     /// viewer read or there was no memory, it lacks.
-    #[tactic(auto, using(sw_versions::proofs::Prefixes::prefix_trans))]
     pub fn is_whole<R: Wait>(&mut self, rt: &R) -> bool
         ensures number { self.new.0 ≡ self.old.0 }
         ensures mine { self.new.1 ≡ self.old.1 }
@@ -791,14 +679,8 @@ where
         ensures missed { self.new.2.missed ≡ self.old.2.missed }
         ensures all { TellsAll J.limit J.opening self.new.2.entries self.new.2.given result }
     {
-        let Session {
-            engine,
-            number,
-            share,
-            receipt,
-            ..
-        } = self;
-        engine.visit(rt).has_all(*number, share, receipt)
+        let Session { engine, ticket } = self;
+        engine.visit(rt).has_all(ticket)
     }
 
     /// The place of the session's last entry in the history, the first place being 0, or none where it has no entry. So it is
@@ -807,13 +689,8 @@ where
         ensures same { self.new ≡ self.old }
         ensures place { IsLastOwn self.old.0 self.old.2.entries result }
     {
-        let Session {
-            engine,
-            number,
-            share,
-            ..
-        } = self;
-        engine.visit(rt).place(*number, share)
+        let Session { engine, ticket } = self;
+        engine.visit(rt).place(ticket)
     }
 
     /// A viewer learns what is published, and the session has the receipt of it. What an earlier call could not publish, since
@@ -844,17 +721,10 @@ where
         ensures kept { OnErr result (viewer.new ≡ viewer.old) }
         ensures refused { IfErr result (IsAhead J.opening (updates_in viewer.old.seen) self.new.2.published) }
     {
-        let Session {
-            engine,
-            number,
-            share,
-            receipt,
-            ..
-        } = self;
-        let published = engine.meet(rt, *number, share, &mut viewer.reader)?;
-        // for the prover: as in a commit
-        let _begins = receipt.begins(&published);
-        *receipt = published.again();
+        let Session { engine, ticket } = self;
+        let _published = engine.publish(rt, ticket);
+        let published = engine.visit(rt).meet(rt, ticket, &mut viewer.reader)?;
+        ticket.receive(published.again());
         Ok(published)
     }
 
@@ -862,13 +732,7 @@ where
     pub fn end(self) -> Ticket<J>
         ensures { result ≡ self.entry }
     {
-        let Session {
-            number,
-            share,
-            receipt,
-            misses,
-            ..
-        } = self;
-        Ticket::new(number, share, receipt, misses)
+        let Session { ticket, .. } = self;
+        ticket
     }
 }

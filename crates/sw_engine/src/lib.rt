@@ -11,12 +11,14 @@ mod leading;
 mod locked;
 mod misses;
 mod opening;
+mod ticket;
 mod viewing;
 
 pub use counting::HeadStats;
 pub use dealing::deal;
-pub use desk::{Blank, Ticket};
+pub use desk::Blank;
 pub use engine::{Engine, Session};
 pub use latch::head_of;
 pub use sw_versions::Naming;
+pub use ticket::Ticket;
 pub use viewing::{Receipt, Viewer};

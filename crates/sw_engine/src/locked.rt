@@ -1,34 +1,33 @@
 //! What lies under the lock: the desk, and the shelf of what viewers read.
 
-ghost use Rattle.std.specs.Prelude.{◌≡◌, ◌⊎◌, ◌<◌, ◌≤◌, ◌+◌, [], false, None, Some, is_some, length, All, IfErr, IfOk, IsSome, IsSomeAnd, MatchBool, OnErr, OnOk, true};
+ghost use Rattle.std.specs.Prelude.{◌≡◌, ◌⊎◌, ◌<◌, ◌≤◌, ◌+◌, false, None, is_some, length, All, IfErr, IfOk, IsSome, IsSomeAnd, MatchBool, OnErr, OnOk, true};
 ghost use mathlib.Core.List.{IsPrefix};
 ghost use Rattle.sw_rows.specs.declared.query.Call.TheVariants.{Select};
 ghost use Rattle.sw_rows.specs.declared.table.TheConstants.{MOST_ROWS};
 ghost use Rattle.sw_spine.specs.Table.{is_numbered, reply_to};
-ghost use Rattle.sw_spine.specs.History.{CallsBelow, is_select, mine};
-ghost use Rattle.sw_spine.specs.Books.{new_books, waits_for, with_published, with_session, with_settled};
-ghost use Rattle.sw_spine.specs.declared.history.State.TheVariants.{Answered, Open, Void};
+ghost use Rattle.sw_spine.specs.History.{CallsBelow, is_select};
+ghost use Rattle.sw_spine.specs.Books.{new_books, with_published, with_session, with_settled};
+ghost use Rattle.sw_spine.specs.declared.history.State.TheVariants.{Answered, Void};
 ghost use Rattle.sw_versions.specs.Pending.{HasShownOr, IsPlain, TellsCame};
 ghost use Rattle.sw_versions.specs.Lists.{IsLonger};
 ghost use Rattle.sw_versions.specs.Refused.{IsAhead, RefusesViewer};
 ghost use Rattle.sw_versions.specs.Rules.{updates_in};
 ghost use Rattle.sw_versions.specs.declared.came.Came.TheVariants.{Missed};
 ghost use Rattle.sw_versions.specs.declared.viewer.TheConstants.{MOST_VIEWERS};
-ghost use Rattle.sw_engine.specs.Own.{Adds, IsLastOwn, IsNew, Settles, Stays};
-ghost use Rattle.sw_engine.specs.Desk.{AreOut, InOrder, IsAnswered, IsAtRest, IsBegun, IsMade, IsShareOf, IsTold, RefusesCall, RefusesMany, RefusesNext, TellsFull};
-ghost use Rattle.sw_engine.specs.Published.{EndWithEntries, Grows, IsNewShare, IsWhole, later, new_viewer, no_versions, published_of, TellsAll, with_committed, with_viewer};
+ghost use Rattle.sw_engine.specs.Own.{IsLastOwn, IsNew};
+ghost use Rattle.sw_engine.specs.Sessions.{Answers, Begins, Refuses, Sees, Settles, Stays};
+ghost use Rattle.sw_engine.specs.Desk.{AreOut, InOrder, IsBegun, IsMade, RefusesMany, RefusesNext};
+ghost use Rattle.sw_engine.specs.Published.{EndWithEntries, later, new_viewer, no_versions, TellsAll, with_committed, with_viewer};
 
-use crate::desk::{Desk, Ticket};
+use crate::desk::Desk;
 use crate::latch::LatchedHead;
-use crate::misses::Misses;
+use crate::ticket::{SessionState, Ticket};
 use left_right::Absorb;
 use std::alloc::Global;
 use std::marker::Model;
 use std::sync::Wait;
 use sw_map::CrackerMap;
 use sw_rows::{Call, PackedRows, Query, Refusal, Reply, Update};
-use sw_spine::Spine;
-use sw_tie::Share;
 use sw_versions::{Book, Came, Front, Live, Naming, Op, Opened, Shelf, Viewer};
 
 /// A publishing that there was no memory for. Only a visit that came to one makes it.
@@ -121,18 +120,15 @@ where
         }
     }
 
-    /// The next session's number and share, and the receipt of what is published.
-    pub fn enrol(&mut self) -> Result<(u64, Share<Spine>, Front<J>), Refusal>
-        ensures share { IfOk result (λ t. IsNewShare J.sessions self.new.desk.books t.0 t.1) }
-        ensures receipt { IfOk result (λ t. t.2 ≡ self.old.shelf.published) }
-        ensures shown { IfOk result (λ t. updates_in t.2 ≡ published_of J.opening t.1.value) }
-        ensures whole { IfOk result (λ t. IsWhole J.limit J.opening t.1.value) }
+    /// The next session's ticket, with the receipt of what is published.
+    pub fn enrol(&mut self) -> Result<Ticket<J>, Refusal>
+        ensures new { IfOk result (λ t. (t.0 ≡ self.new.desk.books.sessions) × IsNew t) }
         ensures made { OnOk result (self.new.desk.books ≡ with_session self.old.desk.books) }
         ensures shelf { self.new.shelf ≡ self.old.shelf }
         ensures refused { IfErr result (λ e. (self.new ≡ self.old) × RefusesNext J.most self.old.desk.books e) }
     {
         let (number, share) = self.desk.enrol()?;
-        Ok((number, share, self.shelf.published()))
+        Ok(Ticket::new(number, share, self.shelf.published()))
     }
 
     /// The tickets of the first sessions, in order.
@@ -144,24 +140,12 @@ where
     {
         let mut tickets = Vec::new(alloc);
         for _ in 0..many {
-            let ticket = self.ticket()?;
+            let ticket = self.enrol()?;
             if tickets.push(ticket).is_err() {
                 return Err(Refusal::NoMemory);
             }
         }
         Ok(tickets)
-    }
-
-    /// The next session's ticket.
-    #[tactic(auto, using(crate::proofs::Published::prefix_same))]
-    fn ticket(&mut self) -> Result<Ticket<J>, Refusal>
-        ensures ticket { IfOk result (λ t. (t.0 ≡ self.new.desk.books.sessions) × IsNew t) }
-        ensures made { OnOk result (self.new.desk.books ≡ with_session self.old.desk.books) }
-        ensures refused { IfErr result (λ e. (self.new ≡ self.old) × RefusesNext J.most self.old.desk.books e) }
-    {
-        let (number, share, receipt) = self.enrol()?;
-        let misses = Misses::new();
-        Ok(Ticket::new(number, share, receipt, misses))
     }
 
     /// Whether as many tickets came back as sessions were made; otherwise both numbers are told. Nothing changes. The tickets
@@ -191,89 +175,62 @@ where
         self.desk.opening_rows()
     }
 
-    /// A select begins at the desk.
+    /// A select begins at the desk. Refused, nothing of the session's has changed.
     pub fn begin<M: CrackerMap>(
         &mut self,
-        number: u64,
-        share: &mut Share<Spine>,
+        session: &mut SessionState<J>,
         head: &mut LatchedHead<J, M>,
         query: Query,
     ) -> Result<(), Refusal>
-        requires rest { IsAtRest J.sessions number share.old }
+        requires rest { session.old.waits ≡ None }
         requires asks { CallsBelow (length J.columns) (Select query) }
-        ensures share { IsShareOf J.sessions number share.new }
-        ensures mine { mine number share.new.value.entries ≡ mine number share.old.value.entries }
-        ensures adds { OnOk result (Adds number (Select query) Open share.old.value share.new.value) }
-        ensures stays { OnErr result (Stays number share.old.value share.new.value) }
-        ensures waits { OnOk result (waits_for number share.new.value ≡ Some (Select query, head.new.taken)) }
-        ensures rest { OnErr result (waits_for number share.new.value ≡ None) }
-        ensures grows { Grows J.opening share.old.value share.new.value }
-        ensures whole { IsWhole J.limit J.opening share.new.value }
-        ensures begun { OnOk result (IsBegun number query self.old.desk.books self.new.desk.books) }
+        ensures begins { OnOk result (Begins query head.new.taken session.old session.new) }
+        ensures entries { OnOk result (IsBegun session.old.shown.0 query self.old.desk.books self.new.desk.books) }
+        ensures rest { OnErr result (session.new.waits ≡ None) }
         ensures kept { OnErr result (self.new.desk.books ≡ self.old.desk.books) }
         ensures shelf { self.new.shelf ≡ self.old.shelf }
         ensures same { head.new ≡ record head.old { taken = head.new.taken } }
-        ensures refused { IfErr result (λ e. RefusesCall e) }
-        ensures full { IfErr result (TellsFull share.new.value.entries) }
+        ensures refused { IfErr result (λ e.
+            Stays session.old.shown session.new.shown × Refuses session.new.shown.2.entries e) }
     {
-        match self.desk.begin(number, share, head, query) {
+        match self.desk.begin(session, head, query) {
             Ok(()) => Ok(()),
             Err(refusal) => {
-                self.desk.look(number, share);
+                self.desk.look(session);
                 Err(refusal)
             }
         }
     }
 
     /// The session's open select is answered at the desk.
-    pub fn finish(&mut self, number: u64, share: &mut Share<Spine>, reply: Reply)
-        requires share { IsShareOf J.sessions number share.old }
-        requires reply { IsSomeAnd (waits_for number share.old.value) (λ w. reply ≡ reply_to J.limit w.1 w.0) }
-        ensures rest { IsAtRest J.sessions number share.new }
-        ensures mine { IsAnswered number reply share.old.value share.new.value }
-        ensures own { Settles number (Answered reply) share.old.value share.new.value }
-        ensures grows { Grows J.opening share.old.value share.new.value }
-        ensures whole { IsWhole J.limit J.opening share.new.value }
-        ensures finished { self.new.desk.books ≡ with_settled number (Answered reply) self.old.desk.books }
+    pub fn finish(&mut self, session: &mut SessionState<J>, reply: Reply)
+        requires { IsSomeAnd session.old.waits (λ w. reply ≡ reply_to J.limit w.1 w.0) }
+        ensures settles { Settles (Answered reply) session.old session.new }
+        ensures finished { self.new.desk.books ≡ with_settled session.old.shown.0 (Answered reply) self.old.desk.books }
         ensures shelf { self.new.shelf ≡ self.old.shelf }
     {
-        self.desk.finish(number, share, reply);
+        self.desk.finish(session, reply);
     }
 
     /// The session's open select is given up at the desk.
-    pub fn void(&mut self, number: u64, share: &mut Share<Spine>)
-        requires share { IsShareOf J.sessions number share.old }
-        requires waits { IsSome (waits_for number share.old.value) }
-        ensures rest { IsAtRest J.sessions number share.new }
-        ensures mine { mine number share.new.value.entries ≡ mine number share.old.value.entries }
-        ensures own { Settles number Void share.old.value share.new.value }
-        ensures grows { Grows J.opening share.old.value share.new.value }
-        ensures whole { IsWhole J.limit J.opening share.new.value }
-        ensures voided { self.new.desk.books ≡ with_settled number Void self.old.desk.books }
+    pub fn void(&mut self, session: &mut SessionState<J>)
+        requires { IsSome session.old.waits }
+        ensures settles { Settles Void session.old session.new }
+        ensures voided { self.new.desk.books ≡ with_settled session.old.shown.0 Void self.old.desk.books }
         ensures shelf { self.new.shelf ≡ self.old.shelf }
     {
-        self.desk.void(number, share);
+        self.desk.void(session);
     }
 
     /// All updates that are not published yet are published at once, or none of them: where there is no memory for it, or a
-    /// viewer still reads the copy that would be written. Either way the session's share shows what is published, of which
-    /// the receipt is given, with whether that has all updates of the history.
-    pub fn publish<R: Wait>(
-        &mut self,
-        rt: &R,
-        number: u64,
-        share: &mut Share<Spine>,
-    ) -> Published<J>
-        requires rest { IsAtRest J.sessions number share.old }
-        ensures rest { IsAtRest J.sessions number share.new }
-        ensures mine { mine number share.new.value.entries ≡ mine number share.old.value.entries }
-        ensures own { Stays number share.old.value share.new.value }
-        ensures grows { Grows J.opening share.old.value share.new.value }
-        ensures whole { IsWhole J.limit J.opening share.new.value }
-        ensures shown { share.new.value ≡ self.new.desk.books }
+    /// viewer still reads the copy that would be written. Either way the session shows what is published, of which the receipt
+    /// is given, with whether that has all updates of the history.
+    pub fn publish<R: Wait>(&mut self, rt: &R, ticket: &mut Ticket<J>) -> Published<J>
+        ensures stays { Stays ticket.old ticket.new }
+        ensures sees { Sees J.opening self.new.desk.books ticket.old ticket.new }
         ensures receipt { result.receipt ≡ self.new.shelf.published }
-        ensures told { updates_in result.receipt ≡ published_of J.opening share.new.value }
-        ensures all { TellsAll J.limit J.opening share.new.value.entries result.receipt result.whole }
+        ensures told { updates_in result.receipt ≡ ticket.new.2.published }
+        ensures all { TellsAll J.limit J.opening ticket.new.2.entries result.receipt result.whole }
         ensures books { self.new.desk.books
             ≡ with_published (length J.opening + length (updates_in self.new.shelf.published)) self.old.desk.books }
         ensures came { TellsCame result.came (later J.opening self.new.desk.books) self.old.shelf self.new.shelf }
@@ -288,7 +245,7 @@ where
         let receipt = shelf.published();
         let count = book.count(&receipt);
         let whole = has_all(&receipt, desk.later());
-        desk.publish(number, share, count);
+        desk.publish(&mut ticket.state, count);
         Published {
             receipt,
             whole,
@@ -297,64 +254,48 @@ where
         }
     }
 
-    /// The session's share shows the history as it is. Whether a receipt of what was published has all its updates.
-    pub fn has_all(&mut self, number: u64, share: &mut Share<Spine>, receipt: &Front<J>) -> bool
-        requires rest { IsAtRest J.sessions number share.old }
-        requires held { IsPrefix (updates_in receipt.now) (published_of J.opening share.old.value) }
-        ensures rest { IsAtRest J.sessions number share.new }
-        ensures mine { mine number share.new.value.entries ≡ mine number share.old.value.entries }
-        ensures own { Stays number share.old.value share.new.value }
+    /// The session shows the history as it is. Whether its receipt has all updates of it.
+    pub fn has_all(&mut self, ticket: &mut Ticket<J>) -> bool
+        ensures stays { Stays ticket.old ticket.new }
         ensures same { self.new.desk.books ≡ self.old.desk.books }
         ensures shelf { self.new.shelf ≡ self.old.shelf }
-        ensures grows { Grows J.opening share.old.value share.new.value }
-        ensures whole { IsWhole J.limit J.opening share.new.value }
-        ensures all { TellsAll J.limit J.opening share.new.value.entries receipt.now result }
+        ensures all { TellsAll J.limit J.opening ticket.new.2.entries ticket.new.2.given result }
     {
-        self.desk.look(number, share);
-        has_all(receipt, self.desk.later())
+        self.desk.look(&mut ticket.state);
+        has_all(ticket.state.receipt(), self.desk.later())
     }
 
-    /// A call that is no select is answered at the end of the history. Then all updates that are not published yet are published at
-    /// once, or none of them: where there is no memory for it, or a viewer still reads the copy that would be written, a later
-    /// commit or meeting publishes them. Refused, nothing has changed.
+    /// A call that is no select is answered at the end of the history. Then all updates that are not published yet are published
+    /// at once, or none of them: where there is no memory for it, or a viewer still reads the copy that would be written, a later
+    /// commit or meeting publishes them. The receipt of what is published is given. Refused, nothing has changed.
     pub fn commit<R: Wait>(
         &mut self,
         rt: &R,
-        number: u64,
-        share: &mut Share<Spine>,
+        ticket: &mut Ticket<J>,
         call: Call,
     ) -> Result<(Reply, Front<J>), Refusal>
-        requires rest { IsAtRest J.sessions number share.old }
         requires changes { is_select call ≡ false }
         requires below { CallsBelow (length J.columns) call }
-        ensures rest { IsAtRest J.sessions number share.new }
-        ensures mine { IfOk result (λ r. IsTold number call r.0 share.old.value share.new.value) }
-        ensures err { OnErr result (mine number share.new.value.entries ≡ mine number share.old.value.entries) }
-        ensures adds { IfOk result (λ r. Adds number call (Answered r.0) share.old.value share.new.value) }
-        ensures stays { OnErr result (Stays number share.old.value share.new.value) }
-        ensures grows { Grows J.opening share.old.value share.new.value }
-        ensures whole { IsWhole J.limit J.opening share.new.value }
-        ensures shown { OnOk result (share.new.value ≡ self.new.desk.books) }
+        ensures answers { IfOk result (λ r. Answers call r.0 ticket.old ticket.new) }
         ensures receipt { IfOk result (λ r. r.1 ≡ self.new.shelf.published) }
-        ensures told { IfOk result (λ r. updates_in r.1 ≡ published_of J.opening share.new.value) }
-        ensures answered { OnOk result (self.new.desk.books
-            ≡ with_committed J.opening number call self.new.shelf self.old.desk.books) }
+        ensures told { IfOk result (λ r. updates_in r.1 ≡ ticket.new.2.published) }
+        ensures committed { OnOk result (self.new.desk.books
+            ≡ with_committed J.opening ticket.old.0 call self.new.shelf self.old.desk.books) }
         ensures published { HasShownOr (later J.opening self.new.desk.books) self.old.shelf self.new.shelf }
         ensures entries { OnOk result
             (EndWithEntries J.limit J.opening self.new.desk.books.entries self.new.shelf.published) }
         ensures longer { IsPrefix self.old.shelf.published self.new.shelf.published }
         ensures viewers { self.new.shelf.viewers ≡ self.old.shelf.viewers }
         ensures kept { OnErr result ((self.new.desk.books ≡ self.old.desk.books) × (self.new.shelf ≡ self.old.shelf)) }
-        ensures refused { IfErr result (λ e. RefusesCall e) }
-        ensures full { IfErr result (TellsFull share.new.value.entries) }
+        ensures refused { IfErr result (λ e. Stays ticket.old ticket.new × Refuses ticket.new.2.entries e) }
     {
-        match self.desk.commit(number, share, call) {
+        match self.desk.commit(&mut ticket.state, call) {
             Ok(reply) => {
-                let came = self.publish(rt, number, share);
+                let came = self.publish(rt, ticket);
                 Ok((reply, came.receipt))
             }
             Err(refusal) => {
-                self.desk.look(number, share);
+                self.desk.look(&mut ticket.state);
                 Err(refusal)
             }
         }
@@ -362,25 +303,18 @@ where
 
     /// All updates that are not published yet are published at once, or none of them: where there is no memory for it, or a
     /// viewer still reads the copy that would be written. Then a viewer learns what is published, if that begins with all that it
-    /// has seen, and the receipt of it is given. Either way the session's share shows what is published.
+    /// has seen, and the receipt of it is given. Either way the session shows what is published.
     ///
     /// Refused `Ahead` where the viewer has seen more than is published, both counted with the opening rows; then the viewer is
     /// as it was.
     pub fn meet<R: Wait>(
         &mut self,
         rt: &R,
-        number: u64,
-        share: &mut Share<Spine>,
+        ticket: &mut Ticket<J>,
         viewer: &mut Viewer<J>,
     ) -> Result<Front<J>, Refusal>
-        requires rest { IsAtRest J.sessions number share.old }
-        ensures rest { IsAtRest J.sessions number share.new }
-        ensures mine { mine number share.new.value.entries ≡ mine number share.old.value.entries }
-        ensures own { Stays number share.old.value share.new.value }
-        ensures grows { Grows J.opening share.old.value share.new.value }
-        ensures whole { IsWhole J.limit J.opening share.new.value }
-        ensures shown { share.new.value ≡ self.new.desk.books }
-        ensures told { updates_in self.new.shelf.published ≡ published_of J.opening share.new.value }
+        ensures stays { Stays ticket.old ticket.new }
+        ensures told { IfOk result (λ r. updates_in r ≡ ticket.new.2.published) }
         ensures books { self.new.desk.books
             ≡ with_published (length J.opening + length (updates_in self.new.shelf.published)) self.old.desk.books }
         ensures published { HasShownOr (later J.opening self.new.desk.books) self.old.shelf self.new.shelf }
@@ -388,24 +322,22 @@ where
         ensures longer { IsPrefix self.old.shelf.published self.new.shelf.published }
         ensures viewers { self.new.shelf.viewers ≡ self.old.shelf.viewers }
         ensures receipt { IfOk result (λ r. r ≡ self.new.shelf.published) }
-        ensures ends { IfOk result (λ r. EndWithEntries J.limit J.opening share.new.value.entries r) }
+        ensures ends { IfOk result (λ r. EndWithEntries J.limit J.opening ticket.new.2.entries r) }
         ensures met { IfOk result (λ r. IsPrefix viewer.old.seen r × IsLonger viewer.old.told r viewer.new.told) }
         ensures seen { viewer.new.seen ≡ viewer.old.seen }
         ensures kept { OnErr result (viewer.new ≡ viewer.old) }
-        ensures refused { IfErr result
-            (IsAhead J.opening (updates_in viewer.old.seen) (updates_in self.new.shelf.published)) }
+        ensures refused { IfErr result (IsAhead J.opening (updates_in viewer.old.seen) ticket.new.2.published) }
     {
-        let _came = self.publish(rt, number, share);
+        let _came = self.publish(rt, ticket);
         self.shelf.meet(&self.book, viewer)
     }
 
-    /// The place of the session's last entry, of those that its share shows. Nothing changes.
-    pub fn place(&mut self, number: u64, share: &mut Share<Spine>) -> Option<u64>
-        requires share { IsShareOf J.sessions number share.old }
-        ensures same { (self.new ≡ self.old) × (share.new ≡ share.old) }
-        ensures place { IsLastOwn number share.old.value.entries result }
+    /// The place of the session's last entry, of those that it shows. Nothing changes.
+    pub fn place(&mut self, ticket: &mut Ticket<J>) -> Option<u64>
+        ensures same { (self.new ≡ self.old) × (ticket.new ≡ ticket.old) }
+        ensures place { IsLastOwn ticket.old.0 ticket.old.2.entries result }
     {
-        self.desk.place(number, share)
+        self.desk.place(&mut ticket.state)
     }
 
     /// A viewer, which has learnt what is published. The first one has the two copies of the rows made.

@@ -1,20 +1,34 @@
-use Rattle.std.proofs.Common.{◌<◌, length, refl, arith}
-use Rattle.sw_engine.proofs.Published.{grows_self, grows_trans}
+use Rattle.std.proofs.Common.{◌<◌, inl, inr, length, arith, subst}
+use Rattle.sw_rows.specs.declared.query.Call.TheVariants.{Select}
+use Rattle.sw_rows.specs.declared.query.Query.{Query}
+use Rattle.sw_rows.specs.declared.reply.Reply.{Reply}
+use Rattle.sw_engine.specs.Published.{Shown}
+use Rattle.sw_engine.specs.Sessions.{Answers, Voids}
+use Rattle.sw_engine.proofs.Called.{begun_answers, begun_voids, stays_self}
 use Rattle.sw_engine.proofs.engine.Engine.select.Goals as goal
 
 pub index-requires : goal.index-requires
 index-requires g c =
-    let less : c.head_of.result < length g.J.Naming.columns = c.head_of.ensures.below (length g.J.Naming.columns) c.args.self.now.some c.requires.asks.0 in
+    let less : c.head_of.result < length g.J.Naming.columns = c.head_of.ensures.below (length g.J.Naming.columns) c.args.self.now.some c.requires.0 in
     omega (arith, less, c.args.self.now.as_many)
 
-pub returns-in_default-clause-grows : goal.returns-in_default-clause-grows
-returns-in_default-clause-grows g c = grows_self g.J.Naming.opening c.args.share.now.value c.args.share.now.value refl
+pub returns-in_default-clause-refused : goal.returns-in_default-clause-refused
+returns-in_default-clause-refused g c = (inl (stays_self c.args.ticket.now), (tt, tt))
 
-pub returns-then-is_err-clause-grows : goal.returns-then-is_err-clause-grows
-returns-then-is_err-clause-grows g c = grows_self g.J.Naming.opening c.args.share.now.value c.args.share.now.value refl
+pub returns-then-is_err-clause-refused : goal.returns-then-is_err-clause-refused
+returns-then-is_err-clause-refused g c = (inl (stays_self c.args.ticket.now), (tt, tt))
 
-pub returns-in_default-answer-clause-grows : goal.returns-in_default-answer-clause-grows
-returns-in_default-answer-clause-grows g c = grows_trans g.J.Naming.opening c.args.share.now.value c.begin.new.share.value c.void.new.share.value c.begin.ensures.grows c.void.ensures.grows
+pub returns-in_default-answer-clause-refused : goal.returns-in_default-answer-clause-refused
+returns-in_default-answer-clause-refused g c = (
+  inr (subst (λ (v : Shown). Voids c.args.query.now v c.void.new.session.shown) c.ticket.view_is
+      (subst (λ (q : Query). Voids q c.ticket.inside.state.shown c.void.new.session.shown) c.in-Ok.ensures
+      (begun_voids c.in-Ok.asked c.begin.new.head.taken c.ticket.inside.state c.begin.new.session c.void.new.session c.in_ok-begin.ensures.begins c.void.ensures.settles))),
+  (tt, tt),
+)
 
-pub returns-clause-grows : goal.returns-clause-grows
-returns-clause-grows g c = grows_trans g.J.Naming.opening c.args.share.now.value c.begin.new.share.value c.finish.new.share.value c.begin.ensures.grows c.finish.ensures.grows
+pub returns-clause-answers : goal.returns-clause-answers
+returns-clause-answers g c =
+    subst (λ (v : Shown). Answers (Select c.args.query.now) c.in-Ok-answer.reply v c.finish.new.session.shown) c.ticket.view_is
+    (subst (λ (q : Query). Answers (Select q) c.in-Ok-answer.reply c.ticket.inside.state.shown c.finish.new.session.shown) c.in-Ok.ensures
+    (subst (λ (r : Reply). Answers (Select c.in-Ok.asked) r c.ticket.inside.state.shown c.finish.new.session.shown) c.in-Ok-answer.ensures.answered.1
+    (begun_answers c.in-Ok.asked c.begin.new.head.taken c.in-Ok-answer.kept c.ticket.inside.state c.begin.new.session c.finish.new.session c.in_ok-begin.ensures.begins c.finish.ensures.settles)))

@@ -3,7 +3,8 @@ use mathlib.Core.List.{IsPrefix}
 use Rattle.sw_table.specs.declared.row.Update.{Update}
 use Rattle.sw_versions.specs.Rules.{updates_in}
 use Rattle.sw_spine.specs.Books.{Books, with_published}
-use Rattle.sw_engine.specs.Published.{EndWithEntries, IsShelfOf, TellsAll, later, published_of}
+use Rattle.sw_spine.specs.declared.history.Entry.{Entry}
+use Rattle.sw_engine.specs.Published.{EndWithEntries, IsShelfOf, Shown, TellsAll, later, published_of}
 use Rattle.sw_engine.proofs.Shelves.{published_is, shelf_caught, shelf_count, shelf_ends, shelf_high, shelf_low, shown_begins, tells_all}
 use Rattle.sw_engine.proofs.locked.LockedDesk.publish.Goals as goal
 
@@ -51,7 +52,7 @@ returns-clause-told g c =
     let v = c.catch_up-came.new.self in
     let is = c.count-count.ensures ∙ ap (λ (l : List (List Update)). length j.opening + length (updates_in l)) c.published-receipt.ensures in
     let caught = shelf_caught j.limit j.opening b c.self.inside.shelf v c.later.result.now c.count-count.result c.self.invariant.0 c.later.ensures.later c.later.ensures.entries c.catch_up-came.ensures.booked c.catch_up-came.ensures.batch c.catch_up-came.ensures.published is in
-    ap updates_in c.published-receipt.ensures ∙ sym (ap (published_of j.opening) (c.publish.ensures.shown ∙ c.publish.ensures.published) ∙ published_is j.limit j.opening (with_published c.count-count.result b) v caught)
+    ap updates_in c.published-receipt.ensures ∙ sym (ap (λ (x : Shown). x.2.published) c.publish.ensures.sees ∙ ap (published_of j.opening) c.publish.ensures.published ∙ published_is j.limit j.opening (with_published c.count-count.result b) v caught)
 
 pub returns-clause-entries : goal.returns-clause-entries
 returns-clause-entries g c =
@@ -76,5 +77,5 @@ pub returns-clause-all : goal.returns-clause-all
 returns-clause-all g c =
     let j = g.J.Naming in
     let b = c.self.inside.desk.books in
-    subst (λ (x : Books). TellsAll j.limit j.opening x.entries c.published-receipt.result c.has_all-whole.result) (sym (c.publish.ensures.shown ∙ c.publish.ensures.published))
+    subst (λ (es : List Entry). TellsAll j.limit j.opening es c.published-receipt.result c.has_all-whole.result) (sym (ap (λ (x : Shown). x.2.entries) c.publish.ensures.sees ∙ ap (λ (x : Books). x.entries) c.publish.ensures.published))
     (tells_all j.limit j.opening b.entries c.published-receipt.result c.later-2.result.now c.has_all-whole.result c.has_all-whole.ensures c.later-2.ensures.all)
