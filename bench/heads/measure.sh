@@ -25,7 +25,7 @@ cp "$here/../lemmas.antt.txt" "$proofs/Lemmas.antt"
 cp "$here/rows_of.antt.txt" "$proofs/rows_of/Invariants.antt"
 cp "$here/known.antt.txt" "$proofs/known/Answers.antt"
 build program heads "$here/heads.rt.txt" \
-  sw_table sw_rows sw_lang sw_kernel sw_tape sw_budget sw_map sw_bits sw_slots sw_set sw_spine sw_tie sw_chunks anyhow
+  sw_table sw_query sw_rows sw_lang sw_kernel sw_tape sw_budget sw_map sw_bits sw_slots sw_set sw_spine sw_tie sw_chunks anyhow
 
 python3 - "$work/crates/heads/out/heads" "$rows" "$rounds" "$calls" "${RUN:-}" <<'END'
 import statistics, subprocess, sys

@@ -12,7 +12,7 @@ repeats=${1:-9}
 here=$(cd "$(dirname "$0")" && pwd)
 kit=${KIT:-$(dirname "$(rt doc)")}
 . "$here/../proved.sh"
-build library split_c "$here/split.rt.txt" sw_table sw_rows sw_kernel
+build library split_c "$here/split.rt.txt" sw_table sw_query sw_rows sw_kernel
 
 "$kit/toolchain/bin/clang" -O3 -march=x86-64-v2 -c -o "$work/peers.o" "$here/peers.c" 2> "$work/clang.log" ||
   clang -O3 -march=x86-64-v2 -c -o "$work/peers.o" "$here/peers.c"

@@ -1,11 +1,11 @@
 -- A query of a schema's attributes is one of attributes below 8, and so are a deletion's conditions.
 use Rattle.std.proofs.Common.{ℕ, List, ◌≤◌, arith, length}
 use Rattle.sw_rows.specs.Header.{Column, IsSchema}
-use Rattle.sw_rows.specs.Scan.{AsksBelow, CondsBelow, WantsBelow, counting}
-use Rattle.sw_rows.specs.declared.query.Cond.{Cond}
-use Rattle.sw_rows.specs.declared.query.Query.{Query}
-use Rattle.sw_rows.specs.declared.query.Want.{Want}
-use Rattle.sw_rows.specs.declared.query.Want.TheVariants as want
+use Rattle.sw_query.specs.Scan.{AsksBelow, CondsBelow, WantsBelow, counting}
+use Rattle.sw_query.specs.declared.query.Cond.{Cond}
+use Rattle.sw_query.specs.declared.query.Query.{Query}
+use Rattle.sw_query.specs.declared.query.Want.{Want}
+use Rattle.sw_query.specs.declared.query.Want.TheVariants as want
 use Rattle.sw_lang.specs.Fits.{FitsConds, FitsQuery}
 
 wants_below : (n : ℕ) (w : Want) → n ≤ 8 → WantsBelow n w → WantsBelow 8 w

@@ -2,10 +2,10 @@
 use Rattle.std.proofs.Common.{◌≡◌, ◌∙◌, ℕ, Bool, true, length, List, [], Option, None, Some, Result, Ok, Err, refl, sym, ap, subst, inl, inr}
 use Rattle.std.specs.Global.{Vec}
 use Rattle.std.specs.Prelude.{MatchOption}
-use Rattle.sw_rows.specs.declared.query.Call.{Call}
-use Rattle.sw_rows.specs.declared.refusal.Refusal.{Refusal}
+use Rattle.sw_query.specs.declared.query.Call.{Call}
+use Rattle.sw_query.specs.declared.refusal.Refusal.{Refusal}
 use Rattle.sw_rows.specs.Header.{Column, IsSchema, texts_of}
-use Rattle.sw_rows.specs.declared.refusal.Refusal.TheVariants as refusal
+use Rattle.sw_query.specs.declared.refusal.Refusal.TheVariants as refusal
 use Rattle.sw_lang.proofs.Knowing.{line_forgotten}
 use Rattle.sw_spine.specs.Books.{forgetting}
 use Rattle.sw_solo.specs.Called.{RefusesCall, SoloState, with_columns}

@@ -8,8 +8,8 @@ use Rattle.sw_rows.proofs.Options.{then_ok}
 use Rattle.sw_rows.specs.Gives.{Fails}
 use Rattle.sw_rows.specs.Header.{header_of}
 use Rattle.sw_rows.specs.Tables.{◌>>=◌, Table, table_of}
-use Rattle.sw_rows.specs.declared.refusal.Refusal.{Refusal}
-use Rattle.sw_rows.specs.declared.refusal.Refusal.TheVariants as refusal
+use Rattle.sw_query.specs.declared.refusal.Refusal.{Refusal}
+use Rattle.sw_query.specs.declared.refusal.Refusal.TheVariants as refusal
 use Rattle.sw_table.specs.declared.row.Row.{Row}
 use Rattle.sw_lang.specs.Cuts.{CutLists}
 use Rattle.sw_lang.specs.Reading.{Answers}

@@ -3,14 +3,14 @@ use Rattle.std.proofs.Common.{◌≡◌, ◌∙◌, ℕ, Bool, true, false, List
 use Rattle.std.specs.Prelude.{MatchOption, is_some}
 use Rattle.std.proofs.lemmas.Bool.{false≢true}
 use denote.Ref.{Bor}
-use Rattle.sw_rows.specs.declared.query.Call.{Call}
-use Rattle.sw_rows.specs.declared.query.Call.TheVariants as call
-use Rattle.sw_rows.specs.declared.query.Want.{Want}
-use Rattle.sw_rows.specs.declared.query.Want.TheVariants as want
-use Rattle.sw_rows.specs.declared.reply.Reply.{Reply}
-use Rattle.sw_rows.specs.declared.reply.Reply.TheVariants as reply
-use Rattle.sw_rows.specs.declared.reply.ReplyRow.{ReplyRow}
-use Rattle.sw_rows.specs.declared.query.Query.{Query}
+use Rattle.sw_query.specs.declared.query.Call.{Call}
+use Rattle.sw_query.specs.declared.query.Call.TheVariants as call
+use Rattle.sw_query.specs.declared.query.Want.{Want}
+use Rattle.sw_query.specs.declared.query.Want.TheVariants as want
+use Rattle.sw_query.specs.declared.reply.Reply.{Reply}
+use Rattle.sw_query.specs.declared.reply.Reply.TheVariants as reply
+use Rattle.sw_query.specs.declared.reply.ReplyRow.{ReplyRow}
+use Rattle.sw_query.specs.declared.query.Query.{Query}
 use Rattle.sw_spine.specs.Table.{reply_to}
 use Rattle.sw_spine.specs.History.{updates_of}
 use Rattle.sw_solo.specs.Called.{HasCalled, SoloState, reply_in}

@@ -4,8 +4,8 @@ use Rattle.std.proofs.lemmas.Str.{IsUtf8-from_is_utf8, is_utf8-from_IsUtf8}
 use Rattle.std.specs.Str.{is_utf8}
 use Rattle.sw_rows.specs.Header.{Column, texts_of}
 use Rattle.sw_rows.specs.Texts.{code_of}
-use Rattle.sw_rows.specs.declared.refusal.Refusal.TheVariants.{BadLine}
-use Rattle.sw_rows.specs.declared.refusal.Why.TheVariants as why
+use Rattle.sw_query.specs.declared.refusal.Refusal.TheVariants.{BadLine}
+use Rattle.sw_query.specs.declared.refusal.Why.TheVariants as why
 use Rattle.sw_lang.specs.CutsReading.{cuts_at}
 use Rattle.sw_lang.specs.Learning.{learned}
 use Rattle.sw_lang.specs.Reading.{line_at, refused}

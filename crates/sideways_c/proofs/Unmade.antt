@@ -1,9 +1,9 @@
 -- A call that was not made, seen at the state.
 use Rattle.std.proofs.Common.{◌≡◌, ℕ, Bool, true, Option, Some, Err, refl, sym, subst, inl, inr}
 use Rattle.std.specs.Prelude.{MatchOption}
-use Rattle.sw_rows.specs.declared.query.Call.{Call}
-use Rattle.sw_rows.specs.declared.refusal.Refusal.TheVariants as refusal
-use Rattle.sw_rows.specs.declared.reply.Reply.{Reply}
+use Rattle.sw_query.specs.declared.query.Call.{Call}
+use Rattle.sw_query.specs.declared.refusal.Refusal.TheVariants as refusal
+use Rattle.sw_query.specs.declared.reply.Reply.{Reply}
 use Rattle.sw_solo.specs.Called.{SoloState}
 use Rattle.sw_arrays.specs.Asked.{Answers, call_asked}
 use Rattle.sw_arrays.specs.declared.asked.Asked.{Asked}

@@ -1,7 +1,7 @@
 -- Histories that are checked.
 use Rattle.std.specs.Prelude.{ℕ, ◌≡◌, ◌⊎◌, ◌==◌, if◌then◌else◌, List, Option, None, Some, Result, Ok, Err}
-use Rattle.sw_rows.specs.declared.refusal.Refusal.{Refusal}
-use Rattle.sw_rows.specs.declared.refusal.Refusal.TheVariants as refusal
+use Rattle.sw_query.specs.declared.refusal.Refusal.{Refusal}
+use Rattle.sw_query.specs.declared.refusal.Refusal.TheVariants as refusal
 use Rattle.sw_spine.specs.Checks.{IsFirstFault}
 use Rattle.sw_spine.specs.History.{History, IsLegal}
 use Rattle.sw_histories.specs.Explained.{IsExplained}

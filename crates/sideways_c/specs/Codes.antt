@@ -1,7 +1,7 @@
 -- The numbers that go over the border.
 use Rattle.std.specs.Prelude.{ℕ}
-use Rattle.sw_rows.specs.declared.refusal.Refusal.{Refusal}
-use Rattle.sw_rows.specs.declared.refusal.Refusal.TheVariants as refusal
+use Rattle.sw_query.specs.declared.refusal.Refusal.{Refusal}
+use Rattle.sw_query.specs.declared.refusal.Refusal.TheVariants as refusal
 use Rattle.sw_arrays.specs.declared.range.Fault.{Fault}
 use Rattle.sw_arrays.specs.declared.range.Fault.TheVariants as fault
 use Rattle.sideways_c.specs.declared.codes.TheConstants.{BAD_CELL, BAD_CONDITION, NOT_LEGAL, NO_ATTRIBUTE}

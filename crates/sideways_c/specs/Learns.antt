@@ -3,7 +3,7 @@ use Rattle.std.specs.Prelude.{ℕ, ℤ, ◌≡◌, ◌⊎◌, ◌&&◌, Bool, tr
 use Rattle.sw_rows.specs.Gives.{Fails}
 use Rattle.sw_rows.specs.Header.{Column, has_texts, texts_of}
 use Rattle.sw_rows.specs.Texts.{cell_given, is_text}
-use Rattle.sw_rows.specs.declared.refusal.Refusal.{Refusal}
+use Rattle.sw_query.specs.declared.refusal.Refusal.{Refusal}
 use Rattle.sw_lang.specs.Learning.{knowing}
 use Rattle.sw_solo.specs.Called.{SoloState, with_columns}
 use Rattle.sideways_c.specs.Codes.{code_of}

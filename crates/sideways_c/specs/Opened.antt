@@ -6,9 +6,9 @@ use Rattle.sw_rows.specs.Faults.{Fault}
 use Rattle.sw_rows.specs.Gives.{Fails}
 use Rattle.sw_rows.specs.Header.{Column}
 use Rattle.sw_rows.specs.Tables.{Table}
-use Rattle.sw_rows.specs.declared.refusal.Refusal.{Refusal}
-use Rattle.sw_rows.specs.declared.refusal.Refusal.TheVariants.{BadLine, NoMemory}
-use Rattle.sw_rows.specs.declared.refusal.Why.TheVariants as why
+use Rattle.sw_query.specs.declared.refusal.Refusal.{Refusal}
+use Rattle.sw_query.specs.declared.refusal.Refusal.TheVariants.{BadLine, NoMemory}
+use Rattle.sw_query.specs.declared.refusal.Why.TheVariants as why
 use Rattle.sw_rows.specs.declared.table.TheConstants.{MOST_ROWS}
 use Rattle.sw_lang.specs.Cuts.{CutLists}
 use Rattle.sw_lang.specs.CutsReading.{cuts_at}

@@ -1,12 +1,12 @@
 -- Selects whose rows are kept.
 use Rattle.std.specs.Prelude.{ℕ, ℤ, ◌≡◌, ◌⊎◌, Bool, true, false, List, drop, length, nat_le, Option, None, Some, MatchOption, Result, Ok, Err}
 use denote.Ref.{Bor}
-use Rattle.sw_rows.specs.declared.query.Call.{Call}
-use Rattle.sw_rows.specs.declared.query.Call.TheVariants as call
-use Rattle.sw_rows.specs.declared.query.Query.{Query}
-use Rattle.sw_rows.specs.declared.refusal.Refusal.TheVariants.{NoMemory}
-use Rattle.sw_rows.specs.declared.reply.Reply.TheVariants as reply
-use Rattle.sw_rows.specs.declared.reply.ReplyRow.{ReplyRow}
+use Rattle.sw_query.specs.declared.query.Call.{Call}
+use Rattle.sw_query.specs.declared.query.Call.TheVariants as call
+use Rattle.sw_query.specs.declared.query.Query.{Query}
+use Rattle.sw_query.specs.declared.refusal.Refusal.TheVariants.{NoMemory}
+use Rattle.sw_query.specs.declared.reply.Reply.TheVariants as reply
+use Rattle.sw_query.specs.declared.reply.ReplyRow.{ReplyRow}
 use Rattle.sw_arrays.specs.Asked.{call_asked, query_in}
 use Rattle.sw_arrays.specs.Blocks.{column_in, filled, keys_in, many_in}
 use Rattle.sw_arrays.specs.declared.asked.Asked.{Asked}

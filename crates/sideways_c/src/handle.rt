@@ -1,7 +1,7 @@
 //! A handle.
 
 ghost use Rattle.std.specs.Prelude.{◌≡◌, Some, true, IfOk, IsOkUnless};
-ghost use Rattle.sw_rows.specs.declared.refusal.Refusal.TheVariants.{NoMemory};
+ghost use Rattle.sw_query.specs.declared.refusal.Refusal.TheVariants.{NoMemory};
 ghost use Rattle.sideways_c.specs.Handles.{seen};
 
 use crate::holder::Sideways;

@@ -1,7 +1,7 @@
 //! Rows of columns that are inserted one after another.
 
 ghost use Rattle.std.specs.Prelude.{◌≡◌, ◌<◌, ◌≤◌, length, IfErr, IfOk, OnErr, OnOk};
-ghost use Rattle.sw_rows.specs.declared.query.Call.TheVariants.{Insert};
+ghost use Rattle.sw_query.specs.declared.query.Call.TheVariants.{Insert};
 ghost use Rattle.sw_solo.specs.Called.{RefusesCall, reply_in, with_call};
 ghost use Rattle.sideways_c.specs.Handles.{seen};
 ghost use Rattle.sideways_c.specs.Inserts.{InsertsHandle, InsertsOver, InsertsRows, key_told};

@@ -2,7 +2,7 @@
 
 ghost use Rattle.std.specs.Prelude.{◌≡◌, true, Ok, IfOk, IsOkUnless};
 ghost use Rattle.sw_rows.specs.Tables.{shown_packed, table_of};
-ghost use Rattle.sw_rows.specs.declared.refusal.Refusal.TheVariants.{NoMemory};
+ghost use Rattle.sw_query.specs.declared.refusal.Refusal.TheVariants.{NoMemory};
 ghost use Rattle.sw_lang.specs.Cuts.{FitCuts};
 ghost use Rattle.sw_lang.specs.Reading.{Answers};
 ghost use Rattle.sw_spine.specs.Table.{is_numbered};

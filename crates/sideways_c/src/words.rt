@@ -1,7 +1,7 @@
 //! A refused line in words.
 
 ghost use Rattle.std.specs.Prelude.{IsOkUnless};
-ghost use Rattle.sw_rows.specs.declared.refusal.Refusal.TheVariants.{NoMemory};
+ghost use Rattle.sw_query.specs.declared.refusal.Refusal.TheVariants.{NoMemory};
 
 use std::alloc::{AllocError, Global};
 use sw_faults::wrong_line;

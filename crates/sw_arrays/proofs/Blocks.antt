@@ -1,7 +1,7 @@
 -- Rows that are copied into a block one after another.
 use Rattle.std.proofs.Common.{◌≡◌, ◌∙◌, ◌<◌, ◌≤◌, ◌+◌, ◌-◌, ◌++◌, ℕ, zero, suc, List, [], ◌∷◌, length, set, take, drop, map, refl, sym, ap, arith, length-drop}
 use Rattle.std.proofs.lemmas.List.{drop_all, drop-map, length-map}
-use Rattle.sw_rows.specs.declared.reply.ReplyRow.{ReplyRow}
+use Rattle.sw_query.specs.declared.reply.ReplyRow.{ReplyRow}
 use Rattle.sw_arrays.specs.Blocks.{filled, many_in}
 
 -- a block of which the first places are filled

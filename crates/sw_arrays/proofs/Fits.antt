@@ -12,12 +12,12 @@ use Rattle.sw_rows.specs.Domains as kind
 use Rattle.sw_rows.specs.Header.{Column, kinds_of}
 use Rattle.sw_rows.specs.Tables.{padded}
 use Rattle.sw_rows.specs.Texts.{text_of}
-use Rattle.sw_rows.specs.declared.query.Call.{Call}
-use Rattle.sw_rows.specs.declared.query.Call.TheVariants as call
-use Rattle.sw_rows.specs.declared.query.Cond.{Cond}
-use Rattle.sw_rows.specs.declared.query.Want.{Want}
-use Rattle.sw_rows.specs.declared.query.Want.TheVariants as want
-use Rattle.sw_rows.specs.Scan.{WantsBelow}
+use Rattle.sw_query.specs.declared.query.Call.{Call}
+use Rattle.sw_query.specs.declared.query.Call.TheVariants as call
+use Rattle.sw_query.specs.declared.query.Cond.{Cond}
+use Rattle.sw_query.specs.declared.query.Want.{Want}
+use Rattle.sw_query.specs.declared.query.Want.TheVariants as want
+use Rattle.sw_query.specs.Scan.{WantsBelow}
 use Rattle.sw_lang.specs.Fits.{AreEqualBounds, FitsCall, FitsCells, FitsConds, FitsQuery, HasBoundsOfKind, HasFewNames, IsBound, IsBoundOfKind, IsEqualOnTexts, IsOfKind, TakesNumbers, is_bound}
 use Rattle.sw_lang.specs.Replies.{kind_at}
 use Rattle.sw_lang.proofs.Fit.{distinct}

@@ -7,7 +7,7 @@ use Rattle.sw_rows.specs.Gives.{Fails}
 use Rattle.sw_rows.specs.Header.{Column, has_texts, texts_of}
 use Rattle.sw_rows.specs.Tables.{◌>>=◌}
 use Rattle.sw_rows.specs.Texts.{cell_given, code_of, is_text}
-use Rattle.sw_rows.specs.declared.refusal.Refusal.{Refusal}
+use Rattle.sw_query.specs.declared.refusal.Refusal.{Refusal}
 use Rattle.sw_rows.proofs.Options.{fails_then}
 use Rattle.sw_arrays.specs.Columns.{between, ends_new, is_new_text, knowing, knowing_one}
 

@@ -2,7 +2,7 @@
 use Rattle.std.proofs.Common.{◌≡◌, ◌∙◌, ◌<◌, ◌+◌, ℕ, ℤ, true, false, List, [], ◌∷◌, ◌++◌, length, get_or, drop, Result, Ok, Err, sym, ap, arith}
 use Rattle.std.proofs.lemmas.List.{drop_all, drop_more}
 use Rattle.sw_rows.specs.Header.{Column}
-use Rattle.sw_rows.specs.declared.query.Cond.{Cond}
+use Rattle.sw_query.specs.declared.query.Cond.{Cond}
 use Rattle.sw_lang.specs.Replies.{kind_at}
 use Rattle.sw_arrays.specs.Asked.{are_cells, cond_after, conds_after, is_cell}
 use Rattle.sw_arrays.specs.declared.range.Fault.{Fault}

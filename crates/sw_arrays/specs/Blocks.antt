@@ -1,6 +1,6 @@
 -- Rows of a reply in a caller's block.
 use Rattle.std.specs.Prelude.{ℕ, ℤ, pos, List, ◌++◌, length, map, take, drop, min, slice_index_or}
-use Rattle.sw_rows.specs.declared.reply.ReplyRow.{ReplyRow}
+use Rattle.sw_query.specs.declared.reply.ReplyRow.{ReplyRow}
 
 -- how many of these a block has room for
 abbrev pub many_in : {A : Type 0} → List A → List A → ℕ

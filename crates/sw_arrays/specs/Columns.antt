@@ -7,8 +7,8 @@ use Rattle.sw_rows.specs.Header.{Column, has_texts, header_of, holding, is_name,
 use Rattle.sw_rows.specs.Spelling.{kind_text}
 use Rattle.sw_rows.specs.Tables.{◌>>=◌, Table, padded}
 use Rattle.sw_rows.specs.Texts.{cell_given, code_of, is_text, with_text}
-use Rattle.sw_rows.specs.declared.query.Call.{Call}
-use Rattle.sw_rows.specs.declared.query.Call.TheVariants as call
+use Rattle.sw_query.specs.declared.query.Call.{Call}
+use Rattle.sw_query.specs.declared.query.Call.TheVariants as call
 use Rattle.sw_rows.specs.declared.table.TheConstants.{MOST_ROWS}
 use Rattle.sw_table.specs.declared.row.Row.{Row}
 use Rattle.sw_lang.specs.Replies.{kind_at}

@@ -1,12 +1,12 @@
 //! The bit vector.
 
 ghost use Rattle.std.specs.Prelude.{◌≡◌, ℕ, ◌+◌, ◌-◌, ◌^◌, ◌<◌, ◌≤◌, ◌&&◌, [], ◌∷◌, ◌++◌, List, length, replicate, count_by, true, false, slice_index_or, slice_set, MatchResult};
-ghost use Rattle.sw_rows.specs.declared.refusal.Refusal.TheVariants.{NoMemory};
+ghost use Rattle.sw_query.specs.declared.refusal.Refusal.TheVariants.{NoMemory};
 ghost use Rattle.sw_bits.specs.Places.{AreOnes};
 
 use std::alloc::Global;
 use std::marker::Model;
-use sw_rows::Refusal;
+use sw_query::Refusal;
 
 /// A list of truth values, 64 of them a word. Contracts see the list.
 #[derive(Drop)]

@@ -4,8 +4,8 @@ use Rattle.atomic_table.specs.Seated.{TableId}
 use Rattle.atomic_table.specs.declared.shared.Seat.{Seat}
 use Rattle.sw_budget.specs.declared.seat.View.{View}
 use Rattle.sw_budget.specs.Steps as step
-use Rattle.sw_rows.specs.declared.refusal.Refusal.{Refusal}
-use Rattle.sw_rows.specs.declared.refusal.Refusal.TheVariants.{Short, Contended}
+use Rattle.sw_query.specs.declared.refusal.Refusal.{Refusal}
+use Rattle.sw_query.specs.declared.refusal.Refusal.TheVariants.{Short, Contended}
 
 -- Which budget it is of, that budget's capacity, and the view of its seat: the cells that it holds,
 -- the word at its last load, the word that its last step found, how often it has loaded the word,

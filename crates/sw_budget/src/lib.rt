@@ -8,7 +8,7 @@
 #![tactic(auto)]
 
 ghost use Rattle.std.specs.Prelude.{◌≡◌, ◌+◌, ◌≤◌, IfOk, IfErr};
-ghost use Rattle.sw_rows.specs.declared.refusal.Refusal.TheVariants.{NoMemory};
+ghost use Rattle.sw_query.specs.declared.refusal.Refusal.TheVariants.{NoMemory};
 ghost use Rattle.sw_budget.specs.Account.{empty, asked, returned, Refused};
 ghost use Rattle.sw_budget.specs.Balance.{EveryRunIsBalanced};
 
@@ -19,7 +19,7 @@ use crate::seat::{Hold, Word};
 use std::alloc::Global;
 use std::marker::Model;
 use std::sync::Arc;
-use sw_rows::Refusal;
+use sw_query::Refusal;
 
 /// A word that counts the cells that are out on lease. A contract sees which budget it is, and its capacity in cells.
 #[derive(Drop)]

@@ -6,7 +6,7 @@ use Rattle.std.proofs.lemmas.Bool.Decides.{nat_tests}
 use Rattle.std.proofs.lemmas.List.{append-nil, take_more, map-append}
 use Rattle.std.proofs.lemmas.List.Elements.{All-filter, filter_passes}
 use Rattle.sw_table.specs.declared.row.Row.{Row}
-use Rattle.sw_rows.specs.Scan.{cell_of}
+use Rattle.sw_query.specs.Scan.{cell_of}
 use Rattle.sw_set.specs.Shelf.{AreaState, Rises, key_of, lies_within}
 use Rattle.sw_kernel.specs.Replay.{loaded}
 use Rattle.sw_set.proofs.Replying.KeyOrder.{rises-filter}

@@ -4,7 +4,7 @@ use Rattle.std.proofs.lemmas.List.{append_assoc, append-nil}
 use Rattle.sw_table.specs.declared.row.Row.{Row}
 use Rattle.sw_table.specs.declared.row.Update.{Update}
 use Rattle.sw_table.specs.declared.row.Update.TheVariants as update
-use Rattle.sw_rows.specs.Scan.{cell_of}
+use Rattle.sw_query.specs.Scan.{cell_of}
 use Rattle.sw_table.specs.Updates.{rows_of, rows_then}
 use Rattle.sw_set.specs.Shelf.{AreaState, Rises, came_in, came_then, key_of, rows_in}
 use Rattle.sw_chunks.specs.Cuts.{Interval, RiseAbove, intervals}

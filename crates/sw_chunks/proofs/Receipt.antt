@@ -6,7 +6,7 @@ use Rattle.std.proofs.lemmas.List.Elements.{All-append}
 use Rattle.sw_table.specs.declared.row.Row.{Row}
 use Rattle.sw_table.specs.declared.row.Update.{Update}
 use Rattle.sw_table.specs.declared.row.Update.TheVariants as update
-use Rattle.sw_rows.specs.Scan.{cell_of}
+use Rattle.sw_query.specs.Scan.{cell_of}
 use Rattle.sw_table.specs.Updates.{rows_of, rows_then, without}
 use Rattle.sw_kernel.proofs.Members.{Mem, mem-either, mem-filtered, mem-last, mem-left}
 use Rattle.sw_set.specs.Shelf.{AreReceivable, AreaState, Rises, came_in, came_then, key_of, lies_within, rows_in}

@@ -1,8 +1,8 @@
 -- One area after the other is asked as it stands.
 use Rattle.std.proofs.Common.{◌≡◌, ℕ, ◌+◌, ◌<◌, Bool, true, false, nat_eq, List, length, get_or, drop, refl, sym, ap, ◌∙◌, arith, subst, Option, Some, IfSome}
 use Rattle.std.proofs.lemmas.Bool.Decides.{nat_tests}
-use Rattle.sw_rows.specs.declared.query.Query.{Query}
-use Rattle.sw_rows.specs.declared.reply.Reply.{Reply}
+use Rattle.sw_query.specs.declared.query.Query.{Query}
+use Rattle.sw_query.specs.declared.reply.Reply.{Reply}
 use Rattle.sw_set.specs.Resting.{IsToldWhere}
 use Rattle.sw_set.specs.Shelf.{AreaState}
 use Rattle.sw_chunks.specs.Asked.{AreasFit, RestsIfTouched, with_all, with_area}

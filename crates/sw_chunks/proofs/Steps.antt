@@ -2,10 +2,10 @@
 use Rattle.std.proofs.Common.{◌≡◌, ◌≢◌, ◌<◌, ◌≤◌, ◌+◌, ◌&&◌, nat_eq, ℕ, zero, suc, Bool, true, false, true≢false, List, [], ◌∷◌, length, get_or, drop, slice_set, refl, sym, ap, ◌∙◌, arith, subst, fold, All, Result, MatchResult, IfOk}
 use Rattle.std.proofs.lemmas.Bool.Decides.{nat_tests}
 use Rattle.sw_table.specs.declared.row.Row.{Row}
-use Rattle.sw_rows.specs.declared.query.Query.{Query}
-use Rattle.sw_rows.specs.declared.reply.Reply.{Reply}
-use Rattle.sw_rows.specs.declared.refusal.Refusal.{Refusal}
-use Rattle.sw_rows.specs.Scan.{answer}
+use Rattle.sw_query.specs.declared.query.Query.{Query}
+use Rattle.sw_query.specs.declared.reply.Reply.{Reply}
+use Rattle.sw_query.specs.declared.refusal.Refusal.{Refusal}
+use Rattle.sw_query.specs.Scan.{answer}
 use Rattle.sw_table.specs.Updates.{rows_then}
 use Rattle.sw_set.specs.declared.area.ready.Ready.{Ready}
 use Rattle.sw_set.proofs.Preparing.Ends.{noted-stand}

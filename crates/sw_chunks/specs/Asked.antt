@@ -1,13 +1,13 @@
 -- The areas of a head, asked one after the other.
 use Rattle.std.specs.Prelude.{◌≡◌, ◌≢◌, ◌<◌, ◌≤◌, ◌*◌, ℕ, ℤ, Bool, List, Result, Err, min, [], ◌∷◌, if◌then◌else◌, true, false, filter, get_or, length, map, All}
-use Rattle.sw_rows.specs.declared.query.Query.{Query}
-use Rattle.sw_rows.specs.declared.reply.Reply.{Reply}
+use Rattle.sw_query.specs.declared.query.Query.{Query}
+use Rattle.sw_query.specs.declared.reply.Reply.{Reply}
 use Rattle.sw_table.specs.declared.row.Row.{Row}
 use Rattle.sw_table.specs.declared.row.Update.{Update}
-use Rattle.sw_rows.specs.Scan.{answer, answer_over}
+use Rattle.sw_query.specs.Scan.{answer, answer_over}
 use Rattle.sw_table.specs.Updates.{rows_of}
-use Rattle.sw_rows.specs.declared.refusal.Refusal.{Refusal}
-use Rattle.sw_rows.specs.declared.refusal.Refusal.TheVariants.{Short}
+use Rattle.sw_query.specs.declared.refusal.Refusal.{Refusal}
+use Rattle.sw_query.specs.declared.refusal.Refusal.TheVariants.{Short}
 use Rattle.sw_set.specs.declared.area.ready.Ready.{Ready}
 use Rattle.sw_set.specs.Needs.{head_in, needed}
 use Rattle.sw_set.specs.Merged.{StandsForSame}

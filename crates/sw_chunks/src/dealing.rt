@@ -1,7 +1,7 @@
 //! Areas made of rows.
 
 ghost use Rattle.std.specs.Prelude.{◌≡◌, ◌≤◌, ◌<◌, ◌^◌, ◌+◌, ◌++◌, ◌∷◌, [], ℕ, get_or, length, All, IfOk, IsOkUnless, OnOk, vec_len};
-ghost use Rattle.sw_rows.specs.declared.refusal.Refusal.TheVariants.{NoMemory};
+ghost use Rattle.sw_query.specs.declared.refusal.Refusal.TheVariants.{NoMemory};
 ghost use Rattle.sw_table.specs.declared.row.Row.{Row};
 ghost use Rattle.sw_set.specs.Shelf.{Rises, key_of};
 ghost use Rattle.sw_chunks.specs.Cuts.{Interval, RiseAbove, intervals};
@@ -13,7 +13,7 @@ use crate::places::place_in;
 use std::alloc::Global;
 use std::mem;
 use sw_map::CrackerMap;
-use sw_rows::{PackedRows, Refusal, Row};
+use sw_query::{PackedRows, Refusal, Row};
 use sw_set::Area;
 
 /// As many empty parts as that, of rows of so many cells. Refused `NoMemory` alone.

@@ -1,9 +1,9 @@
 //! A head: the areas of one attribute, by a rising list of cuts.
 
 ghost use Rattle.std.specs.Prelude.{◌≡◌, ◌≤◌, ◌<◌, ◌^◌, ◌++◌, ◌∷◌, [], length, All, IfOk, IfSome, IsOkUnless, MatchOption, MatchResult, None, OnErr, OnOk, Some, get_or, slice_get};
-ghost use Rattle.sw_rows.specs.Scan.{AsksBelow, answer};
+ghost use Rattle.sw_query.specs.Scan.{AsksBelow, answer};
 ghost use Rattle.sw_table.specs.Updates.{rows_of};
-ghost use Rattle.sw_rows.specs.declared.refusal.Refusal.TheVariants.{NoMemory};
+ghost use Rattle.sw_query.specs.declared.refusal.Refusal.TheVariants.{NoMemory};
 ghost use Rattle.sw_table.specs.declared.row.Row.{Row};
 ghost use Rattle.sw_map.specs.Held.{blank};
 ghost use Rattle.sw_set.specs.Aligning.{AlignsBoxes, HasAlignedOr, MayAlign};
@@ -36,7 +36,7 @@ use std::marker::Model;
 use std::sync::atomic::{AtomicU64, Ordering};
 use std::thread::Threads;
 use sw_map::{CrackerMap, Tail};
-use sw_rows::{PackedRows, Query, Refusal, Reply, Row, Update};
+use sw_query::{PackedRows, Query, Refusal, Reply, Row, Update};
 use sw_set::{Area, align_at_once, align_in_turn};
 use sw_tape::Tape;
 use sw_tie::Book;

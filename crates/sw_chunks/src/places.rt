@@ -1,14 +1,14 @@
 //! Into which area a row goes, and into which one it went.
 
 ghost use Rattle.std.specs.Prelude.{◌≡◌, ◌<◌, ◌≤◌, ℕ, true, false, length, IfOk, IsOkUnless, OnErr, OnOk};
-ghost use Rattle.sw_rows.specs.declared.refusal.Refusal.TheVariants.{NoMemory};
+ghost use Rattle.sw_query.specs.declared.refusal.Refusal.TheVariants.{NoMemory};
 ghost use Rattle.sw_set.specs.Shelf.{Rises};
 ghost use Rattle.sw_chunks.specs.Cuts.{place_in};
 ghost use Rattle.sw_chunks.specs.Places.{IsNotAt, StandsAt, count_at, find_place, owners_added, owners_with, place_by, places_of};
 ghost use Rattle.sw_chunks.specs.declared.places.TheConstants.{MOST_CUTS};
 
 use std::alloc::Global;
-use sw_rows::{Refusal, Update};
+use sw_query::{Refusal, Update};
 
 /// How many cuts a head has at most.
 pub const MOST_CUTS: usize = 15;

@@ -1,9 +1,9 @@
 //! A query over areas at rest: each that it touches is ready for it as it stands, so that nothing changes.
 
 ghost use Rattle.std.specs.Prelude.{◌≡◌, [], true, All, IfOk, IfSome, IsOkUnless};
-ghost use Rattle.sw_rows.specs.Gives.{MemoryAside};
-ghost use Rattle.sw_rows.specs.Scan.{AsksBelow, answer, answer_over};
-ghost use Rattle.sw_rows.specs.declared.refusal.Refusal.TheVariants.{NoMemory};
+ghost use Rattle.sw_query.specs.Outcomes.{MemoryAside};
+ghost use Rattle.sw_query.specs.Scan.{AsksBelow, answer, answer_over};
+ghost use Rattle.sw_query.specs.declared.refusal.Refusal.TheVariants.{NoMemory};
 ghost use Rattle.sw_set.specs.Needs.{head_in};
 ghost use Rattle.sw_set.specs.Prepared.{is_touched};
 ghost use Rattle.sw_set.specs.Resting.{IsAtRest, IsToldWhere};
@@ -13,7 +13,7 @@ ghost use Rattle.sw_chunks.specs.Asked.{AreaFits, AreasFit, AreAtRest, RestsIfTo
 use crate::joining::join;
 use std::alloc::Global;
 use sw_map::CrackerMap;
-use sw_rows::{Query, Refusal, Reply};
+use sw_query::{Query, Refusal, Reply};
 use sw_set::{Area, nothing};
 
 /// The reply of an area that the query touches, if it is ready for it as it stands; the maps used are stamped with a number.

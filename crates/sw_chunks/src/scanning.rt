@@ -1,8 +1,8 @@
 //! A query over areas by scans: each that it touches is merged and its rows are gone over, from the lowest.
 
 ghost use Rattle.std.specs.Prelude.{◌≡◌, [], true, false, All, IfOk, IsOkUnless};
-ghost use Rattle.sw_rows.specs.Scan.{AsksBelow, answer, answer_over};
-ghost use Rattle.sw_rows.specs.declared.refusal.Refusal.TheVariants.{NoMemory};
+ghost use Rattle.sw_query.specs.Scan.{AsksBelow, answer, answer_over};
+ghost use Rattle.sw_query.specs.declared.refusal.Refusal.TheVariants.{NoMemory};
 ghost use Rattle.sw_set.specs.Merged.{StandsForSame};
 ghost use Rattle.sw_set.specs.Prepared.{is_touched};
 ghost use Rattle.sw_set.specs.Shelf.{rows_in};
@@ -13,7 +13,7 @@ ghost use Rattle.sw_chunks.specs.Asked.{AreaFits, AreasFit, with_area, with_each
 use crate::joining::join;
 use std::alloc::Global;
 use sw_map::CrackerMap;
-use sw_rows::{Query, Refusal, Reply};
+use sw_query::{Query, Refusal, Reply};
 use sw_set::{Area, nothing};
 
 /// Merges an area and scans it.

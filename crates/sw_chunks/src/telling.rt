@@ -4,11 +4,11 @@ ghost use Rattle.std.specs.Prelude.{◌≡◌, ◌++◌, ◌∷◌, [], ℕ, map
 ghost use Rattle.sw_table.specs.declared.row.Row.{Row};
 ghost use Rattle.sw_table.specs.declared.row.Update.{Update};
 ghost use Rattle.sw_table.specs.declared.row.Update.TheVariants.{Insert};
-ghost use Rattle.sw_rows.specs.Scan.{cell_of};
+ghost use Rattle.sw_query.specs.Scan.{cell_of};
 ghost use Rattle.sw_chunks.specs.Heads.{CellsFit, IsCell, told_in};
 
 use std::snapshot::Snapshot;
-use sw_rows::{PackedRows, Row, Update};
+use sw_query::{PackedRows, Row, Update};
 use sw_tie::Book;
 
 /// Tells of a cell that it is of 64 bits.

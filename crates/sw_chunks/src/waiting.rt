@@ -1,7 +1,7 @@
 //! Boxes that wait until their head is asked.
 
 ghost use Rattle.std.specs.Prelude.{◌≡◌, ◌+◌, ◌<◌, min, IfErr, IsOkUnless, OnErr, OnOk};
-ghost use Rattle.sw_rows.specs.declared.refusal.Refusal.TheVariants.{NoMemory};
+ghost use Rattle.sw_query.specs.declared.refusal.Refusal.TheVariants.{NoMemory};
 ghost use Rattle.sw_map.specs.Held.{blank};
 ghost use Rattle.sw_chunks.specs.Shelved.{boxes_in};
 
@@ -9,7 +9,7 @@ use crate::head::Head;
 use std::alloc::Global;
 use std::marker::Model;
 use sw_map::CrackerMap;
-use sw_rows::Refusal;
+use sw_query::Refusal;
 
 /// Blank boxes that wait, the one that came first at the list's end. Contracts see how many there are.
 pub struct Waiting<M: CrackerMap> {

@@ -3,8 +3,8 @@ use Rattle.std.proofs.lemmas.List.{take_more}
 use Rattle.std.proofs.Common.{get_or, take, zero, ◌≡◌, ◌∙◌, sym, ap, subst, ℕ, ◌+◌, ◌<◌, ◌≤◌, suc, List, [], ◌∷◌, ◌++◌, length, length-append, Result, Ok, Err, IfOk, OnOk, arith}
 use Rattle.std.proofs.lemmas.List.Elements.{All-nil, All-push}
 use Rattle.sw_rows.specs.Header.{Column}
-use Rattle.sw_rows.specs.declared.query.Call.{Call}
-use Rattle.sw_rows.specs.declared.refusal.Refusal.{Refusal}
+use Rattle.sw_query.specs.declared.query.Call.{Call}
+use Rattle.sw_query.specs.declared.refusal.Refusal.{Refusal}
 use Rattle.sw_lang.proofs.Knowing.{learned_width}
 use Rattle.sw_spine.specs.History.{CallsBelow}
 use Rattle.sw_cli.specs.declared.script.TheConstants.{MOST_BLOCKS, MOST_CALLS}

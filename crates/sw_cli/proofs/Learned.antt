@@ -10,7 +10,7 @@ use Rattle.sw_rows.specs.Texts.{text_of, with_texts}
 use Rattle.sw_rows.proofs.TextLaws.{text_of_kept}
 use Rattle.sw_histories.specs.ReadBack.{AreCells, HasCells, IsCellOf}
 use Rattle.sw_rows.specs.TextRows.{AreCoded}
-use Rattle.sw_rows.specs.declared.query.Call.{Call}
+use Rattle.sw_query.specs.declared.query.Call.{Call}
 use Rattle.sw_rows.proofs.TextRowLaws.{coded_still}
 use Rattle.sw_lang.specs.Learning.{knowing, learned, texts_in_line}
 use Rattle.sw_lang.specs.Reading.{line_at}

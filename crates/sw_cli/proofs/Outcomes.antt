@@ -2,8 +2,8 @@
 use Rattle.std.proofs.Common.{◌≡◌, ◌∙◌, sym, ap, refl, ℕ, zero, suc, ◌+◌, ◌<◌, List, [], ◌∷◌, ◌++◌, arith, drop, get_or, length, map, take, Ok, Err, IfOk, OnErr}
 use Rattle.std.proofs.lemmas.List.{append-nil}
 use Rattle.sw_rows.specs.Header.{Column}
-use Rattle.sw_rows.specs.declared.query.Call.{Call}
-use Rattle.sw_rows.specs.declared.reply.Reply.{Reply}
+use Rattle.sw_query.specs.declared.query.Call.{Call}
+use Rattle.sw_query.specs.declared.reply.Reply.{Reply}
 use Rattle.sw_cli.specs.Outcomes.{AreTold, Outcome, Told, answered, block_bytes, blocks_told, calls_of, divider, line_before, outcomes_of, text_of, told_bytes}
 
 pub outcomes_push : (xs : List Call) (ys : List Told) (x : Call) (y : Told) → length ys ≡ length xs → outcomes_of (xs ++ x ∷ []) (ys ++ y ∷ []) ≡ outcomes_of xs ys ++ (x, y) ∷ []

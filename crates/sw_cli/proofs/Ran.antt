@@ -2,10 +2,10 @@
 use Rattle.std.proofs.Common.{◌≡◌, ◌∙◌, sym, ap, subst, refl, ℕ, suc, ◌+◌, ◌<◌, List, [], ◌∷◌, arith, get_or, length, map, Option, Some, None, Result, Ok, Err, IfErr, IfOk, OnOk}
 use Rattle.std.proofs.lemmas.List.{get_or-map}
 use Rattle.sw_rows.specs.Header.{Column}
-use Rattle.sw_rows.specs.declared.query.Call.{Call}
+use Rattle.sw_query.specs.declared.query.Call.{Call}
 use Rattle.sw_table.specs.declared.row.Row.{Row}
-use Rattle.sw_rows.specs.declared.refusal.Refusal.{Refusal}
-use Rattle.sw_rows.specs.declared.refusal.Refusal.TheVariants as refusal
+use Rattle.sw_query.specs.declared.refusal.Refusal.{Refusal}
+use Rattle.sw_query.specs.declared.refusal.Refusal.TheVariants as refusal
 use Rattle.std.specs.Io.KnownBytes.{Keeps}
 use Rattle.sw_lang.specs.Sinks.{Took}
 use Rattle.sw_spine.specs.History.{AllAgree, History, IsLegal, mine}

@@ -6,10 +6,10 @@ use Rattle.sw_rows.proofs.RowLaws.{keys-count}
 use Rattle.sw_rows.specs.Gives.{Fails}
 use Rattle.sw_rows.specs.Tables.{Table, table_of}
 use Rattle.sw_table.specs.declared.row.Row.{Row}
-use Rattle.sw_rows.specs.declared.refusal.Refusal.{Refusal}
-use Rattle.sw_rows.specs.declared.refusal.Refusal.TheVariants as refusal
+use Rattle.sw_query.specs.declared.refusal.Refusal.{Refusal}
+use Rattle.sw_query.specs.declared.refusal.Refusal.TheVariants as refusal
 use Rattle.sw_rows.specs.Header.{Column, Fault}
-use Rattle.sw_rows.specs.declared.query.Call.{Call}
+use Rattle.sw_query.specs.declared.query.Call.{Call}
 use Rattle.sw_lang.proofs.Knowing.{learned_width}
 use Rattle.sw_lang.specs.Fits.{FitsCall}
 use Rattle.sw_lang.specs.Learning.{learned}

@@ -6,15 +6,15 @@ use Rattle.std.proofs.lemmas.List.{length_push}
 use Rattle.std.specs.Str.{is_utf8}
 use Rattle.sw_table.specs.declared.row.Row.{Row}
 use Rattle.sw_rows.specs.Header.{Column, Fault, IsSchema, kinds_of}
-use Rattle.sw_rows.specs.Scan.{counting}
+use Rattle.sw_query.specs.Scan.{counting}
 use Rattle.sw_rows.specs.Tables.{bytes_within, table_of}
 use Rattle.sw_rows.specs.TextRows.{AreCoded}
 use Rattle.sw_rows.specs.declared.loading.TheConstants.{MOST_BYTES}
-use Rattle.sw_rows.specs.declared.query.Call.{Call}
-use Rattle.sw_rows.specs.declared.query.Call.TheVariants.{Select, Insert, Delete, DeleteWhere}
-use Rattle.sw_rows.specs.declared.refusal.Refusal.{Refusal}
-use Rattle.sw_rows.specs.declared.refusal.Refusal.TheVariants.{BadLine, TooMany}
-use Rattle.sw_rows.specs.declared.refusal.Why.TheVariants as why
+use Rattle.sw_query.specs.declared.query.Call.{Call}
+use Rattle.sw_query.specs.declared.query.Call.TheVariants.{Select, Insert, Delete, DeleteWhere}
+use Rattle.sw_query.specs.declared.refusal.Refusal.{Refusal}
+use Rattle.sw_query.specs.declared.refusal.Refusal.TheVariants.{BadLine, TooMany}
+use Rattle.sw_query.specs.declared.refusal.Why.TheVariants as why
 use Rattle.sw_rows.proofs.RowLaws.{table-schema}
 use Rattle.sw_rows.proofs.TextRowLaws.{table_coded}
 use Rattle.sw_lang.specs.Fits.{FitsCall}

@@ -8,13 +8,13 @@ use Rattle.sw_table.specs.declared.row.Row.{Row}
 use Rattle.sw_table.specs.declared.row.Update.{Update}
 use Rattle.sw_table.specs.declared.row.Update.TheVariants as update
 use Rattle.sw_rows.specs.Header.{Column, IsSchema, kinds_of}
-use Rattle.sw_rows.specs.Scan.{counting, matching}
+use Rattle.sw_query.specs.Scan.{counting, matching}
 use Rattle.sw_rows.specs.TextRows.{AreCoded, AsksOfTexts, IsRowCoded, conds_seen, matching_seen, row_seen, rows_seen}
-use Rattle.sw_rows.specs.declared.query.Call.{Call}
-use Rattle.sw_rows.specs.declared.query.Call.TheVariants.{Select, Insert, Delete, DeleteWhere}
-use Rattle.sw_rows.specs.declared.query.Cond.{Cond}
-use Rattle.sw_rows.specs.declared.reply.Reply.{Reply}
-use Rattle.sw_rows.specs.declared.reply.Reply.TheVariants.{RemovedMany}
+use Rattle.sw_query.specs.declared.query.Call.{Call}
+use Rattle.sw_query.specs.declared.query.Call.TheVariants.{Select, Insert, Delete, DeleteWhere}
+use Rattle.sw_query.specs.declared.query.Cond.{Cond}
+use Rattle.sw_query.specs.declared.reply.Reply.{Reply}
+use Rattle.sw_query.specs.declared.reply.Reply.TheVariants.{RemovedMany}
 use Rattle.sw_rows.proofs.TextRowLaws.{answer_over_texts, matching_over_texts}
 use Rattle.sw_spine.specs.History.{Agrees, AllAgree, History, all_given, is_given, is_select}
 use Rattle.sw_spine.specs.Table.{inserts, opened, removals, reply_to, row, updates_then}

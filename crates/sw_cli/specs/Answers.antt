@@ -1,7 +1,7 @@
 -- What a run answers.
 use Rattle.std.specs.Prelude.{◌≡◌, ℕ, List, Result, IfErr, IfOk, OnOk}
-use Rattle.sw_rows.specs.declared.refusal.Refusal.{Refusal}
-use Rattle.sw_rows.specs.declared.refusal.Refusal.TheVariants as refusal
+use Rattle.sw_query.specs.declared.refusal.Refusal.{Refusal}
+use Rattle.sw_query.specs.declared.refusal.Refusal.TheVariants as refusal
 use Rattle.sw_spine.specs.History.{History, IsLegal}
 use Rattle.sw_cli.specs.Run.{Start}
 use Rattle.sw_cli.specs.Sides.{EitherFailed, FailedInTurn, IsUntouched, SinkFailed, SinkHeld, SinkSeen, SourceSeen, SourcesHeld}

@@ -1,9 +1,9 @@
 -- The line that tells of a refusal, and the status that a program ends with.
 use Rattle.std.specs.Prelude.{ℕ, List, ◌++◌, codes, decimal}
-use Rattle.sw_rows.specs.Refusals.{why_name}
-use Rattle.sw_rows.specs.declared.refusal.Refusal.{Refusal}
-use Rattle.sw_rows.specs.declared.refusal.Why.{Why}
-use Rattle.sw_rows.specs.declared.refusal.Refusal.TheVariants as refusal
+use Rattle.sw_query.specs.Refusals.{why_name}
+use Rattle.sw_query.specs.declared.refusal.Refusal.{Refusal}
+use Rattle.sw_query.specs.declared.refusal.Why.{Why}
+use Rattle.sw_query.specs.declared.refusal.Refusal.TheVariants as refusal
 
 -- a number after its label
 abbrev pub labelled : List ℕ → ℕ → List ℕ

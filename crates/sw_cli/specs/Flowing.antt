@@ -1,9 +1,9 @@
 -- What calls come to whose lines go out as each is answered.
 use Rattle.std.specs.Prelude.{ℕ, List, ◌++◌, slice_index_or, Result}
-use Rattle.sw_rows.specs.declared.refusal.Refusal.{Refusal}
+use Rattle.sw_query.specs.declared.refusal.Refusal.{Refusal}
 use Rattle.sw_rows.specs.Header.{Column}
 use Rattle.sw_table.specs.declared.row.Row.{Row}
-use Rattle.sw_rows.specs.declared.query.Call.{Call}
+use Rattle.sw_query.specs.declared.query.Call.{Call}
 use Rattle.sw_lang.specs.Cuts.{CutLists}
 use Rattle.sw_lang.specs.Sinks.{Writes}
 use Rattle.sw_spine.specs.History.{History}

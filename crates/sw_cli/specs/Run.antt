@@ -5,9 +5,9 @@ use Rattle.sw_rows.specs.Header.{Column, Fault, bad_table, too_many}
 use Rattle.sw_rows.specs.Tables.{bytes_within, table_of}
 use Rattle.sw_table.specs.declared.row.Row.{Row}
 use Rattle.sw_table.specs.declared.row.Update.{Update}
-use Rattle.sw_rows.specs.declared.query.Call.{Call}
-use Rattle.sw_rows.specs.declared.refusal.Refusal.{Refusal}
-use Rattle.sw_rows.specs.declared.refusal.Refusal.TheVariants.{BadTable, TooMany}
+use Rattle.sw_query.specs.declared.query.Call.{Call}
+use Rattle.sw_query.specs.declared.refusal.Refusal.{Refusal}
+use Rattle.sw_query.specs.declared.refusal.Refusal.TheVariants.{BadTable, TooMany}
 use Rattle.sw_lang.specs.Cuts.{CutLists}
 use Rattle.sw_lang.specs.CutsReading.{cuts_at}
 use Rattle.sw_lang.specs.Reading.{refused}

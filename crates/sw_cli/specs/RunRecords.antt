@@ -1,6 +1,6 @@
 -- The record of a run as the record of a history file.
 use Rattle.std.specs.Prelude.{◌≡◌, ℕ, List, Option, Result, Ok, length}
-use Rattle.sw_rows.specs.declared.refusal.Refusal.{Refusal}
+use Rattle.sw_query.specs.declared.refusal.Refusal.{Refusal}
 use Rattle.sw_spine.specs.History.{History, IsSound}
 use Rattle.sw_histories.specs.FileChecks.{ChecksFile}
 use Rattle.sw_histories.specs.FoundLegal.{IsFoundLegal}

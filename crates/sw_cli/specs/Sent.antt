@@ -1,7 +1,7 @@
 -- What a sink has taken since a time.
 use Rattle.std.specs.Prelude.{ℕ, Bool, true, false, List, [], bytes_eq, drop, length, take, Option, Some, None, Result}
 use Rattle.std.specs.Io.KnownBytes.{Keeps, append_known}
-use Rattle.sw_rows.specs.declared.refusal.Refusal.{Refusal}
+use Rattle.sw_query.specs.declared.refusal.Refusal.{Refusal}
 use Rattle.sw_lang.specs.Sinks.{Writes}
 use Rattle.sw_cli.specs.Sides.{SinkSeen}
 

@@ -1,9 +1,9 @@
 -- What goes out of a text through a block of bytes, and which sessions were answered what.
 use Rattle.std.specs.Prelude.{◌≡◌, ◌<◌, ◌≤◌, ◌+◌, ◌∷◌, ℕ, List, [], length, slice_index_or, All, Option, Result, OnOk, IfErr, IfOk}
 use Rattle.sw_rows.specs.Gives.{Raised}
-use Rattle.sw_rows.specs.declared.query.Call.{Call}
-use Rattle.sw_rows.specs.declared.refusal.Refusal.{Refusal}
-use Rattle.sw_rows.specs.declared.refusal.Refusal.TheVariants as refusal
+use Rattle.sw_query.specs.declared.query.Call.{Call}
+use Rattle.sw_query.specs.declared.refusal.Refusal.{Refusal}
+use Rattle.sw_query.specs.declared.refusal.Refusal.TheVariants as refusal
 use Rattle.sw_lang.specs.Sinks.{Took, TookBeginning}
 use Rattle.sw_spine.specs.History.{History}
 use Rattle.sw_engine.specs.Own.{own_of}

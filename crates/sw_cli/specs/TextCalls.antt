@@ -4,13 +4,13 @@ use Rattle.sw_table.specs.Updates.{rows_of}
 use Rattle.sw_table.specs.declared.row.Row.{Row}
 use Rattle.sw_table.specs.declared.row.Update.{Update}
 use Rattle.sw_rows.specs.Header.{Column, kinds_of}
-use Rattle.sw_rows.specs.Scan.{counting}
+use Rattle.sw_query.specs.Scan.{counting}
 use Rattle.sw_rows.specs.Tables.{row_of}
 use Rattle.sw_rows.specs.TextRows.{AsksOfTexts, IsRowCoded, answer_seen, conds_seen, domains_shown, matching_seen, reply_seen, rows_seen}
-use Rattle.sw_rows.specs.declared.query.Call.{Call}
-use Rattle.sw_rows.specs.declared.query.Call.TheVariants.{Select, Insert, Delete, DeleteWhere}
-use Rattle.sw_rows.specs.declared.reply.Reply.{Reply}
-use Rattle.sw_rows.specs.declared.reply.Reply.TheVariants.{RemovedMany}
+use Rattle.sw_query.specs.declared.query.Call.{Call}
+use Rattle.sw_query.specs.declared.query.Call.TheVariants.{Select, Insert, Delete, DeleteWhere}
+use Rattle.sw_query.specs.declared.reply.Reply.{Reply}
+use Rattle.sw_query.specs.declared.reply.Reply.TheVariants.{RemovedMany}
 use Rattle.sw_spine.specs.Table.{reply_to, updates_then}
 use Rattle.sw_spine.specs.declared.history.Entry.{Entry}
 use Rattle.sw_spine.specs.declared.history.State.{State}

@@ -4,7 +4,7 @@ ghost use Rattle.std.specs.Prelude.{◌≡◌, All, IfOk, IsOkUnless, length};
 ghost use Rattle.sw_budget.specs.Account.{empty};
 ghost use Rattle.sw_map.specs.Held.{blank};
 ghost use Rattle.sw_map.specs.States.{seat_of};
-ghost use Rattle.sw_rows.specs.declared.refusal.Refusal.TheVariants.{NoMemory};
+ghost use Rattle.sw_query.specs.declared.refusal.Refusal.TheVariants.{NoMemory};
 
 use std::alloc::Global;
 use sw_budget::Budget;

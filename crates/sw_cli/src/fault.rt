@@ -2,7 +2,7 @@
 
 ghost use Rattle.std.specs.Prelude.{◌≡◌, ◌++◌, codes, decimal};
 ghost use Rattle.sw_cli.specs.Faults.{fault_line, labelled, line_text, refusal_text, short_text, status_of};
-ghost use Rattle.sw_rows.specs.Refusals.{why_name};
+ghost use Rattle.sw_query.specs.Refusals.{why_name};
 ghost use Rattle.sw_lang.specs.Sinks.{Wrote};
 
 use sw_lang::{write_all, write_number};

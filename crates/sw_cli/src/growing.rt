@@ -1,7 +1,7 @@
 //! Attributes that know more texts than those with which an engine was opened, and its history over them.
 
 ghost use Rattle.std.specs.Prelude.{◌≡◌, ◌≤◌, true, length, IfOk, IsOkUnless};
-ghost use Rattle.sw_rows.specs.declared.refusal.Refusal.TheVariants.{NoMemory};
+ghost use Rattle.sw_query.specs.declared.refusal.Refusal.TheVariants.{NoMemory};
 ghost use Rattle.sw_spine.specs.History.{IsLegal, all_given};
 
 use std::alloc::Global;

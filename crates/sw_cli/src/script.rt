@@ -32,7 +32,7 @@ pub struct Block {
 
 impl Model for Block {
     ghost use Rattle.std.specs.Prelude.{List};
-    ghost use Rattle.sw_rows.specs.declared.query.Call.{Call};
+    ghost use Rattle.sw_query.specs.declared.query.Call.{Call};
 
     ghost Value = { List Call };
 

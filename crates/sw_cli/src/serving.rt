@@ -1,7 +1,7 @@
 //! Blocks of calls, each made in a thread of its own.
 
 ghost use Rattle.std.specs.Prelude.{◌≡◌, ◌≤◌, ◌+◌, length, map, All, IfOk, IsOkUnless, vec_capacity, vec_len};
-ghost use Rattle.sw_rows.specs.declared.refusal.Refusal.TheVariants.{NoMemory};
+ghost use Rattle.sw_query.specs.declared.refusal.Refusal.TheVariants.{NoMemory};
 ghost use Rattle.sw_engine.specs.Desk.{AreCounted, InOrder};
 ghost use Rattle.sw_cli.specs.Outcomes.{AllSayWhy, AreTold, blocks_told};
 ghost use Rattle.sw_cli.specs.Run.{IsRecordOf};

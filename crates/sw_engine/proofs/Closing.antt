@@ -6,8 +6,8 @@ use Rattle.std.proofs.lemmas.List.Elements.{All-head, All-tail}
 use Rattle.std.specs.Prelude.{Bool, Some, false, get_or, slice_get, slice_set}
 use Rattle.sw_table.specs.declared.row.Row.{Row}
 use Rattle.sw_table.specs.declared.row.Update.{Update}
-use Rattle.sw_rows.specs.declared.refusal.Refusal.{Refusal}
-use Rattle.sw_rows.specs.declared.refusal.Refusal.TheVariants as refusal
+use Rattle.sw_query.specs.declared.refusal.Refusal.{Refusal}
+use Rattle.sw_query.specs.declared.refusal.Refusal.TheVariants as refusal
 use Rattle.sw_spine.specs.Books.{Books, RefusesSession}
 use Rattle.sw_spine.specs.declared.spine.TheConstants.{MOST_SESSIONS}
 use Rattle.sw_engine.specs.Desk.{AreAll, AreCounted, AreOut, IsMade, IsNamed, IsTied, RefusesNext}

@@ -13,8 +13,8 @@ use Rattle.sw_spine.specs.Receivable.{AreUpdates, MayComeAll, given_then}
 use Rattle.sw_spine.specs.Table.{is_numbered}
 use Rattle.sw_spine.specs.Table as table
 use Rattle.sw_spine.proofs.Receivables.{may_come_first, may_come_rest}
-use Rattle.sw_rows.specs.declared.refusal.Refusal.{Refusal}
-use Rattle.sw_rows.specs.declared.refusal.Refusal.TheVariants.{NoMemory}
+use Rattle.sw_query.specs.declared.refusal.Refusal.{Refusal}
+use Rattle.sw_query.specs.declared.refusal.Refusal.TheVariants.{NoMemory}
 use Rattle.sw_chunks.specs.Cuts.{Interval, RiseAbove, intervals}
 use Rattle.sw_set.specs.Shelf.{AreReceivable, Rises, came_then, key_of}
 use Rattle.sw_chunks.specs.Routing.{MayFollow}

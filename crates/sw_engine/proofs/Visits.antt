@@ -6,10 +6,10 @@ use mathlib.Core.List.{IsPrefix}
 use Rattle.sw_rows.specs.Header.{Column}
 use Rattle.sw_table.specs.declared.row.Row.{Row}
 use Rattle.sw_table.specs.declared.row.Update.{Update}
-use Rattle.sw_rows.specs.declared.query.Query.{Query}
-use Rattle.sw_rows.specs.declared.query.Call.{Call}
-use Rattle.sw_rows.specs.declared.query.Call.TheVariants as call
-use Rattle.sw_rows.specs.declared.reply.Reply.{Reply}
+use Rattle.sw_query.specs.declared.query.Query.{Query}
+use Rattle.sw_query.specs.declared.query.Call.{Call}
+use Rattle.sw_query.specs.declared.query.Call.TheVariants as call
+use Rattle.sw_query.specs.declared.reply.Reply.{Reply}
 use Rattle.sw_spine.specs.Table.{opened}
 use Rattle.sw_spine.specs.History.{entry, mine, with_answer}
 use Rattle.sw_spine.specs.Books.{Books, KeepsOthers, KeepsTaken, reply_now, updates, waits_for, with_answered, with_open, with_published, with_settled}

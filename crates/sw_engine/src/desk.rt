@@ -1,7 +1,7 @@
 //! What lies under the lock.
 
 ghost use Rattle.std.specs.Prelude.{◌≡◌, ℕ, List, [], ◌∷◌, ◌++◌, ◌<◌, ◌+◌, ◌≤◌, length, true, false, None, All, IfErr, IfOk, IsSome, IsSomeAnd, OnErr, OnOk};
-ghost use Rattle.sw_rows.specs.declared.query.Call.TheVariants.{Select};
+ghost use Rattle.sw_query.specs.declared.query.Call.TheVariants.{Select};
 ghost use Rattle.sw_rows.specs.declared.table.TheConstants.{MOST_ROWS};
 ghost use Rattle.sw_spine.specs.Table.{is_numbered, opened, reply_to, updates_then};
 ghost use Rattle.sw_spine.specs.History.{CallsBelow, is_select, mine, updates_after};

@@ -1,9 +1,9 @@
 //! What lies under a head's latch.
 
 ghost use Rattle.std.specs.Prelude.{ℕ, ◌≡◌, ◌+◌, ◌++◌, [], ◌<◌, ◌≤◌, true, false, IfErr, IfOk, IsOkUnless, OnErr, OnOk};
-ghost use Rattle.sw_rows.specs.Scan.{AsksBelow, answer};
+ghost use Rattle.sw_query.specs.Scan.{AsksBelow, answer};
 ghost use Rattle.sw_table.specs.Updates.{rows_of};
-ghost use Rattle.sw_rows.specs.declared.refusal.Refusal.TheVariants.{NoMemory};
+ghost use Rattle.sw_query.specs.declared.refusal.Refusal.TheVariants.{NoMemory};
 ghost use Rattle.sw_map.specs.Held.{blank};
 ghost use Rattle.sw_set.specs.Needs.{head_in};
 ghost use Rattle.sw_chunks.specs.Heads.{IsSameHead};

@@ -1,9 +1,9 @@
 //! A query with another attribute as its head.
 
 ghost use Rattle.std.specs.Prelude.{◌≡◌, ◌<◌, IfOk, IsOkUnless};
-ghost use Rattle.sw_rows.specs.Scan.{AsksBelow, answer};
+ghost use Rattle.sw_query.specs.Scan.{AsksBelow, answer};
 ghost use Rattle.sw_table.specs.Updates.{rows_of};
-ghost use Rattle.sw_rows.specs.declared.refusal.Refusal.TheVariants.{NoMemory};
+ghost use Rattle.sw_query.specs.declared.refusal.Refusal.TheVariants.{NoMemory};
 ghost use Rattle.sw_chunks.specs.Heads.{IsSameHead};
 ghost use Rattle.sw_engine.specs.Leading.{led_by};
 

@@ -2,7 +2,7 @@
 
 ghost use Rattle.std.specs.Prelude.{◌≡◌, ◌⊎◌, ◌<◌, ◌≤◌, ◌+◌, false, None, is_some, length, All, IfErr, IfOk, IsSome, IsSomeAnd, MatchBool, OnErr, OnOk, true};
 ghost use mathlib.Core.List.{IsPrefix};
-ghost use Rattle.sw_rows.specs.declared.query.Call.TheVariants.{Select};
+ghost use Rattle.sw_query.specs.declared.query.Call.TheVariants.{Select};
 ghost use Rattle.sw_rows.specs.declared.table.TheConstants.{MOST_ROWS};
 ghost use Rattle.sw_spine.specs.Table.{is_numbered, reply_to};
 ghost use Rattle.sw_spine.specs.History.{CallsBelow, is_select};

@@ -2,7 +2,7 @@
 
 ghost use Rattle.std.specs.Prelude.{◌≡◌, IfErr, IfOk, OnOk};
 ghost use mathlib.Core.List.{IsPrefix};
-ghost use Rattle.sw_rows.specs.Scan.{AsksBelow};
+ghost use Rattle.sw_query.specs.Scan.{AsksBelow};
 ghost use Rattle.sw_engine.specs.Published.{answer_after};
 ghost use Rattle.sw_versions.specs.Lists.{IsLonger};
 ghost use Rattle.sw_versions.specs.Refused.{RefusesAnswer};

@@ -2,10 +2,10 @@
 use Rattle.std.specs.Prelude.{◌≡◌, ◌+◌, ◌-◌, ◌++◌, ◌⊎◌, ℕ, List, [], codes, decimal, length, slice_get, Option, None, Some, Result, Ok, Err}
 use Rattle.sw_rows.specs.Gives.{Raised}
 use Rattle.sw_rows.specs.Header.{Column}
-use Rattle.sw_rows.specs.declared.refusal.Refusal.{Refusal}
-use Rattle.sw_rows.specs.declared.refusal.Refusal.TheVariants as refusal
-use Rattle.sw_rows.specs.declared.query.Call.{Call}
-use Rattle.sw_rows.specs.declared.reply.Reply.{Reply}
+use Rattle.sw_query.specs.declared.refusal.Refusal.{Refusal}
+use Rattle.sw_query.specs.declared.refusal.Refusal.TheVariants as refusal
+use Rattle.sw_query.specs.declared.query.Call.{Call}
+use Rattle.sw_query.specs.declared.reply.Reply.{Reply}
 use Rattle.sw_lang.specs.PrintedCalls.{call_text}
 use Rattle.sw_lang.specs.Replies.{reply_lines}
 use Rattle.sw_lang.specs.Sinks.{Took, TookBeginning}

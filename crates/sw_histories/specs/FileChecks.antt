@@ -1,8 +1,8 @@
 -- What the check of a file writes and answers.
 use Rattle.std.specs.Prelude.{◌≡◌, ◌++◌, ◌⊎◌, ℕ, List, codes, decimal, length, Option, Result, Ok, Err}
 use Rattle.sw_rows.specs.Gives.{Raised}
-use Rattle.sw_rows.specs.declared.refusal.Refusal.{Refusal}
-use Rattle.sw_rows.specs.declared.refusal.Refusal.TheVariants as refusal
+use Rattle.sw_query.specs.declared.refusal.Refusal.{Refusal}
+use Rattle.sw_query.specs.declared.refusal.Refusal.TheVariants as refusal
 use Rattle.sw_lang.specs.Sinks.{Took, TookBeginning}
 use Rattle.sw_spine.specs.History.{History, IsLegal}
 use Rattle.sw_spine.specs.Checks.{IsFirstFault}

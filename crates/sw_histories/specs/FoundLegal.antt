@@ -1,7 +1,7 @@
 -- What the check of a legal history's file comes to.
 use Rattle.std.specs.Prelude.{◌≡◌, ℕ, List, length, Option, Result, Ok, Err}
-use Rattle.sw_rows.specs.declared.refusal.Refusal.{Refusal}
-use Rattle.sw_rows.specs.declared.refusal.Refusal.TheVariants as refusal
+use Rattle.sw_query.specs.declared.refusal.Refusal.{Refusal}
+use Rattle.sw_query.specs.declared.refusal.Refusal.TheVariants as refusal
 use Rattle.sw_lang.specs.Sinks.{Took, TookBeginning}
 use Rattle.sw_histories.specs.FileChecks.{ChecksFile, legal_line}
 use Rattle.sw_histories.specs.ReadBack.{IsOfRun}

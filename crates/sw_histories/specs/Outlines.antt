@@ -14,7 +14,7 @@ use Rattle.sw_table.specs.Packed.{Packed}
 use Rattle.sw_table.specs.declared.row.Row.{Row}
 use Rattle.sw_rows.specs.Header.{Column}
 use Rattle.sw_rows.specs.declared.table.TheConstants.{MOST_ROWS}
-use Rattle.sw_rows.specs.declared.refusal.Refusal.{Refusal}
+use Rattle.sw_query.specs.declared.refusal.Refusal.{Refusal}
 use Rattle.sw_spine.specs.History.{History}
 use Rattle.sw_spine.specs.declared.history.Entry.{Entry}
 use Rattle.sw_histories.specs.FromTokens.{IsCount, data_from, items_from, members_from}

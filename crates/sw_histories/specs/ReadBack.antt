@@ -7,7 +7,7 @@ use Rattle.sw_rows.specs.Domains.{Domain}
 use Rattle.sw_rows.specs.Domains as kind
 use Rattle.sw_rows.specs.Texts.{text_at, with_texts}
 use Rattle.sw_table.specs.declared.row.Row.{Row}
-use Rattle.sw_rows.specs.declared.query.Call.{Call}
+use Rattle.sw_query.specs.declared.query.Call.{Call}
 use Rattle.sw_lang.specs.Grammar.{IsLine}
 use Rattle.sw_lang.specs.Learning.{texts_in_line}
 use Rattle.sw_lang.specs.PrintedCalls.{call_text}

@@ -9,7 +9,7 @@ use Rattle.sw_rows.specs.Domains as kind
 use Rattle.sw_rows.specs.Header.{Column, kinds_of}
 use Rattle.sw_rows.specs.Spelling.{WritesCell, WritesHeader}
 use Rattle.sw_rows.specs.Tables.{padded}
-use Rattle.sw_rows.specs.declared.query.Call.{Call}
+use Rattle.sw_query.specs.declared.query.Call.{Call}
 use Rattle.sw_rows.specs.declared.table.TheConstants.{MOST_ROWS}
 use Rattle.sw_table.specs.declared.row.Row.{Row}
 use Rattle.sw_lang.specs.Grammar.{IsLine}

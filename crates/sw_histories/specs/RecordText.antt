@@ -11,11 +11,11 @@ use Rattle.sw_rows.specs.Header.{Column, has_texts, kinds_of}
 use Rattle.sw_rows.specs.Spelling.{kind_text}
 use Rattle.sw_rows.specs.Texts.{text_at}
 use Rattle.sw_table.specs.declared.row.Row.{Row}
-use Rattle.sw_rows.specs.declared.query.Call.{Call}
-use Rattle.sw_rows.specs.declared.query.Call.TheVariants as call
+use Rattle.sw_query.specs.declared.query.Call.{Call}
+use Rattle.sw_query.specs.declared.query.Call.TheVariants as call
 use Rattle.sw_rows.specs.Gives.{Raised}
-use Rattle.sw_rows.specs.declared.refusal.Refusal.{Refusal}
-use Rattle.sw_rows.specs.declared.refusal.Refusal.TheVariants as refusal
+use Rattle.sw_query.specs.declared.refusal.Refusal.{Refusal}
+use Rattle.sw_query.specs.declared.refusal.Refusal.TheVariants as refusal
 use Rattle.sw_lang.specs.PrintedCalls.{call_text}
 use Rattle.sw_lang.specs.Sinks.{Took, TookBeginning}
 use Rattle.sw_lang.specs.Replies.{reply_lines}

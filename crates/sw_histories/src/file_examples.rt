@@ -4,8 +4,8 @@
 //! The functions here do nothing. Their contracts are the examples, and the check computes them.
 
 ghost use Rattle.std.specs.Prelude.{◌≡◌, ◌∷◌, [], codes, Err, Ok};
-ghost use Rattle.sw_rows.specs.declared.refusal.Refusal.TheVariants.{BadLine};
-ghost use Rattle.sw_rows.specs.declared.refusal.Why.TheVariants as why;
+ghost use Rattle.sw_query.specs.declared.refusal.Refusal.TheVariants.{BadLine};
+ghost use Rattle.sw_query.specs.declared.refusal.Why.TheVariants as why;
 ghost use Rattle.sw_histories.specs.FileExamples.{counted, counted_under, deleted, deleted_under, visited, visited_file, visited_once};
 ghost use Rattle.sw_histories.specs.ReadBack.{IsOfRun, KnowsInOrder};
 ghost use Rattle.sw_histories.specs.RecordReading.{record_at};

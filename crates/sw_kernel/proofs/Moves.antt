@@ -4,8 +4,8 @@ use Rattle.std.specs.List.{AllByRecursion}
 use Rattle.std.proofs.lemmas.Bool.{cases_Bool, ltb-true, ltb-false}
 use Rattle.std.proofs.lemmas.List.{append_assoc, length-append}
 use Rattle.std.proofs.lemmas.List.Sorted.{IsPermutation-refl, IsPermutation-sym, IsPermutation-trans, IsPermutation-reverse, IsPermutation-append_comm, IsPermutation-to_front, IsPermutation-append_left, IsPermutation-append_right, IsPermutation-cons}
-use Rattle.sw_rows.specs.declared.bound.Bound.{Bound}
-use Rattle.sw_rows.specs.Bounds.{bound_below, same_bound}
+use Rattle.sw_query.specs.declared.bound.Bound.{Bound}
+use Rattle.sw_query.specs.Bounds.{bound_below, same_bound}
 use Rattle.sw_kernel.specs.Partition.{left_part, right_part, goes_left}
 use Rattle.sw_kernel.specs.Arrangement.{Arrangement, last, piece, joined, crack, first_to_end, last_to_front, take_out, each_piece, ripple_insert, ripple_remove}
 use Rattle.sw_kernel.specs.Replay.{crack_at, load}

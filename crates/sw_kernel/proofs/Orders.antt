@@ -1,9 +1,9 @@
 -- Bounds have an order.
 use Rattle.std.proofs.Common.{◌≡◌, ℤ, true, false, refl, sym, arith}
 use Rattle.std.proofs.lemmas.Bool.{true≢false}
-use Rattle.sw_rows.specs.declared.bound.Bound.{Bound}
-use Rattle.sw_rows.specs.declared.bound.Bound.TheVariants.{Before, After}
-use Rattle.sw_rows.specs.Bounds.{is_left, bound_below, same_bound}
+use Rattle.sw_query.specs.declared.bound.Bound.{Bound}
+use Rattle.sw_query.specs.declared.bound.Bound.TheVariants.{Before, After}
+use Rattle.sw_query.specs.Bounds.{is_left, bound_below, same_bound}
 
 pub below-trans : (a b c : Bound) → bound_below a b ≡ true → bound_below b c ≡ true → bound_below a c ≡ true
 below-trans (Before u) (Before v) (Before w) p q = grind (arith, p, q)

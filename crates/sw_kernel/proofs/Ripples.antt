@@ -3,8 +3,8 @@ use Rattle.std.proofs.Common.{◌≡◌, ℕ, suc, ◌+◌, ◌<◌, ◌≤◌, 
 use Rattle.std.proofs.lemmas.Bool.{lt-ltb, le-ltb}
 use Rattle.std.proofs.lemmas.List.Elements.{All-head}
 use Rattle.std.proofs.lemmas.List.{get_or-drop, drop_more, drop_all, take_all, append_assoc, append-nil, length-append, get_or_at, set_at}
-use Rattle.sw_rows.specs.declared.bound.Bound.{Bound}
-use Rattle.sw_rows.specs.Bounds.{is_left}
+use Rattle.sw_query.specs.declared.bound.Bound.{Bound}
+use Rattle.sw_query.specs.Bounds.{is_left}
 use Rattle.sw_kernel.specs.declared.mark.Mark.{Mark}
 use Rattle.std.proofs.lemmas.Slice.Zip.{length-zip}
 use Rattle.sw_kernel.specs.Partition.{head_of}

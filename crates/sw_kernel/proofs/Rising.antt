@@ -1,8 +1,8 @@
 -- The bounds of a replay: they rise, and they are those of its ranges.
 use Rattle.std.proofs.Common.{◌≡◌, ℕ, ◌-◌, ℤ, Bool, true, false, ◌||◌, nat_lt, List, [], ◌∷◌, length, Option, None, Some, refl, sym, ap, ◌∙◌, subst, inl, inr}
 use Rattle.std.proofs.lemmas.Bool.{cases_Bool}
-use Rattle.sw_rows.specs.declared.bound.Bound.{Bound}
-use Rattle.sw_rows.specs.Bounds.{bound_below, same_bound}
+use Rattle.sw_query.specs.declared.bound.Bound.{Bound}
+use Rattle.sw_query.specs.Bounds.{bound_below, same_bound}
 use Rattle.sw_kernel.specs.Partition.{goes_left}
 use Rattle.sw_kernel.specs.Arrangement.{Arrangement, last, piece, crack, each_piece, ripple_insert, ripple_remove, bounds, has_bound}
 use Rattle.sw_kernel.specs.Replay.{Step, loaded, inserted, removed, ranged, crack_at, load, step, replay_from}

@@ -1,8 +1,8 @@
 -- A step on items and then showing them is showing them and then the step: steps depend on head values alone.
 use Rattle.std.proofs.Common.{◌≡◌, ℕ, suc, zero, ◌-◌, ℤ, true, false, cond, List, [], ◌∷◌, ◌++◌, length, map, reverse, Option, None, Some, nat_lt, refl, sym, ap, ap₂, ◌∙◌, subst}
 use Rattle.std.proofs.lemmas.List.{map-append, length-map}
-use Rattle.sw_rows.specs.declared.bound.Bound.{Bound}
-use Rattle.sw_rows.specs.Bounds.{same_bound, bound_below}
+use Rattle.sw_query.specs.declared.bound.Bound.{Bound}
+use Rattle.sw_query.specs.Bounds.{same_bound, bound_below}
 use Rattle.sw_kernel.specs.Partition.{left_part, right_part, goes_left}
 use Rattle.sw_kernel.specs.Arrangement.{Arrangement, last, piece, crack, first_to_end, last_to_front, take_out, each_piece, ripple_insert, ripple_remove}
 use Rattle.sw_kernel.specs.Replay.{crack_at, Step, loaded, inserted, removed, ranged, load, step, replay_from, shown, shown_step}

@@ -1,7 +1,7 @@
 -- Pieces between bounds, over items that show a head value: what a crack and the two ripples make of them.
 use Rattle.std.specs.Prelude.{ℤ, ℕ, Bool, false, ◌||◌, cond, List, [], ◌∷◌, ◌++◌, reverse, length, nat_lt, ◌-◌, zero, suc}
-use Rattle.sw_rows.specs.declared.bound.Bound.{Bound}
-use Rattle.sw_rows.specs.Bounds.{bound_below, same_bound}
+use Rattle.sw_query.specs.declared.bound.Bound.{Bound}
+use Rattle.sw_query.specs.Bounds.{bound_below, same_bound}
 use Rattle.sw_kernel.specs.Partition.{left_part, right_part, goes_left}
 
 -- one piece, or a piece, a bound and the pieces after it

@@ -1,8 +1,8 @@
 -- The flat form of an arrangement: its items in one list, and marks where a bound's right side begins.
 use Rattle.std.specs.Prelude.{◌≡◌, ◌≤◌, ℕ, ℤ, false, cond, List, [], ◌∷◌, length, zip, ◌+◌, suc, zero, vec_capacity}
 use Rattle.std.specs.Global.{Vec}
-use Rattle.sw_rows.specs.declared.bound.Bound.{Bound}
-use Rattle.sw_rows.specs.Bounds.{bound_below, same_bound}
+use Rattle.sw_query.specs.declared.bound.Bound.{Bound}
+use Rattle.sw_query.specs.Bounds.{bound_below, same_bound}
 use Rattle.sw_kernel.specs.declared.mark.Mark.{Mark}
 use Rattle.sw_kernel.specs.Arrangement.{Arrangement, last, piece, joined}
 

@@ -1,6 +1,6 @@
 -- Laws of steps and tapes, over rows and whatever value of a row is its head.
 use Rattle.std.specs.Prelude.{◌≡◌, ℤ, List, length, map, All}
-use Rattle.sw_rows.specs.declared.bound.Bound.{Bound}
+use Rattle.sw_query.specs.declared.bound.Bound.{Bound}
 use Rattle.sw_table.specs.declared.row.Row.{Row}
 use Rattle.sw_kernel.specs.declared.mark.Mark.{Mark}
 use Rattle.sw_kernel.specs.Partition.{head_of}

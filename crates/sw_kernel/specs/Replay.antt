@@ -1,7 +1,7 @@
 -- The steps that a tape logs, their replay from one empty piece, and an arrangement
 -- with its items shown as something else.
 use Rattle.std.specs.Prelude.{ℤ, ℕ, List, [], ◌∷◌, ◌++◌, map, Option, None, Some}
-use Rattle.sw_rows.specs.declared.bound.Bound.{Bound}
+use Rattle.sw_query.specs.declared.bound.Bound.{Bound}
 use Rattle.sw_kernel.specs.Arrangement.{Arrangement, last, piece, crack, ripple_insert, ripple_remove}
 
 -- what a tape logs, over items

@@ -1,6 +1,6 @@
 -- The ripples as the loops over marks make them.
 use Rattle.std.specs.Prelude.{◌≡◌, ℤ, pos, ℕ, cond, List, [], ◌∷◌, ◌++◌, length, map, nat_lt, ◌+◌, ◌-◌, suc, take, drop, zip, slice_index_or, slice_set}
-use Rattle.sw_rows.specs.Bounds.{is_left}
+use Rattle.sw_query.specs.Bounds.{is_left}
 use Rattle.sw_kernel.specs.declared.mark.Mark.{Mark}
 use Rattle.sw_kernel.specs.Flat.{end_before}
 

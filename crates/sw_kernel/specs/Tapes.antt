@@ -1,8 +1,8 @@
 -- Which lists of steps are tapes, and what a tape says of rows, bounds and lengths.
 use Rattle.std.specs.Prelude.{◌≡◌, ℤ, ℕ, Bool, true, false, not, ◌||◌, nat_eq, ◌<◌, ◌+◌, ◌-◌, max, List, [], ◌∷◌, ◌++◌, length, map, filter, take, drop, All, Contains, Option, None, Some, zero, suc}
 use Rattle.std.specs.List.{IsDistinct}
-use Rattle.sw_rows.specs.declared.bound.Bound.{Bound}
-use Rattle.sw_rows.specs.Bounds.{bound_below, same_bound}
+use Rattle.sw_query.specs.declared.bound.Bound.{Bound}
+use Rattle.sw_query.specs.Bounds.{bound_below, same_bound}
 use Rattle.sw_kernel.specs.declared.mark.Mark.{Mark}
 use Rattle.sw_kernel.specs.Partition.{goes_left}
 use Rattle.sw_kernel.specs.Arrangement.{Arrangement, last, joined}

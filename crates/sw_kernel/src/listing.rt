@@ -3,7 +3,7 @@
 ghost use Rattle.std.specs.Prelude.{◌≡◌, ◌+◌, ◌-◌, ◌<◌, ◌≤◌, true, false, length};
 ghost use Rattle.sw_kernel.specs.Blocks.{LieOn, Listed, ListsOneMore, goes_down, goes_up};
 
-use sw_rows::Bound;
+use sw_query::Bound;
 
 /// Writes a place down at the list's end, and keeps it there if it goes. No branch.
 #[inline(always)]

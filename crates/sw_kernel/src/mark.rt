@@ -1,6 +1,6 @@
 //! Marks, which say where the pieces of head and tail begin.
 
-use sw_rows::Bound;
+use sw_query::Bound;
 
 /// A bound, and the place where the pairs that do not lie left of it begin.
 ///

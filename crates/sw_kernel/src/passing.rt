@@ -4,7 +4,7 @@ ghost use Rattle.std.specs.Prelude.{◌≡◌, ◌<◌, ◌≤◌, length};
 ghost use Rattle.sw_kernel.specs.Blocks.{Low, High};
 
 use crate::listing::count_left;
-use sw_rows::Bound;
+use sw_query::Bound;
 
 /// A list of no more places than this foretells blocks of which no item is misplaced: then counting pays, which vector code does.
 const FEW: usize = 2;

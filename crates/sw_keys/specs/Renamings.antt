@@ -2,10 +2,10 @@
 -- from 0, becomes k + 1. It is one to one where no key stands at two places.
 use Rattle.std.specs.Prelude.{◌≡◌, ◌<◌, ◌+◌, ◌⊎◌, ℕ, List, [], ◌∷◌, ◌++◌, codes, decimal, length, slice_get, slice_index, EachIndex, Option, Some, None}
 use Rattle.std.specs.List.{AllZip}
-use Rattle.sw_rows.specs.declared.query.Call.{Call}
-use Rattle.sw_rows.specs.declared.query.Call.TheVariants as call
-use Rattle.sw_rows.specs.declared.query.Want.{Want}
-use Rattle.sw_rows.specs.declared.query.Want.TheVariants as want
+use Rattle.sw_query.specs.declared.query.Call.{Call}
+use Rattle.sw_query.specs.declared.query.Call.TheVariants as call
+use Rattle.sw_query.specs.declared.query.Want.{Want}
+use Rattle.sw_query.specs.declared.query.Want.TheVariants as want
 use Rattle.sw_logs.specs.Orders.{IsOrderFound, StandOnce}
 use Rattle.sw_logs.specs.declared.logged.Logged.{Logged}
 use Rattle.sw_logs.specs.declared.opening.Opening.{Opening}

@@ -13,7 +13,7 @@ use Rattle.sw_rows.specs.Header.{Column, IsSchema, names_of}
 use Rattle.sw_rows.specs.Spelling.{WritesCell}
 use Rattle.sw_rows.specs.Domains.{Domain}
 use Rattle.sw_rows.specs.Domains as kind
-use Rattle.sw_rows.specs.declared.refusal.Why.TheVariants as why
+use Rattle.sw_query.specs.declared.refusal.Why.TheVariants as why
 use Rattle.sw_lang.specs.declared.cuts.TheConstants.{MOST_CUTS}
 use Rattle.sw_lang.specs.declared.fault.Fault.{Fault}
 use Rattle.sw_lang.specs.declared.fault.Fault.TheVariants.{Bad, Excess}

@@ -8,11 +8,11 @@ use Rattle.sw_rows.specs.Domains.{Domain, IsOver, is_of_texts, over}
 use Rattle.sw_rows.specs.Domains as kind
 use Rattle.sw_rows.specs.Header.{Column, IsSchema, holding, kinds_of, texts_of}
 use Rattle.sw_rows.specs.Texts.{code_of, is_text, with_texts}
-use Rattle.sw_rows.specs.declared.query.Call.{Call}
-use Rattle.sw_rows.specs.declared.query.Call.TheVariants.{Select, Insert, Delete, DeleteWhere}
-use Rattle.sw_rows.specs.declared.query.Cond.{Cond}
-use Rattle.sw_rows.specs.declared.query.Want.{Want}
-use Rattle.sw_rows.specs.declared.query.Want.TheVariants.{Rows, Count, Sum, Min, Max}
+use Rattle.sw_query.specs.declared.query.Call.{Call}
+use Rattle.sw_query.specs.declared.query.Call.TheVariants.{Select, Insert, Delete, DeleteWhere}
+use Rattle.sw_query.specs.declared.query.Cond.{Cond}
+use Rattle.sw_query.specs.declared.query.Want.{Want}
+use Rattle.sw_query.specs.declared.query.Want.TheVariants.{Rows, Count, Sum, Min, Max}
 use Rattle.sw_rows.proofs.DomainLaws.{holding_names, of_texts_over}
 use Rattle.sw_rows.proofs.TextLaws.{code_kept}
 use Rattle.sw_lang.specs.Grammar.{IsCall, IsLine, IsName, IsNames, IsNumbersName, IsTerm, IsTerms, IsValue, IsValues, IsWant, IsWhere, MoreValues}

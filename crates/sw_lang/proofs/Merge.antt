@@ -4,9 +4,9 @@ use Rattle.std.specs.List.{list_any}
 use Rattle.std.proofs.lemmas.Bool.Decides.{Decides-eqb}
 use Rattle.std.proofs.lemmas.Bool.{false≢true}
 use Rattle.std.proofs.lemmas.List.{map-append}
-use Rattle.sw_rows.specs.Bounds.{greater, lesser}
-use Rattle.sw_rows.specs.declared.bound.Bound.{Bound}
-use Rattle.sw_rows.specs.declared.query.Cond.{Cond}
+use Rattle.sw_query.specs.Bounds.{greater, lesser}
+use Rattle.sw_query.specs.declared.bound.Bound.{Bound}
+use Rattle.sw_query.specs.declared.query.Cond.{Cond}
 use Rattle.sw_lang.specs.declared.term.Term.{Term}
 use Rattle.sw_lang.specs.Terms.{add_term, cond_of, lower_of, upper_of, with_attr, attrs_after, lower_after, upper_after, conditions}
 

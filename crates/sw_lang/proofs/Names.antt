@@ -13,8 +13,8 @@ use Rattle.sw_rows.specs.Cells.{cell_value}
 use Rattle.sw_rows.specs.Header.{Column, IsSchema, is_known, is_name, names_differ, names_of}
 use Rattle.sw_rows.specs.Domains.{Domain, is_of_texts}
 use Rattle.sw_rows.specs.Domains as kind
-use Rattle.sw_rows.specs.declared.refusal.Why.{Why}
-use Rattle.sw_rows.specs.declared.refusal.Why.TheVariants as why
+use Rattle.sw_query.specs.declared.refusal.Why.{Why}
+use Rattle.sw_query.specs.declared.refusal.Why.TheVariants as why
 use Rattle.sw_rows.specs.Texts.{is_text}
 use Rattle.sw_lang.specs.declared.fault.Fault.{Fault}
 use Rattle.sw_lang.specs.declared.fault.Fault.TheVariants.{Bad}

@@ -4,7 +4,7 @@ use Rattle.std.specs.Prelude.{position}
 use Rattle.std.specs.List.{position_or_len}
 use Rattle.std.proofs.lemmas.Option.{cond_some}
 use Rattle.std.proofs.lemmas.Bool.{ltb-true, ltb-false}
-use Rattle.sw_rows.specs.declared.query.Cond.{Cond}
+use Rattle.sw_query.specs.declared.query.Cond.{Cond}
 use Rattle.sw_lang.specs.declared.term.Term.{Term}
 use Rattle.sw_lang.specs.Terms.{cond_of, narrowed, add_term}
 

@@ -6,7 +6,7 @@ use Rattle.sw_rows.proofs.TableLemmas.{padded_take}
 use Rattle.sw_rows.specs.Header.{Column, is_name, kinds_of}
 use Rattle.sw_rows.specs.Domains.{Domain}
 use Rattle.sw_rows.specs.Domains as kind
-use Rattle.sw_rows.specs.declared.refusal.Why.{Why}
+use Rattle.sw_query.specs.declared.refusal.Why.{Why}
 use Rattle.sw_lang.specs.declared.fault.Fault.{Fault}
 use Rattle.sw_lang.specs.declared.fault.Fault.TheVariants.{Unknown}
 use Rattle.sw_lang.specs.Replies.{kind_at}

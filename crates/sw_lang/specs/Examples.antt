@@ -1,14 +1,14 @@
 -- Lines over tables of three attributes, and what each is.
 use Rattle.std.specs.Prelude.{ℕ, ℤ, pos, neg_ℤ, List, [], ◌∷◌, Option, Some, None, Result, Ok, Err, codes, replicate}
 use Rattle.sw_rows.specs.Header.{Column}
-use Rattle.sw_rows.specs.declared.bound.Bound.{Bound}
+use Rattle.sw_query.specs.declared.bound.Bound.{Bound}
 use Rattle.sw_rows.specs.Domains as kind
-use Rattle.sw_rows.specs.declared.query.Cond.{Cond}
-use Rattle.sw_rows.specs.declared.query.Call.{Call}
-use Rattle.sw_rows.specs.declared.query.Call.TheVariants.{Select, Insert, Delete, DeleteWhere}
-use Rattle.sw_rows.specs.declared.query.Want.{Want}
-use Rattle.sw_rows.specs.declared.query.Want.TheVariants.{Rows, Count, Sum, Min, Max}
-use Rattle.sw_rows.specs.declared.refusal.Why.TheVariants as why
+use Rattle.sw_query.specs.declared.query.Cond.{Cond}
+use Rattle.sw_query.specs.declared.query.Call.{Call}
+use Rattle.sw_query.specs.declared.query.Call.TheVariants.{Select, Insert, Delete, DeleteWhere}
+use Rattle.sw_query.specs.declared.query.Want.{Want}
+use Rattle.sw_query.specs.declared.query.Want.TheVariants.{Rows, Count, Sum, Min, Max}
+use Rattle.sw_query.specs.declared.refusal.Why.TheVariants as why
 use Rattle.sw_lang.specs.PrintedCalls.{call_text}
 use Rattle.sw_lang.specs.PrintedExamples.{above, at_least, at_most, below}
 use Rattle.sw_lang.specs.declared.fault.Fault.{Fault}

@@ -2,18 +2,18 @@
 use Rattle.std.specs.Prelude.{◌≡◌, ◌≤◌, ◌⊎◌, ◌||◌, ℕ, ℤ, pos, Bool, true, false, int_lt, is_some, List, [], ◌∷◌, length, map, nat_eq, replicate, Option, Some, None, All}
 use Rattle.std.specs.List.{IsDistinct}
 use Rattle.sw_rows.specs.Header.{Column, kinds_of}
-use Rattle.sw_rows.specs.Scan.{AsksBelow, counting}
+use Rattle.sw_query.specs.Scan.{AsksBelow, counting}
 use Rattle.sw_rows.specs.Texts.{text_of}
-use Rattle.sw_rows.specs.declared.bound.Bound.{Bound}
-use Rattle.sw_rows.specs.declared.bound.Bound.TheVariants.{Before, After}
+use Rattle.sw_query.specs.declared.bound.Bound.{Bound}
+use Rattle.sw_query.specs.declared.bound.Bound.TheVariants.{Before, After}
 use Rattle.sw_rows.specs.Domains.{Domain, is_of_texts}
 use Rattle.sw_rows.specs.Domains as kind
-use Rattle.sw_rows.specs.declared.query.Cond.{Cond}
-use Rattle.sw_rows.specs.declared.query.Call.{Call}
-use Rattle.sw_rows.specs.declared.query.Call.TheVariants.{Select, Insert, Delete, DeleteWhere}
-use Rattle.sw_rows.specs.declared.query.Query.{Query}
-use Rattle.sw_rows.specs.declared.query.Want.{Want}
-use Rattle.sw_rows.specs.declared.query.Want.TheVariants.{Rows, Count, Sum, Min, Max}
+use Rattle.sw_query.specs.declared.query.Cond.{Cond}
+use Rattle.sw_query.specs.declared.query.Call.{Call}
+use Rattle.sw_query.specs.declared.query.Call.TheVariants.{Select, Insert, Delete, DeleteWhere}
+use Rattle.sw_query.specs.declared.query.Query.{Query}
+use Rattle.sw_query.specs.declared.query.Want.{Want}
+use Rattle.sw_query.specs.declared.query.Want.TheVariants.{Rows, Count, Sum, Min, Max}
 use Rattle.sw_lang.specs.Replies.{kind_at}
 
 -- a cell of a domain: of flags 0 or 1, of texts the code of one

@@ -1,17 +1,17 @@
 -- Columns, calls and replies of the examples of printed calls and replies.
 use Rattle.std.specs.Prelude.{ℕ, ℤ, List, [], ◌∷◌, Option, Some, codes, None, map, negsuc, pos}
-use Rattle.sw_rows.specs.declared.bound.Bound.{Bound}
-use Rattle.sw_rows.specs.declared.bound.Bound.TheVariants.{Before, After}
-use Rattle.sw_rows.specs.declared.query.Cond.{Cond}
+use Rattle.sw_query.specs.declared.bound.Bound.{Bound}
+use Rattle.sw_query.specs.declared.bound.Bound.TheVariants.{Before, After}
+use Rattle.sw_query.specs.declared.query.Cond.{Cond}
 use Rattle.sw_rows.specs.Header.{Column}
 use Rattle.sw_rows.specs.Domains as kind
 use Rattle.sw_rows.specs.Tables.{padded}
-use Rattle.sw_rows.specs.declared.query.Call.{Call}
-use Rattle.sw_rows.specs.declared.query.Call.TheVariants as call
-use Rattle.sw_rows.specs.declared.query.Want.{Want}
-use Rattle.sw_rows.specs.declared.query.Want.TheVariants as want
-use Rattle.sw_rows.specs.declared.reply.Reply.TheVariants as reply
-use Rattle.sw_rows.specs.declared.reply.ReplyRow.{ReplyRow}
+use Rattle.sw_query.specs.declared.query.Call.{Call}
+use Rattle.sw_query.specs.declared.query.Call.TheVariants as call
+use Rattle.sw_query.specs.declared.query.Want.{Want}
+use Rattle.sw_query.specs.declared.query.Want.TheVariants as want
+use Rattle.sw_query.specs.declared.reply.Reply.TheVariants as reply
+use Rattle.sw_query.specs.declared.reply.ReplyRow.{ReplyRow}
 use Rattle.sw_lang.specs.Replies.{reply_bytes}
 
 -- three attributes of whole numbers

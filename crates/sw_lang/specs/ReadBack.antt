@@ -3,7 +3,7 @@ use Rattle.std.specs.Prelude.{◌≡◌, ℕ, List, Some, Ok, ℤ, Option, ◌++
 use Rattle.sw_rows.specs.Header.{Column, IsSchema, kinds_of}
 use Rattle.sw_rows.specs.Tables.{row_of}
 use Rattle.sw_rows.specs.TextRows.{IsRowCoded}
-use Rattle.sw_rows.specs.declared.query.Call.{Call}
+use Rattle.sw_query.specs.declared.query.Call.{Call}
 use Rattle.sw_lang.specs.Fits.{FitsCells}
 use Rattle.sw_lang.specs.Grammar.{IsLine}
 use Rattle.sw_lang.specs.Learning.{knowing}

@@ -4,7 +4,7 @@ ghost use Rattle.std.specs.Prelude.{ℤ, IsUtf8, ◌≡◌, ◌≤◌, ◌+◌, 
 ghost use Rattle.sw_lang.specs.declared.term.Term.{Term};
 ghost use Rattle.sw_rows.specs.Header.{kinds_of};
 ghost use Rattle.sw_rows.specs.TextRows.{AsksOfTexts};
-ghost use Rattle.sw_rows.specs.declared.query.Query.{Query};
+ghost use Rattle.sw_query.specs.declared.query.Query.{Query};
 ghost use Rattle.sw_lang.specs.Fits.{FitsQuery};
 ghost use Rattle.sw_lang.specs.Terms.{add_term, conditions};
 ghost use Rattle.sw_lang.specs.Agreement.{FindsAllRelated, FindsRelated};

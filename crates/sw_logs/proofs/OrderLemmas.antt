@@ -3,7 +3,7 @@ use Rattle.std.proofs.Common.{◌≡◌, ◌∙◌, ◌<◌, ◌≤◌, ◌≢�
 use Rattle.std.specs.List.{slice_get}
 use Rattle.std.proofs.lemmas.List.{get_or-set_same, get_or-set_other, take_all, take_more}
 use Rattle.std.proofs.lemmas.Option.{slice_get_read, slice_get_within, slice_get-get_or}
-use Rattle.sw_rows.specs.declared.query.Call.{Call}
+use Rattle.sw_query.specs.declared.query.Call.{Call}
 use Rattle.sw_spine.specs.History.{AllBelow, CallsBelow}
 use Rattle.sw_spine.specs.declared.history.Entry.{Entry}
 use Rattle.sw_logs.specs.Orders.{AllFit, AreEntriesOf, AreNumbersOf, HasKnown, IsEntryAt, IsEntryOf, KeepsSessions, KeepsTimes, StandsAt, is_known}

@@ -1,7 +1,7 @@
 -- What a purse that comes back from a refused lease shows.
 use Rattle.std.proofs.Common.{◌≡◌, ℕ, ap, sym, ◌∙◌, Bool, Result, Ok, Err, MatchResult, IfErr}
-use Rattle.sw_rows.specs.declared.refusal.Refusal.{Refusal}
-use Rattle.sw_rows.specs.declared.refusal.Refusal.TheVariants as refusal
+use Rattle.sw_query.specs.declared.refusal.Refusal.{Refusal}
+use Rattle.sw_query.specs.declared.refusal.Refusal.TheVariants as refusal
 use Rattle.sw_budget.specs.Account.{Account, returned}
 use Rattle.sw_map.specs.States.{HasLeasedOr, HasReturned, IsLookOf}
 

@@ -1,7 +1,7 @@
 -- Two lists and marks, as a table of pairs.
 use Rattle.std.proofs.Common.{◌≡◌, ℕ, ◌<◌, ◌+◌, ℤ, pos, List, [], ◌∷◌, ◌++◌, length, map, zip, get_or, refl, sym, ap, ◌∙◌, arith, subst}
 use Rattle.sw_table.specs.declared.row.Row.{Row}
-use Rattle.sw_rows.specs.Scan.{cell_of}
+use Rattle.sw_query.specs.Scan.{cell_of}
 use Rattle.sw_kernel.specs.declared.mark.Mark.{Mark}
 use Rattle.sw_kernel.specs.Arrangement.{Arrangement, joined, bounds}
 use Rattle.sw_kernel.specs.Replay.{load}

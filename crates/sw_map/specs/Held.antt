@@ -1,9 +1,9 @@
 -- What a map holds, and what beginning, an entry of the tape and clearing make of it.
 use Rattle.std.specs.Prelude.{◌≡◌, ◌<◌, ◌+◌, ◌^◌, ℕ, ℤ, pos, Bool, true, false, cond, Option, None, Some, List, [], length, map, All}
-use Rattle.sw_rows.specs.declared.bound.Bound.{Bound}
+use Rattle.sw_query.specs.declared.bound.Bound.{Bound}
 use Rattle.sw_table.specs.declared.row.Row.{Row}
-use Rattle.sw_rows.specs.Bounds.{same_bound}
-use Rattle.sw_rows.specs.Scan.{cell_of}
+use Rattle.sw_query.specs.Bounds.{same_bound}
+use Rattle.sw_query.specs.Scan.{cell_of}
 use Rattle.sw_kernel.specs.Partition.{head_of}
 use Rattle.sw_kernel.specs.Arrangement.{Arrangement, last, piece, joined}
 use Rattle.sw_kernel.specs.Replay.{Step, loaded, inserted, removed, ranged, step, shown_step, pair_of}

@@ -1,7 +1,7 @@
 -- When a box is lawful: blank, or as the tape up to its cursor leaves it.
 use Rattle.std.specs.Prelude.{◌≡◌, ◌≤◌, ◌⊎◌, ℕ, false, List, length, take}
 use Rattle.sw_table.specs.declared.row.Row.{Row}
-use Rattle.sw_rows.specs.Scan.{cell_of}
+use Rattle.sw_query.specs.Scan.{cell_of}
 use Rattle.sw_kernel.specs.Arrangement.{Arrangement}
 use Rattle.sw_kernel.specs.Replay.{Step, replay, shown}
 use Rattle.sw_map.specs.Held.{Held, blank, pair_in}

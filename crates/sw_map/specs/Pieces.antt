@@ -1,11 +1,11 @@
 -- A map's flat lists as pieces between bounds, and what they always keep.
 use Rattle.std.specs.Prelude.{◌≡◌, ◌<◌, ◌≤◌, ℤ, ℕ, List, [], ◌∷◌, ◌++◌, ◌-◌, count_by, map, length, take, drop, zip, Option, None, Some, Bool, cond, Result, MatchResult, HoldsAt, true, vec_len, vec_capacity}
 use Rattle.std.specs.Global.{Vec}
-use Rattle.sw_rows.specs.Gives.{IsRefused}
-use Rattle.sw_rows.specs.declared.refusal.Refusal.{Refusal}
-use Rattle.sw_rows.specs.declared.bound.Bound.{Bound}
+use Rattle.sw_query.specs.Outcomes.{IsRefused}
+use Rattle.sw_query.specs.declared.refusal.Refusal.{Refusal}
+use Rattle.sw_query.specs.declared.bound.Bound.{Bound}
 use Rattle.sw_table.specs.declared.row.Row.{Row}
-use Rattle.sw_rows.specs.Bounds.{same_bound}
+use Rattle.sw_query.specs.Bounds.{same_bound}
 use Rattle.sw_kernel.specs.declared.mark.Mark.{Mark}
 use Rattle.sw_kernel.specs.Partition.{partition, head_of}
 use Rattle.sw_kernel.specs.Arrangement.{Arrangement, last, piece, joined}

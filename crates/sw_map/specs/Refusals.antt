@@ -1,11 +1,11 @@
 -- Why a map could not begin or grow.
 use Rattle.std.specs.Prelude.{◌≡◌, ◌≢◌, ◌<◌, ◌≤◌, ◌+◌, ◌++◌, ◌∷◌, [], ℕ, Bool, List, Result, MatchResult}
-use Rattle.sw_rows.specs.Gives.{IsRefused}
+use Rattle.sw_query.specs.Outcomes.{IsRefused}
 use Rattle.sw_table.specs.declared.row.Row.{Row}
 use Rattle.sw_kernel.specs.Replay.{Step}
 use Rattle.sw_map.specs.declared.tail.Tail.{Tail}
-use Rattle.sw_rows.specs.declared.refusal.Refusal.{Refusal}
-use Rattle.sw_rows.specs.declared.refusal.Refusal.TheVariants.{NoMemory, Short, Contended}
+use Rattle.sw_query.specs.declared.refusal.Refusal.{Refusal}
+use Rattle.sw_query.specs.declared.refusal.Refusal.TheVariants.{NoMemory, Short, Contended}
 use Rattle.sw_map.specs.Held.{Held, after, begun, blank, grown_if}
 
 -- No memory; or the budget's cells in use and the cells wanted exceed its capacity; or the budget's word had changed

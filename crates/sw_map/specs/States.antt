@@ -1,7 +1,7 @@
 -- What a map's box has: a purse while it is blank, a lease and pairs while it is in use.
 use Rattle.std.specs.Prelude.{◌≡◌, ◌+◌, ◌≤◌, ℕ, Bool, true, false, None, Result, MatchResult}
-use Rattle.sw_rows.specs.declared.refusal.Refusal.{Refusal}
-use Rattle.sw_rows.specs.declared.refusal.Refusal.TheVariants.{Contended, NoMemory, Short}
+use Rattle.sw_query.specs.declared.refusal.Refusal.{Refusal}
+use Rattle.sw_query.specs.declared.refusal.Refusal.TheVariants.{Contended, NoMemory, Short}
 use Rattle.sw_budget.specs.Account.{Account, Refused, asked, returned}
 use Rattle.sw_map.specs.declared.home.Home.{Home}
 use Rattle.sw_map.specs.declared.home.Home.TheVariants.{Blank, Active}

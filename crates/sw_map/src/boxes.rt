@@ -5,7 +5,7 @@ ghost use Rattle.sw_map.specs.Held.{blank};
 ghost use Rattle.sw_map.specs.Refusals.{IsPushedOr};
 
 use crate::cracker::CrackerMap;
-use sw_rows::Refusal;
+use sw_query::Refusal;
 
 /// Puts one more blank box behind blank boxes. Refused `NoMemory` alone; then the boxes are as they were, and this one
 /// comes back.

@@ -10,7 +10,7 @@ ghost use Rattle.sw_map.specs.Pieces.{AreCut, bounds_of, count_between, parted};
 
 use crate::places::{is_marked, marks_below};
 use sw_kernel::{Mark, end_before, split};
-use sw_rows::Bound;
+use sw_query::Bound;
 
 /// Where the k-th piece begins.
 fn start_of(marks: &[Mark], k: usize) -> usize

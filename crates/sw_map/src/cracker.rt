@@ -1,7 +1,7 @@
 //! The trait of maps, and a box of any map.
 
 ghost use Rattle.std.specs.Prelude.{◌≡◌, ◌+◌, ◌<◌, ◌≤◌, IfErr, OnErr, pos, length, false, slice_index_or, slice_range};
-ghost use Rattle.sw_rows.specs.declared.refusal.Refusal.{Refusal};
+ghost use Rattle.sw_query.specs.declared.refusal.Refusal.{Refusal};
 ghost use Rattle.sw_table.specs.declared.row.Row.{Row};
 ghost use Rattle.sw_kernel.specs.Replay.{Step};
 ghost use Rattle.sw_kernel.specs.Arrangement.{joined};
@@ -11,7 +11,7 @@ ghost use Rattle.sw_map.specs.Held.{Held, blank, begun, after, pairs_in, place_o
 ghost use Rattle.sw_map.specs.Refusals.{HasBegunOr, HasGrownOr, HasReplayedOr};
 
 use crate::tail::Tail;
-use sw_rows::{Bound, Refusal};
+use sw_query::{Bound, Refusal};
 use sw_tape::Entry;
 
 /// A two-column table that replays the tape of an area. Contracts see what it holds.

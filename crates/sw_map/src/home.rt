@@ -10,7 +10,7 @@ use crate::pairs::{Lists, Pairs};
 use crate::tail::Tail;
 use std::alloc::Global;
 use sw_budget::{Lease, Purse};
-use sw_rows::Refusal;
+use sw_query::Refusal;
 
 /// A purse while the map is blank, with lists after a reset, else a lease and pairs.
 #[derive(Drop)]

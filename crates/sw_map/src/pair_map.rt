@@ -10,7 +10,7 @@ use crate::tail::Tail;
 use core::mem::replace_with;
 use std::alloc::Global;
 use sw_budget::Purse;
-use sw_rows::{Bound, Refusal};
+use sw_query::{Bound, Refusal};
 use sw_tape::Entry;
 
 /// A map of two flat lists and marks. It has a purse while it is blank and a lease while it is in use; its drop gives the

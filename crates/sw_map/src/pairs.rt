@@ -1,9 +1,9 @@
 //! Pairs of head and tail as two flat lists and marks.
 
 ghost use Rattle.std.specs.Prelude.{◌≡◌, ◌+◌, ◌++◌, ◌<◌, ◌≤◌, ◌^◌, All, IsOk, MatchResult, length, map, pos, slice_index_or, slice_range, vec_capacity, vec_len, []};
-ghost use Rattle.sw_rows.specs.declared.refusal.Refusal.TheVariants.{NoMemory};
+ghost use Rattle.sw_query.specs.declared.refusal.Refusal.TheVariants.{NoMemory};
 ghost use Rattle.sw_table.specs.declared.row.Row.{Row};
-ghost use Rattle.sw_rows.specs.Scan.{cell_of};
+ghost use Rattle.sw_query.specs.Scan.{cell_of};
 ghost use Rattle.sw_kernel.specs.Arrangement.{joined, last};
 ghost use Rattle.sw_kernel.specs.Replay.{inserted, loaded, ranged, removed, shown_step};
 ghost use Rattle.sw_tape.specs.Entries.{step_of};
@@ -17,7 +17,7 @@ use crate::tail::Tail;
 use std::alloc::Global;
 use std::marker::Model;
 use sw_kernel::{Mark, ripple_in, ripple_out};
-use sw_rows::{Bound, Refusal, Row};
+use sw_query::{Bound, Refusal, Row};
 use sw_table::PackedRows;
 use sw_tape::Entry;
 

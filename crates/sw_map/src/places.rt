@@ -7,7 +7,7 @@ ghost use Rattle.sw_kernel.specs.Tapes.{IsRising};
 ghost use Rattle.sw_map.specs.Pieces.{IsBefore, bounds_of, mark_of};
 
 use sw_kernel::Mark;
-use sw_rows::Bound;
+use sw_query::Bound;
 
 /// How many marks do not stand above the bound.
 pub(crate) fn marks_below(marks: &[Mark], bound: Bound) -> usize

@@ -5,10 +5,10 @@ use Rattle.std.specs.Option.{IfSome}
 use Rattle.std.proofs.lemmas.List.Elements.{All-cons, All-from_recursion, All-nil, recursion_from_All}
 use Rattle.std.proofs.lemmas.Option.{same_Some}
 use Rattle.sw_lang.specs.Replies.{reply_lines}
-use Rattle.sw_rows.specs.Scan.{meets_all}
-use Rattle.sw_rows.specs.declared.query.Call.{Call}
-use Rattle.sw_rows.specs.declared.query.Call.TheVariants as call
-use Rattle.sw_rows.specs.declared.reply.Reply.{Reply}
+use Rattle.sw_query.specs.Scan.{meets_all}
+use Rattle.sw_query.specs.declared.query.Call.{Call}
+use Rattle.sw_query.specs.declared.query.Call.TheVariants as call
+use Rattle.sw_query.specs.declared.reply.Reply.{Reply}
 use Rattle.sw_spine.specs.Table.{inserts, opened, reply_to, row, updates_then}
 use Rattle.sw_spine.proofs.Rising.{AreRising}
 use Rattle.sw_table.specs.Updates.{rows_of}

@@ -4,11 +4,11 @@ use Rattle.std.specs.Prelude.{◌≡◌, ℕ, ℤ, pos, true, false, List, [], �
 use Rattle.std.proofs.Common.{◌∙◌, ap, sym, arith, get_or}
 use Rattle.std.specs.Fmt.{digits}
 use Rattle.std.proofs.lemmas.List.Elements.{All-from_recursion, All-head}
-use Rattle.sw_rows.specs.declared.bound.Bound.TheVariants as bound
-use Rattle.sw_rows.specs.declared.query.Call.{Call}
-use Rattle.sw_rows.specs.declared.query.Call.TheVariants as call
-use Rattle.sw_rows.specs.declared.query.Cond.{Cond}
-use Rattle.sw_rows.specs.declared.query.Want.TheVariants as want
+use Rattle.sw_query.specs.declared.bound.Bound.TheVariants as bound
+use Rattle.sw_query.specs.declared.query.Call.{Call}
+use Rattle.sw_query.specs.declared.query.Call.TheVariants as call
+use Rattle.sw_query.specs.declared.query.Cond.{Cond}
+use Rattle.sw_query.specs.declared.query.Want.TheVariants as want
 use Rattle.sw_spine.specs.Table.{opened, row, updates_then}
 use Rattle.sw_table.specs.declared.row.Update.{Update}
 use Rattle.sw_logs.specs.declared.logged.Logged.{Logged}

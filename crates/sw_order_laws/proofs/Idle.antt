@@ -7,11 +7,11 @@ use Rattle.std.proofs.lemmas.List.{append-nil, append_cancel_left, append_cancel
 use Rattle.std.proofs.lemmas.Grind.{common_steps}
 use Rattle.sw_lang.specs.Replies.{removed_line, reply_lines}
 use Rattle.sw_rows.specs.Header.{Column}
-use Rattle.sw_rows.specs.Scan.{matching, meets_all}
-use Rattle.sw_rows.specs.declared.query.Call.{Call}
-use Rattle.sw_rows.specs.declared.query.Cond.{Cond}
-use Rattle.sw_rows.specs.declared.query.Call.TheVariants as call
-use Rattle.sw_rows.specs.declared.reply.Reply.TheVariants as reply
+use Rattle.sw_query.specs.Scan.{matching, meets_all}
+use Rattle.sw_query.specs.declared.query.Call.{Call}
+use Rattle.sw_query.specs.declared.query.Cond.{Cond}
+use Rattle.sw_query.specs.declared.query.Call.TheVariants as call
+use Rattle.sw_query.specs.declared.reply.Reply.TheVariants as reply
 use Rattle.sw_spine.specs.Table.{inserts, removals, reply_to, row, update_by, updates_then}
 use Rattle.sw_spine.proofs.StoreLemmas.{inserts_insert, inserts_remove, inserts_removals, removals_keys}
 use Rattle.sw_table.specs.Live.{key_of}

@@ -5,7 +5,7 @@ use Rattle.std.specs.Option.{IfSome}
 use Rattle.std.proofs.lemmas.Option.{same_Some}
 use Rattle.sw_lang.specs.Replies.{reply_lines}
 use Rattle.sw_rows.specs.Header.{Column}
-use Rattle.sw_rows.specs.declared.query.Call.{Call}
+use Rattle.sw_query.specs.declared.query.Call.{Call}
 use Rattle.sw_spine.specs.History.{Agrees, AllAgree, entry}
 use Rattle.sw_spine.specs.Table.{reply_to, updates_then}
 use Rattle.sw_spine.specs.declared.history.Entry.{Entry}

@@ -6,9 +6,9 @@ use Rattle.std.specs.Fmt.{digits}
 use Rattle.std.specs.List.{slice_get}
 use Rattle.std.proofs.lemmas.Option.{same_Some}
 use Rattle.sw_rows.specs.Domains as kind
-use Rattle.sw_rows.specs.declared.bound.Bound.TheVariants as bound
-use Rattle.sw_rows.specs.declared.query.Call.TheVariants as call
-use Rattle.sw_rows.specs.declared.query.Want.TheVariants as want
+use Rattle.sw_query.specs.declared.bound.Bound.TheVariants as bound
+use Rattle.sw_query.specs.declared.query.Call.TheVariants as call
+use Rattle.sw_query.specs.declared.query.Want.TheVariants as want
 use Rattle.sw_spine.specs.Table.{row}
 use Rattle.sw_logs.specs.Openings.{IsOpening}
 use Rattle.sw_logs.specs.Orders.{IsOrderFound, is_known}

@@ -1,8 +1,8 @@
 -- Calls that do not bear on one another.
 use Rattle.std.specs.Prelude.{◌≡◌, ◌+◌, ◌==◌, ◌&&◌, if◌then◌else◌, ℕ, Bool, true, false, List, [], ◌∷◌, All, IfSome, filter, slice_get}
-use Rattle.sw_rows.specs.Scan.{matching, meets_all}
-use Rattle.sw_rows.specs.declared.query.Call.{Call}
-use Rattle.sw_rows.specs.declared.query.Call.TheVariants as call
+use Rattle.sw_query.specs.Scan.{matching, meets_all}
+use Rattle.sw_query.specs.declared.query.Call.{Call}
+use Rattle.sw_query.specs.declared.query.Call.TheVariants as call
 use Rattle.sw_spine.specs.Table.{inserts, row}
 use Rattle.sw_table.specs.Updates.{rows_of}
 use Rattle.sw_table.specs.declared.row.Row.{Row}

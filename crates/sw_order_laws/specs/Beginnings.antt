@@ -3,8 +3,8 @@
 use Rattle.std.specs.Prelude.{◌≡◌, ◌≢◌, ◌↔◌, ◌<◌, ◌≤◌, ◌+◌, ◌++◌, ℕ, true, List, [], ◌∷◌, Option, Some, None, IfSome, codes, slice_get}
 use Rattle.sw_lang.specs.Replies.{removed_line, reply_lines}
 use Rattle.sw_rows.specs.Header.{Column}
-use Rattle.sw_rows.specs.declared.query.Call.{Call}
-use Rattle.sw_rows.specs.declared.query.Call.TheVariants as call
+use Rattle.sw_query.specs.declared.query.Call.{Call}
+use Rattle.sw_query.specs.declared.query.Call.TheVariants as call
 use Rattle.sw_spine.specs.History.{History, IsLegal}
 use Rattle.sw_spine.specs.Table.{inserts, opened, reply_to, update_by, updates_then}
 use Rattle.sw_table.specs.Updates.{rows_of}

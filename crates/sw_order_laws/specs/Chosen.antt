@@ -1,7 +1,7 @@
 -- Calls of which one has to be placed next, and what a search has tried.
 use Rattle.std.specs.Prelude.{◌≡◌, ◌≢◌, ◌<◌, ◌++◌, ◌&&◌, ℕ, true, false, List, [], ◌∷◌, IfSome, Some, slice_get}
-use Rattle.sw_rows.specs.declared.query.Call.{Call}
-use Rattle.sw_rows.specs.declared.query.Call.TheVariants as call
+use Rattle.sw_query.specs.declared.query.Call.{Call}
+use Rattle.sw_query.specs.declared.query.Call.TheVariants as call
 use Rattle.sw_spine.specs.Table.{inserts, row}
 use Rattle.sw_table.specs.declared.row.Update.{Update}
 use Rattle.sw_logs.specs.Orders.{is_known}

@@ -2,7 +2,7 @@
 use Rattle.std.specs.Prelude.{◌≡◌, ◌++◌, ℕ, true, false, List, [], ◌∷◌, Some, slice_get}
 use Rattle.sw_spine.specs.History.{History}
 use Rattle.sw_spine.specs.Table.{update_by}
-use Rattle.sw_rows.specs.declared.query.Call.{Call}
+use Rattle.sw_query.specs.declared.query.Call.{Call}
 use Rattle.sw_table.specs.declared.row.Row.{Row}
 use Rattle.sw_logs.specs.Openings.{IsOpening}
 use Rattle.sw_logs.specs.Orders.{IsOrderFound, is_known}

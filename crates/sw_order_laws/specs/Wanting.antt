@@ -2,11 +2,11 @@
 use Rattle.std.specs.Prelude.{◌≡◌, ℕ, Bool, false, List, Option, Some, None, IfSome, filter, length}
 use Rattle.sw_lang.specs.Replies.{reply_lines}
 use Rattle.sw_rows.specs.Header.{Column}
-use Rattle.sw_rows.specs.Scan.{answer_over}
-use Rattle.sw_rows.specs.declared.query.Call.{Call}
-use Rattle.sw_rows.specs.declared.query.Call.TheVariants as call
-use Rattle.sw_rows.specs.declared.reply.Reply.{Reply}
-use Rattle.sw_rows.specs.declared.reply.Reply.TheVariants as reply
+use Rattle.sw_query.specs.Scan.{answer_over}
+use Rattle.sw_query.specs.declared.query.Call.{Call}
+use Rattle.sw_query.specs.declared.query.Call.TheVariants as call
+use Rattle.sw_query.specs.declared.reply.Reply.{Reply}
+use Rattle.sw_query.specs.declared.reply.Reply.TheVariants as reply
 use Rattle.sw_spine.specs.Table.{inserts}
 use Rattle.sw_table.specs.Updates.{rows_of}
 use Rattle.sw_table.specs.declared.row.Row.{Row}

@@ -8,16 +8,16 @@ use Rattle.sw_rows.specs.Cells.{cell_value, magnitude}
 use Rattle.sw_rows.specs.Domains.{Domain, IsDomain}
 use Rattle.sw_rows.specs.Domains as kind
 use Rattle.sw_rows.specs.Header.{Column}
-use Rattle.sw_rows.specs.Replies.{reply_row}
+use Rattle.sw_query.specs.Replies.{reply_row}
 use Rattle.sw_rows.specs.Texts.{code_of, is_text}
-use Rattle.sw_rows.specs.declared.query.Cond.{Cond}
-use Rattle.sw_rows.specs.declared.query.Call.{Call}
-use Rattle.sw_rows.specs.declared.query.Call.TheVariants as call
-use Rattle.sw_rows.specs.declared.query.Want.{Want}
-use Rattle.sw_rows.specs.declared.query.Want.TheVariants as want
-use Rattle.sw_rows.specs.declared.reply.Reply.{Reply}
-use Rattle.sw_rows.specs.declared.reply.Reply.TheVariants as reply
-use Rattle.sw_rows.specs.declared.reply.ReplyRow.{ReplyRow}
+use Rattle.sw_query.specs.declared.query.Cond.{Cond}
+use Rattle.sw_query.specs.declared.query.Call.{Call}
+use Rattle.sw_query.specs.declared.query.Call.TheVariants as call
+use Rattle.sw_query.specs.declared.query.Want.{Want}
+use Rattle.sw_query.specs.declared.query.Want.TheVariants as want
+use Rattle.sw_query.specs.declared.reply.Reply.{Reply}
+use Rattle.sw_query.specs.declared.reply.Reply.TheVariants as reply
+use Rattle.sw_query.specs.declared.reply.ReplyRow.{ReplyRow}
 use Rattle.sw_lang.specs.PrintedCalls.{name_at}
 use Rattle.sw_lang.specs.Replies.{kind_at, sum_text}
 use Rattle.sw_outputs.specs.CsvReading.{ValuesAreReadBack, answer_read, cells_read, optional_read, records_in, row_read, rows_read, sum_read}

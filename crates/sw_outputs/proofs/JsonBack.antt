@@ -12,16 +12,16 @@ use Rattle.sw_rows.proofs.TextLaws.{code_there}
 use Rattle.sw_rows.specs.Domains.{Domain, IsDomain}
 use Rattle.sw_rows.specs.Domains as kind
 use Rattle.sw_rows.specs.Header.{Column, IsSchema, kinds_of}
-use Rattle.sw_rows.specs.Replies.{reply_row}
+use Rattle.sw_query.specs.Replies.{reply_row}
 use Rattle.sw_rows.specs.Texts.{code_of, text_at}
-use Rattle.sw_rows.specs.declared.query.Cond.{Cond}
-use Rattle.sw_rows.specs.declared.query.Call.{Call}
-use Rattle.sw_rows.specs.declared.query.Call.TheVariants as call
-use Rattle.sw_rows.specs.declared.query.Want.{Want}
-use Rattle.sw_rows.specs.declared.query.Want.TheVariants as want
-use Rattle.sw_rows.specs.declared.reply.Reply.{Reply}
-use Rattle.sw_rows.specs.declared.reply.Reply.TheVariants as reply
-use Rattle.sw_rows.specs.declared.reply.ReplyRow.{ReplyRow}
+use Rattle.sw_query.specs.declared.query.Cond.{Cond}
+use Rattle.sw_query.specs.declared.query.Call.{Call}
+use Rattle.sw_query.specs.declared.query.Call.TheVariants as call
+use Rattle.sw_query.specs.declared.query.Want.{Want}
+use Rattle.sw_query.specs.declared.query.Want.TheVariants as want
+use Rattle.sw_query.specs.declared.reply.Reply.{Reply}
+use Rattle.sw_query.specs.declared.reply.Reply.TheVariants as reply
+use Rattle.sw_query.specs.declared.reply.ReplyRow.{ReplyRow}
 use Rattle.sw_lang.specs.Replies.{kind_at, sum_text}
 use Rattle.sw_lang.specs.PrintedCalls.{call_text, name_at}
 use Rattle.sw_outputs.specs.JsonLines.{answer_json, cell_json, cells_json, count_json, extreme_json, line_json, list_json, name_json, names_json, one_json, reply_json, row_json, rows_json, scalar_json, text_shown, told_json, told_text}

@@ -21,14 +21,14 @@ use Rattle.sw_rows.specs.Header.{Column, IsSchema, holding, is_known, is_name, i
 use Rattle.sw_rows.specs.Spelling.{WriteCells, WriteColumns, WriteRows, WritesCell, WritesColumn, WritesHeader, WritesTable, kind_text}
 use Rattle.sw_rows.specs.Tables.{Table, padded, seeing, table_of, text_field, text_fields, texts_in}
 use Rattle.sw_rows.specs.TextRows.{Cell, cell_seen, cells_seen, row_seen, rows_seen, text_or}
-use Rattle.sw_rows.specs.Scan.{WantsBelow}
+use Rattle.sw_query.specs.Scan.{WantsBelow}
 use Rattle.sw_rows.specs.Texts.{AreTexts, code_of, has_text, is_text, text_at, text_of, with_texts}
 use Rattle.sw_rows.specs.declared.loading.TheConstants.{MOST_BYTES}
-use Rattle.sw_rows.specs.declared.query.Call.{Call}
-use Rattle.sw_rows.specs.declared.query.Call.TheVariants as call
-use Rattle.sw_rows.specs.declared.query.Want.{Want}
-use Rattle.sw_rows.specs.declared.query.Want.TheVariants as want
-use Rattle.sw_rows.specs.declared.reply.ReplyRow.{ReplyRow}
+use Rattle.sw_query.specs.declared.query.Call.{Call}
+use Rattle.sw_query.specs.declared.query.Call.TheVariants as call
+use Rattle.sw_query.specs.declared.query.Want.{Want}
+use Rattle.sw_query.specs.declared.query.Want.TheVariants as want
+use Rattle.sw_query.specs.declared.reply.ReplyRow.{ReplyRow}
 use Rattle.sw_rows.specs.declared.table.TheConstants.{MOST_ROWS}
 use Rattle.sw_table.specs.declared.row.Row.{Row}
 use Rattle.sw_lang.proofs.Knowing.{texts_known}

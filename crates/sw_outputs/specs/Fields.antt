@@ -6,10 +6,10 @@ use Rattle.sw_rows.specs.Domains.{Domain}
 use Rattle.sw_rows.specs.Domains as kind
 use Rattle.sw_rows.specs.Header.{Column}
 use Rattle.sw_rows.specs.Spelling.{kind_text}
-use Rattle.sw_rows.specs.declared.query.Call.{Call}
-use Rattle.sw_rows.specs.declared.reply.Reply.{Reply}
-use Rattle.sw_rows.specs.declared.reply.Reply.TheVariants as reply
-use Rattle.sw_rows.specs.declared.reply.ReplyRow.{ReplyRow}
+use Rattle.sw_query.specs.declared.query.Call.{Call}
+use Rattle.sw_query.specs.declared.reply.Reply.{Reply}
+use Rattle.sw_query.specs.declared.reply.Reply.TheVariants as reply
+use Rattle.sw_query.specs.declared.reply.ReplyRow.{ReplyRow}
 use Rattle.sw_lang.specs.PrintedCalls.{name_at}
 use Rattle.sw_lang.specs.Replies.{cell_text, kind_at, sum_text}
 use Rattle.sw_outputs.specs.JsonLines.{attrs_shown, called_word, cell_json, kind_called, text_shown}

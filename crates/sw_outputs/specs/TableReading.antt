@@ -5,8 +5,8 @@ use Rattle.sw_rows.specs.Header.{Column, IsSchema, kinds_of, names_of}
 use Rattle.sw_rows.specs.Tables.{Table, table_of}
 use Rattle.sw_rows.specs.TextRows.{Cell, RowSeen, cells_seen, rows_seen}
 use Rattle.sw_rows.specs.declared.loading.TheConstants.{MOST_BYTES}
-use Rattle.sw_rows.specs.declared.query.Call.{Call}
-use Rattle.sw_rows.specs.declared.reply.ReplyRow.{ReplyRow}
+use Rattle.sw_query.specs.declared.query.Call.{Call}
+use Rattle.sw_query.specs.declared.reply.ReplyRow.{ReplyRow}
 use Rattle.sw_rows.specs.declared.table.TheConstants.{MOST_ROWS}
 use Rattle.sw_lang.specs.Fits.{FitsCall}
 use Rattle.sw_lang.specs.PrintedCalls.{name_at}

@@ -3,9 +3,9 @@
 //! The functions here do nothing. Their contracts are the examples, and the check computes them.
 
 ghost use Rattle.std.specs.Prelude.{◌≡◌, [], None, Some, codes, negsuc, pos};
-ghost use Rattle.sw_rows.specs.declared.query.Call.TheVariants.{Delete, DeleteWhere, Insert};
-ghost use Rattle.sw_rows.specs.declared.query.Want.TheVariants.{Count, Max, Min, Sum};
-ghost use Rattle.sw_rows.specs.declared.reply.Reply.TheVariants as reply;
+ghost use Rattle.sw_query.specs.declared.query.Call.TheVariants.{Delete, DeleteWhere, Insert};
+ghost use Rattle.sw_query.specs.declared.query.Want.TheVariants.{Count, Max, Min, Sum};
+ghost use Rattle.sw_query.specs.declared.reply.Reply.TheVariants as reply;
 ghost use Rattle.sw_lang.specs.PrintedExamples.{asking};
 ghost use Rattle.sw_outputs.specs.Fields.{table_text};
 ghost use Rattle.sw_outputs.specs.JsonLines.{reply_json};

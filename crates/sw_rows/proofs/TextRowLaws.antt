@@ -5,21 +5,21 @@ use Rattle.std.proofs.lemmas.List.{length-map}
 use Rattle.std.proofs.lemmas.Option.{same_Some}
 use Rattle.std.proofs.lemmas.Slice.Eq.{bytes_eq-Decides}
 use Rattle.std.specs.Bool.{Decides}
-use Rattle.sw_rows.specs.Bounds.{is_within}
+use Rattle.sw_query.specs.Bounds.{is_within}
 use Rattle.sw_rows.specs.Domains.{Domain, IsDomain, IsOver, is_of_texts, over, under}
 use Rattle.sw_rows.specs.Domains as kind
 use Rattle.sw_rows.specs.Header.{Column, IsSchema, holding, kinds_of, texts_of}
-use Rattle.sw_rows.specs.Scan.{WantsBelow, answer, answer_over, cell_of, column, greatest, least, matching, meets, meets_all, projected, shown_cells, total}
+use Rattle.sw_query.specs.Scan.{WantsBelow, answer, answer_over, cell_of, column, greatest, least, matching, meets, meets_all, projected, shown_cells, total}
 use Rattle.sw_rows.specs.Spelling.{WriteCells, WriteRows, WritesCell}
 use Rattle.sw_rows.specs.Tables.{Table, padded, row_of, table_of}
 use Rattle.sw_rows.specs.TextRows.{AreCoded, AsksOfTexts, IsCoded, IsRowCoded, IsTextCond, RowSeen, SumsNumbers, answer_over_seen, answer_seen, as_list, cell_in, cell_seen, cells_seen, cond_seen, conds_seen, domain_at, domains_shown, equals, matching_seen, meets_all_seen, meets_seen, named_by, number, number_in, numbers, passes, plain, projected_seen, reply_seen, row_seen, rows, rows_seen, shown_seen, test_seen, text_or}
 use Rattle.sw_rows.specs.Texts.{code_of, text_at, text_of, texts_differ, with_texts}
-use Rattle.sw_rows.specs.declared.bound.Bound.TheVariants as bound
-use Rattle.sw_rows.specs.declared.query.Cond.{Cond}
-use Rattle.sw_rows.specs.declared.query.Query.{Query}
-use Rattle.sw_rows.specs.declared.query.Want.{Want}
-use Rattle.sw_rows.specs.declared.query.Want.TheVariants as want
-use Rattle.sw_rows.specs.declared.reply.Reply.TheVariants as reply
+use Rattle.sw_query.specs.declared.bound.Bound.TheVariants as bound
+use Rattle.sw_query.specs.declared.query.Cond.{Cond}
+use Rattle.sw_query.specs.declared.query.Query.{Query}
+use Rattle.sw_query.specs.declared.query.Want.{Want}
+use Rattle.sw_query.specs.declared.query.Want.TheVariants as want
+use Rattle.sw_query.specs.declared.reply.Reply.TheVariants as reply
 use Rattle.sw_table.specs.declared.row.Row.{Row}
 use Rattle.sw_rows.proofs.TableSpelling.{table_spelled}
 use Rattle.sw_rows.proofs.TextLaws.{code_only, code_there, text_of_kept}

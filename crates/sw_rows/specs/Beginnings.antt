@@ -3,7 +3,7 @@ use Rattle.std.specs.Prelude.{◌≡◌, ◌++◌, ◌∷◌, ℕ, List, [], IfS
 use Rattle.sw_rows.specs.Gives.{Fails}
 use Rattle.sw_rows.specs.Header.{Column}
 use Rattle.sw_rows.specs.Tables.{table_seeing}
-use Rattle.sw_rows.specs.declared.refusal.Refusal.{Refusal}
+use Rattle.sw_query.specs.declared.refusal.Refusal.{Refusal}
 
 abbrev Fields : Type 0
 Fields = List (List ℕ)

@@ -7,7 +7,7 @@ use Rattle.sw_rows.specs.Gives.{Gives, Fails}
 use Rattle.sw_rows.specs.Header.{Column, Fault, bad_table, kinds_of, too_many, header_of}
 use Rattle.sw_rows.specs.Tables.{◌>>=◌, rows_after, texts_in}
 use Rattle.sw_rows.specs.Texts.{code_of, with_texts}
-use Rattle.sw_rows.specs.declared.refusal.Refusal.{Refusal}
+use Rattle.sw_query.specs.declared.refusal.Refusal.{Refusal}
 use Rattle.sw_rows.specs.declared.table.TheConstants.{MOST_ROWS}
 use Rattle.sw_rows.specs.declared.text_parts.Part.{Part}
 use Rattle.sw_table.specs.Exchanged.{exchanged}

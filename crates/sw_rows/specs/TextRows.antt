@@ -1,21 +1,21 @@
 -- Answers over texts: rows as they are seen, whose cells of texts are the texts themselves.
 use Rattle.std.specs.Prelude.{◌≡◌, ◌<◌, ◌++◌, ◌∷◌, [], ℕ, ℤ, pos, Bool, false, List, All, map, filter, length, get_or, bytes_eq, int_lt, Option, None, Some, IsSome}
 use Rattle.std.specs.List.{list_all}
-use Rattle.sw_rows.specs.Bounds.{is_within}
+use Rattle.sw_query.specs.Bounds.{is_within}
 use Rattle.sw_rows.specs.Domains.{Domain, is_of_texts}
 use Rattle.sw_rows.specs.Domains as kind
 use Rattle.sw_rows.specs.Header.{Column, kinds_of, knowing}
-use Rattle.sw_rows.specs.Scan.{AsksBelow, cell_of, greatest, least, total, answer, matching, meets}
+use Rattle.sw_query.specs.Scan.{AsksBelow, cell_of, greatest, least, total, answer, matching, meets}
 use Rattle.sw_rows.specs.Texts.{text_at}
-use Rattle.sw_rows.specs.declared.bound.Bound.{Bound}
-use Rattle.sw_rows.specs.declared.bound.Bound.TheVariants as bound
-use Rattle.sw_rows.specs.declared.query.Cond.{Cond}
-use Rattle.sw_rows.specs.declared.query.Query.{Query}
-use Rattle.sw_rows.specs.declared.query.Want.{Want}
-use Rattle.sw_rows.specs.declared.query.Want.TheVariants as want
-use Rattle.sw_rows.specs.declared.reply.Reply.{Reply}
-use Rattle.sw_rows.specs.declared.reply.Reply.TheVariants as reply
-use Rattle.sw_rows.specs.declared.reply.ReplyRow.{ReplyRow}
+use Rattle.sw_query.specs.declared.bound.Bound.{Bound}
+use Rattle.sw_query.specs.declared.bound.Bound.TheVariants as bound
+use Rattle.sw_query.specs.declared.query.Cond.{Cond}
+use Rattle.sw_query.specs.declared.query.Query.{Query}
+use Rattle.sw_query.specs.declared.query.Want.{Want}
+use Rattle.sw_query.specs.declared.query.Want.TheVariants as want
+use Rattle.sw_query.specs.declared.reply.Reply.{Reply}
+use Rattle.sw_query.specs.declared.reply.Reply.TheVariants as reply
+use Rattle.sw_query.specs.declared.reply.ReplyRow.{ReplyRow}
 use Rattle.sw_table.specs.declared.row.Row.{Row}
 
 -- ---- rows

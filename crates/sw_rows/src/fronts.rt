@@ -9,7 +9,7 @@ ghost use Rattle.sw_rows.specs.Tables.{table_in};
 
 use crate::parts::{feed_at, has_no_quote};
 use crate::records;
-use crate::refusal::Refusal;
+use sw_query::Refusal;
 use crate::schema::{Columns, read_header};
 use crate::table::{MOST_ROWS, read_rows};
 use crate::text_key::TextKey;

@@ -6,7 +6,7 @@ ghost use Rattle.sw_rows.specs.Gives.{Raised, TellsSource};
 ghost use Rattle.sw_rows.specs.Tables.{IsAllRead, IsLoaded, shown_packed, table_of};
 
 use crate::parts::read_table_in_parts;
-use crate::refusal::Refusal;
+use sw_query::Refusal;
 use crate::schema::Schema;
 use crate::source::Source;
 use crate::table::read_table;

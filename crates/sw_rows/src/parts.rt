@@ -13,7 +13,7 @@ ghost use Rattle.sw_table.specs.declared.row.Row.{Row};
 
 use crate::fronts::long_at;
 use crate::records;
-use crate::refusal::Refusal;
+use sw_query::Refusal;
 use crate::schema::{Columns, Schema, read_header};
 use crate::table::{MOST_ROWS, read_long, read_rows, read_whole};
 use crate::text_key::TextKey;

@@ -17,7 +17,7 @@ use crate::cell::read_cell_bytes;
 use crate::fronts::{long_at, refused_at};
 use crate::kind::Kind;
 use crate::records;
-use crate::refusal::Refusal;
+use sw_query::Refusal;
 use crate::schema::{Columns, Fields, Schema, read_header};
 use crate::text_key::TextKey;
 use crate::texts::{Texts, cell_of, read_text};

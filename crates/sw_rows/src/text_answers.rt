@@ -6,16 +6,16 @@ ghost use Rattle.std.specs.Prelude.{◌≡◌, ◌<◌, ◌∷◌, [], ℕ, List
 ghost use Rattle.sw_rows.specs.Domains as kind;
 ghost use Rattle.sw_rows.specs.Examples.{asking, city_bytes, city_columns, city_rows, city_rows_seen, coded, in_city, two_cities, coded_from_two, counted_in, seen_city, seen_from_two, showing};
 ghost use Rattle.sw_rows.specs.Header.{Column, IsSchema, kinds_of};
-ghost use Rattle.sw_rows.specs.Scan.{answer};
+ghost use Rattle.sw_query.specs.Scan.{answer};
 ghost use Rattle.sw_rows.specs.Tables.{Table, table_of};
 ghost use Rattle.sw_rows.specs.TextRows as seen;
 ghost use Rattle.sw_rows.specs.TextRows.{AreCoded, cell_seen, cond_seen, rows_seen, AnswerOverTexts, MatchingOverTexts, MeetsOverTexts, StayCoded, StaySeen};
-ghost use Rattle.sw_rows.specs.declared.query.Cond.{Cond};
-ghost use Rattle.sw_rows.specs.declared.query.Query.{Query};
+ghost use Rattle.sw_query.specs.declared.query.Cond.{Cond};
+ghost use Rattle.sw_query.specs.declared.query.Query.{Query};
 ghost use Rattle.sw_table.specs.declared.row.Row.{Row};
 
-use crate::query::Want;
-use crate::reply::Reply;
+use sw_query::Want;
+use sw_query::Reply;
 
 /// A row of codes meets a condition just where the row of its texts meets the condition on texts.
 ///

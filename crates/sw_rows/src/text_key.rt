@@ -2,7 +2,7 @@
 
 ghost use Rattle.std.specs.Prelude.{IsOkUnless};
 
-use crate::refusal::Refusal;
+use sw_query::Refusal;
 use std::hash::{BuildHasher, DefaultHasher, RandomState};
 use std::random::RandomSource;
 

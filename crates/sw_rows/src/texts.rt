@@ -7,7 +7,7 @@ ghost use Rattle.sw_rows.specs.Header.{too_many};
 ghost use Rattle.sw_rows.specs.Texts.{code_given, code_of, has_text, is_text, is_text_byte, text_of, with_text, AreTexts};
 ghost use Rattle.sw_rows.specs.declared.texts.TheConstants.{MOST_TEXTS};
 
-use crate::refusal::Refusal;
+use sw_query::Refusal;
 use crate::text_key::TextKey;
 use indexmap::IndexSet;
 use std::alloc::Global;

@@ -1,7 +1,7 @@
 -- What becomes of an area's boxes: which may be taken, and which are made, grown, cleared or dropped.
 use Rattle.std.specs.Prelude.{◌≡◌, ◌≢◌, ◌≤◌, ◌<◌, ◌+◌, ◌⊎◌, ℕ, Bool, false, List, ◌++◌, length, slice_index_or, slice_set, Result, Option, Some, None, All, Any, Contains, IsPermutation}
-use Rattle.sw_rows.specs.declared.bound.Bound.{Bound}
-use Rattle.sw_rows.specs.declared.refusal.Refusal.{Refusal}
+use Rattle.sw_query.specs.declared.bound.Bound.{Bound}
+use Rattle.sw_query.specs.declared.refusal.Refusal.{Refusal}
 use Rattle.sw_map.specs.declared.tail.Tail.{Tail}
 use Rattle.sw_map.specs.Held.{Held, blank, place_of}
 use Rattle.sw_map.specs.Refusals.{HasGrownOr}

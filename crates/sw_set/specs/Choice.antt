@@ -1,12 +1,12 @@
 -- Columns of maps, the range of places that qualifies, and what truth values choose of it.
 use Rattle.std.specs.Prelude.{◌≡◌, ◌≢◌, ◌≤◌, ◌<◌, ◌+◌, ◌-◌, ◌*◌, ◌^◌, ◌≤ℤ◌, ◌&&◌, ℕ, suc, ℤ, pos, neg_ℤ, Bool, true, false, List, [], ◌∷◌, length, map, take, drop, get_or, slice_index_or, slice_range, count_by, unsigned_abs, Option, None, Some, All, Any}
-use Rattle.sw_rows.specs.declared.query.Cond.{Cond}
-use Rattle.sw_rows.specs.declared.query.Want.{Want}
-use Rattle.sw_rows.specs.declared.query.Want.TheVariants as want
-use Rattle.sw_rows.specs.declared.reply.ReplyRow.{ReplyRow}
+use Rattle.sw_query.specs.declared.query.Cond.{Cond}
+use Rattle.sw_query.specs.declared.query.Want.{Want}
+use Rattle.sw_query.specs.declared.query.Want.TheVariants as want
+use Rattle.sw_query.specs.declared.reply.ReplyRow.{ReplyRow}
 use Rattle.sw_table.specs.declared.row.Row.{Row}
-use Rattle.sw_rows.specs.Bounds.{is_within}
-use Rattle.sw_rows.specs.Scan.{column, meets}
+use Rattle.sw_query.specs.Bounds.{is_within}
+use Rattle.sw_query.specs.Scan.{column, meets}
 use Rattle.sw_kernel.specs.Arrangement.{joined}
 use Rattle.sw_kernel.specs.Replay.{Step}
 use Rattle.sw_table.specs.Kept.{kept}

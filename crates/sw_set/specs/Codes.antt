@@ -2,8 +2,8 @@
 use Rattle.std.specs.Prelude.{◌≡◌, ℕ, ℤ, List, Option, ◌⊎◌, refl}
 use mathlib.Core.Logic.{inl, inr}
 use Rattle.std.specs.Coded.{Coded, code_by, coded×, coded⊎, coded_list, coded_option, coded_ℕ, coded_ℤ}
-use Rattle.sw_rows.specs.declared.bound.Bound.{Bound}
-use Rattle.sw_rows.specs.declared.bound.Bound.TheVariants.{Before, After}
+use Rattle.sw_query.specs.declared.bound.Bound.{Bound}
+use Rattle.sw_query.specs.declared.bound.Bound.TheVariants.{Before, After}
 use Rattle.sw_table.specs.declared.row.Row.{Row}
 use Rattle.sw_table.specs.declared.row.Update.{Update}
 use Rattle.sw_table.specs.declared.row.Update.TheVariants as update

@@ -1,16 +1,16 @@
 -- The reply from maps: of the rows that they show, those that are chosen, in key order.
 use Rattle.std.specs.Prelude.{◌≡◌, ℕ, Bool, List, map, Option, Result, IfOk, IsPermutation}
 use Rattle.std.specs.List.Sorted.{IsNonDecreasingBy}
-use Rattle.sw_rows.specs.declared.query.Cond.{Cond}
-use Rattle.sw_rows.specs.declared.query.Query.{Query}
-use Rattle.sw_rows.specs.declared.query.Want.{Want}
-use Rattle.sw_rows.specs.declared.query.Want.TheVariants as want
-use Rattle.sw_rows.specs.declared.refusal.Refusal.{Refusal}
-use Rattle.sw_rows.specs.declared.reply.Reply.{Reply}
-use Rattle.sw_rows.specs.declared.reply.Reply.TheVariants as reply
-use Rattle.sw_rows.specs.declared.reply.ReplyRow.{ReplyRow}
+use Rattle.sw_query.specs.declared.query.Cond.{Cond}
+use Rattle.sw_query.specs.declared.query.Query.{Query}
+use Rattle.sw_query.specs.declared.query.Want.{Want}
+use Rattle.sw_query.specs.declared.query.Want.TheVariants as want
+use Rattle.sw_query.specs.declared.refusal.Refusal.{Refusal}
+use Rattle.sw_query.specs.declared.reply.Reply.{Reply}
+use Rattle.sw_query.specs.declared.reply.Reply.TheVariants as reply
+use Rattle.sw_query.specs.declared.reply.ReplyRow.{ReplyRow}
 use Rattle.sw_table.specs.declared.row.Row.{Row}
-use Rattle.sw_rows.specs.Scan.{answer, answer_over, meets_all, projected}
+use Rattle.sw_query.specs.Scan.{answer, answer_over, meets_all, projected}
 use Rattle.sw_kernel.specs.Replay.{Step}
 use Rattle.sw_kernel.specs.Tapes.{HoldsOnce}
 use Rattle.sw_set.specs.Choice.{AreOf, chosen, further, range_rows}

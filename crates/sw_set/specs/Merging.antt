@@ -3,8 +3,8 @@ use Rattle.std.specs.Prelude.{◌≡◌, ◌<◌, ◌≤◌, ◌+◌, ◌-◌, �
 use Rattle.sw_table.specs.declared.row.Row.{Row}
 use Rattle.sw_table.specs.declared.row.Update.{Update}
 use Rattle.sw_table.specs.declared.row.Update.TheVariants as update
-use Rattle.sw_rows.specs.declared.refusal.Refusal.{Refusal}
-use Rattle.sw_rows.specs.declared.refusal.Refusal.TheVariants.{NoMemory}
+use Rattle.sw_query.specs.declared.refusal.Refusal.{Refusal}
+use Rattle.sw_query.specs.declared.refusal.Refusal.TheVariants.{NoMemory}
 use Rattle.sw_kernel.specs.Replay.{Step, inserted}
 use Rattle.sw_kernel.specs.Tapes.{brought}
 use Rattle.sw_map.specs.declared.tail.Tail.TheVariants.{Key}

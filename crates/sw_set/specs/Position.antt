@@ -1,8 +1,8 @@
 -- Where a row's pair stands in a map.
 use Rattle.std.specs.Prelude.{◌≡◌, ℕ, ℤ, List, Option, None, Some, Any}
-use Rattle.sw_rows.specs.declared.bound.Bound.{Bound}
+use Rattle.sw_query.specs.declared.bound.Bound.{Bound}
 use Rattle.sw_table.specs.declared.row.Row.{Row}
-use Rattle.sw_rows.specs.Scan.{cell_of}
+use Rattle.sw_query.specs.Scan.{cell_of}
 use Rattle.sw_kernel.specs.Replay.{Step}
 use Rattle.sw_map.specs.Held.{Held, place_of}
 use Rattle.sw_set.specs.Shelf.{logged_rows}

@@ -1,10 +1,10 @@
 -- What `prepare` makes of an area, and why it is refused.
 use Rattle.std.specs.Prelude.{◌≡◌, ◌<◌, ◌+◌, ◌-◌, ◌*◌, ◌/◌, ◌&&◌, ◌⊎◌, ℕ, Bool, true, false, max, List, [], ◌∷◌, ◌++◌, length, Option, Some, None, Result, IsErrAnd, Any, Contains}
-use Rattle.sw_rows.specs.declared.bound.Bound.{Bound}
+use Rattle.sw_query.specs.declared.bound.Bound.{Bound}
 use Rattle.sw_table.specs.declared.row.Row.{Row}
-use Rattle.sw_rows.specs.declared.query.Query.{Query}
-use Rattle.sw_rows.specs.declared.refusal.Refusal.{Refusal}
-use Rattle.sw_rows.specs.declared.refusal.Refusal.TheVariants.{Contended, NoBlank, Short}
+use Rattle.sw_query.specs.declared.query.Query.{Query}
+use Rattle.sw_query.specs.declared.refusal.Refusal.{Refusal}
+use Rattle.sw_query.specs.declared.refusal.Refusal.TheVariants.{Contended, NoBlank, Short}
 use Rattle.sw_kernel.specs.Arrangement.{Arrangement}
 use Rattle.sw_kernel.specs.Replay.{Step, loaded, ranged}
 use Rattle.sw_kernel.specs.Tapes.{is_marked, peak_from}

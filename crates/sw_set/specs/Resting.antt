@@ -1,6 +1,6 @@
 -- When an area is ready for a query as it stands, so that it is answered and nothing changes.
 use Rattle.std.specs.Prelude.{◌≡◌, true, [], Option, MatchOption}
-use Rattle.sw_rows.specs.declared.query.Query.{Query}
+use Rattle.sw_query.specs.declared.query.Query.{Query}
 use Rattle.sw_set.specs.Needs.{needed}
 use Rattle.sw_set.specs.Prepared.{StandReady, area_lower, area_upper, stand_both}
 use Rattle.sw_set.specs.Shelf.{AreaState}

@@ -5,8 +5,8 @@ use Rattle.sw_table.specs.declared.row.Row.{Row}
 use Rattle.sw_table.specs.declared.row.Update.{Update}
 use Rattle.sw_table.specs.declared.row.Update.TheVariants as update
 pub use Rattle.sw_table.specs.Live.{Rises, key_of}
-use Rattle.sw_rows.specs.Bounds.{is_within}
-use Rattle.sw_rows.specs.Scan.{cell_of}
+use Rattle.sw_query.specs.Bounds.{is_within}
+use Rattle.sw_query.specs.Scan.{cell_of}
 use Rattle.sw_table.specs.Updates.{has_key, rows_then}
 use Rattle.sw_kernel.specs.Arrangement.{joined}
 use Rattle.sw_kernel.specs.Replay.{Step, loaded}

@@ -1,7 +1,7 @@
 -- Which box is looked for among others, and what its map shows.
 use Rattle.std.specs.Prelude.{◌≡◌, ◌≢◌, ◌≤◌, ◌<◌, ℕ, ℤ, true, false, List, length, slice_index_or, Option, None, Some, Result, MatchOption, MatchResult, All, Any, Contains}
-use Rattle.sw_rows.specs.declared.bound.Bound.{Bound}
-use Rattle.sw_rows.specs.declared.refusal.Refusal.{Refusal}
+use Rattle.sw_query.specs.declared.bound.Bound.{Bound}
+use Rattle.sw_query.specs.declared.refusal.Refusal.{Refusal}
 use Rattle.sw_kernel.specs.Arrangement.{joined}
 use Rattle.sw_kernel.specs.Ripple.{origin}
 use Rattle.sw_map.specs.declared.tail.Tail.{Tail}

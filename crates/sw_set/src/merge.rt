@@ -4,7 +4,7 @@
 ghost use Rattle.std.specs.Prelude.{◌≡◌, ◌<◌, ◌≤◌, ◌+◌, [], true, false, length, drop, MatchResult, vec_capacity, vec_len};
 ghost use Rattle.sw_table.specs.declared.row.Update.TheVariants.{Insert, Remove};
 ghost use Rattle.sw_table.specs.Updates.{has_key};
-ghost use Rattle.sw_rows.specs.Gives.{IsRefused};
+ghost use Rattle.sw_query.specs.Outcomes.{IsRefused};
 ghost use Rattle.sw_map.specs.declared.tail.Tail.TheVariants.{Key};
 ghost use Rattle.sw_tape.specs.declared.tape.TheConstants.{MAX_ENTRIES};
 ghost use Rattle.sw_set.specs.Merged.{HasBegunWithInboxOr, HasMergedOr, IsRemovalLogged, IsSameShell, MergesByOneLoad, StandsForSame, removals_in};
@@ -18,7 +18,7 @@ pub(crate) mod position;
 
 use crate::area::Area;
 use sw_map::{CrackerMap, Tail};
-use sw_rows::{Refusal, Row, Update};
+use sw_query::{Refusal, Row, Update};
 use sw_tape::MAX_ENTRIES;
 
 /// The most removals that a merge takes up one by one. Where more wait, one load takes up all that waits.

@@ -2,8 +2,8 @@
 //! range's bounds are found.
 
 ghost use Rattle.std.specs.Prelude.{◌≡◌, ℕ, ◌<◌, ◌≤◌, ◌^◌, [], true, length, false, Contains, IfErr, IfOk, IfSome, IsOk, IsOkUnless};
-ghost use Rattle.sw_rows.specs.Scan.{AsksBelow, answer};
-ghost use Rattle.sw_rows.specs.declared.refusal.Refusal.TheVariants.{NoMemory};
+ghost use Rattle.sw_query.specs.Scan.{AsksBelow, answer};
+ghost use Rattle.sw_query.specs.declared.refusal.Refusal.TheVariants.{NoMemory};
 ghost use Rattle.sw_map.specs.declared.tail.Tail.TheVariants.{Key};
 ghost use Rattle.sw_set.specs.Needs.{head_in};
 ghost use Rattle.sw_set.specs.Prepared.{ComesFromMap, HasTooFew, IsHindered, IsOfBudget, IsPartlyNoted, IsPrepared, IsShort, IsTold, IsToldTooFew, StandReady, cells_asked, cells_for, is_touched, stand_both};
@@ -29,7 +29,7 @@ use crate::prepare::needs::{
 };
 use std::thread::Threads;
 use sw_map::{CrackerMap, Tail};
-use sw_rows::{Bound, Query, Refusal, Reply};
+use sw_query::{Bound, Query, Refusal, Reply};
 use sw_tape::{MAX_ENTRIES, Tape};
 
 /// Whether both bounds, where they are there, stand in ranges of the tape.

@@ -1,11 +1,11 @@
 //! The answer of a query from boxes that stand at the tape's end.
 
 ghost use Rattle.std.specs.Prelude.{◌≡◌, ◌<◌, ◌≤◌, [], map, length, All, IsOk, IsOkUnless};
-ghost use Rattle.sw_rows.specs.declared.refusal.Refusal.TheVariants.{NoMemory};
-ghost use Rattle.sw_rows.specs.Scan.{AsksBelow, CondsBelow, WantsBelow, TakesMemory, answer_over, meets_all};
+ghost use Rattle.sw_query.specs.declared.refusal.Refusal.TheVariants.{NoMemory};
+ghost use Rattle.sw_query.specs.Scan.{AsksBelow, CondsBelow, WantsBelow, TakesMemory, answer_over, meets_all};
 ghost use Rattle.sw_map.specs.Lawful.{IsLawful};
 ghost use Rattle.sw_set.specs.Needs.{head_in, needed};
-ghost use Rattle.sw_rows.specs.Gives.{MemoryAside};
+ghost use Rattle.sw_query.specs.Outcomes.{MemoryAside};
 ghost use Rattle.sw_set.specs.Prepared.{StandReady};
 ghost use Rattle.sw_set.specs.Choice.{AreFor, AreStocked, HasCells, HasWanted, IsRun, meets_first, range_rows, shown_rows};
 ghost use Rattle.sw_set.specs.Collected.{AnswersInOrder, AreOfFurther, IsListOf, IsReplyOver, chosen_rows};
@@ -23,7 +23,7 @@ use crate::reply::totals::{max, min, sum};
 use std::alloc::Global;
 use sw_bits::Bits;
 use sw_map::CrackerMap;
-use sw_rows::{Cond, Query, Refusal, Reply, ReplyRows, Want};
+use sw_query::{Cond, Query, Refusal, Reply, ReplyRows, Want};
 use sw_tape::Tape;
 
 /// Which rows of a range meet some conditions.

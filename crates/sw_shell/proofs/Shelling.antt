@@ -4,8 +4,8 @@ use Rattle.sw_rows.specs.Gives.{Raised}
 use Rattle.sw_rows.specs.Header.{Column}
 use Rattle.sw_table.specs.declared.row.Row.{Row}
 use Rattle.sw_spine.specs.History.{IsLegal}
-use Rattle.sw_rows.specs.declared.refusal.Refusal.{Refusal}
-use Rattle.sw_rows.specs.declared.refusal.Refusal.TheVariants as refusal
+use Rattle.sw_query.specs.declared.refusal.Refusal.{Refusal}
+use Rattle.sw_query.specs.declared.refusal.Refusal.TheVariants as refusal
 use Rattle.sw_cli.specs.Run.{Start, start_of}
 use Rattle.sw_cli.specs.Sides.{FailedInTurn, SourceFailed, SourceSeen, SpellTable, source_seen}
 use Rattle.sw_cli.specs.Starts.{IfBoth, ReadsFrom, ReadsStart, RefusedFrom, start_seen}

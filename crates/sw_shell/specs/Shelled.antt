@@ -1,7 +1,7 @@
 -- What a shell answers.
 use Rattle.std.specs.Prelude.{◌≡◌, ℕ, List, [], IfSome, Result, Ok, Err}
 use Rattle.sw_rows.specs.Header.{Column}
-use Rattle.sw_rows.specs.declared.refusal.Refusal.{Refusal}
+use Rattle.sw_query.specs.declared.refusal.Refusal.{Refusal}
 use Rattle.sw_table.specs.declared.row.Row.{Row}
 use Rattle.sw_cli.specs.Run.{Start, start_of}
 use Rattle.sw_cli.specs.Sides.{SourceFailed, SourceSeen}

@@ -3,7 +3,7 @@
 ghost use Rattle.std.specs.Prelude.{◌≡◌, ◌<◌, ◌≤◌, ◌∷◌, [], ℕ, true, length, All, IfOk, IsOkUnless, vec_capacity};
 ghost use Rattle.sw_map.specs.Held.{blank};
 ghost use Rattle.sw_lang.specs.Cuts.{AreCuts, cuts_on};
-ghost use Rattle.sw_rows.specs.declared.refusal.Refusal.TheVariants.{NoMemory};
+ghost use Rattle.sw_query.specs.declared.refusal.Refusal.TheVariants.{NoMemory};
 ghost use Rattle.sw_rows.specs.declared.table.TheConstants.{MOST_ROWS};
 ghost use Rattle.sw_spine.specs.History.{IsLegal};
 ghost use Rattle.sw_spine.specs.Table.{is_numbered};

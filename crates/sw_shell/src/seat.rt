@@ -5,7 +5,7 @@ ghost use Rattle.sw_cli.specs.Script.{call_of_line};
 ghost use Rattle.sw_cli.specs.Sides.{sink_by};
 ghost use Rattle.sw_lang.specs.Learning.{learned};
 ghost use Rattle.sw_lang.specs.Reading.{Answers};
-ghost use Rattle.sw_rows.specs.Scan.{AsksBelow};
+ghost use Rattle.sw_query.specs.Scan.{AsksBelow};
 ghost use Rattle.sw_spine.specs.History.{CallsBelow};
 ghost use Rattle.sw_shell.specs.Talks.{IsTold};
 
@@ -42,8 +42,8 @@ where
 {
     ghost use Rattle.std.specs.Prelude.{◌≡◌, ℕ, List, length};
     ghost use Rattle.sw_rows.specs.Header.{Column};
-    ghost use Rattle.sw_rows.specs.declared.query.Call.{Call};
-    ghost use Rattle.sw_rows.specs.declared.reply.Reply.{Reply};
+    ghost use Rattle.sw_query.specs.declared.query.Call.{Call};
+    ghost use Rattle.sw_query.specs.declared.reply.Reply.{Reply};
 
     ghost Value = { ℕ × List Column × List (Call × Reply) };
 

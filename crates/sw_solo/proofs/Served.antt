@@ -5,10 +5,10 @@ use Rattle.std.proofs.lemmas.List.{take-append-drop}
 use Rattle.std.proofs.Math.Seq.{take-length}
 use Rattle.sw_table.specs.declared.row.Row.{Row}
 use Rattle.sw_table.specs.declared.row.Update.{Update}
-use Rattle.sw_rows.specs.Scan.{AsksBelow, WantsBelow}
-use Rattle.sw_rows.specs.declared.query.Query.{Query}
-use Rattle.sw_rows.specs.declared.query.Want.{Want}
-use Rattle.sw_rows.specs.declared.query.Want.TheVariants as want
+use Rattle.sw_query.specs.Scan.{AsksBelow, WantsBelow}
+use Rattle.sw_query.specs.declared.query.Query.{Query}
+use Rattle.sw_query.specs.declared.query.Want.{Want}
+use Rattle.sw_query.specs.declared.query.Want.TheVariants as want
 use Rattle.sw_chunks.specs.Heads.{HeadState}
 use Rattle.sw_chunks.specs.Routing.{MayFollow}
 use Rattle.sw_spine.specs.Table.{opened}

@@ -1,8 +1,8 @@
 //! A head, once it is made, and what waits for it.
 
 ghost use Rattle.std.specs.Prelude.{◌≡◌, ◌<◌, ◌≤◌, ◌+◌, ◌^◌, ◌++◌, length, All, IfErr, IfOk, IfSome, IsOkUnless, IsSome, None, OnErr, OnOk};
-ghost use Rattle.sw_rows.specs.Scan.{AsksBelow, answer};
-ghost use Rattle.sw_rows.specs.declared.refusal.Refusal.TheVariants.{NoMemory};
+ghost use Rattle.sw_query.specs.Scan.{AsksBelow, answer};
+ghost use Rattle.sw_query.specs.declared.refusal.Refusal.TheVariants.{NoMemory};
 ghost use Rattle.sw_table.specs.Updates.{rows_of};
 ghost use Rattle.sw_table.specs.declared.row.Row.{Row};
 ghost use Rattle.sw_map.specs.Held.{blank};

@@ -7,10 +7,10 @@ use Rattle.std.proofs.lemmas.List.{append-nil, get_or-replicate, get_or-set_othe
 use Rattle.std.proofs.lemmas.List.Elements.{at_from_Contains}
 use Rattle.std.proofs.lemmas.List.FromFn.{length-range_with_len}
 use Rattle.std.proofs.lemmas.List.Folds.{list_all_at}
-use Rattle.sw_rows.specs.Bounds.{is_within}
-use Rattle.sw_rows.specs.Scan.{cell_of, column, matching, meets, meets_all}
-use Rattle.sw_rows.specs.declared.bound.Bound.{Bound}
-use Rattle.sw_rows.specs.declared.query.Cond.{Cond}
+use Rattle.sw_query.specs.Bounds.{is_within}
+use Rattle.sw_query.specs.Scan.{cell_of, column, matching, meets, meets_all}
+use Rattle.sw_query.specs.declared.bound.Bound.{Bound}
+use Rattle.sw_query.specs.declared.query.Cond.{Cond}
 use Rattle.sw_table.specs.Kept.{kept}
 use Rattle.sw_table.specs.Live.{Living, came_with, live_rows}
 use Rattle.sw_table.specs.declared.row.Row.{Row}

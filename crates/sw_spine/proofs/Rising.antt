@@ -3,10 +3,10 @@ use Rattle.std.proofs.Common.{◌≡◌, ◌<◌, ◌≤◌, ◌+◌, ◌++◌, 
 use Rattle.std.proofs.lemmas.Bool.Decides.{nat_tests}
 use Rattle.std.proofs.lemmas.List.{append-nil}
 use Rattle.std.specs.List.{AllByRecursion}
-use Rattle.sw_rows.specs.Scan.{matching, meets_all}
-use Rattle.sw_rows.specs.declared.query.Call.{Call}
-use Rattle.sw_rows.specs.declared.query.Cond.{Cond}
-use Rattle.sw_rows.specs.declared.query.Call.TheVariants as call
+use Rattle.sw_query.specs.Scan.{matching, meets_all}
+use Rattle.sw_query.specs.declared.query.Call.{Call}
+use Rattle.sw_query.specs.declared.query.Cond.{Cond}
+use Rattle.sw_query.specs.declared.query.Call.TheVariants as call
 use Rattle.sw_table.specs.Live.{Rises, key_of}
 use Rattle.sw_table.specs.Updates.{has_key, rows_of, without}
 use Rattle.sw_table.specs.declared.row.Row.{Row}

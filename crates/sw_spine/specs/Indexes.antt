@@ -1,10 +1,10 @@
 -- Places of rows by their cells.
 use Rattle.std.specs.Prelude.{◌≡◌, ◌≤◌, ◌<◌, ◌≤ℤ◌, ◌+◌, ◌++◌, ℕ, ℤ, List, [], ◌∷◌, Option, None, IfSome, IsPermutation, if◌then◌else◌, length, slice_index_or}
 use Rattle.std.specs.List.{AllByRecursion}
-use Rattle.sw_rows.specs.Bounds.{is_within}
-use Rattle.sw_rows.specs.Scan.{column, matching}
-use Rattle.sw_rows.specs.declared.bound.Bound.{Bound}
-use Rattle.sw_rows.specs.declared.query.Cond.{Cond}
+use Rattle.sw_query.specs.Bounds.{is_within}
+use Rattle.sw_query.specs.Scan.{column, matching}
+use Rattle.sw_query.specs.declared.bound.Bound.{Bound}
+use Rattle.sw_query.specs.declared.query.Cond.{Cond}
 use Rattle.sw_table.specs.Kept.{kept}
 use Rattle.sw_table.specs.Live.{Living, live_rows}
 use Rattle.sw_table.specs.declared.row.Row.{Row}

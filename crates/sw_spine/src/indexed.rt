@@ -1,7 +1,7 @@
 //! A table that keeps the places of rows by their cells, where they are asked for often.
 
 ghost use Rattle.std.specs.Prelude.{◌≡◌, ◌<◌, length, map, replicate, true, Contains, IfOk, IfSome, IsOkUnless, OnOk, OnErr};
-ghost use Rattle.sw_rows.specs.Scan.{AsksBelow, CondsBelow, answer, matching};
+ghost use Rattle.sw_query.specs.Scan.{AsksBelow, CondsBelow, answer, matching};
 ghost use Rattle.sw_table.specs.Live.{RisesFrom, all_live, came_with, key_of, live_rows};
 ghost use Rattle.sw_table.specs.Updates.{has_key, without};
 ghost use Rattle.sw_spine.specs.Indexes.{IsIndexOfFirst, MeetsMatching};

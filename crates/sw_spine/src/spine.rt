@@ -8,7 +8,7 @@ ghost use Rattle.sw_rows.specs.Gives.{Gives};
 ghost use Rattle.sw_rows.specs.Header.{has_texts, texts_of};
 ghost use Rattle.sw_rows.specs.Texts.{cell_given, is_text};
 ghost use Rattle.sw_spine.specs.Listed.{met};
-ghost use Rattle.sw_rows.specs.declared.query.Call.TheVariants.{Select, Insert, Delete, DeleteWhere};
+ghost use Rattle.sw_query.specs.declared.query.Call.TheVariants.{Select, Insert, Delete, DeleteWhere};
 ghost use Rattle.sw_spine.specs.Table.{inserted, is_numbered, removed, reply_to, updates_then};
 ghost use Rattle.sw_spine.specs.History.{CallsBelow, IsLegal, IsSound, all_given, is_absent, is_select, mine, open_place, settled};
 ghost use Rattle.sw_spine.specs.Receivable.{AreUpdates};

@@ -2,9 +2,9 @@
 use Rattle.std.proofs.Common.{◌≡◌, ◌≢◌, ℕ, suc, zero, ◌<◌, ◌≤◌, ◌-◌, ℤ, not, Bool, true, false, true≢false, List, [], ◌∷◌, length, get_or, Option, None, Some, refl, sym, ap, ◌∙◌, arith, subst, inl, inr}
 use Rattle.std.specs.List.Sorted.{IsPartitionPoint, IsPartitionedBy}
 use Rattle.std.proofs.lemmas.Bool.{cases_Bool}
-use Rattle.sw_rows.specs.declared.bound.Bound.{Bound}
-use Rattle.sw_rows.specs.declared.bound.Bound.TheVariants.{Before, After}
-use Rattle.sw_rows.specs.Bounds.{bound_below, is_left, same_bound}
+use Rattle.sw_query.specs.declared.bound.Bound.{Bound}
+use Rattle.sw_query.specs.declared.bound.Bound.TheVariants.{Before, After}
+use Rattle.sw_query.specs.Bounds.{bound_below, is_left, same_bound}
 use Rattle.sw_kernel.specs.Tapes.{IsBelowAll, IsRising}
 use Rattle.sw_kernel.proofs.Orders.{left-below, right-below}
 use Rattle.sw_tape.proofs.Places.{all-at}

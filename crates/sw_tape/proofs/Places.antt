@@ -2,8 +2,8 @@
 use Rattle.std.proofs.Common.{◌≡◌, ℕ, suc, zero, ◌<◌, ◌≤◌, Bool, true, false, ◌||◌, List, [], ◌∷◌, length, get_or, drop, insert, refl, sym, ap, ap₂, ◌∙◌, arith, inl, inr}
 use Rattle.std.specs.List.Sorted.{IsPartitionPoint, IsPartitionedBy}
 use Rattle.std.proofs.lemmas.Bool.{cases_Bool}
-use Rattle.sw_rows.specs.declared.bound.Bound.{Bound}
-use Rattle.sw_rows.specs.Bounds.{bound_below, same_bound}
+use Rattle.sw_query.specs.declared.bound.Bound.{Bound}
+use Rattle.sw_query.specs.Bounds.{bound_below, same_bound}
 use Rattle.sw_kernel.specs.Tapes.{IsBelowAll, IsRising}
 use Rattle.sw_kernel.proofs.Orders.{below-trans, below-new, above, same-same, same-flips}
 use Rattle.sw_tape.specs.Bounds.{is_among, is_first, IsPlaceOf}

@@ -1,10 +1,10 @@
 -- Where a bound's place is in a rising list of bounds, and which of them are nearest around a value.
 use Rattle.std.specs.Prelude.{◌≡◌, ℕ, ℤ, Bool, true, false, ◌||◌, zero, suc, List, [], ◌∷◌, length, ◌+◌, Option, None, Some}
-use Rattle.sw_rows.specs.declared.bound.Bound.{Bound}
+use Rattle.sw_query.specs.declared.bound.Bound.{Bound}
 use Rattle.sw_table.specs.declared.row.Row.{Row}
 use Rattle.sw_kernel.specs.Replay.{Step}
 use Rattle.sw_kernel.specs.Tapes.{IsRising, is_marked, ranges_at}
-use Rattle.sw_rows.specs.Bounds.{bound_below, is_left, same_bound}
+use Rattle.sw_query.specs.Bounds.{bound_below, is_left, same_bound}
 
 -- whether a bound is among these
 abbrev pub is_among : Bound → List Bound → Bool

@@ -1,12 +1,12 @@
 //! A rising list of bounds.
 
 ghost use Rattle.std.specs.Prelude.{◌≡◌, ◌<◌, ◌≤◌, ◌+◌, ◌||◌, drop, insert, length, vec_capacity, vec_len};
-ghost use Rattle.sw_rows.specs.Bounds.{same_bound};
-ghost use Rattle.sw_rows.specs.declared.bound.Bound.{Bound};
+ghost use Rattle.sw_query.specs.Bounds.{same_bound};
+ghost use Rattle.sw_query.specs.declared.bound.Bound.{Bound};
 ghost use Rattle.sw_kernel.specs.Tapes.{IsRising, is_bound};
 ghost use Rattle.sw_tape.specs.Bounds.{IsNearestAbove, IsNearestBelow, IsPlaceOf, IsSplit, is_among, is_first};
 
-use sw_rows::Bound;
+use sw_query::Bound;
 
 /// How many of the bounds stand below this one.
 fn count_below(bounds: &[Bound], bound: Bound) -> usize

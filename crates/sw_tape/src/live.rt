@@ -1,10 +1,10 @@
 //! Rows of which some are live.
 
 ghost use Rattle.std.specs.Prelude.{◌≡◌, ◌++◌, length, IfErr, OnOk};
-ghost use Rattle.sw_rows.specs.Gives.{IsRefused};
+ghost use Rattle.sw_query.specs.Outcomes.{IsRefused};
 ghost use Rattle.sw_tape.specs.Restart.{kept};
 
-use sw_rows::Refusal;
+use sw_query::Refusal;
 use sw_table::PackedRows;
 
 /// Appends later rows to others, and keeps of all of them those whose flags are true. Refused `NoMemory`, the rows are

@@ -1,10 +1,10 @@
 //! The tape.
 
 ghost use Rattle.std.specs.Prelude.{◌≡◌, ◌<◌, ◌≤◌, ◌+◌, ◌++◌, ◌∷◌, ◌||◌, [], List, length, map, vec_len, vec_capacity, MatchOption, MatchResult, OnErr, OnOk, IfErr, IfOk, slice_get, slice_set, Some};
-ghost use Rattle.sw_rows.specs.Gives.{IsRefused};
-ghost use Rattle.sw_rows.specs.declared.bound.Bound.{Bound};
+ghost use Rattle.sw_query.specs.Outcomes.{IsRefused};
+ghost use Rattle.sw_query.specs.declared.bound.Bound.{Bound};
 ghost use Rattle.sw_table.specs.declared.row.Row.{Row};
-ghost use Rattle.sw_rows.specs.declared.refusal.Refusal.TheVariants.{NoMemory, TooMany};
+ghost use Rattle.sw_query.specs.declared.refusal.Refusal.TheVariants.{NoMemory, TooMany};
 ghost use Rattle.sw_kernel.specs.Replay.{Step, loaded};
 ghost use Rattle.sw_kernel.specs.Tapes.{IsRising, IsTape, MayFollow, count_from, is_marked, peak_from};
 ghost use Rattle.sw_tape.specs.Bounds.{AreJoinedBy, HasPieces, IsNearestAbove, IsNearestBelow, is_among};
@@ -18,7 +18,7 @@ use crate::live::keep_live;
 use std::alloc::Global;
 use std::marker::Model;
 use std::mem;
-use sw_rows::{Bound, Refusal, Row};
+use sw_query::{Bound, Refusal, Row};
 use sw_table::PackedRows;
 
 /// How many entries a tape has at most.

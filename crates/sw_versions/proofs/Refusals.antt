@@ -1,8 +1,8 @@
 -- Why a viewer answers no query.
 use Rattle.std.proofs.Common.{◌≡◌}
-use Rattle.sw_rows.specs.declared.query.Want.{Want}
-use Rattle.sw_rows.specs.declared.refusal.Refusal.{Refusal}
-use Rattle.sw_rows.specs.declared.refusal.Refusal.TheVariants as refusal
+use Rattle.sw_query.specs.declared.query.Want.{Want}
+use Rattle.sw_query.specs.declared.refusal.Refusal.{Refusal}
+use Rattle.sw_query.specs.declared.refusal.Refusal.TheVariants as refusal
 use Rattle.sw_versions.specs.Known.{Known}
 use Rattle.sw_versions.specs.Refused.{IsBehind, RefusesAnswer, RefusesLook}
 

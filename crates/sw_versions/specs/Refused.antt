@@ -1,12 +1,12 @@
 -- Why calls are refused.
 use Rattle.std.specs.Prelude.{◌≡◌, ◌+◌, ◌<◌, List, length, ℕ}
 use Rattle.sw_rows.specs.Gives.{Raised}
-use Rattle.sw_rows.specs.Scan.{TakesMemory}
-use Rattle.sw_rows.specs.declared.query.Want.{Want}
+use Rattle.sw_query.specs.Scan.{TakesMemory}
+use Rattle.sw_query.specs.declared.query.Want.{Want}
 use Rattle.sw_table.specs.declared.row.Row.{Row}
 use Rattle.sw_table.specs.declared.row.Update.{Update}
-use Rattle.sw_rows.specs.declared.refusal.Refusal.{Refusal}
-use Rattle.sw_rows.specs.declared.refusal.Refusal.TheVariants as refusal
+use Rattle.sw_query.specs.declared.refusal.Refusal.{Refusal}
+use Rattle.sw_query.specs.declared.refusal.Refusal.TheVariants as refusal
 use Rattle.sw_versions.specs.Known.{Known}
 use Rattle.sw_versions.specs.declared.viewer.TheConstants.{MOST_VIEWERS}
 

@@ -2,7 +2,7 @@
 
 ghost use Rattle.std.specs.Prelude.{◌≡◌, ◌<◌, ◌++◌, ◌∷◌, [], IfErr, IfOk, IsOk, IsOkUnless, IsTrue, MatchResult, OnErr, OnOk, Some, slice_get};
 ghost use mathlib.Core.List.{IsPrefix};
-ghost use Rattle.sw_rows.specs.Scan.{AsksBelow, TakesMemory, answer};
+ghost use Rattle.sw_query.specs.Scan.{AsksBelow, TakesMemory, answer};
 ghost use Rattle.sw_table.specs.Live.{RisesFrom, live_rows};
 ghost use Rattle.sw_table.specs.Updates.{rows_then};
 ghost use Rattle.sw_versions.specs.Lists.{rows_after};

@@ -2,7 +2,7 @@
 
 ghost use Rattle.std.specs.Prelude.{◌≡◌, ◌<◌, ◌+◌, length, true, false, IfErr, IfOk, IfSome, OnOk};
 ghost use mathlib.Core.List.{IsPrefix};
-ghost use Rattle.sw_rows.specs.Scan.{AsksBelow, answer};
+ghost use Rattle.sw_query.specs.Scan.{AsksBelow, answer};
 ghost use Rattle.sw_versions.specs.Lists.{IsLonger, rows_after};
 ghost use Rattle.sw_versions.specs.Known.{opened_over};
 ghost use Rattle.sw_versions.specs.Refused.{IsBehind, RefusesAnswer, RefusesLook};

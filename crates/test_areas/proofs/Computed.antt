@@ -1,6 +1,6 @@
 -- Pieces of the worked examples, computed.
 use Rattle.std.proofs.Common.{◌≡◌, ◌∷◌, [], pos, Some, refl, inr, arith}
-use Rattle.sw_rows.specs.declared.bound.Bound.TheVariants.{Before, After}
+use Rattle.sw_query.specs.declared.bound.Bound.TheVariants.{Before, After}
 use Rattle.sw_kernel.specs.Partition.{left_part, right_part}
 use Rattle.sw_map.specs.Lawful.{IsLawful, rows_by}
 use Rattle.sw_set.specs.Shelf.{logged_rows}

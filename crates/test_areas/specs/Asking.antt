@@ -1,7 +1,7 @@
 -- What an area may be asked.
 use Rattle.std.specs.Prelude.{◌≡◌, ℕ}
-use Rattle.sw_rows.specs.declared.query.Query.{Query}
-use Rattle.sw_rows.specs.Scan.{AsksBelow}
+use Rattle.sw_query.specs.declared.query.Query.{Query}
+use Rattle.sw_query.specs.Scan.{AsksBelow}
 use Rattle.sw_set.specs.Needs.{head_in}
 
 -- The query's attributes are below 8, and its head is that of the area.

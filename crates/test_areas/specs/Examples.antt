@@ -1,9 +1,9 @@
 -- Tapes, boxes and queries of the worked examples.
 use Rattle.std.specs.Prelude.{◌^◌, ◌-◌, ℕ, pos, neg_ℤ, false, List, [], ◌∷◌, ◌++◌, map, Option, Some, None}
-use Rattle.sw_rows.specs.declared.bound.Bound.{Bound}
-use Rattle.sw_rows.specs.declared.bound.Bound.TheVariants.{Before, After}
-use Rattle.sw_rows.specs.declared.query.Query.{Query}
-use Rattle.sw_rows.specs.declared.query.Want.TheVariants as want
+use Rattle.sw_query.specs.declared.bound.Bound.{Bound}
+use Rattle.sw_query.specs.declared.bound.Bound.TheVariants.{Before, After}
+use Rattle.sw_query.specs.declared.query.Query.{Query}
+use Rattle.sw_query.specs.declared.query.Want.TheVariants as want
 use Rattle.sw_table.specs.declared.row.Row.{Row}
 use Rattle.sw_table.specs.declared.row.Update.{Update}
 use Rattle.sw_rows.specs.Examples.{asking, four_rows, on, row_of_one, row_with}

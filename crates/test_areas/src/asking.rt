@@ -1,7 +1,7 @@
 //! Whether a query may be asked, tested when it runs.
 
 ghost use Rattle.std.specs.Prelude.{◌≡◌, ◌<◌, All, Decides};
-ghost use Rattle.sw_rows.specs.Scan.{AsksBelow, CondsBelow, WantsBelow};
+ghost use Rattle.sw_query.specs.Scan.{AsksBelow, CondsBelow, WantsBelow};
 ghost use Rattle.sw_set.specs.Needs.{head_in};
 ghost use Rattle.test_areas.specs.Asking.{MayAsk};
 

@@ -4,7 +4,7 @@
 
 ghost use Rattle.std.specs.Prelude.{◌≡◌, ◌∷◌, [], pos, false, true};
 ghost use Rattle.sw_rows.specs.Examples.{four_rows};
-ghost use Rattle.sw_rows.specs.declared.bound.Bound.TheVariants.{Before, After};
+ghost use Rattle.sw_query.specs.declared.bound.Bound.TheVariants.{Before, After};
 ghost use Rattle.sw_table.specs.declared.row.Update.TheVariants.{Insert, Remove};
 ghost use Rattle.sw_kernel.specs.Tapes.{peak_from};
 ghost use Rattle.sw_map.specs.declared.tail.Tail.TheVariants.{Key, Cell};

@@ -2,7 +2,7 @@
 
 ghost use Rattle.std.specs.Prelude.{◌≡◌, ◌<◌, ◌+◌, ◌^◌, ◌++◌, ◌∷◌, [], All, MatchOption, MatchResult, IfOk, IfSome, cond, take, true, vec_len};
 ghost use Rattle.std.specs.List.{list_all};
-ghost use Rattle.sw_rows.specs.declared.refusal.Refusal.TheVariants.{Input, NoMemory};
+ghost use Rattle.sw_query.specs.declared.refusal.Refusal.TheVariants.{Input, NoMemory};
 ghost use Rattle.sw_rows.specs.declared.table.TheConstants.{MOST_ROWS};
 ghost use Rattle.sw_table.specs.declared.row.Row.{Row};
 ghost use Rattle.sw_map.specs.Held.{blank};

@@ -1,7 +1,7 @@
 //! Sessions that are asked for one by one, viewers beside them, boxes that are dropped, and tickets that are missing.
 
 ghost use Rattle.std.specs.Prelude.{◌≡◌, ◌<◌, ◌≤◌, length, IfOk};
-ghost use Rattle.sw_rows.specs.Scan.{AsksBelow};
+ghost use Rattle.sw_query.specs.Scan.{AsksBelow};
 ghost use Rattle.sw_versions.specs.Pending.{IsPlain};
 
 use crate::boxes::{Refusing, refusing};

@@ -1,7 +1,7 @@
 -- A head that gives out the keys of its rows: what is kept of them, and what its calls leave.
 use Rattle.std.specs.Prelude.{◌≡◌, ◌<◌, ◌⊎◌, ◌∷◌, [], ℕ, ℤ, Bool, false, List, cond, get_or, length, take, All}
-use Rattle.sw_rows.specs.declared.refusal.Refusal.{Refusal}
-use Rattle.sw_rows.specs.declared.refusal.Refusal.TheVariants.{Input, NoMemory}
+use Rattle.sw_query.specs.declared.refusal.Refusal.{Refusal}
+use Rattle.sw_query.specs.declared.refusal.Refusal.TheVariants.{Input, NoMemory}
 use Rattle.sw_rows.specs.declared.table.TheConstants.{MOST_ROWS}
 use Rattle.sw_table.specs.declared.row.Row.{Row}
 use Rattle.sw_table.specs.declared.row.Update.{Update}

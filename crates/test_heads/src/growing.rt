@@ -2,8 +2,8 @@
 //! asked.
 
 ghost use Rattle.std.specs.Prelude.{◌≡◌, ◌∷◌, [], length, replicate, true, false, IfErr, IfOk, IfSome, MatchResult, None};
-ghost use Rattle.sw_rows.specs.declared.refusal.Refusal.TheVariants.{NoMemory};
-ghost use Rattle.sw_rows.specs.Scan.{AsksBelow, answer};
+ghost use Rattle.sw_query.specs.declared.refusal.Refusal.TheVariants.{NoMemory};
+ghost use Rattle.sw_query.specs.Scan.{AsksBelow, answer};
 ghost use Rattle.sw_table.specs.Updates.{has_key, rows_of};
 ghost use Rattle.sw_chunks.specs.Cleared.{AreClearedBut};
 ghost use Rattle.sw_chunks.specs.Cuts.{RiseAbove};

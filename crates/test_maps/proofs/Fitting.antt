@@ -1,6 +1,6 @@
 -- What a map may replay, from what its looks tell.
 use Rattle.std.proofs.Common.{◌≡◌, ℕ, ◌-◌, ◌<◌, ◌≤◌, ◌^◌, false, List, length, All, Option, arith}
-use Rattle.sw_rows.specs.declared.bound.Bound.{Bound}
+use Rattle.sw_query.specs.declared.bound.Bound.{Bound}
 use Rattle.sw_table.specs.declared.row.Row.{Row}
 use Rattle.sw_kernel.specs.Replay.{loaded, inserted, removed, ranged}
 use Rattle.sw_map.specs.Held.{Held, pairs_in}

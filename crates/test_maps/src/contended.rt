@@ -3,7 +3,7 @@
 ghost use Rattle.std.specs.Prelude.{◌≡◌};
 
 use sw_map::{CrackerMap, Tail};
-use sw_rows::{Bound, Refusal};
+use sw_query::{Bound, Refusal};
 use sw_tape::Entry;
 
 /// A map whose `begin` is passed on at the first, third and each further odd call, and answers `Contended` at the others, as where
@@ -44,7 +44,7 @@ impl<M: CrackerMap> ContendedMap<M> {
 
 impl<M: CrackerMap> CrackerMap for ContendedMap<M> {
     ghost use Rattle.std.specs.Prelude.{◌≡◌, ◌⊎◌};
-    ghost use Rattle.sw_rows.specs.declared.refusal.Refusal.TheVariants.{Contended};
+    ghost use Rattle.sw_query.specs.declared.refusal.Refusal.TheVariants.{Contended};
 
     ghost held = { λ c. M.held c.inner };
 

@@ -5,7 +5,7 @@ ghost use Rattle.std.specs.Prelude.{◌≡◌};
 use std::sync::Arc;
 use std::sync::atomic::{AtomicU64, Ordering};
 use sw_map::{CrackerMap, Tail};
-use sw_rows::{Bound, Refusal};
+use sw_query::{Bound, Refusal};
 use sw_tape::Entry;
 
 /// How often a map began, replayed an entry and was asked for a tail, and how often it refused to begin or to replay.

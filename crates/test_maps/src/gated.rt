@@ -5,7 +5,7 @@ ghost use Rattle.std.specs.Prelude.{◌≡◌};
 use std::sync::Arc;
 use std::sync::atomic::{AtomicBool, Ordering};
 use sw_map::{CrackerMap, Tail};
-use sw_rows::{Bound, Refusal};
+use sw_query::{Bound, Refusal};
 use sw_tape::Entry;
 
 /// Two flags and a note. A step that comes to the gate sets `reached`, then waits until `opened` is set; where it waited for

@@ -3,7 +3,7 @@
 ghost use Rattle.std.specs.Prelude.{◌≡◌};
 
 use sw_map::{CrackerMap, Tail};
-use sw_rows::{Bound, Refusal};
+use sw_query::{Bound, Refusal};
 use sw_tape::Entry;
 
 /// Which of the calls that come are due: every n-th.
@@ -43,7 +43,7 @@ impl<M: CrackerMap> RefusingMap<M> {
 
 impl<M: CrackerMap> CrackerMap for RefusingMap<M> {
     ghost use Rattle.std.specs.Prelude.{◌≡◌, ◌⊎◌};
-    ghost use Rattle.sw_rows.specs.declared.refusal.Refusal.TheVariants.{NoMemory};
+    ghost use Rattle.sw_query.specs.declared.refusal.Refusal.TheVariants.{NoMemory};
 
     ghost held = { λ r. M.held r.inner };
 

@@ -7,7 +7,7 @@ ghost use Rattle.sw_map.specs.Held.{after};
 ghost use Rattle.test_maps.specs.Steps.{CanReplay};
 
 use sw_map::CrackerMap;
-use sw_rows::Refusal;
+use sw_query::Refusal;
 use sw_table::PackedRows;
 use sw_tape::{Entry, MAX_ENTRIES};
 

@@ -3,7 +3,7 @@
 ghost use Rattle.std.specs.Prelude.{◌≡◌, ◌<◌, ◌≤◌, true, length, All};
 ghost use Rattle.std.specs.List.{list_all};
 ghost use Rattle.sw_lang.specs.Fits.{HasFewNames, IsBound, is_bound};
-ghost use Rattle.sw_rows.specs.Scan.{AsksBelow, CondsBelow, WantsBelow};
+ghost use Rattle.sw_query.specs.Scan.{AsksBelow, CondsBelow, WantsBelow};
 ghost use Rattle.sw_spine.specs.History.{CallsBelow};
 
 use sw_rows::{Call, Cond, Query, Want};

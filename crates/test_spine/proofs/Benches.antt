@@ -4,13 +4,13 @@ use Rattle.std.specs.List.{slice_index}
 use Rattle.sw_table.specs.Updates.{rows_of, rows_then}
 use Rattle.sw_table.specs.declared.row.Row.{Row}
 use Rattle.sw_table.specs.declared.row.Update.{Update}
-use Rattle.sw_rows.specs.Scan.{answer}
-use Rattle.sw_rows.specs.declared.query.Query.{Query}
-use Rattle.sw_rows.specs.declared.reply.Reply.{Reply}
+use Rattle.sw_query.specs.Scan.{answer}
+use Rattle.sw_query.specs.declared.query.Query.{Query}
+use Rattle.sw_query.specs.declared.reply.Reply.{Reply}
 use Rattle.sw_spine.specs.Books.{Books, KeepsOthers, took, untaken, updates, waits_for, with_open}
 use Rattle.test_spine.specs.Benches.{IsAsked, IsAtRest}
 use Rattle.sw_spine.proofs.StoreLemmas.{rows_of_more}
-use Rattle.sw_rows.specs.declared.query.Call.TheVariants.{Select}
+use Rattle.sw_query.specs.declared.query.Call.TheVariants.{Select}
 
 -- a list that was what a head took takes the rest
 pub took_all : (b n : Books) (rows new : List Row) (inbox : List Update) → rows ≡ rows_of (took 0 b) → inbox ≡ untaken 0 b → new ≡ fold rows_then rows inbox → took 0 n ≡ updates b → new ≡ rows_of (took 0 n)

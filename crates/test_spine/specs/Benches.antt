@@ -1,7 +1,7 @@
 -- Two sessions of a spine, and a list of rows that takes updates as head 0.
 use Rattle.std.specs.Prelude.{◌≡◌, List, length, None, IsSomeAnd}
 use Rattle.sw_table.specs.declared.row.Row.{Row}
-use Rattle.sw_rows.specs.declared.reply.Reply.{Reply}
+use Rattle.sw_query.specs.declared.reply.Reply.{Reply}
 use Rattle.sw_table.specs.Updates.{rows_of}
 use Rattle.sw_spine.specs.Table.{reply_to}
 use Rattle.sw_spine.specs.Books.{Books, took, waits_for}

@@ -1,7 +1,7 @@
 //! A table with indexes beside a plain list of its rows, through random calls.
 
 ghost use Rattle.std.specs.Prelude.{◌≡◌, length};
-ghost use Rattle.sw_rows.specs.Scan.{AsksBelow, CondsBelow};
+ghost use Rattle.sw_query.specs.Scan.{AsksBelow, CondsBelow};
 ghost use Rattle.sw_spine.specs.History.{CallsBelow};
 
 use crate::bench::{call_of, four_rows, schema};

@@ -1,6 +1,6 @@
 //! Visits of two sessions, and the limits of a spine.
 
-ghost use Rattle.sw_rows.specs.declared.query.Call.TheVariants.{Select};
+ghost use Rattle.sw_query.specs.declared.query.Call.TheVariants.{Select};
 ghost use Rattle.sw_spine.specs.History.{CallsBelow};
 ghost use Rattle.test_spine.specs.Benches.{IsAtRest};
 

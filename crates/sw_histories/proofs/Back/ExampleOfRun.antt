@@ -10,11 +10,11 @@ use Rattle.sw_rows.specs.Domains as kind
 use Rattle.sw_rows.specs.Header.{Column, IsSchema, kinds_of, texts_of}
 use Rattle.sw_rows.specs.Tables.{padded}
 use Rattle.sw_rows.specs.Texts.{text_of}
-use Rattle.sw_rows.specs.declared.query.Call.{Call}
-use Rattle.sw_rows.specs.declared.query.Call.TheVariants as call
-use Rattle.sw_rows.specs.declared.query.Cond.{Cond}
-use Rattle.sw_rows.specs.declared.query.Want.TheVariants as want
-use Rattle.sw_rows.specs.declared.reply.Reply.TheVariants as reply
+use Rattle.sw_query.specs.declared.query.Call.{Call}
+use Rattle.sw_query.specs.declared.query.Call.TheVariants as call
+use Rattle.sw_query.specs.declared.query.Cond.{Cond}
+use Rattle.sw_query.specs.declared.query.Want.TheVariants as want
+use Rattle.sw_query.specs.declared.reply.Reply.TheVariants as reply
 use Rattle.sw_table.specs.declared.row.Row.{Row}
 use Rattle.sw_rows.proofs.SchemaLaws.{header-schema}
 use Rattle.sw_lang.specs.Fits.{IsBound}

@@ -11,11 +11,11 @@ use Rattle.std.specs.Result.{result_ok}
 use Rattle.std.proofs.lemmas.Option.{same_Some}
 use Rattle.sw_rows.specs.Header.{Column, Fault as TableFault, IsSchema, header_of, kinds_of}
 use Rattle.sw_rows.proofs.SchemaLaws.{header-schema}
-use Rattle.sw_rows.specs.declared.refusal.Refusal.TheVariants.{TooMany}
+use Rattle.sw_query.specs.declared.refusal.Refusal.TheVariants.{TooMany}
 use Rattle.sw_lang.proofs.Lines.{line_found, line_read}
 use Rattle.sw_table.specs.declared.row.Row.{Row}
-use Rattle.sw_rows.specs.declared.query.Call.{Call}
-use Rattle.sw_rows.specs.declared.refusal.Refusal.{Refusal}
+use Rattle.sw_query.specs.declared.query.Call.{Call}
+use Rattle.sw_query.specs.declared.refusal.Refusal.{Refusal}
 use Rattle.sw_rows.proofs.Options.{if_some, then_some}
 use Rattle.sw_lang.specs.Learning.{learned}
 use Rattle.sw_lang.specs.Reading.{line_at, refused}

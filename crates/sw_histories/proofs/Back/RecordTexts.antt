@@ -19,7 +19,7 @@ use Rattle.sw_rows.specs.Spelling.{kind_text}
 use Rattle.sw_rows.specs.Domains.{Domain}
 use Rattle.sw_rows.specs.Domains as kind
 use Rattle.sw_table.specs.declared.row.Row.{Row}
-use Rattle.sw_rows.specs.declared.query.Call.{Call}
+use Rattle.sw_query.specs.declared.query.Call.{Call}
 use Rattle.sw_lang.specs.Replies.{reply_lines}
 use Rattle.sw_spine.specs.History.{History}
 use Rattle.sw_spine.specs.Printed.{are_lines, is_line, is_printed}

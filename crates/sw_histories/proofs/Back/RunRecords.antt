@@ -18,7 +18,7 @@ use Rattle.sw_rows.specs.Tables.{padded, row_of}
 use Rattle.sw_rows.specs.Domains.{Domain, IsFresh, IsOver, is_of_texts, over, under}
 use Rattle.sw_rows.specs.Domains as kind
 use Rattle.sw_table.specs.declared.row.Row.{Row}
-use Rattle.sw_rows.specs.declared.query.Call.{Call}
+use Rattle.sw_query.specs.declared.query.Call.{Call}
 use Rattle.sw_rows.specs.Texts.{AreTexts, code_of, text_at, text_of, with_texts}
 use Rattle.sw_rows.proofs.ColumnLemmas.{no_texts}
 use Rattle.sw_rows.proofs.DomainLaws.{holding_again, holding_kinds, holding_of_texts, kinds_of_texts, schema_holding, texts_of_holding}

@@ -17,10 +17,10 @@ use Rattle.sw_rows.specs.Header.{Column, header_of}
 use Rattle.std.specs.Result.{result_ok}
 use Rattle.sw_table.specs.Packed.{Packed}
 use Rattle.sw_table.specs.declared.row.Row.{Row}
-use Rattle.sw_rows.specs.declared.refusal.Refusal.{Refusal}
-use Rattle.sw_rows.specs.declared.refusal.Refusal.TheVariants as refusal
-use Rattle.sw_rows.specs.declared.refusal.Refusal.TheVariants.{BadLine, TooMany}
-use Rattle.sw_rows.specs.declared.refusal.Why.TheVariants as why
+use Rattle.sw_query.specs.declared.refusal.Refusal.{Refusal}
+use Rattle.sw_query.specs.declared.refusal.Refusal.TheVariants as refusal
+use Rattle.sw_query.specs.declared.refusal.Refusal.TheVariants.{BadLine, TooMany}
+use Rattle.sw_query.specs.declared.refusal.Why.TheVariants as why
 use Rattle.sw_lang.specs.Reading.{Answers}
 use Rattle.sw_rows.specs.declared.table.TheConstants.{MOST_ROWS}
 use Rattle.sw_spine.specs.declared.history.Entry.{Entry}

@@ -3,9 +3,9 @@ use Rattle.std.proofs.Common.{◌≡◌, refl, sym, subst, inr, ℕ, ◌-◌, �
 use Rattle.std.proofs.lemmas.Option.{slice_get_read}
 use Rattle.sw_rows.specs.Header.{Column}
 use Rattle.sw_rows.specs.Gives.{Raised}
-use Rattle.sw_rows.specs.declared.refusal.Refusal.{Refusal}
-use Rattle.sw_rows.specs.declared.refusal.Refusal.TheVariants as refusal
-use Rattle.sw_rows.specs.declared.reply.Reply.{Reply}
+use Rattle.sw_query.specs.declared.refusal.Refusal.{Refusal}
+use Rattle.sw_query.specs.declared.refusal.Refusal.TheVariants as refusal
+use Rattle.sw_query.specs.declared.reply.Reply.{Reply}
 use Rattle.sw_lang.specs.Replies.{reply_lines}
 use Rattle.sw_spine.specs.History.{History}
 use Rattle.sw_spine.specs.Checks.{IsExpectedAt, IsFirstFault}

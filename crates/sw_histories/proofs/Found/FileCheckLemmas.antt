@@ -1,8 +1,8 @@
 -- A verdict of which a beginning went out.
 use Rattle.std.proofs.Common.{◌≡◌, sym, subst, ℕ, List, Option, Err}
 use Rattle.sw_rows.specs.Gives.{Raised}
-use Rattle.sw_rows.specs.declared.refusal.Refusal.{Refusal}
-use Rattle.sw_rows.specs.declared.refusal.Refusal.TheVariants as refusal
+use Rattle.sw_query.specs.declared.refusal.Refusal.{Refusal}
+use Rattle.sw_query.specs.declared.refusal.Refusal.TheVariants as refusal
 use Rattle.sw_lang.specs.Sinks.{TookBeginning}
 use Rattle.sw_spine.specs.History.{History}
 use Rattle.sw_histories.specs.FileChecks.{IsVerdict, Judges}

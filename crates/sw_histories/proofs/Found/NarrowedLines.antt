@@ -5,7 +5,7 @@ use Rattle.std.proofs.lemmas.Option.{none-some, same_Some}
 use Rattle.sw_rows.specs.Faults.{Fault}
 use Rattle.sw_rows.specs.Header.{Column, holding, texts_of}
 use Rattle.sw_rows.specs.Texts.{code_given, code_of, with_text, with_texts}
-use Rattle.sw_rows.specs.declared.query.Call.{Call}
+use Rattle.sw_query.specs.declared.query.Call.{Call}
 use Rattle.sw_rows.proofs.TextLaws.{code_kept, given_kept, never_given, with_more}
 use Rattle.sw_lang.specs.Grammar.{IsLine}
 use Rattle.sw_lang.specs.Learning.{quoted_text, quoted_texts, texts_in_line}

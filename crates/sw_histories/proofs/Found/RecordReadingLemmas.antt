@@ -18,11 +18,11 @@ use Rattle.sw_rows.specs.Domains.{Domain, domain}
 use Rattle.sw_rows.specs.declared.kind.Kind.{Kind}
 use Rattle.sw_rows.specs.declared.kind.Kind.TheVariants as word
 use Rattle.sw_table.specs.declared.row.Row.{Row}
-use Rattle.sw_rows.specs.declared.query.Call.{Call}
+use Rattle.sw_query.specs.declared.query.Call.{Call}
 use Rattle.sw_rows.specs.Header.{Column, kinds_of}
-use Rattle.sw_rows.specs.declared.refusal.Refusal.{Refusal}
-use Rattle.sw_rows.specs.declared.refusal.Refusal.TheVariants.{BadLine}
-use Rattle.sw_rows.specs.declared.refusal.Why.TheVariants as why
+use Rattle.sw_query.specs.declared.refusal.Refusal.{Refusal}
+use Rattle.sw_query.specs.declared.refusal.Refusal.TheVariants.{BadLine}
+use Rattle.sw_query.specs.declared.refusal.Why.TheVariants as why
 use Rattle.sw_rows.specs.declared.table.TheConstants.{MOST_ROWS}
 use Rattle.sw_rows.proofs.Options.{if_some, then_some}
 use Rattle.sw_spine.specs.Table.{is_numbered}

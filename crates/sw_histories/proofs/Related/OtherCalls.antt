@@ -6,14 +6,14 @@ use Rattle.sw_rows.specs.Cells.{coded_value}
 use Rattle.sw_rows.specs.Domains.{Domain, IsOver, is_of_texts, over}
 use Rattle.sw_rows.specs.Domains as kind
 use Rattle.sw_rows.specs.Header.{Column, holding, kinds_of}
-use Rattle.sw_rows.specs.Scan.{cell_of}
+use Rattle.sw_query.specs.Scan.{cell_of}
 use Rattle.sw_rows.specs.Tables.{padded}
 use Rattle.sw_rows.specs.Texts.{code_of, is_text}
-use Rattle.sw_rows.specs.declared.query.Call.{Call}
-use Rattle.sw_rows.specs.declared.query.Call.TheVariants.{Select, Insert, Delete, DeleteWhere}
-use Rattle.sw_rows.specs.declared.query.Cond.{Cond}
-use Rattle.sw_rows.specs.declared.query.Want.{Want}
-use Rattle.sw_rows.specs.declared.query.Want.TheVariants.{Rows, Count, Sum, Min, Max}
+use Rattle.sw_query.specs.declared.query.Call.{Call}
+use Rattle.sw_query.specs.declared.query.Call.TheVariants.{Select, Insert, Delete, DeleteWhere}
+use Rattle.sw_query.specs.declared.query.Cond.{Cond}
+use Rattle.sw_query.specs.declared.query.Want.{Want}
+use Rattle.sw_query.specs.declared.query.Want.TheVariants.{Rows, Count, Sum, Min, Max}
 use Rattle.sw_rows.proofs.DomainLaws.{holding_names, of_texts_over}
 use Rattle.sw_rows.proofs.TextLaws.{code_only}
 use Rattle.sw_lang.specs.Grammar.{HasTerms, IsCall, IsName, IsNames, IsNumbersName, IsTerm, IsTerms, IsValue, IsValues, IsWant, IsWhere, MoreValues}

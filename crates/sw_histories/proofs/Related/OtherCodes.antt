@@ -10,17 +10,17 @@ use Rattle.sw_table.specs.Updates.{has_key, rows_of, without}
 use Rattle.sw_table.specs.declared.row.Row.{Row}
 use Rattle.sw_table.specs.declared.row.Update.{Update}
 use Rattle.sw_table.specs.declared.row.Update.TheVariants as update
-use Rattle.sw_rows.specs.Bounds.{bound_below, greater, is_above, is_below, is_left, is_within, lesser}
+use Rattle.sw_query.specs.Bounds.{bound_below, greater, is_above, is_below, is_left, is_within, lesser}
 use Rattle.sw_rows.specs.Domains.{Domain, IsOver, is_of_texts, over}
 use Rattle.sw_rows.specs.Domains as kind
 use Rattle.sw_rows.specs.Header.{Column, holding}
-use Rattle.sw_rows.specs.Scan.{answer_over, cell_of, column, greatest, least, matching, meets, meets_all, projected, shown_cells, total}
+use Rattle.sw_query.specs.Scan.{answer_over, cell_of, column, greatest, least, matching, meets, meets_all, projected, shown_cells, total}
 use Rattle.sw_rows.specs.Texts.{text_at, text_of, texts_differ}
-use Rattle.sw_rows.specs.declared.bound.Bound.{Bound}
-use Rattle.sw_rows.specs.declared.bound.Bound.TheVariants.{Before, After}
-use Rattle.sw_rows.specs.declared.query.Cond.{Cond}
-use Rattle.sw_rows.specs.declared.query.Want.{Want}
-use Rattle.sw_rows.specs.declared.query.Want.TheVariants as want
+use Rattle.sw_query.specs.declared.bound.Bound.{Bound}
+use Rattle.sw_query.specs.declared.bound.Bound.TheVariants.{Before, After}
+use Rattle.sw_query.specs.declared.query.Cond.{Cond}
+use Rattle.sw_query.specs.declared.query.Want.{Want}
+use Rattle.sw_query.specs.declared.query.Want.TheVariants as want
 use Rattle.sw_rows.proofs.DomainLaws.{over_numbers}
 use Rattle.sw_rows.proofs.TextLaws.{code_there}
 use Rattle.sw_lang.specs.Reading.{is_equality}

@@ -13,11 +13,11 @@ use Rattle.sw_table.specs.declared.row.Row.{Row}
 use Rattle.sw_rows.specs.Domains.{Domain, IsOver, over}
 use Rattle.sw_rows.specs.Domains as kind
 use Rattle.sw_rows.specs.Header.{Column, IsSchema, has_texts, holding, kinds_of, texts_of}
-use Rattle.sw_rows.specs.Scan.{cell_of}
+use Rattle.sw_query.specs.Scan.{cell_of}
 use Rattle.sw_rows.specs.Tables.{padded, row_of}
 use Rattle.sw_rows.specs.Texts.{AreTexts, code_of, has_text, is_text, text_at, text_of, with_texts}
-use Rattle.sw_rows.specs.declared.query.Call.{Call}
-use Rattle.sw_rows.specs.declared.query.Call.TheVariants.{Select, Insert, Delete, DeleteWhere}
+use Rattle.sw_query.specs.declared.query.Call.{Call}
+use Rattle.sw_query.specs.declared.query.Call.TheVariants.{Select, Insert, Delete, DeleteWhere}
 use Rattle.sw_rows.specs.declared.table.TheConstants.{MOST_ROWS}
 use Rattle.sw_rows.proofs.ColumnLemmas.{no_texts}
 use Rattle.sw_rows.proofs.DomainLaws.{holding_again, holding_of_texts, schema_holding}

@@ -6,11 +6,11 @@ use Rattle.sw_table.specs.declared.row.Update.{Update}
 use Rattle.sw_table.specs.declared.row.Update.TheVariants as update
 use Rattle.sw_rows.specs.Domains.{IsOver}
 use Rattle.sw_rows.specs.Header.{Column, holding}
-use Rattle.sw_rows.specs.Scan.{answer_over, matching}
+use Rattle.sw_query.specs.Scan.{answer_over, matching}
 use Rattle.sw_rows.specs.Texts.{texts_differ}
-use Rattle.sw_rows.specs.declared.query.Call.{Call}
-use Rattle.sw_rows.specs.declared.query.Call.TheVariants.{Select, Insert, Delete, DeleteWhere}
-use Rattle.sw_rows.specs.declared.reply.Reply.TheVariants as reply
+use Rattle.sw_query.specs.declared.query.Call.{Call}
+use Rattle.sw_query.specs.declared.query.Call.TheVariants.{Select, Insert, Delete, DeleteWhere}
+use Rattle.sw_query.specs.declared.reply.Reply.TheVariants as reply
 use Rattle.sw_lang.specs.Replies.{kinds_wanted, lines_of, reply_lines}
 use Rattle.sw_spine.specs.History.{Agrees, AllAgree, is_select}
 use Rattle.sw_spine.specs.Table.{inserts, removals, reply_to, row, update_by, updates_then}

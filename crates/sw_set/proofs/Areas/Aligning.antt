@@ -3,8 +3,8 @@ use Rattle.std.proofs.Common.{◌≡◌, ℕ, ◌<◌, ℤ, false, List, length,
 use Rattle.std.proofs.lemmas.List.{get_or-map, length-map}
 use Rattle.sw_table.specs.declared.row.Row.{Row}
 use Rattle.sw_table.specs.declared.row.Update.{Update}
-use Rattle.sw_rows.specs.declared.refusal.Refusal.{Refusal}
-use Rattle.sw_rows.specs.declared.refusal.Refusal.TheVariants.{NoMemory}
+use Rattle.sw_query.specs.declared.refusal.Refusal.{Refusal}
+use Rattle.sw_query.specs.declared.refusal.Refusal.TheVariants.{NoMemory}
 use Rattle.sw_kernel.specs.Replay.{Step}
 use Rattle.sw_map.specs.Held.{Held}
 use Rattle.sw_map.specs.Lawful.{IsAligned, IsLawful}

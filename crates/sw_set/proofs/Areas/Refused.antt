@@ -3,7 +3,7 @@ use Rattle.std.proofs.Common.{◌≡◌, ◌≢◌, ℕ, ◌<◌, Bool, true, fa
 use Rattle.std.specs.Prelude.{IsErrAnd}
 use Rattle.std.proofs.Math.ListN.{length-set}
 use Rattle.std.proofs.lemmas.List.Elements.{Contains-get_or}
-use Rattle.sw_rows.specs.declared.refusal.Refusal.{Refusal}
+use Rattle.sw_query.specs.declared.refusal.Refusal.{Refusal}
 use Rattle.sw_map.specs.declared.tail.Tail.{Tail}
 use Rattle.sw_map.specs.Held.{Held, blank}
 use Rattle.sw_set.specs.Shelf.{AreaState}

@@ -1,7 +1,7 @@
 -- What looks at the map of a tail say of all boxes.
 use Rattle.std.proofs.Common.{◌≡◌, ◌≢◌, ℕ, ◌<◌, ◌⊎◌, inl, inr, false, true≢false, List, length, get_or, set, refl, sym, ◌∙◌, arith, subst, All, Any, MatchOption, Option, Some, None}
 use Rattle.std.proofs.Math.ListN.{length-set}
-use Rattle.sw_rows.specs.declared.bound.Bound.{Bound}
+use Rattle.sw_query.specs.declared.bound.Bound.{Bound}
 use Rattle.sw_map.specs.declared.tail.Tail.{Tail}
 use Rattle.sw_map.specs.Held.{Held, blank, place_of}
 use Rattle.sw_set.specs.Shelf.{AreApart}

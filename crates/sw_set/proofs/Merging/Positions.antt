@@ -2,10 +2,10 @@
 use Rattle.std.proofs.Common.{◌≡◌, ◌≢◌, ◌&&◌, ℕ, ◌+◌, ◌-◌, ◌<◌, ◌≤◌, ℤ, pos, not, Bool, true, false, List, length, get_or, map, take, drop, min, Option, None, Some, refl, ap, sym, ◌∙◌, arith, subst, Any, Contains, unsigned_abs, eqb, eqb-true, eq-eqb, true≢false}
 use Rattle.std.specs.List.{slice_range}
 use Rattle.std.proofs.lemmas.List.{get_or-map, length-take}
-use Rattle.sw_rows.specs.declared.bound.Bound.{Bound}
+use Rattle.sw_query.specs.declared.bound.Bound.{Bound}
 use Rattle.sw_table.specs.declared.row.Row.{Row}
-use Rattle.sw_rows.specs.Bounds.{is_above, is_below, is_within}
-use Rattle.sw_rows.specs.Scan.{cell_of}
+use Rattle.sw_query.specs.Bounds.{is_above, is_below, is_within}
+use Rattle.sw_query.specs.Scan.{cell_of}
 use Rattle.sw_kernel.specs.Replay.{Step}
 use Rattle.sw_kernel.specs.Tapes.{IsTape, brought, is_marked}
 use Rattle.sw_kernel.proofs.Members.{Mem, mem-from_contains, contains-from_mem, mem-filter}

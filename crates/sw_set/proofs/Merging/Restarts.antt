@@ -4,8 +4,8 @@ use Rattle.std.proofs.lemmas.List.{append-nil}
 use Rattle.sw_table.specs.declared.row.Row.{Row}
 use Rattle.sw_table.specs.declared.row.Update.{Update}
 use Rattle.sw_table.specs.declared.row.Update.TheVariants.{Insert, Remove}
-use Rattle.sw_rows.specs.declared.refusal.Refusal.{Refusal}
-use Rattle.sw_rows.specs.declared.refusal.Refusal.TheVariants.{NoMemory}
+use Rattle.sw_query.specs.declared.refusal.Refusal.{Refusal}
+use Rattle.sw_query.specs.declared.refusal.Refusal.TheVariants.{NoMemory}
 use Rattle.sw_table.specs.Updates.{rows_then}
 use Rattle.sw_kernel.specs.Arrangement.{joined}
 use Rattle.sw_kernel.specs.Replay.{Step, loaded, inserted, removed}

@@ -4,15 +4,15 @@ use Rattle.std.specs.List.{AllByRecursion, IsDistinct, slice_range}
 use Rattle.std.specs.Prelude.{nat_eq}
 use Rattle.std.proofs.lemmas.List.{drop-take}
 use Rattle.std.proofs.lemmas.List.Elements.{All-drop, All-take}
-use Rattle.sw_rows.specs.declared.bound.Bound.{Bound}
-use Rattle.sw_rows.specs.declared.bound.Bound.TheVariants.{Before, After}
-use Rattle.sw_rows.specs.declared.query.Cond.{Cond}
-use Rattle.sw_rows.specs.declared.query.Query.{Query}
+use Rattle.sw_query.specs.declared.bound.Bound.{Bound}
+use Rattle.sw_query.specs.declared.bound.Bound.TheVariants.{Before, After}
+use Rattle.sw_query.specs.declared.query.Cond.{Cond}
+use Rattle.sw_query.specs.declared.query.Query.{Query}
 use Rattle.sw_table.specs.declared.row.Row.{Row}
 use Rattle.sw_table.specs.declared.row.Update.{Update}
 use Rattle.sw_table.specs.Updates.{rows_then}
-use Rattle.sw_rows.specs.Bounds.{bound_below, is_above, is_below, is_left, is_within}
-use Rattle.sw_rows.specs.Scan.{cell_of}
+use Rattle.sw_query.specs.Bounds.{bound_below, is_above, is_below, is_left, is_within}
+use Rattle.sw_query.specs.Scan.{cell_of}
 use Rattle.sw_kernel.specs.Replay.{Step}
 use Rattle.sw_kernel.specs.Tapes.{HoldsOnce, IsTape, brought}
 use Rattle.sw_kernel.proofs.Once.{held-replay, once-from_held}

@@ -4,7 +4,7 @@ use Rattle.std.proofs.Math.Seq.{take-add}
 use Rattle.std.proofs.lemmas.Int.{ints}
 use Rattle.std.proofs.lemmas.List.{drop-drop, drop-take, length-take-le, take-take, take_at}
 use Rattle.std.proofs.lemmas.List.Sums.{fold-append}
-use Rattle.sw_rows.specs.Scan.{total}
+use Rattle.sw_query.specs.Scan.{total}
 use Rattle.sw_set.specs.Choice.{IsSumOf}
 use Rattle.sw_set.proofs.Replying.Told.{range-long}
 

@@ -4,7 +4,7 @@ use Rattle.std.proofs.lemmas.List.{take_more}
 use Rattle.std.proofs.lemmas.List.Sums.{fold-append}
 use Rattle.std.proofs.lemmas.Int.{ints}
 use Rattle.std.specs.Int.{int_max, int_min}
-use Rattle.sw_rows.specs.Scan.{total, least, greatest}
+use Rattle.sw_query.specs.Scan.{total, least, greatest}
 use Rattle.sw_table.proofs.LiveLaws.{kept-nil, kept-step}
 use Rattle.sw_set.proofs.Replying.Least.{greatest-both, least-both}
 use Rattle.sw_set.specs.Choice.{chosen, either_or, is_chosen}

@@ -5,7 +5,7 @@ use Rattle.std.specs.List.Sorted.{IsNonDecreasingBy}
 use Rattle.std.specs.Int.{int_min, int_max}
 use Rattle.std.proofs.lemmas.Int.{ints}
 use Rattle.std.proofs.lemmas.List.Sorted.{IsPermutation-sym}
-use Rattle.sw_rows.specs.Scan.{total, least, greatest}
+use Rattle.sw_query.specs.Scan.{total, least, greatest}
 use Rattle.sw_kernel.proofs.Members.{Mem, mem-permutation, all-mem, mem-filter, mem-filtered}
 use Rattle.sw_set.specs.Shelf.{Rises}
 use Rattle.sw_set.proofs.Replying.Gathered.{Apart, Same, gathered, gathered-same, count_in, count-swaps, total-swaps, min-swaps, max-swaps, lesser_of, larger_of}

@@ -3,7 +3,7 @@ use Rattle.std.proofs.Common.{◌≡◌, ◌∙◌, refl, ap, sym, ℤ, List, []
 use Rattle.std.proofs.lemmas.Int.{ints}
 use Rattle.std.proofs.lemmas.List.Sums.{fold-append}
 use Rattle.std.specs.Int.{int_max, int_min}
-use Rattle.sw_rows.specs.Scan.{least, greatest}
+use Rattle.sw_query.specs.Scan.{least, greatest}
 use Rattle.sw_set.specs.Choice.{either_or}
 
 -- a choice is taken out of the choices of a list

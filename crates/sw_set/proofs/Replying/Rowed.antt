@@ -4,9 +4,9 @@ use Rattle.std.specs.List.Sorted.{IsNonDecreasingBy}
 use Rattle.std.proofs.lemmas.List.{length-map, get_or-map}
 use Rattle.std.proofs.lemmas.List.Elements.{Contains-get_or}
 use Rattle.std.proofs.lemmas.List.Sorted.{IsPermutation-map, IsPermutation-sym}
-use Rattle.sw_rows.specs.declared.reply.ReplyRow.{ReplyRow}
+use Rattle.sw_query.specs.declared.reply.ReplyRow.{ReplyRow}
 use Rattle.sw_table.specs.declared.row.Row.{Row}
-use Rattle.sw_rows.specs.Scan.{cell_of, column, projected}
+use Rattle.sw_query.specs.Scan.{cell_of, column, projected}
 use Rattle.sw_kernel.proofs.Members.{Mem, mem-from_contains, mem-permutation}
 use Rattle.sw_map.specs.Held.{Held, blank}
 use Rattle.sw_table.specs.Kept.{kept}

@@ -3,7 +3,7 @@ use Rattle.std.proofs.Common.{◌≡◌, ℕ, zero, suc, ◌-◌, ◌<◌, ℤ, 
 use Rattle.std.proofs.Math.Seq.{take-length}
 use Rattle.std.proofs.lemmas.List.{length-map, get_or-map, map-append}
 use Rattle.sw_table.specs.declared.row.Row.{Row}
-use Rattle.sw_rows.specs.Scan.{cell_of, column}
+use Rattle.sw_query.specs.Scan.{cell_of, column}
 use Rattle.sw_kernel.specs.Arrangement.{Arrangement, last, piece, joined}
 use Rattle.sw_kernel.specs.Replay.{Step, shown}
 use Rattle.sw_map.specs.declared.tail.Tail.{Tail}

@@ -3,10 +3,10 @@ use Rattle.std.proofs.Common.{◌≡◌, ◌∙◌, ap, sym, refl, ℕ, zero, su
 use Rattle.std.proofs.lemmas.List.{length-map, get_or-map, get_or-drop, length-drop, length-take}
 use Rattle.std.proofs.lemmas.List.Sums.{sum_by-append}
 use Rattle.std.proofs.lemmas.List.Folds.{list_all_more}
-use Rattle.sw_rows.specs.declared.query.Cond.{Cond}
+use Rattle.sw_query.specs.declared.query.Cond.{Cond}
 use Rattle.sw_table.specs.declared.row.Row.{Row}
-use Rattle.sw_rows.specs.Bounds.{is_within}
-use Rattle.sw_rows.specs.Scan.{cell_of, column, meets, meets_all}
+use Rattle.sw_query.specs.Bounds.{is_within}
+use Rattle.sw_query.specs.Scan.{cell_of, column, meets, meets_all}
 use Rattle.sw_table.specs.Kept.{kept}
 use Rattle.sw_set.specs.Choice.{chosen, count_chosen, further, AreFor, AreOf}
 

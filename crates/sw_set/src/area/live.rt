@@ -2,16 +2,16 @@
 
 ghost use Rattle.std.specs.Prelude.{◌≡◌, ◌<◌, ◌≤◌, ◌++◌, ◌+◌, true, false, not, length, filter, fold, slice_index_or, slice_set, All, Bool, Decides, IfOk, IsOk, IsOkUnless, MatchResult};
 ghost use Rattle.sw_table.specs.declared.row.Row.{Row};
-ghost use Rattle.sw_rows.specs.declared.refusal.Refusal.TheVariants.{NoMemory};
-ghost use Rattle.sw_rows.specs.Gives.{IsRefused, MemoryAside};
-ghost use Rattle.sw_rows.specs.Scan.{AsksBelow, TakesMemory, answer, cell_of};
+ghost use Rattle.sw_query.specs.declared.refusal.Refusal.TheVariants.{NoMemory};
+ghost use Rattle.sw_query.specs.Outcomes.{IsRefused, MemoryAside};
+ghost use Rattle.sw_query.specs.Scan.{AsksBelow, TakesMemory, answer, cell_of};
 ghost use Rattle.sw_table.specs.Updates.{has_key};
 ghost use Rattle.sw_set.specs.Live.{FindsKey, IsNextStanding, IsStandingOf, Standing, IsStandingAfter, all_standing, came_later, came_to, live_among, without_last};
 ghost use Rattle.sw_set.specs.Shelf.{Rises, came_then, key_of};
 
 use std::alloc::Global;
 use std::marker::Model;
-use sw_rows::{PackedRows, Places, Query, Refusal, Reply, Row, Update, scan};
+use sw_query::{PackedRows, Places, Query, Refusal, Reply, Row, Update, scan};
 
 /// Which of the rows that a tape brought are live: of those in its load, and of those that came later. Each has a
 /// place: those of the load first, then the later ones, in the order in which they came.

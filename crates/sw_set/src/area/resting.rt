@@ -1,7 +1,7 @@
 //! An area that is ready for a query as it stands, so that many may be answered from it at a time.
 
 ghost use Rattle.std.specs.Prelude.{◌≡◌, true, Decides, IfOk, IfSome};
-ghost use Rattle.sw_rows.specs.Gives.{MemoryAside};
+ghost use Rattle.sw_query.specs.Outcomes.{MemoryAside};
 ghost use Rattle.sw_set.specs.Prepared.{IsPreparedFor, IsReady, StandReady, is_touched};
 ghost use Rattle.sw_set.specs.Resting.{IsAtRest, IsToldWhere};
 ghost use Rattle.sw_set.specs.Sought.{FindsHeld};
@@ -12,7 +12,7 @@ use crate::prepare::needs::{edge, lower_from, lower_of, needed_tails, upper_of, 
 use crate::prepare::{all_stand, range_of};
 use crate::reply::finding::is_ready;
 use sw_map::{CrackerMap, Tail};
-use sw_rows::{Query, Refusal};
+use sw_query::{Query, Refusal};
 use sw_tape::Tape;
 
 /// The box that has the map of a tail at the tape's end, if one has it.

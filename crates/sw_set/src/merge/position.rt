@@ -15,7 +15,7 @@ ghost use Rattle.sw_set.specs.declared.reply.window.Side.TheVariants.{Tail};
 
 use crate::reply::window::{Side, value_at};
 use sw_map::CrackerMap;
-use sw_rows::Bound;
+use sw_query::Bound;
 use sw_tape::Tape;
 
 /// Where a bound that the map has cracked at stands; an absent one stands at a given place.

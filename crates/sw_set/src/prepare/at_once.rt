@@ -6,7 +6,7 @@ ghost use Rattle.sw_kernel.specs.Replay.{Step};
 ghost use Rattle.sw_map.specs.Held.{KeysFit};
 ghost use Rattle.sw_map.specs.Lawful.{IsLawful};
 ghost use Rattle.sw_set.specs.Aligned.{AreSameMaps, HasRoomWhereNeeded, IsAtEnd, IsSteppedFrom, KeepMaps, MayBeAligned};
-ghost use Rattle.sw_rows.specs.Gives.{MemoryAside};
+ghost use Rattle.sw_query.specs.Outcomes.{MemoryAside};
 ghost use Rattle.sw_set.specs.Sought.{AllAtCursor, IsAtCursor, IsBetween};
 
 use crate::prepare::align::{align_box, is_needed};
@@ -14,7 +14,7 @@ use crate::prepare::lacking::lacks_much;
 use std::thread;
 use std::thread::Threads;
 use sw_map::{CrackerMap, Tail};
-use sw_rows::Refusal;
+use sw_query::Refusal;
 use sw_tape::Tape;
 
 /// Steps the first boxes at once, each towards the tape's end, after the others one by one; a single one is stepped by

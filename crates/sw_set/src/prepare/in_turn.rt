@@ -6,12 +6,12 @@ ghost use Rattle.sw_kernel.specs.Replay.{Step};
 ghost use Rattle.sw_map.specs.Held.{KeysFit};
 ghost use Rattle.sw_map.specs.Lawful.{IsLawful};
 ghost use Rattle.sw_set.specs.Aligned.{AreSameMaps, HasRoomWhereNeeded, IsAtEnd, KeepMaps};
-ghost use Rattle.sw_rows.specs.Gives.{MemoryAside};
+ghost use Rattle.sw_query.specs.Outcomes.{MemoryAside};
 
 use crate::prepare::align::align_box;
 use crate::prepare::at_once::find_lacking;
 use sw_map::{CrackerMap, Tail};
-use sw_rows::Refusal;
+use sw_query::Refusal;
 use sw_tape::Tape;
 
 /// Steps the boxes one by one, each towards the tape's end. A box whose step is refused stops at the cursor that it

@@ -1,7 +1,7 @@
 //! How much work a map lacks. No contract speaks of it: it decides alone whether a thread is started.
 
 use sw_map::CrackerMap;
-use sw_rows::Bound;
+use sw_query::Bound;
 use sw_tape::{Entry, Tape};
 
 /// A thread is worth its start where more pairs than this are to be parted: that takes some 4 ms, and a processor that

@@ -8,7 +8,7 @@ ghost use Rattle.sw_set.specs.Sought.{AreAllNeeded, LacksMap};
 
 use crate::area::Area;
 use sw_map::{CrackerMap, Tail};
-use sw_rows::Refusal;
+use sw_query::Refusal;
 
 /// Whether a refusal is `Short`.
 fn is_short(e: &Refusal) -> bool

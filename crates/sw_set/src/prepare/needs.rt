@@ -3,12 +3,12 @@
 ghost use Rattle.std.specs.Prelude.{◌≡◌, ◌==◌, ◌++◌, ◌∷◌, [], length};
 ghost use Rattle.std.specs.List.{list_any};
 ghost use Rattle.sw_set.specs.Needs.{edge, is_tested, is_wanted, lower_from, lower_in, needed, needs_cell, spans, tails_for, touches, upper_in, upper_upto};
-ghost use Rattle.sw_rows.specs.Gives.{MemoryAside};
+ghost use Rattle.sw_query.specs.Outcomes.{MemoryAside};
 
 use smallvec::SmallVec;
 use std::alloc::Global;
 use sw_map::Tail;
-use sw_rows::{Bound, Conds, Names, Query, Refusal, Want};
+use sw_query::{Bound, Conds, Names, Query, Refusal, Want};
 
 /// The tails of the maps that a query needs.
 pub(crate) type Tails = SmallVec<Tail, 8>;

@@ -6,7 +6,7 @@ ghost use Rattle.sw_set.specs.Choice.{AreRefined, count_chosen, is_chosen};
 use crate::reply::window::Window;
 use sw_bits::Bits;
 use sw_map::CrackerMap;
-use sw_rows::{Cond, is_within};
+use sw_query::{Cond, is_within};
 
 /// Which rows of a range are chosen: all, or those at the true places of a bit vector.
 #[derive(Drop)]

@@ -1,7 +1,7 @@
 //! Where the columns that a query needs stand.
 
 ghost use Rattle.std.specs.Prelude.{◌≡◌, ℕ, ◌<◌, ◌≤◌, pos, List, map, length, slice_index_or, Any, All, Decides, Contains};
-ghost use Rattle.sw_rows.specs.Scan.{column};
+ghost use Rattle.sw_query.specs.Scan.{column};
 ghost use Rattle.sw_set.specs.Choice.{AreStocked, HasCells, HasColumn, IsColumn, range_rows, shown_rows};
 ghost use Rattle.sw_set.specs.Prepared.{IsReady};
 ghost use Rattle.sw_map.specs.declared.tail.Tail.TheVariants.{Key};

@@ -2,15 +2,15 @@
 
 ghost use Rattle.std.specs.Prelude.{◌≡◌, ℕ, ℤ, pos, ◌+◌, ◌<◌, ◌^◌, ◌≤ℤ◌, ◌++◌, ◌∷◌, [], map, length, All, IsPermutation};
 ghost use Rattle.std.specs.List.Sorted.{IsNonDecreasingBy};
-ghost use Rattle.sw_rows.specs.Replies.{reply_row};
+ghost use Rattle.sw_query.specs.Replies.{reply_row};
 ghost use Rattle.sw_set.specs.Choice.{HavePlace, chosen, placed, row_in, values_shown};
-ghost use Rattle.sw_rows.specs.Gives.{MemoryAside};
+ghost use Rattle.sw_query.specs.Outcomes.{MemoryAside};
 
 use crate::reply::choice::Choice;
 use crate::reply::window::{Column, Window, value_at};
 use std::alloc::Global;
 use sw_map::CrackerMap;
-use sw_rows::{Cells, Refusal, ReplyRows};
+use sw_query::{Cells, Refusal, ReplyRows};
 use sw_slots::sort_dense;
 
 /// Adds a key and the place of its row.

@@ -2,7 +2,7 @@
 
 ghost use Rattle.std.specs.Prelude.{◌≡◌, List, ℤ, cond, length, pos};
 ghost use Rattle.std.specs.Int.{int_max, int_min};
-ghost use Rattle.sw_rows.specs.Scan.{total, least, greatest};
+ghost use Rattle.sw_query.specs.Scan.{total, least, greatest};
 ghost use Rattle.sw_set.specs.Choice.{chosen, either_or, IsSumOf};
 
 use crate::reply::choice::Choice;

@@ -1,5 +1,5 @@
 use Rattle.std.proofs.Common.{◌≡◌, subst}
-use Rattle.sw_rows.specs.declared.query.Call.{Call}
+use Rattle.sw_query.specs.declared.query.Call.{Call}
 use Rattle.sw_lang.specs.Fits.{FitsCall}
 use Rattle.cases_rows.proofs.Asks.{query_asks}
 use Rattle.cases_rows.proofs.replies.answered.Goals as goal

@@ -1,7 +1,7 @@
 use Rattle.std.proofs.Common.{◌≡◌, List, subst, sym}
-use Rattle.sw_rows.specs.Scan.{CondsBelow}
-use Rattle.sw_rows.specs.declared.query.Call.{Call}
-use Rattle.sw_rows.specs.declared.query.Cond.{Cond}
+use Rattle.sw_query.specs.Scan.{CondsBelow}
+use Rattle.sw_query.specs.declared.query.Call.{Call}
+use Rattle.sw_query.specs.declared.query.Cond.{Cond}
 use Rattle.sw_lang.specs.Fits.{FitsCall}
 use Rattle.cases_rows.proofs.Asks.{conds_ask}
 use Rattle.cases_rows.proofs.replies.deleted.Goals as goal

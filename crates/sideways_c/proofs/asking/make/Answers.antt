@@ -1,5 +1,5 @@
 use Rattle.std.proofs.Common.{rules, ◌≡◌, ◌∙◌, true, Some, Err, sym, ap}
-use Rattle.sw_rows.specs.declared.query.Call.{Call}
+use Rattle.sw_query.specs.declared.query.Call.{Call}
 use Rattle.sw_arrays.specs.Asked.{Answers, call_asked}
 use Rattle.sideways_c.specs.Shown.{Shown, has_session}
 use Rattle.sideways_c.proofs.Unmade.{asked_fault}

@@ -1,5 +1,5 @@
 use Rattle.std.proofs.Common.{ap, sym, Ok}
-use Rattle.sw_rows.specs.declared.query.Call.TheVariants as call
+use Rattle.sw_query.specs.declared.query.Call.TheVariants as call
 use Rattle.sw_arrays.specs.Asked.{◌>>=◌}
 use Rattle.sw_arrays.specs.declared.asked.Asked.TheVariants as asked
 use Rattle.sw_arrays.proofs.Fits.{asked_fits}

@@ -2,8 +2,8 @@ use Rattle.std.proofs.Common.{rules, ◌≡◌, ◌∙◌, ◌≤◌, ◌<◌, l
 use Rattle.std.proofs.lemmas.List.{drop-map}
 use mir.Syntax.{w64}
 use mir.Val.{of_z, to_z}
-use Rattle.sw_rows.specs.Replies.{reply_row}
-use Rattle.sw_rows.specs.declared.reply.ReplyRow.{ReplyRow}
+use Rattle.sw_query.specs.Replies.{reply_row}
+use Rattle.sw_query.specs.declared.reply.ReplyRow.{ReplyRow}
 use Rattle.sw_arrays.specs.Blocks.{column_in, filled, many_in}
 use Rattle.sw_arrays.proofs.Blocks.{copied_all, copied_full, copied_next, part_filled, row_passed, row_within}
 use Rattle.sw_arrays.proofs.copied.cells_into.Goals as goal

@@ -1,7 +1,7 @@
 use Rattle.std.proofs.Common.{rules, ◌≡◌, ◌∙◌, ◌≤◌, ◌<◌, length, sym, ap, subst}
 use Rattle.std.proofs.lemmas.List.{drop-map}
-use Rattle.sw_rows.specs.Replies.{reply_row}
-use Rattle.sw_rows.specs.declared.reply.ReplyRow.{ReplyRow}
+use Rattle.sw_query.specs.Replies.{reply_row}
+use Rattle.sw_query.specs.declared.reply.ReplyRow.{ReplyRow}
 use Rattle.sw_arrays.specs.Blocks.{filled, keys_in, many_in}
 use Rattle.sw_arrays.proofs.Blocks.{copied_all, copied_full, copied_next, part_filled, row_passed, row_within}
 use Rattle.sw_arrays.proofs.copied.keys_into.Goals as goal

@@ -2,7 +2,7 @@ use Rattle.std.proofs.Common.{rules, ◌≡◌, ◌<◌, ◌≤◌, ◌+◌, ◌
 use Rattle.std.proofs.lemmas.List.{take_all}
 use Rattle.sw_table.specs.declared.row.Row.{Row}
 use Rattle.sw_table.specs.Packed.{Packed}
-use Rattle.sw_rows.specs.Scan.{cell_of}
+use Rattle.sw_query.specs.Scan.{cell_of}
 use Rattle.sw_chunks.specs.Cuts.{intervals, place_in}
 use Rattle.sw_chunks.specs.Heads.{part_of}
 use Rattle.sw_chunks.proofs.Dealt.{dealt-more, place-below}

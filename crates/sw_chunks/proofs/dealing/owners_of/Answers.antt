@@ -1,7 +1,7 @@
 use Rattle.std.proofs.Common.{rules, ◌≡◌, ◌<◌, ◌++◌, ◌∷◌, ℕ, [], length, get_or, ap, ap₂, ◌∙◌, arith, w64}
 use Rattle.std.proofs.lemmas.Int.{to_z-of_z}
 use Rattle.sw_table.specs.declared.row.Row.{Row}
-use Rattle.sw_rows.specs.Scan.{cell_of}
+use Rattle.sw_query.specs.Scan.{cell_of}
 use Rattle.sw_chunks.specs.Cuts.{place_in}
 use Rattle.sw_chunks.proofs.Dealt.{owners-next}
 use Rattle.sw_chunks.proofs.dealing.owners_of.Goals as goal

@@ -1,5 +1,5 @@
 use Rattle.std.proofs.Common.{rules, ◌≡◌, ◌<◌, ◌≤◌, ◌+◌, ℕ, List, length, get_or, [], subst, refl, sym, ap, ◌∙◌, arith, slice_set}
-use Rattle.sw_rows.specs.Scan.{answer_over}
+use Rattle.sw_query.specs.Scan.{answer_over}
 use Rattle.sw_set.specs.Shelf.{AreaState}
 use Rattle.sw_chunks.specs.Asked.{AreAskedBefore, AreaFits, with_all, with_area}
 use Rattle.sw_chunks.proofs.Asking.{get-any}

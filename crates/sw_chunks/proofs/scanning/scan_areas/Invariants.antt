@@ -1,5 +1,5 @@
 use Rattle.std.proofs.Common.{◌≡◌, drop, []}
-use Rattle.sw_rows.specs.Scan.{answer_over}
+use Rattle.sw_query.specs.Scan.{answer_over}
 use Rattle.sw_chunks.specs.Heads.{AreUntouchedSame}
 use Rattle.sw_chunks.specs.Asked.{AreAskedBefore, AreasFit, with_all}
 use Rattle.sw_chunks.proofs.scanning.scan_areas.Given as goal

@@ -1,6 +1,6 @@
 use Rattle.std.proofs.Common.{◌≡◌, ◌<◌, ℕ, [], length, get_or, subst, arith}
 use Rattle.sw_table.specs.declared.row.Row.{Row}
-use Rattle.sw_rows.specs.Scan.{cell_of}
+use Rattle.sw_query.specs.Scan.{cell_of}
 use Rattle.sw_chunks.specs.Heads.{IsCell, told_in}
 use Rattle.sw_chunks.proofs.Tells.{all-more, inserted-more}
 use Rattle.sw_chunks.proofs.telling.tell_rows.Goals as goal

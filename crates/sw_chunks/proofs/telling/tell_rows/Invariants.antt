@@ -1,7 +1,7 @@
 use Rattle.std.proofs.Common.{◌≡◌, ℕ, map, take, All}
 use Rattle.sw_table.specs.declared.row.Row.{Row}
 use Rattle.sw_table.specs.declared.row.Update.TheVariants.{Insert}
-use Rattle.sw_rows.specs.Scan.{cell_of}
+use Rattle.sw_query.specs.Scan.{cell_of}
 use Rattle.sw_chunks.specs.Heads.{IsCell, told_in}
 use Rattle.sw_chunks.proofs.telling.tell_rows.Given as goal
 

@@ -1,6 +1,6 @@
 use Rattle.std.proofs.Common.{◌≡◌, ◌∙◌, ◌+◌, ◌<◌, ℕ, List, [], length, map, get_or, sym, ap, arith, All}
 use Rattle.std.proofs.lemmas.List.{get_or-map}
-use Rattle.sw_rows.specs.declared.query.Call.{Call}
+use Rattle.sw_query.specs.declared.query.Call.{Call}
 use Rattle.sw_engine.specs.Published.{Shown}
 use Rattle.sw_cli.specs.Outcomes.{AreTold, SaysWhy, Told, blocks_told}
 use Rattle.sw_cli.specs.Served.{AreAnswered}

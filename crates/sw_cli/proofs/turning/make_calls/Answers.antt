@@ -1,5 +1,5 @@
 use Rattle.std.proofs.Common.{subst, List}
-use Rattle.sw_rows.specs.declared.query.Call.{Call}
+use Rattle.sw_query.specs.declared.query.Call.{Call}
 use Rattle.sw_cli.specs.Sides.{sink_by}
 use Rattle.sw_cli.proofs.Going.{flown_err, flown_ok}
 use Rattle.sw_cli.proofs.Turned.{Flown, all_back, answered_not, turned_record}

@@ -1,5 +1,5 @@
 use Rattle.std.proofs.Common.{◌≡◌, ◌∙◌, sym, ap, subst, ℕ, List, length}
-use Rattle.sw_rows.specs.declared.query.Call.{Call}
+use Rattle.sw_query.specs.declared.query.Call.{Call}
 use Rattle.sw_cli.specs.Script.{AreBlocks}
 use Rattle.sw_cli.specs.Sides.{sink_seen}
 use Rattle.sw_cli.specs.Starts.{start_seen}

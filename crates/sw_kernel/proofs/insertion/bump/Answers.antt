@@ -1,5 +1,5 @@
 use Rattle.std.proofs.Common.{◌^◌, pos, arith}
-use Rattle.sw_rows.specs.declared.bound.Bound.TheVariants.{Before}
+use Rattle.sw_query.specs.declared.bound.Bound.TheVariants.{Before}
 use Rattle.sw_kernel.specs.declared.mark.Mark.{Mark}
 use Rattle.sw_kernel.proofs.Ripples.{kept-at}
 use Rattle.sw_kernel.proofs.insertion.bump.Goals as goal

@@ -3,7 +3,7 @@ use Rattle.std.proofs.lemmas.Int.{to_z-of_z}
 use Rattle.std.proofs.lemmas.List.Elements.{All-drop}
 use mir.Syntax.{w64}
 use mir.Val.{SFits, to_z, of_z}
-use Rattle.sw_rows.specs.declared.bound.Bound.TheVariants.{Before}
+use Rattle.sw_query.specs.declared.bound.Bound.TheVariants.{Before}
 use Rattle.sw_kernel.specs.declared.mark.Mark.{Mark}
 use Rattle.sw_kernel.proofs.Ripples.{end-le, carry-step}
 use Rattle.sw_kernel.proofs.insertion.carry_on.Goals as goal

@@ -1,5 +1,5 @@
 use Rattle.std.proofs.Common.{rules, ◌≡◌, ℕ, ◌+◌, ◌-◌, ◌*◌, ◌∙◌, Bool, get_or, pos, arith, subst, ap}
-use Rattle.sw_rows.specs.Bounds.{is_left}
+use Rattle.sw_query.specs.Bounds.{is_left}
 use Rattle.sw_kernel.specs.Blocks.{Listed, goes_down}
 use Rattle.sw_kernel.proofs.listing.scan_down.Goals as goal
 

@@ -1,5 +1,5 @@
 use Rattle.std.proofs.Common.{rules, ◌≡◌, get_or, pos, ℕ, ◌+◌, ◌*◌, Bool, not, arith, subst, ap}
-use Rattle.sw_rows.specs.Bounds.{is_left}
+use Rattle.sw_query.specs.Bounds.{is_left}
 use Rattle.sw_kernel.specs.Blocks.{Listed, goes_up}
 use Rattle.sw_kernel.proofs.listing.scan_up.Goals as goal
 

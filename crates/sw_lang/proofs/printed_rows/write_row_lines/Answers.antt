@@ -1,6 +1,6 @@
 use Rattle.std.proofs.Common.{map}
 use Rattle.sw_lang.specs.Replies.{kind_at, row_line}
-use Rattle.sw_rows.specs.Replies.{reply_row}
+use Rattle.sw_query.specs.Replies.{reply_row}
 use Rattle.sw_lang.proofs.Progress.{step, stops_within}
 use Rattle.sw_lang.proofs.Texts.{ends_first}
 use Rattle.sw_lang.proofs.printed_rows.write_row_lines.Goals as goal

@@ -1,6 +1,6 @@
 use Rattle.std.proofs.Common.{rules, ◌≡◌, ◌-◌, ◌<◌, length, ℕ, pos, true, false, List, zip, get_or, sym, ◌∙◌, arith, subst}
-use Rattle.sw_rows.specs.declared.bound.Bound.TheVariants.{Before}
-use Rattle.sw_rows.specs.Bounds.{same_bound}
+use Rattle.sw_query.specs.declared.bound.Bound.TheVariants.{Before}
+use Rattle.sw_query.specs.Bounds.{same_bound}
 use Rattle.sw_kernel.specs.declared.mark.Mark.{Mark}
 use Rattle.sw_kernel.specs.Flat.{marks_below}
 use Rattle.sw_kernel.specs.Flat.{InOrder}

@@ -1,5 +1,5 @@
 use Rattle.std.proofs.Common.{rules, ◌≡◌, length, ℕ, zip, sym, ◌∙◌, arith, subst, refl, Option, None}
-use Rattle.sw_rows.specs.declared.bound.Bound.{Bound}
+use Rattle.sw_query.specs.declared.bound.Bound.{Bound}
 use Rattle.sw_kernel.specs.Flat.{InOrder}
 use Rattle.sw_kernel.specs.Partition.{head_of}
 use Rattle.sw_kernel.specs.Replay.{crack_at}

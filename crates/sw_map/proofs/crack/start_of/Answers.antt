@@ -1,5 +1,5 @@
 use Rattle.std.proofs.Common.{rules, ◌≡◌, ◌-◌, ◌<◌, length, ℕ, pos, suc, sym, ap, ◌∙◌}
-use Rattle.sw_rows.specs.declared.bound.Bound.TheVariants.{Before}
+use Rattle.sw_query.specs.declared.bound.Bound.TheVariants.{Before}
 use Rattle.sw_kernel.specs.declared.mark.Mark.{Mark}
 use Rattle.sw_kernel.specs.Flat.{start_at}
 use Rattle.sw_map.proofs.Finding.{start-at}

@@ -1,5 +1,5 @@
 use Rattle.std.proofs.Common.{◌-◌, ◌<◌, length, pos, arith, sym}
-use Rattle.sw_rows.specs.declared.bound.Bound.TheVariants.{Before}
+use Rattle.sw_query.specs.declared.bound.Bound.TheVariants.{Before}
 use Rattle.sw_kernel.specs.declared.mark.Mark.{Mark}
 use Rattle.sw_map.proofs.Finding.{new-at, not-before, mark-there, mark-new}
 use Rattle.sw_map.proofs.places.find_mark.Goals as goal

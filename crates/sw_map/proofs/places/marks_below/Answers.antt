@@ -1,6 +1,6 @@
 use Rattle.std.proofs.Common.{rules, not, sym}
 use Rattle.std.proofs.lemmas.List.Sorted.{IsPartitionPoint-from_clause}
-use Rattle.sw_rows.specs.Bounds.{bound_below}
+use Rattle.sw_query.specs.Bounds.{bound_below}
 use Rattle.sw_map.proofs.Finding.{marks-parted, marks-point}
 use Rattle.sw_map.proofs.places.marks_below.Goals as goal
 

@@ -1,6 +1,6 @@
 use Rattle.std.proofs.Common.{◌∷◌, [], ap, decimal, map, subst, sym}
 use Rattle.csv.specs.Writing.{default_writer, row_text}
-use Rattle.sw_rows.specs.Replies.{reply_row}
+use Rattle.sw_query.specs.Replies.{reply_row}
 use Rattle.sw_lang.specs.Replies.{kind_at}
 use Rattle.sw_outputs.specs.Fields.{keyed_fields, records_text}
 use Rattle.sw_outputs.proofs.Making.{GoesOver, arrives, row_more, sets_out}

@@ -2,7 +2,7 @@ use Rattle.std.proofs.Common.{◌≡◌, ◌∙◌, ◌<◌, ◌++◌, [], List,
 use Rattle.std.proofs.lemmas.List.{length-map}
 use Rattle.sw_rows.specs.Domains.{under}
 use Rattle.sw_rows.specs.Gives.{Fails}
-use Rattle.sw_rows.specs.declared.refusal.Refusal.TheVariants as refusal
+use Rattle.sw_query.specs.declared.refusal.Refusal.TheVariants as refusal
 use Rattle.sw_rows.specs.Header.{bad_table, kinds_of}
 use Rattle.sw_rows.specs.Records.{records_left}
 use Rattle.sw_rows.specs.Tables.{rows_after, texts_in}

@@ -1,7 +1,7 @@
 use Rattle.std.proofs.Common.{ap, List, get_or, slice_range}
 use Rattle.sw_set.specs.Choice.{shown_rows}
-use Rattle.sw_rows.specs.declared.query.Cond.{Cond}
-use Rattle.sw_rows.specs.Scan.{meets_all}
+use Rattle.sw_query.specs.declared.query.Cond.{Cond}
+use Rattle.sw_query.specs.Scan.{meets_all}
 use Rattle.sw_set.proofs.Replying.Told.{none-further}
 use Rattle.sw_set.proofs.reply.choose.Goals as goal
 

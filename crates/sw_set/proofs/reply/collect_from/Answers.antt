@@ -1,10 +1,10 @@
 use Rattle.std.proofs.Common.{arith, ◌≡◌, ◌∙◌, ◌<◌, sym, subst, List, All, map, slice_range, []}
-use Rattle.sw_rows.specs.declared.query.Cond.{Cond}
-use Rattle.sw_rows.specs.declared.reply.Reply.{Reply}
-use Rattle.sw_rows.specs.declared.refusal.Refusal.{Refusal}
-use Rattle.sw_rows.specs.declared.refusal.Refusal.TheVariants.{NoMemory}
+use Rattle.sw_query.specs.declared.query.Cond.{Cond}
+use Rattle.sw_query.specs.declared.reply.Reply.{Reply}
+use Rattle.sw_query.specs.declared.refusal.Refusal.{Refusal}
+use Rattle.sw_query.specs.declared.refusal.Refusal.TheVariants.{NoMemory}
 use Rattle.sw_table.specs.declared.row.Row.{Row}
-use Rattle.sw_rows.specs.Scan.{answer, answer_over, meets_all}
+use Rattle.sw_query.specs.Scan.{answer, answer_over, meets_all}
 use Rattle.sw_set.specs.Choice.{AreOf, HasCells, chosen, further, shown_rows}
 use Rattle.sw_set.specs.Collected.{IsReplyOver}
 use Rattle.sw_set.proofs.Replying.Answered.{none-matching, range-matching, told-answer, told-nothing}

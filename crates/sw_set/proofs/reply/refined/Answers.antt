@@ -1,5 +1,5 @@
 use Rattle.std.proofs.Common.{◌∙◌, ◌-◌, sym, refl, slice_range, get_or, None}
-use Rattle.sw_rows.specs.declared.query.Cond.{Cond}
+use Rattle.sw_query.specs.declared.query.Cond.{Cond}
 use Rattle.sw_set.specs.Choice.{shown_rows}
 use Rattle.sw_set.proofs.Replying.Told.{all-true, range-long, refined-step}
 use Rattle.sw_set.proofs.reply.refined.Goals as goal

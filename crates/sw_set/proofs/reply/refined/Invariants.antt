@@ -1,5 +1,5 @@
 use Rattle.std.proofs.Common.{◌≡◌, map, slice_range, take}
-use Rattle.sw_rows.specs.Scan.{meets_all}
+use Rattle.sw_query.specs.Scan.{meets_all}
 use Rattle.sw_set.specs.Choice.{shown_rows}
 use Rattle.sw_set.proofs.reply.refined.Given as goal
 

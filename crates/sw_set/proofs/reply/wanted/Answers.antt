@@ -2,9 +2,9 @@ use Rattle.std.proofs.Common.{rules, ◌∙◌, ap, sym, subst, to_z, of_z, ℤ,
 use Rattle.std.proofs.lemmas.Int.{to_z-of_z}
 use mir.Val.{SFits}
 use mir.Syntax.{w128}
-use Rattle.sw_rows.specs.declared.query.Want.{Want}
-use Rattle.sw_rows.specs.declared.reply.Reply.TheVariants as reply
-use Rattle.sw_rows.specs.Scan.{cell_of, total, least, greatest}
+use Rattle.sw_query.specs.declared.query.Want.{Want}
+use Rattle.sw_query.specs.declared.reply.Reply.TheVariants as reply
+use Rattle.sw_query.specs.Scan.{cell_of, total, least, greatest}
 use Rattle.sw_set.specs.Choice.{chosen, count_chosen, shown_rows}
 use Rattle.sw_set.specs.Collected.{IsReplyOver}
 use Rattle.sw_set.proofs.Replying.Told.{chosen-map, chosen-count, range-long}

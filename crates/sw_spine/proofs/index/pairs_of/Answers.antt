@@ -2,7 +2,7 @@ use Rattle.std.proofs.Common.{◌≡◌, ◌∙◌, ◌+◌, ◌<◌, ◌≤◌,
 use Rattle.std.proofs.lemmas.Int.{to_z-of_z}
 use Rattle.std.proofs.lemmas.List.{get_or-map, length-map, length-take-le, take_all, take_more}
 use Rattle.sw_table.specs.declared.row.Row.{Row}
-use Rattle.sw_rows.specs.Scan.{cell_of, column}
+use Rattle.sw_query.specs.Scan.{cell_of, column}
 use Rattle.sw_spine.specs.Indexes.{placed}
 use Rattle.sw_spine.proofs.IndexLemmas.{placed-push}
 use Rattle.sw_spine.proofs.index.pairs_of.Goals as goal

@@ -1,5 +1,5 @@
 use Rattle.std.proofs.Common.{◌≡◌, take}
-use Rattle.sw_rows.specs.Scan.{column}
+use Rattle.sw_query.specs.Scan.{column}
 use Rattle.sw_spine.specs.Indexes.{placed}
 use Rattle.sw_spine.proofs.index.pairs_of.Given as goal
 

@@ -1,6 +1,6 @@
 use Rattle.std.proofs.Common.{rules}
 use Rattle.std.proofs.lemmas.List.Sorted.{IsPartitionPoint-from_clause}
-use Rattle.sw_rows.specs.Bounds.{bound_below}
+use Rattle.sw_query.specs.Bounds.{bound_below}
 use Rattle.sw_tape.proofs.Places.{rising-parted, place-from_point}
 use Rattle.sw_tape.proofs.bounds.count_below.Goals as goal
 

@@ -1,6 +1,6 @@
 use Rattle.std.proofs.Common.{rules, not}
 use Rattle.std.proofs.lemmas.List.Sorted.{IsPartitionPoint-from_clause}
-use Rattle.sw_rows.specs.Bounds.{is_left}
+use Rattle.sw_query.specs.Bounds.{is_left}
 use Rattle.sw_tape.proofs.Around.{rising-split, split-from_point}
 use Rattle.sw_tape.proofs.bounds.count_up_to.Goals as goal
 

@@ -1,5 +1,5 @@
 use Rattle.std.proofs.Common.{rules, ◌≡◌, ◌<◌, length, pos}
-use Rattle.sw_rows.specs.declared.bound.Bound.TheVariants.{Before}
+use Rattle.sw_query.specs.declared.bound.Bound.TheVariants.{Before}
 use Rattle.sw_tape.proofs.Around.{nearest-high, nearest-none_above}
 use Rattle.sw_tape.proofs.bounds.nearest_above.Goals as goal
 

@@ -1,5 +1,5 @@
 use Rattle.std.proofs.Common.{rules, ◌≡◌, ◌≢◌, pos}
-use Rattle.sw_rows.specs.declared.bound.Bound.TheVariants.{Before}
+use Rattle.sw_query.specs.declared.bound.Bound.TheVariants.{Before}
 use Rattle.sw_tape.proofs.Around.{nearest-low, nearest-none_below}
 use Rattle.sw_tape.proofs.bounds.nearest_below.Goals as goal
 

@@ -1,7 +1,7 @@
 use Rattle.std.proofs.Common.{◌<◌, All, List, None, arith, refl, subst}
 use Rattle.std.proofs.lemmas.List.{take_all}
 use Rattle.std.proofs.lemmas.List.Elements.{All-more}
-use Rattle.sw_rows.specs.declared.query.Cond.{Cond}
+use Rattle.sw_query.specs.declared.query.Cond.{Cond}
 use Rattle.test_areas.proofs.asking.conds_are_small.Goals as goal
 
 pub loop-cond-preserved : goal.loop-cond-preserved

@@ -1,7 +1,7 @@
 use Rattle.std.proofs.Common.{◌<◌, All, List, None, arith, subst}
 use Rattle.std.proofs.lemmas.List.{take_all}
 use Rattle.std.proofs.lemmas.List.Elements.{All-more}
-use Rattle.sw_rows.specs.declared.query.Cond.{Cond}
+use Rattle.sw_query.specs.declared.query.Cond.{Cond}
 use Rattle.test_sessions.proofs.below.conds_below.Goals as goal
 
 pub loop-cond-preserved : goal.loop-cond-preserved

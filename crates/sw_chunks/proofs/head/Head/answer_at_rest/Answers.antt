@@ -1,6 +1,6 @@
 use Rattle.std.proofs.Common.{rules, ◌≡◌, List, [], IfOk, IfSome, subst, sym, ap, ◌∙◌}
-use Rattle.sw_rows.specs.declared.reply.Reply.{Reply}
-use Rattle.sw_rows.specs.Scan.{answer, answer_over}
+use Rattle.sw_query.specs.declared.reply.Reply.{Reply}
+use Rattle.sw_query.specs.Scan.{answer, answer_over}
 use Rattle.sw_table.specs.Updates.{rows_of}
 use Rattle.sw_set.specs.Resting.{IsToldWhere}
 use Rattle.sw_set.specs.Shelf.{AreaState}

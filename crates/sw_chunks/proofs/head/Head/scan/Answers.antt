@@ -1,5 +1,5 @@
 use Rattle.std.proofs.Common.{rules, ◌≡◌, List, [], length, subst, sym, ap, refl, ◌∙◌}
-use Rattle.sw_rows.specs.Scan.{answer, answer_over}
+use Rattle.sw_query.specs.Scan.{answer, answer_over}
 use Rattle.sw_table.specs.Updates.{rows_of}
 use Rattle.sw_set.specs.Merged.{StandsForSame}
 use Rattle.sw_set.specs.Shelf.{AreaState}

@@ -1,5 +1,5 @@
 use Rattle.std.proofs.Common.{◌≡◌, ◌<◌, MatchResult, get_or, length, slice_set, subst, sym, arith, pos}
-use Rattle.sw_rows.specs.declared.refusal.Refusal.TheVariants.{NoMemory}
+use Rattle.sw_query.specs.declared.refusal.Refusal.TheVariants.{NoMemory}
 use Rattle.sw_set.specs.Shelf.{AreaState}
 use Rattle.sw_chunks.specs.Heads.{HeadState, IsSupplied, told_in}
 use Rattle.sw_chunks.specs.Shelved.{IsFewest, IsSameButShelf}

@@ -1,6 +1,6 @@
 use Rattle.std.proofs.Common.{◌≡◌, ℕ, List, ◌++◌, set, false, Some, None, sym, ap, ◌∙◌, subst}
 use Rattle.sw_table.specs.declared.row.Update.{Update}
-use Rattle.sw_rows.specs.declared.query.Call.TheVariants.{Select}
+use Rattle.sw_query.specs.declared.query.Call.TheVariants.{Select}
 use Rattle.sw_spine.specs.Books.{Books, took}
 use Rattle.sw_spine.specs.Receivable.{AreUpdates}
 use Rattle.sw_engine.specs.Desk.{received_by}

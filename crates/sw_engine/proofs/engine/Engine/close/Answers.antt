@@ -1,7 +1,7 @@
 use Rattle.std.proofs.Common.{rules, arith, ◌≡◌, ℕ, List, length, map, All, get_or, sym, ap, ◌∙◌, subst, ⊎_elim, inl, inr}
 use Rattle.std.proofs.lemmas.List.{length-map}
-use Rattle.sw_rows.specs.declared.query.Call.{Call}
-use Rattle.sw_rows.specs.declared.reply.Reply.{Reply}
+use Rattle.sw_query.specs.declared.query.Call.{Call}
+use Rattle.sw_query.specs.declared.reply.Reply.{Reply}
 use Rattle.sw_spine.specs.History.{History, IsLegal, all_given, is_absent, mine}
 use Rattle.sw_spine.specs.Books.{Books, waits_for}
 use Rattle.sw_spine.specs.Rest.{none_open}

@@ -1,5 +1,5 @@
 use Rattle.std.proofs.Common.{◌≤◌, length, arith}
-use Rattle.sw_rows.specs.declared.refusal.Refusal.{Refusal}
+use Rattle.sw_query.specs.declared.refusal.Refusal.{Refusal}
 use Rattle.sw_engine.specs.Desk.{RefusesOpening}
 use Rattle.sw_engine.proofs.Ties.{handed_on, opens_for_few}
 use Rattle.sw_engine.proofs.engine.Engine.open_for.Goals as goal

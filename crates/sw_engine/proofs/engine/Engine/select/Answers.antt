@@ -1,7 +1,7 @@
 use Rattle.std.proofs.Common.{◌<◌, inl, inr, length, arith, subst}
-use Rattle.sw_rows.specs.declared.query.Call.TheVariants.{Select}
-use Rattle.sw_rows.specs.declared.query.Query.{Query}
-use Rattle.sw_rows.specs.declared.reply.Reply.{Reply}
+use Rattle.sw_query.specs.declared.query.Call.TheVariants.{Select}
+use Rattle.sw_query.specs.declared.query.Query.{Query}
+use Rattle.sw_query.specs.declared.reply.Reply.{Reply}
 use Rattle.sw_engine.specs.Published.{Shown}
 use Rattle.sw_engine.specs.Sessions.{Answers, Voids}
 use Rattle.sw_engine.proofs.Called.{begun_answers, begun_voids, stays_self}

@@ -1,6 +1,6 @@
 use Rattle.std.proofs.Common.{◌≡◌, ◌++◌, ◌∷◌, [], ap, subst, ◌∙◌}
 use Rattle.std.specs.Prelude.{IfOk, OnErr}
-use Rattle.sw_rows.specs.declared.query.Call.TheVariants.{Select}
+use Rattle.sw_query.specs.declared.query.Call.TheVariants.{Select}
 use Rattle.sw_engine.specs.Later.{Begin}
 use Rattle.sw_engine.specs.Own.{LeavesSelect}
 use Rattle.sw_engine.specs.Published.{Shown}

@@ -1,6 +1,6 @@
 use Rattle.std.proofs.Common.{◌≡◌, List, subst}
 use Rattle.std.specs.Prelude.{IfOk}
-use Rattle.sw_rows.specs.Scan.{answer}
+use Rattle.sw_query.specs.Scan.{answer}
 use Rattle.sw_table.specs.declared.row.Row.{Row}
 use Rattle.sw_versions.specs.Rules.{updates_in}
 use Rattle.sw_engine.proofs.Published.{rows_join}

@@ -1,6 +1,6 @@
 use Rattle.std.proofs.Common.{◌≡◌, ◌<◌, ap, sym, ◌∙◌, subst, map, List, Any, Contains, IfOk}
 use Rattle.sw_table.specs.declared.row.Row.{Row}
-use Rattle.sw_rows.specs.Scan.{answer}
+use Rattle.sw_query.specs.Scan.{answer}
 use Rattle.sw_map.specs.declared.tail.Tail.{Tail}
 use Rattle.sw_set.specs.Choice.{IsRun, meets_first, shown_rows}
 use Rattle.sw_set.specs.Needs.{needed}

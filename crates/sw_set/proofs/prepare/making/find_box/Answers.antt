@@ -1,5 +1,5 @@
 use Rattle.std.proofs.Common.{ap, length}
-use Rattle.sw_rows.specs.declared.refusal.Refusal.TheVariants.{NoBlank}
+use Rattle.sw_query.specs.declared.refusal.Refusal.TheVariants.{NoBlank}
 use Rattle.sw_set.proofs.Preparing.Trying.{no-blank}
 use Rattle.sw_set.proofs.prepare.making.find_box.Goals as goal
 

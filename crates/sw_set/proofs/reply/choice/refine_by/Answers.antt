@@ -1,7 +1,7 @@
 use Rattle.std.proofs.Common.{rules, arith, w64, ◌≡◌, ◌∙◌, ◌<◌, ℕ, ℤ, Bool, List, ap, pos, get_or, length, length-set, false}
 use Rattle.std.proofs.lemmas.Int.{to_z-of_z}
 use mir.Val.{SFits}
-use Rattle.sw_rows.specs.Bounds.{is_within}
+use Rattle.sw_query.specs.Bounds.{is_within}
 use Rattle.sw_set.proofs.Replying.Refined.{refined-first, refined-rest}
 use Rattle.sw_set.proofs.reply.choice.refine_by.Goals as goal
 

@@ -1,5 +1,5 @@
 use Rattle.std.proofs.Common.{◌≡◌, ℕ, ◌<◌, ◌≤◌, ◌&&◌, pos, false, get_or, length}
-use Rattle.sw_rows.specs.Bounds.{is_within}
+use Rattle.sw_query.specs.Bounds.{is_within}
 use Rattle.sw_set.proofs.reply.choice.refine_by.Given as goal
 
 -- the places so far are refined, the others are as they were

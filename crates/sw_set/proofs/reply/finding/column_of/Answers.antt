@@ -1,5 +1,5 @@
 use Rattle.std.proofs.Common.{sym, subst, ℕ, map}
-use Rattle.sw_rows.specs.Scan.{column}
+use Rattle.sw_query.specs.Scan.{column}
 use Rattle.sw_map.specs.declared.tail.Tail.TheVariants.{Key, Cell}
 use Rattle.sw_set.specs.Choice.{IsColumn, shown_rows}
 use Rattle.sw_set.specs.declared.reply.window.Side.TheVariants.{Head}

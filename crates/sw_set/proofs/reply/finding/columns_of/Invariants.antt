@@ -1,5 +1,5 @@
 use Rattle.std.proofs.Common.{◌≡◌, ℕ, ◌<◌, get_or, length, map}
-use Rattle.sw_rows.specs.Scan.{column}
+use Rattle.sw_query.specs.Scan.{column}
 use Rattle.sw_set.specs.Choice.{IsColumn, column_at, shown_rows}
 use Rattle.sw_set.proofs.reply.finding.columns_of.Given as goal
 

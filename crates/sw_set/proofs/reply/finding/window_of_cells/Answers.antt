@@ -1,5 +1,5 @@
 use Rattle.std.proofs.Common.{◌∙◌}
-use Rattle.sw_rows.specs.Scan.{cell_of}
+use Rattle.sw_query.specs.Scan.{cell_of}
 use Rattle.sw_set.specs.Choice.{shown_rows}
 use Rattle.sw_set.proofs.Replying.Stock.{column-range}
 use Rattle.sw_set.proofs.reply.finding.window_of_cells.Goals as goal

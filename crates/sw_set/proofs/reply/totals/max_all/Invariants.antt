@@ -1,5 +1,5 @@
 use Rattle.std.proofs.Common.{◌≡◌, ◌≤◌, ◌-◌, length, take}
-use Rattle.sw_rows.specs.Scan.{greatest}
+use Rattle.sw_query.specs.Scan.{greatest}
 use Rattle.sw_set.proofs.reply.totals.max_all.Given as goal
 
 -- the greatest so far is found

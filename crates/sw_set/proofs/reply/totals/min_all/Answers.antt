@@ -1,6 +1,6 @@
 use Rattle.std.proofs.Common.{rules, arith, ℤ, List, Option, ◌∙◌, ◌+◌, ◌≤◌, ap, ap₂, sym, length, slice_range, take}
 use Rattle.std.specs.Int.{int_min}
-use Rattle.sw_rows.specs.Scan.{least}
+use Rattle.sw_query.specs.Scan.{least}
 use Rattle.sw_set.specs.Choice.{either_or}
 use Rattle.sw_set.proofs.Replying.Blocks.{block-read, one-block}
 use Rattle.sw_set.proofs.Replying.Least.{least-both}

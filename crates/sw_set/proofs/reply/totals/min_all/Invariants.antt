@@ -1,5 +1,5 @@
 use Rattle.std.proofs.Common.{◌≡◌, ◌≤◌, ◌-◌, length, take}
-use Rattle.sw_rows.specs.Scan.{least}
+use Rattle.sw_query.specs.Scan.{least}
 use Rattle.sw_set.proofs.reply.totals.min_all.Given as goal
 
 -- the least so far is found

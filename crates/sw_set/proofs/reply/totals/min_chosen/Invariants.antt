@@ -1,5 +1,5 @@
 use Rattle.std.proofs.Common.{◌≡◌, take}
-use Rattle.sw_rows.specs.Scan.{least}
+use Rattle.sw_query.specs.Scan.{least}
 use Rattle.sw_set.specs.Choice.{chosen}
 use Rattle.sw_set.proofs.reply.totals.min_chosen.Given as goal
 

@@ -3,7 +3,7 @@ use Rattle.std.proofs.lemmas.Int.{to_z-of_z}
 use Rattle.std.proofs.lemmas.Grind.{common_steps}
 use mir.Syntax.{w128}
 use mir.Val.{of_z, to_z}
-use Rattle.sw_rows.specs.Scan.{total}
+use Rattle.sw_query.specs.Scan.{total}
 use Rattle.sw_set.specs.Choice.{IsSumOf}
 use Rattle.sw_set.proofs.Replying.Blocks.{block-read, sum-of-both, total-block}
 use Rattle.sw_set.proofs.Replying.Told.{range-long}

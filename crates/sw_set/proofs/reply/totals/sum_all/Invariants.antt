@@ -1,5 +1,5 @@
 use Rattle.std.proofs.Common.{◌≡◌, ◌≤◌, ◌-◌, length, take}
-use Rattle.sw_rows.specs.Scan.{total}
+use Rattle.sw_query.specs.Scan.{total}
 use Rattle.sw_set.specs.Choice.{IsSumOf}
 use Rattle.sw_set.proofs.reply.totals.sum_all.Given as goal
 

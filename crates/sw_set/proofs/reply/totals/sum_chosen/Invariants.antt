@@ -1,5 +1,5 @@
 use Rattle.std.proofs.Common.{◌≡◌, ◌*◌, ◌^◌, take, pos, neg_ℤ, ◌≤ℤ◌}
-use Rattle.sw_rows.specs.Scan.{total}
+use Rattle.sw_query.specs.Scan.{total}
 use Rattle.sw_set.specs.Choice.{chosen}
 use Rattle.sw_set.proofs.reply.totals.sum_chosen.Given as goal
 

@@ -1,5 +1,5 @@
 use Rattle.std.proofs.Common.{rules, ◌≡◌, ◌<◌, ◌∙◌, length, sym, subst, arith}
-use Rattle.sw_rows.specs.Scan.{AsksBelow}
+use Rattle.sw_query.specs.Scan.{AsksBelow}
 use Rattle.sw_solo.specs.Called.{SoloState}
 use Rattle.sw_solo.specs.Seats.{IsSeated}
 use Rattle.sw_solo.proofs.Served.{asks_eight, seat_here, seat_own}

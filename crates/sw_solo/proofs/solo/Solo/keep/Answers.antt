@@ -1,5 +1,5 @@
 use Rattle.std.proofs.Common.{◌∙◌, ap, refl, sym, subst}
-use Rattle.sw_rows.specs.declared.query.Call.TheVariants.{Select}
+use Rattle.sw_query.specs.declared.query.Call.TheVariants.{Select}
 use Rattle.sw_solo.specs.Called.{HasCalled, SoloState, reply_in, solo_of}
 use Rattle.sw_solo.proofs.Settles.{called}
 use Rattle.sw_solo.proofs.solo.Solo.keep.Goals as goal

@@ -1,5 +1,5 @@
 use Rattle.std.proofs.Common.{length, sym, subst}
-use Rattle.sw_rows.specs.Scan.{AsksBelow}
+use Rattle.sw_query.specs.Scan.{AsksBelow}
 use Rattle.sw_solo.specs.Called.{SoloState}
 use Rattle.sw_solo.proofs.Served.{asks_eight}
 use Rattle.sw_solo.proofs.solo.Solo.look.Goals as goal

@@ -1,6 +1,6 @@
 use Rattle.std.proofs.Common.{◌≡◌, ◌∙◌, ap, sym, subst, length, ℕ, List, rules}
-use Rattle.sw_rows.specs.declared.query.Call.TheVariants.{DeleteWhere}
-use Rattle.sw_rows.specs.declared.reply.Reply.TheVariants.{RemovedMany}
+use Rattle.sw_query.specs.declared.query.Call.TheVariants.{DeleteWhere}
+use Rattle.sw_query.specs.declared.reply.Reply.TheVariants.{RemovedMany}
 use Rattle.sw_table.specs.Live.{live_rows}
 use Rattle.sw_table.specs.declared.row.Row.{Row}
 use Rattle.sw_spine.specs.Replays.{Replayed, StandsAfter, replayed, rows_without}

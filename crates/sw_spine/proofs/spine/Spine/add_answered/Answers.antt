@@ -1,6 +1,6 @@
 use Rattle.std.proofs.Common.{◌≡◌, ◌<◌, ◌∷◌, [], ◌++◌, true, length, sym, ◌∙◌, ap, subst}
 use Rattle.std.specs.Prelude.{None}
-use Rattle.sw_rows.specs.declared.query.Call.TheVariants.{Select}
+use Rattle.sw_query.specs.declared.query.Call.TheVariants.{Select}
 use Rattle.sw_spine.specs.Table.{all_updates, reply_to}
 use Rattle.sw_spine.specs.History.{CallsBelow, entry}
 use Rattle.sw_spine.specs.Books.{Books, books_of, is_opened, reply_now, waits_for}

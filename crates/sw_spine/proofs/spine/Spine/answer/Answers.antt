@@ -1,6 +1,6 @@
 use Rattle.std.proofs.Common.{◌<◌, ℕ, subst}
 use Rattle.std.specs.List.{slice_index}
-use Rattle.sw_rows.specs.declared.query.Call.TheVariants.{Select}
+use Rattle.sw_query.specs.declared.query.Call.TheVariants.{Select}
 use Rattle.sw_spine.specs.Books.{Books, IsCount}
 use Rattle.sw_spine.proofs.Spines.{answered_mine, answered_others, answered_rest, answered_took, told_updates}
 use Rattle.sw_spine.proofs.spine.Spine.answer.Goals as goal

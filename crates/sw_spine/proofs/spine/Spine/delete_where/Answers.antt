@@ -1,8 +1,8 @@
 use Rattle.std.proofs.Common.{◌≡◌, ◌<◌, ◌∷◌, [], ◌++◌, true, length, sym, ◌∙◌, ap, subst, List}
 use Rattle.std.specs.Prelude.{None}
-use Rattle.sw_rows.specs.declared.query.Call.TheVariants.{DeleteWhere}
-use Rattle.sw_rows.specs.declared.query.Cond.{Cond}
-use Rattle.sw_rows.specs.declared.reply.Reply.TheVariants.{RemovedMany}
+use Rattle.sw_query.specs.declared.query.Call.TheVariants.{DeleteWhere}
+use Rattle.sw_query.specs.declared.query.Cond.{Cond}
+use Rattle.sw_query.specs.declared.reply.Reply.TheVariants.{RemovedMany}
 use Rattle.sw_spine.specs.Table.{all_updates, reply_to}
 use Rattle.sw_spine.specs.History.{CallsBelow, entry}
 use Rattle.sw_spine.specs.Books.{Books, books_of, is_opened, waits_for}

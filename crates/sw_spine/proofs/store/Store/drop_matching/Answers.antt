@@ -1,8 +1,8 @@
 use Rattle.std.proofs.Common.{◌≡◌, ◌∙◌, ◌++◌, ap, sym, subst, length, map, ℕ, Bool, List, rules}
 use Rattle.std.proofs.lemmas.List.{length-map}
-use Rattle.sw_rows.specs.Scan.{matching}
-use Rattle.sw_rows.specs.declared.query.Call.TheVariants.{DeleteWhere}
-use Rattle.sw_rows.specs.declared.reply.Reply.TheVariants.{RemovedMany}
+use Rattle.sw_query.specs.Scan.{matching}
+use Rattle.sw_query.specs.declared.query.Call.TheVariants.{DeleteWhere}
+use Rattle.sw_query.specs.declared.reply.Reply.TheVariants.{RemovedMany}
 use Rattle.sw_table.specs.Kept.{kept}
 use Rattle.sw_table.specs.Live.{key_of}
 use Rattle.sw_table.specs.Updates.{rows_of}

@@ -1,6 +1,6 @@
 use Rattle.std.proofs.Common.{rules, ◌≡◌, ◌<◌, ◌++◌, ◌∷◌, [], ◌||◌, List, length, map, arith, sym, subst, ◌∙◌, ap}
 use Rattle.std.proofs.lemmas.List.{map-append, length-map}
-use Rattle.sw_rows.specs.declared.bound.Bound.{Bound}
+use Rattle.sw_query.specs.declared.bound.Bound.{Bound}
 use Rattle.sw_table.specs.declared.row.Row.{Row}
 use Rattle.sw_kernel.specs.Replay.{Step}
 use Rattle.sw_kernel.specs.Tapes.{MayFollow, count_from, ranges_at}

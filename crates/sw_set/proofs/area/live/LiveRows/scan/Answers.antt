@@ -1,7 +1,7 @@
 use Rattle.std.proofs.Common.{◌≡◌, ◌∙◌, refl, sym, subst, List, length, IfOk}
-use Rattle.sw_rows.specs.declared.reply.Reply.{Reply}
+use Rattle.sw_query.specs.declared.reply.Reply.{Reply}
 use Rattle.sw_table.specs.declared.row.Row.{Row}
-use Rattle.sw_rows.specs.Scan.{answer}
+use Rattle.sw_query.specs.Scan.{answer}
 use Rattle.sw_table.proofs.LiveLaws.{kept-fresh}
 use Rattle.sw_set.proofs.Areas.LiveStandings.{live-load}
 use Rattle.sw_set.proofs.area.live.LiveRows.scan.Goals as goal
