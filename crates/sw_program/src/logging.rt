@@ -1,16 +1,24 @@
 //! A log of a run's own calls, as `sideways order` reads logs.
 
-use crate::seeing::Seen;
+use sw_commands::Seen;
 use csv::{ByteRecord, Writer};
 use std::alloc::{AllocError, Global};
 use std::rt::{Clock, Files};
 use std::sync::atomic::{AtomicU64, Ordering};
 use std::sync::{Mutex, Wait};
-use sw_cli::Onlooker;
+use sw_cli::{Onlooker, head_of};
 use sw_files::begin_file;
 use sw_lang::{write_all, write_call, write_reply};
 use sw_rows::{Call, Counted, Refusal, Reply, Schema, Sink};
 use sw_spine::{Entry, Record, State};
+
+/// The attribute whose head a call asks, if it is a select.
+fn asked_head(call: &Call) -> Option<usize> {
+    match call {
+        Call::Select(query) => Some(head_of(query)),
+        _ => None,
+    }
+}
 
 /// The header of a log.
 const HEADER: &[u8] = b"session,start,end,call,reply\n";
@@ -189,7 +197,7 @@ impl<R: Clock + Eprint + Wait + Sync> Onlooker for Watch<'_, '_, R> {
 
     fn ended(&self, block: u64, call: &Call, begun: u64, answer: &Result<Reply, Refusal>) {
         let time = self.seen.time();
-        self.seen.sees(call, begun, time.unwrap_or(0));
+        self.seen.sees(asked_head(call), begun, time.unwrap_or(0));
         if let Some(last) = &self.last {
             last.note(block, answer);
         }

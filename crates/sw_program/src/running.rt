@@ -4,15 +4,15 @@ ghost use Rattle.std.specs.Prelude.{◌≡◌, ◌<◌, ◌≤◌, ◌⊎◌, Al
 ghost use Rattle.sw_rows.specs.declared.table.TheConstants.{MOST_ROWS};
 ghost use Rattle.sw_map.specs.Held.{blank};
 
-use crate::clash::Clash;
-use crate::inputs::{Keeping, Kept, Place, Script, is_read_once, open_script, open_table};
+use sw_commands::Clash;
+use sw_commands::{Keeping, Kept, Place, Script, is_read_once, open_script, open_table};
 use crate::logging::{Times, Watch, keep_log};
-use crate::outflow::Outflow;
-use crate::seeing::{LinesSeen, Seen, Sights, What};
-use crate::settings::Settings;
-use crate::shaping::{Form, script_bytes, shape};
-use crate::wording::{Asking, Keeps, of_output, of_unwritten};
-use crate::{stacks, wording};
+use sw_commands::Outflow;
+use sw_commands::{LinesSeen, Seen, Sights, What};
+use sw_commands::Settings;
+use sw_commands::{Form, script_bytes, shape};
+use sw_commands::{Asking, Keeps, of_output, of_unwritten};
+use sw_commands::{are_ample, of_form, words};
 use std::alloc::Global;
 use std::io;
 use std::random::RandomSource;
@@ -121,7 +121,7 @@ fn run_between<
     let options = Options {
         limit: settings.limit.rows,
         cuts: settings.cuts,
-        threads: settings.threads && stacks::are_ample(rt, alloc),
+        threads: settings.threads && are_ample(rt, alloc),
         key: TextKey::new(rt)?,
     };
     if run.form == Form::Lines {
@@ -306,7 +306,7 @@ impl Run<'_> {
     ) -> Option<String> {
         match refusal {
             Refusal::Output => of_output(alloc, seen.reader(), refusal),
-            _ => wording::words(rt, alloc, &self.asking(), refusal, kept),
+            _ => words(rt, alloc, &self.asking(), refusal, kept),
         }
     }
 
@@ -325,7 +325,7 @@ impl Run<'_> {
             Err(refusal) => {
                 *words = match &refusal {
                     Refusal::Output => of_output(alloc, seen.reader(), &refusal),
-                    _ => wording::of_form(alloc, &refusal, self.script),
+                    _ => of_form(alloc, &refusal, self.script),
                 };
                 Err(refusal)
             }

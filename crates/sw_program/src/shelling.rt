@@ -2,13 +2,13 @@
 
 ghost use Rattle.std.specs.Prelude.{◌≡◌, IfOk};
 
-use crate::clash::Clash;
-use crate::inputs::{Inflow, Keeping, Kept, Place, Script, is_read_once, open_table};
-use crate::outflow::{Outflow, Reader};
+use sw_commands::Clash;
+use sw_commands::{Inflow, Keeping, Kept, Place, Script, is_read_once, open_table};
+use sw_commands::{Outflow, Reader};
 use crate::running::keep;
-use crate::settings::Settings;
+use sw_commands::Settings;
 use crate::terminal::Terminal;
-use crate::wording::{Asking, Keeps, of_output, of_unread, words};
+use sw_commands::{Asking, Keeps, of_output, of_unread, words};
 use std::alloc::Global;
 use std::io;
 use std::io::{BufRead, BufReader};

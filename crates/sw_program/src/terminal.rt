@@ -1,10 +1,10 @@
 //! Who stands around a shell: a terminal, or a pipe and files.
 
-use crate::clash::{Clash, is_output};
-use crate::inputs::{Place, Script};
-use crate::outflow::{Outflow, Reader};
+use sw_commands::{Clash, is_output};
+use sw_commands::{Place, Script};
+use sw_commands::{Outflow, Reader};
 use crate::shelling::Shell;
-use crate::wording::of_unwritten;
+use sw_commands::of_unwritten;
 use std::alloc::{AllocError, Global};
 use std::io;
 use std::rt::{Clock, Files};

@@ -15,7 +15,7 @@ struct Source {
 
 /// From where entries came.
 #[derive(Drop)]
-pub(crate) struct Origins {
+pub struct Origins {
     sources: Vec<Source>,
 }
 
@@ -40,14 +40,14 @@ fn source_of(alloc: Global, row: &ByteRecord) -> Result<Option<Source>, AllocErr
 
 impl Origins {
     /// Those of no entries.
-    pub(crate) fn none(alloc: Global) -> Origins {
+    pub fn none(alloc: Global) -> Origins {
         Origins {
             sources: Vec::new(alloc),
         }
     }
 
     /// Those that a text of comma-separated values has. Records of other forms are passed by.
-    pub(crate) fn read(alloc: Global, bytes: &[u8]) -> Result<Origins, AllocError> {
+    pub fn read(alloc: Global, bytes: &[u8]) -> Result<Origins, AllocError> {
         let mut origins = Origins::none(alloc);
         let mut rdr = ReaderBuilder::new()
             .has_headers(false)
@@ -89,7 +89,7 @@ impl Origins {
     }
 
     /// Writes an explanation, and below each line of an entry from where it came.
-    pub(crate) fn write<W: Sink>(&self, explanation: &str, out: &mut W) -> Result<(), Refusal> {
+    pub fn write<W: Sink>(&self, explanation: &str, out: &mut W) -> Result<(), Refusal> {
         for line in explanation.lines() {
             write_all(out, line.as_bytes())?;
             write_all(out, b"\n")?;

@@ -15,17 +15,17 @@ use sw_rows::{Refusal, TextKey, Why};
 
 /// What was asked, of which a refusal came.
 #[derive(Clone, Copy, Debug)]
-pub(crate) struct Asking<'a> {
+pub struct Asking<'a> {
     /// Where the table is.
-    pub(crate) table: Place<'a>,
+    pub table: Place<'a>,
     /// The header that stands in place of the table's first record, if one is given.
-    pub(crate) header: Option<&'a str>,
+    pub header: Option<&'a str>,
     /// Where the calls come from, if there are any.
-    pub(crate) script: Option<Script<'a>>,
+    pub script: Option<Script<'a>>,
     /// The text of the cuts.
-    pub(crate) cuts: &'a str,
+    pub cuts: &'a str,
     /// Whether all faults of the table are to be told.
-    pub(crate) faults: bool,
+    pub faults: bool,
 }
 
 /// What a header that is given is called in words.
@@ -101,7 +101,7 @@ fn of_place<R: Files>(
 }
 
 /// The words of a file that cannot be read, where that was refused; nothing where there is no memory for them.
-pub(crate) fn of_file<R: Files>(
+pub fn of_file<R: Files>(
     rt: &R,
     alloc: Global,
     place: Place<'_>,
@@ -115,7 +115,7 @@ pub(crate) fn of_file<R: Files>(
 
 /// The words of a file, or of standard input, that was refused when it was to be read; nothing where there is no memory
 /// for them.
-pub(crate) fn of_unread<R: Files>(
+pub fn of_unread<R: Files>(
     rt: &R,
     alloc: Global,
     place: Place<'_>,
@@ -132,7 +132,7 @@ pub(crate) fn of_unread<R: Files>(
 }
 
 /// The words of a file that was refused when it was to be written; nothing where there is no memory for them.
-pub(crate) fn of_unwritten<R: Files>(
+pub fn of_unwritten<R: Files>(
     rt: &R,
     alloc: Global,
     path: &str,
@@ -148,7 +148,7 @@ pub(crate) fn of_unwritten<R: Files>(
 
 /// The words of standard output that refused bytes for this reader; nothing of other refusals, nor where there is no memory for
 /// them.
-pub(crate) fn of_output(alloc: Global, reader: &Reader, refusal: &Refusal) -> Option<String> {
+pub fn of_output(alloc: Global, reader: &Reader, refusal: &Refusal) -> Option<String> {
     let why = match refusal {
         Refusal::Output if reader.is_gone() => "its reader is gone",
         Refusal::Output => "it cannot be written",
@@ -303,13 +303,13 @@ fn of_texts(
 
 /// What was kept of the table and the script.
 #[derive(Drop)]
-pub(crate) struct Keeps {
-    pub(crate) table: Kept,
-    pub(crate) script: Kept,
+pub struct Keeps {
+    pub table: Kept,
+    pub script: Kept,
 }
 
 /// A refusal in words: lines, or nothing where none can be found or there is no memory for them.
-pub(crate) fn words<R: Files + RandomSource>(
+pub fn words<R: Files + RandomSource>(
     rt: &R,
     alloc: Global,
     asking: &Asking<'_>,
@@ -331,7 +331,7 @@ pub(crate) fn words<R: Files + RandomSource>(
 }
 
 /// A refusal of the form of the replies in words.
-pub(crate) fn of_form(alloc: Global, refusal: &Refusal, script: Script<'_>) -> Option<String> {
+pub fn of_form(alloc: Global, refusal: &Refusal, script: Script<'_>) -> Option<String> {
     let Refusal::BadLine { line, .. } = refusal else {
         return None;
     };
@@ -345,7 +345,7 @@ pub(crate) fn of_form(alloc: Global, refusal: &Refusal, script: Script<'_>) -> O
 }
 
 /// A refusal of a history file in words: what is wrong with the entry that is none.
-pub(crate) fn of_history(
+pub fn of_history(
     alloc: Global,
     name: &str,
     bytes: &[u8],

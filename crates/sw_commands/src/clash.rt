@@ -33,7 +33,7 @@ pub enum Clash {
 }
 
 /// Whether a path leads to the file into which standard output goes.
-pub(crate) fn is_output<R: Files>(rt: &R, path: &str) -> bool {
+pub fn is_output<R: Files>(rt: &R, path: &str) -> bool {
     match FileId::of(rt, path) {
         Some(id) => id.is_at(rt, OUTPUT),
         None => false,
@@ -65,7 +65,7 @@ impl Clash {
     }
 
     /// What the history would be written over, if anything. A history that is no regular file is written over nothing.
-    pub(crate) fn of<R: Files>(
+    pub fn of<R: Files>(
         rt: &R,
         table: Place<'_>,
         script: Script<'_>,
@@ -87,7 +87,7 @@ impl Clash {
 
     /// What the log would be written over, if anything: the history, or what a history would be written over. Both may be
     /// files that are not there yet.
-    pub(crate) fn of_log<R: Files>(
+    pub fn of_log<R: Files>(
         rt: &R,
         table: Place<'_>,
         script: Script<'_>,

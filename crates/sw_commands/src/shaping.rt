@@ -50,7 +50,7 @@ fn places(alloc: Global, entries: &[Entry]) -> Result<Vec<Place>, AllocError> {
 }
 
 /// The bytes of a script, where they are at hand.
-pub(crate) fn script_bytes<'k>(script: Script<'k>, kept: &'k Kept) -> Option<&'k [u8]> {
+pub fn script_bytes<'k>(script: Script<'k>, kept: &'k Kept) -> Option<&'k [u8]> {
     match (script, kept) {
         (Script::Given(lines), _) => Some(lines),
         (_, Kept::Once(Some(bytes))) => Some(bytes.as_slice()),
@@ -203,7 +203,7 @@ fn calls_of<'r>(
 }
 
 /// Writes what is left of a buffer.
-pub(crate) fn flush<W: Write + Drop>(out: &mut Counted<BufWriter<W>>) -> Result<(), Refusal> {
+pub fn flush<W: Write + Drop>(out: &mut Counted<BufWriter<W>>) -> Result<(), Refusal> {
     match out.inner.flush() {
         Ok(()) => Ok(()),
         Err(_) => Err(Refusal::Output),
@@ -214,7 +214,7 @@ pub(crate) fn flush<W: Write + Drop>(out: &mut Counted<BufWriter<W>>) -> Result<
 ///
 /// Refused `Output` where the output fails, `NoMemory`, and `BadLine` of the last call where a table is asked of which
 /// that makes none; then nothing was written.
-pub(crate) fn shape<W: Write + Drop>(
+pub fn shape<W: Write + Drop>(
     alloc: Global,
     form: Form,
     record: &Record,

@@ -31,7 +31,7 @@ fn stack_of(limits: &[u8]) -> Option<u64> {
 
 /// Whether threads get ample stacks. The system makes each as large as the limit of this process says, and ends the
 /// process by a signal where that is too small for what the thread does. Where it tells of no limit they are ample.
-pub(crate) fn are_ample<R: Files>(rt: &R, alloc: Global) -> bool {
+pub fn are_ample<R: Files>(rt: &R, alloc: Global) -> bool {
     match read_file(rt, alloc, LIMITS) {
         Ok(limits) => match stack_of(limits.as_slice()) {
             Some(bytes) => bytes >= AMPLE,

@@ -6,34 +6,34 @@ use std::sync::atomic::{AtomicBool, Ordering};
 
 /// Whoever reads standard output, as far as writing tells.
 #[derive(Drop)]
-pub(crate) struct Reader {
+pub struct Reader {
     is_gone: AtomicBool,
 }
 
 impl Reader {
     /// Nothing was written yet.
-    pub(crate) fn new() -> Reader {
+    pub fn new() -> Reader {
         Reader {
             is_gone: AtomicBool::new(false),
         }
     }
 
     /// Whether bytes were refused since there is no reader any more, as of a pipe that was closed.
-    pub(crate) fn is_gone(&self) -> bool {
+    pub fn is_gone(&self) -> bool {
         self.is_gone.load(Ordering::SeqCst)
     }
 }
 
 /// Standard output before its reader.
 #[derive(Drop)]
-pub(crate) struct Outflow<'r, W: Write + Drop> {
+pub struct Outflow<'r, W: Write + Drop> {
     writer: W,
     reader: &'r Reader,
 }
 
 impl<'r, W: Write + Drop> Outflow<'r, W> {
     /// What goes to this writer is for that reader.
-    pub(crate) fn new(writer: W, reader: &'r Reader) -> Outflow<'r, W> {
+    pub fn new(writer: W, reader: &'r Reader) -> Outflow<'r, W> {
         Outflow { writer, reader }
     }
 }

@@ -5,8 +5,7 @@ use std::io;
 use std::rt::Clock;
 use std::sync::atomic::{AtomicU64, Ordering};
 use std::time::{Duration, Instant};
-use sw_cli::head_of;
-use sw_rows::{Call, Source};
+use sw_rows::Source;
 
 /// The nanoseconds of a second.
 const SECOND: u64 = 1_000_000_000;
@@ -37,7 +36,7 @@ pub struct Sights {
 /// What was seen so far, shared by the threads of a run. Where nobody asks for it there is no beginning, and nothing is
 /// seen; a clock that cannot be read later stands at 0.
 #[derive(Drop)]
-pub(crate) struct Seen<'r, R: Clock + Eprint> {
+pub struct Seen<'r, R: Clock + Eprint> {
     rt: &'r R,
     began: Option<Instant>,
     sights: Sights,
@@ -49,7 +48,7 @@ pub(crate) struct Seen<'r, R: Clock + Eprint> {
 
 impl Sights {
     /// Nothing but how far it is, where that is asked.
-    pub(crate) fn of_progress(progress: bool) -> Sights {
+    pub fn of_progress(progress: bool) -> Sights {
         Sights {
             heads: false,
             progress,
@@ -61,7 +60,7 @@ impl Sights {
 
 impl<'r, R: Clock + Eprint> Seen<'r, R> {
     /// A run begins, of whose calls a log is asked for or not.
-    pub(crate) fn new(rt: &'r R, sights: Sights, is_logged: bool) -> Seen<'r, R> {
+    pub fn new(rt: &'r R, sights: Sights, is_logged: bool) -> Seen<'r, R> {
         let began = if sights.heads || sights.progress || sights.calls || is_logged {
             Instant::now(rt).ok()
         } else {
@@ -88,17 +87,17 @@ impl<'r, R: Clock + Eprint> Seen<'r, R> {
     }
 
     /// Whoever reads its replies.
-    pub(crate) fn reader(&self) -> &Reader {
+    pub fn reader(&self) -> &Reader {
         &self.reader
     }
 
     /// What the run stands on.
-    pub(crate) fn rt(&self) -> &'r R {
+    pub fn rt(&self) -> &'r R {
         self.rt
     }
 
     /// The nanoseconds since the run began; none where nobody asks for them or the clock cannot be read.
-    pub(crate) fn time(&self) -> Option<u64> {
+    pub fn time(&self) -> Option<u64> {
         match self.began?.elapsed(self.rt) {
             Ok(time) => Some(nanos_of(time)),
             Err(_) => None,
@@ -106,18 +105,18 @@ impl<'r, R: Clock + Eprint> Seen<'r, R> {
     }
 
     /// The nanoseconds since the run began, 0 where there are none.
-    pub(crate) fn now(&self) -> u64 {
+    pub fn now(&self) -> u64 {
         self.time().unwrap_or(0)
     }
 
-    /// Sees that a call which began at a time has ended now.
-    pub(crate) fn sees(&self, call: &Call, begun: u64, now: u64) {
+    /// Sees that a call which began at a time has ended now: a select of a head, or another one.
+    pub fn sees(&self, head: Option<usize>, begun: u64, now: u64) {
         if self.began.is_none() {
             return;
         }
         let took = now.saturating_sub(begun);
-        if let Call::Select(query) = call {
-            if let Some(nanos) = self.nanos.get(head_of(query)) {
+        if let Some(head) = head {
+            if let Some(nanos) = self.nanos.get(head) {
                 let _before = nanos.fetch_add(took, Ordering::SeqCst);
             }
         }
@@ -127,7 +126,7 @@ impl<'r, R: Clock + Eprint> Seen<'r, R> {
     }
 
     /// Tells how far the run is, where that is due. Of threads that come at once one tells.
-    pub(crate) fn tell(&self, now: u64, number: u64, what: &str) {
+    pub fn tell(&self, now: u64, number: u64, what: &str) {
         let due = self.due.load(Ordering::SeqCst);
         if !self.sights.progress || now < due {
             return;
@@ -149,7 +148,7 @@ impl<'r, R: Clock + Eprint> Seen<'r, R> {
     }
 
     /// The milliseconds that selects of a head took, those of all threads together.
-    pub(crate) fn millis(&self, head: usize) -> u64 {
+    pub fn millis(&self, head: usize) -> u64 {
         match self.nanos.get(head) {
             Some(nanos) => nanos.load(Ordering::SeqCst) / MILLISECOND,
             None => 0,
@@ -170,7 +169,7 @@ fn ends_in(bytes: &[u8]) -> u64 {
 
 /// What is read.
 #[derive(Clone, Copy)]
-pub(crate) enum What {
+pub enum What {
     /// A table.
     Table,
     /// Values from outside.
@@ -187,7 +186,7 @@ fn lines_read(what: What) -> &'static str {
 
 /// A source before another, which tells how many lines of what went by. It counts them only where they are told.
 #[derive(Drop)]
-pub(crate) struct LinesSeen<'s, 'r, S: Source + Drop, R: Clock + Eprint> {
+pub struct LinesSeen<'s, 'r, S: Source + Drop, R: Clock + Eprint> {
     source: S,
     read: u64,
     seen: &'s Seen<'r, R>,
@@ -196,7 +195,7 @@ pub(crate) struct LinesSeen<'s, 'r, S: Source + Drop, R: Clock + Eprint> {
 
 impl<'s, 'r, S: Source + Drop, R: Clock + Eprint> LinesSeen<'s, 'r, S, R> {
     /// A source of which no line went by.
-    pub(crate) fn new(source: S, seen: &'s Seen<'r, R>, what: What) -> LinesSeen<'s, 'r, S, R> {
+    pub fn new(source: S, seen: &'s Seen<'r, R>, what: What) -> LinesSeen<'s, 'r, S, R> {
         LinesSeen {
             source,
             read: 0,

@@ -60,7 +60,7 @@ fn line_of(bytes: &[u8], record: u64) -> u64 {
 }
 
 /// What is told of a log that is refused: its file and line, the field, and what was wanted there.
-pub(crate) fn told(
+pub fn told(
     alloc: Global,
     name: &str,
     bytes: &[u8],

@@ -43,7 +43,7 @@ impl<'a> Place<'a> {
     }
 
     /// A path that leads to it.
-    pub(crate) fn path(self) -> &'a str {
+    pub fn path(self) -> &'a str {
         if self.is_standard() {
             STANDARD_PATH
         } else {
@@ -81,7 +81,7 @@ impl<'a> Script<'a> {
 
 /// What bytes are read from.
 #[derive(Drop)]
-pub(crate) enum Inflow<'a, F: Read + Drop, I: Read + Drop> {
+pub enum Inflow<'a, F: Read + Drop, I: Read + Drop> {
     /// A file that was opened.
     File(F),
     /// Standard input.
@@ -101,7 +101,7 @@ impl<F: Read + Drop, I: Read + Drop> Read for Inflow<'_, F, I> {
 }
 
 /// Opens the file of a place, or takes standard input. Refused `Input` where the system opens none.
-pub(crate) fn open_place<R: Files + Input>(
+pub fn open_place<R: Files + Input>(
     rt: &R,
     place: Place<'_>,
 ) -> Result<Inflow<'static, R::File, R::Reader>, Refusal>
@@ -118,7 +118,7 @@ pub(crate) fn open_place<R: Files + Input>(
 
 /// Opens a table as `open_place` does, under a header that stands in place of its first record, where one is given. Refused
 /// `NoMemory` besides.
-pub(crate) fn open_table<R: Files + Input>(
+pub fn open_table<R: Files + Input>(
     rt: &R,
     alloc: Global,
     place: Place<'_>,
@@ -138,7 +138,7 @@ pub(crate) fn open_table<R: Files + Input>(
 }
 
 /// Opens what the calls of a run come from. Refused `Input` where the system opens no file.
-pub(crate) fn open_script<'a, R: Files + Input>(
+pub fn open_script<'a, R: Files + Input>(
     rt: &R,
     script: Script<'a>,
 ) -> Result<Inflow<'a, R::File, R::Reader>, Refusal>
@@ -151,13 +151,13 @@ pub(crate) fn open_script<'a, R: Files + Input>(
 }
 
 /// Whether the bytes of a place can be read only once: it is no regular file, whatever its name.
-pub(crate) fn is_read_once<R: Files>(rt: &R, place: Place<'_>) -> bool {
+pub fn is_read_once<R: Files>(rt: &R, place: Place<'_>) -> bool {
     place.is_standard() || FileId::of(rt, place.name()).is_none()
 }
 
 /// What is kept of the bytes of a source.
 #[derive(Drop)]
-pub(crate) enum Kept {
+pub enum Kept {
     /// It can be read again, so nothing is.
     Often,
     /// It gives its bytes only once: what went by; none where there was no memory for it.
@@ -166,7 +166,7 @@ pub(crate) enum Kept {
 
 impl Kept {
     /// Nothing was read yet.
-    pub(crate) fn new(alloc: Global, is_read_once: bool) -> Kept {
+    pub fn new(alloc: Global, is_read_once: bool) -> Kept {
         if is_read_once {
             Kept::Once(Some(Vec::new(alloc)))
         } else {
@@ -185,7 +185,7 @@ impl Kept {
 }
 
 /// A source before another, which keeps what goes by, where that is asked.
-pub(crate) struct Keeping<S: Source + Drop> {
+pub struct Keeping<S: Source + Drop> {
     source: S,
     kept: Kept,
     /// Whether its last failure was a want of memory.
@@ -194,7 +194,7 @@ pub(crate) struct Keeping<S: Source + Drop> {
 
 impl<S: Source + Drop> Keeping<S> {
     /// A source of which nothing went by.
-    pub(crate) fn new(source: S, kept: Kept) -> Keeping<S> {
+    pub fn new(source: S, kept: Kept) -> Keeping<S> {
         Keeping {
             source,
             kept,
@@ -203,7 +203,7 @@ impl<S: Source + Drop> Keeping<S> {
     }
 
     /// Why it was refused to read this source: `NoMemory` in place of `Input` where memory was wanting.
-    pub(crate) fn why(&self, refusal: Refusal) -> Refusal
+    pub fn why(&self, refusal: Refusal) -> Refusal
         ensures short { self.now.is_short ≡ true → refusal ≡ Refusal.Input → result ≡ Refusal.NoMemory }
         ensures other { self.now.is_short ≡ false → result ≡ refusal }
     {
@@ -214,7 +214,7 @@ impl<S: Source + Drop> Keeping<S> {
     }
 
     /// What went by.
-    pub(crate) fn into_kept(self) -> Kept {
+    pub fn into_kept(self) -> Kept {
         let Self {
             source: _source,
             kept,
