@@ -6,7 +6,7 @@ use Rattle.sw_query.specs.declared.query.Call.{Call}
 use Rattle.sw_query.specs.declared.refusal.Refusal.{Refusal}
 use Rattle.sw_rows.specs.Header.{Column, IsSchema, texts_of}
 use Rattle.sw_query.specs.declared.refusal.Refusal.TheVariants as refusal
-use Rattle.sw_lang.proofs.Knowing.{line_forgotten}
+use Rattle.sw_lang.proofs.Known.Knowing.{line_forgotten}
 use Rattle.sw_spine.specs.Books.{forgetting}
 use Rattle.sw_solo.specs.Called.{RefusesCall, SoloState, with_columns}
 use Rattle.sideways_c.specs.Codes.{code_of}

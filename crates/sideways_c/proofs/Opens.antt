@@ -2,7 +2,7 @@
 use Rattle.std.proofs.Common.{◌≡◌, ◌∙◌, refl, sym, ap, subst, ℕ, zero, suc, ◌+◌, Bool, true, List, [], ◌∷◌, ◌++◌, length, length-append, map, Option, Some, Result, Ok, Err, arith, inl, inr, slice_get, eqb, ◌&&◌}
 use Rattle.std.proofs.lemmas.Bool.{and_parts}
 use Rattle.std.proofs.lemmas.Bool.Decides.{Decides-eqb}
-use Rattle.sw_rows.proofs.RowLaws.{keys-count}
+use Rattle.sw_rows.proofs.Scans.RowLaws.{keys-count}
 use Rattle.sw_rows.specs.Faults.{Fault}
 use Rattle.sw_rows.proofs.Options.{then_ok}
 use Rattle.sw_rows.specs.Gives.{Fails}

@@ -20,8 +20,8 @@ use Rattle.sw_query.specs.declared.query.Want.TheVariants as want
 use Rattle.sw_query.specs.Scan.{WantsBelow}
 use Rattle.sw_lang.specs.Fits.{AreEqualBounds, FitsCall, FitsCells, FitsConds, FitsQuery, HasBoundsOfKind, HasFewNames, IsBound, IsBoundOfKind, IsEqualOnTexts, IsOfKind, TakesNumbers, is_bound}
 use Rattle.sw_lang.specs.Replies.{kind_at}
-use Rattle.sw_lang.proofs.Fit.{distinct}
-use Rattle.sw_lang.proofs.Merge.{Distinct, distinct-more, has, or-false}
+use Rattle.sw_lang.proofs.Parsing.Fits.{distinct}
+use Rattle.sw_lang.proofs.Parsing.Merge.{Distinct, distinct-more, has, or-false}
 use Rattle.sw_arrays.specs.Asked.{◌>>=◌, are_cells, are_names, bound_of, call_asked, cond_after, cond_in, conds_after, delete_asked, is_bound_on, is_cell, is_one_text, is_range, names_in, number_in, row_in, want_in}
 use Rattle.sw_arrays.specs.declared.asked.Asked.{Asked}
 use Rattle.sw_arrays.specs.declared.asked.Asked.TheVariants as asked

@@ -5,7 +5,7 @@ use Rattle.std.proofs.lemmas.List.Elements.{All-nil, All-push}
 use Rattle.sw_rows.specs.Header.{Column}
 use Rattle.sw_query.specs.declared.query.Call.{Call}
 use Rattle.sw_query.specs.declared.refusal.Refusal.{Refusal}
-use Rattle.sw_lang.proofs.Knowing.{learned_width}
+use Rattle.sw_lang.proofs.Known.Knowing.{learned_width}
 use Rattle.sw_spine.specs.History.{CallsBelow}
 use Rattle.sw_cli.specs.declared.script.TheConstants.{MOST_BLOCKS, MOST_CALLS}
 use Rattle.sw_cli.specs.Script.{AllCallsBelow, AreBlocks, AreSound, Script, SoFar, all_blocks, calls_in, learning, so_far, whole}

@@ -7,15 +7,15 @@ use Rattle.sw_rows.specs.Domains.{Domain, IsOver, over}
 use Rattle.sw_rows.specs.Domains as kind
 use Rattle.sw_rows.specs.Header.{Column, IsSchema, has_texts, holding, kinds_of, texts_of}
 use Rattle.sw_rows.specs.Texts.{text_of, with_texts}
-use Rattle.sw_rows.proofs.TextLaws.{text_of_kept}
+use Rattle.sw_rows.proofs.Schemas.TextLaws.{text_of_kept}
 use Rattle.sw_histories.specs.ReadBack.{AreCells, HasCells, IsCellOf}
 use Rattle.sw_rows.specs.TextRows.{AreCoded}
 use Rattle.sw_query.specs.declared.query.Call.{Call}
-use Rattle.sw_rows.proofs.TextRowLaws.{coded_still}
+use Rattle.sw_rows.proofs.Scans.TextRowLaws.{coded_still}
 use Rattle.sw_lang.specs.Learning.{knowing, learned, texts_in_line}
 use Rattle.sw_lang.specs.Reading.{line_at}
-use Rattle.sw_lang.proofs.KnownLines.{read_still}
-use Rattle.sw_lang.proofs.Knowing.{knowing_schema, line_sound}
+use Rattle.sw_lang.proofs.Known.Lines.{read_still}
+use Rattle.sw_lang.proofs.Known.Knowing.{knowing_schema, line_sound}
 
 -- a call that some line gives
 abbrev pub IsRead : List Column → Call → Type 0

@@ -9,7 +9,7 @@ use Rattle.sw_table.specs.declared.row.Update.{Update}
 use Rattle.sw_rows.specs.Header.{Column, IsSchema, kinds_of}
 use Rattle.sw_query.specs.declared.query.Call.{Call}
 use Rattle.sw_lang.specs.Grammar.{IsLine}
-use Rattle.sw_lang.proofs.Lines.{line_found}
+use Rattle.sw_lang.proofs.Parsing.Lines.{line_found}
 use Rattle.sw_spine.specs.History.{Agrees, AllAgree, History, all_given, is_absent, is_given, is_open}
 use Rattle.sw_spine.specs.Rest.{none_open}
 use Rattle.sw_spine.specs.Table.{opened, updates_then}

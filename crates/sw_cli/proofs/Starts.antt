@@ -2,7 +2,7 @@
 use Rattle.std.proofs.Common.{◌≡◌, ◌∙◌, OnOk, ap, subst, refl, ℕ, ◌+◌, ◌<◌, ◌⊎◌, inl, inr, Bool, true, suc, List, [], ◌∷◌, length, Option, Some, None, Result, Ok, Err, arith, slice_get, IfErr, IfOk, IfSome, eqb, nat_lt, ◌&&◌}
 use Rattle.std.proofs.lemmas.Grind.{common_steps}
 use Rattle.std.proofs.lemmas.Bool.Decides.{Decides-eqb}
-use Rattle.sw_rows.proofs.RowLaws.{keys-count}
+use Rattle.sw_rows.proofs.Scans.RowLaws.{keys-count}
 use Rattle.sw_rows.specs.Gives.{Fails}
 use Rattle.sw_rows.specs.Tables.{Table, table_of}
 use Rattle.sw_table.specs.declared.row.Row.{Row}
@@ -10,7 +10,7 @@ use Rattle.sw_query.specs.declared.refusal.Refusal.{Refusal}
 use Rattle.sw_query.specs.declared.refusal.Refusal.TheVariants as refusal
 use Rattle.sw_rows.specs.Header.{Column, Fault}
 use Rattle.sw_query.specs.declared.query.Call.{Call}
-use Rattle.sw_lang.proofs.Knowing.{learned_width}
+use Rattle.sw_lang.proofs.Known.Knowing.{learned_width}
 use Rattle.sw_lang.specs.Fits.{FitsCall}
 use Rattle.sw_lang.specs.Learning.{learned}
 use Rattle.sw_spine.specs.History.{CallsBelow}

@@ -15,17 +15,17 @@ use Rattle.sw_query.specs.declared.query.Call.TheVariants.{Select, Insert, Delet
 use Rattle.sw_query.specs.declared.refusal.Refusal.{Refusal}
 use Rattle.sw_query.specs.declared.refusal.Refusal.TheVariants.{BadLine, TooMany}
 use Rattle.sw_query.specs.declared.refusal.Why.TheVariants as why
-use Rattle.sw_rows.proofs.RowLaws.{table-schema}
-use Rattle.sw_rows.proofs.TextRowLaws.{table_coded}
+use Rattle.sw_rows.proofs.Scans.RowLaws.{table-schema}
+use Rattle.sw_rows.proofs.Scans.TextRowLaws.{table_coded}
 use Rattle.sw_lang.specs.Fits.{FitsCall}
 use Rattle.sw_lang.specs.Learning.{learned}
 use Rattle.sw_lang.specs.Reading.{line_at, refused, refusal_of as line_refusal}
 use Rattle.sw_lang.specs.declared.fault.Fault.{Fault as LineFault}
-use Rattle.sw_lang.specs.declared.parse.TheConstants.{MOST_LINE}
-use Rattle.sw_lang.proofs.Fit.{line_fits}
-use Rattle.sw_lang.proofs.FitTexts.{asks_of_texts, row_of_codes}
-use Rattle.sw_lang.proofs.Knowing.{learned_schema}
-use Rattle.sw_lang.proofs.Lines.{line_found}
+use Rattle.sw_lang.specs.declared.reading.parse.TheConstants.{MOST_LINE}
+use Rattle.sw_lang.proofs.Parsing.Fits.{line_fits}
+use Rattle.sw_lang.proofs.Parsing.TextFits.{asks_of_texts, row_of_codes}
+use Rattle.sw_lang.proofs.Known.Knowing.{learned_schema}
+use Rattle.sw_lang.proofs.Parsing.Lines.{line_found}
 use Rattle.sw_histories.specs.Told.{◌>>=◌}
 use Rattle.sw_cli.specs.Run.{Start, cuts_of, or_refusal, refusal_of, rows_within, script_of, start_of}
 use Rattle.sw_cli.specs.Script.{Script, SoFar, all_blocks, blocks_of, call_of_line, calls_in, is_divider, learning, script_lines, so_far, whole, with_block, with_call, with_line, with_lines}

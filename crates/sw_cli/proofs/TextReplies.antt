@@ -15,7 +15,7 @@ use Rattle.sw_query.specs.declared.query.Call.TheVariants.{Select, Insert, Delet
 use Rattle.sw_query.specs.declared.query.Cond.{Cond}
 use Rattle.sw_query.specs.declared.reply.Reply.{Reply}
 use Rattle.sw_query.specs.declared.reply.Reply.TheVariants.{RemovedMany}
-use Rattle.sw_rows.proofs.TextRowLaws.{answer_over_texts, matching_over_texts}
+use Rattle.sw_rows.proofs.Scans.TextRowLaws.{answer_over_texts, matching_over_texts}
 use Rattle.sw_spine.specs.History.{Agrees, AllAgree, History, all_given, is_given, is_select}
 use Rattle.sw_spine.specs.Table.{inserts, opened, removals, reply_to, row, updates_then}
 use Rattle.sw_spine.specs.declared.history.Entry.{Entry}

@@ -9,7 +9,7 @@ use Rattle.sw_query.specs.declared.refusal.Refusal.{Refusal}
 use Rattle.sw_query.specs.declared.refusal.Refusal.TheVariants.{BadLine, TooMany}
 use Rattle.sw_query.specs.declared.refusal.Why.TheVariants as why
 use Rattle.sw_cli.specs.declared.script.TheConstants.{MOST_BLOCKS, MOST_CALLS}
-use Rattle.sw_lang.specs.declared.parse.TheConstants.{MOST_LINE}
+use Rattle.sw_lang.specs.declared.reading.parse.TheConstants.{MOST_LINE}
 use Rattle.sw_lang.specs.Learning.{learned}
 use Rattle.sw_lang.specs.Reading.{line_at, refused}
 use Rattle.sw_lang.specs.Tokens.{is_blank}

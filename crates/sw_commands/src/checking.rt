@@ -9,8 +9,8 @@ use std::alloc::Global;
 use std::io;
 use std::random::RandomSource;
 use std::rt::Files;
-use sw_histories::{check_file, explain_file};
 use sw_files::read_file;
+use sw_histories::{check_file, explain_file};
 use sw_rows::{Counted, Refusal, Sink, TextKey};
 
 /// What is told of a history beside the verdict.

@@ -60,12 +60,7 @@ fn line_of(bytes: &[u8], record: u64) -> u64 {
 }
 
 /// What is told of a log that is refused: its file and line, the field, and what was wanted there.
-pub fn told(
-    alloc: Global,
-    name: &str,
-    bytes: &[u8],
-    fault: &Fault,
-) -> Result<String, AllocError> {
+pub fn told(alloc: Global, name: &str, bytes: &[u8], fault: &Fault) -> Result<String, AllocError> {
     match fault {
         Fault::NoMemory => String::from_str(alloc, "no memory"),
         Fault::Input { .. } => format!(in alloc; "{name}: cannot be read"),

@@ -345,12 +345,7 @@ pub fn of_form(alloc: Global, refusal: &Refusal, script: Script<'_>) -> Option<S
 }
 
 /// A refusal of a history file in words: what is wrong with the entry that is none.
-pub fn of_history(
-    alloc: Global,
-    name: &str,
-    bytes: &[u8],
-    refusal: &Refusal,
-) -> Option<String> {
+pub fn of_history(alloc: Global, name: &str, bytes: &[u8], refusal: &Refusal) -> Option<String> {
     match refusal {
         Refusal::BadLine {
             line,

@@ -3,9 +3,9 @@ use Rattle.std.proofs.Common.{◌≡◌, ◌<◌, ◌≤◌, ℕ, zero, suc, tru
 use Rattle.std.proofs.lemmas.Bool.{and_from, and_parts}
 use Rattle.std.proofs.lemmas.Str.{IsUtf8-from_ascii}
 use Rattle.std.specs.List.{list_all}
-use Rattle.sw_rows.proofs.TextLemmas.{text_read}
+use Rattle.sw_rows.proofs.Schemas.TextLemmas.{text_read}
 use Rattle.sw_rows.specs.Texts.{is_text, is_text_byte}
-use Rattle.sw_rows.specs.declared.texts.TheConstants.{MOST_BYTES_OF_TEXT}
+use Rattle.sw_rows.specs.declared.schema.texts.TheConstants.{MOST_BYTES_OF_TEXT}
 use Rattle.sw_import.specs.Made.{is_plain_byte}
 
 below : (b : ℕ) → is_plain_byte b ≡ true → b < 128

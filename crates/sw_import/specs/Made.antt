@@ -4,7 +4,7 @@ use Rattle.std.specs.Fmt.{signed_decimal}
 use Rattle.std.specs.Str.{is_utf8}
 use Rattle.sw_rows.specs.Cells.{cell_value}
 use Rattle.sw_rows.specs.Texts.{code_of, is_text}
-use Rattle.sw_rows.specs.declared.texts.TheConstants.{MOST_BYTES_OF_TEXT}
+use Rattle.sw_rows.specs.declared.schema.texts.TheConstants.{MOST_BYTES_OF_TEXT}
 use Rattle.sw_import.specs.Dates.{days_of, seconds_of}
 use Rattle.sw_import.specs.Forms.{flag_of, number_domain, takes_blanks}
 use Rattle.sw_import.specs.declared.forms.Form.{Form}

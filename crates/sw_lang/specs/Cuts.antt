@@ -2,7 +2,7 @@
 use Rattle.std.specs.Prelude.{◌≡◌, ◌<◌, ◌≤◌, ◌==◌, ◌&&◌, ℕ, ℤ, Bool, true, List, [], ◌∷◌, ◌++◌, length, codes, int_lt, slice_get, slice_index_or, Some, All, if◌then◌else◌}
 use Rattle.std.specs.List.{list_all}
 use Rattle.sw_rows.specs.Header.{Column, names_of}
-use Rattle.sw_lang.specs.declared.cuts.TheConstants.{MOST_CUTS}
+use Rattle.sw_lang.specs.declared.reading.cuts.TheConstants.{MOST_CUTS}
 use Rattle.sw_lang.specs.Fits.{IsOfKind}
 use Rattle.sw_lang.specs.Reading.{word_value}
 use Rattle.sw_lang.specs.Replies.{kind_at}

@@ -4,7 +4,7 @@ use Rattle.std.specs.List.{list_all, slice_split}
 use Rattle.sw_rows.specs.Header.{Column}
 use Rattle.sw_rows.specs.Domains.{Domain}
 use Rattle.sw_query.specs.declared.refusal.Why.TheVariants as why
-use Rattle.sw_lang.specs.declared.cuts.TheConstants.{MOST_CUTS}
+use Rattle.sw_lang.specs.declared.reading.cuts.TheConstants.{MOST_CUTS}
 use Rattle.sw_lang.specs.declared.fault.Fault.{Fault}
 use Rattle.sw_lang.specs.declared.fault.Fault.TheVariants.{Bad, Excess}
 use Rattle.sw_lang.specs.Cuts.{CutLists, cuts_on}

@@ -9,8 +9,8 @@ use Rattle.sw_query.specs.declared.query.Call.{Call}
 use Rattle.sw_query.specs.declared.query.Call.TheVariants.{Select, Insert, Delete, DeleteWhere}
 use Rattle.sw_query.specs.declared.query.Want.{Want}
 use Rattle.sw_query.specs.declared.query.Want.TheVariants.{Rows, Count, Sum, Min, Max}
-use Rattle.sw_lang.specs.declared.parse.TheConstants.{MOST_LINE}
-use Rattle.sw_lang.specs.declared.term.Term.{Term}
+use Rattle.sw_lang.specs.declared.reading.parse.TheConstants.{MOST_LINE}
+use Rattle.sw_lang.specs.declared.reading.term.Term.{Term}
 use Rattle.sw_lang.specs.Replies.{kind_at}
 use Rattle.sw_lang.specs.Terms.{conditions}
 use Rattle.sw_lang.specs.Tokens.{Tok, word, op, comma, quoted, tokens}

@@ -2,7 +2,7 @@
 use Rattle.std.specs.Prelude.{ℕ, List, [], ◌∷◌, ◌++◌, length, nat_lt, if◌then◌else◌, ◌≡◌, true}
 use Rattle.sw_rows.specs.Header.{Column, has_texts, holding, texts_of}
 use Rattle.sw_rows.specs.Texts.{is_text, with_texts}
-use Rattle.sw_lang.specs.declared.parse.TheConstants.{MOST_LINE}
+use Rattle.sw_lang.specs.declared.reading.parse.TheConstants.{MOST_LINE}
 use Rattle.sw_lang.specs.Reading.{is_comment}
 use Rattle.sw_lang.specs.Tokens.{Tok, quoted, tokens}
 

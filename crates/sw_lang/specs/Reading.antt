@@ -17,12 +17,12 @@ use Rattle.sw_lang.specs.declared.fault.Fault.{Fault}
 use Rattle.sw_lang.specs.declared.fault.Fault.TheVariants.{Bad, Unknown, Excess}
 use Rattle.sw_lang.specs.declared.fault.ParseError.{ParseError}
 use Rattle.sw_lang.specs.declared.fault.ParseError.TheVariants as errors
-use Rattle.sw_lang.specs.declared.parse.TheConstants.{MOST_LINE}
+use Rattle.sw_lang.specs.declared.reading.parse.TheConstants.{MOST_LINE}
 use Rattle.sw_rows.specs.Texts.{is_text}
-use Rattle.sw_rows.specs.declared.texts.TheConstants.{MOST_TEXTS}
-use Rattle.sw_lang.specs.declared.token.Op.{Op}
-use Rattle.sw_lang.specs.declared.token.Op.TheVariants.{Lt, Le, Eq, Ge, Gt}
-use Rattle.sw_lang.specs.declared.term.Term.{Term}
+use Rattle.sw_rows.specs.declared.schema.texts.TheConstants.{MOST_TEXTS}
+use Rattle.sw_lang.specs.declared.reading.token.Op.{Op}
+use Rattle.sw_lang.specs.declared.reading.token.Op.TheVariants.{Lt, Le, Eq, Ge, Gt}
+use Rattle.sw_lang.specs.declared.reading.term.Term.{Term}
 use Rattle.sw_lang.specs.Replies.{kind_at}
 use Rattle.sw_lang.specs.Terms.{add_term}
 use Rattle.sw_lang.specs.Tokens.{Tok, word, op, comma, quoted, tokens, after_blanks}

@@ -5,9 +5,9 @@ use Rattle.sw_query.specs.Bounds.{greater, lesser}
 use Rattle.sw_query.specs.declared.bound.Bound.{Bound}
 use Rattle.sw_query.specs.declared.bound.Bound.TheVariants.{Before, After}
 use Rattle.sw_query.specs.declared.query.Cond.{Cond}
-use Rattle.sw_lang.specs.declared.token.Op.{Op}
-use Rattle.sw_lang.specs.declared.token.Op.TheVariants.{Lt, Le, Eq, Ge, Gt}
-use Rattle.sw_lang.specs.declared.term.Term.{Term}
+use Rattle.sw_lang.specs.declared.reading.token.Op.{Op}
+use Rattle.sw_lang.specs.declared.reading.token.Op.TheVariants.{Lt, Le, Eq, Ge, Gt}
+use Rattle.sw_lang.specs.declared.reading.term.Term.{Term}
 
 abbrev pub lower_of : Op → ℤ → Option Bound
 lower_of Lt v = None

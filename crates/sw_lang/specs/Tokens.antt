@@ -1,11 +1,11 @@
 -- The tokens of a line, told from the left.
 use Rattle.std.specs.Prelude.{ℕ, Bool, false, ◌||◌, ◌&&◌, List, [], ◌∷◌, ◌++◌, drop, slice_index, ◌==◌, if◌then◌else◌, ◌≡◌, ◌<◌, ◌+◌, length, take}
 use Rattle.sw_rows.specs.Header.{is_name_byte}
-use Rattle.sw_rows.specs.declared.texts.TheConstants.{MOST_BYTES_OF_TEXT}
-use Rattle.sw_lang.specs.declared.token.Op.{Op}
-use Rattle.sw_lang.specs.declared.token.Op.TheVariants.{Lt, Le, Eq, Ge, Gt}
-use Rattle.sw_lang.specs.declared.token.Token.{Token}
-use Rattle.sw_lang.specs.declared.token.Token.TheVariants as token
+use Rattle.sw_rows.specs.declared.schema.texts.TheConstants.{MOST_BYTES_OF_TEXT}
+use Rattle.sw_lang.specs.declared.reading.token.Op.{Op}
+use Rattle.sw_lang.specs.declared.reading.token.Op.TheVariants.{Lt, Le, Eq, Ge, Gt}
+use Rattle.sw_lang.specs.declared.reading.token.Token.{Token}
+use Rattle.sw_lang.specs.declared.reading.token.Token.TheVariants as token
 
 -- a token without where it lies in memory
 pub data Tok : Type 0 where

@@ -1,7 +1,7 @@
 -- The rows of a table that was read.
 use Rattle.std.proofs.Common.{◌≡◌, refl, ℕ, suc, ◌+◌, Bool, true, List, [], ◌∷◌, Some, Ok, arith, slice_get, eqb, ◌&&◌}
 use Rattle.std.proofs.lemmas.Bool.Decides.{Decides-eqb}
-use Rattle.sw_rows.proofs.RowLaws.{keys-count}
+use Rattle.sw_rows.proofs.Scans.RowLaws.{keys-count}
 use Rattle.sw_rows.specs.Tables.{Table, table_of}
 use Rattle.sw_table.specs.declared.row.Row.{Row}
 use Rattle.sw_spine.specs.Table.{is_numbered}

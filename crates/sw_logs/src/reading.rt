@@ -165,7 +165,7 @@ fn frame_of(row: &ByteRecord, columns: &Columns) -> Result<Frame, Flaw> {
 }
 
 /// The call of a line, whose texts become known.
-#[tactic(auto, using(sw_lang::proofs::Knowing::learned_width, sw_spine::proofs::Histories::fits_below))]
+#[tactic(auto, using(sw_lang::proofs::Known::Knowing::learned_width, sw_spine::proofs::Histories::fits_below))]
 fn call_of(alloc: Global, schema: &mut Schema, origin: Origin, text: &str) -> Result<Call, Fault>
     ensures width { length schema.new ≡ length schema.old }
     ensures below { IfOk result (CallsBelow (length schema.new)) }

@@ -8,7 +8,7 @@ use Rattle.std.proofs.lemmas.List.Elements.{recursion_from_All}
 use Rattle.json.specs.Json.{Json, null, boolean, number, string, array, object, Items, no_items, item, Members, no_members, member, document}
 use Rattle.json.specs.Find.{as_array, as_str}
 use Rattle.json.specs.Tree.{HasNumbers, ItemsHaveNumbers, depth, items_depth}
-use Rattle.sw_rows.proofs.TextLaws.{code_there}
+use Rattle.sw_rows.proofs.Schemas.TextLaws.{code_there}
 use Rattle.sw_rows.specs.Domains.{Domain, IsDomain}
 use Rattle.sw_rows.specs.Domains as kind
 use Rattle.sw_rows.specs.Header.{Column, IsSchema, kinds_of}

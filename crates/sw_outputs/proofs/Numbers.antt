@@ -12,10 +12,10 @@ use Rattle.std.specs.List.{list_all, prefix_len}
 use Rattle.std.specs.Prelude.{option_and_then, option_map}
 use Rattle.json.specs.Print.{IsNumber}
 use Rattle.json.specs.Word.{after_digits, after_exponent, after_fraction, after_minus, after_number, after_whole, head}
-use Rattle.sw_rows.proofs.CellSpelling.{magnitude_read}
+use Rattle.sw_rows.proofs.Tables.CellSpelling.{magnitude_read}
 use Rattle.sw_rows.specs.Cells.{magnitude}
 use Rattle.sw_rows.specs.Spelling.{fraction, number_of}
-use Rattle.sw_lang.proofs.PrintedDigits.{all_both, and_both, decimals_write, more}
+use Rattle.sw_lang.proofs.Printed.Digits.{all_both, and_both, decimals_write, more}
 use Rattle.sw_lang.specs.Replies.{fixed_text, padded_digits, with_point}
 use Rattle.sw_outputs.specs.JsonReading.{signed_number}
 

@@ -9,11 +9,11 @@ use Rattle.std.proofs.lemmas.List.Folds.{list_all-append}
 use Rattle.std.proofs.lemmas.Option.{same_Some}
 use Rattle.std.proofs.lemmas.Slice.Eq.{bytes_eq-Decides}
 use Rattle.csv.specs.Reading.{default_config, records, strip_bom}
-use Rattle.sw_rows.proofs.CellSpelling.{cell_spelled}
-use Rattle.sw_rows.proofs.DomainLaws.{holding_kinds, holding_names, over_over}
-use Rattle.sw_rows.proofs.SchemaLaws.{name_there}
-use Rattle.sw_rows.proofs.TableSpelling.{table_read_back}
-use Rattle.sw_rows.proofs.TextLaws.{code_only, code_there, text_sound}
+use Rattle.sw_rows.proofs.Tables.CellSpelling.{cell_spelled}
+use Rattle.sw_rows.proofs.Schemas.DomainLaws.{holding_kinds, holding_names, over_over}
+use Rattle.sw_rows.proofs.Schemas.SchemaLaws.{name_there}
+use Rattle.sw_rows.proofs.Tables.TableSpelling.{table_read_back}
+use Rattle.sw_rows.proofs.Schemas.TextLaws.{code_only, code_there, text_sound}
 use Rattle.sw_rows.specs.Cells.{cell_value}
 use Rattle.sw_rows.specs.Domains.{Domain, IsDomain, IsFresh, IsOver, is_of_texts, kind_in, over}
 use Rattle.sw_rows.specs.Domains as kind
@@ -31,8 +31,8 @@ use Rattle.sw_query.specs.declared.query.Want.TheVariants as want
 use Rattle.sw_query.specs.declared.reply.ReplyRow.{ReplyRow}
 use Rattle.sw_rows.specs.declared.table.TheConstants.{MOST_ROWS}
 use Rattle.sw_table.specs.declared.row.Row.{Row}
-use Rattle.sw_lang.proofs.Knowing.{texts_known}
-use Rattle.sw_lang.proofs.PrintedCells.{IsCell, cell_printed, value_tok, word_is}
+use Rattle.sw_lang.proofs.Known.Knowing.{texts_known}
+use Rattle.sw_lang.proofs.Printed.Cells.{IsCell, cell_printed, value_tok, word_is}
 use Rattle.sw_lang.specs.Fits.{FitsCall, HasFewNames}
 use Rattle.sw_lang.specs.Grammar.{IsValue}
 use Rattle.sw_lang.specs.PrintedCalls.{name_at}
@@ -43,7 +43,7 @@ use Rattle.sw_outputs.specs.Fields.{attrs_differ, cell_field, cell_fields, heade
 use Rattle.sw_outputs.specs.JsonLines.{attrs_shown, attrs_wanted, text_shown}
 use Rattle.sw_outputs.specs.JsonReading.{AreCellsOf, IsCellOf, IsRowOf}
 use Rattle.sw_outputs.specs.TableReading.{Shows, TablesAreReadBack, numbered}
-use Rattle.sw_lang.proofs.GivenTexts.{AreIn, HaveCodes, Texts, all_given, codes_append, has_from_code}
+use Rattle.sw_lang.proofs.Known.Given.{AreIn, HaveCodes, Texts, all_given, codes_append, has_from_code}
 use Rattle.sw_outputs.proofs.JsonBack.{kind_sound, kinds_sound}
 use Rattle.sw_outputs.proofs.RecordsBack.{HaveFields, records_back}
 

@@ -1,12 +1,12 @@
 //! A log of a run's own calls, as `sideways order` reads logs.
 
-use sw_commands::Seen;
 use csv::{ByteRecord, Writer};
 use std::alloc::{AllocError, Global};
 use std::rt::{Clock, Files};
 use std::sync::atomic::{AtomicU64, Ordering};
 use std::sync::{Mutex, Wait};
 use sw_cli::{Onlooker, head_of};
+use sw_commands::Seen;
 use sw_files::begin_file;
 use sw_lang::{write_all, write_call, write_reply};
 use sw_rows::{Call, Counted, Refusal, Reply, Schema, Sink};

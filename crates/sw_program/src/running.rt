@@ -4,15 +4,7 @@ ghost use Rattle.std.specs.Prelude.{◌≡◌, ◌<◌, ◌≤◌, ◌⊎◌, Al
 ghost use Rattle.sw_rows.specs.declared.table.TheConstants.{MOST_ROWS};
 ghost use Rattle.sw_map.specs.Held.{blank};
 
-use sw_commands::Clash;
-use sw_commands::{Keeping, Kept, Place, Script, is_read_once, open_script, open_table};
 use crate::logging::{Times, Watch, keep_log};
-use sw_commands::Outflow;
-use sw_commands::{LinesSeen, Seen, Sights, What};
-use sw_commands::Settings;
-use sw_commands::{Form, script_bytes, shape};
-use sw_commands::{Asking, Keeps, of_output, of_unwritten};
-use sw_commands::{are_ample, of_form, words};
 use std::alloc::Global;
 use std::io;
 use std::random::RandomSource;
@@ -22,6 +14,11 @@ use std::thread::Threads;
 use sw_cli::{
     HeadStats, Noting, Onlooker, Options, blank_boxes, run_told, write_record, write_stats_line,
     write_stats_title,
+};
+use sw_commands::{
+    Asking, Clash, Form, Keeping, Keeps, Kept, LinesSeen, Outflow, Place, Script, Seen, Settings,
+    Sights, What, are_ample, is_read_once, of_form, of_output, of_unwritten, open_script,
+    open_table, script_bytes, shape, words,
 };
 use sw_files::begin_file;
 use sw_lang::write_all;

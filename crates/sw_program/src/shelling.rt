@@ -2,13 +2,8 @@
 
 ghost use Rattle.std.specs.Prelude.{◌≡◌, IfOk};
 
-use sw_commands::Clash;
-use sw_commands::{Inflow, Keeping, Kept, Place, Script, is_read_once, open_table};
-use sw_commands::{Outflow, Reader};
 use crate::running::keep;
-use sw_commands::Settings;
 use crate::terminal::Terminal;
-use sw_commands::{Asking, Keeps, of_output, of_unread, words};
 use std::alloc::Global;
 use std::io;
 use std::io::{BufRead, BufReader};
@@ -17,6 +12,10 @@ use std::rt::{Clock, Files};
 use std::sync::Wait;
 use std::thread::Threads;
 use sw_cli::{Options, blank_boxes};
+use sw_commands::{
+    Asking, Clash, Inflow, Keeping, Keeps, Kept, Outflow, Place, Reader, Script, Settings,
+    is_read_once, of_output, of_unread, open_table, words,
+};
 use sw_headers::Headed;
 use sw_lang::write_all;
 use sw_rows::{Counted, Refusal, Schema, Sink, Source, TextKey, load_in_parts};

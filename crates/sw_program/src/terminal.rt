@@ -1,15 +1,12 @@
 //! Who stands around a shell: a terminal, or a pipe and files.
 
-use sw_commands::{Clash, is_output};
-use sw_commands::{Place, Script};
-use sw_commands::{Outflow, Reader};
 use crate::shelling::Shell;
-use sw_commands::of_unwritten;
 use std::alloc::{AllocError, Global};
 use std::io;
 use std::rt::{Clock, Files};
 use std::time::{Duration, Instant};
 use sw_cli::{HeadStats, head_of, status, write_fault, write_stats_line, write_stats_title};
+use sw_commands::{Clash, Outflow, Place, Reader, Script, is_output, of_unwritten};
 use sw_faults::wrong_line;
 use sw_files::begin_file;
 use sw_lang::{kind_name, write_all, write_number};

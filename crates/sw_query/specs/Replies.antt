@@ -2,10 +2,10 @@
 use Rattle.std.specs.Prelude.{◌≡◌, ◌+◌, ℕ, ℤ, List, [], ◌∷◌, map, take, drop, Option, Some, None, MatchOption, Box}
 use denote.Ref.{Bor}
 use Rattle.sw_query.specs.declared.reply.ReplyRow.{ReplyRow}
-use Rattle.sw_query.specs.declared.labels.Form.{Form}
-use Rattle.sw_query.specs.declared.labels.Form.TheVariants as form
-use Rattle.sw_query.specs.declared.labels.FormLeft.{FormLeft}
-use Rattle.sw_query.specs.declared.labels.FormLeft.TheVariants as left
+use Rattle.sw_query.specs.declared.reply.labels.Form.{Form}
+use Rattle.sw_query.specs.declared.reply.labels.Form.TheVariants as form
+use Rattle.sw_query.specs.declared.reply.labels.FormLeft.{FormLeft}
+use Rattle.sw_query.specs.declared.reply.labels.FormLeft.TheVariants as left
 
 -- keys of rows that show as many cells each
 abbrev pub evenly : ℕ → List ℕ → List (ℕ × ℕ)

@@ -4,21 +4,17 @@
 #![tactic(auto)]
 
 mod bound;
-mod labels;
 mod name;
-mod places;
 mod query;
 mod refusal;
 mod reply;
 mod scanning;
-mod sieve;
-mod span;
 
 pub use bound::{Bound, greater, is_within, lesser};
 pub use name::Name;
-pub use places::Places;
 pub use query::{Call, Cond, Conds, Names, Query, Want};
 pub use refusal::{Refusal, Why};
 pub use reply::{Cells, Reply, ReplyRow, ReplyRows, RowsLeft};
+pub use scanning::places::Places;
 pub use scanning::{answer, matching_keys, scan};
 pub use sw_table::{LiveTable, PackedRows, Row, Update, has_key, update, update_all};

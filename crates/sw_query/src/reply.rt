@@ -4,7 +4,9 @@ ghost use Rattle.std.specs.Prelude.{◌≡◌, ◌++◌, ◌∷◌, [], List, �
 ghost use Rattle.sw_query.specs.declared.reply.ReplyRow.{ReplyRow};
 ghost use Rattle.sw_query.specs.Replies.{IsNextRow, first_key, reply_row};
 
-use crate::labels::{Labels, LabelsLeft};
+pub(crate) mod labels;
+
+use crate::reply::labels::{Labels, LabelsLeft};
 use smallvec::SmallVec;
 use std::alloc::{AllocError, Global};
 use std::marker::Model;

@@ -6,11 +6,15 @@ ghost use Rattle.sw_table.specs.Kept.{kept};
 ghost use Rattle.sw_table.specs.Live.{key_of};
 ghost use Rattle.sw_table.specs.declared.row.Row.{Row};
 
-use crate::places::{AllLive, Places};
+pub(crate) mod places;
+pub(crate) mod sieve;
+pub(crate) mod span;
+
 use crate::query::{Cond, Query, Want};
 use crate::refusal::Refusal;
 use crate::reply::{Cells, Reply, ReplyRow, ReplyRows};
-use crate::sieve::Sieve;
+use crate::scanning::places::{AllLive, Places};
+use crate::scanning::sieve::Sieve;
 use std::alloc::{AllocError, Global};
 use sw_table::Row;
 

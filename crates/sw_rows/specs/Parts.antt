@@ -9,7 +9,7 @@ use Rattle.sw_rows.specs.Tables.{◌>>=◌, rows_after, texts_in}
 use Rattle.sw_rows.specs.Texts.{code_of, with_texts}
 use Rattle.sw_query.specs.declared.refusal.Refusal.{Refusal}
 use Rattle.sw_rows.specs.declared.table.TheConstants.{MOST_ROWS}
-use Rattle.sw_rows.specs.declared.text_parts.Part.{Part}
+use Rattle.sw_rows.specs.declared.loading.text_parts.Part.{Part}
 use Rattle.sw_table.specs.Exchanged.{exchanged}
 use Rattle.sw_table.specs.Packed.{Packed, row_behind}
 use Rattle.sw_table.specs.declared.row.Row.{Row}

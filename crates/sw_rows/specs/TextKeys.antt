@@ -4,7 +4,7 @@ use Rattle.std.specs.Hash.DefaultHasher as sip
 use Rattle.std.specs.RandomState.{initial_hasher}
 use Rattle.std.specs.declared.hash.DefaultHasher.{DefaultHasher}
 use Rattle.std.specs.declared.hash.RandomState.{RandomState}
-use Rattle.sw_rows.specs.declared.text_key.TextKey.{TextKey}
+use Rattle.sw_rows.specs.declared.schema.text_key.TextKey.{TextKey}
 
 abbrev pub hasher_from : Option RandomState → DefaultHasher
 hasher_from None = sip.initial

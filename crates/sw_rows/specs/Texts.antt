@@ -6,8 +6,8 @@ use Rattle.std.specs.Str.{is_utf8}
 use Rattle.std.specs.declared.alloc.Global.{Global}
 use Rattle.indexmap.specs.IndexSet.{IndexSet}
 use Rattle.sw_rows.specs.Faults.{Fault, too_many}
-use Rattle.sw_rows.specs.declared.text_key.TextKey.{TextKey}
-use Rattle.sw_rows.specs.declared.texts.TheConstants.{MOST_BYTES_OF_TEXT, MOST_TEXTS}
+use Rattle.sw_rows.specs.declared.schema.text_key.TextKey.{TextKey}
+use Rattle.sw_rows.specs.declared.schema.texts.TheConstants.{MOST_BYTES_OF_TEXT, MOST_TEXTS}
 
 -- any byte but 0 to 31 and 127
 abbrev pub is_text_byte : ℕ → Bool

@@ -4,34 +4,26 @@
 //! refusals and the plain scan of `sw_query`.
 #![tactic(auto)]
 
-mod cell;
-pub mod examples;
-mod fronts;
 mod kind;
+mod laws;
 mod limits;
 mod loading;
-mod parts;
-mod records;
 mod schema;
 mod source;
-pub mod spelling;
 mod table;
-pub mod text_answers;
-mod text_key;
-mod text_parts;
-mod texts;
 
-pub use cell::{read_cell, read_cell_bytes, read_digits};
 pub use kind::Kind;
+pub use laws::{examples, spelling, text_answers};
 pub use limits::{MOST_NAME, MOST_NUMBER};
 pub use loading::{MOST_BYTES, load, load_in_parts, read_all};
+pub use schema::text_key::TextKey;
+pub use schema::texts::{MOST_BYTES_OF_TEXT, MOST_TEXTS, Texts, read_text};
 pub use schema::{Schema, is_name};
 pub use source::{Counted, Sink, Source};
 pub use sw_query::{
-    Bound, Call, Cells, Cond, Conds, Name, Names, Places, Query, Refusal, Reply, ReplyRow, ReplyRows, RowsLeft,
-    Want, Why, answer, greater, is_within, lesser, matching_keys, scan,
+    Bound, Call, Cells, Cond, Conds, Name, Names, Places, Query, Refusal, Reply, ReplyRow,
+    ReplyRows, RowsLeft, Want, Why, answer, greater, is_within, lesser, matching_keys, scan,
 };
 pub use sw_table::{LiveTable, PackedRows, Row, Update, has_key, update, update_all};
 pub use table::MOST_ROWS;
-pub use text_key::TextKey;
-pub use texts::{MOST_BYTES_OF_TEXT, MOST_TEXTS, Texts, read_text};
+pub use table::cell::{read_cell, read_cell_bytes, read_digits};

@@ -5,14 +5,18 @@ ghost use Rattle.std.specs.Io.KnownBytes.{IsAtEnd};
 ghost use Rattle.sw_rows.specs.Gives.{Raised, TellsSource};
 ghost use Rattle.sw_rows.specs.Tables.{IsAllRead, IsLoaded, shown_packed, table_of};
 
-use crate::parts::read_table_in_parts;
-use sw_query::Refusal;
+pub(crate) mod fronts;
+pub(crate) mod parts;
+pub(crate) mod text_parts;
+
+use crate::loading::parts::read_table_in_parts;
 use crate::schema::Schema;
+use crate::schema::text_key::TextKey;
 use crate::source::Source;
 use crate::table::read_table;
-use crate::text_key::TextKey;
 use std::alloc::{AllocError, Global};
 use std::thread::Threads;
+use sw_query::Refusal;
 use sw_table::PackedRows;
 
 /// How many bytes a table or a script has at most.

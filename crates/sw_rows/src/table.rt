@@ -13,16 +13,18 @@ ghost use Rattle.sw_rows.specs.Texts.{is_text, with_texts};
 ghost use Rattle.sw_rows.specs.declared.table.TheConstants.{MOST_ROWS};
 ghost use Rattle.sw_table.specs.Packed.{zeros};
 
-use crate::cell::read_cell_bytes;
-use crate::fronts::{long_at, refused_at};
+pub(crate) mod cell;
+pub(crate) mod records;
+
 use crate::kind::Kind;
-use crate::records;
-use sw_query::Refusal;
+use crate::loading::fronts::{long_at, refused_at};
+use crate::schema::text_key::TextKey;
+use crate::schema::texts::{Texts, cell_of, read_text};
 use crate::schema::{Columns, Fields, Schema, read_header};
-use crate::text_key::TextKey;
-use crate::texts::{Texts, cell_of, read_text};
+use crate::table::cell::read_cell_bytes;
 use csv::{ByteRecord, Reader};
 use std::alloc::Global;
+use sw_query::Refusal;
 use sw_table::{PackedRows, Row};
 
 /// The place of a field: its record's number and its own, both from 1.

@@ -16,17 +16,17 @@ use Rattle.sw_query.specs.declared.query.Cond.{Cond}
 use Rattle.sw_query.specs.declared.query.Want.TheVariants as want
 use Rattle.sw_query.specs.declared.reply.Reply.TheVariants as reply
 use Rattle.sw_table.specs.declared.row.Row.{Row}
-use Rattle.sw_rows.proofs.SchemaLaws.{header-schema}
+use Rattle.sw_rows.proofs.Schemas.SchemaLaws.{header-schema}
 use Rattle.sw_lang.specs.Fits.{IsBound}
 use Rattle.sw_lang.specs.Grammar.{IsLine}
 use Rattle.sw_lang.specs.PrintedExamples.{abc, asking, asking_where, at_least, at_most, cond}
 use Rattle.sw_lang.specs.Reading.{call_at, call_of, cells_at, delete_at, delete_where, first_by, line_at, name_of, next_value, op_for, op_of, past_comma, term_at, terms_at, value_of, where_at}
-use Rattle.sw_lang.proofs.Lines.{line_found}
+use Rattle.sw_lang.proofs.Parsing.Lines.{line_found}
 use Rattle.sw_spine.specs.History.{IsSound, entry}
 use Rattle.sw_spine.specs.declared.history.State.TheVariants as state
 use Rattle.sw_histories.specs.FileExamples.{cities, counted, deleted, row_abc, row_of_city, visited}
 use Rattle.sw_histories.specs.ReadBack.{HasCells, IsCalled, IsOfRun, KnowsInOrder}
-use Rattle.sw_lang.proofs.Knowing.{knowing_schema}
+use Rattle.sw_lang.proofs.Known.Knowing.{knowing_schema}
 
 three : (key a b c : ℕ) → a < 2 ^ 63 → b < 2 ^ 63 → c < 2 ^ 63 → HasCells (kinds_of abc) (row_abc key (pos a) (pos b) (pos c))
 three key a b c ha hb hc = (pos a ∷ pos b ∷ pos c ∷ [], (ha, (hb, (hc, tt))), refl)

@@ -10,9 +10,9 @@ use Rattle.serde_json.specs.Read.{read}
 use Rattle.std.specs.Result.{result_ok}
 use Rattle.std.proofs.lemmas.Option.{same_Some}
 use Rattle.sw_rows.specs.Header.{Column, Fault as TableFault, IsSchema, header_of, kinds_of}
-use Rattle.sw_rows.proofs.SchemaLaws.{header-schema}
+use Rattle.sw_rows.proofs.Schemas.SchemaLaws.{header-schema}
 use Rattle.sw_query.specs.declared.refusal.Refusal.TheVariants.{TooMany}
-use Rattle.sw_lang.proofs.Lines.{line_found, line_read}
+use Rattle.sw_lang.proofs.Parsing.Lines.{line_found, line_read}
 use Rattle.sw_table.specs.declared.row.Row.{Row}
 use Rattle.sw_query.specs.declared.query.Call.{Call}
 use Rattle.sw_query.specs.declared.refusal.Refusal.{Refusal}
@@ -27,7 +27,7 @@ use Rattle.sw_spine.specs.declared.spine.TheConstants.{MOST_ENTRIES, MOST_SESSIO
 use Rattle.sw_histories.specs.Told.{◌>>=◌}
 use Rattle.sw_histories.specs.RecordReading.{Frame, array_at, call_in, columns_in, columns_under, entries_after, entries_of, entry_in, entry_learned, entry_with, frame, frame_by, frame_in, frame_of, frame_with, frame_within, format_in, has_call, has_members, header_in, history_of, history_with, in_range, json_of, limit_in, may_stand, number_at, or_fault, record_at, row_in, row_learned, rows_after, rows_in, rows_up_to, session_in, state_in, state_of, text_at, texts_after, under_format, with_row}
 use Rattle.sw_histories.proofs.Found.ReadParts.{AreReadEntries, IsReadEntry, IsReadRecord}
-use Rattle.sw_lang.proofs.Knowing.{learned_schema}
+use Rattle.sw_lang.proofs.Known.Knowing.{learned_schema}
 use Rattle.sw_histories.proofs.Found.LearnedTexts.{row_schema}
 use Rattle.sw_histories.proofs.Found.RecordReadingLemmas.{map_some, record_ok}
 

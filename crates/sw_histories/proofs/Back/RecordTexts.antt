@@ -13,8 +13,8 @@ use Rattle.serde_json.specs.View.{items_of}
 use Rattle.sw_rows.specs.Domains.{IsDomain}
 use Rattle.sw_rows.specs.Header.{Column, IsSchema, is_name, kinds_of}
 use Rattle.sw_rows.specs.Texts.{AreTexts, is_text, text_at}
-use Rattle.sw_rows.proofs.TextLemmas as lemmas
-use Rattle.sw_rows.proofs.TextLaws.{text_sound}
+use Rattle.sw_rows.proofs.Schemas.TextLemmas as lemmas
+use Rattle.sw_rows.proofs.Schemas.TextLaws.{text_sound}
 use Rattle.sw_rows.specs.Spelling.{kind_text}
 use Rattle.sw_rows.specs.Domains.{Domain}
 use Rattle.sw_rows.specs.Domains as kind

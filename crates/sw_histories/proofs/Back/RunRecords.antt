@@ -20,19 +20,19 @@ use Rattle.sw_rows.specs.Domains as kind
 use Rattle.sw_table.specs.declared.row.Row.{Row}
 use Rattle.sw_query.specs.declared.query.Call.{Call}
 use Rattle.sw_rows.specs.Texts.{AreTexts, code_of, text_at, text_of, with_texts}
-use Rattle.sw_rows.proofs.ColumnLemmas.{no_texts}
-use Rattle.sw_rows.proofs.DomainLaws.{holding_again, holding_kinds, holding_of_texts, kinds_of_texts, schema_holding, texts_of_holding}
-use Rattle.sw_rows.proofs.HeaderSpelling.{header_read_back}
-use Rattle.sw_rows.proofs.TextLaws.{code_there, coded_at, text_sound, with_more}
+use Rattle.sw_rows.proofs.Schemas.ColumnLemmas.{no_texts}
+use Rattle.sw_rows.proofs.Schemas.DomainLaws.{holding_again, holding_kinds, holding_of_texts, kinds_of_texts, schema_holding, texts_of_holding}
+use Rattle.sw_rows.proofs.Schemas.HeaderSpelling.{header_read_back}
+use Rattle.sw_rows.proofs.Schemas.TextLaws.{code_there, coded_at, text_sound, with_more}
 use Rattle.sw_lang.specs.Learning.{knowing, learned, texts_in_line}
-use Rattle.sw_lang.proofs.Knowing.{none_known, nothing_more, numbers_held, texts_known}
+use Rattle.sw_lang.proofs.Known.Knowing.{none_known, nothing_more, numbers_held, texts_known}
 use Rattle.sw_spine.proofs.PrintedLemmas.{AreSound, both, kinds_sound}
 use Rattle.sw_lang.specs.Grammar.{IsLine}
 use Rattle.sw_lang.specs.PrintedCalls.{call_text}
 use Rattle.sw_lang.specs.Replies.{reply_lines}
 use Rattle.sw_lang.specs.Tokens.{tokens}
-use Rattle.sw_lang.proofs.PrintedLength.{call_short}
-use Rattle.sw_lang.proofs.ReadBack.{call_back, no_comment}
+use Rattle.sw_lang.proofs.Printed.Length.{call_short}
+use Rattle.sw_lang.proofs.Printed.ReadBack.{call_back, no_comment}
 use Rattle.sw_spine.specs.History.{History}
 use Rattle.sw_spine.specs.Table.{is_numbered}
 use Rattle.sw_spine.specs.declared.history.Entry.{Entry}

@@ -10,8 +10,8 @@ use Rattle.sw_rows.specs.Domains.{Domain}
 use Rattle.sw_rows.specs.Domains as kind
 use Rattle.sw_rows.specs.Texts.{code_of, text_at, text_of}
 use Rattle.sw_table.specs.declared.row.Row.{Row}
-use Rattle.sw_rows.proofs.TableSpelling.{table_spelled}
-use Rattle.sw_rows.proofs.TextLaws.{code_only}
+use Rattle.sw_rows.proofs.Tables.TableSpelling.{table_spelled}
+use Rattle.sw_rows.proofs.Schemas.TextLaws.{code_only}
 use Rattle.sw_histories.specs.ReadBack.{AreCells, HasCells, IsCellOf, IsWord}
 
 word_fits : (z : ℤ) → FitsSigned w64 z → IsWord z

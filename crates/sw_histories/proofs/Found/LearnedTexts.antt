@@ -8,7 +8,7 @@ use Rattle.serde_json.specs.Find.{as_array, as_str}
 use Rattle.sw_rows.specs.Header.{Column, IsSchema}
 use Rattle.sw_rows.specs.Texts.{is_text}
 use Rattle.sw_lang.specs.Learning.{knowing}
-use Rattle.sw_lang.proofs.Knowing.{knowing_schema, learned_width, nothing_more}
+use Rattle.sw_lang.proofs.Known.Knowing.{knowing_schema, learned_width, nothing_more}
 use Rattle.serde_json.specs.View.{items_view, view}
 use Rattle.serde_json.specs.declared.value.Value.{Value}
 use Rattle.sw_histories.proofs.Found.RecordReadingLemmas.{list_items}

@@ -6,13 +6,13 @@ use Rattle.sw_rows.specs.Faults.{Fault}
 use Rattle.sw_rows.specs.Header.{Column, holding, texts_of}
 use Rattle.sw_rows.specs.Texts.{code_given, code_of, with_text, with_texts}
 use Rattle.sw_query.specs.declared.query.Call.{Call}
-use Rattle.sw_rows.proofs.TextLaws.{code_kept, given_kept, never_given, with_more}
+use Rattle.sw_rows.proofs.Schemas.TextLaws.{code_kept, given_kept, never_given, with_more}
 use Rattle.sw_lang.specs.Grammar.{IsLine}
 use Rattle.sw_lang.specs.Learning.{quoted_text, quoted_texts, texts_in_line}
 use Rattle.sw_lang.specs.Reading.{is_comment}
 use Rattle.sw_lang.specs.Tokens.{Tok, comma, op, quoted, stray, tokens, word}
-use Rattle.sw_lang.specs.declared.parse.TheConstants.{MOST_LINE}
-use Rattle.sw_lang.proofs.KnownLines.{AreCodedToks, AreOver, IsCodedTok, call_kept}
+use Rattle.sw_lang.specs.declared.reading.parse.TheConstants.{MOST_LINE}
+use Rattle.sw_lang.proofs.Known.Lines.{AreCodedToks, AreOver, IsCodedTok, call_kept}
 
 abbrev Texts : Type 0
 Texts = List (List ℕ)

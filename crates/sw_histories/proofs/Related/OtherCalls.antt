@@ -14,14 +14,14 @@ use Rattle.sw_query.specs.declared.query.Call.TheVariants.{Select, Insert, Delet
 use Rattle.sw_query.specs.declared.query.Cond.{Cond}
 use Rattle.sw_query.specs.declared.query.Want.{Want}
 use Rattle.sw_query.specs.declared.query.Want.TheVariants.{Rows, Count, Sum, Min, Max}
-use Rattle.sw_rows.proofs.DomainLaws.{holding_names, of_texts_over}
-use Rattle.sw_rows.proofs.TextLaws.{code_only}
+use Rattle.sw_rows.proofs.Schemas.DomainLaws.{holding_names, of_texts_over}
+use Rattle.sw_rows.proofs.Schemas.TextLaws.{code_only}
 use Rattle.sw_lang.specs.Grammar.{HasTerms, IsCall, IsName, IsNames, IsNumbersName, IsTerm, IsTerms, IsValue, IsValues, IsWant, IsWhere, MoreValues}
 use Rattle.sw_lang.specs.Reading.{is_equality}
 use Rattle.sw_lang.specs.Replies.{kind_at}
 use Rattle.sw_lang.specs.Terms.{conditions}
 use Rattle.sw_lang.specs.Tokens.{Tok, comma, op, quoted, stray, word}
-use Rattle.sw_lang.specs.declared.term.Term.{Term}
+use Rattle.sw_lang.specs.declared.reading.term.Term.{Term}
 use Rattle.sw_spine.specs.Table.{row}
 use Rattle.sw_histories.proofs.Related.OtherCodes.{AsksNumbers, SameCell, SameConds, SameRow, SameTerm, SameTerms, Texts, over_held, own_texts}
 use Rattle.sw_histories.proofs.Related.OtherHistories.{SameCall}

@@ -21,14 +21,14 @@ use Rattle.sw_query.specs.declared.bound.Bound.TheVariants.{Before, After}
 use Rattle.sw_query.specs.declared.query.Cond.{Cond}
 use Rattle.sw_query.specs.declared.query.Want.{Want}
 use Rattle.sw_query.specs.declared.query.Want.TheVariants as want
-use Rattle.sw_rows.proofs.DomainLaws.{over_numbers}
-use Rattle.sw_rows.proofs.TextLaws.{code_there}
+use Rattle.sw_rows.proofs.Schemas.DomainLaws.{over_numbers}
+use Rattle.sw_rows.proofs.Schemas.TextLaws.{code_there}
 use Rattle.sw_lang.specs.Reading.{is_equality}
 use Rattle.sw_lang.specs.Replies.{cell_text, extreme_text, kind_at, kinds_wanted, lines_of, more_cells, quoted_text, row_line, rows_line, sum_text}
 use Rattle.sw_lang.specs.Terms.{attrs_after, cond_on, conditions, lower_after, lower_of, upper_after, upper_of, with_attr}
-use Rattle.sw_lang.specs.declared.term.Term.{Term}
-use Rattle.sw_lang.specs.declared.token.Op.{Op}
-use Rattle.sw_lang.specs.declared.token.Op.TheVariants.{Lt, Le, Eq, Ge, Gt}
+use Rattle.sw_lang.specs.declared.reading.term.Term.{Term}
+use Rattle.sw_lang.specs.declared.reading.token.Op.{Op}
+use Rattle.sw_lang.specs.declared.reading.token.Op.TheVariants.{Lt, Le, Eq, Ge, Gt}
 
 -- the texts of each domain, by their codes
 abbrev pub Texts : Type 0

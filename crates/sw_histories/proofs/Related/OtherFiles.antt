@@ -19,11 +19,11 @@ use Rattle.sw_rows.specs.Texts.{AreTexts, code_of, has_text, is_text, text_at, t
 use Rattle.sw_query.specs.declared.query.Call.{Call}
 use Rattle.sw_query.specs.declared.query.Call.TheVariants.{Select, Insert, Delete, DeleteWhere}
 use Rattle.sw_rows.specs.declared.table.TheConstants.{MOST_ROWS}
-use Rattle.sw_rows.proofs.ColumnLemmas.{no_texts}
-use Rattle.sw_rows.proofs.DomainLaws.{holding_again, holding_of_texts, schema_holding}
-use Rattle.sw_rows.proofs.TextLaws.{code_only, code_there, text_sound, with_more}
-use Rattle.sw_rows.proofs.TextLemmas.{texts_sound}
-use Rattle.sw_lang.proofs.Knowing.{line_sound, texts_known}
+use Rattle.sw_rows.proofs.Schemas.ColumnLemmas.{no_texts}
+use Rattle.sw_rows.proofs.Schemas.DomainLaws.{holding_again, holding_of_texts, schema_holding}
+use Rattle.sw_rows.proofs.Schemas.TextLaws.{code_only, code_there, text_sound, with_more}
+use Rattle.sw_rows.proofs.Schemas.TextLemmas.{texts_sound}
+use Rattle.sw_lang.proofs.Known.Knowing.{line_sound, texts_known}
 use Rattle.sw_lang.specs.Grammar.{IsCall, IsLine}
 use Rattle.sw_lang.specs.Learning.{quoted_text, quoted_texts, texts_in_line}
 use Rattle.sw_lang.specs.PrintedCalls.{call_text}
@@ -44,7 +44,7 @@ use Rattle.sw_histories.proofs.Found.NarrowedLines.{texts_are}
 use Rattle.sw_histories.proofs.Related.OtherCalls.{AreKnownToks, IsKnownTok, Pairs, call_same, padded_same}
 use Rattle.sw_histories.proofs.Related.OtherCodes.{SameCell, SameRow, SameRows, Texts, as_many}
 use Rattle.sw_histories.proofs.Related.OtherHistories.{Apart, SameCall, SameEntries, SameUpdates, all_agree_still, select_same}
-use Rattle.sw_lang.proofs.GivenTexts.{AreIn, HaveCodes, all_given, codes_append, has_from_code}
+use Rattle.sw_lang.proofs.Known.Given.{AreIn, HaveCodes, all_given, codes_append, has_from_code}
 use Rattle.sw_histories.proofs.Related.OtherTexts.{call_in}
 use Rattle.sw_histories.proofs.Back.RecordBack.{record_read}
 use Rattle.sw_histories.proofs.Back.RecordLaws.{record_only}

@@ -18,8 +18,8 @@ use Rattle.sw_lang.specs.Grammar.{IsCall, IsName, IsNames, IsTerm, IsTerms, IsVa
 use Rattle.sw_lang.specs.Learning.{quoted_text, quoted_texts}
 use Rattle.sw_lang.specs.Replies.{kind_at}
 use Rattle.sw_lang.specs.Tokens.{Tok, op}
-use Rattle.sw_lang.specs.declared.term.Term.{Term}
-use Rattle.sw_lang.proofs.GivenTexts.{AreIn, has_from_code}
+use Rattle.sw_lang.specs.declared.reading.term.Term.{Term}
+use Rattle.sw_lang.proofs.Known.Given.{AreIn, has_from_code}
 use Rattle.sw_histories.proofs.Related.OtherCodes.{Texts, own_texts}
 
 both : (ts xs ys : Texts) → AreIn ts xs → AreIn ts ys → AreIn ts (xs ++ ys)

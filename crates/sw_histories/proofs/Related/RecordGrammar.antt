@@ -21,7 +21,7 @@ use Rattle.sw_rows.specs.Tables.{padded, row_of}
 use Rattle.sw_rows.specs.Texts.{code_of, is_text}
 use Rattle.sw_query.specs.declared.query.Call.{Call}
 use Rattle.sw_rows.specs.declared.table.TheConstants.{MOST_ROWS}
-use Rattle.sw_rows.proofs.HeaderSpelling.{header_read_back, header_spelled}
+use Rattle.sw_rows.proofs.Schemas.HeaderSpelling.{header_read_back, header_spelled}
 use Rattle.sw_rows.proofs.Options.{if_some, then_some}
 use Rattle.sw_table.specs.declared.row.Row.{Row}
 use Rattle.sw_lang.specs.Learning.{knowing, learned}

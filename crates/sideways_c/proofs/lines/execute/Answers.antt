@@ -3,7 +3,7 @@ use Rattle.std.specs.Prelude.{IfSome}
 use Rattle.sw_rows.specs.Header.{Column, IsSchema, texts_of}
 use Rattle.sw_query.specs.declared.query.Call.{Call}
 use Rattle.sw_query.specs.declared.refusal.Refusal.{Refusal}
-use Rattle.sw_lang.proofs.Knowing.{learned_width}
+use Rattle.sw_lang.proofs.Known.Knowing.{learned_width}
 use Rattle.sw_spine.specs.History.{CallsBelow}
 use Rattle.sw_solo.specs.Called.{SoloState}
 use Rattle.sideways_c.specs.Executed.{IsExecuted, call_in}

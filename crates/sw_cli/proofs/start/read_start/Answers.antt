@@ -1,6 +1,6 @@
 use Rattle.std.proofs.Common.{ℕ, arith, true, nat_lt, length, subst, sym, ◌≡◌}
 use Rattle.std.proofs.lemmas.Grind.{common_steps}
-use Rattle.sw_rows.proofs.RowLaws.{table-schema}
+use Rattle.sw_rows.proofs.Scans.RowLaws.{table-schema}
 use Rattle.sw_rows.specs.Tables.{shown_packed}
 use Rattle.sw_cli.specs.Script.{AreBlocks, spelled}
 use Rattle.sw_cli.specs.Sides.{FailedInTurn, source_seen}

@@ -1,5 +1,5 @@
 use Rattle.std.proofs.Common.{◌∙◌}
-use Rattle.sw_rows.proofs.TableLemmas.{table_of_few}
+use Rattle.sw_rows.proofs.Tables.TableLemmas.{table_of_few}
 use Rattle.sw_rows.proofs.loading.load.Goals as goal
 
 pub returns-in-Ok-read_table-clause-table : goal.returns-in-Ok-read_table-clause-table

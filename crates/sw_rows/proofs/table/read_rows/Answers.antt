@@ -8,8 +8,8 @@ use Rattle.sw_rows.specs.Tables.{cells_of, row_of, rows_after, text_fields, text
 use Rattle.sw_rows.specs.Texts.{with_texts}
 use Rattle.sw_rows.specs.declared.table.TheConstants.{MOST_ROWS}
 use Rattle.sw_table.specs.Packed.{Packed}
-use Rattle.sw_rows.proofs.TableLemmas.{cells_over, left_none, left_one, on_ok, rows_fault, rows_full, rows_step, seen_next}
-use Rattle.sw_rows.proofs.TextLaws.{with_more}
+use Rattle.sw_rows.proofs.Tables.TableLemmas.{cells_over, left_none, left_one, on_ok, rows_fault, rows_full, rows_step, seen_next}
+use Rattle.sw_rows.proofs.Schemas.TextLaws.{with_more}
 use Rattle.sw_rows.proofs.table.read_rows.Goals as goal
 
 pub new-rows-requires-clause-some : goal.new-rows-requires-clause-some

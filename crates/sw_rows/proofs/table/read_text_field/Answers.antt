@@ -3,7 +3,7 @@ use Rattle.std.proofs.lemmas.Int.{to_z-of_z}
 use Rattle.sw_rows.specs.Texts.{is_text}
 use Rattle.sw_rows.specs.Tables.{cell_at, over_seen}
 use Rattle.sw_rows.specs.Domains as kind
-use Rattle.sw_rows.proofs.TableLemmas.{text_fails, text_given, text_is}
+use Rattle.sw_rows.proofs.Tables.TableLemmas.{text_fails, text_given, text_is}
 use Rattle.sw_rows.proofs.table.read_text_field.Goals as goal
 
 pub returns-in-Ok-clause-gives : goal.returns-in-Ok-clause-gives

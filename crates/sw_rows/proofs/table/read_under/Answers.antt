@@ -5,8 +5,8 @@ use Rattle.sw_rows.specs.Header.{holding, kinds_of}
 use Rattle.sw_rows.specs.Records.{records_left}
 use Rattle.sw_rows.specs.Tables.{rows_after, seeing, texts_in}
 use Rattle.sw_rows.specs.Texts.{with_texts}
-use Rattle.sw_rows.proofs.DomainLaws.{kinds_of_texts}
-use Rattle.sw_rows.proofs.TableLemmas.{no_texts_in, table_fails, table_read}
+use Rattle.sw_rows.proofs.Schemas.DomainLaws.{kinds_of_texts}
+use Rattle.sw_rows.proofs.Tables.TableLemmas.{no_texts_in, table_fails, table_read}
 use Rattle.sw_rows.proofs.table.read_under.Goals as goal
 
 pub into_schema-requires-clause-none : goal.into_schema-requires-clause-none

@@ -3,7 +3,7 @@ use Rattle.std.specs.Prelude.{filter_map, map}
 use Rattle.serde_json.specs.View.{view}
 use Rattle.sw_rows.specs.Header.{has_texts}
 use Rattle.sw_histories.specs.RecordReading.{text_in}
-use Rattle.sw_lang.proofs.Knowing.{none_known}
+use Rattle.sw_lang.proofs.Known.Knowing.{none_known}
 use Rattle.sw_histories.proofs.reading.rows.learn_cells.Goals as goal
 
 pub returns-then-not-has_texts : goal.returns-then-not-has_texts

@@ -1,7 +1,7 @@
 use Rattle.std.proofs.Common.{◌∙◌, [], ap, sym}
 use Rattle.std.specs.List.{cons_option}
 use Rattle.sw_lang.specs.Learning.{knowing}
-use Rattle.sw_lang.proofs.Knowing.{nothing_more}
+use Rattle.sw_lang.proofs.Known.Knowing.{nothing_more}
 use Rattle.sw_histories.proofs.reading.rows.learn_value.Goals as goal
 
 pub returns-in_default : goal.returns-in_default

@@ -3,7 +3,7 @@ use Rattle.std.specs.List.{cons_option}
 use Rattle.std.specs.Prelude.{filter_map, map}
 use Rattle.serde_json.specs.View.{view}
 use Rattle.serde_json.specs.declared.value.Value.{Value}
-use Rattle.sw_lang.proofs.Knowing.{Learning, begin, some_now, step}
+use Rattle.sw_lang.proofs.Known.Knowing.{Learning, begin, some_now, step}
 use Rattle.sw_histories.specs.RecordReading.{text_in}
 use Rattle.sw_histories.proofs.Found.LearnedTexts.{one_more}
 use Rattle.sw_histories.proofs.reading.rows.learn_values.Goals as goal

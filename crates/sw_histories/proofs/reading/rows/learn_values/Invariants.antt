@@ -1,7 +1,7 @@
 use Rattle.std.proofs.Common.{length}
 use Rattle.std.specs.Prelude.{filter_map, map}
 use Rattle.serde_json.specs.View.{view}
-use Rattle.sw_lang.proofs.Knowing.{Learning}
+use Rattle.sw_lang.proofs.Known.Knowing.{Learning}
 use Rattle.sw_histories.specs.RecordReading.{text_in}
 use Rattle.sw_histories.proofs.reading.rows.learn_values.Given as goal
 

@@ -7,7 +7,7 @@ use Rattle.serde_json.specs.View.{view}
 use Rattle.sw_rows.specs.Header.{kinds_of, texts_of}
 use Rattle.sw_rows.specs.Domains.{domain}
 use Rattle.sw_rows.specs.Tables.{padded}
-use Rattle.sw_rows.proofs.TableLemmas.{padded_take}
+use Rattle.sw_rows.proofs.Tables.TableLemmas.{padded_take}
 use Rattle.sw_histories.proofs.Found.RecordReadingLemmas.{cell_none, cell_some, cells_end, cells_long}
 use Rattle.sw_histories.proofs.reading.rows.read_cells.Goals as goal
 

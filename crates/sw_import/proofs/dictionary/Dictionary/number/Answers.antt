@@ -1,5 +1,5 @@
 use Rattle.std.proofs.Common.{◌∙◌, None, Some}
-use Rattle.sw_rows.proofs.TextLemmas.{text_code}
+use Rattle.sw_rows.proofs.Schemas.TextLemmas.{text_code}
 use Rattle.sw_import.proofs.dictionary.Dictionary.number.Goals as goal
 
 pub returns-in_err-place : goal.returns-in_err-place

@@ -1,5 +1,5 @@
 use Rattle.std.proofs.Common.{◌∙◌, sym}
-use Rattle.sw_rows.proofs.DomainLaws.{texts_here}
+use Rattle.sw_rows.proofs.Schemas.DomainLaws.{texts_here}
 use Rattle.sw_rows.proofs.schema.Columns.has_texts.Goals as goal
 
 pub returns-in-Text : goal.returns-in-Text

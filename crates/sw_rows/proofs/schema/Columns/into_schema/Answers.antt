@@ -1,6 +1,6 @@
 use Rattle.std.proofs.Common.{◌∙◌, ap, sym, []}
 use Rattle.sw_rows.specs.Header.{holding}
-use Rattle.sw_rows.proofs.DomainLaws.{fresh_entries, schema_holding}
+use Rattle.sw_rows.proofs.Schemas.DomainLaws.{fresh_entries, schema_holding}
 use Rattle.sw_rows.proofs.schema.Columns.into_schema.Goals as goal
 
 pub invariant_of-result : goal.invariant_of-result

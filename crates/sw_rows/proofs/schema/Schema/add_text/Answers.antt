@@ -2,7 +2,7 @@ use Rattle.std.proofs.Common.{◌≡◌, ◌∙◌, ap, sym, rules, true, Ok, Fi
 use Rattle.std.proofs.lemmas.Int.{to_z-of_z}
 use Rattle.sw_rows.specs.Header.{has_texts, holding, texts_of}
 use Rattle.sw_rows.specs.Texts.{as_cell, code_given, with_text}
-use Rattle.sw_rows.proofs.DomainLaws.{holding_again, holding_of_texts, none_more, schema_again}
+use Rattle.sw_rows.proofs.Schemas.DomainLaws.{holding_again, holding_of_texts, none_more, schema_again}
 use Rattle.sw_rows.proofs.schema.Schema.add_text.Goals as goal
 
 pub invariant_of-self : goal.invariant_of-self

@@ -1,6 +1,6 @@
 use Rattle.std.proofs.Common.{◌∙◌, ap, sym, position, bytes_eq}
 use Rattle.sw_rows.specs.Header.{Column}
-use Rattle.sw_rows.proofs.DomainLaws.{holding_place}
+use Rattle.sw_rows.proofs.Schemas.DomainLaws.{holding_place}
 use Rattle.sw_rows.proofs.schema.Schema.find.Goals as goal
 
 pub returns : goal.returns

@@ -1,7 +1,7 @@
 use Rattle.std.proofs.Common.{◌≡◌, ◌∙◌, ap, sym, take}
 use Rattle.sw_rows.specs.Header.{holding, texts_of}
-use Rattle.sw_rows.proofs.DomainLaws.{holding_again, none_known, schema_again, take_none}
-use Rattle.sw_rows.proofs.TextLemmas.{texts_fewer}
+use Rattle.sw_rows.proofs.Schemas.DomainLaws.{holding_again, none_known, schema_again, take_none}
+use Rattle.sw_rows.proofs.Schemas.TextLemmas.{texts_fewer}
 use Rattle.sw_rows.proofs.schema.Schema.forget_texts.Goals as goal
 
 pub invariant_of-self : goal.invariant_of-self

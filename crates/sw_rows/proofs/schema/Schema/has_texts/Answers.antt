@@ -1,6 +1,6 @@
 use Rattle.std.proofs.Common.{◌∙◌, ap, sym}
 use Rattle.sw_rows.specs.Header.{has_texts}
-use Rattle.sw_rows.proofs.DomainLaws.{holding_of_texts}
+use Rattle.sw_rows.proofs.Schemas.DomainLaws.{holding_of_texts}
 use Rattle.sw_rows.proofs.schema.Schema.has_texts.Goals as goal
 
 pub returns : goal.returns

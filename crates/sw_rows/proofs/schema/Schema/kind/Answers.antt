@@ -1,7 +1,7 @@
 use Rattle.std.proofs.Common.{◌≡◌, ◌∙◌, ap, sym, Some, slice_get}
 use Rattle.sw_rows.specs.Domains.{domain}
 use Rattle.sw_rows.specs.Header.{kinds_of, texts_of}
-use Rattle.sw_rows.proofs.DomainLaws.{kind_held}
+use Rattle.sw_rows.proofs.Schemas.DomainLaws.{kind_held}
 use Rattle.sw_rows.proofs.schema.Schema.kind.Goals as goal
 
 pub returns-clause-value : goal.returns-clause-value

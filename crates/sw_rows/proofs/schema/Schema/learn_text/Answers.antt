@@ -2,9 +2,9 @@ use Rattle.std.proofs.Common.{◌≡◌, ◌≤◌, ◌∙◌, ap, sym, length, 
 use Rattle.std.proofs.lemmas.Bool.{le-leb}
 use Rattle.sw_rows.specs.Header.{holding, texts_of}
 use Rattle.sw_rows.specs.Texts.{are_full}
-use Rattle.sw_rows.specs.declared.texts.TheConstants.{MOST_TEXTS}
-use Rattle.sw_rows.proofs.DomainLaws.{schema_held}
-use Rattle.sw_rows.proofs.TextLaws.{none_at_full}
+use Rattle.sw_rows.specs.declared.schema.texts.TheConstants.{MOST_TEXTS}
+use Rattle.sw_rows.proofs.Schemas.DomainLaws.{schema_held}
+use Rattle.sw_rows.proofs.Schemas.TextLaws.{none_at_full}
 use Rattle.sw_rows.proofs.schema.Schema.learn_text.Goals as goal
 
 pub returns-then-texts_known-ge-MOST_TEXTS-clause-learned : goal.returns-then-texts_known-ge-MOST_TEXTS-clause-learned

@@ -1,6 +1,6 @@
 use Rattle.std.proofs.Common.{◌∙◌, ap, sym, slice_get}
 use Rattle.sw_rows.specs.Header.{names_of}
-use Rattle.sw_rows.proofs.DomainLaws.{holding_names}
+use Rattle.sw_rows.proofs.Schemas.DomainLaws.{holding_names}
 use Rattle.sw_rows.proofs.schema.Schema.name.Goals as goal
 
 pub returns : goal.returns

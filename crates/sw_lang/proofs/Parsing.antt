@@ -1,0 +1,12 @@
+pub mod Conds
+pub mod Fits
+pub mod Lines
+pub mod Merge
+pub mod Names
+pub mod Narrow
+pub mod Quotes
+pub mod Relates
+pub mod Singles
+pub mod Steps
+pub mod TextFits
+pub mod Words

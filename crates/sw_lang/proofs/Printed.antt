@@ -1,0 +1,12 @@
+pub mod Calls
+pub mod Cells
+pub mod Digits
+pub mod Length
+pub mod Merge
+pub mod Names
+pub mod Quoted
+pub mod ReadBack
+pub mod Terms
+pub mod Texts
+pub mod Tokens
+pub mod Utf8

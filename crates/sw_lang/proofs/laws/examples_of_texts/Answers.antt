@@ -1,0 +1,14 @@
+use Rattle.std.proofs.Common.{refl}
+use Rattle.std.specs.Char.{encode_utf8}
+use Rattle.std.specs.Fmt.{digits}
+use Rattle.std.specs.Str.{chars, is_utf8}
+use Rattle.sw_lang.specs.Reading.{line_at, call_at, call_of, delete_at, delete_key, delete_where, cells_at, next_value, past_comma, aggregate_at, select_at, names_at, where_at, terms_at, term_at, first_by, key_of, value_of, number_name, op_for, op_of, name_of}
+use Rattle.sw_lang.proofs.laws.examples_of_texts.Goals as goal
+
+pub returns-clause-lines : goal.returns-clause-lines
+unfolding chars is_utf8 encode_utf8 line_at call_at call_of delete_at delete_key delete_where cells_at next_value past_comma aggregate_at select_at names_at where_at terms_at term_at first_by key_of value_of number_name op_for op_of name_of
+returns-clause-lines c = refl
+
+pub returns-clause-printed : goal.returns-clause-printed
+unfolding chars is_utf8 encode_utf8 digits line_at call_at call_of delete_at delete_key delete_where cells_at next_value past_comma aggregate_at select_at names_at where_at terms_at term_at first_by key_of value_of number_name op_for op_of name_of
+returns-clause-printed c = refl

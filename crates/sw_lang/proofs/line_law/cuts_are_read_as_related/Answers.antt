@@ -1,8 +1,0 @@
-use Rattle.sw_lang.proofs.CutTexts.{cuts_found, cuts_read}
-use Rattle.sw_lang.proofs.line_law.cuts_are_read_as_related.Goals as goal
-
-pub returns-clause-found : goal.returns-clause-found
-returns-clause-found c = cuts_found
-
-pub returns-clause-only : goal.returns-clause-only
-returns-clause-only c = cuts_read

@@ -1,8 +1,0 @@
-use Rattle.sw_lang.proofs.Lines.{line_found, line_read}
-use Rattle.sw_lang.proofs.line_law.lines_are_read_as_related.Goals as goal
-
-pub returns-clause-found : goal.returns-clause-found
-returns-clause-found c = line_found
-
-pub returns-clause-only : goal.returns-clause-only
-returns-clause-only c = line_read

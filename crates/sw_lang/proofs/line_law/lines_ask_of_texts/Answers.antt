@@ -1,8 +1,0 @@
-use Rattle.sw_lang.proofs.FitTexts.{asks_of_texts, row_of_codes}
-use Rattle.sw_lang.proofs.line_law.lines_ask_of_texts.Goals as goal
-
-pub returns-clause-queries : goal.returns-clause-queries
-returns-clause-queries c = asks_of_texts
-
-pub returns-clause-rows : goal.returns-clause-rows
-returns-clause-rows c = row_of_codes

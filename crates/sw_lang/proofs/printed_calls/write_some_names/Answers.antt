@@ -1,8 +1,0 @@
-use Rattle.sw_lang.proofs.Progress.{both, stops}
-use Rattle.sw_lang.proofs.printed_calls.write_some_names.Goals as goal
-
-pub returns-in_err-write_name : goal.returns-in_err-write_name
-returns-in_err-write_name g c = stops _ _ c.from_residual.result c.from_residual.ensures.1 c.in_err-write_name.ensures
-
-pub returns : goal.returns
-returns g c = both _ _ c.write_more_names.result c.in_ok-write_name.ensures c.write_more_names.ensures

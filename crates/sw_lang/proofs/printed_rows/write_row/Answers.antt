@@ -1,8 +1,0 @@
-use Rattle.sw_lang.proofs.Progress.{both, stops}
-use Rattle.sw_lang.proofs.printed_rows.write_row.Goals as goal
-
-pub returns-in_err-write_number : goal.returns-in_err-write_number
-returns-in_err-write_number g c = stops _ _ c.from_residual.result c.from_residual.ensures.1 c.in_err-write_number.ensures
-
-pub returns : goal.returns
-returns g c = both _ _ c.write_after_key.result c.in_ok-write_number.ensures c.write_after_key.ensures

@@ -1,8 +1,0 @@
-use Rattle.sw_lang.proofs.Progress.{both, stops}
-use Rattle.sw_lang.proofs.printed_texts.write_run.Goals as goal
-
-pub returns-in_err-write_all : goal.returns-in_err-write_all
-returns-in_err-write_all g c = stops _ _ c.from_residual.result c.from_residual.ensures.1 c.in_err-write_all.ensures
-
-pub returns : goal.returns
-returns g c = both _ _ c.write_all-2.result c.in_ok-write_all.ensures c.write_all-2.ensures

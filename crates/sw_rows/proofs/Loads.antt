@@ -1,0 +1,4 @@
+pub mod Beginnings
+pub mod CutLaws
+pub mod PartLaws
+pub mod TextPartLaws

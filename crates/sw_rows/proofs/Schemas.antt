@@ -1,0 +1,6 @@
+pub mod ColumnLemmas
+pub mod DomainLaws
+pub mod HeaderSpelling
+pub mod SchemaLaws
+pub mod TextLaws
+pub mod TextLemmas

@@ -1,5 +1,0 @@
-use Rattle.sw_rows.proofs.TextRowLaws.{table_coded}
-use Rattle.sw_rows.proofs.text_answers.tables_have_coded_cells.Goals as goal
-
-pub returns : goal.returns
-returns c = table_coded

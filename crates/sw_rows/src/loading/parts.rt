@@ -1,0 +1,283 @@
+//! A table that is read in parts, each by a thread of its own.
+
+ghost use Rattle.std.specs.Prelude.{◌≡◌, ◌<◌, ◌≤◌, ◌==◌, ◌++◌, [], ◌∷◌, ℕ, List, true, false, drop, get_or, length, not, take, Result, Ok, Err, IfOk, IfSome};
+ghost use Rattle.std.specs.List.{list_all};
+ghost use Rattle.std.specs.Thread.{IsSync};
+ghost use Rattle.csv.specs.Reading.{default_config, is_bom, records, strip_bom};
+ghost use Rattle.sw_rows.specs.Gives.{Fails, Gives};
+ghost use Rattle.sw_rows.specs.Header.{Fault, has_texts, header_of};
+ghost use Rattle.sw_rows.specs.Parts.{AreRecordsOfBoth, GivesRows, IsPart, begins_plain, has_no_quote, rows_behind, rows_of_part, FailsBehind, GivesBoth, IsHeader};
+ghost use Rattle.sw_rows.specs.Tables.{shown_packed, table_in};
+ghost use Rattle.sw_rows.specs.declared.table.TheConstants.{MOST_ROWS};
+ghost use Rattle.sw_table.specs.declared.row.Row.{Row};
+
+use crate::loading::fronts::long_at;
+use crate::loading::text_parts::read_text_table;
+use crate::schema::text_key::TextKey;
+use crate::schema::{Columns, Schema, read_header};
+use crate::table::{MOST_ROWS, read_long, read_rows, read_whole, records};
+use csv::ByteRecord;
+use std::alloc::Global;
+use std::thread::{Threads, join};
+use sw_query::Refusal;
+use sw_table::PackedRows;
+
+/// How often a table is halved at most.
+pub(crate) const HALVINGS: u32 = 2;
+
+/// How many bytes a part has at least that is halved.
+pub(crate) const LEAST_HALVED: usize = 1_048_576;
+
+/// Whether no byte is a double quote.
+pub(crate) fn has_no_quote(bytes: &[u8]) -> bool
+    ensures { result ≡ has_no_quote bytes.now }
+{
+    // Goes on behind a quote, so that many bytes are compared at once.
+    let mut found = false;
+    for c in bytes {
+        found |= *c == b'"';
+    }
+    !found
+}
+
+/// Where the first line feed is.
+pub(crate) fn feed_at(bytes: &[u8]) -> Option<usize>
+    ensures { IfSome result (λ at. (at < length bytes.now) × (get_or bytes.now at 0 ≡ 10)) }
+{
+    bytes.iter().position(|c| *c == b'\n')
+}
+
+/// Whether the bytes begin with none that a byte order mark begins with.
+fn begins_plain(bytes: &[u8]) -> bool
+    ensures { result ≡ begins_plain bytes.now }
+{
+    match bytes.first() {
+        Some(c) => *c != 0xEF,
+        None => true,
+    }
+}
+
+/// Where the bytes may be cut in two, the first line feed from a place on: their records are those of both parts.
+pub(crate) fn cut(bytes: &[u8], from: usize) -> Option<usize>
+    requires { from ≤ length bytes.now }
+    ensures inside { IfSome result (λ at. at ≤ length bytes.now) }
+    ensures plain { IfSome result (λ at. begins_plain (drop at bytes.now) ≡ true) }
+    ensures records { IfSome result (λ at. AreRecordsOfBoth (take at bytes.now) (drop at bytes.now) bytes.now) }
+{
+    let (_, back) = bytes.split_at(from);
+    let at = from + feed_at(back)? + 1;
+    let (left, right) = bytes.split_at(at);
+    if has_no_quote(left) && begins_plain(right) {
+        Some(at)
+    } else {
+        None
+    }
+}
+
+/// Reads the rows of a part.
+fn read_part(alloc: Global, columns: &Columns, part: &[u8]) -> Result<PackedRows, Refusal>
+    requires plain { begins_plain part.now ≡ true }
+    requires numbers { has_texts columns.now ≡ false }
+    requires some { 0 < length columns.now }
+    ensures rows { GivesRows result (rows_of_part columns.now part.now) }
+    ensures part { IfOk result (IsPart (length columns.now)) }
+{
+    let mut texts = columns.no_texts(alloc);
+    let mut rdr = records::open(alloc, part);
+    let mut row = ByteRecord::new(alloc);
+    read_rows(alloc, columns, &mut texts, &mut rdr, &mut row)
+}
+
+/// Adds the rows of a part, of which each takes the number behind its own.
+pub(crate) fn append(rows: &mut PackedRows, more: &PackedRows) -> Result<(), Refusal>
+    requires few { length rows.old.items ≤ MOST_ROWS }
+    requires more { IsPart rows.old.width more.now }
+    ensures gives { Gives ⊥ (λ _. rows.new.items) result (rows_behind rows.old.items (Ok more.now.items)) }
+    ensures width { rows.new.width ≡ rows.old.width }
+{
+    if (rows.len() + more.len()) as u64 > MOST_ROWS {
+        return Err(Refusal::TooMany { limit: MOST_ROWS });
+    }
+    match rows.extend_behind(more) {
+        Ok(()) => Ok(()),
+        Err(_) => Err(Refusal::NoMemory),
+    }
+}
+
+/// The refusal of a part that lies behind so many rows.
+fn behind(count: u64, refusal: Refusal) -> Refusal
+    requires { count ≤ MOST_ROWS }
+    ensures { FailsBehind count refusal result }
+{
+    match refusal {
+        Refusal::BadTable { rec, field } if rec <= MOST_ROWS - count => Refusal::BadTable {
+            rec: count + rec,
+            field,
+        },
+        Refusal::BadTable { rec: _, field: _ } | Refusal::TooMany { limit: _ } => {
+            Refusal::TooMany { limit: MOST_ROWS }
+        }
+        // A part tells of nothing else but memory.
+        _ => Refusal::NoMemory,
+    }
+}
+
+/// The rows of two parts, or the first fault of both.
+fn joined(
+    first: Result<PackedRows, Refusal>,
+    rest: Result<PackedRows, Refusal>,
+) -> Result<PackedRows, Refusal>
+    requires first { IfOk first (λ rows. IsPart rows.width rows) }
+    requires rest { IfOk first (λ rows. IfOk rest (IsPart rows.width)) }
+    ensures width { (n : ℕ) → IfOk first (IsPart n) → IfOk result (λ all. all.width ≡ n) }
+    ensures gives { GivesBoth first rest result }
+{
+    let mut rows = match first {
+        Ok(rows) => rows,
+        Err(refusal) => return Err(refusal),
+    };
+    match rest {
+        Ok(more) => match append(&mut rows, &more) {
+            Ok(()) => Ok(rows),
+            Err(refusal) => Err(refusal),
+        },
+        Err(refusal) => Err(behind(rows.len() as u64, refusal)),
+    }
+}
+
+/// Reads the rows of a part, halved so many times, in a thread for each half.
+#[cycle(halves)]
+fn read_halves<R: Threads + Sync>(
+    rt: &R,
+    alloc: Global,
+    columns: &Columns,
+    part: &[u8],
+    halvings: u32,
+) -> Result<PackedRows, Refusal>
+    requires plain { begins_plain part.now ≡ true }
+    requires numbers { has_texts columns.now ≡ false }
+    requires some { 0 < length columns.now }
+    ensures rows { GivesRows result (rows_of_part columns.now part.now) }
+    ensures part { IfOk result (IsPart (length columns.now)) }
+{
+    if halvings == 0 || part.len() < LEAST_HALVED {
+        return read_part(alloc, columns, part);
+    }
+    let Some(at) = cut(part, part.len() / 2) else {
+        return read_part(alloc, columns, part);
+    };
+    let (left, right) = part.split_at(at);
+    let fewer = halvings - 1;
+    let (first, rest) = join(
+        rt,
+        || -> Result<PackedRows, Refusal>
+            requires { IsSync R.row × (begins_plain left.now ≡ true) × (has_texts columns.now ≡ false)
+                × (0 < length columns.now) }
+            ensures rows { GivesRows result (rows_of_part columns.entry.now left.entry.now) }
+            ensures part { IfOk result (IsPart (length columns.entry.now)) }
+        { read_halves(rt, alloc, columns, left, fewer) },
+        || -> Result<PackedRows, Refusal>
+            requires { IsSync R.row × (begins_plain right.now ≡ true) × (has_texts columns.now ≡ false)
+                × (0 < length columns.now) }
+            ensures rows { GivesRows result (rows_of_part columns.entry.now right.entry.now) }
+            ensures part { IfOk result (IsPart (length columns.entry.now)) }
+        { read_halves(rt, alloc, columns, right, fewer) },
+    );
+    joined(first, rest)
+}
+
+/// Whether three bytes are a byte order mark.
+fn is_mark(a: u8, b: u8, c: u8) -> bool
+    ensures { result ≡ is_bom a b c }
+{
+    a == 0xEF && b == 0xBB && c == 0xBF
+}
+
+/// The bytes without a byte order mark at their start.
+#[tactic(auto, using(crate::proofs::Loads::CutLaws::short_bom, crate::proofs::Loads::CutLaws::no_bom, crate::proofs::Loads::CutLaws::one_bom))]
+fn unmarked(bytes: &[u8]) -> &[u8]
+    ensures { result.now ≡ strip_bom bytes.now }
+{
+    if bytes.len() < 3 {
+        return bytes;
+    }
+    if !is_mark(bytes[0], bytes[1], bytes[2]) {
+        return bytes;
+    }
+    let (_, rest) = bytes.split_at(3);
+    rest
+}
+
+/// The attributes of bytes that are one record, where they are that and it is a header.
+fn read_head(alloc: Global, key: TextKey, head: &[u8]) -> Option<Columns>
+    requires { begins_plain head.now ≡ true }
+    ensures head { IfSome result (IsHeader head.now) }
+    ensures some { IfSome result (λ s. 0 < length s) }
+{
+    let mut rdr = records::open(alloc, head);
+    let mut row = ByteRecord::new(alloc);
+    let Ok(true) = records::next(&mut rdr, &mut row) else {
+        return None;
+    };
+    let mut more = ByteRecord::new(alloc);
+    let Ok(false) = records::next(&mut rdr, &mut more) else {
+        return None;
+    };
+    match read_header(alloc, key, &row) {
+        Ok(columns) => Some(columns),
+        Err(_) => None,
+    }
+}
+
+/// Reads the table that bytes spell, its rows in parts, each in a thread, where it is long.
+fn read_parts<R: Threads + Sync>(
+    rt: &R,
+    alloc: Global,
+    key: TextKey,
+    bytes: &[u8],
+) -> Result<(Schema, PackedRows), Refusal>
+    ensures gives { Gives ⊥ shown_packed result (table_in bytes.now) }
+    ensures width { IfOk result (λ t. t.1.width ≡ length t.0) }
+{
+    let text = unmarked(bytes);
+    if !begins_plain(text) {
+        return read_whole(alloc, key, bytes);
+    }
+    let Some(at) = cut(text, 0) else {
+        return read_whole(alloc, key, bytes);
+    };
+    let (head, body) = text.split_at(at);
+    let Some(columns) = read_head(alloc, key, head) else {
+        return read_whole(alloc, key, bytes);
+    };
+    if columns.has_texts() {
+        return match read_text_table(rt, alloc, columns, body) {
+            Some(table) => Ok(table),
+            // in sequence, which tells the first fault
+            None => read_whole(alloc, key, bytes),
+        };
+    }
+    match read_halves(rt, alloc, &columns, body, HALVINGS) {
+        Ok(rows) => {
+            let texts = columns.no_texts(alloc);
+            Ok((columns.into_schema(texts), rows))
+        }
+        Err(refusal) => Err(refusal),
+    }
+}
+
+/// The same, and of a record of too many fields no more than is needed.
+pub(crate) fn read_table_in_parts<R: Threads + Sync>(
+    rt: &R,
+    alloc: Global,
+    key: TextKey,
+    bytes: &[u8],
+) -> Result<(Schema, PackedRows), Refusal>
+    ensures gives { Gives ⊥ shown_packed result (table_in bytes.now) }
+    ensures width { IfOk result (λ t. t.1.width ≡ length t.0) }
+{
+    match long_at(bytes) {
+        Some(at) => read_long(alloc, key, bytes, at),
+        None => read_parts(rt, alloc, key, bytes),
+    }
+}

@@ -1,0 +1,150 @@
+//! Texts of cells, each with a code that stands for it.
+
+ghost use Rattle.std.specs.Prelude.{[], ◌≡◌, ◌≤◌, length, pos, take, true, if◌then◌else◌, is_some, option_map, List, None, Some, IfOk, IfSome, IsOk, OnErr, OnOk};
+ghost use Rattle.std.specs.List.{list_all};
+ghost use Rattle.sw_rows.specs.Gives.{Gives};
+ghost use Rattle.sw_rows.specs.Header.{too_many};
+ghost use Rattle.sw_rows.specs.Texts.{code_given, code_of, has_text, is_text, is_text_byte, text_of, with_text, AreTexts};
+ghost use Rattle.sw_rows.specs.declared.schema.texts.TheConstants.{MOST_TEXTS};
+
+use crate::schema::text_key::TextKey;
+use indexmap::IndexSet;
+use std::alloc::Global;
+use std::marker::Model;
+use sw_query::Refusal;
+
+/// How many bytes the text of a cell has at most.
+pub const MOST_BYTES_OF_TEXT: usize = 64;
+
+/// How many texts there are at most, no two of them the same.
+pub const MOST_TEXTS: u64 = 1_048_576;
+
+fn are_text_bytes(bytes: &[u8]) -> bool
+    ensures { result ≡ list_all is_text_byte bytes.now }
+{
+    bytes.iter().all(|byte| *byte >= 32 && *byte != 127)
+}
+
+/// Bytes as the text of a cell, and None where they are none.
+///
+/// The text of a cell is UTF-8 of at most `MOST_BYTES_OF_TEXT` bytes, none of them below 32 and none 127. It may be
+/// empty.
+#[tactic(auto, using(crate::proofs::Schemas::TextLemmas::text_read, crate::proofs::Schemas::TextLemmas::text_refused))]
+pub fn read_text(bytes: &[u8]) -> Option<&str>
+    ensures value { option_map (λ text. text.now) result ≡ (if is_text bytes.now then Some bytes.now else None) }
+    ensures text { IfSome result (λ text. is_text text.now ≡ true) }
+{
+    if bytes.len() > MOST_BYTES_OF_TEXT || !are_text_bytes(bytes) {
+        return None;
+    }
+    match str::from_utf8(bytes) {
+        Ok(text) => Some(text),
+        Err(_) => None,
+    }
+}
+
+/// The number of a cell that stands for the text of a code.
+pub(crate) fn cell_of(code: u64) -> i64
+    requires { code ≤ MOST_TEXTS }
+    ensures { result ≡ pos code }
+{
+    // few codes fit 63 bits
+    code as i64
+}
+
+/// Texts of cells in the order in which they were first seen. Their codes are 1, 2, 3 and so on.
+///
+/// No text stands twice, each may be the text of a cell, and there are at most `MOST_TEXTS` of them.
+#[derive(Drop)]
+pub struct Texts {
+    texts: IndexSet<String, TextKey>,
+}
+
+impl Model for Texts {
+    ghost use Rattle.std.specs.Prelude.{List, ℕ};
+    ghost use Rattle.sw_rows.specs.Texts.{texts_of, AreTexts};
+
+    ghost Value = { List (List ℕ) };
+
+    ghost view = { λ s. texts_of s.texts };
+
+    ghost invariant = { λ s. AreTexts (texts_of s.texts) };
+}
+
+impl Texts {
+    /// No texts. They will be hashed under the key.
+    pub fn new(alloc: Global, key: TextKey) -> Self
+        ensures { result ≡ [] }
+    {
+        Texts {
+            texts: IndexSet::with_hasher(alloc, key),
+        }
+    }
+
+    /// How many texts there are.
+    pub fn len(&self) -> usize
+        ensures value { result ≡ length self.now }
+        ensures texts { AreTexts self.now }
+    {
+        self.texts.len()
+    }
+
+    /// The code of a text, if it is one of these. Texts are compared byte by byte.
+    pub fn code(&self, text: &str) -> Option<u64>
+        ensures value { result ≡ code_of self.now text.now }
+        ensures found { is_some result ≡ has_text self.now text.now }
+        ensures few { IfSome result (λ code. code ≤ MOST_TEXTS) }
+    {
+        let place = self.texts.get_index_of(text)?;
+        Some(place as u64 + 1)
+    }
+
+    /// The text of a code, if one has it.
+    pub fn text(&self, code: u64) -> Option<&str>
+        ensures value { option_map (λ text. text.now) result ≡ text_of self.now code }
+        ensures text { IfSome result (λ text. is_text text.now ≡ true) }
+    {
+        let place = code.checked_sub(1)?;
+        let text = self.texts.get_index(place as usize)?;
+        Some(text.as_str())
+    }
+
+    /// The code of a text, which comes last where it is new. A known one changes nothing.
+    ///
+    /// Refused `TooMany` of limit `MOST_TEXTS` where the text is new and there are as many, and `NoMemory` where there
+    /// is no memory for a new one: nothing has changed then. A known text is never refused.
+    #[tactic(auto, using(crate::proofs::Schemas::TextLemmas::text_inserted))]
+    pub fn add(&mut self, text: &str) -> Result<u64, Refusal>
+        requires { is_text text.now ≡ true }
+        ensures code { Gives ⊥ (λ code. code) result (code_given self.old text.now) }
+        ensures few { IfOk result (λ code. code ≤ MOST_TEXTS) }
+        ensures added { OnOk result (self.new ≡ with_text self.old text.now) }
+        ensures refused { OnErr result (self.new ≡ self.old) }
+        ensures known { has_text self.old text.now ≡ true → IsOk result }
+        ensures full { code_given self.old text.now ≡ Err (too_many MOST_TEXTS)
+            → result ≡ Err (Refusal.TooMany MOST_TEXTS) }
+    {
+        if let Some(code) = self.code(text) {
+            return Ok(code);
+        }
+        let count = self.len() as u64;
+        if count >= MOST_TEXTS {
+            return Err(Refusal::TooMany { limit: MOST_TEXTS });
+        }
+        let alloc = *self.texts.allocator();
+        let Ok(text) = String::from_str(alloc, text) else {
+            return Err(Refusal::NoMemory);
+        };
+        match self.texts.insert(text) {
+            Ok(_) => Ok(count + 1),
+            Err(_) => Err(Refusal::NoMemory),
+        }
+    }
+
+    /// Takes back the texts that came last, so that the first `len` are left. Where there are no more, nothing changes.
+    pub fn truncate(&mut self, len: usize)
+        ensures { self.new ≡ take len self.old }
+    {
+        self.texts.truncate(len);
+    }
+}
