@@ -1,14 +1,14 @@
 //! Rows by their numbers, and areas of them.
 
-ghost use Rattle.std.specs.Prelude.{◌≡◌, ◌<◌, ◌+◌, ◌^◌, ◌++◌, ◌∷◌, [], All, MatchOption, MatchResult, IfOk, IfSome, cond, take, true, vec_len};
+ghost use Rattle.std.specs.Prelude.{◌≡◌, ◌<◌, ◌+◌, ◌^◌, ◌++◌, ◌∷◌, [], All, MatchResult, IfOk, IfSome, take, vec_len};
 ghost use Rattle.std.specs.List.{list_all};
-ghost use Rattle.sw_query.specs.declared.refusal.Refusal.TheVariants.{Input, NoMemory};
+ghost use Rattle.sw_query.specs.Outcomes.{MemoryAside};
 ghost use Rattle.sw_rows.specs.declared.table.TheConstants.{MOST_ROWS};
 ghost use Rattle.sw_table.specs.declared.row.Row.{Row};
 ghost use Rattle.sw_map.specs.Held.{blank};
 ghost use Rattle.sw_set.specs.Needs.{edge};
 ghost use Rattle.sw_set.specs.Shelf.{Rises, key_of, lies_within};
-ghost use Rattle.test_areas.specs.Opening.{may_open, numbered, opened, row_of};
+ghost use Rattle.test_areas.specs.Opening.{may_open, numbered, row_of, IsOpened, IsPushedOr, IsRefusedFor, TakesOneOf};
 
 use std::alloc::Global;
 use sw_map::CrackerMap;
@@ -18,8 +18,7 @@ use sw_set::Area;
 /// Adds the row of these cells whose key is one more than a number. Refused `NoMemory` alone.
 fn push_row(rows: &mut Vec<Row>, number: usize, cells: [i64; 8]) -> Result<(), Refusal>
     requires { number < MOST_ROWS }
-    ensures { MatchResult result
-        (λ _. rows.new.items ≡ rows.old.items ++ row_of (number + 1, cells) ∷ []) (λ e. e ≡ NoMemory) }
+    ensures { MemoryAside result (λ _. rows.new.items ≡ rows.old.items ++ row_of (number + 1, cells) ∷ []) }
 {
     let row = Row {
         key: number as u64 + 1,
@@ -33,7 +32,7 @@ fn push_row(rows: &mut Vec<Row>, number: usize, cells: [i64; 8]) -> Result<(), R
 
 /// Rows of these cells, by the keys 1, 2, 3 and so on; of the first `MOST_ROWS` alone. Refused `NoMemory` alone.
 pub fn numbered(alloc: Global, cells: &[[i64; 8]]) -> Result<Vec<Row>, Refusal>
-    ensures rows { MatchResult result (λ rows. rows.items ≡ numbered (take MOST_ROWS cells.now)) (λ e. e ≡ NoMemory) }
+    ensures rows { MemoryAside result (λ rows. rows.items ≡ numbered (take MOST_ROWS cells.now)) }
     ensures rise { IfOk result (λ rows. Rises key_of rows.items) }
     ensures fit { IfOk result (λ rows. All (λ (r : Row). r.key < 2 ^ 63) rows.items) }
 {
@@ -95,8 +94,7 @@ fn may_open(shape: Shape, rows: &[Row]) -> bool
 pub(crate) fn add<M: CrackerMap>(maps: &mut Vec<M>, map: M) -> Result<(), Refusal>
     requires all { All (λ m. M.held m ≡ blank) maps.old.items }
     requires one { M.held map ≡ blank }
-    ensures added { MatchResult result (λ _. maps.new.items ≡ maps.old.items ++ map ∷ [])
-        (λ e. (maps.new.items ≡ maps.old.items) × (e ≡ NoMemory)) }
+    ensures added { IsPushedOr result map maps.old.items maps.new.items }
     ensures blank { All (λ m. M.held m ≡ blank) maps.new.items }
 {
     if maps.reserve(1).is_err() {
@@ -111,8 +109,7 @@ fn take_last<M: CrackerMap>(maps: &mut Vec<M>) -> Option<M>
     requires { All (λ m. M.held m ≡ blank) maps.old.items }
     ensures rest { All (λ m. M.held m ≡ blank) maps.new.items }
     ensures taken { IfSome result (λ m. M.held m ≡ blank) }
-    ensures many { MatchOption result ((vec_len maps.old ≡ 0) × (vec_len maps.new ≡ 0))
-        (λ _. vec_len maps.new + 1 ≡ vec_len maps.old) }
+    ensures many { TakesOneOf result (vec_len maps.old) (vec_len maps.new) }
 {
     maps.pop()
 }
@@ -128,9 +125,7 @@ pub(crate) fn open<M: CrackerMap>(
     requires rise { Rises key_of rows.now }
     requires fit { All (λ (r : Row). r.key < 2 ^ 63) rows.now }
     requires blank { All (λ m. M.held m ≡ blank) maps.items }
-    ensures opened { MatchResult result
-        (λ area. (may_open shape rows.now ≡ true) × (area ≡ opened shape rows.now (vec_len maps)))
-        (λ e. e ≡ cond (may_open shape rows.now) NoMemory Input) }
+    ensures opened { MatchResult result (IsOpened shape rows.now (vec_len maps)) (IsRefusedFor shape rows.now) }
     ensures received { IfOk result (λ area. area.inbox ≡ []) }
 {
     if !may_open(shape, rows) {
