@@ -446,6 +446,8 @@ class Cases:
                   "sideways: refused 12\nnone.csv: there is no such file\n")
         self.case("a table that is a folder", ["order", "--table", "folder", "odd.csv"], 2, "",
                   "sideways: refused 12\nfolder: a folder, wanted a file\n")
+        self.case("a history that is none", ["check", "t.csv"], 2, "",
+                  "sideways: refused 3 line 0 why History\nt.csv: it is no history file as run --history writes one\n")
         self.case("a history that is not there", ["check", "none.json"], 2, "", "sideways: refused 12\nnone.json: there is no such file\n")
         self.case("a history that is a folder", ["check", "folder"], 2, "", "sideways: refused 12\nfolder: a folder, wanted a file\n")
         self.case("a history from logs that are told nowhere", ["check", "--explain", "--from-logs", "none.csv", "t.csv"], 2, "",

@@ -9,10 +9,11 @@ use crate::shell::SHELL;
 use clap::{Arg, ArgAction, ArgGroup, Command};
 use std::alloc::{AllocError, Global};
 
-/// The version of the program, and with what it is proved, as `rt version` tells it.
+/// The version of the program.
 const VERSION: &str = "0.1.0";
 
-const LONG_VERSION: &str = "0.1.0\nproved with rattle-kit-13f logic dac8208d650f15bf";
+/// The version, and the logic by which it is proved, which `rt version` tells behind the name of the kit.
+const LONG_VERSION: &str = "0.1.0\nproved with logic dac8208d650f15bf";
 
 /// What ends the help of each command.
 const EXAMPLES: &str = "\

@@ -344,13 +344,17 @@ pub fn of_form(alloc: Global, refusal: &Refusal, script: Script<'_>) -> Option<S
     ).ok()
 }
 
-/// A refusal of a history file in words: what is wrong with the entry that is none.
+/// A refusal of a history file in words: what is wrong with the entry that is none, or that the whole is none.
 pub fn of_history(alloc: Global, name: &str, bytes: &[u8], refusal: &Refusal) -> Option<String> {
     match refusal {
         Refusal::BadLine {
+            line: 0,
+            why: Why::History,
+        } => format!(in alloc; "{name}: it is no history file as run --history writes one\n").ok(),
+        Refusal::BadLine {
             line,
             why: Why::History,
-        } if *line > 0 => wrong_entry(alloc, name, bytes, u64::from(*line)).ok(),
+        } => wrong_entry(alloc, name, bytes, u64::from(*line)).ok(),
         _ => None,
     }
 }
