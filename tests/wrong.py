@@ -52,22 +52,26 @@ class Body:
     def __init__(self, crate, name, pairs):
         self.crate, self.name, self.pairs, self.functions = crate, name, pairs, changed(pairs, f"{TOP}/crates/{crate}")[1]
 
-    def refusal(self, said, folder):
-        """The line that refuses it in what a check of a copy said: at a goal of its functions, or else of a proof of one of them."""
+    def refusal(self, said, folder, is_alone):
+        """The line that refuses it in what a check of a copy said: at a goal of its functions, or else of a proof of one of them; where it
+        stands alone there, so that nothing else can be the cause, also a line of that proof that names what is there no more."""
         lines = said.split("\n")
         lost = [it for it in self.functions if any(re.match(rf"fn {self.crate}::{re.escape(it)}: (?:not proved|no proof)", one) for one in lines)]
         spans = {file: [it for it in spans_of(file, text_of(f"{folder}/{file}")) if it[0] in lost] for file, _, _ in self.pairs}
-        by_proof = ""
+        by_proof = by_name = ""
         for line in lines:
             place = PLACE.match(line)
-            if not place or not is_goal(place[3]):
+            if not place:
                 continue
-            if any(it[1] <= int(place[2]) - 1 <= it[3] for it in spans.get(place[1], [])):
+            is_own = any(place[1].startswith(f"proofs/{it.replace('::', '/')}/") for it in lost)
+            if is_goal(place[3]) and any(it[1] <= int(place[2]) - 1 <= it[3] for it in spans.get(place[1], [])):
                 return line
-            if not by_proof and any(place[1].startswith(f"proofs/{it.replace('::', '/')}/") for it in lost):
-                by_proof = line
+            if is_own and is_goal(place[3]):
+                by_proof = by_proof or line
+            elif is_own and is_alone and place[3].startswith("error: "):
+                by_name = by_name or line
         stays = [it for one in lost for it in lines if re.match(rf"fn {self.crate}::{re.escape(one)}: .*`search` did not prove ", it)]
-        return by_proof or "".join(stays[:1])
+        return by_proof or "".join(stays[:1]) or by_name
 
 
 class Trial:
@@ -115,7 +119,7 @@ class Trial:
         with self.copy(bodies) as folder:
             only = [word for body in bodies for name in body.functions for word in ("--only", name)]
             result = self.ran(only, folder)
-            return result, {body: body.refusal(result.said, folder) for body in bodies if is_read(result)}
+            return result, {body: body.refusal(result.said, folder, len(bodies) == 1) for body in bodies if is_read(result)}
 
     def ran(self, words, folder):
         """What a check with these words says; once more where it is killed, most likely for memory, which another check held."""
@@ -190,7 +194,7 @@ def tests_itself(rtlib, crates):
     crate, file = crates["sw_table"], "src/live.rt"
     control = Body(crate.name, "row_stays", pairs_of(f"{TOP}/tests/controls/sw_table/row_stays.edit"))
     below = Body(crate.name, "any_key_found", pairs_of(path_of("sw_table", "any_key_found")))
-    same = Body(crate.name, "same", [("src/numbers.rt", "Numbers { first: 1, many }", "Numbers { first: 2 - 1, many }")])
+    same = Body(crate.name, "same", [("src/numbers.rt", "Numbers { first: 1, many }", "Numbers { many, first: 1 }")])
     unread = Body(crate.name, "unread", [(file, "self.live[place] = false;", "self.live[place] = no_such_name;")])
     trial = Trial(crate, rtlib)
     left, refused = trial.started([same, below]), [it for it, line in trial.check([control, below])[1].items() if line]
