@@ -28,7 +28,7 @@ TRIALS = {
 # A name, what is wrong, the file, its text and the wrong one, and the trial or, of another crate, the test that fails.
 BODIES = {
     "one_latch_for_all": ("Every select takes the latch of the first head, as if one lock lay round everything",
-                          "sw_engine/src/engine.rt", "&self.latches[head_of(query)], SELECT", "&self.latches[head_of(query) & 0], SELECT",
+                          "sw_engine/src/engine.rt", "&self.latches[head_of(query)]", "&self.latches[head_of(query) & 0]",
                           "waited 0 count where a >= 10&count where b >= 6"),
     "blocks_in_turn": ("A run takes its blocks one after another though threads are asked for",
                        "sw_cli/src/running.rt", "    if options.threads {\n", "    if options.threads && opened.blocks.is_empty() {\n",
