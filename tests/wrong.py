@@ -2,6 +2,7 @@
 """Tries the wrong bodies of tests/wrong: the check must refuse each, by a goal of a function that it changes.
 
     tests/wrong.py [--jobs N] [CRATE[/NAME]..]    all of them, or those of some crates
+    tests/wrong.py --most N [CRATE..]             of each crate those of tests/feared.txt, and others up to N
     tests/wrong.py --texts                        whether each, and each control, can be made of the text that stands; proves nothing
 
 A function is proved by its own text and the clauses of what it calls. So bodies that change different functions stand in one copy of
@@ -234,6 +235,17 @@ def read(words):
     return good, controls, bad
 
 
+def fewer(bodies, most):
+    """Of the bodies of each crate those that are feared, and others, by their names, up to so many."""
+    feared = {line.split()[0] for line in text_of(f"{TOP}/tests/feared.txt").split("\n") if line and line[0] != "#"}
+    kept, many = [], collections.Counter()
+    for body in sorted(bodies, key=lambda it: (it.crate, f"{it.crate}/{it.name}" not in feared, it.name)):
+        if many[body.crate] < most or f"{body.crate}/{body.name}" in feared:
+            kept.append(body)
+            many[body.crate] += 1
+    return kept
+
+
 def stands(crate, name, path):
     """Nothing, where a control is of a body that stands, and can be made."""
     if not os.path.isfile(path_of(crate, name)):
@@ -258,6 +270,7 @@ def main():
     parser = argparse.ArgumentParser(description=__doc__, formatter_class=argparse.RawDescriptionHelpFormatter)
     parser.add_argument("--jobs", type=int, default=len(os.sched_getaffinity(0)))
     parser.add_argument("--texts", action="store_true")
+    parser.add_argument("--most", type=int, metavar="N")
     parser.add_argument("crates", nargs="*")
     given = parser.parse_args()
     good, controls, bad = read(given.crates)
@@ -266,6 +279,7 @@ def main():
     if given.texts or not good:
         print(f"wrong: {len(good)} bodies, {controls} controls, {len(bad)} that cannot be made")
         return 1 if bad or not good else 0
+    good = good if given.most is None else fewer(good, given.most)
     os.chdir(TOP)
     rtlib = kit()
     rtlib.guarded()
