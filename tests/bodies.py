@@ -1,5 +1,6 @@
 """Wrong bodies and controls, as tests/wrong.py and refusals.py try them: where they stand, what they change, and how they are made in a copy of
 their crate."""
+import glob
 import os
 import re
 
@@ -48,14 +49,28 @@ def pairs_of(path):
     return found
 
 
-def spans_of(file, text):
-    """The functions of a source: the name of each, as a check tells it, which has the trait's name behind the type's; its first line,
-    attributes included; the line that opens its body; and its last line."""
-    lines, impl, found = text.split("\n"), "", []
-    module = [] if file in ("src/lib.rt", "src/main.rt") else file[4:-3].split("/")
+def module_of(file):
+    """The path of a source's module in its crate."""
+    return [] if file in ("src/lib.rt", "src/main.rt") else file[4:-3].split("/")
+
+
+def home_of(name, file, text, folder):
+    """The module of a type that a source implements: its own, or that of the crate in the folder which declares the type."""
+    declares = re.compile(rf"^(?:pub(?:\(\w+\))? )?(?:struct|enum|trait) {name}\b", re.M)
+    if declares.search(text):
+        return module_of(file)
+    others = sorted(glob.glob(f"{folder}/src/**/*.rt", recursive=True))
+    return next((module_of(os.path.relpath(it, folder)) for it in others if declares.search(text_of(it))), module_of(file))
+
+
+def spans_of(file, text, folder):
+    """The functions of a source in the folder of a crate: the name of each, as a check tells it, which is by the type's module and has the
+    trait's name behind the type's; its first line, attributes included; the line that opens its body; and its last line."""
+    lines, impl, found, module = text.split("\n"), "", [], module_of(file)
     for at, line in enumerate(lines):
         block = BLOCK.match(line)
         impl = block[2] + re.sub(r"\W|^Drop$", "", block[1] or "") if block else "" if line == "}" else impl
+        module = home_of(block[2], file, text, folder) if block else module_of(file) if line == "}" else module
         begins = HEAD.match(line)
         if begins:
             brace = line if line.endswith("{") else begins[1] + "{"
@@ -78,7 +93,7 @@ def changed(pairs, folder):
         if text.count(old) != 1:
             raise Unfit(f"its old text stands {text.count(old)} times in {file}, and not once: {old}")
         first = text[: text.index(old)].count("\n")
-        inside = [it for it in spans_of(file, text) if it[2] < first < it[3]]
+        inside = [it for it in spans_of(file, text, folder) if it[2] < first < it[3]]
         if not inside:
             raise Unfit(f"it changes {file}:{first + 1}, which is in no function's body")
         names[inside[-1][0]] = None

@@ -58,7 +58,7 @@ class Body:
         stands alone there, so that nothing else can be the cause, also a line of that proof that names what is there no more."""
         lines = said.split("\n")
         lost = [it for it in self.functions if any(re.match(rf"fn {self.crate}::{re.escape(it)}: (?:not proved|no proof)", one) for one in lines)]
-        spans = {file: [it for it in spans_of(file, text_of(f"{folder}/{file}")) if it[0] in lost] for file, _, _ in self.pairs}
+        spans = {file: [it for it in spans_of(file, text_of(f"{folder}/{file}"), folder) if it[0] in lost] for file, _, _ in self.pairs}
         by_proof = by_name = ""
         for line in lines:
             place = PLACE.match(line)
