@@ -1,3 +1,4 @@
+pub mod CellLists
 pub mod Exchanged
 pub mod KeyForms
 pub mod Keys

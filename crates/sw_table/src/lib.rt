@@ -1,6 +1,7 @@
 //! Rows: a list of them as one flat list of cells, and a table of rows that come at its end and go by their keys.
 #![tactic(auto)]
 
+mod cell_list;
 mod exchanging;
 mod finding;
 mod keeping;

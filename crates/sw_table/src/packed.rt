@@ -6,10 +6,9 @@ ghost use Rattle.sw_table.specs.Rows.{HasNoRow, IsRowAt, cell_of};
 ghost use Rattle.sw_table.specs.Exchanged.{with_exchanged};
 ghost use Rattle.sw_table.specs.Kept.{kept};
 ghost use Rattle.sw_table.specs.Live.{Rises, key_of};
-ghost use Rattle.sw_table.specs.Packed.{HasRoomFor, IsLeastWidth, IsSameRoom, IsWithin, KeepsWidth, Packed, behind, numbered, stretch, with_stretch, zeros};
+ghost use Rattle.sw_table.specs.Packed.{HasRoomFor, IsLeastWidth, IsSameRoom, IsWithin, KeepsWidth, Packed, behind, numbered, row_of, stretch, with_stretch, zeros};
 
-use crate::exchanging::exchange_cells;
-use crate::keeping::keep_cells;
+use crate::cell_list::CellList;
 use crate::keys::Keys;
 use crate::row::Row;
 use std::alloc::{AllocError, Global};
@@ -41,6 +40,18 @@ fn cell_of(cells: &[i64], width: usize, place: usize, attr: usize) -> i64
     ensures { (d : ℤ) → result ≡ slice_index_or cells.now (place * width + attr) d }
 {
     cells[place * width + attr]
+}
+
+/// A cell of one row of a flat list, 0 past its cells.
+#[inline]
+fn cell_in(cells: &[i64], width: usize, place: usize, attr: usize) -> i64
+    requires { place * width + width ≤ length cells.now }
+    ensures { (key : ℕ) → result ≡ cell_of attr (row_of width key (drop (place * width) cells.now)) }
+{
+    if width <= attr {
+        return 0;
+    }
+    cell_of(cells, width, place, attr)
 }
 
 /// A row's cells, and 0 after them.
@@ -98,7 +109,7 @@ fn make_room(out: &mut Vec<i64>, more: usize) -> Result<(), AllocError>
 pub struct PackedRows {
     width: usize,
     keys: Keys,
-    cells: Vec<i64>,
+    cells: CellList,
 }
 
 // By hand: the drop of a derived one is written out at each way out of a function.
@@ -117,9 +128,9 @@ impl Model for PackedRows {
 
     ghost Value = { Packed };
 
-    ghost view = { λ p. record { width = p.width; items = rows_in p.width p.keys p.cells.items } };
+    ghost view = { λ p. record { width = p.width; items = rows_in p.width p.keys p.cells } };
 
-    ghost invariant = { λ p. IsWhole p.width p.keys p.cells.items };
+    ghost invariant = { λ p. IsWhole p.width p.keys p.cells };
 }
 
 impl PackedRows {
@@ -132,7 +143,7 @@ impl PackedRows {
         PackedRows {
             width,
             keys: Keys::new(),
-            cells: Vec::new(alloc),
+            cells: CellList::new(alloc),
         }
     }
 
@@ -158,7 +169,7 @@ impl PackedRows {
         PackedRows {
             width,
             keys: Keys::from_one(many),
-            cells,
+            cells: CellList::of(cells),
         }
     }
 
@@ -178,6 +189,7 @@ impl PackedRows {
         ensures many { result ≡ length self.now.items }
         ensures few { result < 2 ^ 63 }
     {
+        let _cells = self.cells.len();
         self.keys.len()
     }
 
@@ -196,7 +208,7 @@ impl PackedRows {
     {
         Row {
             key: self.keys.at(place),
-            cells: padded(stretch(&self.cells, self.width, place)),
+            cells: padded(stretch(self.cells.as_slice(), self.width, place)),
         }
     }
 
@@ -215,10 +227,7 @@ impl PackedRows {
         requires place { place < length self.now.items }
         ensures { (d : Row) → result ≡ cell_of attr (slice_index_or self.now.items place d) }
     {
-        if self.width <= attr {
-            return 0;
-        }
-        cell_of(&self.cells, self.width, place, attr)
+        cell_in(self.cells.as_slice(), self.width, place, attr)
     }
 
     /// Adds each row's cell of an attribute at the end of a list; after an error the list is as it was.
@@ -228,8 +237,9 @@ impl PackedRows {
         ensures room { HasRoomFor (length self.now.items) out.old → IsOk result × IsSameRoom out.old out.new }
     {
         make_room(out, self.len())?;
+        let cells = self.cells.as_slice();
         for place in 0..self.len() {
-            out.push_reserved(self.cell(place, attr));
+            out.push_reserved(cell_in(cells, self.width, place, attr));
         }
         Ok(())
     }
@@ -264,7 +274,7 @@ impl PackedRows {
         ensures { self.new ≡ self.old }
     {
         self.keys.reserve(more)?;
-        self.cells.reserve_exact(more.saturating_mul(self.width))
+        self.cells.reserve(more.saturating_mul(self.width))
     }
 
     /// Adds a row at the end; after an error nothing has changed.
@@ -273,7 +283,7 @@ impl PackedRows {
         ensures ok { OnOk result (self.new ≡ record self.old { items = self.old.items ++ row.now ∷ [] }) }
         ensures err { OnErr result (self.new ≡ self.old) }
     {
-        let alloc = *self.cells.allocator();
+        let alloc = self.cells.alloc();
         let before = self.cells.len();
         self.cells.extend_from_slice(&row.cells[..self.width])?;
         match self.keys.push(alloc, row.key) {
@@ -300,9 +310,9 @@ impl PackedRows {
         ensures ok { OnOk result (self.new ≡ record self.old { items = kept live.now self.old.items }) }
         ensures err { OnErr result (self.new ≡ self.old) }
     {
-        let alloc = *self.cells.allocator();
+        let alloc = self.cells.alloc();
         self.keys.keep(alloc, live)?;
-        keep_cells(&mut self.cells, self.width, live);
+        self.cells.keep(self.width, live);
         Ok(())
     }
 
@@ -313,14 +323,14 @@ impl PackedRows {
         ensures { self.new ≡ record self.old { items = map (with_exchanged attr codes.now) self.old.items } }
     {
         let many = self.keys.len();
-        exchange_cells(&mut self.cells, self.width, many, attr, codes);
+        self.cells.exchange(self.width, many, attr, codes);
     }
 
     /// The same rows, with all eight cells kept. The one error is that there is no memory for them.
     fn widened(&self) -> Result<PackedRows, AllocError>
         ensures { IfOk result (λ p. p ≡ record { width = 8; items = self.now.items }) }
     {
-        let mut wide = PackedRows::new(*self.cells.allocator(), 8);
+        let mut wide = PackedRows::new(self.cells.alloc(), 8);
         wide.reserve(self.len())?;
         for place in 0..self.len() {
             wide.push(&self.get(place))?;
@@ -359,6 +369,7 @@ impl PackedRows {
         ensures { self.new ≡ record self.old { items = take many self.old.items } }
     {
         if many < self.keys.len() {
+            let _cells = self.cells.len();
             self.keys.truncate(many);
             self.cells.truncate(many * self.width);
         }
@@ -393,10 +404,10 @@ impl PackedRows {
         ensures ok { OnOk result (self.new ≡ with_stretch start many rows.now.items self.old) }
         ensures err { OnErr result (self.new ≡ self.old) }
     {
-        let alloc = *self.cells.allocator();
+        let alloc = self.cells.alloc();
         let before = self.cells.len();
         self.cells
-            .extend_from_slice(stretches(&rows.cells, rows.width, start, many))?;
+            .extend_from_slice(stretches(rows.cells.as_slice(), rows.width, start, many))?;
         match self.keys.extend_from(alloc, &rows.keys, start, many) {
             Ok(()) => Ok(()),
             Err(e) => {
@@ -448,6 +459,28 @@ impl PackedRows {
         Ok(part)
     }
 
+    /// Lets the lists that `share` makes have the cells of this one, which then stand once; after an error nothing has
+    /// changed.
+    pub fn make_shared(&mut self) -> Result<(), AllocError>
+        ensures { self.new ≡ self.old }
+    {
+        self.cells.make_shared()
+    }
+
+    /// The same rows. Their cells are not copied once `make_shared` was called, and each list can be changed as if they
+    /// were its own. Room for a copy is taken all the same: the one error is that there is no memory for it.
+    pub fn share(&self, alloc: Global) -> Result<PackedRows, AllocError>
+        ensures { IfOk result (λ p. p ≡ self.now) }
+    {
+        let mut keys = Keys::new();
+        keys.extend_from(alloc, &self.keys, 0, self.keys.len())?;
+        Ok(PackedRows {
+            width: self.width,
+            keys,
+            cells: self.cells.share(alloc)?,
+        })
+    }
+
     /// Adds the rows of another list from a place on, so many at most; after an error the rows are as they were. Lists
     /// of the same width are copied as they lie, and the width stays where all these rows are within it.
     pub fn extend_from(
@@ -477,9 +510,10 @@ impl PackedRows {
         ensures ok { OnOk result (self.new ≡ record self.old { items = behind self.old.items rows.now.items }) }
         ensures err { OnErr result (self.new ≡ self.old) }
     {
-        let alloc = *self.cells.allocator();
+        let alloc = self.cells.alloc();
         let before = self.cells.len();
-        self.cells.extend_from_slice(&rows.cells)?;
+        self.cells.extend_from_slice(rows.cells.as_slice())?;
+        let _all = self.cells.len();
         match self.keys.extend_behind(alloc, &rows.keys) {
             Ok(()) => Ok(()),
             Err(e) => {
