@@ -1,7 +1,7 @@
 //! The table that cases are about, and which case a line is.
 
 use crate::told::{held, or_refused, text_of};
-use crate::{calls, refusals, replies, sinks, tables};
+use crate::{calls, refusals, replies, sharing, sinks, tables};
 use std::alloc::{AllocError, Global};
 use sw_lang::parse_line;
 use sw_rows::{Call, Counted, Refusal, Row, Schema, Update, has_key, update, update_all};
@@ -123,6 +123,7 @@ fn of_table(
         "ask" => replies::asked(alloc, schema, rows.as_slice(), text),
         "keys" => replies::keys(alloc, schema, rows.as_slice(), text),
         "asksink" => replies::failing(alloc, schema, rows.as_slice(), args, text),
+        "shared" => held(sharing::changed(alloc, schema, rows.as_slice(), args)),
         "has" => held(format!(in alloc; "{}", has_key(rows.as_slice(), number(text)))),
         _ => of_line(alloc, schema, word, args, text),
     }

@@ -8,6 +8,7 @@ mod bench;
 mod calls;
 mod refusals;
 mod replies;
+mod sharing;
 mod sinks;
 mod sources;
 mod tables;
