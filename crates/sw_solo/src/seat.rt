@@ -55,14 +55,13 @@ impl<M: CrackerMap> Model for Seat<M> {
     ghost invariant = { λ s. IsSeat s.place s.head };
 }
 
-/// A copy of opening rows.
-fn copied(alloc: Global, rows: &PackedRows) -> Result<PackedRows, Refusal>
-    ensures copy { IfOk result (λ p. p.items ≡ rows.now.items) }
+/// Opening rows, for a head.
+fn shared(alloc: Global, rows: &PackedRows) -> Result<PackedRows, Refusal>
+    ensures rows { IfOk result (λ p. p.items ≡ rows.now.items) }
     ensures refused { IsOkUnless result NoMemory }
 {
-    let mut copy = PackedRows::new(alloc, rows.width());
-    match copy.extend_from(rows, 0, rows.len()) {
-        Ok(()) => Ok(copy),
+    match rows.share(alloc) {
+        Ok(shared) => Ok(shared),
         Err(_) => Err(Refusal::NoMemory),
     }
 }
@@ -90,7 +89,7 @@ impl<M: CrackerMap> Seat<M> {
         self.taken
     }
 
-    /// Makes the head of a copy of the opening rows, if it is not made. Refused `NoMemory` alone, and then nothing has
+    /// Makes the head over the opening rows, if it is not made. Refused `NoMemory` alone, and then nothing has
     /// changed.
     #[tactic(auto, using(crate::proofs::Served::made_seat, crate::proofs::Served::same_seat))]
     pub(crate) fn make(
@@ -109,8 +108,8 @@ impl<M: CrackerMap> Seat<M> {
     {
         let Seat { place, head, .. } = self;
         if head.is_none() {
-            let copy = copied(alloc, rows)?;
-            let made = Head::of(alloc, *place as u8, cuts, copy)?;
+            let rows = shared(alloc, rows)?;
+            let made = Head::of(alloc, *place as u8, cuts, rows)?;
             *head = Some(made);
         }
         Ok(())
