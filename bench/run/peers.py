@@ -306,7 +306,7 @@ def measured(found, folder, mix, rounds):
 
 
 def compare(program, folder, rounds):
-    number = sum(1 for _ in open(folder + "/count.txt"))
+    many, number = (sum(1 for _ in open(f"{folder}/{name}")) for name in ("t.csv", "count.txt"))
     with clickhouse() as port:
         os.environ["CLICKHOUSE"] = str(port)
         if port:
@@ -320,7 +320,7 @@ def compare(program, folder, rounds):
     told = lambda name, mix, part: statistics.median(pair[part] for pair in taken[mix][name]) if name in taken[mix] else None
     rows = {name: [told(name, "count", 1)] + [told(name, mix, 0) for mix in MIXES] for name in found}
     ours = rows.pop("sideways")
-    print(f"| {number:,} calls each | none | " + " | ".join(MIXES.values()) + " |\n|" + "---|" * (len(ours) + 1))
+    print(f"| {many - 1:,} rows, {number:,} calls each | none | " + " | ".join(MIXES.values()) + " |\n|" + "---|" * (len(ours) + 1))
     print("| Sideways, seconds | " + " | ".join(f"{seconds:.3f}" for seconds in ours) + " |")
     for name, row in rows.items():
         print(f"| {name} | " + " | ".join("" if seconds is None else f"{seconds / our:.2f}" for seconds, our in zip(row, ours)) + " |")
