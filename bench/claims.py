@@ -21,7 +21,7 @@ HEADING = [
     "# Claims",
     "",
     "What is proved, clause by clause, and every definition that has to be believed for it, as `NAME`:LINE; its words stand there. Made by"
-    " bench/claims.py. Files stand in the order in which one would read them, each definition once. Not listed are types and constants of the"
+    " bench/claims.py. Files stand in reading order, each definition once. Not listed are types and constants of the"
     " code (`sw_query.specs.declared.query.Call` is `Call` of crates/sw_query/src/query.rt), and std's own words"
     " (`length`, `All`, `IfOk`, `Result` ..), which are the toolchain's.",
 ]
