@@ -21,15 +21,17 @@ HEADING = [
     "# Claims",
     "",
     "What is proved, clause by clause, and every definition that has to be believed for it, as `NAME`:LINE; its words stand there. Made by"
-    " bench/claims.py. Files stand in the order in which one would read them, each definition once. Not listed are types and constants of the"
-    " code that definitions name, and std's own words (`length`, `All`, `IfOk`, `Result` ..), which are the toolchain's.",
+    " bench/claims.py. Files stand in reading order, each definition once. Not listed are types and constants of the"
+    " code (`sw_query.specs.declared.query.Call` is `Call` of crates/sw_query/src/query.rt), and std's own words"
+    " (`length`, `All`, `IfOk`, `Result` ..), which are the toolchain's.",
 ]
 
 # Each theorem that is a definition: its name on the page, the crate and file of specs/ where it stands, and its words, where it is no
 # record whose fields have them.
 THEOREMS = [
-    ("The headline", "What `Engine::close` answers with `Ok`, its clause `headline`. By `given` no reply is kept as lines, for which alone the definitions of"
-     " sw_lang are.", "sw_engine", "Headline", "IsHistoryOfOneThread", []),
+    ("The headline", "What `Engine::close` answers with `Ok`, its clause `headline`. A history may keep a reply as its lines, for which alone the"
+     " definitions of sw_lang are; by `given` this one does not. What a ticket shows, the clauses of a session's calls say (docs/PROMISES.md, 'The"
+     " headline').", "sw_engine", "Headline", "IsHistoryOfOneThread", []),
     ("A run of the program", "What `sw_cli::run` answers, its clause `answers`.", "sw_cli", "Answers", "RunAnswers", []),
     ("The check of a history file", "What `check_file` writes and answers, its one clause.", "sw_histories", "FileChecks", "ChecksFile", [
         "`Ok status`: the bytes are a history, and its verdict was written: `legal` and the number of entries, status 0, where it is legal;"

@@ -1,10 +1,10 @@
-# What the drivers of the whole program share; they source it. It sets `top`, the repository, `program`, which it builds, and `work`, a
-# folder under TMPDIR that goes when the driver ends, and it has `peer`.
+# What the drivers of the whole program share; they source it. It sets `top`, the repository, `program`, which it builds unless PROGRAM in the
+# environment names another, and `work`, a folder under TMPDIR that goes when the driver ends, and it has `peer`.
 top=$(cd "$(dirname "${BASH_SOURCE[0]}")/.." && pwd)
 work=$(mktemp -d "${TMPDIR:-/tmp}/bench.XXXXXX")
 trap 'rm -rf "$work"' EXIT
-"$top/sideways" prove > "$work/build.log" 2>&1 || { tail -n 20 "$work/build.log"; exit 1; }
-program=$top/crates/sideways/out/sideways
+program=${PROGRAM:-$top/crates/sideways/out/sideways}
+[ -n "${PROGRAM:-}" ] || "$top/sideways" prove > "$work/build.log" 2>&1 || { tail -n 20 "$work/build.log"; exit 1; }
 export GLIBC_TUNABLES="${GLIBC_TUNABLES-glibc.malloc.hugetlb=1}" # as `./sideways` has it, for both sides
 
 # Builds the C++ peer as $work/peer.

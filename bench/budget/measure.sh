@@ -10,7 +10,7 @@ set -euo pipefail
 rounds=${1:-21}
 here=$(cd "$(dirname "$0")" && pwd)
 . "$here/../proved.sh"
-build program leases "$here/leases.rt.txt" sw_table sw_query sw_rows sw_budget
+build program leases "$here/leases.rt.txt" sw_table sw_query sw_budget
 rustc -C opt-level=3 -o "$work/plain" "$here/plain.rs"
 
 for _ in $(seq "$rounds"); do

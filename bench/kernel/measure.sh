@@ -3,7 +3,7 @@
 #
 #     bench/kernel/measure.sh [REPEATS]
 #
-# Copies sw_table, sw_rows and sw_kernel with a static library of its own into a folder under TMPDIR, proves and builds them there,
+# Copies sw_table, sw_query and sw_kernel with a static library of its own into a folder under TMPDIR, proves and builds them there,
 # builds the C with the kit's clang at the flags that the kit compiles with, runs all by turns on the same pairs REPEATS
 # times (by default 9), compares every byte, and prints the least nanoseconds a pair, with the two ratios that matter.
 # Nothing of the repository is written.
@@ -12,7 +12,7 @@ repeats=${1:-9}
 here=$(cd "$(dirname "$0")" && pwd)
 kit=${KIT:-$(dirname "$(rt doc)")}
 . "$here/../proved.sh"
-build library split_c "$here/split.rt.txt" sw_table sw_query sw_rows sw_kernel
+build library split_c "$here/split.rt.txt" sw_table sw_query sw_kernel
 
 "$kit/toolchain/bin/clang" -O3 -march=x86-64-v2 -c -o "$work/peers.o" "$here/peers.c" 2> "$work/clang.log" ||
   clang -O3 -march=x86-64-v2 -c -o "$work/peers.o" "$here/peers.c"
