@@ -4,7 +4,9 @@ run without a proof (`rt try`), and must not tell what the unchanged one does, w
 
     tests/by_tests.py [NAME..]
 
-Ends with 1 where a wrong body passes, or the unchanged sources fail. Some two minutes of a processor for each, and for each crate that tells."""
+Ends with 1 where a wrong body passes, where its trial does not end in ten minutes, or where the unchanged sources fail. Some two minutes of a
+processor for each, and for each crate that tells."""
+import os
 import shutil
 import subprocess
 import sys
@@ -14,6 +16,9 @@ from pathlib import Path
 
 TOP = Path(__file__).resolve().parents[1]
 ENGINE, SHELL = "test_engine", "cases_shell"
+# For how many seconds a trial may run; what `rt try` ends with where it gave no answer by then.
+HOW = {"env": os.environ | {"RT_SECONDS": "600"}, "capture_output": True, "text": True}
+NOT_ENDED = 6
 # Lines of a program's stdin, whose program it is, and what it tells.
 TRIALS = {
     "waited 0 count where a >= 10&count where b >= 6": (ENGINE, "legal; 3; 2; legal: 2 entries"),
@@ -98,13 +103,15 @@ def told_of(lines, places):
 
 
 def tried(folder, crate, places):
-    """What a program tells of lines of its input; or whether the tests of a crate pass."""
+    """What a program tells of lines of its input, or whether the tests of a crate pass; nothing where the trial did not end."""
     folder = folder / "crates" / crate
     if places != [crate]:
-        done = subprocess.run(["rt", "try"], cwd=folder, input="\n".join(places) + "\n", capture_output=True, text=True)
-        return told_of(done.stdout.splitlines(), places) or [f"status {done.returncode}"]
-    done = subprocess.run(["rt", "try", "--test"], cwd=folder, capture_output=True, text=True)
-    return ["passed" if done.returncode == 0 else f"failed, status {done.returncode}"]
+        done = subprocess.run(["rt", "try"], cwd=folder, input="\n".join(places) + "\n", **HOW)
+        told = told_of(done.stdout.splitlines(), places) or [f"status {done.returncode}"]
+    else:
+        done = subprocess.run(["rt", "try", "--test"], cwd=folder, **HOW)
+        told = ["passed" if done.returncode == 0 else f"failed, status {done.returncode}"]
+    return None if done.returncode == NOT_ENDED else told
 
 
 def made(crate, places, body=None):
@@ -120,7 +127,7 @@ def right_of(crate, known):
     """What the unchanged sources tell of each trial of a crate, made once."""
     if crate not in known:
         places = [place for place, (of, _) in TRIALS.items() if of == crate] or [crate]
-        known[crate] = dict(zip(places, made(crate, places)))
+        known[crate] = dict(zip(places, made(crate, places) or []))
     return known[crate]
 
 
@@ -130,8 +137,9 @@ def main():
         body = BODIES[name]
         place = body[-1]
         crate, wanted = TRIALS.get(place, (place, "passed"))
-        right, wrong = right_of(crate, known).get(place), "/".join(made(crate, [place], body))
-        well = right == wanted and wrong != right
+        right, told = right_of(crate, known).get(place), made(crate, [place], body)
+        wrong = "not ended" if told is None else "/".join(told)
+        well = right == wanted and told is not None and wrong != right
         failed = failed or not well
         print(f"{'ok' if well else 'FAILED'}: {name}: {body[0]}\n    {place}\n    unchanged: {right}\n    wrong: {wrong}", flush=True)
     return 1 if failed else 0

@@ -2,9 +2,10 @@
 """Runs each program and each crate's tests, as `rt ci` built them here, again and again beside processes that spin, and holds what they
 tell against their stored output.
 
-    tests/under_load.py [--times N] [--spinners N] [NAME..]
+    tests/under_load.py [--times N] [--spinners N] [--minutes N] [NAME..]
 
-50 times beside 8 spinners unless told otherwise. Ends with 1 where one run differed, or did not end in the gate's time."""
+50 times beside 8 spinners unless told otherwise; each program, and each crate's tests, no longer than so many minutes, ten unless told otherwise:
+then it is told how often they ran. Ends with 1 where one run differed, or did not end in the gate's time, or where fewer runs were made."""
 import argparse
 import subprocess
 import sys
@@ -54,10 +55,25 @@ def built(names):
                 yield crate, str(program), kind == "_tests"
 
 
+def ran_often(crate, program, is_test, runner, given):
+    """How often a program, or tests, ran, and what differed in these runs."""
+    began, many, wrong = time.time(), 0, []
+    while many < given.times and time.time() - began < 60 * given.minutes:
+        many += 1
+        if told := differs_in(crate, program, is_test, runner):
+            wrong.append(told)
+    cut = "" if many == given.times else f", {given.times} were wanted"
+    print(f"{Path(program).name}: {many - len(wrong)} of {many} as stored, {time.time() - began:.0f} s{cut}", flush=True)
+    for told in dict.fromkeys(wrong):
+        print(f"    {told}", flush=True)
+    return many, len(wrong)
+
+
 def main():
     parser = argparse.ArgumentParser(description=__doc__)
     parser.add_argument("--times", type=int, default=50)
     parser.add_argument("--spinners", type=int, default=8)
+    parser.add_argument("--minutes", type=float, default=10)
     parser.add_argument("names", nargs="*")
     given = parser.parse_args()
     kit = Path(subprocess.run(["rt", "doc"], capture_output=True, text=True, check=True).stdout.split()[-1]).parent
@@ -68,14 +84,8 @@ def main():
     failed = 0
     try:
         for crate, program, is_test in found:
-            began, wrong = time.time(), []
-            for _ in range(given.times):
-                if told := differs_in(crate, program, is_test, str(kit / "bin/rattle-test")):
-                    wrong.append(told)
-            failed += len(wrong)
-            print(f"{Path(program).name}: {given.times - len(wrong)} of {given.times} as stored, {time.time() - began:.0f} s", flush=True)
-            for told in dict.fromkeys(wrong):
-                print(f"    {told}", flush=True)
+            many, wrong = ran_often(crate, program, is_test, str(kit / "bin/rattle-test"), given)
+            failed += wrong + (many < given.times)
     finally:
         for it in spinners:
             it.kill()

@@ -1,3 +1,4 @@
+pub mod Asked
 pub mod Closing
 pub mod Law
 pub mod Marks

@@ -4,7 +4,17 @@ use Rattle.sw_headers.specs.declared.rewriting.Spot.{Spot}
 use Rattle.sw_headers.specs.declared.rewriting.Spot.TheVariants.{Before, Field, Plain, Quoted, Closed}
 use Rattle.sw_headers.specs.declared.rewriting.Place.{Place}
 use Rattle.sw_headers.specs.declared.rewriting.Rewriter.{Rewriter}
-use Rattle.sw_headers.specs.Under.{kept_in}
+use Rattle.sw_headers.specs.Under.{Fields, is_named, kept_in}
+
+-- a header with one more word, behind a comma where it has one
+abbrev pub joined_on : Bool → List ℕ → List ℕ → List ℕ
+joined_on has_kept header word =
+    if is_named word then (if has_kept then header ++ 44 ∷ word else header ++ word) else header
+
+-- the same of some words, one after another
+abbrev pub joined_after : Bool → List ℕ → Fields → List ℕ
+joined_after has_kept header [] = header
+joined_after has_kept header (w ∷ ws) = joined_after (has_kept || is_named w) (joined_on has_kept header w) ws
 
 abbrev pub is_line_end : ℕ → Bool
 is_line_end c = (c == 13) || (c == 10)

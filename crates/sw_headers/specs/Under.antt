@@ -1,5 +1,5 @@
 -- What the records of a text are under a header that stands in place of its first.
-use Rattle.std.specs.Prelude.{◌≡◌, ◌+◌, ◌++◌, ◌==◌, ◌&&◌, ◌||◌, ℕ, Bool, true, false, not, List, [], ◌∷◌, get_or, if◌then◌else◌, length, map, nat_lt, replicate}
+use Rattle.std.specs.Prelude.{◌≡◌, ◌+◌, ◌++◌, ◌==◌, ◌&&◌, ◌||◌, ℕ, Bool, true, false, not, List, [], ◌∷◌, bytes_eq, codes, get_or, if◌then◌else◌, length, map, nat_lt, replicate}
 use Rattle.std.specs.List.{list_all}
 use Rattle.csv.specs.Reading.{default_config, records, strip_bom}
 
@@ -16,6 +16,10 @@ onto c (f ∷ fs) = (c ∷ f) ∷ fs
 abbrev pub words : List ℕ → Fields
 words [] = [] ∷ []
 words (c ∷ cs) = if c == 44 then [] ∷ words cs else onto c (words cs)
+
+-- whether a word of the header that is asked for names a column: `-` has it passed by
+abbrev pub is_named : List ℕ → Bool
+is_named word = not (bytes_eq word (codes "-"))
 
 -- the fields of a record that are kept, by the columns; those past the last column are
 abbrev pub kept : List Bool → Fields → Fields

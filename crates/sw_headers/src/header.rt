@@ -1,9 +1,9 @@
 //! The header that is given.
 
-ghost use Rattle.std.specs.Prelude.{◌≡◌, ◌≤◌, length};
+ghost use Rattle.std.specs.Prelude.{◌≡◌, ◌≤◌, ◌++◌, ◌∷◌, ◌||◌, [], false, filter, length, map, IfOk, OnOk};
 ghost use Rattle.std.specs.List.{list_all};
-ghost use Rattle.sw_headers.specs.Steps.{commas, keeps_at, lacking, next_field};
-ghost use Rattle.sw_headers.specs.Under.{kept_in};
+ghost use Rattle.sw_headers.specs.Steps.{commas, joined_after, joined_on, keeps_at, lacking, next_field};
+ghost use Rattle.sw_headers.specs.Under.{is_named, kept_in, or_empty, words};
 
 use std::alloc::{AllocError, Global};
 
@@ -22,20 +22,38 @@ pub struct Header {
 impl Header {
     /// The header of a text: a field for each column, divided by commas, as a table's header has them, or `-` where the
     /// column is passed by.
-    pub fn new(alloc: Global, asked: &str) -> Result<Header, AllocError> {
+    #[tactic(auto, using(crate::proofs::Asked::names_joined))]
+    pub fn new(alloc: Global, asked: &str) -> Result<Header, AllocError>
+        ensures keeps { IfOk result (λ header. header.keeps.items ≡ map is_named (words asked.now)) }
+        ensures names { IfOk result (λ header. words header.record.items ≡ or_empty (filter is_named (words asked.now))) }
+    {
+        let found = words_of(alloc, asked)?;
         let mut header = Header {
             record: Vec::new(alloc),
             keeps: Vec::new(alloc),
         };
-        let mut has_kept = false;
-        for word in asked.split(',') {
-            has_kept = header.push(word, has_kept)?;
-        }
+        header.push_all(found.as_slice())?;
         Ok(header)
     }
 
+    /// Adds the columns of a header that has none yet.
+    fn push_all(&mut self, words: &[&str]) -> Result<(), AllocError>
+        ensures keeps { OnOk result (self.new.keeps.items ≡ self.old.keeps.items ++ map is_named (map (λ w. w.now) words.now)) }
+        ensures record { OnOk result (self.new.record.items ≡ joined_after false self.old.record.items (map (λ w. w.now) words.now)) }
+    {
+        let mut has_kept = false;
+        for word in words {
+            has_kept = self.push(word, has_kept)?;
+        }
+        Ok(())
+    }
+
     /// Adds a column. Says whether one is kept by now.
-    fn push(&mut self, word: &str, has_kept: bool) -> Result<bool, AllocError> {
+    fn push(&mut self, word: &str, has_kept: bool) -> Result<bool, AllocError>
+        ensures keeps { OnOk result (self.new.keeps.items ≡ self.old.keeps.items ++ is_named word.now ∷ []) }
+        ensures record { OnOk result (self.new.record.items ≡ joined_on has_kept self.old.record.items word.now) }
+        ensures kept { IfOk result (λ r. r ≡ (has_kept || is_named word.now)) }
+    {
         let is_kept = word != PASSED;
         self.keeps.push(is_kept)?;
         if !is_kept {
@@ -94,6 +112,13 @@ impl Header {
     {
         self.keeps.iter().all(|is_kept| *is_kept)
     }
+}
+
+/// The words of a header, which commas divide.
+fn words_of(alloc: Global, asked: &str) -> Result<Vec<&str>, AllocError>
+    ensures { IfOk result (λ found. map (λ word. word.now) found.items ≡ words asked.now) }
+{
+    asked.split(',').collect(alloc)
 }
 
 /// How many of some columns are kept.
