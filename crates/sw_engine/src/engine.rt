@@ -12,7 +12,6 @@ ghost use Rattle.sw_spine.specs.Books.{RefusesRows};
 ghost use Rattle.sw_engine.specs.Desk.{AreAll, InOrder, IsMade, KeepsBoxes, RefusesCall, RefusesClose, RefusesOpening, TellsFull, TooManySessions, new_desk};
 ghost use mathlib.Core.List.{IsPrefix};
 ghost use Rattle.sw_versions.specs.Lists.{IsLonger};
-ghost use Rattle.sw_versions.specs.Pending.{IsPlain};
 ghost use Rattle.sw_versions.specs.Refused.{IsAhead};
 ghost use Rattle.sw_versions.specs.Rules.{updates_in};
 ghost use Rattle.sw_engine.specs.Published.{CallGives, CountsMisses, EndWithEntries, GivesReceipt, HaveAll, IsOfFirst, RefusesViewing, TellsAll, answered_to};
@@ -30,7 +29,6 @@ use crate::opening::Opening;
 use crate::ticket::Ticket;
 use crate::viewing::{Receipt, Viewer};
 use crossbeam_utils::Backoff;
-use left_right::Absorb;
 use std::alloc::{AllocError, Global};
 use std::hint::spin_loop;
 use std::marker::{Model, PhantomData};
@@ -40,9 +38,9 @@ use std::thread::Threads;
 use std::time::Duration;
 use sw_lang::Cuts;
 use sw_map::CrackerMap;
-use sw_rows::{Call, Cond, Conds, PackedRows, Query, Refusal, Reply, Schema, Update};
+use sw_rows::{Call, Cond, Conds, PackedRows, Query, Refusal, Reply, Schema};
 use sw_spine::Record;
-use sw_versions::{Live, Naming, Op};
+use sw_versions::Naming;
 
 /// How often a thread pauses between looks at a lock or a latch, before it sleeps.
 const PAUSES: u32 = 7;
@@ -127,23 +125,24 @@ fn all_latches<J: Naming, M: CrackerMap>(
 ///
 /// A latch is taken before the lock, and never after it.
 #[derive(Drop)]
-pub struct Engine<J: Naming, M: CrackerMap>
-where
-    Live<J>: Absorb<Op<J>, State = [Update; 0]>,
-{
+pub struct Engine<J: Naming, M: CrackerMap> {
     alloc: Global,
     opening: Opening<J>,
     latches: Vec<Mutex<LatchedHead<J, M>>>,
     desk: Mutex<LockedDesk<J>>,
-    ghost as_many: { vec_len latches ≡ length J.columns },
-    ghost some: { 0 < length J.columns },
-    ghost few: { length J.columns ≤ 8 },
 }
 
-impl<J: Naming, M: CrackerMap> Engine<J, M>
-where
-    Live<J>: Absorb<Op<J>, State = [Update; 0]>,
-{
+impl<J: Naming, M: CrackerMap> Model for Engine<J, M> {
+    ghost use Rattle.std.specs.Prelude.{◌≡◌, ◌<◌, ◌≤◌, ℕ, length, vec_len};
+
+    ghost Value = { ℕ };
+
+    ghost view = { λ e. vec_len e.latches };
+
+    ghost invariant = { λ e. (vec_len e.latches ≡ length J.columns) × (0 < length J.columns) × (length J.columns ≤ 8) };
+}
+
+impl<J: Naming, M: CrackerMap> Engine<J, M> {
     /// An engine over opening rows, with no session. No head is made.
     ///
     /// Refused `TooMany` of the limit where there are more rows, `NoMemory` otherwise. The caller's conditions: the
@@ -159,7 +158,6 @@ where
     ) -> Result<Engine<J, M>, Refusal>
         requires books { (books.sessions.name ≡ J.sessions) × (books.heads.name ≡ J.heads) × (books.most ≡ J.most) }
         requires list { books.list.seen.book ≡ J.book }
-        requires plain { IsPlain ⟦<Live<J> as Absorb<Op<J>>>⟧.state ⟦<Live<J> as Absorb<Op<J>>>⟧.applied }
         requires table { (schema ≡ J.columns) × (rows.items ≡ J.opening) × (limit ≡ J.limit) }
         requires some { 0 < limit }
         requires most { limit ≤ MOST_ROWS }
@@ -186,7 +184,6 @@ where
     ) -> Result<(Engine<J, M>, Vec<Ticket<J>>), Refusal>
         requires books { (books.sessions.name ≡ J.sessions) × (books.heads.name ≡ J.heads) × (books.most ≡ J.most) }
         requires list { books.list.seen.book ≡ J.book }
-        requires plain { IsPlain ⟦<Live<J> as Absorb<Op<J>>>⟧.state ⟦<Live<J> as Absorb<Op<J>>>⟧.applied }
         requires table { (schema ≡ J.columns) × (rows.items ≡ J.opening) × (limit ≡ J.limit) }
         requires some { 0 < limit }
         requires most { limit ≤ MOST_ROWS }
@@ -331,6 +328,11 @@ where
         requires { head < length J.columns }
     {
         self.latches[head].lock(rt).stats()
+    }
+
+    /// Where its memory is from.
+    fn alloc(&self) -> Global {
+        self.alloc
     }
 
     /// The history, for one visit.
@@ -479,18 +481,12 @@ where
 /// A session. Contracts see its number, the calls that were answered to it, and the list of updates that it has the
 /// receipt of, beside the one that its share shows as published.
 #[derive(Drop)]
-pub struct Session<'e, J: Naming, M: CrackerMap>
-where
-    Live<J>: Absorb<Op<J>, State = [Update; 0]>,
-{
+pub struct Session<'e, J: Naming, M: CrackerMap> {
     engine: &'e Engine<J, M>,
     ticket: Ticket<J>,
 }
 
-impl<'e, J: Naming, M: CrackerMap> Model for Session<'e, J, M>
-where
-    Live<J>: Absorb<Op<J>, State = [Update; 0]>,
-{
+impl<'e, J: Naming, M: CrackerMap> Model for Session<'e, J, M> {
     ghost use Rattle.sw_engine.specs.Published.{Shown};
 
     ghost Value = { Shown };
@@ -498,10 +494,7 @@ where
     ghost view = { λ s. s.ticket };
 }
 
-impl<'e, J: Naming, M: CrackerMap> Session<'e, J, M>
-where
-    Live<J>: Absorb<Op<J>, State = [Update; 0]>,
-{
+impl<'e, J: Naming, M: CrackerMap> Session<'e, J, M> {
     /// What a query is answered.
     ///
     /// Refused `NoMemory`, or `HistoryFull`; then no row has changed, and the call stands in the history at most as void.
@@ -591,7 +584,7 @@ where
         ensures refused { IfErr result (λ e. RefusesCall e) }
         ensures full { IfErr result (TellsFull self.new.2.entries) }
     {
-        let mut asked = Conds::new(self.engine.alloc);
+        let mut asked = Conds::new(self.engine.alloc());
         if add_all(&mut asked, conds).is_err() {
             return Err(Refusal::NoMemory);
         }

@@ -8,7 +8,7 @@ ghost use Rattle.sw_spine.specs.Table.{is_numbered, reply_to};
 ghost use Rattle.sw_spine.specs.History.{CallsBelow, is_select};
 ghost use Rattle.sw_spine.specs.Books.{new_books, with_published, with_session, with_settled};
 ghost use Rattle.sw_spine.specs.declared.history.State.TheVariants.{Answered, Void};
-ghost use Rattle.sw_versions.specs.Pending.{HasShownOr, IsPlain, TellsCame};
+ghost use Rattle.sw_versions.specs.Pending.{HasShownOr, TellsCame};
 ghost use Rattle.sw_versions.specs.Lists.{IsLonger};
 ghost use Rattle.sw_versions.specs.Refused.{IsAhead, RefusesViewer};
 ghost use Rattle.sw_versions.specs.Rules.{updates_in};
@@ -22,13 +22,12 @@ ghost use Rattle.sw_engine.specs.Published.{EndWithEntries, later, new_viewer, n
 use crate::desk::Desk;
 use crate::latch::LatchedHead;
 use crate::ticket::{SessionState, Ticket};
-use left_right::Absorb;
 use std::alloc::Global;
 use std::marker::Model;
 use std::sync::Wait;
 use sw_map::CrackerMap;
 use sw_rows::{Call, PackedRows, Query, Refusal, Reply, Update};
-use sw_versions::{Book, Came, Front, Live, Naming, Op, Opened, Shelf, Viewer};
+use sw_versions::{Book, Came, Front, Naming, Opened, Shelf, Viewer};
 
 /// A publishing that there was no memory for. Only a visit that came to one makes it.
 #[derive(Drop)]
@@ -74,19 +73,13 @@ fn has_all<J: Naming>(receipt: &Front<J>, updates: &[Update]) -> bool
 /// The desk, and the shelf of what viewers read, with the book of its updates. Until there is a viewer the shelf has no
 /// copies of the rows.
 #[derive(Drop)]
-pub struct LockedDesk<J: Naming>
-where
-    Live<J>: Absorb<Op<J>, State = [Update; 0]>,
-{
+pub struct LockedDesk<J: Naming> {
     desk: Desk<J>,
     shelf: Shelf<J>,
     book: Book<J>,
 }
 
-impl<J: Naming> Model for LockedDesk<J>
-where
-    Live<J>: Absorb<Op<J>, State = [Update; 0]>,
-{
+impl<J: Naming> Model for LockedDesk<J> {
     ghost use Rattle.sw_table.specs.Live.{RisesFrom};
     ghost use Rattle.sw_engine.specs.Locked.{LockState};
     ghost use Rattle.sw_engine.specs.Published.{IsShelfOf};
@@ -98,17 +91,13 @@ where
     ghost invariant = { λ l. IsShelfOf J.limit J.opening l.desk.books l.shelf × RisesFrom 0 J.opening };
 }
 
-impl<J: Naming> LockedDesk<J>
-where
-    Live<J>: Absorb<Op<J>, State = [Update; 0]>,
-{
+impl<J: Naming> LockedDesk<J> {
     /// A desk with no entries and no session, and a shelf with nothing published.
     pub fn new(alloc: Global, desk: Desk<J>, list: Opened) -> LockedDesk<J>
         requires list { list.seen.book ≡ J.book }
         requires begun { desk.books ≡ new_books J.columns J.opening J.limit }
         requires numbered { is_numbered 1 J.opening ≡ true }
         requires most { length J.opening ≤ MOST_ROWS }
-        requires plain { IsPlain ⟦<Live<J> as Absorb<Op<J>>>⟧.state ⟦<Live<J> as Absorb<Op<J>>>⟧.applied }
         ensures { result ≡ record { desk = desk; shelf = no_versions } }
     {
         let opening = desk.opening_rows().len() as u64;
