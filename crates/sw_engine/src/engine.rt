@@ -1,6 +1,6 @@
 //! Heads under their latches, the history under its lock, and the sessions.
 
-ghost use Rattle.std.specs.Prelude.{◌≡◌, ◌<◌, ◌≤◌, ◌+◌, ◌++◌, ◌∷◌, [], ℕ, true, drop, length, map, take, vec_len, All, IfErr, IfOk, IsOk, IsOkUnless, MatchResult, OnErr, OnOk, false};
+ghost use Rattle.std.specs.Prelude.{◌≡◌, ◌<◌, ◌≤◌, ◌+◌, ◌++◌, ◌∷◌, [], ℕ, true, length, map, vec_len, All, IfErr, IfOk, IsOk, IsOkUnless, MatchResult, OnErr, OnOk, false};
 ghost use Rattle.sw_query.specs.declared.query.Call.TheVariants.{Select, Insert, Delete, DeleteWhere};
 ghost use Rattle.sw_query.specs.declared.refusal.Refusal.TheVariants.{NoMemory};
 ghost use Rattle.sw_rows.specs.declared.table.TheConstants.{MOST_ROWS};
@@ -55,9 +55,6 @@ const NAPS: u32 = 5;
 /// How long the first of these sleeps is, in microseconds; each one is twice as long as the one before. Who has the latch makes
 /// many selects in a row meanwhile, and the head's data stay in one processor's cache.
 const NAP: u64 = 100;
-
-/// How many opening rows are copied in one visit, but for the last.
-const PART: usize = 1024;
 
 fn pause(long: usize) {
     for _ in 0..long {
@@ -340,80 +337,17 @@ impl<J: Naming, M: CrackerMap> Engine<J, M> {
         take(rt, &self.desk)
     }
 
-    /// How wide the opening rows are packed, and how many there are.
-    fn opening_size<R: Wait>(&self, rt: &R) -> (usize, usize)
-        ensures some { 1 ≤ result.0 }
-        ensures most { result.0 ≤ 8 }
-        ensures many { result.1 ≡ length J.opening }
-    {
-        let desk = self.visit(rt);
-        let rows = desk.opening_rows();
-        (rows.width(), rows.len())
-    }
-
-    /// Puts copies of opening rows, up to so many from a place on, where a list's rows were, in one visit. Refused `NoMemory`
-    /// alone.
-    fn copy_rows<R: Wait>(
-        &self,
-        rt: &R,
-        next: &mut PackedRows,
-        from: usize,
-        most: usize,
-    ) -> Result<(), Refusal>
-        ensures ok { OnOk result (next.new.items ≡ take most (drop from J.opening)) }
-        ensures err { IfErr result (λ e. e ≡ NoMemory) }
-    {
-        next.truncate(0);
-        let desk = self.visit(rt);
-        match next.extend_from(desk.opening_rows(), from, most) {
-            Ok(()) => Ok(()),
-            Err(_) => Err(Refusal::NoMemory),
-        }
-    }
-
-    /// Adds copies of the next opening rows, up to so many, taken in one visit into `next`. Refused `NoMemory` alone.
-    #[tactic(auto, using(crate::proofs::Parts::taken_part))]
-    fn add_rows<R: Wait>(
-        &self,
-        rt: &R,
-        rows: &mut PackedRows,
-        next: &mut PackedRows,
-        most: usize,
-    ) -> Result<(), Refusal>
-        requires { rows.old.items ≡ take (length rows.old.items) J.opening }
-        ensures ok { OnOk result (rows.new.items ≡ take (length rows.old.items + most) J.opening) }
-        ensures err { IfErr result (λ e. e ≡ NoMemory) }
-    {
-        self.copy_rows(rt, next, rows.len(), most)?;
-        match rows.extend_from(next, 0, next.len()) {
-            Ok(()) => Ok(()),
-            Err(_) => Err(Refusal::NoMemory),
-        }
-    }
-
-    /// A copy of the opening rows, made in visits of `PART` rows, so that others visit between them. Under the lock rows are
-    /// copied into memory that was just written; what is written for the first time is written outside. Refused `NoMemory`
-    /// alone.
-    #[tactic(auto, using(crate::proofs::Parts::taken_whole, crate::proofs::Parts::taken_again))]
+    /// The opening rows, shared in one visit. Refused `NoMemory` alone.
     fn opening_rows<R: Wait>(&self, rt: &R) -> Result<PackedRows, Refusal>
         ensures { MatchResult result (λ rows. rows.items ≡ J.opening) (λ e. e ≡ NoMemory) }
     {
-        let (width, many) = self.opening_size(rt);
-        let Ok(mut rows) = PackedRows::with_capacity(self.alloc, width, many) else {
-            return Err(Refusal::NoMemory);
-        };
-        let Ok(mut next) = PackedRows::with_capacity(self.alloc, width, many.min(PART)) else {
-            return Err(Refusal::NoMemory);
-        };
-        for _ in 0..many / PART {
-            self.add_rows(rt, &mut rows, &mut next, PART)?;
+        match self.visit(rt).opening_rows().share(self.alloc) {
+            Ok(rows) => Ok(rows),
+            Err(_) => Err(Refusal::NoMemory),
         }
-        self.add_rows(rt, &mut rows, &mut next, many)?;
-        Ok(rows)
     }
 
-    /// Makes a head that was never asked, of a copy of the opening rows, outside the lock; and gives it the boxes that wait
-    /// for it.
+    /// Makes a head that was never asked, of the opening rows, outside the lock; and gives it the boxes that wait for it.
     fn ready<R: Wait>(&self, rt: &R, head: &mut LatchedHead<J, M>) -> Result<(), Refusal>
         ensures taken { head.new.taken ≡ head.old.taken }
         ensures made { OnOk result (head.new.made ≡ true) }
