@@ -25,7 +25,7 @@ use crate::counting::HeadStats;
 use crate::desk::{Blank, Desk};
 use crate::latch::{LatchedHead, head_of};
 use crate::locked::{LockedDesk, Miss};
-use crate::opening::Opening;
+use crate::opening::{Ground, Opening};
 use crate::ticket::Ticket;
 use crate::viewing::{Receipt, Viewer};
 use crossbeam_utils::Backoff;
@@ -98,22 +98,17 @@ fn take_latch<'l, T, R: Wait>(rt: &R, latch: &'l Mutex<T>) -> MutexGuard<'l, T> 
 /// A latch for each attribute's head.
 fn all_latches<J: Naming, M: CrackerMap>(
     alloc: Global,
+    opening: &Opening<J>,
     desk: &mut Desk<J>,
-    columns: usize,
 ) -> Result<Vec<Mutex<LatchedHead<J, M>>>, AllocError>
-    requires columns { columns ≡ length J.columns }
-    requires few { length J.columns ≤ 8 }
-    requires begun { desk.old ≡ new_desk J.columns J.opening J.limit }
-    requires numbered { is_numbered 1 J.opening ≡ true }
-    requires within { length J.opening ≤ J.limit }
-    requires most { J.limit ≤ MOST_ROWS }
+    requires { desk.old ≡ new_desk J.columns J.opening J.limit }
     ensures books { desk.new.books ≡ desk.old.books }
     ensures given { desk.new.given ≡ desk.old.given }
-    ensures many { IfOk result (λ v. vec_len v ≡ columns) }
+    ensures many { IfOk result (λ v. vec_len v ≡ length J.columns) }
 {
     let mut latches = Vec::new(alloc);
-    for place in 0..columns {
-        latches.push(Mutex::new(desk.add_head(alloc, place)))?;
+    for place in 0..opening.heads() {
+        latches.push(Mutex::new(desk.add_head(alloc, opening, place)))?;
     }
     Ok(latches)
 }
@@ -190,11 +185,7 @@ impl<J: Naming, M: CrackerMap> Engine<J, M> {
         ensures opened { IfOk result (λ e. (length e.1.items ≡ sessions) × InOrder 1 e.1.items) }
         ensures refused { IfErr result (RefusesOpening limit rows.items J.most sessions) }
     {
-        if rows.len() as u64 > limit {
-            return Err(Refusal::TooMany { limit });
-        }
-        let columns = schema.len();
-        let opening = Opening::new(cuts);
+        let ground = Ground::new(schema, rows, cuts, limit)?;
         let Blank {
             sessions: given,
             heads,
@@ -202,11 +193,11 @@ impl<J: Naming, M: CrackerMap> Engine<J, M> {
             most,
             ..
         } = books;
-        let mut desk = Desk::open(alloc, given, heads, most, schema, rows, limit)?;
-        let Ok(latches) = all_latches(alloc, &mut desk, columns) else {
+        let (mut desk, opening) = Desk::open(alloc, given, heads, most, ground)?;
+        let Ok(latches) = all_latches(alloc, &opening, &mut desk) else {
             return Err(Refusal::NoMemory);
         };
-        let mut desk = LockedDesk::new(alloc, desk, list);
+        let mut desk = LockedDesk::new(alloc, &opening, desk, list);
         let tickets = desk.enrol_all(alloc, sessions)?;
         let engine = Engine {
             alloc,
