@@ -13,14 +13,12 @@ use crate::looking_on::Onlooker;
 use crate::script::Block;
 use crate::telling::{write_divider, write_told};
 use core::mem::replace_with;
-use left_right::Absorb;
 use std::marker::Brand;
 use std::sync::Wait;
 use std::thread::Threads;
 use sw_engine::{Engine, Naming, Session, Ticket};
 use sw_map::CrackerMap;
-use sw_rows::{Call, Refusal, Schema, Sink, Update};
-use sw_versions::{Live, Op};
+use sw_rows::{Call, Refusal, Schema, Sink};
 
 /// A block's calls, its place from 0, and the attributes over which their lines are printed.
 #[derive(Clone, Copy)]
@@ -39,10 +37,7 @@ pub(crate) struct Pages<'a> {
 
 /// The tickets of an engine that wait for their calls, and room for those that had theirs.
 #[derive(Drop)]
-pub(crate) struct Seats<'a, J: Naming, M: CrackerMap>
-where
-    Live<J>: Absorb<Op<J>, State = [Update; 0]>,
-{
+pub(crate) struct Seats<'a, J: Naming, M: CrackerMap> {
     pub(crate) engine: &'a Engine<J, M>,
     pub(crate) tickets: Vec<Ticket<J>>,
     pub(crate) done: Vec<Ticket<J>>,
@@ -52,10 +47,7 @@ where
 
 /// The calls of a run, who looks on while they are made, and the memory of a block of bytes.
 #[derive(Drop)]
-pub(crate) struct Flow<'o, 'p, 'e, J: Naming, M: CrackerMap, O: Onlooker>
-where
-    Live<J>: Absorb<Op<J>, State = [Update; 0]>,
-{
+pub(crate) struct Flow<'o, 'p, 'e, J: Naming, M: CrackerMap, O: Onlooker> {
     pub(crate) onlooker: &'o O,
     pub(crate) pages: Pages<'p>,
     pub(crate) seats: Seats<'e, J, M>,
@@ -73,8 +65,6 @@ fn flow_page<J: Naming, M: CrackerMap, O: Onlooker, R: Threads + Wait + Sync, W:
     session: &mut Session<'_, J, M>,
     out: &mut W,
 ) -> Result<(), Refusal>
-where
-    Live<J>: Absorb<Op<J>, State = [Update; 0]>,
     requires none { session.old.1 ≡ [] }
     requires own { own_of session.old ≡ [] }
     requires below { AllCallsBelow (length J.columns) page.calls.now }
@@ -105,8 +95,6 @@ fn flow_pages<J: Naming, M: CrackerMap, O: Onlooker, R: Threads + Wait + Sync, W
     seats: Seats<'_, J, M>,
     out: &mut W,
 ) -> (Vec<Ticket<J>>, Result<(), Refusal>)
-where
-    Live<J>: Absorb<Op<J>, State = [Update; 0]>,
     requires order { InOrder 1 seats.tickets.items }
     requires many { length seats.tickets.items ≡ length pages.blocks.now }
     requires below { All (AllCallsBelow (length J.columns)) pages.blocks.now }
@@ -151,7 +139,6 @@ where
     O: Onlooker,
     R: Threads + Wait + Sync,
     W: Sink,
-    Live<J>: Absorb<Op<J>, State = [Update; 0]>,
     requires base { B.base ≡ W.taken sink }
     requires order { InOrder 1 flow.seats.tickets.items }
     requires many { length flow.seats.tickets.items ≡ length flow.pages.blocks.now }
@@ -182,7 +169,6 @@ where
     O: Onlooker,
     R: Threads + Wait + Sync,
     W: Sink,
-    Live<J>: Absorb<Op<J>, State = [Update; 0]>,
     requires order { InOrder 1 flow.seats.tickets.items }
     requires many { length flow.seats.tickets.items ≡ length flow.pages.blocks.now }
     requires below { All (AllCallsBelow (length J.columns)) flow.pages.blocks.now }
@@ -203,7 +189,6 @@ where
     O: Onlooker,
     R: Threads + Wait + Sync,
     W: Sink,
-    Live<J>: Absorb<Op<J>, State = [Update; 0]>,
     requires order { InOrder 1 flow.seats.tickets.items }
     requires many { length flow.seats.tickets.items ≡ length flow.pages.blocks.now }
     requires below { All (AllCallsBelow (length J.columns)) flow.pages.blocks.now }

@@ -4,7 +4,6 @@ ghost use Rattle.std.specs.Prelude.{◌≡◌, ◌<◌, ◌≤◌, [], All, IfOk
 ghost use Rattle.sw_map.specs.Held.{blank};
 ghost use Rattle.sw_query.specs.declared.refusal.Refusal.TheVariants.{NoMemory};
 ghost use Rattle.sw_rows.specs.declared.table.TheConstants.{MOST_ROWS};
-ghost use Rattle.sw_versions.specs.Pending.{IsPlain};
 ghost use Rattle.sw_cli.specs.declared.buffered.TheConstants.{BLOCK};
 ghost use Rattle.sw_cli.specs.Answers.{RunAnswers};
 ghost use Rattle.sw_cli.specs.Outcomes.{AllSayWhy};
@@ -20,16 +19,14 @@ use crate::serving::serve;
 use crate::start::{Inputs, read_start};
 use crate::turning::{Ground, make_in_turn};
 use core::mem::replace_with;
-use left_right::Absorb;
 use std::alloc::Global;
 use std::marker::Brand;
 use std::sync::Wait;
 use std::thread::Threads;
 use sw_engine::{Blank, Engine, HeadStats, Naming, deal};
 use sw_map::CrackerMap;
-use sw_rows::{Refusal, Sink, Source, TextKey, Update};
+use sw_rows::{Refusal, Sink, Source, TextKey};
 use sw_spine::Record;
-use sw_versions::{Live, Op};
 
 /// What a run is told besides its files.
 #[derive(Clone, Copy, Debug)]
@@ -88,11 +85,8 @@ fn make_with<J: Naming + Send + Sync, M: CrackerMap, O: Onlooker, R: Threads + W
     stats: &mut Vec<HeadStats>,
     onlooker: &O,
 ) -> Result<Outgoing, Refusal>
-where
-    Live<J>: Absorb<Op<J>, State = [Update; 0]> + Send + Sync,
     requires books { (books.sessions.name ≡ J.sessions) × (books.heads.name ≡ J.heads) × (books.most ≡ J.most) }
     requires list { books.list.seen.book ≡ J.book }
-    requires plain { IsPlain ⟦<Live<J> as Absorb<Op<J>>>⟧.state ⟦<Live<J> as Absorb<Op<J>>>⟧.applied }
     requires table { (opened.schema ≡ J.columns) × (opened.rows.items ≡ J.opening) × (options.now.limit ≡ J.limit) }
     requires some { 0 < options.now.limit }
     requires most { options.now.limit ≤ MOST_ROWS }

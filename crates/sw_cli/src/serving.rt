@@ -11,24 +11,19 @@ ghost use Rattle.sw_cli.specs.Served.{Each, IsDone, IsFresh};
 use crate::looking_on::Onlooker;
 use crate::script::Block;
 use crate::telling::BlockTold;
-use left_right::Absorb;
 use std::alloc::{AllocError, Global};
 use std::sync::Wait;
 use std::thread;
 use std::thread::Threads;
 use sw_engine::{Engine, HeadStats, Naming, Session, Ticket};
 use sw_map::CrackerMap;
-use sw_rows::{Call, Refusal, Reply, Update};
+use sw_rows::{Call, Refusal, Reply};
 use sw_spine::Record;
-use sw_versions::{Live, Op};
 
 /// A session that has made no call, its block's number from 1 for who looks on, the calls that it is to make, and room for
 /// what comes of them.
 #[derive(Drop)]
-pub(crate) struct Job<'e, J: Naming, M: CrackerMap>
-where
-    Live<J>: Absorb<Op<J>, State = [Update; 0]>,
-{
+pub(crate) struct Job<'e, J: Naming, M: CrackerMap> {
     session: Session<'e, J, M>,
     block: u64,
     calls: &'e [Call],
@@ -48,8 +43,6 @@ fn make_block<J: Naming, M: CrackerMap, O: Onlooker, R: Threads + Wait + Sync>(
     job: Job<'_, J, M>,
     onlooker: &O,
 ) -> Done<J>
-where
-    Live<J>: Absorb<Op<J>, State = [Update; 0]>,
     requires fresh { IsFresh job.session job.told.items (vec_capacity job.told) job.calls.now }
     requires below { AllCallsBelow (length J.columns) job.calls.now }
     ensures { IsDone job.entry.session.0 job.entry.calls.now result.ticket result.told }
@@ -79,8 +72,6 @@ fn jobs<'e, J: Naming, M: CrackerMap>(
     tickets: Vec<Ticket<J>>,
     blocks: &'e [Block],
 ) -> Result<Vec<Job<'e, J, M>>, AllocError>
-where
-    Live<J>: Absorb<Op<J>, State = [Update; 0]>,
     requires order { InOrder 1 tickets.items }
     requires many { length tickets.items ≡ length blocks.now }
     ensures fresh { IfOk result
@@ -109,8 +100,6 @@ fn make_at_once<'e, J: Naming + Send + Sync, M: CrackerMap, O: Onlooker, R: Thre
     jobs: Vec<Job<'e, J, M>>,
     onlooker: &O,
 ) -> Result<Vec<Done<J>>, AllocError>
-where
-    Live<J>: Absorb<Op<J>, State = [Update; 0]> + Send + Sync,
     requires fresh { All (λ j. IsFresh j.session j.told.items (vec_capacity j.told) j.calls.now) jobs.items }
     requires below { All (λ j. AllCallsBelow (length J.columns) j.calls.now) jobs.items }
     ensures { IfOk result (λ v. Each (λ j d. IsDone j.session.0 j.calls.now d.ticket d.told) jobs.entry.items v.items) }
@@ -150,8 +139,6 @@ pub(crate) fn tell_heads<J: Naming, M: CrackerMap, R: Wait>(
     engine: &Engine<J, M>,
     stats: &mut Vec<HeadStats>,
 )
-where
-    Live<J>: Absorb<Op<J>, State = [Update; 0]>,
     requires { vec_len stats.old + length J.columns ≤ vec_capacity stats.old }
 {
     for head in 0..engine.heads() {
@@ -170,8 +157,6 @@ pub(crate) fn serve<J: Naming + Send + Sync, M: CrackerMap, O: Onlooker, R: Thre
     stats: &mut Vec<HeadStats>,
     onlooker: &O,
 ) -> Result<(Record, Vec<BlockTold>), Refusal>
-where
-    Live<J>: Absorb<Op<J>, State = [Update; 0]> + Send + Sync,
     requires order { InOrder 1 tickets.items }
     requires many { length tickets.items ≡ length blocks.now }
     requires blocks { AreBlocks (length J.columns) blocks.now }

@@ -4,7 +4,6 @@ ghost use Rattle.std.specs.Prelude.{◌≡◌, ◌<◌, ◌≤◌, ◌+◌, [], 
 ghost use Rattle.sw_map.specs.Held.{blank};
 ghost use Rattle.sw_query.specs.declared.refusal.Refusal.TheVariants.{NoMemory};
 ghost use Rattle.sw_rows.specs.declared.table.TheConstants.{MOST_ROWS};
-ghost use Rattle.sw_versions.specs.Pending.{IsPlain};
 ghost use Rattle.sw_engine.specs.Desk.{InOrder};
 ghost use Rattle.sw_cli.specs.declared.buffered.TheConstants.{BLOCK};
 ghost use Rattle.sw_cli.specs.Flowing.{GoesOver};
@@ -19,16 +18,14 @@ use crate::looking_on::Onlooker;
 use crate::script::Block;
 use crate::serving::tell_heads;
 use crate::start::Inputs;
-use left_right::Absorb;
 use std::alloc::Global;
 use std::marker::Brand;
 use std::sync::Wait;
 use std::thread::Threads;
 use sw_engine::{Blank, Engine, HeadStats, Naming, Ticket, deal};
 use sw_map::CrackerMap;
-use sw_rows::{Refusal, Schema, Sink, Update};
+use sw_rows::{Refusal, Schema, Sink};
 use sw_spine::Record;
-use sw_versions::{Live, Op};
 
 /// What the calls of a run are made over: attributes that stand for those that were read, the limit of rows, and the boxes.
 #[derive(Drop)]
@@ -42,10 +39,7 @@ pub(crate) struct Ground<M: CrackerMap> {
 
 /// An engine with its boxes and a ticket for each block, what is printed of it, and all other memory that the calls take.
 #[derive(Drop)]
-struct Ready<J: Naming, M: CrackerMap>
-where
-    Live<J>: Absorb<Op<J>, State = [Update; 0]>,
-{
+struct Ready<J: Naming, M: CrackerMap> {
     engine: Engine<J, M>,
     schema: Schema,
     blocks: Vec<Block>,
@@ -92,11 +86,8 @@ fn make_ready<J: Naming, M: CrackerMap, R: Wait>(
     books: Blank,
     ground: Ground<M>,
 ) -> Result<Ready<J, M>, Refusal>
-where
-    Live<J>: Absorb<Op<J>, State = [Update; 0]>,
     requires books { (books.sessions.name ≡ J.sessions) × (books.heads.name ≡ J.heads) × (books.most ≡ J.most) }
     requires list { books.list.seen.book ≡ J.book }
-    requires plain { IsPlain ⟦<Live<J> as Absorb<Op<J>>>⟧.state ⟦<Live<J> as Absorb<Op<J>>>⟧.applied }
     requires table { (ground.columns ≡ J.columns) × (ground.inputs.rows.items ≡ J.opening) × (ground.limit ≡ J.limit) }
     requires some { 0 < ground.limit }
     requires most { ground.limit ≤ MOST_ROWS }
@@ -154,8 +145,6 @@ fn make_calls<J: Naming, M: CrackerMap, O: Onlooker, R: Threads + Wait + Sync, W
     out: &mut W,
     stats: &mut Vec<HeadStats>,
 ) -> Result<Record, Refusal>
-where
-    Live<J>: Absorb<Op<J>, State = [Update; 0]>,
     requires order { InOrder 1 ready.tickets.items }
     requires most { J.most ≡ length ready.blocks.items }
     requires blocks { AreBlocks (length J.columns) ready.blocks.items }
@@ -210,11 +199,8 @@ fn turn_with<J: Naming, M: CrackerMap, O: Onlooker, R: Threads + Wait + Sync, W:
     out: &mut W,
     stats: &mut Vec<HeadStats>,
 ) -> Result<Record, Refusal>
-where
-    Live<J>: Absorb<Op<J>, State = [Update; 0]>,
     requires books { (books.sessions.name ≡ J.sessions) × (books.heads.name ≡ J.heads) × (books.most ≡ J.most) }
     requires list { books.list.seen.book ≡ J.book }
-    requires plain { IsPlain ⟦<Live<J> as Absorb<Op<J>>>⟧.state ⟦<Live<J> as Absorb<Op<J>>>⟧.applied }
     requires table { (ground.columns ≡ J.columns) × (ground.inputs.rows.items ≡ J.opening) × (ground.limit ≡ J.limit) }
     requires all { J.most ≡ length ground.inputs.blocks.items }
     requires some { 0 < ground.limit }

@@ -2,7 +2,6 @@ mod Examples
 pub mod Ties
 pub mod Heads
 pub mod Turns
-pub mod Parts
 pub mod Published
 pub mod Later
 pub mod Owned

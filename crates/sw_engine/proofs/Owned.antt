@@ -1,15 +1,15 @@
 -- What one more entry, and an entry that is settled, do to the sessions' own entries.
-use Rattle.std.proofs.Common.{◌≡◌, ◌≢◌, ◌⊎◌, inl, inr, ◌++◌, ◌==◌, ℕ, Bool, true, false, List, [], ◌∷◌, Option, Some, None, refl, sym, ap, ◌∙◌, ◌+◌, arith, cond, subst}
+use Rattle.std.proofs.Common.{◌≡◌, ◌≢◌, ◌++◌, ◌==◌, ℕ, true, false, List, [], ◌∷◌, None, refl, sym, ap, ◌∙◌, ◌+◌, arith, cond, subst}
 use Rattle.std.proofs.lemmas.Bool.Decides.{nat_tests}
 use Rattle.sw_table.specs.declared.row.Update.{Update}
 use Rattle.sw_query.specs.declared.query.Query.{Query}
 use Rattle.sw_query.specs.declared.query.Call.{Call}
 use Rattle.sw_query.specs.declared.query.Call.TheVariants as call
-use Rattle.sw_spine.specs.Table.{opened, updates_then}
-use Rattle.sw_spine.specs.History.{entry, is_absent, is_open, mine, settled, waiting_after, waits}
+use Rattle.sw_spine.specs.Table.{updates_then}
+use Rattle.sw_spine.specs.History.{entry, is_absent, mine, settled, waiting_after}
 use Rattle.sw_query.specs.declared.refusal.Refusal.{Refusal}
 use Rattle.sw_query.specs.declared.refusal.Refusal.TheVariants as refusal
-use Rattle.sw_spine.specs.Books.{Books, Opens, RefusesEntry, is_opened, reply_now, waits_for, with_answered, with_open, with_published, with_settled}
+use Rattle.sw_spine.specs.Books.{Books, Opens, RefusesEntry, is_opened, reply_now, with_answered, with_open, with_published, with_settled}
 use Rattle.sw_spine.specs.declared.history.Entry.{Entry}
 use Rattle.sw_spine.specs.declared.history.State.{State}
 use Rattle.sw_spine.specs.declared.history.State.TheVariants as state

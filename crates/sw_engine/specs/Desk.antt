@@ -4,9 +4,7 @@ use Rattle.sw_rows.specs.Header.{Column}
 use Rattle.sw_table.specs.declared.row.Row.{Row}
 use Rattle.sw_table.specs.declared.row.Update.{Update}
 use Rattle.sw_query.specs.declared.query.Query.{Query}
-use Rattle.sw_query.specs.declared.query.Call.{Call}
 use Rattle.sw_query.specs.declared.query.Call.TheVariants as call
-use Rattle.sw_query.specs.declared.reply.Reply.{Reply}
 use Rattle.sw_query.specs.declared.refusal.Refusal.{Refusal}
 use Rattle.sw_query.specs.declared.refusal.Refusal.TheVariants as refusal
 use Rattle.sw_rows.specs.declared.table.TheConstants.{MOST_ROWS}
@@ -128,10 +126,14 @@ KeepsBoxes old new = new.waiting + new.held ≡ old.waiting + old.held
 abbrev pub IsSameButBoxes : LatchState → LatchState → Type 0
 IsSameButBoxes old new = new ≡ record old { waiting = new.waiting; held = new.held }
 
--- what heads are made with: the opening rows are in order, and there is a list of cuts for each attribute
-pub record IsGround (columns : List Column) (opening : List Row) (cuts : CutLists) : Type 0 where
+-- what an engine is opened with: a limit of rows, opening rows in order and no more than that, 1 to 8 attributes, and a list of
+-- cuts for each
+pub record IsGround (columns : List Column) (opening : List Row) (limit : ℕ) (cuts : CutLists) : Type 0 where
+  pub some : 0 < limit
+  pub most : limit ≤ MOST_ROWS
   pub numbered : is_numbered 1 opening ≡ true
-  pub within : length opening ≤ MOST_ROWS
+  pub within : length opening ≤ limit
+  pub columned : 0 < length columns
   pub few : length columns ≤ 8
   pub lists : length cuts ≡ length columns
   pub lawful : (a : ℕ) → a < length columns → AreCuts (cuts_on cuts a)

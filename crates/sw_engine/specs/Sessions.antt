@@ -81,6 +81,10 @@ GivesUp q old new = Stays old new ⊎ Voids q old new
 abbrev pub Refuses : List Entry → Refusal → Type 0
 Refuses es e = RefusesCall e × TellsFull es e
 
+-- the call is refused, for this reason, and nothing of the session's changes
+abbrev pub IsRefused : Shown → Shown → Refusal → Type 0
+IsRefused old new e = Stays old new × Refuses new.2.entries e
+
 -- ---- what the visits of a select do to it
 
 -- the select begins, and waits for its reply after these updates; whatever becomes of it, its entry is the one that the

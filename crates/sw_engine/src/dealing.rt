@@ -5,11 +5,10 @@ ghost use Rattle.sw_query.specs.declared.refusal.Refusal.TheVariants.{NoMemory};
 ghost use Rattle.sw_map.specs.Held.{blank};
 
 use crate::engine::Engine;
-use left_right::Absorb;
 use std::sync::Wait;
 use sw_map::CrackerMap;
-use sw_rows::{Refusal, Update};
-use sw_versions::{Live, Naming, Op};
+use sw_rows::Refusal;
+use sw_versions::Naming;
 
 /// Whose turn it is, of so many.
 #[tactic(auto, using(crate::proofs::Turns::turn_below))]
@@ -28,8 +27,6 @@ pub fn deal<J: Naming, M: CrackerMap, R: Wait>(
     columns: usize,
     maps: Vec<M>,
 ) -> Result<(), Refusal>
-where
-    Live<J>: Absorb<Op<J>, State = [Update; 0]>,
     requires columns { (columns ≡ length J.columns) × (0 < columns) }
     requires blank { All (λ m. M.held m ≡ blank) maps.items }
     ensures { IsOkUnless result NoMemory }

@@ -1,11 +1,11 @@
 //! What lies under the lock.
 
-ghost use Rattle.std.specs.Prelude.{◌≡◌, ℕ, List, [], ◌∷◌, ◌++◌, ◌<◌, ◌+◌, ◌≤◌, length, true, false, None, All, IfErr, IfOk, IsSome, IsSomeAnd, OnErr, OnOk};
+ghost use Rattle.std.specs.Prelude.{◌≡◌, [], ◌∷◌, ◌++◌, ◌<◌, ◌+◌, ◌≤◌, length, false, None, All, IfErr, IfOk, IsOkUnless, IsSome, IsSomeAnd, OnErr, OnOk};
 ghost use Rattle.sw_query.specs.declared.query.Call.TheVariants.{Select};
-ghost use Rattle.sw_rows.specs.declared.table.TheConstants.{MOST_ROWS};
-ghost use Rattle.sw_spine.specs.Table.{is_numbered, opened, reply_to, updates_then};
+ghost use Rattle.sw_query.specs.declared.refusal.Refusal.TheVariants.{NoMemory};
+ghost use Rattle.sw_spine.specs.Table.{opened, reply_to, updates_then};
 ghost use Rattle.sw_spine.specs.History.{CallsBelow, is_select, mine, updates_after};
-ghost use Rattle.sw_spine.specs.Books.{RefusesRows, new_books, updates, waits_for, with_answered, with_published, with_session, with_settled};
+ghost use Rattle.sw_spine.specs.Books.{new_books, updates, waits_for, with_answered, with_published, with_session, with_settled};
 ghost use Rattle.sw_spine.specs.declared.history.State.TheVariants.{Answered, Void};
 ghost use Rattle.sw_spine.specs.declared.spine.TheConstants.{MOST_SESSIONS};
 ghost use Rattle.sw_engine.specs.Published.{EndsEntry, IsNewShare, IsOfFirst, IsWhole, later};
@@ -15,13 +15,14 @@ ghost use Rattle.sw_engine.specs.Desk.{AreGiven, IsBegun, IsMade, IsOf, RefusesN
 
 use crate::counting::Counters;
 use crate::latch::LatchedHead;
+use crate::opening::{Ground, Opening};
 use crate::ticket::{SessionState, Ticket};
 use std::alloc::Global;
 use std::marker::{Model, PhantomData};
 use std::snapshot::Snapshot;
 use sw_chunks::Waiting;
 use sw_map::CrackerMap;
-use sw_rows::{Call, PackedRows, Query, Refusal, Reply, Schema, Update};
+use sw_rows::{Call, PackedRows, Query, Refusal, Reply, Update};
 use sw_spine::{Entry, MOST_SESSIONS, Spine};
 use sw_tie::{Book, Share};
 use sw_versions::{Naming, Opened};
@@ -95,52 +96,59 @@ impl<J: Naming> Model for Desk<J> {
 }
 
 impl<J: Naming> Desk<J> {
-    /// A desk over opening rows, with no session and no head, for at most so many sessions.
+    /// A desk over opening rows, with no session and no head, for at most so many sessions; and what its heads are made with.
+    /// Refused `NoMemory` alone.
+    #[tactic(auto, using(crate::proofs::Ties::no_room))]
     pub fn open(
         alloc: Global,
         sessions: Book<Spine>,
         heads: Book<Spine>,
         most: u64,
-        schema: Schema,
-        rows: PackedRows,
-        limit: u64,
-    ) -> Result<Desk<J>, Refusal>
+        ground: Ground<J>,
+    ) -> Result<(Desk<J>, Opening<J>), Refusal>
         requires books { (sessions.name ≡ J.sessions) × (heads.name ≡ J.heads) }
         requires none { (sessions.rows ≡ []) × (heads.rows ≡ []) }
         requires may { (most ≡ J.most) × (most ≤ MOST_SESSIONS) }
-        requires table { (schema ≡ J.columns) × (rows.items ≡ J.opening) × (limit ≡ J.limit) }
-        requires some { 0 < limit }
-        requires most { limit ≤ MOST_ROWS }
-        requires numbered { is_numbered 1 rows.items ≡ true }
-        ensures few { OnOk result (length rows.items ≤ limit) }
-        ensures opened { IfOk result (λ d. d ≡ new_desk J.columns J.opening J.limit) }
-        ensures refused { IfErr result (RefusesRows limit rows.items) }
+        ensures opened { IfOk result (λ d. d.0 ≡ new_desk J.columns J.opening J.limit) }
+        ensures refused { IsOkUnless result NoMemory }
     {
+        // for the prover: the table is sound
+        let _heads = ground.opening.heads();
+        let Ground {
+            schema,
+            rows,
+            limit,
+            opening,
+        } = ground;
         let spine = Spine::new(alloc, schema, rows, limit)?;
-        Ok(Desk {
+        let desk = Desk {
             spine,
             many: 0,
             most,
             sessions,
             heads,
             of: PhantomData,
-        })
+        };
+        Ok((desk, opening))
     }
 
     /// What lies under the latch of the next head, whose number this is: it has taken the opening rows, and is not made.
-    pub fn add_head<M: CrackerMap>(&mut self, alloc: Global, number: usize) -> LatchedHead<J, M>
-        requires few { length J.columns ≤ 8 }
+    pub fn add_head<M: CrackerMap>(
+        &mut self,
+        alloc: Global,
+        opening: &Opening<J>,
+        number: usize,
+    ) -> LatchedHead<J, M>
         requires number { number ≡ self.old.heads }
         requires place { number < length J.columns }
         requires begun { self.old.books ≡ new_books J.columns J.opening J.limit }
-        requires numbered { is_numbered 1 J.opening ≡ true }
-        requires within { length J.opening ≤ J.limit }
-        requires most { J.limit ≤ MOST_ROWS }
         ensures books { self.new.books ≡ self.old.books }
         ensures given { self.new.given ≡ self.old.given }
         ensures heads { self.new.heads ≡ self.old.heads + 1 }
         ensures head { result ≡ latched J.opening None [] 0 }
     {
+        // for the prover: the table is sound
+        let _heads = opening.heads();
         let Desk { spine, heads, .. } = self;
         let share = heads.open(Snapshot::of(spine));
         LatchedHead {

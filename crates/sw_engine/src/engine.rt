@@ -1,6 +1,6 @@
 //! Heads under their latches, the history under its lock, and the sessions.
 
-ghost use Rattle.std.specs.Prelude.{◌≡◌, ◌<◌, ◌≤◌, ◌+◌, ◌++◌, ◌∷◌, [], ℕ, true, drop, length, map, take, vec_len, All, IfErr, IfOk, IsOk, IsOkUnless, MatchResult, OnErr, OnOk, false};
+ghost use Rattle.std.specs.Prelude.{◌≡◌, ◌<◌, ◌≤◌, ◌+◌, ◌++◌, ◌∷◌, [], ℕ, true, length, map, vec_len, All, IfErr, IfOk, IsOk, IsOkUnless, MatchResult, OnErr, OnOk, false};
 ghost use Rattle.sw_query.specs.declared.query.Call.TheVariants.{Select, Insert, Delete, DeleteWhere};
 ghost use Rattle.sw_query.specs.declared.refusal.Refusal.TheVariants.{NoMemory};
 ghost use Rattle.sw_rows.specs.declared.table.TheConstants.{MOST_ROWS};
@@ -12,7 +12,6 @@ ghost use Rattle.sw_spine.specs.Books.{RefusesRows};
 ghost use Rattle.sw_engine.specs.Desk.{AreAll, InOrder, IsMade, KeepsBoxes, RefusesCall, RefusesClose, RefusesOpening, TellsFull, TooManySessions, new_desk};
 ghost use mathlib.Core.List.{IsPrefix};
 ghost use Rattle.sw_versions.specs.Lists.{IsLonger};
-ghost use Rattle.sw_versions.specs.Pending.{IsPlain};
 ghost use Rattle.sw_versions.specs.Refused.{IsAhead};
 ghost use Rattle.sw_versions.specs.Rules.{updates_in};
 ghost use Rattle.sw_engine.specs.Published.{CallGives, CountsMisses, EndWithEntries, GivesReceipt, HaveAll, IsOfFirst, RefusesViewing, TellsAll, answered_to};
@@ -26,11 +25,10 @@ use crate::counting::HeadStats;
 use crate::desk::{Blank, Desk};
 use crate::latch::{LatchedHead, head_of};
 use crate::locked::{LockedDesk, Miss};
-use crate::opening::Opening;
+use crate::opening::{Ground, Opening};
 use crate::ticket::Ticket;
 use crate::viewing::{Receipt, Viewer};
 use crossbeam_utils::Backoff;
-use left_right::Absorb;
 use std::alloc::{AllocError, Global};
 use std::hint::spin_loop;
 use std::marker::{Model, PhantomData};
@@ -40,9 +38,9 @@ use std::thread::Threads;
 use std::time::Duration;
 use sw_lang::Cuts;
 use sw_map::CrackerMap;
-use sw_rows::{Call, Cond, Conds, PackedRows, Query, Refusal, Reply, Schema, Update};
+use sw_rows::{Call, Cond, Conds, PackedRows, Query, Refusal, Reply, Schema};
 use sw_spine::Record;
-use sw_versions::{Live, Naming, Op};
+use sw_versions::Naming;
 
 /// How often a thread pauses between looks at a lock or a latch, before it sleeps.
 const PAUSES: u32 = 7;
@@ -57,9 +55,6 @@ const NAPS: u32 = 5;
 /// How long the first of these sleeps is, in microseconds; each one is twice as long as the one before. Who has the latch makes
 /// many selects in a row meanwhile, and the head's data stay in one processor's cache.
 const NAP: u64 = 100;
-
-/// How many opening rows are copied in one visit, but for the last.
-const PART: usize = 1024;
 
 fn pause(long: usize) {
     for _ in 0..long {
@@ -103,22 +98,17 @@ fn take_latch<'l, T, R: Wait>(rt: &R, latch: &'l Mutex<T>) -> MutexGuard<'l, T> 
 /// A latch for each attribute's head.
 fn all_latches<J: Naming, M: CrackerMap>(
     alloc: Global,
+    opening: &Opening<J>,
     desk: &mut Desk<J>,
-    columns: usize,
 ) -> Result<Vec<Mutex<LatchedHead<J, M>>>, AllocError>
-    requires columns { columns ≡ length J.columns }
-    requires few { length J.columns ≤ 8 }
-    requires begun { desk.old ≡ new_desk J.columns J.opening J.limit }
-    requires numbered { is_numbered 1 J.opening ≡ true }
-    requires within { length J.opening ≤ J.limit }
-    requires most { J.limit ≤ MOST_ROWS }
+    requires { desk.old ≡ new_desk J.columns J.opening J.limit }
     ensures books { desk.new.books ≡ desk.old.books }
     ensures given { desk.new.given ≡ desk.old.given }
-    ensures many { IfOk result (λ v. vec_len v ≡ columns) }
+    ensures many { IfOk result (λ v. vec_len v ≡ length J.columns) }
 {
     let mut latches = Vec::new(alloc);
-    for place in 0..columns {
-        latches.push(Mutex::new(desk.add_head(alloc, place)))?;
+    for place in 0..opening.heads() {
+        latches.push(Mutex::new(desk.add_head(alloc, opening, place)))?;
     }
     Ok(latches)
 }
@@ -127,23 +117,24 @@ fn all_latches<J: Naming, M: CrackerMap>(
 ///
 /// A latch is taken before the lock, and never after it.
 #[derive(Drop)]
-pub struct Engine<J: Naming, M: CrackerMap>
-where
-    Live<J>: Absorb<Op<J>, State = [Update; 0]>,
-{
+pub struct Engine<J: Naming, M: CrackerMap> {
     alloc: Global,
     opening: Opening<J>,
     latches: Vec<Mutex<LatchedHead<J, M>>>,
     desk: Mutex<LockedDesk<J>>,
-    ghost as_many: { vec_len latches ≡ length J.columns },
-    ghost some: { 0 < length J.columns },
-    ghost few: { length J.columns ≤ 8 },
 }
 
-impl<J: Naming, M: CrackerMap> Engine<J, M>
-where
-    Live<J>: Absorb<Op<J>, State = [Update; 0]>,
-{
+impl<J: Naming, M: CrackerMap> Model for Engine<J, M> {
+    ghost use Rattle.std.specs.Prelude.{◌≡◌, ◌<◌, ◌≤◌, ℕ, length, vec_len};
+
+    ghost Value = { ℕ };
+
+    ghost view = { λ e. vec_len e.latches };
+
+    ghost invariant = { λ e. (vec_len e.latches ≡ length J.columns) × (0 < length J.columns) × (length J.columns ≤ 8) };
+}
+
+impl<J: Naming, M: CrackerMap> Engine<J, M> {
     /// An engine over opening rows, with no session. No head is made.
     ///
     /// Refused `TooMany` of the limit where there are more rows, `NoMemory` otherwise. The caller's conditions: the
@@ -159,7 +150,6 @@ where
     ) -> Result<Engine<J, M>, Refusal>
         requires books { (books.sessions.name ≡ J.sessions) × (books.heads.name ≡ J.heads) × (books.most ≡ J.most) }
         requires list { books.list.seen.book ≡ J.book }
-        requires plain { IsPlain ⟦<Live<J> as Absorb<Op<J>>>⟧.state ⟦<Live<J> as Absorb<Op<J>>>⟧.applied }
         requires table { (schema ≡ J.columns) × (rows.items ≡ J.opening) × (limit ≡ J.limit) }
         requires some { 0 < limit }
         requires most { limit ≤ MOST_ROWS }
@@ -186,7 +176,6 @@ where
     ) -> Result<(Engine<J, M>, Vec<Ticket<J>>), Refusal>
         requires books { (books.sessions.name ≡ J.sessions) × (books.heads.name ≡ J.heads) × (books.most ≡ J.most) }
         requires list { books.list.seen.book ≡ J.book }
-        requires plain { IsPlain ⟦<Live<J> as Absorb<Op<J>>>⟧.state ⟦<Live<J> as Absorb<Op<J>>>⟧.applied }
         requires table { (schema ≡ J.columns) × (rows.items ≡ J.opening) × (limit ≡ J.limit) }
         requires some { 0 < limit }
         requires most { limit ≤ MOST_ROWS }
@@ -196,11 +185,7 @@ where
         ensures opened { IfOk result (λ e. (length e.1.items ≡ sessions) × InOrder 1 e.1.items) }
         ensures refused { IfErr result (RefusesOpening limit rows.items J.most sessions) }
     {
-        if rows.len() as u64 > limit {
-            return Err(Refusal::TooMany { limit });
-        }
-        let columns = schema.len();
-        let opening = Opening::new(cuts);
+        let ground = Ground::new(schema, rows, cuts, limit)?;
         let Blank {
             sessions: given,
             heads,
@@ -208,11 +193,11 @@ where
             most,
             ..
         } = books;
-        let mut desk = Desk::open(alloc, given, heads, most, schema, rows, limit)?;
-        let Ok(latches) = all_latches(alloc, &mut desk, columns) else {
+        let (mut desk, opening) = Desk::open(alloc, given, heads, most, ground)?;
+        let Ok(latches) = all_latches(alloc, &opening, &mut desk) else {
             return Err(Refusal::NoMemory);
         };
-        let mut desk = LockedDesk::new(alloc, desk, list);
+        let mut desk = LockedDesk::new(alloc, &opening, desk, list);
         let tickets = desk.enrol_all(alloc, sessions)?;
         let engine = Engine {
             alloc,
@@ -333,85 +318,27 @@ where
         self.latches[head].lock(rt).stats()
     }
 
+    /// Where its memory is from.
+    fn alloc(&self) -> Global {
+        self.alloc
+    }
+
     /// The history, for one visit.
     fn visit<R: Wait>(&self, rt: &R) -> MutexGuard<'_, LockedDesk<J>> {
         take(rt, &self.desk)
     }
 
-    /// How wide the opening rows are packed, and how many there are.
-    fn opening_size<R: Wait>(&self, rt: &R) -> (usize, usize)
-        ensures some { 1 ≤ result.0 }
-        ensures most { result.0 ≤ 8 }
-        ensures many { result.1 ≡ length J.opening }
-    {
-        let desk = self.visit(rt);
-        let rows = desk.opening_rows();
-        (rows.width(), rows.len())
-    }
-
-    /// Puts copies of opening rows, up to so many from a place on, where a list's rows were, in one visit. Refused `NoMemory`
-    /// alone.
-    fn copy_rows<R: Wait>(
-        &self,
-        rt: &R,
-        next: &mut PackedRows,
-        from: usize,
-        most: usize,
-    ) -> Result<(), Refusal>
-        ensures ok { OnOk result (next.new.items ≡ take most (drop from J.opening)) }
-        ensures err { IfErr result (λ e. e ≡ NoMemory) }
-    {
-        next.truncate(0);
-        let desk = self.visit(rt);
-        match next.extend_from(desk.opening_rows(), from, most) {
-            Ok(()) => Ok(()),
-            Err(_) => Err(Refusal::NoMemory),
-        }
-    }
-
-    /// Adds copies of the next opening rows, up to so many, taken in one visit into `next`. Refused `NoMemory` alone.
-    #[tactic(auto, using(crate::proofs::Parts::taken_part))]
-    fn add_rows<R: Wait>(
-        &self,
-        rt: &R,
-        rows: &mut PackedRows,
-        next: &mut PackedRows,
-        most: usize,
-    ) -> Result<(), Refusal>
-        requires { rows.old.items ≡ take (length rows.old.items) J.opening }
-        ensures ok { OnOk result (rows.new.items ≡ take (length rows.old.items + most) J.opening) }
-        ensures err { IfErr result (λ e. e ≡ NoMemory) }
-    {
-        self.copy_rows(rt, next, rows.len(), most)?;
-        match rows.extend_from(next, 0, next.len()) {
-            Ok(()) => Ok(()),
-            Err(_) => Err(Refusal::NoMemory),
-        }
-    }
-
-    /// A copy of the opening rows, made in visits of `PART` rows, so that others visit between them. Under the lock rows are
-    /// copied into memory that was just written; what is written for the first time is written outside. Refused `NoMemory`
-    /// alone.
-    #[tactic(auto, using(crate::proofs::Parts::taken_whole, crate::proofs::Parts::taken_again))]
+    /// The opening rows, shared in one visit. Refused `NoMemory` alone.
     fn opening_rows<R: Wait>(&self, rt: &R) -> Result<PackedRows, Refusal>
         ensures { MatchResult result (λ rows. rows.items ≡ J.opening) (λ e. e ≡ NoMemory) }
     {
-        let (width, many) = self.opening_size(rt);
-        let Ok(mut rows) = PackedRows::with_capacity(self.alloc, width, many) else {
-            return Err(Refusal::NoMemory);
-        };
-        let Ok(mut next) = PackedRows::with_capacity(self.alloc, width, many.min(PART)) else {
-            return Err(Refusal::NoMemory);
-        };
-        for _ in 0..many / PART {
-            self.add_rows(rt, &mut rows, &mut next, PART)?;
+        match self.visit(rt).opening_rows().share(self.alloc) {
+            Ok(rows) => Ok(rows),
+            Err(_) => Err(Refusal::NoMemory),
         }
-        self.add_rows(rt, &mut rows, &mut next, many)?;
-        Ok(rows)
     }
 
-    /// Makes a head that was never asked, of a copy of the opening rows, outside the lock; and gives it the boxes that wait
-    /// for it.
+    /// Makes a head that was never asked, of the opening rows, outside the lock; and gives it the boxes that wait for it.
     fn ready<R: Wait>(&self, rt: &R, head: &mut LatchedHead<J, M>) -> Result<(), Refusal>
         ensures taken { head.new.taken ≡ head.old.taken }
         ensures made { OnOk result (head.new.made ≡ true) }
@@ -479,18 +406,12 @@ where
 /// A session. Contracts see its number, the calls that were answered to it, and the list of updates that it has the
 /// receipt of, beside the one that its share shows as published.
 #[derive(Drop)]
-pub struct Session<'e, J: Naming, M: CrackerMap>
-where
-    Live<J>: Absorb<Op<J>, State = [Update; 0]>,
-{
+pub struct Session<'e, J: Naming, M: CrackerMap> {
     engine: &'e Engine<J, M>,
     ticket: Ticket<J>,
 }
 
-impl<'e, J: Naming, M: CrackerMap> Model for Session<'e, J, M>
-where
-    Live<J>: Absorb<Op<J>, State = [Update; 0]>,
-{
+impl<'e, J: Naming, M: CrackerMap> Model for Session<'e, J, M> {
     ghost use Rattle.sw_engine.specs.Published.{Shown};
 
     ghost Value = { Shown };
@@ -498,10 +419,7 @@ where
     ghost view = { λ s. s.ticket };
 }
 
-impl<'e, J: Naming, M: CrackerMap> Session<'e, J, M>
-where
-    Live<J>: Absorb<Op<J>, State = [Update; 0]>,
-{
+impl<'e, J: Naming, M: CrackerMap> Session<'e, J, M> {
     /// What a query is answered.
     ///
     /// Refused `NoMemory`, or `HistoryFull`; then no row has changed, and the call stands in the history at most as void.
@@ -591,7 +509,7 @@ where
         ensures refused { IfErr result (λ e. RefusesCall e) }
         ensures full { IfErr result (TellsFull self.new.2.entries) }
     {
-        let mut asked = Conds::new(self.engine.alloc);
+        let mut asked = Conds::new(self.engine.alloc());
         if add_all(&mut asked, conds).is_err() {
             return Err(Refusal::NoMemory);
         }

@@ -1,34 +1,34 @@
 //! What lies under the lock: the desk, and the shelf of what viewers read.
 
-ghost use Rattle.std.specs.Prelude.{◌≡◌, ◌⊎◌, ◌<◌, ◌≤◌, ◌+◌, false, None, is_some, length, All, IfErr, IfOk, IsSome, IsSomeAnd, MatchBool, OnErr, OnOk, true};
+ghost use Rattle.std.specs.Prelude.{◌≡◌, ◌<◌, ◌≤◌, false, None, is_some, length, All, IfErr, IfOk, IsSome, IsSomeAnd, MatchBool, OnErr, OnOk};
 ghost use mathlib.Core.List.{IsPrefix};
 ghost use Rattle.sw_query.specs.declared.query.Call.TheVariants.{Select};
-ghost use Rattle.sw_rows.specs.declared.table.TheConstants.{MOST_ROWS};
-ghost use Rattle.sw_spine.specs.Table.{is_numbered, reply_to};
+ghost use Rattle.sw_spine.specs.Table.{reply_to};
 ghost use Rattle.sw_spine.specs.History.{CallsBelow, is_select};
-ghost use Rattle.sw_spine.specs.Books.{new_books, with_published, with_session, with_settled};
+ghost use Rattle.sw_spine.specs.Books.{new_books, with_session, with_settled};
 ghost use Rattle.sw_spine.specs.declared.history.State.TheVariants.{Answered, Void};
-ghost use Rattle.sw_versions.specs.Pending.{HasShownOr, IsPlain, TellsCame};
+ghost use Rattle.sw_versions.specs.Pending.{HasShownOr, TellsCame};
 ghost use Rattle.sw_versions.specs.Lists.{IsLonger};
 ghost use Rattle.sw_versions.specs.Refused.{IsAhead, RefusesViewer};
 ghost use Rattle.sw_versions.specs.Rules.{updates_in};
 ghost use Rattle.sw_versions.specs.declared.came.Came.TheVariants.{Missed};
 ghost use Rattle.sw_versions.specs.declared.viewer.TheConstants.{MOST_VIEWERS};
 ghost use Rattle.sw_engine.specs.Own.{IsLastOwn, IsNew};
-ghost use Rattle.sw_engine.specs.Sessions.{Answers, Begins, Refuses, Sees, Settles, Stays};
+ghost use Rattle.sw_engine.specs.Sessions.{Answers, Begins, IsRefused, Sees, Settles, Stays};
 ghost use Rattle.sw_engine.specs.Desk.{AreOut, InOrder, IsBegun, IsMade, RefusesMany, RefusesNext};
-ghost use Rattle.sw_engine.specs.Published.{EndWithEntries, later, new_viewer, no_versions, TellsAll, with_committed, with_viewer};
+ghost use Rattle.sw_engine.specs.Locked.{IsCommitted, IsPublished};
+ghost use Rattle.sw_engine.specs.Published.{EndWithEntries, later, new_viewer, no_versions, TellsAll, with_viewer};
 
 use crate::desk::Desk;
 use crate::latch::LatchedHead;
+use crate::opening::Opening;
 use crate::ticket::{SessionState, Ticket};
-use left_right::Absorb;
 use std::alloc::Global;
 use std::marker::Model;
 use std::sync::Wait;
 use sw_map::CrackerMap;
 use sw_rows::{Call, PackedRows, Query, Refusal, Reply, Update};
-use sw_versions::{Book, Came, Front, Live, Naming, Op, Opened, Shelf, Viewer};
+use sw_versions::{Book, Came, Front, Naming, Opened, Shelf, Viewer};
 
 /// A publishing that there was no memory for. Only a visit that came to one makes it.
 #[derive(Drop)]
@@ -74,19 +74,13 @@ fn has_all<J: Naming>(receipt: &Front<J>, updates: &[Update]) -> bool
 /// The desk, and the shelf of what viewers read, with the book of its updates. Until there is a viewer the shelf has no
 /// copies of the rows.
 #[derive(Drop)]
-pub struct LockedDesk<J: Naming>
-where
-    Live<J>: Absorb<Op<J>, State = [Update; 0]>,
-{
+pub struct LockedDesk<J: Naming> {
     desk: Desk<J>,
     shelf: Shelf<J>,
     book: Book<J>,
 }
 
-impl<J: Naming> Model for LockedDesk<J>
-where
-    Live<J>: Absorb<Op<J>, State = [Update; 0]>,
-{
+impl<J: Naming> Model for LockedDesk<J> {
     ghost use Rattle.sw_table.specs.Live.{RisesFrom};
     ghost use Rattle.sw_engine.specs.Locked.{LockState};
     ghost use Rattle.sw_engine.specs.Published.{IsShelfOf};
@@ -98,21 +92,17 @@ where
     ghost invariant = { λ l. IsShelfOf J.limit J.opening l.desk.books l.shelf × RisesFrom 0 J.opening };
 }
 
-impl<J: Naming> LockedDesk<J>
-where
-    Live<J>: Absorb<Op<J>, State = [Update; 0]>,
-{
+impl<J: Naming> LockedDesk<J> {
     /// A desk with no entries and no session, and a shelf with nothing published.
-    pub fn new(alloc: Global, desk: Desk<J>, list: Opened) -> LockedDesk<J>
+    pub fn new(alloc: Global, opening: &Opening<J>, desk: Desk<J>, list: Opened) -> LockedDesk<J>
         requires list { list.seen.book ≡ J.book }
         requires begun { desk.books ≡ new_books J.columns J.opening J.limit }
-        requires numbered { is_numbered 1 J.opening ≡ true }
-        requires most { length J.opening ≤ MOST_ROWS }
-        requires plain { IsPlain ⟦<Live<J> as Absorb<Op<J>>>⟧.state ⟦<Live<J> as Absorb<Op<J>>>⟧.applied }
         ensures { result ≡ record { desk = desk; shelf = no_versions } }
     {
-        let opening = desk.opening_rows().len() as u64;
-        let (book, front) = list.named::<J>(opening);
+        // for the prover: the table is sound
+        let _heads = opening.heads();
+        let rows = desk.opening_rows().len() as u64;
+        let (book, front) = list.named::<J>(rows);
         LockedDesk {
             desk,
             shelf: Shelf::new(alloc, front),
@@ -190,8 +180,7 @@ where
         ensures kept { OnErr result (self.new.desk.books ≡ self.old.desk.books) }
         ensures shelf { self.new.shelf ≡ self.old.shelf }
         ensures same { head.new ≡ record head.old { taken = head.new.taken } }
-        ensures refused { IfErr result (λ e.
-            Stays session.old.shown session.new.shown × Refuses session.new.shown.2.entries e) }
+        ensures refused { IfErr result (IsRefused session.old.shown session.new.shown) }
     {
         match self.desk.begin(session, head, query) {
             Ok(()) => Ok(()),
@@ -231,8 +220,7 @@ where
         ensures receipt { result.receipt ≡ self.new.shelf.published }
         ensures told { updates_in result.receipt ≡ ticket.new.2.published }
         ensures all { TellsAll J.limit J.opening ticket.new.2.entries result.receipt result.whole }
-        ensures books { self.new.desk.books
-            ≡ with_published (length J.opening + length (updates_in self.new.shelf.published)) self.old.desk.books }
+        ensures books { IsPublished J.opening self.old self.new }
         ensures came { TellsCame result.came (later J.opening self.new.desk.books) self.old.shelf self.new.shelf }
         ensures missed { MatchBool (is_some result.miss) (result.came ≡ Missed) (result.came ≡ Missed → ⊥) }
         ensures published { HasShownOr (later J.opening self.new.desk.books) self.old.shelf self.new.shelf }
@@ -279,15 +267,14 @@ where
         ensures answers { IfOk result (λ r. Answers call r.0 ticket.old ticket.new) }
         ensures receipt { IfOk result (λ r. r.1 ≡ self.new.shelf.published) }
         ensures told { IfOk result (λ r. updates_in r.1 ≡ ticket.new.2.published) }
-        ensures committed { OnOk result (self.new.desk.books
-            ≡ with_committed J.opening ticket.old.0 call self.new.shelf self.old.desk.books) }
+        ensures committed { OnOk result (IsCommitted J.opening ticket.old.0 call self.old self.new) }
         ensures published { HasShownOr (later J.opening self.new.desk.books) self.old.shelf self.new.shelf }
         ensures entries { OnOk result
             (EndWithEntries J.limit J.opening self.new.desk.books.entries self.new.shelf.published) }
         ensures longer { IsPrefix self.old.shelf.published self.new.shelf.published }
         ensures viewers { self.new.shelf.viewers ≡ self.old.shelf.viewers }
         ensures kept { OnErr result ((self.new.desk.books ≡ self.old.desk.books) × (self.new.shelf ≡ self.old.shelf)) }
-        ensures refused { IfErr result (λ e. Stays ticket.old ticket.new × Refuses ticket.new.2.entries e) }
+        ensures refused { IfErr result (IsRefused ticket.old ticket.new) }
     {
         match self.desk.commit(&mut ticket.state, call) {
             Ok(reply) => {
@@ -315,8 +302,7 @@ where
     ) -> Result<Front<J>, Refusal>
         ensures stays { Stays ticket.old ticket.new }
         ensures told { IfOk result (λ r. updates_in r ≡ ticket.new.2.published) }
-        ensures books { self.new.desk.books
-            ≡ with_published (length J.opening + length (updates_in self.new.shelf.published)) self.old.desk.books }
+        ensures books { IsPublished J.opening self.old self.new }
         ensures published { HasShownOr (later J.opening self.new.desk.books) self.old.shelf self.new.shelf }
         ensures entries { EndWithEntries J.limit J.opening self.new.desk.books.entries self.new.shelf.published }
         ensures longer { IsPrefix self.old.shelf.published self.new.shelf.published }

@@ -7,7 +7,6 @@ ghost use Rattle.sw_query.specs.declared.refusal.Refusal.TheVariants.{NoMemory};
 ghost use Rattle.sw_rows.specs.declared.table.TheConstants.{MOST_ROWS};
 ghost use Rattle.sw_spine.specs.History.{IsLegal};
 ghost use Rattle.sw_spine.specs.Table.{is_numbered};
-ghost use Rattle.sw_versions.specs.Pending.{IsPlain};
 ghost use Rattle.sw_engine.specs.Headline.{IsHistoryOfOneThread};
 ghost use Rattle.sw_cli.specs.Sides.{source_by};
 ghost use Rattle.sw_cli.specs.Starts.{IsStart, start_seen};
@@ -17,7 +16,6 @@ use crate::console::Console;
 use crate::host::Host;
 use crate::seat::Seat;
 use crate::turns::talk;
-use left_right::Absorb;
 use std::alloc::Global;
 use std::io::BufRead;
 use std::marker::Brand;
@@ -27,9 +25,8 @@ use sw_cli::{Inputs, Options, read_start, stand_ins, with_columns};
 use sw_engine::{Blank, Engine, Naming, Ticket, deal};
 use sw_lang::Cuts;
 use sw_map::CrackerMap;
-use sw_rows::{Counted, PackedRows, Refusal, Schema, Sink, Source, Update};
+use sw_rows::{Counted, PackedRows, Refusal, Schema, Sink, Source};
 use sw_spine::Record;
-use sw_versions::{Live, Op};
 
 /// What a shell leaves: the record, and why it ended, if that was a failure of its reader, its sink or its host.
 #[derive(Drop)]
@@ -102,11 +99,8 @@ fn opened_engine<J: Naming, M: CrackerMap, R: Wait>(
     books: Blank,
     ground: Ground<M>,
 ) -> Result<(Engine<J, M>, Ticket<J>, Schema), Refusal>
-where
-    Live<J>: Absorb<Op<J>, State = [Update; 0]>,
     requires books { (books.sessions.name ≡ J.sessions) × (books.heads.name ≡ J.heads) × (books.most ≡ J.most) }
     requires list { books.list.seen.book ≡ J.book }
-    requires plain { IsPlain ⟦<Live<J> as Absorb<Op<J>>>⟧.state ⟦<Live<J> as Absorb<Op<J>>>⟧.applied }
     requires table { (ground.columns ≡ J.columns) × (ground.rows.items ≡ J.opening) × (ground.room.limit ≡ J.limit) }
     requires blank { All (λ m. M.held m ≡ blank) ground.room.maps.items }
     ensures ticket { IfOk result (λ r. (r.1.0 ≡ 1) × (r.1.1 ≡ [])) }
@@ -144,8 +138,6 @@ fn closed<J: Naming, M: CrackerMap, R: Wait>(
     ticket: Ticket<J>,
     schema: Schema,
 ) -> Result<Record, Refusal>
-where
-    Live<J>: Absorb<Op<J>, State = [Update; 0]>,
     requires none { tickets.items ≡ [] }
     requires room { 1 ≤ vec_capacity tickets }
     requires wide { length schema ≡ length J.columns }
@@ -174,10 +166,8 @@ where
     B: BufRead + Drop,
     W: Sink + Drop,
     H: Host + Drop,
-    Live<J>: Absorb<Op<J>, State = [Update; 0]>,
     requires books { (books.sessions.name ≡ J.sessions) × (books.heads.name ≡ J.heads) × (books.most ≡ J.most) }
     requires list { books.list.seen.book ≡ J.book }
-    requires plain { IsPlain ⟦<Live<J> as Absorb<Op<J>>>⟧.state ⟦<Live<J> as Absorb<Op<J>>>⟧.applied }
     requires table { (ground.columns ≡ J.columns) × (ground.rows.items ≡ J.opening) × (ground.room.limit ≡ J.limit) }
     requires blank { All (λ m. M.held m ≡ blank) ground.room.maps.items }
     ensures left { IfOk result (IsLeftBy ground.schema J.opening J.limit console.old console.new) }

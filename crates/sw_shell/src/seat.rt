@@ -11,7 +11,6 @@ ghost use Rattle.sw_shell.specs.Talks.{IsTold};
 
 use crate::host::{Host, Line};
 use crate::telling::write_at_once;
-use left_right::Absorb;
 use std::alloc::{AllocError, Global};
 use std::marker::Model;
 use std::sync::Wait;
@@ -19,16 +18,12 @@ use std::thread::Threads;
 use sw_cli::{HeadStats, call_of_line};
 use sw_engine::{Engine, Naming, Session, Ticket, Viewer};
 use sw_map::CrackerMap;
-use sw_rows::{Call, Conds, Names, Query, Refusal, Reply, Schema, Sink, Update, Want};
-use sw_versions::{Live, Op};
+use sw_rows::{Call, Conds, Names, Query, Refusal, Reply, Schema, Sink, Want};
 
 /// The session of a shell, the attributes with the texts that are known by now, and who looks at the live rows, once that was
 /// asked. Contracts see the attributes and the calls that were answered.
 #[derive(Drop)]
-pub(crate) struct Seat<'e, J: Naming, M: CrackerMap>
-where
-    Live<J>: Absorb<Op<J>, State = [Update; 0]>,
-{
+pub(crate) struct Seat<'e, J: Naming, M: CrackerMap> {
     alloc: Global,
     engine: &'e Engine<J, M>,
     session: Session<'e, J, M>,
@@ -36,10 +31,7 @@ where
     schema: Schema,
 }
 
-impl<'e, J: Naming, M: CrackerMap> Model for Seat<'e, J, M>
-where
-    Live<J>: Absorb<Op<J>, State = [Update; 0]>,
-{
+impl<'e, J: Naming, M: CrackerMap> Model for Seat<'e, J, M> {
     ghost use Rattle.std.specs.Prelude.{◌≡◌, ℕ, List, length};
     ghost use Rattle.sw_rows.specs.Header.{Column};
     ghost use Rattle.sw_query.specs.declared.query.Call.{Call};
@@ -67,10 +59,7 @@ fn all_of(alloc: Global, columns: usize) -> Result<Query, AllocError>
     })
 }
 
-impl<'e, J: Naming, M: CrackerMap> Seat<'e, J, M>
-where
-    Live<J>: Absorb<Op<J>, State = [Update; 0]>,
-{
+impl<'e, J: Naming, M: CrackerMap> Seat<'e, J, M> {
     /// A seat at an engine by a ticket of it.
     pub(crate) fn new(
         alloc: Global,

@@ -9,15 +9,13 @@ use crate::console::Console;
 use crate::host::{Errand, Host, Line};
 use crate::lines::{read_line, without_end};
 use crate::seat::Seat;
-use left_right::Absorb;
 use std::alloc::Global;
 use std::io::BufRead;
 use std::sync::Wait;
 use std::thread::Threads;
 use sw_engine::Naming;
 use sw_map::CrackerMap;
-use sw_rows::{Refusal, Sink, Update};
-use sw_versions::{Live, Op};
+use sw_rows::{Refusal, Sink};
 
 /// The greatest number of a line.
 const MOST_LINES: u32 = u32::MAX;
@@ -30,8 +28,6 @@ fn write_rows<J: Naming, M: CrackerMap, H: Host, R: Wait>(
     file: &str,
     host: &mut H,
 ) -> Result<(), Refusal>
-where
-    Live<J>: Absorb<Op<J>, State = [Update; 0]>,
     ensures { seat.new ≡ seat.old }
 {
     match seat.rows(rt) {
@@ -50,10 +46,7 @@ fn tell_stats<J: Naming, M: CrackerMap, H: Host, R: Wait>(
     seat: &Seat<'_, J, M>,
     line: Line<'_>,
     host: &mut H,
-) -> Result<(), Refusal>
-where
-    Live<J>: Absorb<Op<J>, State = [Update; 0]>,
-{
+) -> Result<(), Refusal> {
     match seat.stats(rt) {
         Ok(stats) => host.obeys(seat.schema(), line, Errand::Stats(stats.as_slice())),
         Err(_) => host.obeys(seat.schema(), line, Errand::Refused(&Refusal::NoMemory)),
@@ -67,8 +60,6 @@ fn obey<J: Naming, M: CrackerMap, H: Host, R: Wait>(
     line: Line<'_>,
     host: &mut H,
 ) -> Result<bool, Refusal>
-where
-    Live<J>: Absorb<Op<J>, State = [Update; 0]>,
     ensures same { seat.new ≡ seat.old }
     ensures quits { IfOk result (λ more. more ≡ not (is_quit line.entry.bytes.now)) }
     ensures stays { OnErr result (is_quit line.entry.bytes.now ≡ false) }
@@ -98,8 +89,6 @@ fn hear<J: Naming, M: CrackerMap, H: Host, R: Threads + Wait + Sync, W: Sink>(
     out: &mut W,
     host: &mut H,
 ) -> Result<(), Refusal>
-where
-    Live<J>: Absorb<Op<J>, State = [Update; 0]>,
     ensures number { seat.new.0 ≡ seat.old.0 }
     ensures heard { Heard result line.entry (said_at seat.old (W.taken out.old)) (said_at seat.new (W.taken out.new)) }
 {
@@ -119,8 +108,6 @@ fn enter<J: Naming, M: CrackerMap, H: Host, R: Threads + Wait + Sync, W: Sink>(
     out: &mut W,
     host: &mut H,
 ) -> Result<bool, Refusal>
-where
-    Live<J>: Absorb<Op<J>, State = [Update; 0]>,
     ensures number { seat.new.0 ≡ seat.old.0 }
     ensures taken { Taken result line.entry (said_at seat.old (W.taken out.old)) (said_at seat.new (W.taken out.new)) }
 {
@@ -149,7 +136,6 @@ where
     B: BufRead + Drop,
     W: Sink + Drop,
     H: Host + Drop,
-    Live<J>: Absorb<Op<J>, State = [Update; 0]>,
     ensures number { seat.new.0 ≡ seat.old.0 }
     ensures turned { Turned result (seen_at seat.old console.old) (seen_at seat.new console.new) }
 {
@@ -182,7 +168,6 @@ where
     B: BufRead + Drop,
     W: Sink + Drop,
     H: Host + Drop,
-    Live<J>: Absorb<Op<J>, State = [Update; 0]>,
     ensures number { seat.new.0 ≡ seat.old.0 }
     ensures talked { Talked result (seen_at seat.old console.old) (seen_at seat.new console.new) }
 {

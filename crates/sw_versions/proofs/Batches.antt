@@ -1,16 +1,14 @@
 -- Lists of batches, and their updates.
-use Rattle.std.proofs.Common.{◌≡◌, ◌∙◌, ◌⊎◌, ⊎_elim, ℕ, ◌+◌, ◌<◌, ◌≤◌, zero, suc, Bool, true, false, List, [], ◌∷◌, ◌++◌, length, take, drop, get_or, Some, refl, ap, sym, subst, arith, inl, inr, length-append}
-use Rattle.std.specs.Prelude.{IsTrue, MatchBool, leb, slice_get}
+use Rattle.std.proofs.Common.{◌≡◌, ◌∙◌, ◌⊎◌, ⊎_elim, ℕ, ◌<◌, ◌≤◌, zero, suc, Bool, true, false, List, [], ◌∷◌, ◌++◌, length, drop, get_or, Some, refl, ap, sym, subst, arith, inl, inr, length-append}
+use Rattle.std.specs.Prelude.{MatchBool, leb, slice_get}
 use Rattle.std.proofs.lemmas.Bool.{leb-true, leb-false}
-use Rattle.std.proofs.lemmas.List.{append-nil, length-take-le}
+use Rattle.std.proofs.lemmas.List.{append-nil}
 use Rattle.std.proofs.lemmas.List.Concat.{flat_map-append}
-use Rattle.std.proofs.Math.Seq.{take-length}
 use mathlib.Core.List.{IsPrefix}
 use Rattle.sw_table.specs.declared.row.Update.{Update}
-use Rattle.sw_versions.specs.Lists.{BeginsOr}
 use Rattle.sw_versions.specs.Pending.{HasBookedOr}
 use Rattle.sw_versions.specs.Rules.{AreFilled, updates_in}
-use Rattle.sw_versions.proofs.Prefixes.{prefix_length, prefix_rest, prefix_self, prefix_taken}
+use Rattle.sw_versions.proofs.Prefixes.{prefix_rest, prefix_self}
 
 -- where there are batches more, there are their updates more
 pub all_begins : (xs ys : List (List Update)) → IsPrefix xs ys → IsPrefix (updates_in xs) (updates_in ys)
@@ -54,44 +52,17 @@ same_many (x ∷ xs) (y ∷ ys) p filled le =
     let fewer : length (updates_in ys) ≤ length (updates_in xs) = omega (arith, le, same, length-append x (updates_in xs), length-append y (updates_in ys)) in
     let rest = same_many xs ys (p.0, cc (p.1)) filled.1 fewer in cc (heads, rest)
 
-pub begins_true : (b : Bool) (one other : List (List Update)) → BeginsOr b one other → IsTrue b → IsPrefix one other
-begins_true true one other p t = p
-begins_true false one other p t = absurd (cc t)
-
--- ---- copies
-
-pub all_taken : (us : List Update) → take (length us) us ≡ us
-all_taken us = take-length us
-
--- what was made, then the update at the next place
-pub next_made : (n : ℕ) (us ys : List Update) (u : Update) → n ≤ length us → IsPrefix us ys → slice_get ys n ≡ Some u → IsPrefix (take n us ++ u ∷ []) ys
-next_made zero us [] u le p at = absurd cc
-next_made zero us (y ∷ ys) u le p at = let is : y ≡ u = cc at in (ys, cc is)
-next_made (suc n) [] ys u le p at = absurd (omega (arith, le))
-next_made (suc n) (x ∷ us) [] u le p at = absurd (cc (p.1))
-next_made (suc n) (x ∷ us) (y ∷ ys) u le p at =
-    let heads : x ≡ y = cc (p.1) in
-    let rest = next_made n us ys u (omega (arith, le)) (p.0, cc (p.1)) at in
-    (rest.0, cc (heads, rest.1))
-
--- one update more was made
-pub made_more : (n : ℕ) (us ys : List Update) (u : Update) → n ≤ length us → IsPrefix (take n us ++ u ∷ []) ys → (take (n + 1) ys ≡ take n us ++ u ∷ []) × (n + 1 ≤ length ys)
-made_more n us ys u le p =
-    let many : length (take n us ++ u ∷ []) ≡ n + 1 = omega (arith, length-append (take n us) (u ∷ []), length-take-le n us le) in
-    let long = prefix_length (take n us ++ u ∷ []) ys p in
-    (ap (λ k. take k ys) (sym many) ∙ prefix_taken (take n us ++ u ∷ []) ys p, omega (arith, many, long))
-
 -- ---- what is handed to the writer
 
 -- what comes next in the book is what comes next of all updates
-pub next_at : (us all : List Update) (n : ℕ) (d : Update) → IsPrefix us all → n < length us → slice_get us n ≡ Some (get_or all n d)
+next_at : (us all : List Update) (n : ℕ) (d : Update) → IsPrefix us all → n < length us → slice_get us n ≡ Some (get_or all n d)
 next_at [] all n d p less = absurd (omega (arith, less))
 next_at (x ∷ us) [] n d p less = absurd (cc (p.1))
 next_at (x ∷ us) (y ∷ all) zero d p less = cc (p.1)
 next_at (x ∷ us) (y ∷ all) (suc n) d p less = next_at us all n d (p.0, cc (p.1)) (omega (arith, less))
 
 -- a beginning with what comes next
-pub next_begins : (xs us : List Update) (u : Update) → IsPrefix xs us → slice_get us (length xs) ≡ Some u → IsPrefix (xs ++ u ∷ []) us
+next_begins : (xs us : List Update) (u : Update) → IsPrefix xs us → slice_get us (length xs) ≡ Some u → IsPrefix (xs ++ u ∷ []) us
 next_begins [] [] u p at = absurd cc
 next_begins [] (y ∷ us) u p at = let is : y ≡ u = cc at in (us, cc is)
 next_begins (x ∷ xs) [] u p at = absurd (cc (p.1))
@@ -99,8 +70,11 @@ next_begins (x ∷ xs) (y ∷ us) u p at =
     let heads : x ≡ y = cc (p.1) in
     let rest = next_begins xs us u (p.0, cc (p.1)) at in (rest.0, cc (heads, rest.1))
 
-pub handed_begins : (xs us all : List Update) (n : ℕ) (d : Update) → IsPrefix us all → IsPrefix xs us → n ≡ length xs → n < length us → IsPrefix (xs ++ get_or all n d ∷ []) us
-handed_begins xs us all n d p q is less = next_begins xs us (get_or all n d) q (ap (λ k. slice_get us k) (sym is) ∙ next_at us all n d p less)
+pub handed_begins : (b : Bool) (xs ys us all : List Update) (n : ℕ) (d : Update) → IsPrefix us all → IsPrefix xs us → n ≡ length xs → n < length us
+    → MatchBool b (ys ≡ xs ++ get_or all n d ∷ []) (ys ≡ xs) → IsPrefix ys us
+handed_begins true xs ys us all n d p q is less more =
+    subst (λ (zs : List Update). IsPrefix zs us) (sym more) (next_begins xs us (get_or all n d) q (ap (λ k. slice_get us k) (sym is) ∙ next_at us all n d p less))
+handed_begins false xs ys us all n d p q is less same = subst (λ (zs : List Update). IsPrefix zs us) (sym same) q
 
 -- ---- what is booked
 

@@ -1,5 +1,5 @@
--- What contracts see of a viewer, of an operation, and of what lies under the lock.
-use Rattle.std.specs.Prelude.{List, [], Option, None, ℕ}
+-- What contracts see of a viewer, of the writer, and of what lies under the lock.
+use Rattle.std.specs.Prelude.{List, [], ℕ}
 use Rattle.sw_table.specs.declared.row.Update.{Update}
 
 -- the list of batches that a viewer saw last, the one that it was told of, and how often it could not come to the copies
@@ -12,24 +12,17 @@ pub record Known : Type 0 where
 abbrev pub opened_over : List (List Update) → Known
 opened_over list = record { seen = list; told = list; failed = 0 }
 
--- an update, its place among those of a list of batches, and the list
-pub record Placed : Type 0 where
-  pub update : Update
-  pub place : ℕ
-  pub list : List (List Update)
-
--- what the writer has: the batches that readers take, the operations that they do not see yet, one that waits for memory,
--- how many viewers were ever opened, and how often a publishing failed for want of memory
+-- what the writer has: the batches that readers take, the updates that they do not see yet, how many viewers were ever opened,
+-- and how often a publishing failed for want of memory
 pub record Written : Type 0 where
   pub published : List (List Update)
-  pub pending : List Placed
-  pub waiting : Option Placed
+  pub pending : List Update
   pub viewers : ℕ
   pub failed : ℕ
 
 -- a writer that published these batches and has no more, with no viewer
 abbrev pub wrote : List (List Update) → Written
-wrote front = record { published = front; pending = []; waiting = None; viewers = 0; failed = 0 }
+wrote front = record { published = front; pending = []; viewers = 0; failed = 0 }
 
 -- what a shelf shows: the batches that stand in the book, those that are published, how many viewers were ever opened, and
 -- how often updates were left unpublished though no viewer stood in the way

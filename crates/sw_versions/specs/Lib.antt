@@ -2,4 +2,5 @@ pub mod Lists
 pub mod Rules
 pub mod Known
 pub mod Pending
+pub mod Copied
 pub mod Refused

@@ -1,10 +1,16 @@
 -- Lists of batches of updates as they grow, and the rows that they leave.
 use Rattle.std.specs.Prelude.{◌≡◌, ◌⊎◌, ◌<◌, Bool, List, MatchBool, fold, length}
 use mathlib.Core.List.{IsPrefix}
+use Rattle.logbook.specs.Pages.{Book}
 use Rattle.sw_table.specs.Updates.{rows_then}
 use Rattle.sw_table.specs.declared.row.Row.{Row}
 use Rattle.sw_table.specs.declared.row.Update.{Update}
 use Rattle.sw_versions.specs.Rules.{updates_in}
+
+-- a beginning of a list, and the book that has the list
+pub record Listed : Type 0 where
+  pub book : Book
+  pub batches : List (List Update)
 
 -- the rows that updates leave of the opening rows
 abbrev pub rows_after : List Row → List Update → List Row

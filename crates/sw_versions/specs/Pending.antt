@@ -1,37 +1,16 @@
 -- How the book's updates, those that are published, and those of the writer hang together.
-use Rattle.std.specs.Prelude.{◌≡◌, ◌⊎◌, ◌<◌, ◌+◌, ◌-◌, ◌^◌, List, [], ◌∷◌, ◌++◌, drop, fold, length, map, min, is_some, true, MatchResult, Option, Result, Some, None, ℕ}
+use Rattle.std.specs.Prelude.{◌≡◌, ◌⊎◌, ◌<◌, ◌+◌, ◌-◌, ◌^◌, List, [], ◌∷◌, ◌++◌, drop, length, min, Option, Some, None, ℕ}
 use mathlib.Core.List.{IsPrefix}
 use Rattle.sw_rows.specs.Gives.{Raised}
 use Rattle.sw_table.specs.declared.row.Update.{Update}
-use Rattle.sw_versions.specs.Known.{Placed, Shelved, Written}
+use Rattle.sw_versions.specs.Known.{Shelved, Written}
 use Rattle.sw_versions.specs.Rules.{updates_in}
 use Rattle.sw_versions.specs.declared.came.Came.{Came}
 use Rattle.sw_versions.specs.declared.came.Came.TheVariants as came
 
--- the updates of operations
-abbrev pub updates_of : List Placed → List Update
-updates_of ops = map (λ (o : Placed). o.update) ops
-
-abbrev pub waiting_updates : Option Placed → List Update
-waiting_updates None = []
-waiting_updates (Some o) = o.update ∷ []
-
 -- all updates that the writer has
 abbrev pub all_of : Written → List Update
-all_of w = (updates_in w.published ++ updates_of w.pending) ++ waiting_updates w.waiting
-
--- what a copy of the rows is to `left_right`: its list, which each operation makes longer by its update
-pub record IsPlain (state : List Update → List Update) (applied : List Update → Placed → List Update) : Type 0 where
-  pub same : (l : List Update) → state l ≡ l
-  pub appends : (l : List Update) (o : Placed) → applied l o ≡ l ++ o.update ∷ []
-
--- readers see all that was pending, or what they saw
-abbrev pub HasPublishedOr : {A E : Type 0} → (List Update → List Update) → (List Update → Placed → List Update)
-    → List Update → List Placed → List Update → List Placed → Result A E → Type 0
-HasPublishedOr state applied shown pending shown' pending' told =
-    MatchResult told
-    (λ _. (state shown' ≡ fold applied (state shown) pending) × (pending' ≡ []))
-    (λ _. (shown' ≡ shown) × (pending' ≡ pending))
+all_of w = updates_in w.published ++ w.pending
 
 -- without copies what is published is a number, that of all updates of the book
 abbrev pub shelved : List (List Update) → Option Written → ℕ → Shelved
@@ -54,13 +33,13 @@ HasShownOr updates old new =
 
 -- the writer lacks updates: there was no memory for one of them, or the book lacks some
 abbrev pub IsWanting : List Update → Written → Type 0
-IsWanting updates w = (is_some w.waiting ≡ true) ⊎ (length (all_of w) < length updates)
+IsWanting updates w = length (all_of w) < length updates
 
 -- What came of a publishing by the writer. Put off, it has all updates, and nothing changed; missed, it lacks some, or counts that
 -- there was no memory to publish them.
 abbrev pub CameOf : Came → List (List Update) → List Update → Written → Written → Type 0
 CameOf came.Shown booked updates old new = (new.published ≡ booked) × (updates_in booked ≡ updates)
-CameOf came.PutOff booked updates old new = (updates_in booked ≡ updates) × (old.waiting ≡ None) × (all_of old ≡ updates) × (new ≡ old)
+CameOf came.PutOff booked updates old new = (updates_in booked ≡ updates) × (all_of old ≡ updates) × (new ≡ old)
 CameOf came.Missed booked updates old new = (new.published ≡ old.published) × (IsWanting updates new ⊎ Raised old.failed new.failed)
 
 -- a count goes up by one, and no further than the greatest number of its type

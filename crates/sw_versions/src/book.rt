@@ -183,7 +183,60 @@ impl<J: Naming> Model for Front<J> {
         × IsShort (updates_in f.seen.log) × AreFilled f.seen.log };
 }
 
+/// A beginning of the list of some book, which its type does not name: what a copy that readers take keeps of its list.
+#[derive(Drop)]
+pub(crate) struct Unnamed {
+    count: u64,
+    seen: Seen<[Update; 0], u64, Law>,
+}
+
+impl Model for Unnamed {
+    ghost use Rattle.std.specs.Prelude.{◌≡◌, length};
+    ghost use Rattle.sw_versions.specs.Lists.{Listed};
+    ghost use Rattle.sw_versions.specs.Rules.{AreFilled, IsShort, updates_in};
+
+    ghost Value = { Listed };
+
+    ghost view = { λ u. record { book = u.seen.book; batches = u.seen.log } };
+
+    ghost invariant = { λ u. (u.count ≡ length (updates_in u.seen.log)) × IsShort (updates_in u.seen.log) × AreFilled u.seen.log };
+}
+
+impl Unnamed {
+    /// A copy.
+    pub(crate) fn again(&self) -> Unnamed
+        ensures { result ≡ self.now }
+    {
+        Unnamed {
+            count: self.count,
+            seen: self.seen.again(),
+        }
+    }
+
+    /// The beginning under the name of its book.
+    pub(crate) fn named<J: Naming>(&self) -> Front<J>
+        requires { self.now.book ≡ J.book }
+        ensures { result ≡ self.now.batches }
+    {
+        Front {
+            count: self.count,
+            seen: self.seen.again(),
+            of: PhantomData,
+        }
+    }
+}
+
 impl<J: Naming> Front<J> {
+    /// The same beginning, without the name.
+    pub(crate) fn unnamed(&self) -> Unnamed
+        ensures { result ≡ record { book = J.book; batches = self.now } }
+    {
+        Unnamed {
+            count: self.count,
+            seen: self.seen.again(),
+        }
+    }
+
     /// How many updates it has.
     pub fn len(&self) -> u64
         ensures length { result ≡ length (updates_in self.now) }

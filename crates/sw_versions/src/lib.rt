@@ -6,12 +6,13 @@ mod book;
 mod came;
 mod copies;
 mod live;
+mod op;
+mod pair;
 mod shelf;
 mod viewer;
 mod visits;
 
 pub use book::{Book, Front, Naming, Opened};
 pub use came::Came;
-pub use live::{Live, Op};
 pub use shelf::Shelf;
 pub use viewer::{MOST_VIEWERS, Viewer};

@@ -1,18 +1,19 @@
-//! A copy of the rows that readers take, and what is written to both copies.
+//! A copy of the rows that readers take, and the rule that it is the one of its list.
 
-ghost use Rattle.std.specs.Prelude.{◌≡◌, ◌<◌, ◌++◌, ◌∷◌, [], IfErr, IfOk, IsOk, IsOkUnless, IsTrue, MatchResult, OnErr, OnOk, Some, slice_get};
-ghost use mathlib.Core.List.{IsPrefix};
+ghost use Rattle.std.specs.Prelude.{◌≡◌, IfOk, IsOk, IsOkUnless, MatchResult, OnErr, OnOk};
 ghost use Rattle.sw_query.specs.Scan.{AsksBelow, TakesMemory, answer};
 ghost use Rattle.sw_table.specs.Live.{RisesFrom, live_rows};
 ghost use Rattle.sw_table.specs.Updates.{rows_then};
+ghost use Rattle.sw_versions.specs.Copied.{IsCopy, copy_of, written};
 ghost use Rattle.sw_versions.specs.Lists.{rows_after};
-ghost use Rattle.sw_versions.specs.Refused.{IsBehind};
 ghost use Rattle.sw_versions.specs.Rules.{updates_in};
 
-use crate::book::{Front, Naming};
+use crate::book::{Front, Naming, Unnamed};
+use crate::op::Op;
+use crossbeam_utils::rule::{Outcome, Protocol};
 use left_right::Absorb;
 use std::alloc::{AllocError, Global};
-use std::marker::Model;
+use std::marker::{Model, PhantomData};
 use sw_rows::{Query, Refusal, Reply, scan};
 use sw_table::{LiveTable, PackedRows, Update};
 
@@ -54,136 +55,95 @@ pub(crate) fn table_after(
     Ok(table)
 }
 
-/// An update, its place among those of a list of batches, and the list. Contracts see it as the three.
+/// The rows of a copy that readers take, and the list that they are of. Its type has no name, so that none stands in a bound
+/// of those who hold the copies; `Ruled` says of which book's list it is.
 #[derive(Drop)]
-pub struct Op<J: Naming> {
-    update: Update,
-    place: u64,
-    front: Front<J>,
-}
-
-impl<J: Naming> Model for Op<J> {
-    ghost use Rattle.std.specs.Prelude.{◌≡◌, Some, slice_get};
-    ghost use Rattle.sw_versions.specs.Known.{Placed};
-    ghost use Rattle.sw_versions.specs.Rules.{updates_in};
-
-    ghost Value = { Placed };
-
-    ghost view = { λ o. record { update = o.update; place = o.place; list = o.front } };
-
-    ghost invariant = { λ o. slice_get (updates_in o.front) o.place ≡ Some o.update };
-}
-
-/// The rows that the first so many updates of a list of batches leave of the opening rows. Contracts see it as these updates.
-#[derive(Drop)]
-pub struct Live<J: Naming> {
+pub(crate) struct Live {
     table: LiveTable,
-    made: u64,
-    front: Front<J>,
+    list: Unnamed,
 }
 
-impl<J: Naming> Model for Live<J> {
-    ghost use Rattle.std.specs.Prelude.{◌≡◌, ◌≤◌, List, length, take};
+impl Model for Live {
     ghost use Rattle.sw_table.specs.Live.{live_rows};
-    ghost use Rattle.sw_table.specs.declared.row.Update.{Update};
-    ghost use Rattle.sw_versions.specs.Lists.{rows_after};
-    ghost use Rattle.sw_versions.specs.Rules.{updates_in};
+    ghost use Rattle.sw_versions.specs.Copied.{Copied};
 
-    ghost Value = { List Update };
+    ghost Value = { Copied };
 
-    ghost view = { λ l. take l.made (updates_in l.front) };
-
-    ghost invariant = { λ l. (live_rows l.table ≡ rows_after J.opening (take l.made (updates_in l.front)))
-        × (l.made ≤ length (updates_in l.front)) };
+    ghost view = { λ l. record { rows = live_rows l.table; list = l.list } };
 }
 
-impl<J: Naming> Op<J> {
-    /// The update at a place of a list.
-    pub(crate) fn new(update: Update, place: u64, front: Front<J>) -> Op<J>
-        requires { slice_get (updates_in front) place ≡ Some update }
-        ensures { result ≡ record { update = update; place = place; list = front } }
-    {
-        Op {
-            update,
-            place,
-            front,
-        }
-    }
-}
-
-impl<J: Naming> Live<J> {
+impl Live {
     /// The rows of a list.
-    #[tactic(auto, using(crate::proofs::Batches::all_taken))]
-    pub(crate) fn new(table: LiveTable, front: Front<J>) -> Live<J>
-        requires { live_rows table ≡ rows_after J.opening (updates_in front) }
-        ensures { result ≡ updates_in front }
+    pub(crate) fn new<J: Naming>(table: LiveTable, list: &Front<J>) -> Live
+        requires { live_rows table ≡ rows_after J.opening (updates_in list.now) }
+        ensures { result ≡ copy_of J.book J.opening list.now }
     {
         Live {
             table,
-            made: front.len(),
-            front,
+            list: list.unnamed(),
         }
     }
 
-    /// The list, where all its updates were made: it is not within a batch. Otherwise how many it has, and how many were made.
-    #[tactic(auto, using(crate::proofs::Batches::all_taken))]
-    pub(crate) fn whole(&self) -> Result<&Front<J>, Refusal>
-        ensures whole { IfOk result (λ f. updates_in f.now ≡ self.now) }
-        ensures part { IfErr result IsBehind }
+    /// The list.
+    pub(crate) fn list<J: Naming>(&self) -> Front<J>
+        requires { IsCopy J.book J.opening self.now }
+        ensures { result ≡ self.now.list.batches }
     {
-        if self.made == self.front.len() {
-            Ok(&self.front)
-        } else {
-            Err(Refusal::Ahead {
-                seen: self.front.len(),
-                told: self.made,
-            })
-        }
-    }
-
-    /// Whether an operation is the next after the updates that were made.
-    fn is_next(&self, op: &Op<J>) -> bool
-        ensures { IsTrue result → IsPrefix (self.now ++ op.now.update ∷ []) (updates_in op.now.list) }
-    {
-        op.place == self.made && self.front.begins(&op.front)
+        self.list.named()
     }
 
     /// What a query is answered over the rows.
     pub(crate) fn answer(&self, alloc: Global, query: &Query) -> Result<Reply, Refusal>
         requires { AsksBelow 8 query.now }
-        ensures answered { IfOk result (λ reply. reply ≡ answer (rows_after J.opening self.now) query.now) }
+        ensures answered { IfOk result (λ reply. reply ≡ answer self.now.rows query.now) }
         ensures refused { IsOkUnless result Refusal.NoMemory }
         ensures scalars { (TakesMemory query.now.want → ⊥) → IsOk result }
     {
         scan(alloc, &self.table, query)
     }
 
-    /// Makes the operation's update, if the operation is the next; otherwise, or without memory, nothing changes.
-    #[tactic(auto, using(crate::proofs::Batches::made_more))]
-    fn take_in(&mut self, op: &Op<J>) -> Result<(), AllocError>
-        ensures { MatchResult result (λ _. self.new ≡ self.old ++ op.now.update ∷ []) (λ _. self.new ≡ self.old) }
+    /// An operation is made; without memory nothing changes.
+    fn take_in(&mut self, op: &Op) -> Result<(), AllocError>
+        ensures { MatchResult result (λ _. self.new ≡ written self.old op.now) (λ _. self.new ≡ self.old) }
     {
-        // for the prover: there are few enough updates
-        let _most = self.front.len();
-        if !self.is_next(op) {
-            return Err(AllocError);
+        match op {
+            Op::Make(update) => make(&mut self.table, update),
+            Op::Name(list) => {
+                self.list = list.again();
+                Ok(())
+            }
         }
-        make(&mut self.table, &op.update)?;
-        self.made += 1;
-        self.front = op.front.again();
-        Ok(())
     }
 }
 
-impl<J: Naming> Absorb<Op<J>> for Live<J> {
-    // A clause reads an array as a list, of any length.
-    type State = [Update; 0];
+impl Absorb<Op> for Live {
+    type State = Live;
 
     ghost state = { λ live. live };
 
-    ghost applied = { λ updates op. updates ++ op.update ∷ [] };
+    ghost applied = { written };
 
-    fn absorb_first(&mut self, operation: &Op<J>, _other: &Live<J>) -> Result<(), AllocError> {
+    fn absorb_first(&mut self, operation: &Op, _other: &Live) -> Result<(), AllocError> {
         self.take_in(operation)
     }
+}
+
+/// The rule of the copies: what readers take is the copy of its own list, which is of the book of `J`.
+pub(crate) struct Ruled<J: Naming> {
+    of: PhantomData<J>,
+}
+
+impl<J: Naming> Protocol<Live, ()> for Ruled<J> {
+    ghost holds = { λ live _. IsCopy J.book J.opening live };
+
+    ghost first = { tt };
+}
+
+/// What a step under the rule tells.
+pub(crate) struct Sees<J: Naming> {
+    of: PhantomData<J>,
+}
+
+impl<J: Naming> Outcome<Live, ()> for Sees<J> {
+    ghost then = { λ _ _ after _. IsCopy J.book J.opening after };
 }

@@ -1,11 +1,11 @@
 //! What lies under the lock: how far the book is written, and the copies, once there is a viewer.
 
-ghost use Rattle.std.specs.Prelude.{◌≡◌, ◌⊎◌, ◌<◌, ◌+◌, length, IfErr, IfOk, MatchBool, OnErr, OnOk};
+ghost use Rattle.std.specs.Prelude.{◌≡◌, ◌⊎◌, ◌<◌, ◌+◌, IfErr, IfOk, MatchBool, OnErr, OnOk};
 ghost use mathlib.Core.List.{IsPrefix};
 ghost use Rattle.sw_table.specs.Live.{RisesFrom};
 ghost use Rattle.sw_versions.specs.Known.{opened_over, wrote};
-ghost use Rattle.sw_versions.specs.Lists.{IsLonger, rows_after};
-ghost use Rattle.sw_versions.specs.Pending.{CameOf, HasBookedOr, HasShownOr, IsPlain, TellsCame, all_of};
+ghost use Rattle.sw_versions.specs.Lists.{IsLonger};
+ghost use Rattle.sw_versions.specs.Pending.{CameOf, HasBookedOr, HasShownOr, TellsCame, all_of};
 ghost use Rattle.sw_versions.specs.Refused.{IsAhead, RefusesViewer};
 ghost use Rattle.sw_versions.specs.Rules.{updates_in};
 ghost use Rattle.sw_versions.specs.declared.viewer.TheConstants.{MOST_VIEWERS};
@@ -13,9 +13,8 @@ ghost use Rattle.sw_versions.specs.declared.viewer.TheConstants.{MOST_VIEWERS};
 use crate::book::{Book, Front, Naming};
 use crate::came::Came;
 use crate::copies::Copies;
-use crate::live::{Live, Op, table_after};
+use crate::live::table_after;
 use crate::viewer::{MOST_VIEWERS, Viewer};
-use left_right::Absorb;
 use std::alloc::{AllocError, Global};
 use std::marker::Model;
 use std::sync::Wait;
@@ -26,10 +25,7 @@ use sw_table::{PackedRows, Update};
 /// and what is published is a number.
 ///
 /// It is ended by `close` alone: where it is dropped before, the copies stay where they are.
-pub struct Shelf<J: Naming>
-where
-    Live<J>: Absorb<Op<J>, State = [Update; 0]>,
-{
+pub struct Shelf<J: Naming> {
     alloc: Global,
     booked: Front<J>,
     copies: Option<Copies<J>>,
@@ -37,10 +33,7 @@ where
 }
 
 // By hand: the drop of a derived one is written out at each way out of a function.
-impl<J: Naming> Drop for Shelf<J>
-where
-    Live<J>: Absorb<Op<J>, State = [Update; 0]>,
-{
+impl<J: Naming> Drop for Shelf<J> {
     fn drop(self) {
         let Self {
             alloc: _,
@@ -51,19 +44,15 @@ where
     }
 }
 
-impl<J: Naming> Model for Shelf<J>
-where
-    Live<J>: Absorb<Op<J>, State = [Update; 0]>,
-{
+impl<J: Naming> Model for Shelf<J> {
     ghost use Rattle.sw_versions.specs.Known.{Shelved};
-    ghost use Rattle.sw_versions.specs.Pending.{IsPlain, IsShelved, shelved};
+    ghost use Rattle.sw_versions.specs.Pending.{IsShelved, shelved};
 
     ghost Value = { Shelved };
 
     ghost view = { λ s. shelved s.booked s.copies s.missed };
 
-    ghost invariant = { λ s. IsPlain ⟦<Live<J> as Absorb<Op<J>>>⟧.state ⟦<Live<J> as Absorb<Op<J>>>⟧.applied
-        × IsShelved s.booked s.copies };
+    ghost invariant = { λ s. IsShelved s.booked s.copies };
 }
 
 /// All updates that the book lacks go into it as one batch, by one exchange, which adds them all or none: whether it has all.
@@ -87,31 +76,20 @@ fn book_all<J: Naming>(booked: &mut Front<J>, book: &Book<J>, updates: &[Update]
     false
 }
 
-/// The update that waits, or else the next one of the book, goes to the writer: whether it did.
-#[tactic(auto, using(crate::proofs::Batches::next_at))]
+/// The next update of the book goes to the writer: whether it did.
 fn hand_next<J: Naming>(booked: &Front<J>, copies: &mut Copies<J>, updates: &[Update]) -> bool
-where
-    Live<J>: Absorb<Op<J>, State = [Update; 0]>,
     requires begins { IsPrefix (updates_in booked.now) updates.now }
     requires all { IsPrefix (all_of copies.old) (updates_in booked.now) }
     ensures all { IsPrefix (all_of copies.new) (updates_in booked.now) }
     ensures published { copies.new.published ≡ copies.old.published }
     ensures viewers { copies.new.viewers ≡ copies.old.viewers }
 {
-    if !copies.waits() {
-        let next = copies.len();
-        if next >= booked.len() {
-            return false;
-        }
-        copies.put(updates[next as usize], booked.again());
-    }
-    copies.append()
+    let next = copies.len();
+    next < booked.len() && copies.hand(updates[next as usize])
 }
 
 /// All updates of the book that the writer lacks go to it, as far as there is memory.
 fn hand_all<J: Naming>(booked: &Front<J>, copies: &mut Copies<J>, updates: &[Update])
-where
-    Live<J>: Absorb<Op<J>, State = [Update; 0]>,
     requires begins { IsPrefix (updates_in booked.now) updates.now }
     requires all { IsPrefix (all_of copies.old) (updates_in booked.now) }
     ensures all { IsPrefix (all_of copies.new) (updates_in booked.now) }
@@ -134,8 +112,6 @@ fn publish_all<J: Naming, R: Wait>(
     copies: &mut Copies<J>,
     updates: &[Update],
 ) -> Came
-where
-    Live<J>: Absorb<Op<J>, State = [Update; 0]>,
     requires begins { IsPrefix (updates_in booked.now) updates.now }
     requires all { IsPrefix (all_of copies.old) (updates_in booked.now) }
     requires shown { IsPrefix copies.old.published booked.now }
@@ -148,7 +124,7 @@ where
     ensures came { CameOf result booked.now updates.now copies.old copies.new }
 {
     let many = updates.len() as u64;
-    if copies.waits() || copies.len() < many {
+    if copies.len() < many {
         return Came::Missed;
     }
     if copies.is_read() {
@@ -161,13 +137,9 @@ where
     }
 }
 
-impl<J: Naming> Shelf<J>
-where
-    Live<J>: Absorb<Op<J>, State = [Update; 0]>,
-{
+impl<J: Naming> Shelf<J> {
     /// A shelf with no copies. What is written to the book is published.
     pub fn new(alloc: Global, booked: Front<J>) -> Shelf<J>
-        requires plain { IsPlain ⟦<Live<J> as Absorb<Op<J>>>⟧.state ⟦<Live<J> as Absorb<Op<J>>>⟧.applied }
         ensures { result ≡ record { booked = booked; published = booked; viewers = 0; missed = 0 } }
     {
         Shelf {

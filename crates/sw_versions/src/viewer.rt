@@ -1,19 +1,19 @@
 //! A viewer, which reads without waiting.
 
-ghost use Rattle.std.specs.Prelude.{◌≡◌, ◌<◌, ◌+◌, length, true, false, IfErr, IfOk, IfSome, OnOk};
+ghost use Rattle.std.specs.Prelude.{◌≡◌, ◌<◌, length, true, false, IfErr, IfOk, IfSome, OnOk};
 ghost use mathlib.Core.List.{IsPrefix};
 ghost use Rattle.sw_query.specs.Scan.{AsksBelow, answer};
+ghost use Rattle.sw_versions.specs.Copied.{IsCopy};
 ghost use Rattle.sw_versions.specs.Lists.{IsLonger, rows_after};
 ghost use Rattle.sw_versions.specs.Known.{opened_over};
 ghost use Rattle.sw_versions.specs.Refused.{IsBehind, RefusesAnswer, RefusesLook};
 ghost use Rattle.sw_versions.specs.Rules.{updates_in};
 
 use crate::book::{Front, Naming};
-use crate::live::Live;
+use crate::live::{Live, Sees};
+use crate::pair::Home;
 use crate::visits::Visits;
 use core::mem::replace_with;
-use crossbeam_utils::rule::Unruled;
-use left_right::reader::Reader;
 use std::alloc::Global;
 use std::marker::Model;
 use sw_rows::{Query, Refusal, Reply};
@@ -26,7 +26,7 @@ pub const MOST_VIEWERS: u64 = 16;
 #[derive(Drop)]
 pub struct Viewer<J: Naming> {
     alloc: Global,
-    reader: Reader<Live<J>, (), Unruled>,
+    reader: Home<J>,
     visits: Visits,
     seen: Front<J>,
     told: Front<J>,
@@ -40,8 +40,6 @@ impl<J: Naming> Model for Viewer<J> {
 
     ghost view = { λ v. record { seen = v.seen; told = v.told; failed = v.failed } };
 }
-
-type Home<J> = Reader<Live<J>, (), Unruled>;
 
 type Found<J> = Result<(Reply, Front<J>), Refusal>;
 
@@ -60,26 +58,27 @@ fn hold<J: Naming>(known: &Front<J>, list: &Front<J>) -> Result<(), Refusal>
     })
 }
 
-/// What a query is answered over one copy, with its list, where all updates of that were made, and it begins with all that
-/// was seen and told: by bodies it always is so. Refused `Ahead` otherwise.
+/// What a query is answered over one copy, with its list, where that begins with all that was seen and told: by bodies it always
+/// is so. Refused `Ahead` otherwise.
 #[tactic(auto, using(crate::proofs::Refusals::behind_look))]
 fn look<J: Naming>(
     alloc: Global,
-    live: &Live<J>,
+    live: &Live,
     seen: &Front<J>,
     told: &Front<J>,
     query: &Query,
 ) -> Found<J>
-    requires { AsksBelow 8 query.now }
+    requires asks { AsksBelow 8 query.now }
+    requires copy { IsCopy J.book J.opening live.now }
     ensures answered { IfOk result (λ t. t.0 ≡ answer (rows_after J.opening (updates_in t.1)) query.now) }
     ensures begins { IfOk result (λ t. IsPrefix seen.now t.1 × IsPrefix told.now t.1) }
     ensures refused { IfErr result (RefusesLook query.now.want) }
 {
-    let list = live.whole()?;
-    hold(seen, list)?;
-    hold(told, list)?;
+    let list = live.list();
+    hold(seen, &list)?;
+    hold(told, &list)?;
     let reply = live.answer(alloc, query)?;
-    Ok((reply, list.again()))
+    Ok((reply, list))
 }
 
 /// The same by one enter, and nothing where the reader could not enter. The reader comes back.
@@ -96,7 +95,7 @@ fn read<J: Naming>(
     ensures begins { IfSome result.1 (λ f. IfOk f (λ t. IsPrefix seen.now t.1 × IsPrefix told.now t.1)) }
     ensures refused { IfSome result.1 (λ f. IfErr f (RefusesLook query.now.want)) }
 {
-    match reader.enter_as::<Unruled>() {
+    match reader.enter_as::<Sees<J>>() {
         Ok(reading) => {
             let found = look(alloc, reading.get(), seen, told, query);
             (reading.leave(), Some(found))
@@ -107,12 +106,7 @@ fn read<J: Naming>(
 
 impl<J: Naming> Viewer<J> {
     /// A viewer that has seen and was told of a list.
-    pub(crate) fn new(
-        alloc: Global,
-        reader: Reader<Live<J>, (), Unruled>,
-        visits: Visits,
-        opened: Front<J>,
-    ) -> Viewer<J>
+    pub(crate) fn new(alloc: Global, reader: Home<J>, visits: Visits, opened: Front<J>) -> Viewer<J>
         ensures { result ≡ opened_over opened }
     {
         let seen = opened.again();

@@ -2,20 +2,17 @@
 
 ghost use Rattle.std.specs.Prelude.{◌≡◌, ◌<◌, ◌≤◌, length, IfOk};
 ghost use Rattle.sw_query.specs.Scan.{AsksBelow};
-ghost use Rattle.sw_versions.specs.Pending.{IsPlain};
 
 use crate::boxes::{Refusing, refusing};
 use crate::opening::{Boxes, Table, supply};
 use crate::running::{HEADER, TABLE};
 use crate::told::{held, show};
-use left_right::Absorb;
 use std::alloc::{AllocError, Global};
 use std::marker::Brand;
 use std::sync::Wait;
 use sw_engine::{Blank, Engine, Naming, Session, Ticket, Viewer};
 use sw_map::CrackerMap;
-use sw_rows::{Bound, Cond, Conds, Names, Query, Refusal, Schema, TextKey, Update, Want};
-use sw_versions::{Live, Op};
+use sw_rows::{Bound, Cond, Conds, Names, Query, Refusal, Schema, TextKey, Want};
 
 /// How many viewers there are at most.
 const VIEWERS: usize = 16;
@@ -92,10 +89,7 @@ fn open_all<J: Naming, M: CrackerMap, R: Wait>(
     rt: &R,
     engine: &Engine<J, M>,
     text: &mut String,
-) -> Result<(), AllocError>
-where
-    Live<J>: Absorb<Op<J>, State = [Update; 0]>,
-{
+) -> Result<(), AllocError> {
     for many in 0..2 * VIEWERS {
         if let Err(refusal) = engine.viewer(rt) {
             return write!(text, "{many} more, then {refusal}");
@@ -111,10 +105,7 @@ fn look_around<J: Naming, M: CrackerMap, R: Wait>(
     one: &mut Session<'_, J, M>,
     viewer: &mut Viewer<'_, J>,
     text: &mut String,
-) -> Result<(), Refusal>
-where
-    Live<J>: Absorb<Op<J>, State = [Update; 0]>,
-{
+) -> Result<(), Refusal> {
     look(alloc, text, viewer)?;
     one.insert(rt, [1, 9, 0, 0, 0, 0, 0, 0])?;
     viewer.learn(one.receipt());
@@ -130,10 +121,7 @@ fn look_in_turn<J: Naming, M: CrackerMap, R: Wait>(
     viewer: &mut Viewer<'_, J>,
     later: &mut Viewer<'_, J>,
     text: &mut String,
-) -> Result<(), Refusal>
-where
-    Live<J>: Absorb<Op<J>, State = [Update; 0]>,
-{
+) -> Result<(), Refusal> {
     look(alloc, text, later)?;
     let receipt = two.meet(rt, later)?;
     two.delete(rt, 2)?;
@@ -152,10 +140,7 @@ fn look_later<J: Naming, M: CrackerMap, R: Wait>(
     two: &mut Session<'_, J, M>,
     viewer: &mut Viewer<'_, J>,
     text: &mut String,
-) -> Result<(), Refusal>
-where
-    Live<J>: Absorb<Op<J>, State = [Update; 0]>,
-{
+) -> Result<(), Refusal> {
     let mut later = engine.viewer(rt)?;
     look_in_turn(rt, alloc, two, viewer, &mut later, text)?;
     held(open_all(rt, engine, text))
@@ -169,10 +154,7 @@ fn look_beside<J: Naming, M: CrackerMap, R: Wait>(
     one: &mut Session<'_, J, M>,
     two: &mut Session<'_, J, M>,
     text: &mut String,
-) -> Result<(), Refusal>
-where
-    Live<J>: Absorb<Op<J>, State = [Update; 0]>,
-{
+) -> Result<(), Refusal> {
     let mut viewer = engine.viewer(rt)?;
     look_around(rt, alloc, one, &mut viewer, text)?;
     look_later(rt, alloc, engine, two, &mut viewer, text)
@@ -186,10 +168,7 @@ fn look_on<J: Naming, M: CrackerMap, R: Wait>(
     engine: &Engine<J, M>,
     tickets: &mut Vec<Ticket<J>>,
     text: &mut String,
-) -> Result<(), Refusal>
-where
-    Live<J>: Absorb<Op<J>, State = [Update; 0]>,
-{
+) -> Result<(), Refusal> {
     let mut one = engine.session(rt)?;
     let mut two = engine.session(rt)?;
     look_beside(rt, alloc, engine, &mut one, &mut two, text)?;
@@ -203,10 +182,7 @@ fn look_after<J: Naming, M: CrackerMap, R: Wait>(
     alloc: Global,
     engine: &Engine<J, M>,
     text: &mut String,
-) -> Result<(), Refusal>
-where
-    Live<J>: Absorb<Op<J>, State = [Update; 0]>,
-{
+) -> Result<(), Refusal> {
     let mut viewer = engine.viewer(rt)?;
     look(alloc, text, &mut viewer)?;
     tell_answer(text, &mut viewer, &rows_all(alloc)?)
@@ -219,10 +195,7 @@ fn look_late<J: Naming, M: CrackerMap, R: Wait>(
     engine: &Engine<J, M>,
     tickets: &mut Vec<Ticket<J>>,
     text: &mut String,
-) -> Result<(), Refusal>
-where
-    Live<J>: Absorb<Op<J>, State = [Update; 0]>,
-{
+) -> Result<(), Refusal> {
     let mut one = engine.session(rt)?;
     one.insert(rt, [1, 9, 0, 0, 0, 0, 0, 0])?;
     one.delete(rt, 2)?;
@@ -239,8 +212,6 @@ fn look_around_deletion<J: Naming, M: CrackerMap, R: Wait>(
     viewer: &mut Viewer<'_, J>,
     text: &mut String,
 ) -> Result<(), Refusal>
-where
-    Live<J>: Absorb<Op<J>, State = [Update; 0]>,
     requires { 1 < length J.columns }
 {
     let twelve = Cond {
@@ -263,8 +234,6 @@ fn look_at_deletion<J: Naming, M: CrackerMap, R: Wait>(
     tickets: &mut Vec<Ticket<J>>,
     text: &mut String,
 ) -> Result<(), Refusal>
-where
-    Live<J>: Absorb<Op<J>, State = [Update; 0]>,
     requires { 1 < length J.columns }
 {
     let mut one = engine.session(rt)?;
@@ -278,10 +247,7 @@ fn tell_whole<J: Naming, M: CrackerMap, R: Wait>(
     rt: &R,
     session: &mut Session<'_, J, M>,
     text: &mut String,
-) -> Result<(), Refusal>
-where
-    Live<J>: Absorb<Op<J>, State = [Update; 0]>,
-{
+) -> Result<(), Refusal> {
     let all = session.is_whole(rt);
     held(text.push_str(if all { "all" } else { "not all" }))
 }
@@ -294,10 +260,7 @@ fn publish_beside<J: Naming, M: CrackerMap, R: Wait>(
     two: &mut Session<'_, J, M>,
     viewer: &mut Viewer<'_, J>,
     text: &mut String,
-) -> Result<(), Refusal>
-where
-    Live<J>: Absorb<Op<J>, State = [Update; 0]>,
-{
+) -> Result<(), Refusal> {
     one.insert(rt, [1, 9, 0, 0, 0, 0, 0, 0])?;
     tell_whole(rt, one, text)?;
     held(text.push_str("; "))?;
@@ -315,10 +278,7 @@ fn publish_on<J: Naming, M: CrackerMap, R: Wait>(
     engine: &Engine<J, M>,
     tickets: &mut Vec<Ticket<J>>,
     text: &mut String,
-) -> Result<(), Refusal>
-where
-    Live<J>: Absorb<Op<J>, State = [Update; 0]>,
-{
+) -> Result<(), Refusal> {
     let mut one = engine.session(rt)?;
     let mut two = engine.session(rt)?;
     let mut viewer = engine.viewer(rt)?;
@@ -332,10 +292,7 @@ fn tell_place<J: Naming, M: CrackerMap, R: Wait>(
     rt: &R,
     session: &mut Session<'_, J, M>,
     text: &mut String,
-) -> Result<(), Refusal>
-where
-    Live<J>: Absorb<Op<J>, State = [Update; 0]>,
-{
+) -> Result<(), Refusal> {
     match session.place(rt) {
         Some(place) => held(write!(text, ", place {place}")),
         None => held(text.push_str(", no place")),
@@ -350,8 +307,6 @@ fn shed<J: Naming, M: CrackerMap, R: Wait>(
     tickets: &mut Vec<Ticket<J>>,
     text: &mut String,
 ) -> Result<(), Refusal>
-where
-    Live<J>: Absorb<Op<J>, State = [Update; 0]>,
     requires { 1 < length J.columns }
 {
     held(write!(text, "{} boxes", engine.shed(rt, 0, 5)))?;
@@ -372,10 +327,7 @@ fn close_with<J: Naming, M: CrackerMap, R: Wait>(
     engine: Engine<J, M>,
     tickets: Vec<Ticket<J>>,
     text: &mut String,
-) -> Result<(), Refusal>
-where
-    Live<J>: Absorb<Op<J>, State = [Update; 0]>,
-{
+) -> Result<(), Refusal> {
     match engine.close(rt, tickets) {
         Ok(record) => held(write!(text, "; {} entries", record.entries.as_slice().len())),
         Err(_) => held(text.push_str("; refused with both tickets")),
@@ -388,10 +340,7 @@ fn close_twice<J: Naming, M: CrackerMap, R: Wait>(
     engine: Engine<J, M>,
     tickets: Vec<Ticket<J>>,
     text: &mut String,
-) -> Result<(), Refusal>
-where
-    Live<J>: Absorb<Op<J>, State = [Update; 0]>,
-{
+) -> Result<(), Refusal> {
     let mut tickets = tickets;
     let Some(other) = tickets.pop() else {
         return Err(Refusal::Input);
@@ -430,8 +379,6 @@ fn ask_at<J: Naming, M: CrackerMap, R: Wait>(
     asked: Asked,
     text: &mut String,
 ) -> Result<(), Refusal>
-where
-    Live<J>: Absorb<Op<J>, State = [Update; 0]>,
     requires { 1 < length J.columns }
 {
     let mut tickets = Vec::new(alloc);
@@ -455,11 +402,8 @@ fn ask_on<J: Naming, M: CrackerMap, R: Wait>(
     asked: Asked,
     text: &mut String,
 ) -> Result<(), Refusal>
-where
-    Live<J>: Absorb<Op<J>, State = [Update; 0]>,
     requires books { (books.sessions.name ≡ J.sessions) × (books.heads.name ≡ J.heads) × (books.most ≡ J.most) }
     requires list { books.list.seen.book ≡ J.book }
-    requires plain { IsPlain ⟦<Live<J> as Absorb<Op<J>>>⟧.state ⟦<Live<J> as Absorb<Op<J>>>⟧.applied }
     requires table { (table.schema ≡ J.columns) × (table.rows.items ≡ J.opening) × (table.limit ≡ J.limit) }
 {
     let Table {

@@ -4,17 +4,14 @@ ghost use Rattle.std.specs.Prelude.{◌≡◌, ◌<◌, ◌≤◌, ℕ, true, le
 ghost use Rattle.sw_rows.specs.declared.table.TheConstants.{MOST_ROWS};
 ghost use Rattle.sw_lang.specs.Cuts.{AreCuts, cuts_on};
 ghost use Rattle.sw_spine.specs.Table.{is_numbered};
-ghost use Rattle.sw_versions.specs.Pending.{IsPlain};
 
 use crate::running::{Trial, cleared, numbered};
-use left_right::Absorb;
 use std::alloc::Global;
 use std::sync::Wait;
 use sw_engine::{Blank, Engine, Naming, Ticket, deal};
 use sw_lang::{Cuts, parse_cuts};
 use sw_map::CrackerMap;
-use sw_rows::{PackedRows, Refusal, Schema, Update};
-use sw_versions::{Live, Op};
+use sw_rows::{PackedRows, Refusal, Schema};
 
 /// What an engine is opened over.
 #[derive(Drop)]
@@ -84,8 +81,6 @@ fn hand<J: Naming, M: CrackerMap, R: Wait>(
     head: usize,
     maps: Vec<M>,
 ) -> Result<(), Refusal>
-where
-    Live<J>: Absorb<Op<J>, State = [Update; 0]>,
     requires { head < length J.columns }
 {
     for it in maps {
@@ -105,8 +100,6 @@ pub(crate) fn supply<J: Naming, M: CrackerMap, R: Wait>(
     engine: &Engine<J, M>,
     boxes: Boxes<M>,
 ) -> Result<(), Refusal>
-where
-    Live<J>: Absorb<Op<J>, State = [Update; 0]>,
     ensures { IfOk result (λ _. 1 < length J.columns) }
 {
     let columns = engine.heads();
@@ -132,11 +125,8 @@ pub(crate) fn opened<J: Naming, M: CrackerMap, R: Wait>(
     boxes: Boxes<M>,
     sessions: usize,
 ) -> Result<(Engine<J, M>, Vec<Ticket<J>>), Refusal>
-where
-    Live<J>: Absorb<Op<J>, State = [Update; 0]>,
     requires books { (books.sessions.name ≡ J.sessions) × (books.heads.name ≡ J.heads) × (books.most ≡ J.most) }
     requires list { books.list.seen.book ≡ J.book }
-    requires plain { IsPlain ⟦<Live<J> as Absorb<Op<J>>>⟧.state ⟦<Live<J> as Absorb<Op<J>>>⟧.applied }
     requires table { (table.schema ≡ J.columns) × (table.rows.items ≡ J.opening) × (table.limit ≡ J.limit) }
     ensures { IfOk result (λ _. 1 < length J.columns) }
 {

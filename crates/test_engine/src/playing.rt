@@ -5,14 +5,12 @@ ghost use Rattle.std.specs.Prelude.{◌≡◌, ◌<◌, ◌≤◌, true, length,
 ghost use Rattle.sw_rows.specs.declared.table.TheConstants.{MOST_ROWS};
 ghost use Rattle.sw_query.specs.Scan.{AsksBelow};
 ghost use Rattle.sw_spine.specs.History.{CallsBelow, IsLegal};
-ghost use Rattle.sw_versions.specs.Pending.{IsPlain};
 
 use crate::beginnings::Seen;
 use crate::boxes::{Signals, TURNS};
 use crate::opening::{Boxes, Table, opened};
 use crate::running::Trial;
 use crate::told::held;
-use left_right::Absorb;
 use std::alloc::{AllocError, Global};
 use std::marker::Brand;
 use std::sync::atomic::{AtomicBool, Ordering};
@@ -21,9 +19,8 @@ use std::thread::Threads;
 use std::{mem, thread};
 use sw_engine::{Blank, Engine, Naming, Receipt, Session, Ticket, Viewer};
 use sw_map::CrackerMap;
-use sw_rows::{Call, Query, Refusal, Reply, Schema, Update};
+use sw_rows::{Call, Query, Refusal, Reply, Schema};
 use sw_spine::Record;
-use sw_versions::{Live, Op};
 use test_maps::Gate;
 
 /// How often at most a session looks whether a viewer has looked since its last insertion, before its next call; and a viewer
@@ -85,10 +82,7 @@ impl<J: Naming> Board<J> {
 /// A session, its calls, whether it waits until the first one's call is under way, and boxes that come and go; or a viewer and what it
 /// has seen. Two options and no enum: a closure over that is dearer to prove.
 #[derive(Drop)]
-struct Side<'e, J: Naming, M: CrackerMap>
-where
-    Live<J>: Absorb<Op<J>, State = [Update; 0]>,
-{
+struct Side<'e, J: Naming, M: CrackerMap> {
     session: Option<Session<'e, J, M>>,
     calls: &'e [Call],
     waits: bool,
@@ -107,8 +101,6 @@ struct Came<J: Naming> {
 
 /// Gives boxes, made blank, to the second head, and takes one back from the first or the second after each.
 fn keep<J: Naming, M: CrackerMap, R: Wait>(rt: &R, engine: &Engine<J, M>, maps: Vec<M>)
-where
-    Live<J>: Absorb<Op<J>, State = [Update; 0]>,
     requires { 1 < length J.columns }
 {
     let mut place = 0usize;
@@ -127,10 +119,7 @@ fn published<J: Naming, M: CrackerMap, R: Wait>(
     board: &Board<J>,
     session: &mut Session<'_, J, M>,
     tally: &mut Tally,
-) -> Receipt<J>
-where
-    Live<J>: Absorb<Op<J>, State = [Update; 0]>,
-{
+) -> Receipt<J> {
     if board.plan.viewers > 0 {
         match session.publish(rt) {
             Ok(receipt) => return receipt,
@@ -148,8 +137,6 @@ fn insist<J: Naming, M: CrackerMap, R: Threads + Wait + Sync>(
     call: &Call,
     tally: &mut Tally,
 )
-where
-    Live<J>: Absorb<Op<J>, State = [Update; 0]>,
     requires { CallsBelow (length J.columns) call.now }
 {
     for _ in 0..board.plan.turns {
@@ -171,8 +158,6 @@ fn call_all<J: Naming, M: CrackerMap, R: Threads + Wait + Sync>(
     waits: bool,
     tally: &mut Tally,
 )
-where
-    Live<J>: Absorb<Op<J>, State = [Update; 0]>,
     requires { All (λ c. CallsBelow (length J.columns) c) calls.now }
 {
     if waits && !Gate::wait_for(&board.plan.signals.begun, TURNS) {
@@ -232,8 +217,6 @@ fn take_side<J: Naming, M: CrackerMap, R: Threads + Wait + Sync>(
     board: &Board<J>,
     side: Side<'_, J, M>,
 ) -> Came<J>
-where
-    Live<J>: Absorb<Op<J>, State = [Update; 0]>,
     requires place { 1 < length J.columns }
     requires asks { AsksBelow 8 board.now.plan.query }
     requires calls { All (λ c. CallsBelow (length J.columns) c) side.calls.now }
@@ -276,8 +259,6 @@ fn take_sides<'e, J: Naming + Send + Sync, M: CrackerMap, R: Threads + Wait + Sy
     board: &Board<J>,
     sides: Vec<Side<'e, J, M>>,
 ) -> Result<Vec<Came<J>>, AllocError>
-where
-    Live<J>: Absorb<Op<J>, State = [Update; 0]> + Send + Sync,
     requires place { 1 < length J.columns }
     requires asks { AsksBelow 8 board.now.plan.query }
     requires calls { All (λ s. All (λ c. CallsBelow (length J.columns) c) s.calls.now) sides.items }
@@ -309,8 +290,6 @@ fn session_sides<'e, J: Naming, M: CrackerMap>(
     blocks: &'e [Vec<Call>],
     later: &mut Vec<M>,
 ) -> Result<Vec<Side<'e, J, M>>, Refusal>
-where
-    Live<J>: Absorb<Op<J>, State = [Update; 0]>,
     requires { All (λ b. All (λ c. CallsBelow (length J.columns) c) b.items) blocks.now }
     ensures { IfOk result (λ v. All (λ s. All (λ c. CallsBelow (length J.columns) c) s.calls.now) v.items) }
 {
@@ -343,8 +322,6 @@ fn add_viewers<'e, J: Naming, M: CrackerMap, R: Wait>(
     sides: &mut Vec<Side<'e, J, M>>,
     many: usize,
 ) -> Result<(), Refusal>
-where
-    Live<J>: Absorb<Op<J>, State = [Update; 0]>,
     requires { All (λ s. All (λ c. CallsBelow (length J.columns) c) s.calls.now) sides.old.items }
     ensures { All (λ s. All (λ c. CallsBelow (length J.columns) c) s.calls.now) sides.new.items }
 {
@@ -405,8 +382,6 @@ fn end<J: Naming, M: CrackerMap, R: Wait>(
     engine: Engine<J, M>,
     sorted: Sorted<J>,
 ) -> Result<Played, Refusal>
-where
-    Live<J>: Absorb<Op<J>, State = [Update; 0]>,
     ensures { IfOk result (λ p. IsLegal p.record) }
 {
     let Sorted {
@@ -435,8 +410,6 @@ fn take_all<J: Naming + Send + Sync, M: CrackerMap, R: Threads + Wait + Sync>(
     plan: Plan,
     sorted: &mut Sorted<J>,
 ) -> Result<(), Refusal>
-where
-    Live<J>: Absorb<Op<J>, State = [Update; 0]> + Send + Sync,
     requires place { 1 < length J.columns }
     requires asks { AsksBelow 8 plan.query }
     requires below { All (λ b. All (λ c. CallsBelow (length J.columns) c) b.items) blocks.now }
@@ -466,11 +439,8 @@ fn play_on<J: Naming + Send + Sync, M: CrackerMap, R: Threads + Wait + Sync>(
     later: &mut Vec<M>,
     plan: Plan,
 ) -> Result<Played, Refusal>
-where
-    Live<J>: Absorb<Op<J>, State = [Update; 0]> + Send + Sync,
     requires books { (books.sessions.name ≡ J.sessions) × (books.heads.name ≡ J.heads) × (books.most ≡ J.most) }
     requires list { books.list.seen.book ≡ J.book }
-    requires plain { IsPlain ⟦<Live<J> as Absorb<Op<J>>>⟧.state ⟦<Live<J> as Absorb<Op<J>>>⟧.applied }
     requires table { (table.schema ≡ J.columns) × (table.rows.items ≡ J.opening) × (table.limit ≡ J.limit) }
     requires below { All (λ b. All (λ c. CallsBelow (length J.columns) c) b.items) blocks.now }
     requires asks { AsksBelow 8 plan.query }

@@ -3,12 +3,10 @@
 ghost use Rattle.std.specs.Prelude.{◌≡◌, ◌<◌, ℕ, true, length, IfOk};
 ghost use Rattle.sw_lang.specs.Cuts.{AreCuts, cuts_on};
 ghost use Rattle.sw_spine.specs.Table.{is_numbered};
-ghost use Rattle.sw_versions.specs.Pending.{IsPlain};
 ghost use Rattle.test_sessions.specs.declared.telling.TheConstants.{LIMIT};
 
 use crate::halls::make_all;
 use crate::telling::{CELLS, LIMIT, TURNS};
-use left_right::Absorb;
 use std::alloc::Global;
 use std::io;
 use std::sync::Wait;
@@ -16,9 +14,8 @@ use std::thread::Threads;
 use sw_engine::{Blank, Engine, Naming, Ticket};
 use sw_lang::Cuts;
 use sw_map::CrackerMap;
-use sw_rows::{PackedRows, Refusal, Row, Schema, Update};
+use sw_rows::{PackedRows, Refusal, Row, Schema};
 use sw_spine::{Record, State};
-use sw_versions::{Live, Op};
 
 /// What an engine is opened over.
 #[derive(Drop)]
@@ -56,10 +53,7 @@ fn supply_again<J: Naming, M: CrackerMap, R: Print + Wait>(
     rt: &R,
     engine: &Engine<J, M>,
     it: M,
-) -> io::Result<()>
-where
-    Live<J>: Absorb<Op<J>, State = [Update; 0]>,
-{
+) -> io::Result<()> {
     let mut it = it;
     for _turn in 0..TURNS {
         it.clear();
@@ -111,10 +105,7 @@ fn supply_all<J: Naming, M: CrackerMap, R: Print + Wait>(
     rt: &R,
     engine: &Engine<J, M>,
     maps: Vec<M>,
-) -> io::Result<()>
-where
-    Live<J>: Absorb<Op<J>, State = [Update; 0]>,
-{
+) -> io::Result<()> {
     for it in maps {
         supply_again(rt, engine, it)?;
     }
@@ -126,10 +117,7 @@ fn close_all<J: Naming, M: CrackerMap, R: Print + Wait>(
     rt: &R,
     engine: Engine<J, M>,
     tickets: Vec<Ticket<J>>,
-) -> io::Result<()>
-where
-    Live<J>: Absorb<Op<J>, State = [Update; 0]>,
-{
+) -> io::Result<()> {
     match engine.close(rt, tickets) {
         Ok(record) => tell_record(rt, &record),
         Err((_, _, e)) => println!(rt; "> close\nrefused {e}"),
@@ -145,10 +133,7 @@ fn calls_on<J: Naming, M: CrackerMap, R: Print + Threads + Wait + Sync>(
     schema: &Schema,
     lines: &[String],
     maps: Vec<M>,
-) -> io::Result<()>
-where
-    Live<J>: Absorb<Op<J>, State = [Update; 0]>,
-{
+) -> io::Result<()> {
     let mut tickets = tickets;
     supply_all(rt, &engine, maps)?;
     let Some(ticket) = tickets.pop() else {
@@ -168,10 +153,7 @@ fn calls_opened<J: Naming, M: CrackerMap, R: Print + Threads + Wait + Sync>(
     schema: &Schema,
     lines: &[String],
     maps: Vec<M>,
-) -> io::Result<bool>
-where
-    Live<J>: Absorb<Op<J>, State = [Update; 0]>,
-{
+) -> io::Result<bool> {
     println!(rt; "> open\ndone")?;
     calls_on(rt, alloc, engine, tickets, schema, lines, maps)?;
     Ok(true)
@@ -193,11 +175,8 @@ fn play_on<J: Naming, M: CrackerMap, R: Print + Threads + Wait + Sync>(
     lines: &[String],
     maps: Vec<M>,
 ) -> io::Result<bool>
-where
-    Live<J>: Absorb<Op<J>, State = [Update; 0]>,
     requires books { (books.sessions.name ≡ J.sessions) × (books.heads.name ≡ J.heads) × (books.most ≡ J.most) }
     requires list { books.list.seen.book ≡ J.book }
-    requires plain { IsPlain ⟦<Live<J> as Absorb<Op<J>>>⟧.state ⟦<Live<J> as Absorb<Op<J>>>⟧.applied }
     requires table { (table.schema ≡ J.columns) × (table.rows.items ≡ J.opening) × (LIMIT ≡ J.limit) }
     requires numbered { is_numbered 1 table.rows.items ≡ true }
     requires lists { length table.cuts ≡ length table.schema }

@@ -5,7 +5,6 @@ ghost use Rattle.sw_spine.specs.History.{CallsBelow};
 
 use crate::below::{asks_below, calls_below};
 use crate::telling::TURNS;
-use left_right::Absorb;
 use std::alloc::Global;
 use std::io;
 use std::sync::Wait;
@@ -13,16 +12,12 @@ use std::thread::Threads;
 use sw_engine::{Engine, Naming, Session, Ticket, Viewer};
 use sw_lang::{parse_known, write_reply};
 use sw_map::CrackerMap;
-use sw_rows::{Call, Counted, Reply, Schema, Update};
+use sw_rows::{Call, Counted, Reply, Schema};
 use sw_spine::State;
-use sw_versions::{Live, Op};
 
 /// A session, and up to two viewers.
 #[derive(Drop)]
-struct Hall<'e, J: Naming, M: CrackerMap>
-where
-    Live<J>: Absorb<Op<J>, State = [Update; 0]>,
-{
+struct Hall<'e, J: Naming, M: CrackerMap> {
     session: Session<'e, J, M>,
     first: Option<Viewer<'e, J>>,
     second: Option<Viewer<'e, J>>,
@@ -60,8 +55,6 @@ fn call_again<J: Naming, M: CrackerMap, R: Print + Threads + Wait + Sync>(
     call: &Call,
     line: &str,
 ) -> io::Result<()>
-where
-    Live<J>: Absorb<Op<J>, State = [Update; 0]>,
     requires { CallsBelow (length J.columns) call.now }
 {
     for _turn in 0..TURNS {
@@ -78,10 +71,7 @@ where
 fn viewer_again<'e, J: Naming, M: CrackerMap, R: Print + Wait>(
     rt: &R,
     engine: &'e Engine<J, M>,
-) -> io::Result<Option<Viewer<'e, J>>>
-where
-    Live<J>: Absorb<Op<J>, State = [Update; 0]>,
-{
+) -> io::Result<Option<Viewer<'e, J>>> {
     for _turn in 0..TURNS {
         println!(rt; "> viewer")?;
         match engine.viewer(rt) {
@@ -126,10 +116,7 @@ fn view_all<J: Naming, M: CrackerMap, R: Print>(
     hall: &mut Hall<'_, J, M>,
     call: &Call,
     line: &str,
-) -> io::Result<()>
-where
-    Live<J>: Absorb<Op<J>, State = [Update; 0]>,
-{
+) -> io::Result<()> {
     if let Some(viewer) = &mut hall.first {
         view_again(rt, schema, viewer, call, line)?;
     }
@@ -143,10 +130,7 @@ where
 fn learn_all<J: Naming, M: CrackerMap, R: Print>(
     rt: &R,
     hall: &mut Hall<'_, J, M>,
-) -> io::Result<()>
-where
-    Live<J>: Absorb<Op<J>, State = [Update; 0]>,
-{
+) -> io::Result<()> {
     if let Some(viewer) = &mut hall.first {
         viewer.learn(hall.session.receipt());
     }
@@ -164,10 +148,7 @@ fn make_call<J: Naming, M: CrackerMap, R: Print + Threads + Wait + Sync>(
     schema: &Schema,
     hall: &mut Hall<'_, J, M>,
     line: &str,
-) -> io::Result<()>
-where
-    Live<J>: Absorb<Op<J>, State = [Update; 0]>,
-{
+) -> io::Result<()> {
     let (text, is_view) = match line.strip_prefix("view ") {
         Some(text) => (text, true),
         None => (line, false),
@@ -192,10 +173,7 @@ fn make<'e, J: Naming, M: CrackerMap, R: Print + Threads + Wait + Sync>(
     schema: &Schema,
     hall: &mut Hall<'e, J, M>,
     line: &str,
-) -> io::Result<()>
-where
-    Live<J>: Absorb<Op<J>, State = [Update; 0]>,
-{
+) -> io::Result<()> {
     match line.as_bytes() {
         b"viewer" => {
             let viewer = viewer_again(rt, engine)?;
@@ -225,10 +203,7 @@ pub(crate) fn make_all<'e, J: Naming, M: CrackerMap, R: Print + Threads + Wait +
     schema: &Schema,
     ticket: Ticket<J>,
     lines: &[String],
-) -> io::Result<Ticket<J>>
-where
-    Live<J>: Absorb<Op<J>, State = [Update; 0]>,
-{
+) -> io::Result<Ticket<J>> {
     let mut hall = Hall {
         session: engine.attach(ticket),
         first: None,

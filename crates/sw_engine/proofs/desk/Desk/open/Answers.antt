@@ -4,11 +4,11 @@ use Rattle.sw_engine.proofs.Ties.{get_below}
 use Rattle.sw_engine.proofs.Whole.{ends_new}
 use Rattle.sw_engine.proofs.desk.Desk.open.Goals as goal
 
-pub invariant_of-result : goal.invariant_of-result
-invariant_of-result g c =
+pub invariant_of-desk : goal.invariant_of-desk
+invariant_of-desk g c =
     let j = g.J.Naming in
-    let table = c.requires.table in
-    let is : c.in_ok-spine.spine ≡ new_books j.columns j.opening j.limit = c.in_ok-spine.ensures.1 ∙ (λ i. new_books (table.0 i) (table.1 i) (table.2 i)) in
+    let ground = c.args.ground in
+    let is : c.in_ok-spine.spine ≡ new_books j.columns j.opening j.limit = c.in_ok-spine.ensures.1 ∙ (λ i. new_books (ground.columns i) (ground.rows_are i) (ground.limit_is i)) in
     let none = ap length c.requires.none.0 in
     record {
       sessions_named = c.requires.books.0;

@@ -9,8 +9,8 @@ use Rattle.sw_engine.proofs.engine.Engine.select.Goals as goal
 
 pub index-requires : goal.index-requires
 index-requires g c =
-    let less : c.head_of.result < length g.J.Naming.columns = c.head_of.ensures.below (length g.J.Naming.columns) c.args.self.now.some c.requires.0 in
-    omega (arith, less, c.args.self.now.as_many)
+    let less : c.head_of.result < length g.J.Naming.columns = c.head_of.ensures.below (length g.J.Naming.columns) c.self.invariant.1 c.requires.0 in
+    omega (arith, less, c.self.invariant.0)
 
 pub returns-in_default-clause-refused : goal.returns-in_default-clause-refused
 returns-in_default-clause-refused g c = (inl (stays_self c.args.ticket.now), (tt, tt))

@@ -11,5 +11,5 @@ invariant_of-result g c =
     let j = g.J.Naming in
     let shelf : c.new.result ≡ no_versions = c.new.ensures ∙ ap (λ (l : List (List Update)). record { booked = l; published = l; viewers = 0; missed = 0 }) c.named-book.ensures in (
       subst (λ (v : Shelved). IsShelfOf j.limit j.opening c.args.desk.books v) (sym shelf) (shelf_new j.columns j.opening j.limit c.args.desk.books c.requires.begun),
-      numbered_rise 0 j.opening c.requires.numbered,
+      numbered_rise 0 j.opening c.heads-heads.ensures.numbered,
     )

@@ -15,7 +15,7 @@ of-requires-clause-rising g c κs within =
 
 pub of-requires-clause-keys : goal.of-requires-clause-keys
 of-requires-clause-keys g c κs within =
-    subst (λ (rs : List Row). All (λ (r : Row). r.key < 2 ^ 63) rs) (sym c.requires.rows) (keys_fit g.J.Naming.opening c.self.invariant.numbered c.self.invariant.within)
+    subst (λ (rs : List Row). All (λ (r : Row). r.key < 2 ^ 63) rs) (sym c.requires.rows) (keys_fit g.J.Naming.opening c.self.invariant.numbered (omega (arith, c.self.invariant.within, c.self.invariant.most)))
 
 pub of-requires-clause-rise : goal.of-requires-clause-rise
 of-requires-clause-rise g c κs within =

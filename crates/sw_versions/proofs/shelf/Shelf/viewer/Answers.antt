@@ -7,4 +7,4 @@ pub invariant_of-self-in-Ok-2 : goal.invariant_of-self-in-Ok-2
 invariant_of-self-in-Ok-2 g c =
     let s = c.self.inside in
     let booked : s.booked ≡ c.args.self.now.booked = sym (booked_of s.booked s.copies s.missed) ∙ ap (λ (v : Shelved). v.booked) c.self.view_is in
-    (c.self.invariant.0, wrote_shelved s.booked c.in-Ok.copies (c.in-Ok.ensures ∙ ap wrote (sym booked)))
+    wrote_shelved s.booked c.in-Ok.copies (c.in-Ok.ensures ∙ ap wrote (sym booked))
