@@ -5,7 +5,7 @@ SQLite, ClickHouse, numpy and pandas is there, over the table t.csv and the scri
 Each side is a process that reads the table, answers the script and writes the replies' lines. It is run with the script and without a call, one right
 after the other, and the difference counts, the median of ROUNDS; a side that has taken half a minute over a script is run no more. So what a side
 makes in order to answer, an index or a sorted table, counts as calls. Prints a table in Markdown: PROGRAM's seconds, and how many times these each
-side takes. Each reply is compared with PROGRAM's; the first that differs ends it.
+side takes, ? where a small table or a busy machine makes the difference one of noise. Each reply is compared with PROGRAM's; the first that differs ends it.
 
 peers.py --as NAME TABLE SCRIPT writes the replies of one side, by its name."""
 import contextlib, csv, functools, http.client, itertools, operator, os, re, shutil, socket, statistics, subprocess, sys, tempfile, time
@@ -218,17 +218,37 @@ def replies(side, script):
             yield f"{int(side.number(kind, words, bounds) or 0)}\n"
 
 
+def server_words():
+    """How a server of ClickHouse is started; none where none is installed."""
+    if shutil.which("clickhouse-server"):
+        return ["clickhouse-server"]
+    return ["clickhouse", "server"] if shutil.which("clickhouse") else None
+
+
+def free_port():
+    with socket.socket() as taken:
+        taken.bind(("127.0.0.1", 0))
+        return taken.getsockname()[1]
+
+
+def listens(port):
+    """Whether somebody listens there within half a minute."""
+    for _ in range(300):
+        with contextlib.suppress(OSError), socket.create_connection(("127.0.0.1", port), 1):
+            return True
+        time.sleep(0.1)
+    return False
+
+
 @contextlib.contextmanager
 def clickhouse():
-    """The port of a server on the loopback that ends with this; none where no server is installed."""
-    words = [[name] for name in ("clickhouse-server",) if shutil.which(name)] or [[name, "server"] for name in ("clickhouse",) if shutil.which(name)]
+    """The port of a server on the loopback that ends with this; none where there is none."""
+    words = server_words()
     if not words:
         yield None
         return
-    with tempfile.TemporaryDirectory() as room, socket.socket() as taken:
-        taken.bind(("127.0.0.1", 0))
-        port = taken.getsockname()[1]
-        taken.close()
+    port = free_port()
+    with tempfile.TemporaryDirectory() as room:
         paths = "".join(f"<{name}>{room}/{name}/</{name}>" for name in ("path", "tmp_path", "user_files_path", "format_schema_path"))
         with open(room + "/config.xml", "w") as file:
             file.write(f"<yandex><logger><level>warning</level><log>{room}/log</log><errorlog>{room}/errors</errorlog></logger>"
@@ -238,13 +258,9 @@ def clickhouse():
         with open(room + "/users.xml", "w") as file:
             file.write("<yandex><profiles><default/></profiles><quotas><default/></quotas><users><default><password></password>"
                        "<networks><ip>127.0.0.1</ip></networks><profile>default</profile><quota>default</quota></default></users></yandex>")
-        server = subprocess.Popen([*words[0], f"--config-file={room}/config.xml"], stdout=subprocess.DEVNULL, stderr=subprocess.DEVNULL, cwd=room)
+        server = subprocess.Popen([*words, f"--config-file={room}/config.xml"], stdout=subprocess.DEVNULL, stderr=subprocess.DEVNULL, cwd=room)
         try:
-            for _ in range(300):
-                with contextlib.suppress(OSError), socket.create_connection(("127.0.0.1", port), 1):
-                    break
-                time.sleep(0.1)
-            yield port
+            yield port if listens(port) else None
         finally:
             server.terminate()
             server.wait()
@@ -322,8 +338,9 @@ def compare(program, folder, rounds):
     ours = rows.pop("sideways")
     print(f"| {many - 1:,} rows, {number:,} calls each | none | " + " | ".join(MIXES.values()) + " |\n|" + "---|" * (len(ours) + 1))
     print("| Sideways, seconds | " + " | ".join(f"{seconds:.3f}" for seconds in ours) + " |")
+    shown = lambda seconds, our: "" if seconds is None else "?" if min(seconds, our) <= 0 else f"{seconds / our:.2f}"
     for name, row in rows.items():
-        print(f"| {name} | " + " | ".join("" if seconds is None else f"{seconds / our:.2f}" for seconds, our in zip(row, ours)) + " |")
+        print(f"| {name} | " + " | ".join(map(shown, row, ours)) + " |")
     if missing:
         print("\nNot installed here: " + "; ".join(missing) + ".")
 
