@@ -78,7 +78,7 @@ where
     requires none { session.old.1 ≡ [] }
     requires own { own_of session.old ≡ [] }
     requires below { AllCallsBelow (length J.columns) page.calls.now }
-    ensures { FlowsPage page.entry session.old session.new result (sink_by W.taken W.failed out.old out.new) }
+    ensures { FlowsPage page.entry session.old session.new result (sink_by W.Sink out.old out.new) }
 {
     let Page {
         schema,
@@ -110,7 +110,7 @@ where
     requires order { InOrder 1 seats.tickets.items }
     requires many { length seats.tickets.items ≡ length pages.blocks.now }
     requires below { All (AllCallsBelow (length J.columns)) pages.blocks.now }
-    ensures { FlowsPages pages.entry result.0.items result.1 (sink_by W.taken W.failed out.old out.new) }
+    ensures { FlowsPages pages.entry result.0.items result.1 (sink_by W.Sink out.old out.new) }
 {
     let Pages { schema, blocks } = pages;
     let Seats {
@@ -156,7 +156,7 @@ where
     requires order { InOrder 1 flow.seats.tickets.items }
     requires many { length flow.seats.tickets.items ≡ length flow.pages.blocks.now }
     requires below { All (AllCallsBelow (length J.columns)) flow.pages.blocks.now }
-    ensures { FlowsPages flow.entry.pages result.1.0.items result.1.1 (sink_by W.taken W.failed sink result.0) }
+    ensures { FlowsPages flow.entry.pages result.1.0.items result.1.1 (sink_by W.Sink sink result.0) }
 {
     let Flow {
         onlooker,
@@ -186,7 +186,7 @@ where
     requires order { InOrder 1 flow.seats.tickets.items }
     requires many { length flow.seats.tickets.items ≡ length flow.pages.blocks.now }
     requires below { All (AllCallsBelow (length J.columns)) flow.pages.blocks.now }
-    ensures { FlowsPages flow.entry.pages result.1.0.items result.1.1 (sink_by W.taken W.failed sink result.0) }
+    ensures { FlowsPages flow.entry.pages result.1.0.items result.1.1 (sink_by W.Sink sink result.0) }
 {
     flow_since::<Brand, J, M, O, R, W>(rt, sink, flow)
 }
@@ -207,7 +207,7 @@ where
     requires order { InOrder 1 flow.seats.tickets.items }
     requires many { length flow.seats.tickets.items ≡ length flow.pages.blocks.now }
     requires below { All (AllCallsBelow (length J.columns)) flow.pages.blocks.now }
-    ensures { FlowsPages flow.entry.pages result.0.items result.1 (sink_by W.taken W.failed out.old out.new) }
+    ensures { FlowsPages flow.entry.pages result.0.items result.1 (sink_by W.Sink out.old out.new) }
 {
     replace_with(
         out,
@@ -216,7 +216,7 @@ where
             requires order { InOrder 1 flow.seats.tickets.items }
             requires many { length flow.seats.tickets.items ≡ length flow.pages.blocks.now }
             requires below { All (AllCallsBelow (length J.columns)) flow.pages.blocks.now }
-            ensures { FlowsPages flow.entry.pages result.1.0.items result.1.1 (sink_by W.taken W.failed sink result.0) }
+            ensures { FlowsPages flow.entry.pages result.1.0.items result.1.1 (sink_by W.Sink sink result.0) }
         { flow_from(rt, sink, flow) },
     )
 }
