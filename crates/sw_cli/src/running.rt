@@ -92,7 +92,7 @@ fn write_outgoing<W: Sink>(sink: W, outgoing: Outgoing) -> (W, Result<Record, Re
 }
 
 /// Makes the blocks of a run by an engine of these names, and adds what its heads tell. The one refusal is `NoMemory`.
-fn make_with<J: Naming + Send + Sync, M: CrackerMap, O: Onlooker, R: Threads + Wait + Sync>(
+fn make<J: Naming + Send + Sync, M: CrackerMap, O: Onlooker, R: Threads + Wait + Sync>(
     rt: &R,
     books: Blank,
     ground: Ground<'_, M, O>,
@@ -143,26 +143,6 @@ fn make_with<J: Naming + Send + Sync, M: CrackerMap, O: Onlooker, R: Threads + W
         history,
     };
     Ok(Outgoing { memory, ended })
-}
-
-/// Makes the blocks as `make_with` does. Here the names of the books stand for any, but what a viewer's copy makes of
-/// an update is known, which a bound of `make_with` asks for.
-fn make<J: Naming + Send + Sync, M: CrackerMap, O: Onlooker, R: Threads + Wait + Sync>(
-    rt: &R,
-    books: Blank,
-    ground: Ground<'_, M, O>,
-    stats: &mut Vec<HeadStats>,
-) -> Result<Outgoing, Refusal>
-    requires books { (books.sessions.name ≡ J.sessions) × (books.heads.name ≡ J.heads) × (books.most ≡ J.most) }
-    requires list { books.list.seen.book ≡ J.book }
-    requires columns { ground.inputs.schema ≡ J.columns }
-    requires table { (ground.inputs.rows.items ≡ J.opening) × (ground.limit ≡ J.limit) }
-    ensures blocks { IfOk result (λ j. j.ended.blocks.items ≡ ground.entry.inputs.blocks.items) }
-    ensures why { IfOk result (λ j. AllSayWhy (told_in j.ended)) }
-    ensures record_is { IfOk result (λ j. IsRecordOf J.columns J.opening J.limit (told_in j.ended) j.ended.history) }
-    ensures refused { IsOkUnless result NoMemory }
-{
-    make_with::<J, M, O, R>(rt, books, ground, stats)
 }
 
 /// Makes the blocks of a run, each in a thread of its own, and then writes what came of them.

@@ -158,7 +158,7 @@ fn make_calls<J: Naming, M: CrackerMap, O: Onlooker, R: Threads + Wait + Sync, W
 }
 
 /// Makes the calls of a run by an engine of these names, as `make_calls` does.
-fn turn_with<J: Naming, M: CrackerMap, O: Onlooker, R: Threads + Wait + Sync, W: Sink>(
+fn turn_by<J: Naming, M: CrackerMap, O: Onlooker, R: Threads + Wait + Sync, W: Sink>(
     rt: &R,
     books: Blank,
     stage: Stage<'_, M, O>,
@@ -177,25 +177,6 @@ fn turn_with<J: Naming, M: CrackerMap, O: Onlooker, R: Threads + Wait + Sync, W:
         Ok(ready) => make_calls(rt, ready, onlooker, out, stats),
         Err(refusal) => Err(refusal),
     }
-}
-
-/// The same. Here the names of the books stand for any, but what a viewer's copy makes of an update is known, which a
-/// bound of `turn_with` asks for.
-fn turn_by<J: Naming, M: CrackerMap, O: Onlooker, R: Threads + Wait + Sync, W: Sink>(
-    rt: &R,
-    books: Blank,
-    stage: Stage<'_, M, O>,
-    out: &mut W,
-    stats: &mut Vec<HeadStats>,
-) -> Result<Record, Refusal>
-    requires books { (books.sessions.name ≡ J.sessions) × (books.heads.name ≡ J.heads) × (books.most ≡ J.most) }
-    requires list { books.list.seen.book ≡ J.book }
-    requires columns { stage.columns ≡ J.columns }
-    requires table { (stage.ground.inputs.rows.items ≡ J.opening) × (stage.ground.limit ≡ J.limit) }
-    requires all { J.most ≡ length stage.ground.inputs.blocks.items }
-    ensures { Goes J.limit (start_seen stage.entry.ground.inputs) (sink_by W.Sink out.old out.new) result }
-{
-    turn_with::<J, M, O, R, W>(rt, books, stage, out, stats)
 }
 
 /// Makes the calls of a run, one block after another, and writes the lines of each call when it is answered. Refused

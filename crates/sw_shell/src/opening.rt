@@ -152,7 +152,7 @@ fn closed<J: Naming, M: CrackerMap, R: Wait>(
 }
 
 /// Talks over an engine of these names. The one refusal is `NoMemory`.
-fn talk_with<J, M, R, B, W, H>(
+fn talk_by<J, M, R, B, W, H>(
     rt: &R,
     alloc: Global,
     books: Blank,
@@ -184,32 +184,6 @@ where
         Ok(history) => Ok(Ended { history, failure }),
         Err(refusal) => Err(refusal),
     }
-}
-
-/// Talks as `talk_with` does. Here the names of the books stand for any, but what a viewer's copy makes of an update is
-/// known, which a bound of `talk_with` asks for.
-fn talk_by<J, M, R, B, W, H>(
-    rt: &R,
-    alloc: Global,
-    books: Blank,
-    ground: Ground<M>,
-    console: &mut Console<B, W, H>,
-) -> Result<Ended, Refusal>
-where
-    J: Naming,
-    M: CrackerMap,
-    R: Threads + Wait + Sync,
-    B: BufRead + Drop,
-    W: Sink + Drop,
-    H: Host + Drop,
-    requires books { (books.sessions.name ≡ J.sessions) × (books.heads.name ≡ J.heads) × (books.most ≡ J.most) }
-    requires list { books.list.seen.book ≡ J.book }
-    requires table { (ground.columns ≡ J.columns) × (ground.rows.items ≡ J.opening) × (ground.room.limit ≡ J.limit) }
-    requires blank { All (λ m. M.held m ≡ blank) ground.room.maps.items }
-    ensures left { IfOk result (IsLeftBy ground.schema J.opening J.limit console.old console.new) }
-    ensures refused { IsOkUnless result NoMemory }
-{
-    talk_with::<J, M, R, B, W, H>(rt, alloc, books, ground, console)
 }
 
 /// A shell over a table that was read.

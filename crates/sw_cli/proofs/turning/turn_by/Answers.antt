@@ -4,7 +4,7 @@ use Rattle.sw_cli.specs.Script.{AreBlocks}
 use Rattle.sw_cli.specs.Sides.{sink_seen}
 use Rattle.sw_cli.specs.Starts.{start_seen}
 use Rattle.sw_cli.proofs.Going.{goes_over}
-use Rattle.sw_cli.proofs.turning.turn_with.Goals as goal
+use Rattle.sw_cli.proofs.turning.turn_by.Goals as goal
 
 pub make_calls-requires-clause-most : goal.make_calls-requires-clause-most
 make_calls-requires-clause-most g c κs within = c.requires.all ∙ ap (λ (bs : List (List Call)). length bs) (sym c.in-Ok.ensures.blocks)
