@@ -56,6 +56,12 @@ const NAPS: u32 = 5;
 /// many selects in a row meanwhile, and the head's data stay in one processor's cache.
 const NAP: u64 = 100;
 
+/// How many updates a head takes in a visit before the one in which its select begins.
+const PART: usize = 1024;
+
+/// In how many such visits it takes all updates that there may be.
+const PARTS: usize = 2048;
+
 fn pause(long: usize) {
     for _ in 0..long {
         spin_loop();
@@ -353,6 +359,28 @@ impl<J: Naming, M: CrackerMap> Engine<J, M> {
         head.hand_over()
     }
 
+    /// The history, for a visit in which the head lacks no more updates than `PART`. Before, it takes the others in visits of
+    /// so many, and receives them between the visits.
+    fn reach<R: Wait>(
+        &self,
+        rt: &R,
+        head: &mut LatchedHead<J, M>,
+    ) -> Result<MutexGuard<'_, LockedDesk<J>>, Refusal>
+        requires { head.old.made ≡ true }
+        ensures made { head.new.made ≡ true }
+        ensures refused { IsOkUnless result NoMemory }
+    {
+        for _ in 0..PARTS {
+            let mut desk = self.visit(rt);
+            if !desk.hand_part(head, PART)? {
+                return Ok(desk);
+            }
+            drop(desk);
+            head.receive()?;
+        }
+        Ok(self.visit(rt))
+    }
+
     /// Takes the head's latch and, for a visit each, the lock: the select begins, the head answers, and the reply stands in the
     /// history; or the select is given up.
     fn select<R: Threads + Wait + Sync>(
@@ -372,7 +400,11 @@ impl<J: Naming, M: CrackerMap> Engine<J, M> {
         if self.ready(rt, &mut *head).is_err() {
             return Err(Refusal::NoMemory);
         }
-        self.visit(rt).begin(&mut ticket.state, &mut *head, asked)?;
+        let Ok(mut desk) = self.reach(rt, &mut *head) else {
+            return Err(Refusal::NoMemory);
+        };
+        desk.begin(&mut ticket.state, &mut *head, asked)?;
+        drop(desk);
         let Ok((reply, kept)) = head.answer(rt, self.alloc, query) else {
             self.visit(rt).void(&mut ticket.state);
             return Err(Refusal::NoMemory);

@@ -1,11 +1,12 @@
 //! What lies under the lock: the desk, and the shelf of what viewers read.
 
-ghost use Rattle.std.specs.Prelude.{◌≡◌, ◌<◌, ◌≤◌, false, None, is_some, length, All, IfErr, IfOk, IsSome, IsSomeAnd, MatchBool, OnErr, OnOk};
+ghost use Rattle.std.specs.Prelude.{◌≡◌, ◌<◌, ◌≤◌, false, None, is_some, length, All, IfErr, IfOk, IsOkUnless, IsSome, IsSomeAnd, MatchBool, OnErr, OnOk};
 ghost use mathlib.Core.List.{IsPrefix};
 ghost use Rattle.sw_query.specs.declared.query.Call.TheVariants.{Select};
+ghost use Rattle.sw_query.specs.declared.refusal.Refusal.TheVariants.{NoMemory};
 ghost use Rattle.sw_spine.specs.Table.{reply_to};
 ghost use Rattle.sw_spine.specs.History.{CallsBelow, is_select};
-ghost use Rattle.sw_spine.specs.Books.{new_books, with_session, with_settled};
+ghost use Rattle.sw_spine.specs.Books.{new_books, updates, with_session, with_settled};
 ghost use Rattle.sw_spine.specs.declared.history.State.TheVariants.{Answered, Void};
 ghost use Rattle.sw_versions.specs.Pending.{HasShownOr, TellsCame};
 ghost use Rattle.sw_versions.specs.Lists.{IsLonger};
@@ -15,7 +16,7 @@ ghost use Rattle.sw_versions.specs.declared.came.Came.TheVariants.{Missed};
 ghost use Rattle.sw_versions.specs.declared.viewer.TheConstants.{MOST_VIEWERS};
 ghost use Rattle.sw_engine.specs.Own.{IsLastOwn, IsNew};
 ghost use Rattle.sw_engine.specs.Sessions.{Answers, Begins, IsRefused, Sees, Settles, Stays};
-ghost use Rattle.sw_engine.specs.Desk.{AreOut, InOrder, IsBegun, IsMade, RefusesMany, RefusesNext};
+ghost use Rattle.sw_engine.specs.Desk.{AreOut, InOrder, IsBegun, IsMade, IsSameButTaken, RefusesMany, RefusesNext, TakesPart};
 ghost use Rattle.sw_engine.specs.Locked.{IsCommitted, IsPublished};
 ghost use Rattle.sw_engine.specs.Published.{EndWithEntries, later, new_viewer, no_versions, TellsAll, with_viewer};
 
@@ -189,6 +190,22 @@ impl<J: Naming> LockedDesk<J> {
                 Err(refusal)
             }
         }
+    }
+
+    /// A head that lacks more updates than so many takes the next so many of them at the desk: whether it does.
+    pub fn hand_part<M: CrackerMap>(
+        &mut self,
+        head: &mut LatchedHead<J, M>,
+        most: usize,
+    ) -> Result<bool, Refusal>
+        ensures part { IfOk result (TakesPart most (updates self.old.desk.books) head.old.taken head.new.taken) }
+        ensures kept { OnErr result (head.new.taken ≡ head.old.taken) }
+        ensures refused { IsOkUnless result NoMemory }
+        ensures books { IsSameButTaken self.old.desk.books self.new.desk.books }
+        ensures shelf { self.new.shelf ≡ self.old.shelf }
+        ensures same { head.new ≡ record head.old { taken = head.new.taken } }
+    {
+        self.desk.hand_part(head, most)
     }
 
     /// The session's open select is answered at the desk.
