@@ -40,7 +40,7 @@ use sw_lang::Cuts;
 use sw_map::CrackerMap;
 use sw_rows::{Call, Cond, Conds, PackedRows, Query, Refusal, Reply, Schema};
 use sw_spine::Record;
-use sw_versions::Naming;
+use sw_versions::{Draft, Naming};
 
 /// How often a thread pauses between looks at a lock or a latch, before it sleeps.
 const PAUSES: u32 = 7;
@@ -243,7 +243,7 @@ impl<J: Naming, M: CrackerMap> Engine<J, M> {
         ensures opened { IfOk result (λ v. v.seen ≡ v.told) }
         ensures refused { IfErr result RefusesViewing }
     {
-        let reader = self.visit(rt).viewer()?;
+        let reader = self.reader(rt)?;
         Ok(Viewer {
             reader,
             of: PhantomData,
@@ -341,6 +341,35 @@ impl<J: Naming, M: CrackerMap> Engine<J, M> {
         match self.visit(rt).opening_rows().share(self.alloc) {
             Ok(rows) => Ok(rows),
             Err(_) => Err(Refusal::NoMemory),
+        }
+    }
+
+    /// The tables that the copies for viewers are made of, made outside the lock. Refused `NoMemory` alone.
+    #[tactic(auto, using(sw_spine::proofs::ReplayLemmas::numbered_rise))]
+    fn draft<R: Wait>(&self, rt: &R) -> Result<Draft<J>, Refusal>
+        ensures { IsOkUnless result NoMemory }
+    {
+        // for the prover: the opening rows are in order
+        let _heads = self.opening.heads();
+        let rows = self.opening_rows(rt)?;
+        match Draft::new(self.alloc, &rows) {
+            Ok(draft) => Ok(draft),
+            Err(_) => Err(Refusal::NoMemory),
+        }
+    }
+
+    /// A reader of the copies, which are made of a draft where there are none.
+    fn reader<R: Wait>(&self, rt: &R) -> Result<sw_versions::Viewer<J>, Refusal>
+        ensures opened { IfOk result (λ v. v.seen ≡ v.told) }
+        ensures refused { IfErr result RefusesViewing }
+    {
+        let opened = self.visit(rt).viewer(None);
+        match opened {
+            Err(Refusal::NoMemory) => {
+                let draft = self.draft(rt)?;
+                self.visit(rt).viewer(Some(draft))
+            }
+            opened => opened,
         }
     }
 

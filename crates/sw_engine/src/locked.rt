@@ -29,7 +29,7 @@ use std::marker::Model;
 use std::sync::Wait;
 use sw_map::CrackerMap;
 use sw_rows::{Call, PackedRows, Query, Refusal, Reply, Update};
-use sw_versions::{Book, Came, Front, Naming, Opened, Shelf, Viewer};
+use sw_versions::{Book, Came, Draft, Front, Naming, Opened, Shelf, Viewer};
 
 /// A publishing that there was no memory for. Only a visit that came to one makes it.
 #[derive(Drop)]
@@ -343,11 +343,11 @@ impl<J: Naming> LockedDesk<J> {
         self.desk.place(&mut ticket.state)
     }
 
-    /// A viewer, which has learnt what is published. The first one has the two copies of the rows made.
+    /// A viewer, which has learnt what is published. The first one has the two copies of the rows made of a draft.
     ///
-    /// Refused `NoMemory` where there is no memory for them, and `TooMany` of limit 16 where that many viewers were
+    /// Refused `NoMemory` where there is no draft or no memory for them, and `TooMany` of limit 16 where that many viewers were
     /// ever opened, or no place for a reader was got; then nothing has changed.
-    pub fn viewer(&mut self) -> Result<Viewer<J>, Refusal>
+    pub fn viewer(&mut self, draft: Option<Draft<J>>) -> Result<Viewer<J>, Refusal>
         ensures few { OnOk result (self.old.shelf.viewers < MOST_VIEWERS) }
         ensures opened { IfOk result (λ v. v ≡ new_viewer self.old.shelf) }
         ensures entries { IfOk result (λ v. EndWithEntries J.limit J.opening self.new.desk.books.entries v.seen) }
@@ -355,7 +355,7 @@ impl<J: Naming> LockedDesk<J> {
         ensures refused { IfErr result (λ e. (self.new ≡ self.old) × RefusesViewer self.old.shelf.viewers e) }
     {
         let LockedDesk { desk, shelf, .. } = self;
-        shelf.viewer(desk.opening_rows(), desk.later())
+        shelf.viewer(draft, desk.later())
     }
 
     /// Waits for the readers, and ends the writer. The desk is left.
