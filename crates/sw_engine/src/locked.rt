@@ -355,6 +355,8 @@ impl<J: Naming> LockedDesk<J> {
         ensures refused { IfErr result (λ e. (self.new ≡ self.old) × RefusesViewer self.old.shelf.viewers e) }
     {
         let LockedDesk { desk, shelf, .. } = self;
+        // for the prover: the desk is as it was
+        let _rows = desk.opening_rows();
         shelf.viewer(draft, desk.later())
     }
 
