@@ -1,5 +1,4 @@
 use Rattle.std.proofs.Common.{◌≡◌, ◌<◌, ◌≤◌, ◌+◌, ◌++◌, ℕ, List, length, take, set, false, refl, sym, ap, ◌∙◌, arith, subst}
-use Rattle.std.specs.Prelude.{nat_lt}
 use Rattle.sw_table.specs.declared.row.Update.{Update}
 use Rattle.sw_spine.specs.Books.{Books, took, untaken, updates}
 use Rattle.sw_spine.specs.Receivable.{AreUpdates}
