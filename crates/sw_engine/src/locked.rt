@@ -354,10 +354,7 @@ impl<J: Naming> LockedDesk<J> {
         ensures counted { OnOk result (self.new ≡ record self.old { shelf = with_viewer self.old.shelf }) }
         ensures refused { IfErr result (λ e. (self.new ≡ self.old) × RefusesViewer self.old.shelf.viewers e) }
     {
-        let LockedDesk { desk, shelf, .. } = self;
-        // for the prover: the desk is as it was
-        let _rows = desk.opening_rows();
-        shelf.viewer(draft, desk.later())
+        self.shelf.viewer(draft, self.desk.later())
     }
 
     /// Waits for the readers, and ends the writer. The desk is left.
