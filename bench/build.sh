@@ -9,5 +9,5 @@
 set -euo pipefail
 here=$(cd "$(dirname "$0")" && pwd)
 processors=$(nproc)
-printf '%s\n' {engine,viewers,heads}/measure.sh area/{updates,measure}.sh {maps,kernel,budget}/measure.sh |
+printf '%s\n' {engine,holds,viewers,heads}/measure.sh area/{updates,measure}.sh {maps,kernel,budget}/measure.sh |
   STANDS=1 xargs -P "$((processors < 4 ? processors : 4))" -I{} bash "$here/{}" || exit 1

@@ -34,7 +34,7 @@ for proof in "$here"/*.antt.txt; do
   cp "$proof" "$proofs/$name/$file.antt"
 done
 build program engine "$here/engine.rt.txt" \
-  sw_table sw_query sw_rows sw_lang sw_kernel sw_tape sw_budget sw_map sw_bits sw_slots sw_set sw_spine sw_tie sw_chunks sw_versions sw_engine left_right anyhow
+  sw_table sw_query sw_rows sw_lang sw_kernel sw_tape sw_budget sw_map sw_bits sw_slots sw_set sw_spine sw_tie sw_chunks sw_versions sw_engine anyhow
 g++ -O3 -march=native -o "$work/peer" "$top/bench/peers/peer.cpp"
 
 python3 - "$work" "$rows" "$rounds" "$calls" "${RUN:-}" <<'END'

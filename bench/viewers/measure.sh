@@ -30,7 +30,7 @@ for proof in "$here"/*.antt.txt; do
   cp "$proof" "$proofs/$name/Invariants.antt"
 done
 build program viewers "$here/viewers.rt.txt" \
-  sw_table sw_query sw_rows sw_lang sw_kernel sw_tape sw_budget sw_map sw_bits sw_slots sw_set sw_spine sw_tie sw_chunks sw_versions sw_engine left_right anyhow
+  sw_table sw_query sw_rows sw_lang sw_kernel sw_tape sw_budget sw_map sw_bits sw_slots sw_set sw_spine sw_tie sw_chunks sw_versions sw_engine anyhow
 cc -O3 -o "$work/peer" "$here/peer.c"
 
 python3 - "$work" "$rows" "$rounds" "$calls" "${RUN:-}" "${BESIDE:-}" <<'END'

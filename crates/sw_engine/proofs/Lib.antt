@@ -1,6 +1,7 @@
 mod Examples
 pub mod Ties
 pub mod Heads
+pub mod Backlog
 pub mod Turns
 pub mod Published
 pub mod Later

@@ -1,5 +1,5 @@
 -- What ties the books of the sessions and of the heads to the spine.
-use Rattle.std.specs.Prelude.{ℕ, ◌≡◌, ◌≢◌, ◌<◌, ◌≤◌, ◌+◌, ◌⊎◌, ◌++◌, List, [], ◌∷◌, length, map, set, Bool, true, false, Option, Some, None, is_some, slice_get, All, IfSome}
+use Rattle.std.specs.Prelude.{ℕ, ◌≡◌, ◌≢◌, ◌<◌, ◌≤◌, ◌+◌, ◌⊎◌, ◌++◌, List, [], ◌∷◌, length, map, set, Bool, true, false, Option, Some, None, is_some, slice_get, take, All, IfSome, MatchBool}
 use Rattle.sw_rows.specs.Header.{Column}
 use Rattle.sw_table.specs.declared.row.Row.{Row}
 use Rattle.sw_table.specs.declared.row.Update.{Update}
@@ -143,6 +143,17 @@ pub record IsNewHead (attribute : ℕ) (opening : List Row) (h : HeadState) : Ty
   pub attribute_is : h.attribute ≡ attribute
   pub updates_are : h.updates ≡ opened opening
   pub no_boxes : boxes_in h.areas ≡ 0
+
+-- a head that lacks more than so many of these updates takes the next so many; another one none
+abbrev pub TakesPart : ℕ → List Update → List Update → List Update → Bool → Type 0
+TakesPart most us old new more =
+    MatchBool more
+    ((length old + most < length us) × (new ≡ take (length old + most) us))
+    ((length us ≤ length old + most) × (new ≡ old))
+
+-- but for what heads have taken, the same
+abbrev pub IsSameButTaken : Books → Books → Type 0
+IsSameButTaken old new = new ≡ record old { taken = new.taken }
 
 -- the history has one open entry more, at its end
 abbrev pub IsBegun : ℕ → Query → Books → Books → Type 0

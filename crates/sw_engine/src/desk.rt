@@ -11,7 +11,7 @@ ghost use Rattle.sw_spine.specs.declared.spine.TheConstants.{MOST_SESSIONS};
 ghost use Rattle.sw_engine.specs.Published.{EndsEntry, IsNewShare, IsOfFirst, IsWhole, later};
 ghost use Rattle.sw_engine.specs.Own.{IsEnded, IsLastOwn};
 ghost use Rattle.sw_engine.specs.Sessions.{Answers, Begins, Refuses, Sees, Settles, Stays};
-ghost use Rattle.sw_engine.specs.Desk.{AreGiven, IsBegun, IsMade, IsOf, RefusesNext, latched, new_desk};
+ghost use Rattle.sw_engine.specs.Desk.{AreGiven, IsBegun, IsMade, IsOf, IsSameButTaken, RefusesNext, TakesPart, latched, new_desk};
 
 use crate::counting::Counters;
 use crate::latch::LatchedHead;
@@ -245,6 +245,35 @@ impl<J: Naming> Desk<J> {
         sessions.set(share, Snapshot::of(spine));
         heads.set(mark, Snapshot::of(spine));
         Ok(())
+    }
+
+    /// A head that lacks more updates than so many takes the next so many of them: whether it does. Nothing else changes. Refused
+    /// `NoMemory` alone, and then nothing has.
+    pub fn hand_part<M: CrackerMap>(
+        &mut self,
+        head: &mut LatchedHead<J, M>,
+        most: usize,
+    ) -> Result<bool, Refusal>
+        ensures part { IfOk result (TakesPart most (updates self.old.books) head.old.taken head.new.taken) }
+        ensures kept { OnErr result (head.new.taken ≡ head.old.taken) }
+        ensures refused { IsOkUnless result NoMemory }
+        ensures books { IsSameButTaken self.old.books self.new.books }
+        ensures same { head.new ≡ record head.old { taken = head.new.taken } }
+    {
+        let Desk { spine, heads, .. } = self;
+        let LatchedHead {
+            number,
+            inbox,
+            share: mark,
+            ..
+        } = head;
+        heads.agree(mark);
+        if spine.untaken_count(*number) <= most {
+            return Ok(false);
+        }
+        spine.take_some(*number, most, inbox)?;
+        heads.set(mark, Snapshot::of(spine));
+        Ok(true)
     }
 
     /// The session's open select is answered. Nothing else of the history changes.

@@ -40,7 +40,7 @@ use sw_lang::Cuts;
 use sw_map::CrackerMap;
 use sw_rows::{Call, Cond, Conds, PackedRows, Query, Refusal, Reply, Schema};
 use sw_spine::Record;
-use sw_versions::Naming;
+use sw_versions::{Draft, Naming};
 
 /// How often a thread pauses between looks at a lock or a latch, before it sleeps.
 const PAUSES: u32 = 7;
@@ -55,6 +55,12 @@ const NAPS: u32 = 5;
 /// How long the first of these sleeps is, in microseconds; each one is twice as long as the one before. Who has the latch makes
 /// many selects in a row meanwhile, and the head's data stay in one processor's cache.
 const NAP: u64 = 100;
+
+/// How many updates a head takes in a visit before the one in which its select begins.
+const PART: usize = 1024;
+
+/// In how many such visits it takes all updates that there may be.
+const PARTS: usize = 2048;
 
 fn pause(long: usize) {
     for _ in 0..long {
@@ -237,7 +243,7 @@ impl<J: Naming, M: CrackerMap> Engine<J, M> {
         ensures opened { IfOk result (λ v. v.seen ≡ v.told) }
         ensures refused { IfErr result RefusesViewing }
     {
-        let reader = self.visit(rt).viewer()?;
+        let reader = self.reader(rt)?;
         Ok(Viewer {
             reader,
             of: PhantomData,
@@ -338,6 +344,35 @@ impl<J: Naming, M: CrackerMap> Engine<J, M> {
         }
     }
 
+    /// The tables that the copies for viewers are made of, made outside the lock. Refused `NoMemory` alone.
+    #[tactic(auto, using(sw_spine::proofs::ReplayLemmas::numbered_rise))]
+    fn draft<R: Wait>(&self, rt: &R) -> Result<Draft<J>, Refusal>
+        ensures { IsOkUnless result NoMemory }
+    {
+        // for the prover: the opening rows are in order
+        let _heads = self.opening.heads();
+        let rows = self.opening_rows(rt)?;
+        match Draft::new(self.alloc, &rows) {
+            Ok(draft) => Ok(draft),
+            Err(_) => Err(Refusal::NoMemory),
+        }
+    }
+
+    /// A reader of the copies, which are made of a draft where there are none.
+    fn reader<R: Wait>(&self, rt: &R) -> Result<sw_versions::Viewer<J>, Refusal>
+        ensures opened { IfOk result (λ v. v.seen ≡ v.told) }
+        ensures refused { IfErr result RefusesViewing }
+    {
+        let opened = self.visit(rt).viewer(None);
+        match opened {
+            Err(Refusal::NoMemory) => {
+                let draft = self.draft(rt)?;
+                self.visit(rt).viewer(Some(draft))
+            }
+            opened => opened,
+        }
+    }
+
     /// Makes a head that was never asked, of the opening rows, outside the lock; and gives it the boxes that wait for it.
     fn ready<R: Wait>(&self, rt: &R, head: &mut LatchedHead<J, M>) -> Result<(), Refusal>
         ensures taken { head.new.taken ≡ head.old.taken }
@@ -351,6 +386,28 @@ impl<J: Naming, M: CrackerMap> Engine<J, M> {
             head.make(self.alloc, &self.opening, rows)?;
         }
         head.hand_over()
+    }
+
+    /// The history, for a visit in which the head lacks no more updates than `PART`. Before, it takes the others in visits of
+    /// so many, and receives them between the visits.
+    fn reach<R: Wait>(
+        &self,
+        rt: &R,
+        head: &mut LatchedHead<J, M>,
+    ) -> Result<MutexGuard<'_, LockedDesk<J>>, Refusal>
+        requires { head.old.made ≡ true }
+        ensures made { head.new.made ≡ true }
+        ensures refused { IsOkUnless result NoMemory }
+    {
+        for _ in 0..PARTS {
+            let mut desk = self.visit(rt);
+            if !desk.hand_part(head, PART)? {
+                return Ok(desk);
+            }
+            drop(desk);
+            head.receive()?;
+        }
+        Ok(self.visit(rt))
     }
 
     /// Takes the head's latch and, for a visit each, the lock: the select begins, the head answers, and the reply stands in the
@@ -372,7 +429,11 @@ impl<J: Naming, M: CrackerMap> Engine<J, M> {
         if self.ready(rt, &mut *head).is_err() {
             return Err(Refusal::NoMemory);
         }
-        self.visit(rt).begin(&mut ticket.state, &mut *head, asked)?;
+        let Ok(mut desk) = self.reach(rt, &mut *head) else {
+            return Err(Refusal::NoMemory);
+        };
+        desk.begin(&mut ticket.state, &mut *head, asked)?;
+        drop(desk);
         let Ok((reply, kept)) = head.answer(rt, self.alloc, query) else {
             self.visit(rt).void(&mut ticket.state);
             return Err(Refusal::NoMemory);

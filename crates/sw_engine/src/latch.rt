@@ -140,6 +140,19 @@ impl<J: Naming, M: CrackerMap> LatchedHead<J, M> {
         boxes.hand_all(head)
     }
 
+    /// Takes in what lies in the inbox. Refused `NoMemory` alone; whatever comes, what was taken for the head stays.
+    pub fn receive(&mut self) -> Result<(), Refusal>
+        requires { self.old.made ≡ true }
+        ensures same { self.new ≡ record self.old { held = self.new.held } }
+        ensures refused { IsOkUnless result NoMemory }
+    {
+        let LatchedHead { head, inbox, .. } = self;
+        let Some(head) = head else {
+            unreachable!();
+        };
+        receive_all(head, inbox)
+    }
+
     /// Takes in what lies in the inbox, and answers.
     fn serve<R: Threads + Sync>(
         &mut self,

@@ -1,11 +1,12 @@
 //! What lies under the lock: the desk, and the shelf of what viewers read.
 
-ghost use Rattle.std.specs.Prelude.{◌≡◌, ◌<◌, ◌≤◌, false, None, is_some, length, All, IfErr, IfOk, IsSome, IsSomeAnd, MatchBool, OnErr, OnOk};
+ghost use Rattle.std.specs.Prelude.{◌≡◌, ◌<◌, ◌≤◌, false, None, is_some, length, All, IfErr, IfOk, IsOkUnless, IsSome, IsSomeAnd, MatchBool, OnErr, OnOk};
 ghost use mathlib.Core.List.{IsPrefix};
 ghost use Rattle.sw_query.specs.declared.query.Call.TheVariants.{Select};
+ghost use Rattle.sw_query.specs.declared.refusal.Refusal.TheVariants.{NoMemory};
 ghost use Rattle.sw_spine.specs.Table.{reply_to};
 ghost use Rattle.sw_spine.specs.History.{CallsBelow, is_select};
-ghost use Rattle.sw_spine.specs.Books.{new_books, with_session, with_settled};
+ghost use Rattle.sw_spine.specs.Books.{new_books, updates, with_session, with_settled};
 ghost use Rattle.sw_spine.specs.declared.history.State.TheVariants.{Answered, Void};
 ghost use Rattle.sw_versions.specs.Pending.{HasShownOr, TellsCame};
 ghost use Rattle.sw_versions.specs.Lists.{IsLonger};
@@ -15,7 +16,7 @@ ghost use Rattle.sw_versions.specs.declared.came.Came.TheVariants.{Missed};
 ghost use Rattle.sw_versions.specs.declared.viewer.TheConstants.{MOST_VIEWERS};
 ghost use Rattle.sw_engine.specs.Own.{IsLastOwn, IsNew};
 ghost use Rattle.sw_engine.specs.Sessions.{Answers, Begins, IsRefused, Sees, Settles, Stays};
-ghost use Rattle.sw_engine.specs.Desk.{AreOut, InOrder, IsBegun, IsMade, RefusesMany, RefusesNext};
+ghost use Rattle.sw_engine.specs.Desk.{AreOut, InOrder, IsBegun, IsMade, IsSameButTaken, RefusesMany, RefusesNext, TakesPart};
 ghost use Rattle.sw_engine.specs.Locked.{IsCommitted, IsPublished};
 ghost use Rattle.sw_engine.specs.Published.{EndWithEntries, later, new_viewer, no_versions, TellsAll, with_viewer};
 
@@ -28,7 +29,7 @@ use std::marker::Model;
 use std::sync::Wait;
 use sw_map::CrackerMap;
 use sw_rows::{Call, PackedRows, Query, Refusal, Reply, Update};
-use sw_versions::{Book, Came, Front, Naming, Opened, Shelf, Viewer};
+use sw_versions::{Book, Came, Draft, Front, Naming, Opened, Shelf, Viewer};
 
 /// A publishing that there was no memory for. Only a visit that came to one makes it.
 #[derive(Drop)]
@@ -191,6 +192,22 @@ impl<J: Naming> LockedDesk<J> {
         }
     }
 
+    /// A head that lacks more updates than so many takes the next so many of them at the desk: whether it does.
+    pub fn hand_part<M: CrackerMap>(
+        &mut self,
+        head: &mut LatchedHead<J, M>,
+        most: usize,
+    ) -> Result<bool, Refusal>
+        ensures part { IfOk result (TakesPart most (updates self.old.desk.books) head.old.taken head.new.taken) }
+        ensures kept { OnErr result (head.new.taken ≡ head.old.taken) }
+        ensures refused { IsOkUnless result NoMemory }
+        ensures books { IsSameButTaken self.old.desk.books self.new.desk.books }
+        ensures shelf { self.new.shelf ≡ self.old.shelf }
+        ensures same { head.new ≡ record head.old { taken = head.new.taken } }
+    {
+        self.desk.hand_part(head, most)
+    }
+
     /// The session's open select is answered at the desk.
     pub fn finish(&mut self, session: &mut SessionState<J>, reply: Reply)
         requires { IsSomeAnd session.old.waits (λ w. reply ≡ reply_to J.limit w.1 w.0) }
@@ -326,19 +343,18 @@ impl<J: Naming> LockedDesk<J> {
         self.desk.place(&mut ticket.state)
     }
 
-    /// A viewer, which has learnt what is published. The first one has the two copies of the rows made.
+    /// A viewer, which has learnt what is published. The first one has the two copies of the rows made of a draft.
     ///
-    /// Refused `NoMemory` where there is no memory for them, and `TooMany` of limit 16 where that many viewers were
+    /// Refused `NoMemory` where there is no draft or no memory for them, and `TooMany` of limit 16 where that many viewers were
     /// ever opened, or no place for a reader was got; then nothing has changed.
-    pub fn viewer(&mut self) -> Result<Viewer<J>, Refusal>
+    pub fn viewer(&mut self, draft: Option<Draft<J>>) -> Result<Viewer<J>, Refusal>
         ensures few { OnOk result (self.old.shelf.viewers < MOST_VIEWERS) }
         ensures opened { IfOk result (λ v. v ≡ new_viewer self.old.shelf) }
         ensures entries { IfOk result (λ v. EndWithEntries J.limit J.opening self.new.desk.books.entries v.seen) }
         ensures counted { OnOk result (self.new ≡ record self.old { shelf = with_viewer self.old.shelf }) }
         ensures refused { IfErr result (λ e. (self.new ≡ self.old) × RefusesViewer self.old.shelf.viewers e) }
     {
-        let LockedDesk { desk, shelf, .. } = self;
-        shelf.viewer(desk.opening_rows(), desk.later())
+        self.shelf.viewer(draft, self.desk.later())
     }
 
     /// Waits for the readers, and ends the writer. The desk is left.

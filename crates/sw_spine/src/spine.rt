@@ -1,6 +1,6 @@
 //! The spine.
 
-ghost use Rattle.std.specs.Prelude.{ℕ, ◌≡◌, ◌<◌, ◌≤◌, ◌-◌, ◌++◌, ◌∷◌, [], true, false, Some, None, drop, length, slice_index_or, slice_set, IfErr, IfOk, IfSome, IsSome, IsSomeAnd, MatchResult, OnErr, OnOk};
+ghost use Rattle.std.specs.Prelude.{ℕ, ◌≡◌, ◌<◌, ◌≤◌, ◌-◌, ◌++◌, ◌∷◌, [], true, false, Some, None, drop, length, slice_index_or, slice_set, IfErr, IfOk, IfSome, IsOkUnless, IsSome, IsSomeAnd, MatchResult, OnErr, OnOk};
 ghost use Rattle.sw_lang.specs.Learning.{knowing, learned};
 ghost use Rattle.sw_lang.specs.Reading.{Answers, line_at, refused};
 ghost use Rattle.sw_table.specs.Updates.{rows_of};
@@ -9,12 +9,13 @@ ghost use Rattle.sw_rows.specs.Header.{has_texts, texts_of};
 ghost use Rattle.sw_rows.specs.Texts.{cell_given, is_text};
 ghost use Rattle.sw_spine.specs.Listed.{met};
 ghost use Rattle.sw_query.specs.declared.query.Call.TheVariants.{Select, Insert, Delete, DeleteWhere};
+ghost use Rattle.sw_query.specs.declared.refusal.Refusal.TheVariants.{NoMemory};
 ghost use Rattle.sw_spine.specs.Table.{inserted, is_numbered, removed, reply_to, updates_then};
 ghost use Rattle.sw_spine.specs.History.{CallsBelow, IsLegal, IsSound, all_given, is_absent, is_select, mine, open_place, settled};
 ghost use Rattle.sw_spine.specs.Receivable.{AreUpdates};
 ghost use Rattle.sw_spine.specs.Rest.{none_open};
 ghost use Rattle.sw_rows.specs.declared.table.TheConstants.{MOST_ROWS};
-ghost use Rattle.sw_spine.specs.Books.{HasAnswered, HasBegun, HasOneMore, IsCount, IsNewSpine, IsNotBegun, IsRefusedBy, KeepsOtherHeads, KeepsOthers, KeepsTaken, Opens, RefusesEntry, RefusesRows, RefusesSession, forgetting, history_of, is_opened, reply_now, took, untaken, updates, waits_for, with_answered, with_columns, with_open, with_published, with_settled};
+ghost use Rattle.sw_spine.specs.Books.{HasAnswered, HasBegun, HasOneMore, IsCount, IsNewSpine, IsNotBegun, IsRefusedBy, KeepsOtherHeads, KeepsOthers, KeepsTaken, Opens, RefusesEntry, RefusesRows, RefusesSession, forgetting, history_of, is_opened, next_for, reply_now, took, untaken, updates, waits_for, with_answered, with_columns, with_open, with_published, with_settled, with_taken};
 ghost use Rattle.sw_spine.specs.declared.history.State.TheVariants.{Answered, Void};
 
 use crate::given::Given;
@@ -328,6 +329,47 @@ impl Spine {
         });
         self.places[(session - 1) as usize] = Some(place);
         self.taken[head] = self.store.count();
+        Ok(())
+    }
+
+    /// How many updates a head has not taken. The caller's condition: the head's number is below 8.
+    pub fn untaken_count(&self, head: usize) -> usize
+        requires { head < 8 }
+        ensures { result ≡ length (untaken head self.now) }
+    {
+        self.store.since(self.taken[head]).len()
+    }
+
+    /// The next updates that a head has not taken, up to so many, go to the inbox's end and count as taken. So a head that lacks
+    /// many takes them in several visits, and the one in which its select begins hands over what came since.
+    ///
+    /// Refused `NoMemory` alone; then nothing has changed. The caller's condition: the head's number is below 8.
+    pub fn take_some(
+        &mut self,
+        head: usize,
+        most: usize,
+        inbox: &mut Vec<Update>,
+    ) -> Result<(), Refusal>
+        requires head { head < 8 }
+        ensures taken { OnOk result (self.new ≡ with_taken head most self.old) }
+        ensures inbox { OnOk result (inbox.new.items ≡ inbox.old.items ++ next_for head most self.old) }
+        ensures kept { OnErr result ((self.new ≡ self.old) × (inbox.new.items ≡ inbox.old.items)) }
+        ensures refused { IsOkUnless result NoMemory }
+
+        // What follows of the books.
+        ensures took { OnOk result (took head self.new ≡ took head self.old ++ next_for head most self.old) }
+        ensures heads { KeepsOtherHeads head self.old self.new }
+        ensures may_come { AreUpdates self.new.limit (took head self.new) }
+    {
+        // for the prover: the number of updates fits
+        let _all = self.store.count();
+        let from = self.taken[head];
+        let lacked = self.store.since(from);
+        let next = &lacked[..most.min(lacked.len())];
+        if inbox.extend_from_slice(next).is_err() {
+            return Err(Refusal::NoMemory);
+        }
+        self.taken[head] = from + next.len();
         Ok(())
     }
 

@@ -5,6 +5,7 @@
 mod book;
 mod came;
 mod copies;
+mod draft;
 mod live;
 mod op;
 mod pair;
@@ -14,5 +15,6 @@ mod visits;
 
 pub use book::{Book, Front, Naming, Opened};
 pub use came::Came;
+pub use draft::Draft;
 pub use shelf::Shelf;
 pub use viewer::{MOST_VIEWERS, Viewer};

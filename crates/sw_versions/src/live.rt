@@ -39,19 +39,22 @@ fn make(table: &mut LiveTable, update: &Update) -> Result<(), AllocError>
     }
 }
 
-/// The table that updates leave of opening rows, with as many cells a row as those have.
-pub(crate) fn table_after(
-    alloc: Global,
-    opening: &PackedRows,
-    updates: &[Update],
-) -> Result<LiveTable, AllocError>
-    requires { RisesFrom 0 opening.now.items }
-    ensures { IfOk result (λ t. live_rows t ≡ rows_after opening.now.items updates.now) }
+/// Makes updates of a table, in order.
+pub(crate) fn make_all(table: &mut LiveTable, updates: &[Update]) -> Result<(), AllocError>
+    ensures { OnOk result (live_rows table.new ≡ rows_after (live_rows table.old) updates.now) }
 {
-    let mut table = LiveTable::from_rows(alloc, opening)?;
     for update in updates {
-        make(&mut table, update)?;
+        make(table, update)?;
     }
+    Ok(())
+}
+
+/// The table of opening rows, with as many cells a row as those have.
+pub(crate) fn table_of(alloc: Global, opening: &PackedRows) -> Result<LiveTable, AllocError>
+    requires { RisesFrom 0 opening.now.items }
+    ensures { IfOk result (λ t. live_rows t ≡ opening.now.items) }
+{
+    let table = LiveTable::from_rows(alloc, opening)?;
     Ok(table)
 }
 

@@ -2,7 +2,6 @@
 
 ghost use Rattle.std.specs.Prelude.{◌≡◌, ◌⊎◌, ◌<◌, ◌+◌, IfErr, IfOk, MatchBool, OnErr, OnOk};
 ghost use mathlib.Core.List.{IsPrefix};
-ghost use Rattle.sw_table.specs.Live.{RisesFrom};
 ghost use Rattle.sw_versions.specs.Known.{opened_over, wrote};
 ghost use Rattle.sw_versions.specs.Lists.{IsLonger};
 ghost use Rattle.sw_versions.specs.Pending.{CameOf, HasBookedOr, HasShownOr, TellsCame, all_of};
@@ -13,13 +12,13 @@ ghost use Rattle.sw_versions.specs.declared.viewer.TheConstants.{MOST_VIEWERS};
 use crate::book::{Book, Front, Naming};
 use crate::came::Came;
 use crate::copies::Copies;
-use crate::live::table_after;
+use crate::draft::Draft;
 use crate::viewer::{MOST_VIEWERS, Viewer};
 use std::alloc::{AllocError, Global};
 use std::marker::Model;
 use std::sync::Wait;
 use sw_rows::Refusal;
-use sw_table::{PackedRows, Update};
+use sw_table::Update;
 
 /// The updates that stand in the book, and those of them that are published. Without a viewer there are no copies of the rows,
 /// and what is published is a number.
@@ -199,26 +198,25 @@ impl<J: Naming> Shelf<J> {
 
     /// Two copies of the rows that are published.
     #[tactic(auto, using(crate::proofs::Prefixes::prefix_taken))]
-    fn begin(&self, opening: &PackedRows, updates: &[Update]) -> Result<Copies<J>, AllocError>
-        requires rows { opening.now.items ≡ J.opening }
-        requires rise { RisesFrom 0 J.opening }
+    fn begin(&self, draft: Draft<J>, updates: &[Update]) -> Result<Copies<J>, AllocError>
         requires begins { IsPrefix (updates_in self.now.booked) updates.now }
         ensures { IfOk result (λ c. c ≡ wrote self.now.booked) }
     {
         let booked = &updates[..self.booked.len() as usize];
-        let first = table_after(self.alloc, opening, booked)?;
-        let second = table_after(self.alloc, opening, booked)?;
+        let (first, second) = draft.after(booked)?;
         Copies::new(self.alloc, first, second, &self.booked)
     }
 
-    /// A viewer, which has learnt what is published. The first one has the copies made.
+    /// A viewer, which has learnt what is published. The first one has the copies made of a draft.
     ///
-    /// Refused `NoMemory` where there is no memory for them, and `TooMany` of limit 16 where that many viewers were ever opened,
-    /// or no place for a reader was got; then nothing has changed. The caller's conditions: these are the opening rows, with
-    /// keys that rise from above 0, and what stands in the book begins the updates after them.
-    pub fn viewer(&mut self, opening: &PackedRows, updates: &[Update]) -> Result<Viewer<J>, Refusal>
-        requires rows { opening.now.items ≡ J.opening }
-        requires rise { RisesFrom 0 J.opening }
+    /// Refused `NoMemory` where there is no draft or no memory for them, and `TooMany` of limit 16 where that many viewers were ever
+    /// opened, or no place for a reader was got; then nothing has changed. The caller's condition: what stands in the book begins the
+    /// updates after the opening rows.
+    pub fn viewer(
+        &mut self,
+        draft: Option<Draft<J>>,
+        updates: &[Update],
+    ) -> Result<Viewer<J>, Refusal>
         requires begins { IsPrefix (updates_in self.old.booked) updates.now }
         ensures few { OnOk result (self.old.viewers < MOST_VIEWERS) }
         ensures opened { IfOk result (λ v. v ≡ opened_over self.old.published) }
@@ -226,7 +224,10 @@ impl<J: Naming> Shelf<J> {
         ensures refused { IfErr result (λ e. (self.new ≡ self.old) × RefusesViewer self.old.viewers e) }
     {
         if self.copies.is_none() {
-            match self.begin(opening, updates) {
+            let Some(draft) = draft else {
+                return Err(Refusal::NoMemory);
+            };
+            match self.begin(draft, updates) {
                 Ok(copies) => self.copies = Some(copies),
                 Err(_) => return Err(Refusal::NoMemory),
             }

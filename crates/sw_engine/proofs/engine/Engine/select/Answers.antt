@@ -18,6 +18,9 @@ returns-in_default-clause-refused g c = (inl (stays_self c.args.ticket.now), (tt
 pub returns-then-is_err-clause-refused : goal.returns-then-is_err-clause-refused
 returns-then-is_err-clause-refused g c = (inl (stays_self c.args.ticket.now), (tt, tt))
 
+pub returns-in_default-reach-clause-refused : goal.returns-in_default-reach-clause-refused
+returns-in_default-reach-clause-refused g c = (inl (stays_self c.args.ticket.now), (tt, tt))
+
 pub returns-in_default-answer-clause-refused : goal.returns-in_default-answer-clause-refused
 returns-in_default-answer-clause-refused g c = (
   inr (subst (λ (v : Shown). Voids c.args.query.now v c.void.new.session.shown) c.ticket.view_is

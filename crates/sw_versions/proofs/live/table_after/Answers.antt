@@ -1,7 +1,0 @@
-use Rattle.std.proofs.Common.{◌∙◌, ap, length, refl}
-use Rattle.sw_table.specs.Live.{live_rows}
-use Rattle.sw_table.proofs.LiveLaws.{kept-fresh}
-use Rattle.sw_versions.proofs.live.table_after.Goals as goal
-
-pub loop-update-init : goal.loop-update-init
-loop-update-init c = ap live_rows c.in_ok-table.ensures ∙ kept-fresh (length c.args.opening.now.items) c.args.opening.now.items refl
