@@ -63,6 +63,7 @@ class Cases:
                   b"count\nselect b where a >= 10\n")
         self.case("a history of such a run", ["run", "--table", "-", "--history", "h.json"] + calls, 0, replies, "", TABLE)
         self.case("its check", ["check", "h.json"], 0, "legal: 2 entries\n", "")
+        self.case("its check from standard input", ["check", "-"], 0, "legal: 2 entries\n", "", (self.folder / "h.json").read_bytes())
         self.refused("both of standard input", ["run", "--table", "-", "--script", "-"], "cannot both be standard input", TABLE)
         self.refused("a call of two lines", ["run", "--table", "t.csv", "-e", "count\ncount"], "a call of -e is one line")
         self.refused("a script and a call", ["run", "--table", "t.csv", "--script", "s.txt", "-e", "count"], "cannot be used with")
@@ -96,6 +97,10 @@ class Cases:
         made("semicolons", b"a;b\n1;2\n", ints, ["a:int", "b:int"], ["--delimiter", ";"])
         made("semicolons that divide nothing", b"a;b\n1;2\n", "a_b:text\n1;2\n",
              ["a_b:text; heading `a;b`", "one column, whose heading has a divider: --delimiter ';' divides there"])
+        made("semicolons that divide nothing, without headings", b"1;2\n3;4\n", "column_1:text\n1;2\n3;4\n",
+             ["column_1:text", "one column, whose first cell has a divider: --delimiter ';' divides there"], ["--no-header"], (2, 2))
+        made("columns without a heading", b"a,b,c,d,e,f,g,,\n1,2,3,4,5,6,7,8,9\n", "a:int,b:int,c:int,d:int,e:int,f:int,g:int,column:int\n1,2,3,4,5,6,7,8\n",
+             ["%s:int" % name for name in "abcdefg"] + ["column:int; column 8 without a heading", "not written: column 9 without a heading"])
         made("headings that stand twice", b"a,a,a\n1,2,3\n", "a:int,a_2:int,a_3:int\n1,2,3\n",
              ["a:int", "a_2:int; heading `a`", "a_3:int; heading `a`"])
         made("control characters in a heading", b'"a\x1b[1m\nb"\n1\n', "a_1m_b:int\n1\n", ["a_1m_b:int; heading `a\\x1b[1m\\x0ab`"])
@@ -120,22 +125,27 @@ class Cases:
         got = self.case("5,000 columns", ["import", "-", "--columns", "c4999,1"], 0, "c4999:int,c0:int\n4999,0\n", ANY, wide)
         if not got[2].endswith(" and 4974 more\n"):
             raise Wrong("WRONG: how many columns are not written is not told: %r" % got[2][-80:])
+        blank = ("cells without a value: 1 in column %s, the first in line 3; choose: --empty drop leaves their rows out, --empty VALUE writes VALUE "
+                 "in their place, --empty text makes texts of the column")
         ragged = "--ragged fill takes fields that are missing at the end for empty ones"
         refused("an empty file", b"", "there is no record, and so no heading")
         refused("empty lines", b"\n\n\n", "there is no record, and so no heading")
         refused("an empty file without headings", b"", "there is no record", ["--no-header"])
         refused("a record too long without headings", b"1,2\n1,2,3\n", "line 2: 3 fields, and the first record has 2", ["--no-header"])
-        refused("a record too short without headings", b"1,2\n1\n", "line 2: 1 fields, and the first record has 2; " + ragged, ["--no-header"])
+        refused("a record too short without headings", b"1,2\n1\n", "line 2: 1 field, and the first record has 2; " + ragged, ["--no-header"])
         refused("a record too long", b"a,b\n1,2,3\n", "line 2: 3 fields, and the header has 2")
         refused("a record too long, where short ones are filled", b"a,b\n1,2,3\n", "line 2: 3 fields, and the header has 2", ["--ragged", "fill"])
         refused("semicolons, and commas behind them", b"a;b\n1;2,5\n", "line 2: 2 fields, and the header has 1; one column, whose heading has a "
                 "divider: --delimiter ';' divides there")
+        refused("semicolons, and commas behind them, without headings", b"a;b\n1;2,5\n", "line 2: 2 fields, and the first record has 1; one column, "
+                "whose first cell has a divider: --delimiter ';' divides there", ["--no-header"])
+        refused("an empty cell of a column without a heading", b"a,\nx,1\ny,\n", blank % "2 without a heading")
         refused("tabs", b"a\tb\n1\t2\n", "texts of more than 64 bytes, or with bytes below 32 or 127: 1 in column 1 (a\\x09b), the first in line 2; "
                 "choose: --long cut writes the longest beginning that can be a text, --long drop leaves their rows out, --long number writes numbers "
                 "that stand for the texts; one column, whose heading has a divider: --delimiter '\\t' divides there")
-        refused("a record too short, behind two lines", b'a,b\n"x\ny",1\n1\n', "line 4: 1 fields, and the header has 2; " + ragged)
-        refused("a record too short, behind an empty line, all with CR LF", b"a,b\r\n1,2\r\n\r\n3\r\n", "line 4: 1 fields, and the header has 2; " + ragged)
-        refused("a quote that is not closed", b'a,b\n"x,1\n2,3\n', "line 2: 1 fields, and the header has 2; " + ragged)
+        refused("a record too short, behind two lines", b'a,b\n"x\ny",1\n1\n', "line 4: 1 field, and the header has 2; " + ragged)
+        refused("a record too short, behind an empty line, all with CR LF", b"a,b\r\n1,2\r\n\r\n3\r\n", "line 4: 1 field, and the header has 2; " + ragged)
+        refused("a quote that is not closed", b'a,b\n"x,1\n2,3\n', "line 2: 1 field, and the header has 2; " + ragged)
         refused("Latin-1", b"name,n\nJos\xe9,1\n", "texts that are not UTF-8: 1 in column 1 (name), the first in line 2; iconv -f LATIN1 -t UTF-8 makes UTF-8 "
                 "of a file in Latin-1")
         for mark, coding in ((b"\xff\xfe", "utf-16-le"), (b"\xfe\xff", "utf-16-be")):
@@ -147,13 +157,11 @@ class Cases:
 
         # What can be no table
         a_name = "a name has 1 to 32 letters, digits and underscores, begins with no digit, and is no word of scripts"
-        blank = ("cells without a value: 1 in column 1 (a), the first in line 3; choose: --empty drop leaves their rows out, --empty VALUE writes VALUE "
-                 "in their place, --empty text makes texts of the column")
         refused("a heading of two columns", b"a,a,b\n1,2,3\n", "2 columns have the heading `a`: give the number of one", ["--columns", "a"])
         refused("a name that is none", b"a\n1\n", "`1x` is no name: " + a_name, ["--rename", "a=1x"])
         refused("a name that is a word of scripts", b"a\n1\n", "`count` is no name: " + a_name, ["--rename", "a=count"])
-        refused("cells without a value", b"a,b\n1,x\n,y\n", blank)
-        refused("cells without a value, by a word", b"a,b\n1,x\nNA,y\n", blank, ["--null", "NA"])
+        refused("cells without a value", b"a,b\n1,x\n,y\n", blank % "1 (a)")
+        refused("cells without a value, by a word", b"a,b\n1,x\nNA,y\n", blank % "1 (a)", ["--null", "NA"])
         refused("a value of another kind", b"a,b\n1,x\n,y\n", "`x` in place of cells without a value is no int: column 1 (a)", ["--empty", "x"])
         refused("a row too many", b"a\n" + b"1\n" * 1048577, "line 1048578: more than 1048576 rows; --sample N writes the first N")
         texts = b"".join(b"a%d,b%d\n" % (row, row) for row in range(524289))
@@ -232,11 +240,20 @@ class Cases:
         self.case("a description", ["describe", "cities.csv", "--header", "-,-,-,ok:flag"], 0,
                   "rows 3\n\nname  kind  distinct  least  greatest\nok    flag  2         false  true\n", "")
         self.case("too few words", run + ["city:text,-,price:fix2", "-e", "count"], 2, "",
-                  "sideways: refused 2 record 1 field 3\ncities.csv line 2: 3 fields, the header has 2\n")
+                  "sideways: refused 2 record 1 field 3\ncities.csv line 2: 4 fields, --header has 3\n")
         self.case("too many words", run + ["-,n,-,-,more", "-e", "count"], 2, "",
-                  "sideways: refused 2 record 1 field 2\ncities.csv line 2: 1 field, the header has 2: more:int is missing\n")
+                  "sideways: refused 2 record 1 field 2\ncities.csv line 2: 4 fields, --header has 5: more is missing\n")
         self.case("all that is missing would be passed by", run + ["-,-,-,ok:flag,-", "-e", "count"], 2, "",
-                  "sideways: refused 2 record 1 field 2\ncities.csv line 2: 2 fields, the header has 1\n")
+                  "sideways: refused 2 record 1 field 2\ncities.csv line 2: 4 fields, --header has 5\n")
+        short = b"x,y\n1,2\n\n3\n4,5,6\n"
+        (self.folder / "short.csv").write_bytes(short)
+        self.case("a record that is too short for what is passed by", ["run", "--table", "short.csv", "--header", "a,-", "-e", "count"], 2, "",
+                  "sideways: refused 2 record 2 field 2\nshort.csv line 4: 1 field, --header has 2\n")
+        self.case("the same of all faults", ["describe", "short.csv", "--header", "a,-", "--all-faults"], 2, "",
+                  "sideways: refused 2 record 2 field 2\nshort.csv line 4: 1 field, --header has 2\nshort.csv line 5: 3 fields, --header has 2\n"
+                  "short.csv: 2 faults\n")
+        self.case("the same of standard input", ["run", "--table", "-", "--header", "a,-", "-e", "count"], 2, "",
+                  "sideways: refused 2 record 2 field 2\nstandard input line 4: another number of fields than --header has, 2\n", short)
         self.case("a cell of another kind", run + ["-,-,price:fix1,-", "-e", "count"], 2, "",
                   "sideways: refused 2 record 2 field 1\n"
                   "cities.csv line 3, price:fix1: 2 decimals, wanted a number with at most 1 decimal: '-0.25'\n")
@@ -421,7 +438,10 @@ class Cases:
         one = (self.folder / "one.csv").read_bytes()
         self.case("a log of standard input", ["order", "--table", "t.csv", "-", "two.csv", "--keys", "any"], 0, self.history(5), "", one)
         self.case("the table of standard input", ["order", "--table", "-", "one.csv", "two.csv", "--keys", "any"], 0, self.history(5), "", TABLE)
-        self.case("a log of standard input that is none", ["order", "--table", "t.csv", "-"], 2, "", ANY, b"x\n")
+        self.case("a log of standard input that is none", ["order", "--table", "t.csv", "-"], 2, "",
+                  "standard input line 1, header: wanted the columns session, start, end, call, reply\n", b"x\n")
+        for names in (["-", "-", "one.csv"], ["t.csv", "-", "-"]):
+            self.refused("standard input twice", ["order", "--table"] + names, "of the table and the logs only one can be standard input")
         self.refused("keys that are neither", words + ["--keys", "some"], "counted")
 
     def flaws(self):
@@ -441,11 +461,24 @@ class Cases:
                 ("a call of another table", head + "1,0,1,count where d = 1,4\n", "line 2, call: wanted an attribute of the table, and d is none")):
             (self.folder / "odd.csv").write_bytes(log if isinstance(log, bytes) else log.encode())
             self.case("a log with %s" % name, ["order", "--table", "t.csv", "odd.csv"], 2, "", "odd.csv %s\n" % told)
-        self.case("a log that is not there", ["order", "--table", "t.csv", "none.csv"], 2, "", "none.csv: cannot be read\n")
+        self.case("a log that is not there", ["order", "--table", "t.csv", "none.csv"], 2, "",
+                  "sideways: refused 12\nnone.csv: there is no such file\n")
+        self.case("a log that is a folder", ["order", "--table", "t.csv", "folder"], 2, "", "sideways: refused 12\nfolder: a folder, wanted a file\n")
         self.case("a table that is not there", ["order", "--table", "none.csv", "odd.csv"], 2, "",
                   "sideways: refused 12\nnone.csv: there is no such file\n")
         self.case("a table that is a folder", ["order", "--table", "folder", "odd.csv"], 2, "",
                   "sideways: refused 12\nfolder: a folder, wanted a file\n")
+        self.case("a history of standard input that is none", ["check", "-"], 2, "", "sideways: refused 3 line 0 why History\n"
+                  "standard input: it is no history file as run --history writes one\n", b"x\n")
+        self.logs(5)
+        order = ["order", "--table", "t.csv", "one.csv", "two.csv"]
+        self.ended("an order to a full device", order, "stdout", "/dev/full", 3, FULL)
+        self.gone("an order whose reader is gone", order)
+        self.case("origins to a file in no folder", order + ["--where", "none/w.csv"], 3, self.history(5),
+                  "sideways: refused 13\nnone/w.csv: it cannot be written\n")
+        (self.folder / "h.json").write_text(self.history(5))
+        self.ended("a verdict to a full device", ["check", "h.json"], "stdout", "/dev/full", 3, FULL)
+        self.gone("a verdict whose reader is gone", ["check", "h.json", "--explain"])
         self.case("a history that is none", ["check", "t.csv"], 2, "",
                   "sideways: refused 3 line 0 why History\nt.csv: it is no history file as run --history writes one\n")
         self.case("a history that is not there", ["check", "none.json"], 2, "", "sideways: refused 12\nnone.json: there is no such file\n")

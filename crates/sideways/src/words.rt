@@ -160,7 +160,7 @@ const CHECK: Verb = Verb {
             of: "FILE",
             takes: Takes::Place,
             usual: None,
-            help: "The history file",
+            help: "The history file; - is standard input",
         },
         Word {
             name: "explain",

@@ -4,6 +4,7 @@ ghost use Rattle.std.specs.Prelude.{◌≡◌, ◌⊎◌, IfOk};
 
 use crate::inputs::Place;
 use crate::origins::Origins;
+use crate::outflow::{Outflow, Reader};
 use crate::wording;
 use std::alloc::Global;
 use std::io;
@@ -27,7 +28,7 @@ fn origins_of<R: Files>(rt: &R, alloc: Global, path: Option<&str>) -> Result<Ori
     let Some(path) = path else {
         return Ok(Origins::none(alloc));
     };
-    let bytes = read_file(rt, alloc, path)?;
+    let bytes = read_file(rt, alloc, Place::new(path).path())?;
     match Origins::read(alloc, bytes.as_slice()) {
         Ok(origins) => Ok(origins),
         Err(_) => Err(Refusal::NoMemory),
@@ -66,11 +67,12 @@ fn check_bytes<R: Files + RandomSource + Print>(
     alloc: Global,
     bytes: &[u8],
     telling: Telling<'_>,
+    reader: &Reader,
 ) -> Result<u8, Refusal>
     ensures { IfOk result (λ status. (status ≡ 0) ⊎ (status ≡ 1)) }
 {
     let key = TextKey::new(rt)?;
-    let mut out = Counted::new(io::writer(rt));
+    let mut out = Counted::new(Outflow::new(io::writer(rt), reader));
     if telling.explains {
         let origins = origins_of(rt, alloc, telling.origins)?;
         explain_from(alloc, key, bytes, &origins, &mut out)
@@ -84,7 +86,7 @@ fn check_bytes<R: Files + RandomSource + Print>(
 fn why_refused<R: Files>(
     rt: &R,
     alloc: Global,
-    path: &str,
+    place: Place<'_>,
     bytes: &[u8],
     telling: Telling<'_>,
     refusal: &Refusal,
@@ -96,16 +98,16 @@ fn why_refused<R: Files>(
             Place::new(origins),
             refusal,
         ),
-        _ => wording::of_history(alloc, path, bytes, refusal),
+        _ => wording::of_history(alloc, place, bytes, refusal),
     }
 }
 
-/// Reads a history file and writes the verdict on it, and what else is told of it; answers the exit status, 0 where it is
-/// legal, else 1.
+/// Reads a history file, `-` being standard input, and writes the verdict on it, and what else is told of it; answers the
+/// exit status, 0 where it is legal, else 1.
 ///
 /// Refused `Input` where a file cannot be opened or read, or the system gives no random bytes for the key of texts, as
-/// `check_file` refuses its bytes, and `Output` where the verdict cannot be written. Which file cannot be read, and what is
-/// wrong with an entry that is refused, is put into `words`, as a line.
+/// `check_file` refuses its bytes, and `Output` where the verdict cannot be written. Which file cannot be read, what is wrong
+/// with an entry that is refused, and why the verdict cannot be written, is put into `words`, as a line.
 pub fn check_path<R: Files + RandomSource + Print>(
     rt: &R,
     alloc: Global,
@@ -115,17 +117,22 @@ pub fn check_path<R: Files + RandomSource + Print>(
 ) -> Result<u8, Refusal>
     ensures { IfOk result (λ status. (status ≡ 0) ⊎ (status ≡ 1)) }
 {
-    let bytes = match read_file(rt, alloc, path) {
+    let place = Place::new(path);
+    let bytes = match read_file(rt, alloc, place.path()) {
         Ok(bytes) => bytes,
         Err(refusal) => {
-            *words = wording::of_file(rt, alloc, Place::new(path), &refusal);
+            *words = wording::of_file(rt, alloc, place, &refusal);
             return Err(refusal);
         }
     };
-    match check_bytes(rt, alloc, bytes.as_slice(), telling) {
+    let reader = Reader::new();
+    match check_bytes(rt, alloc, bytes.as_slice(), telling, &reader) {
         Ok(status) => Ok(status),
         Err(refusal) => {
-            *words = why_refused(rt, alloc, path, bytes.as_slice(), telling, &refusal);
+            *words = match &refusal {
+                Refusal::Output => wording::of_output(alloc, &reader, &refusal),
+                _ => why_refused(rt, alloc, place, bytes.as_slice(), telling, &refusal),
+            };
             Err(refusal)
         }
     }

@@ -7,9 +7,10 @@ ghost use Rattle.sw_logs.specs.Orders.{AllFit};
 use crate::clash::is_output;
 use crate::flaws;
 use crate::inputs::Place;
+use crate::outflow::{Outflow, Reader};
 use crate::seeing::{Seen, Sights};
 use crate::settings::Limit;
-use crate::wording::of_file;
+use crate::wording::{called, of_file, of_output, of_unwritten};
 use std::alloc::Global;
 use std::io;
 use std::random::RandomSource;
@@ -18,8 +19,11 @@ use sw_files::{FileId, begin_file, open_input, read_file};
 use sw_histories::write_record;
 use sw_lang::{write_all, write_number};
 use sw_logs::{By, Fault, Logged, Opening, Order, read_log, read_opening};
-use sw_order::{Onlooker, Outcome, Rules, find_order, write_reached};
+use sw_order::{Onlooker, Outcome, Reached, Rules, find_order, write_reached};
 use sw_rows::{Counted, Refusal, Schema, Sink, TextKey};
+
+/// What is wrong with files of which more than one is standard input.
+const BOTH_STANDARD: &str = "of the table and the logs only one can be standard input";
 
 /// How an order is looked for.
 #[derive(Clone, Copy)]
@@ -53,7 +57,9 @@ pub struct Ordering<'a> {
 enum Unread {
     /// The table, memory or the system is refused.
     Refused(Refusal),
-    /// A log is, and what is told of it.
+    /// A log cannot be read, and why in words.
+    Unopened(Option<String>),
+    /// A log is none, and what is told of it.
     Told(String),
 }
 
@@ -68,17 +74,18 @@ fn refused(alloc: Global, path: &str, bytes: &[u8], fault: &Fault) -> Unread {
     if let Fault::NoMemory = fault {
         return Unread::Refused(Refusal::NoMemory);
     }
-    match flaws::told(alloc, path, bytes, fault) {
+    match flaws::told(alloc, called(Place::new(path)), bytes, fault) {
         Ok(told) => Unread::Told(told),
         Err(_) => Unread::Refused(Refusal::NoMemory),
     }
 }
 
 /// The bytes of a log.
-fn bytes_of<R: Files>(rt: &R, alloc: Global, log: u64, path: &str) -> Result<Vec<u8>, Unread> {
-    match read_file(rt, alloc, Place::new(path).path()) {
+fn bytes_of<R: Files>(rt: &R, alloc: Global, path: &str) -> Result<Vec<u8>, Unread> {
+    let place = Place::new(path);
+    match read_file(rt, alloc, place.path()) {
         Ok(bytes) => Ok(bytes),
-        Err(Refusal::Input) => Err(refused(alloc, path, &[], &Fault::Input { log })),
+        Err(Refusal::Input) => Err(Unread::Unopened(of_file(rt, alloc, place, &Refusal::Input))),
         Err(refusal) => Err(Unread::Refused(refusal)),
     }
 }
@@ -95,7 +102,7 @@ fn read_one<R: Files>(
     requires { AllFit (length schema.old) calls.old.items }
     ensures { OnOk result (AllFit (length schema.new) calls.new.items) }
 {
-    let bytes = bytes_of(rt, alloc, log, path)?;
+    let bytes = bytes_of(rt, alloc, path)?;
     match read_log(
         alloc,
         schema,
@@ -223,59 +230,40 @@ fn write_origins<W: Sink>(
     Ok(())
 }
 
-/// Keeps from which records the entries came, where that is asked.
+/// Writes from which records entries came to the file of a path.
 fn keep_origins<R: Files>(
     rt: &R,
     alloc: Global,
-    ordering: &Ordering<'_>,
-    calls: &[Logged],
-    order: &Order,
+    origins: &[u8],
+    path: &str,
 ) -> Result<(), Refusal> {
-    let Some(path) = ordering.origins else {
-        return Ok(());
-    };
-    let mut text = Counted::new(Vec::new(alloc));
-    write_origins(ordering.logs, calls, order.places.as_slice(), &mut text)?;
     let mut file = begin_file(rt, alloc, path)?;
-    let written = write_all(&mut file, text.inner.as_slice());
+    let written = write_all(&mut file, origins);
     file.end(rt, written)
 }
 
-/// Writes the history of an order that was found, and from where its entries came.
-fn write_found<R: Files + Print>(
-    rt: &R,
-    alloc: Global,
-    ordering: &Ordering<'_>,
+/// Tells that there is no order. Answers the exit status.
+fn tell_none<E: Sink>(
+    logs: &[&str],
     calls: &[Logged],
-    order: &Order,
-) -> Result<u8, Refusal> {
-    write_record(alloc, &order.history, &mut Counted::new(io::writer(rt)))?;
-    keep_origins(rt, alloc, ordering, calls, order)?;
-    Ok(0)
-}
-
-/// Writes what came of looking for an order, and answers the exit status.
-fn tell<R: Files + Print, E: Sink>(
-    rt: &R,
-    alloc: Global,
-    ordering: &Ordering<'_>,
-    calls: &[Logged],
-    outcome: &Outcome,
+    reached: &Reached,
     errors: &mut E,
 ) -> Result<u8, Refusal> {
-    match outcome {
-        Outcome::Found(order) => write_found(rt, alloc, ordering, calls, order),
-        Outcome::NoOrder(reached) => {
-            write_reached("no order", ordering.logs, calls, reached, errors)?;
-            Ok(1)
-        }
-        Outcome::GivenUp(reached) => {
-            write_all(errors, b"given up after ")?;
-            write_number(reached.states, errors)?;
-            write_reached(" states", ordering.logs, calls, reached, errors)?;
-            Ok(3)
-        }
-    }
+    write_reached("no order", logs, calls, reached, errors)?;
+    Ok(1)
+}
+
+/// Tells that a search was given up. Answers the exit status.
+fn tell_given_up<E: Sink>(
+    logs: &[&str],
+    calls: &[Logged],
+    reached: &Reached,
+    errors: &mut E,
+) -> Result<u8, Refusal> {
+    write_all(errors, b"given up after ")?;
+    write_number(reached.states, errors)?;
+    write_reached(" states", logs, calls, reached, errors)?;
+    Ok(3)
 }
 
 /// Writes a line.
@@ -284,9 +272,43 @@ fn write_line<W: Sink>(text: &str, out: &mut W) -> Result<(), Refusal> {
     write_all(out, b"\n")
 }
 
+/// Ends where no order is looked for: answers the exit status where a log is none, which is told; else it is refused, and
+/// `words` gets what that means.
+fn end_unread<E: Sink>(
+    unread: Unread,
+    errors: &mut E,
+    words: &mut Option<String>,
+) -> Result<u8, Refusal> {
+    match unread {
+        Unread::Told(told) => {
+            write_line(told.as_str(), errors)?;
+            Ok(2)
+        }
+        Unread::Unopened(why) => {
+            *words = why;
+            Err(Refusal::Input)
+        }
+        Unread::Refused(refusal) => Err(refusal),
+    }
+}
+
 impl Ordering<'_> {
-    /// What the list of origins would be written over, if anything: the table, a log, or the file into which the history goes.
+    /// Whether more than one of the table and the logs is standard input.
+    fn reads_twice(&self) -> bool {
+        let logs = self
+            .logs
+            .iter()
+            .filter(|log| Place::new(**log).is_standard());
+        let table = Place::new(self.table).is_standard();
+        logs.count().saturating_add(usize::from(table)) > 1
+    }
+
+    /// What is wrong with its files, if anything: standard input is to be read twice, or the list of origins would be written over
+    /// the table, a log, or the file into which the history goes.
     pub fn clash<R: Files>(&self, rt: &R) -> Option<&'static str> {
+        if self.reads_twice() {
+            return Some(BOTH_STANDARD);
+        }
         let origins = self.origins?;
         let id = FileId::of(rt, origins)?;
         if id.is_at(rt, self.table) {
@@ -303,12 +325,45 @@ impl Ordering<'_> {
         None
     }
 
+    /// Writes the history of an order that was found, and from where its entries came; `words` gets why that was refused.
+    /// Answers the exit status.
+    fn write<R: Files + Print>(
+        &self,
+        rt: &R,
+        alloc: Global,
+        calls: &[Logged],
+        order: &Order,
+        words: &mut Option<String>,
+    ) -> Result<u8, Refusal> {
+        let reader = Reader::new();
+        let mut out = Counted::new(Outflow::new(io::writer(rt), &reader));
+        if let Err(refusal) = write_record(alloc, &order.history, &mut out) {
+            *words = of_output(alloc, &reader, &refusal);
+            return Err(refusal);
+        }
+        let Some(path) = self.origins else {
+            return Ok(0);
+        };
+        let mut origins = Counted::new(Vec::new(alloc));
+        // a list in memory refuses bytes for want of memory alone
+        if write_origins(self.logs, calls, order.places.as_slice(), &mut origins).is_err() {
+            return Err(Refusal::NoMemory);
+        }
+        match keep_origins(rt, alloc, origins.inner.as_slice(), path) {
+            Ok(()) => Ok(0),
+            Err(refusal) => {
+                *words = of_unwritten(rt, alloc, path, &refusal);
+                Err(refusal)
+            }
+        }
+    }
+
     /// Looks for an order of the logs' calls: its history goes to standard output, and why there is none to `errors`.
     /// Answers the exit status: 0 where one was found, 1 where none was with nothing left to try, 2 where a log is
     /// refused, and 3 where the search was given up.
     ///
-    /// Refused as `read_opening` is, `Input` where the table cannot be opened or the system gives no random bytes for the
-    /// key of texts, and `Output` where what is found cannot be written. That the table cannot be read is put into `words`.
+    /// Refused as `read_opening` is, `Input` where the table or a log cannot be read or the system gives no random bytes for
+    /// the key of texts, and `Output` where what is found cannot be written. Which file was refused is put into `words`.
     pub fn make<R: Files + RandomSource + Clock + Print + Eprint + Sync, E: Sink>(
         &self,
         rt: &R,
@@ -324,13 +379,15 @@ impl Ordering<'_> {
             }
         };
         let mut calls = Vec::new(alloc);
-        match order_over(rt, alloc, self, opening, &mut calls) {
-            Ok(outcome) => tell(rt, alloc, self, calls.as_slice(), &outcome, errors),
-            Err(Unread::Told(told)) => {
-                write_line(told.as_str(), errors)?;
-                Ok(2)
-            }
-            Err(Unread::Refused(refusal)) => Err(refusal),
+        let outcome = match order_over(rt, alloc, self, opening, &mut calls) {
+            Ok(outcome) => outcome,
+            Err(unread) => return end_unread(unread, errors, words),
+        };
+        let calls = calls.as_slice();
+        match &outcome {
+            Outcome::Found(order) => self.write(rt, alloc, calls, order, words),
+            Outcome::NoOrder(reached) => tell_none(self.logs, calls, reached, errors),
+            Outcome::GivenUp(reached) => tell_given_up(self.logs, calls, reached, errors),
         }
     }
 }

@@ -8,7 +8,7 @@ use std::io::ErrorKind;
 use std::random::RandomSource;
 use std::rt::Files;
 use std::{fs, io};
-use sw_faults::{Asked, Origin, Text, all_faults, words_of, wrong_entry};
+use sw_faults::{Asked, Given, Origin, Text, all_faults, words_of, wrong_entry};
 use sw_files::read_file;
 use sw_headers::{Header, text_under};
 use sw_rows::{Refusal, TextKey, Why};
@@ -38,7 +38,7 @@ const STANDARD: &str = "standard input";
 const STANDARD_OUTPUT: &str = "standard output";
 
 /// What a place is called in words.
-fn called(place: Place<'_>) -> &str {
+pub(crate) fn called(place: Place<'_>) -> &str {
     if place.is_standard() {
         STANDARD
     } else {
@@ -174,7 +174,10 @@ fn of_input<R: Files>(rt: &R, alloc: Global, asking: &Asking<'_>) -> Result<Stri
 /// The bytes of the table and of the script, where they can be had.
 #[derive(Drop)]
 struct Texts {
+    /// The table, under the header that was given, if one was.
     table: Option<Vec<u8>>,
+    /// The table's file as it stands, where a header was given.
+    file: Option<Vec<u8>>,
     script: Option<Vec<u8>>,
 }
 
@@ -191,11 +194,23 @@ impl Texts {
         }
     }
 
+    /// The header that was given, if one was.
+    fn given<'a>(&'a self, asking: &Asking<'a>) -> Option<Given<'a>> {
+        match asking.header {
+            Some(header) => Some(Given {
+                header,
+                bytes: as_bytes(&self.file),
+            }),
+            None => None,
+        }
+    }
+
     /// What was asked, with these texts; so the table is called.
     fn asked<'a>(&'a self, asking: &Asking<'a>, table: &'a str) -> Asked<'a> {
         let (script, origin) = self.script(asking);
         Asked {
             table: named(table, as_bytes(&self.table)),
+            given: self.given(asking),
             script,
             origin,
             cuts: asking.cuts,
@@ -229,36 +244,30 @@ fn script_again<R: Files>(
     }
 }
 
-/// A text under a header, where there is one.
-fn under(alloc: Global, header: Option<&str>, bytes: Vec<u8>) -> Option<Vec<u8>> {
-    match header {
-        Some(asked) => { text_under(alloc, Header::new(alloc, asked).ok()?, bytes.as_slice()).ok() }
-        None => Some(bytes),
-    }
+/// A table's file under a header; none where it cannot be had, or where there is no memory.
+fn under(alloc: Global, header: &str, file: &Option<Vec<u8>>) -> Option<Vec<u8>> {
+    let file = as_bytes(file)?;
+    text_under(alloc, Header::new(alloc, header).ok()?, file).ok()
 }
 
-/// The bytes of the table as they were read, under the header where one was given.
-fn table_again<R: Files>(
-    rt: &R,
-    alloc: Global,
-    asking: &Asking<'_>,
-    kept: Kept,
-) -> Option<Vec<u8>> {
-    match kept {
-        Kept::Once(bytes) => bytes,
-        Kept::Often => {
-            let bytes = read_file(rt, alloc, asking.table.name()).ok()?;
-            under(alloc, asking.header, bytes)
-        }
-    }
-}
-
-/// The texts that were read, as far as they can be had.
+/// The texts that were read, as far as they can be had. What was kept of a table was read under its header.
 fn texts_again<R: Files>(rt: &R, alloc: Global, asking: &Asking<'_>, kept: Keeps) -> Texts {
     let Keeps { table, script } = kept;
-    Texts {
-        table: table_again(rt, alloc, asking, table),
-        script: script_again(rt, alloc, asking.script, script),
+    let script = script_again(rt, alloc, asking.script, script);
+    match (table, asking.header) {
+        (Kept::Often, Some(header)) => {
+            let file = read_file(rt, alloc, asking.table.name()).ok();
+            Texts {
+                table: under(alloc, header, &file),
+                file,
+                script,
+            }
+        }
+        (kept, _) => Texts {
+            table: again(rt, alloc, asking.table, kept),
+            file: None,
+            script,
+        },
     }
 }
 
@@ -295,7 +304,7 @@ fn of_texts(
     let asked = texts.asked(asking, called_table(asking, refusal));
     match (refusal, asked.table.bytes) {
         (Refusal::BadTable { rec, .. }, Some(bytes)) if asking.faults && *rec > 0 => {
-            all_faults(alloc, key, asked.table.name, bytes)
+            all_faults(alloc, key, asked.table.name, bytes, asked.given)
         }
         _ => words_of(alloc, key, refusal, &asked),
     }
@@ -345,7 +354,13 @@ pub fn of_form(alloc: Global, refusal: &Refusal, script: Script<'_>) -> Option<S
 }
 
 /// A refusal of a history file in words: what is wrong with the entry that is none, or that the whole is none.
-pub fn of_history(alloc: Global, name: &str, bytes: &[u8], refusal: &Refusal) -> Option<String> {
+pub fn of_history(
+    alloc: Global,
+    place: Place<'_>,
+    bytes: &[u8],
+    refusal: &Refusal,
+) -> Option<String> {
+    let name = called(place);
     match refusal {
         Refusal::BadLine {
             line: 0,

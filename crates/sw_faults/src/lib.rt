@@ -18,4 +18,4 @@ mod words;
 pub use entries::wrong_entry;
 pub use lines::{call_lines, wrong_line};
 pub use tables::all_faults;
-pub use words::{Asked, Origin, Text, words_of};
+pub use words::{Asked, Given, Origin, Text, words_of};

@@ -17,6 +17,40 @@ fn unmarked(bytes: &[u8]) -> &[u8] {
     }
 }
 
+/// The records of a file whose table has another header than its own, as they stand there.
+struct Own<'a> {
+    reader: Reader<&'a [u8]>,
+    row: ByteRecord,
+}
+
+impl Own<'_> {
+    /// Takes the next record, if there is one.
+    fn next(&mut self) -> Result<(), AllocError> {
+        match self.reader.read_byte_record(&mut self.row) {
+            Ok(_) => Ok(()),
+            Err(_) => Err(AllocError),
+        }
+    }
+}
+
+// By hand, as with `Records`.
+impl Drop for Own<'_> {
+    fn drop(self) {
+        let Self {
+            reader: _reader,
+            row: _row,
+        } = self;
+    }
+}
+
+/// A reader of the records of some bytes.
+fn reader_of(alloc: Global, bytes: &[u8]) -> Reader<&[u8]> {
+    ReaderBuilder::new()
+        .has_headers(false)
+        .flexible(true)
+        .from_reader(alloc, bytes)
+}
+
 /// A table's bytes, and the records in them, which are taken one after another.
 pub(crate) struct Records<'a> {
     /// All bytes.
@@ -32,11 +66,29 @@ pub(crate) struct Records<'a> {
     pub(crate) row: ByteRecord,
     /// Where a record begins that has more fields than are told apart. None is taken behind it.
     long: Option<usize>,
+    /// The same records with all fields that they have in their file, where some are passed by.
+    own: Option<Own<'a>>,
 }
 
 impl<'a> Records<'a> {
     /// The records of a table's bytes.
     pub(crate) fn new(alloc: Global, bytes: &'a [u8]) -> Records<'a> {
+        Records::of(alloc, bytes, None)
+    }
+
+    /// The records of a table's bytes under a header that is given, and of those of its file, where they can be had.
+    pub(crate) fn under(alloc: Global, bytes: &'a [u8], own: Option<&'a [u8]>) -> Records<'a> {
+        let own = match own {
+            Some(own) => Some(Own {
+                reader: reader_of(alloc, unmarked(own)),
+                row: ByteRecord::new(alloc),
+            }),
+            None => None,
+        };
+        Records::of(alloc, bytes, own)
+    }
+
+    fn of(alloc: Global, bytes: &'a [u8], own: Option<Own<'a>>) -> Records<'a> {
         let bytes = unmarked(bytes);
         Records {
             bytes,
@@ -44,12 +96,10 @@ impl<'a> Records<'a> {
             counted: 0,
             last: 0,
             line: 1,
-            reader: ReaderBuilder::new()
-                .has_headers(false)
-                .flexible(true)
-                .from_reader(alloc, bytes),
+            reader: reader_of(alloc, bytes),
             row: ByteRecord::new(alloc),
             long: None,
+            own,
         }
     }
 
@@ -58,12 +108,12 @@ impl<'a> Records<'a> {
         self.long.is_some()
     }
 
-    /// How many fields the record has that was taken last, as far as they are told apart.
+    /// How many fields the record has that was taken last, in its file where that can be had, as far as they are told apart.
     pub(crate) fn many(&self) -> usize {
-        if self.is_long() {
-            MOST_FIELDS + 1
-        } else {
-            self.row.len()
+        match &self.own {
+            _ if self.is_long() => MOST_FIELDS + 1,
+            Some(own) => own.row.len(),
+            None => self.row.len(),
         }
     }
 
@@ -89,6 +139,9 @@ impl<'a> Records<'a> {
         if self.is_long() {
             self.row.clear();
             return Ok(true);
+        }
+        if let Some(own) = &mut self.own {
+            own.next()?;
         }
         // Over memory, and with records of any length, only memory can fail.
         match self.reader.read_byte_record(&mut self.row) {
@@ -146,6 +199,7 @@ impl Drop for Records<'_> {
             reader: _reader,
             row: _row,
             long: _,
+            own: _own,
         } = self;
     }
 }

@@ -2,6 +2,7 @@
 
 use crate::headers::{has_no_kind, schema_of};
 use crate::records::{MOST_FIELDS, Records};
+use crate::words::Given;
 use crate::{cells, headers};
 use csv::ByteRecord;
 use std::alloc::{AllocError, Global};
@@ -11,11 +12,23 @@ use sw_rows::{Kind, MOST_ROWS, Schema, TextKey};
 /// How many bad cells are listed at most.
 const MOST_LISTED: u64 = 1000;
 
-/// A table's name and its bytes.
+/// A table's name and its bytes, under the header that was given, if one was.
 #[derive(Clone, Copy)]
 pub(crate) struct Sheet<'a> {
     pub(crate) name: &'a str,
     pub(crate) bytes: &'a [u8],
+    pub(crate) given: Option<Given<'a>>,
+}
+
+impl<'a> Sheet<'a> {
+    /// Its records.
+    fn records(self, alloc: Global) -> Records<'a> {
+        let own = match self.given {
+            Some(given) => given.bytes,
+            None => None,
+        };
+        Records::under(alloc, self.bytes, own)
+    }
 }
 
 /// A field of a record, empty where there is none.
@@ -41,6 +54,7 @@ fn in_words(alloc: Global, many: usize, what: &str) -> Result<String, AllocError
 struct Head<'a> {
     alloc: Global,
     name: &'a str,
+    given: Option<Given<'a>>,
     schema: Schema,
     /// For each attribute whether its kind is left out, which makes it one of whole numbers.
     bare: Vec<bool>,
@@ -52,6 +66,7 @@ impl Drop for Head<'_> {
         let Self {
             alloc: _,
             name: _,
+            given: _,
             schema: _schema,
             bare: _bare,
         } = self;
@@ -72,7 +87,7 @@ impl<'a> Head<'a> {
     fn take(
         alloc: Global,
         key: TextKey,
-        name: &'a str,
+        sheet: Sheet<'a>,
         records: &mut Records<'_>,
     ) -> Result<Option<Head<'a>>, AllocError> {
         if !records.next()? {
@@ -82,7 +97,8 @@ impl<'a> Head<'a> {
         match schema_of(alloc, key, &records.row)? {
             Ok(schema) => Ok(Some(Head {
                 alloc,
-                name,
+                name: sheet.name,
+                given: sheet.given,
                 schema,
                 bare,
             })),
@@ -104,11 +120,42 @@ impl<'a> Head<'a> {
         self.bare.get(attr) == Some(&true)
     }
 
+    /// How many fields a record has to have, as far as its own can be had.
+    fn wanted(&self) -> usize {
+        match self.given {
+            Some(given) if given.bytes.is_some() => given.wide(),
+            _ => self.schema.len(),
+        }
+    }
+
+    /// What is wrong with a record of a line that has another number of fields than the header that was given.
+    fn wrong_given(&self, given: Given<'_>, line: u64, found: usize) -> Result<String, AllocError> {
+        let name = self.name;
+        let wanted = given.wide();
+        if given.bytes.is_none() {
+            return format!(in self.alloc;
+                "{name} line {line}: another number of fields than --header has, {wanted}\n"
+            );
+        }
+        let has = in_words(self.alloc, found, "field")?;
+        match given.column(found) {
+            Some(missing) => {
+                format!(in self.alloc;
+                    "{name} line {line}: {has}, --header has {wanted}: {missing} is missing\n"
+                )
+            }
+            None => format!(in self.alloc; "{name} line {line}: {has}, --header has {wanted}\n"),
+        }
+    }
+
     /// What is wrong with a record that has another number of fields than the header.
     fn wrong_count(&self, records: &mut Records<'_>) -> Result<String, AllocError> {
         let name = self.name;
         let found = records.many();
         let line = records.line_of(0);
+        if let Some(given) = self.given {
+            return self.wrong_given(given, line, found);
+        }
         let has = in_words(self.alloc, found, "field")?;
         let wanted = self.schema.len();
         if found < wanted {
@@ -140,7 +187,7 @@ impl<'a> Head<'a> {
 
     /// What is wrong with the row that was taken last, at a field from 1.
     fn wrong_row(&self, records: &mut Records<'_>, field: u64) -> Result<String, AllocError> {
-        if records.many() != self.schema.len() {
+        if records.many() != self.wanted() {
             return self.wrong_count(records);
         }
         self.wrong_at(records, field.saturating_sub(1).min(8) as usize)
@@ -232,8 +279,8 @@ pub(crate) fn bad_row(
     rec: u64,
     field: u64,
 ) -> Result<String, AllocError> {
-    let mut records = Records::new(alloc, sheet.bytes);
-    match Head::take(alloc, key, sheet.name, &mut records)? {
+    let mut records = sheet.records(alloc);
+    match Head::take(alloc, key, sheet, &mut records)? {
         Some(head) => head.wrong_of(&mut records, rec, field),
         None => Ok(String::new(alloc)),
     }
@@ -307,7 +354,7 @@ impl Listed {
 
     /// Adds the faults of the row that was taken last: its number of fields, or each bad cell.
     fn add_row(&mut self, head: &Head<'_>, records: &mut Records<'_>) -> Result<(), AllocError> {
-        if records.many() != head.schema.len() {
+        if records.many() != head.wanted() {
             return self.add_count(head, records);
         }
         for attr in 0..head.schema.len() {
@@ -349,8 +396,8 @@ impl Listed {
     }
 }
 
-/// All faults of a table's rows: each bad cell and each row of another number of fields, a line each, up to a thousand,
-/// and then how many there are. Nothing where the header is none. A row of more than 4,096 fields is the last that is
+/// All faults of a table's rows, under the header that was given, if one was: each bad cell and each row of another number
+/// of fields, a line each, up to a thousand, and then how many there are. Nothing where the header is none. A row of more than 4,096 fields is the last that is
 /// looked at.
 ///
 /// The one error is that there is no memory.
@@ -359,9 +406,11 @@ pub fn all_faults(
     key: TextKey,
     name: &str,
     bytes: &[u8],
+    given: Option<Given<'_>>,
 ) -> Result<String, AllocError> {
-    let mut records = Records::new(alloc, bytes);
-    match Head::take(alloc, key, name, &mut records)? {
+    let sheet = Sheet { name, bytes, given };
+    let mut records = sheet.records(alloc);
+    match Head::take(alloc, key, sheet, &mut records)? {
         Some(head) => head.all_wrong(&mut records),
         None => Ok(String::new(alloc)),
     }

@@ -34,11 +34,35 @@ pub enum Origin {
     Arguments,
 }
 
+/// A header that stands in place of a table's own.
+#[derive(Clone, Copy, Debug)]
+pub struct Given<'a> {
+    /// The header, `-` in it for each column that is passed by.
+    pub header: &'a str,
+    /// The bytes of the table's file as they stand there; none where they cannot be had again.
+    pub bytes: Option<&'a [u8]>,
+}
+
+impl Given<'_> {
+    /// How many columns it has, those that are passed by among them.
+    pub(crate) fn wide(&self) -> usize {
+        self.header.split(',').count()
+    }
+
+    /// The column of a place, from 0, if there is one that is not passed by.
+    pub(crate) fn column(&self, place: usize) -> Option<&str> {
+        let word = self.header.split(',').nth(place)?;
+        if word == "-" { None } else { Some(word) }
+    }
+}
+
 /// What was asked when it was refused.
 #[derive(Clone, Copy, Debug)]
 pub struct Asked<'a> {
-    /// The table.
+    /// The table, under the header that was given, if one was.
     pub table: Text<'a>,
+    /// The header that was given, if one was.
+    pub given: Option<Given<'a>>,
     /// The script.
     pub script: Text<'a>,
     /// What the lines of the script are.
@@ -127,7 +151,11 @@ fn of_table(
     let Some(bytes) = asked.table.bytes else {
         return of_lost(alloc, name, rec, field);
     };
-    let sheet = Sheet { name, bytes };
+    let sheet = Sheet {
+        name,
+        bytes,
+        given: asked.given,
+    };
     if rec == 0 {
         return bad_header(alloc, sheet, field);
     }

@@ -48,14 +48,25 @@ pub(crate) fn shown_heading(alloc: Global, heading: &str) -> Result<String, Allo
 }
 
 /// A column of the values: its number, from 1, and its heading.
-#[derive(Debug, Drop, Error)]
-#[error("column {number} ({heading})")]
+#[derive(Debug, Drop)]
 pub struct At {
     /// The number, from 1.
     pub number: u64,
-    /// The heading as it is shown.
+    /// The heading as it is shown, which may be empty.
     pub heading: String,
 }
+
+impl fmt::Display for At {
+    fn fmt<W: fmt::Write>(&self, f: &mut fmt::Formatter<W>) -> fmt::Result {
+        let At { number, heading } = self;
+        if heading.is_empty() {
+            return write!(f, "column {number} without a heading");
+        }
+        write!(f, "column {number} ({heading})")
+    }
+}
+
+impl std::error::Error for At {}
 
 /// Cells of a column that can be no cells of what it becomes.
 #[derive(Debug, Drop, Error)]
@@ -84,6 +95,18 @@ impl fmt::Display for Lacks {
             divider = "; ";
         }
         Ok(())
+    }
+}
+
+/// So many fields, in words.
+#[derive(Clone, Copy)]
+struct Fields(u64);
+
+impl fmt::Display for Fields {
+    fn fmt<W: fmt::Write>(&self, f: &mut fmt::Formatter<W>) -> fmt::Result {
+        let Fields(count) = self;
+        let word = if *count == 1 { "field" } else { "fields" };
+        write!(f, "{count} {word}")
     }
 }
 
@@ -165,9 +188,11 @@ pub enum Fault {
         at: At,
         kind: &'static str,
     },
-    /// What is wrong with values that another byte may divide: they have one column, and its heading has that byte.
+    /// What is wrong with values that another byte may divide: they have one column, and its first field, which is called so,
+    /// has that byte.
     Undivided {
         why: String,
+        first: &'static str,
         divider: &'static str,
     },
     /// The table would be none.
@@ -222,14 +247,19 @@ impl Fault {
                 first,
             } => write!(
                 f,
-                "line {line}: {found} fields, and {first} has {wanted}; --ragged fill takes fields that are missing at the end for empty ones"
+                "line {line}: {}, and {first} has {wanted}; --ragged fill takes fields that are missing at the end for empty ones",
+                Fields(*found)
             ),
             Fault::Wide {
                 line,
                 found,
                 wanted,
                 first,
-            } => write!(f, "line {line}: {found} fields, and {first} has {wanted}"),
+            } => write!(
+                f,
+                "line {line}: {}, and {first} has {wanted}",
+                Fields(*found)
+            ),
             Fault::ManyRows { line } => write!(
                 f,
                 "line {line}: more than 1048576 rows; --sample N writes the first N"
@@ -264,9 +294,13 @@ impl Fault {
                 f,
                 "texts that are not UTF-8: {it}; iconv -f LATIN1 -t UTF-8 makes UTF-8 of a file in Latin-1"
             ),
-            Fault::Undivided { why, divider } => write!(
+            Fault::Undivided {
+                why,
+                first,
+                divider,
+            } => write!(
                 f,
-                "{why}; one column, whose heading has a divider: --delimiter '{divider}' divides there"
+                "{why}; one column, whose {first} has a divider: --delimiter '{divider}' divides there"
             ),
             Fault::Table(it) => write!(f, "the table would be refused: {it}"),
             _ => Ok(()),

@@ -12,7 +12,7 @@ use crate::forms::Form;
 use crate::planning::{Planned, plan, see_plan};
 use crate::records::{line_of, next, open};
 use crate::rules::Rules;
-use crate::telling::divider_in;
+use crate::telling::{divider_in, first_field};
 use crate::writing::{Done, Maker, Most, Table};
 use csv::{ByteRecord, Reader};
 use std::alloc::{AllocError, Global};
@@ -52,6 +52,8 @@ pub struct Imported {
     pub others: Vec<At>,
     /// Whether the columns have headings of their own.
     pub has_header: bool,
+    /// The byte that may divide the values, which have one column, as the command line takes it.
+    pub divider: Option<&'static str>,
 }
 
 // By hand: the drop of a derived one is written out at each way out of a function.
@@ -65,6 +67,7 @@ impl Drop for Imported {
             written: _,
             others: _others,
             has_header: _,
+            divider: _,
         } = self;
     }
 }
@@ -145,6 +148,19 @@ fn read_first(
 ) -> Result<bool, AllocError> {
     let mut rdr = open(alloc, how.delimiter, text);
     next(&mut rdr, first)
+}
+
+/// The byte that may divide the values of a text, where its first record is one field with such a byte.
+fn divider_of(
+    alloc: Global,
+    how: &How<'_>,
+    text: &[u8],
+) -> Result<Option<&'static str>, AllocError> {
+    let mut first = ByteRecord::new(alloc);
+    if read_first(alloc, how, text, &mut first)? && first.len() == 1 {
+        return Ok(divider_in(field(&first, 0)));
+    }
+    Ok(None)
 }
 
 /// The record of the headings of a text.
@@ -345,6 +361,7 @@ fn make_under(
     learn(alloc, values, plan.as_mut_slice())?;
     let table = write_table(alloc, values, how, plan.as_slice())?;
     let others = others(alloc, header, plan.as_slice())?;
+    let divider = divider_of(alloc, how, text)?;
     let Table { pages, rows, done } = table;
     Ok(Imported {
         bytes: pages.into_bytes()?,
@@ -354,25 +371,31 @@ fn make_under(
         written: rows,
         others,
         has_header: how.has_header,
+        divider,
     })
 }
 
 /// What is wrong with values, told with the byte that may divide them.
-fn undivided(alloc: Global, fault: &Fault, divider: &'static str) -> Fault {
+fn undivided(alloc: Global, how: &How<'_>, fault: &Fault, divider: &'static str) -> Fault {
     match format!(in alloc; "{fault}") {
-        Ok(why) => Fault::Undivided { why, divider },
+        Ok(why) => Fault::Undivided {
+            why,
+            first: first_field(how.has_header),
+            divider,
+        },
         Err(_) => Fault::NoMemory,
     }
 }
 
-/// What is wrong with values, told with the byte that may divide them, where they have one column and its heading has such a byte.
-fn with_divider(alloc: Global, header: &ByteRecord, fault: Fault) -> Fault {
-    if fault.is_memory() || header.len() != 1 {
+/// What is wrong with values, told with the byte that may divide them, where there is one.
+fn with_divider(alloc: Global, how: &How<'_>, text: &[u8], fault: Fault) -> Fault {
+    if fault.is_memory() {
         return fault;
     }
-    match divider_in(field(header, 0)) {
-        Some(divider) => undivided(alloc, &fault, divider),
-        None => fault,
+    match divider_of(alloc, how, text) {
+        Ok(Some(divider)) => undivided(alloc, how, &fault, divider),
+        Ok(None) => fault,
+        Err(_) => Fault::NoMemory,
     }
 }
 
@@ -383,7 +406,7 @@ fn make(alloc: Global, key: TextKey, how: &How<'_>, text: &[u8]) -> Result<Impor
     let header = header_of(alloc, how, text)?;
     match make_under(alloc, key, how, text, &header) {
         Ok(made) => Ok(made),
-        Err(fault) => Err(with_divider(alloc, &header, fault)),
+        Err(fault) => Err(with_divider(alloc, how, text, fault)),
     }
 }
 

@@ -80,13 +80,15 @@ fn push_heading(text: &mut String, planned: &Planned, has_header: bool) -> Resul
     if planned.column.name.as_str() == heading {
         return Ok(());
     }
-    if has_header {
-        let shown = shown_heading(*text.allocator(), heading)?;
-        write!(text, "; heading `{shown}`")
-    } else {
-        let number = (planned.column.place as u64).saturating_add(1);
-        write!(text, "; column {number}")
+    let number = (planned.column.place as u64).saturating_add(1);
+    if !has_header {
+        return write!(text, "; column {number}");
     }
+    if heading.is_empty() {
+        return write!(text, "; column {number} without a heading");
+    }
+    let shown = shown_heading(*text.allocator(), heading)?;
+    write!(text, "; heading `{shown}`")
 }
 
 /// Adds what became of a column.
@@ -130,34 +132,34 @@ fn push_others(text: &mut String, made: &Imported) -> Result<(), AllocError> {
     Ok(())
 }
 
-/// The byte in a heading that may have been meant to divide values, as the command line takes it.
-pub(crate) fn divider_in(heading: &[u8]) -> Option<&'static str> {
-    if heading.contains(&b';') {
+/// The byte in a field that may have been meant to divide values, as the command line takes it.
+pub(crate) fn divider_in(field: &[u8]) -> Option<&'static str> {
+    if field.contains(&b';') {
         Some(";")
-    } else if heading.contains(&b'\t') {
+    } else if field.contains(&b'\t') {
         Some("\\t")
-    } else if heading.contains(&b'|') {
+    } else if field.contains(&b'|') {
         Some("|")
     } else {
         None
     }
 }
 
-/// Adds that the values may be divided by another byte, where there is one column and its heading has such a byte.
+/// What the first field of values is called: a heading, or a cell where the columns have none.
+pub(crate) fn first_field(has_header: bool) -> &'static str {
+    if has_header { "heading" } else { "first cell" }
+}
+
+/// Adds that the values may be divided by another byte, where there is one column and its first field has such a byte.
 fn push_divider(text: &mut String, made: &Imported) -> Result<(), AllocError> {
-    let [planned] = made.plan.as_slice() else {
+    let Some(word) = made.divider else {
         return Ok(());
     };
-    if !made.others.is_empty() {
-        return Ok(());
-    }
-    match divider_in(planned.column.heading.as_bytes()) {
-        Some(word) => write!(
-            text,
-            "  one column, whose heading has a divider: --delimiter '{word}' divides there\n"
-        ),
-        None => Ok(()),
-    }
+    let first = first_field(made.has_header);
+    write!(
+        text,
+        "  one column, whose {first} has a divider: --delimiter '{word}' divides there\n"
+    )
 }
 
 /// What was done for a table of the values of a file, a line for the whole and one for each column.

@@ -2,7 +2,7 @@
 
 use std::alloc::Global;
 use std::test::Fail;
-use sw_faults::{Asked, Origin, Text, all_faults, words_of, wrong_entry};
+use sw_faults::{Asked, Given, Origin, Text, all_faults, words_of, wrong_entry};
 use sw_rows::{Refusal, TextKey, Why};
 
 /// A table, the record and the field that are refused, and the words.
@@ -295,6 +295,7 @@ fn asked<'a>(table: &'a [u8], script: &'a [u8], origin: Origin, cuts: &'a str) -
             name: "t.csv",
             bytes: Some(table),
         },
+        given: None,
         script: Text {
             name: "s.txt",
             bytes: Some(script),
@@ -342,8 +343,49 @@ fn is_limit_told(alloc: Global, case: &OfLimit) -> Result<bool, Fail> {
 
 /// Whether these are all faults of a table.
 fn are_faults(alloc: Global, table: &[u8], words: &str) -> Result<bool, Fail> {
-    let told = all_faults(alloc, TextKey::fixed(), "t.csv", table)?;
+    let told = all_faults(alloc, TextKey::fixed(), "t.csv", table, None)?;
     Ok(told.as_str() == words)
+}
+
+/// The file of a table under the header `-,a`, and the table.
+const FILE: &[u8] = b"x,y\n1,2\n3\n";
+
+const UNDER: &[u8] = b"a\n2\n,\n";
+
+/// Whether its row of one field is told so, where its file can be had or not.
+fn is_count_told(
+    alloc: Global,
+    header: &str,
+    file: Option<&[u8]>,
+    words: &str,
+) -> Result<bool, Fail> {
+    let refusal = Refusal::BadTable { rec: 2, field: 2 };
+    let given = Some(Given {
+        header,
+        bytes: file,
+    });
+    let asked = Asked {
+        given,
+        ..asked(UNDER, b"", Origin::Lines, "")
+    };
+    let all = all_faults(alloc, TextKey::fixed(), "t.csv", UNDER, given)?;
+    Ok(all.as_str().starts_with(words) && are_words(alloc, &refusal, &asked, words)?)
+}
+
+#[test]
+fn fields_are_counted_in_the_file(rt: HostRuntime) -> Result<(), Fail> {
+    let file = Some(FILE);
+    let short = "t.csv line 3: 1 field, --header has 2";
+    let missing = format!(in rt.alloc(); "{short}: a is missing\n")?;
+    let told = is_count_told(rt.alloc(), "-,a", file, missing.as_str())?;
+    assert!(rt; told);
+    let passed = format!(in rt.alloc(); "{short}\n")?;
+    let told = is_count_told(rt.alloc(), "a,-", file, passed.as_str())?;
+    assert!(rt; told);
+    let lost = "t.csv line 3: another number of fields than --header has, 2\n";
+    let told = is_count_told(rt.alloc(), "a,-", None, lost)?;
+    assert!(rt; told);
+    Ok(())
 }
 
 #[test]
@@ -425,7 +467,7 @@ fn thousand(alloc: Global) -> Result<Vec<u8>, Fail> {
 /// Whether a thousand faults are listed, and then how many there are.
 fn are_thousand_listed(alloc: Global) -> Result<bool, Fail> {
     let table = thousand(alloc)?;
-    let told = all_faults(alloc, TextKey::fixed(), "t.csv", table.as_slice())?;
+    let told = all_faults(alloc, TextKey::fixed(), "t.csv", table.as_slice(), None)?;
     let many = told.as_str().lines().count();
     Ok(many == 1001 && told.as_str().ends_with(THOUSAND))
 }
