@@ -48,11 +48,15 @@ place_of_row-requires-clause-live g c κs within =
 pub returns-clause-within : goal.returns-clause-within
 returns-clause-within g c =
     let s = c.self.inside in
-    let head = box-head _ _ _ _ _ (inside g c) c.at.ensures (begun g c) c.self.invariant.0.boxes in
+    let lt : c.args.at < length s.boxes = subst (λ (v : AreaState). c.args.at < length v.boxes) (sym c.self.view_is) c.requires.within in
+    let begins : HasAt s.boxes c.args.at (λ (m : Held). m.is_blank ≡ false) = subst (λ (v : AreaState). HasAt v.boxes c.args.at (λ (m : Held). m.is_blank ≡ false)) (sym c.self.view_is) (λ d. (c.requires.ready d).begun) in
+    let head = box-head _ _ _ _ _ lt c.at.ensures begins c.self.invariant.0.boxes in
     subst (λ (v : AreaState). c.place_of_row.result < length (joined (rows_by v.attribute v.tape))) c.self.view_is (subst (λ (n : ℕ). c.place_of_row.result < length (joined (rows_by n s.tape))) head c.place_of_row.ensures.within)
 
 pub returns-clause-own : goal.returns-clause-own
 returns-clause-own g c =
     let s = c.self.inside in
-    let head = box-head _ _ _ _ _ (inside g c) c.at.ensures (begun g c) c.self.invariant.0.boxes in
+    let lt : c.args.at < length s.boxes = subst (λ (v : AreaState). c.args.at < length v.boxes) (sym c.self.view_is) c.requires.within in
+    let begins : HasAt s.boxes c.args.at (λ (m : Held). m.is_blank ≡ false) = subst (λ (v : AreaState). HasAt v.boxes c.args.at (λ (m : Held). m.is_blank ≡ false)) (sym c.self.view_is) (λ d. (c.requires.ready d).begun) in
+    let head = box-head _ _ _ _ _ lt c.at.ensures begins c.self.invariant.0.boxes in
     subst (λ (v : AreaState). (d : Row) → (get_or (joined (rows_by v.attribute v.tape)) c.place_of_row.result d).key ≡ c.args.key) c.self.view_is (subst (λ (n : ℕ). (d : Row) → (get_or (joined (rows_by n s.tape)) c.place_of_row.result d).key ≡ c.args.key) head c.place_of_row.ensures.key)

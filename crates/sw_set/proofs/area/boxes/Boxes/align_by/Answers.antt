@@ -8,15 +8,6 @@ use Rattle.sw_set.proofs.Areas.Boxes.{all-held}
 use Rattle.sw_set.proofs.Areas.Shelves.{written}
 use Rattle.sw_set.proofs.area.boxes.Boxes.align_by.Goals as goal
 
-long : (g : _) (c : goal.After-align_boxes g) → c.self.inside.maps.len ≡ length c.align_boxes.new.boxes
-long g c =
-    let held = g.M.CrackerMap.held in
-    let one = length-map c.align_boxes.new.boxes held in
-    let two = length-map c.as_mut_slice.result.now held in
-    let value = ap length c.as_mut_slice.ensures.value in
-    let many = c.align_boxes.ensures.same.many in
-    omega (arith, one, two, value, many)
-
 pub align_boxes-requires-clause-may : goal.align_boxes-requires-clause-may
 align_boxes-requires-clause-may g c κs within =
     let held = g.M.CrackerMap.held in
@@ -28,14 +19,40 @@ align_boxes-requires-clause-may g c κs within =
     )
 
 pub returns-clause-lawful : goal.returns-clause-lawful
-returns-clause-lawful g c = rw (written c.self.inside.maps.len c.align_boxes.new.boxes c.self.inside.maps.items (long g c)) c.align_boxes.ensures.lawful
+returns-clause-lawful g c =
+    let held = g.M.CrackerMap.held in
+    let s = c.self.inside in
+    let ys = c.align_boxes.new.boxes in
+    let one = length-map ys held in
+    let two = length-map s.maps.items held in
+    let value : c.as_mut_slice.result.now ≡ s.maps.items = c.as_mut_slice.ensures.value in
+    let same : AreSameMaps (map held s.maps.items) (map held ys) = subst (λ (v : List g.row.M.Denot). AreSameMaps (map held v) (map held ys)) value c.align_boxes.ensures.same in
+    let many = same.many in
+    let n : s.maps.len ≡ length ys = omega arith in
+    rw (written s.maps.len ys s.maps.items n) c.align_boxes.ensures.lawful
 
 pub returns-clause-maps : goal.returns-clause-maps
 returns-clause-maps g c =
     let held = g.M.CrackerMap.held in
+    let s = c.self.inside in
     let ys = c.align_boxes.new.boxes in
-    let is : map held c.as_mut_slice.result.now ≡ c.args.self.now = ap (map held) c.as_mut_slice.ensures.value ∙ c.self.view_is in
-    rw (written c.self.inside.maps.len ys c.self.inside.maps.items (long g c)) (subst (λ (v : List Held). AreSameMaps v (map held ys)) is c.align_boxes.ensures.same)
+    let one = length-map ys held in
+    let two = length-map s.maps.items held in
+    let value : c.as_mut_slice.result.now ≡ s.maps.items = c.as_mut_slice.ensures.value in
+    let same : AreSameMaps (map held s.maps.items) (map held ys) = subst (λ (v : List g.row.M.Denot). AreSameMaps (map held v) (map held ys)) value c.align_boxes.ensures.same in
+    let many = same.many in
+    let n : s.maps.len ≡ length ys = omega arith in
+    rw (written s.maps.len ys s.maps.items n) (subst (λ (v : List Held). AreSameMaps v (map held ys)) c.self.view_is same)
 
 pub returns-clause-ends : goal.returns-clause-ends
-returns-clause-ends g c = rw (written c.self.inside.maps.len c.align_boxes.new.boxes c.self.inside.maps.items (long g c)) c.align_boxes.ensures.ends
+returns-clause-ends g c =
+    let held = g.M.CrackerMap.held in
+    let s = c.self.inside in
+    let ys = c.align_boxes.new.boxes in
+    let one = length-map ys held in
+    let two = length-map s.maps.items held in
+    let value : c.as_mut_slice.result.now ≡ s.maps.items = c.as_mut_slice.ensures.value in
+    let same : AreSameMaps (map held s.maps.items) (map held ys) = subst (λ (v : List g.row.M.Denot). AreSameMaps (map held v) (map held ys)) value c.align_boxes.ensures.same in
+    let many = same.many in
+    let n : s.maps.len ≡ length ys = omega arith in
+    rw (written s.maps.len ys s.maps.items n) c.align_boxes.ensures.ends

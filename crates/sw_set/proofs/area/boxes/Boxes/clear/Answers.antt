@@ -5,4 +5,4 @@ use Rattle.sw_set.proofs.Areas.Views.{cleared-set}
 use Rattle.sw_set.proofs.area.boxes.Boxes.clear.Goals as goal
 
 pub returns-in-Some : goal.returns-in-Some
-returns-in-Some g c = subst (λ (v : List Held). IsCleared c.args.tail c.args.self.now v) (sym c.clear_at.ensures) (cleared-set _ _ _ c.requires c.in-Some.ensures.0 c.in-Some.ensures.1)
+returns-in-Some g c = subst (λ (v : List Held). IsCleared c.args.tail c.args.self.now v) (sym c.clear_at.ensures) (cleared-set _ _ _ c.requires.apart c.in-Some.ensures.0 c.in-Some.ensures.1)

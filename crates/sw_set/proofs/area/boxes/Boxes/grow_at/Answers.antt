@@ -1,8 +1,14 @@
-use Rattle.std.proofs.Common.{get_or, subst}
+use Rattle.std.proofs.Common.{◌≡◌, ◌<◌, false, get_or, subst}
 use Rattle.sw_map.specs.Held.{Held, blank}
 use Rattle.sw_map.specs.Refusals.{HasGrownOr}
-use Rattle.sw_set.proofs.Areas.Aligning.{at-own, at-set}
+use Rattle.sw_set.proofs.Areas.Aligning.{at-own, at-place, at-set}
 use Rattle.sw_set.proofs.area.boxes.Boxes.grow_at.Goals as goal
+
+pub grow_box-requires-clause-begun : goal.grow_box-requires-clause-begun
+grow_box-requires-clause-begun g c κs within = at-place g.M.CrackerMap.held _ _ _ _ c.self.view_is c.requires.within c.index_mut.ensures.value (λ m. m.is_blank ≡ false) c.requires.begun
+
+pub grow_box-requires-clause-more : goal.grow_box-requires-clause-more
+grow_box-requires-clause-more g c κs within = at-place g.M.CrackerMap.held _ _ _ _ c.self.view_is c.requires.within c.index_mut.ensures.value (λ m. m.cells < c.args.cells) c.requires.more
 
 pub returns-clause-grown : goal.returns-clause-grown
 returns-clause-grown g c =

@@ -18,4 +18,4 @@ pub returns-else-place-len : goal.returns-else-place-len
 returns-else-place-len g c =
     let ge = c.if-place-len.false in
     let many = c.len.ensures in
-    all-own _ c.in-Some.at c.args.tail (λ m. pairs_in m ≤ c.args.place) c.requires c.in-Some.ensures.0 c.in-Some.ensures.1 (λ d. let own = ap (λ (m : Held). pairs_in m) (c.at-it.ensures d) in omega (arith, ge, many, own))
+    all-own _ c.in-Some.at c.args.tail (λ m. pairs_in m ≤ c.args.place) c.requires.apart c.in-Some.ensures.0 c.in-Some.ensures.1 (λ d. let own = ap (λ (m : Held). pairs_in m) (c.at-it.ensures d) in omega (arith, ge, many, own))
