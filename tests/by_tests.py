@@ -39,7 +39,7 @@ BODIES = {
                        "sw_cli/src/running.rt", "    if threads {\n", "    if threads && ground.inputs.blocks.is_empty() {\n",
                        "met-in-run"),
     "no_maps": ("A select is answered by a scan of the rows, and no map is made or asked",
-                "sw_engine/src/latch.rt", "let (reply, scans) = ask(rt, alloc, head, query)?;", "let (reply, scans) = (head.scan(query)?, 0usize);",
+                "sw_engine/src/heads/latch.rt", "let (reply, scans) = ask(rt, alloc, head, query)?;", "let (reply, scans) = (head.scan(query)?, 0usize);",
                 "counted 12 select b where a >= 10 and a <= 15"),
     "always_no_memory": ("Every insert is refused as if for want of memory",
                          "sw_engine/src/engine.rt", "        self.commit(rt, Call::Insert(cells))\n",

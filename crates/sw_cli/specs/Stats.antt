@@ -1,6 +1,6 @@
 -- The table of what each head tells of itself after a run.
 use Rattle.std.specs.Prelude.{ℕ, List, ◌++◌, codes}
-use Rattle.sw_engine.specs.declared.counting.HeadStats.{HeadStats}
+use Rattle.sw_engine.specs.declared.heads.counting.HeadStats.{HeadStats}
 use Rattle.sw_cli.specs.Faults.{labelled}
 
 -- the names of the columns

@@ -21,12 +21,12 @@ ghost use Rattle.sw_engine.specs.Own.{IsEnded, IsLastOwn, IsNew, LeavesCall, Lea
 ghost use Rattle.sw_engine.specs.Sessions.{Answers, GivesUp, Refuses, Stays};
 
 use crate::conds::add_all;
-use crate::counting::HeadStats;
-use crate::desk::{Blank, Desk};
-use crate::latch::{LatchedHead, head_of};
-use crate::locked::{LockedDesk, Miss};
-use crate::opening::{Ground, Opening};
-use crate::ticket::Ticket;
+use crate::heads::counting::HeadStats;
+use crate::heads::latch::{LatchedHead, head_of};
+use crate::heads::opening::{Ground, Opening};
+use crate::history::desk::{Blank, Desk};
+use crate::history::locked::{LockedDesk, Miss};
+use crate::history::ticket::Ticket;
 use crate::viewing::{Receipt, Viewer};
 use crossbeam_utils::Backoff;
 use std::alloc::{AllocError, Global};

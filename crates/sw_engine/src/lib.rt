@@ -2,23 +2,16 @@
 #![tactic(auto)]
 
 mod conds;
-mod counting;
-mod dealing;
-mod desk;
 mod engine;
-mod latch;
-mod leading;
-mod locked;
-mod misses;
-mod opening;
-mod ticket;
+mod heads;
+mod history;
 mod viewing;
 
-pub use counting::HeadStats;
-pub use dealing::deal;
-pub use desk::Blank;
 pub use engine::{Engine, Session};
-pub use latch::head_of;
+pub use heads::counting::HeadStats;
+pub use heads::dealing::deal;
+pub use heads::latch::head_of;
+pub use history::desk::Blank;
+pub use history::ticket::Ticket;
 pub use sw_versions::Naming;
-pub use ticket::Ticket;
 pub use viewing::{Receipt, Viewer};

@@ -1,0 +1,8 @@
+use Rattle.sw_spine.specs.declared.history.State.TheVariants as state
+use Rattle.sw_engine.proofs.Shelves.{shelf_settled}
+use Rattle.sw_engine.proofs.history.locked.LockedDesk.void.Goals as goal
+
+pub invariant_of-self : goal.invariant_of-self
+invariant_of-self g c =
+    let j = g.J.Naming in
+    (shelf_settled j.limit j.opening c.args.session.now.shown.0 state.Void c.self.inside.desk.books c.void.new.self.books c.self.inside.shelf c.self.invariant.0 c.void.ensures.voided c.void.ensures.updates, c.self.invariant.1)

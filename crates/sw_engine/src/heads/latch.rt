@@ -1,0 +1,240 @@
+//! What lies under a head's latch.
+
+ghost use Rattle.std.specs.Prelude.{ℕ, ◌≡◌, ◌+◌, ◌++◌, [], ◌<◌, ◌≤◌, true, false, IfErr, IfOk, IsOkUnless, OnErr, OnOk};
+ghost use Rattle.sw_query.specs.Scan.{AsksBelow, answer};
+ghost use Rattle.sw_table.specs.Updates.{rows_of};
+ghost use Rattle.sw_query.specs.declared.refusal.Refusal.TheVariants.{NoMemory};
+ghost use Rattle.sw_map.specs.Held.{blank};
+ghost use Rattle.sw_set.specs.Needs.{head_in};
+ghost use Rattle.sw_chunks.specs.Heads.{IsSameHead};
+ghost use Rattle.sw_chunks.specs.Routing.{MayFollow};
+ghost use Rattle.sw_engine.specs.Desk.{IsSameButBoxes, KeepsBoxes};
+
+use crate::heads::counting::{Counters, HeadStats, no_figures};
+use crate::heads::leading::scan_led;
+use crate::heads::opening::Opening;
+use std::alloc::Global;
+use std::marker::{Model, PhantomData};
+use std::thread::Threads;
+use sw_chunks::{Head, Waiting};
+use sw_map::CrackerMap;
+use sw_rows::{PackedRows, Query, Refusal, Reply, Update};
+use sw_spine::Spine;
+use sw_tie::Share;
+use sw_versions::Naming;
+
+/// The attribute whose head is asked: that of the first condition, or the first attribute.
+pub fn head_of(query: &Query) -> usize
+    ensures is { result ≡ head_in query.now.conds }
+    ensures below { (n : ℕ) → 0 < n → AsksBelow n query.now → result < n }
+{
+    match query.conds.as_slice().first() {
+        Some(cond) => cond.attr,
+        None => 0,
+    }
+}
+
+/// The answer of a head, and how many areas scanned for it. A head whose attribute is not that of the query's scans.
+fn ask<M: CrackerMap, R: Threads + Sync>(
+    rt: &R,
+    alloc: Global,
+    head: &mut Head<M>,
+    query: &Query,
+) -> Result<(Reply, usize), Refusal>
+    requires asks { AsksBelow 8 query.now }
+    requires attribute { head.old.attribute < 8 }
+    ensures same { IsSameHead head.old head.new }
+    ensures answered { IfOk result (λ r. r.0 ≡ answer (rows_of head.old.updates) query.now) }
+    ensures refused { IsOkUnless result NoMemory }
+{
+    if usize::from(head.attribute()) != head_of(query) {
+        let reply = scan_led(alloc, head, query)?;
+        return Ok((reply, head.areas().len()));
+    }
+    head.answer(rt, query)
+}
+
+/// The head receives what waits for it. The one refusal is `NoMemory`, and then both are as they were.
+fn receive_all<M: CrackerMap>(head: &mut Head<M>, inbox: &mut Vec<Update>) -> Result<(), Refusal>
+    requires may { MayFollow head.old.attribute head.old.updates inbox.old.items }
+    ensures attribute { head.new.attribute ≡ head.old.attribute }
+    ensures received { OnOk result (head.new.updates ≡ head.old.updates ++ inbox.old.items) }
+    ensures emptied { OnOk result (inbox.new.items ≡ []) }
+    ensures kept { OnErr result ((head.new.updates ≡ head.old.updates) × (inbox.new.items ≡ inbox.old.items)) }
+    ensures refused { IsOkUnless result NoMemory }
+{
+    head.receive(inbox.as_slice())?;
+    inbox.clear();
+    Ok(())
+}
+
+/// A head, once it is made, the boxes that wait for it, and the updates that were taken for it and that it has not
+/// received.
+///
+/// Contracts see all that was taken for it, the opening rows first, whether the head is made, and how many boxes wait
+/// for it and how many it has.
+#[derive(Drop)]
+pub struct LatchedHead<J: Naming, M: CrackerMap> {
+    pub(crate) number: usize,
+    pub(crate) head: Option<Head<M>>,
+    pub(crate) inbox: Vec<Update>,
+    pub(crate) boxes: Waiting<M>,
+    pub(crate) share: Share<Spine>,
+    pub(crate) counters: Counters,
+    pub(crate) of: PhantomData<J>,
+}
+
+impl<J: Naming, M: CrackerMap> Model for LatchedHead<J, M> {
+    ghost use Rattle.sw_engine.specs.Desk.{IsLatched, LatchState, latched};
+
+    ghost Value = { LatchState };
+
+    ghost view = { λ h. latched J.opening h.head h.inbox.items h.boxes };
+
+    ghost invariant = { λ h. IsLatched J.heads J.limit J.columns J.opening h.number h.head h.inbox.items h.share };
+}
+
+impl<J: Naming, M: CrackerMap> LatchedHead<J, M> {
+    /// Whether the head is made.
+    pub fn is_made(&self) -> bool
+        ensures { result ≡ self.now.made }
+    {
+        self.head.is_some()
+    }
+
+    /// Makes the head from the opening rows, a copy of which it takes over, if it was never asked. Refused `NoMemory`
+    /// alone, and then nothing has changed.
+    #[tactic(auto, using(crate::proofs::Heads::made_latch, crate::proofs::Heads::same_latch))]
+    pub fn make(
+        &mut self,
+        alloc: Global,
+        opening: &Opening<J>,
+        rows: PackedRows,
+    ) -> Result<(), Refusal>
+        requires { rows.items ≡ J.opening }
+        ensures made { OnOk result (self.new ≡ record self.old { made = true }) }
+        ensures kept { OnErr result (self.new ≡ self.old) }
+        ensures refused { IsOkUnless result NoMemory }
+    {
+        let LatchedHead { number, head, .. } = self;
+        if head.is_none() {
+            let made = opening.head(alloc, *number, rows)?;
+            *head = Some(made);
+        }
+        Ok(())
+    }
+
+    /// Gives the head the boxes that wait for it, those first that came first. Refused `NoMemory` alone, the rest wait
+    /// on: none is lost.
+    pub fn hand_over(&mut self) -> Result<(), Refusal>
+        requires { self.old.made ≡ true }
+        ensures same { IsSameButBoxes self.old self.new }
+        ensures boxes { KeepsBoxes self.old self.new }
+        ensures handed { OnOk result (self.new.waiting ≡ 0) }
+        ensures refused { IsOkUnless result NoMemory }
+    {
+        let LatchedHead { head, boxes, .. } = self;
+        let Some(head) = head else {
+            unreachable!();
+        };
+        boxes.hand_all(head)
+    }
+
+    /// Takes in what lies in the inbox. Refused `NoMemory` alone; whatever comes, what was taken for the head stays.
+    pub fn receive(&mut self) -> Result<(), Refusal>
+        requires { self.old.made ≡ true }
+        ensures same { self.new ≡ record self.old { held = self.new.held } }
+        ensures refused { IsOkUnless result NoMemory }
+    {
+        let LatchedHead { head, inbox, .. } = self;
+        let Some(head) = head else {
+            unreachable!();
+        };
+        receive_all(head, inbox)
+    }
+
+    /// Takes in what lies in the inbox, and answers.
+    fn serve<R: Threads + Sync>(
+        &mut self,
+        rt: &R,
+        alloc: Global,
+        query: &Query,
+    ) -> Result<Reply, Refusal>
+        requires made { self.old.made ≡ true }
+        requires asks { AsksBelow 8 query.now }
+        ensures same { self.new ≡ record self.old { held = self.new.held } }
+        ensures answered { IfOk result (λ r. r ≡ answer (rows_of self.old.taken) query.now) }
+        ensures refused { IsOkUnless result NoMemory }
+    {
+        let LatchedHead {
+            head,
+            inbox,
+            counters,
+            ..
+        } = self;
+        let Some(head) = head else {
+            unreachable!();
+        };
+        receive_all(head, inbox)?;
+        let (reply, scans) = ask(rt, alloc, head, query)?;
+        counters.count(scans);
+        Ok(reply)
+    }
+
+    /// Takes in what lies in the inbox, and answers twice: one reply is for the caller, one for the history.
+    ///
+    /// Refused `NoMemory` alone; whatever comes, what was taken for it stays.
+    pub fn answer<R: Threads + Sync>(
+        &mut self,
+        rt: &R,
+        alloc: Global,
+        query: &Query,
+    ) -> Result<(Reply, Reply), Refusal>
+        requires made { self.old.made ≡ true }
+        requires asks { AsksBelow 8 query.now }
+        ensures same { self.new ≡ record self.old { held = self.new.held } }
+        ensures answered { IfOk result (λ r. (r.0 ≡ answer (rows_of self.old.taken) query.now) × (r.1 ≡ r.0)) }
+        ensures refused { IsOkUnless result NoMemory }
+    {
+        let reply = self.serve(rt, alloc, query)?;
+        match reply.copied(alloc) {
+            Ok(kept) => Ok((reply, kept)),
+            Err(_) => Err(Refusal::NoMemory),
+        }
+    }
+
+    /// What the head tells of itself in numbers: no area before it is made.
+    pub fn stats(&self) -> HeadStats
+        ensures { self.now.made ≡ false → result.figures.areas ≡ 0 }
+    {
+        match &self.head {
+            Some(head) => self.counters.beside(head.figures()),
+            None => self.counters.beside(no_figures()),
+        }
+    }
+
+    /// Takes a blank box, which waits until the head is asked. Refused `NoMemory`, nothing has changed, and that very
+    /// box comes back.
+    pub fn supply(&mut self, it: M) -> Result<(), (M, Refusal)>
+        requires { M.held it ≡ blank }
+        ensures kept { OnOk result (self.new ≡ record self.old { waiting = self.old.waiting + 1 }) }
+        ensures refused { IfErr result (λ r. (self.new ≡ self.old) × (r.0 ≡ it) × (r.1 ≡ NoMemory)) }
+    {
+        self.boxes.add(it)
+    }
+
+    /// Drops up to so many boxes, those that wait first, and answers how many: as many as that, or all.
+    pub fn shed(&mut self, most: usize) -> usize
+        ensures same { IsSameButBoxes self.old self.new }
+        ensures left { self.new.waiting + self.new.held + result ≡ self.old.waiting + self.old.held }
+        ensures few { result ≤ most }
+        ensures all { result < most → self.new.waiting + self.new.held ≡ 0 }
+    {
+        let LatchedHead { head, boxes, .. } = self;
+        let gone = boxes.shed(most);
+        match head {
+            Some(head) => gone + head.shed(most - gone),
+            None => gone,
+        }
+    }
+}
