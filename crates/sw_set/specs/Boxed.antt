@@ -1,11 +1,12 @@
 -- What becomes of an area's boxes: which may be taken, and which are made, grown, cleared or dropped.
-use Rattle.std.specs.Prelude.{◌≡◌, ◌≢◌, ◌≤◌, ◌<◌, ◌+◌, ◌⊎◌, ℕ, Bool, false, List, ◌++◌, length, slice_index_or, slice_set, Result, Option, Some, None, All, Any, Contains, IsPermutation}
+use Rattle.std.specs.Prelude.{◌≡◌, ◌≢◌, ◌≤◌, ◌<◌, ◌+◌, ◌⊎◌, ℕ, Bool, false, List, [], ◌∷◌, ◌++◌, length, slice_index_or, slice_set, Result, MatchResult, Option, Some, None, All, Any, Contains, IsPermutation}
 use Rattle.sw_query.specs.declared.bound.Bound.{Bound}
 use Rattle.sw_query.specs.declared.refusal.Refusal.{Refusal}
+use Rattle.sw_query.specs.declared.refusal.Refusal.TheVariants.{NoMemory}
 use Rattle.sw_map.specs.declared.tail.Tail.{Tail}
 use Rattle.sw_map.specs.Held.{Held, blank, place_of}
 use Rattle.sw_map.specs.Refusals.{HasGrownOr}
-use Rattle.sw_set.specs.Shelf.{AreaState, with_box}
+use Rattle.sw_set.specs.Shelf.{AreApart, AreaState, with_box}
 use Rattle.sw_set.specs.Sought.{AreAllBlank, LacksMap}
 
 -- the area but for its boxes
@@ -21,6 +22,15 @@ pub record IsSameButBoxes (x y : AreaState) : Type 0 where
 -- the box at a place has it, whatever is read where there is none
 abbrev pub HasAt : List Held → ℕ → (Held → Type 0) → Type 0
 HasAt ms at P = (d : Held) → P (slice_index_or ms at d)
+
+-- the boxes with another map in the box at a place, of which P holds
+abbrev pub IsSetAt : List Held → ℕ → (Held → Type 0) → List Held → Type 0
+IsSetAt ms at P ns = (m : Held) × P m × (ns ≡ slice_set ms at m)
+
+-- a blank box came behind the others; or there was no memory, nothing has changed, and that box comes back
+abbrev pub AreMoreOr : {A M : Type 0} → Result A (M × Refusal) → M → List Held → List Held → Type 0
+AreMoreOr r it ms ns =
+    MatchResult r (λ _. ns ≡ ms ++ blank ∷ []) (λ back. (ns ≡ ms) × (back.0 ≡ it) × (back.1 ≡ NoMemory))
 
 -- the area after the map in the box at a place was to grow to so many cells
 abbrev pub HasGrownAt : Result Bool Refusal → ℕ → ℕ → AreaState → AreaState → Type 0
@@ -79,6 +89,16 @@ IsOneCleared ms ns cells =
     (AreAllBlank ms × (ns ≡ ms) × (cells ≡ 0))
     ⊎ ((at : ℕ) × (at < length ms) × HasAt ms at (IsLeasing cells)
     × (ns ≡ slice_set ms at blank))
+
+-- The boxes after some were dropped: at most so many, and all where there are no more. Those that went and those that
+-- are left are those that were there, and of those that are left no two have maps of the same tail, if so before.
+pub record AreDropped (most : ℕ) (ms ns : List Held) (gone : ℕ) : Type 0 where
+  pub many : length ns + gone ≡ length ms
+  pub few : gone ≤ most
+  pub went : List Held
+  pub all : length went ≡ gone
+  pub parted : IsPermutation ms (went ++ ns)
+  pub apart : AreApart ms → AreApart ns
 
 -- The area after boxes were dropped: at most so many, and all where it has no more. Those that went and those that are
 -- left are the boxes that were there.

@@ -1,4 +1,4 @@
--- A code of an area: a model whose value it is names it.
+-- Codes of an area, its boxes and its inbox: a model whose value one is names it.
 use Rattle.std.specs.Prelude.{◌≡◌, ℕ, ℤ, List, Option, ◌⊎◌, refl}
 use mathlib.Core.Logic.{inl, inr}
 use Rattle.std.specs.Coded.{Coded, code_by, coded×, coded⊎, coded_list, coded_option, coded_ℕ, coded_ℤ}
@@ -11,6 +11,7 @@ use Rattle.sw_kernel.specs.Codes.{sided, unsided}
 use Rattle.sw_kernel.specs.Replay.{Step, loaded, inserted, removed, ranged}
 use Rattle.sw_map.specs.Held.{Held}
 use Rattle.sw_map.specs.Codes.{held_code}
+use Rattle.sw_set.specs.Inbox.{Waiting}
 use Rattle.sw_set.specs.Shelf.{AreaState}
 
 abbrev pub unsided-sided : (b : Bound) → unsided (sided b) ≡ b
@@ -73,6 +74,18 @@ step_code =
     (coded⊎ coded_ℕ (coded× (coded_option bound_code) (coded_option bound_code))))
     step_parts step_of_parts step_of-parts
 
+-- a code of the boxes of an area
+abbrev pub boxes_code : Coded (List Held)
+boxes_code = coded_list held_code
+
+-- a code of an inbox
+abbrev pub waiting_code : Coded Waiting
+waiting_code =
+    code_by (List Update × ℕ) (coded× (coded_list update_code) coded_ℕ)
+    (λ w. (w.updates, w.spare))
+    (λ p. record { updates = p.0; spare = p.1 })
+    (λ _. refl)
+
 abbrev pub AreaParts : Type 0
 AreaParts = (ℕ × (Option ℤ × Option ℤ)) × ((List Update × ℕ) × (List (Step Row) × List Held))
 
@@ -81,7 +94,7 @@ area_code =
     code_by AreaParts
     (coded×
     (coded× coded_ℕ (coded× (coded_option coded_ℤ) (coded_option coded_ℤ)))
-    (coded× (coded× (coded_list update_code) coded_ℕ) (coded× (coded_list step_code) (coded_list held_code))))
+    (coded× (coded× (coded_list update_code) coded_ℕ) (coded× (coded_list step_code) boxes_code)))
     (λ x. ((x.attribute, (x.from, x.below)), ((x.inbox, x.spare), (x.tape, x.boxes))))
     (λ p. record {
       attribute = p.0.0;

@@ -1,4 +1,5 @@
 pub mod Needs
+pub mod Inbox
 pub mod Shelf
 pub mod Aligned
 pub mod Aligning

@@ -1,6 +1,5 @@
 -- What an area is, which rows it stands for, and when it is lawful.
-use Rattle.std.specs.Prelude.{◌≡◌, ◌≢◌, ◌≤◌, ◌<◌, ◌-◌, ◌^◌, ℕ, ℤ, Bool, true, false, List, [], ◌∷◌, ◌++◌, fold, length, slice_index_or, slice_set, Option, All, vec_capacity, vec_len}
-use Rattle.std.specs.Global.{Vec}
+use Rattle.std.specs.Prelude.{◌≡◌, ◌≢◌, ◌≤◌, ◌<◌, ◌^◌, ℕ, ℤ, Bool, true, false, List, [], ◌∷◌, ◌++◌, fold, length, slice_index_or, slice_set, Option, All}
 use Rattle.sw_table.specs.declared.row.Row.{Row}
 use Rattle.sw_table.specs.declared.row.Update.{Update}
 use Rattle.sw_table.specs.declared.row.Update.TheVariants as update
@@ -14,6 +13,7 @@ use Rattle.sw_kernel.specs.Tapes.{IsTape, live_rows, brought}
 use Rattle.sw_map.specs.Held.{Held, KeysFit}
 use Rattle.sw_map.specs.Lawful.{IsLawful, rows_by}
 use Rattle.sw_tape.specs.declared.tape.TheConstants.{MAX_ENTRIES}
+use Rattle.sw_set.specs.Inbox.{Waiting}
 use Rattle.sw_set.specs.Needs.{edge}
 
 -- An area: the attribute that is the head of its maps, the interval of its rows' cells there (from the one value, below
@@ -39,21 +39,21 @@ loaded_area attribute from below rows = record {
   boxes = [];
 }
 
--- an area by its fields, of which the inbox is a list with its room
-abbrev pub area_over : ℕ → Option ℤ → Option ℤ → Vec Update → List (Step Row) → List Held → AreaState
+-- an area by its fields
+abbrev pub area_over : ℕ → Option ℤ → Option ℤ → Waiting → List (Step Row) → List Held → AreaState
 area_over attribute from below inbox tape boxes = record {
   attribute = attribute;
   from = from;
   below = below;
-  inbox = inbox.items;
-  spare = vec_capacity inbox - vec_len inbox;
+  inbox = inbox.updates;
+  spare = inbox.spare;
   tape = tape;
   boxes = boxes;
 }
 
 -- the area with another inbox
-abbrev pub with_inbox : Vec Update → AreaState → AreaState
-with_inbox inbox x = record x { inbox = inbox.items; spare = vec_capacity inbox - vec_len inbox }
+abbrev pub with_inbox : Waiting → AreaState → AreaState
+with_inbox inbox x = record x { inbox = inbox.updates; spare = inbox.spare }
 
 -- the area with another map in the box at a place
 abbrev pub with_box : ℕ → Held → AreaState → AreaState

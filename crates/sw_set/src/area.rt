@@ -1,6 +1,6 @@
 //! An area, and its single changes.
 
-ghost use Rattle.std.specs.Prelude.{◌≡◌, ◌<◌, ◌≤◌, ◌+◌, ◌^◌, ◌++◌, false, true, List, [], length, map, All, IfErr, IfOk, IsOk, IsOkUnless, MatchOption, OnErr, remove, slice_index_or, vec_capacity, vec_len};
+ghost use Rattle.std.specs.Prelude.{◌≡◌, ◌<◌, ◌≤◌, ◌+◌, ◌^◌, ◌++◌, false, true, List, [], length, map, All, IfErr, IfOk, IsOk, IsOkUnless, MatchOption, OnErr, remove, slice_index_or};
 ghost use Rattle.sw_table.specs.declared.row.Row.{Row};
 ghost use Rattle.sw_table.specs.declared.row.Update.TheVariants.{Insert};
 ghost use Rattle.sw_query.specs.declared.refusal.Refusal.TheVariants.{NoMemory};
@@ -10,7 +10,6 @@ ghost use Rattle.sw_kernel.specs.Replay.{inserted, ranged, removed};
 ghost use Rattle.sw_map.specs.declared.tail.Tail.TheVariants.{Key};
 ghost use Rattle.sw_kernel.specs.Tapes.{peak_from};
 ghost use Rattle.sw_map.specs.Held.{blank, pairs_in, place_of};
-ghost use Rattle.sw_map.specs.Refusals.{HasBegunOr, HasGrownOr};
 ghost use Rattle.sw_tape.specs.declared.tape.TheConstants.{MAX_ENTRIES};
 ghost use Rattle.sw_tape.specs.Bounds.{HasPieces};
 ghost use Rattle.sw_tape.specs.Restart.{first_rows};
@@ -18,32 +17,30 @@ ghost use Rattle.sw_set.specs.Figures.{capped, cells_among, maps_among};
 ghost use Rattle.sw_set.specs.Merged.{without_inbox};
 ghost use Rattle.sw_set.specs.Needs.{head_in};
 ghost use Rattle.sw_query.specs.Outcomes.{MemoryAside};
-ghost use Rattle.sw_set.specs.Outcomes.{AreAppendedOr, CameToWaitOr, HasBegunAnewOr, HasLoggedOr, HasMadeAt, HasMadeRoomOr, HasRestartedOr, IsLongerOr, IsSuppliedOr, rows_standing};
+ghost use Rattle.sw_set.specs.Outcomes.{CameToWaitOr, HasBegunAnewOr, HasLoggedOr, HasMadeAt, HasMadeRoomOr, HasRestartedOr, IsSuppliedOr, rows_standing};
 ghost use Rattle.sw_set.specs.Prepared.{ComesFromMap, IsPreparedFor, IsReady, stands_if};
 ghost use Rattle.sw_set.specs.Boxed.{HasAt, HasGrownAt, IsCleared, IsFree, IsFreshBut, IsOneCleared, IsSameButBoxes, IsShed};
 ghost use Rattle.sw_set.specs.Shelf.{AreaState, IsAreaLawful, IsSameArea, LiesIn, MayComeAfterLoad, MayMerge, MayMergeAll, MayReceiveAll, Rises, arranged_rows, key_of, lies_within, loaded_area, rows_in, rows_left_by, tape_rows, with_box, with_inbox};
 ghost use Rattle.sw_set.specs.Aligning.{AlignsBoxes};
 ghost use Rattle.sw_set.specs.Aligned.{AreSameMaps, HasRoomWhereNeeded, IsAtEnd, IsStalled};
-ghost use Rattle.sw_set.specs.Sought.{AreAllBlank, EndsBy, FindsUnless, HasCursor, HasReachedOr, HaveSomeMap, HoldsMap, IsCrackedAt, IsNeeded, IsNeededIfMap, IsUncracked, IsUnneeded, LacksMap, Shows, TellsUnless, shown_at};
+ghost use Rattle.sw_set.specs.Sought.{AreAllBlank, EndsBy, FindsUnless, HasCursor, HasReachedOr, HaveSomeMap, HoldsMap, IsCrackedAt, IsNeeded, IsNeededIfMap, IsUncracked, IsUnneeded, LacksMap, Shows, TellsUnless};
 
+pub(crate) mod boxes;
 pub(crate) mod figures;
+pub(crate) mod inbox;
 pub(crate) mod live;
 pub(crate) mod pick;
 pub(crate) mod ready;
 pub(crate) mod resting;
 
-use crate::area::figures::{cells_among, maps_among};
+use crate::area::boxes::Boxes;
+use crate::area::inbox::Inbox;
 use crate::area::live::LiveRows;
-use crate::area::pick::{find_blank, find_leased, find_map, find_unneeded};
 use crate::area::ready::Ready;
-use crate::area::resting::find_at_end;
 use crate::merge::position::place_of_row;
-use crate::prepare::align::{align_boxes, align_map, is_needed};
 use crate::reply::collect_from;
 use std::alloc::Global;
 use std::marker::Model;
-use std::mem;
-use std::sync::atomic::{AtomicU64, Ordering};
 use sw_map::{CrackerMap, Tail};
 use sw_query::{Bound, PackedRows, Query, Refusal, Reply, Row, Update};
 use sw_tape::{Entry, Tape};
@@ -55,14 +52,10 @@ pub struct Area<M: CrackerMap> {
     attribute: u8,
     from: Option<i64>,
     below: Option<i64>,
-    inbox: Vec<Update>,
+    inbox: Inbox,
     tape: Tape,
     live: LiveRows,
-    boxes: Vec<M>,
-    /// Those who share the area stamp too.
-    stamps: Vec<AtomicU64>,
-    clock: u64,
-    counts: bool,
+    boxes: Boxes<M>,
     restarts: u64,
 }
 
@@ -78,16 +71,12 @@ impl<M: CrackerMap> Drop for Area<M> {
             tape: _tape,
             live: _live,
             boxes: _boxes,
-            stamps: _stamps,
-            clock: _,
-            counts: _,
             restarts: _,
         } = self;
     }
 }
 
 impl<M: CrackerMap> Model for Area<M> {
-    ghost use Rattle.std.specs.Prelude.{◌≡◌, map, vec_len};
     ghost use Rattle.sw_set.specs.Shelf.{AreaState, IsAreaLawful, area_over};
     ghost use Rattle.sw_set.specs.Tied.{IsTied};
     ghost use Rattle.sw_set.specs.Codes.{area_code};
@@ -96,11 +85,11 @@ impl<M: CrackerMap> Model for Area<M> {
 
     ghost coded = { area_code };
 
-    ghost view = { λ a. area_over a.attribute a.from a.below a.inbox a.tape (map M.held a.boxes.items) };
+    ghost view = { λ a. area_over a.attribute a.from a.below a.inbox a.tape a.boxes };
 
     ghost invariant = { λ a.
-        IsAreaLawful (area_over a.attribute a.from a.below a.inbox a.tape (map M.held a.boxes.items))
-        × (vec_len a.stamps ≡ vec_len a.boxes) × IsTied a.attribute a.tape a.live };
+        IsAreaLawful (area_over a.attribute a.from a.below a.inbox a.tape a.boxes)
+        × IsTied a.attribute a.tape a.live };
 }
 
 impl<M: CrackerMap> Area<M> {
@@ -146,13 +135,10 @@ impl<M: CrackerMap> Area<M> {
             attribute,
             from,
             below,
-            inbox: Vec::new(alloc),
+            inbox: Inbox::new(alloc),
             tape,
             live,
-            boxes: Vec::new(alloc),
-            stamps: Vec::new(alloc),
-            clock: 0,
-            counts: true,
+            boxes: Boxes::new(alloc),
             restarts: 0,
         })
     }
@@ -162,12 +148,7 @@ impl<M: CrackerMap> Area<M> {
         requires { M.held it ≡ blank }
         ensures { IsSuppliedOr result it self.old self.new }
     {
-        if self.boxes.reserve(1).is_err() || self.stamps.reserve(1).is_err() {
-            return Err((it, Refusal::NoMemory));
-        }
-        self.boxes.push_reserved(it);
-        self.stamps.push_reserved(AtomicU64::new(0));
-        Ok(())
+        self.boxes.supply(it)
     }
 
     /// Tells a caller in another module when an area is lawful.
@@ -204,14 +185,14 @@ impl<M: CrackerMap> Area<M> {
     pub fn maps(&self) -> u64
         ensures { result ≡ capped (maps_among self.now.boxes) }
     {
-        maps_among(self.boxes.as_slice())
+        self.boxes.maps()
     }
 
     /// How many cells their leases have, up to the greatest number of the type.
     pub fn cells(&self) -> u64
         ensures { result ≡ capped (cells_among self.now.boxes) }
     {
-        cells_among(self.boxes.as_slice())
+        self.boxes.cells()
     }
 
     /// How often the area was begun anew, up to the greatest number of the type. No clause speaks of it.
@@ -223,29 +204,26 @@ impl<M: CrackerMap> Area<M> {
     pub fn set_now(&mut self, now: u64)
         ensures { self.new ≡ self.old }
     {
-        self.clock = now;
-        self.counts = false;
+        self.boxes.set_now(now);
     }
 
     /// Counts one query more, if the area counts its own; the number stops at the greatest of its type.
     pub(crate) fn tick(&mut self)
         ensures { self.new ≡ self.old }
     {
-        if self.counts {
-            self.clock = self.clock.saturating_add(1);
-        }
+        self.boxes.tick();
     }
 
     /// Stamps the boxes whose maps are needed.
     pub(crate) fn stamp(&mut self, tails: &[Tail])
         ensures { self.new ≡ self.old }
     {
-        self.stamp_by(tails, self.clock);
+        self.boxes.stamp(tails);
     }
 
     /// The same with a number of the caller's, by who shares the area.
     pub(crate) fn stamp_by(&self, tails: &[Tail], now: u64) {
-        stamp_needed(self.boxes.as_slice(), self.stamps.as_slice(), tails, now);
+        self.boxes.stamp_by(tails, now);
     }
 
     /// Gives back the memory that stayed with blank boxes when the area began anew. `prepare` does so at its end; who merges
@@ -253,7 +231,7 @@ impl<M: CrackerMap> Area<M> {
     pub fn trim(&mut self)
         ensures { self.new ≡ self.old }
     {
-        trim_all(self.boxes.as_mut_slice());
+        self.boxes.trim();
     }
 
     /// The allocator that the area's collections use.
@@ -342,7 +320,7 @@ impl<M: CrackerMap> Area<M> {
         let width = load_of(&self.tape).width();
         let all = LiveRows::all(self.alloc, width, live.count())?;
         self.tape.restart_live(live.later(), live.flags())?;
-        reset_all(self.boxes.as_mut_slice());
+        self.boxes.reset();
         self.live = all;
         self.restarts = self.restarts.saturating_add(1);
         Ok(())
@@ -378,7 +356,7 @@ impl<M: CrackerMap> Area<M> {
         ensures ends { HasReachedOr result at (length self.old.tape) self.old.boxes self.new.boxes }
         ensures stalled { OnErr result (IsStalled M.stalls self.old.tape) }
     {
-        align_map(&mut self.boxes[at], &self.tape)
+        self.boxes.align_at(at, &self.tape)
     }
 
     /// Where the pair of the live row of a key stands at the tape's end, told by the key map in the box at a place.
@@ -394,7 +372,7 @@ impl<M: CrackerMap> Area<M> {
             unreachable!()
         };
         let value = self.live.cell(load, row, usize::from(self.attribute));
-        place_of_row(&self.boxes[at], &self.tape, value, key)
+        place_of_row(self.boxes.at(at), &self.tape, value, key)
     }
 
     /// Makes room for so many updates more: until they are received, `receive` takes no memory. A refusal changes nothing.
@@ -403,10 +381,7 @@ impl<M: CrackerMap> Area<M> {
         ensures ends { HasMadeRoomOr result more self.old.spare self.new.spare }
         ensures roomy { more ≤ self.old.spare → IsOk result }
     {
-        match self.inbox.reserve(more) {
-            Ok(()) => Ok(()),
-            Err(_) => Err(Refusal::NoMemory),
-        }
+        self.inbox.room(more)
     }
 
     /// Appends updates to those that wait: an inserted key exceeds all that came before it, its row lies in the area's
@@ -416,7 +391,7 @@ impl<M: CrackerMap> Area<M> {
         ensures ends { CameToWaitOr result updates.now self.old self.new }
         ensures roomy { length updates.now ≤ self.old.spare → IsOk result }
     {
-        append(&mut self.inbox, updates)
+        self.inbox.receive(updates)
     }
 
     /// Whether the area has a row of a key, as if what waits were merged. It takes no memory.
@@ -424,7 +399,7 @@ impl<M: CrackerMap> Area<M> {
         ensures { result ≡ has_key key (rows_in self.now) }
     {
         let mut held = self.live.holds(load_of(&self.tape), key);
-        for update in self.inbox.as_slice() {
+        for update in self.inbox.updates() {
             held = holds_after(held, update, key);
         }
         held
@@ -434,23 +409,22 @@ impl<M: CrackerMap> Area<M> {
     pub(crate) fn waiting(&self) -> &[Update]
         ensures { result.now ≡ self.now.inbox }
     {
-        self.inbox.as_slice()
+        self.inbox.updates()
     }
 
     /// Takes out what waits.
-    pub(crate) fn take_inbox(&mut self) -> Vec<Update>
+    pub(crate) fn take_inbox(&mut self) -> Inbox
         ensures area { self.new ≡ without_inbox self.old }
-        ensures taken { result.items ≡ self.old.inbox }
-        ensures spare { vec_capacity result ≡ self.old.spare + length self.old.inbox }
-        ensures receivable { MayMergeAll result.items self.old }
+        ensures taken { result.updates ≡ self.old.inbox }
+        ensures spare { result.spare ≡ self.old.spare }
+        ensures receivable { MayMergeAll result.updates self.old }
     {
-        let none = Vec::new(self.alloc);
-        mem::replace(&mut self.inbox, none)
+        self.inbox.take(self.alloc)
     }
 
     /// These updates wait from now on, and no others.
-    pub(crate) fn put_inbox(&mut self, waiting: Vec<Update>)
-        requires { MayMergeAll waiting.items self.old }
+    pub(crate) fn put_inbox(&mut self, waiting: Inbox)
+        requires { MayMergeAll waiting.updates self.old }
         ensures { self.new ≡ with_inbox waiting self.old }
     {
         self.inbox = waiting;
@@ -471,7 +445,7 @@ impl<M: CrackerMap> Area<M> {
         ensures { FindsUnless
             (λ m. ¬ IsReady tail self.now.tape m) (λ m. IsReady tail self.now.tape m) self.now.boxes result }
     {
-        find_at_end(self.boxes.as_slice(), tail, &self.tape)
+        self.boxes.at_end(tail, &self.tape)
     }
 
     /// The greatest number of pairs after any entry of the tape.
@@ -486,24 +460,21 @@ impl<M: CrackerMap> Area<M> {
     pub(crate) fn with_map(&self, tail: Tail) -> Option<usize>
         ensures { FindsUnless (LacksMap tail) (HoldsMap tail) self.now.boxes result }
     {
-        find_map(self.boxes.as_slice(), tail)
+        self.boxes.with_map(tail)
     }
 
     /// A box for a new map: the first blank one, else the least recently used that the tails do not need.
     pub(crate) fn free_box(&self, tails: &[Tail]) -> Option<usize>
         ensures { FindsUnless (IsNeeded tails.now) (IsFree tails.now) self.now.boxes result }
     {
-        if let Some(i) = find_blank(self.boxes.as_slice()) {
-            return Some(i);
-        }
-        find_unneeded(self.boxes.as_slice(), self.stamps.as_slice(), tails)
+        self.boxes.free(tails)
     }
 
     /// The least recently used box with a lease that the tails do not need.
     pub(crate) fn leased(&self, tails: &[Tail]) -> Option<usize>
         ensures { FindsUnless (IsNeededIfMap tails.now) (IsUnneeded tails.now) self.now.boxes result }
     {
-        find_leased(self.boxes.as_slice(), self.stamps.as_slice(), tails)
+        self.boxes.leased(tails)
     }
 
     /// The cells of the box at a place.
@@ -511,7 +482,7 @@ impl<M: CrackerMap> Area<M> {
         requires { at < length self.now.boxes }
         ensures { HasAt self.now.boxes at (λ b. result ≡ b.cells) }
     {
-        self.boxes[at].cells()
+        self.boxes.at(at).cells()
     }
 
     /// Where a bound stands in the box at a place.
@@ -519,7 +490,7 @@ impl<M: CrackerMap> Area<M> {
         requires { at < length self.now.boxes }
         ensures { HasAt self.now.boxes at (λ b. result ≡ place_of bound b.pairs) }
     {
-        self.boxes[at].find(bound)
+        self.boxes.at(at).find(bound)
     }
 
     /// How many pairs the box at a place has.
@@ -527,24 +498,7 @@ impl<M: CrackerMap> Area<M> {
         requires { at < length self.now.boxes }
         ensures { HasAt self.now.boxes at (λ b. result ≡ pairs_in b) }
     {
-        self.boxes[at].len()
-    }
-
-    /// The cursor of the box at a place.
-    fn cursor_at(&self, at: usize) -> usize
-        requires { at < length self.now.boxes }
-        ensures { HasAt self.now.boxes at (λ b. result ≡ b.cursor) }
-    {
-        self.boxes[at].cursor()
-    }
-
-    /// The tail at a place of the box at a place.
-    fn shown_at(&self, at: usize, place: usize) -> i64
-        requires within { at < length self.now.boxes }
-        requires there { HasAt self.now.boxes at (λ b. place < pairs_in b) }
-        ensures { HasAt self.now.boxes at (λ b. result ≡ shown_at place b) }
-    {
-        self.boxes[at].tail_at(place)
+        self.boxes.at(at).len()
     }
 
     /// Clears the box at a place.
@@ -552,7 +506,7 @@ impl<M: CrackerMap> Area<M> {
         requires { at < length self.old.boxes }
         ensures { self.new ≡ with_box at blank self.old }
     {
-        clear_box(&mut self.boxes[at]);
+        self.boxes.clear_at(at);
     }
 
     /// Clears the map of a tail, if there is one. It is never refused.
@@ -560,10 +514,7 @@ impl<M: CrackerMap> Area<M> {
         ensures same { IsSameButBoxes self.old self.new }
         ensures cleared { IsCleared tail self.old.boxes self.new.boxes }
     {
-        self.known();
-        if let Some(at) = self.with_map(tail) {
-            self.clear_at(at);
-        }
+        self.boxes.clear(tail);
     }
 
     /// Clears the least recently used map, and answers the cells of its lease; 0 just where no box has a map. It is never
@@ -573,32 +524,7 @@ impl<M: CrackerMap> Area<M> {
         ensures cleared { IsOneCleared self.old.boxes self.new.boxes result }
         ensures none { result ≡ 0 → AreAllBlank self.old.boxes }
     {
-        self.known();
-        let Some(at) = self.leased(&[]) else {
-            return 0;
-        };
-        let cells = self.cells_at(at);
-        self.clear_at(at);
-        cells
-    }
-
-    /// The box to drop first: a blank one, else that of the least recently used map.
-    fn droppable(&self) -> Option<usize>
-        ensures { MatchOption result (length self.now.boxes ≡ 0) (λ at. at < length self.now.boxes) }
-    {
-        if let Some(at) = find_blank(self.boxes.as_slice()) {
-            return Some(at);
-        }
-        find_leased(self.boxes.as_slice(), self.stamps.as_slice(), &[])
-    }
-
-    /// Drops the box at a place; its lease goes back.
-    fn drop_at(&mut self, at: usize)
-        requires { at < length self.old.boxes }
-        ensures { self.new ≡ record self.old { boxes = remove self.old.boxes at } }
-    {
-        let _box = self.boxes.remove(at);
-        let _stamp = self.stamps.remove(at);
+        self.boxes.clear_oldest()
     }
 
     /// Drops up to so many boxes, blank ones first, then by least recent use, and answers how many: as many as that, or
@@ -607,59 +533,35 @@ impl<M: CrackerMap> Area<M> {
         ensures shed { IsShed most self.old self.new result }
         ensures all { result < most → length self.new.boxes ≡ 0 }
     {
-        for gone in 0..most {
-            let Some(at) = self.droppable() else {
-                return gone;
-            };
-            self.drop_at(at);
-        }
-        most
+        self.boxes.shed(most)
     }
 
     /// The stamp of the least recently used map, if a box has one.
     pub fn oldest(&self) -> Option<u64>
         ensures { MatchOption result (AreAllBlank self.now.boxes) (λ _. HaveSomeMap self.now.boxes) }
     {
-        let Some(at) = self.leased(&[]) else {
-            return None;
-        };
-        Some(self.stamps[at].load(Ordering::SeqCst))
+        self.boxes.oldest()
     }
 
     /// The cursor of the map of a tail, if there is one.
     pub fn cursor(&self, tail: Tail) -> Option<usize>
         ensures { TellsUnless (LacksMap tail) (HasCursor tail) self.now.boxes result }
     {
-        match self.with_map(tail) {
-            Some(at) => Some(self.cursor_at(at)),
-            None => None,
-        }
+        self.boxes.cursor(tail)
     }
 
     /// What the map of a tail shows at a place, if there is such a map and such a place.
     pub fn peek(&self, tail: Tail, place: usize) -> Option<i64>
         ensures { TellsUnless (EndsBy tail place) (Shows tail place) self.now.boxes result }
     {
-        self.known();
-        let Some(at) = self.with_map(tail) else {
-            return None;
-        };
-        if place < self.pairs_at(at) {
-            Some(self.shown_at(at, place))
-        } else {
-            None
-        }
+        self.boxes.peek(tail, place)
     }
 
     /// How many pairs of the key map stand before a bound, if there is a key map and it has cracked at that bound.
     pub fn place(&self, bound: Bound) -> Option<usize>
         ensures { TellsUnless (IsUncracked bound) (IsCrackedAt bound) self.now.boxes result }
     {
-        self.known();
-        match self.with_map(Tail::Key) {
-            Some(at) => self.place_at(at, bound),
-            None => None,
-        }
+        self.boxes.place(bound)
     }
 
     /// The plain answer over the area's rows; no map is used, and none changes. Only a list of rows takes memory, and
@@ -710,13 +612,8 @@ impl<M: CrackerMap> Area<M> {
         ensures maps { AreSameMaps self.old.boxes self.new.boxes }
         ensures ends { MemoryAside result (λ _. All (IsAtEnd tails.now self.old.tape) self.new.boxes) }
     {
-        align_boxes(
-            align,
-            self.attribute,
-            self.boxes.as_mut_slice(),
-            tails,
-            &self.tape,
-        )
+        self.boxes
+            .align_by(align, self.attribute, tails, &self.tape)
     }
 
     /// Grows the lease of the map in the box at a place to so many cells, and answers whether it grew. Refused, the box
@@ -728,7 +625,7 @@ impl<M: CrackerMap> Area<M> {
         ensures grown { HasGrownAt result at cells self.old self.new }
         ensures told { IfErr result (ComesFromMap M.tells) }
     {
-        grow_box(&mut self.boxes[at], cells)
+        self.boxes.grow_at(at, cells)
     }
 
     /// Resets the box at a place and begins a map of some cells in it. Refused, it is blank.
@@ -739,8 +636,7 @@ impl<M: CrackerMap> Area<M> {
         ensures made { HasMadeAt result at tail cells self.old self.new }
         ensures told { IfErr result (ComesFromMap M.tells) }
     {
-        let attribute = self.attribute;
-        begin_box(&mut self.boxes[at], attribute, tail, cells)
+        self.boxes.begin_at(at, self.attribute, tail, cells)
     }
 }
 
@@ -755,21 +651,6 @@ fn load_of(tape: &Tape) -> &PackedRows
     }
 }
 
-/// Appends updates to others. A refusal changes nothing.
-fn append(waiting: &mut Vec<Update>, updates: &[Update]) -> Result<(), Refusal>
-    ensures items { AreAppendedOr result updates.now waiting.old.items waiting.new.items }
-    ensures room { IsLongerOr result (length updates.now) waiting.old waiting.new }
-    ensures roomy { vec_len waiting.old + length updates.now ≤ vec_capacity waiting.old → IsOk result }
-{
-    if waiting.reserve(updates.len()).is_err() {
-        return Err(Refusal::NoMemory);
-    }
-    if waiting.extend_from_slice(updates).is_err() {
-        unreachable!()
-    }
-    Ok(())
-}
-
 /// Whether there is a row of a key after an update, from whether there was one before it.
 fn holds_after(held: bool, update: &Update, key: u64) -> bool
     ensures { (rows : List Row) → held ≡ has_key key rows → result ≡ has_key key (rows_then rows update.now) }
@@ -777,69 +658,5 @@ fn holds_after(held: bool, update: &Update, key: u64) -> bool
     match update {
         Update::Insert(row) => held || row.key == key,
         Update::Remove(gone) => held && *gone != key,
-    }
-}
-
-fn clear_box<M: CrackerMap>(it: &mut M)
-    ensures { M.held it.new ≡ blank }
-{
-    it.clear();
-}
-
-fn reset_box<M: CrackerMap>(it: &mut M)
-    ensures { M.held it.new ≡ blank }
-{
-    it.reset();
-}
-
-/// Makes all boxes blank. Their memory may stay with them until they are trimmed.
-fn reset_all<M: CrackerMap>(boxes: &mut [M])
-    ensures blank { All (λ m. M.held m ≡ blank) boxes.new }
-    ensures many { length boxes.new ≡ length boxes.old }
-{
-    for it in boxes.iter_mut() {
-        reset_box(it);
-    }
-}
-
-/// Takes from all boxes the memory that stayed with them when they were reset.
-fn trim_all<M: CrackerMap>(boxes: &mut [M])
-    ensures { map M.held boxes.new ≡ map M.held boxes.old }
-{
-    for at in 0..boxes.len() {
-        boxes[at].trim();
-    }
-}
-
-#[tactic(auto, using(crate::proofs::Areas::Refused::by_map))]
-fn begin_box<M: CrackerMap>(
-    it: &mut M,
-    attribute: u8,
-    tail: Tail,
-    cells: u64,
-) -> Result<(), Refusal>
-    ensures begun { HasBegunOr result attribute tail cells (M.held it.new) }
-    ensures told { IfErr result (ComesFromMap M.tells) }
-{
-    it.reset();
-    it.begin(attribute, tail, cells)
-}
-
-#[tactic(auto, using(crate::proofs::Areas::Refused::by_map))]
-fn grow_box<M: CrackerMap>(it: &mut M, cells: u64) -> Result<bool, Refusal>
-    requires begun { (M.held it.old).is_blank ≡ false }
-    requires more { (M.held it.old).cells < cells }
-    ensures grown { HasGrownOr result cells (M.held it.old) (M.held it.new) }
-    ensures told { IfErr result (ComesFromMap M.tells) }
-{
-    it.grow(cells)
-}
-
-/// Sets the stamps of the boxes whose maps are needed.
-fn stamp_needed<M: CrackerMap>(boxes: &[M], stamps: &[AtomicU64], tails: &[Tail], now: u64) {
-    for at in 0..stamps.len() {
-        if at < boxes.len() && is_needed(tails, boxes[at].tail()) {
-            stamps[at].store(now, Ordering::SeqCst);
-        }
     }
 }

@@ -1,7 +1,7 @@
 //! Merging: the updates that wait are logged in the tape one after the other, or taken up by a load with which the area
 //! begins anew.
 
-ghost use Rattle.std.specs.Prelude.{◌≡◌, ◌<◌, ◌≤◌, ◌+◌, [], true, false, length, drop, MatchResult, vec_capacity, vec_len};
+ghost use Rattle.std.specs.Prelude.{◌≡◌, ◌<◌, ◌+◌, [], true, false, length, drop, MatchResult};
 ghost use Rattle.sw_table.specs.declared.row.Update.TheVariants.{Insert, Remove};
 ghost use Rattle.sw_table.specs.Updates.{has_key};
 ghost use Rattle.sw_query.specs.Outcomes.{IsRefused};
@@ -173,16 +173,6 @@ fn merge_each<M: CrackerMap>(area: &mut Area<M>, updates: &[Update]) -> Result<(
     Ok(())
 }
 
-/// Takes the first updates away.
-fn drop_first(waiting: &mut Vec<Update>, many: usize)
-    requires { many ≤ vec_len waiting.old }
-    ensures items { waiting.new.items ≡ drop many waiting.old.items }
-    ensures len { vec_len waiting.new + many ≡ vec_len waiting.old }
-    ensures capacity { vec_capacity waiting.new ≡ vec_capacity waiting.old }
-{
-    waiting.drain(..many);
-}
-
 /// How many rows go by these updates.
 fn removals_in(updates: &[Update]) -> usize
     ensures { result ≡ removals_in updates.now }
@@ -227,7 +217,7 @@ impl<M: CrackerMap> Area<M> {
         ensures ends { HasBegunWithInboxOr result self.old self.new }
     {
         let mut waiting = self.take_inbox();
-        match self.restart_after(waiting.as_slice()) {
+        match self.restart_after(waiting.updates()) {
             Ok(()) => {
                 waiting.clear();
                 self.put_inbox(waiting);
@@ -248,14 +238,14 @@ impl<M: CrackerMap> Area<M> {
         ensures nothing { self.old.inbox ≡ [] → self.new ≡ self.old }
     {
         let mut waiting = self.take_inbox();
-        match merge_each(self, waiting.as_slice()) {
+        match merge_each(self, waiting.updates()) {
             Ok(()) => {
                 waiting.clear();
                 self.put_inbox(waiting);
                 Ok(())
             }
             Err(many) => {
-                drop_first(&mut waiting, many);
+                waiting.drop_first(many);
                 self.put_inbox(waiting);
                 Err(Refusal::NoMemory)
             }

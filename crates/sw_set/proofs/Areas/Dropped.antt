@@ -1,16 +1,17 @@
 -- Boxes that are dropped, and those that are left.
-use Rattle.std.proofs.Common.{◌≡◌, ◌≢◌, ℕ, zero, suc, ℤ, ◌+◌, ◌<◌, ◌≤◌, Bool, true, false, List, [], ◌∷◌, ◌++◌, length, get_or, map, take, drop, refl, ap, sym, ◌∙◌, arith, subst, All, Contains, MatchOption, Option, Some, None, nat_lt}
+use Rattle.std.proofs.Common.{◌≡◌, ◌≢◌, ℕ, zero, suc, ℤ, ◌+◌, ◌<◌, ◌≤◌, Bool, true, false, List, [], ◌∷◌, ◌++◌, length, get_or, map, take, drop, refl, ap, sym, ◌∙◌, arith, subst, All, Contains, IsPermutation, MatchOption, Option, Some, None, nat_lt}
 use Rattle.std.specs.List.{remove}
 use Rattle.std.proofs.lemmas.List.{length-append, length-map, map-append}
 use Rattle.std.proofs.lemmas.List.Edits.{get_or-remove_above, get_or-remove_below, length-remove}
-use Rattle.std.proofs.lemmas.List.Sorted.{IsPermutation-more, IsPermutation-refl}
+use Rattle.std.proofs.lemmas.List.Elements.{All-contains, Contains-append_right, Contains-get_or}
+use Rattle.std.proofs.lemmas.List.Sorted.{Contains-permutation, IsPermutation-more, IsPermutation-refl, IsPermutation-sym}
 use Rattle.sw_table.specs.declared.row.Row.{Row}
 use Rattle.sw_table.specs.declared.row.Update.{Update}
 use Rattle.sw_kernel.specs.Replay.{Step}
 use Rattle.sw_map.specs.Held.{Held, blank}
 use Rattle.sw_map.specs.Lawful.{IsLawful}
 use Rattle.sw_set.specs.Shelf.{AreaState, AreApart, HasLease, IsAreaLawful}
-use Rattle.sw_set.specs.Boxed.{IsShed}
+use Rattle.sw_set.specs.Boxed.{AreDropped, IsShed}
 use Rattle.sw_set.proofs.Areas.Boxes.{get_or_any}
 use Rattle.sw_set.proofs.Areas.Shelves.{area_of, area-with}
 
@@ -50,9 +51,6 @@ apart-removed ms i lt apart = λ j k d e lj lk ne bj bk eq.
     let q = stood ms i k lt lk in
     apart p.at q.at d e p.within q.within (apart-places ms i j k p q ne) (ap (λ (m : Held). m.is_blank) (sym (p.is d)) ∙ bj) (ap (λ (m : Held). m.is_blank) (sym (q.is e)) ∙ bk) (ap (λ (m : Held). m.tail) (sym (p.is d)) ∙ eq ∙ ap (λ (m : Held). m.tail) (q.is e))
 
-pub all-removed : {X : Type 0} (P : X → Type 0) (xs : List X) (i : ℕ) → i < length xs → All P xs → All P (remove xs i)
-all-removed P xs i lt all k d lk = let p = stood xs i k lt lk in subst P (sym (p.is d)) (all p.at d p.within)
-
 map-take : {A B : Type 0} (f : A → B) (i : ℕ) (xs : List A) → map f (take i xs) ≡ take i (map f xs)
 map-take f zero xs = refl
 map-take f (suc i) [] = refl
@@ -67,36 +65,43 @@ pub map-removed : {A B : Type 0} (f : A → B) (xs : List A) (i : ℕ) → map f
 map-removed f xs i =
     let t = map-take f i xs in let d = map-drop f (suc i) xs in let a = map-append f (take i xs) (drop (suc i) xs) in cc
 
-pub area-removed : {X : Type 0} (h : X → Held) (a : ℕ) (f b : Option ℤ) (inb : List Update) (sp : ℕ) (tape : List (Step Row)) (xs : List X) (i : ℕ) → i < length xs → IsAreaLawful (area_of a f b inb sp tape (map h xs)) → IsAreaLawful (area_of a f b inb sp tape (map h (remove xs i)))
-area-removed h a f b inb sp tape xs i lt w =
-    let many = length-map xs h in
-    let lm : i < length (map h xs) = omega (arith, lt, many) in
-    area-with a f b inb sp tape (map h xs) (map h (remove xs i))
-    (subst (λ (v : List Held). All (IsLawful a tape) v) (sym (map-removed h xs i)) (all-removed (IsLawful a tape) (map h xs) i lm w.boxes))
-    (subst (λ (v : List Held). All HasLease v) (sym (map-removed h xs i)) (all-removed HasLease (map h xs) i lm w.leases))
-    (subst AreApart (sym (map-removed h xs i)) (apart-removed (map h xs) i lm w.apart)) w
+-- what holds of all boxes holds of those that are left
+pub all-left-of : (P : Held → Type 0) (ms went ns : List Held) → IsPermutation ms (went ++ ns) → All P ms → All P ns
+all-left-of P ms went ns parted all k d lt =
+    All-contains P ms (get_or ns k d) all (Contains-permutation (went ++ ns) ms (get_or ns k d) (IsPermutation-sym ms (went ++ ns) parted) (Contains-append_right went ns (get_or ns k d) (Contains-get_or ns k d lt)))
 
-pub view-removed : {X : Type 0} (h : X → Held) (s : AreaState) (a : ℕ) (f b : Option ℤ) (inb : List Update) (sp : ℕ) (tape : List (Step Row)) (xs : List X) (i : ℕ) → area_of a f b inb sp tape (map h xs) ≡ s → area_of a f b inb sp tape (map h (remove xs i)) ≡ record s { boxes = remove s.boxes i }
-view-removed h s a f b inb sp tape xs i is =
-    ap (area_of a f b inb sp tape) (map-removed h xs i) ∙ ap (λ (v : AreaState). record v { boxes = remove v.boxes i }) is
+-- an area of which boxes were dropped
+pub area-dropped : (most : ℕ) (a : ℕ) (f b : Option ℤ) (inb : List Update) (sp : ℕ) (tape : List (Step Row)) (ms ns : List Held) (gone : ℕ) → AreDropped most ms ns gone → IsAreaLawful (area_of a f b inb sp tape ms) → IsAreaLawful (area_of a f b inb sp tape ns)
+area-dropped most a f b inb sp tape ms ns gone d w =
+    area-with a f b inb sp tape ms ns (all-left-of (IsLawful a tape) ms d.went ns d.parted w.boxes) (all-left-of HasLease ms d.went ns d.parted w.leases) (d.apart w.apart) w
+
+pub shed-view : (most : ℕ) (s : AreaState) (a : ℕ) (f b : Option ℤ) (inb : List Update) (sp : ℕ) (tape : List (Step Row)) (ms ns : List Held) (gone : ℕ) → area_of a f b inb sp tape ms ≡ s → AreDropped most ms ns gone → IsShed most s (area_of a f b inb sp tape ns) gone
+shed-view most s a f b inb sp tape ms ns gone is d = record {
+  attribute = ap (λ (v : AreaState). v.attribute) is;
+  from = ap (λ (v : AreaState). v.from) is;
+  below = ap (λ (v : AreaState). v.below) is;
+  inbox = ap (λ (v : AreaState). v.inbox) is;
+  spare = ap (λ (v : AreaState). v.spare) is;
+  tape = ap (λ (v : AreaState). v.tape) is;
+  many = d.many ∙ ap (λ (v : AreaState). length v.boxes) is;
+  few = d.few;
+  went = d.went;
+  all = d.all;
+  parted = subst (λ (v : AreaState). IsPermutation v.boxes (d.went ++ ns)) is d.parted;
+}
 
 -- ---- one box after another
-pub shed-none : (most : ℕ) (x : AreaState) → IsShed most x x 0
-shed-none most x = record { attribute = refl; from = refl; below = refl; inbox = refl; spare = refl; tape = refl; many = omega arith; few = omega arith; went = []; all = refl; parted = IsPermutation-refl x.boxes }
+pub dropped-none : (most : ℕ) (ms : List Held) → AreDropped most ms ms 0
+dropped-none most ms = record { many = omega arith; few = omega arith; went = []; all = refl; parted = IsPermutation-refl ms; apart = λ apart. apart }
 
-pub shed-more : (most : ℕ) (x y z : AreaState) (gone i : ℕ) → gone < most → i < length y.boxes → z ≡ record y { boxes = remove y.boxes i } → IsShed most x y gone → IsShed most x z (gone + 1)
-shed-more most x y z gone i lt li is w = subst (λ (v : AreaState). IsShed most x v (gone + 1)) (sym is) (record {
-  attribute = w.attribute;
-  from = w.from;
-  below = w.below;
-  inbox = w.inbox;
-  spare = w.spare;
-  tape = w.tape;
-  many = let n = length-remove y.boxes i li in let m = w.many in omega (arith, n, m);
+pub dropped-more : (most : ℕ) (ms ns os : List Held) (gone i : ℕ) → gone < most → i < length ns → os ≡ remove ns i → AreDropped most ms ns gone → AreDropped most ms os (gone + 1)
+dropped-more most ms ns os gone i lt li is w = subst (λ (v : List Held). AreDropped most ms v (gone + 1)) (sym is) (record {
+  many = let n = length-remove ns i li in let m = w.many in omega (arith, n, m);
   few = omega (arith, lt);
-  went = w.went ++ get_or y.boxes i blank ∷ [];
-  all = let n = length-append w.went (get_or y.boxes i blank ∷ []) in let m = w.all in omega (arith, n, m);
-  parted = IsPermutation-more x.boxes w.went y.boxes i (get_or y.boxes i blank) li (get_or_any y.boxes i blank (get_or y.boxes i blank) li) w.parted;
+  went = w.went ++ get_or ns i blank ∷ [];
+  all = let n = length-append w.went (get_or ns i blank ∷ []) in let m = w.all in omega (arith, n, m);
+  parted = IsPermutation-more ms w.went ns i (get_or ns i blank) li (get_or_any ns i blank (get_or ns i blank) li) w.parted;
+  apart = λ apart. apart-removed ns i li (w.apart apart);
 })
 
 -- ---- which box goes first

@@ -1,6 +1,5 @@
 -- One box of an area, whose map was to grow.
-use Rattle.std.proofs.Common.{◌≡◌, ℕ, ◌<◌, ℤ, Bool, true, false, refl, List, length, get_or, set, map, ap, sym, ◌∙◌, subst, arith, Option, Result, Ok, Err}
-use Rattle.std.proofs.lemmas.List.{get_or-map, length-map}
+use Rattle.std.proofs.Common.{◌≡◌, ℕ, ◌<◌, ℤ, Bool, true, false, List, length, get_or, ap, sym, ◌∙◌, subst, arith, Option, Result, Ok, Err}
 use Rattle.sw_table.specs.declared.row.Update.{Update}
 use Rattle.sw_table.specs.declared.row.Row.{Row}
 use Rattle.sw_query.specs.declared.refusal.Refusal.{Refusal}
@@ -11,8 +10,7 @@ use Rattle.sw_map.specs.Lawful.{IsLawful}
 use Rattle.sw_map.specs.Refusals.{HasGrownOr}
 use Rattle.sw_map.proofs.Replays.{aligned-lawful, lawful-aligned}
 use Rattle.sw_set.specs.Shelf.{AreaState, HasLease, IsAreaLawful}
-use Rattle.sw_set.specs.Boxed.{HasGrownAt, IsFreshBut, IsHeld}
-use Rattle.sw_set.proofs.Areas.Aligning.{at-inside, at-lawful, at-place}
+use Rattle.sw_set.specs.Boxed.{HasGrownAt, IsFreshBut, IsHeld, IsSetAt}
 use Rattle.sw_set.proofs.Areas.Boxes.{get_or_any}
 use Rattle.sw_set.proofs.Areas.Shelves.{area_of, area-set, blank-not, lawful-of_blank, view-set}
 use Rattle.sw_set.proofs.Preparing.Trying.{IsTrying, fresh-but-own, held-set, trying-at, trying-start}
@@ -34,29 +32,16 @@ grown-fresh (Ok true) at cells m n ms fresh is b = subst (λ (v : Tail). IsFresh
 grown-fresh (Ok false) at cells m n ms fresh is b = subst (λ (v : Tail). IsFreshBut at v ms) (sym (ap (λ (x : Held). x.tail) is)) fresh
 grown-fresh (Err e) at cells m n ms fresh is b = blank-not b is.0
 
-module _ {X : Type 0} (h : X → Held) (s : AreaState) (a : ℕ) (f b : Option ℤ) (inb : List Update) (sp : ℕ) (tape : List (Step Row)) (xs : List X) (at : ℕ) (x : X) (is : area_of a f b inb sp tape (map h xs) ≡ s) (within : at < length s.boxes) (here : x ≡ get_or xs at x) (y : X) (r : Result Bool Refusal) (cells : ℕ) (end : HasGrownOr r cells (h x) (h y)) where
-  inside : at < length xs
-  inside = at-inside h s a f b inb sp tape xs at x is within here
+pub grown-area : (r : Result Bool Refusal) (a : ℕ) (f b : Option ℤ) (inb : List Update) (sp : ℕ) (tape : List (Step Row)) (ms ns : List Held) (at cells : ℕ) → at < length ms → ((d : Held) → (get_or ms at d).is_blank ≡ false) → ((d : Held) → (get_or ms at d).cells < cells) → IsSetAt ms at (HasGrownOr r cells (get_or ms at blank)) ns → IsAreaLawful (area_of a f b inb sp tape ms) → IsAreaLawful (area_of a f b inb sp tape ns)
+grown-area r a f b inb sp tape ms ns at cells lt begun more (n, grew, is) w =
+    let m : Held = get_or ms at blank in
+    let fresh : IsFreshBut at m.tail ms = fresh-but-own ms at m.tail w.apart lt (λ d. (begun d, ap (λ (v : Held). v.tail) (get_or_any ms at d blank lt))) in
+    subst (λ (v : List Held). IsAreaLawful (area_of a f b inb sp tape v)) (sym is)
+    (area-set a f b inb sp tape ms at n (grown-lawful r a tape cells m n (w.boxes at blank lt) (begun blank) grew) (grown-leased r cells m n (more blank) (w.leases at blank lt) grew) (grown-fresh r at cells m n ms fresh grew) w)
 
-  own : (d : Held) → get_or (map h xs) at d ≡ h x
-  own d = get_or-map h xs at x d inside ∙ ap h (sym here)
-
-  pub grown-area : ((d : Held) → (get_or s.boxes at d).is_blank ≡ false) → ((d : Held) → (get_or s.boxes at d).cells < cells) → IsAreaLawful (area_of a f b inb sp tape (map h xs)) → IsAreaLawful (area_of a f b inb sp tape (map h (set xs at y)))
-  grown-area begun more w =
-      let place = at-place h s a f b inb sp tape xs at x is within here in
-      let is-begun : (h x).is_blank ≡ false = place (λ m. m.is_blank ≡ false) begun in
-      let is-less : (h x).cells < cells = place (λ m. m.cells < cells) more in
-      let law : IsLawful a tape (h x) = at-lawful h s a f b inb sp tape xs at x is within here w in
-      let many = length-map xs h in
-      let inside' : at < length (map h xs) = omega (arith, many, inside) in
-      let lease : HasLease (h x) = subst HasLease (own (h x)) (w.leases at (h x) inside') in
-      let fresh : IsFreshBut at (h x).tail (map h xs) = fresh-but-own (map h xs) at (h x).tail w.apart inside' (λ d. (ap (λ (m : Held). m.is_blank) (own d) ∙ is-begun, ap (λ (m : Held). m.tail) (own d))) in
-      area-set h a f b inb sp tape xs at y (grown-lawful r a tape cells (h x) (h y) law is-begun end) (grown-leased r cells (h x) (h y) is-less lease end) (grown-fresh r at cells (h x) (h y) (map h xs) fresh end) w
-
-  pub grown-at : HasGrownAt r at cells s (area_of a f b inb sp tape (map h (set xs at y)))
-  grown-at =
-      let was : h x ≡ get_or s.boxes at blank = at-place h s a f b inb sp tape xs at x is within here (λ m. m ≡ get_or s.boxes at blank) (λ d. get_or_any s.boxes at d blank within) in
-      (h y, subst (λ (m : Held). HasGrownOr r cells m (h y)) was end, view-set h s a f b inb sp tape xs at y (h y) is refl)
+pub grown-at : (r : Result Bool Refusal) (s : AreaState) (a : ℕ) (f b : Option ℤ) (inb : List Update) (sp : ℕ) (tape : List (Step Row)) (ms ns : List Held) (at cells : ℕ) → area_of a f b inb sp tape ms ≡ s → IsSetAt ms at (HasGrownOr r cells (get_or ms at blank)) ns → HasGrownAt r at cells s (area_of a f b inb sp tape ns)
+grown-at r s a f b inb sp tape ms ns at cells is (n, grew, e) =
+    (n, subst (λ (v : AreaState). HasGrownOr r cells (get_or v.boxes at blank) n) is grew, view-set s a f b inb sp tape ms ns at n is e)
 
 -- the other boxes stay, whether it grew or not
 pub grown-trying : (r : Result Bool Refusal) (at cells : ℕ) (tails : List Tail) (t : Tail) (x y : AreaState) → IsFreshBut at t x.boxes → HasGrownAt r at cells x y → IsTrying at tails t x y

@@ -1,6 +1,6 @@
 -- What single changes leave of a lawful area.
-use Rattle.std.proofs.Common.{◌≡◌, ◌≢◌, ℕ, zero, suc, ◌<◌, ◌^◌, ℤ, true, false, true≢false, List, [], ◌∷◌, ◌++◌, fold, length, get_or, set, map, take, drop, refl, ap, sym, ◌∙◌, arith, subst, All, Option, Result, Ok, Err, MatchResult, OnOk, OnErr}
-use Rattle.std.proofs.lemmas.List.{append-nil, length-map, map-set, map-append, length-append}
+use Rattle.std.proofs.Common.{◌≡◌, ◌≢◌, ℕ, zero, suc, ◌+◌, ◌<◌, ◌≤◌, ◌^◌, ℤ, true, false, true≢false, List, [], ◌∷◌, ◌++◌, fold, length, get_or, set, take, drop, refl, ap, sym, ◌∙◌, arith, subst, All, Option, Result, Ok, Err, MatchResult, OnOk, OnErr}
+use Rattle.std.proofs.lemmas.List.{append-nil, length-append}
 use Rattle.std.proofs.lemmas.List.Elements.{All-set, All-append}
 use Rattle.sw_query.specs.declared.bound.Bound.{Bound}
 use Rattle.sw_table.specs.declared.row.Row.{Row}
@@ -15,14 +15,16 @@ use Rattle.sw_tape.proofs.Steps.{tape-push}
 use Rattle.sw_map.specs.declared.tail.Tail.{Tail}
 use Rattle.sw_map.specs.Held.{Held, blank, begun, KeysFit}
 use Rattle.sw_map.specs.Lawful.{IsLawful}
-use Rattle.sw_map.specs.Refusals.{IsBeginRefusal}
+use Rattle.sw_map.specs.Refusals.{HasBegunOr, IsBeginRefusal}
 use Rattle.sw_map.proofs.Replays.{lawful-longer, lawful-blank, lawful-aligned, begun-aligned}
 use Rattle.sw_tape.specs.Restart.{first_rows}
-use Rattle.sw_set.specs.Shelf.{AreaState, AreApart, AreReceivable, HasLease, IsAreaLawful, Rises, came_then, key_of, lies_within, logged_rows}
+use Rattle.sw_set.specs.Shelf.{AreaState, AreApart, AreReceivable, HasLease, IsAreaLawful, Rises, area_over, came_then, key_of, lies_within, logged_rows}
 use Rattle.sw_set.specs.Aligned.{AreSameMaps}
-use Rattle.sw_set.specs.Boxed.{IsFreshBut}
+use Rattle.sw_set.specs.Boxed.{AreMoreOr, IsFreshBut, IsSameButBoxes, IsSetAt}
 use Rattle.sw_set.specs.Merged.{IsBegunAnew, IsSameShell}
-use Rattle.sw_set.proofs.Areas.Boxes.{held-all, set-each}
+use Rattle.sw_set.specs.Inbox.{HaveComeOr, Waiting}
+use Rattle.sw_set.specs.Outcomes.{CameToWaitOr, HasMadeAt, IsSuppliedOr}
+use Rattle.sw_set.proofs.Areas.Boxes.{set-each}
 use Rattle.sw_set.proofs.Areas.Longer.{live-more}
 use Rattle.sw_set.proofs.Areas.Receiving.{IsBelow, all-one, receivable-append, receivable-less}
 
@@ -121,20 +123,24 @@ area-with a f b inb sp tape ms ns law leases apart w = record {
   receivable = w.receivable;
 }
 
-pub area-set : {X : Type 0} (h : X → Held) (a : ℕ) (f b : Option ℤ) (inb : List Update) (sp : ℕ) (tape : List (Step Row)) (xs : List X) (i : ℕ) (y : X) → IsLawful a tape (h y) → HasLease (h y) → ((h y).is_blank ≡ false → IsFreshBut i (h y).tail (map h xs)) → IsAreaLawful (area_of a f b inb sp tape (map h xs)) → IsAreaLawful (area_of a f b inb sp tape (map h (set xs i y)))
-area-set h a f b inb sp tape xs i y law lease fresh w =
-    area-with a f b inb sp tape (map h xs) (map h (set xs i y))
-    (subst (λ (v : List Held). All (IsLawful a tape) v) (sym (map-set h xs i y)) (All-set (IsLawful a tape) (map h xs) i (h y) law w.boxes))
-    (subst (λ (v : List Held). All HasLease v) (sym (map-set h xs i y)) (All-set HasLease (map h xs) i (h y) lease w.leases))
-    (subst AreApart (sym (map-set h xs i y)) (apart-set (map h xs) i (h y) w.apart fresh)) w
+-- one box changed
+pub area-set : (a : ℕ) (f b : Option ℤ) (inb : List Update) (sp : ℕ) (tape : List (Step Row)) (ms : List Held) (i : ℕ) (m : Held) → IsLawful a tape m → HasLease m → (m.is_blank ≡ false → IsFreshBut i m.tail ms) → IsAreaLawful (area_of a f b inb sp tape ms) → IsAreaLawful (area_of a f b inb sp tape (set ms i m))
+area-set a f b inb sp tape ms i m law lease fresh w =
+    area-with a f b inb sp tape ms (set ms i m) (All-set (IsLawful a tape) ms i m law w.boxes) (All-set HasLease ms i m lease w.leases) (apart-set ms i m w.apart fresh) w
 
-pub area-more : {X : Type 0} (h : X → Held) (a : ℕ) (f b : Option ℤ) (inb : List Update) (sp : ℕ) (tape : List (Step Row)) (xs : List X) (y : X) → h y ≡ blank → IsAreaLawful (area_of a f b inb sp tape (map h xs)) → IsAreaLawful (area_of a f b inb sp tape (map h (xs ++ y ∷ [])))
-area-more h a f b inb sp tape xs y is w =
-    let more : map h (xs ++ y ∷ []) ≡ map h xs ++ blank ∷ [] = map-append h xs (y ∷ []) ∙ ap (λ (m : Held). map h xs ++ m ∷ []) is in
-    area-with a f b inb sp tape (map h xs) (map h (xs ++ y ∷ []))
-    (subst (λ (v : List Held). All (IsLawful a tape) v) (sym more) (All-append (IsLawful a tape) (map h xs) (blank ∷ []) w.boxes (all-one (IsLawful a tape) blank (lawful-blank a tape))))
-    (subst (λ (v : List Held). All HasLease v) (sym more) (All-append HasLease (map h xs) (blank ∷ []) w.leases (all-one HasLease blank (λ b. absurd (true≢false b)))))
-    (subst AreApart (sym more) (apart-more (map h xs) blank refl w.apart)) w
+-- a blank box more, or as many as there were
+pub area-supplied : {A M : Type 0} (r : Result A (M × Refusal)) (it : M) (a : ℕ) (f b : Option ℤ) (inb : List Update) (sp : ℕ) (tape : List (Step Row)) (ms ns : List Held) → AreMoreOr r it ms ns → IsAreaLawful (area_of a f b inb sp tape ms) → IsAreaLawful (area_of a f b inb sp tape ns)
+area-supplied (Err back) it a f b inb sp tape ms ns is w = subst (λ (v : List Held). IsAreaLawful (area_of a f b inb sp tape v)) (sym is.0) w
+area-supplied (Ok u) it a f b inb sp tape ms ns is w =
+    subst (λ (v : List Held). IsAreaLawful (area_of a f b inb sp tape v)) (sym is)
+    (area-with a f b inb sp tape ms (ms ++ blank ∷ [])
+    (All-append (IsLawful a tape) ms (blank ∷ []) w.boxes (all-one (IsLawful a tape) blank (lawful-blank a tape)))
+    (All-append HasLease ms (blank ∷ []) w.leases (all-one HasLease blank (λ b. absurd (true≢false b))))
+    (apart-more ms blank refl w.apart) w)
+
+pub supplied-view : {A M : Type 0} (r : Result A (M × Refusal)) (it : M) (s : AreaState) (a : ℕ) (f b : Option ℤ) (inb : List Update) (sp : ℕ) (tape : List (Step Row)) (ms ns : List Held) → area_of a f b inb sp tape ms ≡ s → AreMoreOr r it ms ns → IsSuppliedOr r it s (area_of a f b inb sp tape ns)
+supplied-view (Ok u) it s a f b inb sp tape ms ns is more = ap (area_of a f b inb sp tape) more ∙ ap (λ (v : AreaState). record v { boxes = v.boxes ++ blank ∷ [] }) is
+supplied-view (Err back) it s a f b inb sp tape ms ns is more = (ap (area_of a f b inb sp tape) more.0 ∙ is, more.1, more.2)
 
 pub lawful-of_blank : (a : ℕ) (tape : List (Step Row)) (m : Held) → m ≡ blank → IsLawful a tape m
 lawful-of_blank a tape m e = subst (IsLawful a tape) (sym e) (lawful-blank a tape)
@@ -159,21 +165,18 @@ area-begun a f b inb sp rows ns few fit rise within blanks receivable = record {
   receivable = subst (λ (v : List Row). AreReceivable a f b v rows inb) (sym (append-nil rows)) receivable;
 }
 
-pub begun-shell : {X : Type 0} (h : X → Held) (s : AreaState) (a : ℕ) (f b : Option ℤ) (inb : List Update) (sp : ℕ) (tape new : List (Step Row)) (rows : List Row) (xs ys : List X) → area_of a f b inb sp tape (map h xs) ≡ s → new ≡ loaded rows ∷ [] → length ys ≡ length xs → All (λ (y : X). h y ≡ blank) ys → IsSameShell s (area_of a f b inb sp new (map h ys)) × IsBegunAnew rows (area_of a f b inb sp new (map h ys))
-begun-shell h s a f b inb sp tape new rows xs ys is tapes many blanks =
-    let one = length-map xs h in
-    let two = length-map ys h in
-    let boxes : length (map h ys) ≡ length (map h xs) = omega (arith, one, two, many) in (
-      record {
-        attribute = ap (λ (v : AreaState). v.attribute) is;
-        from = ap (λ (v : AreaState). v.from) is;
-        below = ap (λ (v : AreaState). v.below) is;
-        inbox = ap (λ (v : AreaState). v.inbox) is;
-        spare = ap (λ (v : AreaState). v.spare) is;
-        many = boxes ∙ ap (λ (v : AreaState). length v.boxes) is;
-      },
-      record { tape = tapes; boxes = held-all h (λ (m : Held). m ≡ blank) ys blanks },
-    )
+pub begun-shell : (s : AreaState) (a : ℕ) (f b : Option ℤ) (inb : List Update) (sp : ℕ) (tape new : List (Step Row)) (rows : List Row) (ms ns : List Held) → area_of a f b inb sp tape ms ≡ s → new ≡ loaded rows ∷ [] → length ns ≡ length ms → All (λ m. m ≡ blank) ns → IsSameShell s (area_of a f b inb sp new ns) × IsBegunAnew rows (area_of a f b inb sp new ns)
+begun-shell s a f b inb sp tape new rows ms ns is tapes many blanks = (
+  record {
+    attribute = ap (λ (v : AreaState). v.attribute) is;
+    from = ap (λ (v : AreaState). v.from) is;
+    below = ap (λ (v : AreaState). v.below) is;
+    inbox = ap (λ (v : AreaState). v.inbox) is;
+    spare = ap (λ (v : AreaState). v.spare) is;
+    many = many ∙ ap (λ (v : AreaState). length v.boxes) is;
+  },
+  record { tape = tapes; boxes = blanks },
+)
 
 -- with its live rows, which came to it
 pub area-restarted : (a : ℕ) (f b : Option ℤ) (inb : List Update) (sp : ℕ) (tape : List (Step Row)) (ms ns : List Held) → ((n : ℕ) → IsBelow n (brought tape) → IsBelow n (logged_rows a tape)) → All (λ m. m ≡ blank) ns → IsAreaLawful (area_of a f b inb sp tape ms) → IsAreaLawful (area_of a f b inb sp (loaded (logged_rows a tape) ∷ []) ns)
@@ -181,7 +184,7 @@ area-restarted a f b inb sp tape ms ns less blanks w =
     area-begun a f b inb sp (logged_rows a tape) ns w.attribute w.rows_fit w.rows_rise w.within blanks (receivable-less a f b (brought tape) (logged_rows a tape) (logged_rows a tape) inb less w.receivable)
 
 -- other updates that wait
-area-waiting : (a : ℕ) (f b : Option ℤ) (inb new : List Update) (sp more : ℕ) (tape : List (Step Row)) (ms : List Held) → AreReceivable a f b (brought tape) (logged_rows a tape) new → IsAreaLawful (area_of a f b inb sp tape ms) → IsAreaLawful (area_of a f b new more tape ms)
+pub area-waiting : (a : ℕ) (f b : Option ℤ) (inb new : List Update) (sp more : ℕ) (tape : List (Step Row)) (ms : List Held) → AreReceivable a f b (brought tape) (logged_rows a tape) new → IsAreaLawful (area_of a f b inb sp tape ms) → IsAreaLawful (area_of a f b new more tape ms)
 area-waiting a f b inb new sp more tape ms receivable w = record {
   attribute = w.attribute;
   tape = w.tape;
@@ -202,15 +205,47 @@ pub area-received : {U : Type 0} (r : Result U Refusal) (a : ℕ) (f b : Option 
 area-received (Ok u) a f b inb us new sp more tape ms is after w = area-waiting a f b inb new sp more tape ms (rw is (receivable-append a f b (brought tape) (logged_rows a tape) inb us w.receivable after)) w
 area-received (Err e) a f b inb us new sp more tape ms is after w = area-waiting a f b inb new sp more tape ms (rw is w.receivable) w
 
+-- the updates of an inbox to which more came, or as many as there were
+pub come : {U : Type 0} (r : Result U Refusal) (us : List Update) (w v : Waiting) → HaveComeOr r us w v → MatchResult r (λ _. v.updates ≡ w.updates ++ us) (λ _. v.updates ≡ w.updates)
+come (Ok u) us w v is = is.0
+come (Err e) us w v is = ap (λ (x : Waiting). x.updates) is.0
+
+-- the value of an area of which they are the inbox
+pub come-view : {U : Type 0} (r : Result U Refusal) (us : List Update) (s : AreaState) (a : ℕ) (f b : Option ℤ) (w v : Waiting) (tape : List (Step Row)) (ms : List Held) → area_over a f b w tape ms ≡ s → HaveComeOr r us w v → CameToWaitOr r us s (area_over a f b v tape ms)
+come-view (Ok u) us s a f b w v tape ms is more = (
+  ap (λ (l : List Update). area_of a f b l v.spare tape ms) more.0 ∙ ap (λ (x : AreaState). record x { inbox = x.inbox ++ us; spare = v.spare }) is,
+  subst (λ (x : AreaState). x.spare ≤ v.spare + length us) is more.1,
+)
+come-view (Err e) us s a f b w v tape ms is more = (ap (λ (x : Waiting). area_over a f b x tape ms) more.0 ∙ is, more.1)
+
+-- the same updates, with other room
+pub area-roomy : (a : ℕ) (f b : Option ℤ) (w v : Waiting) (tape : List (Step Row)) (ms : List Held) → v ≡ record w { spare = v.spare } → IsAreaLawful (area_over a f b w tape ms) → IsAreaLawful (area_over a f b v tape ms)
+area-roomy a f b w v tape ms same l =
+    area-waiting a f b w.updates v.updates w.spare v.spare tape ms (subst (AreReceivable a f b (brought tape) (logged_rows a tape)) (sym (ap (λ (x : Waiting). x.updates) same)) l.receivable) l
+
+pub roomy-view : (s : AreaState) (a : ℕ) (f b : Option ℤ) (w v : Waiting) (tape : List (Step Row)) (ms : List Held) → area_over a f b w tape ms ≡ s → v ≡ record w { spare = v.spare } → area_over a f b v tape ms ≡ record s { spare = v.spare }
+roomy-view s a f b w v tape ms is same =
+    ap (λ (l : List Update). area_of a f b l v.spare tape ms) (ap (λ (x : Waiting). x.updates) same) ∙ ap (λ (x : AreaState). record x { spare = v.spare }) is
+
 -- a new area
 pub area-new : (a : ℕ) (f b : Option ℤ) (sp : ℕ) (rows : List Row) → a < 8 → All (λ (r : Row). r.key < 2 ^ 63) rows → Rises key_of rows → All (λ (r : Row). lies_within a f b r ≡ true) rows → IsAreaLawful (area_of a f b [] sp (loaded rows ∷ []) [])
 area-new a f b sp rows few fit rise within = area-begun a f b [] sp rows [] few fit rise within (λ k d lt. let no : k < 0 = lt in absurd (omega arith)) tt
 
 -- the value of an area of which one box changed
-pub view-set : {X : Type 0} (h : X → Held) (s : AreaState) (a : ℕ) (f b : Option ℤ) (inb : List Update) (sp : ℕ) (tape : List (Step Row)) (xs : List X) (i : ℕ) (y : X) (m : Held) → area_of a f b inb sp tape (map h xs) ≡ s → h y ≡ m → area_of a f b inb sp tape (map h (set xs i y)) ≡ record s { boxes = set s.boxes i m }
-view-set h s a f b inb sp tape xs i y m is e =
-    let boxes : map h (set xs i y) ≡ set (map h xs) i m = map-set h xs i y ∙ ap (set (map h xs) i) e in
-    ap (area_of a f b inb sp tape) boxes ∙ ap (λ (v : AreaState). record v { boxes = set v.boxes i m }) is
+pub view-set : (s : AreaState) (a : ℕ) (f b : Option ℤ) (inb : List Update) (sp : ℕ) (tape : List (Step Row)) (ms ns : List Held) (i : ℕ) (m : Held) → area_of a f b inb sp tape ms ≡ s → ns ≡ set ms i m → area_of a f b inb sp tape ns ≡ record s { boxes = set s.boxes i m }
+view-set s a f b inb sp tape ms ns i m is e = ap (area_of a f b inb sp tape) e ∙ ap (λ (v : AreaState). record v { boxes = set v.boxes i m }) is
+
+-- an area whose boxes are as many as they were
+pub same-but : (s : AreaState) (a : ℕ) (f b : Option ℤ) (inb : List Update) (sp : ℕ) (tape : List (Step Row)) (ms ns : List Held) → area_of a f b inb sp tape ms ≡ s → length ns ≡ length ms → IsSameButBoxes s (area_of a f b inb sp tape ns)
+same-but s a f b inb sp tape ms ns is many = record {
+  attribute = ap (λ (v : AreaState). v.attribute) is;
+  from = ap (λ (v : AreaState). v.from) is;
+  below = ap (λ (v : AreaState). v.below) is;
+  inbox = ap (λ (v : AreaState). v.inbox) is;
+  spare = ap (λ (v : AreaState). v.spare) is;
+  tape = ap (λ (v : AreaState). v.tape) is;
+  many = many ∙ ap (λ (v : AreaState). length v.boxes) is;
+}
 
 -- a tape that one more range was pushed on, or that is as it was
 pub pushed : {U E : Type 0} (P : List (Step Row) → Type 0) (r : Result U E) (old new more : List (Step Row)) → OnOk r (new ≡ more) → OnErr r (new ≡ old) → P more → P old → P new
@@ -238,6 +273,13 @@ pub tried-fresh : {U : Type 0} (r : Result U Refusal) (a at : ℕ) (t : Tail) (n
 tried-fresh (Ok u) a at t n m ms is fresh b = subst (λ (v : Tail). IsFreshBut at v ms) (sym (ap (λ (x : Held). x.tail) is)) fresh
 tried-fresh (Err e) a at t n m ms is fresh b = blank-not b is.0
 
-pub tried-view : {U X : Type 0} (r : Result U Refusal) (h : X → Held) (s : AreaState) (a : ℕ) (f b : Option ℤ) (inb : List Update) (sp : ℕ) (tape : List (Step Row)) (xs : List X) (i : ℕ) (y : X) (t : Tail) (n : ℕ) → area_of a f b inb sp tape (map h xs) ≡ s → MatchResult r (λ _. h y ≡ begun a t n) (λ e. (h y ≡ blank) × IsBeginRefusal n e) → MatchResult r (λ _. area_of a f b inb sp tape (map h (set xs i y)) ≡ record s { boxes = set s.boxes i (begun s.attribute t n) }) (λ e. (area_of a f b inb sp tape (map h (set xs i y)) ≡ record s { boxes = set s.boxes i blank }) × IsBeginRefusal n e)
-tried-view (Ok u) h s a f b inb sp tape xs i y t n is e = view-set h s a f b inb sp tape xs i y (begun s.attribute t n) is (e ∙ ap (λ (v : AreaState). begun v.attribute t n) is)
-tried-view (Err x) h s a f b inb sp tape xs i y t n is e = (view-set h s a f b inb sp tape xs i y blank is e.0, e.1)
+-- an area with one
+pub area-tried : {U : Type 0} (r : Result U Refusal) (a : ℕ) (f b : Option ℤ) (inb : List Update) (sp : ℕ) (tape : List (Step Row)) (ms ns : List Held) (i : ℕ) (t : Tail) (n : ℕ) → 0 < n → IsFreshBut i t ms → IsSetAt ms i (HasBegunOr r a t n) ns → IsAreaLawful (area_of a f b inb sp tape ms) → IsAreaLawful (area_of a f b inb sp tape ns)
+area-tried r a f b inb sp tape ms ns i t n some fresh (m, begins, is) w =
+    subst (λ (v : List Held). IsAreaLawful (area_of a f b inb sp tape v)) (sym is)
+    (area-set a f b inb sp tape ms i m (tried-lawful r a tape t n m begins) (tried-leased r a t n m some begins) (tried-fresh r a i t n m ms begins fresh) w)
+
+pub tried-view : {U : Type 0} (r : Result U Refusal) (s : AreaState) (a : ℕ) (f b : Option ℤ) (inb : List Update) (sp : ℕ) (tape : List (Step Row)) (ms ns : List Held) (i : ℕ) (t : Tail) (n : ℕ) → area_of a f b inb sp tape ms ≡ s → IsSetAt ms i (HasBegunOr r a t n) ns → HasMadeAt r i t n s (area_of a f b inb sp tape ns)
+tried-view (Ok u) s a f b inb sp tape ms ns i t n is (m, begins, e) =
+    view-set s a f b inb sp tape ms ns i (begun s.attribute t n) is (e ∙ ap (set ms i) (begins ∙ ap (λ (v : AreaState). begun v.attribute t n) is))
+tried-view (Err x) s a f b inb sp tape ms ns i t n is (m, begins, e) = (view-set s a f b inb sp tape ms ns i blank is (e ∙ ap (set ms i) begins.0), begins.1)

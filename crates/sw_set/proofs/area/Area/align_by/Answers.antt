@@ -1,28 +1,20 @@
-use Rattle.std.proofs.Common.{◌≡◌, List, map, length, sym, subst, arith, All}
-use Rattle.std.proofs.lemmas.List.{length-map}
-use Rattle.sw_set.proofs.Areas.Shelves.{area-with, apart-same, leases-same, written}
-use Rattle.sw_map.specs.Lawful.{IsLawful}
+use Rattle.std.proofs.Common.{All, sym, subst}
+use Rattle.sw_query.specs.Outcomes.{MemoryAside}
+use Rattle.sw_set.specs.Aligned.{AreSameMaps, HasRoomWhereNeeded, IsAtEnd}
 use Rattle.sw_set.specs.Shelf.{AreaState}
-use Rattle.sw_set.specs.Aligning.{MayAlign}
-use Rattle.sw_set.specs.Aligned.{AreSameMaps, HasRoomWhereNeeded}
-use Rattle.sw_set.proofs.Areas.Boxes.{all-held}
+use Rattle.sw_set.proofs.Areas.Shelves.{area-with, apart-same, leases-same}
 use Rattle.sw_set.proofs.area.Area.align_by.Goals as goal
+
+pub align_by-requires-clause-room : goal.align_by-requires-clause-room
+align_by-requires-clause-room g c κs within = subst (λ (v : AreaState). All (HasRoomWhereNeeded c.args.tails.now v.tape) v.boxes) (sym c.self.view_is) c.requires.room
 
 pub invariant_of-self : goal.invariant_of-self
 invariant_of-self g c =
-    let s = c.self.inside in
-    let ys = c.align_boxes.new.boxes in
-    let one = length-map ys g.M.CrackerMap.held in
-    let two = length-map s.boxes.items g.M.CrackerMap.held in
-    let value : c.as_mut_slice.result.now ≡ s.boxes.items = c.as_mut_slice.ensures.value in
-    let same : AreSameMaps (map g.M.CrackerMap.held s.boxes.items) (map g.M.CrackerMap.held ys) = subst (λ (v : List g.row.M.Denot). AreSameMaps (map g.M.CrackerMap.held v) (map g.M.CrackerMap.held ys)) value c.align_boxes.ensures.same in
-    let many = same.many in
-    let n : s.boxes.len ≡ length ys = omega arith in
-    (rw (written s.boxes.len ys s.boxes.items n) (area-with s.attribute s.from s.below s.inbox.items _ s.tape (map g.M.CrackerMap.held s.boxes.items) (map g.M.CrackerMap.held ys) c.align_boxes.ensures.lawful (leases-same _ _ c.self.invariant.0.leases same) (apart-same _ _ c.self.invariant.0.apart same) c.self.invariant.0), c.self.invariant.1, c.self.invariant.2)
+    let same = c.align_by.ensures.maps in
+    (area-with _ _ _ _ _ _ _ _ c.align_by.ensures.lawful (leases-same _ _ c.self.invariant.0.leases same) (apart-same _ _ c.self.invariant.0.apart same) c.self.invariant.0, c.self.invariant.1)
 
-pub align_boxes-requires-clause-may : goal.align_boxes-requires-clause-may
-align_boxes-requires-clause-may g c κs within =
-    let s = c.self.inside in
-    let room : All (HasRoomWhereNeeded c.args.tails.now s.tape) (map g.M.CrackerMap.held s.boxes.items) = subst (λ (v : AreaState). All (HasRoomWhereNeeded c.args.tails.now v.tape) v.boxes) (sym c.self.view_is) c.requires.room in
-    subst (λ (ys : List g.row.M.Denot). MayAlign g.M.CrackerMap.held s.attribute c.args.tails.now s.tape ys) (sym c.as_mut_slice.ensures.value)
-    (all-held g.M.CrackerMap.held (IsLawful s.attribute s.tape) s.boxes.items c.self.invariant.0.boxes, c.self.invariant.0.keys, all-held g.M.CrackerMap.held (HasRoomWhereNeeded c.args.tails.now s.tape) s.boxes.items room)
+pub returns-clause-maps : goal.returns-clause-maps
+returns-clause-maps g c = subst (λ (v : AreaState). AreSameMaps v.boxes c.align_by.new.self) c.self.view_is c.align_by.ensures.maps
+
+pub returns-clause-ends : goal.returns-clause-ends
+returns-clause-ends g c = subst (λ (v : AreaState). MemoryAside c.align_by.result (λ _. All (IsAtEnd c.args.tails.now v.tape) c.align_by.new.self)) c.self.view_is c.align_by.ensures.ends

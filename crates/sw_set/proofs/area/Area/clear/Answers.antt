@@ -1,9 +1,15 @@
-use Rattle.std.proofs.Common.{ap, sym, subst, List}
-use Rattle.sw_map.specs.Held.{Held}
-use Rattle.sw_set.specs.Shelf.{AreaState}
+use Rattle.std.proofs.Common.{subst}
 use Rattle.sw_set.specs.Boxed.{IsCleared}
-use Rattle.sw_set.proofs.Areas.Views.{cleared-set}
+use Rattle.sw_set.specs.Shelf.{AreaState}
+use Rattle.sw_set.proofs.Areas.Shelves.{same-but}
+use Rattle.sw_set.proofs.Areas.Views.{area-cleared}
 use Rattle.sw_set.proofs.area.Area.clear.Goals as goal
 
-pub returns-in-Some-clause-cleared : goal.returns-in-Some-clause-cleared
-returns-in-Some-clause-cleared g c = subst (λ (v : List Held). IsCleared c.args.tail c.args.self.now.boxes v) (sym (ap (λ (s : AreaState). s.boxes) c.clear_at.ensures)) (cleared-set _ _ _ c.known.ensures.apart c.in-Some.ensures.0 c.in-Some.ensures.1)
+pub invariant_of-self : goal.invariant_of-self
+invariant_of-self g c = (area-cleared c.args.tail _ _ _ _ _ _ _ _ c.clear.ensures c.self.invariant.0, c.self.invariant.1)
+
+pub returns-clause-same : goal.returns-clause-same
+returns-clause-same g c = same-but _ _ _ _ _ _ _ _ _ c.self.view_is c.clear.ensures.many
+
+pub returns-clause-cleared : goal.returns-clause-cleared
+returns-clause-cleared g c = subst (λ (v : AreaState). IsCleared c.args.tail v.boxes c.clear.new.self) c.self.view_is c.clear.ensures

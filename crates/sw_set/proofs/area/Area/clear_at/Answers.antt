@@ -1,11 +1,10 @@
-use Rattle.sw_map.specs.Held.{blank}
-use Rattle.sw_set.proofs.Areas.Shelves.{blank-not, area-set, lawful-of_blank, view-set}
+use Rattle.std.proofs.Common.{true≢false}
+use Rattle.sw_map.proofs.Replays.{lawful-blank}
+use Rattle.sw_set.proofs.Areas.Shelves.{area-set, view-set}
 use Rattle.sw_set.proofs.area.Area.clear_at.Goals as goal
 
 pub invariant_of-self : goal.invariant_of-self
-invariant_of-self g c = (area-set g.M.CrackerMap.held _ _ _ _ _ _ _ _ _ (lawful-of_blank _ _ _ c.clear_box.ensures) (λ b. blank-not b c.clear_box.ensures) (λ b. blank-not b c.clear_box.ensures) c.self.invariant.0, c.self.invariant.1, c.self.invariant.2)
+invariant_of-self g c = (rw c.clear_at.ensures (area-set _ _ _ _ _ _ _ _ _ (lawful-blank _ _) (λ no. absurd (true≢false no)) (λ no. absurd (true≢false no)) c.self.invariant.0), c.self.invariant.1)
 
 pub returns : goal.returns
-returns g c =
-    let s = c.self.inside in
-    view-set g.M.CrackerMap.held c.args.self.now s.attribute s.from s.below s.inbox.items _ s.tape s.boxes.items c.args.at c.clear_box.new.it blank c.self.view_is c.clear_box.ensures
+returns g c = view-set _ _ _ _ _ _ _ _ _ _ _ c.self.view_is c.clear_at.ensures

@@ -1,7 +1,8 @@
-use Rattle.std.proofs.Common.{◌≡◌, ◌<◌, ap, sym, ◌∙◌, subst, map, List, Any, Contains, IfOk}
+use Rattle.std.proofs.Common.{◌≡◌, ◌<◌, ap, sym, ◌∙◌, subst, List, Any, Contains, IfOk}
 use Rattle.sw_table.specs.declared.row.Row.{Row}
 use Rattle.sw_query.specs.Scan.{answer}
 use Rattle.sw_map.specs.declared.tail.Tail.{Tail}
+use Rattle.sw_map.specs.Held.{Held}
 use Rattle.sw_set.specs.Choice.{IsRun, meets_first, shown_rows}
 use Rattle.sw_set.specs.Needs.{needed}
 use Rattle.sw_set.specs.Prepared.{IsReady}
@@ -12,7 +13,7 @@ use Rattle.sw_set.proofs.area.Area.collect.Goals as goal
 pub collect_from-requires-clause-maps : goal.collect_from-requires-clause-maps
 collect_from-requires-clause-maps g c κs within =
     let s = c.self.inside in
-    subst (λ (ys : List g.row.M.Denot). c.args.ready.now.from < c.args.ready.now.upto → (t : Tail) → Contains (needed s.attribute c.args.query.now) t → Any (IsReady t s.tape) (map g.M.CrackerMap.held ys)) (sym c.as_slice.ensures.value)
+    subst (λ (ms : List Held). c.args.ready.now.from < c.args.ready.now.upto → (t : Tail) → Contains (needed s.attribute c.args.query.now) t → Any (IsReady t s.tape) ms) (sym c.as_slice.ensures)
     (subst (λ (v : AreaState). c.args.ready.now.from < c.args.ready.now.upto → (t : Tail) → Contains (needed v.attribute c.args.query.now) t → Any (IsReady t v.tape) v.boxes) (sym c.self.view_is) (prepared-maps _ _ _ _ c.requires.ready))
 
 pub collect_from-requires-clause-run : goal.collect_from-requires-clause-run

@@ -1,6 +1,7 @@
-use Rattle.std.proofs.Common.{◌≡◌, false}
-use Rattle.sw_set.proofs.Areas.Views.{any-at}
+use Rattle.std.proofs.Common.{MatchOption, subst}
+use Rattle.sw_set.specs.Sought.{AreAllBlank, HaveSomeMap}
+use Rattle.sw_set.specs.Shelf.{AreaState}
 use Rattle.sw_set.proofs.area.Area.oldest.Goals as goal
 
 pub returns : goal.returns
-returns g c = any-at _ c.in-Some.at (λ m. m.is_blank ≡ false) c.in-Some.ensures.0 (λ d. (c.in-Some.ensures.1 d).0)
+returns g c = subst (λ (v : AreaState). MatchOption c.oldest.result (AreAllBlank v.boxes) (λ _. HaveSomeMap v.boxes)) c.self.view_is c.oldest.ensures

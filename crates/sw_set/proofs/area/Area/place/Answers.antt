@@ -1,5 +1,7 @@
-use Rattle.sw_set.proofs.Areas.Views.{placed}
+use Rattle.std.proofs.Common.{subst}
+use Rattle.sw_set.specs.Sought.{IsCrackedAt, IsUncracked, TellsUnless}
+use Rattle.sw_set.specs.Shelf.{AreaState}
 use Rattle.sw_set.proofs.area.Area.place.Goals as goal
 
-pub returns-in-Some : goal.returns-in-Some
-returns-in-Some g c = placed _ _ _ _ _ c.known.ensures.apart c.in-Some.ensures.0 c.in-Some.ensures.1 c.place_at.ensures
+pub returns : goal.returns
+returns g c = subst (λ (v : AreaState). TellsUnless (IsUncracked c.args.bound) (IsCrackedAt c.args.bound) v.boxes c.place.result) c.self.view_is c.place.ensures

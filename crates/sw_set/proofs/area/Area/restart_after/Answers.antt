@@ -14,7 +14,7 @@ after-requires-clause-rise g c =
     let s = c.self.inside in
     let us = c.args.updates.now in
     let may : AreReceivable s.attribute s.from s.below (brought s.tape) (logged_rows s.attribute s.tape) us = subst (λ (v : AreaState). AreReceivable v.attribute v.from v.below (brought v.tape) (logged_rows v.attribute v.tape) us) (sym c.self.view_is) c.requires.receivable in
-    subst (λ (v : List Row). Rises key_of (fold came_then v us)) (sym (tied-came s.attribute s.tape s.live _ c.load_of.ensures c.self.invariant.2)) (came-rise s.attribute s.from s.below (brought s.tape) (logged_rows s.attribute s.tape) us may c.self.invariant.0.brought_rise)
+    subst (λ (v : List Row). Rises key_of (fold came_then v us)) (sym (tied-came s.attribute s.tape s.live _ c.load_of.ensures c.self.invariant.1)) (came-rise s.attribute s.from s.below (brought s.tape) (logged_rows s.attribute s.tape) us may c.self.invariant.0.brought_rise)
 
 pub restart_with-requires-clause-keys : goal.restart_with-requires-clause-keys
 restart_with-requires-clause-keys g c κs within =
@@ -22,7 +22,7 @@ restart_with-requires-clause-keys g c κs within =
     let us = c.args.updates.now in
     let live = c.in_ok-live.live in
     let may : AreReceivable s.attribute s.from s.below (brought s.tape) (logged_rows s.attribute s.tape) us = subst (λ (v : AreaState). AreReceivable v.attribute v.from v.below (brought v.tape) (logged_rows v.attribute v.tape) us) (sym c.self.view_is) c.requires.receivable in
-    let are = tied-after s.attribute s.tape s.live live _ us c.load_of.ensures c.self.invariant.2 c.in_ok-live.ensures.1 in
+    let are = tied-after s.attribute s.tape s.live live _ us c.load_of.ensures c.self.invariant.1 c.in_ok-live.ensures.1 in
     subst (λ (v : AreaState). All (λ (r : Row). r.key < 2 ^ 63) (live_among (first_rows v.tape) live)) c.self.view_is
     (subst (All (λ (r : Row). r.key < 2 ^ 63)) (sym are) (after-all (λ (r : Row). r.key < 2 ^ 63) s.attribute s.from s.below (brought s.tape) (logged_rows s.attribute s.tape) us may (λ r fits lies. fits) c.self.invariant.0.rows_fit))
 
@@ -32,7 +32,7 @@ restart_with-requires-clause-rise g c κs within =
     let us = c.args.updates.now in
     let live = c.in_ok-live.live in
     let may : AreReceivable s.attribute s.from s.below (brought s.tape) (logged_rows s.attribute s.tape) us = subst (λ (v : AreaState). AreReceivable v.attribute v.from v.below (brought v.tape) (logged_rows v.attribute v.tape) us) (sym c.self.view_is) c.requires.receivable in
-    let are = tied-after s.attribute s.tape s.live live _ us c.load_of.ensures c.self.invariant.2 c.in_ok-live.ensures.1 in
+    let are = tied-after s.attribute s.tape s.live live _ us c.load_of.ensures c.self.invariant.1 c.in_ok-live.ensures.1 in
     subst (λ (v : AreaState). Rises key_of (live_among (first_rows v.tape) live)) c.self.view_is
     (subst (Rises key_of) (sym are) (rows-rise s.attribute s.from s.below (brought s.tape) (logged_rows s.attribute s.tape) us may (λ n h. logged-all (λ (r : Row). r.key < n) s.attribute s.tape h) c.self.invariant.0.rows_rise))
 
@@ -42,6 +42,6 @@ restart_with-requires-clause-within g c κs within =
     let us = c.args.updates.now in
     let live = c.in_ok-live.live in
     let may : AreReceivable s.attribute s.from s.below (brought s.tape) (logged_rows s.attribute s.tape) us = subst (λ (v : AreaState). AreReceivable v.attribute v.from v.below (brought v.tape) (logged_rows v.attribute v.tape) us) (sym c.self.view_is) c.requires.receivable in
-    let are = tied-after s.attribute s.tape s.live live _ us c.load_of.ensures c.self.invariant.2 c.in_ok-live.ensures.1 in
+    let are = tied-after s.attribute s.tape s.live live _ us c.load_of.ensures c.self.invariant.1 c.in_ok-live.ensures.1 in
     subst (λ (v : AreaState). All (λ (r : Row). lies_within v.attribute v.from v.below r ≡ true) (live_among (first_rows v.tape) live)) c.self.view_is
     (subst (All (λ (r : Row). lies_within s.attribute s.from s.below r ≡ true)) (sym are) (after-all (λ (r : Row). lies_within s.attribute s.from s.below r ≡ true) s.attribute s.from s.below (brought s.tape) (logged_rows s.attribute s.tape) us may (λ r fits lies. lies) c.self.invariant.0.within))

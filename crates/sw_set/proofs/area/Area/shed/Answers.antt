@@ -1,8 +1,8 @@
-use Rattle.sw_set.proofs.Areas.Dropped.{shed-more, shed-none}
+use Rattle.sw_set.proofs.Areas.Dropped.{area-dropped, shed-view}
 use Rattle.sw_set.proofs.area.Area.shed.Goals as goal
 
-pub loop-gone-init : goal.loop-gone-init
-loop-gone-init g c = shed-none _ _
+pub invariant_of-self : goal.invariant_of-self
+invariant_of-self g c = (area-dropped _ _ _ _ _ _ _ _ _ _ c.shed.ensures.dropped c.self.invariant.0, c.self.invariant.1)
 
-pub loop-gone-preserved : goal.loop-gone-preserved
-loop-gone-preserved g c = shed-more _ _ _ _ _ c.in-Some.at c.loop-gone-test.true c.in-Some.ensures c.drop_at.ensures c.loop-gone.invariant
+pub returns-clause-shed : goal.returns-clause-shed
+returns-clause-shed g c = shed-view _ _ _ _ _ _ _ _ _ _ _ c.self.view_is c.shed.ensures.dropped

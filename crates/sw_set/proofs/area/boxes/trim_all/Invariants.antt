@@ -1,5 +1,5 @@
 use Rattle.std.proofs.Common.{◌≡◌, map}
-use Rattle.sw_set.proofs.area.trim_all.Given as goal
+use Rattle.sw_set.proofs.area.boxes.trim_all.Given as goal
 
 -- what the boxes hold is as it was
 abbrev pub invariant-loop-at : goal.invariant-loop-at

@@ -1,6 +1,6 @@
 use Rattle.std.proofs.Common.{◌∙◌}
 use Rattle.std.proofs.Math.Seq.{map-set_same}
-use Rattle.sw_set.proofs.area.trim_all.Goals as goal
+use Rattle.sw_set.proofs.area.boxes.trim_all.Goals as goal
 
 pub loop-at-preserved : goal.loop-at-preserved
 loop-at-preserved g c =
