@@ -1,5 +1,5 @@
 -- What a function does that aligns boxes.
-use Rattle.std.specs.Prelude.{◌≡◌, ◌<◌, ℕ, List, Result, All, map}
+use Rattle.std.specs.Prelude.{◌<◌, ℕ, List, Result, All, map}
 use denote.Ref.{Bor, MutBor}
 use denote.Param.Members.{Shared}
 use Rattle.sw_table.specs.declared.row.Row.{Row}

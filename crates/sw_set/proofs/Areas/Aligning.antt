@@ -10,7 +10,7 @@ use Rattle.sw_kernel.specs.Replay.{Step}
 use Rattle.sw_map.specs.Held.{Held, blank}
 use Rattle.sw_map.specs.Lawful.{IsAligned, IsLawful}
 use Rattle.sw_map.proofs.Replays.{aligned-lawful}
-use Rattle.sw_set.specs.Shelf.{AreaState, IsAreaLawful}
+use Rattle.sw_set.specs.Shelf.{IsAreaLawful}
 use Rattle.sw_set.specs.Aligned.{AreSameMaps, IsSameMap}
 use Rattle.sw_set.specs.Boxed.{IsSetAt}
 use Rattle.sw_set.specs.Sought.{HasReachedOr}

@@ -1,12 +1,12 @@
 -- Boxes whose maps stand at the tape's end.
-use Rattle.std.proofs.Common.{◌≡◌, ℕ, ◌+◌, ◌<◌, ◌≤◌, Bool, true, false, true≢false, nat_eq, List, length, get_or, refl, sym, arith, subst, All, Any, Contains, Option, None, Some, is_some}
+use Rattle.std.proofs.Common.{◌≡◌, ℕ, ◌+◌, ◌<◌, ◌≤◌, Bool, true, false, true≢false, nat_eq, List, length, get_or, refl, sym, arith, subst, Any, Option, None, Some, is_some}
 use Rattle.std.proofs.lemmas.Bool.Decides.{nat_tests}
 use Rattle.sw_kernel.specs.Replay.{Step}
 use Rattle.sw_table.specs.declared.row.Row.{Row}
 use Rattle.sw_map.specs.declared.tail.Tail.{Tail}
 use Rattle.sw_map.specs.Held.{Held}
 use Rattle.sw_set.specs.Prepared.{IsReady, StandReady}
-use Rattle.sw_set.specs.Sought.{FindsUnless, IsAt}
+use Rattle.sw_set.specs.Sought.{FindsUnless}
 use Rattle.sw_set.proofs.Areas.Boxes.{get_or_any}
 use Rattle.sw_set.proofs.Areas.Views.{any-at}
 

@@ -1,6 +1,5 @@
 -- One box of an area, whose map was to grow.
-use Rattle.std.proofs.Common.{◌≡◌, ℕ, ◌<◌, ℤ, Bool, true, false, refl, List, length, get_or, set, map, ap, sym, ◌∙◌, subst, arith, Option, Result, Ok, Err}
-use Rattle.std.proofs.lemmas.List.{get_or-map, length-map}
+use Rattle.std.proofs.Common.{◌≡◌, ℕ, ◌<◌, ℤ, Bool, true, false, List, length, get_or, ap, sym, ◌∙◌, subst, arith, Option, Result, Ok, Err}
 use Rattle.sw_table.specs.declared.row.Update.{Update}
 use Rattle.sw_table.specs.declared.row.Row.{Row}
 use Rattle.sw_query.specs.declared.refusal.Refusal.{Refusal}

@@ -1,6 +1,6 @@
 -- What single changes leave of a lawful area.
-use Rattle.std.proofs.Common.{◌≡◌, ◌≢◌, ℕ, zero, suc, ◌+◌, ◌<◌, ◌≤◌, ◌^◌, ℤ, true, false, true≢false, List, [], ◌∷◌, ◌++◌, fold, length, get_or, set, map, take, drop, refl, ap, sym, ◌∙◌, arith, subst, All, Option, Result, Ok, Err, MatchResult, OnOk, OnErr}
-use Rattle.std.proofs.lemmas.List.{append-nil, length-map, map-set, map-append, length-append}
+use Rattle.std.proofs.Common.{◌≡◌, ◌≢◌, ℕ, zero, suc, ◌+◌, ◌<◌, ◌≤◌, ◌^◌, ℤ, true, false, true≢false, List, [], ◌∷◌, ◌++◌, fold, length, get_or, set, take, drop, refl, ap, sym, ◌∙◌, arith, subst, All, Option, Result, Ok, Err, MatchResult, OnOk, OnErr}
+use Rattle.std.proofs.lemmas.List.{append-nil, length-append}
 use Rattle.std.proofs.lemmas.List.Elements.{All-set, All-append}
 use Rattle.sw_query.specs.declared.bound.Bound.{Bound}
 use Rattle.sw_table.specs.declared.row.Row.{Row}
@@ -167,16 +167,16 @@ area-begun a f b inb sp rows ns few fit rise within blanks receivable = record {
 
 pub begun-shell : (s : AreaState) (a : ℕ) (f b : Option ℤ) (inb : List Update) (sp : ℕ) (tape new : List (Step Row)) (rows : List Row) (ms ns : List Held) → area_of a f b inb sp tape ms ≡ s → new ≡ loaded rows ∷ [] → length ns ≡ length ms → All (λ m. m ≡ blank) ns → IsSameShell s (area_of a f b inb sp new ns) × IsBegunAnew rows (area_of a f b inb sp new ns)
 begun-shell s a f b inb sp tape new rows ms ns is tapes many blanks = (
-      record {
-        attribute = ap (λ (v : AreaState). v.attribute) is;
-        from = ap (λ (v : AreaState). v.from) is;
-        below = ap (λ (v : AreaState). v.below) is;
-        inbox = ap (λ (v : AreaState). v.inbox) is;
-        spare = ap (λ (v : AreaState). v.spare) is;
-        many = many ∙ ap (λ (v : AreaState). length v.boxes) is;
-      },
-      record { tape = tapes; boxes = blanks },
-    )
+  record {
+    attribute = ap (λ (v : AreaState). v.attribute) is;
+    from = ap (λ (v : AreaState). v.from) is;
+    below = ap (λ (v : AreaState). v.below) is;
+    inbox = ap (λ (v : AreaState). v.inbox) is;
+    spare = ap (λ (v : AreaState). v.spare) is;
+    many = many ∙ ap (λ (v : AreaState). length v.boxes) is;
+  },
+  record { tape = tapes; boxes = blanks },
+)
 
 -- with its live rows, which came to it
 pub area-restarted : (a : ℕ) (f b : Option ℤ) (inb : List Update) (sp : ℕ) (tape : List (Step Row)) (ms ns : List Held) → ((n : ℕ) → IsBelow n (brought tape) → IsBelow n (logged_rows a tape)) → All (λ m. m ≡ blank) ns → IsAreaLawful (area_of a f b inb sp tape ms) → IsAreaLawful (area_of a f b inb sp (loaded (logged_rows a tape) ∷ []) ns)

@@ -50,10 +50,10 @@ unfolding AreApart
 area-cleared t a f b inb sp tape ms ns c w =
     area-with a f b inb sp tape ms ns (all (IsLawful a tape) (lawful-blank a tape) w.boxes) (all HasLease (λ no. absurd (true≢false no)) w.leases)
     (λ i j d e li lj ne bi bj eq.
-        let many = c.many in
-        let one = was t _ _ (c.kept i d (omega (arith, li, many))) bi in
-        let two = was t _ _ (c.kept j e (omega (arith, lj, many))) bj in
-        w.apart i j d e (omega (arith, li, many)) (omega (arith, lj, many)) ne (ap (λ (m : Held). m.is_blank) (sym one) ∙ bi) (ap (λ (m : Held). m.is_blank) (sym two) ∙ bj) (ap (λ (m : Held). m.tail) (sym one) ∙ eq ∙ ap (λ (m : Held). m.tail) two))
+    let many = c.many in
+    let one = was t _ _ (c.kept i d (omega (arith, li, many))) bi in
+    let two = was t _ _ (c.kept j e (omega (arith, lj, many))) bj in
+    w.apart i j d e (omega (arith, li, many)) (omega (arith, lj, many)) ne (ap (λ (m : Held). m.is_blank) (sym one) ∙ bi) (ap (λ (m : Held). m.is_blank) (sym two) ∙ bj) (ap (λ (m : Held). m.tail) (sym one) ∙ eq ∙ ap (λ (m : Held). m.tail) two))
     w
   where
     either : (P : Held → Type 0) (m n : Held) → P blank → IsKeptOrCleared t m n → P m → P n

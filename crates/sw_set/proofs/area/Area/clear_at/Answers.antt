@@ -1,8 +1,6 @@
-use Rattle.std.proofs.Common.{sym, subst, true≢false, List}
-use Rattle.sw_map.specs.Held.{Held}
+use Rattle.std.proofs.Common.{true≢false}
 use Rattle.sw_map.proofs.Replays.{lawful-blank}
-use Rattle.sw_set.specs.Shelf.{IsAreaLawful}
-use Rattle.sw_set.proofs.Areas.Shelves.{area_of, area-set, view-set}
+use Rattle.sw_set.proofs.Areas.Shelves.{area-set, view-set}
 use Rattle.sw_set.proofs.area.Area.clear_at.Goals as goal
 
 pub invariant_of-self : goal.invariant_of-self

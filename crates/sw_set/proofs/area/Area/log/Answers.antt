@@ -1,4 +1,4 @@
-use Rattle.std.proofs.Common.{◌<◌, ◌-◌, length, sym, subst, List}
+use Rattle.std.proofs.Common.{◌<◌, length, sym, subst, List}
 use Rattle.sw_table.specs.declared.row.Row.{Row}
 use Rattle.sw_kernel.specs.Replay.{Step}
 use Rattle.sw_set.specs.Shelf.{AreaState, IsAreaLawful}

@@ -1,4 +1,4 @@
-use Rattle.std.proofs.Common.{rules, ◌≡◌, ◌≤◌, [], arith, length}
+use Rattle.std.proofs.Common.{rules, ◌≤◌, arith, length}
 use Rattle.std.proofs.lemmas.List.{nil_from_length}
 use Rattle.sw_set.proofs.area.Area.ready_at_rest.Goals as goal
 

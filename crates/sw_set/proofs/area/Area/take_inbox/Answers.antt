@@ -1,4 +1,4 @@
-use Rattle.std.proofs.Common.{◌≡◌, ◌∙◌, ap, subst}
+use Rattle.std.proofs.Common.{◌∙◌, ap, subst}
 use Rattle.sw_kernel.specs.Tapes.{brought}
 use Rattle.sw_set.specs.Inbox.{Waiting}
 use Rattle.sw_set.specs.Merged.{without_inbox}

@@ -1,5 +1,3 @@
-use Rattle.std.proofs.Common.{◌∙◌, ap}
-use Rattle.sw_set.proofs.Areas.Shelves.{area_of}
 use Rattle.sw_set.proofs.area.Area.trim.Goals as goal
 
 pub invariant_of-self : goal.invariant_of-self

@@ -1,4 +1,4 @@
-use Rattle.std.proofs.Common.{◌≤◌, ap, get_or, length, subst}
+use Rattle.std.proofs.Common.{◌≤◌, get_or, length, subst}
 use Rattle.sw_kernel.specs.Tapes.{peak_from}
 use Rattle.sw_map.specs.Held.{Held}
 use Rattle.sw_map.specs.Lawful.{IsAligned}

@@ -2,7 +2,6 @@ use Rattle.std.proofs.Common.{◌≡◌, ◌∙◌, List, map, length, ap, subst
 use Rattle.std.proofs.lemmas.List.{length-map}
 use Rattle.sw_map.specs.Held.{Held}
 use Rattle.sw_map.specs.Lawful.{IsLawful}
-use Rattle.sw_set.specs.Aligning.{MayAlign}
 use Rattle.sw_set.specs.Aligned.{AreSameMaps, HasRoomWhereNeeded}
 use Rattle.sw_set.proofs.Areas.Boxes.{all-held}
 use Rattle.sw_set.proofs.Areas.Shelves.{written}
@@ -11,8 +10,7 @@ use Rattle.sw_set.proofs.area.boxes.Boxes.align_by.Goals as goal
 pub align_boxes-requires-clause-may : goal.align_boxes-requires-clause-may
 align_boxes-requires-clause-may g c κs within =
     let held = g.M.CrackerMap.held in
-    let is : map held c.as_mut_slice.result.now ≡ c.args.self.now = ap (map held) c.as_mut_slice.ensures.value ∙ c.self.view_is in
-    (
+    let is : map held c.as_mut_slice.result.now ≡ c.args.self.now = ap (map held) c.as_mut_slice.ensures.value ∙ c.self.view_is in (
       all-held held (IsLawful c.args.attribute c.args.tape.now) c.as_mut_slice.result.now (subst (All (IsLawful c.args.attribute c.args.tape.now)) (sym is) c.requires.lawful),
       c.requires.keys,
       all-held held (HasRoomWhereNeeded c.args.tails.now c.args.tape.now) c.as_mut_slice.result.now (subst (All (HasRoomWhereNeeded c.args.tails.now c.args.tape.now)) (sym is) c.requires.room),

@@ -1,4 +1,3 @@
-use Rattle.std.proofs.Common.{sym}
 use Rattle.sw_set.proofs.Areas.Aligning.{at-own}
 use Rattle.sw_set.proofs.area.boxes.Boxes.at.Goals as goal
 

@@ -1,4 +1,4 @@
-use Rattle.std.proofs.Common.{◌≡◌, ap, ◌∙◌, map}
+use Rattle.std.proofs.Common.{ap, ◌∙◌, map}
 use Rattle.sw_set.specs.Prepared.{IsReady}
 use Rattle.sw_set.proofs.Areas.Looks.{look}
 use Rattle.sw_set.proofs.area.boxes.Boxes.at_end.Goals as goal

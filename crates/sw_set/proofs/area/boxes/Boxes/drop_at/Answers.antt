@@ -1,6 +1,5 @@
-use Rattle.std.proofs.Common.{◌<◌, ap, ◌∙◌, map, List, subst, sym, length, arith}
+use Rattle.std.proofs.Common.{ap, ◌∙◌, map, List, arith}
 use Rattle.std.specs.List.{remove}
-use Rattle.std.proofs.lemmas.List.{length-map}
 use Rattle.sw_map.specs.Held.{Held}
 use Rattle.sw_set.proofs.Areas.Dropped.{map-removed}
 use Rattle.sw_set.proofs.area.boxes.Boxes.drop_at.Goals as goal

@@ -11,8 +11,8 @@ returns-then-place-len g c =
     let many = c.len.ensures in
     any-at _ c.in-Some.at (λ m. (m.is_blank ≡ false) × (m.tail ≡ c.args.tail) × (c.args.place < pairs_in m) × (_ ≡ (get_or (joined m.pairs) c.args.place (pos 0, pos 0)).1)) c.in-Some.ensures.0
     (λ d.
-        let own = ap (λ (m : Held). pairs_in m) (c.at-it.ensures d) in
-        ((c.in-Some.ensures.1 d).0, (c.in-Some.ensures.1 d).1, omega (arith, lt, many, own), to_z-of_z w64 c.tail_at.result (search rules) ∙ c.tail_at.ensures ∙ ap (λ (m : Held). (get_or (joined m.pairs) c.args.place (pos 0, pos 0)).1) (c.at-it.ensures d)))
+    let own = ap (λ (m : Held). pairs_in m) (c.at-it.ensures d) in
+    ((c.in-Some.ensures.1 d).0, (c.in-Some.ensures.1 d).1, omega (arith, lt, many, own), to_z-of_z w64 c.tail_at.result (search rules) ∙ c.tail_at.ensures ∙ ap (λ (m : Held). (get_or (joined m.pairs) c.args.place (pos 0, pos 0)).1) (c.at-it.ensures d)))
 
 pub returns-else-place-len : goal.returns-else-place-len
 returns-else-place-len g c =
