@@ -1,6 +1,6 @@
 mod Examples
 pub mod Ties
-pub mod Heads
+pub mod Latches
 pub mod Backlog
 pub mod Turns
 pub mod Published

@@ -104,7 +104,7 @@ impl<J: Naming, M: CrackerMap> LatchedHead<J, M> {
 
     /// Makes the head from the opening rows, a copy of which it takes over, if it was never asked. Refused `NoMemory`
     /// alone, and then nothing has changed.
-    #[tactic(auto, using(crate::proofs::Heads::made_latch, crate::proofs::Heads::same_latch))]
+    #[tactic(auto, using(crate::proofs::Latches::made_latch, crate::proofs::Latches::same_latch))]
     pub fn make(
         &mut self,
         alloc: Global,

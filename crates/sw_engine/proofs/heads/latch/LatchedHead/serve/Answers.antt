@@ -1,7 +1,7 @@
 use Rattle.std.proofs.Common.{rules, ◌≡◌, ◌++◌, sym, subst}
 use Rattle.sw_spine.specs.Receivable.{AreUpdates}
 use Rattle.sw_engine.specs.Desk.{received_by}
-use Rattle.sw_engine.proofs.Heads.{may_follow}
+use Rattle.sw_engine.proofs.Latches.{may_follow}
 use Rattle.sw_engine.proofs.heads.latch.LatchedHead.serve.Goals as goal
 
 pub receive_all-requires-clause-may : goal.receive_all-requires-clause-may

@@ -3,7 +3,7 @@ use Rattle.sw_table.specs.declared.row.Row.{Row}
 use Rattle.sw_lang.specs.Cuts.{cuts_on}
 use Rattle.sw_chunks.specs.Cuts.{RiseAbove}
 use Rattle.sw_set.specs.Shelf.{Rises, key_of}
-use Rattle.sw_engine.proofs.Heads.{cuts_rise, if_new_head, keys_fit, numbered_rise}
+use Rattle.sw_engine.proofs.Latches.{cuts_rise, if_new_head, keys_fit, numbered_rise}
 use Rattle.sw_engine.proofs.heads.opening.Opening.head.Goals as goal
 
 pub overflow_cast-place : goal.overflow_cast-place
