@@ -132,13 +132,13 @@ pub(crate) const IMPORT: Verb = Verb {
 };
 
 /// The words of an argument that may be given again.
-fn words<'g, 'a>(matches: &'g ArgMatches<'a>, name: &str) -> &'g [&'a str] {
-    matches.get_strs(name).unwrap_or_default()
+fn words<'g, 'a>(given: &'g ArgMatches<'a>, name: &str) -> &'g [&'a str] {
+    given.get_strs(name).unwrap_or_default()
 }
 
 /// What becomes of cells without a value.
-fn blank_of<'a>(matches: &ArgMatches<'a>) -> Blank<'a> {
-    match matches.get_str("empty") {
+fn blank_of<'a>(given: &ArgMatches<'a>) -> Blank<'a> {
+    match given.get_str("empty") {
         None => Blank::Refuse,
         Some("drop") => Blank::Drop,
         Some("text") => Blank::Text,
@@ -147,8 +147,8 @@ fn blank_of<'a>(matches: &ArgMatches<'a>) -> Blank<'a> {
 }
 
 /// What becomes of long texts.
-fn long_of(matches: &ArgMatches<'_>) -> Long {
-    match matches.get_str("long") {
+fn long_of(given: &ArgMatches<'_>) -> Long {
+    match given.get_str("long") {
         Some("cut") => Long::Cut,
         Some("drop") => Long::Drop,
         Some("number") => Long::Number,
@@ -157,8 +157,8 @@ fn long_of(matches: &ArgMatches<'_>) -> Long {
 }
 
 /// What becomes of dates and times.
-fn times_of(matches: &ArgMatches<'_>) -> Times {
-    match matches.get_str("times") {
+fn times_of(given: &ArgMatches<'_>) -> Times {
+    match given.get_str("times") {
         Some("days") => Times::Days,
         Some("text") => Times::Text,
         _ => Times::Seconds,
@@ -166,16 +166,16 @@ fn times_of(matches: &ArgMatches<'_>) -> Times {
 }
 
 /// The word that stands for no value.
-fn null_of<'a>(matches: &ArgMatches<'a>) -> Option<&'a [u8]> {
-    match matches.get_str("null") {
+fn null_of<'a>(given: &ArgMatches<'a>) -> Option<&'a [u8]> {
+    match given.get_str("null") {
         Some(word) => Some(word.as_bytes()),
         None => None,
     }
 }
 
 /// What divides values, where it is one byte that can.
-fn delimiter_of(matches: &ArgMatches<'_>) -> Option<u8> {
-    match matches.get_str("delimiter")?.as_bytes() {
+fn delimiter_of(given: &ArgMatches<'_>) -> Option<u8> {
+    match given.get_str("delimiter")?.as_bytes() {
         b"\\t" => Some(b'\t'),
         [byte] if *byte != b'"' && *byte != b'\n' && *byte != b'\r' => Some(*byte),
         _ => None,
@@ -183,23 +183,23 @@ fn delimiter_of(matches: &ArgMatches<'_>) -> Option<u8> {
 }
 
 /// What is asked of the values.
-fn how_of<'g>(matches: &'g ArgMatches<'_>, delimiter: u8) -> How<'g> {
+fn how_of<'g>(given: &'g ArgMatches<'_>, delimiter: u8) -> How<'g> {
     How {
         asked: Asked {
-            columns: matches.get_str("columns"),
-            names: words(matches, "rename"),
-            kinds: words(matches, "kind"),
+            columns: given.get_str("columns"),
+            names: words(given, "rename"),
+            kinds: words(given, "kind"),
         },
         rules: Rules {
-            blank: blank_of(matches),
-            null: null_of(matches),
-            long: long_of(matches),
-            times: times_of(matches),
+            blank: blank_of(given),
+            null: null_of(given),
+            long: long_of(given),
+            times: times_of(given),
         },
         delimiter,
-        has_header: !matches.get_flag("no-header"),
-        fills_short: matches.get_str("ragged").is_some(),
-        sample: matches.get_one::<u64>("sample"),
+        has_header: !given.get_flag("no-header"),
+        fills_short: given.get_str("ragged").is_some(),
+        sample: given.get_one::<u64>("sample"),
     }
 }
 
@@ -209,14 +209,14 @@ pub(crate) const NO_DELIMITER: &str =
 
 /// The table that the words ask for; none where the delimiter is none.
 pub(crate) fn import_of<'g, 'a: 'g>(
-    matches: &'g ArgMatches<'a>,
+    given: &'g ArgMatches<'a>,
     is_terminal: bool,
 ) -> Option<Import<'g>> {
-    let delimiter = delimiter_of(matches)?;
+    let delimiter = delimiter_of(given)?;
     Some(Import {
-        file: matches.get_str("file")?,
-        how: how_of(matches, delimiter),
-        dictionary: matches.get_str("dictionary"),
-        progress: is_terminal && !matches.get_flag("quiet"),
+        file: given.get_str("file")?,
+        how: how_of(given, delimiter),
+        dictionary: given.get_str("dictionary"),
+        progress: is_terminal && !given.get_flag("quiet"),
     })
 }

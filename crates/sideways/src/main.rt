@@ -41,28 +41,28 @@ struct Errors<E: Sink + Drop> {
 }
 
 /// The limit of rows that is given.
-fn limit_of(matches: &ArgMatches<'_>) -> Option<Limit> {
-    Limit::new(matches.get_one::<u64>("limit")?)
+fn limit_of(given: &ArgMatches<'_>) -> Option<Limit> {
+    Limit::new(given.get_one::<u64>("limit")?)
 }
 
 /// What a run is told in numbers and flags.
-fn settings_of<'a>(matches: &ArgMatches<'a>) -> Option<Settings<'a>> {
+fn settings_of<'a>(given: &ArgMatches<'a>) -> Option<Settings<'a>> {
     Some(Settings {
-        limit: limit_of(matches)?,
-        budget: matches.get_one::<u64>("budget")?,
-        maps: matches.get_one::<u64>("maps")?,
-        cuts: matches.get_str("cuts")?,
-        threads: matches.get_flag("threads"),
+        limit: limit_of(given)?,
+        budget: given.get_one::<u64>("budget")?,
+        maps: given.get_one::<u64>("maps")?,
+        cuts: given.get_str("cuts")?,
+        threads: given.get_flag("threads"),
     })
 }
 
 /// What is to be seen of a run.
-fn sights_of(matches: &ArgMatches<'_>, is_terminal: bool) -> Sights {
+fn sights_of(given: &ArgMatches<'_>, is_terminal: bool) -> Sights {
     Sights {
-        heads: matches.get_flag("stats"),
-        progress: is_terminal && !matches.get_flag("quiet"),
-        calls: matches.get_flag("times"),
-        faults: matches.get_flag("all-faults"),
+        heads: given.get_flag("stats"),
+        progress: is_terminal && !given.get_flag("quiet"),
+        calls: given.get_flag("times"),
+        faults: given.get_flag("all-faults"),
     }
 }
 
@@ -86,13 +86,13 @@ fn lines_of(alloc: Global, calls: &[&str]) -> Result<Vec<u8>, AllocError> {
 }
 
 /// The calls that are given.
-fn calls_of<'g, 'a>(matches: &'g ArgMatches<'a>) -> &'g [&'a str] {
-    matches.get_strs("call").unwrap_or_default()
+fn calls_of<'g, 'a>(given: &'g ArgMatches<'a>) -> &'g [&'a str] {
+    given.get_strs("call").unwrap_or_default()
 }
 
 /// Where the calls come from: the script that is named, or else the lines that are given.
-fn script_of<'s, 'a: 's>(matches: &ArgMatches<'a>, lines: &'s [u8]) -> Script<'s> {
-    match matches.get_str("script") {
+fn script_of<'s, 'a: 's>(given: &ArgMatches<'a>, lines: &'s [u8]) -> Script<'s> {
+    match given.get_str("script") {
         Some(name) => Script::At(Place::new(name)),
         None => Script::Given(lines),
     }
@@ -100,19 +100,19 @@ fn script_of<'s, 'a: 's>(matches: &ArgMatches<'a>, lines: &'s [u8]) -> Script<'s
 
 /// The run that the words ask for, its calls in these lines where no script is named.
 fn run_of<'r, 'a: 'r>(
-    matches: &ArgMatches<'a>,
+    given: &ArgMatches<'a>,
     lines: &'r [u8],
     is_terminal: bool,
 ) -> Option<Run<'r>> {
     Some(Run {
-        table: Place::new(matches.get_str("table")?),
-        header: matches.get_str("header"),
-        script: script_of(matches, lines),
-        history: matches.get_str("history"),
-        log: matches.get_str("log"),
-        settings: settings_of(matches)?,
-        sights: sights_of(matches, is_terminal),
-        form: Form::named(matches.get_str("output")?)?,
+        table: Place::new(given.get_str("table")?),
+        header: given.get_str("header"),
+        script: script_of(given, lines),
+        history: given.get_str("history"),
+        log: given.get_str("log"),
+        settings: settings_of(given)?,
+        sights: sights_of(given, is_terminal),
+        form: Form::named(given.get_str("output")?)?,
     })
 }
 
@@ -170,12 +170,12 @@ fn wrong_with<R: Files>(rt: &R, run: &Run<'_>, calls: &[&str]) -> Option<&'stati
 fn make_run<
     R: Files + RandomSource + Clock + Print + Eprint + Input + Threads + Wait + Sync,
     E: Sink + Drop,
->(rt: &R, alloc: Global, matches: &ArgMatches<'_>, errors: &mut Errors<E>) -> Result<u8, Refusal> {
-    let calls = calls_of(matches);
+>(rt: &R, alloc: Global, given: &ArgMatches<'_>, errors: &mut Errors<E>) -> Result<u8, Refusal> {
+    let calls = calls_of(given);
     let Ok(lines) = lines_of(alloc, calls) else {
         return Err(Refusal::NoMemory);
     };
-    let Some(run) = run_of(matches, lines.as_slice(), errors.is_terminal) else {
+    let Some(run) = run_of(given, lines.as_slice(), errors.is_terminal) else {
         return Ok(2);
     };
     match wrong_with(rt, &run, calls) {
@@ -185,10 +185,10 @@ fn make_run<
 }
 
 /// What is told of a history beside the verdict.
-fn telling_of<'g>(matches: &'g ArgMatches<'_>) -> Telling<'g> {
+fn telling_of<'g>(given: &'g ArgMatches<'_>) -> Telling<'g> {
     Telling {
-        explains: matches.get_flag("explain"),
-        origins: matches.get_str("from-logs"),
+        explains: given.get_flag("explain"),
+        origins: given.get_str("from-logs"),
     }
 }
 
@@ -196,11 +196,11 @@ fn telling_of<'g>(matches: &'g ArgMatches<'_>) -> Telling<'g> {
 fn make_check<R: Files + RandomSource + Print>(
     rt: &R,
     alloc: Global,
-    matches: &ArgMatches<'_>,
+    given: &ArgMatches<'_>,
     words: &mut Option<String>,
 ) -> Result<u8, Refusal> {
-    match matches.get_str("file") {
-        Some(path) => check_path(rt, alloc, path, telling_of(matches), words),
+    match given.get_str("file") {
+        Some(path) => check_path(rt, alloc, path, telling_of(given), words),
         None => Ok(2),
     }
 }
@@ -209,15 +209,15 @@ fn make_check<R: Files + RandomSource + Print>(
 fn make_description<
     R: Files + RandomSource + Print + Eprint + Input + Threads + Sync,
     E: Sink + Drop,
->(rt: &R, alloc: Global, matches: &ArgMatches<'_>, errors: &mut Errors<E>) -> Result<u8, Refusal> {
-    let (Some(table), Some(form)) = (matches.get_str("file"), matches.get_str("output")) else {
+>(rt: &R, alloc: Global, given: &ArgMatches<'_>, errors: &mut Errors<E>) -> Result<u8, Refusal> {
+    let (Some(table), Some(form)) = (given.get_str("file"), given.get_str("output")) else {
         return Ok(2);
     };
     let description = Description {
         table: Place::new(table),
-        header: matches.get_str("header"),
+        header: given.get_str("header"),
         is_json: form == "json",
-        faults: matches.get_flag("all-faults"),
+        faults: given.get_flag("all-faults"),
     };
     if is_odd_header(description.header) {
         return refuse_words(rt, alloc, ODD_HEADER);
@@ -226,19 +226,19 @@ fn make_description<
 }
 
 /// The shell that the words ask for.
-fn shell_of<'a>(matches: &ArgMatches<'a>, prompts: bool) -> Option<Shell<'a>> {
+fn shell_of<'a>(given: &ArgMatches<'a>, prompts: bool) -> Option<Shell<'a>> {
     Some(Shell {
-        table: Place::new(matches.get_str("file")?),
-        header: matches.get_str("header"),
-        history: matches.get_str("history"),
+        table: Place::new(given.get_str("file")?),
+        header: given.get_str("header"),
+        history: given.get_str("history"),
         settings: Settings {
-            limit: limit_of(matches)?,
-            budget: matches.get_one::<u64>("budget")?,
-            maps: matches.get_one::<u64>("maps")?,
-            cuts: matches.get_str("cuts")?,
+            limit: limit_of(given)?,
+            budget: given.get_one::<u64>("budget")?,
+            maps: given.get_one::<u64>("maps")?,
+            cuts: given.get_str("cuts")?,
             threads: false,
         },
-        faults: matches.get_flag("all-faults"),
+        faults: given.get_flag("all-faults"),
         prompts,
     })
 }
@@ -259,14 +259,14 @@ fn wrong_with_shell<R: Files>(rt: &R, shell: &Shell<'_>) -> Option<&'static str>
 fn make_shell<
     R: Files + RandomSource + Clock + Print + Eprint + Input + Threads + Wait + Sync,
     E: Sink + Drop,
->(rt: &R, alloc: Global, matches: &ArgMatches<'_>, errors: &mut Errors<E>) -> Result<u8, Refusal> {
-    let Some(shell) = shell_of(matches, errors.prompts) else {
+>(rt: &R, alloc: Global, given: &ArgMatches<'_>, errors: &mut Errors<E>) -> Result<u8, Refusal> {
+    let Some(shell) = shell_of(given, errors.prompts) else {
         return Ok(2);
     };
     if let Some(why) = wrong_with_shell(rt, &shell) {
         return refuse_words(rt, alloc, why);
     }
-    if matches.get_flag("names") {
+    if given.get_flag("names") {
         return shell.names(rt, alloc, &mut errors.words);
     }
     shell.make(rt, alloc, &mut errors.sink, &mut errors.words)
@@ -276,8 +276,8 @@ fn make_shell<
 fn make_order<
     R: Files + RandomSource + Clock + Print + Eprint + Threads + Wait + Sync,
     E: Sink + Drop,
->(rt: &R, alloc: Global, matches: &ArgMatches<'_>, errors: &mut Errors<E>) -> Result<u8, Refusal> {
-    let Some(ordering) = ordering_of(matches, errors.is_terminal) else {
+>(rt: &R, alloc: Global, given: &ArgMatches<'_>, errors: &mut Errors<E>) -> Result<u8, Refusal> {
+    let Some(ordering) = ordering_of(given, errors.is_terminal) else {
         return Ok(2);
     };
     match ordering.clash(rt) {
@@ -290,8 +290,8 @@ fn make_order<
 fn make_import<
     R: Files + RandomSource + Clock + Print + Eprint + Input + Threads + Sync,
     E: Sink + Drop,
->(rt: &R, alloc: Global, matches: &ArgMatches<'_>, errors: &mut Errors<E>) -> Result<u8, Refusal> {
-    let Some(import) = import_of(matches, errors.is_terminal) else {
+>(rt: &R, alloc: Global, given: &ArgMatches<'_>, errors: &mut Errors<E>) -> Result<u8, Refusal> {
+    let Some(import) = import_of(given, errors.is_terminal) else {
         return refuse_words(rt, alloc, NO_DELIMITER);
     };
     match import.clash(rt) {
@@ -306,13 +306,13 @@ fn make_command<
     E: Sink + Drop,
 >(rt: &R, alloc: Global, matches: &ArgMatches<'_>, errors: &mut Errors<E>) -> Result<u8, Refusal> {
     match matches.subcommand() {
-        Some(("check", matches)) => make_check(rt, alloc, matches, &mut errors.words),
-        Some(("describe", matches)) => make_description(rt, alloc, matches, errors),
-        Some(("order", matches)) => make_order(rt, alloc, matches, errors),
-        Some(("import", matches)) => make_import(rt, alloc, matches, errors),
-        Some(("shell", matches)) => make_shell(rt, alloc, matches, errors),
-        Some(("explain", matches)) => explain(rt, alloc, matches.get_one::<u64>("number")),
-        Some((_, matches)) => make_run(rt, alloc, matches, errors),
+        Some(("check", given)) => make_check(rt, alloc, given, &mut errors.words),
+        Some(("describe", given)) => make_description(rt, alloc, given, errors),
+        Some(("order", given)) => make_order(rt, alloc, given, errors),
+        Some(("import", given)) => make_import(rt, alloc, given, errors),
+        Some(("shell", given)) => make_shell(rt, alloc, given, errors),
+        Some(("explain", given)) => explain(rt, alloc, given.get_one::<u64>("number")),
+        Some((_, given)) => make_run(rt, alloc, given, errors),
         None => Ok(2),
     }
 }

@@ -112,34 +112,34 @@ pub(crate) fn order_command<'a>(alloc: Global) -> Result<Command<'a>, AllocError
 }
 
 /// Which calls have to stand before which.
-fn by_of(matches: &ArgMatches<'_>) -> Option<By> {
-    match matches.get_str("by")? {
+fn by_of(given: &ArgMatches<'_>) -> Option<By> {
+    match given.get_str("by")? {
         "sessions" => Some(By::Sessions),
         _ => Some(By::Times {
-            slack: matches.get_one::<u64>("slack")?,
+            slack: given.get_one::<u64>("slack")?,
         }),
     }
 }
 
-fn way_of(matches: &ArgMatches<'_>) -> Option<Way> {
+fn way_of(given: &ArgMatches<'_>) -> Option<Way> {
     Some(Way {
-        by: by_of(matches)?,
-        any_keys: matches.get_str("keys")? == "any",
-        states: matches.get_one::<u64>("states")?,
-        limit: Limit::new(matches.get_one::<u64>("limit")?)?,
+        by: by_of(given)?,
+        any_keys: given.get_str("keys")? == "any",
+        states: given.get_one::<u64>("states")?,
+        limit: Limit::new(given.get_one::<u64>("limit")?)?,
     })
 }
 
 /// What the words of `order` ask for.
 pub(crate) fn ordering_of<'g, 'a: 'g>(
-    matches: &'g ArgMatches<'a>,
+    given: &'g ArgMatches<'a>,
     is_terminal: bool,
 ) -> Option<Ordering<'g>> {
     Some(Ordering {
-        table: matches.get_str("table")?,
-        logs: matches.get_strs("logs")?,
-        way: way_of(matches)?,
-        origins: matches.get_str("where"),
-        progress: is_terminal && !matches.get_flag("quiet"),
+        table: given.get_str("table")?,
+        logs: given.get_strs("logs")?,
+        way: way_of(given)?,
+        origins: given.get_str("where"),
+        progress: is_terminal && !given.get_flag("quiet"),
     })
 }

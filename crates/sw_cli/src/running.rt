@@ -2,26 +2,22 @@
 
 ghost use Rattle.std.specs.Prelude.{◌≡◌, ◌<◌, ◌≤◌, [], All, IfOk, IsOkUnless, vec_capacity};
 ghost use Rattle.sw_map.specs.Held.{blank};
-ghost use Rattle.sw_lang.specs.Sinks.{Wrote};
 ghost use Rattle.sw_query.specs.declared.refusal.Refusal.TheVariants.{NoMemory};
 ghost use Rattle.sw_rows.specs.declared.table.TheConstants.{MOST_ROWS};
 ghost use Rattle.sw_cli.specs.declared.buffered.TheConstants.{BLOCK};
-ghost use Rattle.sw_cli.specs.Answers.{RunsBy};
-ghost use Rattle.sw_cli.specs.Outcomes.{AllSayWhy, text_of};
+ghost use Rattle.sw_cli.specs.Answers.{RunAnswers};
+ghost use Rattle.sw_cli.specs.Outcomes.{AllSayWhy};
 ghost use Rattle.sw_cli.specs.Run.{IsRecordOf};
 ghost use Rattle.sw_cli.specs.Served.{SendsLines, told_in};
-ghost use Rattle.sw_cli.specs.Sides.{sink_by};
+ghost use Rattle.sw_cli.specs.Sides.{sink_by, source_by};
 ghost use Rattle.sw_cli.specs.Starts.{Goes, IsStart, start_seen};
 
 use crate::buffered::{Base, Buffered, block};
 use crate::ended::Ended;
-use crate::ground::Ground;
 use crate::looking_on::{Nobody, Onlooker};
-use crate::means::{AfterRun, Means};
-use crate::serving::{Opened, serve};
+use crate::serving::serve;
 use crate::start::{Inputs, read_start};
-use crate::telling::write_blocks;
-use crate::turning::make_in_turn;
+use crate::turning::{Ground, make_in_turn};
 use core::mem::replace_with;
 use std::alloc::Global;
 use std::marker::Brand;
@@ -54,28 +50,15 @@ struct Outgoing {
     ghost room: { BLOCK ≤ vec_capacity memory },
 }
 
-/// Writes the lines of what came of blocks.
-fn write_ended<W: Sink>(ended: &Ended, out: &mut W) -> Result<(), Refusal>
-    ensures { Wrote W.taken W.failed out.old out.new result
-        (text_of ended.now.history.columns (told_in ended.now)) }
-{
-    write_blocks(
-        &ended.history.schema,
-        ended.blocks.as_slice(),
-        ended.told.as_slice(),
-        out,
-    )
-}
-
 /// Writes the lines of what came of blocks through a block of bytes before a sink, and hands the sink back.
 fn write_since<B: Base, W: Sink>(sink: W, outgoing: Outgoing) -> (W, Result<Record, Refusal>)
     requires { B.base ≡ W.taken sink }
-    ensures { SendsLines (sink_by W.Sink sink result.0)
+    ensures { SendsLines (sink_by W.taken W.failed sink result.0)
         outgoing.ended result.1 }
 {
     let Outgoing { memory, ended } = outgoing;
     let mut buffered: Buffered<B, W> = Buffered::new(memory, sink);
-    let written = write_ended(&ended, &mut buffered);
+    let written = ended.write(&mut buffered);
     let (sink, sent) = buffered.end(written);
     match sent {
         Ok(()) => (sink, Ok(ended.into_history())),
@@ -85,45 +68,46 @@ fn write_since<B: Base, W: Sink>(sink: W, outgoing: Outgoing) -> (W, Result<Reco
 
 /// The same from what the sink has taken now.
 fn write_outgoing<W: Sink>(sink: W, outgoing: Outgoing) -> (W, Result<Record, Refusal>)
-    ensures { SendsLines (sink_by W.Sink sink result.0)
+    ensures { SendsLines (sink_by W.taken W.failed sink result.0)
         outgoing.ended result.1 }
 {
     write_since::<Brand, W>(sink, outgoing)
 }
 
-/// Makes the blocks of a run by an engine of these names, and adds what its heads tell. The one refusal is `NoMemory`.
+/// Makes the blocks of a run that was opened, by an engine of these names. The one refusal is `NoMemory`.
 fn make<J: Naming + Send + Sync, M: CrackerMap, O: Onlooker, R: Threads + Wait + Sync>(
     rt: &R,
+    alloc: Global,
     books: Blank,
-    ground: Ground<'_, M, O>,
+    opened: Inputs,
+    options: &Options<'_>,
+    maps: Vec<M>,
     stats: &mut Vec<HeadStats>,
+    onlooker: &O,
 ) -> Result<Outgoing, Refusal>
     requires books { (books.sessions.name ≡ J.sessions) × (books.heads.name ≡ J.heads) × (books.most ≡ J.most) }
     requires list { books.list.seen.book ≡ J.book }
-    requires columns { ground.inputs.schema ≡ J.columns }
-    requires table { (ground.inputs.rows.items ≡ J.opening) × (ground.limit ≡ J.limit) }
-    ensures blocks { IfOk result (λ j. j.ended.blocks.items ≡ ground.entry.inputs.blocks.items) }
+    requires table { (opened.schema ≡ J.columns) × (opened.rows.items ≡ J.opening) × (options.now.limit ≡ J.limit) }
+    requires some { 0 < options.now.limit }
+    requires most { options.now.limit ≤ MOST_ROWS }
+    requires sound { IsStart options.now.limit (start_seen opened) }
+    requires blank { All (λ m. M.held m ≡ blank) maps.items }
+    ensures blocks { IfOk result (λ j. j.ended.blocks.items ≡ opened.blocks.items) }
     ensures why { IfOk result (λ j. AllSayWhy (told_in j.ended)) }
     ensures record_is { IfOk result (λ j. IsRecordOf J.columns J.opening J.limit (told_in j.ended) j.ended.history) }
     ensures refused { IsOkUnless result NoMemory }
 {
-    let Ground {
-        alloc,
-        inputs,
-        limit,
-        maps,
-        onlooker,
-    } = ground;
     let Inputs {
         schema,
         rows,
         blocks,
         cuts,
-    } = inputs;
+    } = opened;
     let Ok(memory) = block(alloc) else {
         return Err(Refusal::NoMemory);
     };
     let columns = schema.len();
+    let limit = options.limit;
     let sessions = blocks.len();
     let Ok((engine, tickets)) = Engine::<J, M>::open_for(
         alloc, books, schema, rows, cuts, limit, sessions,
@@ -131,12 +115,15 @@ fn make<J: Naming + Send + Sync, M: CrackerMap, O: Onlooker, R: Threads + Wait +
         return Err(Refusal::NoMemory);
     };
     deal(rt, &engine, columns, maps)?;
-    let opened = Opened {
+    let (history, told) = serve(
+        rt,
         alloc,
         engine,
         tickets,
-    };
-    let (history, told) = serve(rt, opened, blocks.as_slice(), onlooker, stats)?;
+        blocks.as_slice(),
+        stats,
+        onlooker,
+    )?;
     let ended = Ended {
         blocks,
         told,
@@ -145,63 +132,61 @@ fn make<J: Naming + Send + Sync, M: CrackerMap, O: Onlooker, R: Threads + Wait +
     Ok(Outgoing { memory, ended })
 }
 
-/// Makes the blocks of a run, each in a thread of its own, and then writes what came of them.
+/// Makes the blocks of a run that was opened, each in a thread of its own, and then writes what came of them.
 fn make_at_once<M: CrackerMap, O: Onlooker, R: Threads + Wait + Sync, W: Sink>(
     rt: &R,
-    ground: Ground<'_, M, O>,
+    alloc: Global,
+    opened: Inputs,
+    options: &Options<'_>,
+    maps: Vec<M>,
     out: &mut W,
     stats: &mut Vec<HeadStats>,
+    onlooker: &O,
 ) -> Result<Record, Refusal>
-    ensures { Goes ground.entry.limit (start_seen ground.entry.inputs) (sink_by W.Sink out.old out.new) result }
+    requires some { 0 < options.now.limit }
+    requires most { options.now.limit ≤ MOST_ROWS }
+    requires sound { IsStart options.now.limit (start_seen opened) }
+    requires blank { All (λ m. M.held m ≡ blank) maps.items }
+    ensures { Goes options.now.limit (start_seen opened)
+        (sink_by W.taken W.failed out.old out.new) result }
 {
-    match make::<Brand, M, O, R>(rt, Blank::new(), ground, stats) {
+    match make::<Brand, M, O, R>(
+        rt,
+        alloc,
+        Blank::new(),
+        opened,
+        options,
+        maps,
+        stats,
+        onlooker,
+    ) {
         Ok(outgoing) => replace_with(out, outgoing, write_outgoing),
         Err(e) => Err(e),
     }
 }
 
-/// Makes the blocks of a run, in turn or each in a thread of its own, and writes what came of them.
+/// Makes the blocks of a run that was opened, and writes what came of them.
 fn make_and_write<M: CrackerMap, O: Onlooker, R: Threads + Wait + Sync, W: Sink>(
     rt: &R,
-    ground: Ground<'_, M, O>,
-    threads: bool,
+    alloc: Global,
+    opened: Inputs,
+    options: &Options<'_>,
+    maps: Vec<M>,
     out: &mut W,
     stats: &mut Vec<HeadStats>,
+    onlooker: &O,
 ) -> Result<Record, Refusal>
-    ensures { Goes ground.entry.limit (start_seen ground.entry.inputs) (sink_by W.Sink out.old out.new) result }
+    requires some { 0 < options.now.limit }
+    requires most { options.now.limit ≤ MOST_ROWS }
+    requires sound { IsStart options.now.limit (start_seen opened) }
+    requires blank { All (λ m. M.held m ≡ blank) maps.items }
+    ensures { Goes options.now.limit (start_seen opened) (sink_by W.taken W.failed out.old out.new) result }
 {
-    if threads {
-        return make_at_once(rt, ground, out, stats);
+    if options.threads {
+        return make_at_once(rt, alloc, opened, options, maps, out, stats, onlooker);
     }
-    make_in_turn(rt, ground, out, stats)
-}
-
-/// Makes a run of what was read, and writes what came of it.
-fn run_read<M: CrackerMap, O: Onlooker, R: Threads + Wait + Sync, W: Sink>(
-    rt: &R,
-    means: Means<'_, M, O>,
-    inputs: Inputs,
-    out: &mut W,
-) -> Result<AfterRun, Refusal>
-    requires { IsStart means.limit (start_seen inputs) }
-    ensures { Goes means.entry.limit (start_seen inputs) (sink_by W.Sink out.old out.new) result }
-{
-    let Means {
-        alloc,
-        options,
-        maps,
-        onlooker,
-    } = means;
-    let ground = Ground {
-        alloc,
-        inputs,
-        limit: options.limit,
-        maps,
-        onlooker,
-    };
-    let mut stats = Vec::new(alloc);
-    match make_and_write(rt, ground, options.threads, out, &mut stats) {
-        Ok(history) => Ok(AfterRun { history, stats }),
+    match Ground::new(alloc, opened, options.limit, maps) {
+        Ok(ground) => make_in_turn(rt, ground, onlooker, out, stats),
         Err(e) => Err(e),
     }
 }
@@ -230,23 +215,19 @@ pub fn run_with<M: CrackerMap, R: Threads + Wait + Sync, T: Source, S: Source, W
     requires some { 0 < options.now.limit }
     requires most { options.now.limit ≤ MOST_ROWS }
     requires blank { All (λ m. M.held m ≡ blank) maps.items }
-    ensures { RunsBy options.now T.Source table.old table.new
-        S.Source script.old script.new W.Sink out.old out.new result }
+    ensures { RunAnswers options.now.limit options.now.cuts.now
+        (source_by T.left T.failed table.old table.new)
+        (source_by S.left S.failed script.old script.new)
+        (sink_by W.taken W.failed out.old out.new) result }
 {
-    let means = Means {
-        alloc,
-        options,
-        maps,
-        onlooker: &Nobody,
-    };
-    match run_told(rt, means, table, script, out) {
-        Ok(after) => Ok(after.into_history()),
-        Err(e) => Err(e),
-    }
+    let mut stats = Vec::new(alloc);
+    run_told(
+        rt, alloc, table, script, out, options, maps, &mut stats, &Nobody,
+    )
 }
 
-/// `run_with` by means that are one value, which also lets somebody look on, and tells of each head when all calls were
-/// made. No clause speaks of that, nor of what the onlooker sees.
+/// `run_with` that also adds what each head tells of itself when all calls were made, and lets somebody look on. No
+/// clause speaks of that list, nor of what the onlooker sees.
 pub fn run_told<
     M: CrackerMap,
     O: Onlooker,
@@ -256,16 +237,25 @@ pub fn run_told<
     W: Sink,
 >(
     rt: &R,
-    means: Means<'_, M, O>,
+    alloc: Global,
     table: &mut T,
     script: &mut S,
     out: &mut W,
-) -> Result<AfterRun, Refusal>
-    ensures { RunsBy means.entry T.Source table.old table.new
-        S.Source script.old script.new W.Sink out.old out.new result }
+    options: &Options<'_>,
+    maps: Vec<M>,
+    stats: &mut Vec<HeadStats>,
+    onlooker: &O,
+) -> Result<Record, Refusal>
+    requires some { 0 < options.now.limit }
+    requires most { options.now.limit ≤ MOST_ROWS }
+    requires blank { All (λ m. M.held m ≡ blank) maps.items }
+    ensures { RunAnswers options.now.limit options.now.cuts.now
+        (source_by T.left T.failed table.old table.new)
+        (source_by S.left S.failed script.old script.new)
+        (sink_by W.taken W.failed out.old out.new) result }
 {
-    match read_start(rt, means.alloc, table, script, means.options) {
-        Ok(inputs) => run_read(rt, means, inputs, out),
+    match read_start(rt, alloc, table, script, options) {
+        Ok(opened) => make_and_write(rt, alloc, opened, options, maps, out, stats, onlooker),
         Err(e) => Err(e),
     }
 }
@@ -283,8 +273,10 @@ pub fn run<R: Threads + Wait + Sync, T: Source, S: Source, W: Sink>(
     requires some { 0 < options.now.limit }
     requires most { options.now.limit ≤ MOST_ROWS }
     requires blank { All (λ m. (CrackerMap-box m).held m.value ≡ blank) maps.items }
-    ensures { RunsBy options.now T.Source table.old table.new
-        S.Source script.old script.new W.Sink out.old out.new result }
+    ensures { RunAnswers options.now.limit options.now.cuts.now
+        (source_by T.left T.failed table.old table.new)
+        (source_by S.left S.failed script.old script.new)
+        (sink_by W.taken W.failed out.old out.new) result }
 {
     run_with(rt, alloc, table, script, out, options, maps)
 }

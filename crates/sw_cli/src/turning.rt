@@ -1,22 +1,24 @@
 //! A run whose blocks are made one after another: its lines go out as its calls are answered.
 
-ghost use Rattle.std.specs.Prelude.{◌≡◌, ◌≤◌, [], length, IfOk, IsOkUnless, vec_capacity};
+ghost use Rattle.std.specs.Prelude.{◌≡◌, ◌<◌, ◌≤◌, ◌+◌, [], length, All, IfOk, IsOkUnless, vec_capacity, vec_len};
+ghost use Rattle.sw_map.specs.Held.{blank};
 ghost use Rattle.sw_query.specs.declared.refusal.Refusal.TheVariants.{NoMemory};
+ghost use Rattle.sw_rows.specs.declared.table.TheConstants.{MOST_ROWS};
 ghost use Rattle.sw_engine.specs.Desk.{InOrder};
 ghost use Rattle.sw_cli.specs.declared.buffered.TheConstants.{BLOCK};
 ghost use Rattle.sw_cli.specs.Flowing.{GoesOver};
 ghost use Rattle.sw_cli.specs.Script.{AreBlocks};
 ghost use Rattle.sw_cli.specs.Sides.{sink_by};
-ghost use Rattle.sw_cli.specs.Starts.{Goes, start_seen};
+ghost use Rattle.sw_cli.specs.Starts.{Goes, IsStart, start_seen};
 
 use crate::buffered::block;
 use crate::flowing::{Flow, Pages, Seats, flow_out};
-use crate::ground::Ground;
 use crate::growing::{stand_ins, with_columns};
 use crate::looking_on::Onlooker;
 use crate::script::Block;
 use crate::serving::tell_heads;
 use crate::start::Inputs;
+use std::alloc::Global;
 use std::marker::Brand;
 use std::sync::Wait;
 use std::thread::Threads;
@@ -25,12 +27,14 @@ use sw_map::CrackerMap;
 use sw_rows::{Refusal, Schema, Sink};
 use sw_spine::Record;
 
-/// The ground of a run, and attributes that stand for those that were read.
+/// What the calls of a run are made over: attributes that stand for those that were read, the limit of rows, and the boxes.
 #[derive(Drop)]
-struct Stage<'o, M: CrackerMap, O: Onlooker> {
+pub(crate) struct Ground<M: CrackerMap> {
+    alloc: Global,
     columns: Schema,
-    ground: Ground<'o, M, O>,
-    ghost wide: { length columns ≡ length ground.inputs.schema },
+    inputs: Inputs,
+    limit: u64,
+    maps: Vec<M>,
 }
 
 /// An engine with its boxes and a ticket for each block, what is printed of it, and all other memory that the calls take.
@@ -42,7 +46,6 @@ struct Ready<J: Naming, M: CrackerMap> {
     tickets: Vec<Ticket<J>>,
     done: Vec<Ticket<J>>,
     memory: Vec<u8>,
-    ghost wide: { length schema ≡ length J.columns },
     ghost none: { done.items ≡ [] },
     ghost room: { length tickets.items ≤ vec_capacity done },
     ghost empty: { memory.items ≡ [] },
@@ -50,28 +53,58 @@ struct Ready<J: Naming, M: CrackerMap> {
     ghost many: { length tickets.items ≡ length blocks.items },
 }
 
-/// An engine on a stage, made ready for its calls. The one refusal is `NoMemory`.
-fn make_ready<J: Naming, M: CrackerMap, O: Onlooker, R: Wait>(
+impl<M: CrackerMap> Ground<M> {
+    /// The ground of what was read. The one refusal is `NoMemory`.
+    pub(crate) fn new(
+        alloc: Global,
+        inputs: Inputs,
+        limit: u64,
+        maps: Vec<M>,
+    ) -> Result<Ground<M>, Refusal>
+        requires { length inputs.schema ≤ 8 }
+        ensures inputs { IfOk result (λ g. g.inputs ≡ inputs) }
+        ensures limit { IfOk result (λ g. g.limit ≡ limit) }
+        ensures maps { IfOk result (λ g. g.maps.items ≡ maps.items) }
+        ensures wide { IfOk result (λ g. length g.columns ≡ length inputs.schema) }
+        ensures refused { IsOkUnless result NoMemory }
+    {
+        let columns = stand_ins(alloc, inputs.schema.len())?;
+        Ok(Ground {
+            alloc,
+            columns,
+            inputs,
+            limit,
+            maps,
+        })
+    }
+}
+
+/// An engine over a ground, made ready for its calls. The one refusal is `NoMemory`.
+fn make_ready<J: Naming, M: CrackerMap, R: Wait>(
     rt: &R,
     books: Blank,
-    stage: Stage<'_, M, O>,
+    ground: Ground<M>,
 ) -> Result<Ready<J, M>, Refusal>
     requires books { (books.sessions.name ≡ J.sessions) × (books.heads.name ≡ J.heads) × (books.most ≡ J.most) }
     requires list { books.list.seen.book ≡ J.book }
-    requires columns { stage.columns ≡ J.columns }
-    requires table { (stage.ground.inputs.rows.items ≡ J.opening) × (stage.ground.limit ≡ J.limit) }
+    requires table { (ground.columns ≡ J.columns) × (ground.inputs.rows.items ≡ J.opening) × (ground.limit ≡ J.limit) }
+    requires some { 0 < ground.limit }
+    requires most { ground.limit ≤ MOST_ROWS }
+    requires sound { IsStart ground.limit (start_seen ground.inputs) }
+    requires wide { length ground.columns ≡ length ground.inputs.schema }
+    requires blank { All (λ m. M.held m ≡ blank) ground.maps.items }
     ensures order { IfOk result (λ r. InOrder 1 r.tickets.items) }
-    ensures schema { IfOk result (λ r. r.schema ≡ stage.entry.ground.inputs.schema) }
-    ensures blocks { IfOk result (λ r. r.blocks.items ≡ stage.entry.ground.inputs.blocks.items) }
+    ensures schema { IfOk result (λ r. r.schema ≡ ground.inputs.schema) }
+    ensures wide { IfOk result (λ r. length r.schema ≡ length J.columns) }
+    ensures blocks { IfOk result (λ r. r.blocks.items ≡ ground.inputs.blocks.items) }
     ensures refused { IsOkUnless result NoMemory }
 {
-    let Stage { columns, ground } = stage;
     let Ground {
         alloc,
+        columns,
         inputs,
         limit,
         maps,
-        ..
     } = ground;
     let Inputs {
         schema,
@@ -112,10 +145,11 @@ fn make_calls<J: Naming, M: CrackerMap, O: Onlooker, R: Threads + Wait + Sync, W
     out: &mut W,
     stats: &mut Vec<HeadStats>,
 ) -> Result<Record, Refusal>
+    requires wide { length ready.schema ≡ length J.columns }
     requires order { InOrder 1 ready.tickets.items }
     requires most { J.most ≡ length ready.blocks.items }
     requires blocks { AreBlocks (length J.columns) ready.blocks.items }
-    ensures { GoesOver ready.schema J.opening ready.blocks.items J.limit (sink_by W.Sink out.old out.new) result }
+    ensures { GoesOver ready.schema J.opening ready.blocks.items J.limit (sink_by W.taken W.failed out.old out.new) result }
 {
     let Ready {
         engine,
@@ -157,43 +191,48 @@ fn make_calls<J: Naming, M: CrackerMap, O: Onlooker, R: Threads + Wait + Sync, W
     }
 }
 
-/// Makes the calls of a run by an engine of these names, as `make_calls` does.
+/// Makes the calls of what was read, by an engine of these names, as `make_calls` does.
 fn turn_by<J: Naming, M: CrackerMap, O: Onlooker, R: Threads + Wait + Sync, W: Sink>(
     rt: &R,
     books: Blank,
-    stage: Stage<'_, M, O>,
+    ground: Ground<M>,
+    onlooker: &O,
     out: &mut W,
     stats: &mut Vec<HeadStats>,
 ) -> Result<Record, Refusal>
     requires books { (books.sessions.name ≡ J.sessions) × (books.heads.name ≡ J.heads) × (books.most ≡ J.most) }
     requires list { books.list.seen.book ≡ J.book }
-    requires columns { stage.columns ≡ J.columns }
-    requires table { (stage.ground.inputs.rows.items ≡ J.opening) × (stage.ground.limit ≡ J.limit) }
-    requires all { J.most ≡ length stage.ground.inputs.blocks.items }
-    ensures { Goes J.limit (start_seen stage.entry.ground.inputs) (sink_by W.Sink out.old out.new) result }
+    requires table { (ground.columns ≡ J.columns) × (ground.inputs.rows.items ≡ J.opening) × (ground.limit ≡ J.limit) }
+    requires all { J.most ≡ length ground.inputs.blocks.items }
+    requires some { 0 < ground.limit }
+    requires most { ground.limit ≤ MOST_ROWS }
+    requires sound { IsStart ground.limit (start_seen ground.inputs) }
+    requires wide { length ground.columns ≡ length ground.inputs.schema }
+    requires blank { All (λ m. M.held m ≡ blank) ground.maps.items }
+    ensures { Goes J.limit (start_seen ground.inputs) (sink_by W.taken W.failed out.old out.new) result }
 {
-    let onlooker = stage.ground.onlooker;
-    match make_ready::<J, M, O, R>(rt, books, stage) {
+    match make_ready::<J, M, R>(rt, books, ground) {
         Ok(ready) => make_calls(rt, ready, onlooker, out, stats),
         Err(refusal) => Err(refusal),
     }
 }
 
-/// Makes the calls of a run, one block after another, and writes the lines of each call when it is answered. Refused
+/// Makes the calls of what was read, one block after another, and writes the lines of each call when it is answered. Refused
 /// `NoMemory` before the first call alone, and `Output` where the sink fails; then the calls behind that are not made.
 pub(crate) fn make_in_turn<M: CrackerMap, O: Onlooker, R: Threads + Wait + Sync, W: Sink>(
     rt: &R,
-    ground: Ground<'_, M, O>,
+    ground: Ground<M>,
+    onlooker: &O,
     out: &mut W,
     stats: &mut Vec<HeadStats>,
 ) -> Result<Record, Refusal>
-    ensures { Goes ground.entry.limit (start_seen ground.entry.inputs) (sink_by W.Sink out.old out.new) result }
+    requires some { 0 < ground.limit }
+    requires most { ground.limit ≤ MOST_ROWS }
+    requires sound { IsStart ground.limit (start_seen ground.inputs) }
+    requires wide { length ground.columns ≡ length ground.inputs.schema }
+    requires blank { All (λ m. M.held m ≡ blank) ground.maps.items }
+    ensures { Goes ground.limit (start_seen ground.inputs) (sink_by W.taken W.failed out.old out.new) result }
 {
-    let columns = match stand_ins(ground.alloc, ground.inputs.schema.len()) {
-        Ok(columns) => columns,
-        Err(refusal) => return Err(refusal),
-    };
     let books = Blank::for_sessions(ground.inputs.blocks.len());
-    let stage = Stage { columns, ground };
-    turn_by::<Brand, M, O, R, W>(rt, books, stage, out, stats)
+    turn_by::<Brand, M, O, R, W>(rt, books, ground, onlooker, out, stats)
 }

@@ -1,6 +1,8 @@
 //! A run over files.
 
-ghost use Rattle.std.specs.Prelude.{◌≡◌, ◌⊎◌, IfOk};
+ghost use Rattle.std.specs.Prelude.{◌≡◌, ◌<◌, ◌≤◌, ◌⊎◌, All, IfOk};
+ghost use Rattle.sw_rows.specs.declared.table.TheConstants.{MOST_ROWS};
+ghost use Rattle.sw_map.specs.Held.{blank};
 
 use crate::logging::{Times, Watch, keep_log};
 use std::alloc::Global;
@@ -10,8 +12,8 @@ use std::rt::{Clock, Files};
 use std::sync::Wait;
 use std::thread::Threads;
 use sw_cli::{
-    AfterRun, Means, Noting, Onlooker, Options, blank_boxes, run_told, write_record,
-    write_stats_line, write_stats_title,
+    HeadStats, Noting, Onlooker, Options, blank_boxes, run_told, write_record, write_stats_line,
+    write_stats_title,
 };
 use sw_commands::{
     Asking, Clash, Form, Keeping, Keeps, Kept, LinesSeen, Outflow, Place, Script, Seen, Settings,
@@ -20,7 +22,7 @@ use sw_commands::{
 };
 use sw_files::begin_file;
 use sw_lang::write_all;
-use sw_map::PairMap;
+use sw_map::{CrackerMap, PairMap};
 use sw_rows::{Counted, Refusal, Sink, Source, TextKey};
 use sw_spine::Record;
 
@@ -45,48 +47,72 @@ pub struct Run<'a> {
     pub form: Form,
 }
 
-/// What a run leaves, and whether a call of it was refused.
-#[derive(Drop)]
-struct Ended {
-    run: AfterRun,
+/// What is known after a run: the record, whether a call was refused, and what each head tells of itself.
+struct AfterRun {
+    history: Record,
     has_refused: bool,
+    stats: Vec<HeadStats>,
+}
+
+// By hand, as with `Keeping`.
+impl Drop for AfterRun {
+    fn drop(self) {
+        let Self {
+            history: _history,
+            has_refused: _,
+            stats: _stats,
+        } = self;
+    }
 }
 
 /// Runs a script over a table, of which both are open.
 fn run_open<R: Threads + Wait + Sync, O: Onlooker, T: Source, S: Source, W: Sink + Drop>(
     rt: &R,
-    means: Means<'_, PairMap, O>,
+    alloc: Global,
     table: &mut T,
     script: &mut S,
     out: W,
-) -> Result<Ended, Refusal> {
+    options: &Options<'_>,
+    maps: Vec<PairMap>,
+    onlooker: &O,
+) -> Result<AfterRun, Refusal>
+    requires some { 0 < options.now.limit }
+    requires most { options.now.limit ≤ MOST_ROWS }
+    requires blank { All (λ m. ⟦<PairMap as CrackerMap>⟧.held m ≡ blank) maps.items }
+{
     let mut noting = Noting::new(out);
-    let run = run_told(rt, means, table, script, &mut noting)?;
-    Ok(Ended {
-        run,
+    let mut stats = Vec::new(alloc);
+    let history = run_told(
+        rt,
+        alloc,
+        table,
+        script,
+        &mut noting,
+        options,
+        maps,
+        &mut stats,
+        onlooker,
+    )?;
+    Ok(AfterRun {
+        history,
         has_refused: noting.has_refused(),
+        stats,
     })
-}
-
-/// The sources of a run, of which what can be read only once is kept.
-#[derive(Drop)]
-struct Sources<T: Source + Drop, S: Source + Drop> {
-    table: Keeping<T>,
-    script: Keeping<S>,
 }
 
 /// Makes the boxes of a run whose files are open, and runs it.
 fn run_between<
     R: Files + RandomSource + Clock + Print + Eprint + Threads + Wait + Sync,
-    T: Source + Drop,
-    S: Source + Drop,
+    T: Source,
+    S: Source,
 >(
     rt: &R,
     alloc: Global,
+    table: &mut T,
+    script: &mut S,
     run: &Run<'_>,
-    sources: &mut Sources<T, S>,
     watch: &Watch<'_, '_, R>,
-) -> Result<Ended, Refusal> {
+) -> Result<AfterRun, Refusal> {
     let settings = &run.settings;
     let maps = blank_boxes(alloc, settings.budget, settings.maps)?;
     let options = Options {
@@ -95,24 +121,18 @@ fn run_between<
         threads: settings.threads && are_ample(rt, alloc),
         key: TextKey::new(rt)?,
     };
-    let means = Means {
-        alloc,
-        options: &options,
-        maps,
-        onlooker: watch,
-    };
     if run.form == Form::Lines {
         let out = Counted::new(Outflow::new(io::writer(rt), watch.seen.reader()));
-        return run_open(rt, means, &mut sources.table, &mut sources.script, out);
+        return run_open(rt, alloc, table, script, out, &options, maps, watch);
     }
     let out = Counted::new(io::sink());
-    run_open(rt, means, &mut sources.table, &mut sources.script, out)
+    run_open(rt, alloc, table, script, out, &options, maps, watch)
 }
 
 /// What came of a run, and what was kept of its table and its script.
 #[derive(Drop)]
 struct Came {
-    ended: Result<Ended, Refusal>,
+    ended: Result<AfterRun, Refusal>,
     kept: Keeps,
 }
 
@@ -136,12 +156,11 @@ fn run_keeping<
     rt: &R,
     alloc: Global,
     run: &Run<'_>,
-    mut sources: Sources<T, S>,
+    mut table: Keeping<T>,
+    mut script: Keeping<S>,
     watch: &Watch<'_, '_, R>,
 ) -> Came {
-    let came = run_between(rt, alloc, run, &mut sources, watch);
-    let Sources { table, script } = sources;
-    let ended = match came {
+    let ended = match run_between(rt, alloc, &mut table, &mut script, run, watch) {
         Ok(ended) => Ok(ended),
         Err(refusal) => Err(script.why(table.why(refusal))),
     };
@@ -181,11 +200,9 @@ fn run_named<R: Files + RandomSource + Clock + Print + Eprint + Input + Threads 
         Ok(script) => Counted::new(script),
         Err(refusal) => return unopened(refusal),
     };
-    let sources = Sources {
-        table: Keeping::new(table, Kept::new(alloc, is_read_once(rt, run.table))),
-        script: Keeping::new(script, keeping_script(rt, alloc, run)),
-    };
-    run_keeping(rt, alloc, run, sources, watch)
+    let table = Keeping::new(table, Kept::new(alloc, is_read_once(rt, run.table)));
+    let script = Keeping::new(script, keeping_script(rt, alloc, run));
+    run_keeping(rt, alloc, run, table, script, watch)
 }
 
 /// Writes a record to the file of a path.
@@ -217,16 +234,15 @@ pub(crate) fn keep<R: Files>(
 
 /// Writes what each head tells of itself, on standard error.
 fn tell<R: Clock + Eprint, E: Sink>(
-    ended: &Ended,
+    ended: &AfterRun,
     seen: &Seen<'_, R>,
     errors: &mut E,
 ) -> Result<(), Refusal> {
-    let stats = &ended.run.stats;
-    let schema = &ended.run.history.schema;
+    let schema = &ended.history.schema;
     write_stats_title(errors)?;
-    for head in 0..schema.len().min(stats.len()) {
+    for head in 0..schema.len().min(ended.stats.len()) {
         let name = schema.name(head).as_bytes();
-        write_stats_line(name, &stats[head], seen.millis(head), errors)?;
+        write_stats_line(name, &ended.stats[head], seen.millis(head), errors)?;
     }
     Ok(())
 }
@@ -238,7 +254,7 @@ const REFUSED: &[u8] = b"sideways: calls were refused; --output lines shows whic
 /// that is asked. Answers the exit status.
 fn finish<R: Clock + Eprint, E: Sink>(
     run: &Run<'_>,
-    ended: &Ended,
+    ended: &AfterRun,
     seen: &Seen<'_, R>,
     errors: &mut E,
 ) -> Result<u8, Refusal>
@@ -367,9 +383,8 @@ impl Run<'_> {
         };
         watch.answers_last()?;
         let script = script_bytes(self.script, &kept.script);
-        let history = &ended.run.history;
-        self.shape(alloc, &seen, history, script, words)?;
-        self.leave(rt, alloc, history, watch.into_times(), words)?;
+        self.shape(alloc, &seen, &ended.history, script, words)?;
+        self.leave(rt, alloc, &ended.history, watch.into_times(), words)?;
         finish(self, &ended, &seen, errors)
     }
 }

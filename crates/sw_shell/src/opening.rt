@@ -214,7 +214,7 @@ fn read_table<R: Threads + Sync, T: Source>(
     table: &mut T,
     options: &Options<'_>,
 ) -> Result<Inputs, Refusal>
-    ensures spelled { ReadsTable options.now (source_by T.Source table.old table.new) result }
+    ensures spelled { ReadsTable options.now (source_by T.left T.failed table.old table.new) result }
     ensures sound { IfOk result (λ o. IsStart options.now.limit (start_seen o)) }
 {
     let nothing: &[u8] = &[];
@@ -281,7 +281,7 @@ where
     requires some { 0 < options.now.limit }
     requires most { options.now.limit ≤ MOST_ROWS }
     requires blank { All (λ m. M.held m ≡ blank) maps.items }
-    ensures shelled { Shells options.now (source_by T.Source table.old table.new)
+    ensures shelled { Shells options.now (source_by T.left T.failed table.old table.new)
         console.old console.new result }
     ensures legal { IfOk result (λ e. IsLegal e.history) }
 {

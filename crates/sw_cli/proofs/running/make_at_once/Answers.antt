@@ -6,4 +6,4 @@ use Rattle.sw_cli.proofs.running.make_at_once.Goals as goal
 pub returns-in-Ok : goal.returns-in-Ok
 returns-in-Ok g c =
     let e = c.in-Ok.outgoing.ended in
-    goes c.args.ground.limit (start_seen c.args.ground.inputs) e.blocks.items e.told.items e.history (sink_seen _ _ _ _) c.replace_with.result c.in-Ok.ensures.blocks e.all c.in-Ok.ensures.why c.in-Ok.ensures.record_is c.replace_with.ensures.0 c.replace_with.ensures.1
+    goes c.args.options.now.limit (start_seen c.args.opened) e.blocks.items e.told.items e.history (sink_seen _ _ _ _) c.replace_with.result c.in-Ok.ensures.blocks e.all c.in-Ok.ensures.why c.in-Ok.ensures.record_is c.replace_with.ensures.0 c.replace_with.ensures.1

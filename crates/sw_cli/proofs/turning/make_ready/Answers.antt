@@ -2,14 +2,13 @@ use Rattle.std.proofs.Common.{rules, ◌≡◌, ◌∙◌, sym, ap, subst, ◌<�
 use Rattle.sw_cli.proofs.turning.make_ready.Goals as goal
 
 pub open_for-requires-clause-lists : goal.open_for-requires-clause-lists
-open_for-requires-clause-lists g c κs within = c.args.stage.ground.sound.lists ∙ sym c.args.stage.wide
+open_for-requires-clause-lists g c κs within = c.requires.sound.lists ∙ sym c.requires.wide
 
 pub open_for-requires-clause-cuts : goal.open_for-requires-clause-cuts
-open_for-requires-clause-cuts g c κs within = λ a below. c.args.stage.ground.sound.cuts a (subst (λ (n : ℕ). a < n) c.args.stage.wide below)
+open_for-requires-clause-cuts g c κs within = λ a below. c.requires.sound.cuts a (subst (λ (n : ℕ). a < n) c.requires.wide below)
 
 pub invariant_of-result : goal.invariant_of-result
 invariant_of-result g c = record {
-  wide = sym c.args.stage.wide ∙ ap length c.requires.columns;
   none = search rules;
   room = search rules;
   empty = search rules;
