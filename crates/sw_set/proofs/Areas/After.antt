@@ -15,11 +15,13 @@ after-all P a f b came live [] w may h = h
 after-all P a f b came live (Insert r ∷ us) w may h = after-all P a f b (came ++ r ∷ []) (live ++ r ∷ []) us w.1 may (All-append P live (r ∷ []) h (all-one P r (may r w.0.1 w.0.2)))
 after-all P a f b came live (Remove k ∷ us) w may h = after-all P a f b came (rows_then live (Remove k)) us w.1 may (all-without P k live h)
 
+-- rows that came by rising keys still do after updates that may be received
 pub came-rise : (a : ℕ) (f b : Option ℤ) (came live : List Row) (us : List Update) → AreReceivable a f b came live us → Rises key_of came → Rises key_of (fold came_then came us)
 came-rise a f b came live [] w h = h
 came-rise a f b came live (Insert r ∷ us) w h = came-rise a f b (came ++ r ∷ []) (live ++ r ∷ []) us w.1 (rises-last key_of came r h w.0.0)
 came-rise a f b came live (Remove k ∷ us) w h = came-rise a f b came (rows_then live (Remove k)) us w.1 h
 
+-- live rows still rise by key after updates that may be received, if none exceeds all that came
 pub rows-rise : (a : ℕ) (f b : Option ℤ) (came live : List Row) (us : List Update) → AreReceivable a f b came live us → ((n : ℕ) → IsBelow n came → IsBelow n live) → Rises key_of live → Rises key_of (fold rows_then live us)
 rows-rise a f b came live [] w less h = h
 rows-rise a f b came live (Insert r ∷ us) w less h =

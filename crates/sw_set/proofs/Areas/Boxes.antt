@@ -22,12 +22,14 @@ pub record IsOnTheWay (tape : List (Step Row)) (i : ℕ) (m0 m : Held) : Type 0 
   pub same : IsSameMap m0 m
   pub aligned : IsAligned m0.head tape m
 
+-- an aligned map starts on its way at its own cursor
 pub way-start : (tape : List (Step Row)) (m : Held) → IsAligned m.head tape m → IsOnTheWay tape m.cursor m m
 way-start tape m al = record { at = refl; same = record { blank = refl; tail = refl; cells = refl }; aligned = al }
 
 at-cursor : (tape : List (Step Row)) (i : ℕ) (m0 m : Held) (e : Step Row) → slice_get tape i ≡ Some e → IsOnTheWay tape i m0 m → slice_get tape m.cursor ≡ Some e
 at-cursor tape i m0 m e is w = ap (slice_get tape) w.at ∙ is
 
+-- a map that replays the entry at the place to which it has come is one entry further on its way
 pub way-more : (tape : List (Step Row)) (i : ℕ) (m0 m m' : Held) (e : Step Row) → slice_get tape i ≡ Some e → m' ≡ after e m → IsOnTheWay tape i m0 m → IsOnTheWay tape (i + 1) m0 m'
 way-more tape i m0 m m' e is now w =
     subst (λ (v : Held). IsOnTheWay tape (i + 1) m0 v) (sym now) (record {
@@ -40,11 +42,13 @@ way-more tape i m0 m m' e is now w =
 pub step-next : (tape : List (Step Row)) (i : ℕ) (m0 m : Held) (e : Step Row) → IsTape tape → slice_get tape i ≡ Some e → IsOnTheWay tape i m0 m → MayReplay m e
 step-next tape i m0 m e t is w = may-replay m0.head tape m e t w.aligned (at-cursor tape i m0 m e is w)
 
+-- a map that started with cells for the tape's peak has room for the pairs after its next entry
 pub step-room : (tape : List (Step Row)) (i : ℕ) (m0 m : Held) (e : Step Row) → IsTape tape → slice_get tape i ≡ Some e → peak_from 0 tape ≤ m0.cells → IsOnTheWay tape i m0 m → pairs_in (after e m) ≤ m.cells
 step-room tape i m0 m e t is room w =
     let le = after-room m0.head tape m e t w.aligned (at-cursor tape i m0 m e is w) in
     omega (arith, le, room, w.same.cells)
 
+-- if the keys of all entries of a tape fit, so do those of the entry at a place
 pub step-keys : (tape : List (Step Row)) (i : ℕ) (e : Step Row) → All (λ (v : Step Row). KeysFit v) tape → slice_get tape i ≡ Some e → KeysFit e
 step-keys tape i e all is = subst (λ (v : Step Row). KeysFit v) (get_or_from_slice_get tape i e e is) (all i e (slice_get_within tape i e is))
 
@@ -60,18 +64,22 @@ own-aligned a tape m w h = let al = aligned-lawful a tape m w h in subst (λ (v 
 pub lawful-after : (a : ℕ) (tape : List (Step Row)) (m n : Held) → IsLawful a tape m → m.is_blank ≡ false → IsAligned m.head tape n → IsLawful a tape n
 lawful-after a tape m n w h al = lawful-aligned a tape n (subst (λ (v : ℕ). IsAligned v tape n) (aligned-lawful a tape m w h).same_head al)
 
+-- a map with one of the tails has cells for the tape's peak, if it has room where it is needed
 pub room-own : (tails : List Tail) (tape : List (Step Row)) (m : Held) → m.is_blank ≡ false → Contains tails m.tail → HasRoomWhereNeeded tails tape m → peak_from 0 tape ≤ m.cells
 unfolding HasRoomWhereNeeded
 room-own tails tape m h needed room = room h needed
 
+-- a map that has replayed the whole tape stands at its end, whatever the tails
 pub at-end : (tails : List Tail) (tape : List (Step Row)) (m : Held) → m.cursor ≡ length tape → IsAtEnd tails tape m
 unfolding IsAtEnd
 at-end tails tape m e = λ h n. e
 
+-- a map stands at the tape's end if it has replayed the whole tape where it is needed
 pub at-end-unneeded : (tails : List Tail) (tape : List (Step Row)) (m : Held) → (m.is_blank ≡ false → Contains tails m.tail → m.cursor ≡ length tape) → IsAtEnd tails tape m
 unfolding IsAtEnd
 at-end-unneeded tails tape m e = e
 
+-- where memory was not refused and the map has replayed the whole tape, it stands at the tape's end
 pub ends-at : {U : Type 0} (r : Result U Refusal) (tails : List Tail) (tape : List (Step Row)) (m : Held) → MatchResult r (λ _. m.cursor ≡ length tape) (λ e. e ≡ NoMemory) → MatchResult r (λ _. IsAtEnd tails tape m) (λ e. e ≡ NoMemory)
 ends-at (Ok u) tails tape m e = at-end tails tape m e
 ends-at (Err x) tails tape m e = e
@@ -82,11 +90,13 @@ pub record IsPartlyAligned (a : ℕ) (tails : List Tail) (tape : List (Step Row)
   pub same : AreSameMaps ms ns
   pub ends : (k : ℕ) (d : Held) → k < i → k < length ns → IsAtEnd tails tape (get_or ns k d)
 
+-- the item at a place within a list is the same whatever is read where there is none
 pub get_or_any : {X : Type 0} (xs : List X) (k : ℕ) (d e : X) → k < length xs → get_or xs k d ≡ get_or xs k e
 get_or_any [] k d e lt = let no : k < 0 = lt in absurd (omega arith)
 get_or_any (x ∷ xs) zero d e lt = refl
 get_or_any (x ∷ xs) (suc k) d e lt = get_or_any xs k d e (omega arith)
 
+-- boxes hold the same maps as themselves
 pub same-refl : (ms : List Held) → AreSameMaps ms ms
 same-refl ms = record { many = refl; each = λ k d e lt. let same = get_or_any ms k d e lt in subst (λ (v : Held). IsSameMap (get_or ms k d) v) same (record { blank = refl; tail = refl; cells = refl }) }
 
@@ -98,9 +108,11 @@ set-each P (x ∷ xs) zero y py h (suc k) d lt = h (suc k) d (omega arith) lt
 set-each P (x ∷ xs) (suc i) y py h zero d lt = h zero d (omega arith) (omega arith)
 set-each P (x ∷ xs) (suc i) y py h (suc k) d lt = set-each (λ j v. P (suc j) v) xs i y py (λ j e n l. h (suc j) e (omega arith) (omega arith)) k d (omega arith)
 
+-- being the same map, at perhaps another cursor, is transitive
 pub same-trans : (l m n : Held) → IsSameMap l m → IsSameMap m n → IsSameMap l n
 same-trans l m n p q = record { blank = q.blank ∙ p.blank; tail = q.tail ∙ p.tail; cells = q.cells ∙ p.cells }
 
+-- boxes hold the same maps after one is set to its own map, at perhaps another cursor
 pub same-set : (ms ns : List Held) (i : ℕ) (n : Held) → AreSameMaps ms ns → i < length ns → ((d : Held) → IsSameMap (get_or ns i d) n) → AreSameMaps ms (set ns i n)
 same-set ms ns i n s lt one =
     let many : length (set ns i n) ≡ length ms = length-set ns i n ∙ s.many in
@@ -109,6 +121,7 @@ same-set ms ns i n s lt one =
       each = λ k d e lt'. set-each (λ (j : ℕ) (v : Held). IsSameMap (get_or ms j d) v) ns i n (same-trans _ _ _ (s.each i d d (omega arith)) (one d)) (λ j f n l. s.each j d f (omega arith)) k e (omega arith);
     }
 
+-- one box more is aligned once the next one is set to its own map at the tape's end
 pub partly-more : (a : ℕ) (tails : List Tail) (tape : List (Step Row)) (i : ℕ) (ms ns : List Held) (n : Held) → i < length ns → IsPartlyAligned a tails tape i ms ns → IsLawful a tape n → ((d : Held) → IsSameMap (get_or ns i d) n) → IsAtEnd tails tape n → IsPartlyAligned a tails tape (i + 1) ms (set ns i n)
 partly-more a tails tape i ms ns n lt p law one end = record {
   lawful = All-set (IsLawful a tape) ns i n law p.lawful;
@@ -128,13 +141,16 @@ boxes-kept h a tape i ms xs x y lt laws s law same =
     let many = length-map xs h in
     subst (λ (v : List Held). All (IsLawful a tape) v × AreSameMaps ms v) (sym (map-set h xs i y)) (All-set (IsLawful a tape) (map h xs) i (h y) law laws, same-set ms (map h xs) i (h y) s (omega arith) (λ d. subst (λ (v : Held). IsSameMap v (h y)) (sym (get_or-map h xs i x d lt)) same))
 
+-- where the maps of all boxes are lawful, so is that of the box at a place
 pub lawful-at : {X : Type 0} (h : X → Held) (a : ℕ) (tape : List (Step Row)) (xs : List X) (i : ℕ) (x : X) → i < length xs → All (IsLawful a tape) (map h xs) → IsLawful a tape (h (get_or xs i x))
 lawful-at h a tape xs i x lt all = let many = length-map xs h in subst (IsLawful a tape) (get_or-map h xs i x (h x) lt) (all i (h x) (omega arith))
 
+-- a map has room where it is needed if the same map, at perhaps another cursor, has
 pub room-same : (tails : List Tail) (tape : List (Step Row)) (m n : Held) → IsSameMap m n → HasRoomWhereNeeded tails tape m → HasRoomWhereNeeded tails tape n
 unfolding HasRoomWhereNeeded
 room-same tails tape m n s room = λ b t. subst (λ (v : ℕ). peak_from 0 tape ≤ v) (sym s.cells) (room (sym s.blank ∙ b) (subst (Contains tails) s.tail t))
 
+-- boxes that hold the same maps as maps with room where they are needed have it at each place
 pub room-at : {X : Type 0} (h : X → Held) (tails : List Tail) (tape : List (Step Row)) (ms : List Held) (xs : List X) (i : ℕ) (x : X) → i < length xs → AreSameMaps ms (map h xs) → All (HasRoomWhereNeeded tails tape) ms → HasRoomWhereNeeded tails tape (h (get_or xs i x))
 room-at h tails tape ms xs i x lt s all =
     let many = length-map xs h in let many' = s.many in
@@ -145,6 +161,7 @@ pub held-at : {X : Type 0} (h : X → Held) (P : Held → Type 0) (xs : List X) 
 held-at h P [] i lt p e = let no : i < 0 = lt in absurd (omega arith)
 held-at h P (x ∷ xs) i lt p e = subst P (sym (get_or-map h (x ∷ xs) i x e lt)) (p x)
 
+-- what holds of what each box holds holds of all in the list of what they hold
 pub held-all : {X : Type 0} (h : X → Held) (P : Held → Type 0) (xs : List X) → All (λ m. P (h m)) xs → All P (map h xs)
 held-all h P xs all k d lt = let many = length-map xs h in held-at h P xs k (omega arith) (λ e. all k e (omega arith)) d
 

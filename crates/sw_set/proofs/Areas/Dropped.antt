@@ -44,6 +44,7 @@ apart-places xs i j k p q ne same = by (nat_lt j i) (nat_lt k i) refl refl
     by false true e f = let l : i ≤ j = grind (arith, e) in let m : k < i = grind (arith, f) in let x = p.high l in let y = q.low m in omega (arith, l, m, x, y, same)
     by false false e f = let l : i ≤ j = grind (arith, e) in let m : i ≤ k = grind (arith, f) in let x = p.high l in let y = q.high m in ne (omega (arith, x, y, same))
 
+-- if no two boxes have maps of the same tail, no two do after one box is removed
 pub apart-removed : (ms : List Held) (i : ℕ) → i < length ms → AreApart ms → AreApart (remove ms i)
 unfolding AreApart
 apart-removed ms i lt apart = λ j k d e lj lk ne bj bk eq.
@@ -61,6 +62,7 @@ map-drop f zero xs = refl
 map-drop f (suc i) [] = refl
 map-drop f (suc i) (x ∷ xs) = map-drop f i xs
 
+-- to remove an item and map the rest is to map all and remove the item at that place
 pub map-removed : {A B : Type 0} (f : A → B) (xs : List A) (i : ℕ) → map f (remove xs i) ≡ remove (map f xs) i
 map-removed f xs i =
     let t = map-take f i xs in let d = map-drop f (suc i) xs in let a = map-append f (take i xs) (drop (suc i) xs) in cc
@@ -75,6 +77,7 @@ pub area-dropped : (most : ℕ) (a : ℕ) (f b : Option ℤ) (inb : List Update)
 area-dropped most a f b inb sp tape ms ns gone d w =
     area-with a f b inb sp tape ms ns (all-left-of (IsLawful a tape) ms d.went ns d.parted w.boxes) (all-left-of HasLease ms d.went ns d.parted w.leases) (d.apart w.apart) w
 
+-- an area of which boxes were dropped, and nothing else changed, is the old one shed of them
 pub shed-view : (most : ℕ) (s : AreaState) (a : ℕ) (f b : Option ℤ) (inb : List Update) (sp : ℕ) (tape : List (Step Row)) (ms ns : List Held) (gone : ℕ) → area_of a f b inb sp tape ms ≡ s → AreDropped most ms ns gone → IsShed most s (area_of a f b inb sp tape ns) gone
 shed-view most s a f b inb sp tape ms ns gone is d = record {
   attribute = ap (λ (v : AreaState). v.attribute) is;
@@ -94,6 +97,7 @@ shed-view most s a f b inb sp tape ms ns gone is d = record {
 pub dropped-none : (most : ℕ) (ms : List Held) → AreDropped most ms ms 0
 dropped-none most ms = record { many = omega arith; few = omega arith; went = []; all = refl; parted = IsPermutation-refl ms; apart = λ apart. apart }
 
+-- one box more removed is one more dropped, while fewer are gone than may go
 pub dropped-more : (most : ℕ) (ms ns os : List Held) (gone i : ℕ) → gone < most → i < length ns → os ≡ remove ns i → AreDropped most ms ns gone → AreDropped most ms os (gone + 1)
 dropped-more most ms ns os gone i lt li is w = subst (λ (v : List Held). AreDropped most ms v (gone + 1)) (sym is) (record {
   many = let n = length-remove ns i li in let m = w.many in omega (arith, n, m);
@@ -109,6 +113,7 @@ nothing-left : {X : Type 0} (h : X → Held) (xs : List X) → All (λ m. (h m).
 nothing-left h [] begun needed = refl
 nothing-left h (x ∷ xs) begun needed = let c = needed 0 x (omega arith) (begun 0 x (omega arith)) in let none : c.0 < 0 = c.1 in absurd (omega (arith, none))
 
+-- where all boxes have maps and no tail is needed, a look for one unneeded finds it, or there is no box
 pub first-found : {X : Type 0} (h : X → Held) (r : Option ℕ) (ys : List X) (ms : List Held) → map h ys ≡ ms → All (λ m. (h m).is_blank ≡ false) ys → MatchOption r (All (λ m. (h m).is_blank ≡ false → Contains [] (h m).tail) ys) (λ i. (i < length ys) × ((d : X) → ((h (get_or ys i d)).is_blank ≡ false) × ¬ Contains [] (h (get_or ys i d)).tail)) → MatchOption r (length ms ≡ 0) (λ at. at < length ms)
 first-found h None ys ms is begun w = sym (ap length is) ∙ length-map ys h ∙ nothing-left h ys begun w
 first-found h (Some i) ys ms is begun w = let many = ap length is in let l = length-map ys h in let lt = w.0 in omega (arith, many, l, lt)

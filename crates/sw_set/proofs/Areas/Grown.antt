@@ -32,6 +32,7 @@ grown-fresh (Ok true) at cells m n ms fresh is b = subst (λ (v : Tail). IsFresh
 grown-fresh (Ok false) at cells m n ms fresh is b = subst (λ (v : Tail). IsFreshBut at v ms) (sym (ap (λ (x : Held). x.tail) is)) fresh
 grown-fresh (Err e) at cells m n ms fresh is b = blank-not b is.0
 
+-- an area stays lawful when a map was to grow to more cells, whether it grew or not or was refused
 pub grown-area : (r : Result Bool Refusal) (a : ℕ) (f b : Option ℤ) (inb : List Update) (sp : ℕ) (tape : List (Step Row)) (ms ns : List Held) (at cells : ℕ) → at < length ms → ((d : Held) → (get_or ms at d).is_blank ≡ false) → ((d : Held) → (get_or ms at d).cells < cells) → IsSetAt ms at (HasGrownOr r cells (get_or ms at blank)) ns → IsAreaLawful (area_of a f b inb sp tape ms) → IsAreaLawful (area_of a f b inb sp tape ns)
 grown-area r a f b inb sp tape ms ns at cells lt begun more (n, grew, is) w =
     let m : Held = get_or ms at blank in
@@ -39,6 +40,7 @@ grown-area r a f b inb sp tape ms ns at cells lt begun more (n, grew, is) w =
     subst (λ (v : List Held). IsAreaLawful (area_of a f b inb sp tape v)) (sym is)
     (area-set a f b inb sp tape ms at n (grown-lawful r a tape cells m n (w.boxes at blank lt) (begun blank) grew) (grown-leased r cells m n (more blank) (w.leases at blank lt) grew) (grown-fresh r at cells m n ms fresh grew) w)
 
+-- an area of which one box was set to its map after growth is the old one with the map there grown, or not
 pub grown-at : (r : Result Bool Refusal) (s : AreaState) (a : ℕ) (f b : Option ℤ) (inb : List Update) (sp : ℕ) (tape : List (Step Row)) (ms ns : List Held) (at cells : ℕ) → area_of a f b inb sp tape ms ≡ s → IsSetAt ms at (HasGrownOr r cells (get_or ms at blank)) ns → HasGrownAt r at cells s (area_of a f b inb sp tape ns)
 grown-at r s a f b inb sp tape ms ns at cells is (n, grew, e) =
     (n, subst (λ (v : AreaState). HasGrownOr r cells (get_or v.boxes at blank) n) is grew, view-set s a f b inb sp tape ms ns at n is e)

@@ -13,6 +13,7 @@ rises-front (x ∷ xs) ys r = (front-all x.key xs ys r.0, rises-front xs ys r.1)
     front-all n [] ys a = tt
     front-all n (x ∷ xs) ys a = (a.0, front-all n xs ys a.1)
 
+-- what stands at the back of a rising list rises
 pub rises-back : (xs ys : List Row) → Rises key_of (xs ++ ys) → Rises key_of ys
 rises-back [] ys r = r
 rises-back (x ∷ xs) ys r = rises-back xs ys r.1

@@ -57,6 +57,7 @@ rises-came cs [] h = h
 rises-came cs (Insert r ∷ us) h = rises-front cs (r ∷ []) (rises-came (cs ++ r ∷ []) us h)
 rises-came cs (Remove k ∷ us) h = rises-came cs us h
 
+-- where the rows that came with all updates rise, so do those that came with the first of them
 pub rises-part : (cs : List Row) (us : List Update) (i : ℕ) → Rises key_of (fold came_then cs us) → Rises key_of (fold came_then cs (take i us))
 rises-part cs us i h =
     rises-came (fold came_then cs (take i us)) (drop i us) (subst (Rises key_of) (ap (fold came_then cs) (sym (split-at i us)) ∙ fold-append came_then cs (take i us) (drop i us)) h)

@@ -19,6 +19,7 @@ use Rattle.sw_set.proofs.Areas.Shelves.{area_of}
 short-more : (tape : List (Step Row)) (e : Step Row) → length tape < 4096 → length (tape ++ e ∷ []) ≤ 4096
 short-more tape e room = let n = length-append tape (e ∷ []) in omega (arith, n, room)
 
+-- with nothing waiting and room on the tape, a row that may be received is logged and the area stays lawful
 pub area-inserted : (a : ℕ) (f b : Option ℤ) (inb : List Update) (sp : ℕ) (tape : List (Step Row)) (ms : List Held) (r : Row) → inb ≡ [] → length tape < 4096 → MayReceive a f b (brought tape) (logged_rows a tape) (Insert r) → IsAreaLawful (area_of a f b inb sp tape ms) → IsAreaLawful (area_of a f b inb sp (tape ++ inserted r ∷ []) ms)
 area-inserted a f b inb sp tape ms r none room may w =
     let same = logged-inserted a tape r in
@@ -37,6 +38,7 @@ area-inserted a f b inb sp tape ms r none room may w =
       receivable = rw none tt;
     }
 
+-- with nothing waiting and room on the tape, the removal of a row is logged and the area stays lawful
 pub area-removal : (a : ℕ) (f b : Option ℤ) (inb : List Update) (sp : ℕ) (tape : List (Step Row)) (ms : List Held) (k place : ℕ) → inb ≡ [] → length tape < 4096 → place < length (joined (rows_by a tape)) → ((d : Row) → (get_or (joined (rows_by a tape)) place d).key ≡ k) → IsAreaLawful (area_of a f b inb sp tape ms) → IsAreaLawful (area_of a f b inb sp (tape ++ removed place ∷ []) ms)
 area-removal a f b inb sp tape ms k place none room within own w =
     let same = logged-removed a tape place k within own in

@@ -42,9 +42,11 @@ brought-more : (tape : List (Step Row)) (e : Step Row) → brought (tape ++ e �
 brought-more [] e = append-nil (brought_by e)
 brought-more (x ∷ tape) e = ap (λ (v : List Row). brought_by x ++ v) (brought-more tape e) ∙ sym (append_assoc (brought_by x) (brought tape) (brought_by e))
 
+-- an insertion at the end of a tape brings its row behind the others
 pub brought-inserted : (tape : List (Step Row)) (r : Row) → brought (tape ++ inserted r ∷ []) ≡ brought tape ++ r ∷ []
 brought-inserted tape r = brought-more tape (inserted r)
 
+-- a removal at the end of a tape brings no row
 pub brought-removed : (tape : List (Step Row)) (place : ℕ) → brought (tape ++ removed place ∷ []) ≡ brought tape
 brought-removed tape place = brought-more tape (removed place) ∙ append-nil (brought tape)
 
@@ -52,6 +54,7 @@ brought-removed tape place = brought-more tape (removed place) ∙ append-nil (b
 pub tape-inserted : (tape : List (Step Row)) (r : Row) → IsTape tape → IsTape (tape ++ inserted r ∷ [])
 tape-inserted tape r t = tape-push tape (inserted r) t tt
 
+-- a tape with the removal of a place that it has at its end is a tape
 pub tape-removed : (tape : List (Step Row)) (place : ℕ) → IsTape tape → place < count_from 0 tape → IsTape (tape ++ removed place ∷ [])
 tape-removed tape place t lt = tape-push tape (removed place) t lt
 
@@ -67,6 +70,7 @@ one-all P x px (suc k) d lt = absurd (omega arith)
 pub keys-inserted : (tape : List (Step Row)) (r : Row) → r.key < 2 ^ 63 → All (λ (e : Step Row). KeysFit e) tape → All (λ (e : Step Row). KeysFit e) (tape ++ inserted r ∷ [])
 keys-inserted tape r fits all = All-append (λ (e : Step Row). KeysFit e) tape (inserted r ∷ []) all (one-all (λ (e : Step Row). KeysFit e) (inserted r) (one-all (λ (x : Row). x.key < 2 ^ 63) r fits))
 
+-- with a removal more the keys of all entries of a tape still fit
 pub keys-removed : (tape : List (Step Row)) (place : ℕ) → All (λ (e : Step Row). KeysFit e) tape → All (λ (e : Step Row). KeysFit e) (tape ++ removed place ∷ [])
 keys-removed tape place all = All-append (λ (e : Step Row). KeysFit e) tape (removed place ∷ []) all (one-all (λ (e : Step Row). KeysFit e) (removed place) (λ k d lt. let no : k < 0 = lt in absurd (omega arith)))
 
@@ -104,6 +108,7 @@ live-members value key (ranged lower upper ∷ es) a rows y m = live-members val
 logged-mem : (a : ℕ) (tape : List (Step Row)) (r : Row) → Mem r (logged_rows a tape) → Mem r (brought tape)
 logged-mem a tape r m = elim (live-members (cell_of a) key_of tape (last []) [] r m) [ inl none ↦ absurd none | inr f ↦ f ]
 
+-- each live row of a tape is one that it brought
 pub logged-brought : (a : ℕ) (tape : List (Step Row)) (r : Row) → Contains (logged_rows a tape) r → Contains (brought tape) r
 logged-brought a tape r c = contains-from_mem (brought tape) r (logged-mem a tape r (mem-from_contains (logged_rows a tape) r c))
 
@@ -135,6 +140,7 @@ live-rises value key (inserted x ∷ es) a rows r = live-rises value key es (ste
 live-rises value key (removed place ∷ es) a rows r = live-rises value key es (step value (removed place) a) (without_place key (joined a) place rows) (rises-less key (joined a) rows (brought es) place r)
 live-rises value key (ranged lower upper ∷ es) a rows r = live-rises value key es (step value (ranged lower upper) a) rows r
 
+-- the live rows of a tape rise by key where those that it brought do
 pub logged-rises : (a : ℕ) (tape : List (Step Row)) → Rises key_of (brought tape) → Rises key_of (logged_rows a tape)
 logged-rises a tape r = live-rises (cell_of a) key_of tape (last []) [] r
 
@@ -147,6 +153,7 @@ rises-last {X} k (y ∷ ys) x r below = (all-append (λ (z : X). k y < k z) ys (
 pub rises-without : (k : ℕ) (rows : List Row) → Rises key_of rows → Rises key_of (without k rows)
 rises-without k rows r = rises-filter key_of (λ (x : Row). not (nat_eq x.key k)) rows r
 
+-- what holds of all rows holds of those without a key
 pub all-without : (P : Row → Type 0) (k : ℕ) (rows : List Row) → All P rows → All P (without k rows)
 all-without P k rows all =
     All-from_recursion P (without k rows) (all-from_mem P (without k rows) (λ y m. (let c = contains-from_mem rows y (mem-filtered (λ (x : Row). not (nat_eq x.key k)) rows y m).0 in subst P c.2 (all c.0 y c.1))))

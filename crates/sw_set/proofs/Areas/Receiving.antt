@@ -9,15 +9,18 @@ use Rattle.sw_table.specs.Updates.{has_key, rows_then, without}
 use Rattle.sw_kernel.specs.Tapes.{brought}
 use Rattle.sw_set.specs.Shelf.{AreReceivable, AreaState, BringsNoMore, came_then}
 
+-- what holds of an item holds of the list of it alone
 pub all-one : {X : Type 0} (P : X → Type 0) (x : X) → P x → All P (x ∷ [])
 all-one P x px zero d lt = px
 all-one P x px (suc k) d lt = absurd (omega (arith, lt))
 
+-- what holds of all items of two lists together holds of those of the left one
 pub all-left : {X : Type 0} (P : X → Type 0) (xs ys : List X) → All P (xs ++ ys) → All P xs
 all-left P [] ys h k d lt = let no : k < 0 = lt in absurd (omega arith)
 all-left P (x ∷ xs) ys h zero d lt = h 0 d (omega arith)
 all-left P (x ∷ xs) ys h (suc k) d lt = all-left P xs ys (λ j e l. h (suc j) e (omega (arith, l))) k d (omega (arith, lt))
 
+-- what holds of all items of two lists together holds of those of the right one
 pub all-right : {X : Type 0} (P : X → Type 0) (xs ys : List X) → All P (xs ++ ys) → All P ys
 all-right P [] ys h = h
 all-right P (x ∷ xs) ys h = all-right P xs ys (λ j e l. h (suc j) e (omega (arith, l)))
@@ -32,6 +35,7 @@ less-then xs ys (Insert r) less n h =
     All-append (λ (c : Row). c.key < n) ys (r ∷ []) (less n (all-left (λ (c : Row). c.key < n) xs (r ∷ []) h)) (all-right (λ (c : Row). c.key < n) xs (r ∷ []) h)
 less-then xs ys (Remove k) less n h = less n h
 
+-- if no key of one list exceeds all of another, none does after the same updates come to both
 pub less-after : (xs ys : List Row) (us : List Update) → ((n : ℕ) → IsBelow n xs → IsBelow n ys) → (n : ℕ) → IsBelow n (fold came_then xs us) → IsBelow n (fold came_then ys us)
 less-after xs ys [] less = less
 less-after xs ys (u ∷ us) less = less-after (came_then xs u) (came_then ys u) us (less-then xs ys u less)
@@ -40,6 +44,7 @@ less-after xs ys (u ∷ us) less = less-after (came_then xs u) (came_then ys u) 
 pub brings-less : (x y : AreaState) → y.inbox ≡ x.inbox → ((n : ℕ) → IsBelow n (brought x.tape) → IsBelow n (brought y.tape)) → BringsNoMore x y
 brings-less x y same less = λ n h. subst (λ (us : List Update). IsBelow n (fold came_then (brought y.tape) us)) (sym same) (less-after (brought x.tape) (brought y.tape) x.inbox less n h)
 
+-- updates that may be received still may be where the keys that came were no greater
 pub receivable-less : (a : ℕ) (f b : Option ℤ) (xs ys live : List Row) (us : List Update) → ((n : ℕ) → IsBelow n xs → IsBelow n ys) → AreReceivable a f b xs live us → AreReceivable a f b ys live us
 receivable-less a f b xs ys live [] less w = tt
 receivable-less a f b xs ys live (Insert r ∷ us) less w =
@@ -64,6 +69,7 @@ has-last k (x ∷ rows) r = ap (λ (b : Bool). (k == x.key) || b) (has-last k ro
     or-turn true t u = refl
     or-turn false t u = refl
 
+-- a key is among the rows without another key just where it was among them and is not that one
 pub has-without : (k j : ℕ) (rows : List Row) → has_key k (without j rows) ≡ has_key k rows && not (j == k)
 has-without k j [] = refl
 has-without k j (x ∷ rows) = by (x.key == j) (k == x.key) (j == k) refl refl refl (has-without k j rows)

@@ -25,15 +25,18 @@ blank_lacks ms at t n lt fresh (k, m, l, is, mp) = by (eqb k at) refl
         let same : get_or (set ms at blank) k m ≡ get_or ms k m = set-each (λ (j : ℕ) (v : Held). j ≢ at → v ≡ get_or ms j m) ms at blank (λ no. absurd (no refl)) (λ j e nj lj _. get_or_any ms j e m lj) k m (omega (arith, l, ls)) ne in
         fresh k m (omega (arith, l, ls)) ne (ap (λ (v : Held). v.is_blank) (sym same ∙ is) ∙ mp.begun) (ap (λ (v : Held). v.tail) (sym same ∙ is) ∙ mp.tail)
 
+-- once the box that was tried for a tail is blank, no box has a map of that tail
 pub not_held : (at : ℕ) (tails : List Tail) (t : Tail) (n : ℕ) (x0 x y : AreaState) → at < length x0.boxes → y ≡ record x { boxes = set x.boxes at blank } → IsTrying at tails t x0 x → ¬ IsHeld t n y.boxes
 not_held at tails t n x0 x y lt is w =
     let many = w.same.many in
     subst (λ (v : AreaState). ¬ IsHeld t n v.boxes) (sym is) (blank_lacks x.boxes at t n (omega (arith, lt, many)) w.fresh)
 
+-- where the only box for a tail was refused its growth, no box has a map of that tail
 pub not_grown : (e : Refusal) (at cells : ℕ) (t : Tail) (n : ℕ) (x y : AreaState) → at < length x.boxes → IsFreshBut at t x.boxes → HasGrownAt (Err e) at cells x y → ¬ IsHeld t n y.boxes
 not_grown e at cells t n x y lt fresh (m, grew, is) =
     subst (λ (v : AreaState). ¬ IsHeld t n v.boxes) (sym (is ∙ ap (λ (b : Held). record x { boxes = set x.boxes at b }) grew.0)) (blank_lacks x.boxes at t n lt fresh)
 
+-- where the tail at a place has no map of so many cells, one of the tails lacks such a map
 pub lacks_one : (tails : List Tail) (i : ℕ) (t : Tail) (n : ℕ) (ms : List Held) → i < length tails → get_or tails i t ≡ t → ¬ IsHeld t n ms → LacksOne tails n ms
 lacks_one tails i t n ms lt is gone = (t, subst (Contains tails) is (Contains-get_or tails i t lt), gone)
 

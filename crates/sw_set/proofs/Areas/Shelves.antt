@@ -28,6 +28,7 @@ use Rattle.sw_set.proofs.Areas.Boxes.{set-each}
 use Rattle.sw_set.proofs.Areas.Longer.{live-more}
 use Rattle.sw_set.proofs.Areas.Receiving.{IsBelow, all-one, receivable-append, receivable-less}
 
+-- an area by its fields, what waits and the room for more apart
 abbrev pub area_of : ℕ → Option ℤ → Option ℤ → List Update → ℕ → List (Step Row) → List Held → AreaState
 area_of a f b inb sp tape ms = record { attribute = a; from = f; below = b; inbox = inb; spare = sp; tape = tape; boxes = ms }
 
@@ -35,14 +36,17 @@ area_of a f b inb sp tape ms = record { attribute = a; from = f; below = b; inbo
 pub logged-ranged : (a : ℕ) (tape : List (Step Row)) (lower upper : Option Bound) → logged_rows a (tape ++ ranged lower upper ∷ []) ≡ logged_rows a tape
 logged-ranged a tape lower upper = live-more (cell_of a) key_of tape (ranged lower upper) (last []) []
 
+-- a range at the end of a tape brings no row
 pub brought-ranged : (tape : List (Step Row)) (lower upper : Option Bound) → brought (tape ++ ranged lower upper ∷ []) ≡ brought tape
 brought-ranged [] lower upper = refl
 brought-ranged (e ∷ es) lower upper = ap (λ v. brought_by e ++ v) (brought-ranged es lower upper)
 
+-- a range at the end of a tape leaves the rows of its load
 pub first-ranged : (tape : List (Step Row)) (lower upper : Option Bound) → IsTape tape → first_rows (tape ++ ranged lower upper ∷ []) ≡ first_rows tape
 first-ranged [] lower upper t = absurd t
 first-ranged (e ∷ es) lower upper t = refl
 
+-- an area with room on its tape stays lawful when a range is logged
 pub area-logged : (a : ℕ) (f b : Option ℤ) (inb : List Update) (sp : ℕ) (tape : List (Step Row)) (ms : List Held) (lower upper : Option Bound) → length tape < 4096 → IsAreaLawful (area_of a f b inb sp tape ms) → IsAreaLawful (area_of a f b inb sp (tape ++ ranged lower upper ∷ []) ms)
 area-logged a f b inb sp tape ms lower upper room w =
     let same = logged-ranged a tape lower upper in
@@ -74,10 +78,12 @@ apart-set ms i n apart fresh = λ k j d e lk lj kj bk bj.
     (λ k' f nk l j' e' l' ne b b'. set-each (λ (j'' : ℕ) (w : Held). k' ≢ j'' → w.is_blank ≡ false → (get_or ms k' f).tail ≢ w.tail) ms i n (λ _ bn. fresh bn k' f l nk b) (λ j'' g nj l2 ne2 bw. apart k' j'' f g l l2 ne2 b bw) j' e' l' ne b')
     k d lk j e lj kj bk bj
 
+-- where all boxes are blank, no two have maps of the same tail
 pub apart-blank : (ms : List Held) → All (λ m. m ≡ blank) ms → AreApart ms
 unfolding AreApart
 apart-blank ms blanks = λ i j d e li lj ne bi bj. let t : true ≡ false = sym (ap (λ (x : Held). x.is_blank) (blanks i d li)) ∙ bi in λ _. absurd (true≢false t)
 
+-- where no two boxes have maps of one tail, no two do of boxes that hold the same maps
 pub apart-same : (ms ns : List Held) → AreApart ms → AreSameMaps ms ns → AreApart ns
 unfolding AreApart
 apart-same ms ns apart same = λ i j d e li lj ne bi bj eq.
@@ -86,6 +92,7 @@ apart-same ms ns apart same = λ i j d e li lj ne bi bj eq.
     let sj = same.each j e e (omega arith) in
     apart i j d e (omega arith) (omega arith) ne (sym si.blank ∙ bi) (sym sj.blank ∙ bj) (sym si.tail ∙ eq ∙ sj.tail)
 
+-- boxes that hold the same maps as boxes with leases of some cells have such leases
 pub leases-same : (ms ns : List Held) → All HasLease ms → AreSameMaps ms ns → All HasLease ns
 leases-same ms ns leases same = λ k d lt b.
     let many = same.many in
@@ -99,6 +106,7 @@ old-place [] m (suc i) d b lt nb = absurd (omega (arith, lt))
 old-place (x ∷ ms) m zero d b lt nb = (omega arith, refl)
 old-place (x ∷ ms) m (suc i) d b lt nb = let r = old-place ms m i d b (omega (arith, lt)) nb in (omega (arith, r.0), r.1)
 
+-- with one blank box more there are still no two maps of the same tail
 pub apart-more : (ms : List Held) (m : Held) → m.is_blank ≡ true → AreApart ms → AreApart (ms ++ m ∷ [])
 unfolding AreApart
 apart-more ms m b apart = λ i j d e li lj ne bi bj eq.
@@ -138,13 +146,16 @@ area-supplied (Ok u) it a f b inb sp tape ms ns is w =
     (All-append HasLease ms (blank ∷ []) w.leases (all-one HasLease blank (λ b. absurd (true≢false b))))
     (apart-more ms blank refl w.apart) w)
 
+-- an area whose boxes got a blank one more, or not for want of memory, is supplied, or is as it was
 pub supplied-view : {A M : Type 0} (r : Result A (M × Refusal)) (it : M) (s : AreaState) (a : ℕ) (f b : Option ℤ) (inb : List Update) (sp : ℕ) (tape : List (Step Row)) (ms ns : List Held) → area_of a f b inb sp tape ms ≡ s → AreMoreOr r it ms ns → IsSuppliedOr r it s (area_of a f b inb sp tape ns)
 supplied-view (Ok u) it s a f b inb sp tape ms ns is more = ap (area_of a f b inb sp tape) more ∙ ap (λ (v : AreaState). record v { boxes = v.boxes ++ blank ∷ [] }) is
 supplied-view (Err back) it s a f b inb sp tape ms ns is more = (ap (area_of a f b inb sp tape) more.0 ∙ is, more.1, more.2)
 
+-- a blank map is lawful over each tape
 pub lawful-of_blank : (a : ℕ) (tape : List (Step Row)) (m : Held) → m ≡ blank → IsLawful a tape m
 lawful-of_blank a tape m e = subst (IsLawful a tape) (sym e) (lawful-blank a tape)
 
+-- a map that has just begun is lawful over each tape
 pub lawful-of_begun : (a : ℕ) (tape : List (Step Row)) (t : Tail) (n : ℕ) (m : Held) → m ≡ begun a t n → IsLawful a tape m
 lawful-of_begun a tape t n m e = subst (IsLawful a tape) (sym e) (lawful-aligned a tape _ (begun-aligned a tape t n))
 
@@ -165,6 +176,7 @@ area-begun a f b inb sp rows ns few fit rise within blanks receivable = record {
   receivable = subst (λ (v : List Row). AreReceivable a f b v rows inb) (sym (append-nil rows)) receivable;
 }
 
+-- an area with one load and all its boxes blank is the old one begun anew, and its shell is the same
 pub begun-shell : (s : AreaState) (a : ℕ) (f b : Option ℤ) (inb : List Update) (sp : ℕ) (tape new : List (Step Row)) (rows : List Row) (ms ns : List Held) → area_of a f b inb sp tape ms ≡ s → new ≡ loaded rows ∷ [] → length ns ≡ length ms → All (λ m. m ≡ blank) ns → IsSameShell s (area_of a f b inb sp new ns) × IsBegunAnew rows (area_of a f b inb sp new ns)
 begun-shell s a f b inb sp tape new rows ms ns is tapes many blanks = (
   record {
@@ -223,6 +235,7 @@ pub area-roomy : (a : ℕ) (f b : Option ℤ) (w v : Waiting) (tape : List (Step
 area-roomy a f b w v tape ms same l =
     area-waiting a f b w.updates v.updates w.spare v.spare tape ms (subst (AreReceivable a f b (brought tape) (logged_rows a tape)) (sym (ap (λ (x : Waiting). x.updates) same)) l.receivable) l
 
+-- an area whose inbox has other room alone is the old one with other room alone
 pub roomy-view : (s : AreaState) (a : ℕ) (f b : Option ℤ) (w v : Waiting) (tape : List (Step Row)) (ms : List Held) → area_over a f b w tape ms ≡ s → v ≡ record w { spare = v.spare } → area_over a f b v tape ms ≡ record s { spare = v.spare }
 roomy-view s a f b w v tape ms is same =
     ap (λ (l : List Update). area_of a f b l v.spare tape ms) (ap (λ (x : Waiting). x.updates) same) ∙ ap (λ (x : AreaState). record x { spare = v.spare }) is
@@ -265,10 +278,12 @@ pub tried-lawful : {U : Type 0} (r : Result U Refusal) (a : ℕ) (tape : List (S
 tried-lawful (Ok u) a tape t n m is = lawful-of_begun a tape t n m is
 tried-lawful (Err e) a tape t n m is = lawful-of_blank a tape m is.0
 
+-- a map that was to begin with some cells has a lease of them, or is blank
 pub tried-leased : {U : Type 0} (r : Result U Refusal) (a : ℕ) (t : Tail) (n : ℕ) (m : Held) → 0 < n → MatchResult r (λ _. m ≡ begun a t n) (λ e. (m ≡ blank) × IsBeginRefusal n e) → HasLease m
 tried-leased (Ok u) a t n m some is b = subst (λ (v : ℕ). 0 < v) (sym (ap (λ (x : Held). x.cells) is)) some
 tried-leased (Err e) a t n m some is b = blank-not b is.0
 
+-- if no other box has a map of the tail to begin, none has one of the tail of the map that began
 pub tried-fresh : {U : Type 0} (r : Result U Refusal) (a at : ℕ) (t : Tail) (n : ℕ) (m : Held) (ms : List Held) → MatchResult r (λ _. m ≡ begun a t n) (λ e. (m ≡ blank) × IsBeginRefusal n e) → IsFreshBut at t ms → m.is_blank ≡ false → IsFreshBut at m.tail ms
 tried-fresh (Ok u) a at t n m ms is fresh b = subst (λ (v : Tail). IsFreshBut at v ms) (sym (ap (λ (x : Held). x.tail) is)) fresh
 tried-fresh (Err e) a at t n m ms is fresh b = blank-not b is.0
@@ -279,6 +294,7 @@ area-tried r a f b inb sp tape ms ns i t n some fresh (m, begins, is) w =
     subst (λ (v : List Held). IsAreaLawful (area_of a f b inb sp tape v)) (sym is)
     (area-set a f b inb sp tape ms i m (tried-lawful r a tape t n m begins) (tried-leased r a t n m some begins) (tried-fresh r a i t n m ms begins fresh) w)
 
+-- an area of which one box was set to a map that was to begin has it made there, or the box is blank
 pub tried-view : {U : Type 0} (r : Result U Refusal) (s : AreaState) (a : ℕ) (f b : Option ℤ) (inb : List Update) (sp : ℕ) (tape : List (Step Row)) (ms ns : List Held) (i : ℕ) (t : Tail) (n : ℕ) → area_of a f b inb sp tape ms ≡ s → IsSetAt ms i (HasBegunOr r a t n) ns → HasMadeAt r i t n s (area_of a f b inb sp tape ns)
 tried-view (Ok u) s a f b inb sp tape ms ns i t n is (m, begins, e) =
     view-set s a f b inb sp tape ms ns i (begun s.attribute t n) is (e ∙ ap (set ms i) (begins ∙ ap (λ (v : AreaState). begun v.attribute t n) is))

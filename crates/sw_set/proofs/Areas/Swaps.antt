@@ -9,6 +9,7 @@ use Rattle.sw_map.specs.Held.{Held}
 use Rattle.sw_set.specs.Aligned.{AreSameMaps, IsAtEnd, IsSameMap}
 use Rattle.sw_set.proofs.Areas.Boxes.{get_or_any, held-at}
 
+-- what was done at each place while two items were swapped is done, once swapped back, to each at its own
 pub swapped-back : {X : Type 0} (R : X → X → Type 0) (xs ys zs ws : List X) (i j : ℕ) → length ys ≡ length xs → i < length xs → j < length xs → SwappedAt xs ys i j → ((k : ℕ) (d : X) → k < length ys → R (get_or ys k d) (get_or zs k d)) → SwappedAt zs ws i j → (k : ℕ) (d : X) → k < length xs → R (get_or xs k d) (get_or ws k d)
 swapped-back R xs ys zs ws i j many li lj there done back k d lt = at (eqb k i) refl
   where

@@ -20,6 +20,7 @@ use Rattle.sw_table.proofs.LiveLaws.{kept-fresh, kept-has, kept-lacks, kept-more
 use Rattle.sw_set.proofs.Areas.Longer.{brought-inserted, brought-removed, logged-inserted, logged-removed}
 use Rattle.sw_set.proofs.Areas.Shelves.{brought-ranged, first-ranged, logged-ranged}
 
+-- the list of the live rows is still that of the tape when the tape has one more range
 pub tied-ranged : (a : ℕ) (tape : List (Step Row)) (s : Standing) (lower upper : Option Bound) → IsTape tape → IsTied a tape s → IsTied a (tape ++ ranged lower upper ∷ []) s
 tied-ranged a tape s lower upper t w =
     let same = brought-ranged tape lower upper in
@@ -65,12 +66,15 @@ tied-inserted a tape s r t w =
 pub tied-came : (a : ℕ) (tape : List (Step Row)) (s : Standing) (load : List Row) → load ≡ first_rows tape → IsTied a tape s → load ++ s.later ≡ brought tape
 tied-came a tape s load is w = ap (λ (v : List Row). v ++ s.later) is ∙ w.came
 
+-- there is a flag for each row of the load and for each later one
 pub tied-many : (a : ℕ) (tape : List (Step Row)) (s : Standing) (load : List Row) → load ≡ first_rows tape → IsTied a tape s → length s.flags ≡ length (load ++ s.later)
 tied-many a tape s load is w = w.many ∙ ap length (sym (tied-came a tape s load is w))
 
+-- where the rows that came rise, the list of a tape's live rows is one of its load with flags
 pub tied-standing : (a : ℕ) (tape : List (Step Row)) (s : Standing) (load : List Row) → load ≡ first_rows tape → Rises key_of (brought tape) → IsTied a tape s → IsStandingOf load s
 tied-standing a tape s load is rise w = record { many = tied-many a tape s load is w; rise = subst (Rises key_of) (sym (tied-came a tape s load is w)) rise }
 
+-- the rows that the list has as live are the live rows of the tape
 pub tied-live : (a : ℕ) (tape : List (Step Row)) (s : Standing) (load : List Row) → load ≡ first_rows tape → IsTied a tape s → live_among load s ≡ logged_rows a tape
 tied-live a tape s load is w = ap (kept s.flags) (tied-came a tape s load is w) ∙ w.live
 

@@ -25,6 +25,7 @@ use Rattle.sw_set.proofs.Areas.Views.{IsOwn, all-own, any-at}
 pub keys-missing : (x : AreaState) → All (λ (m : Held). m.is_blank ≡ false → m.tail ≢ Key) x.boxes → LacksKeys x
 keys-missing x none = λ k d lt keys. absurd (none k d lt keys.0 keys.1)
 
+-- where the one key map has fewer cells than the tape's peak, no key map has room for it
 pub keys-small : (x : AreaState) (at : ℕ) → AreApart x.boxes → at < length x.boxes → IsOwn Key x.boxes at → ((d : Held) → (get_or x.boxes at d).cells < peak_from 0 x.tape) → LacksKeys x
 keys-small x at apart lt own small =
     let all = all-own x.boxes at Key (λ (m : Held). m.cells < peak_from 0 x.tape) apart lt own small in
@@ -47,6 +48,7 @@ keys-ready x m at p maps lt own ends =
 pub logged-at : (a b : ℕ) (t u : List (Step Row)) → b ≡ a → u ≡ t → logged_rows b u ≡ logged_rows a t
 logged-at a b t u e f = ap (λ (n : ℕ). logged_rows n u) e ∙ ap (logged_rows a) f
 
+-- a number up to 4096 is either below it or is it
 pub full-or-not : {P : Type 0} (n : ℕ) → n ≤ 4096 → (n < 4096 → P) → (n ≡ 4096 → P) → P
 full-or-not {P} n le room full = by (nat_lt n 4096) refl
   where
@@ -70,6 +72,7 @@ came-logged n r x z is h = subst (IsBelow n) (sym (ap brought is ∙ brought-ins
 came-loaded : (n : ℕ) (rows : List Row) (z : AreaState) → z.tape ≡ loaded rows ∷ [] → IsBelow n rows → IsBelow n (brought z.tape)
 came-loaded n rows z is h = subst (IsBelow n) (sym (ap brought is ∙ append-nil rows)) h
 
+-- when an update was merged no key came that exceeds its own and all that came before
 pub merged-came : (S : List (Step Row) → Type 0) (u : Update) (x z : AreaState) → length x.tape ≤ 4096 → IsMerged S u x z → (n : ℕ) → IsBelow n (came_then (brought x.tape) u) → IsBelow n (brought z.tape)
 merged-came S (Insert r) x z short w n h =
     full-or-not (length x.tape) short (λ room. came-logged n r x z (w.logged room).0 h)
@@ -83,6 +86,7 @@ merged-came S (Remove k) x z short (inr w) n h =
 pub shell-refl : (x : AreaState) → IsSameShell x x
 shell-refl x = record { attribute = refl; from = refl; below = refl; inbox = refl; spare = refl; many = refl }
 
+-- being the same area but for its tape and what its boxes hold is transitive
 pub shell-trans : (x y z : AreaState) → IsSameShell x y → IsSameShell y z → IsSameShell x z
 shell-trans x y z p q = record { attribute = q.attribute ∙ p.attribute; from = q.from ∙ p.from; below = q.below ∙ p.below; inbox = q.inbox ∙ p.inbox; spare = q.spare ∙ p.spare; many = q.many ∙ p.many }
 
@@ -90,6 +94,7 @@ merged-last : (S : List (Step Row) → Type 0) (us : List Update) (u : Update) (
 merged-last S [] u x y z is shell w = (z, subst (λ (v : AreaState). IsSameShell v z) is shell, subst (λ (v : AreaState). IsMerged S u v z) is w, refl)
 merged-last S (v ∷ us) u x y z (m, s, one, rest) shell w = (m, s, one, merged-last S us u m y z rest shell w)
 
+-- an area into which updates may be merged is, as it is, one with none of them merged yet
 pub upto-start : {S : List (Step Row) → Type 0} (us : List Update) (x : AreaState) → AreReceivable x.attribute x.from x.below (brought x.tape) (logged_rows x.attribute x.tape) us → IsMergedUpTo S us 0 x x
 upto-start {S} us x w = record { few = omega arith; shell = shell-refl x; merged = refl; rows = refl; came = λ n h. h; receivable = w }
 
@@ -99,9 +104,11 @@ next-receivable {S} us i u x y lt is w =
     let parts : drop i us ≡ u ∷ drop (i + 1) us = drop_more us i u lt ∙ ap (λ (v : Update). v ∷ drop (i + 1) us) (sym is) in
     subst (AreReceivable y.attribute y.from y.below (brought y.tape) (logged_rows y.attribute y.tape)) parts w.receivable
 
+-- an area that is merged up to an update may receive that update
 pub next-may : {S : List (Step Row) → Type 0} (us : List Update) (i : ℕ) (u : Update) (x y : AreaState) → i < length us → u ≡ get_or us i u → IsMergedUpTo S us i x y → MayReceive y.attribute y.from y.below (brought y.tape) (logged_rows y.attribute y.tape) u
 next-may {S} us i u x y lt is w = (next-receivable us i u x y lt is w).0
 
+-- when the next update is merged as well, the area is merged up to one place further
 pub upto-more : {S : List (Step Row) → Type 0} (us : List Update) (i : ℕ) (u : Update) (x y z : AreaState) → i < length us → u ≡ get_or us i u → length y.tape ≤ 4096 → IsMergedUpTo S us i x y → IsSameShell y z → IsMerged S u y z → IsMergedUpTo S us (i + 1) x z
 upto-more {S} us i u x y z lt is short w shell one =
     let more : take (i + 1) us ≡ take i us ++ u ∷ [] = take_more us i u lt ∙ ap (λ (v : Update). take i us ++ v ∷ []) (sym is) in

@@ -41,9 +41,11 @@ standing-place : (a : ℕ) (tape : List (Step Row)) (m : Held) (o : Option Bound
 standing-place a tape m None w s = tt
 standing-place a tape m (Some b) w s = found-stands a tape m (Some b) 0 w s
 
+-- the nearest bound of the tape below a value, if there is one, has a place in a map at the tape's end
 pub lower-place : (a : ℕ) (tape : List (Step Row)) (m : Held) (v : ℤ) (o : Option Bound) → IsMapAtEnd a tape m → IsNearestBelow (λ b. is_marked b tape) v o → HasCrackedAt o m
 lower-place a tape m v o w h = standing-place a tape m o w (below-stands tape v o h)
 
+-- the nearest bound of the tape above a value, if there is one, has a place in a map at the tape's end
 pub upper-place : (a : ℕ) (tape : List (Step Row)) (m : Held) (v : ℤ) (o : Option Bound) → IsMapAtEnd a tape m → IsNearestAbove (λ b. is_marked b tape) v o → HasCrackedAt o m
 upper-place a tape m v o w h = standing-place a tape m o w (above-stands tape v o h)
 

@@ -39,10 +39,12 @@ begun-same x y s w = record {
   brings = brings-less x y s.inbox (λ n h. subst (IsBelow n) (sym (ap brought w.tape ∙ append-nil (logged_rows x.attribute x.tape))) (logged-all (λ (r : Row). r.key < n) x.attribute x.tape h));
 }
 
+-- an area that was to begin anew with its live rows stands for the same rows, whether it did or not
 pub restarted-same : {U : Type 0} (r : Result U Refusal) (rows : List Row) (x y : AreaState) → rows ≡ logged_rows x.attribute x.tape → MatchResult r (λ _. IsSameShell x y × IsBegunAnew rows y) (λ e. (y ≡ x) × (e ≡ NoMemory)) → IsSameArea x y
 restarted-same (Ok u) rows x y are w = begun-same x y w.0 (subst (λ (v : List Row). IsBegunAnew v y) are w.1)
 restarted-same (Err e) rows x y are w = subst (IsSameArea x) (sym w.0) (same-area x)
 
+-- an area begun anew with its live rows has one load of them; or it is as it was, for want of memory
 pub restarted-tape : {U : Type 0} (r : Result U Refusal) (rows : List Row) (x y : AreaState) → rows ≡ logged_rows x.attribute x.tape → MatchResult r (λ _. IsSameShell x y × IsBegunAnew rows y) (λ e. (y ≡ x) × (e ≡ NoMemory)) → MatchResult r (λ _. y.tape ≡ loaded (logged_rows x.attribute x.tape) ∷ []) (λ e. (y ≡ x) × (e ≡ NoMemory))
 restarted-tape (Ok u) rows x y are w = w.1.tape ∙ ap (λ (v : List Row). loaded v ∷ []) are
 restarted-tape (Err e) rows x y are w = w
@@ -54,6 +56,7 @@ rows-less came live [] less = less
 rows-less came live (Insert r ∷ us) less = rows-less (came ++ r ∷ []) (live ++ r ∷ []) us (less-then came live (Insert r) less)
 rows-less came live (Remove k ∷ us) less = rows-less came (rows_then live (Remove k)) us (λ n h. all-without (λ (r : Row). r.key < n) k live (less n h))
 
+-- an area begun anew with all that waited stands for the same rows
 pub inbox-begun : (x y : AreaState) → IsBegunWithInbox x y → StandsForSame x y
 inbox-begun x y w = record {
   attribute = w.shell.attribute;
@@ -74,6 +77,7 @@ shell-same x y is = subst (IsSameShell x) (sym is) (shell-refl x)
 maps-same : (x y : AreaState) → y ≡ x → AreSameMaps x.boxes y.boxes
 maps-same x y is = subst (AreSameMaps x.boxes) (sym (ap (λ (v : AreaState). v.boxes) is)) (same-refl x.boxes)
 
+-- an area that did not change is the same but for how far its maps have gone
 pub tape-same : (x y : AreaState) → y ≡ x → IsSameTape x y
 tape-same x y is = record { shell = shell-same x y is; tape = ap (λ (v : AreaState). v.tape) is; maps = maps-same x y is }
 
@@ -92,15 +96,18 @@ maps-after ms ns os p q =
     let one = p.many in
     record { many = q.many ∙ p.many; each = λ k d e lt. same-trans _ _ _ (p.each k d d lt) (q.each k d e (omega (arith, one, lt))) }
 
+-- being the same area but for how far its maps have gone is transitive
 pub tape-after : (x m y : AreaState) → IsSameTape x m → IsSameTape m y → IsSameTape x y
 tape-after x m y p q = record { shell = shell-trans x m y p.shell q.shell; tape = q.tape ∙ p.tape; maps = maps-after x.boxes m.boxes y.boxes p.maps q.maps }
 
+-- where an update must have the area begun anew and the tape is the same, it is told as not logged
 pub not-logged : {S : List (Step Row) → Type 0} (u : Update) (x y : AreaState) → MustBegin S u x → IsSameTape x y → IsLoggedOrNot S u x y (Ok false)
 not-logged {S} u x y must same = record { shell = same.shell; ends = (must, same) }
 
 was-logged : {S : List (Step Row) → Type 0} (u : Update) (x y : AreaState) → IsSameShell x y → IsLogged u x y → IsLoggedOrNot S u x y (Ok true)
 was-logged {S} u x y shell logged = record { shell = shell; ends = logged }
 
+-- where there was no memory and the tape is the same, a refusal is told of an update
 pub not-told : {S : List (Step Row) → Type 0} (u : Update) (x y : AreaState) (e : Refusal) → e ≡ NoMemory → IsSameTape x y → IsLoggedOrNot S u x y (Err e)
 not-told {S} u x y e is same = record { shell = same.shell; ends = (is, same) }
 

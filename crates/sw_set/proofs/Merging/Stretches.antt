@@ -131,17 +131,21 @@ logged-merged : (S : List (Step Row) → Type 0) (u : Update) (x y : AreaState) 
 logged-merged S (Insert r) x y w = record { logged = λ _. (w.1, w.2); restarted = λ full. let room = w.0 in absurd (omega (arith, full, room)) }
 logged-merged S (Remove k) x y w = inl w
 
+-- an update that is told to be logged is merged
 pub told-logged : {S : List (Step Row) → Type 0} (u : Update) (x y : AreaState) (b : Bool) → b ≡ true → IsLoggedOrNot S u x y (Ok b) → IsMerged S u x y
 told-logged {S} u x y true e w = logged-merged S u x y w.ends
 told-logged {S} u x y false e w = absurd (true≢false (sym e))
 
+-- an update that is told not to be logged must have the area begun anew, whose tape is the same
 pub told-not : {S : List (Step Row) → Type 0} (u : Update) (x y : AreaState) (b : Bool) → b ≡ false → IsLoggedOrNot S u x y (Ok b) → MustBegin S u x × IsSameTape x y
 told-not {S} u x y true e w = absurd (true≢false e)
 told-not {S} u x y false e w = w.ends
 
+-- to merge the update at a place is to go on from there to the next place
 pub goes-one : {S : List (Step Row) → Type 0} (us : List Update) (at : ℕ) (u : Update) (x y : AreaState) → at < length us → u ≡ get_or us at u → length x.tape ≤ 4096 → IsSameShell x y → IsMerged S u x y → (at < at + 1) × (at + 1 ≤ length us) × GoesOn S us at (at + 1) x y
 goes-one {S} us at u x y lt is short shell merged = (omega arith, omega (arith, lt), λ first w. upto-more us at u first x y lt is short w shell merged)
 
+-- where an update must begin the area anew, a stretch from it on goes on to its end; or there was no memory
 pub goes-begun : (S : List (Step Row) → Type 0) (r : Result ℕ Refusal) (us : List Update) (at : ℕ) (u : Update) (x m y : AreaState) → at < length us → u ≡ get_or us at u → length x.tape ≤ 4096 → MustBegin S u x → IsSameTape x m → IsSameShell m y →
     MatchResult r (λ upto. IsStretch us at upto × IsBegunAnew (fold rows_then (logged_rows m.attribute m.tape) (take (upto - at) (drop at us))) y) (λ e. (e ≡ NoMemory) × (y ≡ m)) → MatchResult r (λ upto. (at < upto) × (upto ≤ length us) × GoesOn S us at upto x y) (λ e. (e ≡ NoMemory) × IsSameTape x y)
 goes-begun S (Ok upto) us at u x m y lt is short must same shell w =

@@ -40,6 +40,7 @@ stands-upper lower (Some b) tape = marked-push b tape (ranged lower (Some b)) �
 both-stand : (lower upper : Option Bound) (tape : List (Step Row)) → stands_if lower (tape ++ ranged lower upper ∷ []) && stands_if upper (tape ++ ranged lower upper ∷ []) ≡ true
 both-stand lower upper tape = ap (λ s. s && stands_if upper (tape ++ ranged lower upper ∷ [])) (stands-lower lower upper tape) ∙ stands-upper lower upper tape
 
+-- after a range was noted both of its bounds stand in ranges of the tape
 pub noted-stand : (lower upper : Option Bound) (rows : List Row) (old new : List (Step Row)) → length old ≤ 4096 → IsNoted lower upper rows old new → stands_if lower new && stands_if upper new ≡ true
 noted-stand lower upper rows old new few w = by (stands_if lower old && stands_if upper old) refl
   where
@@ -54,10 +55,12 @@ noted-stand lower upper rows old new few w = by (stands_if lower old && stands_i
             below : length old ≢ 4096 → length old < 4096
             below ne = omega (arith, few, ne)
 
+-- where two tests both pass, the left one does
 pub stands-left : (s t : Bool) → s && t ≡ true → s ≡ true
 stands-left true t e = refl
 stands-left false t e = absurd (true≢false (sym e))
 
+-- where two tests both pass, the right one does
 pub stands-right : (s t : Bool) → s && t ≡ true → t ≡ true
 stands-right true t e = e
 stands-right false t e = absurd (true≢false (sym e))
@@ -117,19 +120,23 @@ at-end_of x t at w (i, m, li, is, r) lt own d =
       at_end = ap (λ (v : Held). v.cursor) same ∙ r.at_end;
     }
 
+-- a bound that stands in a range of the tape, or is absent, has a place in a map at the tape's end
 pub found-stands : (a : ℕ) (tape : List (Step Row)) (m : Held) (bound : Option Bound) (absent : ℕ) → IsMapAtEnd a tape m → stands_if bound tape ≡ true → (i : ℕ) × IsFoundAt bound absent m i
 found-stands a tape m None absent w s = (absent, refl)
 found-stands a tape m (Some b) absent w s = let p = place-marked a tape b s in (p.0, ready-place a tape m b w.aligned w.at_end ∙ p.1)
 
+-- where a bound stands in a map at the tape's end is where it stands among the tape's rows
 pub place-found : (a : ℕ) (tape : List (Step Row)) (m : Held) (bound : Option Bound) (absent place : ℕ) → IsMapAtEnd a tape m → IsFoundAt bound absent m place → IsPlace bound absent (rows_by a tape) place
 place-found a tape m None absent place w f = f
 place-found a tape m (Some b) absent place w f = sym (ready-place a tape m b w.aligned w.at_end) ∙ f
 
+-- a map at the tape's end has as many pairs as the tape arranges rows
 pub pairs-at_end : (a : ℕ) (tape : List (Step Row)) (m : Held) → IsMapAtEnd a tape m → pairs_in m ≡ length (joined (rows_by a tape))
 pairs-at_end a tape m w =
     let rows : List Row = joined (rows_by a tape) in
     ap length (ready-joined a tape m w.aligned w.at_end) ∙ length-map rows (pair_in a m.tail)
 
+-- a bound that has a place in a map is not one that has none there
 pub found-none : {Y : Type 0} (bound : Option Bound) (b : Bound) (absent : ℕ) (m : Held) → bound ≡ Some b → None ≡ place_of b m.pairs → (i : ℕ) × IsFoundAt bound absent m i → Y
 found-none bound b absent m e none f =
     let f' : (i : ℕ) × IsFoundAt (Some b) absent m i = subst (λ (o : Option Bound). (i : ℕ) × IsFoundAt o absent m i) e f in
@@ -139,6 +146,7 @@ found-none bound b absent m e none f =
     some-is-not : {n : ℕ} → Some n ≡ None → ⊥
     some-is-not p = cc
 
+-- so many pairs are no more than the cells that are asked for them
 pub cells-enough : (n : ℕ) → n ≤ cells_for n
 cells-enough n = omega arith
 
@@ -149,8 +157,10 @@ key-missing tape tails ms maps key none = go (maps Key key)
     go : {Y : Type 0} → Any (IsReady Key tape) ms → Y
     go (i, m, li, is, r) = absurd (none i m li (ap (λ (v : Held). v.is_blank) is ∙ r.begun) (ap (λ (v : Held). v.tail) is ∙ r.tail_is))
 
+-- the cells that are asked for a number of pairs are enough for the same number
 pub room-enough : (p q n : ℕ) → p ≡ q → n ≡ cells_for q → p ≤ n
 room-enough p q n e is = subst (λ (v : ℕ). p ≤ v) (sym is) (subst (λ (v : ℕ). v ≤ cells_for q) (sym e) (cells-enough q))
 
+-- where each of the tails has a map of so many cells, a tail among them has one
 pub held-of : (tails : List Tail) (n : ℕ) (ms : List Held) (t : Tail) → All (λ t. IsHeld t n ms) tails → Contains tails t → IsHeld t n ms
 held-of tails n ms t all need = subst (λ (v : Tail). IsHeld v n ms) need.2 (all need.0 t need.1)

@@ -17,6 +17,7 @@ use Rattle.sw_set.specs.Needs.{attributes, is_tested, is_wanted, needed, needs_c
 use Rattle.sw_set.specs.Prepared.{IsReady}
 use Rattle.sw_set.specs.Choice.{HasCells, HasWanted}
 
+-- each query needs the key map
 pub key-needed : (head : ℕ) (q : Query) → Contains (needed head q) Key
 key-needed head q = (0, omega arith, refl)
 
@@ -31,6 +32,7 @@ mem-attribute (suc (suc (suc (suc (suc (suc zero)))))) l = inr (inr (inr (inr (i
 mem-attribute (suc (suc (suc (suc (suc (suc (suc zero))))))) l = inr (inr (inr (inr (inr (inr (inr (inl refl)))))))
 mem-attribute (suc (suc (suc (suc (suc (suc (suc (suc b)))))))) l = absurd (omega arith)
 
+-- what a function makes of a member is a member of the mapped list
 pub mem-map : {A B : Type 0} (f : A → B) (xs : List A) (x : A) → Mem x xs → Mem (f x) (map f xs)
 mem-map f [] x m = absurd m
 mem-map f (y ∷ ys) x (inl e) = inl (ap f e)
@@ -54,6 +56,7 @@ or-right : (b c : Bool) → c ≡ true → (b || c) ≡ true
 or-right true c e = refl
 or-right false c e = e
 
+-- a query needs the map of an attribute that is tested or wanted and is not the head
 pub cell-needed : (head : ℕ) (q : Query) (b : ℕ) → b < 8 → b ≢ head → (is_tested q.conds b || is_wanted q.want b) ≡ true → Contains (needed head q) (Cell b)
 cell-needed head q b l d e =
     let passes : needs_cell head q b ≡ true = ap (λ t. t && (is_tested q.conds b || is_wanted q.want b)) (not-equal b head d) ∙ e in

@@ -62,6 +62,7 @@ peak-few x w =
 pub same-area : (x : AreaState) → IsSameArea x x
 same-area x = record { attribute = refl; from = refl; below = refl; inbox = refl; spare = refl; logged = refl; many = refl; brings = λ n h. h }
 
+-- being the same area but for its boxes and its tape is transitive
 pub same-trans : (x y z : AreaState) → IsSameArea x y → IsSameArea y z → IsSameArea x z
 same-trans x y z p q = record { attribute = q.attribute ∙ p.attribute; from = q.from ∙ p.from; below = q.below ∙ p.below; inbox = q.inbox ∙ p.inbox; spare = q.spare ∙ p.spare; logged = q.logged ∙ p.logged; many = q.many ∙ p.many; brings = λ n h. q.brings n (p.brings n h) }
 
@@ -78,6 +79,7 @@ same-tape x y p = record {
   brings = brings-less x y p.inbox (λ n h. subst (λ (t : List (Step Row)). IsBelow n (brought t)) (sym p.tape) h);
 }
 
+-- an area that was to log one more range stands for the same rows, whether it was logged or not
 pub same-logged : {U : Type 0} (r : Result U Refusal) (lower upper : Option Bound) (x y : AreaState) → MatchResult r (λ _. y ≡ record x { tape = x.tape ++ ranged lower upper ∷ [] }) (λ e. (y ≡ x) × (e ≡ NoMemory)) → IsSameArea x y
 same-logged (Ok u) lower upper x y is = subst (IsSameArea x) (sym is) (record {
   attribute = refl;
@@ -91,13 +93,16 @@ same-logged (Ok u) lower upper x y is = subst (IsSameArea x) (sym is) (record {
 })
 same-logged (Err e) lower upper x y is = subst (IsSameArea x) (sym is.0) (same-area x)
 
+-- where both bounds stand in ranges of the tape, it is noted with them as it is
 pub noted-stood : (lower upper : Option Bound) (rows : List Row) (tape : List (Step Row)) → stands_if lower tape && stands_if upper tape ≡ true → IsNoted lower upper rows tape tape
 noted-stood lower upper rows tape is = record { stood = λ _. refl; added = λ f. absurd (true≢false (sym is ∙ f)); restarted = λ f. absurd (true≢false (sym is ∙ f)) }
 
+-- a tape with room that lacks one of the bounds is noted by one range more; or there was no memory
 pub noted-added : {U : Type 0} (r : Result U Refusal) (lower upper : Option Bound) (rows : List Row) (x y : AreaState) → stands_if lower x.tape && stands_if upper x.tape ≡ false → length x.tape < 4096 → MatchResult r (λ _. y ≡ record x { tape = x.tape ++ ranged lower upper ∷ [] }) (λ e. (y ≡ x) × (e ≡ NoMemory)) → MatchResult r (λ _. IsNoted lower upper rows x.tape y.tape) (λ e. (e ≡ NoMemory) × ((y.tape ≡ x.tape) ⊎ (y.tape ≡ loaded rows ∷ [])))
 noted-added (Ok u) lower upper rows x y is room w = record { stood = λ t. absurd (true≢false (sym t ∙ is)); added = λ _ _. ap (λ (v : AreaState). v.tape) w; restarted = λ _ full. absurd (omega arith) }
 noted-added (Err e) lower upper rows x y is room w = (w.1, inl (ap (λ (v : AreaState). v.tape) w.0))
 
+-- a full tape that lacks one of the bounds is noted by a range behind one load; or there was no memory
 pub noted-restarted : {U : Type 0} (r : Result U Refusal) (lower upper : Option Bound) (rows : List Row) (x z y : AreaState) → stands_if lower x.tape && stands_if upper x.tape ≡ false → length x.tape ≡ 4096 → z.tape ≡ loaded rows ∷ [] → MatchResult r (λ _. y ≡ record z { tape = z.tape ++ ranged lower upper ∷ [] }) (λ e. (y ≡ z) × (e ≡ NoMemory)) → MatchResult r (λ _. IsNoted lower upper rows x.tape y.tape) (λ e. (e ≡ NoMemory) × ((y.tape ≡ x.tape) ⊎ (y.tape ≡ loaded rows ∷ [])))
 noted-restarted (Ok u) lower upper rows x z y is full mid w = record { stood = λ t. absurd (true≢false (sym t ∙ is)); added = λ _ room. absurd (omega arith); restarted = λ _ _. ap (λ (s : AreaState). s.tape) w ∙ ap (λ (t : List (Step Row)). t ++ ranged lower upper ∷ []) mid }
 noted-restarted (Err e) lower upper rows x z y is full mid w = (w.1, inr (ap (λ (s : AreaState). s.tape) w.0 ∙ mid))

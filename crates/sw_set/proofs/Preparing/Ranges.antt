@@ -34,6 +34,7 @@ above-other k (r ∷ rs) h = (let p = h.0 in differ k r.key p, above-other k rs 
     differ : (k n : ℕ) → k < n → nat_eq k n ≡ false
     differ k n lt = grind (arith, lt)
 
+-- of rows that rise by key no two have the same key
 pub rising-distinct : (rows : List Row) → Rises key_of rows → IsDistinct nat_eq (map key_of rows)
 unfolding IsDistinct
 rising-distinct [] h = tt
@@ -251,10 +252,12 @@ by-touched {P} q x met other = by (is_touched x q) refl
     by true e = met e
     by false e = other e
 
+-- where an area is prepared with a range that is not empty, each needed map stands at the tape's end
 pub prepared-maps : (q : Query) (x : AreaState) (from upto : ℕ) → IsPreparedFor q x from upto → from < upto → (t : Tail) → Contains (needed x.attribute q) t → Any (IsReady t x.tape) x.boxes
 prepared-maps q x from upto p some t need =
     by-touched q x (λ e. (p.touched e).maps t need) (λ e. let none = p.untouched e in let lo = none.0 in let hi = none.1 in absurd (omega (arith, some, lo, hi)))
 
+-- the range of a prepared area, touched or not, is that of the rows that meet the first condition
 pub prepared-runs : (q : Query) (x : AreaState) (from upto : ℕ) → IsAreaLawful x → head_in q.conds ≡ x.attribute → IsPreparedFor q x from upto → IsRun (meets_first q.conds) (shown_rows x.attribute x.tape) from upto
 prepared-runs q x from upto w head p =
     by-touched q x (λ e. prepared-run x q.conds (needed x.attribute q) from upto w head e (p.touched e)) (λ e. subst (λ (k : ℕ). IsRun (meets_first q.conds) (shown_rows x.attribute x.tape) k upto) (sym (p.untouched e).0) (subst (λ (k : ℕ). IsRun (meets_first q.conds) (shown_rows x.attribute x.tape) 0 k) (sym (p.untouched e).1) (none e)))
@@ -268,5 +271,6 @@ prepared-runs q x from upto w head p =
       behind = λ k d lt. untouched-first x q.conds (get_or (shown_rows x.attribute x.tape) k d) head e (all-within x w k d lt);
     }
 
+-- an area in which nothing waits stands for the live rows of its tape
 pub rows-received : (x : AreaState) → x.inbox ≡ [] → rows_in x ≡ logged_rows x.attribute x.tape
 rows-received x e = ap (λ (us : List Update). fold rows_then (logged_rows x.attribute x.tape) us) e

@@ -23,6 +23,7 @@ filter-more p (x ∷ xs) ys = elim (p x) as (λ v. cond v (x ∷ filter p (xs ++
 taken-more : (b : ℕ) → b < 8 → take (b + 1) attributes ≡ take b attributes ++ b ∷ []
 taken-more b lt = take_more attributes b b lt ∙ ap (λ v. take b attributes ++ v ∷ []) (attribute-at b lt)
 
+-- the key's tail and those up to an attribute, with its own if it is needed, are those up to the next one
 pub tails-more : (p : ℕ → Bool) (b : ℕ) (old new : List Tail) → b < 8 → old ≡ Key ∷ map Cell (filter p (take b attributes)) → new ≡ old ++ map Cell (filter p (b ∷ [])) → new ≡ Key ∷ map Cell (filter p (take (b + 1) attributes))
 tails-more p b old new lt was is =
     let taken = taken-more b lt in
@@ -37,9 +38,11 @@ count-more p b many lt was =
     let both = length-append (filter p (take b attributes)) (filter p (b ∷ [])) in
     omega (arith, long, both, was)
 
+-- an attribute that is needed counts one tail more
 pub count-yes : (p : ℕ → Bool) (b many : ℕ) → b < 8 → p b ≡ true → many ≡ 1 + length (filter p (take b attributes)) → many + 1 ≡ 1 + length (filter p (take (b + 1) attributes))
 count-yes p b many lt holds was = subst (λ (v : Bool). many + length (cond v (b ∷ []) []) ≡ 1 + length (filter p (take (b + 1) attributes))) holds (count-more p b many lt was)
 
+-- an attribute that is not needed counts no tail more
 pub count-no : (p : ℕ → Bool) (b many : ℕ) → b < 8 → p b ≡ false → many ≡ 1 + length (filter p (take b attributes)) → many ≡ 1 + length (filter p (take (b + 1) attributes))
 count-no p b many lt fails was =
     let same : many + 0 ≡ 1 + length (filter p (take (b + 1) attributes)) = subst (λ (v : Bool). many + length (cond v (b ∷ []) []) ≡ 1 + length (filter p (take (b + 1) attributes))) fails (count-more p b many lt was) in
@@ -52,5 +55,6 @@ filter-few p (x ∷ xs) = let few = filter-few p xs in elim (p x) as (λ v. leng
 taken-few : (b : ℕ) → b < 8 → length (take b attributes) ≤ 8
 taken-few b lt = let few = length-take-le b attributes (omega (arith, lt)) in omega (arith, few, lt)
 
+-- there are at most nine tails, the key's among them
 pub count-few : (p : ℕ → Bool) (b many : ℕ) → b < 8 → many ≡ 1 + length (filter p (take b attributes)) → many ≤ 9
 count-few p b many lt was = let one = filter-few p (take b attributes) in let two = taken-few b lt in omega (arith, one, two, was)

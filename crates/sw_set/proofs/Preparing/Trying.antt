@@ -34,6 +34,7 @@ drop_one-other (z ∷ zs) zero x y lt is ne (suc k, l, e) = (k, omega arith, e)
 drop_one-other (z ∷ zs) (suc i) x y lt is ne (zero, l, e) = (zero, omega arith, e)
 drop_one-other (z ∷ zs) (suc i) x y lt is ne (suc k, l, e) = Contains-skip z (drop_one zs i) y (drop_one-other zs i x y (omega arith) is ne (k, omega arith, e))
 
+-- a list whose items differ and are all contained in another list is no longer than that
 pub pigeons : {X : Type 0} (xs ys : List X) → ((i j : ℕ) (d e : X) → i < length xs → j < length xs → i ≢ j → get_or xs i d ≢ get_or xs j e) → ((i : ℕ) (d : X) → i < length xs → Contains ys (get_or xs i d)) → length xs ≤ length ys
 pigeons [] ys apart into = omega arith
 pigeons (x ∷ xs) ys apart into =
@@ -67,6 +68,7 @@ pub record IsTrying (at : ℕ) (tails : List Tail) (t : Tail) (x0 x : AreaState)
   pub kept : AreNeededKept at tails x0.boxes x.boxes
   pub fresh : IsFreshBut at t x.boxes
 
+-- an area with no other box for the tail is, as it is, one whose box at a place is being begun
 pub trying-start : (at : ℕ) (tails : List Tail) (t : Tail) (x : AreaState) → IsFreshBut at t x.boxes → IsTrying at tails t x x
 unfolding AreNeededKept
 trying-start at tails t x fresh = record { same = record { attribute = refl; from = refl; below = refl; inbox = refl; spare = refl; tape = refl; many = refl }; kept = λ k d l n c. refl; fresh = fresh }
@@ -90,6 +92,7 @@ trying-clear at tails t x0 x y i is li un w = subst (IsTrying at tails t x0) (sy
   fresh = set-each (λ (j : ℕ) (v : Held). j ≢ at → v.is_blank ≡ false → v.tail ≢ t) x.boxes i blank (λ ne b. absurd (true≢false b)) (λ j e nj lj ne b. w.fresh j e lj ne b);
 })
 
+-- the item that was set at a place stands there
 pub get_or-set_here : {X : Type 0} (xs : List X) (i : ℕ) (y d : X) → i < length xs → get_or (set xs i y) i d ≡ y
 get_or-set_here [] i y d lt = let no : i < 0 = lt in absurd (omega arith)
 get_or-set_here (x ∷ xs) zero y d lt = refl
@@ -128,10 +131,12 @@ pub fresh-but-own : (ms : List Held) (at : ℕ) (t : Tail) → AreApart ms → a
 unfolding AreApart IsFreshBut
 fresh-but-own ms at t apart lt own = λ k d l ne b e. apart k at d d l lt ne b (own d).0 (e ∙ sym (own d).1)
 
+-- where no box has a map of the tail, no box but the one at a place has
 pub fresh-but-none : (ms : List Held) (at : ℕ) (t : Tail) → All (λ m. m.is_blank ≡ false → m.tail ≢ t) ms → IsFreshBut at t ms
 unfolding IsFreshBut
 fresh-but-none ms at t lacks = λ k d l ne b. lacks k d l b
 
+-- why a map could not begin is a reason why an area was not prepared
 pub wider-refusal : (b k n : ℕ) (e : Refusal) → IsBeginRefusal n e → IsPrepareRefusal b k n e
 wider-refusal b k n refusal.NoMemory r = r
 wider-refusal b k n (refusal.BadTable x y) r = absurd r
@@ -148,6 +153,7 @@ wider-refusal b k n refusal.Input r = absurd r
 wider-refusal b k n refusal.Output r = absurd r
 wider-refusal b k n (refusal.Ahead x y) r = absurd r
 
+-- if a map began, what follows from it is told with it; else why an area was not prepared
 pub either-ends : {U : Type 0} (r : Result U Refusal) (t : Tail) (b k n : ℕ) (ns : List Held) (K : Type 0) → MatchResult r (λ _. IsHeld t n ns) (λ e. IsBeginRefusal n e) → (IsHeld t n ns → K) → MatchResult r (λ _. IsHeld t n ns × K) (λ e. IsPrepareRefusal b k n e)
 either-ends (Ok u) t b k n ns K h f = (h, f h)
 either-ends (Err e) t b k n ns K h f = wider-refusal b k n e h
@@ -157,9 +163,11 @@ pub tried : {U : Type 0} (r : Result U Refusal) (at : ℕ) (tails : List Tail) (
 tried (Ok u) at tails t n x0 x y lt w is = (trying-at at tails t x0 x y _ is w, let many = w.same.many in subst (λ (v : AreaState). IsHeld t n v.boxes) (sym is) (held-begun x.attribute x.boxes at t n (omega arith)))
 tried (Err e) at tails t n x0 x y lt w is = (trying-at at tails t x0 x y _ is.0 w, is.1)
 
+-- being the same area but for its boxes is transitive
 pub same-area-trans : (x y z : AreaState) → IsSameButBoxes x y → IsSameButBoxes y z → IsSameButBoxes x z
 same-area-trans x y z p q = record { attribute = q.attribute ∙ p.attribute; from = q.from ∙ p.from; below = q.below ∙ p.below; inbox = q.inbox ∙ p.inbox; spare = q.spare ∙ p.spare; tape = q.tape ∙ p.tape; many = q.many ∙ p.many }
 
+-- when the next tail has its map and those that were there stay, each tail up to it has one
 pub held-so-far : (tails : List Tail) (i n : ℕ) (t : Tail) (ms ns : List Held) → (i < length tails) × (get_or tails i t ≡ t) → ((k : ℕ) (d : Tail) → k < i → k < length tails → IsHeld (get_or tails k d) n ms) → IsHeld t n ns → ((u : Tail) → Contains tails u → IsHeld u n ms → IsHeld u n ns) → (k : ℕ) (d : Tail) → k < i + 1 → k < length tails → IsHeld (get_or tails k d) n ns
 held-so-far tails i n t ms ns at before now kept k d lk l = by (eqb k i) refl
   where
@@ -175,6 +183,7 @@ abbrev pub one_if : Bool → ℕ
 one_if true = 1
 one_if false = 0
 
+-- how many boxes are blank
 abbrev pub blanks : List Held → ℕ
 blanks [] = 0
 blanks (m ∷ ms) = one_if m.is_blank + blanks ms
@@ -205,9 +214,11 @@ cleared-upto : (turn a b : ℕ) → (0 < turn → turn < a) → a ≤ b → 0 < 
 cleared-upto zero a b h le some = some
 cleared-upto (suc t) a b h le some = let l = h (omega arith) in omega (arith, l, le)
 
+-- before the first turn nothing is asked of how many boxes are blank
 pub cleared-none : (ms : List Held) → HasCleared 0 ms
 cleared-none ms = λ some. let none : 0 < 0 = some in absurd (omega (arith, none))
 
+-- where a box is set blank, and then one with a map, still more boxes are blank than there were turns
 pub cleared-more : (at i turn : ℕ) (x y z : AreaState) → at < length x.boxes → y ≡ record x { boxes = set x.boxes at blank } → z ≡ record y { boxes = set y.boxes i blank } → i < length y.boxes → ((d : Held) → (get_or y.boxes i d).is_blank ≡ false) → HasCleared turn x.boxes → HasCleared (turn + 1) z.boxes
 cleared-more at i turn x y z lt is1 is2 li begun h = λ _.
     let one = blanks-set x.boxes at lt in

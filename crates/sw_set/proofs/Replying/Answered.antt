@@ -34,6 +34,7 @@ filter-whole : {X : Type 0} (p : X → Bool) (xs : List X) → All (λ (x : X). 
 filter-whole p [] h = refl
 filter-whole p (x ∷ xs) h = let e = h 0 x (omega arith) in rw e (ap (λ v. x ∷ v) (filter-whole p xs (λ k d l. h (suc k) d (omega arith))))
 
+-- the items that pass a test are those of its run
 pub filter-run : {X : Type 0} (p : X → Bool) (xs : List X) (from upto : ℕ) → IsRun p xs from upto → filter p xs ≡ slice_range xs from upto
 filter-run p xs from upto run =
     let range = slice_range xs from upto in
@@ -45,6 +46,7 @@ kept-test : {X : Type 0} (q : X → Bool) (xs : List X) → kept (map q xs) xs �
 kept-test q [] = refl
 kept-test q (x ∷ xs) = elim (q x) as (λ b. cond b (x ∷ kept (map q xs) xs) (kept (map q xs) xs) ≡ cond b (x ∷ filter q xs) (filter q xs)) [ true ↦ ap (λ v. x ∷ v) (kept-test q xs) | false ↦ kept-test q xs ]
 
+-- what the truth values of a test choose are the items that pass it
 pub chosen-test : {X : Type 0} (q : X → Bool) (xs : List X) (o : Option (List Bool)) → AreOf q xs o → chosen o xs ≡ filter q xs
 chosen-test q xs None h = sym (filter-whole q xs h)
 chosen-test q xs (Some bs) h = ap (λ v. kept v xs) h ∙ kept-test q xs
@@ -61,6 +63,7 @@ first-further : (cs : List Cond) (xs : List Row) → filter (meets_all (further 
 first-further [] xs = filter-both (λ r. true) (meets_all []) xs
 first-further (c ∷ cs) xs = filter-both (λ r. meets r c) (meets_all cs) xs
 
+-- of the run of the first condition those that meet the further ones are those that meet all
 pub range-matching : (cs : List Cond) (items : List Row) (from upto : ℕ) (o : Option (List Bool)) → IsRun (meets_first cs) items from upto → AreOf (meets_all (further cs)) (slice_range items from upto) o → chosen o (slice_range items from upto) ≡ filter (meets_all cs) items
 range-matching cs items from upto o run are =
     chosen-test (meets_all (further cs)) (slice_range items from upto) o are ∙ ap (filter (meets_all (further cs))) (sym (filter-run (meets_first cs) items from upto run)) ∙ first-further cs items
@@ -133,6 +136,7 @@ told-answer cs (want.Max a) items rows told once rises h = h ∙ ap reply.Least 
 
 -- ---- of no rows
 
+-- the answer over no rows is a reply over no rows
 pub told-nothing : (w : Want) → IsReplyOver [] w (answer_over [] w)
 told-nothing (want.Rows names) = ([], refl, record { moved = IsPermutation-refl []; sorted = λ i j d l m. absurd (omega arith) })
 told-nothing want.Count = refl
@@ -140,6 +144,7 @@ told-nothing (want.Sum a) = refl
 told-nothing (want.Min a) = refl
 told-nothing (want.Max a) = refl
 
+-- where the run of the first condition is empty, no row meets all conditions
 pub none-matching : (cs : List Cond) (items : List Row) (from upto : ℕ) → IsRun (meets_first cs) items from upto → from ≡ upto → filter (meets_all cs) items ≡ []
 none-matching cs items from upto run e =
     let none : slice_range items from upto ≡ [] = ap (λ (n : ℕ). take n (drop from items)) (let z : upto - from ≡ 0 = omega arith in z) in

@@ -39,6 +39,7 @@ total-from z (y ∷ ys) =
     let rest = total-from (pos 0 +ℤ y) ys in
     first ∙ (let e : z +ℤ y +ℤ total ys ≡ z +ℤ (pos 0 +ℤ y +ℤ total ys) = omega (arith, ints) in e) ∙ ap (λ v. z +ℤ v) (sym rest)
 
+-- what so many cells may sum to and what others may sum to is, added, what both may sum to
 pub sum-of-both : (p m : ℕ) (s z : ℤ) → IsSumOf p s → IsSumOf m z → IsSumOf (p + m) (s +ℤ z)
 sum-of-both p m s z a b = (omega (arith, ints, a.0, b.0), omega (arith, ints, a.1, b.1))
 

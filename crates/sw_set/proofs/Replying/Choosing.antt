@@ -9,6 +9,7 @@ use Rattle.sw_table.proofs.LiveLaws.{kept-nil, kept-step}
 use Rattle.sw_set.proofs.Replying.Least.{greatest-both, least-both}
 use Rattle.sw_set.specs.Choice.{chosen, either_or, is_chosen}
 
+-- what is chosen of one item more ends with that item, if it is chosen
 pub chosen-more : {X : Type 0} (o : Option (List Bool)) (xs : List X) (i : ℕ) (d : X) → i < length xs → chosen o (take (i + 1) xs) ≡ chosen o (take i xs) ++ cond (is_chosen o i) (get_or xs i d ∷ []) []
 chosen-more None xs i d lt = take_more xs i d lt
 chosen-more (Some bs) xs i d lt = kept-step bs xs i d lt
@@ -19,9 +20,11 @@ total-if : (zs : List ℤ) (b : Bool) (z : ℤ) → total (zs ++ cond b (z ∷ [
 total-if zs true z = fold-append ◌+ℤ◌ (pos 0) zs (z ∷ [])
 total-if zs false z = ap total (append-nil zs)
 
+-- the sum of what is chosen grows by one more value, if it is chosen
 pub total_more : (o : Option (List Bool)) (xs : List ℤ) (i : ℕ) (d : ℤ) → i < length xs → total (chosen o (take (i + 1) xs)) ≡ cond (is_chosen o i) (total (chosen o (take i xs)) +ℤ get_or xs i d) (total (chosen o (take i xs)))
 total_more o xs i d lt = ap total (chosen-more o xs i d lt) ∙ total-if (chosen o (take i xs)) (is_chosen o i) (get_or xs i d)
 
+-- the sum of one value more is the sum of those before and that value
 pub total_next : (xs : List ℤ) (i : ℕ) (d : ℤ) → i < length xs → total (take (i + 1) xs) ≡ total (take i xs) +ℤ get_or xs i d
 total_next xs i d lt = total_more None xs i d lt
 
@@ -33,12 +36,15 @@ greatest-if : (zs : List ℤ) (b : Bool) (z : ℤ) → greatest (zs ++ cond b (z
 greatest-if zs true z = sym (greatest-both zs (z ∷ []))
 greatest-if zs false z = ap greatest (append-nil zs)
 
+-- the least of what is chosen takes in one more value, if it is chosen
 pub least_more : (o : Option (List Bool)) (xs : List ℤ) (i : ℕ) (d : ℤ) → i < length xs → least (chosen o (take (i + 1) xs)) ≡ cond (is_chosen o i) (either_or int_min (least (chosen o (take i xs))) (Some (get_or xs i d))) (least (chosen o (take i xs)))
 least_more o xs i d lt = ap least (chosen-more o xs i d lt) ∙ least-if (chosen o (take i xs)) (is_chosen o i) (get_or xs i d)
 
+-- the greatest of what is chosen takes in one more value, if it is chosen
 pub greatest_more : (o : Option (List Bool)) (xs : List ℤ) (i : ℕ) (d : ℤ) → i < length xs → greatest (chosen o (take (i + 1) xs)) ≡ cond (is_chosen o i) (either_or int_max (greatest (chosen o (take i xs))) (Some (get_or xs i d))) (greatest (chosen o (take i xs)))
 greatest_more o xs i d lt = ap greatest (chosen-more o xs i d lt) ∙ greatest-if (chosen o (take i xs)) (is_chosen o i) (get_or xs i d)
 
+-- of no items none is chosen
 pub chosen_nil : {X : Type 0} (o : Option (List Bool)) → chosen o (let e : List X = [] in e) ≡ []
 chosen_nil None = refl
 chosen_nil (Some bs) = kept-nil bs

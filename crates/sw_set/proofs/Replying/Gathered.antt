@@ -22,11 +22,13 @@ pub record Within {X : Type 0} (x : X) (xs : List X) : Type 0 where
   pub behind : List X
   pub whole : xs ≡ before ++ x ∷ behind
 
+-- a member of a list has what stands before it and behind it
 pub within-mem : {X : Type 0} (x : X) (xs : List X) → Mem x xs → Within x xs
 within-mem x [] m = absurd m
 within-mem x (y ∷ ys) (inl e) = record { before = []; behind = ys; whole = ap (λ v. v ∷ ys) (sym e) }
 within-mem x (y ∷ ys) (inr m) = let w = within-mem x ys m in record { before = y ∷ w.before; behind = w.behind; whole = ap (λ v. y ∷ v) w.whole }
 
+-- what stands in the middle of a list is a member
 pub mem-middle : {X : Type 0} (us : List X) (x : X) (vs : List X) → Mem x (us ++ x ∷ vs)
 mem-middle [] x vs = inl refl
 mem-middle (u ∷ us) x vs = inr (mem-middle us x vs)
@@ -38,15 +40,18 @@ mem-others [] x vs y (inr m) = inr m
 mem-others (u ∷ us) x vs y (inl e) = inr (inl e)
 mem-others (u ∷ us) x vs y (inr m) = elim (mem-others us x vs y m) [ inl e ↦ inl e | inr n ↦ inr (inr n) ]
 
+-- what is a member without the one in the middle is a member with it
 pub mem-again : {X : Type 0} (us : List X) (x : X) (vs : List X) (y : X) → Mem y (us ++ vs) → Mem y (us ++ x ∷ vs)
 mem-again [] x vs y m = inr m
 mem-again (u ∷ us) x vs y (inl e) = inl e
 mem-again (u ∷ us) x vs y (inr m) = inr (mem-again us x vs y m)
 
+-- where no number is there twice, none is without the one in the middle
 pub apart-others : {X : Type 0} (key : X → ℕ) (us : List X) (x : X) (vs : List X) → Apart key (us ++ x ∷ vs) → Apart key (us ++ vs)
 apart-others key [] x vs a = a.1
 apart-others key (u ∷ us) x vs a = (λ y m. a.0 y (mem-again us x vs y m), apart-others key us x vs a.1)
 
+-- where no number is there twice, no other member has that of the one in the middle
 pub apart-middle : {X : Type 0} (key : X → ℕ) (us : List X) (x : X) (vs : List X) → Apart key (us ++ x ∷ vs) → (y : X) → Mem y (us ++ vs) → key y ≢ key x
 apart-middle key [] x vs a y m = a.0 y m
 apart-middle key (u ∷ us) x vs a y (inl e) = λ same. a.0 x (mem-middle us x vs) (sym same ∙ ap key e)
@@ -114,15 +119,18 @@ apart-all key n (x ∷ xs) a y (inl e) = λ same. differs n (key x) a.0 (sym sam
     differs m k e = grind (arith, nat_tests)
 apart-all key n (x ∷ xs) a y (inr m) = apart-all key n xs a.1 y m
 
+-- where the numbers of items are distinct, no two items have the same number
 pub apart-distinct : {X : Type 0} (key : X → ℕ) (xs : List X) → IsDistinct nat_eq (map key xs) → Apart key xs
 unfolding IsDistinct
 apart-distinct key [] d = tt
 apart-distinct key (x ∷ xs) d = (apart-all key (key x) xs d.0, apart-distinct key xs d.1)
 
+-- in a list that rises by number no two items have the same number
 pub apart-rises : {X : Type 0} (key : X → ℕ) (xs : List X) → Rises key xs → Apart key xs
 apart-rises key [] r = tt
 apart-rises key (x ∷ xs) r = (λ y m. let lt : key x < key y = all-mem (λ v. key x < key v) xs y r.0 m in λ same. omega arith, apart-rises key xs r.1)
 
+-- items that are just these rising rows, each once, have the same members, none of them twice
 pub same-once : {X : Type 0} (key : X → ℕ) (items rows : List X) → HoldsOnce key items rows → Rises key rows → Same key items rows
 same-once key items rows h r =
     let w = held-from_once key items rows h in
@@ -130,25 +138,32 @@ same-once key items rows h r =
 
 -- ---- count, sum, least and greatest are gathered
 
+-- a count with one item more, whichever it is
 abbrev pub count_in : ℕ → ℕ → ℕ
 count_in one n = 1 + n
 
+-- the least so far, with one number more
 abbrev pub lesser_of : ℤ → Option ℤ → Option ℤ
 lesser_of z None = Some z
 lesser_of z (Some l) = Some (int_min z l)
 
+-- the greatest so far, with one number more
 abbrev pub larger_of : ℤ → Option ℤ → Option ℤ
 larger_of z None = Some z
 larger_of z (Some l) = Some (int_max z l)
 
+-- two items may be counted in either order
 pub count-swaps : (a b n : ℕ) → count_in a (count_in b n) ≡ count_in b (count_in a n)
 count-swaps a b n = refl
 
+-- two numbers may be added to a sum in either order
 pub total-swaps : (a b z : ℤ) → a +ℤ (b +ℤ z) ≡ b +ℤ (a +ℤ z)
 total-swaps a b z = omega (arith, ints)
 
+-- two numbers may be taken into a least in either order
 pub min-swaps : (a b c : ℤ) → int_min a (int_min b c) ≡ int_min b (int_min a c)
 min-swaps a b c = grind (arith, ints)
 
+-- two numbers may be taken into a greatest in either order
 pub max-swaps : (a b c : ℤ) → int_max a (int_max b c) ≡ int_max b (int_max a c)
 max-swaps a b c = grind (arith, ints)

@@ -27,6 +27,7 @@ rises-tail k x xs y ys e r v m (inl q) =
     absurd (omega arith)
 rises-tail k x xs y ys e r v m (inr n) = n
 
+-- two lists that rise strictly and have the same members are the same list
 pub rising-unique : {X : Type 0} (k : X → ℕ) (xs ys : List X) → Rises k xs → Rises k ys → ((x : X) → Mem x xs → Mem x ys) → ((x : X) → Mem x ys → Mem x xs) → xs ≡ ys
 rising-unique k [] [] r s to back = refl
 rising-unique k [] (y ∷ ys) r s to back = absurd (back y (inl refl))
@@ -40,6 +41,7 @@ rises-all : {X : Type 0} (P : X → Type 0) (p : X → Bool) (xs : List X) → A
 rises-all P p [] a = tt
 rises-all P p (x ∷ xs) a = elim (p x) as (λ b. AllByRecursion P (cond b (x ∷ filter p xs) (filter p xs))) [ true ↦ (a.0, rises-all P p xs a.1) | false ↦ rises-all P p xs a.1 ]
 
+-- the items of a rising list that pass a test rise
 pub rises-filter : {X : Type 0} (k : X → ℕ) (p : X → Bool) (xs : List X) → Rises k xs → Rises k (filter p xs)
 rises-filter k p [] r = tt
 rises-filter k p (x ∷ xs) r = elim (p x) as (λ b. Rises k (cond b (x ∷ filter p xs) (filter p xs))) [ true ↦ (rises-all (λ y. k x < k y) p xs r.0, rises-filter k p xs r.1) | false ↦ rises-filter k p xs r.1 ]
@@ -49,6 +51,7 @@ rises-filter k p (x ∷ xs) r = elim (p x) as (λ b. Rises k (cond b (x ∷ filt
 apart-filter-head : {X : Type 0} (key : X → ℕ) (p : X → Bool) (x : X) (xs : List X) → ((y : X) → Mem y xs → key y ≢ key x) → (y : X) → Mem y (filter p xs) → key y ≢ key x
 apart-filter-head key p x xs h y m = h y (mem-filtered p xs y m).0
 
+-- where no two items have the same number, no two of those that pass a test have
 pub apart-filter : {X : Type 0} (key : X → ℕ) (p : X → Bool) (xs : List X) → Apart key xs → Apart key (filter p xs)
 apart-filter key p [] a = tt
 apart-filter key p (x ∷ xs) a = elim (p x) as (λ b. Apart key (cond b (x ∷ filter p xs) (filter p xs))) [ true ↦ (apart-filter-head key p x xs a.0, apart-filter key p xs a.1) | false ↦ apart-filter key p xs a.1 ]
@@ -60,6 +63,7 @@ strictly k n (x ∷ xs) le d =
     let b = d x (inl refl) in
     (omega arith, strictly k n xs (λ j e lt. le (suc j) e (omega arith)) (λ y m. d y (inr m)))
 
+-- a list that does not fall and in which no number is there twice rises
 pub rises-sorted : {X : Type 0} (k : X → ℕ) (xs : List X) → IsNonDecreasingBy k xs → Apart k xs → Rises k xs
 rises-sorted k [] s a = tt
 rises-sorted k (x ∷ xs) s a = (

@@ -17,11 +17,13 @@ min-groups x y z = grind (arith, ints)
 max-groups : (x y z : ℤ) → int_max x (int_max y z) ≡ int_max (int_max x y) z
 max-groups x y z = grind (arith, ints)
 
+-- the lesser of the leasts of two lists is the least of both together
 pub least-both : (xs ys : List ℤ) → either_or int_min (least xs) (least ys) ≡ least (xs ++ ys)
 least-both [] ys = refl
 least-both (x ∷ xs) [] = ap least (sym (append-nil (x ∷ xs)))
 least-both (x ∷ xs) (y ∷ ys) = ap Some (fold-out int_min min-groups (fold int_min x xs) y ys ∙ sym (fold-append int_min x xs (y ∷ ys)))
 
+-- the greater of the greatests of two lists is the greatest of both together
 pub greatest-both : (xs ys : List ℤ) → either_or int_max (greatest xs) (greatest ys) ≡ greatest (xs ++ ys)
 greatest-both [] ys = refl
 greatest-both (x ∷ xs) [] = ap greatest (sym (append-nil (x ∷ xs)))

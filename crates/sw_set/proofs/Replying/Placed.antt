@@ -3,10 +3,12 @@ use Rattle.std.proofs.Common.{◌≡◌, ℕ, zero, suc, ◌+◌, ◌<◌, ℤ, 
 use Rattle.sw_set.specs.Choice.{chosen, is_chosen, placed}
 use Rattle.sw_set.proofs.Replying.Choosing.{chosen_yes, chosen_no}
 
+-- there are as many numbers with their places as there are numbers
 pub length-placed : (n : ℕ) (ks : List ℤ) → length (placed n ks) ≡ length ks
 length-placed n [] = refl
 length-placed n (k ∷ ks) = ap suc (length-placed (suc n) ks)
 
+-- at a place stands the number without its sign, and beside it that place, counted from the first one's
 pub get_or-placed : (n : ℕ) (ks : List ℤ) (i : ℕ) (d : ℕ × ℤ) (p : ℕ × ℕ) → i < length ks → get_or (placed n ks) i p ≡ (unsigned_abs (get_or ks i (pos 0)), n + i)
 get_or-placed n [] i d p lt = let no : i < 0 = lt in absurd (omega arith)
 get_or-placed n (k ∷ ks) zero d p lt = ap (λ (m : ℕ). (unsigned_abs k, m)) (let e : n ≡ n + 0 = omega arith in e)

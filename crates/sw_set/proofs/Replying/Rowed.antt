@@ -18,11 +18,13 @@ use Rattle.sw_set.proofs.Replying.Told.{chosen-map, range-at, range-long}
 
 -- ---- where columns reach
 
+-- a column of a value of each row has at least so many places where there are so many rows
 pub column-inside : (ms : List Held) (c : Column) (f : Row → ℤ) (rows : List Row) (n : ℕ) → IsColumn ms c (map f rows) → n ≤ length rows → IsInside ms n c
 column-inside ms c f rows n is le =
     let long = sym (side-long c.side (get_or ms c.at blank)) ∙ ap length is.values_are ∙ length-map rows f in
     record { box = is.inside; places = omega (arith, long) }
 
+-- the value at a place of a column of rows is that of the row there
 pub column-value : (ms : List Held) (c : Column) (f : Row → ℤ) (rows : List Row) (p : ℕ) (d : Row) → IsColumn ms c (map f rows) → p < length rows → value_in ms c p ≡ f (get_or rows p d)
 column-value ms c f rows p d is lt = ap (λ (v : List ℤ). get_or v p (pos 0)) is.values_are ∙ get_or-map f rows p d (pos 0) lt
 
@@ -44,6 +46,7 @@ placed-below n [] p m = absurd m
 placed-below n (k ∷ ks) p (inl e) = let q : p.1 ≡ n = ap (λ (v : ℕ × ℕ). v.1) e in omega (arith, q)
 placed-below n (k ∷ ks) p (inr m) = let h = placed-below (suc n) ks p m in omega (arith, h)
 
+-- each place that was found is below the end of the numbers, however the found ones are ordered
 pub found-below : (o : Option (List Bool)) (n : ℕ) (ks : List ℤ) (found sorted : List (ℕ × ℕ)) (k : ℕ) (d : ℕ × ℕ) → found ≡ chosen o (placed n ks) → IsPermutation found sorted → k < length sorted → (get_or sorted k d).1 < n + length ks
 found-below o n ks found sorted k d is moved lt =
     let p = get_or sorted k d in
@@ -53,6 +56,7 @@ found-below o n ks found sorted k d is moved lt =
 
 -- ---- the rows
 
+-- two functions that are alike on each item of a list map it to the same list
 pub maps-same : {A B : Type 0} (f g : A → B) (xs : List A) → ((k : ℕ) (d : A) → k < length xs → f (get_or xs k d) ≡ g (get_or xs k d)) → map f xs ≡ map g xs
 maps-same f g [] h = refl
 maps-same f g (x ∷ xs) h =
@@ -60,6 +64,7 @@ maps-same f g (x ∷ xs) h =
     let rest = maps-same f g xs (λ k d l. h (suc k) d (omega arith)) in
     cc
 
+-- where columns have the cells of rows from a place on, what is put together there is those rows, projected
 pub rows-placed : (ms : List Held) (cs : List Column) (names : List ℕ) (n : ℕ) (xs : List Row) → ((j : ℕ) (d : Row) → j < length xs → (k a : ℕ) → k < length names → value_in ms (column_at cs (get_or names k a)) (n + j) ≡ cell_of (get_or names k a) (get_or xs j d)) → map (row_in ms cs names) (placed n (map (λ (r : Row). pos r.key) xs)) ≡ map (projected names) xs
 rows-placed ms cs names n [] h = refl
 rows-placed ms cs names n (x ∷ xs) h =
@@ -76,6 +81,7 @@ rows-found ms cs names rows o from upto are le within =
     ∙ ap (chosen o) (rows-placed ms cs names from range (λ j d l k a m. column-value ms (column_at cs (get_or names k a)) (cell_of (get_or names k a)) rows (from + j) d (are k a m) (omega (arith, long)) ∙ ap (cell_of (get_or names k a)) (sym (range-at rows from upto j d (omega (arith, long))))))
     ∙ chosen-map (projected names) o range
 
+-- put together by the places that were found, sorted by key, are the chosen rows of the range in key order
 pub in-key-order : (ms : List Held) (cs : List Column) (names : List ℕ) (rows : List Row) (o : Option (List Bool)) (from upto : ℕ) (found sorted : List (ℕ × ℕ)) (told : List ReplyRow) → All (λ (a : ℕ). IsColumn ms (column_at cs a) (column a rows)) names → from ≤ upto → upto ≤ length rows → found ≡ chosen o (placed from (map (λ (r : Row). pos r.key) (slice_range rows from upto))) → IsPermutation found sorted → IsNonDecreasingBy (λ (p : ℕ × ℕ). p.0) sorted → told ≡ map (row_in ms cs names) sorted → AreInKeyOrder (map (projected names) (chosen o (slice_range rows from upto))) told
 in-key-order ms cs names rows o from upto found sorted told are le within is moved rise was =
     let same = ap (map (row_in ms cs names)) is ∙ rows-found ms cs names rows o from upto are le within in

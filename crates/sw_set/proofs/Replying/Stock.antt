@@ -22,14 +22,17 @@ any-none h P (x ∷ xs) none a =
     let lt : a.0 < length (x ∷ xs) = omega (arith, a.2, length-map (x ∷ xs) h) in
     none a.0 x lt (subst P (sym a.3 ∙ get_or-map h (x ∷ xs) a.0 x a.1 lt) a.4)
 
+-- items shown as something else are, joined, the joined items shown so
 pub joined-shown : {A B : Type 0} (f : A → B) (a : Arrangement A) → joined (shown f a) ≡ map f (joined a)
 joined-shown f (last xs) = refl
 joined-shown f (piece xs b rest) = ap (λ v. map f xs ++ v) (joined-shown f rest) ∙ sym (map-append f xs (joined rest))
 
+-- the heads of the pairs of rows are the cells of the head
 pub heads-shown : (a : ℕ) (t : Tail) (rows : List Row) → map (λ (p : ℤ × ℤ). p.0) (map (pair_in a t) rows) ≡ map (cell_of a) rows
 heads-shown a t [] = refl
 heads-shown a t (r ∷ rs) = ap (λ v. cell_of a r ∷ v) (heads-shown a t rs)
 
+-- the tails of the pairs of rows are what the tail shows of each row
 pub tails-shown : (a : ℕ) (t : Tail) (rows : List Row) → map (λ (p : ℤ × ℤ). p.1) (map (pair_in a t) rows) ≡ map (tail_value t) rows
 tails-shown a t [] = refl
 tails-shown a t (r ∷ rs) = ap (λ v. tail_value t r ∷ v) (tails-shown a t rs)
@@ -39,6 +42,7 @@ unfolding IsLawful
 no-blank a tape m (inl e) b = let no = sym (ap (λ (x : Held). x.is_blank) e) ∙ b in cc
 no-blank a tape m (inr l) b = l
 
+-- a lawful map at the tape's end has the pairs of the rows that maps show there, in order
 pub ready-pairs : (a : ℕ) (t : Tail) (tape : List (Step Row)) (m : Held) → IsLawful a tape m → IsReady t tape m → joined m.pairs ≡ map (pair_in a t) (shown_rows a tape)
 ready-pairs a t tape m w r =
     let l = no-blank a tape m w r.begun in
@@ -62,6 +66,7 @@ module _ {X : Type 0} (h : X → Held) (xs : List X) (a : ℕ) (tape : List (Ste
 
 -- ---- the columns of a range
 
+-- what the box at a place holds stands at that place in the list of what they hold
 pub held-at : {X : Type 0} (h : X → Held) (xs : List X) (at : ℕ) (x : X) → at < length xs → x ≡ get_or xs at x → h x ≡ get_or (map h xs) at blank
 held-at h xs at x lt is = ap h is ∙ sym (get_or-map h xs at x blank lt)
 
@@ -75,18 +80,22 @@ map-drop f zero xs = refl
 map-drop f (suc n) [] = refl
 map-drop f (suc n) (x ∷ xs) = map-drop f n xs
 
+-- the range of a list, mapped, is that range of the mapped list
 pub map-range : {A B : Type 0} (f : A → B) (xs : List A) (from upto : ℕ) → map f (slice_range xs from upto) ≡ slice_range (map f xs) from upto
 map-range f xs from upto = map-take f (upto - from) (drop from xs) ∙ ap (take (upto - from)) (map-drop f from xs)
 
+-- the range of a box's column has the values of the rows in that range
 pub column-range : {X : Type 0} (h : X → Held) (xs : List X) (c : Column) (x : X) (f : Row → ℤ) (rows : List Row) (from upto : ℕ) → IsColumn (map h xs) c (map f rows) → x ≡ get_or xs c.at x → slice_range (side_in c.side (h x)) from upto ≡ map f (slice_range rows from upto)
 column-range h xs c x f rows from upto is at =
     let lt : c.at < length xs = omega (arith, is.inside, length-map xs h) in
     ap (λ (m : Held). slice_range (side_in c.side m) from upto) (held-at h xs c.at x lt at) ∙ ap (λ (v : List ℤ). slice_range v from upto) is.values_are ∙ sym (map-range f rows from upto)
 
+-- a side of a map has as many values as the map has pairs
 pub side-long : (s : Side) (m : Held) → length (side_in s m) ≡ pairs_in m
 side-long Head m = length-map (joined m.pairs) (λ (p : ℤ × ℤ). p.0)
 side-long tail_side m = length-map (joined m.pairs) (λ (p : ℤ × ℤ). p.1)
 
+-- a box with a column of rows has as many pairs as there are rows
 pub column-long : {X : Type 0} (h : X → Held) (xs : List X) (c : Column) (x : X) (f : Row → ℤ) (rows : List Row) → IsColumn (map h xs) c (map f rows) → x ≡ get_or xs c.at x → pairs_in (h x) ≡ length rows
 column-long h xs c x f rows is at =
     let lt : c.at < length xs = omega (arith, is.inside, length-map xs h) in
