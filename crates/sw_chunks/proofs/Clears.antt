@@ -28,13 +28,16 @@ sum-set f (x ∷ xs) (suc k) v d lt =
 abbrev cells_of : AreaState → ℕ
 cells_of x = cells_among x.boxes
 
+-- by whether a box is blank, one if it has a map and zero if not
 abbrev pub one-if : Bool → ℕ
 one-if true = 0
 one-if false = 1
 
+-- how many boxes of an area have maps
 abbrev pub maps_of : AreaState → ℕ
 maps_of x = sum_by (λ (m : Held). one-if m.is_blank) x.boxes
 
+-- how many boxes of areas have maps
 abbrev pub maps_in : List AreaState → ℕ
 maps_in xs = sum_by maps_of xs
 
@@ -71,6 +74,7 @@ pub record AreClearing (but cells : ℕ) (xs ys : List AreaState) (came : ℕ) :
   pub cells_are : cells_in ys + freed ≡ cells_in xs
   pub none : cells ≡ 0 → ys ≡ xs
 
+-- before the first map is cleared the areas are as they were and no cells came back
 pub clear-none : (but cells : ℕ) (xs : List AreaState) → AreClearing but cells xs xs 0
 clear-none but cells xs =
     record {
@@ -82,6 +86,7 @@ clear-none but cells xs =
       none = λ z. refl;
     }
 
+-- one map more is cleared, in an area that is not the spared one, and fewer maps are left
 pub clear-next : (but cells k : ℕ) (xs ys : List AreaState) (v : AreaState) (came c more : ℕ) → came < cells → k < length ys → k ≢ but → ((d : AreaState) → HasMap (get_or ys k d)) → ((d : AreaState) → IsSameButBoxes (get_or ys k d) v) → ((d : AreaState) → IsOneCleared (get_or ys k d).boxes v.boxes c) → more ≡ min (came + c) 18446744073709551615 → AreClearing but cells xs ys came → AreClearing but cells xs (slice_set ys k v) more × (maps_in (slice_set ys k v) < maps_in ys)
 clear-next but cells k xs ys v came c more some lt ne has same one is w = (
   record {
@@ -126,6 +131,7 @@ clear-next but cells k xs ys v came c more some lt ne has same one is w = (
             (boxes-both (get_or xs k d) (get_or ys k d) v (w.same.1 k d d (subst (λ (n : ℕ). n < length xs) (same-place j k q) l)) (same d)))
         by false q = subst (IsSameButBoxes (get_or xs j d)) (sym (set-other ys k j v e (other-place j k q))) (w.same.1 j d e l)
 
+-- where enough cells came back, or no other area has a map, the maps are cleared that were to be
 pub clear-enough : (but cells : ℕ) (xs ys : List AreaState) (came : ℕ) → AreClearing but cells xs ys came → (cells ≤ came) ⊎ AreBlankBut but ys → AreClearedBut but cells xs ys came
 clear-enough but cells xs ys came w end =
     record { same = w.same; kept = w.kept; freed = w.freed; told = w.told; cells_are = w.cells_are; enough = end; none = w.none }

@@ -83,9 +83,11 @@ owners-next a cuts rows n d os o lt is at =
 pub part-keys : (a : ℕ) (rows : List Row) (i : Interval) (P : Row → Type 0) → All P rows → All P (part_of a rows i)
 part-keys a rows i P h = All-filter (lies_within a i.0 i.1) P rows h
 
+-- the rows of an interval rise by key where all rows do
 pub part-rises : (a : ℕ) (rows : List Row) (i : Interval) → Rises key_of rows → Rises key_of (part_of a rows i)
 part-rises a rows i r = rises-filter key_of (lies_within a i.0 i.1) rows r
 
+-- each row of the part of an interval lies in it
 pub part-within : (a : ℕ) (rows : List Row) (i : Interval) → All (λ (r : Row). lies_within a i.0 i.1 r ≡ true) (part_of a rows i)
 part-within a rows i = filter_passes (lies_within a i.0 i.1) rows
 
@@ -106,9 +108,11 @@ looked-up cuts k (Some x) i le at = ap Some (at.1 (pos 0)) ∙ sym (ends-at cuts
 pub starts-next : (cuts : List ℤ) (k : ℕ) (i : Interval) → k + 1 ≤ length cuts → (get_or (intervals cuts) k i).1 ≡ (get_or (intervals cuts) (k + 1) i).0
 starts-next cuts k i le = ends-at cuts k i (omega (arith, le)) ∙ sym (starts-at cuts k i (omega (arith, le)))
 
+-- an interval that is not the first starts where the one before it ends
 pub starts-after : (cuts : List ℤ) (j k : ℕ) (i : Interval) → 1 ≤ k → j ≡ k - 1 → k ≤ length cuts → (get_or (intervals cuts) j i).1 ≡ (get_or (intervals cuts) k i).0
 starts-after cuts j k i one e le = let next : j + 1 ≡ k = omega (arith, one, e) in starts-next cuts j i (omega (arith, next, le)) ∙ ap (λ (n : ℕ). (get_or (intervals cuts) n i).0) next
 
+-- the first interval has no start
 pub no-start : (cuts : List ℤ) (k : ℕ) (i : Interval) → (1 ≤ k → ⊥) → None ≡ (get_or (intervals cuts) k i).0
 no-start cuts zero i h = sym (starts-none cuts i)
 no-start cuts (suc k) i h = absurd (h (omega arith))
@@ -123,5 +127,6 @@ part-ends a rows i from below xs f b e =
 abbrev area-with : ℕ → Option ℤ → Option ℤ → List Row → AreaState
 area-with a from below xs = record { attribute = a; from = from; below = below; inbox = []; spare = 0; tape = loaded xs ∷ []; boxes = [] }
 
+-- an area with an interval's ends and its rows is the area that is opened for it
 pub area-opened : (a : ℕ) (rows : List Row) (i : Interval) (from below : Option ℤ) (xs : List Row) → from ≡ i.0 → below ≡ i.1 → xs ≡ part_of a rows i → area-with a from below xs ≡ opened_area a rows i
 area-opened a rows i from below xs f b e = ap (λ v. area-with a v below xs) f ∙ ap (λ v. area-with a i.0 v xs) b ∙ ap (λ v. area-with a i.0 i.1 v) e

@@ -83,6 +83,7 @@ abbrev pub count-in : Reply → ℕ
 count-in (reply.Count n) = n
 count-in r = 0
 
+-- the sum that a reply tells, or zero where it tells none
 abbrev pub sum-in : Reply → ℤ
 sum-in (reply.Sum z) = z
 sum-in r = pos 0
@@ -143,9 +144,11 @@ live-came P came live (update.Insert r ∷ us) less h =
     live-came P (came ++ r ∷ []) (live ++ r ∷ []) us (λ all. All-append P live (r ∷ []) (less (all-left P came (r ∷ []) all)) (all-right P came (r ∷ []) all)) h
 live-came P came live (update.Remove k ∷ us) less h = live-came P came (without k live) us (λ all. all-without P k live (less all)) h
 
+-- the rows that updates leave are of their types where all that came are
 pub rows-fit : (us : List Update) → All RowFits (given_by us) → All RowFits (rows_of us)
 rows-fit us h = live-came RowFits [] [] us (λ all. all) h
 
+-- the replies of a head's areas, joined one after the other, stay within the bits of a reply
 pub areas_fit : (us : List Update) (a : ℕ) (cuts : List ℤ) (xs : List AreaState) (q : Query) → AreAreasOf a cuts xs → StandsFor us a cuts xs → All RowFits (given_by us) → head_in q.conds ≡ a → AreasFit q (answer_over [] q.want) xs
 areas_fit us a cuts xs q w s fit head =
     subst (λ (f : Reply). AreasFit q f xs) (ap (λ l. answer l q) (none-before a (rows_of us)))

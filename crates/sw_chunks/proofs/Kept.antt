@@ -8,18 +8,22 @@ use Rattle.sw_set.specs.Shelf.{Rises, came_then, key_of}
 use Rattle.sw_chunks.specs.Places.{find_place, owners_added, owners_kept, owners_of, owners_then, place_by}
 use Rattle.sw_chunks.proofs.Receipt.{owners-before, owners-more, owners-rise}
 
+-- without cuts no owners are kept
 pub kept_none : (a : ℕ) (cuts : List ℤ) (rows : List Row) → length cuts ≡ 0 → owners_kept a cuts rows ≡ []
 kept_none a [] rows e = refl
 kept_none a (c ∷ cs) rows e = absurd (omega (arith, e))
 
+-- with cuts the owners of all rows are kept
 pub kept_some : (a : ℕ) (cuts : List ℤ) (rows : List Row) → length cuts ≢ 0 → owners_kept a cuts rows ≡ owners_of a cuts rows
 kept_some a [] rows e = absurd (e refl)
 kept_some a (c ∷ cs) rows e = refl
 
+-- without cuts updates add no owners
 pub added_none : (a : ℕ) (cuts : List ℤ) (os : List (ℕ × ℕ)) (vs : List Update) → length cuts ≡ 0 → owners_added a cuts os vs ≡ os
 added_none a [] os vs e = refl
 added_none a (c ∷ cs) os vs e = absurd (omega (arith, e))
 
+-- with cuts updates add the owners of the rows that come
 pub added_some : (a : ℕ) (cuts : List ℤ) (os : List (ℕ × ℕ)) (vs : List Update) → length cuts ≢ 0 → owners_added a cuts os vs ≡ fold (owners_then a cuts) os vs
 added_some a [] os vs e = absurd (e refl)
 added_some a (c ∷ cs) os vs e = refl
@@ -29,10 +33,12 @@ pub kept-more : (a : ℕ) (cuts : List ℤ) (rows : List Row) (vs : List Update)
 kept-more a [] rows vs = refl
 kept-more a (c ∷ cs) rows vs = owners-more a (c ∷ cs) rows vs
 
+-- the owners that were kept stand before those that updates add
 pub kept-before : (a : ℕ) (cuts : List ℤ) (os : List (ℕ × ℕ)) (vs : List Update) → take (length os) (owners_added a cuts os vs) ≡ os
 kept-before a [] os vs = take_all (length os) os (omega arith)
 kept-before a (c ∷ cs) os vs = owners-before a (c ∷ cs) os vs
 
+-- the owners that are kept of rows with rising keys rise by key
 pub kept-rise : (a : ℕ) (cuts : List ℤ) (rows : List Row) → Rises key_of rows → Rises (λ (o : ℕ × ℕ). o.0) (owners_kept a cuts rows)
 kept-rise a [] rows r = tt
 kept-rise a (c ∷ cs) rows r = owners-rise a (c ∷ cs) rows r

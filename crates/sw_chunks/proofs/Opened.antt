@@ -26,6 +26,7 @@ came-after (r ∷ rows) came = came-after rows (came ++ r ∷ []) ∙ append_ass
 pub rows-opened : (rows : List Row) → rows_of (map update.Insert rows) ≡ rows
 rows-opened rows = rows-after rows []
 
+-- the rows that came by the insertions of rows are these rows
 pub given-opened : (rows : List Row) → given_by (map update.Insert rows) ≡ rows
 given-opened rows = came-after rows []
 

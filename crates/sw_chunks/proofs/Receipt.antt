@@ -39,6 +39,7 @@ map-two f g (x ∷ xs) [] m each = absurd (omega (arith, m))
 map-two f g (x ∷ xs) (y ∷ ys) m each =
     ap (λ b. b ∷ map f xs) (each 0 x y (omega arith)) ∙ ap (λ l. g y ∷ l) (map-two f g xs ys (omega (arith, m)) (λ k d e lt. each (suc k) d e (omega (arith, lt))))
 
+-- there are as many areas as intervals
 pub areas-many : (a : ℕ) (cuts : List ℤ) (xs : List AreaState) → AreAreasOf a cuts xs → length xs ≡ length (intervals cuts)
 areas-many a cuts xs w = sym (map-length interval_of xs) ∙ ap length w.intervals_are
 
@@ -66,6 +67,7 @@ live-sub us r m = of-all (rows_of us) (live-came (λ (x : Row). Mem x (given_by 
     of-all (x ∷ xs) h (inl e) = subst (λ (t : Row). Mem t (given_by us)) (sym e) (h 0 x (omega arith))
     of-all (x ∷ xs) h (inr m) = of-all xs (λ k d lt. h (suc k) d (omega (arith, lt))) m
 
+-- the rows that came by updates and by more are those that came before, with those that come by these
 pub given-more : (us vs : List Update) → given_by (us ++ vs) ≡ fold came_then (given_by us) vs
 given-more us vs = fold-append came_then [] us vs
 
@@ -79,6 +81,7 @@ owners-more a cuts rows (update.Insert r ∷ vs) = ap (λ l. fold (owners_then a
     map-last (x ∷ rows) r = ap (λ l. owner_of a cuts x ∷ l) (map-last rows r)
 owners-more a cuts rows (update.Remove k ∷ vs) = owners-more a cuts rows vs
 
+-- the owners that were there stand before those of rows that come
 pub owners-before : (a : ℕ) (cuts : List ℤ) (os : List (ℕ × ℕ)) (vs : List Update) → take (length os) (fold (owners_then a cuts) os vs) ≡ os
 owners-before a cuts os vs = let more = longer os vs in ap (take (length os)) more.1 ∙ taken os more.0
   where
@@ -91,6 +94,7 @@ owners-before a cuts os vs = let more = longer os vs in ap (take (length os)) mo
     taken [] ps = refl
     taken (o ∷ os) ps = ap (λ l. o ∷ l) (taken os ps)
 
+-- the owners of rows with rising keys rise by key
 pub owners-rise : (a : ℕ) (cuts : List ℤ) (rows : List Row) → Rises key_of rows → Rises (λ (o : ℕ × ℕ). o.0) (owners_of a cuts rows)
 owners-rise a cuts [] r = tt
 owners-rise a cuts (x ∷ rows) r = (above x.key rows r.0, owners-rise a cuts rows r.1)
@@ -129,6 +133,7 @@ within a cuts came live (update.Remove k ∷ vs) rise w all_rise sub =
 pub given-rise : (us vs : List Update) (a : ℕ) → MayFollow a us vs → Rises key_of (given_by us) → Rises key_of (given_by (us ++ vs))
 given-rise us vs a may rise = subst (Rises key_of) (sym (given-more us vs)) (came-rise a None None (given_by us) (rows_of us) vs may rise)
 
+-- each update that may follow goes to the place of an area
 pub all-within : (us vs : List Update) (a : ℕ) (cuts : List ℤ) (xs : List AreaState) → AreAreasOf a cuts xs → MayFollow a us vs → Rises key_of (given_by us) → All (λ (p : ℕ). p < length xs) (map (place_by a cuts (owners_of a cuts (given_by (us ++ vs)))) vs)
 all-within us vs a cuts xs w may rise =
     rw (areas-many a cuts xs w, given-more us vs)
@@ -150,6 +155,7 @@ attribute-at a cuts xs k d w lt = w.attributes k d lt
 rows-at : (us : List Update) (a : ℕ) (cuts : List ℤ) (xs : List AreaState) (k : ℕ) (d : AreaState) → AreAreasOf a cuts xs → StandsFor us a cuts xs → k < length xs → rows_in (get_or xs k d) ≡ filter (lies_within (get_or xs k d).attribute (get_or xs k d).from (get_or xs k d).below) (rows_of us)
 rows-at us a cuts xs k d w s lt = its-rows us a cuts xs k d w s lt ∙ ap (λ n. filter (lies_within n (get_or xs k d).from (get_or xs k d).below) (rows_of us)) (sym (attribute-at a cuts xs k d w lt))
 
+-- each area may receive those of the updates that are sent to its place
 pub may-be-sent : (us vs : List Update) (a : ℕ) (cuts : List ℤ) (xs : List AreaState) → AreAreasOf a cuts xs → StandsFor us a cuts xs → MayFollow a us vs → Rises key_of (given_by us) → (k : ℕ) (d : AreaState) → k < length xs → MayBeSent k (map (place_by a cuts (owners_of a cuts (given_by (us ++ vs)))) vs) vs (get_or xs k d)
 may-be-sent us vs a cuts xs w s may rise k d lt =
     let x : AreaState = get_or xs k d in let e = attribute-at a cuts xs k d w lt in
@@ -164,6 +170,7 @@ stands-at us vs a cuts xs ys w s may rise was k d e lt =
     handed_stands us vs x y (subst (λ (n : ℕ). MayFollow n us vs) (sym q) may) (rows-at us a cuts xs k d w s lt) (s.came k d lt)
     (was k d e lt ∙ ap (λ l. record x { inbox = x.inbox ++ l; spare = y.spare }) (sent-is us vs a cuts xs k d w s may rise lt ∙ ap (λ n. routed (lies_within n x.from x.below) (rows_in x) vs) (sym q)))
 
+-- areas to which updates were sent stand for all updates, and but for what waits they are as they were
 pub received : (us vs : List Update) (a : ℕ) (cuts : List ℤ) (xs ys : List AreaState) → AreAreasOf a cuts xs → StandsFor us a cuts xs → MayFollow a us vs → Rises key_of (given_by us) → length ys ≡ length xs → ((k : ℕ) (d e : AreaState) → k < length xs → IsSent k (map (place_by a cuts (owners_of a cuts (given_by (us ++ vs)))) vs) vs (get_or xs k d) (get_or ys k e)) → AreAreasOf a cuts ys × StandsFor (us ++ vs) a cuts ys × AreEach IsSameButInbox xs ys
 received us vs a cuts xs ys w s may rise m was = (
   record {

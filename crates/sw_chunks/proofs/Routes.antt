@@ -31,6 +31,7 @@ other-key-up j k lt = grind (arith, nat_tests, lt)
 turned : (j k : ℕ) → (j == k) ≡ (k == j)
 turned j k = grind (arith, nat_tests)
 
+-- among rows with rising keys the place to be found for a row's key is that of the row
 pub place-found : (a : ℕ) (cuts : List ℤ) (rows : List Row) (r : Row) → Rises key_of rows → Mem r rows → find_place r.key (owners_of a cuts rows) ≡ place_of_row a cuts r
 place-found a cuts [] r rise m = absurd m
 place-found a cuts (x ∷ rows) r rise (inl e) = rw (same-key x.key r.key (ap key_of (sym e))) (ap (place_of_row a cuts) (sym e))
@@ -61,6 +62,7 @@ has-part p (x ∷ rows) r rise (inr m) = by (p x) refl (has-part p rows r rise.1
     by true q rest = rw q (rw (other-key-up x.key r.key above) rest)
     by false q rest = rw q rest
 
+-- a key that rows have is that of one of them
 pub live-row : (k : ℕ) (rows : List Row) → has_key k rows ≡ true → (r : Row) × Mem r rows × (r.key ≡ k)
 live-row k [] h = absurd (true≢false (sym h))
 live-row k (x ∷ rows) h = by (k == x.key) refl (live-row k rows)
@@ -91,6 +93,7 @@ all-of-mem n came live sub h = λ k d lt. below came h (get_or live k d) (sub (g
     below (x ∷ xs) h r (inl e) = subst (λ (t : Row). t.key < n) (sym e) (h 0 x (omega arith))
     below (x ∷ xs) h r (inr m) = below xs (λ k d lt. h (suc k) d (omega (arith, lt))) r m
 
+-- the updates that are sent to an interval's place are those that are routed to its rows
 pub sent-routed : (a j : ℕ) (cuts : List ℤ) (i : Interval) (came live : List Row) (vs : List Update) → RiseAbove None cuts → j < length (intervals cuts) → get_or (intervals cuts) j i ≡ i → AreReceivable a None None came live vs → Rises key_of (fold came_then came vs) → Rises key_of live → ((r : Row) → Mem r live → Mem r came) → sent j (map (place_by a cuts (owners_of a cuts (fold came_then came vs))) vs) vs ≡ routed (lies_within a i.0 i.1) (filter (lies_within a i.0 i.1) live) vs
 sent-routed a j cuts i came live [] rise lt at w all_rise live_rise sub = refl
 sent-routed a j cuts i came live (update.Insert r ∷ vs) rise lt at w all_rise live_rise sub = by (lies_within a i.0 i.1 r) refl

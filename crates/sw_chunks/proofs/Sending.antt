@@ -64,9 +64,11 @@ count-other k p ps ne = by (p == k) refl
     by true q = absurd (ne (same p k q))
     by false q = rw q refl
 
+-- where areas have room for what is sent to them, and may receive it, all of it may be handed over
 pub sent-none : (ps : List ℕ) (us : List Update) (xs : List AreaState) → ((k : ℕ) (d : AreaState) → k < length xs → MayBeSent k ps us (get_or xs k d)) → ((k : ℕ) (d : AreaState) → k < length xs → count_at k ps ≤ (get_or xs k d).spare) → ArePartlySent 0 ps us xs xs
 sent-none ps us xs may room = record { many = refl; each = λ k d e lt. subst (λ (y : AreaState). IsPartlySent k 0 ps us (get_or xs k d) y) (get-any xs k d e lt) (record { area = refl; inbox = refl; may = may k d lt; room = room k d lt }) }
 
+-- when all updates were handed over, what is sent to each area's place waits there
 pub sent-all : (i : ℕ) (ps : List ℕ) (us : List Update) (xs ys : List AreaState) → length us ≡ length ps → length us ≤ i → ArePartlySent i ps us xs ys → (k : ℕ) (d e : AreaState) → k < length xs → IsSent k ps us (get_or xs k d) (get_or ys k e)
 sent-all i ps us xs ys m le w k d e lt =
     let s = w.each k d e lt in
@@ -147,6 +149,7 @@ next-room i p ps us xs ys d lt at-p within w =
     let counted : count_at p (drop i ps) ≡ 1 + count_at p (drop (i + 1) ps) = ap (count_at p) (drop-at ps i 0 lt ∙ ap (λ n. n ∷ drop (i + 1) ps) at-p) ∙ count-here p p (drop (i + 1) ps) refl in
     omega (arith, room, counted)
 
+-- the area at the next place may receive the next update
 pub next-may : (i p : ℕ) (ps : List ℕ) (us : List Update) (u : Update) (xs ys : List AreaState) (d : AreaState) → i < length us → length ps ≡ length us → get_or ps i 0 ≡ p → get_or us i u ≡ u → p < length xs → ArePartlySent i ps us xs ys → AreReceivable (get_or ys p d).attribute (get_or ys p d).from (get_or ys p d).below (came_in (get_or ys p d)) (rows_in (get_or ys p d)) (u ∷ [])
 next-may i p ps us u xs ys d lt m at-p at-u within w =
     let y : AreaState = get_or ys p d in
@@ -161,9 +164,11 @@ get-any-of [] k d e lt = absurd (omega (arith, lt))
 get-any-of (x ∷ xs) zero d e lt = refl
 get-any-of (x ∷ xs) (suc k) d e lt = get-any-of xs k d e (omega (arith, lt))
 
+-- the area at the next place may receive what stands there in the list of updates
 pub next-may-at : (i p : ℕ) (ps : List ℕ) (us : List Update) (u : Update) (xs ys : List AreaState) (d : AreaState) → i < length us → length ps ≡ length us → get_or ps i 0 ≡ p → p < length xs → ArePartlySent i ps us xs ys → AreReceivable (get_or ys p d).attribute (get_or ys p d).from (get_or ys p d).below (came_in (get_or ys p d)) (rows_in (get_or ys p d)) (get_or us i u ∷ [])
 next-may-at i p ps us u xs ys d lt m at-p within w = next-may i p ps us (get_or us i u) xs ys d lt m at-p (get-any-of us i (get_or us i u) u lt) within w
 
+-- when what stands next in the list waits in the area at its place, one update more is handed over
 pub sent-next-at : (i p : ℕ) (ps : List ℕ) (us : List Update) (u : Update) (xs ys : List AreaState) (r v : AreaState) → i < length us → length ps ≡ length us → get_or ps i 0 ≡ p → p < length xs → ArePartlySent i ps us xs ys → v ≡ record (get_or ys p r) { inbox = (get_or ys p r).inbox ++ get_or us i u ∷ []; spare = v.spare } → (get_or ys p r).spare ≤ v.spare + 1 → ArePartlySent (i + 1) ps us xs (slice_set ys p v)
 sent-next-at i p ps us u xs ys r v lt m at-p within w is spare =
     sent-next i p ps us (get_or us i u) xs ys v lt m (λ d. get-any-of ps i d 0 (omega (arith, lt, m)) ∙ at-p) (λ d. get-any-of us i d u lt) within w

@@ -28,6 +28,7 @@ pub record AreShedTo (most k : ℕ) (xs ys : List AreaState) (gone : ℕ) : Type
 shelf-alike : (x : AreaState) → IsSameButShelf x x
 shelf-alike x = record { attribute = refl; from = refl; below = refl; inbox = refl; spare = refl; tape = refl }
 
+-- before the first area is asked no box is gone
 pub shed-none : (most : ℕ) (xs : List AreaState) → AreShedTo most 0 xs xs 0
 shed-none most xs =
     record {
@@ -180,10 +181,12 @@ shelf-set at xs r v within is k d e lt = by (nat_eq k at) refl
 abbrev pub with_box : AreaState → AreaState
 with_box x = record x { boxes = x.boxes ++ blank ∷ [] }
 
+-- an area that got one box more, or was refused it, is the same but for its boxes
 pub supply-shelf : {A E : Type 0} (told : Result A E) (x v : AreaState) (P Q : E → Type 0) → MatchResult told (λ _. v ≡ with_box x) (λ e. (v ≡ x) × P e × Q e) → IsSameButShelf x v
 supply-shelf (Ok a) x v P Q w = subst (IsSameButShelf x) (sym w) (record { attribute = refl; from = refl; below = refl; inbox = refl; spare = refl; tape = refl })
 supply-shelf (Err e) x v P Q w = subst (IsSameButShelf x) (sym w.0) (shelf-alike x)
 
+-- a head whose area with the fewest boxes got one more is supplied; refused, it is as it was
 pub supplied : {A E : Type 0} (told : Result A E) (g : HeadState) (at : ℕ) (x v : AreaState) (P Q : E → Type 0) → IsFewest at g.areas → x ≡ get_or g.areas at x → MatchResult told (λ _. v ≡ with_box x) (λ e. (v ≡ x) × P e × Q e) → MatchResult told (λ _. IsSupplied g (record g { areas = slice_set g.areas at v })) (λ e. (record g { areas = slice_set g.areas at v } ≡ g) × P e × Q e)
 supplied (Ok a) g at x v P Q few is w =
     record {
@@ -193,5 +196,6 @@ supplied (Ok a) g at x v P Q few is w =
     }
 supplied (Err e) g at x v P Q few is w = (ap (λ (l : List AreaState). record g { areas = l }) (set-self g.areas at v (get-any g.areas at v x few.within ∙ (sym is ∙ sym w.0))), w.1, w.2)
 
+-- a number of at most so many that is not so many is fewer
 pub not-all : (gone most : ℕ) → gone ≤ most → gone ≢ most → gone < most
 not-all gone most le ne = grind (arith, le, ne)

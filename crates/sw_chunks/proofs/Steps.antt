@@ -18,9 +18,11 @@ use Rattle.sw_chunks.specs.Heads.{AreUntouchedKept, AreUntouchedSame, IsRanged}
 use Rattle.sw_chunks.specs.Asked.{AreAskedBefore, AreaFits, AreasFit, IsOneAsked, with_all, with_area}
 use Rattle.sw_chunks.proofs.Asking.{get-any, next-fits, rest-all, rest-fits, set-many, set-other, set-same}
 
+-- an area is the same as itself but for its boxes
 pub boxes-alike : (x : AreaState) → IsSameButBoxes x x
 boxes-alike x = record { attribute = refl; from = refl; below = refl; inbox = refl; spare = refl; tape = refl; many = refl }
 
+-- being the same area but for its boxes is transitive
 pub boxes-both : (x y z : AreaState) → IsSameButBoxes x y → IsSameButBoxes y z → IsSameButBoxes x z
 boxes-both x y z a b =
     record {
@@ -33,9 +35,11 @@ boxes-both x y z a b =
       many = b.many ∙ a.many;
     }
 
+-- an area stands for the same rows as itself
 pub stands-alike : (x : AreaState) → StandsForSame x x
 stands-alike x = record { attribute = refl; from = refl; below = refl; rows = refl; many = refl; brings = λ n h. h }
 
+-- standing for the same rows is transitive
 pub stands-both : (x y z : AreaState) → StandsForSame x y → StandsForSame y z → StandsForSame x z
 stands-both x y z a b =
     record {
@@ -47,6 +51,7 @@ stands-both x y z a b =
       brings = λ n h. b.brings n (a.brings n h);
     }
 
+-- an area of which the boxes alone changed stands for the same rows
 pub boxes-stand : (x y : AreaState) → IsSameButBoxes x y → StandsForSame x y
 boxes-stand x y w =
     record {
@@ -68,18 +73,22 @@ ranged-of q x y few from below w t = rw (from, below) (noted-stand (area_lower x
     same : is_touched y q ≡ is_touched x q
     same = rw (from, below) refl
 
+-- an area of which boxes and tape changed, but not the tape's live rows, stands for the same rows
 pub area-stands : (x y : AreaState) → IsSameArea x y → StandsForSame x y
 area-stands x y w =
     record { attribute = w.attribute; from = w.from; below = w.below; rows = ap (λ l. fold rows_then l y.inbox) w.logged ∙ ap (fold rows_then (logged_rows x.attribute x.tape)) w.inbox; many = w.many; brings = w.brings }
 
+-- an area that is told to be prepared is so, and the query's bounds stand in ranges of its tape
 pub ready-told : (q : Query) (x y : AreaState) (told : Result Ready Refusal) (R : Refusal → Type 0) → length x.tape ≤ 4096 → IsSameArea x y → MatchResult told (λ r. IsNotedFor q x y.tape × IsPreparedFor q y r.from r.upto) R → IfOk told (λ r. IsPreparedFor q y r.from r.upto × IsRanged q y)
 ready-told q x y told R few same w =
     if-ok (λ r. IsNotedFor q x y.tape × IsPreparedFor q y r.from r.upto) (λ r. IsPreparedFor q y r.from r.upto × IsRanged q y) R told
     (λ r both. (both.1, ranged-of q x y few same.from same.below both.0)) w
 
+-- a query touches an area just where it touches one that stands for the same rows
 pub touched-same : (q : Query) (x y : AreaState) → StandsForSame x y → is_touched y q ≡ is_touched x q
 touched-same q x y w = rw (w.from, w.below) refl
 
+-- bounds that stand in ranges of a tape do so when the boxes alone have changed
 pub ranged-same : (q : Query) (x y : AreaState) → IsSameButBoxes x y → IsRanged q x → IsRanged q y
 ranged-same q x y w h t = rw (w.from, w.below, w.tape) (h (sym (touched-same q x y (boxes-stand x y w)) ∙ t))
 
@@ -96,6 +105,7 @@ other-place j k q e = grind (arith, nat_tests, q, e)
 lower-place : (j k : ℕ) → nat_eq j k ≡ false → j < k + 1 → j < k
 lower-place j k q lt = grind (arith, nat_tests, q, lt)
 
+-- before the first area is asked the areas are as they were
 pub asked-none : (q : Query) (scans : ℕ) (xs : List AreaState) → AreAskedBefore q 0 xs xs scans
 asked-none q scans xs =
     record {
@@ -113,6 +123,7 @@ one-place k ys zs w j d e lt = by (nat_eq j k) refl
     by true q = subst (λ (n : ℕ). StandsForSame (get_or ys n d) (get_or zs n e)) (sym (same-place j k q)) (w.here d e)
     by false q = boxes-stand (get_or ys j d) (get_or zs j e) (w.others j d e lt (other-place j k q))
 
+-- with the next area asked, and its scan counted, one area more was asked
 pub asked-next : (q : Query) (k : ℕ) (xs ys zs : List AreaState) (scans more : ℕ) (scanned : Bool) → k < length xs → AreAskedBefore q k xs ys scans → IsOneAsked k ys zs → ((d : AreaState) → is_touched (get_or ys k d) q ≡ false → zs ≡ ys) → (scanned ≡ false → (d : AreaState) → IsRanged q (get_or zs k d)) → (more ≡ 0 → (scans ≡ 0) × (scanned ≡ false)) → AreAskedBefore q (k + 1) xs zs more
 asked-next q k xs ys zs scans more scanned lt w one still ranged none =
     record {
@@ -144,6 +155,7 @@ asked-next q k xs ys zs scans more scanned lt w one still ranged none =
         by true p = subst (λ (n : ℕ). IsRanged q (get_or zs n e)) (sym (same-place j k p)) (ranged (none z).1 e)
         by false p = ranged-same q (get_or ys j e) (get_or zs j e) (one.others j e e (within j l) (other-place j k p)) (w.ranged (none z).0 j e (lower-place j k p below) l)
 
+-- when all areas were asked and none scanned, the query's bounds stand in ranges of each that it touches
 pub all-asked : (q : Query) (k : ℕ) (xs ys : List AreaState) (scans : ℕ) → length xs ≤ k → AreAskedBefore q k xs ys scans → scans ≡ 0 → All (IsRanged q) ys
 all-asked q k xs ys scans le w z j d lt = let m = w.same.0 in w.ranged z j d (omega (arith, lt, m, le)) (omega (arith, lt, m))
 
@@ -153,6 +165,7 @@ reply-next q k xs ys first both whole scans lt w is all fits d =
     let next : with_area q first (get_or xs k d) ≡ both = sym (with-same q first (get_or xs k d) (get_or ys k d) (w.same.1 k d d lt)) ∙ sym (is d) in
     (ap (λ r. with_all q r (drop (k + 1) xs)) (sym next) ∙ (rest-all q first xs k d lt ∙ all), subst (λ (r : Reply). AreasFit q r (drop (k + 1) xs)) next (rest-fits q first xs k d lt fits))
 
+-- the next area's reply fits although areas were asked before it
 pub fits-here : (q : Query) (k : ℕ) (xs ys : List AreaState) (first : Reply) (scans : ℕ) → k < length xs → AreAskedBefore q k xs ys scans → AreasFit q first (drop k xs) → (d : AreaState) → AreaFits q first (get_or ys k d)
 fits-here q k xs ys first scans lt w fits d t =
     let s = w.same.1 k d d lt in
@@ -167,6 +180,7 @@ one-set k ys v lt same =
       others = λ j d e l ne. subst (IsSameButBoxes (get_or ys j d)) (get-any ys j d e l ∙ sym (set-other ys k j v e ne)) (boxes-alike (get_or ys j d));
     }
 
+-- an area set where it stands already leaves all as they were
 pub set-self : (xs : List AreaState) (k : ℕ) (v : AreaState) → get_or xs k v ≡ v → slice_set xs k v ≡ xs
 set-self [] k v e = refl
 set-self (x ∷ xs) zero v e = ap (λ t. t ∷ xs) (sym e)
@@ -209,6 +223,7 @@ untouched-next q k xs ys area v lt w here kept same j d e l t = by (nat_eq j k) 
         ap (λ n. get_or (slice_set ys k v) n e) i ∙ (set-same ys k v e within ∙ (kept (ap (λ (x : AreaState). is_touched x q) (sym its) ∙ t) ∙ sym its))
     by false p = set-other ys k j v e (other-place j k p) ∙ same j d e l t
 
+-- areas that have not changed are, where untouched, what they were
 pub untouched-none : (q : Query) (xs : List AreaState) → AreUntouchedSame q xs xs
 untouched-none q xs k d e lt t = get-any xs k e d lt
 
@@ -235,6 +250,7 @@ cleared-one k cells came xs ys lt w =
       others = λ j d e l ne. w.same.1 j d e l;
     }
 
+-- an area set to one that stands for the same rows is one that was asked alone
 pub set-one : (k : ℕ) (xs : List AreaState) (r v : AreaState) → k < length xs → StandsForSame (get_or xs k r) v → IsOneAsked k xs (slice_set xs k v)
 set-one k xs r v lt same = one-set k xs v lt (λ d. subst (λ (t : AreaState). StandsForSame t v) (get-any xs k r d lt) same)
 

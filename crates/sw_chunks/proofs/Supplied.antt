@@ -14,9 +14,11 @@ any_area = record { attribute = 0; from = None; below = None; inbox = []; spare 
 pub supplied_updates : (g h : HeadState) → IsSupplied g h → h.updates ≡ g.updates
 supplied_updates g h s = ap (λ (x : HeadState). x.updates) (s.supplied any_area)
 
+-- a head with one box more has the same attribute
 pub supplied_attribute : (g h : HeadState) → IsSupplied g h → h.attribute ≡ g.attribute
 supplied_attribute g h s = ap (λ (x : HeadState). x.attribute) (s.supplied any_area)
 
+-- a head that was supplied has one box more
 pub supplied_boxes : (g h : HeadState) → IsSupplied g h → boxes_in h.areas ≡ boxes_in g.areas + 1
 supplied_boxes g h s =
     let was : List Held = (get_or g.areas s.at any_area).boxes in

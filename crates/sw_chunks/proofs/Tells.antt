@@ -16,9 +16,11 @@ taken-suc [] n e lt = absurd (omega (arith, lt))
 taken-suc (x ∷ xs) zero e lt = refl
 taken-suc (x ∷ xs) (suc n) e lt = ap (λ l. x ∷ l) (taken-suc xs n e (omega (arith, lt)))
 
+-- the elements up to the next place are those before and the one there
 pub taken-more : {A : Type 0} (xs : List A) (n : ℕ) (e : A) → n < length xs → take (n + 1) xs ≡ take n xs ++ get_or xs n e ∷ []
 taken-more xs n e lt = subst (λ (m : ℕ). take m xs ≡ take n xs ++ get_or xs n e ∷ []) (next-is n) (taken-suc xs n e lt)
 
+-- the elements before a place behind the last are all of them
 pub taken-all : {A : Type 0} (xs : List A) (n : ℕ) → length xs ≤ n → take n xs ≡ xs
 taken-all [] zero le = refl
 taken-all [] (suc n) le = refl
@@ -39,9 +41,11 @@ all-suc P (x ∷ xs) (suc n) e lt h p = λ k d le. by k d le (all-suc P xs n e (
     by zero d le rest = h 0 d (omega arith)
     by (suc k) d le rest = rest k d (omega (arith, le))
 
+-- what holds of the elements before a place and of the one there holds of one more
 pub all-more : {A : Type 0} (P : A → Type 0) (xs : List A) (n : ℕ) (e : A) → n < length xs → All P (take n xs) → P (get_or xs n e) → All P (take (n + 1) xs)
 all-more P xs n e lt h p = subst (λ (m : ℕ). All P (take m xs)) (next-is n) (all-suc P xs n e lt h p)
 
+-- what holds of the elements before a place behind the last holds of all
 pub all-taken : {A : Type 0} (P : A → Type 0) (xs : List A) (n : ℕ) → length xs ≤ n → All P (take n xs) → All P xs
 all-taken P xs n le h = subst (All P) (taken-all xs n le) h
 
