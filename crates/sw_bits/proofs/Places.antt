@@ -2,10 +2,12 @@ use Rattle.std.proofs.Common.{◌≡◌, ◌≢◌, ℕ, zero, suc, ◌+◌, ◌
 use Rattle.std.specs.Int.{bit_at}
 use Rattle.sw_bits.specs.Places.{holds, places}
 
+-- the list of n places has n of them
 pub length-places : (ws : List ℕ) (a n : ℕ) → length (places ws a n) ≡ n
 length-places ws a zero = refl
 length-places ws a (suc n) = ap suc (length-places ws (suc a) n)
 
+-- the i-th of the places from a on is the place a + i
 pub get_or-places : (ws : List ℕ) (a n i : ℕ) (d : Bool) → i < n → get_or (places ws a n) i d ≡ holds ws (a + i)
 get_or-places ws a zero i d lt = let no : i < 0 = lt in absurd (omega arith)
 get_or-places ws a (suc n) zero d lt = ap (holds ws) (let e : a ≡ a + 0 = omega arith in e)
@@ -41,6 +43,7 @@ cleared-by ws i k w (inl e) d lt same =
     ap (λ (j : ℕ). eqb (bit_at (get_or (set ws (i / 64) w) j 0) (k % 64)) 1) e ∙ ap (λ (v : ℕ). eqb (bit_at v (k % 64)) 1) (get_or-set_same ws (i / 64) w 0 lt) ∙ ap (λ (v : ℕ). eqb v 1) (same (k % 64) (omega arith) ne) ∙ ap (λ (j : ℕ). eqb (bit_at (get_or ws j 0) (k % 64)) 1) (sym e)
 cleared-by ws i k w (inr n) d lt same = ap (λ (v : ℕ). eqb (bit_at v (k % 64)) 1) (get_or-set_other ws (i / 64) (k / 64) w 0 n)
 
+-- a word put in place of one that differs from it in one bit at most leaves all other places as they are
 pub cleared-other : (ws : List ℕ) (i k w : ℕ) → k ≢ i → i / 64 < length ws → ((j : ℕ) → j < 64 → j ≢ i % 64 → bit_at w j ≡ bit_at (get_or ws (i / 64) 0) j) → holds (set ws (i / 64) w) k ≡ holds ws k
 cleared-other ws i k w d lt same = cleared-by ws i k w (eq_or (k / 64) (i / 64)) d lt same
 
@@ -49,6 +52,7 @@ pub places-cleared : (ws : List ℕ) (n i w : ℕ) → i < n → i / 64 < length
 places-cleared ws n i w lt lt' z same =
     places-set ws (set ws (i / 64) w) 0 n i false lt (ap (holds (set ws (i / 64) w)) (let e : 0 + i ≡ i = omega arith in e) ∙ cleared-same ws i w lt' z) (λ k ne. cleared-other ws i k w (λ e. ne (omega arith)) lt' same)
 
+-- two tests of which the second fails do not both hold
 pub and-false : (b x : Bool) → x ≡ false → (b && x) ≡ false
 and-false true x h = h
 and-false false x h = refl

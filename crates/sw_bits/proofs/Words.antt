@@ -14,10 +14,12 @@ use Rattle.sw_bits.proofs.Places.{length-places}
 abbrev pub trues : List Bool → ℕ
 trues bs = count_by (λ b. b) bs
 
+-- m + n places are m places, and the n after them
 pub places-append : (ws : List ℕ) (a m n : ℕ) → places ws a (m + n) ≡ places ws a m ++ places ws (a + m) n
 places-append ws a zero n = ap (λ k. places ws a k) (let e : 0 + n ≡ n = omega arith in e) ∙ ap (λ k. places ws k n) (let e : a ≡ a + 0 = omega arith in e)
 places-append ws a (suc m) n = ap (λ k. places ws a k) (let e : suc m + n ≡ suc (m + n) = omega arith in e) ∙ ap (λ bs. holds ws a ∷ bs) (places-append ws (suc a) m n ∙ ap (λ k. places ws (suc a) m ++ places ws k n) (let e : suc a + m ≡ a + suc m = omega arith in e))
 
+-- n places that are all true are n times true
 pub places-true : (ws : List ℕ) (a n : ℕ) → ((k : ℕ) → a ≤ k → k < a + n → holds ws k ≡ true) → places ws a n ≡ replicate n true
 places-true ws a zero h = refl
 places-true ws a (suc n) h =
@@ -25,6 +27,7 @@ places-true ws a (suc n) h =
     let r = places-true ws (suc a) n (λ k l u. h k (omega arith) (omega arith)) in
     cc
 
+-- where no place from a on is true, none of n of them is
 pub trues-none : (ws : List ℕ) (a n : ℕ) → ((k : ℕ) → a ≤ k → holds ws k ≡ false) → trues (places ws a n) ≡ 0
 trues-none ws a zero h = refl
 trues-none ws a (suc n) h =
@@ -102,6 +105,7 @@ holds-past ws k l = ap (λ w. eqb (bit_at w (k % 64)) 1) (get_or_past ws (k / 64
 holds-of : (ws : List ℕ) (k w b : ℕ) → get_or ws (k / 64) 0 ≡ w → bit_at w (k % 64) ≡ b → holds ws k ≡ eqb b 1
 holds-of ws k w b e f = ap (λ v. eqb (bit_at v (k % 64)) 1) e ∙ ap (λ v. eqb v 1) f
 
+-- words of 1s are n places that are all true, where n places fill whole words
 pub ones-whole : (ws : List ℕ) (n : ℕ) → n < 2 ^ 64 → ws ≡ replicate (n / 64) (2 ^ 64 - 1) → n % 64 ≤ 0 → AreOnes ws n
 ones-whole ws n fits e none =
     let long : length ws ≡ n / 64 = ap length e ∙ length-replicate (n / 64) (2 ^ 64 - 1) in
@@ -133,6 +137,7 @@ less-or-not m zero = inr (omega arith)
 less-or-not zero (suc n) = inl (omega arith)
 less-or-not (suc m) (suc n) = elim (less-or-not m n) [ inl l ↦ inl (omega arith) | inr l ↦ inr (omega arith) ]
 
+-- words of 1s, and a last one with a 1 for each place left over, are n places that are all true
 pub ones-and-rest : (ws : List ℕ) (n : ℕ) → n < 2 ^ 64 → ws ≡ replicate (n / 64) (2 ^ 64 - 1) ++ (2 ^ (n % 64) - 1) ∷ [] → 0 < n % 64 → AreOnes ws n
 ones-and-rest ws n fits e some =
     let long : length ws ≡ n / 64 + 1 = ap length e ∙ length-append (replicate (n / 64) (2 ^ 64 - 1)) ((2 ^ (n % 64) - 1) ∷ []) ∙ ap (λ m. m + 1) (length-replicate (n / 64) (2 ^ 64 - 1)) in

@@ -22,6 +22,7 @@ middle p ps xs ws s e es ee =
     let after : drop e (ps ++ (xs ++ ws)) ≡ ws = ap (drop e) (sym (append_assoc ps xs ws)) ∙ drop_at (ps ++ xs) ws e (length-append ps xs ∙ omega arith) in
     ap₂ (λ u v. u ++ v) before (ap₂ (λ u v. u ++ v) (ap (partition p) here ∙ partition-parts p xs (left_part p xs) (right_part p xs) refl refl) after ∙ append_assoc (left_part p xs) (right_part p xs) ws)
 
+-- partitioning the piece that a new bound falls into gives the items of the crack
 pub crack-items : {A : Type 0} (value : A → ℤ) (b : Bound) (a : Arrangement A) (ps : List A) (i n : ℕ) → IsNew b (marks_from i a) → length ps ≡ i → length (ps ++ joined a) ≡ n → parted_at (goes_left value b) (start_at i (marks_from i a) (marks_below (marks_from i a) b)) (end_before (drop (marks_below (marks_from i a) b) (marks_from i a)) n) (ps ++ joined a) ≡ ps ++ joined (crack value b a)
 crack-items value b (last xs) ps i n new ei en =
     let p = goes_left value b in
@@ -42,6 +43,7 @@ crack-items {A} value b (piece xs c rest) ps i n new ei en =
           append_assoc ps xs (joined (crack value b rest)))
     ]
 
+-- a crack at a new bound adds one mark: where its piece begins, and as many items on as go left there
 pub crack-marks : {A : Type 0} (value : A → ℤ) (b : Bound) (a : Arrangement A) (ps : List A) (i n : ℕ) → IsNew b (marks_from i a) → length ps ≡ i → length (ps ++ joined a) ≡ n →
     marks_from i (crack value b a) ≡ take (marks_below (marks_from i a) b) (marks_from i a) ++
     record { bound = b; at = start_at i (marks_from i a) (marks_below (marks_from i a) b) + count_by (goes_left value b) (take (end_before (drop (marks_below (marks_from i a) b) (marks_from i a)) n - start_at i (marks_from i a) (marks_below (marks_from i a) b)) (drop (start_at i (marks_from i a) (marks_below (marks_from i a) b)) (ps ++ joined a))) } ∷ drop (marks_below (marks_from i a) b) (marks_from i a)

@@ -15,9 +15,11 @@ use Rattle.sw_kernel.proofs.Parts.{Passes, Fails, left-yes, right-yes, left-no, 
 pub then : {A : Type 0} {xs ys zs : List A} → IsPermutation xs ys → IsPermutation ys zs → IsPermutation xs zs
 then {A} {xs} {ys} {zs} p q = IsPermutation-trans xs ys zs p q
 
+-- a permutation into a list is one into any equal list
 pub to-equal : {A : Type 0} {xs ys zs : List A} → ys ≡ zs → IsPermutation xs ys → IsPermutation xs zs
 to-equal {A} {xs} e p = subst (IsPermutation xs) e p
 
+-- a permutation from a list is one from any equal list
 pub from-equal : {A : Type 0} {xs ys zs : List A} → xs ≡ ys → IsPermutation ys zs → IsPermutation xs zs
 from-equal {A} {xs} {ys} {zs} e p = subst (λ (l : List A). IsPermutation l zs) (sym e) p
 
@@ -94,6 +96,7 @@ parted-by {A} p (suc n) (x ∷ z ∷ m) le = elim (cases_Bool (p x)) [
       ]
 ]
 
+-- the two parts of a list have its items, those that pass in the left one and the others in the right one
 pub parted : {A : Type 0} (p : A → Bool) (xs : List A) → Parted p xs
 parted p xs = parted-by p (length xs) xs (omega arith)
 
@@ -111,21 +114,26 @@ crack-moves {A} value b (piece xs c rest) = elim (cases_Bool (same_bound b c)) [
   ]
 ]
 
+-- a crack at a bound that may be missing only moves items
 pub crack_at-moves : {A : Type 0} (value : A → ℤ) (b : Option Bound) (a : Arrangement A) → IsPermutation (joined a) (joined (crack_at value b a))
 crack_at-moves value None a = IsPermutation-refl (joined a)
 crack_at-moves value (Some b) a = crack-moves value b a
 
+-- the first item going to the end only moves items
 pub first-moves : {A : Type 0} (xs : List A) → IsPermutation xs (first_to_end xs)
 first-moves [] = IsPermutation-refl []
 first-moves (x ∷ xs) = IsPermutation-sym (xs ++ x ∷ []) (x ∷ xs) (IsPermutation-to_front xs x)
 
+-- the last item coming to the front only moves items
 pub last-moves : {A : Type 0} (xs : List A) → IsPermutation xs (last_to_front xs)
 last-moves xs = then (IsPermutation-reverse xs) (then (first-moves (reverse xs)) (IsPermutation-reverse (first_to_end (reverse xs))))
 
+-- what only moves items within a list only moves items when it is done to each piece
 pub each-moves : {A : Type 0} (f : List A → List A) → ((xs : List A) → IsPermutation xs (f xs)) → (a : Arrangement A) → IsPermutation (joined a) (joined (each_piece f a))
 each-moves f h (last xs) = h xs
 each-moves f h (piece xs b rest) = then (IsPermutation-append_left (joined rest) xs (f xs) (h xs)) (IsPermutation-append_right (f xs) (joined rest) (joined (each_piece f rest)) (each-moves f h rest))
 
+-- the insertion's ripple leaves the items and the new one, in some order
 pub insert-moves : {A : Type 0} (value : A → ℤ) (x : A) (a : Arrangement A) → IsPermutation (joined a ++ x ∷ []) (joined (ripple_insert value x a))
 insert-moves value x (last xs) = IsPermutation-refl (xs ++ x ∷ [])
 insert-moves value x (piece xs b rest) = elim (cases_Bool (goes_left value b x)) [
@@ -148,12 +156,14 @@ remove-back (x ∷ xs) ys (suc n) le =
     let e : n - length xs ≡ suc n - suc (length xs) = omega arith in
     ap (λ l. x ∷ l) (remove-back xs ys n (omega arith) ∙ ap (λ k. xs ++ remove ys k) e)
 
+-- taking out the item at a place leaves the others, in some order
 pub take_out-moves : {A : Type 0} (xs : List A) (n : ℕ) → IsPermutation (remove xs n) (take_out xs n)
 take_out-moves [] zero = IsPermutation-refl []
 take_out-moves [] (suc n) = IsPermutation-refl []
 take_out-moves (x ∷ xs) zero = last-moves xs
 take_out-moves (x ∷ xs) (suc n) = IsPermutation-cons x (remove xs n) (take_out xs n) (take_out-moves xs n)
 
+-- the removal's ripple leaves the items without the one at the place, in some order
 pub remove-moves : {A : Type 0} (n : ℕ) (a : Arrangement A) → IsPermutation (remove (joined a) n) (joined (ripple_remove n a))
 remove-moves n (last xs) = take_out-moves xs n
 remove-moves n (piece xs b rest) = elim (cases_Bool (nat_lt n (length xs))) [
@@ -164,6 +174,7 @@ remove-moves n (piece xs b rest) = elim (cases_Bool (nat_lt n (length xs))) [
       rw past (from-equal (remove-back xs (joined rest) n (ltb-false n (length xs) past)) (IsPermutation-append_right xs (remove (joined rest) (n - length xs)) (joined (ripple_remove (n - length xs) rest)) (remove-moves (n - length xs) rest)))
 ]
 
+-- a load puts its items behind all that are there
 pub load-joined : {A : Type 0} (ys : List A) (a : Arrangement A) → joined (load ys a) ≡ joined a ++ ys
 load-joined ys (last xs) = refl
 load-joined ys (piece xs b rest) = ap (λ l. xs ++ l) (load-joined ys rest) ∙ sym (append_assoc xs (joined rest) ys)

@@ -18,6 +18,7 @@ pub record Held {A : Type 0} (key : A → ℕ) (items rows : List A) : Type 0 wh
   pub no_less : (x : A) → Mem x rows → Mem x items
   pub once : IsDistinct nat_eq (map key items)
 
+-- from members by recursion to members by place
 pub once-from_held : {A : Type 0} (key : A → ℕ) (items rows : List A) → Held key items rows → HoldsOnce key items rows
 once-from_held key items rows h = record {
   no_more = λ x c. contains-from_mem rows x (h.no_more x (mem-from_contains items x c));
@@ -25,6 +26,7 @@ once-from_held key items rows h = record {
   once = h.once;
 }
 
+-- from members by place to members by recursion
 pub held-from_once : {A : Type 0} (key : A → ℕ) (items rows : List A) → HoldsOnce key items rows → Held key items rows
 held-from_once key items rows h = record {
   no_more = λ x m. mem-from_contains rows x (h.no_more x (contains-from_mem items x m));
@@ -85,6 +87,7 @@ not-true : (b : Bool) → not b ≡ true → b ≡ false
 not-true true h = sym h
 not-true false h = refl
 
+-- where an item goes and the rows of its key go, the items are still just the rows
 pub held-removed : {A : Type 0} (key : A → ℕ) (items rows : List A) (p : ℕ) (x : A) → x ≡ get_or items p x → p < length items → Held key items rows → Held key (remove items p) (filter (λ r. not (nat_eq (key r) (key x))) rows)
 held-removed {A} key items rows p x is lt h =
     let stays : A → Bool = λ r. not (nat_eq (key r) (key x)) in
@@ -100,11 +103,13 @@ without-is key [] p rows lt = let no : p < 0 = lt in absurd (omega arith)
 without-is key (x ∷ xs) zero rows lt = (x, refl, refl)
 without-is key (x ∷ xs) (suc p) rows lt = without-is key xs p rows (omega arith)
 
+-- where the item at a place goes and so does its key, the items are still just the rows
 pub held-without : {A : Type 0} (key : A → ℕ) (items rows : List A) (p : ℕ) → p < length items → Held key items rows → Held key (remove items p) (without_place key items p rows)
 held-without {A} key items rows p lt h =
     let w = without-is key items p rows lt in
     subst (λ (l : List A). Held key (remove items p) l) (sym w.2) (held-removed key items rows p w.0 w.1 lt h)
 
+-- taking out the key of a place brings no row that was not there
 pub without-less : {A : Type 0} (key : A → ℕ) (items rows : List A) (p : ℕ) → p < length items → (y : A) → Mem y (without_place key items p rows) → Mem y rows
 without-less {A} key items rows p lt y m =
     let w = without-is key items p rows lt in
@@ -124,6 +129,7 @@ unfolding IsDistinct
 distinct-last key [] r d h = (tt, tt)
 distinct-last key (x ∷ xs) r d h = (all-last key (λ n. nat_eq (key x) n ≡ false) xs r d.0 (h x (inl refl)), distinct-last key xs r d.1 (λ y m. h y (inr m)))
 
+-- where a row of a new key comes, the items are still just the rows, no key twice
 pub held-inserted : {A : Type 0} (key : A → ℕ) (items rows : List A) (r : A) → ((x : A) → Mem x rows → nat_eq (key x) (key r) ≡ false) → Held key items rows → Held key (items ++ r ∷ []) (rows ++ r ∷ [])
 held-inserted key items rows r new h = record {
   no_more = λ y m. mem-carry items rows r h.no_more y (mem-either items r y m);
@@ -136,6 +142,7 @@ held-inserted key items rows r new h = record {
 abbrev pub IsFresh : {A : Type 0} → (A → ℕ) → List A → List A → Type 0
 IsFresh {A} key rows coming = (x : A) → Mem x rows → AllByRecursion (λ y. nat_eq (key x) (key y) ≡ false) coming
 
+-- after a step that may follow and brings no key that is there, the items are just the live rows
 pub held-step : {A : Type 0} (value : A → ℤ) (key : A → ℕ) (e : Step A) (a : Arrangement A) (rows : List A) → MayFollow (length (joined a)) e → IsFresh key rows (brought_by e) → Held key (joined a) rows → Held key (joined (step value e a)) (live_after key (joined a) e rows)
 held-step value key (loaded xs) a rows f new h = absurd f
 held-step value key (inserted x) a rows f new h =
@@ -159,11 +166,13 @@ count-step value (ranged l u) a f =
 next-follow : {A : Type 0} (value : A → ℤ) (e : Step A) (es : List (Step A)) (a : Arrangement A) → MayFollow (length (joined a)) e → AllFollow (count_after (length (joined a)) e) es → AllFollow (length (joined (step value e a))) es
 next-follow {A} value e es a f fs = subst (λ (n : ℕ). AllFollow n es) (sym (count-step value e a f)) fs
 
+-- after steps that may follow there are as many items as they say
 pub count-from : {A : Type 0} (value : A → ℤ) (es : List (Step A)) (a : Arrangement A) → AllFollow (length (joined a)) es → length (joined (replay_from value a es)) ≡ count_from (length (joined a)) es
 count-from value [] a f = refl
 count-from value (e ∷ es) a f =
     count-from value es (step value e a) (next-follow value e es a f.0 f.1) ∙ ap (λ (n : ℕ). count_from n es) (count-step value e a f.0)
 
+-- after a tape there are as many items as its steps say
 pub count-replay : {A : Type 0} (value : A → ℤ) (es : List (Step A)) → IsTape es → length (joined (replay value es)) ≡ count_from 0 es
 count-replay value [] t = absurd t
 count-replay {A} value (loaded xs ∷ es) t = let z : length xs ≡ 0 + length xs = omega arith in count-from value es (last xs) t ∙ ap (λ (n : ℕ). count_from {A = A} n es) z
@@ -184,6 +193,7 @@ unfolding IsDistinct
 fresh-more key rows x coming new d y (inl m) = (new y m).1
 fresh-more key rows x coming new d y (inr e) = subst (λ v. AllByRecursion (λ z. nat_eq (key v) (key z) ≡ false) coming) (sym e) (all-unmap key (key x) coming d.0)
 
+-- where all keys that come are new and none comes twice, those of the later steps are new after a step
 pub fresh-step : {A : Type 0} (key : A → ℕ) (e : Step A) (es : List (Step A)) (items rows : List A) → MayFollow (length items) e → IsFresh key rows (brought (e ∷ es)) → IsDistinct nat_eq (map key (brought (e ∷ es))) → IsFresh key (live_after key items e rows) (brought es)
 fresh-step key (loaded xs) es items rows f new d = absurd f
 fresh-step key (inserted x) es items rows f new d = λ y m. fresh-more key rows x (brought es) new d y (mem-either rows x y m)
@@ -221,12 +231,14 @@ distinct-across key [] ys d y m = absurd m
 distinct-across key (x ∷ xs) ys d y (inl e) = subst (λ v. AllByRecursion (λ z. nat_eq (key v) (key z) ≡ false) ys) (sym e) (back-unmap key (key x) xs ys d.0)
 distinct-across key (x ∷ xs) ys d y (inr m) = distinct-across key xs ys d.1 y m
 
+-- after steps that may follow and bring new keys, none twice, the items are just the live rows
 pub held-from : {A : Type 0} (value : A → ℤ) (key : A → ℕ) (es : List (Step A)) (a : Arrangement A) (rows : List A) → AllFollow (length (joined a)) es → IsFresh key rows (brought es) → IsDistinct nat_eq (map key (brought es)) → Held key (joined a) rows → Held key (joined (replay_from value a es)) (live_from value key a es rows)
 held-from value key [] a rows f new d h = h
 held-from value key (e ∷ es) a rows f new d h =
     held-from value key es (step value e a) (live_after key (joined a) e rows) (next-follow value e es a f.0 f.1) (fresh-step key e es (joined a) rows f.0 new d) (distinct-back key (brought_by e) (brought es) d)
     (held-step value key e a rows f.0 (fresh-now key rows e es new) h)
 
+-- after a tape that brings no key twice the items are just its live rows
 pub held-replay : {A : Type 0} (value : A → ℤ) (key : A → ℕ) (es : List (Step A)) → IsTape es → BringsKeysOnce key es → Held key (joined (replay value es)) (live_rows value key es)
 held-replay value key [] t d = absurd t
 held-replay value key (loaded xs ∷ es) t d =

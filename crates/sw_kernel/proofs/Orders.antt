@@ -5,6 +5,7 @@ use Rattle.sw_query.specs.declared.bound.Bound.{Bound}
 use Rattle.sw_query.specs.declared.bound.Bound.TheVariants.{Before, After}
 use Rattle.sw_query.specs.Bounds.{is_left, bound_below, same_bound}
 
+-- a bound below another is below all that the other is below
 pub below-trans : (a b c : Bound) → bound_below a b ≡ true → bound_below b c ≡ true → bound_below a c ≡ true
 below-trans (Before u) (Before v) (Before w) p q = grind (arith, p, q)
 below-trans (Before u) (Before v) (After w) p q = grind (arith, p, q)
@@ -15,6 +16,7 @@ below-trans (After u) (Before v) (After w) p q = grind (arith, p, q)
 below-trans (After u) (After v) (Before w) p q = grind (arith, p, q)
 below-trans (After u) (After v) (After w) p q = grind (arith, p, q)
 
+-- a bound is not the same as one that it is below
 pub below-new : (a b : Bound) → bound_below a b ≡ true → same_bound a b ≡ false
 below-new (Before u) (Before v) p = grind (arith, p)
 below-new (Before u) (After v) p = refl
@@ -75,6 +77,7 @@ same-same (After u) (Before v) (After w) p = absurd (true≢false (sym p))
 same-same (After u) (After v) (Before w) p = absurd (true≢false (sym p))
 same-same (After u) (After v) (After w) p = grind (arith, p)
 
+-- two bounds are the same either way round
 pub same-flips : (b c : Bound) → same_bound b c ≡ same_bound c b
 same-flips (Before u) (Before v) = grind arith
 same-flips (Before u) (After v) = refl

@@ -35,6 +35,7 @@ front-length : {A : Type 0} (xs : List A) → length (first_to_end xs) ≡ lengt
 front-length [] = refl
 front-length (x ∷ xs) = length-append xs (x ∷ []) ∙ omega arith
 
+-- the last item coming to the front leaves as many items
 pub back-length : {A : Type 0} (xs : List A) → length (last_to_front xs) ≡ length xs
 back-length xs = length-reverse (first_to_end (reverse xs)) ∙ front-length (reverse xs) ∙ length-reverse xs
 
@@ -84,6 +85,7 @@ opened d xs ps ws k i at e ei ea lt ee =
     let out : (ps ++ us) ++ last_to_front vs ≡ ps ++ take_out xs k = append_assoc ps us (last_to_front vs) ∙ ap (λ l. ps ++ l) (sym parts.1) in
     (step.0, ap (λ l. set l at (get_or l e d)) zs ∙ step.1 ∙ ap (λ l. l ++ step.0 ∷ ws) out)
 
+-- a hole closed up from piece to piece, and the last place cut off, leaves the removal's items
 pub closed-remove : {A : Type 0} (d : A) (a : Arrangement A) (ps : List A) (i k at n : ℕ) → length ps ≡ i → at ≡ i + k → k < length (joined a) → length (ps ++ joined a) ≡ n → take (n - 1) (closed_up d (drop (holder_of (marks_from i a) at) (marks_from i a)) n at (ps ++ joined a)) ≡ ps ++ joined (ripple_remove k a)
 closed-remove {A} d (last xs) ps i k at n ei ea lt en =
     let e : i + length xs ≡ n - 1 + 1 = omega (arith, length-append ps xs) in
@@ -127,6 +129,7 @@ marks-back (piece xs b rest) i j e =
     let z : i + length (last_to_front xs) ≡ j + length xs - 1 = omega (arith, back-length xs) in
     rw z (ap (λ l. record { bound = b; at = j + length xs - 1 } ∷ l) (marks-back rest (j + length xs - 1) (j + length xs) (omega arith)))
 
+-- a removal puts the marks after its place one place earlier
 pub marks-remove : {A : Type 0} (a : Arrangement A) (i k at : ℕ) → at ≡ i + k → k < length (joined a) → marks_from i (ripple_remove k a) ≡ earlier_from (holder_of (marks_from i a) at) (marks_from i a)
 marks-remove (last xs) i k at ea lt = refl
 marks-remove (piece xs b rest) i k at ea lt =
@@ -149,10 +152,12 @@ same-at xs ys k d e =
     let P : ℕ → Type 0 = λ j. get_or xs j d ≡ get_or ys j d in
     subst P z (sym (get_or-drop k xs 0 d) ∙ ap (λ l. get_or l 0 d) e ∙ get_or-drop k ys 0 d)
 
+-- one turn: the item before the k-th mark fills the hole, and its place is closed up from the next mark on
 pub close-step : {A : Type 0} (d : A) (ms : List Mark) (k n hole : ℕ) (zs zs' : List A) (m : Mark) → k < length ms → zs' ≡ set zs hole (get_or zs ((get_or ms k m).at - 1) d) → closed_up d (drop (k + 1) ms) n ((get_or ms k m).at - 1) zs' ≡ closed_up d (drop k ms) n hole zs
 close-step d ms k n hole zs zs' m lt e =
     ap (closed_up d (drop (k + 1) ms) n ((get_or ms k m).at - 1)) e ∙ sym (ap (λ l. closed_up d l n hole zs) (drop_more ms k m lt))
 
+-- the mark that ends a place's piece stands above the place
 pub holder-above : (ms : List Mark) (place : ℕ) (d : Mark) → holder_of ms place < length ms → place < (get_or ms (holder_of ms place) d).at
 holder-above [] place d lt = absurd (omega arith)
 holder-above (m ∷ ms) place d lt =
@@ -167,6 +172,7 @@ zip-take (suc n) [] ys = refl
 zip-take (suc n) (x ∷ xs) [] = refl
 zip-take (suc n) (x ∷ xs) (y ∷ ys) = ap (λ l. (x, y) ∷ l) (zip-take n xs ys)
 
+-- two lists closed up and cut by one, and the earlier marks, are the arrangement after the removal
 pub removal-flat : (place : ℕ) (a : Arrangement (ℤ × ℤ)) (hs ts hs' ts' : List ℤ) (ms ms' : List Mark) (from : ℕ) → IsFlat a (zip hs ts) ms → from ≡ holder_of ms place → place < length hs → length hs ≡ length ts → zip hs' ts' ≡ closed_up origin (drop from ms) (length hs) place (zip hs ts) → ms' ≡ earlier_from from ms → IsFlat (ripple_remove place a) (zip (take (length hs - 1) hs') (take (length hs - 1) ts')) ms'
 removal-flat place a hs ts hs' ts' ms ms' from flat ef lt same ez em =
     let n = length hs in
@@ -179,6 +185,7 @@ removal-flat place a hs ts hs' ts' ms ms' from flat ef lt same ez em =
     ap (λ (k : ℕ). earlier_from k ms) ef ∙ sym (ap (λ (l : List Mark). earlier_from (holder_of l place) l) flat.1) ∙ sym (marks-remove a 0 place place z (omega arith)) in
     (sym items ∙ ap (take (n - 1)) (sym ez) ∙ sym (zip-take (n - 1) hs' ts'), sym (em ∙ marks))
 
+-- each mark that a removal puts earlier stands above 0
 pub reaches : (ms : List Mark) (place : ℕ) (from : ℕ) → from ≡ holder_of ms place → ((j k : ℕ) (d : Mark) → j ≤ k → k < length ms → (get_or ms j d).at ≤ (get_or ms k d).at) → (k : ℕ) (d : Mark) → from ≤ k → k < length ms → 0 < (get_or ms k d).at
 reaches ms place from ef order k d le lt =
     let first = holder-above ms place d (omega arith) in

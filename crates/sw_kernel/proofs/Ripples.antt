@@ -19,6 +19,7 @@ carried-empty b i ms n x zs le = let e : nat_lt i (end_before ms n) ≡ false = 
 carried-full : {A : Type 0} (b : Bound) (i : ℕ) (ms : List Mark) (n : ℕ) (x : A) (zs : List A) → i < end_before ms n → carried (record { bound = b; at = i } ∷ ms) n x zs ≡ carried ms n (get_or zs i x) (set zs i x)
 carried-full b i ms n x zs lt = let e : nat_lt i (end_before ms n) ≡ true = lt-ltb i (end_before ms n) lt in rw e refl
 
+-- an item carried on from a mark comes first after it, and each later piece's first item goes to its end
 pub carried-is : {A : Type 0} (b : Bound) (rest : Arrangement A) (ps : List A) (i n : ℕ) (x : A) → length ps ≡ i → length (ps ++ joined rest) ≡ n → carried (record { bound = b; at = i } ∷ marks_from i rest) n x (ps ++ joined rest) ≡ ps ++ x ∷ joined (each_piece first_to_end rest)
 carried-is b (last []) ps i n x ei en =
     carried-empty b i [] n x (ps ++ []) (omega (arith, length-append ps [])) ∙ ap (λ l. l ++ x ∷ []) (append-nil ps)
@@ -68,6 +69,7 @@ marks-each (piece (y ∷ ys) b rest) i =
     let z : i + 1 + length (ys ++ y ∷ []) ≡ i + suc (length ys) + 1 = omega (arith, length-append ys (y ∷ [])) in
     rw z (ap (λ l. record { bound = b; at = i + suc (length ys) + 1 } ∷ l) (marks-each rest (i + suc (length ys))))
 
+-- an insertion puts the marks from the end of its piece on one place later
 pub marks-insert : {A : Type 0} (value : A → ℤ) (x : A) (a : Arrangement A) (i : ℕ) → marks_from i (ripple_insert value x a) ≡ later_from (piece_of (marks_from i a) (value x)) (marks_from i a)
 marks-insert value x (last xs) i = refl
 marks-insert value x (piece xs b rest) i =
@@ -84,6 +86,7 @@ pub end-le : (ms : List Mark) (n : ℕ) → All (λ (m : Mark). m.at ≤ n) ms �
 end-le [] n h = omega arith
 end-le (m ∷ ms) n h = All-head (λ (m : Mark). m.at ≤ n) m ms h
 
+-- one turn: the item takes the first place after the k-th mark, if there is one, whose item is carried on
 pub carry-step : {A : Type 0} (ms : List Mark) (k n at end : ℕ) (x x' : A) (zs zs' : List A) (d : Mark) → k < length ms → at ≡ (get_or ms k d).at → end ≡ end_before (drop (k + 1) ms) n → zs' ≡ cond (nat_lt at end) (set zs at x) zs → x' ≡ cond (nat_lt at end) (get_or zs at x) x → carried (drop (k + 1) ms) n x' zs' ≡ carried (drop k ms) n x zs
 carry-step {A} ms k n at end x x' zs zs' d lt ea ee ez ex =
     let rest = drop (k + 1) ms in
@@ -91,6 +94,7 @@ carry-step {A} ms k n at end x x' zs zs' d lt ea ee ez ex =
     let P : ℕ → ℕ → List A = λ a e. carried rest n (cond (nat_lt a e) (get_or zs a x) x) (cond (nat_lt a e) (set zs a x) zs) in
     ap₂ (λ u v. carried rest n u v) ex ez ∙ ap₂ P ea ee ∙ sym (ap (λ l. carried l n x zs) (drop_more ms k d lt))
 
+-- the k-th mark stands below n, if from there on the marks are those of a list that stands below n
 pub kept-at : (xs ys : List Mark) (k n : ℕ) (d : Mark) → drop k xs ≡ drop k ys → k < length ys → All (λ (m : Mark). m.at < n) ys → (get_or xs k d).at < n
 kept-at xs ys k n d e lt h =
     let z : k + 0 ≡ k = omega arith in
@@ -106,6 +110,7 @@ zip-push [] (y ∷ ys) a b e = absurd (omega arith)
 zip-push (x ∷ xs) [] a b e = absurd (omega arith)
 zip-push (x ∷ xs) (y ∷ ys) a b e = ap (λ l. (x, y) ∷ l) (zip-push xs ys a b (omega arith))
 
+-- two lists that a pair was carried through, and the later marks, are the arrangement after the insertion
 pub ripple-flat : (h t : ℤ) (a : Arrangement (ℤ × ℤ)) (hs ts hs' ts' : List ℤ) (ms ms' : List Mark) (from : ℕ) (u v : ℤ) → IsFlat a (zip hs ts) ms → from ≡ piece_of ms h → length hs ≡ length ts → length hs' ≡ length ts' → zip hs' ts' ++ (u, v) ∷ [] ≡ carried (drop from ms) (length hs) (h, t) (zip hs ts) → ms' ≡ later_from from ms → IsFlat (ripple_insert head_of (h, t) a) (zip (hs' ++ u ∷ []) (ts' ++ v ∷ [])) ms'
 ripple-flat h t a hs ts hs' ts' ms ms' from u v flat ef same same' ez em =
     let x : ℤ × ℤ = (h, t) in

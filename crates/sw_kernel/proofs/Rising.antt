@@ -23,6 +23,7 @@ all-past : (b c : Bound) (bs : List Bound) → bound_below b c ≡ true → IsBe
 all-past b c [] h al = tt
 all-past b c (x ∷ bs) h al = (below-trans b c x h al.0, all-past b c bs h al.1)
 
+-- a crack keeps the bounds rising
 pub crack-rises : {A : Type 0} (value : A → ℤ) (b : Bound) (a : Arrangement A) → IsRising (bounds a) → IsRising (bounds (crack value b a))
 crack-rises value b (last xs) r = (tt, tt)
 crack-rises value b (piece xs c rest) r = elim (cases_Bool (same_bound b c)) [
@@ -37,6 +38,7 @@ bounds-each : {A : Type 0} (f : List A → List A) (a : Arrangement A) → bound
 bounds-each f (last xs) = refl
 bounds-each f (piece xs b rest) = ap (λ l. b ∷ l) (bounds-each f rest)
 
+-- an insertion leaves the bounds as they are
 pub bounds-insert : {A : Type 0} (value : A → ℤ) (x : A) (a : Arrangement A) → bounds (ripple_insert value x a) ≡ bounds a
 bounds-insert value x (last xs) = refl
 bounds-insert value x (piece xs b rest) = elim (cases_Bool (goes_left value b x)) [
@@ -44,6 +46,7 @@ bounds-insert value x (piece xs b rest) = elim (cases_Bool (goes_left value b x)
   | inr past ↦ rw past (ap (λ l. b ∷ l) (bounds-insert value x rest))
 ]
 
+-- a removal leaves the bounds as they are
 pub bounds-remove : {A : Type 0} (n : ℕ) (a : Arrangement A) → bounds (ripple_remove n a) ≡ bounds a
 bounds-remove n (last xs) = refl
 bounds-remove n (piece xs b rest) = elim (cases_Bool (nat_lt n (length xs))) [
@@ -51,20 +54,24 @@ bounds-remove n (piece xs b rest) = elim (cases_Bool (nat_lt n (length xs))) [
   | inr past ↦ rw past (ap (λ l. b ∷ l) (bounds-remove (n - length xs) rest))
 ]
 
+-- a load leaves the bounds as they are
 pub bounds-load : {A : Type 0} (ys : List A) (a : Arrangement A) → bounds (load ys a) ≡ bounds a
 bounds-load ys (last xs) = refl
 bounds-load ys (piece xs b rest) = ap (λ l. b ∷ l) (bounds-load ys rest)
 
+-- a crack at a bound that may be missing keeps the bounds rising
 pub crack_at-rises : {A : Type 0} (value : A → ℤ) (b : Option Bound) (a : Arrangement A) → IsRising (bounds a) → IsRising (bounds (crack_at value b a))
 crack_at-rises value None a r = r
 crack_at-rises value (Some b) a r = crack-rises value b a r
 
+-- a step keeps the bounds rising
 pub step-rises : {A : Type 0} (value : A → ℤ) (e : Step A) (a : Arrangement A) → IsRising (bounds a) → IsRising (bounds (step value e a))
 step-rises value (loaded ys) a r = subst IsRising (sym (bounds-load ys a)) r
 step-rises value (inserted x) a r = subst IsRising (sym (bounds-insert value x a)) r
 step-rises value (removed n) a r = subst IsRising (sym (bounds-remove n a)) r
 step-rises value (ranged l u) a r = crack_at-rises value u (crack_at value l a) (crack_at-rises value l a r)
 
+-- any number of steps keeps the bounds rising
 pub replay_from-rises : {A : Type 0} (value : A → ℤ) (es : List (Step A)) (a : Arrangement A) → IsRising (bounds a) → IsRising (bounds (replay_from value a es))
 replay_from-rises value [] a r = r
 replay_from-rises value (e ∷ es) a r = replay_from-rises value es (step value e a) (step-rises value e a r)
@@ -78,6 +85,7 @@ has-among : {A : Type 0} (b : Bound) (a : Arrangement A) → has_bound b a ≡ a
 has-among b (last xs) = refl
 has-among b (piece xs c rest) = ap (λ t. same_bound b c || t) (has-among b rest)
 
+-- whether a bound is there depends on the bounds alone
 pub has-same : {A : Type 0} (b : Bound) (a a' : Arrangement A) → bounds a ≡ bounds a' → has_bound b a ≡ has_bound b a'
 has-same b a a' e = has-among b a ∙ ap (among b) e ∙ sym (has-among b a')
 
@@ -96,6 +104,7 @@ or-group true false u = refl
 or-group false true u = refl
 or-group false false u = refl
 
+-- after a crack there are the bounds from before, and its own
 pub has-crack : {A : Type 0} (value : A → ℤ) (b c : Bound) (a : Arrangement A) → has_bound b (crack value c a) ≡ same_bound b c || has_bound b a
 has-crack value b c (last xs) = refl
 has-crack value b c (piece xs d rest) = elim (cases_Bool (same_bound c d)) [
@@ -106,10 +115,12 @@ has-crack value b c (piece xs d rest) = elim (cases_Bool (same_bound c d)) [
   ]
 ]
 
+-- after a crack at a bound that may be missing there are the bounds from before, and its own if it has one
 pub has-crack_at : {A : Type 0} (value : A → ℤ) (b : Bound) (c : Option Bound) (a : Arrangement A) → has_bound b (crack_at value c a) ≡ is_bound b c || has_bound b a
 has-crack_at value b None a = refl
 has-crack_at value b (Some c) a = has-crack value b c a
 
+-- after a step there are the bounds from before, and those that stand in its range
 pub has-step : {A : Type 0} (value : A → ℤ) (b : Bound) (e : Step A) (a : Arrangement A) → has_bound b (step value e a) ≡ ranges_at b e || has_bound b a
 has-step value b (loaded ys) a = has-same b (load ys a) a (bounds-load ys a)
 has-step value b (inserted x) a = has-same b (ripple_insert value x a) a (bounds-insert value x a)
@@ -117,6 +128,7 @@ has-step value b (removed n) a = has-same b (ripple_remove n a) a (bounds-remove
 has-step value b (ranged l u) a =
     has-crack_at value b u (crack_at value l a) ∙ ap (λ t. is_bound b u || t) (has-crack_at value b l a) ∙ or-group (is_bound b u) (is_bound b l) (has_bound b a)
 
+-- after steps there are the bounds from before, and those that stand in their ranges
 pub has-replay_from : {A : Type 0} (value : A → ℤ) (b : Bound) (es : List (Step A)) (a : Arrangement A) → has_bound b (replay_from value a es) ≡ has_bound b a || is_marked b es
 has-replay_from value b [] a = or-none (has_bound b a)
   where

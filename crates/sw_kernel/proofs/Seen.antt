@@ -8,6 +8,7 @@ use Rattle.sw_kernel.specs.Arrangement.{Arrangement, last, piece, crack, first_t
 use Rattle.sw_kernel.specs.Replay.{crack_at, Step, loaded, inserted, removed, ranged, load, step, replay_from, shown, shown_step}
 use Rattle.sw_kernel.proofs.Parts.{left-map, right-map, map-reverse}
 
+-- a crack on items and then showing them is showing them and then the crack
 pub shown-crack : {A B : Type 0} (f : A → B) (value : B → ℤ) (b : Bound) (a : Arrangement A) → shown f (crack (λ x. value (f x)) b a) ≡ crack value b (shown f a)
 shown-crack f value b (last xs) = ap₂ (λ l r. piece l b (last r)) (left-map f (goes_left value b) xs) (right-map f (goes_left value b) xs)
 shown-crack {A} {B} f value b (piece xs c rest) =
@@ -25,10 +26,12 @@ shown-crack {A} {B} f value b (piece xs c rest) =
       | false ↦ inner
     ]
 
+-- a crack at a bound that may be missing and then showing is showing and then the crack
 pub shown-crack_at : {A B : Type 0} (f : A → B) (value : B → ℤ) (o : Option Bound) (a : Arrangement A) → shown f (crack_at (λ x. value (f x)) o a) ≡ crack_at value o (shown f a)
 shown-crack_at f value None a = refl
 shown-crack_at f value (Some b) a = shown-crack f value b a
 
+-- loading items and then showing all is showing all and then loading them
 pub shown-load : {A B : Type 0} (f : A → B) (ys : List A) (a : Arrangement A) → shown f (load ys a) ≡ load (map f ys) (shown f a)
 shown-load f ys (last xs) = ap last (map-append f xs ys)
 shown-load f ys (piece xs b rest) = ap (λ r. piece (map f xs) b r) (shown-load f ys rest)
@@ -44,6 +47,7 @@ shown-each : {A B : Type 0} (f : A → B) (g : List A → List A) (h : List B �
 shown-each f g h e (last xs) = ap last (e xs)
 shown-each f g h e (piece xs b rest) = ap₂ (λ l r. piece l b r) (e xs) (shown-each f g h e rest)
 
+-- an insertion and then showing is showing and then the insertion of the shown item
 pub shown-insert : {A B : Type 0} (f : A → B) (value : B → ℤ) (x : A) (a : Arrangement A) → shown f (ripple_insert (λ y. value (f y)) x a) ≡ ripple_insert value (f x) (shown f a)
 shown-insert f value x (last xs) = ap last (map-append f xs (x ∷ []))
 shown-insert {A} f value x (piece xs b rest) =
@@ -59,6 +63,7 @@ map-take_out f [] n = refl
 map-take_out f (x ∷ xs) zero = map-last_to_front f xs
 map-take_out f (x ∷ xs) (suc n) = ap (λ l. f x ∷ l) (map-take_out f xs n)
 
+-- a removal and then showing is showing and then the removal
 pub shown-remove : {A B : Type 0} (f : A → B) (n : ℕ) (a : Arrangement A) → shown f (ripple_remove n a) ≡ ripple_remove n (shown f a)
 shown-remove f n (last xs) = ap last (map-take_out f xs n)
 shown-remove {A} {B} f n (piece xs b rest) =

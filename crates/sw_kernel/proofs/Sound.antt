@@ -22,6 +22,7 @@ use Rattle.sw_kernel.proofs.Members.{all-moved, all-weaker, all-append, all-back
 abbrev pub AllLeft : {A : Type 0} → (A → ℤ) → Bound → List A → Type 0
 AllLeft value b xs = AllByRecursion (λ x. goes_left value b x ≡ true) xs
 
+-- no item is left of the bound
 abbrev pub NoneLeft : {A : Type 0} → (A → ℤ) → Bound → List A → Type 0
 NoneLeft value b xs = AllByRecursion (λ x. goes_left value b x ≡ false) xs
 
@@ -36,6 +37,7 @@ left-moved value b xs ys p h = all-moved (λ x. goes_left value b x ≡ true) ys
 right-moved : {A : Type 0} (value : A → ℤ) (b : Bound) (xs ys : List A) → IsPermutation xs ys → NoneLeft value b xs → NoneLeft value b ys
 right-moved value b xs ys p h = all-moved (λ x. goes_left value b x ≡ false) ys xs (IsPermutation-sym xs ys p) h
 
+-- a crack keeps each piece left of its bound, and what comes after not left of it
 pub crack-ordered : {A : Type 0} (value : A → ℤ) (b : Bound) (a : Arrangement A) → Ordered value a → Ordered value (crack value b a)
 crack-ordered value b (last xs) o = let h = parted (goes_left value b) xs in (h.passes, h.fails, tt)
 crack-ordered {A} value b (piece xs c rest) o = elim (cases_Bool (same_bound b c)) [
@@ -52,6 +54,7 @@ crack-ordered {A} value b (piece xs c rest) o = elim (cases_Bool (same_bound b c
   ]
 ]
 
+-- a crack at a bound that may be missing keeps the pieces on their sides of the bounds
 pub crack_at-ordered : {A : Type 0} (value : A → ℤ) (b : Option Bound) (a : Arrangement A) → Ordered value a → Ordered value (crack_at value b a)
 crack_at-ordered value None a o = o
 crack_at-ordered value (Some b) a o = crack-ordered value b a o
@@ -61,6 +64,7 @@ each-ordered value f h (last xs) o = tt
 each-ordered value f h (piece xs b rest) o =
     (left-moved value b xs (f xs) (h xs) o.0, right-moved value b (joined rest) (joined (each_piece f rest)) (each-moves f h rest) o.1, each-ordered value f h rest o.2)
 
+-- an insertion keeps the pieces on their sides of the bounds
 pub insert-ordered : {A : Type 0} (value : A → ℤ) (x : A) (a : Arrangement A) → Ordered value a → Ordered value (ripple_insert value x a)
 insert-ordered value x (last xs) o = tt
 insert-ordered {A} value x (piece xs b rest) o = elim (cases_Bool (goes_left value b x)) [
@@ -84,6 +88,7 @@ all-remove P [] (suc n) h = tt
 all-remove P (x ∷ xs) zero h = h.1
 all-remove P (x ∷ xs) (suc n) h = (h.0, all-remove P xs n h.1)
 
+-- a removal keeps the pieces on their sides of the bounds
 pub remove-ordered : {A : Type 0} (value : A → ℤ) (n : ℕ) (a : Arrangement A) → Ordered value a → Ordered value (ripple_remove n a)
 remove-ordered value n (last xs) o = tt
 remove-ordered {A} value n (piece xs b rest) o = elim (cases_Bool (nat_lt n (length xs))) [
@@ -105,10 +110,12 @@ step-ordered value n (inserted x) a f o = insert-ordered value x a o
 step-ordered value n (removed k) a f o = remove-ordered value k a o
 step-ordered value n (ranged l u) a f o = crack_at-ordered value u (crack_at value l a) (crack_at-ordered value l a o)
 
+-- steps that may follow keep the pieces on their sides of the bounds
 pub replay_from-ordered : {A : Type 0} (value : A → ℤ) (n : ℕ) (es : List (Step A)) (a : Arrangement A) → AllFollow n es → Ordered value a → Ordered value (replay_from value a es)
 replay_from-ordered value n [] a f o = o
 replay_from-ordered value n (e ∷ es) a f o = replay_from-ordered value (count_after n e) es (step value e a) f.1 (step-ordered value n e a f.0 o)
 
+-- after a tape each piece is left of its bound, and what comes after is not
 pub replay-ordered : {A : Type 0} (value : A → ℤ) (es : List (Step A)) → IsTape es → Ordered value (replay value es)
 replay-ordered value [] t = absurd t
 replay-ordered value (loaded xs ∷ es) t = replay_from-ordered value (length xs) es (last xs) t tt
@@ -127,6 +134,7 @@ left-of_more {A} value ps xs b (c ∷ cs) h al o =
     let further : AllLeft value c xs = all-weaker (λ (x : A). goes_left value b x ≡ true) (λ (x : A). goes_left value c x ≡ true) (λ x e. left-below b c (value x) al.0 e) xs h in
     (all-append (λ (x : A). goes_left value c x ≡ true) ps xs o.0 further, left-of_more value ps xs b cs h al.1 o.1)
 
+-- behind items left of all bounds, each mark of ordered pieces with rising bounds parts all items
 pub marks-sound : {A : Type 0} (value : A → ℤ) (ps : List A) (i : ℕ) (a : Arrangement A) → length ps ≡ i → LeftOfAll value ps (bounds a) → IsRising (bounds a) → Ordered value a →
     AllByRecursion (λ (m : Mark). IsSound value (ps ++ joined a) m) (marks_from i a)
 marks-sound value ps i (last xs) long left r o = tt
@@ -151,6 +159,7 @@ left-none : {A : Type 0} (value : A → ℤ) (bs : List Bound) → LeftOfAll val
 left-none value [] = tt
 left-none value (b ∷ bs) = (tt, left-none value bs)
 
+-- after a tape each mark parts all items
 pub replay-sound : {A : Type 0} (value : A → ℤ) (es : List (Step A)) → IsTape es → All (λ (m : Mark). IsSound value (joined (replay value es)) m) (marks_from 0 (replay value es))
 replay-sound value es t =
     let a = replay value es in

@@ -62,6 +62,7 @@ zip-written p s e hs ts hm tm same le within lh lt h =
     zip-append (take s hs) (hm ++ drop e hs) (take s ts) (tm ++ drop e ts) a ∙
     ap₂ (λ u v. u ++ v) (sym (zip-take s hs ts)) (zip-append hm (drop e hs) tm (drop e ts) (lh ∙ sym lt) ∙ ap₂ (λ u v. u ++ v) mid (sym (zip-drop e hs ts)))
 
+-- in a part of the lists as many pairs go left as heads lie left of the bound
 pub count-part : (b : Bound) (s e : ℕ) (hs ts : List ℤ) → length hs ≡ length ts → count_by (is_left b) (take (e - s) (drop s hs)) ≡ count_by (goes_left head_of b) (take (e - s) (drop s (zip hs ts)))
 count-part b s e hs ts same =
     let l : length (take (e - s) (drop s hs)) ≡ length (take (e - s) (drop s ts)) = omega (arith, length-take (e - s) (drop s hs), length-take (e - s) (drop s ts), length-drop s hs, length-drop s ts) in
@@ -76,9 +77,11 @@ drop-add zero k xs = ap (λ (n : ℕ). drop n xs) (omega arith)
 drop-add (suc s) k [] = drop-none k ∙ sym (drop-none (suc s + k))
 drop-add (suc s) k (x ∷ xs) = let e : suc (s + k) ≡ suc s + k = omega arith in drop-add s k xs ∙ ap (λ (n : ℕ). drop n (x ∷ xs)) e
 
+-- past the first s items, and e - s more, come the items from e on
 pub drop-rest : {A : Type 0} (s e : ℕ) (xs : List A) → s ≤ e → drop (e - s) (drop s xs) ≡ drop e xs
 drop-rest s e xs le = drop-add s (e - s) xs ∙ ap (λ (n : ℕ). drop n xs) (omega (arith, le))
 
+-- where a new bound's piece is partitioned and its mark put in, the lists are laid out as the crack
 pub cracked : (b : Bound) (a : Arrangement (ℤ × ℤ)) (zs zs' : List (ℤ × ℤ)) (ms ms' : List Mark) (k s e : ℕ) →
     joined a ≡ zs → marks_from 0 a ≡ ms → IsRising (bounds_of ms) → IsNew b ms → k ≡ marks_below ms b → s ≡ start_at 0 ms k → e ≡ end_before (drop k ms) (length zs) →
     zs' ≡ parted (goes_left head_of b) s e zs →

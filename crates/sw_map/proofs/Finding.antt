@@ -26,6 +26,7 @@ FromAbove b ms n = (k : ℕ) (d : Mark) → n ≤ k → k < length ms → bound_
 nope : {A : Type 0} (k : ℕ) → k < 0 → A
 nope k lt = absurd (omega (arith, lt))
 
+-- the item at a place of the list is the same, whatever stands for one that is not there
 pub at-any : {A : Type 0} (ms : List A) (k : ℕ) (d e : A) → k < length ms → get_or ms k d ≡ get_or ms k e
 at-any [] k d e lt = nope k lt
 at-any (m ∷ ms) zero d e lt = refl
@@ -36,12 +37,14 @@ all-at b [] h k d lt = nope k lt
 all-at b (m ∷ ms) h zero d lt = h.0
 all-at b (m ∷ ms) h (suc k) d lt = all-at b ms h.1 k d (omega (arith, lt))
 
+-- of rising marks an earlier one has the lower bound
 pub rising-at : (ms : List Mark) → IsRising (bounds_of ms) → (j k : ℕ) (d : Mark) → j < k → k < length ms → bound_below (get_or ms j d).bound (get_or ms k d).bound ≡ true
 rising-at [] r j k d lt le = nope k le
 rising-at (m ∷ ms) r j zero d lt le = nope j lt
 rising-at (m ∷ ms) r zero (suc k) d lt le = all-at m.bound ms r.0 k d (omega (arith, le))
 rising-at (m ∷ ms) r (suc j) (suc k) d lt le = rising-at ms r.1 j k d (omega (arith, lt)) (omega (arith, le))
 
+-- where the first n marks do not stand above the bound and the others do, n stand before it
 pub search-is : (b : Bound) (ms : List Mark) (n : ℕ) → n ≤ length ms → NotAbove b ms n → FromAbove b ms n → marks_below ms b ≡ n
 search-is b [] n le low high = omega (arith, le)
 search-is b (m ∷ ms) zero le low high = let e : bound_below b m.bound ≡ true = high 0 m (omega arith) (omega arith) in rw e refl
@@ -64,9 +67,11 @@ all-new : (b c : Bound) (ms : List Mark) → bound_below b c ≡ true → IsBelo
 all-new b c [] h a = tt
 all-new b c (m ∷ ms) h a = (below-new b m.bound (below-trans b c m.bound h a.0), all-new b c ms h a.1)
 
+-- a first mark that does not stand above the bound is one more before it
 pub step-on : (b : Bound) (m : Mark) (ms : List Mark) → bound_below b m.bound ≡ false → marks_below (m ∷ ms) b ≡ suc (marks_below ms b)
 step-on b m ms e = rw e refl
 
+-- where the first mark stands above the bound, none stands before it
 pub step-no : (b : Bound) (m : Mark) (ms : List Mark) → bound_below b m.bound ≡ true → marks_below (m ∷ ms) b ≡ 0
 step-no b m ms e = rw e refl
 
@@ -105,6 +110,7 @@ new-at b (m ∷ (x ∷ xs)) (suc (suc n)) d e r h = elim (cases_Bool (bound_belo
 pub not-before : (k : ℕ) (b : Bound) (ms : List Mark) (d : Mark) (r : Bool) → k ≤ length ms → Decides r (IsBefore k b ms) → r ≡ false → 0 < k → same_bound b (get_or ms (k - 1) d).bound ≡ false
 not-before k b ms d r le is off some = not-true (same_bound b (get_or ms (k - 1) d).bound) (λ t. true≢false (sym (is.1 (some, λ e. ap (λ (m : Mark). same_bound b m.bound) (at-any ms (k - 1) e d (omega arith)) ∙ t)) ∙ off))
 
+-- the piece after a mark begins at the mark's place
 pub start-at : (i : ℕ) (ms : List Mark) (k : ℕ) (d : Mark) → k < length ms → start_at i ms (suc k) ≡ (get_or ms k d).at
 start-at i [] k d lt = nope k lt
 start-at i (m ∷ ms) zero d lt = start-zero m.at ms
@@ -114,6 +120,7 @@ start-at i (m ∷ ms) zero d lt = start-zero m.at ms
     start-zero j (x ∷ l) = refl
 start-at i (m ∷ ms) (suc k) d lt = start-at m.at ms k d (omega (arith, lt))
 
+-- of marks in order each piece begins no later than it ends, and ends within the n items
 pub start-end : (i n : ℕ) (ms : List Mark) (k : ℕ) → InOrder i n ms → k ≤ length ms → (start_at i ms k ≤ end_before (drop k ms) n) × (end_before (drop k ms) n ≤ n)
 start-end i n [] zero o le = (o, omega arith)
 start-end i n [] (suc k) o le = absurd (omega (arith, le))
@@ -125,6 +132,7 @@ pub mark-new : (b : Bound) (ms : List Mark) → IsNew b ms → mark_of b ms ≡ 
 mark-new b [] new = refl
 mark-new b (m ∷ ms) new = let e = new.0 in rw e (mark-new b ms new.1)
 
+-- of rising marks the one that has the bound is the one found for it
 pub mark-there : (b : Bound) (ms : List Mark) (n : ℕ) (d : Mark) → IsRising (bounds_of ms) → n < length ms → same_bound b (get_or ms n d).bound ≡ true → mark_of b ms ≡ Some (get_or ms n d).at
 mark-there b [] n d r lt h = absurd (omega (arith, lt))
 mark-there b (m ∷ ms) zero d r lt h = rw h refl
@@ -136,10 +144,12 @@ mark-there b (m ∷ ms) (suc n) d r lt h = elim (cases_Bool (same_bound b m.boun
   | inr other ↦ rw other (mark-there b ms n d r.1 (omega (arith, lt)) h)
 ]
 
+-- a bound's place between the pieces is its mark's place
 pub place-mark : {A : Type 0} (b : Bound) (i : ℕ) (a : Arrangement A) → place_from i b a ≡ mark_of b (marks_from i a)
 place-mark b i (last xs) = refl
 place-mark b i (piece xs c rest) = ap (λ o. cond (same_bound b c) (Some (i + length xs)) o) (place-mark b (i + length xs) rest)
 
+-- a bound's place between the pieces that marks in order make is its mark's place
 pub place-pieces : {A : Type 0} (b : Bound) (zs : List A) (ms : List Mark) → InOrder 0 (length zs) ms → place_of b (pieces_between 0 zs ms) ≡ mark_of b ms
 place-pieces b zs ms o = place-mark b 0 (pieces_between 0 zs ms) ∙ ap (mark_of b) (pieces-marks 0 (length zs) zs ms (omega arith) o)
 
@@ -162,6 +172,7 @@ marks-parted b ms r i j d le lt e = elim (same-or-less i j le) [
       ap not (not-true (bound_below b (get_or ms i d).bound) (λ t. true≢false (sym (below-trans b (get_or ms i d).bound (get_or ms j d).bound t under) ∙ no)))
 ]
 
+-- the point from which on the marks stand above the bound is how many stand before it
 pub marks-point : (b : Bound) (ms : List Mark) (n : ℕ) → n ≤ length ms → IsPartitionPoint (λ m. not (bound_below b m.bound) ≡ true) (λ m. not (bound_below b m.bound) ≡ false) ms n → marks_below ms b ≡ n
 marks-point b ms n le p = search-is b ms n le
     (λ k d lt. below-not (bound_below b (get_or ms k d).bound) (p.0 k d (omega arith) lt))

@@ -22,6 +22,7 @@ shown a cells b refusal.Input w = absurd w
 shown a cells b refusal.Output w = absurd w
 shown a cells b (refusal.Ahead x y) w = absurd w
 
+-- a lease that is refused tells what its seat saw when it last asked
 pub look_shown : {U : Type 0} (r : Result U Refusal) (a : Account) (cells : ℕ) (b : Account) → HasLeasedOr r a cells b → IfErr r (IsLookOf b)
 look_shown (Ok u) a cells b w = tt
 look_shown (Err e) a cells b w = shown a cells b e w

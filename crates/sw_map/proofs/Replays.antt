@@ -65,6 +65,7 @@ aligned-longer a tape es m al = record {
   pairs_are = al.pairs_are ∙ ap (λ (v : List (Step Row)). shown (pair_in a m.tail) (rows_by a v)) (sym (take-append-le m.cursor tape es al.within));
 }
 
+-- a lawful map is lawful when the tape grows
 pub lawful-longer : (a : ℕ) (tape es : List (Step Row)) (m : Held) → IsLawful a tape m → IsLawful a (tape ++ es) m
 unfolding IsLawful
 lawful-longer a tape es m (inl b) = inl b
@@ -75,6 +76,7 @@ pub lawful-blank : (a : ℕ) (tape : List (Step Row)) → IsLawful a tape blank
 unfolding IsLawful
 lawful-blank a tape = inl refl
 
+-- an aligned map is lawful
 pub lawful-aligned : (a : ℕ) (tape : List (Step Row)) (m : Held) → IsAligned a tape m → IsLawful a tape m
 unfolding IsLawful
 lawful-aligned a tape m al = inr al
@@ -185,6 +187,7 @@ may-replay a tape m e t al at = may-cases a tape m e m.cursor t (aligned-counted
 pub ready : (a : ℕ) (tape : List (Step Row)) (m : Held) → IsAligned a tape m → m.cursor ≡ length tape → m.pairs ≡ shown (pair_in a m.tail) (rows_by a tape)
 ready a tape m al end = al.pairs_are ∙ ap (λ (v : List (Step Row)). shown (pair_in a m.tail) (rows_by a v)) (take_all m.cursor tape (omega (arith, end)))
 
+-- at the tape's end an aligned map has, place by place, the pairs of the tape's rows
 pub ready-joined : (a : ℕ) (tape : List (Step Row)) (m : Held) → IsAligned a tape m → m.cursor ≡ length tape → joined m.pairs ≡ map (pair_in a m.tail) (joined (rows_by a tape))
 ready-joined a tape m al end = ap joined (ready a tape m al end) ∙ joined-shown (pair_in a m.tail) (rows_by a tape)
 

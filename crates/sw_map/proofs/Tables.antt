@@ -12,9 +12,11 @@ use Rattle.sw_map.specs.Held.{pair_in, tail_value}
 use Rattle.sw_map.specs.Pieces.{IsLaidOut, bounds_of, pieces_between}
 use Rattle.sw_map.proofs.Layouts.{is-flat, laid-out, pieces-joined, pieces-loaded, rising-flat, zip-append, zip-at, zip-long}
 
+-- a table of two lists of one length has as many pairs as there are heads
 pub table-length : (hs ts : List ℤ) (ms : List Mark) → length hs ≡ length ts → length (joined (pieces_between 0 (zip hs ts) ms)) ≡ length hs
 table-length hs ts ms same = ap length (pieces-joined 0 (zip hs ts) ms) ∙ zip-long hs ts same
 
+-- the pair at a place of a table is the head and the tail at that place
 pub table-at : (hs ts : List ℤ) (ms : List Mark) (k : ℕ) → length hs ≡ length ts → k < length hs → get_or (joined (pieces_between 0 (zip hs ts) ms)) k (pos 0, pos 0) ≡ (get_or hs k (pos 0), get_or ts k (pos 0))
 table-at hs ts ms k same lt = ap (λ (l : List (ℤ × ℤ)). get_or l k (pos 0, pos 0)) (pieces-joined 0 (zip hs ts) ms) ∙ zip-at hs ts k same lt
 

@@ -26,6 +26,7 @@ one_further f zero (r ∷ rs) = refl
 one_further f (suc i) [] = refl
 one_further f (suc i) (r ∷ rs) = ap (λ v. f r ∷ v) (one_further f i rs)
 
+-- where as many first rows are changed as there are, all of them are
 pub all_of : (f : Row → Row) (i : ℕ) (rs : List Row) → i ≡ length rs → partly f i rs ≡ map f rs
 all_of f zero [] h = refl
 all_of f zero (r ∷ rs) h = absurd (omega (arith, h))

@@ -3,9 +3,11 @@ use Rattle.std.proofs.Common.{◌≡◌, ◌≤◌, take, drop, refl, ◌≢◌,
 use Rattle.std.specs.List.{range_with_len}
 use Rattle.std.proofs.lemmas.List.FromFn.{get_or-range_with_len, length-range_with_len}
 
+-- n numbers that follow one another are n keys
 pub numbers_many : (a n : ℕ) (ks : List ℕ) → range_with_len a n ≡ ks → n ≡ length ks
 numbers_many a n ks is = sym (length-range_with_len a n) ∙ ap length is
 
+-- the i-th of the keys from a on is a + i
 pub numbers_at : (a n i d : ℕ) (ks : List ℕ) → range_with_len a n ≡ ks → i < n → a + i ≡ get_or ks i d
 numbers_at a n i d ks is lt = sym (get_or-range_with_len a n i d lt) ∙ ap (λ (v : List ℕ). get_or v i d) is
 
@@ -28,6 +30,7 @@ numbers-part a zero m n le = ap (λ (k : ℕ). range_with_len k m) (let e : a + 
 numbers-part a (suc s) m zero le = absurd (omega (arith, le))
 numbers-part a (suc s) m (suc n) le = ap (λ (k : ℕ). range_with_len k m) (let e : a + suc s ≡ a + 1 + s = omega arith in e) ∙ numbers-part (a + 1) s m n (omega (arith, le))
 
+-- a stretch of keys that follow one another is the numbers from its first one on
 pub numbers_stretch : (a s m n : ℕ) (ks : List ℕ) → range_with_len a n ≡ ks → s + m ≤ n → range_with_len (a + s) m ≡ take m (drop s ks)
 numbers_stretch a s m n ks is le = numbers-part a s m n le ∙ ap (λ (v : List ℕ). take m (drop s v)) is
 

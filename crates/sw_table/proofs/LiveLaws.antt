@@ -10,6 +10,7 @@ use Rattle.sw_table.proofs.KeyFinds.{above-at}
 
 -- ---- more rows
 
+-- of no items none is kept
 pub kept-nil : {X : Type 0} (fs : List Bool) → kept fs (let e : List X = [] in e) ≡ []
 kept-nil [] = refl
 kept-nil (b ∷ fs) = refl
@@ -44,6 +45,7 @@ kept-fresh zero (x ∷ xs) e = absurd (omega (arith, e))
 kept-fresh (suc n) [] e = refl
 kept-fresh (suc n) (x ∷ xs) e = ap (λ v. x ∷ v) (kept-fresh n xs (omega (arith, e)))
 
+-- where all flags are true, all items are kept
 pub kept-all : {X : Type 0} (fs : List Bool) (xs : List X) → length fs ≡ length xs → All (λ (b : Bool). b ≡ true) fs → kept fs xs ≡ xs
 kept-all [] [] e a = refl
 kept-all [] (x ∷ xs) e a = absurd (omega (arith, e))
@@ -89,6 +91,7 @@ lacks-without : (k : ℕ) (xs : List Row) → Lacks k xs → without k xs ≡ xs
 lacks-without k [] a = refl
 lacks-without k (x ∷ xs) a = rw (not-same x.key k a.0) (ap (λ v. x ∷ v) (lacks-without k xs a.1))
 
+-- the rows without a key that none of them has are all of them
 pub without-none : (k : ℕ) (xs : List Row) → has_key k xs ≡ false → without k xs ≡ xs
 without-none k [] h = refl
 without-none k (x ∷ xs) h = grind (arith, nat_tests, h, without-none k xs)
@@ -101,6 +104,7 @@ lacks-key k (x ∷ xs) a = rw (not-same k x.key (λ e. a.0 (sym e))) (lacks-key 
 pub kept-lacks : (k : ℕ) (fs : List Bool) (xs : List Row) → All (λ (r : Row). r.key ≢ k) xs → has_key k (kept fs xs) ≡ false
 kept-lacks k fs xs a = lacks-key k (kept fs xs) (lacks-kept k fs xs (lacks-all k xs a))
 
+-- the live rows without a key that no row has are all the live rows
 pub without-lacks : (k : ℕ) (fs : List Bool) (xs : List Row) → All (λ (r : Row). r.key ≢ k) xs → without k (kept fs xs) ≡ kept fs xs
 without-lacks k fs xs a = lacks-without k (kept fs xs) (lacks-kept k fs xs (lacks-all k xs a))
 

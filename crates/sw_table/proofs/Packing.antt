@@ -10,10 +10,12 @@ use Rattle.sw_table.specs.Kept.{kept, kept_parts}
 use Rattle.sw_table.specs.Live.{Rises, key_of}
 use Rattle.sw_table.specs.Packed.{IsWhole, IsWithin, row_behind, row_of, rows_in, zeros}
 
+-- there are as many rows as keys
 pub rows-many : (n : ℕ) (ks : List ℕ) (cs : List ℤ) → length (rows_in n ks cs) ≡ length ks
 rows-many n [] cs = refl
 rows-many n (k ∷ ks) cs = ap (λ m. suc m) (rows-many n ks (drop n cs))
 
+-- the i-th row has the i-th key, and the n cells from the cell i * n on
 pub rows-at : (n : ℕ) (ks : List ℕ) (cs : List ℤ) (i e : ℕ) (d : Row) → i < length ks → get_or (rows_in n ks cs) i d ≡ row_of n (get_or ks i e) (drop (i * n) cs)
 rows-at n [] cs i e d lt = absurd (omega (arith, lt))
 rows-at n (k ∷ ks) cs zero e d lt = ap (λ m. row_of n k (drop m cs)) (let same : 0 ≡ 0 * n = omega arith in same)
@@ -21,6 +23,7 @@ rows-at n (k ∷ ks) cs (suc i) e d lt =
     let same : n + i * n ≡ suc i * n = omega (arith, suc-mul i n) in
     rows-at n ks (drop n cs) i e d (omega (arith, lt)) ∙ ap (row_of n (get_or ks i e)) (drop-drop (i * n) n cs ∙ ap (λ m. drop m cs) same)
 
+-- one more key, and its cells behind the others, is one more row behind the others
 pub rows-push : (n : ℕ) (ks : List ℕ) (cs : List ℤ) (k : ℕ) (xs : List ℤ) → length cs ≡ length ks * n → rows_in n (ks ++ k ∷ []) (cs ++ xs) ≡ rows_in n ks cs ++ row_of n k xs ∷ []
 rows-push n [] cs k xs long = let none : cs ≡ [] = nil_from_length cs (long ∙ omega arith) in ap (λ v. row_of n k (v ++ xs) ∷ []) none
 rows-push n (j ∷ ks) cs k xs long =
@@ -46,6 +49,7 @@ all-zero zero i = refl
 all-zero (suc m) zero = refl
 all-zero (suc m) (suc i) = all-zero m i
 
+-- the cells that fill up a row from its width on are 0
 pub zero-at : (n a : ℕ) → get_or (drop n zeros) a (pos 0) ≡ pos 0
 zero-at n a = get_or-drop n zeros a (pos 0) ∙ at (n + a)
   where
@@ -57,12 +61,15 @@ cell-past n k cs a le past = get_or-append_right (take n cs) (drop n zeros) n a 
 
 -- ---- places
 
+-- the place of a row is the place of a key
 pub place-inside : (n : ℕ) (ks : List ℕ) (cs : List ℤ) (rs : List Row) (i : ℕ) → rows_in n ks cs ≡ rs → i < length rs → i < length ks
 place-inside n ks cs rs i is lt = let e : length ks ≡ length rs = sym (rows-many n ks cs) ∙ ap length is in omega (arith, e, lt)
 
+-- where each row has its cells, those of the row at a place lie within the list
 pub stretch-inside : (n : ℕ) (ks : List ℕ) (cs : List ℤ) (i : ℕ) → IsWhole n ks cs → i < length ks → i * n + n ≤ length cs
 stretch-inside n ks cs i whole lt = omega (arith, suc-mul i n, mul-le (suc i) n (length ks) n (omega (arith, lt)) (omega arith), whole.whole)
 
+-- with one more key and n more cells each row still has its cells
 pub pushed-whole : (n : ℕ) (ks : List ℕ) (cs : List ℤ) (k : ℕ) (xs : List ℤ) → IsWhole n ks cs → length xs ≡ n → IsWhole n (ks ++ k ∷ []) (cs ++ xs)
 pushed-whole n ks cs k xs whole long =
     let more : length (ks ++ k ∷ []) ≡ suc (length ks) = length-append ks (k ∷ []) ∙ omega arith in
@@ -72,6 +79,7 @@ pushed-whole n ks cs k xs whole long =
       whole = rw (more, suc-mul (length ks) n) (omega (arith, length-append cs xs, whole.whole, long));
     }
 
+-- whether the 8 - n cells from the n-th on are 0 is whether a row of 8 cells is within n
 pub fits-Decides : (r : Bool) (n : ℕ) (xs : List ℤ) → length xs ≡ 8 → Decides r (take (8 - n) (drop n xs) ≡ take (8 - n) (drop n zeros)) → Decides r (drop n xs ≡ drop n zeros)
 fits-Decides r n xs long d =
     let one : take (8 - n) (drop n xs) ≡ drop n xs = ap (λ m. take (m - n) (drop n xs)) (sym long) ∙ take_rest xs n in
@@ -86,6 +94,7 @@ cell-at n ks cs i a d whole lt below =
     ∙ sym (cell-below n (get_or ks i 0) (drop (i * n) cs) a (omega (arith, length-drop (i * n) cs, enough)) below)
     ∙ sym (ap (cell_of a) (rows-at n ks cs i 0 d lt))
 
+-- a row's cell of an attribute past the width is 0
 pub no-cell-at : (n : ℕ) (ks : List ℕ) (cs : List ℤ) (i a : ℕ) (d : Row) → IsWhole n ks cs → i < length ks → n ≤ a → pos 0 ≡ cell_of a (get_or (rows_in n ks cs) i d)
 no-cell-at n ks cs i a d whole lt past =
     let enough = stretch-inside n ks cs i whole lt in
@@ -98,10 +107,12 @@ keys-above : (m n : ℕ) (ks : List ℕ) (cs : List ℤ) → AllByRecursion (λ 
 keys-above m n [] cs a = tt
 keys-above m n (k ∷ ks) cs a = (a.0, keys-above m n ks (drop n cs) a.1)
 
+-- where the keys of the rows rise, the list of keys rises
 pub keys-rise : (n : ℕ) (ks : List ℕ) (cs : List ℤ) → Rises key_of (rows_in n ks cs) → Rises (λ (k : ℕ). k) ks
 keys-rise n [] cs r = tt
 keys-rise n (k ∷ ks) cs r = (keys-above k n ks (drop n cs) r.0, keys-rise n ks (drop n cs) r.1)
 
+-- the place of a key is the place of its row, and a key that is nowhere is the key of no row
 pub rows-found : (r : Option ℕ) (n : ℕ) (ks : List ℕ) (cs : List ℤ) (key : ℕ) → MatchOption r (All (λ (k : ℕ). k ≢ key) ks) (λ p. (p < length ks) × ((d : ℕ) → get_or ks p d ≡ key)) → MatchOption r (All (λ (x : Row). x.key ≢ key) (rows_in n ks cs)) (λ p. (p < length (rows_in n ks cs)) × ((d : Row) → (get_or (rows_in n ks cs) p d).key ≡ key))
 rows-found None n ks cs key none = λ i d lt is. (let inside : i < length ks = omega (arith, lt, rows-many n ks cs) in none i 0 inside (sym (ap key_of (rows-at n ks cs i 0 d inside)) ∙ is))
 rows-found (Some p) n ks cs key at = (omega (arith, at.0, rows-many n ks cs), λ d. ap key_of (rows-at n ks cs p 0 d at.0) ∙ at.1 0)
@@ -122,6 +133,7 @@ parts-many n (false ∷ bs) (k ∷ ks) xs same long =
     let rest : length (drop n xs) ≡ length ks * n = omega (arith, all, length-drop n xs) in
     parts-many n bs ks (drop n xs) (omega (arith, same)) rest
 
+-- the keys that are kept, with the cells that are kept, are the rows that are kept
 pub rows-kept : (n : ℕ) (bs : List Bool) (ks : List ℕ) (cs : List ℤ) → length bs ≡ length ks → length cs ≡ length ks * n → rows_in n (kept bs ks) (kept_parts n bs cs) ≡ kept bs (rows_in n ks cs)
 rows-kept n [] ks cs same long = refl
 rows-kept n (b ∷ bs) [] cs same long = refl
@@ -136,11 +148,13 @@ rows-kept n (false ∷ bs) (k ∷ ks) cs same long =
     let rest : length (drop n cs) ≡ length ks * n = omega (arith, all, length-drop n cs) in
     rows-kept n bs ks (drop n cs) (omega (arith, same)) rest
 
+-- each row that is kept has its cells
 pub kept-whole : (n : ℕ) (bs : List Bool) (ks : List ℕ) (cs : List ℤ) → length bs ≡ length ks → IsWhole n ks cs → IsWhole n (kept bs ks) (kept_parts n bs cs)
 kept-whole n bs ks cs same whole = record { some = whole.some; most = whole.most; whole = parts-many n bs ks cs same whole.whole }
 
 -- ---- the first rows
 
+-- the first m keys, with the first m * n cells, are the first m rows
 pub rows-cut : (n m : ℕ) (ks : List ℕ) (cs : List ℤ) → length cs ≡ length ks * n → m ≤ length ks → rows_in n (take m ks) (take (m * n) cs) ≡ take m (rows_in n ks cs)
 rows-cut n zero ks cs long le = refl
 rows-cut n (suc m) [] cs long le = refl
@@ -181,19 +195,23 @@ dropped-whole n i ks cs whole le =
       whole = length-drop (i * n) cs ∙ (let e : length cs - i * n ≡ (length ks - i) * n = omega (arith, both, all, whole.whole) in e) ∙ ap (λ m. m * n) (sym (length-drop i ks));
     }
 
+-- the cells of m rows from the i-th on lie within the list
 pub part-inside : (n i m : ℕ) (ks : List ℕ) (cs : List ℤ) → IsWhole n ks cs → i + m ≤ length ks → i * n + m * n ≤ length cs
 part-inside n i m ks cs whole le =
     let both = add-mul i m n in
     let within = mul-le (i + m) n (length ks) n le (omega arith) in
     omega (arith, both, within, whole.whole)
 
+-- each row of a stretch of the rows has its cells
 pub part-whole : (n i m : ℕ) (ks : List ℕ) (cs : List ℤ) → IsWhole n ks cs → i + m ≤ length ks → IsWhole n (take m (drop i ks)) (take (m * n) (drop (i * n) cs))
 part-whole n i m ks cs whole le = cut-whole n m (drop i ks) (drop (i * n) cs) (omega (arith, le, length-drop i ks)) (dropped-whole n i ks cs whole (omega (arith, le)))
 
+-- a stretch of the keys, with the cells of that stretch, is the same stretch of the rows
 pub rows-part : (n i m : ℕ) (ks : List ℕ) (cs : List ℤ) → IsWhole n ks cs → i + m ≤ length ks → rows_in n (take m (drop i ks)) (take (m * n) (drop (i * n) cs)) ≡ take m (drop i (rows_in n ks cs))
 rows-part n i m ks cs whole le =
     rows-cut n m (drop i ks) (drop (i * n) cs) (dropped-whole n i ks cs whole (omega (arith, le))).whole (omega (arith, le, length-drop i ks)) ∙ ap (take m) (rows-dropped n i ks cs)
 
+-- keys behind others, with their cells behind the others', are the rows behind the others
 pub rows-joined : (n : ℕ) (ks ls : List ℕ) (cs ds : List ℤ) → length cs ≡ length ks * n → rows_in n (ks ++ ls) (cs ++ ds) ≡ rows_in n ks cs ++ rows_in n ls ds
 rows-joined n [] ls cs ds long = let none : cs ≡ [] = nil_from_length cs (long ∙ omega arith) in ap (λ v. rows_in n ls (v ++ ds)) none
 rows-joined n (k ∷ ks) ls cs ds long =
@@ -202,6 +220,7 @@ rows-joined n (k ∷ ks) ls cs ds long =
     let rest : length (drop n cs) ≡ length ks * n = omega (arith, more, length-drop n cs) in
     rw (take-append-le n cs ds least, drop-append-le n cs ds least) (ap (λ v. row_of n k cs ∷ v) (rows-joined n ks ls (drop n cs) ds rest))
 
+-- where each row of two lists has its cells, so has each row of both together
 pub joined-whole : (n : ℕ) (ks ls : List ℕ) (cs ds : List ℤ) → IsWhole n ks cs → IsWhole n ls ds → IsWhole n (ks ++ ls) (cs ++ ds)
 joined-whole n ks ls cs ds one other = record {
   some = one.some;

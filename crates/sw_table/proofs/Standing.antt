@@ -21,6 +21,7 @@ rises-pushed : (n : ℕ) (xs : List Row) (r : Row) → Rises key_of xs → AllBy
 rises-pushed n [] r up below lt = (tt, tt)
 rises-pushed n (x ∷ xs) r up below lt = (all-pushed (λ (y : Row). key_of x < key_of y) xs r up.0 (let h = below.0 in omega (arith, h, lt)), rises-pushed n xs r up.1 below.1 lt)
 
+-- one more row, live and of a key above all, comes behind the others, and no more of them are dead
 pub standing-pushed : (n : ℕ) (xs : List Row) (fs : List Bool) (dead : ℕ) (r : Row) → IsStanding n xs fs dead → n < r.key → IsStanding r.key (xs ++ r ∷ []) (fs ++ true ∷ []) dead
 standing-pushed n xs fs dead r s lt = record {
   many = length_push fs true ∙ ap (λ m. m + 1) s.many ∙ sym (length_push xs r);
@@ -31,6 +32,7 @@ standing-pushed n xs fs dead r s lt = record {
 
 -- ---- one row less
 
+-- where a live row's flag turns false, one more row is dead
 pub standing-removed : (n : ℕ) (xs : List Row) (fs : List Bool) (dead p : ℕ) → IsStanding n xs fs dead → get_or fs p false ≡ true → IsStanding n xs (slice_set fs p false) (dead + 1)
 standing-removed n xs fs dead p s on = record {
   many = length-set fs p false ∙ s.many;
@@ -53,6 +55,7 @@ rises-kept (b ∷ fs) [] up = tt
 rises-kept (true ∷ fs) (x ∷ xs) up = (all-kept (λ (y : Row). key_of x < key_of y) fs xs up.0, rises-kept fs xs up.1)
 rises-kept (false ∷ fs) (x ∷ xs) up = rises-kept fs xs up.1
 
+-- where the dead rows are dropped, the others stand as before, and all are live
 pub standing-compact : (n : ℕ) (xs : List Row) (fs : List Bool) (dead many : ℕ) → IsStanding n xs fs dead → many ≡ length (kept fs xs) → IsStanding n (kept fs xs) (replicate many true) 0
 standing-compact n xs fs dead many s is = record {
   many = length-replicate many true ∙ is;
@@ -63,6 +66,7 @@ standing-compact n xs fs dead many s is = record {
 
 -- ---- rows whose keys rise
 
+-- where keys rise from above n, the last key before a place, n for none, is below the key there
 pub last-less : (n : ℕ) (rs : List Row) (i : ℕ) (d : Row) → RisesFrom n rs → i < length rs → last_key n (take i rs) < (get_or rs i d).key
 last-less n [] i d up lt = absurd (omega (arith, lt))
 last-less n (r ∷ rs) zero d up lt = up.0
@@ -73,5 +77,6 @@ last-suc n [] i d lt = absurd (omega (arith, lt))
 last-suc n (r ∷ rs) zero d lt = refl
 last-suc n (r ∷ rs) (suc i) d lt = last-suc r.key rs i d (omega (arith, lt))
 
+-- the last key of the first i + 1 rows is that of the row at i
 pub last-more : (n : ℕ) (rs : List Row) (i : ℕ) (d : Row) → i < length rs → last_key n (take (i + 1) rs) ≡ (get_or rs i d).key
 last-more n rs i d lt = ap (λ k. last_key n (take k rs)) (let e : i + 1 ≡ suc i = omega arith in e) ∙ last-suc n rs i d lt

@@ -6,6 +6,7 @@ use Rattle.sw_table.specs.declared.row.Row.{Row}
 use Rattle.sw_table.specs.Packed.{IsWithin, zeros}
 use Rattle.sw_table.proofs.Packing.{zero-at}
 
+-- a row within n cells is within more of them
 pub within-more : (n m : ℕ) (r : Row) → n ≤ m → IsWithin n r → IsWithin m r
 within-more n m r le is =
     let same : n + (m - n) ≡ m = omega (arith, le) in

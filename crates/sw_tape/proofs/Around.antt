@@ -64,6 +64,7 @@ rising-split v (c ∷ cs) r zero (suc j) d le lt e =
     ap not (right-below c (get_or cs j d) v (all-at c cs r.0 j d (omega (arith, lt))) (not-not (is_left (get_or cs j d) v) e))
 rising-split v (c ∷ cs) r (suc i) (suc j) d le lt e = rising-split v cs r.1 i j d (omega (arith, le)) (omega (arith, lt)) e
 
+-- the point from which on the bounds have the value on their left splits them
 pub split-from_point : (v : ℤ) (bs : List Bound) (k : ℕ) → k ≤ length bs → IsPartitionPoint (λ c. not (is_left c v) ≡ true) (λ c. not (is_left c v) ≡ false) bs k → IsSplit v k bs
 split-from_point v [] zero le p = tt
 split-from_point v [] (suc k) le p = absurd (omega (arith, le))
@@ -97,9 +98,11 @@ low-last v (c ∷ cs) (suc k) d r s b h e = elim (cases_Bool (same_bound b c)) [
   | inr other ↦ low-last v cs k d r.1 s.1 b (rw other at h) e
 ]
 
+-- where a value splits rising bounds before the first, none is nearest below it
 pub nearest-none_below : (v : ℤ) (bs : List Bound) (k : ℕ) → k ≡ 0 → IsRising bs → IsSplit v k bs → IsNearestBelow (λ b. is_among b bs) v None
 nearest-none_below v bs k e r s = all-left v bs r (subst (λ (n : ℕ). IsSplit v n bs) e s)
 
+-- the bound before the place where a value splits rising bounds is the nearest below it
 pub nearest-low : (v : ℤ) (bs : List Bound) (k : ℕ) (d : Bound) → k ≢ 0 → IsRising bs → IsSplit v k bs → IsNearestBelow (λ b. is_among b bs) v (Some (get_or bs (k - 1) d))
 nearest-low v bs zero d ne r s = absurd (ne refl)
 nearest-low v bs (suc k) d ne r s =
@@ -132,9 +135,11 @@ high-first v (c ∷ cs) (suc k) d lt r s b h e = elim (cases_Bool (same_bound b 
   | inr other ↦ high-first v cs k d (omega arith) r.1 s.1 b (rw other at h) e
 ]
 
+-- where a value splits bounds after the last, none is nearest above it
 pub nearest-none_above : (v : ℤ) (bs : List Bound) (k : ℕ) → k ≡ length bs → IsSplit v k bs → IsNearestAbove (λ b. is_among b bs) v None
 nearest-none_above v bs k e s = none-left v bs k e s
 
+-- the bound at the place where a value splits rising bounds is the nearest above it
 pub nearest-high : (v : ℤ) (bs : List Bound) (k : ℕ) (d : Bound) → k < length bs → IsRising bs → IsSplit v k bs → IsNearestAbove (λ b. is_among b bs) v (Some (get_or bs k d))
 nearest-high v bs k d lt r s = (among-at bs k d lt, high-side v bs k d lt s, high-first v bs k d lt r s)
 
@@ -143,6 +148,7 @@ pub below-same : (p q : Bound → Bool) (v : ℤ) (o : Option Bound) → ((b : B
 below-same p q v None same h = λ b e. h b (same b ∙ e)
 below-same p q v (Some c) same h = (sym (same c) ∙ h.0, h.1, λ b e l. h.2 b (same b ∙ e) l)
 
+-- the nearest bound above, or none, is so by any test that says the same
 pub above-same : (p q : Bound → Bool) (v : ℤ) (o : Option Bound) → ((b : Bound) → p b ≡ q b) → IsNearestAbove p v o → IsNearestAbove q v o
 above-same p q v None same h = λ b e. h b (same b ∙ e)
 above-same p q v (Some c) same h = (sym (same c) ∙ h.0, h.1, λ b e l. h.2 b (same b ∙ e) l)

@@ -9,6 +9,7 @@ use Rattle.sw_tape.specs.Bounds.{is_among}
 use Rattle.sw_tape.specs.Entries.{IsKept}
 use Rattle.sw_tape.proofs.Steps.{count-push, peak-push, tape-push, marked-push}
 
+-- where a tape takes in one more entry that may follow, its fields are again what its entries say
 pub kept-push : (es : List (Step Row)) (e : Step Row) (bs bs' : List Bound) (n n' p p' : ℕ) → IsKept es bs n p → MayFollow (count_from 0 es) e → length es < 4096 → IsRising bs' →
     ((b : Bound) → is_among b bs' ≡ ranges_at b e || is_among b bs) → n' ≡ count_after n e → n' ≤ n + 1 → p' ≡ max p n' → IsKept (es ++ e ∷ []) bs' n' p'
 kept-push es e bs bs' n n' p p' h f short rising among en le ep =

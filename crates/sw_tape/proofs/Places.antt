@@ -8,6 +8,7 @@ use Rattle.sw_kernel.specs.Tapes.{IsBelowAll, IsRising}
 use Rattle.sw_kernel.proofs.Orders.{below-trans, below-new, above, same-same, same-flips}
 use Rattle.sw_tape.specs.Bounds.{is_among, is_first, IsPlaceOf}
 
+-- a bound that is below all is below the one at each place
 pub all-at : (b : Bound) (bs : List Bound) → IsBelowAll b bs → (k : ℕ) (d : Bound) → k < length bs → bound_below b (get_or bs k d) ≡ true
 all-at b [] h k d lt = absurd (omega (arith, lt))
 all-at b (c ∷ cs) h zero d lt = h.0
@@ -21,6 +22,7 @@ rising-parted b (c ∷ cs) r (suc i) zero d le lt e = absurd (omega (arith, le))
 rising-parted b (c ∷ cs) r zero (suc j) d le lt e = below-trans c (get_or cs j d) b (all-at c cs r.0 j d (omega (arith, lt))) e
 rising-parted b (c ∷ cs) r (suc i) (suc j) d le lt e = rising-parted b cs r.1 i j d (omega (arith, le)) (omega (arith, lt)) e
 
+-- the point from which on the bounds are not below b is b's place
 pub place-from_point : (b : Bound) (bs : List Bound) (k : ℕ) → k ≤ length bs → IsPartitionPoint (λ c. bound_below c b ≡ true) (λ c. bound_below c b ≡ false) bs k → IsPlaceOf b k bs
 place-from_point b [] zero le p = tt
 place-from_point b [] (suc k) le p = absurd (omega (arith, le))
@@ -28,6 +30,7 @@ place-from_point b (c ∷ cs) zero le p = p.1 0 c (omega arith) (omega arith)
 place-from_point b (c ∷ cs) (suc k) le p =
     (p.0 0 c (omega arith) (omega arith), place-from_point b cs k (omega (arith, le)) (λ m d lo hi. p.0 (suc m) d (omega arith) (omega (arith, hi)), λ m d lo hi. p.1 (suc m) d (omega (arith, lo)) (omega (arith, hi))))
 
+-- a bound's place is at most the number of bounds
 pub place-within : (b : Bound) (bs : List Bound) (k : ℕ) → IsPlaceOf b k bs → k ≤ length bs
 place-within b [] zero p = omega arith
 place-within b [] (suc k) p = absurd p
@@ -62,6 +65,7 @@ or-turn true true u = refl
 or-turn true false u = refl
 or-turn false t u = refl
 
+-- where a bound was put in, it and those from before are among them
 pub among-insert : (b c : Bound) (bs : List Bound) (k : ℕ) → k ≤ length bs → is_among b (insert bs k c) ≡ same_bound b c || is_among b bs
 among-insert b c [] zero le = refl
 among-insert b c [] (suc k) le = absurd (omega (arith, le))

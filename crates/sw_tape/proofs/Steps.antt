@@ -4,10 +4,12 @@ use Rattle.sw_query.specs.declared.bound.Bound.{Bound}
 use Rattle.sw_kernel.specs.Replay.{Step, loaded, inserted, removed, ranged}
 use Rattle.sw_kernel.specs.Tapes.{MayFollow, AllFollow, IsTape, count_after, count_from, peak_from, ranges_at, is_marked}
 
+-- with one more step the number of items is what the step makes of the number before
 pub count-push : {A : Type 0} (n : ℕ) (es : List (Step A)) (e : Step A) → count_from n (es ++ e ∷ []) ≡ count_after (count_from n es) e
 count-push n [] e = refl
 count-push n (x ∷ es) e = count-push (count_after n x) es e
 
+-- with one more step the peak is the greater of the peak before and the number after the step
 pub peak-push : {A : Type 0} (n : ℕ) (es : List (Step A)) (e : Step A) → peak_from n (es ++ e ∷ []) ≡ max (peak_from n es) (count_after (count_from n es) e)
 peak-push n [] e = max_swap (count_after n e)
   where
@@ -24,6 +26,7 @@ follow-push : {A : Type 0} (n : ℕ) (es : List (Step A)) (e : Step A) → AllFo
 follow-push n [] e f m = (m, tt)
 follow-push n (x ∷ es) e f m = (f.0, follow-push (count_after n x) es e f.1 m)
 
+-- a tape with one more step that may follow is a tape
 pub tape-push : {A : Type 0} (es : List (Step A)) (e : Step A) → IsTape es → MayFollow (count_from 0 es) e → IsTape (es ++ e ∷ [])
 tape-push [] e t m = absurd t
 tape-push {A} (loaded xs ∷ es) e t m =
@@ -38,6 +41,7 @@ or-turn true true u = refl
 or-turn true false u = refl
 or-turn false t u = refl
 
+-- with one more step the bounds that stand in ranges are those from before, and those of its range
 pub marked-push : {A : Type 0} (b : Bound) (es : List (Step A)) (e : Step A) → is_marked b (es ++ e ∷ []) ≡ ranges_at b e || is_marked b es
 marked-push b [] e = refl
 marked-push b (x ∷ es) e = ap (λ t. ranges_at b x || t) (marked-push b es e) ∙ or-turn (ranges_at b x) (ranges_at b e) (is_marked b es)

@@ -12,6 +12,7 @@ use Rattle.sw_lang.proofs.Parsing.Merge.{eqb-same}
 abbrev pub with_new : CutLists → Cut → CutLists
 with_new cuts c = slice_set cuts c.0 (cuts_on cuts c.0 ++ c.1 ∷ [])
 
+-- the lists with further cuts, one after another
 abbrev pub added : CutLists → List Cut → CutLists
 added cuts [] = cuts
 added cuts (c ∷ cs) = added (with_new cuts c) cs
@@ -20,10 +21,12 @@ added cuts (c ∷ cs) = added (with_new cuts c) cs
 abbrev pub HasRoom : CutLists → Cut → Type 0
 HasRoom cuts c = (length (cuts_on cuts c.0) < MOST_CUTS) × (list_all (λ y. int_lt y c.1) (cuts_on cuts c.0) ≡ true)
 
+-- each of further cuts finds room, and stands above those before it, once the earlier ones are added
 abbrev pub Allowed : CutLists → List Cut → Type 0
 Allowed cuts [] = Unit {0}
 Allowed cuts (c ∷ cs) = HasRoom cuts c × Allowed (with_new cuts c) cs
 
+-- the cuts are on the first n attributes alone
 abbrev pub AllWithin : ℕ → List Cut → Type 0
 AllWithin n [] = Unit {0}
 AllWithin n (c ∷ cs) = (c.0 < n) × AllWithin n cs
@@ -92,6 +95,7 @@ rises_seam (x ∷ xs) z ys h =
 
 -- ---- lawful lists
 
+-- the cuts on each of the first n attributes rise, and are few
 abbrev pub AllLawful : ℕ → CutLists → Type 0
 AllLawful n cuts = (a : ℕ) → a < n → AreCuts (cuts_on cuts a)
 

@@ -17,6 +17,7 @@ use Rattle.sw_rows.specs.Texts.{AreTexts, are_full, code_given, code_of, has_tex
 use Rattle.sw_rows.proofs.Schemas.TextLaws.{code_kept, code_only, coded_at, given_kept}
 use Rattle.sw_rows.proofs.Schemas.TextLemmas.{texts_sound}
 
+-- texts, each as its bytes
 abbrev pub Texts : Type 0
 Texts = List (List ℕ)
 

@@ -26,6 +26,7 @@ use Rattle.sw_lang.proofs.Parsing.Lines.{line_found, line_read}
 abbrev Texts : Type 0
 Texts = List (List ℕ)
 
+-- the columns' domains, where they are of texts, have just these texts
 abbrev pub AreOver : Texts → List Column → Type 0
 AreOver ts cs = All (λ c. IsOver ts c.1) cs
 
@@ -39,6 +40,7 @@ IsCodedTok ts us comma = ⊤
 IsCodedTok ts us (quoted text) = (code : ℕ) → is_text text ≡ true → code_of ts text ≡ Some code → code_of us text ≡ Some code
 IsCodedTok ts us stray = ⊤
 
+-- each quoted text of the tokens that has a code among some texts has the same among others
 abbrev pub AreCodedToks : Texts → Texts → List Tok → Type 0
 AreCodedToks ts us [] = ⊤
 AreCodedToks ts us (t ∷ toks) = IsCodedTok ts us t × AreCodedToks ts us toks

@@ -54,6 +54,7 @@ terms_good schema ts (t ∷ u ∷ us) ok (a, b, c, rest, e, is, more) = (term_go
 
 -- ---- bounds
 
+-- a bound that may be missing stands at a stored cell of the kind
 abbrev pub IsBoundOf : Domain → Option Bound → Type 0
 IsBoundOf k None = Unit {0}
 IsBoundOf k (Some (Before z)) = IsCell k z
@@ -145,6 +146,7 @@ pub record IsStored (schema : List Column) (c : Cond) : Type 0 where
   pub some : is_bound c.lower c.upper ≡ true
   pub equal : IsEqualOnTexts schema c
 
+-- each condition has an attribute of the schema, a bound, bounds at cells of its kind, and on texts equality
 abbrev pub AreStored : List Column → List Cond → Type 0
 AreStored schema [] = Unit {0}
 AreStored schema (c ∷ cs) = IsStored schema c × AreStored schema cs

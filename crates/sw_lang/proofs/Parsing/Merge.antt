@@ -15,6 +15,7 @@ abbrev pub conds_from : List Cond → List Term → List Cond
 conds_from conds [] = conds
 conds_from conds (t ∷ ts) = conds_from (add_term conds t) ts
 
+-- a bound of each attribute, or none
 abbrev pub Bounds : Type 0
 Bounds = ℕ → Option Bound
 
@@ -26,9 +27,11 @@ bounded lower upper a = record { attr = a; lower = lower a; upper = upper a }
 abbrev pub lower_with : Bounds → Term → Bounds
 lower_with lower t = λ a. cond (eqb t.attr a) (greater (lower a) (lower_of t.op t.value)) (lower a)
 
+-- the upper bounds with that of one more term
 abbrev pub upper_with : Bounds → Term → Bounds
 upper_with upper t = λ a. cond (eqb t.attr a) (lesser (upper a) (upper_of t.op t.value)) (upper a)
 
+-- whether an attribute is among these
 abbrev pub has : List ℕ → ℕ → Bool
 has attrs a = list_any (λ b. eqb b a) attrs
 

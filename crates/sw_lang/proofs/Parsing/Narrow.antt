@@ -8,6 +8,7 @@ use Rattle.sw_query.specs.declared.query.Cond.{Cond}
 use Rattle.sw_lang.specs.declared.reading.term.Term.{Term}
 use Rattle.sw_lang.specs.Terms.{cond_of, narrowed, add_term}
 
+-- whether a condition is on the attribute
 abbrev pub on : ℕ → Cond → Bool
 on a c = eqb c.attr a
 

@@ -258,6 +258,7 @@ past-is y ys (t ∷ ts) rest e = by_comma (is_comma t) refl e
     by_comma true h f = ap (λ (w : Tok). w ∷ ts) (comma_is t h) ∙ ap (λ (w : List Tok). comma ∷ w) (same_ok ts rest f)
     by_comma false h f = absurd cc
 
+-- all values are those that were read before, and then values of the further tokens
 abbrev pub MoreFound : List ℤ → List Domain → List Tok → List ℤ → Type 0
 MoreFound done ks ts all = (zs : List ℤ) × MoreValues ks ts zs × (all ≡ done ++ zs)
 

@@ -16,6 +16,7 @@ use Rattle.sw_lang.specs.Terms.{add_term, cond_of, conditions, narrowed}
 use Rattle.sw_lang.proofs.Parsing.Merge.{Distinct, conds_from, conds_from-conditions, eqb-turned, has, has-last, or-false}
 use Rattle.sw_lang.proofs.Printed.Terms.{equal_terms_of, lower_term, printed, printed_all, text_terms_of, upper_term}
 
+-- the attributes that conditions are on
 abbrev pub attrs : List Cond → List ℕ
 attrs cs = map (λ c. c.attr) cs
 

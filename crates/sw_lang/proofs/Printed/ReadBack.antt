@@ -27,6 +27,7 @@ use Rattle.sw_lang.proofs.Printed.Tokens.{IsRun, Stops, front_word}
 
 -- ---- names
 
+-- each of the attributes is one of the schema's
 abbrev pub Below : List Column → List ℕ → Type 0
 Below schema names = AllByRecursion (λ a. a < length schema) names
 
@@ -110,6 +111,7 @@ given_back schema ts conds ok (terms, rest, e, is, made) = some_given (where_bac
 
 -- ---- rows
 
+-- all domains are sound: decimals are one to six, and texts are few and differ
 abbrev pub AllPlaces : List Domain → Type 0
 AllPlaces ks = AllByRecursion IsDomain ks
 

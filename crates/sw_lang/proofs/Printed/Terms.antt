@@ -21,11 +21,13 @@ use Rattle.sw_lang.proofs.Printed.Tokens.{Stops, front_op, front_word, op_stops,
 
 -- ---- the terms that a condition is printed by
 
+-- the comparison of a lower bound, if there is one: at least, or greater
 abbrev pub lower_term : ℕ → Option Bound → List Term
 lower_term a None = []
 lower_term a (Some (Before v)) = record { attr = a; op = Ge; value = v } ∷ []
 lower_term a (Some (After v)) = record { attr = a; op = Gt; value = v } ∷ []
 
+-- the comparison of an upper bound, if there is one: less, or at most
 abbrev pub upper_term : ℕ → Option Bound → List Term
 upper_term a None = []
 upper_term a (Some (Before v)) = record { attr = a; op = Lt; value = v } ∷ []
@@ -35,9 +37,11 @@ upper_term a (Some (After v)) = record { attr = a; op = Le; value = v } ∷ []
 abbrev pub equal_term : ℕ → ℤ → List Term
 equal_term a v = record { attr = a; op = Eq; value = v } ∷ []
 
+-- equality with two texts, or with one where both are the same
 abbrev pub equal_terms_of : ℕ → ℤ → ℤ → List Term
 equal_terms_of a v w = if int_eq v w then equal_term a v else equal_term a v ++ equal_term a w
 
+-- the comparisons of bounds on texts; other bounds than those of equality are compared as for numbers
 abbrev pub text_terms_of : ℕ → Option Bound → Option Bound → List Term
 text_terms_of a None upper = upper_term a upper
 text_terms_of a (Some (After v)) upper = lower_term a (Some (After v)) ++ upper_term a upper
@@ -45,16 +49,20 @@ text_terms_of a (Some (Before v)) None = lower_term a (Some (Before v))
 text_terms_of a (Some (Before v)) (Some (Before w)) = lower_term a (Some (Before v)) ++ upper_term a (Some (Before w))
 text_terms_of a (Some (Before v)) (Some (After w)) = equal_terms_of a v w
 
+-- the comparisons of a condition's bounds as for numbers, that of its lower bound first
 abbrev pub bound_terms_of : Cond → List Term
 bound_terms_of c = lower_term c.attr c.lower ++ upper_term c.attr c.upper
 
+-- the comparisons that a condition is printed by, as its attribute is of texts or not
 abbrev pub printed : List Column → Cond → List Term
 printed schema c = if is_of_texts (kind_at schema c.attr) then text_terms_of c.attr c.lower c.upper else bound_terms_of c
 
+-- the comparisons that conditions are printed by, in order
 abbrev pub printed_all : List Column → List Cond → List Term
 printed_all schema [] = []
 printed_all schema (c ∷ cs) = printed schema c ++ printed_all schema cs
 
+-- a comparison as it is printed: the attribute's name, the operator, and the value
 abbrev pub term_text : List Column → Term → List ℕ
 term_text schema t = comparison schema t.attr (op_text t.op) t.value
 
@@ -107,10 +115,12 @@ pub record IsGood (schema : List Column) (t : Term) : Type 0 where
   pub fits : (is_of_texts (kind_at schema t.attr) && not (is_equality t.op)) ≡ false
   pub cell : IsCell (kind_at schema t.attr) t.value
 
+-- each term is on an attribute of the schema, with a cell of its kind, and compares texts by equality alone
 abbrev pub AreGood : List Column → List Term → Type 0
 AreGood schema [] = Unit {0}
 AreGood schema (t ∷ ts) = IsGood schema t × AreGood schema ts
 
+-- an attribute's name as a token
 abbrev pub name_tok : List Column → ℕ → Tok
 name_tok schema a = word (name_at schema a)
 
