@@ -151,6 +151,10 @@ TakesPart most us old new more =
     ((length old + most < length us) × (new ≡ take (length old + most) us))
     ((length us ≤ length old + most) × (new ≡ old))
 
+-- a head that took these lacks no more than so many of the updates
+abbrev pub LacksFew : ℕ → List Update → List Update → Type 0
+LacksFew most taken us = length us ≤ length taken + most
+
 -- but for what heads have taken, the same
 abbrev pub IsSameButTaken : Books → Books → Type 0
 IsSameButTaken old new = new ≡ record old { taken = new.taken }

@@ -8,14 +8,15 @@ ghost use Rattle.sw_lang.specs.Cuts.{AreCuts, cuts_on};
 ghost use Rattle.sw_map.specs.Held.{blank};
 ghost use Rattle.sw_spine.specs.Table.{is_numbered};
 ghost use Rattle.sw_spine.specs.History.{CallsBelow, is_select, mine};
-ghost use Rattle.sw_spine.specs.Books.{RefusesRows};
-ghost use Rattle.sw_engine.specs.Desk.{AreAll, InOrder, IsMade, KeepsBoxes, RefusesCall, RefusesClose, RefusesOpening, TellsFull, TooManySessions, new_desk};
+ghost use Rattle.sw_spine.specs.Books.{RefusesRows, updates};
+ghost use Rattle.sw_engine.specs.Desk.{AreAll, InOrder, IsMade, KeepsBoxes, LacksFew, RefusesCall, RefusesClose, RefusesOpening, TellsFull, TooManySessions, new_desk};
 ghost use mathlib.Core.List.{IsPrefix};
 ghost use Rattle.sw_versions.specs.Lists.{IsLonger};
 ghost use Rattle.sw_versions.specs.Refused.{IsAhead};
 ghost use Rattle.sw_versions.specs.Rules.{updates_in};
 ghost use Rattle.sw_engine.specs.Published.{CallGives, CountsMisses, EndWithEntries, GivesReceipt, HaveAll, IsOfFirst, RefusesViewing, TellsAll, answered_to};
 ghost use Rattle.sw_engine.specs.Headline.{IsHistoryOfOneThread};
+ghost use Rattle.sw_engine.specs.declared.engine.TheConstants.{PART};
 ghost use Rattle.sw_engine.specs.Later.{Begin};
 ghost use Rattle.sw_engine.specs.Own.{IsEnded, IsLastOwn, IsNew, LeavesCall, LeavesCommit, LeavesSelect, own_of};
 ghost use Rattle.sw_engine.specs.Sessions.{Answers, GivesUp, Refuses, Stays};
@@ -56,11 +57,8 @@ const NAPS: u32 = 5;
 /// many selects in a row meanwhile, and the head's data stay in one processor's cache.
 const NAP: u64 = 100;
 
-/// How many updates a head takes in a visit before the one in which its select begins.
+/// How many updates a head takes in a visit at most.
 const PART: usize = 1024;
-
-/// In how many such visits it takes all updates that there may be.
-const PARTS: usize = 2048;
 
 fn pause(long: usize) {
     for _ in 0..long {
@@ -389,7 +387,8 @@ impl<J: Naming, M: CrackerMap> Engine<J, M> {
     }
 
     /// The history, for a visit in which the head lacks no more updates than `PART`. Before, it takes the others in visits of
-    /// so many, and receives them between the visits.
+    /// so many, and receives them between the visits. Others go on calling meanwhile; what a history may have of updates bounds
+    /// these visits.
     fn reach<R: Wait>(
         &self,
         rt: &R,
@@ -397,9 +396,10 @@ impl<J: Naming, M: CrackerMap> Engine<J, M> {
     ) -> Result<MutexGuard<'_, LockedDesk<J>>, Refusal>
         requires { head.old.made ≡ true }
         ensures made { head.new.made ≡ true }
+        ensures few { IfOk result (λ d. LacksFew PART head.new.taken (updates d.value.desk.books)) }
         ensures refused { IsOkUnless result NoMemory }
     {
-        for _ in 0..PARTS {
+        for _ in rt.forever() {
             let mut desk = self.visit(rt);
             if !desk.hand_part(head, PART)? {
                 return Ok(desk);
@@ -407,7 +407,7 @@ impl<J: Naming, M: CrackerMap> Engine<J, M> {
             drop(desk);
             head.receive()?;
         }
-        Ok(self.visit(rt))
+        unreachable!()
     }
 
     /// Takes the head's latch and, for a visit each, the lock: the select begins, the head answers, and the reply stands in the
