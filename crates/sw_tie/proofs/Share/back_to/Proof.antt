@@ -29,6 +29,7 @@ use Rattle.sw_tie.specs.contracts.Share.back_to.Key.{name as #self}
 use Rattle.sw_tie.proofs.Share.back_to.Statement.{statement}
 use Rattle.sw_tie.proofs.Share.back_to.Code as code
 
+-- a share that comes back leaves its row given back, as the contract says
 pub back_to_spec : {M : Type 1} → statement M
 back_to_spec 𝓤 𝓛 𝓜 𝓡 wired T L =
     let H = 𝓛.H in let 𝓣 = tables 𝓤 H 𝓜 𝓡 𝓡.env in let R : RattleType = param 0 T in let En = ended T in let c = clauses T 𝓛 𝓜.mem 𝓡.returns in

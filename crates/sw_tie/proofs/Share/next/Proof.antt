@@ -31,6 +31,7 @@ use Rattle.sw_tie.specs.contracts.Share.next.Key.{name as #self}
 use Rattle.sw_tie.proofs.Share.next.Statement.{statement}
 use Rattle.sw_tie.proofs.Share.next.Code as code
 
+-- a book has one row more, at its end, and a share of it is made, as the contract says
 pub next_spec : {M : Type 1} → statement M
 next_spec 𝓤 𝓛 𝓜 𝓡 wired T L =
     let H = 𝓛.H in let 𝓣 = tables 𝓤 H 𝓜 𝓡 𝓡.env in let R : RattleType = param 0 T in let En = ended T in let c = clauses T 𝓛 𝓜.mem 𝓡.returns in

@@ -28,6 +28,7 @@ use Rattle.sw_tie.specs.contracts.Share.shown.Key.{name as #self}
 use Rattle.sw_tie.proofs.Share.shown.Statement.{statement}
 use Rattle.sw_tie.proofs.Share.shown.Code as code
 
+-- a share and its row are told to show one value, and both stay, as the contract says
 pub shown_spec : {M : Type 1} → statement M
 shown_spec 𝓤 𝓛 𝓜 𝓡 wired T L =
     let H = 𝓛.H in let 𝓣 = tables 𝓤 H 𝓜 𝓡 𝓡.env in let R : RattleType = param 0 T in let En = ended T in let c = clauses T 𝓛 𝓜.mem 𝓡.returns in
