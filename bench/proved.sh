@@ -1,5 +1,6 @@
 # What the drivers below this folder share; they source it. It sets `top`, the repository, and `work`, a folder under TMPDIR that goes
-# when the driver ends (with WORK=FOLDER it is that one, and stays, with what was built there), and it has `sizes`, `build` and `area`.
+# when the driver ends (with WORK=FOLDER it is that one, and stays, with what was built there), and it has `sizes`, `proofs`, `build`
+# and `area`.
 top=$(cd "$(dirname "${BASH_SOURCE[0]}")/.." && pwd)
 work=${WORK:-$(mktemp -d "${TMPDIR:-/tmp}/bench.XXXXXX")}
 [ -n "${WORK:-}" ] || trap 'rm -rf "$work"' EXIT
@@ -10,6 +11,25 @@ sizes() {
   rows=${1:-1000000}
   rounds=${2:-5}
   calls=${3:-1000}
+}
+
+# proofs NAME FOLDER
+# Puts the proofs of the driver's program NAME into its crate in the work folder: the lemmas that drivers share, and each F.antt.txt of
+# FOLDER as the answers of its function F, where it names goals, else as the invariants.
+proofs() {
+  local to=$work/crates/$1/proofs proof name file
+  mkdir -p "$to"
+  echo "pub mod Lemmas" > "$to/Lib.antt"
+  cp "$top/bench/lemmas.antt.txt" "$to/Lemmas.antt"
+  for proof in "$2"/*.antt.txt; do
+    name=$(basename "$proof" .antt.txt)
+    file=Invariants
+    if grep -q 'Goals as goal' "$proof"; then
+      file=Answers
+    fi
+    mkdir -p "$to/$name"
+    cp "$proof" "$to/$name/$file.antt"
+  done
 }
 
 # build KIND NAME SOURCE LIBRARY..

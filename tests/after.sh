@@ -27,6 +27,7 @@ step sh "$top/tests/crates.sh"
 step python3 "$top/tests/examples.py"
 step python3 "$top/tests/rules.py"
 step python3 "$top/tests/links.py"
+step python3 "$top/tests/lemmas.py"
 step python3 "$top/tests/drivers.py"
 step python3 "$top/bench/claims.py" --check
 step python3 "$top/bench/pages.py" --check

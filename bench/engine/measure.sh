@@ -20,19 +20,7 @@ set -euo pipefail
 here=$(cd "$(dirname "$0")" && pwd)
 . "$here/../proved.sh"
 sizes "$@"
-proofs=$work/crates/engine/proofs
-mkdir -p "$proofs"
-echo "pub mod Lemmas" > "$proofs/Lib.antt"
-cp "$here/../lemmas.antt.txt" "$proofs/Lemmas.antt"
-for proof in "$here"/*.antt.txt; do
-  name=$(basename "$proof" .antt.txt)
-  file=Invariants
-  if grep -q 'Goals as goal' "$proof"; then
-    file=Answers
-  fi
-  mkdir -p "$proofs/$name"
-  cp "$proof" "$proofs/$name/$file.antt"
-done
+proofs engine "$here"
 build program engine "$here/engine.rt.txt" \
   sw_table sw_query sw_rows sw_lang sw_kernel sw_tape sw_budget sw_map sw_bits sw_slots sw_set sw_spine sw_tie sw_chunks sw_versions sw_engine anyhow
 g++ -O3 -march=native -o "$work/peer" "$top/bench/peers/peer.cpp"

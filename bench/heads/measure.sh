@@ -18,12 +18,7 @@ set -euo pipefail
 here=$(cd "$(dirname "$0")" && pwd)
 . "$here/../proved.sh"
 sizes "$@"
-proofs=$work/crates/heads/proofs
-mkdir -p "$proofs/rows_of" "$proofs/known"
-echo "pub mod Lemmas" > "$proofs/Lib.antt"
-cp "$here/../lemmas.antt.txt" "$proofs/Lemmas.antt"
-cp "$here/rows_of.antt.txt" "$proofs/rows_of/Invariants.antt"
-cp "$here/known.antt.txt" "$proofs/known/Answers.antt"
+proofs heads "$here"
 build program heads "$here/heads.rt.txt" \
   sw_table sw_query sw_rows sw_lang sw_kernel sw_tape sw_budget sw_map sw_bits sw_slots sw_set sw_spine sw_tie sw_chunks anyhow
 

@@ -13,6 +13,7 @@ module _ {A : Type 0} where
   take_none zero = refl
   take_none (suc n) = refl
 
+  -- the next item, set at its place, fills one place more
   pub set_next : (n : ℕ) (xs block : List A) (x : A) (rest : List A) → drop n xs ≡ x ∷ rest → n < length block → set (part_filled n xs block) n x ≡ part_filled (suc n) xs block
   set_next zero [] block x rest is lt = absurd cc
   set_next zero (y ∷ ys) [] x rest is lt = absurd (omega (arith, lt))
@@ -47,9 +48,11 @@ tail_drop (suc n) (y ∷ ys) later x h =
     let on : suc n + 1 ≡ suc (n + 1) = omega arith in
     (more.0 ∙ ap (λ m. drop m (y ∷ ys)) (sym on), omega (arith, more.1))
 
+-- behind the next row, all are left but one more of the first
 pub row_passed : (n : ℕ) (first left later : List ReplyRow) (x : ReplyRow) → left ≡ drop n first → left ≡ x ∷ later → later ≡ drop (n + 1) first
 row_passed n first left later x at_ is = (tail_drop n first later x (sym at_ ∙ is)).0
 
+-- where a row is left behind the first n, there are n + 1 at least
 pub row_within : (n : ℕ) (first left later : List ReplyRow) (x : ReplyRow) → left ≡ drop n first → left ≡ x ∷ later → n + 1 ≤ length first
 row_within n first left later x at_ is = (tail_drop n first later x (sym at_ ∙ is)).1
 
@@ -60,6 +63,7 @@ none_left (suc n) m [] h le = drop_all m [] (omega arith)
 none_left (suc n) zero (x ∷ xs) h le = absurd (omega (arith, le))
 none_left (suc n) (suc m) (x ∷ xs) h le = none_left n m xs h (omega (arith, le))
 
+-- where none is left behind some, none is left behind more
 pub rows_ended : (n m : ℕ) (first left later : List ReplyRow) → left ≡ drop n first → left ≡ [] → later ≡ [] → n ≤ m → later ≡ drop m first
 rows_ended n m first left later at_ is gone le = gone ∙ sym (none_left n m first (sym at_ ∙ is) le)
 
@@ -74,6 +78,7 @@ part_length (suc n) (x ∷ xs) (b ∷ bs) few fits = ap suc (part_length n xs bs
 map_at : {A : Type 0} (f : ReplyRow → A) (n : ℕ) (first left later : List ReplyRow) (x : ReplyRow) → left ≡ drop n first → left ≡ x ∷ later → drop n (map f first) ≡ f x ∷ map f later
 map_at f n first left later x at_ is = drop-map f n first ∙ ap (map f) (sym at_ ∙ is)
 
+-- what the next row has, set at its place, fills one place more of the block
 pub copied_next : {A : Type 0} (f : ReplyRow → A) (n : ℕ) (first left later : List ReplyRow) (x : ReplyRow) (out block : List A)
     → out ≡ part_filled n (map f first) block → left ≡ drop n first → left ≡ x ∷ later → n < length block → set out n (f x) ≡ part_filled (n + 1) (map f first) block
 copied_next f n first left later x out block filled_so at_ is lt =

@@ -42,6 +42,7 @@ text_kind : (texts : List (List ℕ)) (code : ℕ) (o : Option (List ℕ)) → t
 text_kind texts code None e h = absurd (false≢true h)
 text_kind texts code (Some t) e h = (code, refl, t, e)
 
+-- a number that passes the test of a cell is one of its kind
 pub cell_kind : (d : Domain) (z : ℤ) → is_cell d z ≡ true → IsOfKind d z
 cell_kind kind.Int z h = tt
 cell_kind (kind.Fix places) z h = tt
@@ -69,6 +70,7 @@ not_zero k = grind (arith, nat_tests)
 not_few : (k : ℕ) → nat_le (suc (suc (suc k))) 2 ≡ false
 not_few k = grind (arith, nat_tests)
 
+-- a bound that passes the test, if there is one, stands at a cell of the kind
 pub bound_kind : (d : Domain) (k : ℕ) (z : ℤ) → is_bound_on d k z ≡ true → IsBoundOfKind d (bound_of k z)
 bound_kind d zero z h = tt
 bound_kind d (suc zero) z h = cell_kind d z h
@@ -101,6 +103,7 @@ equal_bounds l u y z one two less =
 
 -- ---- conditions
 
+-- a condition that fits: its attribute is there, bounds are of its kind, one at least, texts by equality
 abbrev pub CondFits : List Column → Cond → Type 0
 CondFits schema c = (c.attr < length schema) × HasBoundsOfKind schema c × IsEqualOnTexts schema c × IsBound c
 
@@ -112,6 +115,7 @@ on_texts true g h e =
     equal_bounds g.lower_kind g.upper_kind g.lower g.upper c.0 c.1 b.1
 on_texts false g h e = absurd (false≢true e)
 
+-- a range that passes the test, on an attribute that is there, is a condition that fits
 pub range_fits : (schema : List Column) (g : Range) → g.attribute < length schema → is_range (kind_at schema g.attribute) g ≡ true → CondFits schema (cond_in g)
 range_fits schema g lt h =
     let d = kind_at schema g.attribute in
@@ -133,6 +137,7 @@ pub record AllFit (schema : List Column) (cs : List Cond) : Type 0 where
   pub each : All (CondFits schema) cs
   pub apart : Distinct (map (λ c. c.attr) cs)
 
+-- where there are no conditions, all fit
 pub none_fit : (schema : List Column) → AllFit schema []
 none_fit schema = record { each = λ k d lt. absurd (omega (arith, lt)); apart = tt }
 
@@ -181,6 +186,7 @@ by_cond schema done g gs (Err f) cs e h all more = absurd (no_ok f cs h)
     no_ok : (f : Fault) (cs : List Cond) → ◌≡◌ {A = Result (List Cond) Fault} (Err f) (Ok cs) → ⊥
     no_ok f cs h = absurd cc
 
+-- the conditions that ranges make, behind conditions that fit, fit with those
 pub conds_fit : (schema : List Column) (done : List Cond) (gs : List Range) (cs : List Cond) → conds_after schema done gs ≡ Ok cs → AllFit schema done → AllFit schema cs
 conds_fit schema done [] cs h all = subst (AllFit schema) (same_ok done cs h) all
   where
@@ -228,6 +234,7 @@ by_number : (schema : List Column) (make : ℕ → Want) (r : Result ℕ Fault) 
 by_number schema make (Ok n) x h f = subst (WantFits schema) (same_ok (make n) x h) (f n refl)
 by_number schema make (Err f) x h g = absurd (no_ok f x h)
 
+-- what is wanted by numbers fits the table
 pub want_fits : (schema : List Column) (w : Wanted) (x : Want) → want_in schema w ≡ Ok x → WantFits schema x
 want_fits schema (wanted.Rows names) x h = by_names schema (names_in schema names.now) x h (λ ns e. below_by schema names.now _ ns refl e)
 want_fits schema wanted.Count x h = subst (WantFits schema) (same_ok want.Count x h) (tt, tt, tt)
@@ -247,6 +254,7 @@ query_fits schema cs w all fits = record {
   names = fits.2;
 }
 
+-- so does a query of that and of the conditions that ranges make
 pub asked_query_fits : (schema : List Column) (w : Wanted) (ranges : List Range) (x : Want) (cs : List Cond) → want_in schema w ≡ Ok x → conds_after schema [] ranges ≡ Ok cs → FitsQuery schema (record { conds = cs; want = x })
 asked_query_fits schema w ranges x cs asked held = query_fits schema cs x (conds_fit schema [] ranges cs held (none_fit schema)) (want_fits schema w x asked)
 
@@ -308,6 +316,7 @@ delete_call : (schema : List Column) (r : Result (List Cond) Fault) (c : Call) �
 delete_call schema (Ok cs) c h f = subst (FitsCall schema) (same_ok (call.DeleteWhere cs) c h) (f cs refl)
 delete_call schema (Err e) c h f = absurd (no_ok e c h)
 
+-- each call that numbers ask for fits the table
 pub asked_fits : (schema : List Column) (a : Asked) (c : Call) → call_asked schema a ≡ Ok c → FitsCall schema c
 asked_fits schema (asked.Select w ranges) c h =
     select_by schema (want_in schema w) (conds_after schema [] ranges.now) c h (want_fits schema w) (λ cs e. conds_fit schema [] ranges.now cs e (none_fit schema))

@@ -34,10 +34,12 @@ pub code_some : (o : Option ℕ) (z : ℤ) → Some z ≡ option_map pos o → t
 code_some (Some n) z h = refl
 code_some None z h = absurd (none-some z (sym h))
 
+-- where no code is told, there is none
 pub code_none : (o : Option ℕ) → None ≡ option_map pos o → false ≡ is_some o
 code_none (Some n) h = absurd (none-some (pos n) h)
 code_none None h = refl
 
+-- bytes that are a known text are no new one
 pub known_ends : (columns : List Column) (bytes text : List ℕ) → has_texts columns ≡ true → Some text ≡ cond (is_text bytes) (Some bytes) None
     → true ≡ is_some (code_of (texts_of columns) text) → None ≡ cond (is_new_text columns bytes) (Some bytes) None
 known_ends columns bytes text may read known = by-test (is_text bytes) refl read
@@ -46,6 +48,7 @@ known_ends columns bytes text may read known = by-test (is_text bytes) refl read
     by-test true test h = let same : text ≡ bytes = cc in rw (may, test, sym (rw same at known)) refl
     by-test false test h = absurd (none-some text (sym h))
 
+-- bytes that are a text, but no known one, are a new one, where attributes have texts
 pub new_goes : (columns : List Column) (bytes text : List ℕ) → has_texts columns ≡ true → Some text ≡ cond (is_text bytes) (Some bytes) None
     → false ≡ is_some (code_of (texts_of columns) text) → Some text ≡ cond (is_new_text columns bytes) (Some bytes) None
 new_goes columns bytes text may read new = by-test (is_text bytes) refl read
@@ -77,5 +80,6 @@ code_fails field start i e d bytes es text columns x whole lt is new fails so = 
         subst (Fails {Y = List Column} ⊥ x) step (fails_then (λ code. knowing (field + 1) bytes e (drop (i + 1) es) (knowing_one columns text)) x (cell_given (texts_of columns) text) fails)
     by-test false test h = absurd (none-some text (sym h))
 
+-- behind the last text, the attributes are those by then
 pub texts_done : (field start : ℕ) (bytes es : List ℕ) (columns : List Column) (whole : Result (List Column) Fault) → knowing field bytes start (drop (length es) es) columns ≡ whole → whole ≡ Ok columns
 texts_done field start bytes es columns whole so = sym (rw (drop_all (length es) es (omega arith)) at so)

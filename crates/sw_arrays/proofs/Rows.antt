@@ -82,14 +82,17 @@ flat_rows columns (suc many) few =
 left_more : (row many : ℕ) → row < many → many - row ≡ suc (many - (row + 1))
 left_more row many lt = omega (arith, lt)
 
+-- a row that has a cell of the kind is passed
 pub lacking_goes : (d : Domain) (c : Cells) (row many : ℕ) (whole : Option ℕ) → row < many → is_cell_there d (cell_in c row) ≡ true
     → first_lacking d c row (many - row) ≡ whole → first_lacking d c (row + 1) (many - (row + 1)) ≡ whole
 lacking_goes d c row many whole lt there so = rw there at (rw (left_more row many lt) at so)
 
+-- a row that has none is the first that lacks one; rows count from 1
 pub lacking_ends : (d : Domain) (c : Cells) (row many : ℕ) (whole : Option ℕ) → row < many → is_cell_there d (cell_in c row) ≡ false
     → first_lacking d c row (many - row) ≡ whole → whole ≡ Some (row + 1)
 lacking_ends d c row many whole lt lacks so = sym (rw lacks at (rw (left_more row many lt) at so))
 
+-- behind the last row none that lacks one is found
 pub lacking_none : (d : Domain) (c : Cells) (many : ℕ) (whole : Option ℕ) → first_lacking d c many (many - many) ≡ whole → whole ≡ None
 lacking_none d c many whole so = let none : many - many ≡ 0 = omega arith in sym (rw none at so)
 
@@ -183,14 +186,17 @@ all_there schema columns many h row few i x lt = column_there schema many 0 colu
 next_column : (cs : List Cells) (i : ℕ) (c : Cells) → i < length cs → c ≡ get_or cs i c → drop i cs ≡ c ∷ drop (i + 1) cs
 next_column cs i c lt is = drop_more cs i c lt ∙ ap (λ (x : Cells). x ∷ drop (i + 1) cs) (sym is)
 
+-- a column that lacks no cell is passed
 pub column_goes : (schema : List Column) (many i : ℕ) (cs : List Cells) (c : Cells) (whole : Option Place) → i < length cs → c ≡ get_or cs i c
     → first_lacking (kind_at schema i) c 0 many ≡ None → lacking_in schema many i (drop i cs) ≡ whole → lacking_in schema many (i + 1) (drop (i + 1) cs) ≡ whole
 column_goes schema many i cs c whole lt is none so = rw none at (rw (next_column cs i c lt is) at so)
 
+-- the first cell that a column lacks is the first of all that are left; columns count from 1
 pub column_ends : (schema : List Column) (many i row : ℕ) (cs : List Cells) (c : Cells) (whole : Option Place) → i < length cs → c ≡ get_or cs i c
     → first_lacking (kind_at schema i) c 0 many ≡ Some row → lacking_in schema many i (drop i cs) ≡ whole → whole ≡ Some (record { row = row; column = i + 1 })
 column_ends schema many i row cs c whole lt is some so = sym (rw some at (rw (next_column cs i c lt is) at so))
 
+-- behind the last column none that lacks one is found
 pub columns_done : (schema : List Column) (many : ℕ) (cs : List Cells) (whole : Option Place) → lacking_in schema many (length cs) (drop (length cs) cs) ≡ whole → whole ≡ None
 columns_done schema many cs whole so = sym (rw (drop_all (length cs) cs (omega arith)) at so)
 
@@ -206,8 +212,10 @@ fields_many (t ∷ ts) cs h =
 fields_length : (gs : List Attribute) → length (map field_of gs) ≡ length (columns_in gs)
 fields_length gs = length-map gs field_of ∙ sym (length-map gs (λ a. a.cells))
 
+-- where attributes make a header, there is a column at least
 pub some_columns : (gs : List Attribute) (cs : List Column) → header_of (map field_of gs) ≡ Ok cs → 1 ≤ length (columns_in gs)
 some_columns gs cs h = let many = fields_many (map field_of gs) cs h in omega (arith, many.0, fields_length gs)
 
+-- and there are eight at most
 pub few_columns : (gs : List Attribute) (cs : List Column) → header_of (map field_of gs) ≡ Ok cs → length (columns_in gs) ≤ 8
 few_columns gs cs h = let many = fields_many (map field_of gs) cs h in omega (arith, many.1, fields_length gs)

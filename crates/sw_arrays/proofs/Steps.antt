@@ -22,6 +22,7 @@ pub cond_ends : (schema : List Column) (done : List Cond) (gs : List Range) (i :
     → i < length gs → g ≡ get_or gs i g → Err f ≡ cond_after schema done g → conds_after schema done (drop i gs) ≡ whole → whole ≡ Err f
 cond_ends schema done gs i g f whole lt is bad so = sym (rw (sym bad) at (rw (next_range gs i g lt is) at so))
 
+-- behind the last range, the conditions are those by then
 pub conds_done : (schema : List Column) (done : List Cond) (gs : List Range) (whole : Result (List Cond) Fault)
     → conds_after schema done (drop (length gs) gs) ≡ whole → whole ≡ Ok done
 conds_done schema done gs whole so = sym (rw (drop_all (length gs) gs (omega arith)) at so)
@@ -39,5 +40,6 @@ pub cells_end : (schema : List Column) (zs : List ℤ) (i : ℕ) (z : ℤ) → i
     → are_cells schema i (drop i zs) ≡ are_cells schema 0 zs → are_cells schema 0 zs ≡ false
 cells_end schema zs i z lt is bad so = sym (rw bad at (rw (next_cell zs i z lt is) at so))
 
+-- behind the last cell, all are of their kinds
 pub cells_done : (schema : List Column) (zs : List ℤ) → are_cells schema (length zs) (drop (length zs) zs) ≡ are_cells schema 0 zs → are_cells schema 0 zs ≡ true
 cells_done schema zs so = sym (rw (drop_all (length zs) zs (omega arith)) at so)

@@ -15,6 +15,7 @@ pub calls_more_block : (bs : List (List Call)) (b : List Call) → calls_in (bs 
 calls_more_block [] b = omega arith
 calls_more_block (c ∷ bs) b = let more = calls_more_block bs b in omega arith
 
+-- the first blocks have no more calls than all
 pub calls_within : (n : ℕ) (bs : List (List Call)) → calls_in (take n bs) ≤ calls_in bs
 calls_within zero bs = omega arith
 calls_within (suc n) [] = omega arith
@@ -73,6 +74,7 @@ pub closed_wide : {A : Type 0} (n : ℕ) (p : SoFar) (view : A → Script) (resu
 closed_wide n p view (Ok x) s h = ap (λ (t : Script). length t.columns) h ∙ s.wide
 closed_wide n p view (Err e) s h = tt
 
+-- where the lines so far are sound, so are the blocks of what is answered
 pub closed_sound : {A : Type 0} (n : ℕ) (p : SoFar) (view : A → Script) (result : Result A Refusal) → AreSound n p → IfOk result (λ x. view x ≡ whole p) → IfOk result (λ x. AreBlocks n (view x).blocks)
 closed_sound n p view (Ok x) s h = subst (λ (t : Script). AreBlocks n t.blocks) (sym h) (all_sound n p s)
 closed_sound n p view (Err e) s h = tt

@@ -29,6 +29,7 @@ each_answered [] h = refl
 each_answered ((c, Ok r) ∷ os) h = ap (λ (l : List Outcome). (c, Ok r) ∷ l) (each_answered os (omega (arith, h)))
 each_answered ((c, Err e) ∷ os) h = let few = few_answered os in absurd (omega (arith, h, few))
 
+-- answered calls, as outcomes, are of these calls
 pub calls_answered : (ms : List (Call × Reply)) → calls_of (all_answered ms) ≡ map (λ m. m.0) ms
 calls_answered [] = refl
 calls_answered (m ∷ ms) = ap (λ (l : List Call). m.0 ∷ l) (calls_answered ms)

@@ -70,6 +70,7 @@ goes_out base t begun f g sent block w written result text out eb is ef wrote =
 pub served_ok : {A : Type 0} (x : A) (u : Unit {0}) (old new : Option (List ℕ)) (f g : ℕ) (text : List ℕ) → Writes old new f g (Ok u) text → Served old new f g (Ok x) text
 served_ok x u old new f g text w = record { whole = w.whole; part = tt }
 
+-- the same with a refusal
 pub served_err : {A : Type 0} (e : Refusal) (old new : Option (List ℕ)) (f g : ℕ) (text : List ℕ) → Writes old new f g (Err e) text → Served {A = A} old new f g (Err e) text
 served_err e old new f g text w = record { whole = tt; part = w.part }
 

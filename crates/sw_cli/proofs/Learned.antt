@@ -21,6 +21,7 @@ use Rattle.sw_lang.proofs.Known.Knowing.{knowing_schema, line_sound}
 abbrev pub IsRead : List Column → Call → Type 0
 IsRead s c = (text : List ℕ) × (line_at s text ≡ Ok (Some c))
 
+-- a call that some line gives is given by one still, after the texts of another are known
 pub read_after : (s : List Column) (line : List ℕ) (c : Call) → IsSchema s → IsRead s c → IsRead (learned s line) c
 read_after s line c is (text, read) = by_test (has_texts s)
   where
@@ -53,6 +54,7 @@ cells_after s line rs is h = by_test (has_texts s)
     by_test true = All-weaker (HasCells (kinds_of s)) (HasCells (kinds_of (knowing (texts_in_line line) s))) (λ r has. (has.0, cells-after (texts_of s) (texts_in_line line) s has.0 is.shared has.1, has.2)) rs h
     by_test false = h
 
+-- rows stay coded as the texts of a line become known
 pub coded_after : (s : List Column) (line : List ℕ) (rs : List Row) → IsSchema s → AreCoded (kinds_of s) rs → AreCoded (kinds_of (learned s line)) rs
 coded_after s line rs is coded = by_test (has_texts s)
   where

@@ -32,6 +32,7 @@ has_left (call.Delete key) (Err e) old new h = ([], none_left old new h, inl ref
 has_left (call.DeleteWhere conds) (Ok r) old new h = ((call.DeleteWhere conds, state.Answered r) ∷ [], h, refl)
 has_left (call.DeleteWhere conds) (Err e) old new h = ([], none_left old new h, inl refl)
 
+-- behind one call more, the session's own entries are what all of them left
 pub left_push : (told : List Outcome) (c : Call) (t : Told) (old new : Shown) → AllLeft told (own_of old) → LeavesCall c t old new → AllLeft (told ++ (c, t) ∷ []) (own_of new)
 left_push told c t old new all leaves =
     let h = has_left c t old new leaves in

@@ -4,27 +4,33 @@ use Rattle.std.proofs.lemmas.List.{take_more, get_or-map}
 use Rattle.std.proofs.lemmas.Bool.{cases_lt}
 use Rattle.sw_engine.specs.Desk.{AreCounted}
 
+-- numbers that count on do so with the next one at their end
 pub counted_push : (n m : ℕ) (ks : List ℕ) (k : ℕ) → AreCounted n ks → n + length ks ≡ m → k ≡ m → AreCounted n (ks ++ k ∷ [])
 counted_push n m [] k h is number = (number ∙ omega (arith, is), tt)
 counted_push n m (x ∷ ks) k h is number = (h.0, counted_push (n + 1) m ks k h.1 (omega (arith, is)) number)
 
+-- the number at a place is the first one and that place, added
 pub counted_at : (n : ℕ) (ks : List ℕ) (i d : ℕ) → AreCounted n ks → i < length ks → get_or ks i d ≡ n + i
 counted_at n [] i d h lt = absurd (omega (arith, lt))
 counted_at n (k ∷ ks) zero d h lt = let e = h.0 in omega (arith, e)
 counted_at n (k ∷ ks) (suc i) d h lt = let r = counted_at (n + 1) ks i d h.1 (omega (arith, lt)) in omega (arith, r)
 
+-- a list with one item more at its end is longer by one
 pub length_push : {A : Type 0} (xs : List A) (x : A) → length (xs ++ x ∷ []) ≡ length xs + 1
 length_push [] x = refl
 length_push (y ∷ xs) x = let h = length_push xs x in omega (arith, h)
 
+-- a mapped list with one item more at its end has that one mapped
 pub map_push : {A B : Type 0} (f : A → B) (xs : List A) (x : A) → map f (xs ++ x ∷ []) ≡ map f xs ++ f x ∷ []
 map_push f [] x = refl
 map_push f (y ∷ xs) x = ap (λ ys. f y ∷ ys) (map_push f xs x)
 
+-- a mapped list is as long
 pub length_map : {A B : Type 0} (f : A → B) (xs : List A) → length (map f xs) ≡ length xs
 length_map f [] = refl
 length_map f (x ∷ xs) = ap suc (length_map f xs)
 
+-- the first n items, and the next one, are the first n + 1
 pub take_push : {A : Type 0} (bs ys zs : List A) (d : A) (n : ℕ) → ys ≡ take n bs → n < length bs → zs ≡ ys ++ get_or bs n d ∷ [] → zs ≡ take (n + 1) bs
 take_push bs ys zs d n is lt e = e ∙ (ap (λ us. us ++ get_or bs n d ∷ []) is ∙ sym (take_more bs n d lt))
 
@@ -32,6 +38,7 @@ take_push bs ys zs d n is lt e = e ∙ (ap (λ us. us ++ get_or bs n d ∷ []) i
 pub all_map : {A B : Type 0} (P : B → Type 0) (f : A → B) (xs : List A) (ys : List B) → ys ≡ map f xs → All P ys → All (λ x. P (f x)) xs
 all_map P f xs ys is all i d lt = subst P (ap (λ (l : List _). get_or l i (f d)) is ∙ get_or-map f xs i d (f d) lt) (all i (f d) (let e = ap length is ∙ length_map f xs in omega (arith, e, lt)))
 
+-- a list of no items is empty
 pub none_at : {A : Type 0} (xs : List A) → length xs ≡ 0 → xs ≡ []
 none_at [] e = refl
 none_at (x ∷ xs) e = absurd (omega (arith, e))

@@ -6,22 +6,26 @@ use Rattle.sw_query.specs.declared.query.Call.{Call}
 use Rattle.sw_query.specs.declared.reply.Reply.{Reply}
 use Rattle.sw_cli.specs.Outcomes.{AreTold, Outcome, Told, answered, block_bytes, blocks_told, calls_of, divider, line_before, outcomes_of, text_of, told_bytes}
 
+-- one call more, with what came of it, is one outcome more
 pub outcomes_push : (xs : List Call) (ys : List Told) (x : Call) (y : Told) → length ys ≡ length xs → outcomes_of (xs ++ x ∷ []) (ys ++ y ∷ []) ≡ outcomes_of xs ys ++ (x, y) ∷ []
 outcomes_push [] [] x y e = refl
 outcomes_push [] (b ∷ ys) x y e = absurd (omega (arith, e))
 outcomes_push (a ∷ xs) [] x y e = absurd (omega (arith, e))
 outcomes_push (a ∷ xs) (b ∷ ys) x y e = ap (λ (os : List Outcome). (a, b) ∷ os) (outcomes_push xs ys x y (omega (arith, e)))
 
+-- where as much came as there are calls, the outcomes are of these calls
 pub calls_of_outcomes : (cs : List Call) (ts : List Told) → length ts ≡ length cs → calls_of (outcomes_of cs ts) ≡ cs
 calls_of_outcomes [] ts e = refl
 calls_of_outcomes (c ∷ cs) [] e = absurd (omega (arith, e))
 calls_of_outcomes (c ∷ cs) (t ∷ ts) e = ap (λ l. c ∷ l) (calls_of_outcomes cs ts (omega (arith, e)))
 
+-- one answered call more is the last of the answered ones
 pub answered_ok : (os : List Outcome) (c : Call) (r : Reply) → answered (os ++ (c, Ok r) ∷ []) ≡ answered os ++ (c, r) ∷ []
 answered_ok [] c r = refl
 answered_ok ((a, Ok s) ∷ os) c r = ap (λ l. (a, s) ∷ l) (answered_ok os c r)
 answered_ok ((a, Err e) ∷ os) c r = answered_ok os c r
 
+-- one refused call more leaves the answered ones
 pub answered_err : (os : List Outcome) (c : Call) (e : _) → answered (os ++ (c, Err e) ∷ []) ≡ answered os
 answered_err [] c e = refl
 answered_err ((a, Ok s) ∷ os) c e = ap (λ l. (a, s) ∷ l) (answered_err os c e)
@@ -32,6 +36,7 @@ pub answered_push : (os : List Outcome) (c : Call) (t : Told) (old new : List (C
 answered_push os c (Ok r) old new is ok err = ok ∙ ap (λ l. l ++ (c, r) ∷ []) is ∙ sym (answered_ok os c r)
 answered_push os c (Err e) old new is ok err = err ∙ is ∙ sym (answered_err os c e)
 
+-- of more than n items the first n are n
 pub length_take : {A : Type 0} (n : ℕ) (xs : List A) → n < length xs → length (take n xs) ≡ n
 length_take zero xs l = refl
 length_take (suc n) [] l = absurd (omega (arith, l))
@@ -58,6 +63,7 @@ text_after : (columns : List Column) (n : ℕ) (b : List Outcome) (bs : List (Li
 text_after columns n b [] = ap (λ l. divider ++ l) (append-nil (block_bytes columns b))
 text_after columns n b (c ∷ bs) = ap (λ l. divider ++ (block_bytes columns b ++ l)) (text_after columns (suc n) c bs)
 
+-- the lines of blocks are those of blocks that come after none
 pub text_is_from : (columns : List Column) (bs : List (List Outcome)) → text_of columns bs ≡ text_from columns 0 bs
 text_is_from columns [] = refl
 text_is_from columns (b ∷ []) = sym (append-nil (block_bytes columns b))
@@ -70,6 +76,7 @@ text_first columns bs ts n b t lb lt eb et =
     let one : n + 1 ≡ suc n = omega arith in
     rw (drop_first n bs b lb eb, drop_first n ts t lt et, one) refl
 
+-- what stands at a place of a list does not hang on what is told of places behind its end
 pub at_default : {A : Type 0} (xs : List A) (n : ℕ) (d : A) → n < length xs → get_or xs n d ≡ get_or xs n (get_or xs n d)
 at_default [] n d l = absurd (omega (arith, l))
 at_default (x ∷ xs) zero d l = refl
@@ -87,6 +94,7 @@ length_lengths (x ∷ xs) = ap suc (length_lengths xs)
 pub told_many : (bs : List (List Call)) (ts : List (List Told)) → AreTold bs ts → length ts ≡ length bs
 told_many bs ts h = sym (length_lengths ts) ∙ ap length h ∙ length_lengths bs
 
+-- as much came of the block at a place as it has calls
 pub told_at : (bs : List (List Call)) (ts : List (List Told)) (n : ℕ) (b : List Call) (t : List Told) → AreTold bs ts → n < length bs → b ≡ get_or bs n b → t ≡ get_or ts n t → length t ≡ length b
 told_at [] ts n b t h l eb et = absurd (omega (arith, l))
 told_at (x ∷ bs) [] n b t h l eb et = let k = told_many (x ∷ bs) [] h in absurd (omega (arith, k))

@@ -25,14 +25,17 @@ use Rattle.sw_cli.proofs.Records.{call_why}
 
 -- ---- lines
 
+-- the lines of one outcome more come behind those of the others
 pub block_push : (columns : List Column) (os : List Outcome) (o : Outcome) → block_bytes columns (os ++ o ∷ []) ≡ block_bytes columns os ++ told_bytes columns o.0 o.1
 block_push columns [] o = append-nil (told_bytes columns o.0 o.1)
 block_push columns (x ∷ os) o = ap (λ (l : List ℕ). told_bytes columns x.0 x.1 ++ l) (block_push columns os o) ∙ sym (append_assoc (told_bytes columns x.0 x.1) (block_bytes columns os) (told_bytes columns o.0 o.1))
 
+-- the lines of some outcomes and others are theirs and those of the others
 pub block_append : (columns : List Column) (os more : List Outcome) → block_bytes columns (os ++ more) ≡ block_bytes columns os ++ block_bytes columns more
 block_append columns [] more = refl
 block_append columns (x ∷ os) more = ap (λ (l : List ℕ). told_bytes columns x.0 x.1 ++ l) (block_append columns os more) ∙ sym (append_assoc (told_bytes columns x.0 x.1) (block_bytes columns os) (block_bytes columns more))
 
+-- the lines of one block more, after the line before it, come behind those of the others
 pub text_push : (columns : List Column) (bs : List (List Outcome)) (b : List Outcome) → text_of columns (bs ++ b ∷ []) ≡ text_of columns bs ++ (line_before (length bs) ++ block_bytes columns b)
 text_push columns [] b = refl
 text_push columns (x ∷ []) b = refl
@@ -48,6 +51,7 @@ text_push columns (x ∷ y ∷ bs) b =
 abbrev pub given_up : List Call → List Told
 given_up cs = map (λ (c : Call). Err refusal.NoMemory) cs
 
+-- something comes of each call that is given up
 pub length_given_up : (cs : List Call) → length (given_up cs) ≡ length cs
 length_given_up [] = refl
 length_given_up (c ∷ cs) = ap suc (length_given_up cs)
@@ -127,6 +131,7 @@ abbrev pub Ended : List Column → List Call → ℕ → Shown → List ℕ → 
 Ended columns cs number session front old new f g result =
     (told : List Told) × IsDone number cs session told × Writes old new f g result (front ++ block_bytes columns (outcomes_of cs told))
 
+-- no call of it was made, and the line before it went out
 pub begun : {u : Unit {0}} (columns : List Column) (session : Shown) (front : List ℕ) (old new : Option (List ℕ)) (f g : ℕ) → session.1 ≡ [] → own_of session ≡ [] → Writes old new f g (Ok u) front → Begun columns [] session.0 session front old new f g
 begun columns session front old new f g none own w = record {
   told = [];
@@ -140,6 +145,7 @@ longer columns cs c told t front e =
     ap (λ (l : List ℕ). front ++ l) (ap (block_bytes columns) (outcomes_push cs told c t e) ∙ block_push columns (outcomes_of cs told) (c, t))
     ∙ sym (append_assoc front (block_bytes columns (outcomes_of cs told)) (told_bytes columns c t))
 
+-- one call more of it was made, and its lines went out
 pub begun_more : {u : Unit {0}} (columns : List Column) (cs : List Call) (c : Call) (t : Told) (number : ℕ) (session next : Shown) (front : List ℕ) (old new newer : Option (List ℕ)) (f g h : ℕ) → (b : Begun columns cs number session front old new f g)
     → next.0 ≡ session.0 → IfOk t (λ r. next.1 ≡ session.1 ++ (c, r) ∷ []) → OnErr t (next.1 ≡ session.1) → LeavesCall c t session next → IfErr t RefusesCall
     → Writes new newer g h (Ok u) (told_bytes columns c t) → Begun columns (cs ++ c ∷ []) number next front old newer f h
@@ -194,12 +200,14 @@ taken_one : (n : ℕ) (calls : List Call) (c : Call) → n < length calls → c 
 taken_one n calls c here is = take_more calls n c here ∙ ap (λ (x : Call). take n calls ++ x ∷ []) (sym is)
 
 module _ (columns : List Column) (calls : List Call) (number : ℕ) (front : List ℕ) (old : Option (List ℕ)) (f : ℕ) where
+  -- one call more was made, and its lines went out
   pub page_more : {u : Unit {0}} (n : ℕ) (c : Call) (t : Told) (session next : Shown) (new newer : Option (List ℕ)) (g h : ℕ) → n < length calls → c ≡ get_or calls n c → Begun columns (take n calls) number session front old new f g
       → next.0 ≡ session.0 → IfOk t (λ r. next.1 ≡ session.1 ++ (c, r) ∷ []) → OnErr t (next.1 ≡ session.1) → LeavesCall c t session next → IfErr t RefusesCall
       → Writes new newer g h (Ok u) (told_bytes columns c t) → Begun columns (take (n + 1) calls) number next front old newer f h
   page_more {u} n c t session next new newer g h here is b same mine err own why w =
       subst (λ (cs : List Call). Begun columns cs number next front old newer f h) (sym (taken_one n calls c here is)) (begun_more {u = u} columns (take n calls) c t number session next front old new newer f g h b same mine err own why w)
 
+  -- the sink failed at the lines of one call more
   pub page_failed : {e : Refusal} (n : ℕ) (c : Call) (t : Told) (session next : Shown) (new newer : Option (List ℕ)) (g h : ℕ) (result : Result (Unit {0}) Refusal) → n < length calls → c ≡ get_or calls n c → Begun columns (take n calls) number session front old new f g
       → next.0 ≡ session.0 → IfOk t (λ r. next.1 ≡ session.1 ++ (c, r) ∷ []) → OnErr t (next.1 ≡ session.1) → LeavesCall c t session next → IfErr t RefusesCall
       → Writes new newer g h (Err e) (told_bytes columns c t) → IsErrAnd result (λ d. d ≡ e) → Ended columns calls number next front old newer f h result
@@ -215,6 +223,7 @@ blocks_push [] (u ∷ ts) b t e = absurd (omega (arith, e))
 blocks_push (a ∷ bs) [] b t e = absurd (omega (arith, e))
 blocks_push (a ∷ bs) (u ∷ ts) b t e = ap (λ (os : List (List Outcome)). outcomes_of a u ∷ os) (blocks_push bs ts b t (omega (arith, e)))
 
+-- there are as many blocks of outcomes, where something came of each block
 pub length_blocks : (bs : List (List Call)) (ts : List (List Told)) → length ts ≡ length bs → length (blocks_told bs ts) ≡ length bs
 length_blocks [] ts e = refl
 length_blocks (b ∷ bs) [] e = absurd (omega (arith, e))
@@ -235,6 +244,7 @@ pub record Reached (columns : List Column) (bs : List (List Call)) (done : List 
   pub are : AreAnswered 1 (blocks_told bs told) done
   pub out : Writes old new f g flown (text_of columns (blocks_told bs told))
 
+-- no page was gone through, and nothing went out
 pub reached_none : (columns : List Column) (t : Option (List ℕ)) (f : ℕ) → Writes t t f f (Ok (tt {0})) [] → Reached columns [] [] t t f f (Ok (tt {0}))
 reached_none columns t f nothing = record {
   told = [];
@@ -274,6 +284,7 @@ module _ (columns : List Column) (bs : List (List Call)) (done : List Shown) (ol
       ∙ text_push columns (blocks_told bs r.told) (outcomes_of b t)
       ∙ ap (λ (n : ℕ). text_of columns (blocks_told bs r.told) ++ (line_before n ++ block_bytes columns (outcomes_of b t))) (length_blocks bs r.told r.many)
 
+  -- one page more was gone through, where what came of it went out too, or a beginning
   pub reached-more : (newer : Option (List ℕ)) (h : ℕ) (result : Result (Unit {0}) Refusal) → Writes old newer f h result (text_of columns (blocks_told bs r.told) ++ (line_before (length bs) ++ block_bytes columns (outcomes_of b t)))
       → Reached columns (bs ++ b ∷ []) (done ++ v ∷ []) old newer f h result
   reached-more newer h result w = record {
@@ -310,6 +321,7 @@ pages_at columns blocks bs done v b old new f g result here is first r =
     subst (λ (l : List (List Call)). Reached columns l (done ++ v ∷ []) old new f g result) whole r
 
 module _ (columns : List Column) (blocks : List (List Call)) (done : List Shown) (old : Option (List ℕ)) (f : ℕ) where
+  -- one page more, of which calls were made
   pub pages_more : {u : Unit {0}} (b : List Call) (session v : Shown) (new newer : Option (List ℕ)) (g h : ℕ) (result : Result (Unit {0}) Refusal) → length done < length blocks → b ≡ get_or blocks (length done) b
       → Reached columns (take (length done) blocks) done old new f g (Ok u) → session.0 ≡ 1 + length done → Ended columns b session.0 v (line_before (length done)) new newer g h result
       → Reached columns (take (length (done ++ v ∷ [])) blocks) (done ++ v ∷ []) old newer f h result
@@ -318,6 +330,7 @@ module _ (columns : List Column) (blocks : List (List Call)) (done : List Shown)
       pages_at columns blocks (take (length done) blocks) done v b old newer f h result here is refl
       (reached_page {u = u} columns (take (length done) blocks) done old new newer f g h b session v result r (number ∙ ap (λ (n : ℕ). 1 + n) (sym many)) (subst (λ (n : ℕ). Ended columns b session.0 v (line_before n) new newer g h result) (sym many) e))
 
+  -- one that is left out, since the sink failed
   pub pages_over : {e : Refusal} (b : List Call) (v : Shown) (new : Option (List ℕ)) (g : ℕ) → length done < length blocks → b ≡ get_or blocks (length done) b
       → Reached columns (take (length done) blocks) done old new f g (Err e) → v.0 ≡ 1 + length done → v.1 ≡ [] → own_of v ≡ []
       → Reached columns (take (length (done ++ v ∷ [])) blocks) (done ++ v ∷ []) old new f g (Err e)
@@ -335,6 +348,7 @@ module _ (columns : List Column) (blocks : List (List Call)) (done : List Shown)
       (subst (λ (n : ℕ). Ended columns b session.0 v (line_before n) new newer g h result) at (subst (λ (x : Shown). Ended columns b session.0 x (line_before place) new newer g h result) (sym same) e))
   pages_on (Err d) b place session next v new newer g h result went here is at same r number e = absurd (true≢false went)
 
+  -- one that is left out, by whether the sink has failed
   pub pages_skip : (flown : Result (Unit {0}) Refusal) (b : List Call) (v : Shown) (new : Option (List ℕ)) (g : ℕ) → is_err flown ≡ true → length done < length blocks → b ≡ get_or blocks (length done) b
       → Reached columns (take (length done) blocks) done old new f g flown → v.0 ≡ 1 + length done → v.1 ≡ [] → own_of v ≡ []
       → Reached columns (take (length (done ++ v ∷ [])) blocks) (done ++ v ∷ []) old new f g flown

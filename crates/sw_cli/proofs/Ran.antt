@@ -131,6 +131,7 @@ goes_told I limit s w (Err refusal.NoMemory) goes = tt
 goes_told I limit s w (Err refusal.Output) goes = goes.1
 goes_told I limit s w (Err e) goes = absurd goes
 
+-- where a start was read and no source failed, what its calls left is what the run answers
 pub begun_answers : (limit : ℕ) (cuts : List ℕ) (s : Start) (t c : SourceSeen) (w : SinkSeen) (result : Result History Refusal) → Spells limit cuts t c s → SourcesHeld t c → Goes limit s w result → RunAnswers limit cuts t c w result
 begun_answers limit cuts s t c w result said held goes = record {
   ran = both_ran limit cuts s t c t.left c.left w result said goes;
@@ -145,6 +146,7 @@ begun_answers limit cuts s t c w result said held goes = record {
 
 -- ---- and what a run answers that was refused before
 
+-- bytes that stay the same are kept
 pub keeps_same : (o : Option (List ℕ)) → Keeps o o
 keeps_same None = tt
 keeps_same (Some bytes) = refl
@@ -168,6 +170,7 @@ none_told None script = tt
 none_told (Some a) None = tt
 none_told (Some a) (Some b) = tt
 
+-- a refusal before any call, where the sink took nothing and held, is what the run answers
 pub refused_answers : (limit : ℕ) (cuts : List ℕ) (t c : SourceSeen) (w : SinkSeen) (e : Refusal) → IfBoth t.left c.left (λ a b. RefusedFrom (FailedInTurn t c a) e (start_of limit cuts a b)) → TellsStart (EitherFailed t c) e → Keeps w.taken_before w.taken_after → SinkHeld w → RunAnswers limit cuts t c w (Err e)
 refused_answers limit cuts t c w e spelled tells kept held = record {
   ran = both_refused limit cuts t c t.left c.left w e spelled tells;

@@ -36,6 +36,7 @@ collected k (b ∷ bs) (t ∷ ts) (v ∷ vs) et ev each =
     let rest = collected (k + 1) bs ts vs (omega (arith, et)) (omega (arith, ev)) (λ i less. let e = each (suc i) (omega (arith, less)) in (e.0 ∙ (let s : k + suc i ≡ k + 1 + i = omega arith in s), e.1, e.2, e.3)) in
     (ap (λ (n : ℕ). n ∷ map (λ t. length t) ts) here.1 ∙ ap (λ (l : List ℕ). length b ∷ l) rest.0, ((here.0 ∙ (let s : k + 0 ≡ k = omega arith in s)), here.2, here.3, rest.1))
 
+-- there are as many tickets as blocks
 pub answered_many : (n : ℕ) (bs : List (List Outcome)) (vs : List Shown) → AreAnswered n bs vs → length vs ≡ length bs
 answered_many n [] [] h = refl
 answered_many n [] (v ∷ vs) h = absurd h
@@ -82,11 +83,13 @@ record_of columns rows limit told tickets h are is ended = record {
 
 -- ---- why calls were refused
 
+-- where all that came of calls says why, their outcomes do
 pub call_why : (cs : List Call) (ts : List Told) → All SaysWhy ts → All (λ (o : Outcome). SaysWhy o.1) (outcomes_of cs ts)
 call_why [] ts h = All-nil (λ (o : Outcome). SaysWhy o.1)
 call_why (c ∷ cs) [] h = All-nil (λ (o : Outcome). SaysWhy o.1)
 call_why (c ∷ cs) (t ∷ ts) h = All-cons (λ (o : Outcome). SaysWhy o.1) (c, t) (outcomes_of cs ts) (All-head SaysWhy t ts h) (call_why cs ts (All-tail SaysWhy t ts h))
 
+-- and so do those of all blocks
 pub blocks_why : (bs : List (List Call)) (ts : List (List Told)) → All (λ (t : List Told). All SaysWhy t) ts → AllSayWhy (blocks_told bs ts)
 blocks_why [] ts h = All-nil (λ (b : List Outcome). All (λ (o : Outcome). SaysWhy o.1) b)
 blocks_why (b ∷ bs) [] h = All-nil (λ (b : List Outcome). All (λ (o : Outcome). SaysWhy o.1) b)

@@ -68,6 +68,7 @@ entries-called columns n limit us (e ∷ es) few line agree given closed read al
     All-cons (IsCalled columns) e es here
     (entries-called columns n limit (updates_then limit us e.call) es few line agree.1 kept.1 shut.1 (All-tail (λ (x : Entry). IsRead columns x.call) e es read) (rest-alone n e es alone))
 
+-- the record that a run leaves is one of which history files tell
 pub records_of_runs : RecordsAreOfRuns
 records_of_runs limit cuts table script s h read l =
     let o = start_over limit cuts table script s read in
@@ -85,5 +86,6 @@ records_of_runs limit cuts table script s h read l =
       calls = subst (λ (cs : List Column). All (IsCalled cs) h.entries) (sym r.columns_are) calls;
     }
 
+-- and the check finds its file legal
 pub found_legal : RecordsAreFoundLegal
 found_legal limit cuts table script s h read l old new f g answer checks = files_found_legal h (records_of_runs limit cuts table script s h read l) l.leaves.record_is.legal old new f g answer checks

@@ -117,6 +117,7 @@ table_numbered bytes t h = numbered_from 1 t.rows (λ i r e. let k = keys-count 
 over_limit : (limit : ℕ) (cuts a b : List ℕ) (t : Table) (s : Script) (lists : CutLists) → table_of a ≡ Ok t → script_of t.columns b ≡ Ok s → cuts_of s.columns cuts ≡ Ok lists → nat_lt limit (length t.rows) ≡ true → start_of limit cuts a b ≡ Err (refusal.TooMany limit)
 over_limit limit cuts a b t s lists h k l m = rw (h, k, l, m) refl
 
+-- rows that are more than the limit pass the test of being more
 pub exceeds : (limit n many : ℕ) → n ≡ many → limit < n → nat_lt limit many ≡ true
 exceeds limit n many e h = subst (λ (k : ℕ). nat_lt limit k ≡ true) e (grind (arith, common_steps))
 

@@ -181,6 +181,7 @@ script-over rs columns bytes s is coded cells h =
 same-rows : (limit : ℕ) (rs found : List Row) → rows_within limit rs ≡ Ok found → rs ≡ found
 same-rows limit rs found h = same-Ok {E = Refusal} rs found (unless-Ok (nat_lt limit (length rs)) (Ok rs) (TooMany limit) found h)
 
+-- the attributes, rows and calls that a run starts from are over texts
 pub start_over : (limit : ℕ) (cuts table script : List ℕ) (s : Start) → start_of limit cuts table script ≡ Ok s → AllOver s.columns s.rows s.blocks
 start_over limit cuts table script s h =
     let first = both (or_refusal (table_of table)) _ s h in

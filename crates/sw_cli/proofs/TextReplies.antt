@@ -47,6 +47,7 @@ removals-keep : (columns : List Column) (us : List Update) (rs : List Row) → H
 removals-keep columns us [] h = none-keeps columns us h
 removals-keep columns us (r ∷ rs) h = subst (HasCoded columns) (append_assoc us (update.Remove r.key ∷ []) (removals rs)) (removals-keep columns (us ++ update.Remove r.key ∷ []) rs (remove-keeps columns us r.key h))
 
+-- rows stay coded as a call over texts comes
 pub call_keeps : (columns : List Column) (limit : ℕ) (us : List Update) (c : Call) → AreCoded (kinds_of columns) (rows_of us) → IsOverTexts columns c → AreCoded (kinds_of columns) (rows_of (updates_then limit us c))
 call_keeps columns limit us (Select q) h over = none-keeps columns us h
 call_keeps columns limit us (Insert cells) h over = by_room (inserts us == limit)
@@ -73,6 +74,7 @@ reply-over columns limit us (Insert cells) is h over = tt
 reply-over columns limit us (Delete key) is h over = tt
 reply-over columns limit us (DeleteWhere conds) is h over = ap (λ (n : ℕ). RemovedMany n) (removed-over columns (rows_of us) conds is h over)
 
+-- the plain table's replies to calls over texts are over texts
 pub replies_over : (columns : List Column) (limit : ℕ) (us : List Update) (calls : List Call) → IsSchema columns → AreCoded (kinds_of columns) (rows_of us) → All (IsOverTexts columns) calls → AreRepliesOverTexts columns limit us calls
 replies_over columns limit us [] is h over = tt
 replies_over columns limit us (c ∷ cs) is h over =
@@ -82,6 +84,7 @@ replies_over columns limit us (c ∷ cs) is h over =
 opened-coded : (columns : List Column) (rs : List Row) → AreCoded (kinds_of columns) rs → HasCoded columns (opened rs)
 opened-coded columns rs h = subst (AreCoded (kinds_of columns)) (sym (rows_of_opened rs)) h
 
+-- so are those to the calls of a script of one block
 pub run_over : (limit : ℕ) (cuts table script : List ℕ) (s : Start) (calls : List Call) → start_of limit cuts table script ≡ Ok s → s.blocks ≡ calls ∷ [] → AreRepliesOverTexts s.columns limit (opened s.rows) calls
 run_over limit cuts table script s calls h one =
     let o = start_over limit cuts table script s h in
@@ -124,6 +127,7 @@ entries-over columns limit us (e ∷ es) is h agree given over =
 legal-from : (c d : List Column) (m n : ℕ) (x y : List Row) (h : History) → c ≡ d → m ≡ n → x ≡ y → AllAgree c m (opened x) h.entries → AllAgree d n (opened y) h.entries
 legal-from c d m n x y h ec em ex a = subst (λ (d : List Column). AllAgree d n (opened y) h.entries) ec (subst (λ (n : ℕ). AllAgree c n (opened y) h.entries) em (subst (λ (y : List Row). AllAgree c m (opened y) h.entries) ex a))
 
+-- so are those that the record of a run gives
 pub record_over : (limit : ℕ) (cuts table script : List ℕ) (s : Start) (told : List (List Outcome)) (old new : Option (List ℕ)) (h : History) → start_of limit cuts table script ≡ Ok s → Leaves limit s told old new h → AreEntriesOverTexts s.columns limit (opened s.rows) h.entries
 record_over limit cuts table script s told old new h read l =
     let o = start_over limit cuts table script s read in

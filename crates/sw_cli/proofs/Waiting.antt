@@ -54,6 +54,7 @@ all_sent (Some x) (Some y) bytes h = sym (append-nil y) ∙ h
 
 -- ---- what came after what a sink had taken
 
+-- bytes come after themselves
 pub extends_self : (t : Option (List ℕ)) → extends t t ≡ true
 extends_self None = refl
 extends_self (Some x) = same (take (length x) x) (take_all (length x) x (omega arith))
@@ -80,6 +81,7 @@ extends_more (Some x) (Some y) None bytes h k = absurd k
 extends_more (Some x) (Some y) (Some z) bytes h k =
     let b = begins x y h in begun x z (b.0 ++ bytes) (k ∙ ap (λ (l : List ℕ). l ++ bytes) b.1 ∙ append_assoc x b.0 bytes)
 
+-- bytes that come after others still do where they are kept
 pub extends_kept : (t old new : Option (List ℕ)) → extends t old ≡ true → Keeps old new → extends t new ≡ true
 extends_kept None old new h k = refl
 extends_kept (Some x) None new h k = absurd cc

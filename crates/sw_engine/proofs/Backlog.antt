@@ -29,12 +29,14 @@ part_taken s p most had old new is e =
     let all : (had ++ old) ++ untaken p s ≡ updates s = ap (λ us. us ++ untaken p s) is ∙ take-append-drop (slice_index s.taken p) (updates s) in
     ap (λ us. had ++ us) e ∙ (sym (append_assoc had old (next_for p most s)) ∙ (sym (take-append-add (had ++ old) (untaken p s) most) ∙ ap (λ us. take (length (had ++ old) + most) us) all))
 
+-- with the next ones, what was taken for it is what the new books say that it took
 pub part_took : (s x : Books) (p most : ℕ) (had old new : List Update) → had ++ old ≡ took p s → new ≡ old ++ next_for p most s → took p x ≡ took p s ++ next_for p most s → had ++ new ≡ took p x
 part_took s x p most had old new is e more =
     ap (λ us. had ++ us) e ∙ (sym (append_assoc had old (next_for p most s)) ∙ (ap (λ us. us ++ next_for p most s) is ∙ sym more))
 
 -- ---- of the desk
 
+-- the books stay tied where a head takes some more, and its row shows the new ones
 pub part_tied : (s x : Books) (rows heads heads' : List (Books × Bool)) (m p n : ℕ) (v : Books) → IsTied s rows heads → x ≡ with_taken p n s → KeepsOtherHeads p s x → m ≡ p → v ≡ x → heads' ≡ set heads m (v, false) → IsTied x rows heads'
 part_tied s x rows heads heads' m p n v t is others place new are = rw (are, new) record {
   shown = subst (λ (b : Books). AreShown b rows) (sym is) (λ k r e. t.shown k r e);
@@ -46,6 +48,7 @@ part_tied s x rows heads heads' m p n v t is others place new are = rw (are, new
   few = let l = length_set heads m (x, false) in omega (arith, t.few, l);
 }
 
+-- the desk stays one where a head takes some more, and its row shows the new books
 pub desk_part : (sn hn : ℕ) (columns : List Column) (opening : List Row) (limit may : ℕ) (s x : Books) (many most : ℕ) (sessions heads heads' : Book Books) (m p n : ℕ) (v : Books)
     → IsDesk sn hn columns opening limit may s many most sessions heads → x ≡ with_taken p n s → KeepsOtherHeads p s x → m ≡ p → heads'.name ≡ heads.name
     → heads'.rows ≡ set heads.rows m (v, false) → v ≡ x → IsDesk sn hn columns opening limit may x many most sessions heads'
@@ -64,5 +67,6 @@ desk_part sn hn columns opening limit may s x many most sessions heads heads' m 
 
 -- ---- of the shelf
 
+-- a shelf of books is one of books that differ in what heads have taken alone
 pub shelf_part : (limit : ℕ) (opening : List Row) (b b' : Books) (s : Shelved) → IsShelfOf limit opening b s → IsSameButTaken b b' → IsShelfOf limit opening b' s
 shelf_part limit opening b b' s is same = subst (λ (x : Books). IsShelfOf limit opening x s) (sym same) (record { booked = is.booked; ends = λ k. is.ends k; published = is.published; counted = is.counted })

@@ -50,6 +50,7 @@ set_kept [] k d v lt is = absurd (omega (arith, lt))
 set_kept (x ∷ xs) zero d v lt is = ap (λ y. y ∷ xs) is
 set_kept (x ∷ xs) (suc k) d v lt is = ap (λ l. x ∷ l) (set_kept xs k d v (omega (arith, lt)) is)
 
+-- what stands at a place of a list does not hang on what is told of places behind its end
 pub get_any : {A : Type 0} (xs : List A) (k : ℕ) (d e : A) → k < length xs → get_or xs k d ≡ get_or xs k e
 get_any [] k d e lt = absurd (omega (arith, lt))
 get_any (x ∷ xs) zero d e lt = refl
@@ -59,6 +60,7 @@ get_any (x ∷ xs) (suc k) d e lt = get_any xs k d e (omega (arith, lt))
 abbrev pub AreHeld : ℕ → ℕ → List Shown → Type 0
 AreHeld made n ts = (k : ℕ) (d : Shown) → k < n → IsMade made (get_or ts k d)
 
+-- where the next one is of a session that was made too, there is one more of them
 pub held_more : (made n : ℕ) (ts : List Shown) (d : Shown) → n < length ts → AreHeld made n ts → IsMade made (get_or ts n d) → AreHeld made (n + 1) ts
 held_more made n ts d lt held one k e less = ⊎_elim
     (λ (same : k ≡ n). subst (λ j. IsMade made (get_or ts j e)) (sym same) (subst (IsMade made) (get_any ts n d e lt) one))

@@ -46,6 +46,7 @@ may_follow a limit us vs most all = head_receives a limit (fold given_then 0 us)
 
 -- ---- rows in order
 
+-- the key of each row is less than the first number and the number of rows together
 pub numbered_low : (n : ℕ) (rows : List Row) → is_numbered n rows ≡ true → All (λ (r : Row). r.key < n + length rows) rows
 numbered_low n [] h i d lt = absurd (omega (arith, lt))
 numbered_low n (r ∷ rows) h zero d lt = let key : r.key ≡ n = grind (arith, nat_tests, h) in omega (arith, key)
@@ -53,6 +54,7 @@ numbered_low n (r ∷ rows) h (suc i) d lt =
     let rest : is_numbered (n + 1) rows ≡ true = grind (arith, nat_tests, h) in
     let b = numbered_low (n + 1) rows rest i d (omega (arith, lt)) in omega (arith, b)
 
+-- keys that count from 1, of no more than 1,048,576 rows, are less than two to the power 63
 pub keys_fit : (rows : List Row) → is_numbered 1 rows ≡ true → length rows ≤ 1048576 → All (λ (r : Row). r.key < 2 ^ 63) rows
 keys_fit rows h most i d lt = let b = numbered_low 1 rows h i d lt in omega (arith, b, most)
 
@@ -63,6 +65,7 @@ numbered_above n k (r ∷ rows) h less =
     let rest : is_numbered (n + 1) rows ≡ true = grind (arith, nat_tests, h) in
     (omega (arith, key, less), numbered_above (n + 1) k rows rest (omega (arith, less)))
 
+-- the keys of numbered rows rise
 pub numbered_rise : (n : ℕ) (rows : List Row) → is_numbered n rows ≡ true → Rises key_of rows
 numbered_rise n [] h = tt
 numbered_rise n (r ∷ rows) h =
@@ -79,6 +82,7 @@ above_from v (c ∷ cs) h =
     let rest : rises (c ∷ cs) ≡ true = grind (arith, nat_tests, h) in
     (less, above_from c cs rest)
 
+-- cuts that pass the test of a list of cuts rise strictly, as heads are made from them
 pub cuts_rise : (cs : List ℤ) → rises cs ≡ true → RiseAbove None cs
 cuts_rise [] h = tt
 cuts_rise (c ∷ cs) h = above_from c cs h
@@ -96,6 +100,7 @@ new_head a p cuts rows opening h same is made = record {
   no_boxes = ap (λ (x : HeadState). boxes_in x.areas) made ∙ opened_boxes a rows (intervals cuts);
 }
 
+-- a head that was made from the opening rows, where memory sufficed, is a new one of its attribute
 pub if_new_head : (a p : ℕ) (cuts : List ℤ) (rows opening : List Row) (r : Result HeadState Refusal) → a ≡ p → rows ≡ opening → MatchResult r (λ h. h ≡ opened a cuts rows) (λ e. e ≡ NoMemory) → IfOk r (IsNewHead p opening)
 if_new_head a p cuts rows opening (Ok h) same is made = new_head a p cuts rows opening h same is made
 if_new_head a p cuts rows opening (Err e) same is made = tt
@@ -105,6 +110,7 @@ pub made_latch : (p : ℕ) (opening : List Row) (o : Option HeadState) (h : Head
 made_latch p opening None h inbox w none new = λ i. record { taken = new.updates_are i ++ inbox; made = true; waiting = w; held = new.no_boxes i }
 made_latch p opening (Some x) h inbox w none new = absurd cc
 
+-- the latch of a head that is made shows already that it is made
 pub same_latch : (opening : List Row) (o : Option HeadState) (inbox : List Update) (w : ℕ) → is_some o ≡ true → latched opening o inbox w ≡ record (latched opening o inbox w) { made = true }
 same_latch opening None inbox w some = absurd cc
 same_latch opening (Some x) inbox w some = refl

@@ -7,6 +7,7 @@ use Rattle.sw_spine.specs.declared.history.Entry.{Entry}
 use Rattle.sw_spine.specs.declared.history.State.{State}
 use Rattle.sw_engine.specs.Later.{Begin, IsLater}
 
+-- entries begin themselves
 pub begin_self : (es : List Entry) → Begin es es
 begin_self [] = tt
 begin_self (e ∷ es) = (inl refl, begin_self es)
@@ -16,6 +17,7 @@ later_trans e f g (inl same) h = subst (λ (x : Entry). IsLater x g) same h
 later_trans e f g (inr l) (inl same) = inr (subst (λ (x : Entry). (is_open e.state ≡ true) × (x ≡ entry e.session e.call x.state)) (sym same) l)
 later_trans e f g (inr l) (inr m) = inr (l.0, m.1 ∙ ap (λ (x : Entry). entry x.session x.call g.state) l.1)
 
+-- entries that begin others begin what those begin
 pub begin_trans : (es fs gs : List Entry) → Begin es fs → Begin fs gs → Begin es gs
 begin_trans [] fs gs a b = tt
 begin_trans (e ∷ es) [] gs a b = absurd a

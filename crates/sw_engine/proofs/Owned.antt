@@ -25,22 +25,27 @@ use Rattle.sw_engine.proofs.Later.{begin_push, begin_self, begin_settled}
 
 -- ---- of entries
 
+-- an entry of a session, at the end of the history, is the last of its own entries
 pub own_push : (s : ℕ) (es : List Entry) (e : Entry) → e.session ≡ s → own s (es ++ e ∷ []) ≡ own s es ++ (e.call, e.state) ∷ []
 own_push s [] e same = grind (arith, nat_tests, same)
 own_push s (x ∷ es) e same = grind (arith, nat_tests, own_push s es e same)
 
+-- an entry of another session there leaves them
 pub own_push_other : (s : ℕ) (es : List Entry) (e : Entry) → e.session ≢ s → own s (es ++ e ∷ []) ≡ own s es
 own_push_other s [] e apart = grind (arith, nat_tests, apart)
 own_push_other s (x ∷ es) e apart = ap (λ l. cond (x.session == s) ((x.call, x.state) ∷ l) l) (own_push_other s es e apart)
 
+-- where a session's open entry is settled, so is the one among its own entries
 pub own_after_settled : (s : ℕ) (st : State) (es : List Entry) → own s (settled s st es) ≡ own_settled st (own s es)
 own_after_settled s st [] = refl
 own_after_settled s st (x ∷ es) = grind (arith, nat_tests, own_after_settled s st es)
 
+-- where another session's is settled, they stay
 pub own_settled_other : (s : ℕ) (st : State) (k : ℕ) (es : List Entry) → k ≢ s → own k (settled s st es) ≡ own k es
 own_settled_other s st k [] apart = refl
 own_settled_other s st k (x ∷ es) apart = grind (arith, nat_tests, apart, own_settled_other s st k es apart)
 
+-- a session of which no entry is has no own entries
 pub own_absent : (s : ℕ) (es : List Entry) → is_absent s es ≡ true → own s es ≡ []
 own_absent s [] h = refl
 own_absent s (x ∷ es) h = grind (arith, nat_tests, h, own_absent s es)
@@ -56,24 +61,28 @@ settled_last s limit us (x ∷ es) c st none = grind (arith, nat_tests, none, se
 abbrev pub KeepsOwn : ℕ → Books → Books → Type 0
 KeepsOwn session old new = ((s : ℕ) → s ≢ session → own s new.entries ≡ own s old.entries) × Begin old.entries new.entries
 
+-- a select that begins leaves the own entries of other sessions, and all entries stay
 pub open_keeps : (session : ℕ) (q : Query) (head : ℕ) (b x : Books) → x ≡ with_open session q head b → KeepsOwn session b x
 open_keeps session q head b x is = (
   (λ k apart. ap (λ (y : Books). own k y.entries) is ∙ own_push_other k b.entries (entry session (call.Select q) state.Open) (λ e. apart (sym e))),
   subst (λ (y : Books). Begin b.entries y.entries) (sym is) (begin_push b.entries (entry session (call.Select q) state.Open)),
 )
 
+-- so does an entry that is settled
 pub settled_keeps : (session : ℕ) (st : State) (b x : Books) → x ≡ with_settled session st b → KeepsOwn session b x
 settled_keeps session st b x is = (
   (λ k apart. ap (λ (y : Books). own k y.entries) is ∙ own_settled_other session st k b.entries apart),
   subst (λ (y : Books). Begin b.entries y.entries) (sym is) (begin_settled session st b.entries),
 )
 
+-- so does a call that is answered
 pub answered_keeps : (session : ℕ) (c : Call) (b x : Books) → x ≡ with_answered session c b → KeepsOwn session b x
 answered_keeps session c b x is = (
   (λ k apart. ap (λ (y : Books). own k y.entries) is ∙ own_push_other k b.entries (entry session c (state.Answered (reply_now c b))) (λ e. apart (sym e))),
   subst (λ (y : Books). Begin b.entries y.entries) (sym is) (begin_push b.entries (entry session c (state.Answered (reply_now c b)))),
 )
 
+-- so does a publishing
 pub published_keeps : (session n : ℕ) (b x : Books) → x ≡ with_published n b → KeepsOwn session b x
 published_keeps session n b x is = (
   (λ k apart. ap (λ (y : Books). own k y.entries) is),

@@ -19,6 +19,7 @@ use Rattle.sw_engine.proofs.Later.{begin_self, begin_trans}
 use Rattle.sw_engine.specs.Desk.{IsShown, IsTied}
 use Rattle.sw_engine.proofs.Ties.{get_set, length_push}
 
+-- a list begins one that is the same
 pub prefix_same : {A : Type 0} (xs ys : List A) → xs ≡ ys → IsPrefix xs ys
 prefix_same xs ys e = ([], append-nil xs ∙ e)
 
@@ -56,9 +57,11 @@ share_grows limit opening s s' a x rows heads k tied behind at grows begins new 
       begin_trans a.entries s.entries s'.entries (tied.shown k (a, false) at).3 begins,
     )
 
+-- what a share shows grows where it shows the same
 pub grows_self : (opening : List Row) (a x : Books) → x ≡ a → Grows opening a x
 grows_self opening a x same = subst (λ (b : Books). Grows opening a b) (sym same) (prefix_same (published_of opening a) (published_of opening a) refl, begin_self a.entries)
 
+-- what grows twice has grown
 pub grows_trans : (opening : List Row) (a b d : Books) → Grows opening a b → Grows opening b d → Grows opening a d
 grows_trans opening a b d first then = (
   prefix_trans (published_of opening a) (published_of opening b) (published_of opening d) first.0 then.0,
@@ -99,6 +102,7 @@ take_grows (suc n) (suc m) [] le = ([], refl)
 take_grows (suc n) (suc m) (x ∷ xs) le =
     let r = take_grows n m xs (omega (arith, le)) in (r.0, ap (λ ys. x ∷ ys) r.1)
 
+-- a beginning of a list, without so many first items, begins the list without them
 pub drop_grows : {A : Type 0} (m : ℕ) (xs ys : List A) → IsPrefix xs ys → IsPrefix (drop m xs) (drop m ys)
 drop_grows zero xs ys p = p
 drop_grows (suc m) [] ys p = (drop (suc m) ys, refl)

@@ -40,6 +40,7 @@ pub record Moves (limit : ℕ) (opening : List Row) (n : ℕ) (s x : Books) : Ty
   pub published : IsPrefix (published_of opening s) (published_of opening x)
   pub ends : EndsEntry limit opening x.entries x.published
 
+-- so it is where a select begins, which brings no update
 pub moves_open : (limit : ℕ) (opening : List Row) (n : ℕ) (q : Query) (head : ℕ) (s x : Books) → x ≡ with_open n q head s → updates x ≡ updates s → EndsEntry limit opening s.entries s.published → Moves limit opening n s x
 moves_open limit opening n q head s x is same ends = record {
   columns_are = ap (λ (b : Books). b.columns) is;
@@ -51,6 +52,7 @@ moves_open limit opening n q head s x is same ends = record {
   ends = ends_open limit opening n q head s x is ends;
 }
 
+-- so it is where an entry is settled, which brings no update
 pub moves_settled : (limit : ℕ) (opening : List Row) (n : ℕ) (st : State) (s x : Books) → x ≡ with_settled n st s → updates x ≡ updates s → EndsEntry limit opening s.entries s.published → Moves limit opening n s x
 moves_settled limit opening n st s x is same ends = record {
   columns_are = ap (λ (b : Books). b.columns) is;
@@ -62,6 +64,7 @@ moves_settled limit opening n st s x is same ends = record {
   ends = ends_settled limit opening n st s x is ends;
 }
 
+-- so it is where a call is answered, whose updates come last
 pub moves_answered : (limit : ℕ) (opening : List Row) (n : ℕ) (c : Call) (s x : Books) (more : List Update) → x ≡ with_answered n c s → updates x ≡ updates s ++ more → s.published ≤ length (updates s) → EndsEntry limit opening s.entries s.published → Moves limit opening n s x
 moves_answered limit opening n c s x more is added le ends = record {
   columns_are = ap (λ (b : Books). b.columns) is;
@@ -73,6 +76,7 @@ moves_answered limit opening n c s x more is added le ends = record {
   ends = ends_answered limit opening n c s x is ends;
 }
 
+-- so it is where no less is published, up to a number at which an entry ends
 pub moves_published : (limit : ℕ) (opening : List Row) (n count : ℕ) (s x : Books) → x ≡ with_published count s → s.published ≤ count → EndsEntry limit opening s.entries count → Moves limit opening n s x
 moves_published limit opening n count s x is low ends = record {
   columns_are = ap (λ (b : Books). b.columns) is;
@@ -86,6 +90,7 @@ moves_published limit opening n count s x is low ends = record {
 
 -- ---- of the desk
 
+-- the desk stays one behind a visit, where the session's row shows the new books and all stay tied
 pub desk_moved : (sn hn : ℕ) (columns : List Column) (opening : List Row) (limit may : ℕ) (s x : Books) (many most : ℕ) (sessions heads sessions' heads' : Book Books) (n k : ℕ) (v : Books)
     → IsDesk sn hn columns opening limit may s many most sessions heads → Moves limit opening n s x → sessions'.name ≡ sessions.name → heads'.name ≡ heads.name
     → sessions'.rows ≡ set sessions.rows k (v, false) → v ≡ x → IsTied x sessions'.rows heads'.rows → IsDesk sn hn columns opening limit may x many most sessions' heads'
@@ -127,9 +132,11 @@ held_visited sn hn columns opening limit may s x many most sessions heads n shar
   subst (IsWhole limit opening) (sym new) (whole_after columns opening limit s x had.of m.columns_are m.rows_are m.limit_is m.ends),
 )
 
+-- where what its share shows grows, the session was visited
 pub visited_by : (opening : List Row) (n : ℕ) (a b : Books) (receipt : List (List Update)) (missed : ℕ) → Grows opening a b → Visited (session_shown opening n a receipt missed) (session_shown opening n b receipt missed)
 visited_by opening n a b receipt missed grows = record { number = refl; given = refl; missed = refl; entries = grows.1; published = grows.0 }
 
+-- where the history's entries stay, nothing of the session's changes
 pub stays_by : (opening : List Row) (n : ℕ) (s x a v : Books) (rows heads : List (Books × Bool)) (k : ℕ) (receipt : List (List Update)) (missed : ℕ)
     → IsTied s rows heads → slice_get rows k ≡ Some (a, false) → n ≡ k + 1 → Grows opening a v → x.entries ≡ s.entries → v ≡ x
     → Stays (session_shown opening n a receipt missed) (session_shown opening n v receipt missed)
@@ -139,6 +146,7 @@ stays_by opening n s x a v rows heads k receipt missed tied at is grows same new
   own = ap (λ (b : Books). own n b.entries) new ∙ ap (own n) same ∙ own_is s rows heads k n a tied at is;
 }
 
+-- a call that the spine answers at its end is answered to the session
 pub answers_by : (opening : List Row) (n : ℕ) (c : Call) (r : Reply) (s x a v : Books) (rows heads : List (Books × Bool)) (k : ℕ) (receipt : List (List Update)) (missed : ℕ)
     → IsTied s rows heads → slice_get rows k ≡ Some (a, false) → n ≡ k + 1 → Grows opening a v → r ≡ reply_now c s → x ≡ with_answered n c s → mine n x.entries ≡ mine n s.entries ++ (c, r) ∷ [] → v ≡ x
     → Answers c r (session_shown opening n a receipt missed) (session_shown opening n v receipt missed)
@@ -150,6 +158,7 @@ answers_by opening n c r s x a v rows heads k receipt missed tied at is grows re
       ∙ (λ i. own_is s rows heads k n a tied at is i ++ (c, state.Answered (sym reply i)) ∷ []);
 }
 
+-- where the spine settles a session's entry, the session shows its select as settled
 pub settles_by : (opening : List Row) (n : ℕ) (st : State) (s x a v : Books) (rows heads : List (Books × Bool)) (k : ℕ) (receipt : List (List Update)) (missed : ℕ)
     → IsTied s rows heads → slice_get rows k ≡ Some (a, false) → n ≡ k + 1 → Grows opening a v → x ≡ with_settled n st s
     → IfSome (waits_for n s) (λ w. mine n x.entries ≡ mine n s.entries ++ with_answer w.0 st []) → waits_for n x ≡ None → v ≡ x
@@ -170,6 +179,7 @@ pub void_calls : (w : Option (Call × List Update)) (xs ys : List (Call × Reply
 void_calls None xs ys e = tt
 void_calls (Some o) xs ys e = e ∙ sym (append-nil ys)
 
+-- a select that begins in the spine begins as the session shows it, which waited for none
 pub begins_by : (opening : List Row) (n : ℕ) (q : Query) (head : ℕ) (us : List Update) (s x a v : Books) (rows heads : List (Books × Bool)) (k : ℕ) (receipt : List (List Update)) (missed : ℕ)
     → IsTied s rows heads → slice_get rows k ≡ Some (a, false) → n ≡ k + 1 → Grows opening a v → waits_for n s ≡ None → x ≡ with_open n q head s → mine n x.entries ≡ mine n s.entries
     → waits_for n x ≡ Some (call.Select q, us) → v ≡ x → Begins q us (standing opening n a receipt missed) (standing opening n v receipt missed)

@@ -56,21 +56,27 @@ settled_ends limit opening s st es count h = (
 abbrev Ends : ℕ → List Row → Books → Type 0
 Ends limit opening b = EndsEntry limit opening b.entries b.published
 
+-- what a new history has published, the opening rows alone, is all updates of its entries, which are none
 pub ends_new : (columns : List Column) (opening : List Row) (limit : ℕ) (b : Books) → b ≡ new_books columns opening limit → EndsEntry limit opening b.entries b.published
 ends_new columns opening limit b is = subst (Ends limit opening) (sym is) (0, omega arith, sym (length_opened opening))
 
+-- what is published ends with an entry still where a session is opened
 pub ends_session : (limit : ℕ) (opening : List Row) (s x : Books) → x ≡ with_session s → EndsEntry limit opening s.entries s.published → EndsEntry limit opening x.entries x.published
 ends_session limit opening s x is h = subst (Ends limit opening) (sym is) h
 
+-- so it does where a select begins
 pub ends_open : (limit : ℕ) (opening : List Row) (session : ℕ) (q : Query) (head : ℕ) (s x : Books) → x ≡ with_open session q head s → EndsEntry limit opening s.entries s.published → EndsEntry limit opening x.entries x.published
 ends_open limit opening session q head s x is h = subst (Ends limit opening) (sym is) (ends_more limit opening s.entries (entry session (call.Select q) state.Open) s.published h)
 
+-- so it does where an entry is settled
 pub ends_settled : (limit : ℕ) (opening : List Row) (session : ℕ) (st : State) (s x : Books) → x ≡ with_settled session st s → EndsEntry limit opening s.entries s.published → EndsEntry limit opening x.entries x.published
 ends_settled limit opening session st s x is h = subst (Ends limit opening) (sym is) (settled_ends limit opening session st s.entries s.published h)
 
+-- so it does where a call is answered
 pub ends_answered : (limit : ℕ) (opening : List Row) (session : ℕ) (c : Call) (s x : Books) → x ≡ with_answered session c s → EndsEntry limit opening s.entries s.published → EndsEntry limit opening x.entries x.published
 ends_answered limit opening session c s x is h = subst (Ends limit opening) (sym is) (ends_more limit opening s.entries (entry session c (state.Answered (reply_now c s))) s.published h)
 
+-- so it does where a number is published at which an entry ends
 pub ends_published : (limit : ℕ) (opening : List Row) (n : ℕ) (s x : Books) → x ≡ with_published n s → EndsEntry limit opening s.entries n → EndsEntry limit opening x.entries x.published
 ends_published limit opening n s x is h = subst (Ends limit opening) (sym is) h
 

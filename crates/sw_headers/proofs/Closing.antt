@@ -21,6 +21,7 @@ IsOpen Closed = Unit {0}
 abbrev pub Ends : List ℕ → List Fields → Type 0
 Ends t rs = (s : Spot) (fs : Fields) (f : List ℕ) → IsOpen s → read s fs f t ≡ (fs ++ f ∷ []) ∷ rs
 
+-- where no byte is left a record is over, and no other one is left
 pub ends_nil : Ends [] []
 ends_nil Before fs f o = absurd o
 ends_nil Field fs f o = refl
@@ -45,9 +46,11 @@ ends_feed cs Closed fs f o = refl
 same_number : (c n : ℕ) → (c == n) ≡ true → c ≡ n
 same_number c n h = grind (arith, nat_tests, h)
 
+-- a line end is a CR or an LF
 pub line_end : (c : ℕ) → is_line_end c ≡ true → (c ≡ 13) ⊎ (c ≡ 10)
 line_end c h = by_bool (c == 13) (λ e. inl (same_number c 13 e)) (λ e. inr (same_number c 10 (subst (λ b. (b || (c == 10)) ≡ true) e h)))
 
+-- behind a line end a record is over, and what follows is read from there on
 pub ends_line : (c : ℕ) (cs : List ℕ) → is_line_end c ≡ true → Ends (c ∷ cs) (read Before [] [] cs)
 ends_line c cs h = by_end (line_end c h)
   where
@@ -59,6 +62,7 @@ ends_line c cs h = by_end (line_end c h)
 pub line_before : (c : ℕ) (cs : List ℕ) → is_line_end c ≡ true → read Before [] [] (c ∷ cs) ≡ read Before [] [] cs
 line_before c cs h = ap (λ b. read_to (λ s2 fs2 f2. read s2 fs2 f2 cs) Before (cond b Before (opened c)) [] [] c) h
 
+-- so are LFs, however many
 pub lines_before : (n : ℕ) (cs : List ℕ) → read Before [] [] (replicate n 10 ++ cs) ≡ read Before [] [] cs
 lines_before zero cs = refl
 lines_before (suc n) cs = lines_before n cs
@@ -80,10 +84,12 @@ none_read t rs e (suc n) = commas_read t rs e n Field ([] ∷ []) [] tt
 
 -- ---- the fields that are kept
 
+-- of no fields none is kept
 pub kept_nil : (keeps : List Bool) → kept keeps [] ≡ []
 kept_nil [] = refl
 kept_nil (k ∷ ks) = refl
 
+-- the place of the field behind these; all behind the last column count as one place
 abbrev pub at_end : List Bool → Fields → ℕ
 at_end keeps fs = min (length fs) (length keeps)
 
@@ -246,6 +252,7 @@ from_tests fs f c cs false false false e = refl
 pub from_field : (c : ℕ) (cs : List ℕ) (fs : Fields) (f : List ℕ) → is_line_end c ≡ false → read Before fs f (c ∷ cs) ≡ read Field fs f (c ∷ cs)
 from_field c cs fs f h = from_tests fs f c cs (c == 34) (c == 44) (is_line_end c) h
 
+-- the same where nothing was read yet
 pub begins_field : (c : ℕ) (cs : List ℕ) → is_line_end c ≡ false → read Before [] [] (c ∷ cs) ≡ read Field [] [] (c ∷ cs)
 begins_field c cs h = from_field c cs [] [] h
 

@@ -16,9 +16,11 @@ abbrev pub out : List ℕ → List Bool → Place → List ℕ → List ℕ
 out header keeps p [] = finished_at header keeps p p.spot
 out header keeps p (c ∷ cs) = (stepped header keeps p c).1 ++ out header keeps (stepped header keeps p c).0 cs
 
+-- what goes on in a step, and then of the rest of a text
 abbrev pub after : List ℕ → List Bool → Step → List ℕ → List ℕ
 after header keeps s cs = s.1 ++ out header keeps s.0 cs
 
+-- a place behind where a byte order mark may stand
 abbrev pub at : Spot → Bool → ℕ → Bool → Bool → ℕ → Place
 at s first field given bytes missed = record {
   spot = s;

@@ -107,6 +107,7 @@ joined s Before f c = f
 joined s Field f c = f
 joined s Closed f c = f
 
+-- the records that are left at the end of a text, from a spot
 abbrev pub read_end : Spot → Fields → List ℕ → List Fields
 read_end Before fs f = []
 read_end Field fs f = (fs ++ f ∷ []) ∷ []

@@ -9,6 +9,7 @@ use Rattle.sw_headers.specs.declared.rewriting.Place.{Place}
 use Rattle.sw_headers.specs.declared.rewriting.Rewriter.{Rewriter}
 use Rattle.sw_headers.specs.Steps.{Goes, Step, TakesIn, copied, copied_run, fed, going_on, inside, is_kept, is_line_end, missed_after, missed_in, place_after, stays, taken}
 
+-- what holds where a test is met, and where it is not, holds
 pub by_bool : {G : Type 0} (b : Bool) → (b ≡ true → G) → (b ≡ false → G) → G
 by_bool true f g = f refl
 by_bool false f g = g refl
@@ -30,9 +31,11 @@ found_none : (b : Bool) (at : ℕ) → cond b (Some at) None ≡ None → b ≡ 
 found_none true at h = cc
 found_none false at h = refl
 
+-- the bytes before the first that meets a test do not meet it
 pub some_stays : (p : ℕ → Bool) (xs : List ℕ) (end : ℕ) → position p xs ≡ Some end → list_all (λ c. not (p c)) (take end xs) ≡ true
 some_stays p xs end h = subst (λ n. list_all (λ c. not (p c)) (take n xs) ≡ true) (found_at _ _ end h) (prefix_stays (λ c. not (p c)) xs)
 
+-- where no byte is found that meets a test, none meets it
 pub none_stays : (p : ℕ → Bool) (xs : List ℕ) → position p xs ≡ None → list_all (λ c. not (p c)) (take (length xs) xs) ≡ true
 none_stays p xs h =
     let test : nat_lt (position_or_len p xs) (length xs) ≡ false = found_none _ _ h in
@@ -130,6 +133,7 @@ push_one a b n m h = append_assoc a (b ∷ []) (replicate m b) ∙ ap (λ k. a +
 
 -- ---- what is left of a text
 
+-- a step over the first byte takes that in, and leaves the others
 pub takes_one : (old new : Rewriter) (text : List ℕ) (c : ℕ) (cs : List ℕ) → text ≡ c ∷ cs
     → Goes old new (taken old.header.record.items old.header.keeps.items old.place c) → TakesIn old new text cs
 takes_one old new text c cs e goes =
@@ -160,6 +164,7 @@ takes_all old new text c cs left e m all goes =
           ∙ ap (λ p. new.out.items ++ going_on h k p left) (sym goes.1),
     )
 
+-- a run of bytes that stay is taken in at once, and the others are left
 pub takes_run : (old new : Rewriter) (text run left : List ℕ) → text ≡ run ++ left → 0 < length run → old.place.marked ≡ 3 → list_all (stays old.place.spot) run ≡ true
     → Goes old new (copied_run old.header.keeps.items old.place run) → TakesIn old new text left
 takes_run old new text [] left e some m all goes = absurd (omega (arith, some))

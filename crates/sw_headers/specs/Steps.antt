@@ -16,6 +16,10 @@ abbrev pub joined_after : Bool → List ℕ → Fields → List ℕ
 joined_after has_kept header [] = header
 joined_after has_kept header (w ∷ ws) = joined_after (has_kept || is_named w) (joined_on has_kept header w) ws
 
+-- the same of one that has no word yet
+abbrev pub joined : List ℕ → Fields → List ℕ
+joined header ws = joined_after false header ws
+
 abbrev pub is_line_end : ℕ → Bool
 is_line_end c = (c == 13) || (c == 10)
 

@@ -1,8 +1,8 @@
 //! The header that is given.
 
-ghost use Rattle.std.specs.Prelude.{◌≡◌, ◌≤◌, ◌++◌, ◌∷◌, ◌||◌, [], false, filter, length, map, IfOk, OnOk};
+ghost use Rattle.std.specs.Prelude.{◌≡◌, ◌≤◌, ◌++◌, ◌∷◌, ◌||◌, [], filter, length, map, IfOk, OnOk};
 ghost use Rattle.std.specs.List.{list_all};
-ghost use Rattle.sw_headers.specs.Steps.{commas, joined_after, joined_on, keeps_at, lacking, next_field};
+ghost use Rattle.sw_headers.specs.Steps.{commas, joined, joined_on, keeps_at, lacking, next_field};
 ghost use Rattle.sw_headers.specs.Under.{is_named, kept_in, or_empty, words};
 
 use std::alloc::{AllocError, Global};
@@ -39,7 +39,7 @@ impl Header {
     /// Adds the columns of a header that has none yet.
     fn push_all(&mut self, words: &[&str]) -> Result<(), AllocError>
         ensures keeps { OnOk result (self.new.keeps.items ≡ self.old.keeps.items ++ map is_named (map (λ w. w.now) words.now)) }
-        ensures record { OnOk result (self.new.record.items ≡ joined_after false self.old.record.items (map (λ w. w.now) words.now)) }
+        ensures record { OnOk result (self.new.record.items ≡ joined self.old.record.items (map (λ w. w.now) words.now)) }
     {
         let mut has_kept = false;
         for word in words {

@@ -227,6 +227,7 @@ split true rs h =
 split false rs h =
     subst (λ (xs : Records). records_in (records_text xs) ≡ xs) (sym h.whole) (records_back h.first h.field h.fields h.under h.plain h.have)
 
+-- a call's comma-separated values are read as the records of its answer, which tell its reply
 pub values_read_back : ValuesAreReadBack
 values_read_back columns t h =
     let d = recursion_from_All (λ (c : Column). IsDomain c.1) columns h.schema.sound.domains in

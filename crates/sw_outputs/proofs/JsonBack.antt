@@ -44,6 +44,7 @@ small_64 : (z : ℤ) → FitsSigned w64 z → IsSmall z
 small_64 (pos n) f = omega (arith, f.sfits)
 small_64 (negsuc n) f = omega (arith, f.sfits)
 
+-- a number of 128 signed bits has no more than 64 digits
 pub small_128 : (z : ℤ) → FitsSigned w128 z → IsSmall z
 small_128 (pos n) f = omega (arith, f.sfits)
 small_128 (negsuc n) f = omega (arith, f.sfits)
@@ -57,6 +58,7 @@ flag_back : (z : ℤ) → (z ≡ pos 0) ⊎ (z ≡ pos 1) → flag_kept (int_eq 
 flag_back z (inl is) = ap (λ y. flag_kept (int_eq y (pos 1))) is ∙ sym is
 flag_back z (inr is) = ap (λ y. flag_kept (int_eq y (pos 1))) is ∙ sym is
 
+-- the code of the text that is shown of a cell of texts is that cell
 pub text_back : (texts : List (List ℕ)) (z : ℤ) → IsDomain (kind.Text texts) → IsCellOf (kind.Text texts) z → option_map (λ code. pos code) (code_of texts (text_shown texts z)) ≡ Some z
 text_back texts z d c =
     let code : ℕ = c.0.0 in
@@ -124,11 +126,13 @@ names_plain columns (a ∷ attrs) = let rest = names_plain columns attrs in ((tt
 
 -- ---- domains
 
+-- where each column's domain is sound, that of any attribute is
 pub kind_sound : (columns : List Column) (a : ℕ) → AllByRecursion (λ c. IsDomain c.1) columns → IsDomain (kind_at columns a)
 kind_sound [] a h = tt
 kind_sound (c ∷ cs) zero h = h.0
 kind_sound (c ∷ cs) (suc a) h = kind_sound cs a h.1
 
+-- so are those of a list of attributes
 pub kinds_sound : (columns : List Column) (attrs : List ℕ) → AllByRecursion (λ c. IsDomain c.1) columns → AllByRecursion IsDomain (map (kind_at columns) attrs)
 kinds_sound columns [] h = tt
 kinds_sound columns (a ∷ attrs) h = (kind_sound columns a h, kinds_sound columns attrs h)
@@ -260,6 +264,7 @@ answer_back columns c (Some r) d a = called_back columns c r.now d a
 
 -- ---- lines
 
+-- a call's line is read as JSON that tells where the call stands, its text and its reply
 pub lines_read_back : LinesAreReadBack
 unfolding told_text
 lines_read_back columns t h =

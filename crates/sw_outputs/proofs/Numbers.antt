@@ -231,18 +231,22 @@ abbrev pub IsSmall : ℤ → Type 0
 IsSmall (pos n) = n < 10 ^ 64
 IsSmall (negsuc n) = suc n < 10 ^ 64
 
+-- a whole number as it is written is a number of JSON, and is read as it
 pub whole_read : (z : ℤ) → IsSmall z → IsRead 0 (signed_decimal z) z
 whole_read (pos n) h = above 0 n (decimal n) (whole_printed n h)
 whole_read (negsuc n) h = below 0 n (suc n) (decimal (suc n)) refl (whole_printed (suc n) h)
 
+-- so is a number with one to six decimals
 pub fixed_read : (places : ℕ) (z : ℤ) → 1 ≤ places → places ≤ 6 → IsSmall z → IsRead places (fixed_text places z) z
 fixed_read places (pos n) some few h = above places n (with_point places n) (fixed_printed places n some few h)
 fixed_read places (negsuc n) some few h = below places n (n + 1) (with_point places (n + 1)) (omega arith) (fixed_printed places (n + 1) some few (omega arith))
 
 -- ---- whole numbers from 0
 
+-- a count as it is written is a number of JSON
 pub count_number : (n : ℕ) → n < 10 ^ 64 → IsNumber (decimal n)
 count_number n h = (whole_read (pos n) h).number
 
+-- a count as it is written is read as it
 pub count_read : (n : ℕ) → n < 10 ^ 64 → magnitude 0 (decimal n) ≡ Some n
 count_read n h = magnitude_back 0 n (decimal n) (whole_printed n h)

@@ -25,12 +25,14 @@ pub item_put : (t now rest all : List ℕ) (value : List ℕ) → all ≡ t ++ (
 item_put t now rest all value is put =
     is ∙ sym (append_assoc t (44 ∷ []) (value ++ rest)) ∙ sym (append_assoc (t ++ 44 ∷ []) value rest) ∙ ap (λ n. n ++ rest) (sym put)
 
+-- an item behind a comma, or behind nothing where it is the first one
 pub later_put : (t now rest all comma value : List ℕ) → all ≡ t ++ (comma ++ (value ++ rest)) → now ≡ (t ++ comma) ++ value → all ≡ now ++ rest
 later_put t now rest all comma value is put =
     is ∙ sym (append_assoc t comma (value ++ rest)) ∙ sym (append_assoc (t ++ comma) value rest) ∙ ap (λ n. n ++ rest) (sym put)
 
 -- ---- objects
 
+-- the names of what rows show are `key`, with its bracket, and the further names
 pub names_parts : (old : List ℕ) (columns : List Column) (attrs : List ℕ)
     → (old ++ codes "[\"key\"") ++ items_text true (items_of (map (name_json columns) attrs)) ≡ old ++ value_text (names_json columns attrs)
 unfolding escape_byte
@@ -39,17 +41,20 @@ names_parts old columns attrs = append_assoc old (codes "[\"key\"") (items_text 
 flat_five : (old a b c d e : List ℕ) → ((((old ++ a) ++ b) ++ c) ++ d) ++ e ≡ old ++ (a ++ (b ++ (c ++ (d ++ e))))
 flat_five old a b c d e = simp append_assoc
 
+-- rows are an object of their names and their list, piece by piece
 pub rows_parts : (old : List ℕ) (columns : List Column) (attrs : List ℕ) (rows : List ReplyRow)
     → ((((old ++ codes "{\"columns\":") ++ value_text (names_json columns attrs)) ++ codes ",\"rows\":") ++ value_text (list_json (map (row_json (map (kind_at columns) attrs)) rows))) ++ codes "}"
     ≡ old ++ value_text (rows_json columns attrs rows)
 unfolding escape_byte
 rows_parts old columns attrs rows = flat_five old (codes "{\"columns\":") (value_text (names_json columns attrs)) (codes ",\"rows\":") (value_text (list_json (map (row_json (map (kind_at columns) attrs)) rows))) (codes "}")
 
+-- one number is an object of what it is called and the number, piece by piece
 pub scalar_parts : (old : List ℕ) (columns : List Column) (c : Call) (r : Reply)
     → ((((old ++ codes "{") ++ quoted (called_word c)) ++ codes ":") ++ value_text (number_json (kind_called columns c) r)) ++ codes "}"
     ≡ old ++ value_text (scalar_json columns c r)
 scalar_parts old columns c r = flat_five old (codes "{") (quoted (called_word c)) (codes ":") (value_text (number_json (kind_called columns c) r)) (codes "}")
 
+-- the text of a call that was refused
 pub refused_text : codes "{\"refused\":1}" ≡ value_text (one_json (codes "refused") (count_json 1))
 unfolding escape_byte digits
 refused_text = refl
@@ -64,6 +69,7 @@ line_flat n b l c r = simp append_assoc
 flat_none : (p q w a e : List ℕ) → ((((([] ++ p) ++ q) ++ w) ++ a) ++ e) ≡ p ++ (q ++ (w ++ (a ++ e)))
 flat_none p q w a e = simp append_assoc
 
+-- a line is the place, the call's text and what it was answered, piece by piece
 pub line_parts : (columns : List Column) (t : Told)
     → (((([] ++ place_text t) ++ quoted (call_text columns t.call.now)) ++ codes ",\"reply\":") ++ value_text (answer_json columns t.call.now t.reply)) ++ codes "}\n"
     ≡ told_line columns t

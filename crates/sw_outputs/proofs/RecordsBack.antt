@@ -9,6 +9,7 @@ use Rattle.csv.specs.declared.parser.State.TheVariants as st
 use Rattle.csv.proofs.RoundTrip.{read-write}
 use Rattle.sw_outputs.specs.Fields.{records_text}
 
+-- records, each a list of fields
 abbrev pub Records : Type 0
 Records = List (List (List ℕ))
 

@@ -63,6 +63,7 @@ unfolding word_of is_a_word
 read_plain k text z (inl v) = (word_is k text z (ap (word_value k) (ap word_of v.1) ∙ v.2)).1
 read_plain k text z (inr v) = absurd (true≢false (ap is_a_word v.1))
 
+-- a cell that is written as a bare word is read as that cell
 pub plain_read : (k : Domain) (z : ℤ) → value_tok k z ≡ word (cell_text k z) → IsDomain k → IsCellOf k z → cell_value k (cell_text k z) ≡ Some z
 plain_read k z same d c =
     let printed = cell_printed k z (record { places = d; of_kind = c.0; fits = c.1 }) in
@@ -85,6 +86,7 @@ pub record HasText (texts : Texts) (z : ℤ) : Type 0 where
   pub sound : is_text text ≡ true
   pub coded : (code : ℕ) × (code_of texts text ≡ Some code)
 
+-- a cell of a sound domain of texts has its text, which is shown and has a code
 pub has_its_text : (texts : Texts) (z : ℤ) → IsDomain (kind.Text texts) → IsCellOf (kind.Text texts) z → HasText texts z
 has_its_text texts z d c =
     let code : ℕ = c.0.0 in
@@ -418,6 +420,7 @@ table_back columns (a ∷ later) rows s some few below differ cells few_rows few
       },
     )
 
+-- a table of rows that a call shows is read as just these rows
 pub tables_read_back : TablesAreReadBack
 tables_read_back columns (call.Select q) rows s f m cells few_rows few_bytes = by_want q.want f.attrs.want f.names m cells few_bytes
   where

@@ -54,6 +54,7 @@ mutual
   print_members true (member k j ms) ts = ap (λ s. 44 ∷ s) (print_member k j ms ts (print_value false j (members_tokens ms ++ ts)) (print_members true ms ts))
   print_members false (member k j ms) ts = print_member k j ms ts (print_value false j (members_tokens ms ++ ts)) (print_members true ms ts)
 
+-- what `json` prints for a value's tokens is its text
 pub value_printed : (j : Json) → print (json_tokens j) ≡ value_text j
 unfolding print_from
 value_printed j = ap print (sym (append-nil (json_tokens j))) ∙ print_value false j [] ∙ append-nil (value_text j)

@@ -100,6 +100,7 @@ times-passed q v (p ∷ ps) = by-test (times-passed q v ps) (q p) refl
         let all : times v (map (λ p. p.1) (filter q (p ∷ ps))) ≡ times v (map (λ p. p.1) (filter q ps)) = rw is refl in
         omega (arith, all, rest, none, sum_by-cons (times_passed q v) p ps)
 
+-- whether a pair's cell lies within two bounds
 abbrev pub cell_within : Option Bound → Option Bound → ℤ × ℕ → Bool
 cell_within lower upper p = is_within lower upper p.0
 
@@ -161,9 +162,11 @@ left-still : (b : Bound) (y z : ℤ) → y ≤ℤ z → is_left b z ≡ true →
 left-still (Before v) y z le h = grind (arith, ints, le, h)
 left-still (After v) y z le h = grind (arith, ints, le, h)
 
+-- whether a pair's cell lies under a lower bound
 abbrev pub under : Option Bound → ℤ × ℕ → Bool
 under lower p = not (is_above lower p.0)
 
+-- whether a pair's cell lies below an upper bound
 abbrev pub below : Option Bound → ℤ × ℕ → Bool
 below upper p = is_below upper p.0
 

@@ -14,9 +14,11 @@ use Rattle.sw_spine.specs.Listed.{IsListed, MeetsAllLive, flags_at, listed, rows
 use Rattle.sw_spine.specs.Table.{is_numbered}
 use Rattle.sw_spine.proofs.StoreLemmas.{numbered_at, numbered_rises}
 
+-- a row for a place where there is none
 abbrev pub no_row : Row
 no_row = record { key = 0; cells = [] }
 
+-- places that are less than a number
 abbrev pub Inside : ℕ → List ℕ → Type 0
 Inside n places = AllByRecursion (λ p. p < n) places
 

@@ -26,8 +26,10 @@ share_keyless : {A : Type 0} (c : A → Gv) (γ i : ℕ) (v : A) → Keyless (sh
 unfolding share_owns
 share_keyless c γ i v = row_Keyless i _ γ
 
+-- what a book owns names no thread, so it may go to another one
 pub book_send : (T : RattleType) → IsSend (Book.the_row T)
 book_send T = record { owned = λ d vs. ((λ vss. (tt, ((λ uss. (tt, tt)), tt))), book_keyless T.coded.code d.name d.rows); leaving = λ k f vs. tt }
 
+-- so may a share
 pub share_send : (T : RattleType) → IsSend (Share.the_row T)
 share_send T = record { owned = λ d vs. ((λ vss. (tt, ((λ uss. (tt, tt)), tt))), share_keyless T.coded.code d.name d.number d.value); leaving = λ k f vs. tt }

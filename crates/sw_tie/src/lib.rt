@@ -122,11 +122,9 @@ impl<T> Book<T> {
 // token's own type may do that.
 impl<T> Share<T> {
     fn next(book: &mut Book<T>, value: &Snapshot<T>) -> Share<T>
-        ensures { (book.new.name ≡ book.old.name)
-            × (book.new.rows ≡ book.old.rows ++ (value.now.value, false) ∷ [])
-            × (result.name ≡ book.old.name)
-            × (result.number ≡ length book.old.rows)
-            × (result.value ≡ value.now.value) }
+        ensures book { (book.new.name ≡ book.old.name) × (book.new.rows ≡ book.old.rows ++ (value.now.value, false) ∷ []) }
+        ensures share { (result.name ≡ book.old.name) × (result.number ≡ length book.old.rows) }
+        ensures value { result.value ≡ value.now.value }
     {
         let _ = value;
         Share {
@@ -136,28 +134,25 @@ impl<T> Share<T> {
 
     fn shift(&mut self, book: &mut Book<T>, value: &Snapshot<T>)
         requires { self.old.name ≡ book.old.name }
-        ensures { (slice_get book.old.rows self.old.number ≡ Some (self.old.value, false))
-            × (book.new.name ≡ book.old.name)
-            × (book.new.rows ≡ set book.old.rows self.old.number (value.now.value, false))
-            × (self.new.name ≡ self.old.name)
-            × (self.new.number ≡ self.old.number)
-            × (self.new.value ≡ value.now.value) }
+        ensures was { slice_get book.old.rows self.old.number ≡ Some (self.old.value, false) }
+        ensures name { (book.new.name ≡ book.old.name) × (self.new.name ≡ self.old.name) }
+        ensures rows { book.new.rows ≡ set book.old.rows self.old.number (value.now.value, false) }
+        ensures share { (self.new.number ≡ self.old.number) × (self.new.value ≡ value.now.value) }
     {
         let _ = value;
     }
 
     fn shown(&mut self, book: &mut Book<T>)
         requires { self.old.name ≡ book.old.name }
-        ensures { (slice_get book.old.rows self.old.number ≡ Some (self.old.value, false))
-            × (book.new ≡ book.old)
-            × (self.new ≡ self.old) }
+        ensures was { slice_get book.old.rows self.old.number ≡ Some (self.old.value, false) }
+        ensures same { (book.new ≡ book.old) × (self.new ≡ self.old) }
     {}
 
     fn back_to(self, book: &mut Book<T>)
         requires { self.name ≡ book.old.name }
-        ensures { (slice_get book.old.rows self.number ≡ Some (self.value, false))
-            × (book.new.name ≡ book.old.name)
-            × (book.new.rows ≡ set book.old.rows self.number (self.value, true)) }
+        ensures was { slice_get book.old.rows self.number ≡ Some (self.value, false) }
+        ensures name { book.new.name ≡ book.old.name }
+        ensures rows { book.new.rows ≡ set book.old.rows self.number (self.value, true) }
     {
         let Self { marker: _ } = self;
     }

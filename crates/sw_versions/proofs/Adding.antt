@@ -9,12 +9,15 @@ use Rattle.sw_table.specs.declared.row.Update.{Update}
 use Rattle.sw_versions.specs.Rules.{IsKept, IsShort, AreFilled, Adds, updates_in}
 use Rattle.sw_versions.proofs.Batches.{all_added, filled_more, same_many}
 
+-- what those who share the book see of its batches beside the book: nothing
 abbrev pub shown : List (List Update) → List (List Update)
 shown log = []
 
+-- and nothing is asked of how that changes
 abbrev pub moved : List (List Update) → List (List Update) → ℕ → Type 0
 moved xs ys n = Unit {0}
 
+-- over these batches the exchange adds the updates to all that was seen, or finds that there are more
 pub adds_goes : (log v : List (List Update)) (us : List Update) (old : ℕ) → length (updates_in v) ≡ old → old + length us ≤ 2 ^ 62 → 0 < length us → IsShort (updates_in log) → AreFilled log → IsPrefix v log
     → (b : Bool) → (length (updates_in log) == old) ≡ b
     → Goes IsKept shown moved 0 (v, (no_nib, None)) (λ n. either (n == old) (old + length us) n) (Adds (step 0 old (old + length us) us) (v, (no_nib, None))) ((length (updates_in log), true) ∷ (0, true) ∷ []) log

@@ -70,6 +70,7 @@ next_begins (x ∷ xs) (y ∷ us) u p at =
     let heads : x ≡ y = cc (p.1) in
     let rest = next_begins xs us u (p.0, cc (p.1)) at in (rest.0, cc (heads, rest.1))
 
+-- what was handed on, with the next update or without, begins the updates of the book
 pub handed_begins : (b : Bool) (xs ys us all : List Update) (n : ℕ) (d : Update) → IsPrefix us all → IsPrefix xs us → n ≡ length xs → n < length us
     → MatchBool b (ys ≡ xs ++ get_or all n d ∷ []) (ys ≡ xs) → IsPrefix ys us
 handed_begins true xs ys us all n d p q is less more =
@@ -92,6 +93,7 @@ booked_updates updates old new begins booked = ⊎_elim
     (λ more. inr (ap updates_in more ∙ (all_added old (drop (length (updates_in old)) updates) ∙ prefix_rest (updates_in old) updates begins)))
     booked
 
+-- what is booked then begins all updates still
 pub all_booked : (updates : List Update) (old new : List (List Update)) → IsPrefix (updates_in old) updates → HasBookedOr updates old new → IsPrefix (updates_in new) updates
 all_booked updates old new begins booked = ⊎_elim
     (λ same. subst (λ (l : List (List Update)). IsPrefix (updates_in l) updates) (sym same) begins)

@@ -35,6 +35,7 @@ named_copy book opening copy ops ops' batches rows is =
     let list : Listed = record { book = book; batches = batches } in
     ap (λ (l : List Op). fold written copy l) is ∙ (named copy ops list ∙ ap (λ (rs : List Row). record { rows = rs; list = list }) rows)
 
+-- the copy of a list is that of the list that it names
 pub is_copy : (book : Book) (opening : List Row) (copy : Copied) (batches : List (List Update)) → copy ≡ copy_of book opening batches → IsCopy book opening copy
 is_copy book opening copy batches is = is ∙ ap (λ (l : List (List Update)). copy_of book opening l) (sym (ap (λ (c : Copied). c.list.batches) is))
 

@@ -25,6 +25,7 @@ use Rattle.sw_tie.specs.contracts.Book.new.Key.{name as #self}
 use Rattle.sw_tie.proofs.Book.new.Statement.{statement}
 use Rattle.sw_tie.proofs.Book.new.Code as code
 
+-- a book that was just made has a chain of no rows, as the contract says
 pub new_spec : {M : Type 1} → statement M
 new_spec 𝓤 𝓛 𝓜 𝓡 wired T L =
     let H = 𝓛.H in let 𝓣 = tables 𝓤 H 𝓜 𝓡 𝓡.env in let R : RattleType = param 0 T in let En = ended T in let c = clauses T 𝓛 𝓜.mem 𝓡.returns in

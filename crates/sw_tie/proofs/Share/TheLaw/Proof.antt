@@ -9,6 +9,7 @@ use Rattle.std.specs.contracts.marker.PhantomData as marker
 use Rattle.sw_tie.specs.contracts.Share as C
 use Rattle.sw_tie.proofs.Share.TheLaw.Statement.{statement}
 
+-- a share keeps the law of shared references: one to it holds nothing of its row
 pub shares : (T : RattleType) (L : Laws T) → statement T L
 shares T L =
     of_Lends (C.struct T) (C.the_codes T.Denot T.coded (marker.the_row T).coded) (C.the_heap T) (C.the_lent T) (λ d p. nothing_shr_laws)

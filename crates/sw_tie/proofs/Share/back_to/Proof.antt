@@ -29,6 +29,7 @@ use Rattle.sw_tie.specs.contracts.Share.back_to.Key.{name as #self}
 use Rattle.sw_tie.proofs.Share.back_to.Statement.{statement}
 use Rattle.sw_tie.proofs.Share.back_to.Code as code
 
+-- a share that comes back leaves its row given back, as the contract says
 pub back_to_spec : {M : Type 1} → statement M
 back_to_spec 𝓤 𝓛 𝓜 𝓡 wired T L =
     let H = 𝓛.H in let 𝓣 = tables 𝓤 H 𝓜 𝓡 𝓡.env in let R : RattleType = param 0 T in let En = ended T in let c = clauses T 𝓛 𝓜.mem 𝓡.returns in
@@ -39,7 +40,8 @@ back_to_spec 𝓤 𝓛 𝓜 𝓡 wired T L =
     let s = z.0.3.0 in let r = z.0.3.1.0 in let a = r.now in let u : Val = vptr r.ref_ptr.0 r.ref_ptr.1 in let Vs : List Val = token ∷ u ∷ [] in
     let a' : B.Denot = record { marker = a.marker; name = a.name; rows = set a.rows s.number (s.value, true) } in
     let Was : Type 0 = slice_get a.rows s.number ≡ Some (s.value, false) in
-    let Told : Type 0 = Was × (a'.name ≡ a.name) × (a'.rows ≡ set a.rows s.number (s.value, true)) in
+    let OfName : Type 0 = a'.name ≡ a.name in
+    let OfRows : Type 0 = a'.rows ≡ set a.rows s.number (s.value, true) in
     qed 𝓛 (((‵ (flft κs.0 qs.0) ⊛ ‵ (fsep (flft κs.1.0 qs.1.0) ftrue)) ⊛ ‵ (owns (types_at En.signature.params κs) z.0.3 z.0.4)) ∷ raw (fact 𝓤 (κs.1.0 ⊑ T.lives)) ∷ raw (fact 𝓤 (s.name ≡ a.name)) ∷ []) ∵
     move ! (2 ∷ []) $ heard ! (s.name ≡ a.name) (λ same. split ! $ split ! $ move ! (2 ∷ []) $ fsplit ! $ fsplit ! $ drop ! $ move ! (1 ∷ []) $ fsplit ! $ fsplit3 ! $ keep ! (1 ∷ 2 ∷ 5 ∷ 4 ∷ 6 ∷ []) $
     suffices ! (Run Vs) (subst (λ (us : List Val). ent 𝓤 (Run Vs) (Run us)) (sym (λ i. told R z.0.4.0 are.0.0 i ++ (are.1.0.0 i ++ []))) (id⊢ 𝓤 (Run Vs))) $
@@ -51,4 +53,7 @@ back_to_spec 𝓤 𝓛 𝓜 𝓡 wired T L =
     sets ! (of_opd ! (unit_lit !)) refl (tt, tt) $ returns ! (look_at ! 0 refl) $ free_all ! refl $
     feq_i ! (List Val) z.0.4.1.0 (u ∷ []) are.1.0.0 $ fjoin3 ! $ nothing ! $ move ! (1 ∷ 0 ∷ []) $ fjoin ! $ nothing ! $ fjoin ! $
     feq_i ! (List Val) (vunit ∷ []) (vunit ∷ []) refl $ move ! (2 ∷ 3 ∷ []) $ join ! $
-    use0 𝓛 (raw (fact 𝓤 Told)) (fact_i 𝓤 Told (emp 𝓤) (was, refl, refl)) $ keep ! (1 ∷ 3 ∷ 2 ∷ 0 ∷ []) $ by ! (leaves 𝓛 En hs c z vunit tt (tt, (a', tt)) (tt, (tt, tt))))))))
+    use0 𝓛 (raw (fact 𝓤 OfRows)) (fact_i 𝓤 OfRows (emp 𝓤) refl) $
+    use0 𝓛 (raw (fact 𝓤 OfName)) (fact_i 𝓤 OfName (emp 𝓤) refl) $ join ! $
+    use0 𝓛 (raw (fact 𝓤 Was)) (fact_i 𝓤 Was (emp 𝓤) was) $ join ! $
+    keep ! (1 ∷ 3 ∷ 2 ∷ 0 ∷ []) $ by ! (leaves 𝓛 En hs c z vunit tt (tt, (a', tt)) (tt, (tt, tt))))))))

@@ -28,6 +28,7 @@ use Rattle.sw_tie.specs.contracts.Share.shown.Key.{name as #self}
 use Rattle.sw_tie.proofs.Share.shown.Statement.{statement}
 use Rattle.sw_tie.proofs.Share.shown.Code as code
 
+-- a share and its row are told to show one value, and both stay, as the contract says
 pub shown_spec : {M : Type 1} → statement M
 shown_spec 𝓤 𝓛 𝓜 𝓡 wired T L =
     let H = 𝓛.H in let 𝓣 = tables 𝓤 H 𝓜 𝓡 𝓡.env in let R : RattleType = param 0 T in let En = ended T in let c = clauses T 𝓛 𝓜.mem 𝓡.returns in
@@ -38,7 +39,7 @@ shown_spec 𝓤 𝓛 𝓜 𝓡 wired T L =
     let p = z.0.3.0 in let s = p.now in let r = z.0.3.1.0 in let a = r.now in
     let u : Val = vptr p.ref_ptr.0 p.ref_ptr.1 in let v : Val = vptr r.ref_ptr.0 r.ref_ptr.1 in let Vs : List Val = u ∷ v ∷ [] in
     let Was : Type 0 = slice_get a.rows s.number ≡ Some (s.value, false) in
-    let Told : Type 0 = Was × (a ≡ a) × (s ≡ s) in
+    let Same : Type 0 = (a ≡ a) × (s ≡ s) in
     qed 𝓛 (((‵ (flft κs.0 qs.0) ⊛ ‵ (flft κs.1.0 qs.1.0) ⊛ ‵ (fsep (flft κs.1.1.0 qs.1.1.0) ftrue)) ⊛ ‵ (owns (types_at En.signature.params κs) z.0.3 z.0.4)) ∷ raw (fact 𝓤 (κs.1.1.0 ⊑ T.lives)) ∷ raw (fact 𝓤 (s.name ≡ a.name)) ∷ []) ∵
     move ! (2 ∷ []) $ heard ! (s.name ≡ a.name) (λ same. split ! $ split ! $ move ! (1 ∷ []) $ split ! $ move ! (3 ∷ []) $ fsplit ! $ fsplit3 ! $ drop ! $ move ! (2 ∷ []) $ fsplit ! $ fsplit3 ! $ drop ! $ keep ! (3 ∷ 4 ∷ 7 ∷ 0 ∷ 1 ∷ 5 ∷ 6 ∷ []) $
     suffices ! (Run Vs) (subst (λ (us : List Val). ent 𝓤 (Run Vs) (Run us)) (sym (λ i. are.0.0 i ++ (are.1.0.0 i ++ []))) (id⊢ 𝓤 (Run Vs))) $
@@ -51,4 +52,6 @@ shown_spec 𝓤 𝓛 𝓜 𝓡 wired T L =
     sets ! (of_opd ! (unit_lit !)) refl (tt, tt) $ returns ! (look_at ! 0 refl) $ free_all ! refl $
     feq_i ! (List Val) z.0.4.0 (u ∷ []) are.0.0 $ fjoin3 ! $ move ! (2 ∷ 3 ∷ []) $ feq_i ! (List Val) z.0.4.1.0 (v ∷ []) are.1.0.0 $ fjoin3 ! $ nothing ! $ move ! (1 ∷ 0 ∷ []) $ fjoin ! $ move ! (1 ∷ 0 ∷ []) $ fjoin ! $
     feq_i ! (List Val) (vunit ∷ []) (vunit ∷ []) refl $ move ! (3 ∷ 4 ∷ []) $ join ! $ move ! (3 ∷ 0 ∷ []) $ join ! $
-    use0 𝓛 (raw (fact 𝓤 Told)) (fact_i 𝓤 Told (emp 𝓤) (was, refl, refl)) $ keep ! (1 ∷ 3 ∷ 2 ∷ 0 ∷ []) $ by ! (leaves 𝓛 En hs c z vunit tt (s, (a, tt)) (tt, (tt, tt)))))))))
+    use0 𝓛 (raw (fact 𝓤 Same)) (fact_i 𝓤 Same (emp 𝓤) (refl, refl)) $
+    use0 𝓛 (raw (fact 𝓤 Was)) (fact_i 𝓤 Was (emp 𝓤) was) $ join ! $
+    keep ! (1 ∷ 3 ∷ 2 ∷ 0 ∷ []) $ by ! (leaves 𝓛 En hs c z vunit tt (s, (a, tt)) (tt, (tt, tt)))))))))
