@@ -1,16 +1,15 @@
 //! Where the lines of two replies part.
 
-ghost use Rattle.std.specs.Prelude.{◌≡◌, ◌<◌, length, map, slice_get, string_bytes};
+ghost use Rattle.std.specs.Prelude.{◌<◌, length, map, string_bytes};
 ghost use Rattle.std.specs.Bool.{Decides};
-ghost use Rattle.sw_spine.specs.Apart.{PartAt};
+ghost use Rattle.sw_spine.specs.Apart.{IsSameAt, PartAt};
 
 use crate::history::Lines;
 
 /// Whether both have a line at a place, and the same.
 fn is_same_at(given: &[String], listed: &[String], place: usize) -> bool
     requires { place < length given.now }
-    ensures { Decides result (slice_get (map (λ t. string_bytes t) given.now) place
-        ≡ slice_get (map (λ t. string_bytes t) listed.now) place) }
+    ensures { Decides result (IsSameAt place (map (λ t. string_bytes t) given.now) (map (λ t. string_bytes t) listed.now)) }
 {
     let line = &given[place];
     match listed.get(place) {

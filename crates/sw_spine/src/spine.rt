@@ -411,9 +411,8 @@ impl Spine {
         requires asks { CallsBelow (length self.old.columns) (Select query) }
         requires reply { reply ≡ reply_now (Select query) self.old }
         requires room { length self.old.entries < MOST_ENTRIES }
-        ensures { MatchResult result
-            (λ _. self.new ≡ with_answered session (Select query) self.old)
-            (λ _. self.new ≡ self.old) }
+        ensures answered { OnOk result (self.new ≡ with_answered session (Select query) self.old) }
+        ensures refused { OnErr result (self.new ≡ self.old) }
     {
         self.entries.reserve(1)?;
         self.entries.push_reserved(Entry {

@@ -1,5 +1,5 @@
 -- How the book's updates, those that are published, and those of the writer hang together.
-use Rattle.std.specs.Prelude.{◌≡◌, ◌⊎◌, ◌<◌, ◌+◌, ◌-◌, ◌^◌, List, [], ◌∷◌, ◌++◌, drop, length, min, Option, Some, None, ℕ}
+use Rattle.std.specs.Prelude.{◌≡◌, ◌⊎◌, ◌<◌, ◌+◌, ◌-◌, ◌^◌, Bool, List, [], ◌∷◌, ◌++◌, drop, length, min, MatchBool, Option, Some, None, ℕ}
 use mathlib.Core.List.{IsPrefix}
 use Rattle.sw_rows.specs.Gives.{Raised}
 use Rattle.sw_table.specs.declared.row.Update.{Update}
@@ -26,10 +26,19 @@ IsShelved booked (Some w) = IsPrefix (all_of w) (updates_in booked) × IsPrefix 
 abbrev pub HasBookedOr : List Update → List (List Update) → List (List Update) → Type 0
 HasBookedOr updates old new = (new ≡ old) ⊎ (new ≡ old ++ drop (length (updates_in old)) updates ∷ [])
 
--- what was published is; or all that stands in the book, which are all updates
+-- these batches are what was published; or all that stand in the book, which are all updates
+abbrev pub AreOldOrAll : List Update → List (List Update) → List (List Update) → List (List Update) → Type 0
+AreOldOrAll updates booked old published = (published ≡ old) ⊎ ((published ≡ booked) × (updates_in booked ≡ updates))
+
+-- the same of what a shelf shows
 abbrev pub HasShownOr : List Update → Shelved → Shelved → Type 0
-HasShownOr updates old new =
-    (new.published ≡ old.published) ⊎ ((new.published ≡ new.booked) × (updates_in new.booked ≡ updates))
+HasShownOr updates old new = AreOldOrAll updates new.booked old.published new.published
+
+-- the writer publishes these batches; or what it did, and counts that there was no memory for it
+abbrev pub TellsPublished : Bool → List (List Update) → Written → Written → Type 0
+TellsPublished told batches old new = MatchBool told
+    (new.published ≡ batches)
+    ((new.published ≡ old.published) × Raised old.failed new.failed)
 
 -- the writer lacks updates: there was no memory for one of them, or the book lacks some
 abbrev pub IsWanting : List Update → Written → Type 0

@@ -1,11 +1,10 @@
 //! What the two copies of the rows have, and what of it is published.
 
 ghost use Rattle.std.specs.Prelude.{◌≡◌, ◌<◌, ◌+◌, ◌^◌, ◌++◌, ◌∷◌, [], None, length, IfOk, IfSome, MatchBool};
-ghost use Rattle.sw_rows.specs.Gives.{Raised};
 ghost use Rattle.sw_table.specs.Live.{live_rows};
 ghost use Rattle.sw_versions.specs.Lists.{rows_after};
 ghost use Rattle.sw_versions.specs.Known.{opened_over, wrote};
-ghost use Rattle.sw_versions.specs.Pending.{all_of};
+ghost use Rattle.sw_versions.specs.Pending.{TellsPublished, all_of};
 ghost use Rattle.sw_versions.specs.Rules.{updates_in};
 ghost use Rattle.sw_versions.specs.declared.viewer.TheConstants.{MOST_VIEWERS};
 
@@ -127,8 +126,7 @@ impl<J: Naming> Copies<J> {
     /// and that is counted.
     pub(crate) fn publish<R: Wait>(&mut self, rt: &R, list: &Front<J>) -> bool
         requires { all_of self.old ≡ updates_in list.now }
-        ensures published { MatchBool result (self.new.published ≡ list.now)
-            ((self.new.published ≡ self.old.published) × Raised self.old.failed self.new.failed) }
+        ensures published { TellsPublished result list.now self.old self.new }
         ensures all { all_of self.new ≡ all_of self.old }
         ensures viewers { self.new.viewers ≡ self.old.viewers }
     {

@@ -1,10 +1,10 @@
 //! What lies under the lock: how far the book is written, and the copies, once there is a viewer.
 
-ghost use Rattle.std.specs.Prelude.{◌≡◌, ◌⊎◌, ◌<◌, ◌+◌, IfErr, IfOk, MatchBool, OnErr, OnOk};
+ghost use Rattle.std.specs.Prelude.{◌≡◌, ◌<◌, ◌+◌, IfErr, IfOk, MatchBool, OnErr, OnOk};
 ghost use mathlib.Core.List.{IsPrefix};
 ghost use Rattle.sw_versions.specs.Known.{opened_over, wrote};
 ghost use Rattle.sw_versions.specs.Lists.{IsLonger};
-ghost use Rattle.sw_versions.specs.Pending.{CameOf, HasBookedOr, HasShownOr, TellsCame, all_of};
+ghost use Rattle.sw_versions.specs.Pending.{AreOldOrAll, CameOf, HasBookedOr, HasShownOr, TellsCame, all_of};
 ghost use Rattle.sw_versions.specs.Refused.{IsAhead, RefusesViewer};
 ghost use Rattle.sw_versions.specs.Rules.{updates_in};
 ghost use Rattle.sw_versions.specs.declared.viewer.TheConstants.{MOST_VIEWERS};
@@ -116,8 +116,7 @@ fn publish_all<J: Naming, R: Wait>(
     requires shown { IsPrefix copies.old.published booked.now }
     ensures all { IsPrefix (all_of copies.new) (updates_in booked.now) }
     ensures shown { IsPrefix copies.new.published booked.now }
-    ensures published { (copies.new.published ≡ copies.old.published)
-        ⊎ ((copies.new.published ≡ booked.now) × (updates_in booked.now ≡ updates.now)) }
+    ensures published { AreOldOrAll updates.now booked.now copies.old.published copies.new.published }
     ensures grows { IsPrefix copies.old.published copies.new.published }
     ensures viewers { copies.new.viewers ≡ copies.old.viewers }
     ensures came { CameOf result booked.now updates.now copies.old copies.new }

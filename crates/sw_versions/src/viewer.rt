@@ -180,8 +180,8 @@ impl<J: Naming> Viewer<J> {
         ensures told { result ≡ true → IsLonger self.old.told published.now self.new.told }
         ensures seen { self.new.seen ≡ self.old.seen }
         ensures failed { self.new.failed ≡ self.old.failed }
-        ensures ahead { result ≡ false → (self.new ≡ self.old)
-            × (length (updates_in published.now) < length (updates_in self.old.seen)) }
+        ensures kept { result ≡ false → self.new ≡ self.old }
+        ensures ahead { result ≡ false → length (updates_in published.now) < length (updates_in self.old.seen) }
     {
         if self.seen.begins(published) {
             self.told = self.told.longer(published);
