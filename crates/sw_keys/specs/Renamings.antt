@@ -1,7 +1,8 @@
 -- Keys that a store gave, renamed to those of the plain list. A renaming is the list of the store's keys: that at place k,
 -- from 0, becomes k + 1. It is one to one where no key stands at two places.
-use Rattle.std.specs.Prelude.{◌≡◌, ◌<◌, ◌+◌, ◌⊎◌, ℕ, List, [], ◌∷◌, ◌++◌, codes, decimal, length, slice_get, slice_index, EachIndex, Option, Some, None}
+use Rattle.std.specs.Prelude.{◌≡◌, ◌<◌, ◌+◌, ◌⊎◌, ℕ, List, [], ◌∷◌, ◌++◌, codes, decimal, length, map, slice_get, slice_index, string_bytes, EachIndex, IfOk, IfSome, Option, Some, None, Result, String}
 use Rattle.std.specs.List.{AllZip}
+use Rattle.std.specs.declared.alloc.Global.{Global}
 use Rattle.sw_query.specs.declared.query.Call.{Call}
 use Rattle.sw_query.specs.declared.query.Call.TheVariants as call
 use Rattle.sw_query.specs.declared.query.Want.{Want}
@@ -22,6 +23,14 @@ KeepsFirst n names = (k : ℕ) → k < n → slice_get names k ≡ Some (k + 1)
 
 -- ---- replies
 
+-- what was made, where it could be and there was memory for it, is so
+abbrev pub IfMade : {A E : Type 0} → Result (Option A) E → (A → Type 0) → Type 0
+IfMade made is_so = IfOk made (λ o. IfSome o is_so)
+
+-- the bytes of lines
+abbrev pub lines_of : List (String Global) → List (List ℕ)
+lines_of texts = map (λ t. string_bytes t) texts
+
 -- a row: its key, a colon, and the rest
 abbrev pub row_line : ℕ → List ℕ → List ℕ
 row_line key rest = decimal key ++ (codes ":" ++ rest)
@@ -38,6 +47,10 @@ IsRenamedRow names line new =
 abbrev pub IsRowAt : List ℕ → List (List ℕ) → ℕ → List ℕ → Type 0
 IsRowAt names rows p new = (line : List ℕ) × (slice_get rows p ≡ Some line) × IsRenamedRow names line new
 
+-- the rows at places, under their new keys
+abbrev pub AreRowsAt : List ℕ → List (List ℕ) → List ℕ → List (List ℕ) → Type 0
+AreRowsAt names rows order news = AllZip (IsRowAt names rows) order news
+
 -- these are the places of n things, each once
 pub record AreAllPlaces (n : ℕ) (order : List ℕ) : Type 0 where
   pub many : length order ≡ n
@@ -53,7 +66,7 @@ pub record IsRenamedRows (names : List ℕ) (lines new : List (List ℕ)) : Type
   pub lines_are : lines ≡ rows ++ last ∷ []
   pub new_are : new ≡ news ++ last ∷ []
   pub all : AreAllPlaces (length rows) order
-  pub rows_are : AllZip (IsRowAt names rows) order news
+  pub rows_are : AreRowsAt names rows order news
 
 -- the line of the reply to an insert that was given a key, under the new one
 abbrev pub IsNewKey : List ℕ → List ℕ → List ℕ → Type 0

@@ -1,11 +1,11 @@
 //! The keys that a store gave become those of the plain list.
 
-ghost use Rattle.std.specs.Prelude.{◌≡◌, ◌<◌, ◌+◌, codes, length, map, slice_get, slice_index, string_bytes, true, ◌↔◌, EachIndex, IfOk, IfSome, IsTrue, Some};
+ghost use Rattle.std.specs.Prelude.{◌≡◌, ◌<◌, ◌+◌, codes, length, slice_get, slice_index, string_bytes, true, ◌↔◌, EachIndex, IfOk, IfSome, IsTrue, Some};
 ghost use Rattle.std.specs.BTreeMap as tree;
 ghost use Rattle.std.specs.List.{AllZip};
 ghost use Rattle.std.specs.Ordering.{nat_cmp};
 ghost use Rattle.sw_logs.specs.Orders.{StandOnce};
-ghost use Rattle.sw_keys.specs.Renamings.{key_line, row_line, AreAllPlaces, IsRenamed, IsRenamedAnswer, IsRenamedCall, IsRenamedKey, IsRenamedOutcome, IsRenamedReply, IsNewKey, IsRenamedRow, IsRenamedRows, IsRowAt, KeepsFirst, Renames};
+ghost use Rattle.sw_keys.specs.Renamings.{key_line, lines_of, row_line, AreAllPlaces, AreRowsAt, IfMade, IsRenamed, IsRenamedAnswer, IsRenamedCall, IsRenamedKey, IsRenamedOutcome, IsRenamedReply, IsNewKey, IsRenamedRow, IsRenamedRows, KeepsFirst, Renames};
 
 use std::alloc::{AllocError, Global};
 use std::collections::BTreeMap;
@@ -136,7 +136,7 @@ fn row_under(
     key: u64,
     rest: &str,
 ) -> Result<Option<String>, AllocError>
-    ensures { IfOk result (λ o. IfSome o (λ t. IsRenamedRow names.now.keys.now line.now (string_bytes t))) }
+    ensures { IfMade result (λ t. IsRenamedRow names.now.keys.now line.now (string_bytes t)) }
 {
     let same = is_row(alloc, line, key, rest)?;
     if !same {
@@ -151,7 +151,7 @@ fn row_under(
 
 /// A row's line under the new key; None where it is no line of a row, or its key is not renamed.
 fn renamed_row(alloc: Global, names: &Names<'_>, line: &str) -> Result<Option<String>, AllocError>
-    ensures { IfOk result (λ o. IfSome o (λ t. IsRenamedRow names.now.keys.now line.now (string_bytes t))) }
+    ensures { IfMade result (λ t. IsRenamedRow names.now.keys.now line.now (string_bytes t)) }
 {
     match parted(line) {
         Some((key, rest)) => row_under(alloc, names, line, key, rest),
@@ -217,9 +217,7 @@ fn rows_in(
     order: &[u64],
 ) -> Result<Option<Vec<String>>, AllocError>
     requires { EachIndex order.now (λ k. slice_index order.now k < length rows.now) }
-    ensures { IfOk result (λ o. IfSome o (λ new.
-        AllZip (IsRowAt names.now.keys.now (map (λ t. string_bytes t) rows.now))
-        order.now (map (λ t. string_bytes t) new.items))) }
+    ensures { IfMade result (λ new. AreRowsAt names.now.keys.now (lines_of rows.now) order.now (lines_of new.items)) }
 {
     let mut new = Vec::with_capacity(alloc, rows.len())?;
     for place in order {
@@ -240,8 +238,7 @@ fn renamed_rows(
     names: &Names<'_>,
     lines: &[String],
 ) -> Result<Option<Vec<String>>, AllocError>
-    ensures { IfOk result (λ o. IfSome o (λ new.
-        IsRenamedRows names.now.keys.now (map (λ t. string_bytes t) lines.now) (map (λ t. string_bytes t) new.items))) }
+    ensures { IfMade result (λ new. IsRenamedRows names.now.keys.now (lines_of lines.now) (lines_of new.items)) }
 {
     let Some((last, rows)) = lines.split_last() else {
         return Ok(None);
@@ -291,7 +288,7 @@ fn key_under(
     line: &str,
     key: u64,
 ) -> Result<Option<String>, AllocError>
-    ensures { IfOk result (λ o. IfSome o (λ t. IsNewKey names.now.keys.now line.now (string_bytes t))) }
+    ensures { IfMade result (λ t. IsNewKey names.now.keys.now line.now (string_bytes t)) }
 {
     let same = is_key(alloc, line, key)?;
     if !same {
@@ -306,7 +303,7 @@ fn key_under(
 
 /// The line of the reply to an insert under its new key.
 fn renamed_key(alloc: Global, names: &Names<'_>, line: &str) -> Result<Option<String>, AllocError>
-    ensures { IfOk result (λ o. IfSome o (λ t. IsNewKey names.now.keys.now line.now (string_bytes t))) }
+    ensures { IfMade result (λ t. IsNewKey names.now.keys.now line.now (string_bytes t)) }
 {
     match key_in(line) {
         Some(key) => key_under(alloc, names, line, key),
@@ -323,7 +320,7 @@ fn is_full(line: &str) -> bool
 
 /// The line of the reply to an insert, under its new key where it tells one.
 fn renamed_line(alloc: Global, names: &Names<'_>, line: &str) -> Result<Option<String>, AllocError>
-    ensures { IfOk result (λ o. IfSome o (λ t. IsRenamedKey names.now.keys.now line.now (string_bytes t))) }
+    ensures { IfMade result (λ t. IsRenamedKey names.now.keys.now line.now (string_bytes t)) }
 {
     let full = is_full(line);
     if full {
@@ -343,9 +340,7 @@ fn renamed_keys(
     names: &Names<'_>,
     lines: &[String],
 ) -> Result<Option<Vec<String>>, AllocError>
-    ensures { IfOk result (λ o. IfSome o (λ new.
-        AllZip (IsRenamedKey names.now.keys.now)
-        (map (λ t. string_bytes t) lines.now) (map (λ t. string_bytes t) new.items))) }
+    ensures { IfMade result (λ new. AllZip (IsRenamedKey names.now.keys.now) (lines_of lines.now) (lines_of new.items)) }
 {
     let mut new = Vec::with_capacity(alloc, lines.len())?;
     for place in 0..lines.len() {
@@ -366,7 +361,7 @@ fn renamed_answer(
     query: &Query,
     lines: &Lines,
 ) -> Result<Option<Lines>, AllocError>
-    ensures { IfOk result (λ o. IfSome o (IsRenamedAnswer names.now.keys.now query.now.want lines.now)) }
+    ensures { IfMade result (IsRenamedAnswer names.now.keys.now query.now.want lines.now) }
 {
     match &query.want {
         Want::Rows(_) => {
@@ -390,7 +385,7 @@ fn renamed_reply(
     call: &Call,
     lines: &Lines,
 ) -> Result<Option<Lines>, AllocError>
-    ensures { IfOk result (λ o. IfSome o (IsRenamedReply names.now.keys.now call.now lines.now)) }
+    ensures { IfMade result (IsRenamedReply names.now.keys.now call.now lines.now) }
 {
     match call {
         Call::Select(query) => renamed_answer(alloc, names, query, lines),
@@ -415,7 +410,7 @@ fn renamed_outcome(
     call: &Call,
     reply: &Option<Lines>,
 ) -> Result<Option<Option<Lines>>, AllocError>
-    ensures { IfOk result (λ o. IfSome o (IsRenamedOutcome names.now.keys.now call.now reply.now)) }
+    ensures { IfMade result (IsRenamedOutcome names.now.keys.now call.now reply.now) }
 {
     match reply {
         None => Ok(Some(None)),
@@ -431,7 +426,7 @@ fn renamed_outcome(
 
 /// A call with its key renamed.
 fn renamed_call(alloc: Global, names: &Names<'_>, call: &Call) -> Result<Option<Call>, AllocError>
-    ensures { IfOk result (λ o. IfSome o (IsRenamedCall names.now.keys.now call.now)) }
+    ensures { IfMade result (IsRenamedCall names.now.keys.now call.now) }
 {
     if let Call::Delete(key) = call {
         return Ok(match new_key(names, *key) {
@@ -445,7 +440,7 @@ fn renamed_call(alloc: Global, names: &Names<'_>, call: &Call) -> Result<Option<
 
 /// A call of a log under the new keys.
 fn renamed(alloc: Global, names: &Names<'_>, logged: &Logged) -> Result<Option<Logged>, AllocError>
-    ensures { IfOk result (λ o. IfSome o (IsRenamed names.now.keys.now logged.now)) }
+    ensures { IfMade result (IsRenamed names.now.keys.now logged.now) }
 {
     let made = renamed_call(alloc, names, &logged.call)?;
     let Some(call) = made else {
@@ -471,7 +466,7 @@ pub(crate) fn renamed_calls(
     names: &Names<'_>,
     calls: &[Logged],
 ) -> Result<Option<Vec<Logged>>, AllocError>
-    ensures { IfOk result (λ o. IfSome o (λ new. AllZip (IsRenamed names.now.keys.now) calls.now new.items)) }
+    ensures { IfMade result (λ new. AllZip (IsRenamed names.now.keys.now) calls.now new.items) }
 {
     let mut new: Vec<Logged> = Vec::with_capacity(alloc, calls.len())?;
     for place in 0..calls.len() {
