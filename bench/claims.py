@@ -32,7 +32,7 @@ THEOREMS = [
     ("The headline", "What `Engine::close` answers with `Ok`, its clause `headline`. A history may keep a reply as its lines, for which alone the"
      " definitions of sw_lang are; by `given` this one does not. What a ticket shows, the clauses of a session's calls say (docs/PROMISES.md, 'The"
      " headline').", "sw_engine", "Headline", "IsHistoryOfOneThread", []),
-    ("A run of the program", "What `sw_cli::run` answers, its clause `answers`.", "sw_cli", "Answers", "RunAnswers", []),
+    ("A run of the program", "What `sw_cli::run` answers, its clause is `RunsBy`.", "sw_cli", "Answers", "RunAnswers", []),
     ("The check of a history file", "What `check_file` writes and answers, its one clause.", "sw_histories", "FileChecks", "ChecksFile", [
         "`Ok status`: the bytes are a history, and its verdict was written: `legal` and the number of entries, status 0, where it is legal;"
         " else status 1 and the first entry that does not agree with the plain table",
@@ -41,6 +41,9 @@ THEOREMS = [
         "another refusal: it is the first fault of the bytes, and nothing was written",
     ]),
 ]
+
+# The words by which a clause says a theorem of the values of its function.
+SAID = {"RunAnswers": ["RunsBy"]}
 
 # Each theorem that is the clauses of a function: its name on the page, the crate and file of src/, the function, and the words of each clause.
 CALLS = [
@@ -207,7 +210,7 @@ def write():
         found = specs(crate, place).found[name]
         page += ["", f"## {title}", "", f"{told} `{name}` ({found.path}:{found.at}):", ""]
         page += [f"- {words}" for words in cases] or [f"- {', '.join(f'`{it}`' for it in names)}: {words}" for names, words in fields(found)]
-        rests_on(page, [(crate, place, name)], above)
+        rests_on(page, [(crate, place, it) for it in (name, *SAID.get(name, []))], above)
     for title, crate, file, name, words in CALLS:
         found, taken = clauses(crate, file, name)
         page += ["", f"## {title}", "", f"Clauses of `{name}` (crates/{crate}/src/{file}):", ""]

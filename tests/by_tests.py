@@ -36,7 +36,7 @@ BODIES = {
                           "sw_engine/src/engine.rt", "&self.latches[head_of(query)]", "&self.latches[head_of(query) & 0]",
                           "waited 0 count where a >= 10&count where b >= 6"),
     "blocks_in_turn": ("A run takes its blocks one after another though threads are asked for",
-                       "sw_cli/src/running.rt", "    if options.threads {\n", "    if options.threads && opened.blocks.is_empty() {\n",
+                       "sw_cli/src/running.rt", "    if workload.threads {\n", "    if workload.threads && workload.inputs.blocks.is_empty() {\n",
                        "met-in-run"),
     "no_maps": ("A select is answered by a scan of the rows, and no map is made or asked",
                 "sw_engine/src/heads/latch.rt", "let (reply, scans) = ask(rt, alloc, head, query)?;", "let (reply, scans) = (head.scan(query)?, 0usize);",

@@ -12,7 +12,7 @@ use Rattle.sw_spine.specs.History.{History}
 use Rattle.sw_cli.specs.Outcomes.{AllSayWhy, AreTold, Told, blocks_told, text_of}
 use Rattle.sw_cli.specs.Run.{IsRecordOf, Start}
 use Rattle.sw_table.specs.declared.row.Row.{Row}
-use Rattle.sw_cli.specs.Flowing.{GoesOver, PutsOut}
+use Rattle.sw_cli.specs.Flowing.{Turns, PutsOut}
 use Rattle.sw_cli.specs.Sent.{GoesOut, extends, with_waiting}
 use Rattle.sw_cli.specs.Served.{Served}
 use Rattle.sw_cli.specs.Sides.{SinkSeen}
@@ -113,7 +113,7 @@ module _ (limit : ℕ) (s : Start) (told : List (List Told)) (record_is : Histor
       (subst (λ (cs : List Column). Served {A = History} w.taken_before w.taken_after w.failed_before w.failed_after (Err e) (text_of cs (blocks_told s.blocks told))) (sym of.columns_are) (served_err e _ _ _ _ _ out)) tt
 
 -- whatever the cuts are
-pub goes_over : (s : Start) (columns : List Column) (rows : List Row) (blocks : List (List Call)) (limit : ℕ) (w : SinkSeen) (result : Result History Refusal) → GoesOver columns rows blocks limit w result → columns ≡ s.columns → rows ≡ s.rows → blocks ≡ s.blocks → Goes limit s w result
+pub goes_over : (s : Start) (columns : List Column) (rows : List Row) (blocks : List (List Call)) (limit : ℕ) (w : SinkSeen) (result : Result History Refusal) → Turns columns rows blocks limit w result → columns ≡ s.columns → rows ≡ s.rows → blocks ≡ s.blocks → Goes limit s w result
 goes_over s columns rows blocks limit w result over ec er eb =
     subst (λ (cs : List Column). Goes limit (record { columns = cs; rows = s.rows; blocks = s.blocks; cuts = s.cuts }) w result) ec
     (subst (λ (rs : List Row). Goes limit (record { columns = columns; rows = rs; blocks = s.blocks; cuts = s.cuts }) w result) er

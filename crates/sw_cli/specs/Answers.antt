@@ -4,8 +4,11 @@ use Rattle.sw_query.specs.declared.refusal.Refusal.{Refusal}
 use Rattle.sw_query.specs.declared.refusal.Refusal.TheVariants as refusal
 use Rattle.sw_spine.specs.History.{History, IsLegal}
 use Rattle.sw_cli.specs.Run.{Start}
-use Rattle.sw_cli.specs.Sides.{EitherFailed, FailedInTurn, IsUntouched, SinkFailed, SinkHeld, SinkSeen, SourceSeen, SourcesHeld}
+use Rattle.sw_cli.specs.Sides.{EitherFailed, FailedInTurn, IsUntouched, SinkFailed, SinkHeld, SinkSeen, SourceSeen, SourcesHeld, sink_by, source_by}
 use Rattle.sw_cli.specs.Starts.{IfBoth, LeavesSome, Ran, TellsRun, TellsWhere, WritesOut}
+use Rattle.sw_cli.specs.declared.running.Options.{Options}
+use Rattle.sw_rows.specs.declared.source.Sink as sink
+use Rattle.sw_rows.specs.declared.source.Source as source
 
 -- a record of the history, or why there is none
 abbrev pub Answer : Type 0
@@ -29,3 +32,9 @@ pub record RunAnswers (limit : ℕ) (cuts : List ℕ) (t s : SourceSeen) (w : Si
   pub quiet : IfErr result (λ e. (e ≡ refusal.Output → ⊥) → IsUntouched w)
   -- why a run is refused: that of a source comes only where one failed, that of the sink only where it failed
   pub told : IfErr result (TellsRun (EitherFailed t s) (SinkFailed w))
+
+-- A run by its options, over the source of a table, that of a script and a sink, each from one moment to another.
+abbrev pub RunsBy :
+    {T S W : Type 0} → Options → source.Ghosts T → T → T → source.Ghosts S → S → S → sink.Ghosts W → W → W → Answer → Type 0
+RunsBy o t a b s c d w e f result =
+    RunAnswers o.limit o.cuts.now (source_by t a b) (source_by s c d) (sink_by w e f) result

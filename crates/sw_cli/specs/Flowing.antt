@@ -35,6 +35,6 @@ pub record FlowsPages (ps : Pages) (tickets : List Shown) (result : Result (Unit
   pub out : PutsOut w result (text_of ps.schema.now (blocks_told ps.blocks.now told))
 
 -- what the calls of these blocks leave, over a table of these attributes and rows, whatever the cuts are
-abbrev pub GoesOver : List Column → List Row → List (List Call) → ℕ → SinkSeen → Result History Refusal → Type 0
-GoesOver columns rows blocks limit w result =
+abbrev pub Turns : List Column → List Row → List (List Call) → ℕ → SinkSeen → Result History Refusal → Type 0
+Turns columns rows blocks limit w result =
     (cuts : CutLists) → Goes limit (record { columns = columns; rows = rows; blocks = blocks; cuts = cuts }) w result

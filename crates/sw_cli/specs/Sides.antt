@@ -3,6 +3,8 @@ use Rattle.std.specs.Prelude.{◌≡◌, ◌⊎◌, ℕ, List, Option, Ok}
 use Rattle.std.specs.Io.KnownBytes.{Keeps}
 use Rattle.sw_rows.specs.Gives.{Raised}
 use Rattle.sw_rows.specs.Tables.{Table, table_of}
+use Rattle.sw_rows.specs.declared.source.Sink as sink
+use Rattle.sw_rows.specs.declared.source.Source as source
 
 -- a source: the bytes that it had left, and its failures before and after
 pub record SourceSeen : Type 0 where
@@ -13,9 +15,9 @@ pub record SourceSeen : Type 0 where
 abbrev pub source_seen : Option (List ℕ) → ℕ → ℕ → SourceSeen
 source_seen left before after = record { left = left; failed_before = before; failed_after = after }
 
--- a source from one moment to another, by what it has left and how often it failed
-abbrev pub source_by : {S : Type 0} → (S → Option (List ℕ)) → (S → ℕ) → S → S → SourceSeen
-source_by left failed old new = source_seen (left old) (failed old) (failed new)
+-- a source from one moment to another, by what its trait tells of it
+abbrev pub source_by : {S : Type 0} → source.Ghosts S → S → S → SourceSeen
+source_by s old new = source_seen (s.left old) (s.failed old) (s.failed new)
 
 -- a sink: the bytes that it had taken before and after, and its failures before and after
 pub record SinkSeen : Type 0 where
@@ -28,9 +30,9 @@ abbrev pub sink_seen : Option (List ℕ) → Option (List ℕ) → ℕ → ℕ �
 sink_seen taken_before taken_after before after =
     record { taken_before = taken_before; taken_after = taken_after; failed_before = before; failed_after = after }
 
--- a sink from one moment to another, by what it has taken and how often it failed
-abbrev pub sink_by : {W : Type 0} → (W → Option (List ℕ)) → (W → ℕ) → W → W → SinkSeen
-sink_by taken failed old new = sink_seen (taken old) (taken new) (failed old) (failed new)
+-- a sink from one moment to another, by what its trait tells of it
+abbrev pub sink_by : {W : Type 0} → sink.Ghosts W → W → W → SinkSeen
+sink_by w old new = sink_seen (w.taken old) (w.taken new) (w.failed old) (w.failed new)
 
 -- the source failed
 abbrev pub SourceFailed : SourceSeen → Type 0
@@ -51,6 +53,13 @@ FailedInTurn t s bytes = SourceFailed t ⊎ (SpellTable bytes × SourceFailed s)
 -- no source failed
 abbrev pub SourcesHeld : SourceSeen → SourceSeen → Type 0
 SourcesHeld t s = (t.failed_after ≡ t.failed_before) × (s.failed_after ≡ s.failed_before)
+
+-- the same of two sources, each from one moment to another: one failed, or none
+abbrev pub FailedBy : {T S : Type 0} → source.Ghosts T → T → T → source.Ghosts S → S → S → Type 0
+FailedBy t a b s c d = EitherFailed (source_by t a b) (source_by s c d)
+
+abbrev pub HeldBy : {T S : Type 0} → source.Ghosts T → T → T → source.Ghosts S → S → S → Type 0
+HeldBy t a b s c d = SourcesHeld (source_by t a b) (source_by s c d)
 
 -- the sink failed
 abbrev pub SinkFailed : SinkSeen → Type 0

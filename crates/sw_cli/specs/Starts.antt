@@ -11,8 +11,10 @@ use Rattle.sw_spine.specs.Table.{is_numbered}
 use Rattle.sw_cli.specs.Outcomes.{Outcome}
 use Rattle.sw_cli.specs.Run.{AllAnswered, Began, Leaves, Start, TellsAll, out_of, script_of, start_of}
 use Rattle.sw_cli.specs.Script.{AreBlocks, Script}
-use Rattle.sw_cli.specs.Sides.{FailedInTurn, IsUntouched, SinkFailed, SinkHeld, SinkSeen, SourceFailed, SourceSeen}
+use Rattle.sw_cli.specs.Sides.{FailedInTurn, IsUntouched, SinkFailed, SinkHeld, SinkSeen, SourceFailed, SourceSeen, source_by}
+use Rattle.sw_cli.specs.declared.running.Options.{Options}
 use Rattle.sw_cli.specs.declared.start.Inputs.{Inputs}
+use Rattle.sw_rows.specs.declared.source.Source as source
 
 abbrev pub start_seen : Inputs → Start
 start_seen o = record { columns = o.schema; rows = o.rows.items; blocks = o.blocks.items; cuts = o.cuts }
@@ -54,6 +56,11 @@ ReadsScript columns s view result =
 abbrev pub ReadsStart : ℕ → List ℕ → SourceSeen → SourceSeen → Result Inputs Refusal → Type 0
 ReadsStart limit cuts t s result =
     IfBoth t.left s.left (λ a b. ReadsFrom (FailedInTurn t s a) start_seen result (start_of limit cuts a b))
+
+-- the same of a run's options, and of two sources, each from one moment to another
+abbrev pub StartsBy :
+    {T S : Type 0} → Options → source.Ghosts T → T → T → source.Ghosts S → S → S → Result Inputs Refusal → Type 0
+StartsBy o t a b s c d result = ReadsStart o.limit o.cuts.now (source_by t a b) (source_by s c d) result
 
 -- a refusal before any call; that of a source only where I holds
 abbrev pub TellsStart : Type 0 → Refusal → Type 0

@@ -92,7 +92,7 @@ impl<J: Base, W: Sink> Buffered<J, W> {
     /// Sends what waits, where all was written that was to be, and hands the sink back. Refused as the writing was, or
     /// `Output` where the sink fails.
     pub(crate) fn end(self, written: Result<(), Refusal>) -> (W, Result<(), Refusal>)
-        ensures { GoesOut J.base self.sent self.block.items (sink_by W.taken W.failed self.sink result.0) written result.1 }
+        ensures { GoesOut J.base self.sent self.block.items (sink_by W.Sink self.sink result.0) written result.1 }
     {
         let mut block = self;
         match written {

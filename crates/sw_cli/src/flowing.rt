@@ -68,7 +68,7 @@ fn flow_page<J: Naming, M: CrackerMap, O: Onlooker, R: Threads + Wait + Sync, W:
     requires none { session.old.1 ≡ [] }
     requires own { own_of session.old ≡ [] }
     requires below { AllCallsBelow (length J.columns) page.calls.now }
-    ensures { FlowsPage page.entry session.old session.new result (sink_by W.taken W.failed out.old out.new) }
+    ensures { FlowsPage page.entry session.old session.new result (sink_by W.Sink out.old out.new) }
 {
     let Page {
         schema,
@@ -98,7 +98,7 @@ fn flow_pages<J: Naming, M: CrackerMap, O: Onlooker, R: Threads + Wait + Sync, W
     requires order { InOrder 1 seats.tickets.items }
     requires many { length seats.tickets.items ≡ length pages.blocks.now }
     requires below { All (AllCallsBelow (length J.columns)) pages.blocks.now }
-    ensures { FlowsPages pages.entry result.0.items result.1 (sink_by W.taken W.failed out.old out.new) }
+    ensures { FlowsPages pages.entry result.0.items result.1 (sink_by W.Sink out.old out.new) }
 {
     let Pages { schema, blocks } = pages;
     let Seats {
@@ -143,7 +143,7 @@ where
     requires order { InOrder 1 flow.seats.tickets.items }
     requires many { length flow.seats.tickets.items ≡ length flow.pages.blocks.now }
     requires below { All (AllCallsBelow (length J.columns)) flow.pages.blocks.now }
-    ensures { FlowsPages flow.entry.pages result.1.0.items result.1.1 (sink_by W.taken W.failed sink result.0) }
+    ensures { FlowsPages flow.entry.pages result.1.0.items result.1.1 (sink_by W.Sink sink result.0) }
 {
     let Flow {
         onlooker,
@@ -172,7 +172,7 @@ where
     requires order { InOrder 1 flow.seats.tickets.items }
     requires many { length flow.seats.tickets.items ≡ length flow.pages.blocks.now }
     requires below { All (AllCallsBelow (length J.columns)) flow.pages.blocks.now }
-    ensures { FlowsPages flow.entry.pages result.1.0.items result.1.1 (sink_by W.taken W.failed sink result.0) }
+    ensures { FlowsPages flow.entry.pages result.1.0.items result.1.1 (sink_by W.Sink sink result.0) }
 {
     flow_since::<Brand, J, M, O, R, W>(rt, sink, flow)
 }
@@ -192,7 +192,7 @@ where
     requires order { InOrder 1 flow.seats.tickets.items }
     requires many { length flow.seats.tickets.items ≡ length flow.pages.blocks.now }
     requires below { All (AllCallsBelow (length J.columns)) flow.pages.blocks.now }
-    ensures { FlowsPages flow.entry.pages result.0.items result.1 (sink_by W.taken W.failed out.old out.new) }
+    ensures { FlowsPages flow.entry.pages result.0.items result.1 (sink_by W.Sink out.old out.new) }
 {
     replace_with(
         out,
@@ -201,7 +201,7 @@ where
             requires order { InOrder 1 flow.seats.tickets.items }
             requires many { length flow.seats.tickets.items ≡ length flow.pages.blocks.now }
             requires below { All (AllCallsBelow (length J.columns)) flow.pages.blocks.now }
-            ensures { FlowsPages flow.entry.pages result.1.0.items result.1.1 (sink_by W.taken W.failed sink result.0) }
+            ensures { FlowsPages flow.entry.pages result.1.0.items result.1.1 (sink_by W.Sink sink result.0) }
         { flow_from(rt, sink, flow) },
     )
 }

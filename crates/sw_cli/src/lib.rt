@@ -20,6 +20,7 @@ mod stats;
 mod telling;
 mod turning;
 mod watching;
+mod workload;
 
 pub use boxes::blank_boxes;
 pub use fault::{status, write_fault};

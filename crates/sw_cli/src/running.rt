@@ -2,22 +2,25 @@
 
 ghost use Rattle.std.specs.Prelude.{◌≡◌, ◌<◌, ◌≤◌, [], All, IfOk, IsOkUnless, vec_capacity};
 ghost use Rattle.sw_map.specs.Held.{blank};
+ghost use Rattle.sw_lang.specs.Sinks.{Wrote};
 ghost use Rattle.sw_query.specs.declared.refusal.Refusal.TheVariants.{NoMemory};
 ghost use Rattle.sw_rows.specs.declared.table.TheConstants.{MOST_ROWS};
 ghost use Rattle.sw_cli.specs.declared.buffered.TheConstants.{BLOCK};
-ghost use Rattle.sw_cli.specs.Answers.{RunAnswers};
-ghost use Rattle.sw_cli.specs.Outcomes.{AllSayWhy};
+ghost use Rattle.sw_cli.specs.Answers.{RunsBy};
+ghost use Rattle.sw_cli.specs.Outcomes.{AllSayWhy, text_of};
 ghost use Rattle.sw_cli.specs.Run.{IsRecordOf};
 ghost use Rattle.sw_cli.specs.Served.{SendsLines, told_in};
-ghost use Rattle.sw_cli.specs.Sides.{sink_by, source_by};
-ghost use Rattle.sw_cli.specs.Starts.{Goes, IsStart, start_seen};
+ghost use Rattle.sw_cli.specs.Sides.{sink_by};
+ghost use Rattle.sw_cli.specs.Starts.{Goes};
 
 use crate::buffered::{Base, Buffered, block};
 use crate::ended::Ended;
 use crate::looking_on::{Nobody, Onlooker};
-use crate::serving::serve;
+use crate::serving::{Opened, serve};
 use crate::start::{Inputs, read_start};
-use crate::turning::{Ground, make_in_turn};
+use crate::telling::write_blocks;
+use crate::turning::make_in_turn;
+use crate::workload::Workload;
 use core::mem::replace_with;
 use std::alloc::Global;
 use std::marker::Brand;
@@ -50,15 +53,28 @@ struct Outgoing {
     ghost room: { BLOCK ≤ vec_capacity memory },
 }
 
+/// Writes the lines of what came of blocks.
+fn write_ended<W: Sink>(ended: &Ended, out: &mut W) -> Result<(), Refusal>
+    ensures { Wrote W.taken W.failed out.old out.new result
+        (text_of ended.now.history.columns (told_in ended.now)) }
+{
+    write_blocks(
+        &ended.history.schema,
+        ended.blocks.as_slice(),
+        ended.told.as_slice(),
+        out,
+    )
+}
+
 /// Writes the lines of what came of blocks through a block of bytes before a sink, and hands the sink back.
 fn write_since<B: Base, W: Sink>(sink: W, outgoing: Outgoing) -> (W, Result<Record, Refusal>)
     requires { B.base ≡ W.taken sink }
-    ensures { SendsLines (sink_by W.taken W.failed sink result.0)
+    ensures { SendsLines (sink_by W.Sink sink result.0)
         outgoing.ended result.1 }
 {
     let Outgoing { memory, ended } = outgoing;
     let mut buffered: Buffered<B, W> = Buffered::new(memory, sink);
-    let written = ended.write(&mut buffered);
+    let written = write_ended(&ended, &mut buffered);
     let (sink, sent) = buffered.end(written);
     match sent {
         Ok(()) => (sink, Ok(ended.into_history())),
@@ -68,46 +84,46 @@ fn write_since<B: Base, W: Sink>(sink: W, outgoing: Outgoing) -> (W, Result<Reco
 
 /// The same from what the sink has taken now.
 fn write_outgoing<W: Sink>(sink: W, outgoing: Outgoing) -> (W, Result<Record, Refusal>)
-    ensures { SendsLines (sink_by W.taken W.failed sink result.0)
+    ensures { SendsLines (sink_by W.Sink sink result.0)
         outgoing.ended result.1 }
 {
     write_since::<Brand, W>(sink, outgoing)
 }
 
-/// Makes the blocks of a run that was opened, by an engine of these names. The one refusal is `NoMemory`.
+/// Makes the blocks of a workload by an engine of these names, and adds what its heads tell. The one refusal is `NoMemory`.
 fn make<J: Naming + Send + Sync, M: CrackerMap, O: Onlooker, R: Threads + Wait + Sync>(
     rt: &R,
-    alloc: Global,
     books: Blank,
-    opened: Inputs,
-    options: &Options<'_>,
-    maps: Vec<M>,
+    workload: Workload<'_, M, O>,
     stats: &mut Vec<HeadStats>,
-    onlooker: &O,
 ) -> Result<Outgoing, Refusal>
     requires books { (books.sessions.name ≡ J.sessions) × (books.heads.name ≡ J.heads) × (books.most ≡ J.most) }
     requires list { books.list.seen.book ≡ J.book }
-    requires table { (opened.schema ≡ J.columns) × (opened.rows.items ≡ J.opening) × (options.now.limit ≡ J.limit) }
-    requires some { 0 < options.now.limit }
-    requires most { options.now.limit ≤ MOST_ROWS }
-    requires sound { IsStart options.now.limit (start_seen opened) }
-    requires blank { All (λ m. M.held m ≡ blank) maps.items }
-    ensures blocks { IfOk result (λ j. j.ended.blocks.items ≡ opened.blocks.items) }
+    requires columns { workload.1.columns ≡ J.columns }
+    requires table { (workload.1.rows ≡ J.opening) × (workload.0 ≡ J.limit) }
+    ensures blocks { IfOk result (λ j. j.ended.blocks.items ≡ workload.entry.1.blocks) }
     ensures why { IfOk result (λ j. AllSayWhy (told_in j.ended)) }
     ensures record_is { IfOk result (λ j. IsRecordOf J.columns J.opening J.limit (told_in j.ended) j.ended.history) }
     ensures refused { IsOkUnless result NoMemory }
 {
+    let Workload {
+        alloc,
+        inputs,
+        limit,
+        maps,
+        onlooker,
+        ..
+    } = workload;
     let Inputs {
         schema,
         rows,
         blocks,
         cuts,
-    } = opened;
+    } = inputs;
     let Ok(memory) = block(alloc) else {
         return Err(Refusal::NoMemory);
     };
     let columns = schema.len();
-    let limit = options.limit;
     let sessions = blocks.len();
     let Ok((engine, tickets)) = Engine::<J, M>::open_for(
         alloc, books, schema, rows, cuts, limit, sessions,
@@ -115,15 +131,12 @@ fn make<J: Naming + Send + Sync, M: CrackerMap, O: Onlooker, R: Threads + Wait +
         return Err(Refusal::NoMemory);
     };
     deal(rt, &engine, columns, maps)?;
-    let (history, told) = serve(
-        rt,
+    let opened = Opened {
         alloc,
         engine,
         tickets,
-        blocks.as_slice(),
-        stats,
-        onlooker,
-    )?;
+    };
+    let (history, told) = serve(rt, opened, blocks.as_slice(), onlooker, stats)?;
     let ended = Ended {
         blocks,
         told,
@@ -132,63 +145,34 @@ fn make<J: Naming + Send + Sync, M: CrackerMap, O: Onlooker, R: Threads + Wait +
     Ok(Outgoing { memory, ended })
 }
 
-/// Makes the blocks of a run that was opened, each in a thread of its own, and then writes what came of them.
+/// Makes the blocks of a workload, each in a thread of its own, and then writes what came of them.
 fn make_at_once<M: CrackerMap, O: Onlooker, R: Threads + Wait + Sync, W: Sink>(
     rt: &R,
-    alloc: Global,
-    opened: Inputs,
-    options: &Options<'_>,
-    maps: Vec<M>,
+    workload: Workload<'_, M, O>,
     out: &mut W,
     stats: &mut Vec<HeadStats>,
-    onlooker: &O,
 ) -> Result<Record, Refusal>
-    requires some { 0 < options.now.limit }
-    requires most { options.now.limit ≤ MOST_ROWS }
-    requires sound { IsStart options.now.limit (start_seen opened) }
-    requires blank { All (λ m. M.held m ≡ blank) maps.items }
-    ensures { Goes options.now.limit (start_seen opened)
-        (sink_by W.taken W.failed out.old out.new) result }
+    ensures { Goes workload.entry.0 workload.entry.1 (sink_by W.Sink out.old out.new) result }
 {
-    match make::<Brand, M, O, R>(
-        rt,
-        alloc,
-        Blank::new(),
-        opened,
-        options,
-        maps,
-        stats,
-        onlooker,
-    ) {
+    match make::<Brand, M, O, R>(rt, Blank::new(), workload, stats) {
         Ok(outgoing) => replace_with(out, outgoing, write_outgoing),
         Err(e) => Err(e),
     }
 }
 
-/// Makes the blocks of a run that was opened, and writes what came of them.
+/// Makes the blocks of a workload, and writes what came of them.
 fn make_and_write<M: CrackerMap, O: Onlooker, R: Threads + Wait + Sync, W: Sink>(
     rt: &R,
-    alloc: Global,
-    opened: Inputs,
-    options: &Options<'_>,
-    maps: Vec<M>,
+    workload: Workload<'_, M, O>,
     out: &mut W,
     stats: &mut Vec<HeadStats>,
-    onlooker: &O,
 ) -> Result<Record, Refusal>
-    requires some { 0 < options.now.limit }
-    requires most { options.now.limit ≤ MOST_ROWS }
-    requires sound { IsStart options.now.limit (start_seen opened) }
-    requires blank { All (λ m. M.held m ≡ blank) maps.items }
-    ensures { Goes options.now.limit (start_seen opened) (sink_by W.taken W.failed out.old out.new) result }
+    ensures { Goes workload.entry.0 workload.entry.1 (sink_by W.Sink out.old out.new) result }
 {
-    if options.threads {
-        return make_at_once(rt, alloc, opened, options, maps, out, stats, onlooker);
+    if workload.threads {
+        return make_at_once(rt, workload, out, stats);
     }
-    match Ground::new(alloc, opened, options.limit, maps) {
-        Ok(ground) => make_in_turn(rt, ground, onlooker, out, stats),
-        Err(e) => Err(e),
-    }
+    make_in_turn(rt, workload, out, stats)
 }
 
 /// Reads a table, a script and cuts, makes the calls of the script's blocks, block i as session i, and writes the lines
@@ -215,10 +199,8 @@ pub fn run_with<M: CrackerMap, R: Threads + Wait + Sync, T: Source, S: Source, W
     requires some { 0 < options.now.limit }
     requires most { options.now.limit ≤ MOST_ROWS }
     requires blank { All (λ m. M.held m ≡ blank) maps.items }
-    ensures { RunAnswers options.now.limit options.now.cuts.now
-        (source_by T.left T.failed table.old table.new)
-        (source_by S.left S.failed script.old script.new)
-        (sink_by W.taken W.failed out.old out.new) result }
+    ensures { RunsBy options.now T.Source table.old table.new
+        S.Source script.old script.new W.Sink out.old out.new result }
 {
     let mut stats = Vec::new(alloc);
     run_told(
@@ -249,13 +231,21 @@ pub fn run_told<
     requires some { 0 < options.now.limit }
     requires most { options.now.limit ≤ MOST_ROWS }
     requires blank { All (λ m. M.held m ≡ blank) maps.items }
-    ensures { RunAnswers options.now.limit options.now.cuts.now
-        (source_by T.left T.failed table.old table.new)
-        (source_by S.left S.failed script.old script.new)
-        (sink_by W.taken W.failed out.old out.new) result }
+    ensures { RunsBy options.now T.Source table.old table.new
+        S.Source script.old script.new W.Sink out.old out.new result }
 {
     match read_start(rt, alloc, table, script, options) {
-        Ok(opened) => make_and_write(rt, alloc, opened, options, maps, out, stats, onlooker),
+        Ok(inputs) => {
+            let workload = Workload {
+                alloc,
+                inputs,
+                limit: options.limit,
+                threads: options.threads,
+                maps,
+                onlooker,
+            };
+            make_and_write(rt, workload, out, stats)
+        }
         Err(e) => Err(e),
     }
 }
@@ -273,10 +263,8 @@ pub fn run<R: Threads + Wait + Sync, T: Source, S: Source, W: Sink>(
     requires some { 0 < options.now.limit }
     requires most { options.now.limit ≤ MOST_ROWS }
     requires blank { All (λ m. (CrackerMap-box m).held m.value ≡ blank) maps.items }
-    ensures { RunAnswers options.now.limit options.now.cuts.now
-        (source_by T.left T.failed table.old table.new)
-        (source_by S.left S.failed script.old script.new)
-        (sink_by W.taken W.failed out.old out.new) result }
+    ensures { RunsBy options.now T.Source table.old table.new
+        S.Source script.old script.new W.Sink out.old out.new result }
 {
     run_with(rt, alloc, table, script, out, options, maps)
 }

@@ -20,6 +20,14 @@ use sw_map::CrackerMap;
 use sw_rows::{Call, Refusal, Reply};
 use sw_spine::Record;
 
+/// An engine that was opened, a ticket for each block, and where memory comes from.
+#[derive(Drop)]
+pub(crate) struct Opened<J: Naming, M: CrackerMap> {
+    pub(crate) alloc: Global,
+    pub(crate) engine: Engine<J, M>,
+    pub(crate) tickets: Vec<Ticket<J>>,
+}
+
 /// A session that has made no call, its block's number from 1 for who looks on, the calls that it is to make, and room for
 /// what comes of them.
 #[derive(Drop)]
@@ -150,15 +158,13 @@ pub(crate) fn tell_heads<J: Naming, M: CrackerMap, R: Wait>(
 /// calls, and adds what each head tells of itself. The one refusal is `NoMemory`.
 pub(crate) fn serve<J: Naming + Send + Sync, M: CrackerMap, O: Onlooker, R: Threads + Wait + Sync>(
     rt: &R,
-    alloc: Global,
-    engine: Engine<J, M>,
-    tickets: Vec<Ticket<J>>,
+    opened: Opened<J, M>,
     blocks: &[Block],
-    stats: &mut Vec<HeadStats>,
     onlooker: &O,
+    stats: &mut Vec<HeadStats>,
 ) -> Result<(Record, Vec<BlockTold>), Refusal>
-    requires order { InOrder 1 tickets.items }
-    requires many { length tickets.items ≡ length blocks.now }
+    requires order { InOrder 1 opened.tickets.items }
+    requires many { length opened.tickets.items ≡ length blocks.now }
     requires blocks { AreBlocks (length J.columns) blocks.now }
     ensures told { IfOk result (λ r. AreTold blocks.now r.1.items) }
     ensures why { IfOk result (λ r. AllSayWhy (blocks_told blocks.now r.1.items)) }
@@ -166,6 +172,11 @@ pub(crate) fn serve<J: Naming + Send + Sync, M: CrackerMap, O: Onlooker, R: Thre
         (λ r. IsRecordOf J.columns J.opening J.limit (blocks_told blocks.now r.1.items) r.0) }
     ensures refused { IsOkUnless result NoMemory }
 {
+    let Opened {
+        alloc,
+        engine,
+        tickets,
+    } = opened;
     let Ok(work) = jobs(alloc, &engine, tickets, blocks) else {
         return Err(Refusal::NoMemory);
     };

@@ -6,8 +6,8 @@ ghost use Rattle.sw_rows.specs.Gives.{Raised};
 ghost use Rattle.sw_histories.specs.Told.{Reads, TellsText};
 ghost use Rattle.sw_cli.specs.Run.{cuts_of};
 ghost use Rattle.sw_cli.specs.Script.{AreBlocks, spelled};
-ghost use Rattle.sw_cli.specs.Sides.{EitherFailed, SourcesHeld, source_by};
-ghost use Rattle.sw_cli.specs.Starts.{IsStart, ReadsScript, ReadsStart, TellsStart, start_seen};
+ghost use Rattle.sw_cli.specs.Sides.{FailedBy, HeldBy, source_by};
+ghost use Rattle.sw_cli.specs.Starts.{IsStart, ReadsScript, StartsBy, TellsStart, start_seen};
 
 use crate::running::Options;
 use crate::script::{Block, read_blocks};
@@ -36,7 +36,7 @@ fn read_script<S: Source>(
     script: &mut S,
 ) -> Result<(Schema, Vec<Block>), Refusal>
     ensures spelled { ReadsScript schema
-        (source_by S.left S.failed script.old script.new)
+        (source_by S.Source script.old script.new)
         (λ p. spelled p.0 p.1.items) result }
     ensures width { IfOk result (λ p. length p.0 ≡ length schema) }
     ensures sound { IfOk result (λ p. AreBlocks (length schema) p.1.items) }
@@ -70,16 +70,13 @@ pub fn read_start<R: Threads + Sync, T: Source, S: Source>(
     script: &mut S,
     options: &Options<'_>,
 ) -> Result<Inputs, Refusal>
-    ensures spelled { ReadsStart options.now.limit options.now.cuts.now
-        (source_by T.left T.failed table.old table.new)
-        (source_by S.left S.failed script.old script.new) result }
+    ensures spelled { StartsBy options.now
+        T.Source table.old table.new S.Source script.old script.new result }
     ensures sound { IfOk result (λ o. IsStart options.now.limit (start_seen o)) }
-    ensures told { IfErr result (TellsStart (EitherFailed
-        (source_by T.left T.failed table.old table.new)
-        (source_by S.left S.failed script.old script.new))) }
-    ensures steady { OnOk result (SourcesHeld
-        (source_by T.left T.failed table.old table.new)
-        (source_by S.left S.failed script.old script.new)) }
+    ensures told { IfErr result (TellsStart (FailedBy
+        T.Source table.old table.new S.Source script.old script.new)) }
+    ensures steady { OnOk result (HeldBy
+        T.Source table.old table.new S.Source script.old script.new) }
 {
     let Options {
         limit,

@@ -1,24 +1,22 @@
 //! A run whose blocks are made one after another: its lines go out as its calls are answered.
 
-ghost use Rattle.std.specs.Prelude.{◌≡◌, ◌<◌, ◌≤◌, ◌+◌, [], length, All, IfOk, IsOkUnless, vec_capacity, vec_len};
-ghost use Rattle.sw_map.specs.Held.{blank};
+ghost use Rattle.std.specs.Prelude.{◌≡◌, ◌≤◌, [], length, IfOk, IsOkUnless, vec_capacity};
 ghost use Rattle.sw_query.specs.declared.refusal.Refusal.TheVariants.{NoMemory};
-ghost use Rattle.sw_rows.specs.declared.table.TheConstants.{MOST_ROWS};
 ghost use Rattle.sw_engine.specs.Desk.{InOrder};
 ghost use Rattle.sw_cli.specs.declared.buffered.TheConstants.{BLOCK};
-ghost use Rattle.sw_cli.specs.Flowing.{GoesOver};
+ghost use Rattle.sw_cli.specs.Flowing.{Turns};
 ghost use Rattle.sw_cli.specs.Script.{AreBlocks};
 ghost use Rattle.sw_cli.specs.Sides.{sink_by};
-ghost use Rattle.sw_cli.specs.Starts.{Goes, IsStart, start_seen};
+ghost use Rattle.sw_cli.specs.Starts.{Goes};
 
 use crate::buffered::block;
 use crate::flowing::{Flow, Pages, Seats, flow_out};
-use crate::growing::{stand_ins, with_columns};
+use crate::growing::with_columns;
 use crate::looking_on::Onlooker;
 use crate::script::Block;
 use crate::serving::tell_heads;
 use crate::start::Inputs;
-use std::alloc::Global;
+use crate::workload::Workload;
 use std::marker::Brand;
 use std::sync::Wait;
 use std::thread::Threads;
@@ -27,22 +25,22 @@ use sw_map::CrackerMap;
 use sw_rows::{Refusal, Schema, Sink};
 use sw_spine::Record;
 
-/// What the calls of a run are made over: attributes that stand for those that were read, the limit of rows, and the boxes.
+/// A workload, and attributes that stand for those that were read.
 #[derive(Drop)]
-pub(crate) struct Ground<M: CrackerMap> {
-    alloc: Global,
+struct Stage<'o, M: CrackerMap, O: Onlooker> {
     columns: Schema,
-    inputs: Inputs,
-    limit: u64,
-    maps: Vec<M>,
+    workload: Workload<'o, M, O>,
+    ghost wide: { length columns ≡ length workload.1.columns },
 }
 
-/// An engine with its boxes and a ticket for each block, what is printed of it, and all other memory that the calls take.
+/// An engine with its boxes and a ticket for each block, what is printed of it, who looks on, and all other memory that the calls
+/// take.
 #[derive(Drop)]
-struct Ready<J: Naming, M: CrackerMap> {
+struct Ready<'o, J: Naming, M: CrackerMap, O: Onlooker> {
     engine: Engine<J, M>,
     schema: Schema,
     blocks: Vec<Block>,
+    onlooker: &'o O,
     tickets: Vec<Ticket<J>>,
     done: Vec<Ticket<J>>,
     memory: Vec<u8>,
@@ -53,59 +51,32 @@ struct Ready<J: Naming, M: CrackerMap> {
     ghost many: { length tickets.items ≡ length blocks.items },
 }
 
-impl<M: CrackerMap> Ground<M> {
-    /// The ground of what was read. The one refusal is `NoMemory`.
-    pub(crate) fn new(
-        alloc: Global,
-        inputs: Inputs,
-        limit: u64,
-        maps: Vec<M>,
-    ) -> Result<Ground<M>, Refusal>
-        requires { length inputs.schema ≤ 8 }
-        ensures inputs { IfOk result (λ g. g.inputs ≡ inputs) }
-        ensures limit { IfOk result (λ g. g.limit ≡ limit) }
-        ensures maps { IfOk result (λ g. g.maps.items ≡ maps.items) }
-        ensures wide { IfOk result (λ g. length g.columns ≡ length inputs.schema) }
-        ensures refused { IsOkUnless result NoMemory }
-    {
-        let columns = stand_ins(alloc, inputs.schema.len())?;
-        Ok(Ground {
-            alloc,
-            columns,
-            inputs,
-            limit,
-            maps,
-        })
-    }
-}
-
-/// An engine over a ground, made ready for its calls. The one refusal is `NoMemory`.
-fn make_ready<J: Naming, M: CrackerMap, R: Wait>(
+/// An engine on a stage, made ready for its calls. The one refusal is `NoMemory`.
+fn make_ready<'o, J: Naming, M: CrackerMap, O: Onlooker, R: Wait>(
     rt: &R,
     books: Blank,
-    ground: Ground<M>,
-) -> Result<Ready<J, M>, Refusal>
+    stage: Stage<'o, M, O>,
+) -> Result<Ready<'o, J, M, O>, Refusal>
     requires books { (books.sessions.name ≡ J.sessions) × (books.heads.name ≡ J.heads) × (books.most ≡ J.most) }
     requires list { books.list.seen.book ≡ J.book }
-    requires table { (ground.columns ≡ J.columns) × (ground.inputs.rows.items ≡ J.opening) × (ground.limit ≡ J.limit) }
-    requires some { 0 < ground.limit }
-    requires most { ground.limit ≤ MOST_ROWS }
-    requires sound { IsStart ground.limit (start_seen ground.inputs) }
-    requires wide { length ground.columns ≡ length ground.inputs.schema }
-    requires blank { All (λ m. M.held m ≡ blank) ground.maps.items }
+    requires columns { stage.columns ≡ J.columns }
+    requires table { (stage.workload.1.rows ≡ J.opening) × (stage.workload.0 ≡ J.limit) }
     ensures order { IfOk result (λ r. InOrder 1 r.tickets.items) }
-    ensures schema { IfOk result (λ r. r.schema ≡ ground.inputs.schema) }
+    ensures schema { IfOk result (λ r. r.schema ≡ stage.entry.workload.1.columns) }
     ensures wide { IfOk result (λ r. length r.schema ≡ length J.columns) }
-    ensures blocks { IfOk result (λ r. r.blocks.items ≡ ground.inputs.blocks.items) }
+    ensures blocks { IfOk result (λ r. r.blocks.items ≡ stage.entry.workload.1.blocks) }
+    ensures below { IfOk result (λ r. AreBlocks (length J.columns) r.blocks.items) }
     ensures refused { IsOkUnless result NoMemory }
 {
-    let Ground {
+    let Stage { columns, workload } = stage;
+    let Workload {
         alloc,
-        columns,
         inputs,
         limit,
         maps,
-    } = ground;
+        onlooker,
+        ..
+    } = workload;
     let Inputs {
         schema,
         rows,
@@ -130,6 +101,7 @@ fn make_ready<J: Naming, M: CrackerMap, R: Wait>(
         engine,
         schema,
         blocks,
+        onlooker,
         tickets,
         done,
         memory,
@@ -140,8 +112,7 @@ fn make_ready<J: Naming, M: CrackerMap, R: Wait>(
 /// `NoMemory` before the first call alone, and `Output` where the sink fails.
 fn make_calls<J: Naming, M: CrackerMap, O: Onlooker, R: Threads + Wait + Sync, W: Sink>(
     rt: &R,
-    ready: Ready<J, M>,
-    onlooker: &O,
+    ready: Ready<'_, J, M, O>,
     out: &mut W,
     stats: &mut Vec<HeadStats>,
 ) -> Result<Record, Refusal>
@@ -149,12 +120,14 @@ fn make_calls<J: Naming, M: CrackerMap, O: Onlooker, R: Threads + Wait + Sync, W
     requires order { InOrder 1 ready.tickets.items }
     requires most { J.most ≡ length ready.blocks.items }
     requires blocks { AreBlocks (length J.columns) ready.blocks.items }
-    ensures { GoesOver ready.schema J.opening ready.blocks.items J.limit (sink_by W.taken W.failed out.old out.new) result }
+    ensures { Turns ready.entry.schema J.opening ready.entry.blocks.items J.limit
+        (sink_by W.Sink out.old out.new) result }
 {
     let Ready {
         engine,
         schema,
         blocks,
+        onlooker,
         tickets,
         done,
         memory,
@@ -191,48 +164,42 @@ fn make_calls<J: Naming, M: CrackerMap, O: Onlooker, R: Threads + Wait + Sync, W
     }
 }
 
-/// Makes the calls of what was read, by an engine of these names, as `make_calls` does.
+/// Makes the calls of a stage by an engine of these names, as `make_calls` does.
 fn turn_by<J: Naming, M: CrackerMap, O: Onlooker, R: Threads + Wait + Sync, W: Sink>(
     rt: &R,
     books: Blank,
-    ground: Ground<M>,
-    onlooker: &O,
+    stage: Stage<'_, M, O>,
     out: &mut W,
     stats: &mut Vec<HeadStats>,
 ) -> Result<Record, Refusal>
     requires books { (books.sessions.name ≡ J.sessions) × (books.heads.name ≡ J.heads) × (books.most ≡ J.most) }
     requires list { books.list.seen.book ≡ J.book }
-    requires table { (ground.columns ≡ J.columns) × (ground.inputs.rows.items ≡ J.opening) × (ground.limit ≡ J.limit) }
-    requires all { J.most ≡ length ground.inputs.blocks.items }
-    requires some { 0 < ground.limit }
-    requires most { ground.limit ≤ MOST_ROWS }
-    requires sound { IsStart ground.limit (start_seen ground.inputs) }
-    requires wide { length ground.columns ≡ length ground.inputs.schema }
-    requires blank { All (λ m. M.held m ≡ blank) ground.maps.items }
-    ensures { Goes J.limit (start_seen ground.inputs) (sink_by W.taken W.failed out.old out.new) result }
+    requires columns { stage.columns ≡ J.columns }
+    requires table { (stage.workload.1.rows ≡ J.opening) × (stage.workload.0 ≡ J.limit) }
+    requires all { J.most ≡ length stage.workload.1.blocks }
+    ensures { Goes J.limit stage.entry.workload.1 (sink_by W.Sink out.old out.new) result }
 {
-    match make_ready::<J, M, R>(rt, books, ground) {
-        Ok(ready) => make_calls(rt, ready, onlooker, out, stats),
+    match make_ready::<J, M, O, R>(rt, books, stage) {
+        Ok(ready) => make_calls(rt, ready, out, stats),
         Err(refusal) => Err(refusal),
     }
 }
 
-/// Makes the calls of what was read, one block after another, and writes the lines of each call when it is answered. Refused
+/// Makes the calls of a workload, one block after another, and writes the lines of each call when it is answered. Refused
 /// `NoMemory` before the first call alone, and `Output` where the sink fails; then the calls behind that are not made.
 pub(crate) fn make_in_turn<M: CrackerMap, O: Onlooker, R: Threads + Wait + Sync, W: Sink>(
     rt: &R,
-    ground: Ground<M>,
-    onlooker: &O,
+    workload: Workload<'_, M, O>,
     out: &mut W,
     stats: &mut Vec<HeadStats>,
 ) -> Result<Record, Refusal>
-    requires some { 0 < ground.limit }
-    requires most { ground.limit ≤ MOST_ROWS }
-    requires sound { IsStart ground.limit (start_seen ground.inputs) }
-    requires wide { length ground.columns ≡ length ground.inputs.schema }
-    requires blank { All (λ m. M.held m ≡ blank) ground.maps.items }
-    ensures { Goes ground.limit (start_seen ground.inputs) (sink_by W.taken W.failed out.old out.new) result }
+    ensures { Goes workload.entry.0 workload.entry.1 (sink_by W.Sink out.old out.new) result }
 {
-    let books = Blank::for_sessions(ground.inputs.blocks.len());
-    turn_by::<Brand, M, O, R, W>(rt, books, ground, onlooker, out, stats)
+    let columns = match workload.stand_ins() {
+        Ok(columns) => columns,
+        Err(refusal) => return Err(refusal),
+    };
+    let books = Blank::for_sessions(workload.sessions());
+    let stage = Stage { columns, workload };
+    turn_by::<Brand, M, O, R, W>(rt, books, stage, out, stats)
 }

@@ -46,9 +46,9 @@ struct Room<M: CrackerMap> {
     ghost most: { limit ≤ MOST_ROWS },
 }
 
-/// What an engine is opened over, and the attributes with the texts of its table.
+/// A table that was loaded: what an engine is opened over, and the attributes with the texts of the table.
 #[derive(Drop)]
-struct Ground<M: CrackerMap> {
+struct Loaded<M: CrackerMap> {
     columns: Schema,
     schema: Schema,
     rows: PackedRows,
@@ -62,12 +62,8 @@ struct Ground<M: CrackerMap> {
     ghost one: { 0 < length columns },
 }
 
-/// The ground of a table that was read. The one refusal is `NoMemory`.
-fn ground_of<M: CrackerMap>(
-    alloc: Global,
-    opened: Inputs,
-    room: Room<M>,
-) -> Result<Ground<M>, Refusal>
+/// A table that was read is loaded. The one refusal is `NoMemory`.
+fn load<M: CrackerMap>(alloc: Global, opened: Inputs, room: Room<M>) -> Result<Loaded<M>, Refusal>
     requires sound { IsStart room.limit (start_seen opened) }
     ensures table { IfOk result (λ g. (g.schema ≡ opened.schema) × (g.rows.items ≡ opened.rows.items)) }
     ensures limit { IfOk result (λ g. g.room.limit ≡ room.limit) }
@@ -83,7 +79,7 @@ fn ground_of<M: CrackerMap>(
     let Ok(columns) = stand_ins(alloc, schema.len()) else {
         return Err(Refusal::NoMemory);
     };
-    Ok(Ground {
+    Ok(Loaded {
         columns,
         schema,
         rows,
@@ -97,25 +93,25 @@ fn opened_engine<J: Naming, M: CrackerMap, R: Wait>(
     rt: &R,
     alloc: Global,
     books: Blank,
-    ground: Ground<M>,
+    loaded: Loaded<M>,
 ) -> Result<(Engine<J, M>, Ticket<J>, Schema), Refusal>
     requires books { (books.sessions.name ≡ J.sessions) × (books.heads.name ≡ J.heads) × (books.most ≡ J.most) }
     requires list { books.list.seen.book ≡ J.book }
-    requires table { (ground.columns ≡ J.columns) × (ground.rows.items ≡ J.opening) × (ground.room.limit ≡ J.limit) }
-    requires blank { All (λ m. M.held m ≡ blank) ground.room.maps.items }
+    requires table { (loaded.columns ≡ J.columns) × (loaded.rows.items ≡ J.opening) × (loaded.room.limit ≡ J.limit) }
+    requires blank { All (λ m. M.held m ≡ blank) loaded.room.maps.items }
     ensures ticket { IfOk result (λ r. (r.1.0 ≡ 1) × (r.1.1 ≡ [])) }
-    ensures schema { IfOk result (λ r. r.2 ≡ ground.schema) }
+    ensures schema { IfOk result (λ r. r.2 ≡ loaded.schema) }
     ensures wide { IfOk result (λ r. length r.2 ≡ length J.columns) }
     ensures refused { IsOkUnless result NoMemory }
 {
-    let Ground {
+    let Loaded {
         columns,
         schema,
         rows,
         cuts,
         room,
         ..
-    } = ground;
+    } = loaded;
     let Room { limit, maps, .. } = room;
     let many = columns.len();
     let Ok((engine, mut tickets)) = Engine::<J, M>::open_for(
@@ -156,7 +152,7 @@ fn talk_by<J, M, R, B, W, H>(
     rt: &R,
     alloc: Global,
     books: Blank,
-    ground: Ground<M>,
+    loaded: Loaded<M>,
     console: &mut Console<B, W, H>,
 ) -> Result<Ended, Refusal>
 where
@@ -168,15 +164,15 @@ where
     H: Host + Drop,
     requires books { (books.sessions.name ≡ J.sessions) × (books.heads.name ≡ J.heads) × (books.most ≡ J.most) }
     requires list { books.list.seen.book ≡ J.book }
-    requires table { (ground.columns ≡ J.columns) × (ground.rows.items ≡ J.opening) × (ground.room.limit ≡ J.limit) }
-    requires blank { All (λ m. M.held m ≡ blank) ground.room.maps.items }
-    ensures left { IfOk result (IsLeftBy ground.schema J.opening J.limit console.old console.new) }
+    requires table { (loaded.columns ≡ J.columns) × (loaded.rows.items ≡ J.opening) × (loaded.room.limit ≡ J.limit) }
+    requires blank { All (λ m. M.held m ≡ blank) loaded.room.maps.items }
+    ensures left { IfOk result (IsLeftBy loaded.schema J.opening J.limit console.old console.new) }
     ensures refused { IsOkUnless result NoMemory }
 {
     let Ok(back) = Vec::with_capacity(alloc, 1) else {
         return Err(Refusal::NoMemory);
     };
-    let (engine, ticket, schema) = opened_engine::<J, M, R>(rt, alloc, books, ground)?;
+    let (engine, ticket, schema) = opened_engine::<J, M, R>(rt, alloc, books, loaded)?;
     let mut seat = Seat::new(alloc, &engine, ticket, schema);
     let failure = talk(rt, alloc, &mut seat, console);
     let (ticket, schema) = seat.end();
@@ -190,7 +186,7 @@ where
 fn talk_over<M, R, B, W, H>(
     rt: &R,
     alloc: Global,
-    ground: Ground<M>,
+    loaded: Loaded<M>,
     console: &mut Console<B, W, H>,
 ) -> Result<Ended, Refusal>
 where
@@ -199,11 +195,11 @@ where
     B: BufRead + Drop,
     W: Sink + Drop,
     H: Host + Drop,
-    requires blank { All (λ m. M.held m ≡ blank) ground.room.maps.items }
-    ensures left { IfOk result (IsLeftBy ground.schema ground.rows.items ground.room.limit console.old console.new) }
+    requires blank { All (λ m. M.held m ≡ blank) loaded.room.maps.items }
+    ensures left { IfOk result (IsLeftBy loaded.schema loaded.rows.items loaded.room.limit console.old console.new) }
     ensures refused { IsOkUnless result NoMemory }
 {
-    talk_by::<Brand, M, R, B, W, H>(rt, alloc, Blank::new(), ground, console)
+    talk_by::<Brand, M, R, B, W, H>(rt, alloc, Blank::new(), loaded, console)
 }
 
 /// A table and cuts, read as a run without a script reads them.
@@ -214,7 +210,7 @@ fn read_table<R: Threads + Sync, T: Source>(
     table: &mut T,
     options: &Options<'_>,
 ) -> Result<Inputs, Refusal>
-    ensures spelled { ReadsTable options.now (source_by T.left T.failed table.old table.new) result }
+    ensures spelled { ReadsTable options.now (source_by T.Source table.old table.new) result }
     ensures sound { IfOk result (λ o. IsStart options.now.limit (start_seen o)) }
 {
     let nothing: &[u8] = &[];
@@ -246,8 +242,8 @@ where
     ensures left { IfOk result (IsLeftBy opened.schema opened.rows.items room.limit console.old console.new) }
     ensures refused { IsOkUnless result NoMemory }
 {
-    match ground_of(alloc, opened, room) {
-        Ok(ground) => talk_over(rt, alloc, ground, console),
+    match load(alloc, opened, room) {
+        Ok(loaded) => talk_over(rt, alloc, loaded, console),
         Err(refusal) => Err(refusal),
     }
 }
@@ -281,7 +277,7 @@ where
     requires some { 0 < options.now.limit }
     requires most { options.now.limit ≤ MOST_ROWS }
     requires blank { All (λ m. M.held m ≡ blank) maps.items }
-    ensures shelled { Shells options.now (source_by T.left T.failed table.old table.new)
+    ensures shelled { Shells options.now (source_by T.Source table.old table.new)
         console.old console.new result }
     ensures legal { IfOk result (λ e. IsLegal e.history) }
 {

@@ -107,7 +107,7 @@ impl<'e, J: Naming, M: CrackerMap> Seat<'e, J, M> {
         requires { CallsBelow (length J.columns) call.now }
         ensures same { (self.new.0 ≡ self.old.0) × (self.new.1 ≡ self.old.1) }
         ensures told { IsTold self.old.1 call.now result self.old.2 self.new.2
-            (sink_by W.taken W.failed out.old out.new) }
+            (sink_by W.Sink out.old out.new) }
     {
         host.begins();
         let told = self.session.call(rt, call);

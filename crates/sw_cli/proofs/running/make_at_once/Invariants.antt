@@ -2,4 +2,4 @@ use Rattle.sw_cli.proofs.running.make_at_once.Given as goal
 
 -- the books that were just made, and the table
 abbrev pub ghosts-make : goal.ghosts-make
-ghosts-make g a = record { book = a.books.list.seen.book; sessions = a.books.sessions.name; heads = a.books.heads.name; columns = a.opened.schema; opening = a.opened.rows.items; limit = a.options.now.limit; most = a.books.most }
+ghosts-make g a = record { book = a.books.list.seen.book; sessions = a.books.sessions.name; heads = a.books.heads.name; columns = a.workload.1.columns; opening = a.workload.1.rows; limit = a.workload.0; most = a.books.most }

@@ -1,5 +1,5 @@
 use Rattle.std.proofs.Common.{◌≡◌, ◌∙◌, sym, subst, ◌<◌, ℕ, length}
-use Rattle.sw_shell.proofs.opening.ground_of.Goals as goal
+use Rattle.sw_shell.proofs.opening.load.Goals as goal
 
 pub invariant_of-result : goal.invariant_of-result
 invariant_of-result g c =
