@@ -142,6 +142,7 @@ takes_one old new text c cs e goes =
           ∙ sym (append_assoc old.out.items s.1 (going_on h k s.0 cs))
           ∙ ap (λ a. a ++ going_on h k s.0 cs) (sym goes.2)
           ∙ ap (λ p. new.out.items ++ going_on h k p cs) (sym goes.1),
+      goes.3,
     )
 
 takes_all : (old new : Rewriter) (text : List ℕ) (c : ℕ) (cs left : List ℕ) → text ≡ (c ∷ cs) ++ left → old.place.marked ≡ 3 → list_all (stays old.place.spot) (c ∷ cs) ≡ true
@@ -158,6 +159,7 @@ takes_all old new text c cs left e m all goes =
           ∙ sym (append_assoc old.out.items s.1 (going_on h k s.0 left))
           ∙ ap (λ a. a ++ going_on h k s.0 left) (sym goes.2)
           ∙ ap (λ p. new.out.items ++ going_on h k p left) (sym goes.1),
+      goes.3,
     )
 
 pub takes_run : (old new : Rewriter) (text run left : List ℕ) → text ≡ run ++ left → 0 < length run → old.place.marked ≡ 3 → list_all (stays old.place.spot) run ≡ true
