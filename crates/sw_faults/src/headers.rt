@@ -1,5 +1,6 @@
 //! The header of a table, and what is wrong with one.
 
+use crate::records::unmarked;
 use crate::shown::shown;
 use csv::ByteRecord;
 use std::alloc::{AllocError, Global};
@@ -56,6 +57,41 @@ fn is_kind(word: &[u8]) -> bool {
     )
 }
 
+/// How many columns a table has at most.
+const MOST_COLUMNS: usize = 8;
+
+/// Whether a text begins as a table does whose header has a kind with each name.
+pub fn has_kinds(text: &[u8]) -> bool {
+    let text = unmarked(text);
+    let end = text
+        .iter()
+        .take_while(|byte| **byte != b'\n' && **byte != b'\r')
+        .count();
+    let mut rest = text.get(..end).unwrap_or_default();
+    for _ in 0..MOST_COLUMNS {
+        let many = rest.iter().take_while(|byte| **byte != b',').count();
+        let Some((field, more)) = rest.split_at_checked(many) else {
+            return false;
+        };
+        if !is_column(field) {
+            return false;
+        }
+        match more.split_first() {
+            Some((_, more)) => rest = more,
+            None => return true,
+        }
+    }
+    false
+}
+
+/// Whether a field of a header is a name with a kind.
+fn is_column(field: &[u8]) -> bool {
+    match parts(field) {
+        (name, Some(kind)) => is_name(name) && is_kind(kind),
+        _ => false,
+    }
+}
+
 /// The first byte of a name that none has there.
 fn bad_byte(name: &[u8]) -> Option<u8> {
     name.iter()
@@ -84,6 +120,9 @@ fn wrong_name(alloc: Global, name: &[u8]) -> Result<String, AllocError> {
 /// How a name is had of a heading that is none.
 const NAMES: &str = "sideways import makes names of headings";
 
+/// What is told of a header that begins as comments do.
+const COMMENT: &str = "a table has no comments, and sed '/^#/d' takes such lines out";
+
 /// What is wrong with a field of a header that is none, or whose name stands before it, and the field.
 pub(crate) fn wrong(alloc: Global, field: &[u8]) -> Result<String, AllocError> {
     let (name, kind) = parts(field);
@@ -95,7 +134,12 @@ pub(crate) fn wrong(alloc: Global, field: &[u8]) -> Result<String, AllocError> {
         _ if is_name(name) => format!(in alloc; "a name that stands twice: {field}; {NAMES}"),
         _ => {
             let what = wrong_name(alloc, name)?;
-            format!(in alloc; "{what}: {field}; {NAMES}")
+            let more = if name.first() == Some(&b'#') {
+                COMMENT
+            } else {
+                NAMES
+            };
+            format!(in alloc; "{what}: {field}; {more}")
         }
     }
 }

@@ -10,7 +10,7 @@ pub(crate) const MOST_FIELDS: usize = 4096;
 const MARK: &[u8] = &[0xEF, 0xBB, 0xBF];
 
 /// The bytes without a byte order mark at their start.
-fn unmarked(bytes: &[u8]) -> &[u8] {
+pub(crate) fn unmarked(bytes: &[u8]) -> &[u8] {
     match bytes.strip_prefix(MARK) {
         Some(rest) => rest,
         None => bytes,
@@ -234,14 +234,37 @@ enum Within {
     Closed,
 }
 
-/// Where the reading stands behind one byte more.
-fn behind(byte: u8, within: Within) -> Within {
+/// Where the reading stands behind one byte more; what ends a line between quotes ends no record.
+fn behind(byte: u8, within: Within, delimiter: u8) -> Within {
     match (byte, within) {
         (b'"', Within::Start | Within::Closed) => Within::Quoted,
         (b'"', Within::Quoted) => Within::Closed,
         (_, Within::Quoted) => Within::Quoted,
-        (b',', _) => Within::Start,
+        _ if byte == delimiter || is_end(byte) => Within::Start,
         _ => Within::Plain,
+    }
+}
+
+/// The line, from 1, in which a quote opens that nothing closes, if there is one, where this byte divides the fields.
+pub fn open_quote(bytes: &[u8], delimiter: u8) -> Option<u64> {
+    let mut within = Within::Start;
+    let mut line = 1u64;
+    let mut opened = 1u64;
+    let mut last = 0u8;
+    for byte in unmarked(bytes) {
+        if within == Within::Start {
+            opened = line;
+        }
+        within = behind(*byte, within, delimiter);
+        if is_end(*byte) && !(*byte == b'\n' && last == b'\r') {
+            line = line.saturating_add(1);
+        }
+        last = *byte;
+    }
+    if within == Within::Quoted {
+        Some(opened)
+    } else {
+        None
     }
 }
 
@@ -258,7 +281,7 @@ fn field_start(record: &[u8], field: usize) -> usize {
         if within != Within::Quoted && is_end(*byte) {
             return at;
         }
-        within = behind(*byte, within);
+        within = behind(*byte, within, b',');
         if within == Within::Start {
             fields = fields.saturating_add(1);
         }
@@ -275,7 +298,7 @@ fn has_more_fields(record: &[u8], most: usize) -> bool {
         if within != Within::Quoted && is_end(*byte) {
             return false;
         }
-        within = behind(*byte, within);
+        within = behind(*byte, within, b',');
         if within == Within::Start {
             fields = fields.saturating_add(1);
         }

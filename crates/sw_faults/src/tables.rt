@@ -1,7 +1,7 @@
 //! Faults of a table, in words.
 
 use crate::headers::{has_no_kind, schema_of};
-use crate::records::{MOST_FIELDS, Records};
+use crate::records::{MOST_FIELDS, Records, open_quote};
 use crate::words::Given;
 use crate::{cells, headers};
 use csv::ByteRecord;
@@ -29,6 +29,43 @@ impl<'a> Sheet<'a> {
         };
         Records::under(alloc, self.bytes, own)
     }
+
+    /// The bytes of its file, as far as they can be had.
+    fn file(self) -> &'a [u8] {
+        match self.given {
+            Some(given) => given.bytes.unwrap_or(self.bytes),
+            None => self.bytes,
+        }
+    }
+
+    /// What else is wrong with its file, by which its records may be other ones than were meant: a line, or nothing.
+    fn more_wrong(self, alloc: Global) -> Result<String, AllocError> {
+        let name = self.name;
+        if is_wide(self.file()) {
+            return format!(in alloc; "{name}: {WIDE}\n");
+        }
+        match open_quote(self.file(), b',') {
+            Some(line) => {
+                format!(in alloc; "{name} line {line}: a quote opens there that nothing closes\n")
+            }
+            None => Ok(String::new(alloc)),
+        }
+    }
+}
+
+/// Whether bytes begin as a text in UTF-16 does.
+fn is_wide(bytes: &[u8]) -> bool {
+    bytes.starts_with(b"\xff\xfe") || bytes.starts_with(b"\xfe\xff")
+}
+
+/// What is told of a text in UTF-16.
+const WIDE: &str =
+    "it begins as a file in UTF-16 does, of which iconv -f UTF-16 -t UTF-8 makes UTF-8";
+
+/// Some lines, and others behind them.
+fn with_more(mut lines: String, more: String) -> Result<String, AllocError> {
+    lines.push_str(more.as_str())?;
+    Ok(lines)
 }
 
 /// A field of a record, empty where there is none.
@@ -207,10 +244,10 @@ impl<'a> Head<'a> {
         }
     }
 
-    /// The faults of all rows behind the header, as they are listed.
-    fn all_wrong(&self, records: &mut Records<'_>) -> Result<String, AllocError> {
+    /// The faults of all rows behind the header, as they are listed, behind what else is wrong.
+    fn all_wrong(&self, records: &mut Records<'_>, more: String) -> Result<String, AllocError> {
         let mut listed = Listed {
-            text: String::new(self.alloc),
+            text: more,
             many: 0,
         };
         listed.add_rows(self, records)?;
@@ -267,6 +304,9 @@ pub(crate) fn bad_header(
             "{name}: empty, wanted a header: names with kinds, as a:int,b:fix2,c:text\n"
         );
     }
+    if is_wide(sheet.bytes) {
+        return format!(in alloc; "{name}: {WIDE}\n");
+    }
     let field = field.saturating_sub(1).min(8) as usize;
     wrong_header(alloc, name, &mut records, field)
 }
@@ -281,7 +321,10 @@ pub(crate) fn bad_row(
 ) -> Result<String, AllocError> {
     let mut records = sheet.records(alloc);
     match Head::take(alloc, key, sheet, &mut records)? {
-        Some(head) => head.wrong_of(&mut records, rec, field),
+        Some(head) => {
+            let wrong = head.wrong_of(&mut records, rec, field)?;
+            with_more(wrong, sheet.more_wrong(alloc)?)
+        }
         None => Ok(String::new(alloc)),
     }
 }
@@ -411,7 +454,7 @@ pub fn all_faults(
     let sheet = Sheet { name, bytes, given };
     let mut records = sheet.records(alloc);
     match Head::take(alloc, key, sheet, &mut records)? {
-        Some(head) => head.all_wrong(&mut records),
+        Some(head) => head.all_wrong(&mut records, sheet.more_wrong(alloc)?),
         None => Ok(String::new(alloc)),
     }
 }

@@ -1,5 +1,6 @@
 pub mod Asked
 pub mod Closing
+pub mod Given
 pub mod Law
 pub mod Marks
 pub mod Reading

@@ -146,6 +146,7 @@ takes_one old new text c cs e goes =
           ∙ sym (append_assoc old.out.items s.1 (going_on h k s.0 cs))
           ∙ ap (λ a. a ++ going_on h k s.0 cs) (sym goes.2)
           ∙ ap (λ p. new.out.items ++ going_on h k p cs) (sym goes.1),
+      goes.3,
     )
 
 takes_all : (old new : Rewriter) (text : List ℕ) (c : ℕ) (cs left : List ℕ) → text ≡ (c ∷ cs) ++ left → old.place.marked ≡ 3 → list_all (stays old.place.spot) (c ∷ cs) ≡ true
@@ -162,6 +163,7 @@ takes_all old new text c cs left e m all goes =
           ∙ sym (append_assoc old.out.items s.1 (going_on h k s.0 left))
           ∙ ap (λ a. a ++ going_on h k s.0 left) (sym goes.2)
           ∙ ap (λ p. new.out.items ++ going_on h k p left) (sym goes.1),
+      goes.3,
     )
 
 -- a run of bytes that stay is taken in at once, and the others are left

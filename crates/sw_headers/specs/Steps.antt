@@ -1,5 +1,6 @@
 -- What goes on of a text, byte by byte.
-use Rattle.std.specs.Prelude.{◌≡◌, ◌+◌, ◌-◌, ◌^◌, ◌++◌, ◌==◌, ◌&&◌, ◌||◌, ℕ, Bool, true, false, not, List, [], ◌∷◌, get_or, if◌then◌else◌, length, min, nat_lt, replicate, take}
+use Rattle.std.specs.Prelude.{◌≡◌, ◌≤◌, ◌+◌, ◌-◌, ◌^◌, ◌++◌, ◌==◌, ◌&&◌, ◌||◌, ℕ, Bool, true, false, not, List, [], ◌∷◌, get_or, if◌then◌else◌, length, min, nat_lt, replicate, take, drop}
+use Rattle.std.specs.List.{list_all}
 use Rattle.sw_headers.specs.declared.rewriting.Spot.{Spot}
 use Rattle.sw_headers.specs.declared.rewriting.Spot.TheVariants.{Before, Field, Plain, Quoted, Closed}
 use Rattle.sw_headers.specs.declared.rewriting.Place.{Place}
@@ -212,9 +213,28 @@ stays Closed c = false
 abbrev pub by : {A : Type 0} → (List ℕ → List Bool → Place → A) → Rewriter → A
 by f r = f r.header.record.items r.header.keeps.items r.place
 
--- a step was made: the header is the same, and what goes on of it stands behind what went on before
+-- a step was made: the header is the same, what goes on of it stands behind what went on before, and no more is given of that
 abbrev pub Goes : Rewriter → Rewriter → Step → Type 0
-Goes old new s = (new.header ≡ old.header) × (new.place ≡ s.0) × (new.out.items ≡ old.out.items ++ s.1)
+Goes old new s =
+    (new.header ≡ old.header)
+    × (new.place ≡ s.0)
+    × (new.out.items ≡ old.out.items ++ s.1)
+    × (new.handed ≡ old.handed)
+
+-- what went on and was not yet given
+abbrev pub waiting : Rewriter → List ℕ
+waiting r = drop r.handed r.out.items
+
+-- bytes were given that waited, from the first on, and the others still wait; of what goes on later none was given
+pub record Gives (old new : Rewriter) (given : List ℕ) : Type 0 where
+  pub header : new.header ≡ old.header
+  pub place : new.place ≡ old.place
+  pub bytes : given ++ waiting new ≡ waiting old
+  pub later : new.handed ≤ length new.out.items
+
+-- whether what is left of a text goes on as it is: no column is passed by, and the first record is over
+abbrev pub goes_by : List Bool → Place → Bool
+goes_by keeps p = not p.is_first && list_all (λ k. k) keeps
 
 -- a beginning of some bytes was taken in, and these are left of them
 abbrev pub TakesIn : Rewriter → Rewriter → List ℕ → List ℕ → Type 0
@@ -222,3 +242,4 @@ TakesIn old new text left =
     (new.header ≡ old.header)
     × (by place_after old text ≡ by place_after (record new { header = old.header }) left)
     × (old.out.items ++ by going_on old text ≡ new.out.items ++ by going_on (record new { header = old.header }) left)
+    × (new.handed ≡ old.handed)

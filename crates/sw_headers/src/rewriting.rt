@@ -3,9 +3,9 @@
 //! Fields go on byte for byte, as they are written. Each line end of the text goes on too, those of fields that are passed by
 //! behind their record, where they are empty lines and no records: so each record keeps its line.
 
-ghost use Rattle.std.specs.Prelude.{◌≡◌, ◌<◌, ◌≤◌, ◌==◌, ◌||◌, ◌++◌, [], length, position, replicate, take, true, IfOk, OnOk};
+ghost use Rattle.std.specs.Prelude.{◌≡◌, ◌<◌, ◌≤◌, ◌==◌, ◌||◌, ◌++◌, [], length, min, position, replicate, take, true, IfOk, OnOk};
 ghost use Rattle.std.specs.List.{list_all};
-ghost use Rattle.sw_headers.specs.Steps.{Goes, TakesIn, begun, by, closing, closing_first, closing_later, copied, copied_run, entered, fed, finished, fresh, inside, is_kept, is_line_end, is_mark, missed_after, missed_in, next_spot, opened, outside, start, stays, stepped, taken, unmarked};
+ghost use Rattle.sw_headers.specs.Steps.{Gives, Goes, TakesIn, begun, by, closing, closing_first, closing_later, copied, copied_run, entered, fed, finished, fresh, goes_by, inside, is_kept, is_line_end, is_mark, missed_after, missed_in, next_spot, opened, outside, start, stays, stepped, taken, unmarked, waiting};
 ghost use Rattle.sw_headers.specs.declared.rewriting.Spot.TheVariants.{Before, Plain, Quoted};
 
 use crate::header::Header;
@@ -251,6 +251,7 @@ impl Rewriter {
         ensures header { result.header ≡ header }
         ensures place { result.place ≡ start }
         ensures out { result.out.items ≡ [] }
+        ensures handed { result.handed ≡ 0 }
     {
         Rewriter {
             header,
@@ -270,7 +271,8 @@ impl Rewriter {
 
     /// Gives the next bytes of what goes on into the front of `buf`, and says how many.
     pub(crate) fn give(&mut self, buf: &mut [u8]) -> usize
-        ensures { result ≤ length buf.new }
+        ensures count { result ≡ min (length (waiting self.old)) (length buf.new) }
+        ensures given { Gives self.old self.new (take result buf.new) }
     {
         let (_, left) = self
             .out
@@ -288,7 +290,9 @@ impl Rewriter {
     }
 
     /// Whether what is left of the text goes on as it is: no column is passed by, and the first record is over.
-    pub(crate) fn goes_by(&self) -> bool {
+    pub(crate) fn goes_by(&self) -> bool
+        ensures { result ≡ goes_by self.now.header.keeps.items self.now.place }
+    {
         !self.place.is_first && self.header.keeps_all()
     }
 
@@ -507,7 +511,8 @@ impl Rewriter {
 
     /// The text is over, perhaps in the middle of a record: quotes that are open are closed.
     pub(crate) fn finish(&mut self) -> Result<(), AllocError>
-        ensures { OnOk result (self.new.out.items ≡ self.old.out.items ++ by finished self.old) }
+        ensures went { OnOk result (self.new.out.items ≡ self.old.out.items ++ by finished self.old) }
+        ensures handed { OnOk result (self.new.handed ≡ self.old.handed) }
     {
         self.place = self.place.unmarked();
         match self.place.spot {

@@ -9,6 +9,7 @@ invariant-loop-left l =
     (l.self.header ≡ l.fn.self.header)
     × (place_after h k l.self.place l.left ≡ place_after h k l.fn.self.place l.text)
     × (l.self.out.items ++ going_on h k l.self.place l.left ≡ l.fn.self.out.items ++ going_on h k l.fn.self.place l.text)
+    × (l.self.handed ≡ l.fn.self.handed)
 
 abbrev pub decreases-loop-left : goal.decreases-loop-left
 decreases-loop-left l = length l.left
