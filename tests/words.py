@@ -486,6 +486,29 @@ class Cases:
         self.case("a history from logs that are told nowhere", ["check", "--explain", "--from-logs", "none.csv", "t.csv"], 2, "",
                   "sideways: refused 12\nnone.csv: there is no such file\n")
 
+    # What is told of odd files
+
+    def files(self):
+        for name, data in (("wide.csv", b"\xff\xfe" + "a:int\n1\n".encode("utf-16-le")), ("hash.csv", b"# made today\na:int\n1\n"),
+                           ("open.csv", b'a:int,b:text\n1,"x\ny"\n2,"z\n3,u\n'), ("short.csv", b'a:int,b:text\n1\n2,"z\n3,u\n')):
+            (self.folder / name).write_bytes(data)
+        for words in (["describe"], ["run", "-e", "count", "--table"]):
+            self.case("a table in UTF-16", words + ["wide.csv"], 2, "", "sideways: refused 2 record 0 field 1\n"
+                      "wide.csv: it begins as a file in UTF-16 does, of which iconv -f UTF-16 -t UTF-8 makes UTF-8\n")
+            self.case("a table behind a comment", words + ["hash.csv"], 2, "", "sideways: refused 2 record 0 field 1\nhash.csv line 1, column 1: '#' stands "
+                      "in a name, which has letters, digits and _: '# made today'; a table has no comments, and sed '/^#/d' takes such lines out\n")
+        unclosed = "%s line %d: a quote opens there that nothing closes\n"
+        control = "open.csv line 2, b:text: byte 2 is a control byte, which no text has: 'x\\ny'\n"
+        self.case("a quote that nothing closes", ["describe", "open.csv"], 2, "", "sideways: refused 2 record 1 field 2\n" + control + unclosed % ("open.csv", 4))
+        missing = "short.csv line 2: 1 field, the header has 2: b:text is missing\n"
+        self.case("such a quote behind a short record", ["run", "--table", "short.csv", "-e", "count"], 2, "",
+                  "sideways: refused 2 record 1 field 2\n" + missing + unclosed % ("short.csv", 3))
+        self.case("such a quote under a header", ["run", "--table", "short.csv", "--header", "a,b:text", "-e", "count"], 2, "",
+                  "sideways: refused 2 record 1 field 2\nshort.csv line 2: 1 field, --header has 2: b:text is missing\n" + unclosed % ("short.csv", 3))
+        self.case("such a quote among all faults", ["run", "--table", "short.csv", "-e", "count", "--all-faults"], 2, "",
+                  "sideways: refused 2 record 1 field 2\n" + unclosed % ("short.csv", 3) + missing
+                  + "short.csv line 3, b:text: byte 2 is a control byte, which no text has: 'z\\n3,u\\n'\nshort.csv: 2 faults\n")
+
     # Help
 
     def helps(self):
@@ -511,7 +534,7 @@ def main():
         cases = Cases(Path(given.program).resolve(), folder)
         try:
             for part in (cases.inputs, cases.headers, cases.imports, cases.words, cases.descriptions, cases.forms, cases.origins, cases.keys, cases.flaws,
-                         cases.helps, cases.version):
+                         cases.files, cases.helps, cases.version):
                 part()
         except Wrong as wrong:
             print(wrong)
