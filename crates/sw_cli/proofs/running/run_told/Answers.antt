@@ -6,9 +6,6 @@ use Rattle.sw_cli.specs.declared.running.Options.{Options}
 use Rattle.sw_cli.proofs.Ran.{begun_answers, keeps_same, refused_answers}
 use Rattle.sw_cli.proofs.running.run_told.Goals as goal
 
-pub run_read-requires : goal.run_read-requires
-run_read-requires g c = subst (λ (o : Options). IsStart o.limit (start_seen c.in-Ok.inputs)) c.means.view_is c.in-Ok.ensures.sound
-
 pub returns-in-Ok : goal.returns-in-Ok
 returns-in-Ok g c =
     let t = source_by g.T.Source c.args.table.now c.read_start.new.table in
