@@ -11,11 +11,12 @@ ghost use Rattle.sw_cli.specs.Outcomes.{AllSayWhy, text_of};
 ghost use Rattle.sw_cli.specs.Run.{IsRecordOf};
 ghost use Rattle.sw_cli.specs.Served.{SendsLines, told_in};
 ghost use Rattle.sw_cli.specs.Sides.{sink_by};
-ghost use Rattle.sw_cli.specs.Starts.{Goes};
+ghost use Rattle.sw_cli.specs.Starts.{Goes, IsStart, start_seen};
 
 use crate::buffered::{Base, Buffered, block};
 use crate::ended::Ended;
 use crate::looking_on::{Nobody, Onlooker};
+use crate::means::{AfterRun, Means};
 use crate::serving::{Opened, serve};
 use crate::start::{Inputs, read_start};
 use crate::telling::write_blocks;
@@ -175,6 +176,37 @@ fn make_and_write<M: CrackerMap, O: Onlooker, R: Threads + Wait + Sync, W: Sink>
     make_in_turn(rt, workload, out, stats)
 }
 
+/// Makes a run of what was read, and writes what came of it.
+fn run_read<M: CrackerMap, O: Onlooker, R: Threads + Wait + Sync, W: Sink>(
+    rt: &R,
+    means: Means<'_, M, O>,
+    inputs: Inputs,
+    out: &mut W,
+) -> Result<AfterRun, Refusal>
+    requires { IsStart means.limit (start_seen inputs) }
+    ensures { Goes means.entry.limit (start_seen inputs) (sink_by W.Sink out.old out.new) result }
+{
+    let Means {
+        alloc,
+        options,
+        maps,
+        onlooker,
+    } = means;
+    let workload = Workload {
+        alloc,
+        inputs,
+        limit: options.limit,
+        threads: options.threads,
+        maps,
+        onlooker,
+    };
+    let mut stats = Vec::new(alloc);
+    match make_and_write(rt, workload, out, &mut stats) {
+        Ok(history) => Ok(AfterRun { history, stats }),
+        Err(e) => Err(e),
+    }
+}
+
 /// Reads a table, a script and cuts, makes the calls of the script's blocks, block i as session i, and writes the lines
 /// of what came of them, with a line `---` between two blocks. The maps are boxes: box i, from 0, is dealt to the head
 /// of attribute i mod n, where there are n attributes.
@@ -202,14 +234,20 @@ pub fn run_with<M: CrackerMap, R: Threads + Wait + Sync, T: Source, S: Source, W
     ensures { RunsBy options.now T.Source table.old table.new
         S.Source script.old script.new W.Sink out.old out.new result }
 {
-    let mut stats = Vec::new(alloc);
-    run_told(
-        rt, alloc, table, script, out, options, maps, &mut stats, &Nobody,
-    )
+    let means = Means {
+        alloc,
+        options,
+        maps,
+        onlooker: &Nobody,
+    };
+    match run_told(rt, means, table, script, out) {
+        Ok(after) => Ok(after.into_history()),
+        Err(e) => Err(e),
+    }
 }
 
-/// `run_with` that also adds what each head tells of itself when all calls were made, and lets somebody look on. No
-/// clause speaks of that list, nor of what the onlooker sees.
+/// `run_with` by means that are one value, which also lets somebody look on, and tells of each head when all calls were
+/// made. No clause speaks of that, nor of what the onlooker sees.
 pub fn run_told<
     M: CrackerMap,
     O: Onlooker,
@@ -219,33 +257,16 @@ pub fn run_told<
     W: Sink,
 >(
     rt: &R,
-    alloc: Global,
+    means: Means<'_, M, O>,
     table: &mut T,
     script: &mut S,
     out: &mut W,
-    options: &Options<'_>,
-    maps: Vec<M>,
-    stats: &mut Vec<HeadStats>,
-    onlooker: &O,
-) -> Result<Record, Refusal>
-    requires some { 0 < options.now.limit }
-    requires most { options.now.limit ≤ MOST_ROWS }
-    requires blank { All (λ m. M.held m ≡ blank) maps.items }
-    ensures { RunsBy options.now T.Source table.old table.new
+) -> Result<AfterRun, Refusal>
+    ensures { RunsBy means.entry T.Source table.old table.new
         S.Source script.old script.new W.Sink out.old out.new result }
 {
-    match read_start(rt, alloc, table, script, options) {
-        Ok(inputs) => {
-            let workload = Workload {
-                alloc,
-                inputs,
-                limit: options.limit,
-                threads: options.threads,
-                maps,
-                onlooker,
-            };
-            make_and_write(rt, workload, out, stats)
-        }
+    match read_start(rt, means.alloc, table, script, means.options) {
+        Ok(inputs) => run_read(rt, means, inputs, out),
         Err(e) => Err(e),
     }
 }

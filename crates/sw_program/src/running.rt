@@ -1,8 +1,6 @@
 //! A run over files.
 
-ghost use Rattle.std.specs.Prelude.{◌≡◌, ◌<◌, ◌≤◌, ◌⊎◌, All, IfOk};
-ghost use Rattle.sw_rows.specs.declared.table.TheConstants.{MOST_ROWS};
-ghost use Rattle.sw_map.specs.Held.{blank};
+ghost use Rattle.std.specs.Prelude.{◌≡◌, ◌⊎◌, IfOk};
 
 use crate::logging::{Times, Watch, keep_log};
 use std::alloc::Global;
@@ -12,8 +10,8 @@ use std::rt::{Clock, Files};
 use std::sync::Wait;
 use std::thread::Threads;
 use sw_cli::{
-    HeadStats, Noting, Onlooker, Options, blank_boxes, run_told, write_record, write_stats_line,
-    write_stats_title,
+    AfterRun, Means, Noting, Onlooker, Options, blank_boxes, run_told, write_record,
+    write_stats_line, write_stats_title,
 };
 use sw_commands::{
     Asking, Clash, Form, Keeping, Keeps, Kept, LinesSeen, Outflow, Place, Script, Seen, Settings,
@@ -22,7 +20,7 @@ use sw_commands::{
 };
 use sw_files::begin_file;
 use sw_lang::write_all;
-use sw_map::{CrackerMap, PairMap};
+use sw_map::PairMap;
 use sw_rows::{Counted, Refusal, Sink, Source, TextKey};
 use sw_spine::Record;
 
@@ -47,72 +45,48 @@ pub struct Run<'a> {
     pub form: Form,
 }
 
-/// What is known after a run: the record, whether a call was refused, and what each head tells of itself.
-struct AfterRun {
-    history: Record,
+/// What a run leaves, and whether a call of it was refused.
+#[derive(Drop)]
+struct Ended {
+    run: AfterRun,
     has_refused: bool,
-    stats: Vec<HeadStats>,
-}
-
-// By hand, as with `Keeping`.
-impl Drop for AfterRun {
-    fn drop(self) {
-        let Self {
-            history: _history,
-            has_refused: _,
-            stats: _stats,
-        } = self;
-    }
 }
 
 /// Runs a script over a table, of which both are open.
 fn run_open<R: Threads + Wait + Sync, O: Onlooker, T: Source, S: Source, W: Sink + Drop>(
     rt: &R,
-    alloc: Global,
+    means: Means<'_, PairMap, O>,
     table: &mut T,
     script: &mut S,
     out: W,
-    options: &Options<'_>,
-    maps: Vec<PairMap>,
-    onlooker: &O,
-) -> Result<AfterRun, Refusal>
-    requires some { 0 < options.now.limit }
-    requires most { options.now.limit ≤ MOST_ROWS }
-    requires blank { All (λ m. ⟦<PairMap as CrackerMap>⟧.held m ≡ blank) maps.items }
-{
+) -> Result<Ended, Refusal> {
     let mut noting = Noting::new(out);
-    let mut stats = Vec::new(alloc);
-    let history = run_told(
-        rt,
-        alloc,
-        table,
-        script,
-        &mut noting,
-        options,
-        maps,
-        &mut stats,
-        onlooker,
-    )?;
-    Ok(AfterRun {
-        history,
+    let run = run_told(rt, means, table, script, &mut noting)?;
+    Ok(Ended {
+        run,
         has_refused: noting.has_refused(),
-        stats,
     })
+}
+
+/// The sources of a run, of which what can be read only once is kept.
+#[derive(Drop)]
+struct Sources<T: Source + Drop, S: Source + Drop> {
+    table: Keeping<T>,
+    script: Keeping<S>,
 }
 
 /// Makes the boxes of a run whose files are open, and runs it.
 fn run_between<
     R: Files + RandomSource + Clock + Print + Eprint + Threads + Wait + Sync,
-    T: Source,
-    S: Source,
+    T: Source + Drop,
+    S: Source + Drop,
 >(
     rt: &R,
     alloc: Global,
-    table: &mut T,
-    script: &mut S,
     run: &Run<'_>,
+    sources: &mut Sources<T, S>,
     watch: &Watch<'_, '_, R>,
-) -> Result<AfterRun, Refusal> {
+) -> Result<Ended, Refusal> {
     let settings = &run.settings;
     let maps = blank_boxes(alloc, settings.budget, settings.maps)?;
     let options = Options {
@@ -121,18 +95,24 @@ fn run_between<
         threads: settings.threads && are_ample(rt, alloc),
         key: TextKey::new(rt)?,
     };
+    let means = Means {
+        alloc,
+        options: &options,
+        maps,
+        onlooker: watch,
+    };
     if run.form == Form::Lines {
         let out = Counted::new(Outflow::new(io::writer(rt), watch.seen.reader()));
-        return run_open(rt, alloc, table, script, out, &options, maps, watch);
+        return run_open(rt, means, &mut sources.table, &mut sources.script, out);
     }
     let out = Counted::new(io::sink());
-    run_open(rt, alloc, table, script, out, &options, maps, watch)
+    run_open(rt, means, &mut sources.table, &mut sources.script, out)
 }
 
 /// What came of a run, and what was kept of its table and its script.
 #[derive(Drop)]
 struct Came {
-    ended: Result<AfterRun, Refusal>,
+    ended: Result<Ended, Refusal>,
     kept: Keeps,
 }
 
@@ -156,11 +136,12 @@ fn run_keeping<
     rt: &R,
     alloc: Global,
     run: &Run<'_>,
-    mut table: Keeping<T>,
-    mut script: Keeping<S>,
+    mut sources: Sources<T, S>,
     watch: &Watch<'_, '_, R>,
 ) -> Came {
-    let ended = match run_between(rt, alloc, &mut table, &mut script, run, watch) {
+    let came = run_between(rt, alloc, run, &mut sources, watch);
+    let Sources { table, script } = sources;
+    let ended = match came {
         Ok(ended) => Ok(ended),
         Err(refusal) => Err(script.why(table.why(refusal))),
     };
@@ -200,9 +181,11 @@ fn run_named<R: Files + RandomSource + Clock + Print + Eprint + Input + Threads 
         Ok(script) => Counted::new(script),
         Err(refusal) => return unopened(refusal),
     };
-    let table = Keeping::new(table, Kept::new(alloc, is_read_once(rt, run.table)));
-    let script = Keeping::new(script, keeping_script(rt, alloc, run));
-    run_keeping(rt, alloc, run, table, script, watch)
+    let sources = Sources {
+        table: Keeping::new(table, Kept::new(alloc, is_read_once(rt, run.table))),
+        script: Keeping::new(script, keeping_script(rt, alloc, run)),
+    };
+    run_keeping(rt, alloc, run, sources, watch)
 }
 
 /// Writes a record to the file of a path.
@@ -234,15 +217,16 @@ pub(crate) fn keep<R: Files>(
 
 /// Writes what each head tells of itself, on standard error.
 fn tell<R: Clock + Eprint, E: Sink>(
-    ended: &AfterRun,
+    ended: &Ended,
     seen: &Seen<'_, R>,
     errors: &mut E,
 ) -> Result<(), Refusal> {
-    let schema = &ended.history.schema;
+    let stats = &ended.run.stats;
+    let schema = &ended.run.history.schema;
     write_stats_title(errors)?;
-    for head in 0..schema.len().min(ended.stats.len()) {
+    for head in 0..schema.len().min(stats.len()) {
         let name = schema.name(head).as_bytes();
-        write_stats_line(name, &ended.stats[head], seen.millis(head), errors)?;
+        write_stats_line(name, &stats[head], seen.millis(head), errors)?;
     }
     Ok(())
 }
@@ -254,7 +238,7 @@ const REFUSED: &[u8] = b"sideways: calls were refused; --output lines shows whic
 /// that is asked. Answers the exit status.
 fn finish<R: Clock + Eprint, E: Sink>(
     run: &Run<'_>,
-    ended: &AfterRun,
+    ended: &Ended,
     seen: &Seen<'_, R>,
     errors: &mut E,
 ) -> Result<u8, Refusal>
@@ -383,8 +367,9 @@ impl Run<'_> {
         };
         watch.answers_last()?;
         let script = script_bytes(self.script, &kept.script);
-        self.shape(alloc, &seen, &ended.history, script, words)?;
-        self.leave(rt, alloc, &ended.history, watch.into_times(), words)?;
+        let history = &ended.run.history;
+        self.shape(alloc, &seen, history, script, words)?;
+        self.leave(rt, alloc, history, watch.into_times(), words)?;
         finish(self, &ended, &seen, errors)
     }
 }
