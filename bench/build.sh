@@ -1,7 +1,7 @@
 #!/usr/bin/env bash
 # Tells whether the drivers below this folder that have a program of their own still stand on the crates as they are: reads the types and
 # clauses of each, over the libraries that `rt ci` left in this tree, which it links, and proves nothing. Up to four at a time, of some 15 to 60
-# processor seconds each.
+# processor seconds and up to 1.1 GB each; a step of tests/after.sh.
 #
 #     bench/build.sh
 #

@@ -29,6 +29,7 @@ step python3 "$top/tests/rules.py"
 step python3 "$top/tests/links.py"
 step python3 "$top/tests/lemmas.py"
 step python3 "$top/tests/drivers.py"
+step bash "$top/bench/build.sh"
 step python3 "$top/bench/claims.py" --check
 step python3 "$top/bench/pages.py" --check
 step sh "$top/tests/statuses.sh"
