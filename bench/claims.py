@@ -30,8 +30,8 @@ HEADING = [
 # record whose fields have them.
 THEOREMS = [
     ("The headline", "What `Engine::close` answers with `Ok`, its clause `headline`. A history may keep a reply as its lines, for which alone the"
-     " definitions of sw_lang are; by `given` this one does not. What a ticket shows, the clauses of a session's calls say (docs/PROMISES.md, 'The"
-     " headline').", "sw_engine", "Headline", "IsHistoryOfOneThread", []),
+     " definitions of sw_lang are; by `given` this one does not. What a ticket shows, clauses `mine` and `err` of `Session::call`"
+     " say.", "sw_engine", "Headline", "IsHistoryOfOneThread", []),
     ("A run of the program", "What `sw_cli::run` answers, its clause is `RunsBy`.", "sw_cli", "Answers", "RunAnswers", []),
     ("The check of a history file", "What `check_file` writes and answers, its one clause.", "sw_histories", "FileChecks", "ChecksFile", [
         "`Ok status`: the bytes are a history, and its verdict was written: `legal` and the number of entries, status 0, where it is legal;"
