@@ -19,6 +19,7 @@ use Rattle.sw_spine.specs.declared.history.Entry.{Entry}
 use Rattle.sw_spine.specs.declared.history.State.TheVariants as state
 use Rattle.sw_spine.specs.declared.spine.TheConstants.{MOST_ENTRIES, MOST_SESSIONS}
 use Rattle.sw_tie.specs.declared.Book.{Book}
+use Rattle.sw_versions.specs.Rules.{updates_in}
 use Rattle.sw_engine.specs.Later.{Begin}
 use Rattle.sw_engine.specs.Published.{AreBehind, EndsEntry, Shown, answered_to}
 use Rattle.sw_engine.specs.Own.{IsNew, own}
@@ -106,9 +107,10 @@ latched opening head inbox waiting = record {
 }
 
 -- What was taken for a head of this number is what its share shows; the head, once it is made, is of that attribute,
--- and may receive what waits.
+-- and may receive what waits; and a receipt, where it has one, is of all that was taken, after the opening rows.
 pub record IsLatched (heads_name limit : ℕ) (columns : List Column) (opening : List Row) (number : ℕ)
-    (head : Option HeadState) (inbox : List Update) (share : Share Books) : Type 0 where
+    (head : Option HeadState) (inbox : List Update) (share : Share Books) (receipt : Option (List (List Update)))
+    : Type 0 where
   pub named : share.name ≡ heads_name
   pub number_is : share.number ≡ number
   pub taken : received_by opening head ++ inbox ≡ took number share.value
@@ -117,6 +119,7 @@ pub record IsLatched (heads_name limit : ℕ) (columns : List Column) (opening :
   pub place : number < length columns
   pub attribute : IfSome head (λ h. h.attribute ≡ number)
   pub few : number < 8
+  pub receipted : IfSome receipt (λ r. took number share.value ≡ opened opening ++ updates_in r)
 
 -- no box is lost: each of those that waited or were held still waits, or is held
 abbrev pub KeepsBoxes : LatchState → LatchState → Type 0

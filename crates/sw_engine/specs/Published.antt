@@ -36,6 +36,10 @@ Grows opening old new = IsPrefix (published_of opening old) (published_of openin
 abbrev pub updates_first : ℕ → List Row → List Entry → ℕ → List Update
 updates_first limit opening es n = updates_after limit (opened opening) (take n es)
 
+-- what the plain table replies after these entries
+abbrev pub reply_after : ℕ → List Row → List Entry → Call → Reply
+reply_after limit opening es c = reply_to limit (updates_after limit (opened opening) es) c
+
 -- a number of updates, the opening rows counted, at which an entry ends: that of all updates of the first so many
 -- entries
 abbrev pub EndsEntry : ℕ → List Row → List Entry → ℕ → Type 0

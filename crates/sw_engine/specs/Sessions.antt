@@ -1,5 +1,5 @@
 -- A session's state, and what a visit does to it: a call is answered, or given up, or nothing of the session's changes.
-use Rattle.std.specs.Prelude.{ℕ, ◌≡◌, ◌⊎◌, ◌+◌, ◌++◌, List, [], ◌∷◌, Option, Some, None, IfSome}
+use Rattle.std.specs.Prelude.{ℕ, ◌≡◌, ◌⊎◌, ◌+◌, ◌++◌, List, [], ◌∷◌, Bool, MatchBool, Option, Some, None, IfSome}
 use mathlib.Core.List.{IsPrefix}
 use Rattle.sw_table.specs.declared.row.Row.{Row}
 use Rattle.sw_table.specs.declared.row.Update.{Update}
@@ -66,6 +66,15 @@ pub record Answers (c : Call) (r : Reply) (old new : Shown) : Type 0 where
   pub visited : Visited old new
   pub calls : new.1 ≡ old.1 ++ (c, r) ∷ []
   pub own : own_of new ≡ own_of old ++ (c, state.Answered r) ∷ []
+
+-- the query is answered, where that is told; else nothing that the session shows changes
+abbrev pub AnswersOr : Query → Reply → Shown → Shown → Bool → Type 0
+AnswersOr q r old new told = MatchBool told (Answers (call.Select q) r old new) (new ≡ old)
+
+-- the same, told by the reply
+abbrev pub AnswersIfSome : Query → Shown → Shown → Option Reply → Type 0
+AnswersIfSome q old new None = new ≡ old
+AnswersIfSome q old new (Some r) = Answers (call.Select q) r old new
 
 -- the select is void: its entry is the last of the session's own, and the answered calls stay
 pub record Voids (q : Query) (old new : Shown) : Type 0 where

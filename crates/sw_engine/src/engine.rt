@@ -19,62 +19,32 @@ ghost use Rattle.sw_engine.specs.Headline.{IsHistoryOfOneThread};
 ghost use Rattle.sw_engine.specs.declared.engine.TheConstants.{PART};
 ghost use Rattle.sw_engine.specs.Later.{Begin};
 ghost use Rattle.sw_engine.specs.Own.{IsEnded, IsLastOwn, IsNew, LeavesCall, LeavesCommit, LeavesSelect, own_of};
-ghost use Rattle.sw_engine.specs.Sessions.{Answers, GivesUp, Refuses, Stays};
+ghost use Rattle.sw_engine.specs.Sessions.{Answers, AnswersIfSome, GivesUp, IsRefused, Refuses, Stays};
 
 use crate::conds::add_all;
 use crate::heads::counting::HeadStats;
 use crate::heads::latch::{LatchedHead, head_of};
+use crate::heads::latching::{AloneLatch, Latch};
 use crate::heads::opening::{Ground, Opening};
 use crate::history::desk::{Blank, Desk};
 use crate::history::locked::{LockedDesk, Miss};
 use crate::history::ticket::Ticket;
+use crate::pausing::{PAUSE, PAUSES, pause};
 use crate::viewing::{Receipt, Viewer};
 use crossbeam_utils::Backoff;
 use std::alloc::{AllocError, Global};
-use std::hint::spin_loop;
 use std::marker::{Model, PhantomData};
-use std::sync::atomic::AtomicU64;
+use std::sync::atomic::{AtomicU64, Ordering};
 use std::sync::{Mutex, MutexGuard, Wait};
 use std::thread::Threads;
-use std::time::Duration;
 use sw_lang::Cuts;
 use sw_map::CrackerMap;
 use sw_rows::{Call, Cond, Conds, PackedRows, Query, Refusal, Reply, Schema};
 use sw_spine::Record;
 use sw_versions::{Draft, Naming};
 
-/// How often a thread pauses between looks at a lock or a latch, before it sleeps.
-const PAUSES: u32 = 7;
-
-/// How long the first pause is; each one is twice as long as the one before. All of them take as long as a visit or a select
-/// may, and no longer than waking up from a sleep.
-const PAUSE: usize = 8;
-
-/// How often a thread sleeps between looks at a latch, before it waits for its turn.
-const NAPS: u32 = 5;
-
-/// How long the first of these sleeps is, in microseconds; each one is twice as long as the one before. Who has the latch makes
-/// many selects in a row meanwhile, and the head's data stay in one processor's cache.
-const NAP: u64 = 100;
-
 /// How many updates a head takes in a visit at most.
 const PART: usize = 1024;
-
-fn pause(long: usize) {
-    for _ in 0..long {
-        spin_loop();
-    }
-}
-
-/// Waits between two looks at a latch, longer at each: first with the processor, then asleep.
-fn rest<R: Wait>(rt: &R, look: u32) {
-    if look < PAUSES {
-        pause(PAUSE << look);
-    } else {
-        let long = NAP << (look - PAUSES).min(NAPS);
-        AtomicU64::new(0).park_timeout(rt, 0, Duration::from_micros(long));
-    }
-}
 
 /// What lies under the lock. Others mostly hold it for less time than a sleep takes, so the thread looks at it between pauses
 /// before it sleeps.
@@ -88,23 +58,12 @@ fn take<'l, T, R: Wait>(rt: &R, lock: &'l Mutex<T>) -> MutexGuard<'l, T> {
     lock.lock(rt)
 }
 
-/// What lies under a latch.
-fn take_latch<'l, T, R: Wait>(rt: &R, latch: &'l Mutex<T>) -> MutexGuard<'l, T> {
-    for look in 0..PAUSES + NAPS {
-        if let Some(guard) = latch.try_lock() {
-            return guard;
-        }
-        rest(rt, look);
-    }
-    latch.lock(rt)
-}
-
 /// A latch for each attribute's head.
-fn all_latches<J: Naming, M: CrackerMap>(
+fn all_latches<J: Naming, M: CrackerMap, L: Latch<J, M>>(
     alloc: Global,
     opening: &Opening<J>,
     desk: &mut Desk<J>,
-) -> Result<Vec<Mutex<LatchedHead<J, M>>>, AllocError>
+) -> Result<Vec<L>, AllocError>
     requires { desk.old ≡ new_desk J.columns J.opening J.limit }
     ensures books { desk.new.books ≡ desk.old.books }
     ensures given { desk.new.given ≡ desk.old.given }
@@ -112,7 +71,7 @@ fn all_latches<J: Naming, M: CrackerMap>(
 {
     let mut latches = Vec::new(alloc);
     for place in 0..opening.heads() {
-        latches.push(Mutex::new(desk.add_head(alloc, opening, place)))?;
+        latches.push(L::over(desk.add_head(alloc, opening, place)))?;
     }
     Ok(latches)
 }
@@ -121,14 +80,18 @@ fn all_latches<J: Naming, M: CrackerMap>(
 ///
 /// A latch is taken before the lock, and never after it.
 #[derive(Drop)]
-pub struct Engine<J: Naming, M: CrackerMap> {
+pub struct Engine<J: Naming, M: CrackerMap, L: Latch<J, M> = AloneLatch<J, M>> {
     alloc: Global,
     opening: Opening<J>,
-    latches: Vec<Mutex<LatchedHead<J, M>>>,
+    latches: Vec<L>,
+    /// How many updates are published after the opening rows, as far as commits told, for who asks a head as it stands. It is a
+    /// hint, on which no clause rests: a wrong one costs time alone.
+    came: AtomicU64,
     desk: Mutex<LockedDesk<J>>,
+    of: PhantomData<Mutex<M>>,
 }
 
-impl<J: Naming, M: CrackerMap> Model for Engine<J, M> {
+impl<J: Naming, M: CrackerMap, L: Latch<J, M>> Model for Engine<J, M, L> {
     ghost use Rattle.std.specs.Prelude.{◌≡◌, ◌<◌, ◌≤◌, ℕ, length, vec_len};
 
     ghost Value = { ℕ };
@@ -138,7 +101,7 @@ impl<J: Naming, M: CrackerMap> Model for Engine<J, M> {
     ghost invariant = { λ e. (vec_len e.latches ≡ length J.columns) × (0 < length J.columns) × (length J.columns ≤ 8) };
 }
 
-impl<J: Naming, M: CrackerMap> Engine<J, M> {
+impl<J: Naming, M: CrackerMap, L: Latch<J, M>> Engine<J, M, L> {
     /// An engine over opening rows, with no session. No head is made.
     ///
     /// Refused `TooMany` of the limit where there are more rows, `NoMemory` otherwise. The caller's conditions: the
@@ -151,7 +114,7 @@ impl<J: Naming, M: CrackerMap> Engine<J, M> {
         rows: PackedRows,
         cuts: Cuts,
         limit: u64,
-    ) -> Result<Engine<J, M>, Refusal>
+    ) -> Result<Engine<J, M, L>, Refusal>
         requires books { (books.sessions.name ≡ J.sessions) × (books.heads.name ≡ J.heads) × (books.most ≡ J.most) }
         requires list { books.list.seen.book ≡ J.book }
         requires table { (schema ≡ J.columns) × (rows.items ≡ J.opening) × (limit ≡ J.limit) }
@@ -177,7 +140,7 @@ impl<J: Naming, M: CrackerMap> Engine<J, M> {
         cuts: Cuts,
         limit: u64,
         sessions: usize,
-    ) -> Result<(Engine<J, M>, Vec<Ticket<J>>), Refusal>
+    ) -> Result<(Engine<J, M, L>, Vec<Ticket<J>>), Refusal>
         requires books { (books.sessions.name ≡ J.sessions) × (books.heads.name ≡ J.heads) × (books.most ≡ J.most) }
         requires list { books.list.seen.book ≡ J.book }
         requires table { (schema ≡ J.columns) × (rows.items ≡ J.opening) × (limit ≡ J.limit) }
@@ -207,13 +170,15 @@ impl<J: Naming, M: CrackerMap> Engine<J, M> {
             alloc,
             opening,
             latches,
+            came: AtomicU64::new(0),
             desk: Mutex::new(desk),
+            of: PhantomData,
         };
         Ok((engine, tickets))
     }
 
     /// A ticket's session, which shows what the ticket shows.
-    pub fn attach(&self, ticket: Ticket<J>) -> Session<'_, J, M>
+    pub fn attach(&self, ticket: Ticket<J>) -> Session<'_, J, M, L>
         ensures { result ≡ ticket }
     {
         Session {
@@ -224,7 +189,7 @@ impl<J: Naming, M: CrackerMap> Engine<J, M> {
 
     /// The next session, which has no entries, with the receipt of what is published. Its number is new: it is that of all
     /// sessions that were made by then. Refused `TooMany` where as many were as the books are for, `NoMemory` otherwise.
-    pub fn session<R: Wait>(&self, rt: &R) -> Result<Session<'_, J, M>, Refusal>
+    pub fn session<R: Wait>(&self, rt: &R) -> Result<Session<'_, J, M, L>, Refusal>
         ensures new { IfOk result IsNew }
         ensures refused { IfErr result (TooManySessions J.most) }
     {
@@ -260,7 +225,7 @@ impl<J: Naming, M: CrackerMap> Engine<J, M> {
         self,
         rt: &R,
         tickets: Vec<Ticket<J>>,
-    ) -> Result<Record, (Engine<J, M>, Vec<Ticket<J>>, Refusal)>
+    ) -> Result<Record, (Engine<J, M, L>, Vec<Ticket<J>>, Refusal)>
         ensures headline { IfOk result
             (IsHistoryOfOneThread J.columns J.opening J.limit (map answered_to tickets.items)) }
         ensures ended { IfOk result (λ r. All (IsEnded r.entries) tickets.items) }
@@ -272,7 +237,9 @@ impl<J: Naming, M: CrackerMap> Engine<J, M> {
             alloc,
             opening,
             latches,
+            came,
             desk,
+            of,
         } = self;
         let mut desk = desk.into_inner();
         let mut back = tickets;
@@ -281,7 +248,9 @@ impl<J: Naming, M: CrackerMap> Engine<J, M> {
                 alloc,
                 opening,
                 latches,
+                came,
                 desk: Mutex::new(desk),
+                of,
             };
             return Err((engine, back, refusal));
         }
@@ -297,7 +266,8 @@ impl<J: Naming, M: CrackerMap> Engine<J, M> {
         requires blank { M.held it ≡ blank }
         ensures { IfErr result (λ r. (r.0 ≡ it) × (r.1 ≡ NoMemory)) }
     {
-        self.latches[head].lock(rt).supply(it)
+        let mut alone = self.latches[head].take(rt);
+        alone.head().supply(it)
     }
 
     /// Drops up to so many boxes of a head, and answers how many.
@@ -305,7 +275,8 @@ impl<J: Naming, M: CrackerMap> Engine<J, M> {
         requires { head < length J.columns }
         ensures { result ≤ most }
     {
-        self.latches[head].lock(rt).shed(most)
+        let mut alone = self.latches[head].take(rt);
+        alone.head().shed(most)
     }
 
     /// How many heads there are, one for each attribute.
@@ -319,7 +290,8 @@ impl<J: Naming, M: CrackerMap> Engine<J, M> {
     pub fn stats<R: Wait>(&self, rt: &R, head: usize) -> HeadStats
         requires { head < length J.columns }
     {
-        self.latches[head].lock(rt).stats()
+        let mut alone = self.latches[head].take(rt);
+        alone.head().stats()
     }
 
     /// Where its memory is from.
@@ -410,9 +382,58 @@ impl<J: Naming, M: CrackerMap> Engine<J, M> {
         unreachable!()
     }
 
+    /// Answers a query from a head that is shared, where it is ready as it stands and lacks no update. None where it is not, or
+    /// others have the head alone for long, and then nothing is left of the call.
+    fn select_at_rest<R: Wait>(
+        &self,
+        rt: &R,
+        ticket: &mut Ticket<J>,
+        query: &Query,
+    ) -> Result<Option<Reply>, Refusal>
+        requires { CallsBelow (length J.columns) (Select query.now) }
+        ensures answers { IfOk result (AnswersIfSome query.now ticket.old ticket.new) }
+        ensures refused { IfErr result (IsRefused ticket.old ticket.new) }
+    {
+        let Some(head) = self.latches[head_of(query)].share(rt) else {
+            return Ok(None);
+        };
+        if !head.may_have(self.came.load(Ordering::SeqCst)) {
+            return Ok(None);
+        }
+        let Some((reply, told)) = head.answer_at_rest(self.alloc, query) else {
+            return Ok(None);
+        };
+        match self.visit(rt).answer(ticket, told) {
+            Ok(true) => {
+                head.count_at_rest();
+                Ok(Some(reply))
+            }
+            Ok(false) => Ok(None),
+            Err(refusal) => Err(refusal),
+        }
+    }
+
+    /// Answers a query from the head as it stands, if that may be, and else with the head for it alone.
+    fn select<R: Threads + Wait + Sync>(
+        &self,
+        rt: &R,
+        ticket: &mut Ticket<J>,
+        query: &Query,
+    ) -> Result<Reply, Refusal>
+        requires { CallsBelow (length J.columns) (Select query.now) }
+        ensures answers { IfOk result (λ r. Answers (Select query.now) r ticket.old ticket.new) }
+        ensures refused { IfErr result (λ e. GivesUp query.now ticket.old ticket.new × Refuses ticket.new.2.entries e) }
+    {
+        match self.select_at_rest(rt, ticket, query) {
+            Ok(Some(reply)) => Ok(reply),
+            Ok(None) => self.select_alone(rt, ticket, query),
+            Err(refusal) => Err(refusal),
+        }
+    }
+
     /// Takes the head's latch and, for a visit each, the lock: the select begins, the head answers, and the reply stands in the
     /// history; or the select is given up.
-    fn select<R: Threads + Wait + Sync>(
+    fn select_alone<R: Threads + Wait + Sync>(
         &self,
         rt: &R,
         ticket: &mut Ticket<J>,
@@ -425,14 +446,15 @@ impl<J: Naming, M: CrackerMap> Engine<J, M> {
         let Ok(asked) = query.copied(self.alloc) else {
             return Err(Refusal::NoMemory);
         };
-        let mut head = take_latch(rt, &self.latches[head_of(query)]);
-        if self.ready(rt, &mut *head).is_err() {
+        let mut alone = self.latches[head_of(query)].take(rt);
+        let head = alone.head();
+        if self.ready(rt, head).is_err() {
             return Err(Refusal::NoMemory);
         }
-        let Ok(mut desk) = self.reach(rt, &mut *head) else {
+        let Ok(mut desk) = self.reach(rt, head) else {
             return Err(Refusal::NoMemory);
         };
-        desk.begin(&mut ticket.state, &mut *head, asked)?;
+        desk.begin(&mut ticket.state, head, asked)?;
         drop(desk);
         let Ok((reply, kept)) = head.answer(rt, self.alloc, query) else {
             self.visit(rt).void(&mut ticket.state);
@@ -467,12 +489,12 @@ impl<J: Naming, M: CrackerMap> Engine<J, M> {
 /// A session. Contracts see its number, the calls that were answered to it, and the list of updates that it has the
 /// receipt of, beside the one that its share shows as published.
 #[derive(Drop)]
-pub struct Session<'e, J: Naming, M: CrackerMap> {
-    engine: &'e Engine<J, M>,
+pub struct Session<'e, J: Naming, M: CrackerMap, L: Latch<J, M> = AloneLatch<J, M>> {
+    engine: &'e Engine<J, M, L>,
     ticket: Ticket<J>,
 }
 
-impl<'e, J: Naming, M: CrackerMap> Model for Session<'e, J, M> {
+impl<'e, J: Naming, M: CrackerMap, L: Latch<J, M>> Model for Session<'e, J, M, L> {
     ghost use Rattle.sw_engine.specs.Published.{Shown};
 
     ghost Value = { Shown };
@@ -480,7 +502,7 @@ impl<'e, J: Naming, M: CrackerMap> Model for Session<'e, J, M> {
     ghost view = { λ s. s.ticket };
 }
 
-impl<'e, J: Naming, M: CrackerMap> Session<'e, J, M> {
+impl<'e, J: Naming, M: CrackerMap, L: Latch<J, M>> Session<'e, J, M, L> {
     /// What a query is answered.
     ///
     /// Refused `NoMemory`, or `HistoryFull`; then no row has changed, and the call stands in the history at most as void.
@@ -520,6 +542,7 @@ impl<'e, J: Naming, M: CrackerMap> Session<'e, J, M> {
     {
         let Session { engine, ticket } = self;
         let (reply, published) = engine.visit(rt).commit(rt, ticket, call)?;
+        engine.came.store(published.len(), Ordering::SeqCst);
         ticket.receive(published);
         Ok(reply)
     }

@@ -3,5 +3,6 @@
 pub(crate) mod counting;
 pub(crate) mod dealing;
 pub(crate) mod latch;
+pub(crate) mod latching;
 pub(crate) mod leading;
 pub(crate) mod opening;

@@ -5,12 +5,14 @@ mod conds;
 mod engine;
 mod heads;
 mod history;
+mod pausing;
 mod viewing;
 
 pub use engine::{Engine, Session};
 pub use heads::counting::HeadStats;
 pub use heads::dealing::deal;
 pub use heads::latch::head_of;
+pub use heads::latching::{AloneLatch, Latch, SharedLatch};
 pub use history::desk::Blank;
 pub use history::ticket::Ticket;
 pub use sw_versions::Naming;

@@ -2,6 +2,7 @@
 
 ghost use Rattle.std.specs.Prelude.{◌≡◌};
 
+use std::sync::atomic::{AtomicU64, Ordering};
 use sw_chunks::Figures;
 
 /// What a head was asked, and what its areas tell.
@@ -15,10 +16,10 @@ pub struct HeadStats {
     pub figures: Figures,
 }
 
-/// How many queries a head answered, and how many areas scanned for them.
-#[derive(Clone, Copy)]
+/// How many queries a head answered, and how many areas scanned for them. Those who share the head count too.
+#[derive(Drop)]
 pub(crate) struct Counters {
-    queries: u64,
+    queries: AtomicU64,
     scans: u64,
 }
 
@@ -26,15 +27,20 @@ impl Counters {
     /// Nothing was asked.
     pub(crate) fn new() -> Counters {
         Counters {
-            queries: 0,
+            queries: AtomicU64::new(0),
             scans: 0,
         }
     }
 
-    /// Counts one query more, for which so many areas scanned; each number stops at the greatest of its type.
+    /// Counts one query more, for which so many areas scanned.
     pub(crate) fn count(&mut self, scans: usize) {
-        self.queries = self.queries.saturating_add(1);
+        self.count_at_rest();
         self.scans = self.scans.saturating_add(scans as u64);
+    }
+
+    /// Counts one query more, for which none scanned.
+    pub(crate) fn count_at_rest(&self) {
+        let _before = self.queries.fetch_add(1, Ordering::SeqCst);
     }
 
     /// These numbers beside what the areas tell.
@@ -42,7 +48,7 @@ impl Counters {
         ensures { result.figures ≡ figures }
     {
         HeadStats {
-            queries: self.queries,
+            queries: self.queries.load(Ordering::SeqCst),
             scans: self.scans,
             figures,
         }

@@ -1,6 +1,6 @@
 //! What lies under a head's latch.
 
-ghost use Rattle.std.specs.Prelude.{ℕ, ◌≡◌, ◌+◌, ◌++◌, [], ◌<◌, ◌≤◌, true, false, IfErr, IfOk, IsOkUnless, OnErr, OnOk};
+ghost use Rattle.std.specs.Prelude.{ℕ, ◌≡◌, ◌+◌, ◌++◌, [], ◌<◌, ◌≤◌, true, false, IfErr, IfOk, IfSome, IsOkUnless, OnErr, OnOk};
 ghost use Rattle.sw_query.specs.Scan.{AsksBelow, answer};
 ghost use Rattle.sw_table.specs.Updates.{rows_of};
 ghost use Rattle.sw_query.specs.declared.refusal.Refusal.TheVariants.{NoMemory};
@@ -8,7 +8,10 @@ ghost use Rattle.sw_map.specs.Held.{blank};
 ghost use Rattle.sw_set.specs.Needs.{head_in};
 ghost use Rattle.sw_chunks.specs.Heads.{IsSameHead};
 ghost use Rattle.sw_chunks.specs.Routing.{MayFollow};
+ghost use Rattle.sw_spine.specs.Table.{opened};
+ghost use Rattle.sw_versions.specs.Rules.{updates_in};
 ghost use Rattle.sw_engine.specs.Desk.{IsSameButBoxes, KeepsBoxes};
+ghost use Rattle.sw_engine.specs.Published.{answer_after};
 
 use crate::heads::counting::{Counters, HeadStats, no_figures};
 use crate::heads::leading::scan_led;
@@ -21,7 +24,7 @@ use sw_map::CrackerMap;
 use sw_rows::{PackedRows, Query, Refusal, Reply, Update};
 use sw_spine::Spine;
 use sw_tie::Share;
-use sw_versions::Naming;
+use sw_versions::{Front, Naming};
 
 /// The attribute whose head is asked: that of the first condition, or the first attribute.
 pub fn head_of(query: &Query) -> usize
@@ -54,6 +57,20 @@ fn ask<M: CrackerMap, R: Threads + Sync>(
     head.answer(rt, query)
 }
 
+/// The answer of a head as it stands, if it is ready for the query, and its attribute is that of the query.
+fn ask_at_rest<M: CrackerMap>(head: &Head<M>, query: &Query) -> Option<Reply>
+    requires asks { AsksBelow 8 query.now }
+    ensures { IfSome result (λ r. r ≡ answer (rows_of head.now.updates) query.now) }
+{
+    if usize::from(head.attribute()) != head_of(query) {
+        return None;
+    }
+    match head.answer_at_rest(query) {
+        Ok(reply) => reply,
+        Err(_) => None,
+    }
+}
+
 /// The head receives what waits for it. The one refusal is `NoMemory`, and then both are as they were.
 fn receive_all<M: CrackerMap>(head: &mut Head<M>, inbox: &mut Vec<Update>) -> Result<(), Refusal>
     requires may { MayFollow head.old.attribute head.old.updates inbox.old.items }
@@ -68,6 +85,14 @@ fn receive_all<M: CrackerMap>(head: &mut Head<M>, inbox: &mut Vec<Update>) -> Re
     Ok(())
 }
 
+/// What a head answered as it stands: the query, its answer, and a receipt of the updates over which it was answered.
+#[derive(Drop)]
+pub struct AtRest<J: Naming> {
+    pub(crate) asked: Query,
+    pub(crate) kept: Reply,
+    pub(crate) receipt: Front<J>,
+}
+
 /// A head, once it is made, the boxes that wait for it, and the updates that were taken for it and that it has not
 /// received.
 ///
@@ -80,6 +105,8 @@ pub struct LatchedHead<J: Naming, M: CrackerMap> {
     pub(crate) inbox: Vec<Update>,
     pub(crate) boxes: Waiting<M>,
     pub(crate) share: Share<Spine>,
+    /// A receipt of all that was taken for it, where there is one.
+    pub(crate) receipt: Option<Front<J>>,
     pub(crate) counters: Counters,
     pub(crate) of: PhantomData<J>,
 }
@@ -91,7 +118,7 @@ impl<J: Naming, M: CrackerMap> Model for LatchedHead<J, M> {
 
     ghost view = { λ h. latched J.opening h.head h.inbox.items h.boxes };
 
-    ghost invariant = { λ h. IsLatched J.heads J.limit J.columns J.opening h.number h.head h.inbox.items h.share };
+    ghost invariant = { λ h. IsLatched J.heads J.limit J.columns J.opening h.number h.head h.inbox.items h.share h.receipt };
 }
 
 impl<J: Naming, M: CrackerMap> LatchedHead<J, M> {
@@ -201,6 +228,64 @@ impl<J: Naming, M: CrackerMap> LatchedHead<J, M> {
             Ok(kept) => Ok((reply, kept)),
             Err(_) => Err(Refusal::NoMemory),
         }
+    }
+
+    /// Keeps a receipt of all that was taken for the head, after the opening rows.
+    pub fn keep(&mut self, receipt: Front<J>)
+        requires { self.old.taken ≡ opened J.opening ++ updates_in receipt }
+        ensures { self.new ≡ self.old }
+    {
+        self.receipt = Some(receipt);
+    }
+
+    /// Whether the head has a receipt of so many updates or more, so that it is worth to ask it as it stands. No clause rests
+    /// on it.
+    pub(crate) fn may_have(&self, updates: u64) -> bool {
+        match &self.receipt {
+            Some(receipt) => receipt.len() >= updates,
+            None => false,
+        }
+    }
+
+    /// Counts a query that the head answered as it stands, once it stands in the history.
+    pub(crate) fn count_at_rest(&self) {
+        self.counters.count_at_rest();
+    }
+
+    /// What the head answers as it stands, twice: one reply is for the caller. Nothing but stamps changes, so many may be
+    /// answered at a time.
+    ///
+    /// None where the head is not made, or waits for a box or an update, or has no receipt of what was taken for it; where
+    /// an area is not ready for the query as it stands, or its attribute is another one; and where there is no memory.
+    pub fn answer_at_rest(&self, alloc: Global, query: &Query) -> Option<(Reply, AtRest<J>)>
+        requires asks { AsksBelow 8 query.now }
+        ensures asked { IfSome result (λ r. r.1.asked ≡ query.now) }
+        ensures answered { IfSome result (λ r. r.1.kept
+            ≡ answer_after J.limit J.opening (updates_in r.1.receipt) r.1.asked) }
+        ensures kept { IfSome result (λ r. r.0 ≡ r.1.kept) }
+    {
+        let Some(head) = &self.head else {
+            return None;
+        };
+        let Some(receipt) = &self.receipt else {
+            return None;
+        };
+        if self.inbox.len() > 0 || self.boxes.len() > 0 {
+            return None;
+        }
+        let reply = ask_at_rest(head, query)?;
+        let Ok(asked) = query.copied(alloc) else {
+            return None;
+        };
+        let Ok(kept) = reply.copied(alloc) else {
+            return None;
+        };
+        let told = AtRest {
+            asked,
+            kept,
+            receipt: receipt.again(),
+        };
+        Some((reply, told))
     }
 
     /// What the head tells of itself in numbers: no area before it is made.

@@ -8,7 +8,7 @@ ghost use Rattle.sw_spine.specs.History.{CallsBelow, is_select, mine, updates_af
 ghost use Rattle.sw_spine.specs.Books.{new_books, updates, waits_for, with_answered, with_published, with_session, with_settled};
 ghost use Rattle.sw_spine.specs.declared.history.State.TheVariants.{Answered, Void};
 ghost use Rattle.sw_spine.specs.declared.spine.TheConstants.{MOST_SESSIONS};
-ghost use Rattle.sw_engine.specs.Published.{EndsEntry, IsNewShare, IsOfFirst, IsWhole, later};
+ghost use Rattle.sw_engine.specs.Published.{EndsEntry, IsNewShare, IsOfFirst, IsWhole, later, reply_after};
 ghost use Rattle.sw_engine.specs.Own.{IsEnded, IsLastOwn};
 ghost use Rattle.sw_engine.specs.Sessions.{Answers, Begins, Refuses, Sees, Settles, Stays};
 ghost use Rattle.sw_engine.specs.Desk.{AreGiven, IsBegun, IsMade, IsOf, IsSameButTaken, RefusesNext, TakesPart, latched, new_desk};
@@ -157,6 +157,7 @@ impl<J: Naming> Desk<J> {
             inbox: Vec::new(alloc),
             boxes: Waiting::new(alloc),
             share,
+            receipt: None,
             counters: Counters::new(),
             of: PhantomData,
         }
@@ -207,7 +208,7 @@ impl<J: Naming> Desk<J> {
     }
 
     /// A select begins: its entry stands open at the end of the history, and the head takes the updates that it lacks. So it
-    /// has all updates before that place. Refused, nothing has changed.
+    /// has all updates before that place, and drops the receipt of those that it had. Refused, nothing else has changed.
     #[tactic(auto, using(crate::proofs::Owned::refuses))]
     pub fn begin<M: CrackerMap>(
         &mut self,
@@ -219,6 +220,8 @@ impl<J: Naming> Desk<J> {
         requires asks { CallsBelow (length J.columns) (Select query) }
         ensures begins { OnOk result (Begins query head.new.taken session.old session.new) }
         ensures entries { OnOk result (IsBegun session.old.shown.0 query self.old.books self.new.books) }
+        ensures taken { OnOk result (head.new.taken
+            ≡ updates_after J.limit (opened J.opening) self.new.books.entries) }
         ensures kept { OnErr result (self.new.books ≡ self.old.books) }
         ensures stays { OnErr result (session.new ≡ session.old) }
         ensures updates { updates self.new.books ≡ updates self.old.books }
@@ -237,8 +240,10 @@ impl<J: Naming> Desk<J> {
             number: place,
             inbox,
             share: mark,
+            receipt,
             ..
         } = head;
+        *receipt = None;
         sessions.agree(share);
         heads.agree(mark);
         spine.begin(*number, query, *place, inbox)?;
@@ -265,15 +270,52 @@ impl<J: Naming> Desk<J> {
             number,
             inbox,
             share: mark,
+            receipt,
             ..
         } = head;
         heads.agree(mark);
         if spine.untaken_count(*number) <= most {
             return Ok(false);
         }
+        *receipt = None;
         spine.take_some(*number, most, inbox)?;
         heads.set(mark, Snapshot::of(spine));
         Ok(true)
+    }
+
+    /// A select whose reply is known stands answered at the end of the history. No head takes updates for it. Refused, nothing has
+    /// changed.
+    #[tactic(auto, using(crate::proofs::Owned::refuses))]
+    pub fn answer(
+        &mut self,
+        session: &mut SessionState<J>,
+        query: Query,
+        reply: Reply,
+    ) -> Result<(), Refusal>
+        requires rest { session.old.waits ≡ None }
+        requires asks { CallsBelow (length J.columns) (Select query) }
+        requires reply { reply ≡ reply_after J.limit J.opening self.old.books.entries (Select query) }
+        ensures rest { session.new.waits ≡ None }
+        ensures answers { OnOk result (Answers (Select query) reply session.old.shown session.new.shown) }
+        ensures answered { OnOk result (self.new.books
+            ≡ with_answered session.old.shown.0 (Select query) self.old.books) }
+        ensures updates { updates self.new.books ≡ updates self.old.books }
+        ensures kept { OnErr result (self.new.books ≡ self.old.books) }
+        ensures stays { OnErr result (session.new ≡ session.old) }
+        ensures refused { IfErr result (Refuses self.new.books.entries) }
+    {
+        let Desk {
+            spine,
+            sessions,
+            ..
+        } = self;
+        let SessionState { number, share, .. } = session;
+        sessions.agree(share);
+        // for the prover: what is published is among the updates
+        let _count = spine.published();
+        spine.answer(*number, query, reply)?;
+        sessions.set(share, Snapshot::of(spine));
+        Ok(())
     }
 
     /// The session's open select is answered. Nothing else of the history changes.

@@ -1,12 +1,12 @@
 //! What lies under the lock: the desk, and the shelf of what viewers read.
 
-ghost use Rattle.std.specs.Prelude.{◌≡◌, ◌<◌, ◌≤◌, false, None, is_some, length, All, IfErr, IfOk, IsOkUnless, IsSome, IsSomeAnd, MatchBool, OnErr, OnOk};
+ghost use Rattle.std.specs.Prelude.{◌≡◌, ◌<◌, ◌≤◌, false, true, None, is_some, length, All, IfErr, IfOk, IsOkUnless, IsSome, IsSomeAnd, MatchBool, OnErr, OnOk};
 ghost use mathlib.Core.List.{IsPrefix};
 ghost use Rattle.sw_query.specs.declared.query.Call.TheVariants.{Select};
 ghost use Rattle.sw_query.specs.declared.refusal.Refusal.TheVariants.{NoMemory};
-ghost use Rattle.sw_spine.specs.Table.{reply_to};
-ghost use Rattle.sw_spine.specs.History.{CallsBelow, is_select};
-ghost use Rattle.sw_spine.specs.Books.{new_books, updates, with_session, with_settled};
+ghost use Rattle.sw_spine.specs.Table.{opened, reply_to};
+ghost use Rattle.sw_spine.specs.History.{CallsBelow, is_select, updates_after};
+ghost use Rattle.sw_spine.specs.Books.{new_books, updates, with_answered, with_session, with_settled};
 ghost use Rattle.sw_spine.specs.declared.history.State.TheVariants.{Answered, Void};
 ghost use Rattle.sw_versions.specs.Pending.{HasShownOr, TellsCame};
 ghost use Rattle.sw_versions.specs.Lists.{IsLonger};
@@ -15,12 +15,12 @@ ghost use Rattle.sw_versions.specs.Rules.{updates_in};
 ghost use Rattle.sw_versions.specs.declared.came.Came.TheVariants.{Missed};
 ghost use Rattle.sw_versions.specs.declared.viewer.TheConstants.{MOST_VIEWERS};
 ghost use Rattle.sw_engine.specs.Own.{IsLastOwn, IsNew};
-ghost use Rattle.sw_engine.specs.Sessions.{Answers, Begins, IsRefused, Sees, Settles, Stays};
+ghost use Rattle.sw_engine.specs.Sessions.{Answers, AnswersOr, Begins, IsRefused, Sees, Settles, Stays};
 ghost use Rattle.sw_engine.specs.Desk.{AreOut, InOrder, IsBegun, IsMade, IsSameButTaken, RefusesMany, RefusesNext, TakesPart};
 ghost use Rattle.sw_engine.specs.Locked.{IsCommitted, IsPublished};
-ghost use Rattle.sw_engine.specs.Published.{EndWithEntries, later, new_viewer, no_versions, TellsAll, with_viewer};
+ghost use Rattle.sw_engine.specs.Published.{EndWithEntries, answer_after, later, new_viewer, no_versions, reply_after, TellsAll, with_viewer};
 
-use crate::heads::latch::LatchedHead;
+use crate::heads::latch::{AtRest, LatchedHead};
 use crate::heads::opening::Opening;
 use crate::history::desk::Desk;
 use crate::history::ticket::{SessionState, Ticket};
@@ -70,6 +70,15 @@ fn has_all<J: Naming>(receipt: &Front<J>, updates: &[Update]) -> bool
     ensures { MatchBool result (updates_in receipt.now ≡ updates.now) (updates_in receipt.now ≡ updates.now → ⊥) }
 {
     receipt.len() == updates.len() as u64
+}
+
+/// Whether a receipt has all of these updates, as what is published then has.
+#[tactic(auto, using(crate::proofs::AtRest::receipt_begins))]
+fn is_current<J: Naming>(receipt: &Front<J>, published: &Front<J>, updates: &[Update]) -> bool
+    requires { IsPrefix (updates_in published.now) updates.now }
+    ensures { result ≡ true → updates_in receipt.now ≡ updates.now }
+{
+    receipt.begins(published) && has_all(receipt, updates)
 }
 
 /// The desk, and the shelf of what viewers read, with the book of its updates. Until there is a viewer the shelf has no
@@ -184,11 +193,70 @@ impl<J: Naming> LockedDesk<J> {
         ensures refused { IfErr result (IsRefused session.old.shown session.new.shown) }
     {
         match self.desk.begin(session, head, query) {
-            Ok(()) => Ok(()),
+            Ok(()) => {
+                self.certify(head);
+                Ok(())
+            }
             Err(refusal) => {
                 self.desk.look(session);
                 Err(refusal)
             }
+        }
+    }
+
+    /// A head for which all updates were taken keeps the receipt of what is published, where that has all of them.
+    fn certify<M: CrackerMap>(&self, head: &mut LatchedHead<J, M>)
+        requires { head.old.taken ≡ updates_after J.limit (opened J.opening) self.now.desk.books.entries }
+        ensures { head.new ≡ head.old }
+    {
+        let receipt = self.shelf.published();
+        let whole = has_all(&receipt, self.desk.later());
+        if whole {
+            head.keep(receipt);
+        }
+    }
+
+    /// A select whose reply is known stands answered at the desk.
+    fn stand(&mut self, ticket: &mut Ticket<J>, query: Query, reply: Reply) -> Result<(), Refusal>
+        requires asks { CallsBelow (length J.columns) (Select query) }
+        requires reply { reply ≡ reply_after J.limit J.opening self.old.desk.books.entries (Select query) }
+        ensures answers { OnOk result (Answers (Select query) reply ticket.old ticket.new) }
+        ensures answered { OnOk result (self.new.desk.books
+            ≡ with_answered ticket.old.0 (Select query) self.old.desk.books) }
+        ensures kept { OnErr result (self.new.desk.books ≡ self.old.desk.books) }
+        ensures shelf { self.new.shelf ≡ self.old.shelf }
+        ensures refused { IfErr result (IsRefused ticket.old ticket.new) }
+    {
+        match self.desk.answer(&mut ticket.state, query, reply) {
+            Ok(()) => Ok(()),
+            Err(refusal) => {
+                self.desk.look(&mut ticket.state);
+                Err(refusal)
+            }
+        }
+    }
+
+    /// A select that was answered over the updates that a receipt has stands answered at the end of the history, if these are
+    /// all updates: whether it does. Otherwise nothing changes. Refused, nothing of the session's has changed.
+    pub fn answer(&mut self, ticket: &mut Ticket<J>, told: AtRest<J>) -> Result<bool, Refusal>
+        requires asks { CallsBelow (length J.columns) (Select told.asked) }
+        requires reply { told.kept ≡ answer_after J.limit J.opening (updates_in told.receipt) told.asked }
+        ensures answers { IfOk result (AnswersOr told.asked told.kept ticket.old ticket.new) }
+        ensures answered { IfOk result (λ b. MatchBool b
+            (self.new.desk.books ≡ with_answered ticket.old.0 (Select told.asked) self.old.desk.books)
+            (self.new.desk.books ≡ self.old.desk.books)) }
+        ensures kept { OnErr result (self.new.desk.books ≡ self.old.desk.books) }
+        ensures shelf { self.new.shelf ≡ self.old.shelf }
+        ensures refused { IfErr result (IsRefused ticket.old ticket.new) }
+    {
+        let published = self.shelf.published();
+        let current = is_current(&told.receipt, &published, self.desk.later());
+        if !current {
+            return Ok(false);
+        }
+        match self.stand(ticket, told.asked, told.kept) {
+            Ok(()) => Ok(true),
+            Err(refusal) => Err(refusal),
         }
     }
 

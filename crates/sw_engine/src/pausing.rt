@@ -1,0 +1,37 @@
+//! How a thread waits between looks at a lock or a latch.
+
+use std::hint::spin_loop;
+use std::sync::Wait;
+use std::sync::atomic::AtomicU64;
+use std::time::Duration;
+
+/// How often a thread pauses between looks at a lock or a latch, before it sleeps.
+pub(crate) const PAUSES: u32 = 7;
+
+/// How long the first pause is; each one is twice as long as the one before. All of them take as long as a visit or a select
+/// may, and no longer than waking up from a sleep.
+pub(crate) const PAUSE: usize = 8;
+
+/// How often a thread sleeps between looks at a latch, before it waits for its turn.
+pub(crate) const NAPS: u32 = 5;
+
+/// How long the first of these sleeps is, in microseconds; each one is twice as long as the one before. Who has the latch makes
+/// many selects in a row meanwhile, and the head's data stay in one processor's cache.
+const NAP: u64 = 100;
+
+/// Pauses for so long.
+pub(crate) fn pause(long: usize) {
+    for _ in 0..long {
+        spin_loop();
+    }
+}
+
+/// Waits between two looks at a latch, longer at each: first with the processor, then asleep.
+pub(crate) fn rest<R: Wait>(rt: &R, look: u32) {
+    if look < PAUSES {
+        pause(PAUSE << look);
+    } else {
+        let long = NAP << (look - PAUSES).min(NAPS);
+        AtomicU64::new(0).park_timeout(rt, 0, Duration::from_micros(long));
+    }
+}
