@@ -15,24 +15,24 @@ use std::alloc::{AllocError, Global};
 use std::sync::Wait;
 use std::thread;
 use std::thread::Threads;
-use sw_engine::{Engine, HeadStats, Naming, Session, Ticket};
+use sw_engine::{Engine, HeadStats, Latch, Naming, Session, Ticket};
 use sw_map::CrackerMap;
 use sw_rows::{Call, Refusal, Reply};
 use sw_spine::Record;
 
 /// An engine that was opened, a ticket for each block, and where memory comes from.
 #[derive(Drop)]
-pub(crate) struct Opened<J: Naming, M: CrackerMap> {
+pub(crate) struct Opened<J: Naming, M: CrackerMap, L: Latch<J, M>> {
     pub(crate) alloc: Global,
-    pub(crate) engine: Engine<J, M>,
+    pub(crate) engine: Engine<J, M, L>,
     pub(crate) tickets: Vec<Ticket<J>>,
 }
 
 /// A session that has made no call, its block's number from 1 for who looks on, the calls that it is to make, and room for
 /// what comes of them.
 #[derive(Drop)]
-pub(crate) struct Job<'e, J: Naming, M: CrackerMap> {
-    session: Session<'e, J, M>,
+pub(crate) struct Job<'e, J: Naming, M: CrackerMap, L: Latch<J, M>> {
+    session: Session<'e, J, M, L>,
     block: u64,
     calls: &'e [Call],
     told: Vec<Result<Reply, Refusal>>,
@@ -46,9 +46,9 @@ pub(crate) struct Done<J: Naming> {
 }
 
 /// Makes the calls of a job, one after another.
-fn make_block<J: Naming, M: CrackerMap, O: Onlooker, R: Threads + Wait + Sync>(
+fn make_block<J: Naming, M: CrackerMap, L: Latch<J, M>, O: Onlooker, R: Threads + Wait + Sync>(
     rt: &R,
-    job: Job<'_, J, M>,
+    job: Job<'_, J, M, L>,
     onlooker: &O,
 ) -> Done<J>
     requires fresh { IsFresh job.session job.told.items (vec_capacity job.told) job.calls.now }
@@ -74,12 +74,12 @@ fn make_block<J: Naming, M: CrackerMap, O: Onlooker, R: Threads + Wait + Sync>(
 }
 
 /// The session of each ticket gets the calls of the block at its place.
-fn jobs<'e, J: Naming, M: CrackerMap>(
+fn jobs<'e, J: Naming, M: CrackerMap, L: Latch<J, M>>(
     alloc: Global,
-    engine: &'e Engine<J, M>,
+    engine: &'e Engine<J, M, L>,
     tickets: Vec<Ticket<J>>,
     blocks: &'e [Block],
-) -> Result<Vec<Job<'e, J, M>>, AllocError>
+) -> Result<Vec<Job<'e, J, M, L>>, AllocError>
     requires order { InOrder 1 tickets.items }
     requires many { length tickets.items ≡ length blocks.now }
     ensures fresh { IfOk result
@@ -103,11 +103,14 @@ fn jobs<'e, J: Naming, M: CrackerMap>(
 }
 
 /// Makes the calls of each job in a thread of its own; where no thread starts, on the calling one.
-fn make_at_once<'e, J: Naming + Send + Sync, M: CrackerMap, O: Onlooker, R: Threads + Wait + Sync>(
-    rt: &R,
-    jobs: Vec<Job<'e, J, M>>,
-    onlooker: &O,
-) -> Result<Vec<Done<J>>, AllocError>
+fn make_at_once<
+    'e,
+    J: Naming + Send + Sync,
+    M: CrackerMap,
+    L: Latch<J, M> + Sync,
+    O: Onlooker,
+    R: Threads + Wait + Sync,
+>(rt: &R, jobs: Vec<Job<'e, J, M, L>>, onlooker: &O) -> Result<Vec<Done<J>>, AllocError>
     requires fresh { All (λ j. IsFresh j.session j.told.items (vec_capacity j.told) j.calls.now) jobs.items }
     requires below { All (λ j. AllCallsBelow (length J.columns) j.calls.now) jobs.items }
     ensures { IfOk result (λ v. Each (λ j d. IsDone j.session.0 j.calls.now d.ticket d.told) jobs.entry.items v.items) }
@@ -115,7 +118,7 @@ fn make_at_once<'e, J: Naming + Send + Sync, M: CrackerMap, O: Onlooker, R: Thre
     thread::map_vec(
         rt,
         jobs,
-        &|job: Job<'_, J, M>| -> Done<J>
+        &|job: Job<'_, J, M, L>| -> Done<J>
             requires fresh { IsFresh job.session job.told.items (vec_capacity job.told) job.calls.now }
             requires below { AllCallsBelow (length J.columns) job.calls.now }
             ensures { IsDone job.entry.session.0 job.entry.calls.now result.ticket result.told }
@@ -142,9 +145,9 @@ fn parted<J: Naming>(
 }
 
 /// Adds what each head of an engine tells of itself, for which there is room.
-pub(crate) fn tell_heads<J: Naming, M: CrackerMap, R: Wait>(
+pub(crate) fn tell_heads<J: Naming, M: CrackerMap, L: Latch<J, M>, R: Wait>(
     rt: &R,
-    engine: &Engine<J, M>,
+    engine: &Engine<J, M, L>,
     stats: &mut Vec<HeadStats>,
 )
     requires { vec_len stats.old + length J.columns ≤ vec_capacity stats.old }
@@ -156,9 +159,15 @@ pub(crate) fn tell_heads<J: Naming, M: CrackerMap, R: Wait>(
 
 /// Makes the calls of each block by the session of the ticket at its place, in a thread of its own, and tells the record and what came of the
 /// calls, and adds what each head tells of itself. The one refusal is `NoMemory`.
-pub(crate) fn serve<J: Naming + Send + Sync, M: CrackerMap, O: Onlooker, R: Threads + Wait + Sync>(
+pub(crate) fn serve<
+    J: Naming + Send + Sync,
+    M: CrackerMap,
+    L: Latch<J, M> + Sync,
+    O: Onlooker,
+    R: Threads + Wait + Sync,
+>(
     rt: &R,
-    opened: Opened<J, M>,
+    opened: Opened<J, M, L>,
     blocks: &[Block],
     onlooker: &O,
     stats: &mut Vec<HeadStats>,

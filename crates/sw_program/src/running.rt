@@ -10,7 +10,7 @@ use std::rt::{Clock, Files};
 use std::sync::Wait;
 use std::thread::Threads;
 use sw_cli::{
-    AfterRun, Means, Noting, Onlooker, Options, blank_boxes, run_told, write_record,
+    AfterRun, Means, Noting, Onlooker, Options, SharedMap, run_shared, shared_boxes, write_record,
     write_stats_line, write_stats_title,
 };
 use sw_commands::{
@@ -20,7 +20,6 @@ use sw_commands::{
 };
 use sw_files::begin_file;
 use sw_lang::write_all;
-use sw_map::PairMap;
 use sw_rows::{Counted, Refusal, Sink, Source, TextKey};
 use sw_spine::Record;
 
@@ -55,13 +54,13 @@ struct Ended {
 /// Runs a script over a table, of which both are open.
 fn run_open<R: Threads + Wait + Sync, O: Onlooker, T: Source, S: Source, W: Sink + Drop>(
     rt: &R,
-    means: Means<'_, PairMap, O>,
+    means: Means<'_, SharedMap, O>,
     table: &mut T,
     script: &mut S,
     out: W,
 ) -> Result<Ended, Refusal> {
     let mut noting = Noting::new(out);
-    let run = run_told(rt, means, table, script, &mut noting)?;
+    let run = run_shared(rt, means, table, script, &mut noting)?;
     Ok(Ended {
         run,
         has_refused: noting.has_refused(),
@@ -88,7 +87,7 @@ fn run_between<
     watch: &Watch<'_, '_, R>,
 ) -> Result<Ended, Refusal> {
     let settings = &run.settings;
-    let maps = blank_boxes(alloc, settings.budget, settings.maps)?;
+    let maps = shared_boxes(alloc, settings.budget, settings.maps)?;
     let options = Options {
         limit: settings.limit.rows,
         cuts: settings.cuts,
