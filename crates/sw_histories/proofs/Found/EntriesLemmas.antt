@@ -60,7 +60,7 @@ module _ (p : Parse json.Json) where
   pub value_there : (n : ℕ) (ts : List Token) (left : List Data) → after_end_array ts ≡ None → converted of_json (p ts) ≡ None → listed (converted of_items (items p n ts)) ≡ Some left → ⊥
   value_there n ts left going none e = none-some left (sym (ap listed (item_refused p n ts going none)) ∙ e)
 
-  -- of a list that is over, no values are left, n being as great as the number of tokens
+  -- of a list that is over, no values are left, n being at least the number of tokens
   pub values_over : (n : ℕ) (ts r : List Token) (left : List Data) → length ts ≤ n → after_end_array ts ≡ Some r → listed (converted of_items (items p n ts)) ≡ Some left → left ≡ []
   values_over n ts r left enough over e = sym (same_Some [] left (sym (ap listed (items_over p n ts r enough over)) ∙ e))
 

@@ -58,7 +58,7 @@ without_member k j old e None = refl
 without_member k j old e (Some p) = rw e
 
 module _ (p : Parse json.Json) where
-  -- where the list goes on with a value that is read, it is the item before those read from there
+  -- where the list goes on with a value that is read and n isn't 0, it is the item before those read from there
   pub item_read : (n : ℕ) (ts r : List Token) (d : Data) → 0 < n → after_end_array ts ≡ None → converted of_json (p ts) ≡ Some (d, r)
       → converted of_items (items p n ts) ≡ parse_map (item d) (converted of_items (items p (n - 1) r))
   item_read n ts r d some going e = let j = converted_some of_json (p ts) d r e in ap (converted of_items) (items_more p n ts r j.0 some going j.1) ∙ with_item j.0 d j.2 _
@@ -73,12 +73,12 @@ module _ (p : Parse json.Json) where
   item_refused zero ts going e = refl
   item_refused (suc n) ts going e = ap (λ o. converted of_items (items_step p (items p n) ts o)) going ∙ no_item (items p n) (p ts) e
 
-  -- where the list is over, there are no items, n being as great as the number of tokens
+  -- where the list is over, there are no items, n being at least the number of tokens
   pub items_over : (n : ℕ) (ts r : List Token) → length ts ≤ n → after_end_array ts ≡ Some r → converted of_items (items p n ts) ≡ Some (no_items, r)
   items_over n ts r enough e = ap (converted of_items) (items_end p n ts r enough e)
 
   module _ (old : Members) where
-    -- a member whose key and value are read is put into those before, and the others are read from there
+    -- where n isn't 0, a member whose key and value are read is put into those before, and the others are read on
     pub member_read : (n : ℕ) (k : List ℕ) (ts s r : List Token) (d : Data) → 0 < n → read_key ts ≡ Some (Some k, s) → converted of_json (p s) ≡ Some (d, r)
         → converted (λ ms. of_members ms old) (members p n ts) ≡ converted (λ ms. of_members ms (put k d old)) (members p (n - 1) r)
     member_read n k ts s r d some key e =
@@ -100,7 +100,7 @@ module _ (p : Parse json.Json) where
     pub key_refused : (n : ℕ) (ts : List Token) → read_key ts ≡ None → converted (λ ms. of_members ms old) (members p n ts) ≡ None
     key_refused n ts e = ap (converted (λ ms. of_members ms old)) (members_no_key p n ts e)
 
-    -- where the object is over, its members are those before, n being as great as the number of tokens
+    -- where the object is over, its members are those before, n being at least the number of tokens
     pub members_over : (n : ℕ) (ts r : List Token) → length ts ≤ n → read_key ts ≡ Some (None, r) → converted (λ ms. of_members ms old) (members p n ts) ≡ Some (old, r)
     members_over n ts r enough e = ap (converted (λ ms. of_members ms old)) (members_end p n ts r enough e)
 

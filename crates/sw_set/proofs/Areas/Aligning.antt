@@ -57,11 +57,11 @@ module _ (a : ℕ) (tape : List (Step Row)) (ms : List Held) (at : ℕ) (m : Hel
   own-begun : m.is_blank ≡ false
   own-begun = ap (λ (v : Held). v.is_blank) (here m) ∙ begun m
 
-  -- the map's head is the area's
+  -- where no box is blank, the map's head is the area's
   pub box-head : m.head ≡ a
   box-head = (aligned-lawful a tape m own-lawful own-begun).same_head
 
-  -- the map is aligned with the tape, by its own head
+  -- where no box is blank, the map is aligned with the tape, by its own head
   pub box-aligned : IsAligned m.head tape m
   box-aligned = own-aligned a tape m own-lawful own-begun
 
