@@ -3,23 +3,33 @@
 
     tests/lemmas.py [CRATE..]
 
-A page that names goals has answers to them, which are no lemmas; what stands in a module or a record is not looked at. A line for each,
-with its file and line; status 1 where there is one."""
+What stands in a module counts too. A page that names goals has answers to them, which are no lemmas, and a record's fields are none. A line
+for each, with its file and line; status 1 where there is one."""
 import re
 import sys
 from pathlib import Path
 
 TOP = Path(__file__).resolve().parents[1]
 LEMMA = re.compile(r"(?:abbrev |unfoldable )?pub (\S+) :")
+RECORD = re.compile(r"(?:abbrev |pub )*record [^{]")
 ANSWER = re.compile(r"^use .*\.(?:Goals|Given) as goal\b", re.M)
 
 
 def lemmas(text):
     """Each lemma of a page: its line, its name, and whether a line stands above it."""
     lines = ["", *text.splitlines()]
+    around = []
     for number, line in enumerate(lines):
-        if found := LEMMA.match(line):
-            yield number, found[1], lines[number - 1].startswith("-- ")
+        code = line.lstrip()
+        if not code or code.startswith("--"):
+            continue
+        indent = len(line) - len(code)
+        while around and around[-1][0] >= indent:
+            around.pop()
+        in_record = bool(around) and around[-1][1]
+        if (found := LEMMA.match(code)) and not in_record:
+            yield number, found[1], lines[number - 1].lstrip().startswith("-- ")
+        around.append((indent, bool(RECORD.match(code))))
 
 
 def main():

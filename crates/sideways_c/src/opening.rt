@@ -22,7 +22,7 @@ use sw_arrays::{Given, table_in};
 use sw_histories::write_record_ref;
 use sw_lang::{Cuts, parse_cuts};
 use sw_map::PairMap;
-use sw_rows::{Counted, MOST_ROWS, PackedRows, Refusal, Schema, TextKey, Why, load};
+use sw_rows::{MOST_ROWS, PackedRows, Refusal, Schema, TextKey, Why, load_bytes};
 use sw_solo::Solo;
 use sw_spine::RecordRef;
 
@@ -120,12 +120,12 @@ fn opened_handle(
 }
 
 /// A handle of the engine over the table of these bytes.
+#[tactic(auto, using(crate::proofs::Opens::fails_any))]
 fn from_bytes(alloc: Global, table: &[u8], over: Over<'_>) -> Result<Sideways, Refusal>
     requires { AreSound over.options }
     ensures { IsHandleOr (table_of table.now) over.entry.cuts.now over.entry.options.limit result }
 {
-    let mut source = Counted::new(table);
-    match load(alloc, TextKey::fixed(), &mut source) {
+    match load_bytes(alloc, TextKey::fixed(), table) {
         Ok((schema, rows)) => opened_handle(alloc, schema, rows, over),
         Err(e) => Err(e),
     }

@@ -8,7 +8,7 @@ ghost use Rattle.sideways_c.specs.Places.{IsPlaceTold, ReadsTable, TellsPlace, p
 use crate::codes::{OK, code_of};
 use std::alloc::Global;
 use sw_arrays::{Given, Place, table_in};
-use sw_rows::{Counted, Refusal, TextKey, load};
+use sw_rows::{Refusal, TextKey, load_bytes};
 
 /// The place of a refusal, or that it has none.
 fn place_of(refusal: &Refusal) -> Place
@@ -34,11 +34,11 @@ fn told(read: Result<(), Refusal>) -> (u32, Place)
 }
 
 /// That bytes are a table.
+#[tactic(auto, using(crate::proofs::Opens::fails_any))]
 fn read_bytes(alloc: Global, table: &[u8]) -> Result<(), Refusal>
     ensures { ReadsTable (table_of table.now) result }
 {
-    let mut source = Counted::new(table);
-    match load(alloc, TextKey::fixed(), &mut source) {
+    match load_bytes(alloc, TextKey::fixed(), table) {
         Ok(_) => Ok(()),
         Err(e) => Err(e),
     }

@@ -43,6 +43,7 @@ module _ (ws : List ℕ) (i r : ℕ) (x : Bool) (inside : i / 64 < length ws) (i
   here =
       ap (λ w. eqb (bit_at w (i % 64)) 1) (get_or-set_same ws (i / 64) (refined r x (i % 64)) 0 inside) ∙ refined-place r x (i % 64) (omega arith) ∙ ap (λ w. eqb (bit_at w (i % 64)) 1 && x) is
 
+  -- words of n places, with place i among them refined, are words of n places
   pub words-refined : (n : ℕ) → i < n → AreWords ws n → AreWords (set ws (i / 64) (refined r x (i % 64))) n
   words-refined n l h =
       let long : length (set ws (i / 64) (refined r x (i % 64))) ≡ length ws = length-set ws (i / 64) (refined r x (i % 64)) in
@@ -50,6 +51,7 @@ module _ (ws : List ℕ) (i r : ℕ) (x : Bool) (inside : i / 64 < length ws) (i
       let no_more = h.no_more in
       record { fits = h.fits; enough = omega arith; no_more = omega arith; unused = λ k m. others k (λ e. omega arith) ∙ h.unused k m }
 
+  -- of the n places, the one at i stays true only where x holds, and the others stay as they are
   pub places-refined : (n : ℕ) → i < n → places (set ws (i / 64) (refined r x (i % 64))) 0 n ≡ set (places ws 0 n) i (get_or (places ws 0 n) i false && x)
   places-refined n l =
       let z : 0 + i ≡ i = omega arith in

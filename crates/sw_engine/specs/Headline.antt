@@ -5,11 +5,14 @@
 -- history of one thread over a plain list of rows: every answered call stands in it once, in its session's order, with
 -- the reply that was given and that the list gives there.
 --
--- Premises: all sessions have ended, and their tickets, which are this engine's by their type, are handed to `close`;
--- the calls are those that returned; the maps handed in keep the contract of `CrackerMap`. A ticket shows its session's
--- number and the calls that were answered to it, each with the reply that was given, in the order made: `select`,
--- `insert`, `delete` and `delete_where`, where they answer, make that list longer by just the call and the reply, and
--- where they are refused leave it.
+-- What it rests on is no hypothesis: that all sessions have ended, and that their tickets are this engine's, is so by the
+-- types of what `close` takes; that maps keep the contract of `CrackerMap`, by its bound. The calls are those that
+-- returned. A select that was refused after it had a place may stand in the record as void: it answers nothing, and is
+-- in no ticket.
+--
+-- A ticket shows its session's number and the calls that were answered to it, each with the reply that was given, in
+-- the order made: `select`, `insert`, `delete` and `delete_where`, where they answer, make that list longer by just the
+-- call and the reply, and where they are refused leave it.
 use Rattle.std.specs.Prelude.{ℕ, ◌≡◌, ◌<◌, ◌+◌, ◌⊎◌, List, length, true, All}
 use Rattle.sw_rows.specs.Header.{Column}
 use Rattle.sw_table.specs.declared.row.Row.{Row}

@@ -5,3 +5,4 @@ pub mod Cracking
 pub mod Tables
 pub mod Parts
 pub mod Looks
+pub mod Shared

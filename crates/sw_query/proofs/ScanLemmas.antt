@@ -34,9 +34,11 @@ module _ (cs : List Cond) (fs : List Bool) (xs : List Row) (i : ℕ) (d : Row) (
       ap (matching cs) (kept-step fs xs i d lt) ∙ filter-append (meets_all cs) (kept fs (take i xs)) (cond (get_or fs i false) (get_or xs i d ∷ []) [])
       ∙ ap (λ v. found_in cs fs xs i ++ v) (filter-one (meets_all cs) (get_or fs i false) (get_or xs i d))
 
+  -- a row that matches at the place is found behind those before it
   pub found-yes : is_match cs fs xs i d ≡ true → found_in cs fs xs (i + 1) ≡ found_in cs fs xs i ++ get_or xs i d ∷ []
   found-yes e = found-more ∙ ap (λ b. found_in cs fs xs i ++ cond b (get_or xs i d ∷ []) []) e
 
+  -- a row that doesn't match at the place leaves what is found
   pub found-no : is_match cs fs xs i d ≡ false → found_in cs fs xs (i + 1) ≡ found_in cs fs xs i
   found-no e = found-more ∙ ap (λ b. found_in cs fs xs i ++ cond b (get_or xs i d ∷ []) []) e ∙ append-nil _
 
@@ -77,29 +79,35 @@ module _ (cs : List Cond) (fs : List Bool) (xs : List Row) (i : ℕ) (d : Row) (
   more-found : found_in cs fs xs (i + 1) ≡ found_in cs fs xs i ++ get_or xs i d ∷ []
   more-found = found-yes cs fs xs i d lt yes
 
+  -- the count is one more, with the row at the place found
   pub count-yes : (n : ℕ) → n ≡ length (found_in cs fs xs i) → n + 1 ≡ length (found_in cs fs xs (i + 1))
   count-yes n so_far = ap (λ k. k + 1) so_far ∙ sym (length_push (found_in cs fs xs i) (get_or xs i d)) ∙ sym (ap length more-found)
 
+  -- the sum has the cell of the found row added
   pub total-yes : (a : ℕ) (s z : ℤ) → z ≡ cell_of a (get_or xs i d) → s ≡ total (column a (found_in cs fs xs i)) → s +ℤ z ≡ total (column a (found_in cs fs xs (i + 1)))
   total-yes a s z is so_far =
       ap (λ v. v +ℤ z) so_far ∙ ap (λ v. total (column a (found_in cs fs xs i)) +ℤ v) is
       ∙ sym (total-end a (found_in cs fs xs i) (get_or xs i d)) ∙ sym (ap (λ v. total (column a v)) more-found)
 
+  -- the least takes in the cell of the found row
   pub least-yes : (a : ℕ) (f : Option ℤ) (z : ℤ) → z ≡ cell_of a (get_or xs i d) → f ≡ least (column a (found_in cs fs xs i)) → Some (lesser_with f z) ≡ least (column a (found_in cs fs xs (i + 1)))
   least-yes a f z is so_far =
       ap (λ v. Some (lesser_with v z)) so_far ∙ ap (λ v. Some (lesser_with (least (column a (found_in cs fs xs i))) v)) is
       ∙ sym (least-end a (found_in cs fs xs i) (get_or xs i d)) ∙ sym (ap (λ v. least (column a v)) more-found)
 
+  -- the greatest takes in the cell of the found row
   pub greatest-yes : (a : ℕ) (f : Option ℤ) (z : ℤ) → z ≡ cell_of a (get_or xs i d) → f ≡ greatest (column a (found_in cs fs xs i)) → Some (larger_with f z) ≡ greatest (column a (found_in cs fs xs (i + 1)))
   greatest-yes a f z is so_far =
       ap (λ v. Some (larger_with v z)) so_far ∙ ap (λ v. Some (larger_with (greatest (column a (found_in cs fs xs i))) v)) is
       ∙ sym (greatest-end a (found_in cs fs xs i) (get_or xs i d)) ∙ sym (ap (λ v. greatest (column a v)) more-found)
 
+  -- what is shown has the found row at its end
   pub shown-yes : (names : List ℕ) (ys : List ReplyRow) (r : Row) → r ≡ get_or xs i d → ys ≡ map (projected names) (found_in cs fs xs i) → ys ++ projected names r ∷ [] ≡ map (projected names) (found_in cs fs xs (i + 1))
   shown-yes names ys r is so_far =
       ap (λ v. v ++ projected names r ∷ []) so_far ∙ ap (λ v. map (projected names) (found_in cs fs xs i) ++ projected names v ∷ []) is
       ∙ sym (shown-end names (found_in cs fs xs i) (get_or xs i d)) ∙ sym (ap (map (projected names)) more-found)
 
+  -- the keys have that of the found row at their end
   pub keys-yes : (ks : List ℕ) (r : Row) → r ≡ get_or xs i d → ks ≡ map key_of (found_in cs fs xs i) → ks ++ r.key ∷ [] ≡ map key_of (found_in cs fs xs (i + 1))
   keys-yes ks r is so_far =
       ap (λ v. v ++ r.key ∷ []) so_far ∙ ap (λ (v : Row). map key_of (found_in cs fs xs i) ++ v.key ∷ []) is

@@ -15,7 +15,7 @@ mod table;
 pub use kind::Kind;
 pub use laws::{examples, spelling, text_answers};
 pub use limits::{MOST_NAME, MOST_NUMBER};
-pub use loading::{MOST_BYTES, load, load_in_parts, read_all};
+pub use loading::{MOST_BYTES, load, load_bytes, load_in_parts, read_all};
 pub use schema::text_key::TextKey;
 pub use schema::texts::{MOST_BYTES_OF_TEXT, MOST_TEXTS, Texts, read_text};
 pub use schema::{Schema, is_name};

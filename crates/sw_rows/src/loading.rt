@@ -2,7 +2,7 @@
 
 ghost use Rattle.std.specs.Prelude.{◌≡◌, ◌≤◌, ◌⊎◌, ℕ, List, length, IfOk, IfSome, IfErr, OnOk, OnErr, vec_len};
 ghost use Rattle.std.specs.Io.KnownBytes.{IsAtEnd};
-ghost use Rattle.sw_rows.specs.Gives.{Raised, TellsSource};
+ghost use Rattle.sw_rows.specs.Gives.{Gives, Raised, TellsSource};
 ghost use Rattle.sw_rows.specs.Tables.{IsAllRead, IsLoaded, shown_packed, table_of};
 
 pub(crate) mod fronts;
@@ -92,6 +92,25 @@ pub fn load<R: Source>(
         },
         Err(e) => Err(e),
     }
+}
+
+/// Reads a table from bytes that stand in memory, where they stay: no copy of them is made.
+///
+/// Refused as `load` is, but for `Input`, which never comes.
+pub fn load_bytes(
+    alloc: Global,
+    key: TextKey,
+    bytes: &[u8],
+) -> Result<(Schema, PackedRows), Refusal>
+    ensures table { Gives ⊥ shown_packed result (table_of bytes.now) }
+    ensures width { IfOk result (λ t. t.1.width ≡ length t.0) }
+{
+    if MOST_BYTES < bytes.len() {
+        return Err(Refusal::TooMany {
+            limit: MOST_BYTES as u64,
+        });
+    }
+    read_table(alloc, key, bytes)
 }
 
 /// Reads a table as `load` does, with the same clauses, a long one in parts, each by a thread of its own.

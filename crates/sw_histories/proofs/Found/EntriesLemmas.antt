@@ -56,9 +56,11 @@ module _ (p : Parse json.Json) where
       → (rest : List Data) × (left ≡ d ∷ rest) × (listed (converted of_items (items p (n - 1) r)) ≡ Some rest)
   value_more n ts r d left some going is e = parted d left (converted of_items (items p (n - 1) r)) (sym (ap listed (item_read p n ts r d some going is)) ∙ e)
 
+  -- of a list that goes on and was read, the next value was read
   pub value_there : (n : ℕ) (ts : List Token) (left : List Data) → after_end_array ts ≡ None → converted of_json (p ts) ≡ None → listed (converted of_items (items p n ts)) ≡ Some left → ⊥
   value_there n ts left going none e = none-some left (sym (ap listed (item_refused p n ts going none)) ∙ e)
 
+  -- of a list that is over, no values are left, n being at least the number of tokens
   pub values_over : (n : ℕ) (ts r : List Token) (left : List Data) → length ts ≤ n → after_end_array ts ≡ Some r → listed (converted of_items (items p n ts)) ≡ Some left → left ≡ []
   values_over n ts r left enough over e = sym (same_Some [] left (sym (ap listed (items_over p n ts r enough over)) ∙ e))
 

@@ -30,6 +30,7 @@ IsWhole (float x) = ⊥
 
 -- numbers are whole and in range, and keys stand in order
 abbrev mutual
+  -- each number in the value is whole and in range, and the keys of each object in it stand in order
   pub IsPlain : Data → Type 0
   IsPlain null = ⊤
   IsPlain (boolean b) = ⊤
@@ -38,10 +39,12 @@ abbrev mutual
   IsPlain (array ds) = ArePlain ds
   IsPlain (object ms) = HavePlain ms × (put_all ms no_members ≡ ms)
 
+  -- each of the items is plain
   pub ArePlain : Items → Type 0
   ArePlain no_items = ⊤
   ArePlain (item d ds) = IsPlain d × ArePlain ds
 
+  -- the value of each member is plain
   pub HavePlain : Members → Type 0
   HavePlain no_members = ⊤
   HavePlain (member k d ms) = IsPlain d × HavePlain ms

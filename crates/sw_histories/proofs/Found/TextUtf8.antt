@@ -9,6 +9,7 @@ use Rattle.sw_spine.proofs.PrintedLemmas.{decimal_shown, line_utf8, signed_shown
 
 -- the strings of a value and its keys are UTF-8
 abbrev mutual
+  -- each string in the value, and each key in it, is UTF-8
   pub HasTexts : Data → Type 0
   HasTexts null = ⊤
   HasTexts (boolean b) = ⊤
@@ -17,10 +18,12 @@ abbrev mutual
   HasTexts (array ds) = HaveTexts ds
   HasTexts (object ms) = NameTexts ms
 
+  -- it is so in each of the items
   pub HaveTexts : Items → Type 0
   HaveTexts no_items = ⊤
   HaveTexts (item d ds) = HasTexts d × HaveTexts ds
 
+  -- the key of each member is UTF-8, and it is so in its value
   pub NameTexts : Members → Type 0
   NameTexts no_members = ⊤
   NameTexts (member k d ms) = IsUtf8 k × HasTexts d × NameTexts ms
@@ -35,6 +38,7 @@ comma_utf8 true = IsUtf8-are_ascii (44 ∷ []) refl
 comma_utf8 false = IsUtf8-nil
 
 mutual
+  -- the compact text of such a value is UTF-8
   pub text_utf8 : (d : Data) → HasTexts d → IsUtf8 (compact_text d)
   text_utf8 null h = IsUtf8-are_ascii (compact_text null) refl
   text_utf8 (boolean b) h = IsUtf8-boolean b

@@ -58,6 +58,7 @@ without_member k j old e None = refl
 without_member k j old e (Some p) = rw e
 
 module _ (p : Parse json.Json) where
+  -- where the list goes on with a value that is read and n isn't 0, it is the item before those read from there
   pub item_read : (n : ℕ) (ts r : List Token) (d : Data) → 0 < n → after_end_array ts ≡ None → converted of_json (p ts) ≡ Some (d, r)
       → converted of_items (items p n ts) ≡ parse_map (item d) (converted of_items (items p (n - 1) r))
   item_read n ts r d some going e = let j = converted_some of_json (p ts) d r e in ap (converted of_items) (items_more p n ts r j.0 some going j.1) ∙ with_item j.0 d j.2 _
@@ -66,15 +67,18 @@ module _ (p : Parse json.Json) where
   no_item more None e = refl
   no_item more (Some q) e = without_item q.0 (refused q.1 (of_json q.0) e) (more q.1)
 
+  -- where the list goes on and no value is read, no items are
   pub item_refused : (n : ℕ) (ts : List Token) → after_end_array ts ≡ None → converted of_json (p ts) ≡ None → converted of_items (items p n ts) ≡ None
   unfolding items
   item_refused zero ts going e = refl
   item_refused (suc n) ts going e = ap (λ o. converted of_items (items_step p (items p n) ts o)) going ∙ no_item (items p n) (p ts) e
 
+  -- where the list is over, there are no items, n being at least the number of tokens
   pub items_over : (n : ℕ) (ts r : List Token) → length ts ≤ n → after_end_array ts ≡ Some r → converted of_items (items p n ts) ≡ Some (no_items, r)
   items_over n ts r enough e = ap (converted of_items) (items_end p n ts r enough e)
 
   module _ (old : Members) where
+    -- where n isn't 0, a member whose key and value are read is put into those before, and the others are read on
     pub member_read : (n : ℕ) (k : List ℕ) (ts s r : List Token) (d : Data) → 0 < n → read_key ts ≡ Some (Some k, s) → converted of_json (p s) ≡ Some (d, r)
         → converted (λ ms. of_members ms old) (members p n ts) ≡ converted (λ ms. of_members ms (put k d old)) (members p (n - 1) r)
     member_read n k ts s r d some key e =
@@ -86,14 +90,17 @@ module _ (p : Parse json.Json) where
     no_member k more None e = refl
     no_member k more (Some q) e = without_member k q.0 old (refused q.1 (of_json q.0) e) (more q.1)
 
+    -- where a key is read and no value behind it, no members are
     pub member_refused : (n : ℕ) (k : List ℕ) (ts s : List Token) → read_key ts ≡ Some (Some k, s) → converted of_json (p s) ≡ None → converted (λ ms. of_members ms old) (members p n ts) ≡ None
     unfolding members
     member_refused zero k ts s key e = refl
     member_refused (suc n) k ts s key e = rw key (no_member k (members p n) (p s) e)
 
+    -- where no key can be read, no members are
     pub key_refused : (n : ℕ) (ts : List Token) → read_key ts ≡ None → converted (λ ms. of_members ms old) (members p n ts) ≡ None
     key_refused n ts e = ap (converted (λ ms. of_members ms old)) (members_no_key p n ts e)
 
+    -- where the object is over, its members are those before, n being at least the number of tokens
     pub members_over : (n : ℕ) (ts r : List Token) → length ts ≤ n → read_key ts ≡ Some (None, r) → converted (λ ms. of_members ms old) (members p n ts) ≡ Some (old, r)
     members_over n ts r enough e = ap (converted (λ ms. of_members ms old)) (members_end p n ts r enough e)
 

@@ -19,9 +19,11 @@ use Rattle.sw_set.proofs.Areas.Shelves.{apart-same, area-with, area_of, leases-s
 
 -- ---- a box, by what it holds
 module _ {X : Type 0} (h : X → Held) (ms : List Held) (xs : List X) (at : ℕ) (x : X) (is : map h xs ≡ ms) (within : at < length ms) (here : x ≡ get_or xs at x) where
+  -- the place is one of the boxes
   pub at-inside : at < length xs
   at-inside = let one = length-map xs h in let two : length (map h xs) ≡ length ms = ap length is in omega (arith, one, two, within)
 
+  -- what the box holds is what stands at its place
   pub at-own : (d : Held) → h x ≡ get_or ms at d
   at-own d = ap h here ∙ sym (get_or-map h xs at x d at-inside) ∙ ap (λ (v : List Held). get_or v at d) is
 
@@ -30,14 +32,17 @@ module _ {X : Type 0} (h : X → Held) (ms : List Held) (xs : List X) (at : ℕ)
   at-place P p = subst P (sym (at-own (h x))) (p (h x))
 
   module _ (y : X) where
+    -- with y put at the place, of whose map P holds, what the boxes hold is set there to a map of which P holds
     pub at-set : (P : Held → Type 0) → P (h y) → IsSetAt ms at P (map h (set xs at y))
     at-set P p = (h y, p, map-set h xs at y ∙ ap (λ (v : List Held). set v at (h y)) is)
 
+    -- with y put at the place, which holds the same map, the boxes hold the same maps
     pub at-maps : IsSameMap (h x) (h y) → AreSameMaps ms (map h (set xs at y))
     at-maps same =
         subst (AreSameMaps ms) (sym (map-set h xs at y ∙ ap (λ (v : List Held). set v at (h y)) is))
         (same-set ms ms at (h y) (same-refl ms) within (λ d. subst (λ (m : Held). IsSameMap m (h y)) (at-own d) same))
 
+    -- with y put at the place, the cursor there is at the end; or there was no memory, and it was before it
     pub at-ends : {U : Type 0} (r : Result U Refusal) (end : ℕ) → MatchResult r (λ _. (h y).cursor ≡ end) (λ e. e ≡ NoMemory) → OnErr r ((h x).cursor < end) → HasReachedOr r at end ms (map h (set xs at y))
     at-ends (Ok u) end ends behind = λ d. ap (λ (m : Held). m.cursor) (get_or-here h xs at y d at-inside) ∙ ends
     at-ends (Err e) end ends behind = λ d.
@@ -52,9 +57,11 @@ module _ (a : ℕ) (tape : List (Step Row)) (ms : List Held) (at : ℕ) (m : Hel
   own-begun : m.is_blank ≡ false
   own-begun = ap (λ (v : Held). v.is_blank) (here m) ∙ begun m
 
+  -- where no box is blank, the map's head is the area's
   pub box-head : m.head ≡ a
   box-head = (aligned-lawful a tape m own-lawful own-begun).same_head
 
+  -- where no box is blank, the map is aligned with the tape, by its own head
   pub box-aligned : IsAligned m.head tape m
   box-aligned = own-aligned a tape m own-lawful own-begun
 

@@ -31,6 +31,7 @@ module _ (tape : List (Step Row)) (ms : List Held) (tails : List Tail) where
   lower-place : (k at : ℕ) → nat_eq k at ≡ false → k < at + 1 → k < at
   lower-place k at q lt = grind (arith, nat_tests, q, lt)
 
+  -- where a map of the tail at the place too stands at the end, the tails before the next place have theirs
   pub stand-next : (at : ℕ) (t : Tail) → StandBefore tape ms tails at → at < length tails → Any (IsReady (get_or tails at t) tape) ms → StandBefore tape ms tails (at + 1)
   stand-next at t before within here k d lt l = by (nat_eq k at) refl
     where
@@ -38,9 +39,11 @@ module _ (tape : List (Step Row)) (ms : List Held) (tails : List Tail) where
       by true q = subst (λ (n : ℕ). Any (IsReady (get_or tails n d) tape) ms) (sym (same-place k at q)) (subst (λ (v : Tail). Any (IsReady v tape) ms) (get_or_any tails at t d within) here)
       by false q = before k d (lower-place k at q lt) l
 
+  -- where the place is behind all tails, each tail has a map that stands at the end
   pub stand-all : (at : ℕ) → StandBefore tape ms tails at → length tails ≤ at → StandReady tails tape ms
   stand-all at before over t among =
       subst (λ (v : Tail). Any (IsReady v tape) ms) among.2 (before among.0 t (let lt = among.1 in omega (arith, over, lt)) among.1)
 
+  -- where no map of the tail at a place stands at the end, not each tail has one that does
   pub stand-not : (at : ℕ) (t : Tail) → at < length tails → (Any (IsReady (get_or tails at t) tape) ms → ⊥) → StandReady tails tape ms → ⊥
   stand-not at t within lacks ready = lacks (ready (get_or tails at t) (at, within, get_or_any tails at (get_or tails at t) t within))

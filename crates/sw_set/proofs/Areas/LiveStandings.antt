@@ -25,16 +25,20 @@ module _ (load : List Row) (s : Standing) (standing : IsStandingOf load s) where
   later-pushed : (r : Row) → load ++ (s.later ++ r ∷ []) ≡ (load ++ s.later) ++ r ∷ []
   later-pushed r = sym (append_assoc load s.later (r ∷ []))
 
+  -- a row pushed is live behind the others
   pub live-pushed : (r : Row) → live_among load (pushed s r) ≡ live_among load s ++ r ∷ []
   live-pushed r = rw (later-pushed r) (kept-more s.flags (load ++ s.later) r standing.many)
 
+  -- with a flag turned it is a standing of the same load
   pub standing-flagged : (p : ℕ) (b : Bool) → IsStandingOf load (flagged s p b)
   standing-flagged p b = record { many = length-set s.flags p b ∙ standing.many; rise = standing.rise }
 
+  -- with the flag false at the place of key k, the live rows are those without k
   pub live-removed : (k p : ℕ) (d : Row) → p < length (load ++ s.later) → (get_or (load ++ s.later) p d).key ≡ k → live_among load (flagged s p false) ≡ without k (live_among load s)
   live-removed k p d lt is = kept-removed k d s.flags (load ++ s.later) p standing.many standing.rise lt is
 
   -- ---- one update more
+  -- an insert is the row pushed, where the rows with it rise by key
   pub next-pushed : (r : Row) → Rises key_of ((load ++ s.later) ++ r ∷ []) → IsNextStanding load (Insert r) s (pushed s r)
   next-pushed r rise = record {
     standing = record {
@@ -45,9 +49,11 @@ module _ (load : List Row) (s : Standing) (standing : IsStandingOf load s) where
     live = live-pushed r;
   }
 
+  -- a removal of the key at a place is the flag there turned false
   pub next-removed : (k p : ℕ) (d : Row) → p < length (load ++ s.later) → (get_or (load ++ s.later) p d).key ≡ k → IsNextStanding load (Remove k) s (flagged s p false)
   next-removed k p d lt is = record { standing = standing-flagged p false; came = refl; live = live-removed k p d lt is }
 
+  -- a removal of a key that no row has changes nothing
   pub next-absent : (k : ℕ) → All (λ (r : Row). r.key ≢ k) (load ++ s.later) → IsNextStanding load (Remove k) s s
   next-absent k none = record { standing = standing; came = refl; live = sym (without-lacks k s.flags (load ++ s.later) none) }
 

@@ -123,6 +123,7 @@ module _ (S : List (Step Row) → Type 0) (us : List Update) (first : AreaState)
         let done = chain n (at + 1) (reloaded y rows-first) begun.boxes (omega arith) upto-first (omega (arith, e, within)) gone in
         subst (λ (v : AreaState). IsMergedUpTo S us upto first v) (sym (loads-all (suc n) e)) (subst (λ (i : ℕ). IsMergedUpTo S us i first (reloaded y (fold rows_then rows-first (take (suc n) (drop (at + 1) us))))) (let d : at + 1 + n + 1 ≡ upto = omega (arith, e) in d) done)
 
+    -- merged up to the stretch, an area that must begin and is begun anew with its rows is merged up to its end
     pub stretch-merged : IsMergedUpTo S us upto first y
     stretch-merged = let more = stretch.more in by (upto - (at + 1)) (omega (arith, more))
 

@@ -76,9 +76,11 @@ named-at (n ∷ ns) zero d l = or-left (n == n) (list_any (λ m. m == n) ns) (eq
 named-at (n ∷ ns) (suc k) d l = or-right (n == get_or ns k d) (list_any (λ m. m == get_or ns k d) ns) (named-at ns k d (omega arith))
 
 module _ (head : ℕ) (tape : List (Step Row)) (ms : List Held) where
+  -- where each tail that a query needs has a map at the end, each attribute it tests, all below 8, has its cells
   pub conds-held : (cs : List Cond) (w : Want) → CondsBelow 8 cs → ((t : Tail) → Contains (needed head (record { conds = cs; want = w })) t → Any (IsReady t tape) ms) → All (λ (c : Cond). HasCells head tape ms c.attr) cs
   conds-held cs w few maps = λ k d l n. maps (Cell (get_or cs k d).attr) (cell-needed head (record { conds = cs; want = w }) (get_or cs k d).attr (few k d l) n (or-left (is_tested cs (get_or cs k d).attr) (is_wanted w (get_or cs k d).attr) (tested-at cs k d l)))
 
+  -- where each tail that a query needs has a map at the end, what it wants, all below 8, has its cells
   pub want-held : (cs : List Cond) (w : Want) → WantsBelow 8 w → ((t : Tail) → Contains (needed head (record { conds = cs; want = w })) t → Any (IsReady t tape) ms) → HasWanted head tape ms w
   want-held cs (want.Rows names) few maps = λ k d l n. maps (Cell (get_or names k d)) (cell-needed head (record { conds = cs; want = want.Rows names }) (get_or names k d) (few k d l) n (or-right (is_tested cs (get_or names k d)) (is_wanted (want.Rows names) (get_or names k d)) (named-at names k d l)))
   want-held cs want.Count few maps = tt

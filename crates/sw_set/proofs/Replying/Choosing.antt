@@ -54,31 +54,40 @@ picks : {A : Type 0} (b c : Bool) (x y : A) → b ≡ c → cond b x y ≡ cond 
 picks b c x y e = ap (λ v. cond v x y) e
 
 module _ (o : Option (List Bool)) (xs : List ℤ) (i : ℕ) (lt : i < length xs) where
+  -- a value at a chosen place is added to the sum
   pub total_yes : (s z : ℤ) → is_chosen o i ≡ true → z ≡ get_or xs i (pos 0) → s ≡ total (chosen o (take i xs)) → s +ℤ z ≡ total (chosen o (take (i + 1) xs))
   total_yes s z is_in is so_far = ap (λ v. v +ℤ z) so_far ∙ ap (λ v. total (chosen o (take i xs)) +ℤ v) is ∙ sym (total_more o xs i (pos 0) lt ∙ picks (is_chosen o i) true _ _ is_in)
 
+  -- a value at a place that isn't chosen leaves the sum
   pub total_no : (s : ℤ) → is_chosen o i ≡ false → s ≡ total (chosen o (take i xs)) → s ≡ total (chosen o (take (i + 1) xs))
   total_no s is_out so_far = so_far ∙ sym (total_more o xs i (pos 0) lt ∙ picks (is_chosen o i) false _ _ is_out)
 
+  -- the value where its place is chosen, else zero, is added to the sum
   pub total_masked : (s z v : ℤ) (b : Bool) → is_chosen o i ≡ b → v ≡ cond b z (pos 0) → z ≡ get_or xs i (pos 0) → s ≡ total (chosen o (take i xs)) → s +ℤ v ≡ total (chosen o (take (i + 1) xs))
   total_masked s z v true is_in e is so_far = total_yes s v is_in (e ∙ is) so_far
   total_masked s z v false is_out e is so_far = ap (λ w. s +ℤ w) e ∙ (let none : s +ℤ pos 0 ≡ s = omega (arith, ints) in none) ∙ total_no s is_out so_far
 
+  -- a value at a chosen place is taken into the least
   pub least_yes : (f : Option ℤ) (z : ℤ) → is_chosen o i ≡ true → z ≡ get_or xs i (pos 0) → f ≡ least (chosen o (take i xs)) → either_or int_min f (Some z) ≡ least (chosen o (take (i + 1) xs))
   least_yes f z is_in is so_far = ap (λ v. either_or int_min v (Some z)) so_far ∙ ap (λ v. either_or int_min (least (chosen o (take i xs))) (Some v)) is ∙ sym (least_more o xs i (pos 0) lt ∙ picks (is_chosen o i) true _ _ is_in)
 
+  -- a value at a place that isn't chosen leaves the least
   pub least_no : (f : Option ℤ) → is_chosen o i ≡ false → f ≡ least (chosen o (take i xs)) → f ≡ least (chosen o (take (i + 1) xs))
   least_no f is_out so_far = so_far ∙ sym (least_more o xs i (pos 0) lt ∙ picks (is_chosen o i) false _ _ is_out)
 
+  -- a value at a chosen place is taken into the greatest
   pub greatest_yes : (f : Option ℤ) (z : ℤ) → is_chosen o i ≡ true → z ≡ get_or xs i (pos 0) → f ≡ greatest (chosen o (take i xs)) → either_or int_max f (Some z) ≡ greatest (chosen o (take (i + 1) xs))
   greatest_yes f z is_in is so_far = ap (λ v. either_or int_max v (Some z)) so_far ∙ ap (λ v. either_or int_max (greatest (chosen o (take i xs))) (Some v)) is ∙ sym (greatest_more o xs i (pos 0) lt ∙ picks (is_chosen o i) true _ _ is_in)
 
+  -- a value at a place that isn't chosen leaves the greatest
   pub greatest_no : (f : Option ℤ) → is_chosen o i ≡ false → f ≡ greatest (chosen o (take i xs)) → f ≡ greatest (chosen o (take (i + 1) xs))
   greatest_no f is_out so_far = so_far ∙ sym (greatest_more o xs i (pos 0) lt ∙ picks (is_chosen o i) false _ _ is_out)
 
 module _ {X : Type 0} (o : Option (List Bool)) (xs : List X) (i : ℕ) (lt : i < length xs) where
+  -- an item at a chosen place comes behind those chosen before it
   pub chosen_yes : (ys : List X) (x : X) → is_chosen o i ≡ true → x ≡ get_or xs i x → ys ≡ chosen o (take i xs) → ys ++ x ∷ [] ≡ chosen o (take (i + 1) xs)
   chosen_yes ys x is_in is so_far = ap (λ v. v ++ x ∷ []) so_far ∙ ap (λ v. chosen o (take i xs) ++ v ∷ []) is ∙ sym (chosen-more o xs i x lt ∙ ap (λ b. chosen o (take i xs) ++ cond b (get_or xs i x ∷ []) []) is_in)
 
+  -- an item at a place that isn't chosen leaves those chosen
   pub chosen_no : (ys : List X) (d : X) → is_chosen o i ≡ false → ys ≡ chosen o (take i xs) → ys ≡ chosen o (take (i + 1) xs)
   chosen_no ys d is_out so_far = so_far ∙ sym (append-nil _) ∙ sym (chosen-more o xs i d lt ∙ ap (λ b. chosen o (take i xs) ++ cond b (get_or xs i d ∷ []) []) is_out)

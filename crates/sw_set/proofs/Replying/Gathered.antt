@@ -84,6 +84,7 @@ module _ {X V Z : Type 0} (put : V → Z → Z) (start : Z) (f : X → V) (p : X
   gathered-middle (u ∷ us) x vs =
       ap (λ z. cond (p u) (put (f u) z) z) (gathered-middle us x vs) ∙ both-ways (p u) (p x) u x (gathered put start f p (us ++ vs))
 
+  -- of two lists of the same members, none twice in either, the same is gathered
   pub gathered-same : (key : X → ℕ) (xs ys : List X) → Same key xs ys → gathered put start f p xs ≡ gathered put start f p ys
   gathered-same key [] [] s = refl
   gathered-same key [] (y ∷ ys) s = absurd (s.back y (inl refl))

@@ -140,14 +140,18 @@ module _ {X : Type 0} (f : X → ℤ) (p : X → Bool) where
   greatest-gathered [] = refl
   greatest-gathered (x ∷ xs) = elim (p x) as (λ b. greatest (map f (cond b (x ∷ filter p xs) (filter p xs))) ≡ cond b (larger_of (f x) (gathered larger_of None f p xs)) (gathered larger_of None f p xs)) [ true ↦ greatest-front (f x) (map f (filter p xs)) ∙ ap (larger_of (f x)) (greatest-gathered xs) | false ↦ greatest-gathered xs ]
 
+  -- of two lists of the same members, none twice in either, as many items pass
   pub count-same : (key : X → ℕ) (xs ys : List X) → Same key xs ys → length (filter p xs) ≡ length (filter p ys)
   count-same key xs ys s = length-gathered xs ∙ gathered-same count_in 0 (λ (_ : X). 1) p count-swaps key xs ys s ∙ sym (length-gathered ys)
 
+  -- of two lists of the same members, none twice in either, the items that pass have the same sum
   pub total-same : (key : X → ℕ) (xs ys : List X) → Same key xs ys → total (map f (filter p xs)) ≡ total (map f (filter p ys))
   total-same key xs ys s = total-gathered xs ∙ gathered-same ◌+ℤ◌ (pos 0) f p total-swaps key xs ys s ∙ sym (total-gathered ys)
 
+  -- of two lists of the same members, none twice in either, the items that pass have the same least
   pub least-same : (key : X → ℕ) (xs ys : List X) → Same key xs ys → least (map f (filter p xs)) ≡ least (map f (filter p ys))
   least-same key xs ys s = least-gathered xs ∙ gathered-same lesser_of None f p lesser-swaps key xs ys s ∙ sym (least-gathered ys)
 
+  -- of two lists of the same members, none twice in either, the items that pass have the same greatest
   pub greatest-same : (key : X → ℕ) (xs ys : List X) → Same key xs ys → greatest (map f (filter p xs)) ≡ greatest (map f (filter p ys))
   greatest-same key xs ys s = greatest-gathered xs ∙ gathered-same larger_of None f p larger-swaps key xs ys s ∙ sym (greatest-gathered ys)

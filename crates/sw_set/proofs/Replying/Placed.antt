@@ -15,6 +15,7 @@ get_or-placed n (k ∷ ks) zero d p lt = ap (λ (m : ℕ). (unsigned_abs k, m)) 
 get_or-placed n (k ∷ ks) (suc i) d p lt = get_or-placed (suc n) ks i d p (omega arith) ∙ ap (λ (m : ℕ). (unsigned_abs (get_or ks i (pos 0)), m)) (let e : suc n + i ≡ n + suc i = omega arith in e)
 
 module _ (o : Option (List Bool)) (n : ℕ) (ks : List ℤ) (i : ℕ) (lt : i < length ks) where
+  -- a number at a chosen place, without its sign and with that place, comes behind those found before it
   pub found_yes : (old new : List (ℕ × ℕ)) (key place : ℕ) → is_chosen o i ≡ true → key ≡ unsigned_abs (get_or ks i (pos 0)) → place ≡ n + i → old ≡ chosen o (take i (placed n ks)) → new ≡ old ++ (key, place) ∷ [] → new ≡ chosen o (take (i + 1) (placed n ks))
   found_yes old new key place is_in is_key is_place so_far now =
       let many : i < length (placed n ks) = omega (arith, length-placed n ks) in
@@ -22,6 +23,7 @@ module _ (o : Option (List Bool)) (n : ℕ) (ks : List ℤ) (i : ℕ) (lt : i < 
       let pair : (let p : ℕ × ℕ = (key, place) in p) ≡ (unsigned_abs (get_or ks i (pos 0)), n + i) = cc in
       now ∙ chosen_yes o (placed n ks) i many old (key, place) is_in (pair ∙ sym one) so_far
 
+  -- a number at a place that isn't chosen leaves those found
   pub found_no : (old : List (ℕ × ℕ)) → is_chosen o i ≡ false → old ≡ chosen o (take i (placed n ks)) → old ≡ chosen o (take (i + 1) (placed n ks))
   found_no old is_out so_far =
       let many : i < length (placed n ks) = omega (arith, length-placed n ks) in

@@ -53,14 +53,17 @@ module _ {X : Type 0} (h : X → Held) (xs : List X) (a : ℕ) (tape : List (Ste
   held-ready [] e = let long : 0 ≡ length xs = ap length e in absurd (omega arith)
   held-ready (y ∷ ys) e = subst (IsReady t tape) (sym (get_or-map h xs at y blank lt)) (ready y)
 
+  -- the box at the place has the pairs of the rows that maps show at the tape's end, in order
   pub ready-held : joined (get_or (map h xs) at blank).pairs ≡ map (pair_in a t) (shown_rows a tape)
   ready-held =
       let many : at < length (map h xs) = omega (arith, length-map xs h) in
       ready-pairs a t tape (get_or (map h xs) at blank) (stocked.lawful at blank many) (held-ready xs refl)
 
+  -- the heads of its pairs are the head's cells of those rows
   pub head-column : IsColumn (map h xs) (record { at = at; side = Head }) (column a (shown_rows a tape))
   head-column = record { inside = omega (arith, length-map xs h); values_are = ap (λ (v : List (ℤ × ℤ)). map (λ (p : ℤ × ℤ). p.0) v) ready-held ∙ heads-shown a t (shown_rows a tape) }
 
+  -- the tails of its pairs are what the tail shows of those rows
   pub tail-column : IsColumn (map h xs) (record { at = at; side = tail_side }) (map (tail_value t) (shown_rows a tape))
   tail-column = record { inside = omega (arith, length-map xs h); values_are = ap (λ (v : List (ℤ × ℤ)). map (λ (p : ℤ × ℤ). p.1) v) ready-held ∙ tails-shown a t (shown_rows a tape) }
 

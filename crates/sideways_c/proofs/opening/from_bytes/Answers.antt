@@ -4,4 +4,4 @@ use Rattle.sideways_c.proofs.opening.from_bytes.Goals as goal
 
 pub opened_handle-requires-clause-numbered : goal.opened_handle-requires-clause-numbered
 opened_handle-requires-clause-numbered c =
-    let t = c.in-Ok.ensures.table in table_numbered t.0 (shown_packed (c.in-Ok.schema, c.in-Ok.rows)) t.1
+    table_numbered c.args.table.now (shown_packed (c.in-Ok.schema, c.in-Ok.rows)) c.in-Ok.ensures.table
