@@ -6,7 +6,6 @@ ghost use Rattle.sw_map.specs.Held.{blank};
 ghost use Rattle.sw_map.specs.States.{seat_of};
 ghost use Rattle.sw_query.specs.declared.refusal.Refusal.TheVariants.{NoMemory};
 
-use crate::shared_map::SharedMap;
 use std::alloc::Global;
 use sw_budget::Budget;
 use sw_map::{CrackerMap, PairMap, push_blank};
@@ -28,23 +27,6 @@ pub fn blank_boxes(alloc: Global, cells: u64, many: u64) -> Result<Vec<PairMap>,
             return Err(Refusal::NoMemory);
         };
         if push_blank(&mut maps, PairMap::blank(alloc, mine)).is_err() {
-            return Err(Refusal::NoMemory);
-        }
-    }
-    Ok(maps)
-}
-
-/// The same, that may be shared.
-pub fn shared_boxes(alloc: Global, cells: u64, many: u64) -> Result<Vec<SharedMap>, Refusal>
-    ensures many { IfOk result (λ maps. length maps.items ≡ many) }
-    ensures blank { IfOk result (λ maps. All (λ m. ⟦<SharedMap as CrackerMap>⟧.held m ≡ blank) maps.items) }
-    ensures budget { IfOk result (λ maps. (b : _) × All (λ m. seat_of m.inner.home ≡ empty b cells) maps.items) }
-    ensures refused { IsOkUnless result NoMemory }
-{
-    let boxes = blank_boxes(alloc, cells, many)?;
-    let mut maps = Vec::new(alloc);
-    for it in boxes {
-        if push_blank(&mut maps, SharedMap::over(it)).is_err() {
             return Err(Refusal::NoMemory);
         }
     }

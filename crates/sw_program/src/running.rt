@@ -10,7 +10,7 @@ use std::rt::{Clock, Files};
 use std::sync::Wait;
 use std::thread::Threads;
 use sw_cli::{
-    AfterRun, Means, Noting, Onlooker, Options, SharedMap, run_shared, shared_boxes, write_record,
+    AfterRun, Means, Noting, Onlooker, Options, blank_boxes, run_shared, write_record,
     write_stats_line, write_stats_title,
 };
 use sw_commands::{
@@ -20,6 +20,7 @@ use sw_commands::{
 };
 use sw_files::begin_file;
 use sw_lang::write_all;
+use sw_map::PairMap;
 use sw_rows::{Counted, Refusal, Sink, Source, TextKey};
 use sw_spine::Record;
 
@@ -54,7 +55,7 @@ struct Ended {
 /// Runs a script over a table, of which both are open.
 fn run_open<R: Threads + Wait + Sync, O: Onlooker, T: Source, S: Source, W: Sink + Drop>(
     rt: &R,
-    means: Means<'_, SharedMap, O>,
+    means: Means<'_, O>,
     table: &mut T,
     script: &mut S,
     out: W,
@@ -87,7 +88,7 @@ fn run_between<
     watch: &Watch<'_, '_, R>,
 ) -> Result<Ended, Refusal> {
     let settings = &run.settings;
-    let maps = shared_boxes(alloc, settings.budget, settings.maps)?;
+    let maps = blank_boxes(alloc, settings.budget, settings.maps)?;
     let options = Options {
         limit: settings.limit.rows,
         cuts: settings.cuts,
