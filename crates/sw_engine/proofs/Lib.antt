@@ -12,3 +12,4 @@ pub mod Shelves
 pub mod Closing
 pub mod Visits
 pub mod Called
+pub mod AtRest

@@ -55,7 +55,7 @@ struct Ended {
 /// Runs a script over a table, of which both are open.
 fn run_open<R: Threads + Wait + Sync, O: Onlooker, T: Source, S: Source, W: Sink + Drop>(
     rt: &R,
-    means: Means<'_, O>,
+    means: Means<'_, PairMap, O>,
     table: &mut T,
     script: &mut S,
     out: W,

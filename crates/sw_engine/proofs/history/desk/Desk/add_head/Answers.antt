@@ -23,4 +23,5 @@ invariant_of-result g c =
       place = c.requires.place;
       attribute = tt;
       few = less;
+      receipted = tt;
     }

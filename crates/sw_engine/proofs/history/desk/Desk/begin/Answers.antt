@@ -5,8 +5,9 @@ use Rattle.sw_spine.specs.Books.{Books, took}
 use Rattle.sw_spine.specs.Receivable.{AreUpdates}
 use Rattle.sw_engine.specs.Desk.{received_by}
 use Rattle.sw_engine.specs.Sessions.{Begins, Standing, standing}
-use Rattle.sw_engine.proofs.Ties.{all_taken, begin_tied, head_below, waits_is}
+use Rattle.sw_engine.proofs.Ties.{all_taken, begin_tied, head_below, is_of_same, waits_is}
 use Rattle.sw_engine.proofs.Visits.{Moves, begins_by, desk_moved, grows_visited, held_visited, moves_open}
+use Rattle.sw_engine.proofs.AtRest.{all_updates}
 use Rattle.sw_engine.proofs.history.desk.Desk.begin.Goals as goal
 
 pub begin-requires-clause-rest : goal.begin-requires-clause-rest
@@ -68,6 +69,7 @@ invariant_of-head-2 g c =
       place = c.head.invariant.place;
       attribute = c.head.invariant.attribute;
       few = c.head.invariant.few;
+      receipted = tt;
     }
 
 pub returns-clause-begins : goal.returns-clause-begins
@@ -88,3 +90,13 @@ returns-clause-begins g c =
     subst (λ (v : Standing). Begins c.args.query us v (standing j.opening t.number c.set.new.share.value t.receipt t.misses)) c.session.view_is
     (begins_by j.opening t.number c.args.query c.head.inside.number us s.spine x h.value c.set.new.share.value s.sessions.rows s.heads.rows h.number t.receipt t.misses c.self.invariant.tied c.agree.ensures.value held.1 grows none c.in_ok-begin.ensures.begun c.begin.ensures.mine
     (c.in_ok-begin.ensures.waits ∙ ap (λ (l : List Update). Some (Select c.args.query, l)) (sym all)) new)
+
+pub returns-clause-taken : goal.returns-clause-taken
+returns-clause-taken g c =
+    let j = g.J.Naming in
+    let s = c.self.inside in
+    let m = c.head.inside.share in
+    let x = c.begin.new.self in
+    let done = c.in_ok-begin.ensures.begun in
+    let all = all_taken s.spine m.value s.sessions.rows s.heads.rows m.number c.head.inside.number (received_by j.opening c.head.inside.head) c.head.inside.inbox.items c.begin.new.inbox.items c.self.invariant.tied c.agree-2.ensures.value c.head.invariant.number_is c.head.invariant.taken c.in_ok-begin.ensures.inbox in
+    all ∙ (sym c.begin.ensures.updates ∙ all_updates j.columns j.opening j.limit x (is_of_same j.columns j.opening j.limit s.spine x c.self.invariant.of (ap (λ (b : Books). b.columns) done) (ap (λ (b : Books). b.rows) done) (ap (λ (b : Books). b.limit) done)))

@@ -49,6 +49,7 @@ invariant_of-head-2 g c =
       place = c.head.invariant.place;
       attribute = c.head.invariant.attribute;
       few = c.head.invariant.few;
+      receipted = tt;
     }
 
 pub returns-then-untaken_count-most-clause-part : goal.returns-then-untaken_count-most-clause-part

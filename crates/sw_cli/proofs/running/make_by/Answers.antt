@@ -3,7 +3,7 @@ use Rattle.sw_query.specs.declared.query.Call.{Call}
 use Rattle.sw_cli.specs.Outcomes.{AllSayWhy, blocks_told}
 use Rattle.sw_cli.specs.Run.{Start}
 use Rattle.sw_cli.specs.Script.{AreBlocks}
-use Rattle.sw_cli.proofs.running.make.Goals as goal
+use Rattle.sw_cli.proofs.running.make_by.Goals as goal
 
 pub open_for-requires-clause-table : goal.open_for-requires-clause-table
 open_for-requires-clause-table g c κs within =

@@ -4,7 +4,7 @@ use Rattle.sw_cli.specs.Sides.{FailedInTurn, sink_seen, source_by}
 use Rattle.sw_cli.specs.Starts.{IfBoth, IsStart, RefusedFrom, start_seen}
 use Rattle.sw_cli.specs.declared.running.Options.{Options}
 use Rattle.sw_cli.proofs.Ran.{begun_answers, keeps_same, refused_answers}
-use Rattle.sw_cli.proofs.running.run_told.Goals as goal
+use Rattle.sw_cli.proofs.running.run_by.Goals as goal
 
 pub returns-in-Ok : goal.returns-in-Ok
 returns-in-Ok g c =
