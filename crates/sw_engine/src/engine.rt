@@ -294,6 +294,11 @@ impl<J: Naming, M: CrackerMap, L: Latch<J, M>> Engine<J, M, L> {
         alone.head().stats()
     }
 
+    /// That so much is published, for who asks a head as it stands.
+    fn hint(&self, published: &Receipt<J>) {
+        self.came.store(published.len(), Ordering::SeqCst);
+    }
+
     /// Where its memory is from.
     fn alloc(&self) -> Global {
         self.alloc
@@ -542,7 +547,7 @@ impl<'e, J: Naming, M: CrackerMap, L: Latch<J, M>> Session<'e, J, M, L> {
     {
         let Session { engine, ticket } = self;
         let (reply, published) = engine.visit(rt).commit(rt, ticket, call)?;
-        engine.came.store(published.len(), Ordering::SeqCst);
+        engine.hint(&published);
         ticket.receive(published);
         Ok(reply)
     }
