@@ -27,7 +27,9 @@ use std::alloc::Global;
 use std::marker::Brand;
 use std::sync::Wait;
 use std::thread::Threads;
-use sw_engine::{AloneLatch, Blank, Engine, HeadStats, Latch, Naming, SharedLatch, deal};
+use sw_engine::{
+    AloneLatch, Blank, Engine, HeadStats, Latch, LatchedHead, Naming, SharedLatch, deal,
+};
 use sw_map::CrackerMap;
 use sw_rows::{Refusal, Sink, Source, TextKey};
 use sw_spine::Record;
@@ -96,7 +98,7 @@ fn write_outgoing<W: Sink>(sink: W, outgoing: Outgoing) -> (W, Result<Record, Re
 fn make_by<
     J: Naming + Send + Sync,
     M: CrackerMap,
-    L: Latch<J, M> + Sync,
+    L: Latch<LatchedHead<J, M>> + Sync,
     O: Onlooker,
     R: Threads + Wait + Sync,
 >(
@@ -153,55 +155,51 @@ fn make_by<
     Ok(Outgoing { memory, ended })
 }
 
-/// What kind of engine makes blocks in threads.
-trait AtOnce<M: CrackerMap> {
-    /// Makes the blocks of a workload by an engine of these names, and adds what its heads tell. The one refusal is `NoMemory`.
-    fn make<J: Naming + Send + Sync, O: Onlooker, R: Threads + Wait + Sync>(
-        rt: &R,
-        books: Blank,
-        workload: Workload<'_, M, O>,
-        stats: &mut Vec<HeadStats>,
-    ) -> Result<Outgoing, Refusal>
-        requires books { (books.sessions.name ≡ J.sessions) × (books.heads.name ≡ J.heads) × (books.most ≡ J.most) }
-        requires list { books.list.seen.book ≡ J.book }
-        requires columns { workload.1.columns ≡ J.columns }
-        requires table { (workload.1.rows ≡ J.opening) × (workload.0 ≡ J.limit) }
-        ensures blocks { IfOk result (λ j. j.ended.blocks.items ≡ workload.entry.1.blocks) }
-        ensures why { IfOk result (λ j. AllSayWhy (told_in j.ended)) }
-        ensures record_is { IfOk result (λ j. IsRecordOf J.columns J.opening J.limit (told_in j.ended) j.ended.history) }
-        ensures refused { IsOkUnless result NoMemory };
+/// The same by an engine whose heads are each for one session at a time.
+fn make<J: Naming + Send + Sync, M: CrackerMap, O: Onlooker, R: Threads + Wait + Sync>(
+    rt: &R,
+    books: Blank,
+    workload: Workload<'_, M, O>,
+    stats: &mut Vec<HeadStats>,
+) -> Result<Outgoing, Refusal>
+    requires books { (books.sessions.name ≡ J.sessions) × (books.heads.name ≡ J.heads) × (books.most ≡ J.most) }
+    requires list { books.list.seen.book ≡ J.book }
+    requires columns { workload.1.columns ≡ J.columns }
+    requires table { (workload.1.rows ≡ J.opening) × (workload.0 ≡ J.limit) }
+    ensures blocks { IfOk result (λ j. j.ended.blocks.items ≡ workload.entry.1.blocks) }
+    ensures why { IfOk result (λ j. AllSayWhy (told_in j.ended)) }
+    ensures record_is { IfOk result (λ j. IsRecordOf J.columns J.opening J.limit (told_in j.ended) j.ended.history) }
+    ensures refused { IsOkUnless result NoMemory }
+{
+    make_by::<J, M, AloneLatch<J, M>, O, R>(rt, books, workload, stats)
 }
 
-/// One whose heads are each for one session at a time.
-struct Apart;
-
-impl<M: CrackerMap> AtOnce<M> for Apart {
-    fn make<J: Naming + Send + Sync, O: Onlooker, R: Threads + Wait + Sync>(
-        rt: &R,
-        books: Blank,
-        workload: Workload<'_, M, O>,
-        stats: &mut Vec<HeadStats>,
-    ) -> Result<Outgoing, Refusal> {
-        make_by::<J, M, AloneLatch<J, M>, O, R>(rt, books, workload, stats)
-    }
-}
-
-/// One whose heads sessions share.
-struct Sharing;
-
-impl<M: CrackerMap + Sync> AtOnce<M> for Sharing {
-    fn make<J: Naming + Send + Sync, O: Onlooker, R: Threads + Wait + Sync>(
-        rt: &R,
-        books: Blank,
-        workload: Workload<'_, M, O>,
-        stats: &mut Vec<HeadStats>,
-    ) -> Result<Outgoing, Refusal> {
-        make_by::<J, M, SharedLatch<J, M>, O, R>(rt, books, workload, stats)
-    }
+/// The same by an engine whose heads sessions share.
+fn make_sharing<
+    J: Naming + Send + Sync,
+    M: CrackerMap + Sync,
+    O: Onlooker,
+    R: Threads + Wait + Sync,
+>(
+    rt: &R,
+    books: Blank,
+    workload: Workload<'_, M, O>,
+    stats: &mut Vec<HeadStats>,
+) -> Result<Outgoing, Refusal>
+    requires books { (books.sessions.name ≡ J.sessions) × (books.heads.name ≡ J.heads) × (books.most ≡ J.most) }
+    requires list { books.list.seen.book ≡ J.book }
+    requires columns { workload.1.columns ≡ J.columns }
+    requires table { (workload.1.rows ≡ J.opening) × (workload.0 ≡ J.limit) }
+    ensures blocks { IfOk result (λ j. j.ended.blocks.items ≡ workload.entry.1.blocks) }
+    ensures why { IfOk result (λ j. AllSayWhy (told_in j.ended)) }
+    ensures record_is { IfOk result (λ j. IsRecordOf J.columns J.opening J.limit (told_in j.ended) j.ended.history) }
+    ensures refused { IsOkUnless result NoMemory }
+{
+    make_by::<J, M, SharedLatch<J, M>, O, R>(rt, books, workload, stats)
 }
 
 /// Makes the blocks of a workload, each in a thread of its own, and then writes what came of them.
-fn make_at_once<M: CrackerMap, K: AtOnce<M>, O: Onlooker, R: Threads + Wait + Sync, W: Sink>(
+fn make_at_once<M: CrackerMap, O: Onlooker, R: Threads + Wait + Sync, W: Sink>(
     rt: &R,
     workload: Workload<'_, M, O>,
     out: &mut W,
@@ -209,14 +207,29 @@ fn make_at_once<M: CrackerMap, K: AtOnce<M>, O: Onlooker, R: Threads + Wait + Sy
 ) -> Result<Record, Refusal>
     ensures { Goes workload.entry.0 workload.entry.1 (sink_by W.Sink out.old out.new) result }
 {
-    match K::make::<Brand, O, R>(rt, Blank::new(), workload, stats) {
+    match make::<Brand, M, O, R>(rt, Blank::new(), workload, stats) {
+        Ok(outgoing) => replace_with(out, outgoing, write_outgoing),
+        Err(e) => Err(e),
+    }
+}
+
+/// The same, where sessions share heads.
+fn share_at_once<M: CrackerMap + Sync, O: Onlooker, R: Threads + Wait + Sync, W: Sink>(
+    rt: &R,
+    workload: Workload<'_, M, O>,
+    out: &mut W,
+    stats: &mut Vec<HeadStats>,
+) -> Result<Record, Refusal>
+    ensures { Goes workload.entry.0 workload.entry.1 (sink_by W.Sink out.old out.new) result }
+{
+    match make_sharing::<Brand, M, O, R>(rt, Blank::new(), workload, stats) {
         Ok(outgoing) => replace_with(out, outgoing, write_outgoing),
         Err(e) => Err(e),
     }
 }
 
 /// Makes the blocks of a workload, and writes what came of them.
-fn make_and_write<M: CrackerMap, K: AtOnce<M>, O: Onlooker, R: Threads + Wait + Sync, W: Sink>(
+fn make_and_write<M: CrackerMap, O: Onlooker, R: Threads + Wait + Sync, W: Sink>(
     rt: &R,
     workload: Workload<'_, M, O>,
     out: &mut W,
@@ -225,13 +238,28 @@ fn make_and_write<M: CrackerMap, K: AtOnce<M>, O: Onlooker, R: Threads + Wait + 
     ensures { Goes workload.entry.0 workload.entry.1 (sink_by W.Sink out.old out.new) result }
 {
     if workload.threads {
-        return make_at_once::<M, K, O, R, W>(rt, workload, out, stats);
+        return make_at_once(rt, workload, out, stats);
+    }
+    make_in_turn(rt, workload, out, stats)
+}
+
+/// The same, where sessions in threads share heads.
+fn share_and_write<M: CrackerMap + Sync, O: Onlooker, R: Threads + Wait + Sync, W: Sink>(
+    rt: &R,
+    workload: Workload<'_, M, O>,
+    out: &mut W,
+    stats: &mut Vec<HeadStats>,
+) -> Result<Record, Refusal>
+    ensures { Goes workload.entry.0 workload.entry.1 (sink_by W.Sink out.old out.new) result }
+{
+    if workload.threads {
+        return share_at_once(rt, workload, out, stats);
     }
     make_in_turn(rt, workload, out, stats)
 }
 
 /// Makes a run of what was read, and writes what came of it.
-fn run_read<M: CrackerMap, K: AtOnce<M>, O: Onlooker, R: Threads + Wait + Sync, W: Sink>(
+fn run_read<M: CrackerMap, O: Onlooker, R: Threads + Wait + Sync, W: Sink>(
     rt: &R,
     means: Means<'_, M, O>,
     inputs: Inputs,
@@ -255,7 +283,38 @@ fn run_read<M: CrackerMap, K: AtOnce<M>, O: Onlooker, R: Threads + Wait + Sync, 
         onlooker,
     };
     let mut stats = Vec::new(alloc);
-    match make_and_write::<M, K, O, R, W>(rt, workload, out, &mut stats) {
+    match make_and_write(rt, workload, out, &mut stats) {
+        Ok(history) => Ok(AfterRun { history, stats }),
+        Err(e) => Err(e),
+    }
+}
+
+/// The same, where sessions in threads share heads.
+fn share_read<M: CrackerMap + Sync, O: Onlooker, R: Threads + Wait + Sync, W: Sink>(
+    rt: &R,
+    means: Means<'_, M, O>,
+    inputs: Inputs,
+    out: &mut W,
+) -> Result<AfterRun, Refusal>
+    requires { IsStart means.limit (start_seen inputs) }
+    ensures { Goes means.entry.limit (start_seen inputs) (sink_by W.Sink out.old out.new) result }
+{
+    let Means {
+        alloc,
+        options,
+        maps,
+        onlooker,
+    } = means;
+    let workload = Workload {
+        alloc,
+        inputs,
+        limit: options.limit,
+        threads: options.threads,
+        maps,
+        onlooker,
+    };
+    let mut stats = Vec::new(alloc);
+    match share_and_write(rt, workload, out, &mut stats) {
         Ok(history) => Ok(AfterRun { history, stats }),
         Err(e) => Err(e),
     }
@@ -300,31 +359,6 @@ pub fn run_with<M: CrackerMap, R: Threads + Wait + Sync, T: Source, S: Source, W
     }
 }
 
-/// A run by an engine of this kind.
-fn run_by<
-    M: CrackerMap,
-    K: AtOnce<M>,
-    O: Onlooker,
-    R: Threads + Wait + Sync,
-    T: Source,
-    S: Source,
-    W: Sink,
->(
-    rt: &R,
-    means: Means<'_, M, O>,
-    table: &mut T,
-    script: &mut S,
-    out: &mut W,
-) -> Result<AfterRun, Refusal>
-    ensures { RunsBy means.entry T.Source table.old table.new
-        S.Source script.old script.new W.Sink out.old out.new result }
-{
-    match read_start(rt, means.alloc, table, script, means.options) {
-        Ok(inputs) => run_read::<M, K, O, R, W>(rt, means, inputs, out),
-        Err(e) => Err(e),
-    }
-}
-
 /// `run_with` by means that are one value, which also lets somebody look on, and tells of each head when all calls were
 /// made. No clause speaks of that, nor of what the onlooker sees.
 pub fn run_told<
@@ -344,7 +378,10 @@ pub fn run_told<
     ensures { RunsBy means.entry T.Source table.old table.new
         S.Source script.old script.new W.Sink out.old out.new result }
 {
-    run_by::<M, Apart, O, R, T, S, W>(rt, means, table, script, out)
+    match read_start(rt, means.alloc, table, script, means.options) {
+        Ok(inputs) => run_read(rt, means, inputs, out),
+        Err(e) => Err(e),
+    }
 }
 
 /// `run_told` where blocks that are made in threads share heads: a query that changes nothing waits for no other such one.
@@ -365,7 +402,11 @@ pub fn run_shared<
     ensures { RunsBy means.entry T.Source table.old table.new
         S.Source script.old script.new W.Sink out.old out.new result }
 {
-    run_by::<M, Sharing, O, R, T, S, W>(rt, means, table, script, out)
+    let inputs = read_start(rt, means.alloc, table, script, means.options);
+    match inputs {
+        Ok(inputs) => share_read(rt, means, inputs, out),
+        Err(e) => Err(e),
+    }
 }
 
 /// `run_with` over boxes of any kinds.

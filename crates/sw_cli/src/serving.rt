@@ -15,14 +15,14 @@ use std::alloc::{AllocError, Global};
 use std::sync::Wait;
 use std::thread;
 use std::thread::Threads;
-use sw_engine::{Engine, HeadStats, Latch, Naming, Session, Ticket};
+use sw_engine::{Engine, HeadStats, Latch, LatchedHead, Naming, Session, Ticket};
 use sw_map::CrackerMap;
 use sw_rows::{Call, Refusal, Reply};
 use sw_spine::Record;
 
 /// An engine that was opened, a ticket for each block, and where memory comes from.
 #[derive(Drop)]
-pub(crate) struct Opened<J: Naming, M: CrackerMap, L: Latch<J, M>> {
+pub(crate) struct Opened<J: Naming, M: CrackerMap, L: Latch<LatchedHead<J, M>>> {
     pub(crate) alloc: Global,
     pub(crate) engine: Engine<J, M, L>,
     pub(crate) tickets: Vec<Ticket<J>>,
@@ -31,7 +31,7 @@ pub(crate) struct Opened<J: Naming, M: CrackerMap, L: Latch<J, M>> {
 /// A session that has made no call, its block's number from 1 for who looks on, the calls that it is to make, and room for
 /// what comes of them.
 #[derive(Drop)]
-pub(crate) struct Job<'e, J: Naming, M: CrackerMap, L: Latch<J, M>> {
+pub(crate) struct Job<'e, J: Naming, M: CrackerMap, L: Latch<LatchedHead<J, M>>> {
     session: Session<'e, J, M, L>,
     block: u64,
     calls: &'e [Call],
@@ -46,11 +46,13 @@ pub(crate) struct Done<J: Naming> {
 }
 
 /// Makes the calls of a job, one after another.
-fn make_block<J: Naming, M: CrackerMap, L: Latch<J, M>, O: Onlooker, R: Threads + Wait + Sync>(
-    rt: &R,
-    job: Job<'_, J, M, L>,
-    onlooker: &O,
-) -> Done<J>
+fn make_block<
+    J: Naming,
+    M: CrackerMap,
+    L: Latch<LatchedHead<J, M>>,
+    O: Onlooker,
+    R: Threads + Wait + Sync,
+>(rt: &R, job: Job<'_, J, M, L>, onlooker: &O) -> Done<J>
     requires fresh { IsFresh job.session job.told.items (vec_capacity job.told) job.calls.now }
     requires below { AllCallsBelow (length J.columns) job.calls.now }
     ensures { IsDone job.entry.session.0 job.entry.calls.now result.ticket result.told }
@@ -74,7 +76,7 @@ fn make_block<J: Naming, M: CrackerMap, L: Latch<J, M>, O: Onlooker, R: Threads 
 }
 
 /// The session of each ticket gets the calls of the block at its place.
-fn jobs<'e, J: Naming, M: CrackerMap, L: Latch<J, M>>(
+fn jobs<'e, J: Naming, M: CrackerMap, L: Latch<LatchedHead<J, M>>>(
     alloc: Global,
     engine: &'e Engine<J, M, L>,
     tickets: Vec<Ticket<J>>,
@@ -107,7 +109,7 @@ fn make_at_once<
     'e,
     J: Naming + Send + Sync,
     M: CrackerMap,
-    L: Latch<J, M> + Sync,
+    L: Latch<LatchedHead<J, M>> + Sync,
     O: Onlooker,
     R: Threads + Wait + Sync,
 >(rt: &R, jobs: Vec<Job<'e, J, M, L>>, onlooker: &O) -> Result<Vec<Done<J>>, AllocError>
@@ -145,7 +147,7 @@ fn parted<J: Naming>(
 }
 
 /// Adds what each head of an engine tells of itself, for which there is room.
-pub(crate) fn tell_heads<J: Naming, M: CrackerMap, L: Latch<J, M>, R: Wait>(
+pub(crate) fn tell_heads<J: Naming, M: CrackerMap, L: Latch<LatchedHead<J, M>>, R: Wait>(
     rt: &R,
     engine: &Engine<J, M, L>,
     stats: &mut Vec<HeadStats>,
@@ -162,7 +164,7 @@ pub(crate) fn tell_heads<J: Naming, M: CrackerMap, L: Latch<J, M>, R: Wait>(
 pub(crate) fn serve<
     J: Naming + Send + Sync,
     M: CrackerMap,
-    L: Latch<J, M> + Sync,
+    L: Latch<LatchedHead<J, M>> + Sync,
     O: Onlooker,
     R: Threads + Wait + Sync,
 >(

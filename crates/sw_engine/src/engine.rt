@@ -59,7 +59,7 @@ fn take<'l, T, R: Wait>(rt: &R, lock: &'l Mutex<T>) -> MutexGuard<'l, T> {
 }
 
 /// A latch for each attribute's head.
-fn all_latches<J: Naming, M: CrackerMap, L: Latch<J, M>>(
+fn all_latches<J: Naming, M: CrackerMap, L: Latch<LatchedHead<J, M>>>(
     alloc: Global,
     opening: &Opening<J>,
     desk: &mut Desk<J>,
@@ -80,7 +80,7 @@ fn all_latches<J: Naming, M: CrackerMap, L: Latch<J, M>>(
 ///
 /// A latch is taken before the lock, and never after it.
 #[derive(Drop)]
-pub struct Engine<J: Naming, M: CrackerMap, L: Latch<J, M> = AloneLatch<J, M>> {
+pub struct Engine<J: Naming, M: CrackerMap, L: Latch<LatchedHead<J, M>> = AloneLatch<J, M>> {
     alloc: Global,
     opening: Opening<J>,
     latches: Vec<L>,
@@ -91,7 +91,7 @@ pub struct Engine<J: Naming, M: CrackerMap, L: Latch<J, M> = AloneLatch<J, M>> {
     of: PhantomData<Mutex<M>>,
 }
 
-impl<J: Naming, M: CrackerMap, L: Latch<J, M>> Model for Engine<J, M, L> {
+impl<J: Naming, M: CrackerMap, L: Latch<LatchedHead<J, M>>> Model for Engine<J, M, L> {
     ghost use Rattle.std.specs.Prelude.{◌≡◌, ◌<◌, ◌≤◌, ℕ, length, vec_len};
 
     ghost Value = { ℕ };
@@ -101,7 +101,7 @@ impl<J: Naming, M: CrackerMap, L: Latch<J, M>> Model for Engine<J, M, L> {
     ghost invariant = { λ e. (vec_len e.latches ≡ length J.columns) × (0 < length J.columns) × (length J.columns ≤ 8) };
 }
 
-impl<J: Naming, M: CrackerMap, L: Latch<J, M>> Engine<J, M, L> {
+impl<J: Naming, M: CrackerMap, L: Latch<LatchedHead<J, M>>> Engine<J, M, L> {
     /// An engine over opening rows, with no session. No head is made.
     ///
     /// Refused `TooMany` of the limit where there are more rows, `NoMemory` otherwise. The caller's conditions: the
@@ -267,7 +267,7 @@ impl<J: Naming, M: CrackerMap, L: Latch<J, M>> Engine<J, M, L> {
         ensures { IfErr result (λ r. (r.0 ≡ it) × (r.1 ≡ NoMemory)) }
     {
         let mut alone = self.latches[head].take(rt);
-        alone.head().supply(it)
+        alone.inside().supply(it)
     }
 
     /// Drops up to so many boxes of a head, and answers how many.
@@ -276,7 +276,7 @@ impl<J: Naming, M: CrackerMap, L: Latch<J, M>> Engine<J, M, L> {
         ensures { result ≤ most }
     {
         let mut alone = self.latches[head].take(rt);
-        alone.head().shed(most)
+        alone.inside().shed(most)
     }
 
     /// How many heads there are, one for each attribute.
@@ -291,7 +291,7 @@ impl<J: Naming, M: CrackerMap, L: Latch<J, M>> Engine<J, M, L> {
         requires { head < length J.columns }
     {
         let mut alone = self.latches[head].take(rt);
-        alone.head().stats()
+        alone.inside().stats()
     }
 
     /// That so much is published, for who asks a head as it stands.
@@ -452,7 +452,7 @@ impl<J: Naming, M: CrackerMap, L: Latch<J, M>> Engine<J, M, L> {
             return Err(Refusal::NoMemory);
         };
         let mut alone = self.latches[head_of(query)].take(rt);
-        let head = alone.head();
+        let head = alone.inside();
         if self.ready(rt, head).is_err() {
             return Err(Refusal::NoMemory);
         }
@@ -494,12 +494,12 @@ impl<J: Naming, M: CrackerMap, L: Latch<J, M>> Engine<J, M, L> {
 /// A session. Contracts see its number, the calls that were answered to it, and the list of updates that it has the
 /// receipt of, beside the one that its share shows as published.
 #[derive(Drop)]
-pub struct Session<'e, J: Naming, M: CrackerMap, L: Latch<J, M> = AloneLatch<J, M>> {
+pub struct Session<'e, J: Naming, M: CrackerMap, L: Latch<LatchedHead<J, M>> = AloneLatch<J, M>> {
     engine: &'e Engine<J, M, L>,
     ticket: Ticket<J>,
 }
 
-impl<'e, J: Naming, M: CrackerMap, L: Latch<J, M>> Model for Session<'e, J, M, L> {
+impl<'e, J: Naming, M: CrackerMap, L: Latch<LatchedHead<J, M>>> Model for Session<'e, J, M, L> {
     ghost use Rattle.sw_engine.specs.Published.{Shown};
 
     ghost Value = { Shown };
@@ -507,7 +507,7 @@ impl<'e, J: Naming, M: CrackerMap, L: Latch<J, M>> Model for Session<'e, J, M, L
     ghost view = { λ s. s.ticket };
 }
 
-impl<'e, J: Naming, M: CrackerMap, L: Latch<J, M>> Session<'e, J, M, L> {
+impl<'e, J: Naming, M: CrackerMap, L: Latch<LatchedHead<J, M>>> Session<'e, J, M, L> {
     /// What a query is answered.
     ///
     /// Refused `NoMemory`, or `HistoryFull`; then no row has changed, and the call stands in the history at most as void.

@@ -5,6 +5,7 @@ ghost use Rattle.sw_query.specs.declared.refusal.Refusal.TheVariants.{NoMemory};
 ghost use Rattle.sw_map.specs.Held.{blank};
 
 use crate::engine::Engine;
+use crate::heads::latch::LatchedHead;
 use crate::heads::latching::Latch;
 use std::sync::Wait;
 use sw_map::CrackerMap;
@@ -22,7 +23,7 @@ fn turn(number: usize, many: usize) -> usize
 
 /// Deals boxes out: box i, from 0, goes to the head of attribute i mod n, where there are n attributes. Refused `NoMemory`
 /// alone; the boxes that were dealt before stay.
-pub fn deal<J: Naming, M: CrackerMap, L: Latch<J, M>, R: Wait>(
+pub fn deal<J: Naming, M: CrackerMap, L: Latch<LatchedHead<J, M>>, R: Wait>(
     rt: &R,
     engine: &Engine<J, M, L>,
     columns: usize,

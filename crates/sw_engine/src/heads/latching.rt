@@ -3,21 +3,19 @@
 use crate::heads::latch::LatchedHead;
 use crate::pausing::{NAPS, PAUSES, rest};
 use std::sync::{Mutex, MutexGuard, RwLock, RwLockReadGuard, RwLockWriteGuard, Wait};
-use sw_map::CrackerMap;
-use sw_versions::Naming;
 
-/// A head that one thread has alone.
+/// What one thread has alone.
 #[derive(Drop)]
-pub enum Alone<'l, J: Naming, M: CrackerMap> {
+pub enum Alone<'l, T> {
     /// Under a latch for one thread.
-    Locked(MutexGuard<'l, LatchedHead<J, M>>),
+    Locked(MutexGuard<'l, T>),
     /// Under a latch that others share at other times.
-    Written(RwLockWriteGuard<'l, LatchedHead<J, M>>),
+    Written(RwLockWriteGuard<'l, T>),
 }
 
-impl<'l, J: Naming, M: CrackerMap> Alone<'l, J, M> {
-    /// The head.
-    pub fn head(&mut self) -> &mut LatchedHead<J, M> {
+impl<'l, T> Alone<'l, T> {
+    /// What lies under the latch.
+    pub fn inside(&mut self) -> &mut T {
         match self {
             Alone::Locked(guard) => &mut **guard,
             Alone::Written(guard) => &mut **guard,
@@ -25,16 +23,16 @@ impl<'l, J: Naming, M: CrackerMap> Alone<'l, J, M> {
     }
 }
 
-/// A head under a latch.
-pub trait Latch<J: Naming, M: CrackerMap>: Drop {
-    /// This head under one.
-    fn over(head: LatchedHead<J, M>) -> Self;
+/// A latch, over a head.
+pub trait Latch<T>: Drop {
+    /// One over this.
+    fn over(it: T) -> Self;
 
-    /// The head, for one thread alone. It waits for others.
-    fn take<R: Wait>(&self, rt: &R) -> Alone<'_, J, M>;
+    /// What lies under it, for one thread alone. It waits for others.
+    fn take<R: Wait>(&self, rt: &R) -> Alone<'_, T>;
 
-    /// The head, shared. None where the latch never shares it, or another had it alone for long.
-    fn share<R: Wait>(&self, rt: &R) -> Option<RwLockReadGuard<'_, LatchedHead<J, M>>>;
+    /// What lies under it, shared. None where the latch never shares it, or another had it alone for long.
+    fn share<R: Wait>(&self, rt: &R) -> Option<RwLockReadGuard<'_, T>>;
 }
 
 /// A latch under which a head is for one thread alone at any time.
@@ -44,12 +42,12 @@ pub type AloneLatch<J, M> = Mutex<LatchedHead<J, M>>;
 /// be behind a `&` in many.
 pub type SharedLatch<J, M> = RwLock<LatchedHead<J, M>>;
 
-impl<J: Naming, M: CrackerMap> Latch<J, M> for Mutex<LatchedHead<J, M>> {
-    fn over(head: LatchedHead<J, M>) -> Self {
-        Mutex::new(head)
+impl<T: Drop> Latch<T> for Mutex<T> {
+    fn over(it: T) -> Self {
+        Mutex::new(it)
     }
 
-    fn take<R: Wait>(&self, rt: &R) -> Alone<'_, J, M> {
+    fn take<R: Wait>(&self, rt: &R) -> Alone<'_, T> {
         for look in 0..PAUSES + NAPS {
             if let Some(guard) = self.try_lock() {
                 return Alone::Locked(guard);
@@ -59,17 +57,17 @@ impl<J: Naming, M: CrackerMap> Latch<J, M> for Mutex<LatchedHead<J, M>> {
         Alone::Locked(self.lock(rt))
     }
 
-    fn share<R: Wait>(&self, _rt: &R) -> Option<RwLockReadGuard<'_, LatchedHead<J, M>>> {
+    fn share<R: Wait>(&self, _rt: &R) -> Option<RwLockReadGuard<'_, T>> {
         None
     }
 }
 
-impl<J: Naming, M: CrackerMap> Latch<J, M> for RwLock<LatchedHead<J, M>> {
-    fn over(head: LatchedHead<J, M>) -> Self {
-        RwLock::new(head)
+impl<T: Drop> Latch<T> for RwLock<T> {
+    fn over(it: T) -> Self {
+        RwLock::new(it)
     }
 
-    fn take<R: Wait>(&self, rt: &R) -> Alone<'_, J, M> {
+    fn take<R: Wait>(&self, rt: &R) -> Alone<'_, T> {
         for look in 0..PAUSES + NAPS {
             if let Some(guard) = self.try_write() {
                 return Alone::Written(guard);
@@ -79,7 +77,7 @@ impl<J: Naming, M: CrackerMap> Latch<J, M> for RwLock<LatchedHead<J, M>> {
         Alone::Written(self.write(rt))
     }
 
-    fn share<R: Wait>(&self, rt: &R) -> Option<RwLockReadGuard<'_, LatchedHead<J, M>>> {
+    fn share<R: Wait>(&self, rt: &R) -> Option<RwLockReadGuard<'_, T>> {
         for look in 0..PAUSES + NAPS {
             if let Some(guard) = self.try_read() {
                 return Some(guard);
