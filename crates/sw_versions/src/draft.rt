@@ -41,7 +41,6 @@ impl<J: Naming> Model for Draft<J> {
 impl<J: Naming> Draft<J> {
     /// Tables of the opening rows, for a list. The one error is that there is no memory for them. The caller's conditions: these are the
     /// opening rows, and their keys rise from above 0.
-    #[tactic(auto, using(crate::proofs::Drafts::draft_new))]
     pub fn new(alloc: Global, opening: &PackedRows, list: Front<J>) -> Result<Draft<J>, AllocError>
         requires rows { opening.now.items ≡ J.opening }
         requires rise { RisesFrom 0 J.opening }
@@ -60,7 +59,7 @@ impl<J: Naming> Draft<J> {
 
     /// Where the tables lack more updates of a list than so many, the next so many are taken, for `make`: whether they are. The one
     /// error is that there is no memory for them; a list that does not begin with the known one is refused as if there were none.
-    #[tactic(auto, using(crate::proofs::Drafts::draft_within, crate::proofs::Drafts::draft_same, crate::proofs::Drafts::draft_next, crate::proofs::Drafts::draft_taken))]
+    #[tactic(auto, using(crate::proofs::Drafts::draft_within, crate::proofs::Drafts::draft_same))]
     pub(crate) fn take_next(
         &mut self,
         list: &Front<J>,
@@ -85,7 +84,7 @@ impl<J: Naming> Draft<J> {
     }
 
     /// Makes the updates that were taken. The one error is that there is no memory for them.
-    #[tactic(auto, using(crate::proofs::Drafts::draft_made, crate::proofs::Drafts::draft_room))]
+    #[tactic(auto, using(crate::proofs::Drafts::draft_room))]
     pub fn make(self) -> Result<Draft<J>, AllocError> {
         let Draft {
             first,
@@ -110,7 +109,7 @@ impl<J: Naming> Draft<J> {
     }
 
     /// Both tables, in which all updates of a list were made.
-    #[tactic(auto, using(crate::proofs::Drafts::draft_within, crate::proofs::Drafts::draft_all))]
+    #[tactic(auto, using(crate::proofs::Drafts::draft_within))]
     pub(crate) fn after(
         self,
         list: &Front<J>,
