@@ -146,6 +146,12 @@ class Cases:
         refused("a record too short, behind two lines", b'a,b\n"x\ny",1\n1\n', "line 4: 1 field, and the header has 2; " + ragged)
         refused("a record too short, behind an empty line, all with CR LF", b"a,b\r\n1,2\r\n\r\n3\r\n", "line 4: 1 field, and the header has 2; " + ragged)
         refused("a quote that is not closed", b'a,b\n"x,1\n2,3\n', "line 2: 1 field, and the header has 2; " + ragged)
+        seven = " (more than 6 decimals)"
+        refused("a number of seven decimals", b"a\n1.5\n-0.1234567\n", "line 3, column 1 (a): `-0.1234567` is no fix6" + seven, ["--kind", "a=fix6"])
+        refused("a number of a dot more", b"a\n1.5\n1.2.345678\n", "line 3, column 1 (a): `1.2.345678` is no fix6", ["--kind", "a=fix6"])
+        made("numbers of seven decimals", b"a,b\n1.5,0.0000001\n0.1234567,2\n", "a:text,b:text\n1.5,0.0000001\n0.1234567,2\n",
+             ["a:text; texts, since from line 3 on, with `0.1234567`%s, no other kind fits all cells" % seven,
+              "b:text; texts, since line 2 has `0.0000001`" + seven], rows=(2, 2))
         refused("Latin-1", b"name,n\nJos\xe9,1\n", "texts that are not UTF-8: 1 in column 1 (name), the first in line 2; iconv -f LATIN1 -t UTF-8 makes UTF-8 "
                 "of a file in Latin-1")
         for mark, coding in ((b"\xff\xfe", "utf-16-le"), (b"\xfe\xff", "utf-16-be")):
