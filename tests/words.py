@@ -500,7 +500,7 @@ class Cases:
             (self.folder / name).write_bytes(data)
         for words in (["describe"], ["run", "-e", "count", "--table"]):
             self.case("a table in UTF-16", words + ["wide.csv"], 2, "", "sideways: refused 2 record 0 field 1\n"
-                      "wide.csv: it begins as a file in UTF-16 does, of which iconv -f UTF-16 -t UTF-8 makes UTF-8\n")
+                      "wide.csv: the file begins as one in UTF-16 does, of which iconv -f UTF-16 -t UTF-8 makes UTF-8\n")
             self.case("a table behind a comment", words + ["hash.csv"], 2, "", "sideways: refused 2 record 0 field 1\nhash.csv line 1, column 1: '#' stands "
                       "in a name, which has letters, digits and _: '# made today'; a table has no comments, and sed '/^#/d' takes such lines out\n")
         unclosed = "%s line %d: a quote opens there that nothing closes\n"
