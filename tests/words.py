@@ -6,7 +6,7 @@ replies in other forms. Each case is a run of the built program, whose status, o
 
 PATH is the built program, by default crates/sideways/out/sideways. Ends with 1 at the first case that is wrong, which it shows; its last
 line tells how many cases there were."""
-import argparse, csv, io, json, os, shutil, subprocess, sys, tempfile
+import argparse, collections, csv, io, json, os, random, shutil, subprocess, sys, tempfile
 from pathlib import Path
 
 TOP = Path(__file__).resolve().parents[1]
@@ -146,6 +146,12 @@ class Cases:
         refused("a record too short, behind two lines", b'a,b\n"x\ny",1\n1\n', "line 4: 1 field, and the header has 2; " + ragged)
         refused("a record too short, behind an empty line, all with CR LF", b"a,b\r\n1,2\r\n\r\n3\r\n", "line 4: 1 field, and the header has 2; " + ragged)
         refused("a quote that is not closed", b'a,b\n"x,1\n2,3\n', "line 2: 1 field, and the header has 2; " + ragged)
+        seven = " (more than 6 decimals)"
+        refused("a number of seven decimals", b"a\n1.5\n-0.1234567\n", "line 3, column 1 (a): `-0.1234567` is no fix6" + seven, ["--kind", "a=fix6"])
+        refused("a number of a dot more", b"a\n1.5\n1.2.345678\n", "line 3, column 1 (a): `1.2.345678` is no fix6", ["--kind", "a=fix6"])
+        made("numbers of seven decimals", b"a,b\n1.5,0.0000001\n0.1234567,2\n", "a:text,b:text\n1.5,0.0000001\n0.1234567,2\n",
+             ["a:text; texts, since from line 3 on, with `0.1234567`%s, no other kind fits all cells" % seven,
+              "b:text; texts, since line 2 has `0.0000001`" + seven], rows=(2, 2))
         refused("Latin-1", b"name,n\nJos\xe9,1\n", "texts that are not UTF-8: 1 in column 1 (name), the first in line 2; iconv -f LATIN1 -t UTF-8 makes UTF-8 "
                 "of a file in Latin-1")
         for mark, coding in ((b"\xff\xfe", "utf-16-le"), (b"\xfe\xff", "utf-16-be")):
@@ -354,6 +360,48 @@ class Cases:
             self.gone("a description whose reader is gone, as %s" % form, words)
         self.refused("a description in a form that is none", ["describe", "t.csv", "--output", "csv"], "csv")
 
+    def described(self):
+        """Random tables: a description in each form tells what Python finds in them."""
+        r = random.Random(7)
+        edges = (0, 0, 1, -1, 7, 10, 2 ** 63 - 1, -2 ** 63)
+        texts = ("", "Oslo", "it's", 'a "b"', "a,b", "\u00e9t\u00e9", "NA", "true")
+
+        def shown(kind, value):
+            if kind.startswith("fix"):
+                places = int(kind[3:])
+                digits = str(abs(value)).rjust(places + 1, "0")
+                return ("-" if value < 0 else "") + digits[:-places] + "." + digits[-places:]
+            return {"int": str, "flag": lambda flag: "ft"[flag] + ("alse", "rue")[flag], "text": str}[kind](value)
+
+        for turn in range(60):
+            kinds = [r.choice(("int", "fix1", "fix6", "flag", "text")) for _ in range(r.randint(1, 8))]
+            many = r.choice((0, 1, 2, 30, 300))
+            cells = [[r.choice(texts) + str(r.randrange(3)) if kind == "text" else r.randrange(2) if kind == "flag"
+                      else r.choice(edges) if r.random() < 0.3 else r.randrange(-20, 20) for _ in range(many)] for kind in kinds]
+            text = io.StringIO()
+            writer = csv.writer(text, lineterminator="\n")
+            writer.writerow("%s:%s" % ("abcdefgh"[place] * (place + 1), kind) for place, kind in enumerate(kinds))
+            writer.writerows([shown(kinds[place], column[row]) for place, column in enumerate(cells)] for row in range(many))
+            lines, frequent, attributes = [["name", "kind", "distinct", "least", "greatest"]], "", []
+            for place, (kind, column) in enumerate(zip(kinds, cells)):
+                name, ends = "abcdefgh"[place] * (place + 1), [min(column), max(column)] if column and kind != "text" else []
+                lines.append([name, kind, str(len(set(column)))] + ([shown(kind, end) for end in ends] or ["-", "-"]))
+                one = {"name": name, "kind": kind, "distinct": len(set(column))}
+                if kind == "text":
+                    most = collections.Counter(column).most_common(8)
+                    if most:
+                        frequent += "\nmost frequent of %s\n" % name + "".join("%d '%s'\n" % (count, of.replace("'", "''")) for of, count in most)
+                    one["frequent"] = [{"text": of, "count": count} for of, count in most]
+                else:
+                    one["least"], one["greatest"] = [json.loads(shown(kind, end)) for end in ends] or [None, None]
+                attributes.append(one)
+            wide = [max(len(line[place]) for line in lines) for place in range(4)]
+            table = "".join("  ".join([word.ljust(width) for word, width in zip(line, wide)] + line[4:]) + "\n" for line in lines)
+            self.case("the description of a random table", ["describe", "-"], 0, "rows %d\n\n%s%s" % (many, table, frequent), "", text.getvalue().encode())
+            got = self.case("the same as JSON", ["describe", "-", "--output", "json"], 0, ANY, "", text.getvalue().encode())
+            if json.loads(got[1]) != {"rows": many, "attributes": attributes} or got[1].count("\n") != 1:
+                raise Wrong("WRONG: the description of a random table as JSON:\n%s\n%r" % (got[1], attributes))
+
     # Replies in other forms
 
     def forms(self):
@@ -494,7 +542,7 @@ class Cases:
             (self.folder / name).write_bytes(data)
         for words in (["describe"], ["run", "-e", "count", "--table"]):
             self.case("a table in UTF-16", words + ["wide.csv"], 2, "", "sideways: refused 2 record 0 field 1\n"
-                      "wide.csv: it begins as a file in UTF-16 does, of which iconv -f UTF-16 -t UTF-8 makes UTF-8\n")
+                      "wide.csv: the file begins as one in UTF-16 does, of which iconv -f UTF-16 -t UTF-8 makes UTF-8\n")
             self.case("a table behind a comment", words + ["hash.csv"], 2, "", "sideways: refused 2 record 0 field 1\nhash.csv line 1, column 1: '#' stands "
                       "in a name, which has letters, digits and _: '# made today'; a table has no comments, and sed '/^#/d' takes such lines out\n")
         unclosed = "%s line %d: a quote opens there that nothing closes\n"
@@ -512,10 +560,12 @@ class Cases:
     # Help
 
     def helps(self):
-        for words in (["--help"], ["run", "--help"], ["check", "--help"], ["order", "--help"], ["describe", "--help"], ["explain", "--help"]):
+        for words, statuses in ((["--help"], "\nExit status:\n  0  "), (["run", "--help"], "\nStatus 0: "), (["check", "--help"], "\nStatus 0: "),
+                                (["order", "--help"], "\nStatus 0: "), (["shell", "--help"], "\nStatus 0: "), (["describe", "--help"], ""),
+                                (["explain", "--help"], "")):
             got = self.case("the help of %s" % words[0], words, 0, ANY, "")
-            if "Examples:\n" not in got[1]:
-                raise Wrong("WRONG: the help of %s has no examples" % words[0])
+            if "Examples:\n" not in got[1] or statuses not in got[1]:
+                raise Wrong("WRONG: the help of %s has no examples, or no statuses" % words[0])
 
 
     def version(self):
@@ -533,8 +583,8 @@ def main():
     with tempfile.TemporaryDirectory() as folder:
         cases = Cases(Path(given.program).resolve(), folder)
         try:
-            for part in (cases.inputs, cases.headers, cases.imports, cases.words, cases.descriptions, cases.forms, cases.origins, cases.keys, cases.flaws,
-                         cases.files, cases.helps, cases.version):
+            for part in (cases.inputs, cases.headers, cases.imports, cases.words, cases.descriptions, cases.described, cases.forms, cases.origins,
+                         cases.keys, cases.flaws, cases.files, cases.helps, cases.version):
                 part()
         except Wrong as wrong:
             print(wrong)

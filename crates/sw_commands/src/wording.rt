@@ -8,7 +8,7 @@ use std::io::ErrorKind;
 use std::random::RandomSource;
 use std::rt::Files;
 use std::{fs, io};
-use sw_faults::{Asked, Given, Origin, Text, all_faults, words_of, wrong_entry};
+use sw_faults::{Asked, Given, MOST_COLUMNS, Origin, Text, all_faults, words_of, wrong_entry};
 use sw_files::read_file;
 use sw_headers::{Header, text_under};
 use sw_rows::{Refusal, TextKey, Why};
@@ -270,9 +270,6 @@ fn texts_again<R: Files>(rt: &R, alloc: Global, asking: &Asking<'_>, kept: Keeps
         },
     }
 }
-
-/// How many columns a table has at most.
-const MOST_COLUMNS: usize = 8;
 
 /// Whether a refusal is of a header that was given: of a field of it, or of more names than a table has columns.
 fn is_of_header(header: &str, refusal: &Refusal) -> bool {
