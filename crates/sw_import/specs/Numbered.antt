@@ -1,5 +1,5 @@
 -- The texts for which numbers stand in a table, as they are told.
-use Rattle.std.specs.Prelude.{◌+◌, ℕ, List, [], ◌∷◌, codes, decimal}
+use Rattle.std.specs.Prelude.{◌+◌, ℕ, List, [], ◌∷◌, codes, decimal, slice_index_or}
 use Rattle.std.specs.List.{flat_map}
 use Rattle.sw_import.specs.declared.planning.Planned.{Planned}
 
@@ -16,6 +16,14 @@ abbrev pub numbered_from : ℕ → List ℕ → List (List ℕ) → List (List (
 numbered_from number name [] = []
 numbered_from number name (text ∷ texts) = numbered name number text ∷ numbered_from (number + 1) name texts
 
+-- that of the text at a place of a column's dictionary, whose number is one more
+abbrev pub numbered_at : Planned → ℕ → List (List ℕ)
+numbered_at p place = numbered p.column.name (place + 1) (slice_index_or p.dictionary place [])
+
+-- those of all texts of a column
+abbrev pub column_records : Planned → List (List (List ℕ))
+column_records p = numbered_from 1 p.column.name p.dictionary
+
 -- those of all columns, column by column, behind the headings
 abbrev pub dictionary_records : List Planned → List (List (List ℕ))
-dictionary_records plan = dictionary_heading ∷ flat_map (λ p. numbered_from 1 p.column.name p.dictionary) plan
+dictionary_records plan = dictionary_heading ∷ flat_map column_records plan

@@ -1,8 +1,8 @@
 //! The texts for which numbers were written, as comma-separated values.
 
-ghost use Rattle.std.specs.Prelude.{◌≡◌, ◌∷◌, ◌++◌, [], ◌+◌, ◌<◌, codes, decimal, length, slice_index_or, IfOk, OnOk};
+ghost use Rattle.std.specs.Prelude.{◌≡◌, ◌++◌, ◌<◌, length, IfOk, OnOk};
 ghost use Rattle.csv.specs.Records.{fields_of};
-ghost use Rattle.sw_import.specs.Numbered.{dictionary_heading, dictionary_records, numbered, numbered_from};
+ghost use Rattle.sw_import.specs.Numbered.{column_records, dictionary_heading, dictionary_records, numbered, numbered_at};
 ghost use Rattle.sw_import.specs.Pages.{record_text, text_of};
 
 use crate::importing::Imported;
@@ -47,8 +47,7 @@ fn add_text(
     pages: &mut Pages,
 ) -> Result<(), AllocError>
     requires { place < length planned.now.dictionary }
-    ensures { OnOk result (pages.new ≡ pages.old ++ record_text
-        (numbered planned.now.column.name (place + 1) (slice_index_or planned.now.dictionary place []))) }
+    ensures { OnOk result (pages.new ≡ pages.old ++ record_text (numbered_at planned.now place)) }
 {
     // for the prover: there are few
     let _count = planned.dictionary.len();
@@ -66,8 +65,7 @@ fn add_dictionary(
     row: &mut ByteRecord,
     pages: &mut Pages,
 ) -> Result<(), AllocError>
-    ensures { OnOk result (pages.new ≡ pages.old ++ text_of
-        (numbered_from 1 planned.now.column.name planned.now.dictionary)) }
+    ensures { OnOk result (pages.new ≡ pages.old ++ text_of (column_records planned.now)) }
 {
     for place in 0..planned.dictionary.len() {
         add_text(planned, place, row, pages)?;
