@@ -82,14 +82,14 @@ class Cases:
 
     def imports(self):
         def told(read, written, columns, lines):
-            return "sideways: -: %d rows read, %d written, of %d columns\n%s" % (read, written, columns, "".join("  %s\n" % line for line in lines))
+            return "sideways: standard input: %d rows read, %d written, of %d columns\n%s" % (read, written, columns, "".join("  %s\n" % line for line in lines))
 
         def made(name, data, table, lines, words=(), rows=(1, 1)):
             columns = table.split("\n")[0].count(",") + 1
             self.case(name, ["import", "-"] + list(words), 0, table, told(rows[0], rows[1], columns, lines), data)
 
         def refused(name, data, why, words=()):
-            self.case(name, ["import", "-"] + list(words), 2, "", "sideways: -: %s\n" % why, data)
+            self.case(name, ["import", "-"] + list(words), 2, "", "sideways: standard input: %s\n" % why, data)
 
         ints = "a:int,b:int\n1,2\n"
         made("a byte order mark", b"\xef\xbb\xbfa,b\n1,2\n", ints, ["a:int", "b:int"])
@@ -145,7 +145,14 @@ class Cases:
                 "that stand for the texts; one column, whose heading has a divider: --delimiter '\\t' divides there")
         refused("a record too short, behind two lines", b'a,b\n"x\ny",1\n1\n', "line 4: 1 field, and the header has 2; " + ragged)
         refused("a record too short, behind an empty line, all with CR LF", b"a,b\r\n1,2\r\n\r\n3\r\n", "line 4: 1 field, and the header has 2; " + ragged)
-        refused("a quote that is not closed", b'a,b\n"x,1\n2,3\n', "line 2: 1 field, and the header has 2; " + ragged)
+        unclosed = "; line %d: a quote opens there that nothing closes"
+        refused("a quote that is not closed", b'a,b\n"x,1\n2,3\n', "line 2: 1 field, and the header has 2; " + ragged + unclosed % 2)
+        comment = "; a line that begins with # is no comment here, and sed '/^#/d' takes such lines out"
+        refused("a comment before the values", b"# made today\na,b\n1,2\n", "line 2: 2 fields, and the header has 1" + comment)
+        a_table = "the headings have kinds, as those of a table, which needs no import: sideways run --table -"
+        made("a table", TABLE, "a_int:int,b_int:int,c_int:int\n" + TABLE.decode().split("\n", 1)[1],
+             ["%s_int:int; heading `%s:int`" % (name, name) for name in "abc"] + [a_table], rows=(4, 4))
+        refused("a column of a table", TABLE, "no column has the heading or the number `a`: there are 3 columns; " + a_table, ["--columns", "a"])
         seven = " (more than 6 decimals)"
         refused("a number of seven decimals", b"a\n1.5\n-0.1234567\n", "line 3, column 1 (a): `-0.1234567` is no fix6" + seven, ["--kind", "a=fix6"])
         refused("a number of a dot more", b"a\n1.5\n1.2.345678\n", "line 3, column 1 (a): `1.2.345678` is no fix6", ["--kind", "a=fix6"])
@@ -222,6 +229,13 @@ class Cases:
         finally:
             os.close(end)
         if (done.returncode, done.stderr) != (status, told):
+            raise Wrong("WRONG: %s: %r" % (name, done))
+
+    def closed(self, name, words):
+        """One run whose standard input is closed."""
+        self.cases += 1
+        done = subprocess.run(["sh", "-c", 'exec "$@" <&-', "sh", self.program] + words, cwd=self.folder, capture_output=True, timeout=60)
+        if (done.returncode, done.stdout, done.stderr) != (2, b"", b"sideways: refused 12\nstandard input: it cannot be read\n"):
             raise Wrong("WRONG: %s: %r" % (name, done))
 
     def gone(self, name, words):
@@ -353,7 +367,8 @@ class Cases:
         self.case("a description of none", ["describe", "none.csv"], 2, "", "sideways: refused 12\nnone.csv: there is no such file\n")
         self.case("a description of a folder", ["describe", "folder"], 2, "", "sideways: refused 12\nfolder: a folder, wanted a file\n")
         self.refused("a description of no file", ["describe"], "required")
-        self.ended("a description of standard input that cannot be read", ["describe", "-"], "stdin", self.folder, 2, b"sideways: refused 12\n")
+        self.ended("a description of standard input that cannot be read", ["describe", "-"], "stdin", self.folder, 2,
+                   b"sideways: refused 12\nstandard input: it cannot be read\n")
         for form in ("table", "json"):
             words = ["describe", "t.csv", "--output", form]
             self.ended("a description to a full device, as %s" % form, words, "stdout", "/dev/full", 3, FULL)
@@ -557,6 +572,19 @@ class Cases:
                   "sideways: refused 2 record 1 field 2\n" + unclosed % ("short.csv", 3) + missing
                   + "short.csv line 3, b:text: byte 2 is a control byte, which no text has: 'z\\n3,u\\n'\nshort.csv: 2 faults\n")
 
+    # Where standard input is closed or standard output full, and the usage of a command
+
+    def streams(self):
+        for words in (["run", "--table", "t.csv", "--script", "-"], ["run", "--table", "-", "-e", "count"], ["describe", "-"], ["check", "-"],
+                      ["run", "--table", "t.csv", "--script", "-", "--threads", "--history", "h.json"], ["shell", "t.csv"],
+                      ["import", "-"], ["order", "--table", "-", "one.csv"], ["order", "--table", "t.csv", "-"]):
+            self.closed("standard input that is closed: %s" % " ".join(words), words)
+        self.ended("an explanation to a full device", ["explain", "3"], "stdout", "/dev/full", 3, FULL)
+        self.gone("an explanation whose reader is gone", ["explain"])
+        for words in (["run", "--table", "-", "--script", "-"], ["describe", "t.csv", "--header", "a\nb"], ["import", "t.csv", "--delimiter", ";;"],
+                      ["order", "--table", "-", "-"], ["shell", "-"]):
+            self.refused("the usage of %s" % words[0], words, "\n\nUsage: sideways %s " % words[0])
+
     # Help
 
     def helps(self):
@@ -584,7 +612,7 @@ def main():
         cases = Cases(Path(given.program).resolve(), folder)
         try:
             for part in (cases.inputs, cases.headers, cases.imports, cases.words, cases.descriptions, cases.described, cases.forms, cases.origins,
-                         cases.keys, cases.flaws, cases.files, cases.helps, cases.version):
+                         cases.keys, cases.flaws, cases.files, cases.streams, cases.helps, cases.version):
                 part()
         except Wrong as wrong:
             print(wrong)

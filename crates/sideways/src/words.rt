@@ -279,3 +279,16 @@ pub(crate) fn command<'a>(alloc: Global) -> Result<Command<'a>, AllocError> {
     let all = above(all, command_of(alloc, &IMPORT))?;
     above(all, explain_command(alloc))
 }
+
+/// The command of a name, for what is wrong with its words.
+pub(crate) fn command_named<'a>(alloc: Global, name: &str) -> Result<Command<'a>, AllocError> {
+    let command = match name {
+        "shell" => command_of(alloc, &SHELL)?,
+        "describe" => command_of(alloc, &DESCRIBE)?,
+        "order" => order_command(alloc)?,
+        "import" => command_of(alloc, &IMPORT)?,
+        _ => run_command(alloc)?,
+    };
+    let whole = format!(in alloc; "sideways {name}")?;
+    command.bin_name(whole.as_str())
+}
