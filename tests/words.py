@@ -6,7 +6,7 @@ replies in other forms. Each case is a run of the built program, whose status, o
 
 PATH is the built program, by default crates/sideways/out/sideways. Ends with 1 at the first case that is wrong, which it shows; its last
 line tells how many cases there were."""
-import argparse, csv, io, json, os, shutil, subprocess, sys, tempfile
+import argparse, collections, csv, io, json, os, random, shutil, subprocess, sys, tempfile
 from pathlib import Path
 
 TOP = Path(__file__).resolve().parents[1]
@@ -82,14 +82,14 @@ class Cases:
 
     def imports(self):
         def told(read, written, columns, lines):
-            return "sideways: -: %d rows read, %d written, of %d columns\n%s" % (read, written, columns, "".join("  %s\n" % line for line in lines))
+            return "sideways: standard input: %d rows read, %d written, of %d columns\n%s" % (read, written, columns, "".join("  %s\n" % line for line in lines))
 
         def made(name, data, table, lines, words=(), rows=(1, 1)):
             columns = table.split("\n")[0].count(",") + 1
             self.case(name, ["import", "-"] + list(words), 0, table, told(rows[0], rows[1], columns, lines), data)
 
         def refused(name, data, why, words=()):
-            self.case(name, ["import", "-"] + list(words), 2, "", "sideways: -: %s\n" % why, data)
+            self.case(name, ["import", "-"] + list(words), 2, "", "sideways: standard input: %s\n" % why, data)
 
         ints = "a:int,b:int\n1,2\n"
         made("a byte order mark", b"\xef\xbb\xbfa,b\n1,2\n", ints, ["a:int", "b:int"])
@@ -145,7 +145,20 @@ class Cases:
                 "that stand for the texts; one column, whose heading has a divider: --delimiter '\\t' divides there")
         refused("a record too short, behind two lines", b'a,b\n"x\ny",1\n1\n', "line 4: 1 field, and the header has 2; " + ragged)
         refused("a record too short, behind an empty line, all with CR LF", b"a,b\r\n1,2\r\n\r\n3\r\n", "line 4: 1 field, and the header has 2; " + ragged)
-        refused("a quote that is not closed", b'a,b\n"x,1\n2,3\n', "line 2: 1 field, and the header has 2; " + ragged)
+        unclosed = "; line %d: a quote opens there that nothing closes"
+        refused("a quote that is not closed", b'a,b\n"x,1\n2,3\n', "line 2: 1 field, and the header has 2; " + ragged + unclosed % 2)
+        comment = "; a line that begins with # is no comment here, and sed '/^#/d' takes such lines out"
+        refused("a comment before the values", b"# made today\na,b\n1,2\n", "line 2: 2 fields, and the header has 1" + comment)
+        a_table = "the headings have kinds, as those of a table, which needs no import: sideways run --table -"
+        made("a table", TABLE, "a_int:int,b_int:int,c_int:int\n" + TABLE.decode().split("\n", 1)[1],
+             ["%s_int:int; heading `%s:int`" % (name, name) for name in "abc"] + [a_table], rows=(4, 4))
+        refused("a column of a table", TABLE, "no column has the heading or the number `a`: there are 3 columns; " + a_table, ["--columns", "a"])
+        seven = " (more than 6 decimals)"
+        refused("a number of seven decimals", b"a\n1.5\n-0.1234567\n", "line 3, column 1 (a): `-0.1234567` is no fix6" + seven, ["--kind", "a=fix6"])
+        refused("a number of a dot more", b"a\n1.5\n1.2.345678\n", "line 3, column 1 (a): `1.2.345678` is no fix6", ["--kind", "a=fix6"])
+        made("numbers of seven decimals", b"a,b\n1.5,0.0000001\n0.1234567,2\n", "a:text,b:text\n1.5,0.0000001\n0.1234567,2\n",
+             ["a:text; texts, since from line 3 on, with `0.1234567`%s, no other kind fits all cells" % seven,
+              "b:text; texts, since line 2 has `0.0000001`" + seven], rows=(2, 2))
         refused("Latin-1", b"name,n\nJos\xe9,1\n", "texts that are not UTF-8: 1 in column 1 (name), the first in line 2; iconv -f LATIN1 -t UTF-8 makes UTF-8 "
                 "of a file in Latin-1")
         for mark, coding in ((b"\xff\xfe", "utf-16-le"), (b"\xfe\xff", "utf-16-be")):
@@ -216,6 +229,13 @@ class Cases:
         finally:
             os.close(end)
         if (done.returncode, done.stderr) != (status, told):
+            raise Wrong("WRONG: %s: %r" % (name, done))
+
+    def closed(self, name, words):
+        """One run whose standard input is closed."""
+        self.cases += 1
+        done = subprocess.run(["sh", "-c", 'exec "$@" <&-', "sh", self.program] + words, cwd=self.folder, capture_output=True, timeout=60)
+        if (done.returncode, done.stdout, done.stderr) != (2, b"", b"sideways: refused 12\nstandard input: it cannot be read\n"):
             raise Wrong("WRONG: %s: %r" % (name, done))
 
     def gone(self, name, words):
@@ -347,12 +367,55 @@ class Cases:
         self.case("a description of none", ["describe", "none.csv"], 2, "", "sideways: refused 12\nnone.csv: there is no such file\n")
         self.case("a description of a folder", ["describe", "folder"], 2, "", "sideways: refused 12\nfolder: a folder, wanted a file\n")
         self.refused("a description of no file", ["describe"], "required")
-        self.ended("a description of standard input that cannot be read", ["describe", "-"], "stdin", self.folder, 2, b"sideways: refused 12\n")
+        self.ended("a description of standard input that cannot be read", ["describe", "-"], "stdin", self.folder, 2,
+                   b"sideways: refused 12\nstandard input: it cannot be read\n")
         for form in ("table", "json"):
             words = ["describe", "t.csv", "--output", form]
             self.ended("a description to a full device, as %s" % form, words, "stdout", "/dev/full", 3, FULL)
             self.gone("a description whose reader is gone, as %s" % form, words)
         self.refused("a description in a form that is none", ["describe", "t.csv", "--output", "csv"], "csv")
+
+    def described(self):
+        """Random tables: a description in each form tells what Python finds in them."""
+        r = random.Random(7)
+        edges = (0, 0, 1, -1, 7, 10, 2 ** 63 - 1, -2 ** 63)
+        texts = ("", "Oslo", "it's", 'a "b"', "a,b", "\u00e9t\u00e9", "NA", "true")
+
+        def shown(kind, value):
+            if kind.startswith("fix"):
+                places = int(kind[3:])
+                digits = str(abs(value)).rjust(places + 1, "0")
+                return ("-" if value < 0 else "") + digits[:-places] + "." + digits[-places:]
+            return {"int": str, "flag": lambda flag: "ft"[flag] + ("alse", "rue")[flag], "text": str}[kind](value)
+
+        for turn in range(60):
+            kinds = [r.choice(("int", "fix1", "fix6", "flag", "text")) for _ in range(r.randint(1, 8))]
+            many = r.choice((0, 1, 2, 30, 300))
+            cells = [[r.choice(texts) + str(r.randrange(3)) if kind == "text" else r.randrange(2) if kind == "flag"
+                      else r.choice(edges) if r.random() < 0.3 else r.randrange(-20, 20) for _ in range(many)] for kind in kinds]
+            text = io.StringIO()
+            writer = csv.writer(text, lineterminator="\n")
+            writer.writerow("%s:%s" % ("abcdefgh"[place] * (place + 1), kind) for place, kind in enumerate(kinds))
+            writer.writerows([shown(kinds[place], column[row]) for place, column in enumerate(cells)] for row in range(many))
+            lines, frequent, attributes = [["name", "kind", "distinct", "least", "greatest"]], "", []
+            for place, (kind, column) in enumerate(zip(kinds, cells)):
+                name, ends = "abcdefgh"[place] * (place + 1), [min(column), max(column)] if column and kind != "text" else []
+                lines.append([name, kind, str(len(set(column)))] + ([shown(kind, end) for end in ends] or ["-", "-"]))
+                one = {"name": name, "kind": kind, "distinct": len(set(column))}
+                if kind == "text":
+                    most = collections.Counter(column).most_common(8)
+                    if most:
+                        frequent += "\nmost frequent of %s\n" % name + "".join("%d '%s'\n" % (count, of.replace("'", "''")) for of, count in most)
+                    one["frequent"] = [{"text": of, "count": count} for of, count in most]
+                else:
+                    one["least"], one["greatest"] = [json.loads(shown(kind, end)) for end in ends] or [None, None]
+                attributes.append(one)
+            wide = [max(len(line[place]) for line in lines) for place in range(4)]
+            table = "".join("  ".join([word.ljust(width) for word, width in zip(line, wide)] + line[4:]) + "\n" for line in lines)
+            self.case("the description of a random table", ["describe", "-"], 0, "rows %d\n\n%s%s" % (many, table, frequent), "", text.getvalue().encode())
+            got = self.case("the same as JSON", ["describe", "-", "--output", "json"], 0, ANY, "", text.getvalue().encode())
+            if json.loads(got[1]) != {"rows": many, "attributes": attributes} or got[1].count("\n") != 1:
+                raise Wrong("WRONG: the description of a random table as JSON:\n%s\n%r" % (got[1], attributes))
 
     # Replies in other forms
 
@@ -494,7 +557,7 @@ class Cases:
             (self.folder / name).write_bytes(data)
         for words in (["describe"], ["run", "-e", "count", "--table"]):
             self.case("a table in UTF-16", words + ["wide.csv"], 2, "", "sideways: refused 2 record 0 field 1\n"
-                      "wide.csv: it begins as a file in UTF-16 does, of which iconv -f UTF-16 -t UTF-8 makes UTF-8\n")
+                      "wide.csv: the file begins as one in UTF-16 does, of which iconv -f UTF-16 -t UTF-8 makes UTF-8\n")
             self.case("a table behind a comment", words + ["hash.csv"], 2, "", "sideways: refused 2 record 0 field 1\nhash.csv line 1, column 1: '#' stands "
                       "in a name, which has letters, digits and _: '# made today'; a table has no comments, and sed '/^#/d' takes such lines out\n")
         unclosed = "%s line %d: a quote opens there that nothing closes\n"
@@ -509,13 +572,28 @@ class Cases:
                   "sideways: refused 2 record 1 field 2\n" + unclosed % ("short.csv", 3) + missing
                   + "short.csv line 3, b:text: byte 2 is a control byte, which no text has: 'z\\n3,u\\n'\nshort.csv: 2 faults\n")
 
+    # Where standard input is closed or standard output full, and the usage of a command
+
+    def streams(self):
+        for words in (["run", "--table", "t.csv", "--script", "-"], ["run", "--table", "-", "-e", "count"], ["describe", "-"], ["check", "-"],
+                      ["run", "--table", "t.csv", "--script", "-", "--threads", "--history", "h.json"], ["shell", "t.csv"],
+                      ["import", "-"], ["order", "--table", "-", "one.csv"], ["order", "--table", "t.csv", "-"]):
+            self.closed("standard input that is closed: %s" % " ".join(words), words)
+        self.ended("an explanation to a full device", ["explain", "3"], "stdout", "/dev/full", 3, FULL)
+        self.gone("an explanation whose reader is gone", ["explain"])
+        for words in (["run", "--table", "-", "--script", "-"], ["describe", "t.csv", "--header", "a\nb"], ["import", "t.csv", "--delimiter", ";;"],
+                      ["order", "--table", "-", "-"], ["shell", "-"]):
+            self.refused("the usage of %s" % words[0], words, "\n\nUsage: sideways %s " % words[0])
+
     # Help
 
     def helps(self):
-        for words in (["--help"], ["run", "--help"], ["check", "--help"], ["order", "--help"], ["describe", "--help"], ["explain", "--help"]):
+        for words, statuses in ((["--help"], "\nExit status:\n  0  "), (["run", "--help"], "\nStatus 0: "), (["check", "--help"], "\nStatus 0: "),
+                                (["order", "--help"], "\nStatus 0: "), (["shell", "--help"], "\nStatus 0: "), (["describe", "--help"], ""),
+                                (["explain", "--help"], "")):
             got = self.case("the help of %s" % words[0], words, 0, ANY, "")
-            if "Examples:\n" not in got[1]:
-                raise Wrong("WRONG: the help of %s has no examples" % words[0])
+            if "Examples:\n" not in got[1] or statuses not in got[1]:
+                raise Wrong("WRONG: the help of %s has no examples, or no statuses" % words[0])
 
 
     def version(self):
@@ -533,8 +611,8 @@ def main():
     with tempfile.TemporaryDirectory() as folder:
         cases = Cases(Path(given.program).resolve(), folder)
         try:
-            for part in (cases.inputs, cases.headers, cases.imports, cases.words, cases.descriptions, cases.forms, cases.origins, cases.keys, cases.flaws,
-                         cases.files, cases.helps, cases.version):
+            for part in (cases.inputs, cases.headers, cases.imports, cases.words, cases.descriptions, cases.described, cases.forms, cases.origins,
+                         cases.keys, cases.flaws, cases.files, cases.streams, cases.helps, cases.version):
                 part()
         except Wrong as wrong:
             print(wrong)

@@ -169,7 +169,7 @@ pub(crate) const CUTS: Word = Word {
     of: "TEXT",
     takes: Takes::Text,
     usual: Some(""),
-    help: "Where attributes are cut into areas that are kept apart, as name=value;name=value with rising values, at most 15 of an attribute, and none of one of texts",
+    help: "Where attributes are cut into areas that are kept apart, as name=value;name=value with rising values, at most 15 of an attribute; an attribute of kind text takes none",
 };
 
 pub(crate) const ALL_FAULTS: Word = Word {

@@ -13,10 +13,11 @@ mod words;
 
 use crate::import::{NO_DELIMITER, import_of};
 use crate::order::ordering_of;
-use crate::words::command;
+use crate::words::{command, command_named};
 use clap::error::ErrorKind;
 use clap::{ArgMatches, Error};
 use std::alloc::{AllocError, Global};
+use std::fs::File;
 use std::io;
 use std::io::IsTerminal;
 use std::process::ExitCode;
@@ -129,9 +130,14 @@ fn print_error<R: Print + Eprint>(rt: &R, error: &Error) -> Result<u8, Refusal> 
     }
 }
 
-/// Refuses words that clap took, as clap refuses others.
-fn refuse_words<R: Print + Eprint>(rt: &R, alloc: Global, why: &str) -> Result<u8, Refusal> {
-    let Ok(mut command) = command(alloc) else {
+/// Refuses words of a command that clap took, as clap refuses others of it.
+fn refuse_words<R: Print + Eprint>(
+    rt: &R,
+    alloc: Global,
+    verb: &str,
+    why: &str,
+) -> Result<u8, Refusal> {
+    let Ok(mut command) = command_named(alloc, verb) else {
         return Err(Refusal::NoMemory);
     };
     match command.error(ErrorKind::ArgumentConflict, why) {
@@ -179,7 +185,7 @@ fn make_run<
         return Ok(2);
     };
     match wrong_with(rt, &run, calls) {
-        Some(why) => refuse_words(rt, alloc, why),
+        Some(why) => refuse_words(rt, alloc, "run", why),
         None => run.make(rt, alloc, &mut errors.sink, &mut errors.words),
     }
 }
@@ -220,7 +226,7 @@ fn make_description<
         faults: given.get_flag("all-faults"),
     };
     if is_odd_header(description.header) {
-        return refuse_words(rt, alloc, ODD_HEADER);
+        return refuse_words(rt, alloc, "describe", ODD_HEADER);
     }
     description.make(rt, alloc, &mut errors.words)
 }
@@ -264,7 +270,7 @@ fn make_shell<
         return Ok(2);
     };
     if let Some(why) = wrong_with_shell(rt, &shell) {
-        return refuse_words(rt, alloc, why);
+        return refuse_words(rt, alloc, "shell", why);
     }
     if given.get_flag("names") {
         return shell.names(rt, alloc, &mut errors.words);
@@ -281,7 +287,7 @@ fn make_order<
         return Ok(2);
     };
     match ordering.clash(rt) {
-        Some(why) => refuse_words(rt, alloc, why),
+        Some(why) => refuse_words(rt, alloc, "order", why),
         None => ordering.make(rt, alloc, &mut errors.sink, &mut errors.words),
     }
 }
@@ -292,10 +298,10 @@ fn make_import<
     E: Sink + Drop,
 >(rt: &R, alloc: Global, given: &ArgMatches<'_>, errors: &mut Errors<E>) -> Result<u8, Refusal> {
     let Some(import) = import_of(given, errors.is_terminal) else {
-        return refuse_words(rt, alloc, NO_DELIMITER);
+        return refuse_words(rt, alloc, "import", NO_DELIMITER);
     };
     match import.clash(rt) {
-        Some(why) => refuse_words(rt, alloc, why),
+        Some(why) => refuse_words(rt, alloc, "import", why),
         None => import.make(rt, alloc, &mut errors.sink, &mut errors.words),
     }
 }
@@ -311,7 +317,9 @@ fn make_command<
         Some(("order", given)) => make_order(rt, alloc, given, errors),
         Some(("import", given)) => make_import(rt, alloc, given, errors),
         Some(("shell", given)) => make_shell(rt, alloc, given, errors),
-        Some(("explain", given)) => explain(rt, alloc, given.get_one::<u64>("number")),
+        Some(("explain", given)) => {
+            explain(rt, alloc, given.get_one::<u64>("number"), &mut errors.words)
+        }
         Some((_, given)) => make_run(rt, alloc, given, errors),
         None => Ok(2),
     }
@@ -362,7 +370,15 @@ fn tell_refusal<E: Sink + Drop>(refusal: &Refusal, errors: &mut Errors<E>) -> u8
     status(refusal)
 }
 
+/// The topmost folder as a file that is open, which can neither be read nor written; none where the system opens none.
+fn top<R: Files>(rt: &R) -> Option<R::File> {
+    File::open(rt, "/").ok()
+}
+
 fn main(rt: HostRuntime) -> ExitCode {
+    // A file that is opened gets the least number that is free. So the folder takes those of standard streams that are closed, and
+    // no other file is read or written in their place.
+    let _held = [top(&rt), top(&rt), top(&rt)];
     let mut errors = Errors {
         sink: Counted::new(rt.stderr()),
         is_terminal: rt.stderr().is_terminal(),

@@ -22,7 +22,13 @@ Examples:
   sideways describe t.csv
   sideways run --table t.csv -e 'count where a >= 10'
   sideways run --help
-  sideways explain 2";
+  sideways explain 2
+
+Exit status:
+  0  each call was answered, the history is legal, or an order was found
+  1  the history is not legal, or there is no order; nothing else ends so
+  2  the command line, a file that is read, or a line of a shell was refused
+  3  a call, the output, a file that is written or memory was refused, or a search was given up";
 
 const EXAMPLES_OF_RUN: &str = "\
 Examples:
@@ -32,7 +38,9 @@ Examples:
   zcat t.csv.gz | sideways run --table - -e 'sum b where a < 20' --stats
 
 A call is one of: select a, b; count; sum a; min a; max a, each perhaps with where, as where a >= 1 and b = 'Oslo'; insert 1, 'Oslo'; \
-delete 3, by a row's key; delete where a < 5. Rows come with their keys, which count from 1.";
+delete 3, by a row's key; delete where a < 5. Rows come with their keys, which count from 1.
+
+Status 0: each call was answered; 2: the command line, the table or the script was refused; 3: a call, the output, a file or memory was.";
 
 const EXAMPLES_OF_DESCRIBE: &str = "\
 Examples:
@@ -42,7 +50,9 @@ Examples:
 const EXAMPLES_OF_CHECK: &str = "\
 Examples:
   sideways run --table t.csv --script calls.txt --history h.json
-  sideways check h.json";
+  sideways check h.json
+
+Status 0: the history is legal; 1: it is not; 2: the command line or the file was refused; 3: the output or memory was.";
 
 const EXAMPLES_OF_EXPLAIN: &str = "\
 Examples:
@@ -268,4 +278,17 @@ pub(crate) fn command<'a>(alloc: Global) -> Result<Command<'a>, AllocError> {
     let all = above(all, order_command(alloc))?;
     let all = above(all, command_of(alloc, &IMPORT))?;
     above(all, explain_command(alloc))
+}
+
+/// The command of a name, for what is wrong with its words.
+pub(crate) fn command_named<'a>(alloc: Global, name: &str) -> Result<Command<'a>, AllocError> {
+    let command = match name {
+        "shell" => command_of(alloc, &SHELL)?,
+        "describe" => command_of(alloc, &DESCRIBE)?,
+        "order" => order_command(alloc)?,
+        "import" => command_of(alloc, &IMPORT)?,
+        _ => run_command(alloc)?,
+    };
+    let whole = format!(in alloc; "sideways {name}")?;
+    command.bin_name(whole.as_str())
 }

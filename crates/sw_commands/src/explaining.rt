@@ -2,6 +2,9 @@
 
 ghost use Rattle.std.specs.Prelude.{◌≡◌, ◌≤◌, IfOk, IfSome};
 
+use crate::outflow::{Outflow, Reader};
+use crate::shaping::flush;
+use crate::wording::of_output;
 use std::alloc::Global;
 use std::io;
 use std::io::{BufWriter, Write};
@@ -142,18 +145,34 @@ fn write_explanations<W: Sink>(only: Option<u64>, out: &mut W) -> Result<(), Ref
     Ok(())
 }
 
-/// Writes on standard output what the refusal of a number means, or of all numbers where none is given, and answers the
-/// exit status 0. Refused `Output` where it cannot be written, and `NoMemory`.
-pub fn explain<R: Print>(rt: &R, alloc: Global, only: Option<u64>) -> Result<u8, Refusal>
-    ensures { IfOk result (λ status. status ≡ 0) }
-{
-    let Ok(buffer) = BufWriter::new(alloc, io::writer(rt)) else {
+/// Writes what the refusal of a number means, or of all numbers, all of it.
+fn write_all_of<W: Write + Drop>(alloc: Global, only: Option<u64>, out: W) -> Result<(), Refusal> {
+    let Ok(buffer) = BufWriter::new(alloc, out) else {
         return Err(Refusal::NoMemory);
     };
     let mut out = Counted::new(buffer);
-    write_explanations(only, &mut out)?;
-    match out.inner.flush() {
+    match write_explanations(only, &mut out) {
+        Ok(()) => flush(&mut out),
+        Err(refusal) => Err(refusal),
+    }
+}
+
+/// Writes on standard output what the refusal of a number means, or of all numbers where none is given, and answers the
+/// exit status 0. Refused `Output` where it cannot be written, of which `told` gets why in words, and `NoMemory`.
+pub fn explain<R: Print>(
+    rt: &R,
+    alloc: Global,
+    only: Option<u64>,
+    told: &mut Option<String>,
+) -> Result<u8, Refusal>
+    ensures { IfOk result (λ status. status ≡ 0) }
+{
+    let reader = Reader::new();
+    match write_all_of(alloc, only, Outflow::new(io::writer(rt), &reader)) {
         Ok(()) => Ok(0),
-        Err(_) => Err(Refusal::Output),
+        Err(refusal) => {
+            *told = of_output(alloc, &reader, &refusal);
+            Err(refusal)
+        }
     }
 }

@@ -6,12 +6,13 @@ use crate::clash::is_output;
 use crate::inputs::{Place, open_place};
 use crate::outflow::{Outflow, Reader};
 use crate::seeing::{LinesSeen, Seen, Sights, What};
-use crate::wording::{of_output, of_unread, of_unwritten};
-use std::alloc::Global;
+use crate::wording::{called, of_output, of_unread, of_unwritten};
+use std::alloc::{AllocError, Global};
 use std::io;
 use std::random::RandomSource;
 use std::rt::{Clock, Files};
 use std::thread::Threads;
+use sw_faults::{has_kinds, open_quote, why_wide};
 use sw_files::{FileId, begin_file};
 use sw_import::{Fault, How, Imported, dictionary_of, import_in_parts, told as summary};
 use sw_lang::write_all;
@@ -20,9 +21,9 @@ use sw_rows::{Counted, Refusal, Sink, TextKey, read_all};
 /// What is told where there is no key for texts.
 const NO_KEY: &str = "the system gives no random bytes\n";
 
-/// What is told besides why no table was made, where the values begin as a text in UTF-16 does.
-const IS_WIDE: &str =
-    "; the file begins as one in UTF-16 does, of which iconv -f UTF-16 -t UTF-8 makes UTF-8";
+/// What is told besides why no table was made, where the values begin as a comment does.
+const IS_COMMENT: &str =
+    "; a line that begins with # is no comment here, and sed '/^#/d' takes such lines out";
 
 /// A table that is asked for.
 #[derive(Clone, Copy, Debug)]
@@ -70,18 +71,50 @@ fn keep_dictionary<R: Files>(
     file.end(rt, written)
 }
 
+/// That values have a table's header.
+fn of_table(alloc: Global, place: Place<'_>) -> Result<String, AllocError> {
+    let name = place.name();
+    format!(in alloc;
+        "the headings have kinds, as those of a table, which needs no import: sideways run --table {name}"
+    )
+}
+
 /// What is told besides why no table was made of values.
-fn more_of(bytes: &[u8]) -> &'static str {
-    if bytes.starts_with(b"\xff\xfe") || bytes.starts_with(b"\xfe\xff") {
-        return IS_WIDE;
+fn more_of(
+    alloc: Global,
+    place: Place<'_>,
+    bytes: &[u8],
+    delimiter: u8,
+) -> Result<String, AllocError> {
+    if let Some(why) = why_wide(bytes) {
+        return format!(in alloc; "; {why}");
     }
-    ""
+    if let Some(line) = open_quote(bytes, delimiter) {
+        return format!(in alloc; "; line {line}: a quote opens there that nothing closes");
+    }
+    if bytes.starts_with(b"#") {
+        return String::from_str(alloc, IS_COMMENT);
+    }
+    if has_kinds(bytes) {
+        let table = of_table(alloc, place)?;
+        return format!(in alloc; "; {table}");
+    }
+    Ok(String::new(alloc))
+}
+
+/// What is told besides of a table that was made: that the values are one.
+fn more_of_made(alloc: Global, place: Place<'_>, bytes: &[u8]) -> Result<String, AllocError> {
+    if !has_kinds(bytes) {
+        return Ok(String::new(alloc));
+    }
+    let table = of_table(alloc, place)?;
+    format!(in alloc; "  {table}\n")
 }
 
 /// Tells why no table was made, where it is not for want of memory, and more. Answers the exit status.
 fn refuse<E: Sink>(
     alloc: Global,
-    file: &str,
+    place: Place<'_>,
     fault: &Fault,
     more: &str,
     errors: &mut E,
@@ -91,6 +124,7 @@ fn refuse<E: Sink>(
     if fault.is_memory() {
         return Err(Refusal::NoMemory);
     }
+    let file = called(place);
     let Ok(text) = format!(in alloc; "sideways: {file}: {fault}{more}\n") else {
         return Err(Refusal::NoMemory);
     };
@@ -98,14 +132,21 @@ fn refuse<E: Sink>(
     Ok(2)
 }
 
-/// Tells what was done for a table. Answers the exit status.
-fn tell<E: Sink>(alloc: Global, file: &str, made: &Imported, errors: &mut E) -> Result<u8, Refusal>
+/// Tells what was done for a table, and more. Answers the exit status.
+fn tell<E: Sink>(
+    alloc: Global,
+    place: Place<'_>,
+    made: &Imported,
+    more: &str,
+    errors: &mut E,
+) -> Result<u8, Refusal>
     ensures { IfOk result (λ status. status ≡ 0) }
 {
-    let Ok(text) = summary(alloc, file, made) else {
+    let Ok(text) = summary(alloc, called(place), made) else {
         return Err(Refusal::NoMemory);
     };
     let _ = write_all(errors, text.as_bytes());
+    let _ = write_all(errors, more.as_bytes());
     Ok(0)
 }
 
@@ -134,7 +175,7 @@ impl Import<'_> {
         None
     }
 
-    /// Reads the values and makes the table; answers also what is told besides where there is none. Refused `Input` where the
+    /// Reads the values and makes the table; answers also what is told besides. Refused `Input` where the
     /// values cannot be opened or read or the system gives no random bytes for the key of texts, and `NoMemory`; `told` gets
     /// what that means in words.
     fn read<R: Files + Clock + Eprint + Input + RandomSource + Threads + Sync>(
@@ -142,7 +183,7 @@ impl Import<'_> {
         rt: &R,
         alloc: Global,
         told: &mut Option<String>,
-    ) -> Result<(Came, &'static str), Refusal> {
+    ) -> Result<(Came, String), Refusal> {
         let place = Place::new(self.file);
         let bytes = match read_values(rt, alloc, place, self.progress) {
             Ok(bytes) => bytes,
@@ -159,11 +200,22 @@ impl Import<'_> {
             }
         };
         let came = import_in_parts(rt, alloc, key, &self.how, bytes.as_slice());
-        if is_memory(&came) {
-            *told = of_unread(rt, alloc, place, &Refusal::NoMemory);
-            return Err(Refusal::NoMemory);
+        match self.more(alloc, &came, bytes.as_slice()) {
+            Ok(more) if !is_memory(&came) => Ok((came, more)),
+            _ => {
+                *told = of_unread(rt, alloc, place, &Refusal::NoMemory);
+                Err(Refusal::NoMemory)
+            }
         }
-        Ok((came, more_of(bytes.as_slice())))
+    }
+
+    /// What is told besides of values of which this came.
+    fn more(&self, alloc: Global, came: &Came, bytes: &[u8]) -> Result<String, AllocError> {
+        let place = Place::new(self.file);
+        match came {
+            Ok(_) => more_of_made(alloc, place, bytes),
+            Err(_) => more_of(alloc, place, bytes, self.how.delimiter),
+        }
     }
 
     /// Writes the texts for which numbers stand to their file, and the table to standard output. Refused `Output` where
@@ -207,12 +259,13 @@ impl Import<'_> {
         ensures { IfOk result (λ status. (status ≡ 0) ⊎ (status ≡ 2)) }
     {
         let (came, more) = self.read(rt, alloc, told)?;
+        let place = Place::new(self.file);
         match came {
             Ok(made) => match self.write(rt, alloc, &made, told) {
-                Ok(()) => tell(alloc, self.file, &made, errors),
+                Ok(()) => tell(alloc, place, &made, more.as_str(), errors),
                 Err(refusal) => Err(refusal),
             },
-            Err(fault) => refuse(alloc, self.file, &fault, more, errors),
+            Err(fault) => refuse(alloc, place, &fault, more.as_str(), errors),
         }
     }
 }

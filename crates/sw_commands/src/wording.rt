@@ -8,7 +8,7 @@ use std::io::ErrorKind;
 use std::random::RandomSource;
 use std::rt::Files;
 use std::{fs, io};
-use sw_faults::{Asked, Given, Origin, Text, all_faults, words_of, wrong_entry};
+use sw_faults::{Asked, Given, MOST_COLUMNS, Origin, Text, all_faults, words_of, wrong_entry};
 use sw_files::read_file;
 use sw_headers::{Header, text_under};
 use sw_rows::{Refusal, TextKey, Why};
@@ -100,7 +100,8 @@ fn of_place<R: Files>(
     }
 }
 
-/// The words of a file that cannot be read, where that was refused; nothing where there is no memory for them.
+/// The words of a file, or of standard input, that cannot be read, where that was refused; nothing where there is no memory for
+/// them.
 pub fn of_file<R: Files>(
     rt: &R,
     alloc: Global,
@@ -108,9 +109,15 @@ pub fn of_file<R: Files>(
     refusal: &Refusal,
 ) -> Option<String> {
     match refusal {
+        Refusal::Input if place.is_standard() => of_standard(alloc).ok(),
         Refusal::Input => of_place(rt, alloc, place).ok()?,
         _ => None,
     }
+}
+
+/// The words of standard input that cannot be read.
+fn of_standard(alloc: Global) -> Result<String, AllocError> {
+    format!(in alloc; "{STANDARD}: it cannot be read\n")
 }
 
 /// The words of a file, or of standard input, that was refused when it was to be read; nothing where there is no memory
@@ -157,18 +164,40 @@ pub fn of_output(alloc: Global, reader: &Reader, refusal: &Refusal) -> Option<St
     format!(in alloc; "{STANDARD_OUTPUT}: {why}\n").ok()
 }
 
-/// The words of a table or a script that cannot be read.
+/// The words of a script whose file cannot be read.
+fn of_script<R: Files>(
+    rt: &R,
+    alloc: Global,
+    asking: &Asking<'_>,
+) -> Result<Option<String>, AllocError> {
+    match asking.script {
+        Some(Script::At(place)) => of_place(rt, alloc, place),
+        _ => Ok(None),
+    }
+}
+
+impl Asking<'_> {
+    /// Whether the table or the script is standard input.
+    fn reads_standard(&self) -> bool {
+        match self.script {
+            Some(script) if script.is_standard() => true,
+            _ => self.table.is_standard(),
+        }
+    }
+}
+
+/// The words of a table or a script that cannot be read: of a file that shows why, or else of standard input.
 fn of_input<R: Files>(rt: &R, alloc: Global, asking: &Asking<'_>) -> Result<String, AllocError> {
     if let Some(words) = of_place(rt, alloc, asking.table)? {
         return Ok(words);
     }
-    let Some(Script::At(place)) = asking.script else {
-        return Ok(String::new(alloc));
-    };
-    match of_place(rt, alloc, place)? {
-        Some(words) => Ok(words),
-        None => Ok(String::new(alloc)),
+    if let Some(words) = of_script(rt, alloc, asking)? {
+        return Ok(words);
     }
+    if asking.reads_standard() {
+        return of_standard(alloc);
+    }
+    Ok(String::new(alloc))
 }
 
 /// The bytes of the table and of the script, where they can be had.
@@ -270,9 +299,6 @@ fn texts_again<R: Files>(rt: &R, alloc: Global, asking: &Asking<'_>, kept: Keeps
         },
     }
 }
-
-/// How many columns a table has at most.
-const MOST_COLUMNS: usize = 8;
 
 /// Whether a refusal is of a header that was given: of a field of it, or of more names than a table has columns.
 fn is_of_header(header: &str, refusal: &Refusal) -> bool {

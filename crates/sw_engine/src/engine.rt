@@ -43,7 +43,7 @@ use sw_rows::{Call, Cond, Conds, PackedRows, Query, Refusal, Reply, Schema};
 use sw_spine::Record;
 use sw_versions::{Draft, Naming};
 
-/// How many updates a head takes in a visit at most.
+/// How many updates a head, or what is made for viewers, takes in a visit at most.
 const PART: usize = 1024;
 
 /// What lies under the lock. Others mostly hold it for less time than a sleep takes, so the thread looks at it between pauses
@@ -327,10 +327,36 @@ impl<J: Naming, M: CrackerMap, L: Latch<LatchedHead<J, M>>> Engine<J, M, L> {
         // for the prover: the opening rows are in order
         let _heads = self.opening.heads();
         let rows = self.opening_rows(rt)?;
-        match Draft::new(self.alloc, &rows) {
+        let list = self.visit(rt).published();
+        match Draft::new(self.alloc, &rows, list) {
             Ok(draft) => Ok(draft),
             Err(_) => Err(Refusal::NoMemory),
         }
+    }
+
+    /// The history, for a visit in which the draft lacks no more updates of the book than `PART`. Before, it takes the others in
+    /// visits of so many, and makes them between the visits, as a head does by `reach`.
+    fn bring_up<R: Wait>(
+        &self,
+        rt: &R,
+        draft: Draft<J>,
+    ) -> Result<(MutexGuard<'_, LockedDesk<J>>, Draft<J>), Refusal>
+        ensures few { IfOk result (λ r. LacksFew PART r.1 (updates_in r.0.value.shelf.booked)) }
+        ensures refused { IsOkUnless result NoMemory }
+    {
+        let mut draft = draft;
+        for _ in rt.forever() {
+            let desk = self.visit(rt);
+            if !desk.draft_part(&mut draft, PART)? {
+                return Ok((desk, draft));
+            }
+            drop(desk);
+            let Ok(made) = draft.make() else {
+                return Err(Refusal::NoMemory);
+            };
+            draft = made;
+        }
+        unreachable!()
     }
 
     /// A reader of the copies, which are made of a draft where there are none.
@@ -342,7 +368,8 @@ impl<J: Naming, M: CrackerMap, L: Latch<LatchedHead<J, M>>> Engine<J, M, L> {
         match opened {
             Err(Refusal::NoMemory) => {
                 let draft = self.draft(rt)?;
-                self.visit(rt).viewer(Some(draft))
+                let (mut desk, draft) = self.bring_up(rt, draft)?;
+                desk.viewer(Some(draft))
             }
             opened => opened,
         }

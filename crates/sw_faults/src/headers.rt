@@ -58,7 +58,7 @@ fn is_kind(word: &[u8]) -> bool {
 }
 
 /// How many columns a table has at most.
-const MOST_COLUMNS: usize = 8;
+pub const MOST_COLUMNS: usize = 8;
 
 /// Whether a text begins as a table does whose header has a kind with each name.
 pub fn has_kinds(text: &[u8]) -> bool {

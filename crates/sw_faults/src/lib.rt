@@ -16,8 +16,8 @@ mod tokens;
 mod words;
 
 pub use entries::wrong_entry;
-pub use headers::has_kinds;
+pub use headers::{MOST_COLUMNS, has_kinds};
 pub use lines::{call_lines, wrong_line};
 pub use records::open_quote;
-pub use tables::all_faults;
+pub use tables::{all_faults, why_wide};
 pub use words::{Asked, Given, Origin, Text, words_of};

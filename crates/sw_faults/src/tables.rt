@@ -1,6 +1,6 @@
 //! Faults of a table, in words.
 
-use crate::headers::{has_no_kind, schema_of};
+use crate::headers::{MOST_COLUMNS, has_no_kind, schema_of};
 use crate::records::{MOST_FIELDS, Records, open_quote};
 use crate::words::Given;
 use crate::{cells, headers};
@@ -41,8 +41,8 @@ impl<'a> Sheet<'a> {
     /// What else is wrong with its file, by which its records may be other ones than were meant: a line, or nothing.
     fn more_wrong(self, alloc: Global) -> Result<String, AllocError> {
         let name = self.name;
-        if is_wide(self.file()) {
-            return format!(in alloc; "{name}: {WIDE}\n");
+        if let Some(why) = why_wide(self.file()) {
+            return format!(in alloc; "{name}: {why}\n");
         }
         match open_quote(self.file(), b',') {
             Some(line) => {
@@ -53,14 +53,18 @@ impl<'a> Sheet<'a> {
     }
 }
 
-/// Whether bytes begin as a text in UTF-16 does.
-fn is_wide(bytes: &[u8]) -> bool {
-    bytes.starts_with(b"\xff\xfe") || bytes.starts_with(b"\xfe\xff")
-}
-
 /// What is told of a text in UTF-16.
 const WIDE: &str =
-    "it begins as a file in UTF-16 does, of which iconv -f UTF-16 -t UTF-8 makes UTF-8";
+    "the file begins as one in UTF-16 does, of which iconv -f UTF-16 -t UTF-8 makes UTF-8";
+
+/// What is told of bytes that begin as a text in UTF-16 does; nothing of others.
+pub fn why_wide(bytes: &[u8]) -> Option<&'static str> {
+    if bytes.starts_with(b"\xff\xfe") || bytes.starts_with(b"\xfe\xff") {
+        Some(WIDE)
+    } else {
+        None
+    }
+}
 
 /// Some lines, and others behind them.
 fn with_more(mut lines: String, more: String) -> Result<String, AllocError> {
@@ -227,7 +231,10 @@ impl<'a> Head<'a> {
         if records.many() != self.wanted() {
             return self.wrong_count(records);
         }
-        self.wrong_at(records, field.saturating_sub(1).min(8) as usize)
+        self.wrong_at(
+            records,
+            field.saturating_sub(1).min(MOST_COLUMNS as u64) as usize,
+        )
     }
 
     /// What is wrong with the row of a number at a field, both from 1; nothing where there is no such row.
@@ -304,10 +311,10 @@ pub(crate) fn bad_header(
             "{name}: empty, wanted a header: names with kinds, as a:int,b:fix2,c:text\n"
         );
     }
-    if is_wide(sheet.bytes) {
-        return format!(in alloc; "{name}: {WIDE}\n");
+    if let Some(why) = why_wide(sheet.bytes) {
+        return format!(in alloc; "{name}: {why}\n");
     }
-    let field = field.saturating_sub(1).min(8) as usize;
+    let field = field.saturating_sub(1).min(MOST_COLUMNS as u64) as usize;
     wrong_header(alloc, name, &mut records, field)
 }
 

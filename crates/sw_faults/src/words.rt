@@ -1,13 +1,14 @@
 //! A refusal in words.
 
 use crate::cuts::wrong_cuts;
+use crate::headers::MOST_COLUMNS;
 use crate::lines::{first_refused, has_more_blocks, has_more_calls, wrong_line};
 use crate::tables::{Sheet, bad_header, bad_row, columns_past, has_more_rows, schema_at};
 use std::alloc::{AllocError, Global};
 use sw_rows::{MOST_BYTES, MOST_ROWS, Refusal, Schema, TextKey, Why};
 
 /// How many attributes a table has at most, cuts an attribute, and blocks a script.
-const MOST_ATTRS: u64 = 8;
+const MOST_ATTRS: u64 = MOST_COLUMNS as u64;
 
 const MOST_CUTS: u64 = 15;
 
@@ -176,7 +177,7 @@ fn of_columns(alloc: Global, asked: &Asked<'_>) -> Result<String, AllocError> {
     let Some(bytes) = asked.table.bytes else {
         return Ok(String::new(alloc));
     };
-    match columns_past(alloc, bytes, MOST_ATTRS as usize)? {
+    match columns_past(alloc, bytes, MOST_COLUMNS)? {
         Some(found) => {
             format!(in alloc;
                 "{} line 1: {found}, at most {MOST_ATTRS}; {FEWER}\n",

@@ -1,4 +1,5 @@
 pub mod MadeLemmas
+pub mod NumberedLemmas
 pub mod PlainLemmas
 pub mod RecordLemmas
 pub mod RowLemmas

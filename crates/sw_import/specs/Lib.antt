@@ -1,7 +1,9 @@
 pub mod Dates
+pub mod Faults
 pub mod Forms
 pub mod Imports
 pub mod Made
+pub mod Numbered
 pub mod Pages
 pub mod Records
 pub mod Taken

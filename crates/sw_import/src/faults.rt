@@ -1,5 +1,9 @@
 //! Why no table is made.
 
+ghost use Rattle.std.specs.Prelude.{◌≡◌};
+ghost use Rattle.sw_import.specs.Faults.{is_memory};
+
+use crate::forms::MOST_DECIMALS;
 use std::alloc::{AllocError, Global};
 use std::fmt;
 use sw_rows::Refusal;
@@ -107,6 +111,25 @@ impl fmt::Display for Fields {
         let Fields(count) = self;
         let word = if *count == 1 { "field" } else { "fields" };
         write!(f, "{count} {word}")
+    }
+}
+
+/// What is told besides of a cell that is a number but for how many decimals it has; nothing of another.
+pub(crate) fn more_decimals(cell: &[u8]) -> &'static str {
+    let digits = match cell {
+        [b'-' | b'+', rest @ ..] => rest,
+        _ => cell,
+    };
+    let whole = digits
+        .iter()
+        .take_while(|byte| byte.is_ascii_digit())
+        .count();
+    match digits.get(whole..) {
+        Some([b'.', rest @ ..])
+            if whole > 0
+                && rest.len() > MOST_DECIMALS
+                && rest.iter().all(|byte| byte.is_ascii_digit()) => { " (more than 6 decimals)" }
+        _ => "",
     }
 }
 
@@ -269,7 +292,10 @@ impl Fault {
                 at,
                 cell,
                 kind,
-            } => write!(f, "line {line}, {at}: `{cell}` is no {kind}"),
+            } => {
+                let more = more_decimals(cell.as_bytes());
+                write!(f, "line {line}, {at}: `{cell}` is no {kind}{more}")
+            }
             Fault::Value { value, at, kind } => write!(
                 f,
                 "`{value}` in place of cells without a value is no {kind}: {at}"
@@ -332,7 +358,9 @@ impl std::error::Error for Fault {}
 
 impl Fault {
     /// Whether memory was wanting.
-    pub fn is_memory(&self) -> bool {
+    pub fn is_memory(&self) -> bool
+        ensures { result ≡ is_memory self.now }
+    {
         match self {
             Fault::NoMemory | Fault::Table(Refusal::NoMemory) => true,
             _ => false,

@@ -1,12 +1,11 @@
 //! What was done, in words.
 
 use crate::evidence::Tally;
-use crate::faults::{shown, shown_heading};
+use crate::faults::{more_decimals, shown, shown_heading};
 use crate::forms::Form;
 use crate::importing::Imported;
 use crate::planning::Planned;
 use crate::writing::Done;
-use csv::Writer;
 use std::alloc::{AllocError, Global};
 
 /// Adds what was done to cells, and to how many, where there are any.
@@ -37,7 +36,8 @@ const BY_EMPTY: &str = "texts by --empty text, for cells without a value";
 fn push_lone(text: &mut String, planned: &Planned) -> Result<(), AllocError> {
     let line = planned.evidence.lone.first;
     let cell = shown(*text.allocator(), planned.evidence.cause.as_bytes())?;
-    write!(text, "; texts, since line {line} has `{cell}`")
+    let more = more_decimals(planned.evidence.cause.as_bytes());
+    write!(text, "; texts, since line {line} has `{cell}`{more}")
 }
 
 /// Adds that a column is one of texts for a cell with a usual word for a missing value.
@@ -54,9 +54,10 @@ fn push_missing(text: &mut String, planned: &Planned) -> Result<(), AllocError> 
 fn push_odd(text: &mut String, planned: &Planned) -> Result<(), AllocError> {
     let line = planned.evidence.odd.first;
     let cell = shown(*text.allocator(), planned.evidence.cause.as_bytes())?;
+    let more = more_decimals(planned.evidence.cause.as_bytes());
     write!(
         text,
-        "; texts, since from line {line} on, with `{cell}`, no other kind fits all cells"
+        "; texts, since from line {line} on, with `{cell}`{more}, no other kind fits all cells"
     )
 }
 
@@ -177,43 +178,4 @@ pub fn told(alloc: Global, file: &str, made: &Imported) -> Result<String, AllocE
     push_others(&mut text, made)?;
     push_divider(&mut text, made)?;
     Ok(text)
-}
-
-/// Adds the texts of a column for which numbers were written.
-fn write_dictionary(
-    alloc: Global,
-    planned: &Planned,
-    writer: &mut Writer<Vec<u8>>,
-) -> Result<(), AllocError> {
-    for place in 0..planned.dictionary.len() {
-        let number = (place as u64).saturating_add(1);
-        let number = format!(in alloc; "{number}")?;
-        let text = match planned.dictionary.text(place.saturating_add(1)) {
-            Some(text) => text,
-            None => "",
-        };
-        let name = planned.column.name.as_str();
-        let fields = [name.as_bytes(), number.as_bytes(), text.as_bytes()];
-        if writer.write_fields(&fields).is_err() {
-            return Err(AllocError);
-        }
-    }
-    Ok(())
-}
-
-/// The texts for which numbers were written, as comma-separated values: a record for each, with the attribute, the number
-/// and the text.
-pub fn dictionary_of(alloc: Global, made: &Imported) -> Result<Vec<u8>, AllocError> {
-    let mut writer = Writer::from_writer(Vec::new(alloc));
-    let heading: [&[u8]; 3] = [b"column", b"number", b"text"];
-    if writer.write_fields(&heading).is_err() {
-        return Err(AllocError);
-    }
-    for planned in made.plan.as_slice() {
-        write_dictionary(alloc, planned, &mut writer)?;
-    }
-    match writer.into_inner() {
-        Ok(bytes) => Ok(bytes),
-        Err(_) => Err(AllocError),
-    }
 }

@@ -79,7 +79,7 @@ pub(crate) struct Table {
 }
 
 /// Adds a number to a row, as a field.
-fn push_number<N: Integer>(number: N, row: &mut ByteRecord) -> Result<(), AllocError>
+pub(crate) fn push_number<N: Integer>(number: N, row: &mut ByteRecord) -> Result<(), AllocError>
     requires { partial_of row.old ≡ [] }
     ensures field { OnOk result (fields_of row.new ≡ fields_of row.old ++ N.text number ∷ []) }
     ensures partial { OnOk result (partial_of row.new ≡ []) }

@@ -13,7 +13,7 @@ use sw_rows::{Call, Counted, Refusal, Reply, Schema, Sink};
 use sw_spine::{Entry, Record, State};
 
 /// The attribute whose head a call asks, if it is a select.
-fn asked_head(call: &Call) -> Option<usize> {
+fn head_of_call(call: &Call) -> Option<usize> {
     match call {
         Call::Select(query) => Some(head_of(query)),
         _ => None,
@@ -197,7 +197,7 @@ impl<R: Clock + Eprint + Wait + Sync> Onlooker for Watch<'_, '_, R> {
 
     fn ended(&self, block: u64, call: &Call, begun: u64, answer: &Result<Reply, Refusal>) {
         let time = self.seen.time();
-        self.seen.sees(asked_head(call), begun, time.unwrap_or(0));
+        self.seen.sees(head_of_call(call), begun, time.unwrap_or(0));
         if let Some(last) = &self.last {
             last.note(block, answer);
         }

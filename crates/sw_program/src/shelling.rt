@@ -205,12 +205,12 @@ impl Shell<'_> {
     }
 }
 
-/// Writes the words that a line may have to standard output; `told` gets why that was refused. Answers 0.
+/// Writes the words that a line may have to standard output; `why` gets the words where that was refused. Answers 0.
 fn print_words<R: Print>(
     rt: &R,
     alloc: Global,
     schema: &Schema,
-    told: &mut Option<String>,
+    why: &mut Option<String>,
 ) -> Result<u8, Refusal>
     ensures { IfOk result (λ status. status ≡ 0) }
 {
@@ -219,7 +219,7 @@ fn print_words<R: Print>(
     match write_words(schema, &mut out) {
         Ok(()) => Ok(0),
         Err(refusal) => {
-            *told = of_output(alloc, &reader, &refusal);
+            *why = of_output(alloc, &reader, &refusal);
             Err(refusal)
         }
     }
@@ -239,20 +239,20 @@ fn finish<R: Files>(
     alloc: Global,
     ended: Ended,
     path: Option<String>,
-    told: Telling<'_>,
+    telling: Telling<'_>,
 ) -> Result<(), Refusal> {
     let path = match &path {
         Some(path) => Some(path.as_str()),
         None => None,
     };
-    keep(rt, alloc, &ended.history, path, told.words)?;
+    keep(rt, alloc, &ended.history, path, telling.words)?;
     let Ended { failure, .. } = ended;
     let Some(refusal) = failure else {
         return Ok(());
     };
-    *told.words = match &refusal {
+    *telling.words = match &refusal {
         Refusal::Input => of_unread(rt, alloc, Place::new("-"), &refusal),
-        _ => of_output(alloc, told.reader, &refusal),
+        _ => of_output(alloc, telling.reader, &refusal),
     };
     Err(refusal)
 }

@@ -111,7 +111,7 @@ fn bare(alloc: Global, key: TextKey, schema: &Schema) -> Result<Option<Schema>, 
 }
 
 /// The command that the word of a line names without its dot, and what it does.
-fn meant(word: &str) -> Option<&'static str> {
+fn command_named(word: &str) -> Option<&'static str> {
     match word {
         "quit" | "exit" | "q" => Some(".quit ends the shell"),
         "help" | "?" => Some(".help lists the commands"),
@@ -125,11 +125,11 @@ fn meant(word: &str) -> Option<&'static str> {
 }
 
 /// The command that a line is for but for its dot, if it is for one.
-fn meant_by(line: Line<'_>) -> Option<&'static str> {
+fn command_of(line: Line<'_>) -> Option<&'static str> {
     let text = str::from_utf8(line.bytes).ok()?.trim_ascii();
     match text.split_once(' ') {
-        Some((word, _)) => meant(word),
-        None => meant(text),
+        Some((word, _)) => command_named(word),
+        None => command_named(text),
     }
 }
 
@@ -145,7 +145,7 @@ fn words_of(
     };
     let at = format!(in alloc; "line {}", line.number)?;
     let mut words = wrong_line(alloc, &mut schema, at.as_str(), line.bytes)?;
-    if let Some(command) = meant_by(line) {
+    if let Some(command) = command_of(line) {
         words.push_str(format!(in alloc; "{at}: {command}\n")?.as_str())?;
     }
     Ok(words)

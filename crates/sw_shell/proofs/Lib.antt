@@ -1,2 +1,3 @@
+pub mod Selecting
 pub mod Shelling
 pub mod Talking

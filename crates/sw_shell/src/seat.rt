@@ -7,6 +7,7 @@ ghost use Rattle.sw_lang.specs.Learning.{learned};
 ghost use Rattle.sw_lang.specs.Reading.{Answers};
 ghost use Rattle.sw_query.specs.Scan.{AsksBelow};
 ghost use Rattle.sw_spine.specs.History.{CallsBelow};
+ghost use Rattle.sw_shell.specs.Rows.{AreRows, all_rows};
 ghost use Rattle.sw_shell.specs.Talks.{IsTold};
 
 use crate::host::{Host, Line};
@@ -45,9 +46,11 @@ impl<'e, J: Naming, M: CrackerMap> Model for Seat<'e, J, M> {
 }
 
 /// The select of all rows with their cells of so many attributes.
+#[tactic(auto, using(crate::proofs::Selecting::attributes_next))]
 fn all_of(alloc: Global, columns: usize) -> Result<Query, AllocError>
     requires { columns ≤ 8 }
-    ensures { IfOk result (AsksBelow 8) }
+    ensures below { IfOk result (AsksBelow 8) }
+    ensures all { IfOk result (λ query. query ≡ all_rows columns) }
 {
     let mut names = Names::new(alloc);
     for attr in 0..columns {
@@ -129,7 +132,8 @@ impl<'e, J: Naming, M: CrackerMap> Seat<'e, J, M> {
 
     /// The live rows, by a select that no history has. Refused `NoMemory`, or `TooMany` where no place for a reader is got.
     pub(crate) fn rows<R: Wait>(&mut self, rt: &R) -> Result<(Call, Reply), Refusal>
-        ensures { self.new ≡ self.old }
+        ensures same { self.new ≡ self.old }
+        ensures rows { IfOk result (AreRows (length J.columns) J.limit J.opening) }
     {
         self.look(rt)?;
         let columns = self.schema.len();

@@ -20,9 +20,11 @@ ghost use Rattle.sw_spine.specs.declared.history.State.TheVariants.{Answered, Vo
 
 use crate::given::Given;
 use crate::history::{Entry, Record, RecordRef, State};
+use crate::room::make_room;
 use crate::store::Store;
 use std::alloc::{AllocError, Global};
 use std::marker::Model;
+use std::mem::size_of;
 use sw_lang::parse_line;
 use sw_rows::{Call, Conds, PackedRows, Query, Refusal, Reply, Schema, Update};
 
@@ -318,7 +320,7 @@ impl Spine {
         ensures ok { OnOk result (HasBegun session query head self.old self.new inbox.old.items inbox.new.items) }
         ensures err { OnErr result ((self.new ≡ self.old) × (inbox.new.items ≡ inbox.old.items)) }
     {
-        self.entries.reserve(1)?;
+        make_room(&mut self.entries, 1, size_of::<Entry>())?;
         let from = self.taken[head];
         inbox.extend_from_slice(self.store.since(from))?;
         let place = self.entries.len();
@@ -414,7 +416,7 @@ impl Spine {
         ensures answered { OnOk result (self.new ≡ with_answered session (Select query) self.old) }
         ensures refused { OnErr result (self.new ≡ self.old) }
     {
-        self.entries.reserve(1)?;
+        make_room(&mut self.entries, 1, size_of::<Entry>())?;
         self.entries.push_reserved(Entry {
             session,
             call: Call::Select(query),
@@ -519,7 +521,7 @@ impl Spine {
         requires room { length self.old.entries < MOST_ENTRIES }
         ensures { MatchResult result (HasAnswered session (Insert cells) self.old self.new) (λ _. self.new ≡ self.old) }
     {
-        self.entries.reserve(1)?;
+        make_room(&mut self.entries, 1, size_of::<Entry>())?;
         let given = self.store.insert(cells)?;
         self.entries.push_reserved(Entry {
             session,
@@ -535,7 +537,7 @@ impl Spine {
         requires room { length self.old.entries < MOST_ENTRIES }
         ensures { MatchResult result (HasAnswered session (Delete key) self.old self.new) (λ _. self.new ≡ self.old) }
     {
-        self.entries.reserve(1)?;
+        make_room(&mut self.entries, 1, size_of::<Entry>())?;
         let found = self.store.delete(key)?;
         self.entries.push_reserved(Entry {
             session,
@@ -556,7 +558,7 @@ impl Spine {
     {
         // for the prover: there are eight attributes at most
         let _width = self.schema.len();
-        self.entries.reserve(1)?;
+        make_room(&mut self.entries, 1, size_of::<Entry>())?;
         let many = self.store.delete_where(conds.as_slice())?;
         self.entries.push_reserved(Entry {
             session,

@@ -3,3 +3,4 @@ pub mod Adding
 pub mod Prefixes
 pub mod Writing
 pub mod Refusals
+pub mod Drafts

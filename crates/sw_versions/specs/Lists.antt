@@ -1,5 +1,5 @@
 -- Lists of batches of updates as they grow, and the rows that they leave.
-use Rattle.std.specs.Prelude.{◌≡◌, ◌⊎◌, ◌<◌, Bool, List, MatchBool, fold, length}
+use Rattle.std.specs.Prelude.{◌≡◌, ◌⊎◌, ◌<◌, ◌≤◌, ◌++◌, ℕ, Bool, List, MatchBool, fold, length, take}
 use mathlib.Core.List.{IsPrefix}
 use Rattle.logbook.specs.Pages.{Book}
 use Rattle.sw_table.specs.Updates.{rows_then}
@@ -26,3 +26,10 @@ pub record IsLonger {A : Type 0} (one other longer : List A) : Type 0 where
   pub either : (longer ≡ one) ⊎ (longer ≡ other)
   pub begins : IsPrefix one longer
   pub other_begins : IsPrefix other longer
+
+-- two tables have these rows, which the first so many of these updates leave of the opening rows, and other updates come next
+pub record AreDrafted (opening one other : List Row) (us : List Update) (made : ℕ) (more : List Update) : Type 0 where
+  pub first : one ≡ rows_after opening (take made us)
+  pub second : other ≡ rows_after opening (take made us)
+  pub within : made ≤ length us
+  pub next : IsPrefix (take made us ++ more) us

@@ -14,7 +14,7 @@ use crossbeam_utils::rule::{Outcome, Protocol};
 use left_right::Absorb;
 use std::alloc::{AllocError, Global};
 use std::marker::{Model, PhantomData};
-use sw_rows::{Query, Refusal, Reply, scan};
+use sw_rows::{MOST_ROWS, Query, Refusal, Reply, scan};
 use sw_table::{LiveTable, PackedRows, Update};
 
 /// Makes an update of a table. A row whose key is not above all that came is refused, as if there were no memory; then, as
@@ -49,12 +49,14 @@ pub(crate) fn make_all(table: &mut LiveTable, updates: &[Update]) -> Result<(), 
     Ok(())
 }
 
-/// The table of opening rows, with as many cells a row as those have.
+/// The table of opening rows, with as many cells a row as those have, and with room for all rows that may come, where there is
+/// memory for it: so it does not grow under the lock. No clause tells of the room.
 pub(crate) fn table_of(alloc: Global, opening: &PackedRows) -> Result<LiveTable, AllocError>
     requires { RisesFrom 0 opening.now.items }
     ensures { IfOk result (λ t. live_rows t ≡ opening.now.items) }
 {
-    let table = LiveTable::from_rows(alloc, opening)?;
+    let mut table = LiveTable::from_rows(alloc, opening)?;
+    let _room = table.reserve((MOST_ROWS as usize).saturating_sub(opening.len()));
     Ok(table)
 }
 

@@ -1,6 +1,6 @@
 //! What lies under the lock: how far the book is written, and the copies, once there is a viewer.
 
-ghost use Rattle.std.specs.Prelude.{◌≡◌, ◌<◌, ◌+◌, IfErr, IfOk, MatchBool, OnErr, OnOk};
+ghost use Rattle.std.specs.Prelude.{◌≡◌, ◌<◌, ◌≤◌, ◌+◌, false, length, IfErr, IfOk, MatchBool, OnErr, OnOk};
 ghost use mathlib.Core.List.{IsPrefix};
 ghost use Rattle.sw_versions.specs.Known.{opened_over, wrote};
 ghost use Rattle.sw_versions.specs.Lists.{IsLonger};
@@ -73,6 +73,15 @@ fn book_all<J: Naming>(booked: &mut Front<J>, book: &Book<J>, updates: &[Update]
         return true;
     }
     false
+}
+
+/// The updates of a beginning of the list, which begins all.
+#[tactic(auto, using(crate::proofs::Prefixes::prefix_taken))]
+fn booked_of<'u, J: Naming>(booked: &Front<J>, updates: &'u [Update]) -> &'u [Update]
+    requires { IsPrefix (updates_in booked.now) updates.now }
+    ensures { result.now ≡ updates_in booked.now }
+{
+    &updates[..booked.len() as usize]
 }
 
 /// The next update of the book goes to the writer: whether it did.
@@ -196,14 +205,31 @@ impl<J: Naming> Shelf<J> {
     }
 
     /// Two copies of the rows that are published.
-    #[tactic(auto, using(crate::proofs::Prefixes::prefix_taken))]
     fn begin(&self, draft: Draft<J>, updates: &[Update]) -> Result<Copies<J>, AllocError>
         requires begins { IsPrefix (updates_in self.now.booked) updates.now }
         ensures { IfOk result (λ c. c ≡ wrote self.now.booked) }
     {
-        let booked = &updates[..self.booked.len() as usize];
-        let (first, second) = draft.after(booked)?;
+        let booked = booked_of(&self.booked, updates);
+        let (first, second) = draft.after(&self.booked, booked)?;
         Copies::new(self.alloc, first, second, &self.booked)
+    }
+
+    /// A draft that lacks more updates of the book than so many takes the next so many of them, for `make`: whether it does. So under
+    /// the lock no more are made of it than those. The one error is that there is no memory for them. The caller's condition: what
+    /// stands in the book begins the updates after the opening rows.
+    pub fn hand_part(
+        &self,
+        draft: &mut Draft<J>,
+        updates: &[Update],
+        most: usize,
+    ) -> Result<bool, AllocError>
+        requires begins { IsPrefix (updates_in self.now.booked) updates.now }
+        ensures same { draft.new ≡ draft.old }
+        ensures few { IfOk result
+            (λ more. more ≡ false → length (updates_in self.now.booked) ≤ length draft.new + most) }
+    {
+        let booked = booked_of(&self.booked, updates);
+        draft.take_next(&self.booked, booked, most)
     }
 
     /// A viewer, which has learnt what is published. The first one has the copies made of a draft.

@@ -16,7 +16,7 @@ ghost use Rattle.sw_versions.specs.declared.came.Came.TheVariants.{Missed};
 ghost use Rattle.sw_versions.specs.declared.viewer.TheConstants.{MOST_VIEWERS};
 ghost use Rattle.sw_engine.specs.Own.{IsLastOwn, IsNew};
 ghost use Rattle.sw_engine.specs.Sessions.{Answers, AnswersOr, Begins, IsRefused, Sees, Settles, Stays};
-ghost use Rattle.sw_engine.specs.Desk.{AreOut, InOrder, IsBegun, IsMade, IsSameButTaken, RefusesMany, RefusesNext, TakesPart};
+ghost use Rattle.sw_engine.specs.Desk.{AreOut, InOrder, IsBegun, IsMade, IsSameButTaken, LacksFew, RefusesMany, RefusesNext, TakesPart};
 ghost use Rattle.sw_engine.specs.Locked.{IsCommitted, IsPublished};
 ghost use Rattle.sw_engine.specs.Published.{EndWithEntries, answer_after, later, new_viewer, no_versions, reply_after, TellsAll, with_viewer};
 
@@ -409,6 +409,26 @@ impl<J: Naming> LockedDesk<J> {
         ensures place { IsLastOwn ticket.old.0 ticket.old.2.entries result }
     {
         self.desk.place(&mut ticket.state)
+    }
+
+    /// The list that is published.
+    pub fn published(&self) -> Front<J>
+        ensures { result ≡ self.now.shelf.published }
+    {
+        self.shelf.published()
+    }
+
+    /// A draft that lacks more updates of the book than so many takes the next so many of them: whether it does.
+    pub fn draft_part(&self, draft: &mut Draft<J>, most: usize) -> Result<bool, Refusal>
+        ensures same { draft.new ≡ draft.old }
+        ensures few { IfOk result
+            (λ more. more ≡ false → LacksFew most draft.new (updates_in self.now.shelf.booked)) }
+        ensures refused { IsOkUnless result NoMemory }
+    {
+        match self.shelf.hand_part(draft, self.desk.later(), most) {
+            Ok(more) => Ok(more),
+            Err(_) => Err(Refusal::NoMemory),
+        }
     }
 
     /// A viewer, which has learnt what is published. The first one has the two copies of the rows made of a draft.

@@ -19,7 +19,7 @@ invariant_of-self-2 c =
     let s = c.self.inside in
     let first : List Update = opened s.rows.items in
     let given : List Row = s.rows.items ++ s.came.items in (
-      c.remove_each.ensures.slots s.limit first given (subst (λ (l : List Update). HasSlots s.limit (first ++ l) given s.live.items) (sym c.in_ok-reserve.ensures.items) c.self.invariant.0),
+      c.remove_each.ensures.slots s.limit first given (subst (λ (l : List Update). HasSlots s.limit (first ++ l) given s.live.items) (sym c.in_ok-make_room.ensures.items) c.self.invariant.0),
       c.remove_each.ensures.listed given s.listing.some.items s.listing.from c.self.invariant.0.numbered c.self.invariant.1,
     )
 
@@ -38,7 +38,7 @@ returns c =
     let many : c.len-2.result ≡ length gone = all ∙ ap (λ (ks : List ℕ). length ks) keys ∙ length-map gone key_of in
     let later : c.remove_each.new.later.items ≡ s.later.items ++ removals gone =
     c.remove_each.ensures.later
-    ∙ ap (λ (l : List Update). l ++ map (λ (k : ℕ). Remove k) c.as_slice-2.result.now) c.in_ok-reserve.ensures.items
+    ∙ ap (λ (l : List Update). l ++ map (λ (k : ℕ). Remove k) c.as_slice-2.result.now) c.in_ok-make_room.ensures.items
     ∙ ap (λ (ks : List ℕ). s.later.items ++ map (λ (k : ℕ). Remove k) ks) (c.as_slice-2.ensures.value ∙ keys)
     ∙ ap (λ (l : List Update). s.later.items ++ l) (sym (removals_keys gone)) in
     subst (λ (v : Stored). (RemovedMany c.len-2.result ≡ reply_to v.limit (all_updates v) (DeleteWhere conds)) × (record { rows = s.rows.items; limit = s.limit; later = c.remove_each.new.later.items } ≡ stored_then v (DeleteWhere conds)))

@@ -15,7 +15,7 @@ invariant_of-self-2 c =
     let apart : length s.live.items ≢ s.limit = λ e. c.if-given-self.false (many ∙ e) in
     let room : length s.live.items < s.limit = omega (arith, apart, c.self.invariant.0.within) in
     let below : length (s.rows.items ++ s.came.items) < 1048576 = omega (arith, room, c.self.invariant.0.most, c.self.invariant.0.many) in
-    rw (c.push_reserved.ensures.items, c.in_ok-reserve.ensures.items, c.push_reserved-2.ensures.items, c.in_ok-reserve-2.ensures.items, c.in_ok-add.ensures.ok, ← append_assoc (opened s.rows.items) s.later.items (Insert r ∷ []), ← append_assoc s.rows.items s.came.items (r ∷ [])) (
+    rw (c.push_reserved.ensures.items, c.in_ok-reserve.ensures.items, c.push_reserved-2.ensures.items, c.in_ok-make_room.ensures.items, c.in_ok-add.ensures.ok, c.make_room_for_all.ensures, ← append_assoc (opened s.rows.items) s.later.items (Insert r ∷ []), ← append_assoc s.rows.items s.came.items (r ∷ [])) (
       slots_insert s.limit (opened s.rows.items ++ s.later.items) (s.rows.items ++ s.came.items) s.live.items r c.self.invariant.0 key room,
       listed_insert (s.rows.items ++ s.came.items) s.live.items s.listing.some.items s.listing.from r below c.self.invariant.1,
     )
