@@ -8,7 +8,7 @@ use Rattle.sw_query.specs.declared.query.Call.{Call}
 use Rattle.sw_query.specs.declared.query.Call.TheVariants as call
 use Rattle.sw_query.specs.declared.reply.Reply.{Reply}
 use Rattle.sw_query.specs.declared.refusal.Refusal.{Refusal}
-use Rattle.sw_spine.specs.Books.{Books, waits_for}
+use Rattle.sw_spine.specs.Books.{Books, waits_for, with_answered}
 use Rattle.sw_spine.specs.History.{with_answer}
 use Rattle.sw_spine.specs.declared.history.Entry.{Entry}
 use Rattle.sw_spine.specs.declared.history.State.{State}
@@ -71,7 +71,11 @@ pub record Answers (c : Call) (r : Reply) (old new : Shown) : Type 0 where
 abbrev pub AnswersOr : Query → Reply → Shown → Shown → Bool → Type 0
 AnswersOr q r old new told = MatchBool told (Answers (call.Select q) r old new) (new ≡ old)
 
--- the same, told by the reply
+-- and it stands answered at the end of the history, where that is told; else the history is as it was
+abbrev pub StandsOr : ℕ → Query → Books → Books → Bool → Type 0
+StandsOr session q old new told = MatchBool told (new ≡ with_answered session (call.Select q) old) (new ≡ old)
+
+-- the query is answered, where there is a reply; else nothing that the session shows changes
 abbrev pub AnswersIfSome : Query → Shown → Shown → Option Reply → Type 0
 AnswersIfSome q old new None = new ≡ old
 AnswersIfSome q old new (Some r) = Answers (call.Select q) r old new

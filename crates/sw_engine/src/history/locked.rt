@@ -15,7 +15,7 @@ ghost use Rattle.sw_versions.specs.Rules.{updates_in};
 ghost use Rattle.sw_versions.specs.declared.came.Came.TheVariants.{Missed};
 ghost use Rattle.sw_versions.specs.declared.viewer.TheConstants.{MOST_VIEWERS};
 ghost use Rattle.sw_engine.specs.Own.{IsLastOwn, IsNew};
-ghost use Rattle.sw_engine.specs.Sessions.{Answers, AnswersOr, Begins, IsRefused, Sees, Settles, Stays};
+ghost use Rattle.sw_engine.specs.Sessions.{Answers, AnswersOr, Begins, IsRefused, Sees, Settles, StandsOr, Stays};
 ghost use Rattle.sw_engine.specs.Desk.{AreOut, InOrder, IsBegun, IsMade, IsSameButTaken, LacksFew, RefusesMany, RefusesNext, TakesPart};
 ghost use Rattle.sw_engine.specs.Locked.{IsCommitted, IsPublished};
 ghost use Rattle.sw_engine.specs.Published.{EndWithEntries, answer_after, later, new_viewer, no_versions, reply_after, TellsAll, with_viewer};
@@ -242,9 +242,7 @@ impl<J: Naming> LockedDesk<J> {
         requires asks { CallsBelow (length J.columns) (Select told.asked) }
         requires reply { told.kept ≡ answer_after J.limit J.opening (updates_in told.receipt) told.asked }
         ensures answers { IfOk result (AnswersOr told.asked told.kept ticket.old ticket.new) }
-        ensures answered { IfOk result (λ b. MatchBool b
-            (self.new.desk.books ≡ with_answered ticket.old.0 (Select told.asked) self.old.desk.books)
-            (self.new.desk.books ≡ self.old.desk.books)) }
+        ensures answered { IfOk result (StandsOr ticket.old.0 told.asked self.old.desk.books self.new.desk.books) }
         ensures kept { OnErr result (self.new.desk.books ≡ self.old.desk.books) }
         ensures shelf { self.new.shelf ≡ self.old.shelf }
         ensures refused { IfErr result (IsRefused ticket.old ticket.new) }
