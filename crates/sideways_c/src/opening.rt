@@ -22,7 +22,7 @@ use sw_arrays::{Given, table_in};
 use sw_histories::write_record_ref;
 use sw_lang::{Cuts, parse_cuts};
 use sw_map::PairMap;
-use sw_rows::{MOST_ROWS, PackedRows, Refusal, Schema, TextKey, Why, load_bytes};
+use sw_rows::{Counted, MOST_ROWS, PackedRows, Refusal, Schema, TextKey, Why, load_bytes};
 use sw_solo::Solo;
 use sw_spine::RecordRef;
 
