@@ -35,11 +35,11 @@ TRIALS = {
 # A name, what is wrong, the file, its text and the wrong one, and the trial or, of another crate, the test that fails.
 BODIES = {
     "one_latch_for_all": ("Every select takes the latch of the first head, as if one lock lay round everything",
-                          "sw_engine/src/engine.rt", "&self.latches[head_of(query)]", "&self.latches[head_of(query) & 0]",
+                          "sw_engine/src/engine.rt", "self.latches[head_of(query)].take(rt)", "self.latches[head_of(query) & 0].take(rt)",
                           "waited 0 count where a >= 10&count where b >= 6"),
     "blocks_in_turn": ("A run takes its blocks one after another though threads are asked for",
-                       "sw_cli/src/running.rt", "    if workload.threads {\n", "    if workload.threads && workload.inputs.blocks.is_empty() {\n",
-                       "met-in-run"),
+                       "sw_cli/src/running.rt", "    if workload.threads {\n        return make_at_once",
+                       "    if workload.threads && workload.inputs.blocks.is_empty() {\n        return make_at_once", "met-in-run"),
     "no_maps": ("A select is answered by a scan of the rows, and no map is made or asked",
                 "sw_engine/src/heads/latch.rt", "let (reply, scans) = ask(rt, alloc, head, query)?;", "let (reply, scans) = (head.scan(query)?, 0usize);",
                 "counted 12 select b where a >= 10 and a <= 15"),
