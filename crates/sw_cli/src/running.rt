@@ -384,7 +384,8 @@ pub fn run_told<
     }
 }
 
-/// `run_told` where blocks that are made in threads share heads: a query that changes nothing waits for no other such one.
+/// `run_told` where blocks that are made in threads share heads: a query that changes nothing of its head reads it beside others
+/// that do so, and waits for them at the history's lock alone.
 pub fn run_shared<
     M: CrackerMap + Sync,
     O: Onlooker,

@@ -88,6 +88,8 @@ pub struct Engine<J: Naming, M: CrackerMap, L: Latch<LatchedHead<J, M>> = AloneL
     /// hint, on which no clause rests: a wrong one costs time alone.
     came: AtomicU64,
     desk: Mutex<LockedDesk<J>>,
+    /// For the compiler: the maps lie under the latches. A `Mutex`, so that an engine goes to other threads where its latches do, and
+    /// asks no more of the maps.
     of: PhantomData<Mutex<M>>,
 }
 
@@ -341,7 +343,7 @@ impl<J: Naming, M: CrackerMap, L: Latch<LatchedHead<J, M>>> Engine<J, M, L> {
         rt: &R,
         draft: Draft<J>,
     ) -> Result<(MutexGuard<'_, LockedDesk<J>>, Draft<J>), Refusal>
-        ensures few { IfOk result (λ r. LacksFew PART r.1 (updates_in r.0.value.shelf.booked)) }
+        ensures few { IfOk result (λ r. LacksFew PART r.1.made (updates_in r.0.value.shelf.booked)) }
         ensures refused { IsOkUnless result NoMemory }
     {
         let mut draft = draft;

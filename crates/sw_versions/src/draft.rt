@@ -1,8 +1,8 @@
 //! What the first viewer has the copies made of.
 
-ghost use Rattle.std.specs.Prelude.{◌≡◌, ◌≤◌, ◌+◌, [], false, length, IfOk};
+ghost use Rattle.std.specs.Prelude.{◌≡◌, ◌++◌, [], IfOk, OnErr};
 ghost use Rattle.sw_table.specs.Live.{RisesFrom, live_rows};
-ghost use Rattle.sw_versions.specs.Lists.{rows_after};
+ghost use Rattle.sw_versions.specs.Lists.{TakesNext, rows_after};
 ghost use Rattle.sw_versions.specs.Rules.{updates_in};
 
 use crate::book::{Front, Naming};
@@ -12,7 +12,8 @@ use std::marker::Model;
 use sw_table::{LiveTable, PackedRows, Update};
 
 /// Two tables with the opening rows and the first updates of a list, which nobody reads. They are made before the lock is taken, in
-/// parts, so that under it few updates are made. Contracts see the updates that both tables have.
+/// parts, so that under it few updates are made. Contracts see the updates that both tables have, and those that were taken to be
+/// made next.
 #[derive(Drop)]
 pub struct Draft<J: Naming> {
     first: LiveTable,
@@ -20,20 +21,19 @@ pub struct Draft<J: Naming> {
     list: Front<J>,
     /// How many updates of the list both tables have.
     made: usize,
-    /// The next ones, once they are taken.
+    /// Those that were taken to be made next.
     next: Vec<Update>,
 }
 
 impl<J: Naming> Model for Draft<J> {
-    ghost use Rattle.std.specs.Prelude.{List, take};
+    ghost use Rattle.std.specs.Prelude.{take};
     ghost use Rattle.sw_table.specs.Live.{live_rows};
-    ghost use Rattle.sw_table.specs.declared.row.Update.{Update};
-    ghost use Rattle.sw_versions.specs.Lists.{AreDrafted};
+    ghost use Rattle.sw_versions.specs.Lists.{AreDrafted, Drafted};
     ghost use Rattle.sw_versions.specs.Rules.{updates_in};
 
-    ghost Value = { List Update };
+    ghost Value = { Drafted };
 
-    ghost view = { λ d. take d.made (updates_in d.list) };
+    ghost view = { λ d. record { made = take d.made (updates_in d.list); next = d.next.items } };
 
     ghost invariant = { λ d. AreDrafted J.opening (live_rows d.first) (live_rows d.second) (updates_in d.list) d.made d.next.items };
 }
@@ -44,7 +44,7 @@ impl<J: Naming> Draft<J> {
     pub fn new(alloc: Global, opening: &PackedRows, list: Front<J>) -> Result<Draft<J>, AllocError>
         requires rows { opening.now.items ≡ J.opening }
         requires rise { RisesFrom 0 J.opening }
-        ensures { IfOk result (λ d. d ≡ []) }
+        ensures { IfOk result (λ d. (d.made ≡ []) × (d.next ≡ [])) }
     {
         let first = table_of(alloc, opening)?;
         let second = table_of(alloc, opening)?;
@@ -58,7 +58,8 @@ impl<J: Naming> Draft<J> {
     }
 
     /// Where the tables lack more updates of a list than so many, the next so many are taken, for `make`: whether they are. The one
-    /// error is that there is no memory for them; a list that does not begin with the known one is refused as if there were none.
+    /// error is that there is no memory for them; a list that does not begin with the known one is refused as if there were none. Then
+    /// nothing has changed.
     #[tactic(auto, using(crate::proofs::Drafts::draft_within, crate::proofs::Drafts::draft_same))]
     pub(crate) fn take_next(
         &mut self,
@@ -67,8 +68,8 @@ impl<J: Naming> Draft<J> {
         most: usize,
     ) -> Result<bool, AllocError>
         requires { updates.now ≡ updates_in list.now }
-        ensures same { self.new ≡ self.old }
-        ensures few { IfOk result (λ more. more ≡ false → length updates.now ≤ length self.new + most) }
+        ensures takes { IfOk result (TakesNext most updates.now self.old self.new) }
+        ensures kept { OnErr result (self.new ≡ self.old) }
     {
         if !self.list.begins(list) {
             return Err(AllocError);
@@ -85,7 +86,9 @@ impl<J: Naming> Draft<J> {
 
     /// Makes the updates that were taken. The one error is that there is no memory for them.
     #[tactic(auto, using(crate::proofs::Drafts::draft_room))]
-    pub fn make(self) -> Result<Draft<J>, AllocError> {
+    pub fn make(self) -> Result<Draft<J>, AllocError>
+        ensures { IfOk result (λ d. (d.made ≡ self.made ++ self.next) × (d.next ≡ [])) }
+    {
         let Draft {
             first,
             second,

@@ -1,9 +1,9 @@
 //! What lies under the lock: how far the book is written, and the copies, once there is a viewer.
 
-ghost use Rattle.std.specs.Prelude.{◌≡◌, ◌<◌, ◌≤◌, ◌+◌, false, length, IfErr, IfOk, MatchBool, OnErr, OnOk};
+ghost use Rattle.std.specs.Prelude.{◌≡◌, ◌<◌, ◌+◌, IfErr, IfOk, MatchBool, OnErr, OnOk};
 ghost use mathlib.Core.List.{IsPrefix};
 ghost use Rattle.sw_versions.specs.Known.{opened_over, wrote};
-ghost use Rattle.sw_versions.specs.Lists.{IsLonger};
+ghost use Rattle.sw_versions.specs.Lists.{IsLonger, TakesNext};
 ghost use Rattle.sw_versions.specs.Pending.{AreOldOrAll, CameOf, HasBookedOr, HasShownOr, TellsCame, all_of};
 ghost use Rattle.sw_versions.specs.Refused.{IsAhead, RefusesViewer};
 ghost use Rattle.sw_versions.specs.Rules.{updates_in};
@@ -215,8 +215,8 @@ impl<J: Naming> Shelf<J> {
     }
 
     /// A draft that lacks more updates of the book than so many takes the next so many of them, for `make`: whether it does. So under
-    /// the lock no more are made of it than those. The one error is that there is no memory for them. The caller's condition: what
-    /// stands in the book begins the updates after the opening rows.
+    /// the lock no more are made of it than those. The one error is that there is no memory for them, and then nothing has changed. The
+    /// caller's condition: what stands in the book begins the updates after the opening rows.
     pub fn hand_part(
         &self,
         draft: &mut Draft<J>,
@@ -224,9 +224,8 @@ impl<J: Naming> Shelf<J> {
         most: usize,
     ) -> Result<bool, AllocError>
         requires begins { IsPrefix (updates_in self.now.booked) updates.now }
-        ensures same { draft.new ≡ draft.old }
-        ensures few { IfOk result
-            (λ more. more ≡ false → length (updates_in self.now.booked) ≤ length draft.new + most) }
+        ensures takes { IfOk result (TakesNext most (updates_in self.now.booked) draft.old draft.new) }
+        ensures kept { OnErr result (draft.new ≡ draft.old) }
     {
         let booked = booked_of(&self.booked, updates);
         draft.take_next(&self.booked, booked, most)

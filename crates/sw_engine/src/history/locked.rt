@@ -9,14 +9,14 @@ ghost use Rattle.sw_spine.specs.History.{CallsBelow, is_select, updates_after};
 ghost use Rattle.sw_spine.specs.Books.{new_books, updates, with_answered, with_session, with_settled};
 ghost use Rattle.sw_spine.specs.declared.history.State.TheVariants.{Answered, Void};
 ghost use Rattle.sw_versions.specs.Pending.{HasShownOr, TellsCame};
-ghost use Rattle.sw_versions.specs.Lists.{IsLonger};
+ghost use Rattle.sw_versions.specs.Lists.{IsLonger, TakesNext};
 ghost use Rattle.sw_versions.specs.Refused.{IsAhead, RefusesViewer};
 ghost use Rattle.sw_versions.specs.Rules.{updates_in};
 ghost use Rattle.sw_versions.specs.declared.came.Came.TheVariants.{Missed};
 ghost use Rattle.sw_versions.specs.declared.viewer.TheConstants.{MOST_VIEWERS};
 ghost use Rattle.sw_engine.specs.Own.{IsLastOwn, IsNew};
 ghost use Rattle.sw_engine.specs.Sessions.{Answers, AnswersOr, Begins, IsRefused, Sees, Settles, StandsOr, Stays};
-ghost use Rattle.sw_engine.specs.Desk.{AreOut, InOrder, IsBegun, IsMade, IsSameButTaken, LacksFew, RefusesMany, RefusesNext, TakesPart};
+ghost use Rattle.sw_engine.specs.Desk.{AreOut, InOrder, IsBegun, IsMade, IsSameButTaken, RefusesMany, RefusesNext, TakesPart};
 ghost use Rattle.sw_engine.specs.Locked.{IsCommitted, IsPublished};
 ghost use Rattle.sw_engine.specs.Published.{EndWithEntries, answer_after, later, new_viewer, no_versions, reply_after, TellsAll, with_viewer};
 
@@ -416,11 +416,11 @@ impl<J: Naming> LockedDesk<J> {
         self.shelf.published()
     }
 
-    /// A draft that lacks more updates of the book than so many takes the next so many of them: whether it does.
+    /// A draft that lacks more updates of the book than so many takes the next so many of them: whether it does. Refused, nothing has
+    /// changed.
     pub fn draft_part(&self, draft: &mut Draft<J>, most: usize) -> Result<bool, Refusal>
-        ensures same { draft.new ≡ draft.old }
-        ensures few { IfOk result
-            (λ more. more ≡ false → LacksFew most draft.new (updates_in self.now.shelf.booked)) }
+        ensures takes { IfOk result (TakesNext most (updates_in self.now.shelf.booked) draft.old draft.new) }
+        ensures kept { OnErr result (draft.new ≡ draft.old) }
         ensures refused { IsOkUnless result NoMemory }
     {
         match self.shelf.hand_part(draft, self.desk.later(), most) {
