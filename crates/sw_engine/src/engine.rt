@@ -437,7 +437,9 @@ impl<J: Naming, M: CrackerMap, L: Latch<LatchedHead<J, M>>> Engine<J, M, L> {
         let Some((reply, told)) = head.answer_at_rest(self.alloc, query) else {
             return Ok(None);
         };
-        match self.visit(rt).answer(ticket, told) {
+        // the lock is let go before the head's own count
+        let stood = self.visit(rt).answer(ticket, told);
+        match stood {
             Ok(true) => {
                 head.count_at_rest();
                 Ok(Some(reply))

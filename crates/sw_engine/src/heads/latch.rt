@@ -123,7 +123,7 @@ impl<J: Naming, M: CrackerMap> Model for LatchedHead<J, M> {
 
 impl<J: Naming, M: CrackerMap> LatchedHead<J, M> {
     /// Whether the head is made.
-    pub fn is_made(&self) -> bool
+    pub(crate) fn is_made(&self) -> bool
         ensures { result ≡ self.now.made }
     {
         self.head.is_some()
@@ -132,7 +132,7 @@ impl<J: Naming, M: CrackerMap> LatchedHead<J, M> {
     /// Makes the head from the opening rows, a copy of which it takes over, if it was never asked. Refused `NoMemory`
     /// alone, and then nothing has changed.
     #[tactic(auto, using(crate::proofs::Latches::made_latch, crate::proofs::Latches::same_latch))]
-    pub fn make(
+    pub(crate) fn make(
         &mut self,
         alloc: Global,
         opening: &Opening<J>,
@@ -153,7 +153,7 @@ impl<J: Naming, M: CrackerMap> LatchedHead<J, M> {
 
     /// Gives the head the boxes that wait for it, those first that came first. Refused `NoMemory` alone, the rest wait
     /// on: none is lost.
-    pub fn hand_over(&mut self) -> Result<(), Refusal>
+    pub(crate) fn hand_over(&mut self) -> Result<(), Refusal>
         requires { self.old.made ≡ true }
         ensures same { IsSameButBoxes self.old self.new }
         ensures boxes { KeepsBoxes self.old self.new }
@@ -168,7 +168,7 @@ impl<J: Naming, M: CrackerMap> LatchedHead<J, M> {
     }
 
     /// Takes in what lies in the inbox. Refused `NoMemory` alone; whatever comes, what was taken for the head stays.
-    pub fn receive(&mut self) -> Result<(), Refusal>
+    pub(crate) fn receive(&mut self) -> Result<(), Refusal>
         requires { self.old.made ≡ true }
         ensures same { self.new ≡ record self.old { held = self.new.held } }
         ensures refused { IsOkUnless result NoMemory }
@@ -211,7 +211,7 @@ impl<J: Naming, M: CrackerMap> LatchedHead<J, M> {
     /// Takes in what lies in the inbox, and answers twice: one reply is for the caller, one for the history.
     ///
     /// Refused `NoMemory` alone; whatever comes, what was taken for it stays.
-    pub fn answer<R: Threads + Sync>(
+    pub(crate) fn answer<R: Threads + Sync>(
         &mut self,
         rt: &R,
         alloc: Global,
@@ -231,7 +231,7 @@ impl<J: Naming, M: CrackerMap> LatchedHead<J, M> {
     }
 
     /// Keeps a receipt of all that was taken for the head, after the opening rows.
-    pub fn keep(&mut self, receipt: Front<J>)
+    pub(crate) fn keep(&mut self, receipt: Front<J>)
         requires { self.old.taken ≡ opened J.opening ++ updates_in receipt }
         ensures { self.new ≡ self.old }
     {
@@ -257,7 +257,7 @@ impl<J: Naming, M: CrackerMap> LatchedHead<J, M> {
     ///
     /// None where the head is not made, or waits for a box or an update, or has no receipt of what was taken for it; where
     /// an area is not ready for the query as it stands, or its attribute is another one; and where there is no memory.
-    pub fn answer_at_rest(&self, alloc: Global, query: &Query) -> Option<(Reply, AtRest<J>)>
+    pub(crate) fn answer_at_rest(&self, alloc: Global, query: &Query) -> Option<(Reply, AtRest<J>)>
         requires asks { AsksBelow 8 query.now }
         ensures asked { IfSome result (λ r. r.1.asked ≡ query.now) }
         ensures answered { IfSome result (λ r. r.1.kept
@@ -289,7 +289,7 @@ impl<J: Naming, M: CrackerMap> LatchedHead<J, M> {
     }
 
     /// What the head tells of itself in numbers: no area before it is made.
-    pub fn stats(&self) -> HeadStats
+    pub(crate) fn stats(&self) -> HeadStats
         ensures { self.now.made ≡ false → result.figures.areas ≡ 0 }
     {
         match &self.head {
@@ -300,7 +300,7 @@ impl<J: Naming, M: CrackerMap> LatchedHead<J, M> {
 
     /// Takes a blank box, which waits until the head is asked. Refused `NoMemory`, nothing has changed, and that very
     /// box comes back.
-    pub fn supply(&mut self, it: M) -> Result<(), (M, Refusal)>
+    pub(crate) fn supply(&mut self, it: M) -> Result<(), (M, Refusal)>
         requires { M.held it ≡ blank }
         ensures kept { OnOk result (self.new ≡ record self.old { waiting = self.old.waiting + 1 }) }
         ensures refused { IfErr result (λ r. (self.new ≡ self.old) × (r.0 ≡ it) × (r.1 ≡ NoMemory)) }
@@ -309,7 +309,7 @@ impl<J: Naming, M: CrackerMap> LatchedHead<J, M> {
     }
 
     /// Drops up to so many boxes, those that wait first, and answers how many: as many as that, or all.
-    pub fn shed(&mut self, most: usize) -> usize
+    pub(crate) fn shed(&mut self, most: usize) -> usize
         ensures same { IsSameButBoxes self.old self.new }
         ensures left { self.new.waiting + self.new.held + result ≡ self.old.waiting + self.old.held }
         ensures few { result ≤ most }
