@@ -30,6 +30,7 @@ TRIALS = {
     "viewed": (ENGINE, "4 1; 5 2; 5 2; 4 1; 4 1; 14 more, then 5 limit 16; 9 made 2 given 1; 2 entries"),
     "viewed-late 0": (ENGINE, "4 1; 1: 7, 2: 8, 3: 5, 4: 2, 4 rows; (2 removed); 2 1; 2: 8, 4: 2, 2 rows; 2 1; 2: 8, 4: 2, 2 rows; "
                               "9 made 1 given 0; 1 entries"),
+    "shared": (ENGINE, "met; legal: 6000 entries"),
     "table a:int\\n5\\n\nshell count\\n.quit\\ncount\\n": (SHELL, "1"),
     "table a:int\\n5\\n\nshell .history h.json\\n": (SHELL, "[1 history h.json]"),
 }
@@ -52,6 +53,10 @@ BODIES = {
     "viewers_always_refused": ("A viewer is refused each query, as if the copy lacked updates", "sw_engine/src/viewing.rt",
                                "        self.reader.answer(query)\n",
                                "        let _ = query;\n        Err(Refusal::Ahead { seen: 1, told: 0 })\n", "viewed-late 0"),
+    "runs_share_no_head": ("A run whose sessions share heads opens its engine by latches for one thread", "sw_cli/src/running.rt",
+                           "make_by::<J, M, SharedLatch<J, M>, O, R>", "make_by::<J, M, AloneLatch<J, M>, O, R>", "shared"),
+    "nothing_at_rest": ("No select is answered by a head as it stands, so that each has the head alone", "sw_engine/src/engine.rt",
+                        "if !head.may_have(self.came.load(Ordering::SeqCst)) {", "if !head.may_have(u64::MAX) {", "shared"),
     "one_after_the_other": ("Maps that lack much are stepped one after the other",
                             "sw_set/src/prepare/at_once.rt", "front, many.max(1), &step", "front, 1, &step", "test_areas"),
     "attributes_from_the_last": ("Missing maps are made in the order of the key, then of the attributes from the last on",

@@ -227,7 +227,8 @@ fn look_around_deletion<J: Naming, M: CrackerMap, R: Wait>(
     viewer.learn(one.receipt());
     look_at_all(alloc, text, viewer)?;
     held(text.push_str("; "))?;
-    held(show(text, &one.delete_where(rt, &[twelve])?))?;
+    let reply = one.delete_where(rt, &[twelve])?;
+    held(show(text, &reply))?;
     held(text.push_str("; "))?;
     viewer.learn(one.receipt());
     look_at_all(alloc, text, viewer)

@@ -1,7 +1,7 @@
 //! Which trial a line is.
 
 use crate::asking::{Asked, ask};
-use crate::runs::{begun, met_in_run};
+use crate::runs::{begun, met_in_run, shared};
 use crate::sessions::{among, counted, crowded, insisted, mixed, raced, told_of, waited};
 use std::alloc::{AllocError, Global};
 use std::sync::Wait;
@@ -78,6 +78,7 @@ fn tell_fixed<R: Threads + Wait + Sync>(
         "published" => ask(rt, alloc, Asked::Publishing, text),
         "crowded" => crowded(rt, alloc, text),
         "met-in-run" => met_in_run(rt, alloc, text),
+        "shared" => shared(rt, alloc, text),
         _ => Ok(()),
     }
 }
