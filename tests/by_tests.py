@@ -28,7 +28,9 @@ TRIALS = {
     "counted 12 select b where a >= 10 and a <= 15": (ENGINE, "legal; 1: 7, 3: 5, 2 rows; 2 begun, 4 steps, 4 asked"),
     "told 0 insert 1, 9, 0|count where a < 10": (ENGINE, "legal; key 5; 2"),
     "viewed": (ENGINE, "4 1; 5 2; 5 2; 4 1; 4 1; 14 more, then 5 limit 16; 9 made 2 given 1; 2 entries"),
-    "viewed-late": (ENGINE, "4 1; 1: 7, 3: 5, 4: 2, 5: 9, 4 rows; 9 made 1 given 0; 2 entries"),
+    "viewed-late 0": (ENGINE, "4 1; 1: 7, 2: 8, 3: 5, 4: 2, 4 rows; (2 removed); 2 1; 2: 8, 4: 2, 2 rows; 2 1; 2: 8, 4: 2, 2 rows; "
+                              "9 made 1 given 0; 1 entries"),
+    "shared": (ENGINE, "met; legal: 6000 entries"),
     "table a:int\\n5\\n\nshell count\\n.quit\\ncount\\n": (SHELL, "1"),
     "table a:int\\n5\\n\nshell .history h.json\\n": (SHELL, "[1 history h.json]"),
 }
@@ -50,7 +52,11 @@ BODIES = {
                         "if copies.is_read() {", "if copies.is_read() || many < u64::MAX {", "viewed"),
     "viewers_always_refused": ("A viewer is refused each query, as if the copy lacked updates", "sw_engine/src/viewing.rt",
                                "        self.reader.answer(query)\n",
-                               "        let _ = query;\n        Err(Refusal::Ahead { seen: 1, told: 0 })\n", "viewed-late"),
+                               "        let _ = query;\n        Err(Refusal::Ahead { seen: 1, told: 0 })\n", "viewed-late 0"),
+    "runs_share_no_head": ("A run whose sessions share heads opens its engine by latches for one thread", "sw_cli/src/running.rt",
+                           "make_by::<J, M, SharedLatch<J, M>, O, R>", "make_by::<J, M, AloneLatch<J, M>, O, R>", "shared"),
+    "nothing_at_rest": ("No select is answered by a head as it stands, so that each has the head alone", "sw_engine/src/engine.rt",
+                        "if !head.may_have(self.came.load(Ordering::SeqCst)) {", "if !head.may_have(u64::MAX) {", "shared"),
     "one_after_the_other": ("Maps that lack much are stepped one after the other",
                             "sw_set/src/prepare/at_once.rt", "front, many.max(1), &step", "front, 1, &step", "test_areas"),
     "attributes_from_the_last": ("Missing maps are made in the order of the key, then of the attributes from the last on",

@@ -176,35 +176,40 @@ fn look_on<J: Naming, M: CrackerMap, R: Wait>(
     held(tickets.push(two.end()))
 }
 
-/// A viewer that is opened after an insertion and a deletion looks, and is asked for all rows.
-fn look_after<J: Naming, M: CrackerMap, R: Wait>(
-    rt: &R,
+/// Tells what a viewer answers: how many rows there are, how many have an a below 10, and all rows.
+fn look_at_all<J: Naming>(
     alloc: Global,
-    engine: &Engine<J, M>,
     text: &mut String,
+    viewer: &mut Viewer<'_, J>,
 ) -> Result<(), Refusal> {
-    let mut viewer = engine.viewer(rt)?;
-    look(alloc, text, &mut viewer)?;
-    tell_answer(text, &mut viewer, &rows_all(alloc)?)
+    look(alloc, text, viewer)?;
+    tell_answer(text, viewer, &rows_all(alloc)?)
 }
 
-/// A session writes before there is a viewer, which looks then. Tells what it sees, and adds the session's ticket.
-fn look_late<J: Naming, M: CrackerMap, R: Wait>(
+/// A session inserts so many rows, 4,000 at most, whose b is the key, and deletes as many from the key 2 on, of which each
+/// four-hundredth stays.
+fn write_many<J: Naming, M: CrackerMap, R: Wait>(
     rt: &R,
-    alloc: Global,
-    engine: &Engine<J, M>,
-    tickets: &mut Vec<Ticket<J>>,
-    text: &mut String,
+    one: &mut Session<'_, J, M>,
+    many: u64,
 ) -> Result<(), Refusal> {
-    let mut one = engine.session(rt)?;
-    one.insert(rt, [1, 9, 0, 0, 0, 0, 0, 0])?;
-    one.delete(rt, 2)?;
-    look_after(rt, alloc, engine, text)?;
-    held(tickets.push(one.end()))
+    let many = many.min(4000);
+    for turn in 0..2 * many {
+        if turn < many {
+            let key = (turn + 5) as i64;
+            one.insert(rt, [key % 15, key, 0, 0, 0, 0, 0, 0])?;
+        } else {
+            let key = turn - many + 2;
+            if key % 400 != 5 {
+                one.delete(rt, key)?;
+            }
+        }
+    }
+    Ok(())
 }
 
-/// A viewer looks before the rows whose a is 12 are deleted by one call and, when it has learnt the receipt, after it, and is asked
-/// for all rows.
+/// A viewer looks at all when it has learnt a session's receipt, before the session deletes the rows whose a is 12 by one call, and
+/// after it. Tells also how many went.
 fn look_around_deletion<J: Naming, M: CrackerMap, R: Wait>(
     rt: &R,
     alloc: Global,
@@ -219,27 +224,49 @@ fn look_around_deletion<J: Naming, M: CrackerMap, R: Wait>(
         lower: Some(Bound::Before(12)),
         upper: Some(Bound::After(12)),
     };
-    look(alloc, text, viewer)?;
-    one.delete_where(rt, &[twelve])?;
     viewer.learn(one.receipt());
-    look(alloc, text, viewer)?;
-    tell_answer(text, viewer, &rows_all(alloc)?)
+    look_at_all(alloc, text, viewer)?;
+    held(text.push_str("; "))?;
+    let reply = one.delete_where(rt, &[twelve])?;
+    held(show(text, &reply))?;
+    held(text.push_str("; "))?;
+    viewer.learn(one.receipt());
+    look_at_all(alloc, text, viewer)
 }
 
-/// A viewer looks around such a deletion. Tells what it sees, and adds the session's ticket.
-fn look_at_deletion<J: Naming, M: CrackerMap, R: Wait>(
+/// The first viewer is opened behind a session's calls, and looks around such a deletion; behind it a second one is opened, which
+/// looks at all.
+fn look_behind<J: Naming, M: CrackerMap, R: Wait>(
     rt: &R,
     alloc: Global,
     engine: &Engine<J, M>,
-    tickets: &mut Vec<Ticket<J>>,
+    one: &mut Session<'_, J, M>,
     text: &mut String,
 ) -> Result<(), Refusal>
     requires { 1 < length J.columns }
 {
-    let mut one = engine.session(rt)?;
     let mut viewer = engine.viewer(rt)?;
-    look_around_deletion(rt, alloc, &mut one, &mut viewer, text)?;
-    held(tickets.push(one.end()))
+    look_around_deletion(rt, alloc, one, &mut viewer, text)?;
+    let mut later = engine.viewer(rt)?;
+    held(text.push_str("; "))?;
+    look_at_all(alloc, text, &mut later)
+}
+
+/// A session inserts so many rows before there is a viewer, and viewers look behind it. Tells what they see, and answers the
+/// session's ticket.
+fn look_late<J: Naming, M: CrackerMap, R: Wait>(
+    rt: &R,
+    alloc: Global,
+    engine: &Engine<J, M>,
+    many: u64,
+    text: &mut String,
+) -> Result<Ticket<J>, Refusal>
+    requires { 1 < length J.columns }
+{
+    let mut one = engine.session(rt)?;
+    write_many(rt, &mut one, many)?;
+    look_behind(rt, alloc, engine, &mut one, text)?;
+    Ok(one.end())
 }
 
 /// Tells whether a session's receipt has all updates.
@@ -363,10 +390,9 @@ pub(crate) enum Asked {
     Boxes,
     /// What viewers see between the calls of two sessions.
     Views,
-    /// What a viewer sees that is opened behind the calls of a session.
-    LateViews,
-    /// What a viewer sees around a call that deletes several rows.
-    DeletionViews,
+    /// What viewers see that are opened behind the calls of a session, which inserts so many rows, and around a call that deletes
+    /// several.
+    LateViews(u64),
     /// Whose receipts have all updates around a publishing.
     Publishing,
 }
@@ -385,8 +411,10 @@ fn ask_at<J: Naming, M: CrackerMap, R: Wait>(
     match asked {
         Asked::Boxes => shed(rt, &engine, &mut tickets, text)?,
         Asked::Views => look_on(rt, alloc, &engine, &mut tickets, text)?,
-        Asked::LateViews => look_late(rt, alloc, &engine, &mut tickets, text)?,
-        Asked::DeletionViews => look_at_deletion(rt, alloc, &engine, &mut tickets, text)?,
+        Asked::LateViews(many) => {
+            let ticket = look_late(rt, alloc, &engine, many, text)?;
+            held(tickets.push(ticket))?;
+        }
         Asked::Publishing => publish_on(rt, alloc, &engine, &mut tickets, text)?,
     }
     close_twice(rt, engine, tickets, text)

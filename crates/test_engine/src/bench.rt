@@ -1,7 +1,7 @@
 //! Which trial a line is.
 
 use crate::asking::{Asked, ask};
-use crate::runs::{begun, met_in_run};
+use crate::runs::{begun, met_in_run, shared};
 use crate::sessions::{among, counted, crowded, insisted, mixed, raced, told_of, waited};
 use std::alloc::{AllocError, Global};
 use std::sync::Wait;
@@ -59,6 +59,7 @@ fn tell<R: Threads + Wait + Sync>(
         "waited" => waited(rt, alloc, many, rest, text),
         "mixed" => mixed(rt, alloc, five(given), cuts, text),
         "among" => among(rt, alloc, first, number(rest), cuts, text),
+        "viewed-late" => ask(rt, alloc, Asked::LateViews(first), text),
         "begun" => begun(rt, alloc, many, cuts, rest, text),
         _ => tell_fixed(rt, alloc, word, text),
     }
@@ -74,11 +75,10 @@ fn tell_fixed<R: Threads + Wait + Sync>(
     match word {
         "closed" => ask(rt, alloc, Asked::Boxes, text),
         "viewed" => ask(rt, alloc, Asked::Views, text),
-        "viewed-late" => ask(rt, alloc, Asked::LateViews, text),
-        "viewed-many" => ask(rt, alloc, Asked::DeletionViews, text),
         "published" => ask(rt, alloc, Asked::Publishing, text),
         "crowded" => crowded(rt, alloc, text),
         "met-in-run" => met_in_run(rt, alloc, text),
+        "shared" => shared(rt, alloc, text),
         _ => Ok(()),
     }
 }

@@ -37,10 +37,10 @@ pub(crate) struct Sights {
 }
 
 impl Sights {
-    /// Nothing so far.
-    pub(crate) fn new(alloc: Global) -> Result<Sights, AllocError> {
+    /// Nothing so far. Until two threads have met in a look for a bound, each one there waits for another so many turns.
+    pub(crate) fn new(alloc: Global, patience: u64) -> Result<Sights, AllocError> {
         Ok(Sights {
-            counts: Arc::new(alloc, Counts::none())?,
+            counts: Arc::new(alloc, Counts::meeting(patience))?,
             overran: Arc::new(alloc, AtomicBool::new(false))?,
         })
     }

@@ -33,7 +33,7 @@ pub(crate) const HEADER: [&str; 3] = ["a:int", "b:int", "c:int"];
 pub(crate) const TABLE: Trial<'static> = Trial {
     rows: &ROWS,
     cuts: "",
-    limit: 1000,
+    limit: 10_000,
 };
 
 /// Rows of these cells in a list, by the keys 1, 2, 3 and so on. Refused `NoMemory` alone.

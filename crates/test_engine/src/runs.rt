@@ -1,4 +1,4 @@
-//! Runs of a table and a script over maps that wait for one another, and over maps that count.
+//! Runs of a table and a script over maps that wait for one another, whose users wait for one another, or that count.
 
 use crate::boxes::{Sights, Signals, Watching, crossed, watching};
 use crate::running::cleared;
@@ -7,9 +7,15 @@ use std::alloc::{AllocError, Global};
 use std::sync::Wait;
 use std::sync::atomic::Ordering;
 use std::thread::Threads;
-use sw_cli::{Options, run_with};
+use sw_cli::{Means, Nobody, Options, run_shared, run_with};
 use sw_rows::{Counted, Refusal, TextKey};
 use sw_spine::Record;
+
+/// How often each of two blocks makes a select.
+const SELECTS: usize = 3000;
+
+/// How many turns a select waits for one of the other block: for less time than that one waits to share a head that is taken alone.
+const PATIENCE: u64 = 60_000;
 
 const SCHEMA_AND_ROWS: &[u8] = b"a:int,b:int,c:int\n12,7,1\n3,8,0\n12,5,1\n20,2,0\n";
 
@@ -62,7 +68,7 @@ pub(crate) fn met_in_run<R: Threads + Wait + Sync>(
     alloc: Global,
     text: &mut String,
 ) -> Result<(), Refusal> {
-    let sights = held(Sights::new(alloc))?;
+    let sights = held(Sights::new(alloc, 0))?;
     let signals = held(Signals::new(alloc, false))?;
     let maps = crossed(alloc, &signals, &sights)?;
     let script = b"count where a >= 10\n---\ncount where b >= 6\n";
@@ -74,6 +80,39 @@ pub(crate) fn met_in_run<R: Threads + Wait + Sync>(
     Ok(())
 }
 
+/// Two blocks that make one select again and again in a head that they share. Tells whether two selects were ever in its map at a
+/// time, and the check of the record's file.
+pub(crate) fn shared<R: Threads + Wait + Sync>(
+    rt: &R,
+    alloc: Global,
+    text: &mut String,
+) -> Result<(), Refusal> {
+    let sights = held(Sights::new(alloc, PATIENCE))?;
+    let maps = watching(alloc, 1, &held(Signals::new(alloc, true))?, &sights)?;
+    let maps = cleared(alloc, maps)?;
+    let block = held("count where a >= 10\n".repeat(alloc, SELECTS))?;
+    let script = held(format!(in alloc; "{block}---\n{block}"))?;
+    let options = Options {
+        limit: 1000,
+        cuts: "",
+        threads: true,
+        key: TextKey::fixed(),
+    };
+    let means = Means {
+        alloc,
+        options: &options,
+        maps,
+        onlooker: &Nobody,
+    };
+    let mut out = Counted::new(Vec::new(alloc));
+    let mut table = Counted::new(SCHEMA_AND_ROWS);
+    let mut script = Counted::new(script.as_bytes());
+    let after = run_shared(rt, means, &mut table, &mut script, &mut out)?;
+    let met = sights.counts.met.load(Ordering::SeqCst);
+    held(text.push_str(if met { "met" } else { "never met" }))?;
+    tell_file(alloc, text, &after.history)
+}
+
 /// Tells what a run writes over so many counting maps, and how often they were begun.
 pub(crate) fn begun<R: Threads + Wait + Sync>(
     rt: &R,
@@ -83,7 +122,7 @@ pub(crate) fn begun<R: Threads + Wait + Sync>(
     lines: &str,
     text: &mut String,
 ) -> Result<(), Refusal> {
-    let sights = held(Sights::new(alloc))?;
+    let sights = held(Sights::new(alloc, 0))?;
     let maps = watching(alloc, many, &held(Signals::new(alloc, true))?, &sights)?;
     let script = held(script(alloc, lines))?;
     let _record = tell_run(rt, alloc, script.as_slice(), cuts, maps, text)?;

@@ -193,7 +193,7 @@ pub(crate) fn counted<R: Threads + Wait + Sync>(
     lines: &str,
     text: &mut String,
 ) -> Result<(), Refusal> {
-    let sights = held(Sights::new(alloc))?;
+    let sights = held(Sights::new(alloc, 0))?;
     let signals = held(Signals::new(alloc, true))?;
     let boxes = Boxes::dealt(alloc, watching(alloc, many, &signals, &sights)?);
     let plan = planned(alloc, 0, false, signals);
@@ -209,7 +209,7 @@ pub(crate) fn waited<R: Threads + Wait + Sync>(
     lines: &str,
     text: &mut String,
 ) -> Result<(), Refusal> {
-    let sights = held(Sights::new(alloc))?;
+    let sights = held(Sights::new(alloc, 0))?;
     let signals = held(Signals::new(alloc, false))?;
     let gated = watching(alloc, 2, &signals, &sights)?;
     let free = watching(alloc, 2, &held(Signals::new(alloc, true))?, &sights)?;

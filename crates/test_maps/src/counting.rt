@@ -2,30 +2,52 @@
 
 ghost use Rattle.std.specs.Prelude.{◌≡◌};
 
+use crate::gated::Gate;
 use std::sync::Arc;
-use std::sync::atomic::{AtomicU64, Ordering};
+use std::sync::atomic::{AtomicBool, AtomicU64, Ordering};
 use sw_map::{CrackerMap, Tail};
 use sw_query::{Bound, Refusal};
 use sw_tape::Entry;
 
-/// How often a map began, replayed an entry and was asked for a tail, and how often it refused to begin or to replay.
+/// How often a map began, replayed an entry and was asked for a tail, how often it refused to begin or to replay, and whether two
+/// threads ever looked for a bound at a time.
 #[derive(Drop)]
 pub struct Counts {
     pub begins: AtomicU64,
     pub steps: AtomicU64,
     pub tails: AtomicU64,
     pub refusals: AtomicU64,
+    pub met: AtomicBool,
+    looking: AtomicU64,
+    patience: u64,
 }
 
 impl Counts {
     /// All of them 0.
     pub fn none() -> Counts {
+        Counts::meeting(0)
+    }
+
+    /// All of them 0. Until two threads have met, each that looks for a bound waits for another one, so many turns at most.
+    pub fn meeting(patience: u64) -> Counts {
         Counts {
             begins: AtomicU64::new(0),
             steps: AtomicU64::new(0),
             tails: AtomicU64::new(0),
             refusals: AtomicU64::new(0),
+            met: AtomicBool::new(false),
+            looking: AtomicU64::new(0),
+            patience,
         }
+    }
+
+    /// A thread looks for a bound, and waits for another one where it is to.
+    fn meet(&self) {
+        if self.looking.fetch_add(1, Ordering::SeqCst) > 0 {
+            self.met.store(true, Ordering::SeqCst);
+        }
+        let _ = Gate::wait_for(&self.met, self.patience);
+        let _ = self.looking.fetch_sub(1, Ordering::SeqCst);
     }
 
     /// Counts a call that may have been refused.
@@ -91,6 +113,7 @@ impl<M: CrackerMap> CrackerMap for CountingMap<M> {
     }
 
     fn find(&self, bound: Bound) -> Option<usize> {
+        self.counts.meet();
         self.inner.find(bound)
     }
 
