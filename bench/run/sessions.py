@@ -12,15 +12,15 @@ def asked(what, width):
     return f"{what} where a >= {low} and a < {low + int(MOST * width)}"
 
 
-def timed(name, threads):
-    """The seconds of a run of a script, those of processors, and what it wrote."""
+def timed(name, threads, wanted=0):
+    """The seconds of a run of a script that ends with a status, those of processors, and what it wrote."""
     words = [PROGRAM, "run", "--table", FOLDER + "/t.csv", "--script", f"{FOLDER}/{name}.txt", *["--threads"][: threads]]
     with open(FOLDER + "/out", "wb") as out:
         start = time.perf_counter()
         child = subprocess.Popen(words, stdout=out, stderr=subprocess.DEVNULL)
         _, status, usage = os.wait4(child.pid, 0)
         took = time.perf_counter() - start
-    assert status == 0, (words, status)
+    assert os.waitstatus_to_exitcode(status) == wanted, (words, status)
     with open(FOLDER + "/out", "rb") as out:
         return took, usage.ru_utime + usage.ru_stime, out.read()
 
@@ -28,6 +28,15 @@ def timed(name, threads):
 def write(name, blocks):
     with open(f"{FOLDER}/{name}.txt", "w") as script:
         script.write("---\n".join("".join(line + "\n" for line in lines) for lines in blocks))
+    # (a script is read as a whole before its first call, so of this one nothing else is done)
+    with open(f"{FOLDER}/{name}.txt") as script, open(f"{FOLDER}/{name}_read.txt", "w") as read:
+        read.write(script.read() + "count where\n")
+
+
+def made(all_of, reading_of):
+    """What the calls of each run took, without those of the load, and without the reading of scripts and tables."""
+    calls = {run: statistics.median(found) - statistics.median(reading_of[run[0]]) for run, found in all_of.items()}
+    return {run: found - calls["load", 0] for run, found in calls.items()}
 
 
 def measure(kind, lines, load):
@@ -39,16 +48,19 @@ def measure(kind, lines, load):
     write("eight", [load] + [lines[k * many // 2:(k + 1) * many // 2] for k in range(8)])
     runs = [("load", 0), ("one", 0), ("four", 0), ("four", 1), ("eight", 1)]
     times, works, texts = {run: [] for run in runs}, {run: [] for run in runs}, {}
+    reads, read_works = {name: [] for name, _ in runs}, {name: [] for name, _ in runs}
     for _ in range(ROUNDS):
+        for name in reads:
+            took, work, _ = timed(name + "_read", 0, 2)
+            reads[name].append(took)
+            read_works[name].append(work)
         for run in runs:
             took, work, text = timed(*run)
             times[run].append(took)
             works[run].append(work)
             plain = text.replace(b"---\n", b"")
             assert texts.setdefault("four" if run[0] in ("four", "eight") else run[0], plain) == plain, (kind, run)
-    base, base_work = (statistics.median(of["load", 0]) for of in (times, works))
-    took = {run: statistics.median(times[run]) - base for run in runs}
-    work = {run: statistics.median(works[run]) - base_work for run in runs}
+    took, work = made(times, reads), made(works, read_works)
     one, turn, four, eight = (("one", 0), ("four", 0), ("four", 1), ("eight", 1))
     print(f"{kind}: {many} calls of one session {took[one]:.3f} s, of each of four {took[four]:.3f} s, in turn {took[turn]:.3f} s, of eight the half "
           f"{took[eight]:.3f} s; calls a second {4 * took[one] / took[four]:.2f} times one session's, processor time {work[four] / (4 * work[one]):.2f}; "
