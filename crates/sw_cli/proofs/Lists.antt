@@ -1,6 +1,6 @@
--- Lists that grow at their end.
-use Rattle.std.proofs.Common.{◌≡◌, ℕ, zero, suc, ◌+◌, ◌<◌, List, [], ◌∷◌, ◌++◌, length, take, map, get_or, refl, sym, ◌∙◌, ap, subst, arith, All, ⊎_elim}
-use Rattle.std.proofs.lemmas.List.{take_more, get_or-map}
+-- Lists that grow at their end, and what is left of them.
+use Rattle.std.proofs.Common.{◌≡◌, ℕ, zero, suc, ◌+◌, ◌<◌, List, [], ◌∷◌, ◌++◌, drop, length, take, map, get_or, refl, sym, ◌∙◌, ap, subst, arith, All, ⊎_elim}
+use Rattle.std.proofs.lemmas.List.{drop_more, take_more, get_or-map}
 use Rattle.std.proofs.lemmas.Bool.{cases_lt}
 use Rattle.sw_engine.specs.Desk.{AreCounted}
 
@@ -73,3 +73,13 @@ pairs_push R xs ys x y same old one i d e lt = ⊎_elim
     let there : i ≡ length ys = omega (arith, here, same) in
     subst (λ a. R a (get_or (ys ++ y ∷ []) i e)) (sym (get_or-last xs x d i here)) (subst (λ b. R x b) (sym (get_or-last ys y e i there)) one))
     (cases_lt i (length xs))
+
+-- ---- what is left of two lists
+
+-- lists that are the same from a place on are so from the next one on
+pub same_later : {A : Type 0} (n : ℕ) (xs ys : List A) (d : A) → n < length xs → n < length ys → drop n xs ≡ drop n ys → drop (n + 1) xs ≡ drop (n + 1) ys
+same_later n xs ys d lx ly e = ap (drop 1) (sym (drop_more xs n d lx) ∙ (e ∙ drop_more ys n d ly))
+
+-- and have the same item there
+pub same_at : {A : Type 0} (n : ℕ) (xs ys : List A) (d : A) → n < length xs → n < length ys → drop n xs ≡ drop n ys → get_or xs n d ≡ get_or ys n d
+same_at n xs ys d lx ly e = ap (λ l. get_or l 0 d) (sym (drop_more xs n d lx) ∙ (e ∙ drop_more ys n d ly))

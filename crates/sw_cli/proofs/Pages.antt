@@ -1,8 +1,11 @@
 -- Calls whose lines go out as each is answered: one call more, one page more, and what is left where the sink failed.
-use Rattle.std.proofs.Common.{true, false, true≢false, ◌≡◌, ◌∙◌, sym, ap, subst, refl, inl, inr, ℕ, zero, suc, ◌+◌, ◌<◌, List, [], ◌∷◌, ◌++◌, append_assoc, arith, All, drop, get_or, length, map, take, Option, Result, Ok, Err, IfOk, IfErr, OnErr}
+use Rattle.std.proofs.Common.{true, false, true≢false, ◌≡◌, ◌∙◌, sym, ap, subst, refl, inl, inr, ℕ, zero, suc, ◌+◌, ◌<◌, List, [], ◌∷◌, ◌++◌, append_assoc, arith, All, drop, get_or, length, length-append, map, take, Option, Result, Ok, Err, IfOk, IfErr, OnErr}
 use Rattle.std.specs.Prelude.{is_err}
 use Rattle.std.specs.Result.{IsErrAnd}
-use Rattle.std.proofs.lemmas.List.{append-nil, take-append-drop, take_more}
+use Rattle.std.proofs.lemmas.List.{append-nil, take_more}
+use Rattle.std.proofs.Math.Seq.{get_or-append_seam}
+use Rattle.sw_spine.specs.History.{CallsBelow}
+use Rattle.sw_cli.specs.Script.{AllCallsBelow}
 use Rattle.std.proofs.lemmas.List.Elements.{All-append, All-cons, All-nil, All-push}
 use Rattle.sw_rows.specs.Gives.{Raised}
 use Rattle.sw_rows.specs.Header.{Column}
@@ -156,10 +159,6 @@ begun_more columns cs c t number session next front old new newer f g h b same m
       (both (front ++ block_bytes columns (outcomes_of cs b.told)) (told_bytes columns c t) (Ok (tt {0})) b.out (record { whole = w.whole; part = tt }));
 }
 
--- all calls of it were made
-pub all_made : (columns : List Column) (cs calls : List Call) (number : ℕ) (session : Shown) (front : List ℕ) (old new : Option (List ℕ)) (f g : ℕ) → cs ≡ calls → Begun columns cs number session front old new f g → Ended columns calls number session front old new f g (Ok (tt {0}))
-all_made columns cs calls number session front old new f g is b = subst (λ (l : List Call). Ended columns l number session front old new f g (Ok (tt {0}))) is (b.told, b.done, b.out)
-
 -- the lines of calls that were given up come behind
 given_up_lines : (columns : List Column) (cs more : List Call) (told : List Told) (front : List ℕ) → length told ≡ length cs
     → front ++ block_bytes columns (outcomes_of (cs ++ more) (told ++ given_up more)) ≡ (front ++ block_bytes columns (outcomes_of cs told)) ++ block_bytes columns (outcomes_of more (given_up more))
@@ -194,26 +193,52 @@ failed_before columns calls session front old new f g result none own w says = (
   stops front (block_bytes columns (outcomes_of calls (given_up calls))) result says w,
 )
 
--- the same by how many calls of the page were made
+-- ---- a page whose calls are taken one by one
 
-taken_one : (n : ℕ) (calls : List Call) (c : Call) → n < length calls → c ≡ get_or calls n c → take (n + 1) calls ≡ take n calls ++ c ∷ []
-taken_one n calls c here is = take_more calls n c here ∙ ap (λ (x : Call). take n calls ++ x ∷ []) (sym is)
+-- calls of a page were made, and the others are left
+pub record Underway (columns : List Column) (calls left : List Call) (number : ℕ) (session : Shown) (front : List ℕ) (old new : Option (List ℕ)) (f g : ℕ) : Type 0 where
+  pub made : List Call
+  pub parts : calls ≡ made ++ left
+  pub begun : Begun columns made number session front old new f g
+
+-- the next call is one of the page's
+pub call_below : (n : ℕ) (calls made left later : List Call) (c : Call) → calls ≡ made ++ left → left ≡ c ∷ later → AllCallsBelow n calls → CallsBelow n c
+call_below n calls made left later c parts is below =
+    let whole : calls ≡ made ++ c ∷ later = parts ∙ ap (λ (cs : List Call). made ++ cs) is in
+    let inside : length made < length calls = omega (arith, ap length whole, length-append made (c ∷ later)) in
+    subst (CallsBelow n) (ap (λ (cs : List Call). get_or cs (length made) c) whole ∙ get_or-append_seam made c later c) (below (length made) c inside)
+
+-- before the first call all are left
+pub none_made : {u : Unit {0}} (columns : List Column) (calls : List Call) (session : Shown) (front : List ℕ) (old new : Option (List ℕ)) (f g : ℕ) → session.1 ≡ [] → own_of session ≡ [] → Writes old new f g (Ok u) front → Underway columns calls calls session.0 session front old new f g
+none_made {u} columns calls session front old new f g none own w = record { made = []; parts = refl; begun = begun {u = u} columns session front old new f g none own w }
+
+-- where no call is left all were made
+pub all_made : (columns : List Column) (calls left : List Call) (number : ℕ) (session : Shown) (front : List ℕ) (old new : Option (List ℕ)) (f g : ℕ) → left ≡ [] → Underway columns calls left number session front old new f g → Ended columns calls number session front old new f g (Ok (tt {0}))
+all_made columns calls left number session front old new f g none w =
+    let whole : w.made ≡ calls = sym (w.parts ∙ ap (λ (cs : List Call). w.made ++ cs) none ∙ append-nil w.made) in
+    subst (λ (l : List Call). Ended columns l number session front old new f g (Ok (tt {0}))) whole (w.begun.told, w.begun.done, w.begun.out)
 
 module _ (columns : List Column) (calls : List Call) (number : ℕ) (front : List ℕ) (old : Option (List ℕ)) (f : ℕ) where
+  -- the next call goes to those that were made
+  next_parts : (made left later : List Call) (c : Call) → calls ≡ made ++ left → left ≡ c ∷ later → calls ≡ (made ++ c ∷ []) ++ later
+  next_parts made left later c parts is = parts ∙ ap (λ (cs : List Call). made ++ cs) is ∙ sym (append_assoc made (c ∷ []) later)
+
   -- one call more was made, and its lines went out
-  pub page_more : {u : Unit {0}} (n : ℕ) (c : Call) (t : Told) (session next : Shown) (new newer : Option (List ℕ)) (g h : ℕ) → n < length calls → c ≡ get_or calls n c → Begun columns (take n calls) number session front old new f g
+  pub page_more : {u : Unit {0}} (left later : List Call) (c : Call) (t : Told) (session next : Shown) (new newer : Option (List ℕ)) (g h : ℕ) → left ≡ c ∷ later → Underway columns calls left number session front old new f g
       → next.0 ≡ session.0 → IfOk t (λ r. next.1 ≡ session.1 ++ (c, r) ∷ []) → OnErr t (next.1 ≡ session.1) → LeavesCall c t session next → IfErr t RefusesCall
-      → Writes new newer g h (Ok u) (told_bytes columns c t) → Begun columns (take (n + 1) calls) number next front old newer f h
-  page_more {u} n c t session next new newer g h here is b same mine err own why w =
-      subst (λ (cs : List Call). Begun columns cs number next front old newer f h) (sym (taken_one n calls c here is)) (begun_more {u = u} columns (take n calls) c t number session next front old new newer f g h b same mine err own why w)
+      → Writes new newer g h (Ok u) (told_bytes columns c t) → Underway columns calls later number next front old newer f h
+  page_more {u} left later c t session next new newer g h is b same mine err own why w = record {
+    made = b.made ++ c ∷ [];
+    parts = next_parts b.made left later c b.parts is;
+    begun = begun_more {u = u} columns b.made c t number session next front old new newer f g h b.begun same mine err own why w;
+  }
 
   -- the sink failed at the lines of one call more
-  pub page_failed : {e : Refusal} (n : ℕ) (c : Call) (t : Told) (session next : Shown) (new newer : Option (List ℕ)) (g h : ℕ) (result : Result (Unit {0}) Refusal) → n < length calls → c ≡ get_or calls n c → Begun columns (take n calls) number session front old new f g
+  pub page_failed : {e : Refusal} (left later : List Call) (c : Call) (t : Told) (session next : Shown) (new newer : Option (List ℕ)) (g h : ℕ) (result : Result (Unit {0}) Refusal) → left ≡ c ∷ later → Underway columns calls left number session front old new f g
       → next.0 ≡ session.0 → IfOk t (λ r. next.1 ≡ session.1 ++ (c, r) ∷ []) → OnErr t (next.1 ≡ session.1) → LeavesCall c t session next → IfErr t RefusesCall
       → Writes new newer g h (Err e) (told_bytes columns c t) → IsErrAnd result (λ d. d ≡ e) → Ended columns calls number next front old newer f h result
-  page_failed {e} n c t session next new newer g h result here is b same mine err own why w says =
-      let parts : calls ≡ (take n calls ++ c ∷ []) ++ drop (n + 1) calls = sym (take-append-drop (n + 1) calls) ∙ ap (λ (cs : List Call). cs ++ drop (n + 1) calls) (taken_one n calls c here is) in
-      failed_at {e = e} columns (take n calls) calls c t number session next front old new newer f g h (drop (n + 1) calls) result parts b same mine err own why w says
+  page_failed {e} left later c t session next new newer g h result is b same mine err own why w says =
+      failed_at {e = e} columns b.made calls c t number session next front old new newer f g h later result (next_parts b.made left later c b.parts is) b.begun same mine err own why w says
 
 -- ---- pages
 

@@ -23,16 +23,16 @@ PutsOut w result text = Writes w.taken_before w.taken_after w.failed_before w.fa
 -- out; what was not called counts as refused, which leaves nothing
 pub record FlowsPage (p : Page) (session ticket : Shown) (result : Result (Unit {0}) Refusal) (w : SinkSeen) : Type 0 where
   pub told : List Told
-  pub done : IsDone session.0 p.calls.now ticket told
-  pub out : PutsOut w result (line_before p.place ++ block_bytes p.schema.now (outcomes_of p.calls.now told))
+  pub done : IsDone session.0 p.calls ticket told
+  pub out : PutsOut w result (line_before p.place ++ block_bytes p.schema.now (outcomes_of p.calls told))
 
 -- so were those of all pages, each by the session of the ticket at its place
 pub record FlowsPages (ps : Pages) (tickets : List Shown) (result : Result (Unit {0}) Refusal) (w : SinkSeen) : Type 0 where
   pub told : List (List Told)
-  pub all : AreTold ps.blocks.now told
-  pub why : AllSayWhy (blocks_told ps.blocks.now told)
-  pub are : AreAnswered 1 (blocks_told ps.blocks.now told) tickets
-  pub out : PutsOut w result (text_of ps.schema.now (blocks_told ps.blocks.now told))
+  pub all : AreTold ps.blocks.items told
+  pub why : AllSayWhy (blocks_told ps.blocks.items told)
+  pub are : AreAnswered 1 (blocks_told ps.blocks.items told) tickets
+  pub out : PutsOut w result (text_of ps.schema.now (blocks_told ps.blocks.items told))
 
 -- what the calls of these blocks leave, over a table of these attributes and rows, whatever the cuts are
 abbrev pub Turns : List Column → List Row → List (List Call) → ℕ → SinkSeen → Result History Refusal → Type 0

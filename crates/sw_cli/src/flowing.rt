@@ -9,6 +9,7 @@ ghost use Rattle.sw_cli.specs.Script.{AllCallsBelow};
 ghost use Rattle.sw_cli.specs.Sides.{sink_by};
 
 use crate::buffered::{Base, Buffered};
+use crate::calls_left::CallsLeft;
 use crate::looking_on::Onlooker;
 use crate::script::Block;
 use crate::telling::{write_divider, write_told};
@@ -18,21 +19,21 @@ use std::sync::Wait;
 use std::thread::Threads;
 use sw_engine::{Engine, Naming, Session, Ticket};
 use sw_map::CrackerMap;
-use sw_rows::{Call, Refusal, Schema, Sink};
+use sw_rows::{Refusal, Schema, Sink};
 
-/// A block's calls, its place from 0, and the attributes over which their lines are printed.
-#[derive(Clone, Copy)]
+/// A block's calls, which are all to be made, its place from 0, and the attributes over which their lines are printed.
+#[derive(Drop)]
 pub(crate) struct Page<'a> {
     pub(crate) schema: &'a Schema,
-    pub(crate) calls: &'a [Call],
+    pub(crate) calls: CallsLeft,
     pub(crate) place: usize,
 }
 
 /// The blocks of a script, and the attributes over which their lines are printed.
-#[derive(Clone, Copy)]
+#[derive(Drop)]
 pub(crate) struct Pages<'a> {
     pub(crate) schema: &'a Schema,
-    pub(crate) blocks: &'a [Block],
+    pub(crate) blocks: Vec<Block>,
 }
 
 /// The tickets of an engine that wait for their calls, and room for those that had theirs.
@@ -67,21 +68,24 @@ fn flow_page<J: Naming, M: CrackerMap, O: Onlooker, R: Threads + Wait + Sync, W:
 ) -> Result<(), Refusal>
     requires none { session.old.1 ≡ [] }
     requires own { own_of session.old ≡ [] }
-    requires below { AllCallsBelow (length J.columns) page.calls.now }
+    requires below { AllCallsBelow (length J.columns) page.calls }
     ensures { FlowsPage page.entry session.old session.new result (sink_by W.Sink out.old out.new) }
 {
     let Page {
         schema,
-        calls,
+        mut calls,
         place,
     } = page;
     write_divider(place, out)?;
     let block = (place as u64).saturating_add(1);
-    for call in calls {
-        let begun = onlooker.begins(call);
-        let told = session.call(rt, call);
-        onlooker.ended(block, call, begun, &told);
-        write_told(schema, call, &told, out)?;
+    while let Some(call) = calls.next() {
+        let begun = onlooker.begins(&call);
+        let told = session.call(rt, &call);
+        onlooker.ended(block, &call, begun, &told);
+        let written = write_told(schema, &call, &told, out);
+        // for the prover: a way out asks for no case of what was let go before
+        drop((call, told));
+        written?;
     }
     Ok(())
 }
@@ -96,11 +100,11 @@ fn flow_pages<J: Naming, M: CrackerMap, O: Onlooker, R: Threads + Wait + Sync, W
     out: &mut W,
 ) -> (Vec<Ticket<J>>, Result<(), Refusal>)
     requires order { InOrder 1 seats.tickets.items }
-    requires many { length seats.tickets.items ≡ length pages.blocks.now }
-    requires below { All (AllCallsBelow (length J.columns)) pages.blocks.now }
+    requires many { length seats.tickets.items ≡ length pages.blocks.items }
+    requires below { All (AllCallsBelow (length J.columns)) pages.blocks.items }
     ensures { FlowsPages pages.entry result.0.items result.1 (sink_by W.Sink out.old out.new) }
 {
-    let Pages { schema, blocks } = pages;
+    let Pages { schema, mut blocks } = pages;
     let Seats {
         engine,
         tickets,
@@ -113,7 +117,7 @@ fn flow_pages<J: Naming, M: CrackerMap, O: Onlooker, R: Threads + Wait + Sync, W
             continue;
         }
         let place = done.len();
-        let calls = blocks[place].calls();
+        let calls = blocks[place].take();
         let page = Page {
             schema,
             calls,
@@ -141,8 +145,8 @@ where
     W: Sink,
     requires base { B.base ≡ W.taken sink }
     requires order { InOrder 1 flow.seats.tickets.items }
-    requires many { length flow.seats.tickets.items ≡ length flow.pages.blocks.now }
-    requires below { All (AllCallsBelow (length J.columns)) flow.pages.blocks.now }
+    requires many { length flow.seats.tickets.items ≡ length flow.pages.blocks.items }
+    requires below { All (AllCallsBelow (length J.columns)) flow.pages.blocks.items }
     ensures { FlowsPages flow.entry.pages result.1.0.items result.1.1 (sink_by W.Sink sink result.0) }
 {
     let Flow {
@@ -170,8 +174,8 @@ where
     R: Threads + Wait + Sync,
     W: Sink,
     requires order { InOrder 1 flow.seats.tickets.items }
-    requires many { length flow.seats.tickets.items ≡ length flow.pages.blocks.now }
-    requires below { All (AllCallsBelow (length J.columns)) flow.pages.blocks.now }
+    requires many { length flow.seats.tickets.items ≡ length flow.pages.blocks.items }
+    requires below { All (AllCallsBelow (length J.columns)) flow.pages.blocks.items }
     ensures { FlowsPages flow.entry.pages result.1.0.items result.1.1 (sink_by W.Sink sink result.0) }
 {
     flow_since::<Brand, J, M, O, R, W>(rt, sink, flow)
@@ -190,8 +194,8 @@ where
     R: Threads + Wait + Sync,
     W: Sink,
     requires order { InOrder 1 flow.seats.tickets.items }
-    requires many { length flow.seats.tickets.items ≡ length flow.pages.blocks.now }
-    requires below { All (AllCallsBelow (length J.columns)) flow.pages.blocks.now }
+    requires many { length flow.seats.tickets.items ≡ length flow.pages.blocks.items }
+    requires below { All (AllCallsBelow (length J.columns)) flow.pages.blocks.items }
     ensures { FlowsPages flow.entry.pages result.0.items result.1 (sink_by W.Sink out.old out.new) }
 {
     replace_with(
@@ -199,8 +203,8 @@ where
         flow,
         |sink: W, flow: Flow<'_, '_, '_, J, M, O>| -> (W, (Vec<Ticket<J>>, Result<(), Refusal>))
             requires order { InOrder 1 flow.seats.tickets.items }
-            requires many { length flow.seats.tickets.items ≡ length flow.pages.blocks.now }
-            requires below { All (AllCallsBelow (length J.columns)) flow.pages.blocks.now }
+            requires many { length flow.seats.tickets.items ≡ length flow.pages.blocks.items }
+            requires below { All (AllCallsBelow (length J.columns)) flow.pages.blocks.items }
             ensures { FlowsPages flow.entry.pages result.1.0.items result.1.1 (sink_by W.Sink sink result.0) }
         { flow_from(rt, sink, flow) },
     )

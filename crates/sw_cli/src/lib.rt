@@ -4,6 +4,7 @@
 
 mod boxes;
 mod buffered;
+mod calls_left;
 mod ended;
 mod fault;
 pub mod fault_examples;

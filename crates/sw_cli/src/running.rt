@@ -268,21 +268,8 @@ fn run_read<M: CrackerMap, O: Onlooker, R: Threads + Wait + Sync, W: Sink>(
     requires { IsStart means.limit (start_seen inputs) }
     ensures { Goes means.entry.limit (start_seen inputs) (sink_by W.Sink out.old out.new) result }
 {
-    let Means {
-        alloc,
-        options,
-        maps,
-        onlooker,
-    } = means;
-    let workload = Workload {
-        alloc,
-        inputs,
-        limit: options.limit,
-        threads: options.threads,
-        maps,
-        onlooker,
-    };
-    let mut stats = Vec::new(alloc);
+    let mut stats = Vec::new(means.alloc);
+    let workload = Workload::of(means, inputs);
     match make_and_write(rt, workload, out, &mut stats) {
         Ok(history) => Ok(AfterRun { history, stats }),
         Err(e) => Err(e),
@@ -299,21 +286,8 @@ fn share_read<M: CrackerMap + Sync, O: Onlooker, R: Threads + Wait + Sync, W: Si
     requires { IsStart means.limit (start_seen inputs) }
     ensures { Goes means.entry.limit (start_seen inputs) (sink_by W.Sink out.old out.new) result }
 {
-    let Means {
-        alloc,
-        options,
-        maps,
-        onlooker,
-    } = means;
-    let workload = Workload {
-        alloc,
-        inputs,
-        limit: options.limit,
-        threads: options.threads,
-        maps,
-        onlooker,
-    };
-    let mut stats = Vec::new(alloc);
+    let mut stats = Vec::new(means.alloc);
+    let workload = Workload::of(means, inputs);
     match share_and_write(rt, workload, out, &mut stats) {
         Ok(history) => Ok(AfterRun { history, stats }),
         Err(e) => Err(e),

@@ -11,6 +11,7 @@ ghost use Rattle.sw_cli.specs.declared.script.TheConstants.{MOST_CALLS};
 ghost use Rattle.sw_cli.specs.Script.{AreBlocks, AreSound, blocks_of, call_of_line, calls_in, is_divider, so_far, spelled, whole, with_block, with_call, with_line};
 ghost use Rattle.sw_histories.specs.Told.{Reads, TellsText};
 
+use crate::calls_left::CallsLeft;
 use bstr::ByteSlice;
 use core::mem::replace;
 use std::alloc::Global;
@@ -45,6 +46,14 @@ impl Block {
         ensures { result.now ≡ self.now }
     {
         self.calls.as_slice()
+    }
+
+    /// The calls, all of which are still to be made. None are left in the block.
+    pub(crate) fn take(&mut self) -> CallsLeft
+        ensures { result ≡ self.old }
+    {
+        let none = Vec::new(*self.calls.allocator());
+        CallsLeft::of(replace(&mut self.calls, none))
     }
 }
 

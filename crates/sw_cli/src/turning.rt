@@ -138,7 +138,7 @@ fn make_calls<J: Naming, M: CrackerMap, O: Onlooker, R: Threads + Wait + Sync, W
     }
     let pages = Pages {
         schema: &schema,
-        blocks: blocks.as_slice(),
+        blocks,
     };
     let seats = Seats {
         engine: &engine,

@@ -1,7 +1,9 @@
 //! Whether a line of bytes that come in pieces is that of a refused call.
 
-ghost use Rattle.std.specs.Prelude.{◌≡◌, ◌++◌, ◌∷◌, ◌||◌, ℕ, List, []};
-ghost use Rattle.sw_cli.specs.RefusedLines.{Notes, comes, tells_refusal, tells_then};
+ghost use Rattle.std.specs.Prelude.{◌≡◌, ◌≤◌, ◌++◌, ◌∷◌, ◌||◌, ℕ, List, [], false, length};
+ghost use Rattle.sw_cli.specs.RefusedLines.{Notes, comes, tells_from, tells_refusal, tells_then};
+
+use memchr::memchr;
 
 /// How the line of a refused call begins.
 const REFUSED: [u8; 8] = *b"refused ";
@@ -26,6 +28,15 @@ fn after(place: Place, byte: u8) -> (Place, bool)
         _ if byte == b'\n' => (Place::Beginning(0), false),
         _ => (Place::Further, false),
     }
+}
+
+/// The bytes from the end of their first line on.
+fn from_line_end(bytes: &[u8]) -> &[u8]
+    ensures shorter { length result.now ≤ length bytes.now }
+    ensures same { (later : List ℕ) → tells_from false (result.now ++ later) ≡ tells_from false (bytes.now ++ later) }
+{
+    let at = memchr(b'\n', bytes).unwrap_or(bytes.len());
+    &bytes[at..]
 }
 
 /// What was seen of the bytes so far.
@@ -62,6 +73,17 @@ impl Watch {
         self.refused = self.refused || is_refusal;
     }
 
+    /// What is left to be seen of bytes: of a line that is none of a refused call no more than its end.
+    fn unseen<'b>(&self, bytes: &'b [u8]) -> &'b [u8]
+        ensures shorter { length result.now ≤ length bytes.now }
+        ensures same { (later : List ℕ) → tells_then self.now (result.now ++ later) ≡ tells_then self.now (bytes.now ++ later) }
+    {
+        match self.place {
+            Place::Further => from_line_end(bytes),
+            Place::Beginning(_) => bytes,
+        }
+    }
+
     /// Sees more bytes.
     pub(crate) fn note(&mut self, bytes: &[u8])
         ensures { Notes self.old self.new bytes.now }
@@ -69,7 +91,7 @@ impl Watch {
         let mut rest = bytes;
         while let Some((byte, more)) = rest.split_first() {
             self.see(*byte);
-            rest = more;
+            rest = self.unseen(more);
         }
     }
 }

@@ -2,9 +2,11 @@
 
 ghost use Rattle.std.specs.Prelude.{◌≡◌, length, IfOk, IsOkUnless};
 ghost use Rattle.sw_query.specs.declared.refusal.Refusal.TheVariants.{NoMemory};
+ghost use Rattle.sw_cli.specs.Starts.{IsStart, start_seen};
 
 use crate::growing::stand_ins;
 use crate::looking_on::Onlooker;
+use crate::means::Means;
 use crate::start::Inputs;
 use std::alloc::Global;
 use std::marker::Model;
@@ -39,7 +41,28 @@ impl<'o, M: CrackerMap, O: Onlooker> Model for Workload<'o, M, O> {
         × All (λ m. M.held m ≡ blank) w.maps.items };
 }
 
-impl<M: CrackerMap, O: Onlooker> Workload<'_, M, O> {
+impl<'o, M: CrackerMap, O: Onlooker> Workload<'o, M, O> {
+    /// What was read, over what the run is given.
+    pub(crate) fn of(means: Means<'o, M, O>, inputs: Inputs) -> Workload<'o, M, O>
+        requires { IsStart means.limit (start_seen inputs) }
+        ensures { result ≡ (means.entry.limit, start_seen inputs) }
+    {
+        let Means {
+            alloc,
+            options,
+            maps,
+            onlooker,
+        } = means;
+        Workload {
+            alloc,
+            inputs,
+            limit: options.limit,
+            threads: options.threads,
+            maps,
+            onlooker,
+        }
+    }
+
     /// Attributes that stand for those that were read. The one refusal is `NoMemory`.
     pub(crate) fn stand_ins(&self) -> Result<Schema, Refusal>
         ensures many { IfOk result (λ s. length s ≡ length self.now.1.columns) }
