@@ -5,3 +5,4 @@ pub mod Law
 pub mod Marks
 pub mod Reading
 pub mod Runs
+pub mod Whole

@@ -509,7 +509,7 @@ impl Rewriter {
         Ok(())
     }
 
-    /// The text is over, perhaps in the middle of a record: quotes that are open are closed.
+    /// The text is over, perhaps in the middle of a record: quotes that are open are closed, but in one that goes on as it is.
     pub(crate) fn finish(&mut self) -> Result<(), AllocError>
         ensures went { OnOk result (self.new.out.items ≡ self.old.out.items ++ by finished self.old) }
         ensures handed { OnOk result (self.new.handed ≡ self.old.handed) }
@@ -517,6 +517,7 @@ impl Rewriter {
         self.place = self.place.unmarked();
         match self.place.spot {
             Spot::Before => Ok(()),
+            Spot::Quoted if self.goes_by() => Ok(()),
             Spot::Quoted => {
                 self.copy(b'"')?;
                 self.close()
