@@ -1,5 +1,7 @@
+pub mod AsItIs
 pub mod Asked
 pub mod Closing
+pub mod Coming
 pub mod Given
 pub mod Law
 pub mod Marks

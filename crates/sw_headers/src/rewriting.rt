@@ -3,9 +3,9 @@
 //! Fields go on byte for byte, as they are written. Each line end of the text goes on too, those of fields that are passed by
 //! behind their record, where they are empty lines and no records: so each record keeps its line.
 
-ghost use Rattle.std.specs.Prelude.{◌≡◌, ◌<◌, ◌≤◌, ◌==◌, ◌||◌, ◌++◌, [], length, min, position, replicate, take, true, IfOk, OnOk};
+ghost use Rattle.std.specs.Prelude.{◌≡◌, ◌<◌, ◌≤◌, ◌==◌, ◌||◌, ◌++◌, [], length, min, position, replicate, take, true, IfOk, OnErr, OnOk};
 ghost use Rattle.std.specs.List.{list_all};
-ghost use Rattle.sw_headers.specs.Steps.{Gives, Goes, TakesIn, begun, by, closing, closing_first, closing_later, copied, copied_run, entered, fed, finished, fresh, goes_by, inside, is_kept, is_line_end, is_mark, missed_after, missed_in, next_spot, opened, outside, start, stays, stepped, taken, unmarked, waiting};
+ghost use Rattle.sw_headers.specs.Steps.{Gives, Goes, TakesIn, begun, by, closing, closing_first, closing_later, copied, copied_run, entered, fed, finished, fresh, going_on, goes_by, inside, is_kept, is_line_end, is_mark, missed_after, missed_in, next_spot, opened, outside, place_after, start, stays, stepped, taken, unmarked, waiting};
 ghost use Rattle.sw_headers.specs.declared.rewriting.Spot.TheVariants.{Before, Plain, Quoted};
 
 use crate::header::Header;
@@ -540,6 +540,55 @@ impl Rewriter {
                 self.close()
             }
             _ => self.close(),
+        }
+    }
+
+    /// Before the place again, where nothing waits.
+    fn put_back(&mut self, place: Place)
+        ensures header { self.new.header ≡ self.old.header }
+        ensures place { self.new.place ≡ place }
+        ensures out { self.new.out.items ≡ [] }
+        ensures handed { self.new.handed ≡ 0 }
+    {
+        self.place = place;
+        self.out.clear();
+        self.handed = 0;
+    }
+
+    /// Takes bytes of the text in, where nothing waits. After an error they can be taken in again.
+    pub(crate) fn take_in(&mut self, text: &[u8]) -> Result<(), AllocError>
+        ensures header { self.new.header ≡ self.old.header }
+        ensures place { OnOk result (self.new.place ≡ by place_after self.old text.now) }
+        ensures went { OnOk result (waiting self.new ≡ by going_on self.old text.now) }
+        ensures stays { OnErr result (self.new.place ≡ self.old.place) }
+        ensures none { OnErr result (waiting self.new ≡ []) }
+    {
+        let place = self.place;
+        self.put_back(place);
+        match self.feed(text) {
+            Ok(()) => Ok(()),
+            Err(error) => {
+                self.put_back(place);
+                Err(error)
+            }
+        }
+    }
+
+    /// The text is over, where nothing waits. After an error it can be ended again.
+    pub(crate) fn end(&mut self) -> Result<(), AllocError>
+        ensures header { self.new.header ≡ self.old.header }
+        ensures went { OnOk result (waiting self.new ≡ by finished self.old) }
+        ensures stays { OnErr result (self.new.place ≡ self.old.place) }
+        ensures none { OnErr result (waiting self.new ≡ []) }
+    {
+        let place = self.place;
+        self.put_back(place);
+        match self.finish() {
+            Ok(()) => Ok(()),
+            Err(error) => {
+                self.put_back(place);
+                Err(error)
+            }
         }
     }
 }
