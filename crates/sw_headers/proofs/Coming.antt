@@ -95,11 +95,11 @@ given_none given w v e none =
     nil_from_length given (omega (arith, whole))
 
 -- what waited was given; where none did, the text is over, or there is no room
-pub gave : {E : Type 0} (a : Option (List ℕ)) (u : Under) (r : Rewriter) (k : Option (List ℕ)) (n : ℕ) (buf : List ℕ) → Keeps a (known_under u k)
+pub gave : (E : Type 0) (a : Option (List ℕ)) (u : Under) (r : Rewriter) (k : Option (List ℕ)) (n : ℕ) (buf : List ℕ) → Keeps a (known_under u k)
     → Gives u.rewriter r (take n buf) → n ≡ min (length (waiting u.rewriter)) (length buf) → (n ≡ 0 → u.is_over ≡ true)
-    → ReadConsumes {E} a (known_under (record u { rewriter = r }) k) (Ok n) buf
-gave a u r k n buf kept g count over =
-    kept_reads a (known_under u k) (known_under (record u { rewriter = r }) k) (Ok n) buf kept (
+    → ReadConsumes {E = E} a (known_under (record u { rewriter = r }) k) (Ok n) buf
+gave E a u r k n buf kept g count over =
+    kept_reads {E = E} a (known_under u k) (known_under (record u { rewriter = r }) k) (Ok n) buf kept (
       gives_known u r (take n buf) k g,
       λ zero some. over_end (record u { rewriter = r }) k (none_waits_on (take n buf) (waiting r) (waiting u.rewriter) g.bytes (none_wait (take n buf) (waiting r) (waiting u.rewriter) n (length buf) g.bytes count zero some)) (over zero),
     )
