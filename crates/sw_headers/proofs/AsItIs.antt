@@ -4,7 +4,7 @@ use Rattle.std.proofs.lemmas.Bool.Decides.{nat_tests}
 use Rattle.sw_headers.specs.declared.rewriting.Place.{Place}
 use Rattle.sw_headers.specs.declared.rewriting.Spot.{Spot}
 use Rattle.sw_headers.specs.declared.rewriting.Spot.TheVariants.{Before, Field, Plain, Quoted, Closed}
-use Rattle.sw_headers.specs.Steps.{Step, begun, closing, commas, copied, entered, finished, finished_at, fresh, goes_by, going_on, inside, is_kept, is_line_end, is_mark, keeps_at, next_field, next_spot, or_quotes, place_after, rewritten_from, stepped, taken, unmarked}
+use Rattle.sw_headers.specs.Steps.{Step, begun, closing, commas, copied, entered, finished, finished_at, goes_by, going_on, inside, is_kept, is_line_end, is_mark, keeps_at, next_field, next_spot, or_quotes, place_after, rewritten_from, stepped, taken, unmarked}
 use Rattle.sw_headers.proofs.Law.{at, begun_is, copied_kept, copied_passed, entered_is, is_before, is_field}
 use Rattle.sw_headers.proofs.Marks.{all_step, taken_stepped, unmarked_same}
 use Rattle.sw_headers.proofs.Runs.{both_true, by_bool}
