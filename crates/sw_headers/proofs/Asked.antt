@@ -1,8 +1,8 @@
 -- The words of a header that is asked for, and the header that those make that name a column.
-use Rattle.std.proofs.Common.{◌≡◌, ◌∙◌, ap, sym, refl, ℕ, ◌==◌, ◌||◌, Bool, true, false, cond, List, [], ◌∷◌, ◌++◌, append_assoc, append-nil}
+use Rattle.std.proofs.Common.{◌≡◌, ◌∙◌, ap, sym, refl, ℕ, ◌==◌, Bool, true, false, cond, List, [], ◌∷◌, ◌++◌, append_assoc, append-nil}
 use Rattle.std.specs.Prelude.{filter}
 use Rattle.std.specs.List.{onto_first, slice_split}
-use Rattle.sw_headers.specs.Steps.{joined_after, joined_on}
+use Rattle.sw_headers.specs.Steps.{joined_after}
 use Rattle.sw_headers.specs.Under.{Fields, is_named, onto, or_empty, words}
 
 onto_same : (c : ℕ) (fs : Fields) → onto c fs ≡ onto_first c fs

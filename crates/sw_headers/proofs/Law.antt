@@ -10,6 +10,7 @@ use Rattle.sw_headers.specs.Under.{Fields, is_plain_byte, kept, or_empty, record
 use Rattle.sw_headers.proofs.Closing.{Ends, IsOpen, at_end, begins_field, commas_read, ends_line, ends_nil, from_field, header_first, kept_more, kept_nil, line_before, line_end, lines_before, none_read, record_is}
 use Rattle.sw_headers.proofs.Reading.{joined, read, read_to}
 use Rattle.sw_headers.proofs.Runs.{by_bool}
+use Rattle.sw_headers.proofs.Whole.{commas_none, keeps_all, not_all}
 
 -- what goes on of the rest of a text from a place on
 abbrev pub out : List ℕ → List Bool → Place → List ℕ → List ℕ
@@ -64,16 +65,16 @@ record Laws (header : List ℕ) (keeps : List Bool) (xs : List ℕ) : Type 0 whe
 
 -- ---- places in a record
 
-copied_kept : (keeps : List Bool) (p : Place) (c : ℕ) → is_kept keeps p ≡ true → copied keeps p c ≡ (record p { has_bytes = true }, c ∷ [])
+pub copied_kept : (keeps : List Bool) (p : Place) (c : ℕ) → is_kept keeps p ≡ true → copied keeps p c ≡ (record p { has_bytes = true }, c ∷ [])
 copied_kept keeps p c h = ap (λ b. cond b (record p { has_bytes = true }, c ∷ []) (record p { missed = missed_after p.missed c }, [])) h
 
-copied_passed : (keeps : List Bool) (p : Place) (c : ℕ) → is_kept keeps p ≡ false → copied keeps p c ≡ (record p { missed = missed_after p.missed c }, [])
+pub copied_passed : (keeps : List Bool) (p : Place) (c : ℕ) → is_kept keeps p ≡ false → copied keeps p c ≡ (record p { missed = missed_after p.missed c }, [])
 copied_passed keeps p c h = ap (λ b. cond b (record p { has_bytes = true }, c ∷ []) (record p { missed = missed_after p.missed c }, [])) h
 
-abbrev begun_by : Bool → Place → Step
+abbrev pub begun_by : Bool → Place → Step
 begun_by b p = cond b (cond p.has_given (record p { has_bytes = true }, 44 ∷ []) (record p { has_given = true }, [])) (p, [])
 
-begun_is : (keeps : List Bool) (p : Place) (b : Bool) → is_kept keeps p ≡ b → begun keeps p ≡ begun_by b p
+pub begun_is : (keeps : List Bool) (p : Place) (b : Bool) → is_kept keeps p ≡ b → begun keeps p ≡ begun_by b p
 begun_is keeps p b h = ap (λ k. begun_by k p) h
 
 -- the place behind a field, and one more
@@ -92,14 +93,14 @@ kept_false keeps fs f field h k = kept_more keeps fs f ∙ ap (λ b. kept keeps 
 
 -- ---- spots
 
-abbrev is_before : Spot → Bool
+abbrev pub is_before : Spot → Bool
 is_before Before = true
 is_before Field = false
 is_before Plain = false
 is_before Quoted = false
 is_before Closed = false
 
-abbrev is_field : Spot → Bool
+abbrev pub is_field : Spot → Bool
 is_field Before = false
 is_field Field = true
 is_field Plain = false
@@ -452,7 +453,7 @@ field_in c h = by_tests (c == 34) (c == 44) (is_line_end c) h
     by_tests false true false e = refl
     by_tests false false false e = refl
 
-entered_is : (header : List ℕ) (keeps : List Bool) (p : Place) (s : Spot) (c : ℕ) → is_before s ≡ false → entered header keeps p s c ≡ inside header keeps (record p { has_given = is_kept keeps p }) s c
+pub entered_is : (header : List ℕ) (keeps : List Bool) (p : Place) (s : Spot) (c : ℕ) → is_before s ≡ false → entered header keeps p s c ≡ inside header keeps (record p { has_given = is_kept keeps p }) s c
 entered_is header keeps p Before c h = absurd (true≢false h)
 entered_is header keeps p Field c h = refl
 entered_is header keeps p Plain c h = refl
@@ -510,7 +511,10 @@ none_left header keeps plain = record {
     kept_end Plain field missed fs f i h k = text_ends header keeps Plain (kept keeps fs) f Plain field true true missed fs f (shuts_some Plain (kept keeps fs) f _ tt (kept_true keeps fs f field h k)) h
     kept_end Quoted field missed fs f i h k =
         let p = at Quoted false field true true missed in
-        ap (λ (x : Step). read Quoted (kept keeps fs) f (x.1 ++ closing header keeps x.0)) (copied_kept keeps p 34 k)
+        let ends = (copied keeps p 34).1 ++ closing header keeps (copied keeps p 34).0 in
+        by_bool (keeps_all keeps)
+        (λ e. ap (λ b. read Quoted (kept keeps fs) f (cond b [] ends)) e ∙ ap (λ n. read Closed (kept keeps fs) f (replicate n 44)) (sym (commas_none keeps field e)))
+        (λ e. ap (λ b. read Quoted (kept keeps fs) f (cond b [] ends)) e ∙ ap (λ (x : Step). read Quoted (kept keeps fs) f (x.1 ++ closing header keeps x.0)) (copied_kept keeps p 34 k))
         ∙ text_ends header keeps Closed (kept keeps fs) f Quoted field true true missed fs f (shuts_some Closed (kept keeps fs) f _ tt (kept_true keeps fs f field h k)) h
     kept_end Closed field missed fs f i h k = text_ends header keeps Closed (kept keeps fs) f Closed field true true missed fs f (shuts_some Closed (kept keeps fs) f _ tt (kept_true keeps fs f field h k)) h
 
@@ -522,7 +526,8 @@ none_left header keeps plain = record {
     passed_end Plain field missed fs f t gs g i able all h k = text_ends header keeps t gs g Plain field true true missed fs f (shuts_some t gs g _ able (kept_false keeps fs f field h k ∙ all)) h
     passed_end Quoted field missed fs f t gs g i able all h k =
         let p = at Quoted false field true true missed in
-        ap (λ (x : Step). read t gs g (x.1 ++ closing header keeps x.0)) (copied_passed keeps p 34 k)
+        ap (λ b. read t gs g (cond b [] ((copied keeps p 34).1 ++ closing header keeps (copied keeps p 34).0))) (not_all keeps field k)
+        ∙ ap (λ (x : Step). read t gs g (x.1 ++ closing header keeps x.0)) (copied_passed keeps p 34 k)
         ∙ text_ends header keeps t gs g Quoted field true true missed fs f (shuts_some t gs g _ able (kept_false keeps fs f field h k ∙ all)) h
     passed_end Closed field missed fs f t gs g i able all h k = text_ends header keeps t gs g Closed field true true missed fs f (shuts_some t gs g _ able (kept_false keeps fs f field h k ∙ all)) h
 
@@ -534,7 +539,8 @@ none_left header keeps plain = record {
     none_end Plain given field missed fs f i all h k = text_ends header keeps Before [] [] Plain field given false missed fs f (shuts_none given _ (kept_false keeps fs f field h k ∙ all)) h
     none_end Quoted given field missed fs f i all h k =
         let p = at Quoted false field given false missed in
-        ap (λ (x : Step). read Before [] [] (x.1 ++ closing header keeps x.0)) (copied_passed keeps p 34 k)
+        ap (λ b. read Before [] [] (cond b [] ((copied keeps p 34).1 ++ closing header keeps (copied keeps p 34).0))) (not_all keeps field k)
+        ∙ ap (λ (x : Step). read Before [] [] (x.1 ++ closing header keeps x.0)) (copied_passed keeps p 34 k)
         ∙ text_ends header keeps Before [] [] Quoted field given false missed fs f (shuts_none given _ (kept_false keeps fs f field h k ∙ all)) h
     none_end Closed given field missed fs f i all h k = text_ends header keeps Before [] [] Closed field given false missed fs f (shuts_none given _ (kept_false keeps fs f field h k ∙ all)) h
 

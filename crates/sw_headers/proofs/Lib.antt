@@ -1,7 +1,10 @@
+pub mod AsItIs
 pub mod Asked
 pub mod Closing
+pub mod Coming
 pub mod Given
 pub mod Law
 pub mod Marks
 pub mod Reading
 pub mod Runs
+pub mod Whole

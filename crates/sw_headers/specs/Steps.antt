@@ -174,11 +174,16 @@ copied_run keeps p run =
     if is_kept keeps p then (record p { has_bytes = true }, run)
     else (record p { missed = missed_in p.missed run }, [])
 
--- what goes on at the end of the text, perhaps in the middle of a record: quotes that are open are closed
+-- whether what is left of a text goes on as it is: no column is passed by, and the first record is over
+abbrev pub goes_by : List Bool → Place → Bool
+goes_by keeps p = not p.is_first && list_all (λ k. k) keeps
+
+-- what goes on at the end of the text, perhaps in the middle of a record: quotes that are open are closed, but in one that
+-- goes on as it is
 abbrev pub finished_at : List ℕ → List Bool → Place → Spot → List ℕ
 finished_at header keeps p Before = []
 finished_at header keeps p Quoted =
-    (copied keeps p 34).1 ++ closing header keeps (copied keeps p 34).0
+    if goes_by keeps p then [] else (copied keeps p 34).1 ++ closing header keeps (copied keeps p 34).0
 finished_at header keeps p s = closing header keeps p
 
 abbrev pub finished : List ℕ → List Bool → Place → List ℕ
@@ -196,10 +201,13 @@ start = record {
   missed = 0;
 }
 
--- what goes on of a whole text
+-- what goes on of the rest of a text, from a place in it on
+abbrev pub rewritten_from : List ℕ → List Bool → Place → List ℕ → List ℕ
+rewritten_from header keeps p text = going_on header keeps p text ++ finished header keeps (place_after header keeps p text)
+
+-- the same of a whole text
 abbrev pub rewritten : List ℕ → List Bool → List ℕ → List ℕ
-rewritten header keeps text =
-    going_on header keeps start text ++ finished header keeps (place_after header keeps start text)
+rewritten header keeps text = rewritten_from header keeps start text
 
 -- bytes that belong to the field at hand, and change nothing but that they went on or were passed by
 abbrev pub stays : Spot → ℕ → Bool
@@ -231,10 +239,6 @@ pub record Gives (old new : Rewriter) (given : List ℕ) : Type 0 where
   pub place : new.place ≡ old.place
   pub bytes : given ++ waiting new ≡ waiting old
   pub later : new.handed ≤ length new.out.items
-
--- whether what is left of a text goes on as it is: no column is passed by, and the first record is over
-abbrev pub goes_by : List Bool → Place → Bool
-goes_by keeps p = not p.is_first && list_all (λ k. k) keeps
 
 -- a beginning of some bytes was taken in, and these are left of them
 abbrev pub TakesIn : Rewriter → Rewriter → List ℕ → List ℕ → Type 0

@@ -3,9 +3,9 @@
 //! Fields go on byte for byte, as they are written. Each line end of the text goes on too, those of fields that are passed by
 //! behind their record, where they are empty lines and no records: so each record keeps its line.
 
-ghost use Rattle.std.specs.Prelude.{◌≡◌, ◌<◌, ◌≤◌, ◌==◌, ◌||◌, ◌++◌, [], length, min, position, replicate, take, true, IfOk, OnOk};
+ghost use Rattle.std.specs.Prelude.{◌≡◌, ◌<◌, ◌≤◌, ◌==◌, ◌||◌, ◌++◌, [], length, min, position, replicate, take, true, IfOk, OnErr, OnOk};
 ghost use Rattle.std.specs.List.{list_all};
-ghost use Rattle.sw_headers.specs.Steps.{Gives, Goes, TakesIn, begun, by, closing, closing_first, closing_later, copied, copied_run, entered, fed, finished, fresh, goes_by, inside, is_kept, is_line_end, is_mark, missed_after, missed_in, next_spot, opened, outside, start, stays, stepped, taken, unmarked, waiting};
+ghost use Rattle.sw_headers.specs.Steps.{Gives, Goes, TakesIn, begun, by, closing, closing_first, closing_later, copied, copied_run, entered, fed, finished, fresh, going_on, goes_by, inside, is_kept, is_line_end, is_mark, missed_after, missed_in, next_spot, opened, outside, place_after, start, stays, stepped, taken, unmarked, waiting};
 ghost use Rattle.sw_headers.specs.declared.rewriting.Spot.TheVariants.{Before, Plain, Quoted};
 
 use crate::header::Header;
@@ -305,7 +305,8 @@ impl Rewriter {
 
     /// Gives a byte of the field at hand on, or passes it by.
     fn copy(&mut self, byte: u8) -> Result<(), AllocError>
-        ensures { OnOk result (Goes self.old self.new (copied self.old.header.keeps.items self.old.place byte)) }
+        ensures header { self.new.header ≡ self.old.header }
+        ensures goes { OnOk result (Goes self.old self.new (copied self.old.header.keeps.items self.old.place byte)) }
     {
         if self.is_kept() {
             self.place.has_bytes = true;
@@ -319,7 +320,8 @@ impl Rewriter {
     /// The same of bytes that belong to the field at hand.
     fn copy_run(&mut self, run: &[u8]) -> Result<(), AllocError>
         requires { 0 < length run.now }
-        ensures { OnOk result (Goes self.old self.new (copied_run self.old.header.keeps.items self.old.place run.now)) }
+        ensures header { self.new.header ≡ self.old.header }
+        ensures goes { OnOk result (Goes self.old self.new (copied_run self.old.header.keeps.items self.old.place run.now)) }
     {
         if self.is_kept() {
             self.place.has_bytes = true;
@@ -331,7 +333,8 @@ impl Rewriter {
 
     /// A field begins; behind another that is kept with a comma.
     fn begin_field(&mut self) -> Result<(), AllocError>
-        ensures { OnOk result (Goes self.old self.new (begun self.old.header.keeps.items self.old.place)) }
+        ensures header { self.new.header ≡ self.old.header }
+        ensures goes { OnOk result (Goes self.old self.new (begun self.old.header.keeps.items self.old.place)) }
     {
         if !self.is_kept() {
             return Ok(());
@@ -347,7 +350,8 @@ impl Rewriter {
 
     /// Gives so many of a byte on.
     fn push_many(&mut self, byte: u8, count: usize) -> Result<(), AllocError>
-        ensures { OnOk result (Goes self.old self.new (self.old.place, replicate count byte)) }
+        ensures header { self.new.header ≡ self.old.header }
+        ensures goes { OnOk result (Goes self.old self.new (self.old.place, replicate count byte)) }
     {
         let mut left = count;
         while left > 0 {
@@ -359,7 +363,8 @@ impl Rewriter {
 
     /// The first record at hand ends: the header stands in its place.
     fn close_first(&mut self) -> Result<(), AllocError>
-        ensures { OnOk result (Goes self.old self.new (self.old.place, by closing_first self.old)) }
+        ensures header { self.new.header ≡ self.old.header }
+        ensures goes { OnOk result (Goes self.old self.new (self.old.place, by closing_first self.old)) }
     {
         if !self.place.has_bytes && self.header.record().is_empty() {
             return self.push_many(b'"', 2);
@@ -370,7 +375,8 @@ impl Rewriter {
     /// A record at hand ends. One with fewer fields than the text has columns becomes one with another number than are kept,
     /// and one of which nothing was given on an empty field.
     fn close_other(&mut self) -> Result<(), AllocError>
-        ensures { OnOk result (Goes self.old self.new (self.old.place, by closing_later self.old)) }
+        ensures header { self.new.header ≡ self.old.header }
+        ensures goes { OnOk result (Goes self.old self.new (self.old.place, by closing_later self.old)) }
     {
         let commas = self.header.commas(self.place.field);
         if !self.place.has_bytes && commas == 0 {
@@ -381,7 +387,8 @@ impl Rewriter {
 
     /// The record at hand ends.
     fn close(&mut self) -> Result<(), AllocError>
-        ensures { OnOk result (Goes self.old self.new (self.old.place, by closing self.old)) }
+        ensures header { self.new.header ≡ self.old.header }
+        ensures goes { OnOk result (Goes self.old self.new (self.old.place, by closing self.old)) }
     {
         if self.place.is_first {
             self.close_first()
@@ -392,7 +399,8 @@ impl Rewriter {
 
     /// The record at hand ends with its line, behind which come the line ends that were passed by.
     fn end_record(&mut self, byte: u8) -> Result<(), AllocError>
-        ensures { OnOk result (Goes self.old self.new (by inside self.old Before byte)) }
+        ensures header { self.new.header ≡ self.old.header }
+        ensures goes { OnOk result (Goes self.old self.new (by inside self.old Before byte)) }
     {
         self.close()?;
         self.out.push(byte)?;
@@ -403,7 +411,8 @@ impl Rewriter {
 
     /// A byte that stands in a record, with the spot after it.
     fn go_on(&mut self, spot: Spot, byte: u8) -> Result<(), AllocError>
-        ensures { OnOk result (Goes self.old self.new (by inside self.old spot byte)) }
+        ensures header { self.new.header ≡ self.old.header }
+        ensures goes { OnOk result (Goes self.old self.new (by inside self.old spot byte)) }
     {
         match spot {
             Spot::Before => self.end_record(byte),
@@ -421,7 +430,8 @@ impl Rewriter {
 
     /// A byte that stands before a record, with the spot after it. A record begins with a field.
     fn enter(&mut self, spot: Spot, byte: u8) -> Result<(), AllocError>
-        ensures { OnOk result (Goes self.old self.new (by entered self.old spot byte)) }
+        ensures header { self.new.header ≡ self.old.header }
+        ensures goes { OnOk result (Goes self.old self.new (by entered self.old spot byte)) }
     {
         match spot {
             Spot::Before => {
@@ -437,7 +447,8 @@ impl Rewriter {
 
     /// A byte behind a byte order mark.
     fn step(&mut self, byte: u8) -> Result<(), AllocError>
-        ensures { OnOk result (Goes self.old self.new (by stepped self.old byte)) }
+        ensures header { self.new.header ≡ self.old.header }
+        ensures goes { OnOk result (Goes self.old self.new (by stepped self.old byte)) }
     {
         let spot = next_spot(self.place.spot, byte);
         match self.place.spot {
@@ -448,7 +459,8 @@ impl Rewriter {
 
     /// Takes a byte in.
     fn take(&mut self, byte: u8) -> Result<(), AllocError>
-        ensures { OnOk result (Goes self.old self.new (by taken self.old byte)) }
+        ensures header { self.new.header ≡ self.old.header }
+        ensures goes { OnOk result (Goes self.old self.new (by taken self.old byte)) }
     {
         if self.place.is_mark(byte) {
             self.place.marked += 1;
@@ -461,6 +473,7 @@ impl Rewriter {
     /// Takes the first of some bytes in, and says which are left.
     fn take_one<'t>(&mut self, text: &'t [u8]) -> Result<&'t [u8], AllocError>
         requires { 0 < length text.now }
+        ensures header { self.new.header ≡ self.old.header }
         ensures shorter { IfOk result (λ left. length left.now < length text.now) }
         ensures takes { IfOk result (λ left. TakesIn self.old self.new text.now left.now) }
     {
@@ -476,6 +489,7 @@ impl Rewriter {
         requires some { (0 < count) × (count ≤ length text.now) }
         requires stays { list_all (stays self.old.place.spot) (take count text.now) ≡ true }
         requires marked { self.old.place.marked ≡ 3 }
+        ensures header { self.new.header ≡ self.old.header }
         ensures shorter { IfOk result (λ left. length left.now < length text.now) }
         ensures takes { IfOk result (λ left. TakesIn self.old self.new text.now left.now) }
     {
@@ -487,6 +501,7 @@ impl Rewriter {
     /// Takes some bytes in, one at least, and says which are left.
     fn take_some<'t>(&mut self, text: &'t [u8]) -> Result<&'t [u8], AllocError>
         requires { 0 < length text.now }
+        ensures header { self.new.header ≡ self.old.header }
         ensures shorter { IfOk result (λ left. length left.now < length text.now) }
         ensures takes { IfOk result (λ left. TakesIn self.old self.new text.now left.now) }
     {
@@ -500,7 +515,8 @@ impl Rewriter {
 
     /// Takes bytes of the text in.
     pub(crate) fn feed(&mut self, text: &[u8]) -> Result<(), AllocError>
-        ensures { OnOk result (Goes self.old self.new (by fed self.old text.now)) }
+        ensures header { self.new.header ≡ self.old.header }
+        ensures goes { OnOk result (Goes self.old self.new (by fed self.old text.now)) }
     {
         let mut left = text;
         while !left.is_empty() {
@@ -509,19 +525,70 @@ impl Rewriter {
         Ok(())
     }
 
-    /// The text is over, perhaps in the middle of a record: quotes that are open are closed.
+    /// The text is over, perhaps in the middle of a record: quotes that are open are closed, but in one that goes on as it is.
     pub(crate) fn finish(&mut self) -> Result<(), AllocError>
+        ensures header { self.new.header ≡ self.old.header }
         ensures went { OnOk result (self.new.out.items ≡ self.old.out.items ++ by finished self.old) }
         ensures handed { OnOk result (self.new.handed ≡ self.old.handed) }
     {
         self.place = self.place.unmarked();
         match self.place.spot {
             Spot::Before => Ok(()),
+            Spot::Quoted if self.goes_by() => Ok(()),
             Spot::Quoted => {
                 self.copy(b'"')?;
                 self.close()
             }
             _ => self.close(),
+        }
+    }
+
+    /// Before the place again, where nothing waits.
+    fn put_back(&mut self, place: Place)
+        ensures header { self.new.header ≡ self.old.header }
+        ensures place { self.new.place ≡ place }
+        ensures out { self.new.out.items ≡ [] }
+        ensures handed { self.new.handed ≡ 0 }
+    {
+        self.place = place;
+        self.out.clear();
+        self.handed = 0;
+    }
+
+    /// Takes bytes of the text in, where nothing waits. After an error they can be taken in again.
+    pub(crate) fn take_in(&mut self, text: &[u8]) -> Result<(), AllocError>
+        ensures header { self.new.header ≡ self.old.header }
+        ensures place { OnOk result (self.new.place ≡ by place_after self.old text.now) }
+        ensures went { OnOk result (waiting self.new ≡ by going_on self.old text.now) }
+        ensures stays { OnErr result (self.new.place ≡ self.old.place) }
+        ensures none { OnErr result (waiting self.new ≡ []) }
+    {
+        let place = self.place;
+        self.put_back(place);
+        match self.feed(text) {
+            Ok(()) => Ok(()),
+            Err(error) => {
+                self.put_back(place);
+                Err(error)
+            }
+        }
+    }
+
+    /// The text is over, where nothing waits. After an error it can be ended again.
+    pub(crate) fn end(&mut self) -> Result<(), AllocError>
+        ensures header { self.new.header ≡ self.old.header }
+        ensures went { OnOk result (waiting self.new ≡ by finished self.old) }
+        ensures stays { OnErr result (self.new.place ≡ self.old.place) }
+        ensures none { OnErr result (waiting self.new ≡ []) }
+    {
+        let place = self.place;
+        self.put_back(place);
+        match self.finish() {
+            Ok(()) => Ok(()),
+            Err(error) => {
+                self.put_back(place);
+                Err(error)
+            }
         }
     }
 }

@@ -68,6 +68,19 @@ fn a_reader_under_a_header(rt: HostRuntime) -> Result<(), Fail> {
 }
 
 #[test]
+fn a_quote_that_nothing_closes(rt: HostRuntime) -> Result<(), Fail> {
+    let text: &[u8] = b"x,y\n1,\"2";
+    let wanted: &[u8] = b"a,b\n1,\"2";
+    let header = Header::new(rt.alloc(), "a,b")?;
+    assert_eq!(rt; text_under(rt.alloc(), header, text)?.as_slice(), wanted);
+    let header = Header::new(rt.alloc(), "a,b")?;
+    let mut read = Vec::new(rt.alloc());
+    Headed::new(rt.alloc(), text, Some(header)).read_to_end(&mut read)?;
+    assert_eq!(rt; read.as_slice(), wanted);
+    Ok(())
+}
+
+#[test]
 fn a_long_text_goes_on_as_it_is(rt: HostRuntime) -> Result<(), Fail> {
     let mut text = Vec::new(rt.alloc());
     let mut wanted = Vec::new(rt.alloc());

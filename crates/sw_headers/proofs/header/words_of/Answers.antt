@@ -1,4 +1,4 @@
-use Rattle.std.proofs.Common.{◌≡◌, ◌==◌, List, ℕ, map, lit<, subst, IfOk}
+use Rattle.std.proofs.Common.{◌≡◌, List, ℕ, map, lit<, subst, IfOk}
 use Rattle.std.proofs.lemmas.Iterator.Consumers.{map_from_collect}
 use Rattle.std.proofs.lemmas.Iterator.Splits.{YieldsList-from_str_split}
 use Rattle.sw_headers.proofs.Asked.{words_split}

@@ -9,4 +9,4 @@ returns-clause-takes c =
     let s = c.split_at.ensures in
     let some : 0 < length c.split_at.result.0.now = omega (arith, s.front_len, c.requires.some) in
     let all = subst (λ (run : List ℕ). list_all (stays c.args.self.now.place.spot) run ≡ true) (sym s.front) c.requires.stays in
-    takes_run c.args.self.now c.copy_run.new.self c.args.text.now c.split_at.result.0.now c.split_at.result.1.now s.by_index.0 some c.requires.marked all c.in_ok-copy_run.ensures
+    takes_run c.args.self.now c.copy_run.new.self c.args.text.now c.split_at.result.0.now c.split_at.result.1.now s.by_index.0 some c.requires.marked all c.in_ok-copy_run.ensures.goes
