@@ -14,5 +14,5 @@ returns g c =
       all = f.all;
       why = f.why;
       are = f.are;
-      out = goes_out g.B.Base.base (s.taken c.args.sink) _ (s.failed c.args.sink) _ b.sent b.block.items (sink_seen _ _ _ _) c.flow_pages-tickets.result.1 c.end-sink.result.1 (text_of ps.schema.now (blocks_told ps.blocks.now f.told)) c.end-sink.ensures c.requires.base c.new-buffered.ensures.taken c.new-buffered.ensures.failed f.out;
+      out = goes_out g.B.Base.base (s.taken c.args.sink) _ (s.failed c.args.sink) _ b.sent b.block.items (sink_seen _ _ _ _) c.flow_pages-tickets.result.1 c.end-sink.result.1 (text_of ps.schema.now (blocks_told ps.blocks.items f.told)) c.end-sink.ensures c.requires.base c.new-buffered.ensures.taken c.new-buffered.ensures.failed f.out;
     }
