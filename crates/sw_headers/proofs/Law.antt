@@ -65,15 +65,19 @@ record Laws (header : List ℕ) (keeps : List Bool) (xs : List ℕ) : Type 0 whe
 
 -- ---- places in a record
 
+-- a byte of a field that is kept goes on
 pub copied_kept : (keeps : List Bool) (p : Place) (c : ℕ) → is_kept keeps p ≡ true → copied keeps p c ≡ (record p { has_bytes = true }, c ∷ [])
 copied_kept keeps p c h = ap (λ b. cond b (record p { has_bytes = true }, c ∷ []) (record p { missed = missed_after p.missed c }, [])) h
 
+-- a byte of a field that is passed by does not
 pub copied_passed : (keeps : List Bool) (p : Place) (c : ℕ) → is_kept keeps p ≡ false → copied keeps p c ≡ (record p { missed = missed_after p.missed c }, [])
 copied_passed keeps p c h = ap (λ b. cond b (record p { has_bytes = true }, c ∷ []) (record p { missed = missed_after p.missed c }, [])) h
 
+-- what a field begins with, by whether it is kept
 abbrev pub begun_by : Bool → Place → Step
 begun_by b p = cond b (cond p.has_given (record p { has_bytes = true }, 44 ∷ []) (record p { has_given = true }, [])) (p, [])
 
+-- so a field is begun
 pub begun_is : (keeps : List Bool) (p : Place) (b : Bool) → is_kept keeps p ≡ b → begun keeps p ≡ begun_by b p
 begun_is keeps p b h = ap (λ k. begun_by k p) h
 
@@ -93,6 +97,7 @@ kept_false keeps fs f field h k = kept_more keeps fs f ∙ ap (λ b. kept keeps 
 
 -- ---- spots
 
+-- whether a spot stands before a record
 abbrev pub is_before : Spot → Bool
 is_before Before = true
 is_before Field = false
@@ -100,6 +105,7 @@ is_before Plain = false
 is_before Quoted = false
 is_before Closed = false
 
+-- whether a spot stands at the beginning of a field
 abbrev pub is_field : Spot → Bool
 is_field Before = false
 is_field Field = true
@@ -453,6 +459,7 @@ field_in c h = by_tests (c == 34) (c == 44) (is_line_end c) h
     by_tests false true false e = refl
     by_tests false false false e = refl
 
+-- inside a record a byte is what it is there
 pub entered_is : (header : List ℕ) (keeps : List Bool) (p : Place) (s : Spot) (c : ℕ) → is_before s ≡ false → entered header keeps p s c ≡ inside header keeps (record p { has_given = is_kept keeps p }) s c
 entered_is header keeps p Before c h = absurd (true≢false h)
 entered_is header keeps p Field c h = refl

@@ -46,9 +46,11 @@ stepped_marked header keeps p Plain c = inside_marked header keeps p (next_spot 
 stepped_marked header keeps p Quoted c = inside_marked header keeps p (next_spot Quoted c) c
 stepped_marked header keeps p Closed c = inside_marked header keeps p (next_spot Closed c) c
 
+-- behind the mark a place stays
 pub unmarked_same : (p : Place) → p.marked ≡ 3 → unmarked p ≡ p
 unmarked_same p m = subst (λ n. unmarked (record p { marked = n }) ≡ record p { marked = n }) (sym m) refl
 
+-- and a byte is taken as a step
 pub taken_stepped : (header : List ℕ) (keeps : List Bool) (p : Place) (c : ℕ) → p.marked ≡ 3 → taken header keeps p c ≡ stepped header keeps p c
 taken_stepped header keeps p c m = subst (λ n. taken header keeps (record p { marked = n }) c ≡ stepped header keeps (record p { marked = n }) c) (sym m) refl
 
@@ -56,6 +58,7 @@ taken_stepped header keeps p c m = subst (λ n. taken header keeps (record p { m
 abbrev pub all : List ℕ → List Bool → Place → List ℕ → List ℕ
 all header keeps p xs = going_on header keeps p xs ++ finished header keeps (place_after header keeps p xs)
 
+-- what goes on of one byte more
 pub all_step : (header : List ℕ) (keeps : List Bool) (p : Place) (c : ℕ) (cs : List ℕ) → all header keeps p (c ∷ cs) ≡ (taken header keeps p c).1 ++ all header keeps (taken header keeps p c).0 cs
 all_step header keeps p c cs = append_assoc (taken header keeps p c).1 _ _
 

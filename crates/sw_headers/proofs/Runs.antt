@@ -103,6 +103,7 @@ copied_stays : (keeps : List Bool) (b : Bool) (p : Place) (c : ℕ) → Stays ke
 copied_stays keeps true p c = record { spot = refl; marked = refl; kept = refl }
 copied_stays keeps false p c = record { spot = refl; marked = refl; kept = refl }
 
+-- where two tests hold together each does
 pub both_true : (a b : Bool) → (a && b) ≡ true → (a ≡ true) × (b ≡ true)
 both_true true b h = (refl, h)
 both_true false b h = absurd (true≢false (sym h))

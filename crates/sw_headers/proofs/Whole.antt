@@ -11,6 +11,7 @@ use Rattle.sw_headers.proofs.Runs.{both_true, by_bool}
 abbrev pub keeps_all : List Bool → Bool
 keeps_all keeps = list_all (λ k. k) keeps
 
+-- then each field is kept
 pub kept_at : (keeps : List Bool) (n : ℕ) → keeps_all keeps ≡ true → keeps_at keeps n ≡ true
 kept_at [] n h = refl
 kept_at (k ∷ ks) zero h = (both_true k (keeps_all ks) h).0
