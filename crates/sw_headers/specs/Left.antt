@@ -1,5 +1,6 @@
 -- What is left to come of a text that is read under a header.
-use Rattle.std.specs.Prelude.{◌≡◌, ◌++◌, ℕ, List, [], Option, Some, None, if◌then◌else◌, option_map}
+use Rattle.std.specs.Io.KnownBytes.{Keeps, ReadConsumes, prepend_known}
+use Rattle.std.specs.Prelude.{◌≡◌, ◌++◌, ℕ, List, [], true, Option, Some, None, Result, if◌then◌else◌, option_map}
 use Rattle.sw_headers.specs.declared.header.Header.{Header}
 use Rattle.sw_headers.specs.declared.source.Headed.{Headed}
 use Rattle.sw_headers.specs.declared.source.Under.{Under}
@@ -35,3 +36,15 @@ headed (Some h) known = option_map (rewritten h.record.items h.keeps.items) know
 -- a block was taken in, or is still there: all is left that was; no block ends the text
 abbrev pub TakesBlock : Under → Under → Type 0
 TakesBlock old new = (text : List ℕ) → (old.block.items ≡ [] → text ≡ []) → left_under new text ≡ left_under old text
+
+-- a block was taken in, and none is left; where there was none, the text is over
+abbrev pub GetsOn : Under → Under → Type 0
+GetsOn old new = (new.block.items ≡ []) × (old.block.items ≡ [] → new.is_over ≡ true)
+
+-- a block and what is known to be left behind it, together, are as they were
+abbrev pub KeepsBoth : List ℕ → Option (List ℕ) → List ℕ → Option (List ℕ) → Type 0
+KeepsBoth old known new later = Keeps (prepend_known old known) (prepend_known new later)
+
+-- what was read are the next bytes of what was left to come under the header
+abbrev pub ReadsUnder : {E : Type 0} → Under → Option (List ℕ) → Under → Option (List ℕ) → Result ℕ E → List ℕ → Type 0
+ReadsUnder old known new later told read = ReadConsumes (known_under old known) (known_under new later) told read

@@ -2,8 +2,8 @@
 
 ghost use Rattle.std.specs.Prelude.{◌≡◌, [], false, IfOk, OnOk};
 ghost use Rattle.std.specs.Io.{ReadsAtMost};
-ghost use Rattle.std.specs.Io.KnownBytes.{IsAtEnd, Keeps, ReadConsumes, prepend_known};
-ghost use Rattle.sw_headers.specs.Left.{TakesBlock, headed, headed_left, known_under};
+ghost use Rattle.std.specs.Io.KnownBytes.{IsAtEnd, Keeps};
+ghost use Rattle.sw_headers.specs.Left.{GetsOn, KeepsBoth, ReadsUnder, TakesBlock, headed, headed_left, known_under};
 ghost use Rattle.sw_headers.specs.Steps.{goes_by, rewritten, waiting};
 ghost use Rattle.sw_headers.specs.Under.{IsUnder};
 
@@ -37,8 +37,7 @@ pub fn text_under(alloc: Global, header: Header, text: &[u8]) -> Result<Vec<u8>,
 
 /// Reads a block where there is none; of a text that is over an empty one.
 fn fill<R: Read>(block: &mut Vec<u8>, source: &mut R) -> io::Result<()>
-    ensures same { Keeps (prepend_known block.old.items (R.remaining source.old))
-        (prepend_known block.new.items (R.remaining source.new)) }
+    ensures same { KeepsBoth block.old.items (R.remaining source.old) block.new.items (R.remaining source.new) }
     ensures end { OnOk result (block.new.items ≡ [] → IsAtEnd (R.remaining source.new)) }
 {
     if !block.is_empty() {
@@ -75,7 +74,8 @@ impl Under {
         requires none_waits { waiting self.old.rewriter ≡ [] }
         requires more { self.old.is_over ≡ false }
         requires steps { goes_by self.old.rewriter.header.keeps.items self.old.rewriter.place ≡ false }
-        ensures { TakesBlock self.old self.new }
+        ensures same { TakesBlock self.old self.new }
+        ensures on { OnOk result (GetsOn self.old self.new) }
     {
         if self.block.is_empty() {
             self.rewriter.end()?;
@@ -92,7 +92,8 @@ impl Under {
         requires none_waits { waiting self.old.rewriter ≡ [] }
         requires more { self.old.is_over ≡ false }
         requires steps { goes_by self.old.rewriter.header.keeps.items self.old.rewriter.place ≡ false }
-        ensures { Keeps (known_under self.old (R.remaining source.old)) (known_under self.new (R.remaining source.new)) }
+        ensures same { Keeps (known_under self.old (R.remaining source.old)) (known_under self.new (R.remaining source.new)) }
+        ensures on { OnOk result (self.new.block.items ≡ []) }
     {
         fill(&mut self.block, source)?;
         match self.take_block() {
@@ -105,8 +106,7 @@ impl Under {
     /// `buf` itself.
     fn read<R: Read>(&mut self, source: &mut R, buf: &mut [u8]) -> io::Result<usize>
         ensures bound { ReadsAtMost result buf.new }
-        ensures bytes { ReadConsumes (known_under self.old (R.remaining source.old))
-            (known_under self.new (R.remaining source.new)) result buf.new }
+        ensures bytes { ReadsUnder self.old (R.remaining source.old) self.new (R.remaining source.new) result buf.new }
     {
         if buf.is_empty() {
             return Ok(0);

@@ -4,8 +4,8 @@ use Rattle.sw_headers.specs.declared.source.Under.{Under}
 use Rattle.sw_headers.proofs.Coming.{block_taken}
 use Rattle.sw_headers.proofs.source.Under.take_block.Goals as goal
 
-pub returns-in_ok-take_in : goal.returns-in_ok-take_in
-returns-in_ok-take_in c = λ text ends.
+pub returns-in_ok-take_in-clause-same : goal.returns-in_ok-take_in-clause-same
+returns-in_ok-take_in-clause-same c = λ text ends.
     let old = c.args.self.now in
     let new : Under = record { rewriter = c.take_in.new.self; block = c.clear.new.self; is_over = old.is_over } in
     let h = old.rewriter.header.record.items in
