@@ -33,6 +33,7 @@ step bash "$top/bench/build.sh"
 step python3 "$top/bench/claims.py" --check
 step python3 "$top/bench/pages.py" --check
 step sh "$top/tests/statuses.sh"
+step python3 "$top/tests/cases.py"
 step python3 "$top/tests/words.py"
 step python3 "$top/tests/shells.py"
 step python3 "$top/tests/headers.py"

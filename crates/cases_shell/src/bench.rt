@@ -4,6 +4,7 @@ ghost use Rattle.std.specs.Prelude.{◌<◌, ◌≤◌};
 ghost use Rattle.sw_rows.specs.declared.table.TheConstants.{MOST_ROWS};
 
 use crate::ends::{Failing, Faltering};
+use crate::faults::{fault, noted};
 use crate::notes::Notes;
 use std::alloc::{AllocError, Global};
 use std::io::{BufRead, BufReader};
@@ -207,6 +208,8 @@ impl Bench {
         match word {
             "limit" => self.limit = limit_of(text),
             "table" => self.table = unescaped(alloc, text)?,
+            "fault" => return fault(alloc, text),
+            "noting" => return noted(alloc, &unescaped(alloc, text)?),
             "failing" | "reading" => return self.take_numbered(rt, alloc, word, text),
             "shell" | "file" | "check" => {
                 let lines = unescaped(alloc, text)?;

@@ -1,4 +1,4 @@
-//! Cases of shells as data: `stdin` has a case a line, `stdout` each behind > and below it what it has to give.
+//! Cases of shells, and of lines of refusals, as data: `stdin` has a case a line, `stdout` each behind > and below it what it has to give.
 //!
 //! A line is a word and a TEXT, in which \n, \r, \t, \\ and \xHH stand for bytes. One that begins with # is skipped.
 //!
@@ -9,10 +9,13 @@
 //! - `check TEXT`: the verdict on that file, with the status
 //! - `failing NUMBER TEXT`: what a sink took that fails at its write of this number, and the verdict on the file
 //! - `reading NUMBER TEXT`: the same of a reader that fails at its read of this number
+//! - `fault NUMBER`: the line of a refusal, and the status
+//! - `noting TEXT`: whether a line that was refused went out, where TEXT is written in pieces that are divided by |
 #![tactic(auto)]
 
 mod bench;
 mod ends;
+mod faults;
 mod notes;
 
 use crate::bench::Bench;

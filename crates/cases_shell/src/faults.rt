@@ -1,8 +1,8 @@
-//! Refusals as they are told.
+//! Refusals as they are told, and whether one was.
 
 use std::alloc::{AllocError, Global};
-use sw_cli::{status, write_fault};
-use sw_rows::{Counted, Name, Refusal, Why};
+use sw_cli::{Noting, status, write_fault};
+use sw_rows::{Counted, Name, Refusal, Sink, Why};
 
 /// Refusals by their place, from 0.
 const REFUSALS: [Refusal; 19] = [
@@ -82,4 +82,13 @@ pub(crate) fn fault(alloc: Global, text: &str) -> Result<String, AllocError> {
             },
         ),
     }
+}
+
+/// Whether the line of a refused call went out, where the bytes are written in pieces that are divided by |.
+pub(crate) fn noted(alloc: Global, bytes: &[u8]) -> Result<String, AllocError> {
+    let mut noting = Noting::new(Counted::new(Vec::new(alloc)));
+    for piece in bytes.split(|byte: &u8| *byte == b'|') {
+        let _ = noting.write_some(piece);
+    }
+    format!(in alloc; "{}", noting.has_refused())
 }
