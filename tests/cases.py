@@ -266,7 +266,59 @@ class Imports(Bench):
         return "{} rows, {}".format(*shown(sums).split())
 
 
-BENCHES = {"runs": Runs, "orders": Orders, "imports": Imports}
+class Faults(Bench):
+    """What is told of tables, scripts, cuts and history files that are refused, and descriptions of tables."""
+
+    def __init__(self, program, folder):
+        super().__init__(program, folder)
+        self.table, self.words = b"", []
+
+    def take_table(self, text):
+        """A table; what was asked of the one before is forgotten."""
+        self.table, self.words = unescaped(text), []
+
+    def take_with(self, text):
+        """Flags for the runs that come."""
+        self.words = text.split(" ")
+
+    def told(self, *words):
+        """What standard error has of a run, behind what was written."""
+        self.keep("t.csv", self.table)
+        wrote, told, _ = self.call("run", "--table", "t.csv", "--quiet", *self.words, *words)
+        return shown(wrote) + told
+
+    def take_script(self, text):
+        self.keep("s.txt", unescaped(text))
+        return self.told("--script", "s.txt")
+
+    def take_argument(self, text):
+        return self.told("-e", text)
+
+    def take_all(self, _text):
+        """All faults of the table."""
+        return self.told("-e", "count", "--all-faults")
+
+    def take_many(self, text):
+        """How many lines are told of a table that has the last line of a text so many times, and the last two of them."""
+        number, _, rest = text.partition(" ")
+        first, last = unescaped(rest).splitlines(keepends=True)
+        self.table = first + last * int(number)
+        lines = self.take_all("").splitlines(keepends=True)
+        return "".join([f"{len(lines)} lines\n", *lines[-2:]])
+
+    def take_entries(self, text):
+        """What is told of a history file with these entries over the table of the examples."""
+        self.keep("h.json", FRONT + unescaped(text) + BACK)
+        wrote, told, _ = self.call("check", "h.json")
+        return shown(wrote) + told
+
+    def take_describe(self, text):
+        self.keep("t.csv", unescaped(text))
+        wrote, told, _ = self.call("describe", "t.csv")
+        return shown(wrote) + told
+
+
+BENCHES = {"faults": Faults, "imports": Imports, "orders": Orders, "runs": Runs}
 
 
 def told_by(bench, lines):
