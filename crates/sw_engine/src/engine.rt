@@ -79,7 +79,6 @@ fn all_latches<J: Naming, M: CrackerMap, L: Latch<LatchedHead<J, M>>>(
 /// A head under a latch for each attribute, and the history under its lock.
 ///
 /// A latch is taken before the lock, and never after it.
-#[derive(Drop)]
 pub struct Engine<J: Naming, M: CrackerMap, L: Latch<LatchedHead<J, M>> = AloneLatch<J, M>> {
     alloc: Global,
     opening: Opening<J>,
@@ -91,6 +90,20 @@ pub struct Engine<J: Naming, M: CrackerMap, L: Latch<LatchedHead<J, M>> = AloneL
     /// For the compiler: the maps lie under the latches. A `Mutex`, so that an engine goes to other threads where its latches do, and
     /// asks no more of the maps.
     of: PhantomData<Mutex<M>>,
+}
+
+// By hand: the drop of a derived one is written out at each way out of a function.
+impl<J: Naming, M: CrackerMap, L: Latch<LatchedHead<J, M>>> Drop for Engine<J, M, L> {
+    fn drop(self) {
+        let Self {
+            alloc: _,
+            opening: _opening,
+            latches: _latches,
+            came: _,
+            desk: _desk,
+            of: _,
+        } = self;
+    }
 }
 
 impl<J: Naming, M: CrackerMap, L: Latch<LatchedHead<J, M>>> Model for Engine<J, M, L> {
@@ -524,10 +537,19 @@ impl<J: Naming, M: CrackerMap, L: Latch<LatchedHead<J, M>>> Engine<J, M, L> {
 
 /// A session. Contracts see its number, the calls that were answered to it, and the list of updates that it has the
 /// receipt of, beside the one that its share shows as published.
-#[derive(Drop)]
 pub struct Session<'e, J: Naming, M: CrackerMap, L: Latch<LatchedHead<J, M>> = AloneLatch<J, M>> {
     engine: &'e Engine<J, M, L>,
     ticket: Ticket<J>,
+}
+
+// By hand: the drop of a derived one is written out at each way out of a function.
+impl<'e, J: Naming, M: CrackerMap, L: Latch<LatchedHead<J, M>>> Drop for Session<'e, J, M, L> {
+    fn drop(self) {
+        let Self {
+            engine: _,
+            ticket: _ticket,
+        } = self;
+    }
 }
 
 impl<'e, J: Naming, M: CrackerMap, L: Latch<LatchedHead<J, M>>> Model for Session<'e, J, M, L> {

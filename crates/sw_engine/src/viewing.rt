@@ -20,10 +20,19 @@ pub type Receipt<J> = Front<J>;
 ///
 /// Contracts see the list of batches that it saw last, and the one that it was told of, the opening rows left out: of each
 /// batch it saw all updates, or none.
-#[derive(Drop)]
 pub struct Viewer<'e, J: Naming> {
     pub(crate) reader: sw_versions::Viewer<J>,
     pub(crate) of: PhantomData<&'e ()>,
+}
+
+// By hand: the drop of a derived one is written out at each way out of a function.
+impl<'e, J: Naming> Drop for Viewer<'e, J> {
+    fn drop(self) {
+        let Self {
+            reader: _reader,
+            of: _,
+        } = self;
+    }
 }
 
 impl<'e, J: Naming> Model for Viewer<'e, J> {

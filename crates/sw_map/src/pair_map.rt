@@ -15,10 +15,19 @@ use sw_tape::Entry;
 
 /// A map of two flat lists and marks. It has a purse while it is blank and a lease while it is in use; its drop gives the
 /// lease back. It takes memory in `begin`, in `grow` and in a step of a range alone.
-#[derive(Drop)]
 pub struct PairMap {
     alloc: Global,
     home: Home,
+}
+
+// By hand: the drop of a derived one is written out at each way out of a function.
+impl Drop for PairMap {
+    fn drop(self) {
+        let Self {
+            alloc: _,
+            home: _home,
+        } = self;
+    }
 }
 
 impl PairMap {

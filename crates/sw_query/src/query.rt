@@ -17,9 +17,16 @@ pub struct Cond {
 }
 
 /// A query's conditions, in order.
-#[derive(Debug, Drop)]
+#[derive(Debug)]
 pub struct Conds {
     items: SmallVec<Cond, 1>,
+}
+
+// By hand: the drop of a derived one is written out at each way out of a function.
+impl Drop for Conds {
+    fn drop(self) {
+        let Self { items: _items } = self;
+    }
 }
 
 impl Model for Conds {
@@ -82,9 +89,16 @@ impl Conds {
 }
 
 /// The numbers of the attributes that a query shows, in order.
-#[derive(Debug, Drop)]
+#[derive(Debug)]
 pub struct Names {
     items: SmallVec<usize, 2>,
+}
+
+// By hand: the drop of a derived one is written out at each way out of a function.
+impl Drop for Names {
+    fn drop(self) {
+        let Self { items: _items } = self;
+    }
 }
 
 impl Model for Names {

@@ -12,9 +12,16 @@ use std::alloc::{AllocError, Global};
 use std::marker::Model;
 
 /// The cells that a reply shows of a row, in the order asked for.
-#[derive(Debug, Drop)]
+#[derive(Debug)]
 pub struct Cells {
     items: SmallVec<i64, 8>,
+}
+
+// By hand: the drop of a derived one is written out at each way out of a function.
+impl Drop for Cells {
+    fn drop(self) {
+        let Self { items: _items } = self;
+    }
 }
 
 impl Model for Cells {
@@ -135,11 +142,21 @@ impl Flat {
 
 /// The rows of a reply, in ascending order of their keys. Their cells stand in one list, as many of each row as it
 /// shows.
-#[derive(Debug, Drop)]
+#[derive(Debug)]
 pub struct ReplyRows {
     alloc: Global,
     /// None while there are no rows.
     flat: Option<Box<Flat>>,
+}
+
+// By hand: the drop of a derived one is written out at each way out of a function.
+impl Drop for ReplyRows {
+    fn drop(self) {
+        let Self {
+            alloc: _,
+            flat: _flat,
+        } = self;
+    }
 }
 
 impl Model for ReplyRows {

@@ -23,7 +23,6 @@ pub const MOST_VIEWERS: u64 = 16;
 
 /// A reader of the rows, which waits for nobody. Contracts see the list of batches of updates that it saw last, and the one
 /// that it was told of: of each batch it saw all updates, or none. They also see how often it could not come to the copies.
-#[derive(Drop)]
 pub struct Viewer<J: Naming> {
     alloc: Global,
     reader: Home<J>,
@@ -31,6 +30,20 @@ pub struct Viewer<J: Naming> {
     seen: Front<J>,
     told: Front<J>,
     failed: u64,
+}
+
+// By hand: the drop of a derived one is written out at each way out of a function.
+impl<J: Naming> Drop for Viewer<J> {
+    fn drop(self) {
+        let Self {
+            alloc: _,
+            reader: _reader,
+            visits: _visits,
+            seen: _seen,
+            told: _told,
+            failed: _,
+        } = self;
+    }
 }
 
 impl<J: Naming> Model for Viewer<J> {

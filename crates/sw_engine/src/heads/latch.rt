@@ -98,7 +98,6 @@ pub struct AtRest<J: Naming> {
 ///
 /// Contracts see all that was taken for it, the opening rows first, whether the head is made, and how many boxes wait
 /// for it and how many it has.
-#[derive(Drop)]
 pub struct LatchedHead<J: Naming, M: CrackerMap> {
     pub(crate) number: usize,
     pub(crate) head: Option<Head<M>>,
@@ -109,6 +108,22 @@ pub struct LatchedHead<J: Naming, M: CrackerMap> {
     pub(crate) receipt: Option<Front<J>>,
     pub(crate) counters: Counters,
     pub(crate) of: PhantomData<J>,
+}
+
+// By hand: the drop of a derived one is written out at each way out of a function.
+impl<J: Naming, M: CrackerMap> Drop for LatchedHead<J, M> {
+    fn drop(self) {
+        let Self {
+            number: _,
+            head: _head,
+            inbox: _inbox,
+            boxes: _boxes,
+            share: _share,
+            receipt: _receipt,
+            counters: _,
+            of: _,
+        } = self;
+    }
 }
 
 impl<J: Naming, M: CrackerMap> Model for LatchedHead<J, M> {

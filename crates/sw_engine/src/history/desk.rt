@@ -75,7 +75,6 @@ fn last_of(entries: &[Entry], session: u64) -> Option<u64>
 }
 
 /// The spine, with the books of the sessions and of the heads.
-#[derive(Drop)]
 pub struct Desk<J: Naming> {
     spine: Spine,
     many: u64,
@@ -83,6 +82,20 @@ pub struct Desk<J: Naming> {
     sessions: Book<Spine>,
     heads: Book<Spine>,
     of: PhantomData<J>,
+}
+
+// By hand: the drop of a derived one is written out at each way out of a function.
+impl<J: Naming> Drop for Desk<J> {
+    fn drop(self) {
+        let Self {
+            spine: _spine,
+            many: _,
+            most: _,
+            sessions: _sessions,
+            heads: _heads,
+            of: _,
+        } = self;
+    }
 }
 
 impl<J: Naming> Model for Desk<J> {
@@ -501,7 +514,14 @@ impl<J: Naming> Desk<J> {
         ensures of { IsOf J.columns J.opening J.limit self.books }
         ensures sessions { length self.given ≡ self.books.sessions }
     {
-        let Desk { spine, .. } = self;
+        let Desk {
+            spine,
+            many: _,
+            most: _,
+            sessions: _sessions,
+            heads: _heads,
+            of: _,
+        } = self;
         spine
     }
 }

@@ -83,11 +83,21 @@ fn is_current<J: Naming>(receipt: &Front<J>, published: &Front<J>, updates: &[Up
 
 /// The desk, and the shelf of what viewers read, with the book of its updates. Until there is a viewer the shelf has no
 /// copies of the rows.
-#[derive(Drop)]
 pub struct LockedDesk<J: Naming> {
     desk: Desk<J>,
     shelf: Shelf<J>,
     book: Book<J>,
+}
+
+// By hand: the drop of a derived one is written out at each way out of a function.
+impl<J: Naming> Drop for LockedDesk<J> {
+    fn drop(self) {
+        let Self {
+            desk: _desk,
+            shelf: _shelf,
+            book: _book,
+        } = self;
+    }
 }
 
 impl<J: Naming> Model for LockedDesk<J> {
@@ -447,7 +457,11 @@ impl<J: Naming> LockedDesk<J> {
     pub fn end<R: Wait>(self, rt: &R) -> Desk<J>
         ensures { result ≡ self.desk }
     {
-        let LockedDesk { desk, shelf, .. } = self;
+        let LockedDesk {
+            desk,
+            shelf,
+            book: _book,
+        } = self;
         shelf.close(rt);
         desk
     }
