@@ -50,6 +50,9 @@ fn read_text_field(texts: &mut Texts, at: At, field: &[u8]) -> Result<i64, Refus
     ensures learned { OnOk result (texts.new ≡ with_texts texts.old (text_field (kind.Text []) field.now)) }
     ensures no_text { is_text field.now ≡ false → result ≡ Err (Refusal.BadTable at.rec at.field) }
 {
+    if let Some(code) = texts.seen(field) {
+        return Ok(cell_of(code));
+    }
     let Some(text) = read_text(field) else {
         return Err(at.fault());
     };

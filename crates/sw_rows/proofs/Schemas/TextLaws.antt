@@ -2,7 +2,7 @@
 use Rattle.std.proofs.Common.{◌≡◌, ◌∙◌, ap, sym, refl, ℕ, zero, suc, ◌+◌, ◌-◌, ◌<◌, ◌≤◌, ◌==◌, ◌||◌, Bool, true, false, not, cond, List, [], ◌∷◌, ◌++◌, length, take, get_or, Option, Some, None, Result, Ok, Err, option_map, position, bytes_eq, is_some, slice_get, nat_lt, arith, subst, true≢false, append-nil, append_assoc, length-append}
 use Rattle.std.proofs.Math.ListN.{get_or-append}
 use Rattle.std.proofs.Math.Seq.{take-append_seam}
-use Rattle.std.proofs.lemmas.Bool.{and_parts, cond-false, cond-true, lt-ltb, not-true, not_from_false, not_from_true, or_parts, or_right}
+use Rattle.std.proofs.lemmas.Bool.{and_parts, cond-false, cond-true, lt-ltb, not-true, not_from_false, not_from_true, or_parts, or_right, true_from_ne_false}
 use Rattle.std.proofs.lemmas.Bool.Decides.{nat_tests}
 use Rattle.std.proofs.lemmas.List.Quantifiers.{position-Some}
 use Rattle.std.proofs.lemmas.List.Sums.{fold-append, position_or_len_is}
@@ -87,6 +87,17 @@ pub code_only : (ts : Texts) (code : ℕ) (t : List ℕ) → code_of ts t ≡ So
 code_only ts code t h =
     let at = placed_at ts code t h in
     ap (text_of ts) (sym at.1) ∙ text_next ts at.0 ∙ place_only ts at.0 t at.2
+
+-- a text that has a code is known
+pub known : (ts : Texts) (code : ℕ) (t : List ℕ) → code_of ts t ≡ Some code → has_text ts t ≡ true
+known ts code t h =
+    let at = placed_at ts code t h in
+    let self : bytes_eq t t ≡ true = (bytes_eq-Decides t t).1 refl in
+    true_from_ne_false (has_text ts t) (λ f. true≢false (sym self ∙ other_at ts at.0 t t f (place_only ts at.0 t at.2)))
+
+-- and is given that code
+pub given_known : (ts : Texts) (code : ℕ) (t : List ℕ) → code_of ts t ≡ Some code → code_given ts t ≡ Ok code
+given_known ts code t h = ap (λ o. option_map_or (λ n. Ok n) o (next_code ts)) h
 
 -- a code is one of 1 to the number of texts
 pub code_within : (ts : Texts) (code : ℕ) (t : List ℕ) → code_of ts t ≡ Some code → (0 < code) × (code ≤ length ts)

@@ -1,5 +1,5 @@
 -- Cells and rows, one by one.
-use Rattle.std.proofs.Common.{◌≡◌, subst, Bool, true≢false, append-nil, append_assoc, ◌∙◌, ap, sym, refl, ℕ, ℤ, pos, ◌+◌, ◌-◌, ◌<◌, ◌≤◌, true, false, cond, option_map, ◌&&◌, Option, Result, List, [], ◌∷◌, ◌++◌, length, get_or, take, drop, Some, None, replicate, zero, suc, length-drop, slice_get, min, nat_eq, nat_lt, arith, Ok, Err}
+use Rattle.std.proofs.Common.{◌≡◌, subst, Bool, true≢false, append-nil, append_assoc, ◌∙◌, ap, sym, refl, ℕ, ℤ, pos, ◌+◌, ◌-◌, ◌<◌, ◌≤◌, true, false, cond, option_map, ◌&&◌, ◌||◌, Option, Result, List, [], ◌∷◌, ◌++◌, length, get_or, take, drop, Some, None, replicate, zero, suc, length-drop, slice_get, min, nat_eq, nat_lt, arith, Ok, Err}
 use Rattle.std.proofs.lemmas.List.{drop_more, drop_all, take-append-drop, get_or-drop}
 use Rattle.std.proofs.lemmas.Grind.{common_steps}
 use Rattle.std.proofs.lemmas.Option.{none-some, same_Some, slice_get-map, slice_get_within, get_or_from_slice_get}
@@ -10,11 +10,11 @@ use Rattle.std.proofs.lemmas.Bool.Decides.{nat_tests}
 use Rattle.sw_rows.specs.Cells.{cell_value}
 use Rattle.sw_rows.specs.Domains as kind
 use Rattle.sw_rows.specs.Domains.{is_of_texts, over, under}
-use Rattle.sw_rows.specs.Texts.{code_given, code_of, is_text, with_text, with_texts}
+use Rattle.sw_rows.specs.Texts.{are_full, code_given, code_of, has_text, is_text, with_text, with_texts}
 use Rattle.sw_rows.specs.declared.schema.texts.TheConstants.{MOST_TEXTS}
 use Rattle.sw_query.specs.declared.refusal.Refusal.TheVariants as refusal
 use Rattle.sw_rows.proofs.Schemas.DomainLaws.{holding_kinds, kinds_of_texts, over_numbers, under_numbers}
-use Rattle.sw_rows.proofs.Schemas.TextLaws.{code_kept, given_kept, never_given, with_more}
+use Rattle.sw_rows.proofs.Schemas.TextLaws.{code_kept, given_kept, known, never_given, with_more}
 use Rattle.sw_rows.specs.Header.{Column, Fault, bad_table, has_texts, holding, kinds_of, too_many}
 use Rattle.sw_rows.specs.Gives.{Fails}
 use Rattle.sw_query.specs.declared.refusal.Refusal.{Refusal}
@@ -119,6 +119,12 @@ text_given ts t more code rec field is h =
     let found : code_of (with_texts (with_text ts t) more) t ≡ Some code = code_kept (with_text ts t) more t code (given_kept ts t code h) in
     ap (λ us. cell_at rec field (kind.Text us) t) all
     ∙ ap (λ o. or_bad (fault_at rec field (kind.Text (with_texts (with_text ts t) more)) t) o (λ z. Ok z)) (cond-true (is_text t) (option_map pos (code_of (with_texts (with_text ts t) more) t)) None is ∙ ap (option_map pos) found)
+
+-- a text that has a code changes nothing
+pub field_known : (ts : List (List ℕ)) (t : List ℕ) (code : ℕ) → is_text t ≡ true → code_of ts t ≡ Some code → with_texts ts (text_field (kind.Text []) t) ≡ ts
+field_known ts t code is h =
+    let first : text_field (kind.Text []) t ≡ t ∷ [] = cond-true (is_text t) (t ∷ []) [] is in
+    ap (with_texts ts) first ∙ cond-true (has_text ts t || are_full ts) ts (ts ++ t ∷ []) (ap (λ b. b || are_full ts) (known ts code t h))
 
 -- and one for which there was none has none then either
 pub text_not_given : (ts : List (List ℕ)) (t : List ℕ) (more : List (List ℕ)) (e : Fault) (rec field : ℕ) → is_text t ≡ true → code_given ts t ≡ Err e

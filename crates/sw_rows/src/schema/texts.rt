@@ -7,6 +7,7 @@ ghost use Rattle.sw_rows.specs.Header.{too_many};
 ghost use Rattle.sw_rows.specs.Texts.{code_given, code_of, has_text, is_text, is_text_byte, text_of, with_text, AreTexts};
 ghost use Rattle.sw_rows.specs.declared.schema.texts.TheConstants.{MOST_TEXTS};
 
+use crate::schema::front::Front;
 use crate::schema::text_key::TextKey;
 use indexmap::IndexSet;
 use std::alloc::Global;
@@ -55,9 +56,19 @@ pub(crate) fn cell_of(code: u64) -> i64
 /// Texts of cells in the order in which they were first seen. Their codes are 1, 2, 3 and so on.
 ///
 /// No text stands twice, each may be the text of a cell, and there are at most `MOST_TEXTS` of them.
-#[derive(Drop)]
 pub struct Texts {
     texts: IndexSet<String, TextKey>,
+    front: Front,
+}
+
+// By hand: the drop of a derived one is written out at each way out of a function.
+impl Drop for Texts {
+    fn drop(self) {
+        let Self {
+            texts: _texts,
+            front: _front,
+        } = self;
+    }
 }
 
 impl Model for Texts {
@@ -78,6 +89,7 @@ impl Texts {
     {
         Texts {
             texts: IndexSet::with_hasher(alloc, key),
+            front: Front::none(alloc),
         }
     }
 
@@ -109,6 +121,20 @@ impl Texts {
         Some(text.as_str())
     }
 
+    /// The code of these bytes where they are a text that was found lately: they need not be looked at then. None tells nothing of them.
+    pub(crate) fn seen(&self, bytes: &[u8]) -> Option<u64>
+        ensures code { IfSome result (λ code. code_of self.now bytes.now ≡ Some code) }
+        ensures few { IfSome result (λ code. code ≤ MOST_TEXTS) }
+        ensures text { IfSome result (λ _. is_text bytes.now ≡ true) }
+    {
+        let code = self.front.code(bytes)?;
+        let text = self.text(code)?;
+        if text.as_bytes() != bytes {
+            return None;
+        }
+        Some(code)
+    }
+
     /// The code of a text, which comes last where it is new. A known one changes nothing.
     ///
     /// Refused `TooMany` of limit `MOST_TEXTS` where the text is new and there are as many, and `NoMemory` where there
@@ -125,6 +151,7 @@ impl Texts {
             → result ≡ Err (Refusal.TooMany MOST_TEXTS) }
     {
         if let Some(code) = self.code(text) {
+            self.front.note(text.as_bytes(), code, self.texts.len());
             return Ok(code);
         }
         let count = self.len() as u64;

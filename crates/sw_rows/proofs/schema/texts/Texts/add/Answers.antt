@@ -5,8 +5,8 @@ use Rattle.sw_rows.proofs.Schemas.TextLemmas.{text_inserted, texts_more}
 use Rattle.sw_rows.proofs.schema.texts.Texts.add.Goals.{in-Ok-insert, in-Err}
 use Rattle.sw_rows.proofs.schema.texts.Texts.add.Goals as goal
 
-pub invariant_of-self : goal.invariant_of-self
-invariant_of-self c =
+pub invariant_of-self-2 : goal.invariant_of-self-2
+invariant_of-self-2 c =
     let texts = c.args.self.now in
     let text = c.args.text.now in
     let sound : AreTexts texts = rw c.self.view_is at c.self.invariant in
