@@ -792,7 +792,7 @@ impl<'e, J: Naming, M: CrackerMap, L: Latch<LatchedHead<J, M>>> Session<'e, J, M
     pub fn end(self) -> Ticket<J>
         ensures { result ≡ self.entry }
     {
-        let Session { ticket, .. } = self;
+        let Session { engine: _, ticket } = self;
         ticket
     }
 }
