@@ -11,17 +11,16 @@ import shutil
 import subprocess
 import sys
 import tempfile
-from itertools import accumulate
 from pathlib import Path
 
 TOP = Path(__file__).resolve().parents[1]
-ENGINE, SHELL = "test_engine", "cases_shell"
+ENGINE, SHELL = "test_engine", "sideways"
 # For how many seconds a trial may run; what `rt try` ends with where it gave no answer by then.
 HOW = {"env": os.environ | {"RT_SECONDS": "600"}, "capture_output": True, "text": True}
 NOT_ENDED = 6
 # Wrong bodies that wait for ever where the unchanged one ends.
 ENDLESS = {"never_published"}
-# Lines of a program's stdin, whose program it is, and what it tells.
+# Lines of a program's stdin, whose program it is, and what it tells; of a shell over a table of a row, with the status.
 TRIALS = {
     "waited 0 count where a >= 10&count where b >= 6": (ENGINE, "legal; 3; 2; legal: 2 entries"),
     "met-in-run": (ENGINE, "3/---/2/; legal: 2 entries"),
@@ -31,8 +30,8 @@ TRIALS = {
     "viewed-late 0": (ENGINE, "4 1; 1: 7, 2: 8, 3: 5, 4: 2, 4 rows; (2 removed); 2 1; 2: 8, 4: 2, 2 rows; 2 1; 2: 8, 4: 2, 2 rows; "
                               "9 made 1 given 0; 1 entries"),
     "shared": (ENGINE, "met; legal: 6000 entries"),
-    "table a:int\\n5\\n\nshell count\\n.quit\\ncount\\n": (SHELL, "1"),
-    "table a:int\\n5\\n\nshell .history h.json\\n": (SHELL, "[1 history h.json]"),
+    "count\n.quit\ncount": (SHELL, "1/status 0"),
+    ".history none/h.json": (SHELL, "status 3"),
 }
 # A name, what is wrong, the file, its text and the wrong one, and the trial or, of another crate, the test that fails.
 BODIES = {
@@ -74,10 +73,10 @@ BODIES = {
                                "sw_set/src/prepare/making.rt", "        Err(Refusal::Contended { seen, found }) => {\n"
                                "            return Err(Refusal::Contended { seen, found });\n        }\n", "", "test_heads"),
     "quit_passed_by": ("A shell goes on behind .quit", "sw_shell/src/turns.rt", "        Command::Quit => return Ok(false),\n",
-                       "        Command::Quit => return Ok(true),\n", "table a:int\\n5\\n\nshell count\\n.quit\\ncount\\n"),
+                       "        Command::Quit => return Ok(true),\n", "count\n.quit\ncount"),
     "history_not_asked_for": ("A shell does not hand on where the history is to go", "sw_shell/src/turns.rt",
                               "host.obeys(seat.schema(), line, Errand::History(file))", "host.obeys(seat.schema(), line, Errand::Names)",
-                              "table a:int\\n5\\n\nshell .history h.json\\n"),
+                              ".history none/h.json"),
 }
 
 
@@ -96,26 +95,22 @@ def changed(folder, body):
     path.write_text(text.replace(old, new))
 
 
-def told_of(lines, places):
-    """What a program tells of each place: a line, or, where the lines of its input stand behind `> `, what stands behind the place's last."""
-    if not any(line.startswith("> ") for line in lines):
-        return lines
-    told = []
-    for line in lines:
-        if line.startswith("> "):
-            told.append([])
-        elif line:
-            told[-1].append(line)
-    ends = accumulate(len(place.split("\n")) for place in places)
-    return ["/".join(told[end - 1]) for end in ends if end <= len(told)]
+def shell_of(folder, lines):
+    """What a shell writes for lines, and its status."""
+    table = folder / "t.csv"
+    table.write_text("a:int\n5\n")
+    done = subprocess.run(["rt", "try", "--data", f"t.csv={table}", "--", "shell", "t.csv"], cwd=folder, input=lines + "\n", **HOW)
+    return "/".join([*done.stdout.splitlines(), f"status {done.returncode}"])
 
 
 def tried(folder, crate, places):
     """What a program tells of lines of its input, or whether the tests of a crate pass; nothing where the trial did not end."""
     folder = folder / "crates" / crate
+    if crate == SHELL:
+        return [shell_of(folder, lines) for lines in places]
     if places != [crate]:
         done = subprocess.run(["rt", "try"], cwd=folder, input="\n".join(places) + "\n", **HOW)
-        told = told_of(done.stdout.splitlines(), places) or [f"status {done.returncode}"]
+        told = done.stdout.splitlines() or [f"status {done.returncode}"]
     else:
         done = subprocess.run(["rt", "try", "--test"], cwd=folder, **HOW)
         told = ["passed" if done.returncode == 0 else f"failed, status {done.returncode}"]

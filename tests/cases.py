@@ -51,11 +51,11 @@ class Bench:
         self.program, self.folder, self.failing = program, folder, str(folder / "failing.so")
         subprocess.run(["cc", "-O1", "-shared", "-fPIC", "-o", self.failing, TOP / "tests/failing.c", "-ldl"], check=True)
 
-    def call(self, *words, **how):
+    def call(self, *words, lines="/dev/null", **how):
         """What the program writes into a file, what it tells on standard error, and its status; `how` is for failing.c."""
         how = {"LD_PRELOAD": self.failing, **how} if how else {}
-        with open(self.folder / "out.txt", "w+b") as out:
-            made = subprocess.run([self.program, *words], cwd=self.folder, stdin=subprocess.DEVNULL, stdout=out, stderr=subprocess.PIPE,
+        with open(self.folder / "out.txt", "w+b") as out, open(self.folder / lines, "rb") as read:
+            made = subprocess.run([self.program, *words], cwd=self.folder, stdin=read, stdout=out, stderr=subprocess.PIPE,
                                   timeout=120, env=os.environ | how)
             out.seek(0)
             return out.read(), shown(made.stderr), made.returncode
@@ -266,6 +266,62 @@ class Imports(Bench):
         return "{} rows, {}".format(*shown(sums).split())
 
 
+class Shells(Bench):
+    """Lines that are entered in a shell."""
+
+    def __init__(self, program, folder):
+        super().__init__(program, folder)
+        self.table, self.limit = b"", MOST_ROWS
+
+    def take_table(self, text):
+        self.table = unescaped(text)
+
+    def take_limit(self, text):
+        self.limit = int(text)
+
+    def entered(self, text, **how):
+        """What the shell writes, and what it tells on standard error, for lines."""
+        for it in self.folder.glob("h.json"):
+            it.unlink()
+        self.keep("t.csv", self.table)
+        self.keep("lines", unescaped(text))
+        wrote, told, status = self.call("shell", "t.csv", "--limit", str(self.limit), "--history", "h.json", lines="lines", **how)
+        return f"{shown(wrote)}{told}status {status}"
+
+    def verdict(self):
+        """The verdict on the history that the shell left, with the status."""
+        if not (self.folder / "h.json").exists():
+            return "no history"
+        wrote, told, status = self.call("check", "h.json")
+        return f"{shown(wrote)}{told}status {status}"
+
+    def take_shell(self, text):
+        """The same, and the tables that it was told to write."""
+        told = self.entered(text)
+        for it in sorted(self.folder.glob("*.w")):
+            told += f"\n{it.name}\n{it.read_text()}"
+            it.unlink()
+        return told
+
+    def take_check(self, text):
+        self.entered(text)
+        return self.verdict()
+
+    def take_file(self, text):
+        self.entered(text)
+        return (self.folder / "h.json").read_text()
+
+    def take_failing(self, text):
+        """What a file took of it three bytes a time, where the write of a number fails, and the verdict."""
+        number, _, lines = text.partition(" ")
+        return f"{self.entered(lines, FILE='out.txt', MOST='3', FAILED=number)}; {self.verdict()}"
+
+    def take_reading(self, text):
+        """The same where lines are read three bytes a time, and the read of a number fails."""
+        number, _, lines = text.partition(" ")
+        return f"{self.entered(lines, FILE='lines', MOST='3', FAILED=number)}; {self.verdict()}"
+
+
 class Faults(Bench):
     """What is told of tables, scripts, cuts and history files that are refused, and descriptions of tables."""
 
@@ -318,7 +374,7 @@ class Faults(Bench):
         return shown(wrote) + told
 
 
-BENCHES = {"faults": Faults, "imports": Imports, "orders": Orders, "runs": Runs}
+BENCHES = {"faults": Faults, "imports": Imports, "orders": Orders, "runs": Runs, "shells": Shells}
 
 
 def told_by(bench, lines):

@@ -1,6 +1,7 @@
 //! Which trial a line is.
 
 use crate::asking::{Asked, ask};
+use crate::lines::{fault, noting};
 use crate::runs::{begun, met_in_run, shared};
 use crate::sessions::{among, counted, crowded, insisted, mixed, raced, told_of, waited};
 use std::alloc::{AllocError, Global};
@@ -108,9 +109,14 @@ impl Bench {
     ) -> Result<(), AllocError> {
         self.text.clear();
         let (word, given) = split(line, ' ');
-        if word == "cuts" {
-            self.cuts.clear();
-            return self.cuts.push_str(given);
+        match word {
+            "cuts" => {
+                self.cuts.clear();
+                return self.cuts.push_str(given);
+            }
+            "fault" => return fault(alloc, given, &mut self.text),
+            "noting" => return noting(alloc, given, &mut self.text),
+            _ => {}
         }
         match tell(rt, alloc, self.cuts.as_str(), word, given, &mut self.text) {
             Ok(()) => Ok(()),

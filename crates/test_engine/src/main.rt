@@ -7,6 +7,7 @@ mod asking;
 mod beginnings;
 mod bench;
 mod boxes;
+mod lines;
 mod opening;
 mod playing;
 mod random;

@@ -1,8 +1,9 @@
-//! Refusals as they are told, and whether one was.
+//! Lines of refusals: how they are written, and whether one went out.
 
 use std::alloc::{AllocError, Global};
 use sw_cli::{Noting, status, write_fault};
 use sw_rows::{Counted, Name, Refusal, Sink, Why};
+use test_words::unescaped;
 
 /// Refusals by their place, from 0.
 const REFUSALS: [Refusal; 19] = [
@@ -58,37 +59,33 @@ const REFUSALS: [Refusal; 19] = [
     Refusal::Ahead { seen: 5, told: 4 },
 ];
 
-/// The line of a refusal as it is written, the status, and whether its `Display` says the same.
-fn line_of(alloc: Global, refusal: &Refusal) -> Result<String, AllocError> {
+/// Tells the line of a refusal as it is written, the status, and whether its `Display` says the same.
+fn tell_line(alloc: Global, refusal: &Refusal, text: &mut String) -> Result<(), AllocError> {
     let mut out = Counted::new(Vec::new(alloc));
     let _ = write_fault(refusal, &mut out);
     let line = String::from_utf8_lossy(alloc, out.inner.as_slice())?;
     let displayed = format!(in alloc; "sideways: refused {refusal}\n")?;
     let is_same = displayed.as_str() == line.as_str();
-    format!(in alloc;
-        "{line}status {}, displayed alike {is_same}",
-        status(refusal)
-    )
+    write!(text, "{line}status {}, displayed alike {is_same}", status(refusal))
 }
 
-/// The refusal of a place; of another text that of an attribute with that name.
-pub(crate) fn fault(alloc: Global, text: &str) -> Result<String, AllocError> {
-    match text.parse::<usize>() {
-        Ok(place) if place < 19 => line_of(alloc, &REFUSALS[place]),
-        _ => line_of(
-            alloc,
-            &Refusal::UnknownAttribute {
-                name: Name::copied(alloc, text)?,
-            },
-        ),
+/// Tells the line of the refusal of a place; of another word that of an attribute with that name.
+pub(crate) fn fault(alloc: Global, word: &str, text: &mut String) -> Result<(), AllocError> {
+    match word.parse::<usize>() {
+        Ok(place) if place < 19 => tell_line(alloc, &REFUSALS[place], text),
+        _ => {
+            let name = Name::copied(alloc, word)?;
+            tell_line(alloc, &Refusal::UnknownAttribute { name }, text)
+        }
     }
 }
 
-/// Whether the line of a refused call went out, where the bytes are written in pieces that are divided by |.
-pub(crate) fn noted(alloc: Global, bytes: &[u8]) -> Result<String, AllocError> {
+/// Tells whether the line of a refused call went out, where bytes are written in pieces that are divided by |.
+pub(crate) fn noting(alloc: Global, pieces: &str, text: &mut String) -> Result<(), AllocError> {
+    let bytes = unescaped(alloc, pieces)?;
     let mut noting = Noting::new(Counted::new(Vec::new(alloc)));
-    for piece in bytes.split(|byte: &u8| *byte == b'|') {
+    for piece in bytes.as_slice().split(|byte: &u8| *byte == b'|') {
         let _ = noting.write_some(piece);
     }
-    format!(in alloc; "{}", noting.has_refused())
+    write!(text, "{}", noting.has_refused())
 }
