@@ -281,7 +281,7 @@ class Shells(Bench):
 
     def entered(self, text, **how):
         """What the shell writes, and what it tells on standard error, for lines."""
-        for it in self.folder.glob("h.json"):
+        for it in [*self.folder.glob("h.json"), *self.folder.glob("*.w")]:
             it.unlink()
         self.keep("t.csv", self.table)
         self.keep("lines", unescaped(text))
