@@ -400,14 +400,16 @@ def main():
         if given.tell:
             sys.stdout.write("".join(parts))
             continue
-        wanted, at = (TOP / f"tests/cases/{name}.told").read_text(), 0
+        wanted, at, is_as_kept = (TOP / f"tests/cases/{name}.told").read_text(), 0, True
         for part in parts:
             if wanted[at : at + len(part)] != part:
                 print(f"cases: {name}: wanted\n{wanted[at : at + 400]}\nand it tells\n{part}")
-                wrong = 1
+                is_as_kept = False
                 break
             at += len(part)
-        print(f"cases: {name}: {len(lines)} lines{' are not as kept' if wrong else ''}")
+        is_as_kept &= at == len(wanted)
+        print(f"cases: {name}: {len(lines)} lines{'' if is_as_kept else ' do not tell what is kept'}")
+        wrong |= not is_as_kept
     return wrong
 
 
