@@ -66,7 +66,11 @@ fn tell_line(alloc: Global, refusal: &Refusal, text: &mut String) -> Result<(), 
     let line = String::from_utf8_lossy(alloc, out.inner.as_slice())?;
     let displayed = format!(in alloc; "sideways: refused {refusal}\n")?;
     let is_same = displayed.as_str() == line.as_str();
-    write!(text, "{line}status {}, displayed alike {is_same}", status(refusal))
+    write!(
+        text,
+        "{line}status {}, displayed alike {is_same}",
+        status(refusal)
+    )
 }
 
 /// Tells the line of the refusal of a place; of another word that of an attribute with that name.
