@@ -69,8 +69,8 @@ class Bench:
         return getattr(self, f"take_{word}")(rest) or ""
 
 
-class Runs(Bench):
-    """Runs, and checks of history files."""
+class OverTable(Bench):
+    """What is made over a table, under a limit of rows."""
 
     def __init__(self, program, folder):
         super().__init__(program, folder)
@@ -81,6 +81,10 @@ class Runs(Bench):
 
     def take_limit(self, text):
         self.limit = int(text)
+
+
+class Runs(OverTable):
+    """Runs, and checks of history files."""
 
     def run(self, script, *words, **how):
         """What a script over the table writes, and then its refusal."""
@@ -154,18 +158,12 @@ class Runs(Bench):
         return all_
 
 
-class Orders(Bench):
+class Orders(OverTable):
     """Orders of logs' calls."""
 
     def __init__(self, program, folder):
         super().__init__(program, folder)
-        self.table, self.limit, self.keys, self.logs = b"", MOST_ROWS, "counted", []
-
-    def take_table(self, text):
-        self.table = unescaped(text)
-
-    def take_limit(self, text):
-        self.limit = int(text)
+        self.keys, self.logs = "counted", []
 
     def take_keys(self, text):
         self.keys = text
@@ -266,18 +264,8 @@ class Imports(Bench):
         return "{} rows, {}".format(*shown(sums).split())
 
 
-class Shells(Bench):
+class Shells(OverTable):
     """Lines that are entered in a shell."""
-
-    def __init__(self, program, folder):
-        super().__init__(program, folder)
-        self.table, self.limit = b"", MOST_ROWS
-
-    def take_table(self, text):
-        self.table = unescaped(text)
-
-    def take_limit(self, text):
-        self.limit = int(text)
 
     def entered(self, text, **how):
         """What the shell writes, and what it tells on standard error, for lines."""
