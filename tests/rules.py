@@ -1,5 +1,5 @@
 #!/usr/bin/env python3
-"""Holds docs/RULES.md against the definitions that it names: `[sw_rows/Bounds: `is_left`]` has to be defined in crates/sw_rows/specs/Bounds.antt.
+"""Holds docs/RULES.md against the definitions that it names: `[sw_query/Bounds: `is_left`]` has to be defined in crates/sw_query/specs/Bounds.antt.
 
     tests/rules.py
 

@@ -3,7 +3,7 @@
 #
 #     bench/area/measure.sh [ROWS [ROUNDS [CALLS]]]
 #
-# Copies the crates up to sw_chunks with a program of its own into a folder under TMPDIR, proves and builds them there, makes a
+# Copies the crates up to test_heads with a program of its own into a folder under TMPDIR, proves and builds them there, makes a
 # table of random ints of three attributes and scripts of CALLS (by default 1,000) random calls at width one thousandth:
 # counts, sums, selects of two tails, and sums with a second condition; a fifth as many sums over half of the rows (`wide`); and
 # sums over ranges that stand side by side, from left to right (`moving`). It runs the program and bench/peers/peer.cpp in

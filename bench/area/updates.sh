@@ -3,7 +3,7 @@
 #
 #     bench/area/updates.sh [ROWS [ROUNDS [CALLS]]]
 #
-# Copies the crates up to sw_chunks with a program of its own into a folder under TMPDIR, proves and builds them there, makes a
+# Copies the crates up to test_heads with a program of its own into a folder under TMPDIR, proves and builds them there, makes a
 # table of random ints of three attributes and, for each mix of calls, two scripts: CALLS (by default 1,000) and ten times as many.
 # The mixes are those of MIXES, by default `insert log update`: of ten calls 5 inserts and 5 sums at width one thousandth; the same
 # where the inserted values rise above all and the sums are of the newest rows; 3 inserts, 2 removals and 5 sums. It runs the program
