@@ -1,9 +1,10 @@
 -- Codes and texts stand for one another, and both stay as texts are added.
-use Rattle.std.proofs.Common.{◌≡◌, ◌∙◌, ap, sym, refl, ℕ, zero, suc, ◌+◌, ◌-◌, ◌<◌, ◌≤◌, ◌==◌, ◌||◌, Bool, true, false, not, cond, List, [], ◌∷◌, ◌++◌, length, take, get_or, Option, Some, None, Result, Ok, Err, option_map, position, bytes_eq, is_some, slice_get, nat_lt, arith, subst, true≢false, append-nil, append_assoc, length-append}
+use Rattle.std.proofs.Common.{◌≡◌, ◌∙◌, inl, inr, ap, sym, refl, ℕ, zero, suc, ◌+◌, ◌-◌, ◌<◌, ◌≤◌, ◌==◌, ◌||◌, Bool, true, false, not, cond, List, [], ◌∷◌, ◌++◌, length, take, get_or, Option, Some, None, Result, Ok, Err, option_map, position, bytes_eq, is_some, slice_get, nat_lt, arith, subst, true≢false, append-nil, append_assoc, length-append}
 use Rattle.std.proofs.Math.ListN.{get_or-append}
 use Rattle.std.proofs.Math.Seq.{take-append_seam}
 use Rattle.std.proofs.lemmas.Bool.{and_parts, cond-false, cond-true, lt-ltb, not-true, not_from_false, not_from_true, or_parts, or_right, true_from_ne_false}
 use Rattle.std.proofs.lemmas.Bool.Decides.{nat_tests}
+use Rattle.std.proofs.lemmas.List.Elements.{All-weaker}
 use Rattle.std.proofs.lemmas.List.Quantifiers.{position-Some}
 use Rattle.std.proofs.lemmas.List.Sums.{fold-append, position_or_len_is}
 use Rattle.std.proofs.lemmas.Option.{none-some, same_Some, slice_get-get_or, slice_get_within}
@@ -11,6 +12,9 @@ use Rattle.std.proofs.lemmas.Slice.Eq.{bytes_eq-Decides}
 use Rattle.std.specs.List.{position_or_len}
 use Rattle.std.specs.Option.{option_map_or}
 use Rattle.sw_rows.specs.Faults.{Fault, too_many}
+use Rattle.sw_rows.specs.Recent.{AreOf, IsOf}
+use Rattle.sw_rows.specs.declared.schema.recent.Recent.{Recent}
+use Rattle.sw_rows.specs.declared.schema.recent.Slot.{Slot}
 use Rattle.sw_rows.specs.Texts.{AreTexts, is_text, are_full, code_given, code_of, has_text, next_code, text_of, texts_differ, with_text, with_texts}
 use Rattle.sw_rows.specs.declared.schema.texts.TheConstants.{MOST_TEXTS}
 use Rattle.sw_rows.proofs.Tables.CellSpelling.{one_further}
@@ -161,6 +165,14 @@ code-append ts rest t code h = let at = placed_at ts code t h in coded (ts ++ re
 pub code_kept : (ts more : Texts) (t : List ℕ) (code : ℕ) → code_of ts t ≡ Some code → code_of (with_texts ts more) t ≡ Some code
 code_kept ts more t code h = let all = grown ts more in ap (λ us. code_of us t) all.1 ∙ code-append ts all.0 t code h
 
+-- what came lately is still so as texts are added
+pub recent_kept : (ts more : Texts) (r : Recent) → AreOf ts r → AreOf (with_texts ts more) r
+recent_kept ts more r h = All-weaker (IsOf ts) (IsOf (with_texts ts more)) kept r.slots.items h
+  where
+    kept : (s : Slot) → IsOf ts s → IsOf (with_texts ts more) s
+    kept s (inl blank) = inl blank
+    kept s (inr has) = inr (code_kept ts more (take s.many s.bytes) s.code has)
+
 -- a code keeps its text as texts are added
 pub text_of_kept : (ts more : Texts) (t : List ℕ) (code : ℕ) → text_of ts code ≡ Some t → text_of (with_texts ts more) code ≡ Some t
 text_of_kept ts more t code h =
@@ -203,6 +215,13 @@ code_of_new ts t h room =
     let long = length-append ts (t ∷ []) in
     let inside : length ts < length (ts ++ t ∷ []) = omega arith in
     ap (λ us. code_of us t) (cond-false (has_text ts t || are_full ts) ts (ts ++ t ∷ []) (neither (has_text ts t) (are_full ts) h room)) ∙ coded (ts ++ t ∷ []) (length ts) (length ts + 1) t refl (position_is (bytes_eq t) (ts ++ t ∷ []) (length ts) (last_at ts t h) inside)
+
+-- a new text comes last, with the next code, and what came lately is still so
+pub recent_grown : (ts : Texts) (t : List ℕ) (r : Recent) → has_text ts t ≡ false → length ts < MOST_TEXTS → AreOf ts r → (code_of (ts ++ t ∷ []) t ≡ Some (length ts + 1)) × AreOf (ts ++ t ∷ []) r
+recent_grown ts t r new few was =
+    let room : are_full ts ≡ false = grind (arith, nat_tests) in
+    let last : with_text ts t ≡ ts ++ t ∷ [] = cond-false (has_text ts t || are_full ts) ts (ts ++ t ∷ []) (neither (has_text ts t) (are_full ts) new room) in
+    (ap (λ us. code_of us t) (sym last) ∙ code_of_new ts t new room, subst (λ us. AreOf us r) last (recent_kept ts (t ∷ []) r was))
 
 -- the code that a text is given is its code from then on
 pub given_kept : (ts : Texts) (t : List ℕ) (code : ℕ) → code_given ts t ≡ Ok code → code_of (with_text ts t) t ≡ Some code

@@ -7,7 +7,7 @@ ghost use Rattle.sw_rows.specs.Header.{too_many};
 ghost use Rattle.sw_rows.specs.Texts.{code_given, code_of, has_text, is_text, is_text_byte, text_of, with_text, AreTexts};
 ghost use Rattle.sw_rows.specs.declared.schema.texts.TheConstants.{MOST_TEXTS};
 
-use crate::schema::front::Front;
+use crate::schema::recent::Recent;
 use crate::schema::text_key::TextKey;
 use indexmap::IndexSet;
 use std::alloc::Global;
@@ -58,7 +58,7 @@ pub(crate) fn cell_of(code: u64) -> i64
 /// No text stands twice, each may be the text of a cell, and there are at most `MOST_TEXTS` of them.
 pub struct Texts {
     texts: IndexSet<String, TextKey>,
-    front: Front,
+    recent: Recent,
 }
 
 // By hand: the drop of a derived one is written out at each way out of a function.
@@ -66,20 +66,21 @@ impl Drop for Texts {
     fn drop(self) {
         let Self {
             texts: _texts,
-            front: _front,
+            recent: _recent,
         } = self;
     }
 }
 
 impl Model for Texts {
     ghost use Rattle.std.specs.Prelude.{List, ℕ};
+    ghost use Rattle.sw_rows.specs.Recent.{AreOf};
     ghost use Rattle.sw_rows.specs.Texts.{texts_of, AreTexts};
 
     ghost Value = { List (List ℕ) };
 
     ghost view = { λ s. texts_of s.texts };
 
-    ghost invariant = { λ s. AreTexts (texts_of s.texts) };
+    ghost invariant = { λ s. AreTexts (texts_of s.texts) × AreOf (texts_of s.texts) s.recent };
 }
 
 impl Texts {
@@ -89,7 +90,7 @@ impl Texts {
     {
         Texts {
             texts: IndexSet::with_hasher(alloc, key),
-            front: Front::none(alloc),
+            recent: Recent::none(alloc),
         }
     }
 
@@ -121,17 +122,13 @@ impl Texts {
         Some(text.as_str())
     }
 
-    /// The code of these bytes where they are a text that was found lately: they need not be looked at then. None tells nothing of them.
+    /// The code of these bytes where they are a text that came lately: they need not be looked at then. None tells nothing of them.
     pub(crate) fn seen(&self, bytes: &[u8]) -> Option<u64>
         ensures code { IfSome result (λ code. code_of self.now bytes.now ≡ Some code) }
         ensures few { IfSome result (λ code. code ≤ MOST_TEXTS) }
         ensures text { IfSome result (λ _. is_text bytes.now ≡ true) }
     {
-        let code = self.front.code(bytes)?;
-        let text = self.text(code)?;
-        if text.as_bytes() != bytes {
-            return None;
-        }
+        let code = self.recent.code(bytes)?;
         Some(code)
     }
 
@@ -151,7 +148,7 @@ impl Texts {
             → result ≡ Err (Refusal.TooMany MOST_TEXTS) }
     {
         if let Some(code) = self.code(text) {
-            self.front.note(text.as_bytes(), code, self.texts.len());
+            self.recent.note(text.as_bytes(), code, self.texts.len());
             return Ok(code);
         }
         let count = self.len() as u64;
@@ -159,13 +156,16 @@ impl Texts {
             return Err(Refusal::TooMany { limit: MOST_TEXTS });
         }
         let alloc = *self.texts.allocator();
-        let Ok(text) = String::from_str(alloc, text) else {
+        let Ok(owned) = String::from_str(alloc, text) else {
             return Err(Refusal::NoMemory);
         };
-        match self.texts.insert(text) {
-            Ok(_) => Ok(count + 1),
-            Err(_) => Err(Refusal::NoMemory),
+        match self.texts.insert(owned) {
+            Ok(_) => {}
+            Err(_) => return Err(Refusal::NoMemory),
         }
+        self.recent
+            .note(text.as_bytes(), count + 1, self.texts.len());
+        Ok(count + 1)
     }
 
     /// Takes back the texts that came last, so that the first `len` are left. Where there are no more, nothing changes.
@@ -173,5 +173,6 @@ impl Texts {
         ensures { self.new ≡ take len self.old }
     {
         self.texts.truncate(len);
+        self.recent.clear();
     }
 }

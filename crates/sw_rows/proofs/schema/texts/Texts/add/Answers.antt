@@ -1,17 +1,21 @@
-use Rattle.std.proofs.Common.{◌≡◌, ◌∙◌, ap, sym, arith, false, is_some, map, string_bytes}
+use Rattle.std.proofs.Common.{◌≡◌, ◌∙◌, ◌<◌, ◌+◌, ◌++◌, ◌∷◌, [], ap, sym, arith, false, is_some, length, map, string_bytes, Some}
 use Rattle.std.proofs.lemmas.Bool.Decides.{nat_tests}
-use Rattle.sw_rows.specs.Texts.{AreTexts, has_text}
+use Rattle.sw_rows.specs.Recent.{AreOf}
+use Rattle.sw_rows.specs.Texts.{AreTexts, code_of, has_text}
+use Rattle.sw_rows.specs.declared.schema.texts.TheConstants.{MOST_TEXTS}
+use Rattle.sw_rows.proofs.Schemas.TextLaws.{recent_grown}
 use Rattle.sw_rows.proofs.Schemas.TextLemmas.{text_inserted, texts_more}
-use Rattle.sw_rows.proofs.schema.texts.Texts.add.Goals.{in-Ok-insert, in-Err}
 use Rattle.sw_rows.proofs.schema.texts.Texts.add.Goals as goal
 
 pub invariant_of-self-2 : goal.invariant_of-self-2
 invariant_of-self-2 c =
     let texts = c.args.self.now in
     let text = c.args.text.now in
-    let sound : AreTexts texts = rw c.self.view_is at c.self.invariant in
+    let sound : AreTexts texts = rw c.self.view_is at c.self.invariant.0 in
+    let was : AreOf texts c.self.inside.recent = rw c.self.view_is at c.self.invariant.1 in
     let new : has_text texts text ≡ false = sym c.code.ensures.found ∙ ap is_some c.in_default.is in
-    elim c.match-insert.branch [
-      | in-Ok-insert w ↦ rw (ap (map string_bytes) w.in-Ok-insert.ensures.keys ∙ text_inserted text c.self.inside.texts.keys texts c.in-Ok.text c.self.view_is c.in-Ok.ensures.ok new) (texts_more texts text sound (grind (arith, nat_tests)) c.requires new)
-      | in-Err w ↦ rw (ap (map string_bytes) w.in-Err.ensures.err ∙ c.self.view_is) sound
-    ]
+    let few : length texts < MOST_TEXTS = grind (arith, nat_tests) in
+    let more : map string_bytes c.insert.new.self.keys ≡ texts ++ text ∷ [] = ap (map string_bytes) c.in-Ok-insert.ensures.keys ∙ text_inserted text c.self.inside.texts.keys texts c.in-Ok.owned c.self.view_is c.in-Ok.ensures.ok new in
+    let grown = recent_grown texts text c.self.inside.recent new few was in
+    let coded = ap (code_of (texts ++ text ∷ [])) c.as_bytes-2.ensures.value ∙ grown.0 ∙ ap (λ n. Some (n + 1)) (sym c.len-count.ensures.value) in
+    rw more (texts_more texts text sound few c.requires new, c.note-2.ensures (texts ++ text ∷ []) coded grown.1)

@@ -19,7 +19,7 @@ returns-clause-found c = text_known_among c.args.text.now c.self.inside.texts.ke
 pub returns-clause-few : goal.returns-clause-few
 returns-clause-few c =
     let within = code_within c.args.self.now (c.in_ok-place.place + 1) c.args.text.now (sym (text_code c.args.text.now c.self.inside.texts.keys c.args.self.now (Some c.in_ok-place.place) c.self.view_is c.in_ok-place.ensures.index)) in
-    let sound : AreTexts c.args.self.now = rw c.self.view_is at c.self.invariant in
+    let sound : AreTexts c.args.self.now = rw c.self.view_is at c.self.invariant.0 in
     let few = sound.few in
     let code = within.1 in
     omega arith
