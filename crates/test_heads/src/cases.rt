@@ -181,7 +181,7 @@ const BOXES_COME_AND_GO: &[(Step<'static>, &str)] = &[
     (Step::Call("count"), "4\n2 scanned"),
 ];
 
-/// A row that comes is rippled in.
+/// A query at rest is answered where all that it needs stands, and elsewhere not at all.
 const A_QUERY_AT_REST_CHANGES_NOTHING: &[(Step<'static>, &str)] = &[
     (Step::AtRest("count where a >= 10"), "not at rest"),
     (Step::Call("count where a >= 10"), "3\n"),
@@ -197,6 +197,7 @@ const A_QUERY_AT_REST_CHANGES_NOTHING: &[(Step<'static>, &str)] = &[
     (Step::AtRest("count where a >= 10"), "3\n"),
 ];
 
+/// A row that comes is rippled in.
 const A_ROW_THAT_COMES_IS_RIPPLED_IN: &[(Step<'static>, &str)] = &[
     RANGE,
     (Step::Counts, "2 begins, 4 steps, 4 tails"),
