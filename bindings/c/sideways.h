@@ -4,8 +4,8 @@
    a time: while one call has it, no other call may. Nothing here takes a lock, starts a thread or waits.
 
    - Every function that can be refused answers a code: SIDEWAYS_OK, a refusal of the project (1 to 14, `sideways explain N`),
-     or one of the border (100 and more). Refused, the engine is as it was, its history included; what stands behind an out
-     pointer is told at each function.
+     or one of the border (100 and more). Refused, the engine is as it was, its history included, save under SIDEWAYS_NO_TEXT, and
+     as sideways_insert_many and sideways_close say; what stands behind an out pointer is told at each function.
    - Results go out through pointers. The caller owns all buffers; nothing that a caller gives is kept after the call.
    - A text is bytes and a length, without a 0 at its end. Where the length is 0 the pointer is not read and may be NULL; any
      other pointer here is never NULL and points to as many values as its length says. Out buffers overlap nothing else that
@@ -61,7 +61,8 @@ typedef struct {
 
 typedef struct {
     uint64_t limit;  /* how many rows are ever inserted at most, those of the table included: 1 to 1,048,576 */
-    uint64_t budget; /* how many cells of 8 bytes the maps may have together, at most 1,099,511,627,776; with none every query scans */
+    uint64_t budget; /* how many cells the maps may have together, each a pair of 16 bytes, at most 1,099,511,627,776; with none
+                        every query scans */
     uint64_t maps;   /* how many maps there are, dealt out to the attributes in turn, at most 4,096; with none every query scans */
 } sideways_options;
 #define SIDEWAYS_OPTIONS {1048576u, 16777216u, 64u}

@@ -4,7 +4,8 @@ from ._border import MISUSE, NO_TEXT, lib
 
 
 class Error(Exception):
-    """A refusal of the library. After it the table is as it was, its history included, save where the number is 104.
+    """A refusal of the library. After it rows and history are as they were, but: under 104 the call was made, of `insert_many` as
+    many rows stand as the exception's own text tells, and `Full` says what stands. Texts may have become known.
 
     Attributes:
         code: the number: 1 to 14 are the project's refusals, 100 and more those of the library's border.

@@ -366,7 +366,7 @@ class Table(Session):
             table: the path of a file (str or PathLike), or the text itself (bytes).
             cuts: how attributes are divided into areas, as `"a=1000;a=2000"`; none by default.
             limit: how many rows are ever inserted at most, those of the table included: 1 to 1,048,576.
-            budget: how many cells of 8 bytes the maps may have together; with 0 every query scans.
+            budget: how many cells the maps may have together, each a pair of 16 bytes; with 0 every query scans.
             maps: how many maps there are for all attributes together, at most 4,096; with 0 every query scans.
 
         Raises:
@@ -429,7 +429,7 @@ class Table(Session):
 
     def stats(self) -> Dict[str, Dict[str, int]]:
         """What the head of each attribute tells: queries asked of it, areas, pieces, entries of tapes, restarts, maps in use, the cells
-        these have (8 bytes each), and how often an area was scanned."""
+        these have (16 bytes each), and how often an area was scanned."""
         found = {}
         with self._engine.lock:
             for name, (place, _kind) in self._engine.attributes.items():

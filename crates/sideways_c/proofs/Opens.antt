@@ -5,7 +5,6 @@ use Rattle.std.proofs.lemmas.Bool.Decides.{Decides-eqb}
 use Rattle.sw_rows.proofs.Scans.RowLaws.{keys-count}
 use Rattle.sw_rows.specs.Faults.{Fault}
 use Rattle.sw_rows.proofs.Options.{then_ok}
-use Rattle.sw_rows.specs.Gives.{Fails}
 use Rattle.sw_rows.specs.Header.{header_of}
 use Rattle.sw_rows.specs.Tables.{◌>>=◌, Table, table_of}
 use Rattle.sw_query.specs.declared.refusal.Refusal.{Refusal}
@@ -42,36 +41,19 @@ table_numbered bytes t h = numbered_from 1 t.rows (λ i r e. let k = keys-count 
 -- a fault of the cuts, after a table was read
 pub cuts_refuse : (r : Result Table Fault) (cuts : List ℕ) (limit : ℕ) (t : Table) (e : Refusal) → r ≡ Ok t → Answers {A = CutLists} (Err e) (cuts_in t.columns cuts) → IsNotOpening r cuts limit e
 cuts_refuse r cuts limit t refusal.NoMemory read h = inl tt
-cuts_refuse r cuts limit t (refusal.BadTable rec field) read h = inr (t, read, inl h)
-cuts_refuse r cuts limit t (refusal.BadLine line why) read h = inr (t, read, inl h)
-cuts_refuse r cuts limit t (refusal.UnknownAttribute name) read h = inr (t, read, inl h)
-cuts_refuse r cuts limit t (refusal.TooMany n) read h = inr (t, read, inl h)
-cuts_refuse r cuts limit t (refusal.NoBlank boxes needed) read h = inr (t, read, inl h)
-cuts_refuse r cuts limit t (refusal.Short used want capacity) read h = inr (t, read, inl h)
-cuts_refuse r cuts limit t (refusal.Contended seen found) read h = inr (t, read, inl h)
-cuts_refuse r cuts limit t (refusal.SharesOut made given) read h = inr (t, read, inl h)
-cuts_refuse r cuts limit t (refusal.HistoryFull entries) read h = inr (t, read, inl h)
-cuts_refuse r cuts limit t (refusal.NotLegal index) read h = inr (t, read, inl h)
-cuts_refuse r cuts limit t refusal.Input read h = inr (t, read, inl h)
-cuts_refuse r cuts limit t refusal.Output read h = inr (t, read, inl h)
-cuts_refuse r cuts limit t (refusal.Ahead seen told) read h = inr (t, read, inl h)
-
--- a refusal that no source gave
-pub fails_any : {A : Type 0} (r : Result A Fault) (e : Refusal) → Fails ⊥ e r → Fails (Unit {0}) e r
-fails_any r refusal.NoMemory h = tt
-fails_any r (refusal.BadTable rec field) h = h
-fails_any r (refusal.BadLine line why) h = h
-fails_any r (refusal.UnknownAttribute name) h = h
-fails_any r (refusal.TooMany n) h = h
-fails_any r (refusal.NoBlank boxes needed) h = h
-fails_any r (refusal.Short used want capacity) h = h
-fails_any r (refusal.Contended seen found) h = h
-fails_any r (refusal.SharesOut made given) h = h
-fails_any r (refusal.HistoryFull entries) h = h
-fails_any r (refusal.NotLegal index) h = h
-fails_any r refusal.Input h = tt
-fails_any r refusal.Output h = h
-fails_any r (refusal.Ahead seen told) h = h
+cuts_refuse r cuts limit t (refusal.BadTable rec field) read h = inr (inl (t, read, h))
+cuts_refuse r cuts limit t (refusal.BadLine line why) read h = inr (inl (t, read, h))
+cuts_refuse r cuts limit t (refusal.UnknownAttribute name) read h = inr (inl (t, read, h))
+cuts_refuse r cuts limit t (refusal.TooMany n) read h = inr (inl (t, read, h))
+cuts_refuse r cuts limit t (refusal.NoBlank boxes needed) read h = inr (inl (t, read, h))
+cuts_refuse r cuts limit t (refusal.Short used want capacity) read h = inr (inl (t, read, h))
+cuts_refuse r cuts limit t (refusal.Contended seen found) read h = inr (inl (t, read, h))
+cuts_refuse r cuts limit t (refusal.SharesOut made given) read h = inr (inl (t, read, h))
+cuts_refuse r cuts limit t (refusal.HistoryFull entries) read h = inr (inl (t, read, h))
+cuts_refuse r cuts limit t (refusal.NotLegal index) read h = inr (inl (t, read, h))
+cuts_refuse r cuts limit t refusal.Input read h = inr (inl (t, read, h))
+cuts_refuse r cuts limit t refusal.Output read h = inr (inl (t, read, h))
+cuts_refuse r cuts limit t (refusal.Ahead seen told) read h = inr (inl (t, read, h))
 
 -- ---- rows of columns
 

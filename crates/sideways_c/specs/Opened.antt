@@ -43,12 +43,13 @@ pub record AreSound (o : Options) : Type 0 where
 abbrev pub cuts_in : List Column → List ℕ → Result CutLists Refusal
 cuts_in columns text = if is_utf8 text then refused 0 (cuts_at columns text) else Err (BadLine 0 why.Cuts)
 
--- what the engine of what was read and of cuts is refused for: a fault of the table; or one of the cuts; or more rows than
--- the limit; or there is no memory
+-- what the engine of what was read and of cuts is refused for: a fault of the table; where it has none, one of the cuts;
+-- where they have none, more rows than the limit; or there is no memory
 abbrev pub IsNotOpening : Result Table Fault → List ℕ → ℕ → Refusal → Type 0
 IsNotOpening read cuts limit e =
-    Fails (Unit {0}) e read
-    ⊎ ((t : Table) × (read ≡ Ok t) × ((cuts_in t.columns cuts ≡ Err e) ⊎ RefusesRows limit t.rows e))
+    Fails ⊥ e read
+    ⊎ ((t : Table) × (read ≡ Ok t) × (cuts_in t.columns cuts ≡ Err e))
+    ⊎ ((t : Table) × (lists : CutLists) × (read ≡ Ok t) × (cuts_in t.columns cuts ≡ Ok lists) × RefusesRows limit t.rows e)
 
 -- an engine with no calls and no sessions over the table that was read
 abbrev pub IsOpening : Result Table Fault → List ℕ → ℕ → Result SoloState Refusal → Type 0

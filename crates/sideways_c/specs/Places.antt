@@ -12,7 +12,7 @@ use Rattle.sideways_c.specs.declared.codes.TheConstants.{OK}
 -- what was read is a table, or this is why it is none, or there was no memory
 abbrev pub ReadsTable : Result Table Fault → Result (Unit {0}) Refusal → Type 0
 ReadsTable read (Ok done) = (t : Table) × (read ≡ Ok t)
-ReadsTable read (Err e) = Fails (Unit {0}) e read
+ReadsTable read (Err e) = Fails ⊥ e read
 
 abbrev pub nowhere : Place
 nowhere = record { row = 0; column = 0 }

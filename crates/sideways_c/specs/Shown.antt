@@ -3,7 +3,7 @@ use Rattle.std.specs.Prelude.{ℕ, ◌&&◌, Bool, nat_le, nat_lt, List, [], Opt
 use Rattle.sw_solo.specs.Called.{SoloState}
 use Rattle.sideways_c.specs.declared.kept.Kept.{Kept}
 
--- the engine, if there is one, the text that was kept last, and the rows of the last select
+-- the engine, if there is one, and the text and the rows that were kept last
 pub record Shown : Type 0 where
   pub engine : Option SoloState
   pub text : List ℕ

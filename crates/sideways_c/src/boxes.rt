@@ -1,7 +1,9 @@
 //! The boxes that an engine is given for its maps.
 
-ghost use Rattle.std.specs.Prelude.{◌≡◌, All, IfOk, IsOkUnless};
+ghost use Rattle.std.specs.Prelude.{◌≡◌, All, IfOk, IsOkUnless, length};
+ghost use Rattle.sw_budget.specs.Account.{empty};
 ghost use Rattle.sw_map.specs.Held.{blank};
+ghost use Rattle.sw_map.specs.States.{seat_of};
 ghost use Rattle.sw_query.specs.declared.refusal.Refusal.TheVariants.{NoMemory};
 
 use std::alloc::Global;
@@ -12,7 +14,9 @@ use sw_solo::Solo;
 
 /// So many blank maps, each with a purse of one budget of so many cells. The one refusal is `NoMemory`.
 fn blank_boxes(alloc: Global, cells: u64, many: u64) -> Result<Vec<PairMap>, Refusal>
+    ensures many { IfOk result (λ maps. length maps.items ≡ many) }
     ensures blank { IfOk result (λ maps. All (λ m. ⟦<PairMap as CrackerMap>⟧.held m ≡ blank) maps.items) }
+    ensures budget { IfOk result (λ maps. (b : _) × All (λ m. seat_of m.home ≡ empty b cells) maps.items) }
     ensures refused { IsOkUnless result NoMemory }
 {
     let Ok((_budget, mut purse)) = Budget::open(alloc, cells) else {

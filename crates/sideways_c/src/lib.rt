@@ -1,7 +1,7 @@
 //! The engine for callers that are not Rattle: what bindings/c/sideways.h declares.
 //!
-//! Each export's clause says what its call makes of what the handle shows: the engine, the text that was kept last, and the
-//! rows of the last select. No export asks for more than its types do: what C could get wrong is told by a code.
+//! Each export's clause says what its call makes of what the handle shows: the engine, and the text and the rows that were
+//! kept last. No export asks for more than its types do: what C could get wrong is told by a code.
 #![tactic(auto)]
 
 mod asking;

@@ -120,7 +120,6 @@ fn opened_handle(
 }
 
 /// A handle of the engine over the table of these bytes.
-#[tactic(auto, using(crate::proofs::Opens::fails_any))]
 fn from_bytes(alloc: Global, table: &[u8], over: Over<'_>) -> Result<Sideways, Refusal>
     requires { AreSound over.options }
     ensures { IsHandleOr (table_of table.now) over.entry.cuts.now over.entry.options.limit result }
@@ -132,7 +131,6 @@ fn from_bytes(alloc: Global, table: &[u8], over: Over<'_>) -> Result<Sideways, R
 }
 
 /// A handle of the engine over the table of these columns.
-#[tactic(auto, using(crate::proofs::Opens::fails_any))]
 fn from_columns(alloc: Global, table: Given<'_>, over: Over<'_>) -> Result<Sideways, Refusal>
     requires { AreSound over.options }
     ensures { IsHandleOr (table_in table.entry) over.entry.cuts.now over.entry.options.limit result }

@@ -34,7 +34,6 @@ fn told(read: Result<(), Refusal>) -> (u32, Place)
 }
 
 /// That bytes are a table.
-#[tactic(auto, using(crate::proofs::Opens::fails_any))]
 fn read_bytes(alloc: Global, table: &[u8]) -> Result<(), Refusal>
     ensures { ReadsTable (table_of table.now) result }
 {
@@ -45,7 +44,6 @@ fn read_bytes(alloc: Global, table: &[u8]) -> Result<(), Refusal>
 }
 
 /// That columns are one.
-#[tactic(auto, using(crate::proofs::Opens::fails_any))]
 fn read_columns(alloc: Global, table: Given<'_>) -> Result<(), Refusal>
     ensures { ReadsTable (table_in table.entry) result }
 {

@@ -1,4 +1,4 @@
-//! What a handle stands for: an engine, the text that was kept last, and the rows of the last select.
+//! What a handle stands for: an engine, and the text and the rows that were kept last.
 
 ghost use Rattle.std.specs.Prelude.{◌≡◌, [], None, Some};
 ghost use Rattle.sideways_c.specs.Shown.{has_session};
@@ -9,7 +9,7 @@ use std::marker::Model;
 use sw_map::PairMap;
 use sw_solo::Solo;
 
-/// An engine while there is one, the text that was kept last, and the rows of the last select. Contracts see all three.
+/// An engine while there is one, and the text and the rows that were kept last. Contracts see all three.
 #[derive(Drop)]
 pub struct State {
     pub(crate) solo: Option<Solo<PairMap>>,

@@ -1,3 +1,4 @@
 pub mod Openings
 pub mod Orders
+pub mod Readings
 pub mod Steps

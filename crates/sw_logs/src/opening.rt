@@ -1,9 +1,11 @@
 //! The table that calls were made on.
 
-ghost use Rattle.std.specs.Prelude.{◌≡◌, ◌<◌, ◌≤◌, List, ℕ, IfOk, Ok};
+ghost use Rattle.std.specs.Prelude.{◌≡◌, ◌<◌, ◌≤◌, List, ℕ, IfErr, IfOk, IfSome, Ok, OnOk};
+ghost use Rattle.std.specs.Io.KnownBytes.{IsAtEnd};
 ghost use Rattle.sw_rows.specs.declared.table.TheConstants.{MOST_ROWS};
+ghost use Rattle.sw_rows.specs.Gives.{Raised, TellsSource};
 ghost use Rattle.sw_rows.specs.Tables.{table_of};
-ghost use Rattle.sw_logs.specs.Openings.{IsOpening, table_in};
+ghost use Rattle.sw_logs.specs.Openings.{IsOpening, OpensFrom, table_in};
 
 use std::alloc::Global;
 use sw_rows::{PackedRows, Refusal, Schema, Source, TextKey, load};
@@ -22,6 +24,7 @@ pub struct Opening {
 ///
 /// Refused as `load` is, and `TooMany` of the limit where there are more rows. The caller's condition: the limit is from
 /// 1 to 1,048,576.
+#[tactic(auto, using(crate::proofs::OpeningLemmas::load_refused, crate::proofs::OpeningLemmas::load_over, crate::proofs::OpeningLemmas::load_within))]
 pub fn read_opening<R: Source>(
     alloc: Global,
     key: TextKey,
@@ -30,6 +33,10 @@ pub fn read_opening<R: Source>(
 ) -> Result<Opening, Refusal>
     requires some { 0 < limit }
     requires most { limit ≤ MOST_ROWS }
+    ensures spelled { IfSome (R.left source.old) (OpensFrom limit (R.failed source.old) (R.failed source.new) result) }
+    ensures steady { OnOk result (R.failed source.new ≡ R.failed source.old) }
+    ensures told { IfErr result (TellsSource (Raised (R.failed source.old) (R.failed source.new))) }
+    ensures ended { OnOk result (IsAtEnd (R.left source.new)) }
     ensures opening { IfOk result IsOpening }
     ensures limit { IfOk result (λ o. o.limit ≡ limit) }
     ensures table { IfOk result (λ o. (bytes : List ℕ) × (table_of bytes ≡ Ok (table_in o))) }

@@ -1,7 +1,8 @@
 //! Sessions' logs are read.
 
-ghost use Rattle.std.specs.Prelude.{◌≡◌, length, IfOk, OnOk};
+ghost use Rattle.std.specs.Prelude.{◌≡◌, length, IfOk};
 ghost use Rattle.sw_logs.specs.Orders.{AllFit};
+ghost use Rattle.sw_logs.specs.Readings.{HasMore, KnowsMore};
 ghost use Rattle.sw_spine.specs.History.{CallsBelow};
 
 use crate::logged::{Logged, Origin};
@@ -165,11 +166,13 @@ fn frame_of(row: &ByteRecord, columns: &Columns) -> Result<Frame, Flaw> {
 }
 
 /// The call of a line, whose texts become known.
-#[tactic(auto, using(sw_lang::proofs::Known::Knowing::learned_width, sw_spine::proofs::Histories::fits_below))]
+#[tactic(auto, using(crate::proofs::ReadingLemmas::learned_more, crate::proofs::ReadingLemmas::same_more, sw_lang::proofs::Known::Knowing::learned_width, sw_spine::proofs::Histories::fits_below))]
 fn call_of(alloc: Global, schema: &mut Schema, origin: Origin, text: &str) -> Result<Call, Fault>
     ensures width { length schema.new ≡ length schema.old }
+    ensures learned { KnowsMore schema.old schema.new }
     ensures below { IfOk result (CallsBelow (length schema.new)) }
 {
+    let _count = schema.len();
     match parse_line(alloc, schema, 1, text) {
         Ok(Some(call)) => Ok(call),
         Ok(None) => Err(Fault::Record {
@@ -195,6 +198,7 @@ fn flawed(origin: Origin, flaw: Flaw) -> Fault {
 }
 
 /// The call of a record.
+#[tactic(auto, using(crate::proofs::ReadingLemmas::same_more))]
 fn logged_of(
     alloc: Global,
     schema: &mut Schema,
@@ -203,8 +207,10 @@ fn logged_of(
     row: &ByteRecord,
 ) -> Result<Logged, Fault>
     ensures width { length schema.new ≡ length schema.old }
+    ensures learned { KnowsMore schema.old schema.new }
     ensures below { IfOk result (λ c. CallsBelow (length schema.new) c.call) }
 {
+    let _count = schema.len();
     let frame = match frame_of(row, columns) {
         Ok(frame) => frame,
         Err(flaw) => return Err(flawed(origin, flaw)),
@@ -241,7 +247,7 @@ fn next_record(rdr: &mut Reader<&[u8]>, row: &mut ByteRecord) -> Result<bool, Fa
 }
 
 /// Adds the calls of a log's records behind its header.
-#[tactic(auto, using(crate::proofs::OrderLemmas::fit_push))]
+#[tactic(auto, using(crate::proofs::ReadingLemmas::same_more, crate::proofs::ReadingLemmas::none_more))]
 fn add_records(
     alloc: Global,
     schema: &mut Schema,
@@ -250,8 +256,12 @@ fn add_records(
     calls: &mut Vec<Logged>,
 ) -> Result<(), Fault>
     requires { AllFit (length schema.old) calls.old.items }
-    ensures { OnOk result (AllFit (length schema.new) calls.new.items) }
+    ensures width { length schema.new ≡ length schema.old }
+    ensures learned { KnowsMore schema.old schema.new }
+    ensures kept { HasMore calls.old.items calls.new.items }
+    ensures fit { AllFit (length schema.new) calls.new.items }
 {
+    let _count = schema.len();
     let mut row = ByteRecord::new(alloc);
     if !next_record(rdr, &mut row)? {
         return Err(flawed(Origin { log, record: 0 }, Flaw::Columns));
@@ -281,7 +291,9 @@ fn add_records(
 ///
 /// A log is a text of comma-separated values. Its header has the columns `session`, `start`, `end`, `call` and `reply`,
 /// in any order; others are ignored. Refused with the log's number, as it is given, and the record where a record is
-/// none; calls of the records before it stand then.
+/// none; calls of the records before it stand then, and their texts are known. Answered or refused, the calls that were
+/// there stand before the new ones, and of the attributes nothing has changed but that they know more texts.
+#[tactic(auto, using(crate::proofs::ReadingLemmas::same_more, crate::proofs::ReadingLemmas::none_more))]
 pub fn read_log<R: Source>(
     alloc: Global,
     schema: &mut Schema,
@@ -290,8 +302,12 @@ pub fn read_log<R: Source>(
     calls: &mut Vec<Logged>,
 ) -> Result<(), Fault>
     requires { AllFit (length schema.old) calls.old.items }
-    ensures { OnOk result (AllFit (length schema.new) calls.new.items) }
+    ensures width { length schema.new ≡ length schema.old }
+    ensures learned { KnowsMore schema.old schema.new }
+    ensures kept { HasMore calls.old.items calls.new.items }
+    ensures fit { AllFit (length schema.new) calls.new.items }
 {
+    let _count = schema.len();
     let bytes = match read_all(alloc, source, MOST_BYTES) {
         Ok(bytes) => bytes,
         Err(Refusal::Input) => return Err(Fault::Input { log }),
