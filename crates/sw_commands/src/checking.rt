@@ -1,6 +1,7 @@
 //! The check of a history file.
 
-ghost use Rattle.std.specs.Prelude.{◌≡◌, ◌⊎◌, IfOk};
+ghost use Rattle.std.specs.Prelude.{List, ℕ, IfOk};
+ghost use Rattle.sw_commands.specs.Statuses.{IsStatusOf};
 
 use crate::inputs::Place;
 use crate::origins::Origins;
@@ -43,7 +44,7 @@ fn explain_from<W: Sink>(
     origins: &Origins,
     out: &mut W,
 ) -> Result<u8, Refusal>
-    ensures { IfOk result (λ status. (status ≡ 0) ⊎ (status ≡ 1)) }
+    ensures { IfOk result (IsStatusOf bytes.now) }
 {
     let mut told = Counted::new(Vec::new(alloc));
     let status = match explain_file(alloc, key, bytes, &mut told) {
@@ -69,7 +70,7 @@ fn check_bytes<R: Files + RandomSource + Print>(
     telling: Telling<'_>,
     reader: &Reader,
 ) -> Result<u8, Refusal>
-    ensures { IfOk result (λ status. (status ≡ 0) ⊎ (status ≡ 1)) }
+    ensures { IfOk result (IsStatusOf bytes.now) }
 {
     let key = TextKey::new(rt)?;
     let mut out = Counted::new(Outflow::new(io::writer(rt), reader));
@@ -115,7 +116,7 @@ pub fn check_path<R: Files + RandomSource + Print>(
     telling: Telling<'_>,
     words: &mut Option<String>,
 ) -> Result<u8, Refusal>
-    ensures { IfOk result (λ status. (status ≡ 0) ⊎ (status ≡ 1)) }
+    ensures { IfOk result (λ status. (bytes : List ℕ) × IsStatusOf bytes status) }
 {
     let place = Place::new(path);
     let bytes = match read_file(rt, alloc, place.path()) {
