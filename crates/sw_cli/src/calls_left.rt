@@ -38,6 +38,7 @@ impl CallsLeft {
     /// The next call, which is not left then.
     pub(crate) fn next(&mut self) -> Option<Call>
         ensures none { result ≡ None → self.old ≡ [] }
+        ensures left { result ≡ None → self.new ≡ [] }
         ensures some { IfSome result (λ call. self.old ≡ call ∷ self.new) }
     {
         let call = self.turned.pop()?;

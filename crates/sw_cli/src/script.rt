@@ -50,7 +50,8 @@ impl Block {
 
     /// The calls, all of which are still to be made. None are left in the block.
     pub(crate) fn take(&mut self) -> CallsLeft
-        ensures { result ≡ self.old }
+        ensures calls { result ≡ self.old }
+        ensures left { self.new ≡ [] }
     {
         let none = Vec::new(*self.calls.allocator());
         CallsLeft::of(replace(&mut self.calls, none))

@@ -1,6 +1,6 @@
 //! A run over files.
 
-ghost use Rattle.std.specs.Prelude.{◌≡◌, ◌⊎◌, IfOk};
+ghost use Rattle.std.specs.Prelude.{◌≡◌, ◌⊎◌, IfOk, if◌then◌else◌};
 
 use crate::logging::{Times, Watch, keep_log};
 use std::alloc::Global;
@@ -235,14 +235,14 @@ fn tell<R: Clock + Eprint, E: Sink>(
 const REFUSED: &[u8] = b"sideways: calls were refused; --output lines shows which\n";
 
 /// What is left to do after a run whose files were written: to tell of refused calls that have no line, and what the heads tell where
-/// that is asked. Answers the exit status.
+/// that is asked. Answers the exit status: 3 where a call was refused, else 0.
 fn finish<R: Clock + Eprint, E: Sink>(
     run: &Run<'_>,
     ended: &Ended,
     seen: &Seen<'_, R>,
     errors: &mut E,
 ) -> Result<u8, Refusal>
-    ensures { IfOk result (λ status. (status ≡ 0) ⊎ (status ≡ 3)) }
+    ensures { IfOk result (λ status. status ≡ (if ended.now.has_refused then 3 else 0)) }
 {
     if ended.has_refused && run.form != Form::Lines {
         write_all(errors, REFUSED)?;

@@ -171,4 +171,5 @@ pub record IsLeft (columns : List Column) (rows : List Row) (limit : ℕ) (old n
   pub last : Seen
   pub talked : Talked failure (seen (said columns [] old.taken) old.left) last
   pub wrote : last.said.taken ≡ new.taken
+  pub left : last.left ≡ new.left
   pub history : IsHistoryOfOneThread last.said.columns rows limit ((1, last.said.made) ∷ []) h

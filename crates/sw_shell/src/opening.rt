@@ -1,6 +1,6 @@
 //! A shell over a table that was read, from its first line to its record.
 
-ghost use Rattle.std.specs.Prelude.{◌≡◌, ◌<◌, ◌≤◌, ◌∷◌, [], ℕ, true, length, All, IfOk, IsOkUnless, vec_capacity};
+ghost use Rattle.std.specs.Prelude.{◌≡◌, ◌<◌, ◌≤◌, ◌∷◌, [], ℕ, true, length, All, IfOk, IsOkUnless, OnErr, vec_capacity};
 ghost use Rattle.sw_map.specs.Held.{blank};
 ghost use Rattle.sw_lang.specs.Cuts.{AreCuts, cuts_on};
 ghost use Rattle.sw_query.specs.declared.refusal.Refusal.TheVariants.{NoMemory};
@@ -126,28 +126,27 @@ fn opened_engine<J: Naming, M: CrackerMap, R: Wait>(
     }
 }
 
-/// Closes the engine of a shell: its record, over the attributes that know the texts. The one refusal is `NoMemory`.
+/// Closes the engine of a shell: its record, over the attributes that know the texts. Its ticket is all that there may be, so it
+/// is not refused.
 fn closed<J: Naming, M: CrackerMap, R: Wait>(
     rt: &R,
     engine: Engine<J, M>,
     mut tickets: Vec<Ticket<J>>,
     ticket: Ticket<J>,
     schema: Schema,
-) -> Result<Record, Refusal>
+) -> Record
     requires none { tickets.items ≡ [] }
     requires room { 1 ≤ vec_capacity tickets }
+    requires all { (J.most ≡ 1) × (ticket.0 ≡ 1) }
     requires wide { length schema ≡ length J.columns }
-    ensures history { IfOk result (IsHistoryOfOneThread schema J.opening J.limit ((ticket.0, ticket.1) ∷ [])) }
-    ensures refused { IsOkUnless result NoMemory }
+    ensures { IsHistoryOfOneThread schema J.opening J.limit ((ticket.0, ticket.1) ∷ []) result }
 {
     tickets.push_reserved(ticket);
-    match engine.close(rt, tickets) {
-        Ok(record) => Ok(with_columns(record, schema)),
-        Err(_) => Err(Refusal::NoMemory),
-    }
+    let record = engine.close(rt, tickets).unwrap();
+    with_columns(record, schema)
 }
 
-/// Talks over an engine of these names. The one refusal is `NoMemory`.
+/// Talks over an engine of these names. The one refusal is `NoMemory`, before the first line.
 fn talk_by<J, M, R, B, W, H>(
     rt: &R,
     alloc: Global,
@@ -166,7 +165,9 @@ where
     requires list { books.list.seen.book ≡ J.book }
     requires table { (loaded.columns ≡ J.columns) × (loaded.rows.items ≡ J.opening) × (loaded.room.limit ≡ J.limit) }
     requires blank { All (λ m. M.held m ≡ blank) loaded.room.maps.items }
+    requires all { J.most ≡ 1 }
     ensures left { IfOk result (IsLeftBy loaded.schema J.opening J.limit console.old console.new) }
+    ensures quiet { OnErr result (console.new ≡ console.old) }
     ensures refused { IsOkUnless result NoMemory }
 {
     let Ok(back) = Vec::with_capacity(alloc, 1) else {
@@ -176,10 +177,8 @@ where
     let mut seat = Seat::new(alloc, &engine, ticket, schema);
     let failure = talk(rt, alloc, &mut seat, console);
     let (ticket, schema) = seat.end();
-    match closed(rt, engine, back, ticket, schema) {
-        Ok(history) => Ok(Ended { history, failure }),
-        Err(refusal) => Err(refusal),
-    }
+    let history = closed(rt, engine, back, ticket, schema);
+    Ok(Ended { history, failure })
 }
 
 /// A shell over a table that was read.
@@ -197,9 +196,10 @@ where
     H: Host + Drop,
     requires blank { All (λ m. M.held m ≡ blank) loaded.room.maps.items }
     ensures left { IfOk result (IsLeftBy loaded.schema loaded.rows.items loaded.room.limit console.old console.new) }
+    ensures quiet { OnErr result (console.new ≡ console.old) }
     ensures refused { IsOkUnless result NoMemory }
 {
-    talk_by::<Brand, M, R, B, W, H>(rt, alloc, Blank::new(), loaded, console)
+    talk_by::<Brand, M, R, B, W, H>(rt, alloc, Blank::for_sessions(1), loaded, console)
 }
 
 /// A table and cuts, read as a run without a script reads them.
@@ -240,6 +240,7 @@ where
     requires sound { IsStart room.limit (start_seen opened) }
     requires blank { All (λ m. M.held m ≡ blank) room.maps.items }
     ensures left { IfOk result (IsLeftBy opened.schema opened.rows.items room.limit console.old console.new) }
+    ensures quiet { OnErr result (console.new ≡ console.old) }
     ensures refused { IsOkUnless result NoMemory }
 {
     match load(alloc, opened, room) {
@@ -255,9 +256,9 @@ where
 /// shell (`Command`). What cannot be read as either is told to the host, and changes nothing; the texts of a line that is a
 /// call become known, and keep their codes. A call that is refused writes `refused` and the refusal's number, as in a run.
 ///
-/// Refused as a run is before its first call; and `NoMemory` for want of memory then. A failure of the reader (`Input`), of the
-/// sink (`Output`) or of the host ends the shell, and is told beside the record. The caller's conditions are those of
-/// `run_with`.
+/// Refused as a run is before its first call; and `NoMemory` for want of memory then. Where it is refused, no line was read and
+/// nothing was written. A failure of the reader (`Input`), of the sink (`Output`) or of the host ends the shell, and is told beside
+/// the record. The caller's conditions are those of `run_with`.
 #[tactic(auto, using(crate::proofs::Shelling::legal_by))]
 pub fn converse<M, R, T, B, W, H>(
     rt: &R,
@@ -279,6 +280,7 @@ where
     requires blank { All (λ m. M.held m ≡ blank) maps.items }
     ensures shelled { Shells options.now (source_by T.Source table.old table.new)
         console.old console.new result }
+    ensures quiet { OnErr result (console.new ≡ console.old) }
     ensures legal { IfOk result (λ e. IsLegal e.history) }
 {
     let limit = options.limit;
