@@ -53,12 +53,16 @@ longest_within (suc n) cell = if is_text (take (suc n) cell) then take (suc n) c
 abbrev pub longest_text : List ℕ → List ℕ
 longest_text cell = longest_within (min (length cell) MOST_BYTES_OF_TEXT) cell
 
--- a cell that may be no text of a cell
+-- a cell of UTF-8 that may be no text of a cell
+abbrev pub long_text : Long → List ℕ → Outcome
+long_text long.Refuse cell = Refused
+long_text long.Cut cell = Written (longest_text cell)
+long_text long.Drop cell = LeftOut
+long_text long.Number cell = Refused
+
+-- a cell that may be no text of a cell: one that is not UTF-8 is refused, whatever was chosen
 abbrev pub long_cell : Long → List ℕ → Outcome
-long_cell long.Refuse cell = Refused
-long_cell long.Cut cell = Written (longest_text cell)
-long_cell long.Drop cell = LeftOut
-long_cell long.Number cell = Refused
+long_cell l cell = if is_utf8 cell then long_text l cell else Refused
 
 -- a cell that has a value: a number as it stands, a flag in lower case, the number of a time or of a text, or a text
 abbrev pub value_cell : Long → Form → List (List ℕ) → List ℕ → Outcome

@@ -8,7 +8,7 @@ ghost use Rattle.sw_rows.specs.Texts.{is_text};
 ghost use Rattle.sw_import.specs.Forms.{flag_of};
 ghost use Rattle.sw_import.specs.declared.forms.Form.TheVariants as form;
 ghost use Rattle.sw_import.specs.declared.rules.Long.TheVariants as long;
-ghost use Rattle.sw_import.specs.Made.{Refused, Written, cell_made, flag_text, if_some, is_plain_byte, long_cell, longest_text, outcome_of, value_cell};
+ghost use Rattle.sw_import.specs.Made.{Refused, Written, cell_made, flag_text, if_some, is_plain_byte, long_cell, long_text, longest_text, outcome_of, value_cell};
 
 use crate::dates::{days_of, seconds_of};
 use crate::dictionary::Dictionary;
@@ -105,14 +105,24 @@ fn longest_text(cell: &[u8]) -> &[u8]
     &[]
 }
 
-/// What is written of a cell that is too long for a text, or has bytes that no text has.
+/// What is written of a cell of UTF-8 that is too long for a text, or has bytes that no text has.
 fn long_made(long: Long, cell: &[u8]) -> Made<'_>
-    ensures { outcome_of result ≡ long_cell long cell.now }
+    ensures { outcome_of result ≡ long_text long cell.now }
 {
     match long {
         Long::Cut => Made::Bytes(longest_text(cell)),
         Long::Drop => Made::LeftOut,
         Long::Refuse | Long::Number => Made::Refused,
+    }
+}
+
+/// What is written of a cell that is no text: one that is not UTF-8 is refused, whatever was chosen.
+fn no_text_made(long: Long, cell: &[u8]) -> Made<'_>
+    ensures { outcome_of result ≡ long_cell long cell.now }
+{
+    match utf8_of(cell) {
+        Some(_) => long_made(long, cell),
+        None => Made::Refused,
     }
 }
 
@@ -123,7 +133,7 @@ fn text_made(long: Long, cell: &[u8]) -> Made<'_>
     if is_text(cell) {
         Made::Bytes(cell)
     } else {
-        long_made(long, cell)
+        no_text_made(long, cell)
     }
 }
 
