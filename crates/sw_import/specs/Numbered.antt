@@ -1,7 +1,12 @@
 -- The texts for which numbers stand in a table, as they are told.
-use Rattle.std.specs.Prelude.{◌+◌, ℕ, List, [], ◌∷◌, codes, decimal, slice_index_or}
+use Rattle.std.specs.Prelude.{◌+◌, ◌++◌, if◌then◌else◌, ℕ, List, [], ◌∷◌, codes, decimal, slice_index_or}
 use Rattle.std.specs.List.{flat_map}
+use Rattle.sw_rows.specs.Texts.{has_text}
 use Rattle.sw_import.specs.declared.planning.Planned.{Planned}
+
+-- texts and one more: a new one comes last, and a known one changes nothing
+abbrev pub learned : List (List ℕ) → List ℕ → List (List ℕ)
+learned texts text = if has_text texts text then texts else texts ++ text ∷ []
 
 -- the record of the headings
 abbrev pub dictionary_heading : List (List ℕ)

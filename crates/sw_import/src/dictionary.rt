@@ -1,7 +1,8 @@
 //! Texts for which numbers are written.
 
-ghost use Rattle.std.specs.Prelude.{[], ◌≡◌, length, option_map};
-ghost use Rattle.sw_rows.specs.Texts.{code_of, has_text, text_of};
+ghost use Rattle.std.specs.Prelude.{[], ◌≡◌, length, option_map, OnErr, OnOk};
+ghost use Rattle.sw_rows.specs.Texts.{code_of, text_of};
+ghost use Rattle.sw_import.specs.Numbered.{learned};
 
 use indexmap::IndexSet;
 use std::alloc::{AllocError, Global};
@@ -46,11 +47,6 @@ impl Dictionary {
         self.texts.len()
     }
 
-    /// Whether there is no text.
-    pub fn is_empty(&self) -> bool {
-        self.len() == 0
-    }
-
     /// The text of a number, if one has it.
     pub fn text(&self, number: usize) -> Option<&str>
         ensures { option_map (λ text. text.now) result ≡ text_of self.now number }
@@ -69,8 +65,12 @@ impl Dictionary {
         Some(place as u64 + 1)
     }
 
-    /// Adds a text, where it is new.
-    pub(crate) fn add(&mut self, text: &str) -> Result<(), AllocError> {
+    /// Adds a text: a new one comes last, and a known one changes nothing. The one error is that there is no memory; then nothing
+    /// has changed.
+    pub(crate) fn add(&mut self, text: &str) -> Result<(), AllocError>
+        ensures added { OnOk result (self.new ≡ learned self.old text.now) }
+        ensures refused { OnErr result (self.new ≡ self.old) }
+    {
         if self.texts.contains(text) {
             return Ok(());
         }

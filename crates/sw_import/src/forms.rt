@@ -1,9 +1,9 @@
 //! What the cells of a column are, and how each is written.
 
-ghost use Rattle.std.specs.Prelude.{[], ◌≡◌, is_some};
+ghost use Rattle.std.specs.Prelude.{[], ◌≡◌, is_some, slice_index_or};
 ghost use Rattle.sw_rows.specs.Cells.{HasPlaces, cell_value};
 ghost use Rattle.sw_rows.specs.Domains.{domain};
-ghost use Rattle.sw_import.specs.Forms.{begins_plainly, domain_of, fits, flag_of, number_domain, number_word, takes_blanks, word_of};
+ghost use Rattle.sw_import.specs.Forms.{begins_plainly, domain_of, fits, flag_of, forms_tried, number_domain, number_word, takes_blanks, word_of};
 
 use crate::dates::{days_of, seconds_of};
 use crate::rules::Times;
@@ -194,7 +194,9 @@ pub const TRIED: usize = 9;
 
 /// The form that is tried at a place, from the most special: numbers without decimals, with at most one, and so on to
 /// six, flags, and times where they are wanted.
-pub fn tried(place: usize, times: Times) -> Form {
+pub fn tried(place: usize, times: Times) -> Form
+    ensures { result ≡ slice_index_or (forms_tried times) place Form.Text }
+{
     match place {
         0 => Form::Number(0),
         1 => Form::Number(1),
