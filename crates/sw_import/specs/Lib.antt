@@ -5,5 +5,6 @@ pub mod Imports
 pub mod Made
 pub mod Numbered
 pub mod Pages
+pub mod Planning
 pub mod Records
 pub mod Taken

@@ -59,7 +59,8 @@ fn is_taken(names: &[Name], name: &[u8]) -> bool {
 
 /// A name of these bytes, where they are one that no column has.
 fn free_name(alloc: Global, names: &[Name], bytes: &[u8]) -> Result<Option<Name>, AllocError>
-    ensures { IfOk result (λ found. IfSome found (λ name. is_name name ≡ true)) }
+    ensures name { IfOk result (λ found. IfSome found (λ name. is_name name ≡ true)) }
+    ensures same { IfOk result (λ found. IfSome found (λ name. name ≡ bytes.now)) }
 {
     if !is_name(bytes) || is_taken(names, bytes) {
         return Ok(None);
@@ -86,7 +87,9 @@ pub(crate) fn name_of(alloc: Global, names: &[Name], heading: &[u8]) -> Result<N
 }
 
 /// A name that is asked for, of a column beside others.
-pub(crate) fn name_asked(alloc: Global, names: &[Name], asked: &[u8]) -> Result<Name, Fault> {
+pub(crate) fn name_asked(alloc: Global, names: &[Name], asked: &[u8]) -> Result<Name, Fault>
+    ensures { IfOk result (λ name. name ≡ asked.now) }
+{
     if let Some(name) = free_name(alloc, names, asked)? {
         return Ok(name);
     }

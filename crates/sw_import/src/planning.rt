@@ -1,5 +1,8 @@
 //! What becomes of each column, from what was seen of its cells.
 
+ghost use Rattle.std.specs.Prelude.{◌≡◌, IfSome};
+ghost use Rattle.sw_import.specs.Planning.{form_under, with_blanks, with_longs};
+
 use crate::columns::Column;
 use crate::dictionary::Dictionary;
 use crate::evidence::{Evidence, Tally};
@@ -44,20 +47,38 @@ impl Planned {
     }
 }
 
+/// What a column of a form is taken for, so many of whose cells have no value: texts, where that was chosen and the form does
+/// not take them.
+fn with_blanks(rules: &Rules<'_>, count: u64, form: Form) -> Form
+    ensures { result ≡ with_blanks rules.now.blank count form }
+{
+    match rules.blank {
+        Blank::Text if count > 0 && !form.takes_blanks() => Form::Text,
+        _ => form,
+    }
+}
+
+/// What a column of a form is taken for, so many of whose cells are too long for texts: numbers for texts, where that was
+/// chosen and it is one of texts.
+fn with_longs(rules: &Rules<'_>, count: u64, form: Form) -> Form
+    ensures { result ≡ with_longs rules.now.long count form }
+{
+    match (rules.long, form) {
+        (Long::Number, Form::Text) if count > 0 => Form::Code,
+        _ => form,
+    }
+}
+
 /// What a column is taken for: what was asked for; else what its cells are.
-fn form_of(rules: &Rules<'_>, column: &Column, evidence: &Evidence) -> Form {
+fn form_of(rules: &Rules<'_>, column: &Column, evidence: &Evidence) -> Form
+    ensures given { IfSome column.now.given (λ form. result ≡ form_under rules.now evidence.now form) }
+{
     let form = match column.given {
         Some(form) => form,
         None => evidence.found(rules.times),
     };
-    let form = match rules.blank {
-        Blank::Text if evidence.blank.count > 0 && !form.takes_blanks() => Form::Text,
-        _ => form,
-    };
-    match form {
-        Form::Text if rules.long == Long::Number && evidence.long.count > 0 => Form::Code,
-        _ => form,
-    }
+    let form = with_blanks(rules, evidence.blank.count, form);
+    with_longs(rules, evidence.long.count, form)
 }
 
 /// What becomes of columns.
