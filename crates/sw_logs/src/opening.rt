@@ -1,7 +1,8 @@
 //! The table that calls were made on.
 
-ghost use Rattle.std.specs.Prelude.{◌≡◌, ◌<◌, ◌≤◌, List, ℕ, IfOk, Ok};
+ghost use Rattle.std.specs.Prelude.{◌≡◌, ◌<◌, ◌≤◌, List, ℕ, IfErr, IfOk, Ok};
 ghost use Rattle.sw_rows.specs.declared.table.TheConstants.{MOST_ROWS};
+ghost use Rattle.sw_rows.specs.Gives.{Raised, TellsSource};
 ghost use Rattle.sw_rows.specs.Tables.{table_of};
 ghost use Rattle.sw_logs.specs.Openings.{IsOpening, table_in};
 
@@ -33,6 +34,7 @@ pub fn read_opening<R: Source>(
     ensures opening { IfOk result IsOpening }
     ensures limit { IfOk result (λ o. o.limit ≡ limit) }
     ensures table { IfOk result (λ o. (bytes : List ℕ) × (table_of bytes ≡ Ok (table_in o))) }
+    ensures told { IfErr result (TellsSource (Raised (R.failed source.old) (R.failed source.new))) }
 {
     let (schema, rows) = match load(alloc, key, source) {
         Ok(found) => found,
