@@ -6,7 +6,7 @@ use Rattle.sw_rows.specs.declared.table.TheConstants.{MOST_ROWS}
 use Rattle.sw_import.specs.Forms.{word_of}
 use Rattle.sw_import.specs.Made.{Fault, Kept, NoRow, Row, Source, row_made, sources_of}
 use Rattle.sw_import.specs.Pages.{text_of}
-use Rattle.sw_import.specs.Records.{records_of}
+use Rattle.sw_import.specs.Records.{are_even, records_of, width_of}
 use Rattle.sw_import.specs.declared.importing.How.{How}
 use Rattle.sw_import.specs.declared.importing.Imported.{Imported}
 use Rattle.sw_import.specs.declared.planning.Planned.{Planned}
@@ -95,7 +95,9 @@ pub record AreWritten (rules : Rules) (plan : List Planned) (sample : Option ℕ
   pub rows : count ≡ length (rows_made rules (sources_of plan) taken)
   pub left_out : (place : ℕ) → place < length plan → told_for place done ≡ left_out_for place rules (sources_of plan) taken
 
--- What was made of a text: its rows are written by the columns of the plan, and as many are told as read as there are.
+-- What was made of a text: its rows have as many fields as its first record, or fewer where those are filled, they are written by
+-- the columns of the plan, and as many are told as read as there are.
 pub record IsImportOf (how : How) (text : List ℕ) (made : Imported) : Type 0 where
+  pub even : are_even how.fills_short (width_of how.delimiter text) (rows_in how.has_header how.delimiter text) ≡ true
   pub read : made.read ≡ length (rows_in how.has_header how.delimiter text)
   pub written : AreWritten how.rules made.plan.items how.sample (rows_in how.has_header how.delimiter text) made.bytes.items made.written made.done.items

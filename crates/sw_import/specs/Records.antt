@@ -1,5 +1,6 @@
 -- The records of a text, and what a reader over memory has left of them.
-use Rattle.std.specs.Prelude.{◌≡◌, ◌+◌, ◌∷◌, if◌then◌else◌, ℕ, Bool, true, false, List, [], length, Option, Some}
+use Rattle.std.specs.Prelude.{◌≡◌, ◌+◌, ◌∷◌, ◌||◌, ◌&&◌, if◌then◌else◌, ℕ, Bool, true, false, List, [], length, nat_eq, nat_lt, Option, Some, slice_index_or}
+use Rattle.std.specs.List.{list_all}
 use Rattle.std.specs.Option.{option_map_or}
 use denote.Ref.{Bor}
 use Rattle.csv.specs.declared.parser.Config.{Config}
@@ -16,6 +17,18 @@ divided_by delimiter = record default_config { delimiter = delimiter }
 -- the records of a text
 abbrev pub records_of : ℕ → List ℕ → List (List (List ℕ))
 records_of delimiter text = records (divided_by delimiter) (strip_bom text)
+
+-- how many fields the first record of a text has
+abbrev pub width_of : ℕ → List ℕ → ℕ
+width_of delimiter text = length (slice_index_or (records_of delimiter text) 0 [])
+
+-- a record may have so many fields where the first has this many: as many, or fewer where short ones are filled
+abbrev pub takes_fields : Bool → ℕ → ℕ → Bool
+takes_fields fills width fields = nat_eq fields width || (nat_lt fields width && fills)
+
+-- the same of all these records
+abbrev pub are_even : Bool → ℕ → List (List (List ℕ)) → Bool
+are_even fills width records = list_all (λ r. takes_fields fills width (length r)) records
 
 -- the records of a text from a state
 abbrev pub records_at : Config → State → List ℕ → List (List (List ℕ))

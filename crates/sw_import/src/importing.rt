@@ -1,8 +1,9 @@
 //! A table is made of values.
 
-ghost use Rattle.std.specs.Prelude.{◌≡◌, ◌<◌, ◌^◌, length, vec_len, IfOk, OnOk};
+ghost use Rattle.std.specs.Prelude.{◌≡◌, ◌<◌, ◌^◌, true, length, vec_len, IfOk, OnOk};
+ghost use Rattle.csv.specs.Records.{fields_of};
 ghost use Rattle.sw_import.specs.Imports.{IsImportOf, IsTable};
-ghost use Rattle.sw_import.specs.Records.{IsOpen, records_left};
+ghost use Rattle.sw_import.specs.Records.{IsOpen, are_even, records_left, takes_fields, width_of};
 ghost use Rattle.sw_import.specs.Taken.{IsTableOfFew, rows_of};
 
 use crate::columns::{Asked, Column, columns_of, field};
@@ -97,7 +98,9 @@ impl<'a> Values<'a> {
     }
 
     /// Whether a record of so many fields is one of these.
-    fn takes(self, fields: usize) -> bool {
+    fn takes(self, fields: usize) -> bool
+        ensures { result ≡ takes_fields self.entry.fills_short self.entry.width fields }
+    {
         fields == self.width || (fields < self.width && self.fills_short)
     }
 
@@ -129,7 +132,9 @@ impl<'a> Values<'a> {
 }
 
 /// The headings of columns that have none: `column_1` and so on.
-fn headings(alloc: Global, count: usize) -> Result<ByteRecord, AllocError> {
+fn headings(alloc: Global, count: usize) -> Result<ByteRecord, AllocError>
+    ensures { IfOk result (λ header. length (fields_of header) ≡ count) }
+{
     let mut header = ByteRecord::new(alloc);
     for place in 0..count {
         let number = (place as u64).saturating_add(1);
@@ -145,7 +150,9 @@ fn read_first(
     how: &How<'_>,
     text: &[u8],
     first: &mut ByteRecord,
-) -> Result<bool, AllocError> {
+) -> Result<bool, AllocError>
+    ensures { IfOk result (λ found. found ≡ true → length (fields_of first.new) ≡ width_of how.now.delimiter text.now) }
+{
     let mut rdr = open(alloc, how.delimiter, text);
     next(&mut rdr, first)
 }
@@ -164,7 +171,9 @@ fn divider_of(
 }
 
 /// The record of the headings of a text.
-fn header_of(alloc: Global, how: &How<'_>, text: &[u8]) -> Result<ByteRecord, Fault> {
+fn header_of(alloc: Global, how: &How<'_>, text: &[u8]) -> Result<ByteRecord, Fault>
+    ensures { IfOk result (λ header. length (fields_of header) ≡ width_of how.now.delimiter text.now) }
+{
     let mut first = ByteRecord::new(alloc);
     match (read_first(alloc, how, text, &mut first)?, how.has_header) {
         (true, true) => Ok(first),
@@ -200,6 +209,7 @@ fn survey(
     requires { length seen.old ≡ length columns.now }
     ensures count { IfOk result (λ read. read ≡ length (rows_of values.entry)) }
     ensures few { OnOk result (length (rows_of values.entry) < 2 ^ 64) }
+    ensures even { OnOk result (are_even values.entry.fills_short values.entry.width (rows_of values.entry) ≡ true) }
 {
     let mut row = ByteRecord::new(alloc);
     let mut rdr = values.rows(alloc, &mut row)?;
@@ -338,6 +348,7 @@ fn make_under(
     text: &[u8],
     header: &ByteRecord,
 ) -> Result<Imported, Fault>
+    requires { length (fields_of header.now) ≡ width_of how.now.delimiter text.now }
     ensures { IfOk result (IsImportOf how.now text.now) }
 {
     let columns = columns_of(alloc, header, &how.asked)?;

@@ -1,5 +1,7 @@
 //! What is told where no order was found goes out as lines.
 
+ghost use Rattle.std.specs.Prelude.{IsOkUnless};
+
 use crate::telling::{Reached, Tried};
 use sw_lang::{write_all, write_number};
 use sw_logs::{Logged, Origin};
@@ -19,20 +21,28 @@ fn write_between<W: Sink>(
     text: &str,
     after: &str,
     out: &mut W,
-) -> Result<(), Refusal> {
+) -> Result<(), Refusal>
+    ensures { IsOkUnless result Refusal.Output }
+{
     write_all(out, before.as_bytes())?;
     write_all(out, text.as_bytes())?;
     write_all(out, after.as_bytes())
 }
 
 /// A number behind a text.
-fn write_counted<W: Sink>(before: &str, number: u64, out: &mut W) -> Result<(), Refusal> {
+fn write_counted<W: Sink>(before: &str, number: u64, out: &mut W) -> Result<(), Refusal>
+    ensures { IsOkUnless result Refusal.Output }
+{
     write_all(out, before.as_bytes())?;
     write_number(number, out)
 }
 
-/// Where a call was read.
-pub fn write_origin<W: Sink>(names: &[&str], origin: Origin, out: &mut W) -> Result<(), Refusal> {
+/// Writes where a call was read.
+///
+/// Refused `Output` where the sink fails; then a beginning went out.
+pub fn write_origin<W: Sink>(names: &[&str], origin: Origin, out: &mut W) -> Result<(), Refusal>
+    ensures { IsOkUnless result Refusal.Output }
+{
     write_all(out, name_of(names, origin.log).as_bytes())?;
     write_counted(" record ", origin.record, out)
 }
@@ -43,7 +53,9 @@ fn write_call_line<W: Sink>(
     logged: &Logged,
     call: &str,
     out: &mut W,
-) -> Result<(), Refusal> {
+) -> Result<(), Refusal>
+    ensures { IsOkUnless result Refusal.Output }
+{
     write_origin(names, logged.origin, out)?;
     write_counted(", session ", logged.session, out)?;
     write_counted(", from ", logged.start, out)?;
@@ -69,7 +81,9 @@ fn write_line_at<W: Sink>(
     lines: &[String],
     place: usize,
     out: &mut W,
-) -> Result<(), Refusal> {
+) -> Result<(), Refusal>
+    ensures { IsOkUnless result Refusal.Output }
+{
     match lines.get(place) {
         Some(line) => write_between(before, line.as_str(), "", out)?,
         None => write_between(before, "no more lines", "", out)?,
@@ -83,7 +97,9 @@ fn write_line_at<W: Sink>(
 }
 
 /// What a call was given and the list gives it, by its first line.
-fn write_same<W: Sink>(indent: &str, lines: &[String], out: &mut W) -> Result<(), Refusal> {
+fn write_same<W: Sink>(indent: &str, lines: &[String], out: &mut W) -> Result<(), Refusal>
+    ensures { IsOkUnless result Refusal.Output }
+{
     write_all(out, indent.as_bytes())?;
     write_line_at("given, as the list gives: ", lines, 0, out)
 }
@@ -94,7 +110,9 @@ fn write_replies<W: Sink>(
     logged: &Logged,
     expected: &[String],
     out: &mut W,
-) -> Result<(), Refusal> {
+) -> Result<(), Refusal>
+    ensures { IsOkUnless result Refusal.Output }
+{
     let Some(given) = &logged.reply else {
         write_all(out, indent.as_bytes())?;
         return write_all(out, b"outcome unknown\n");
@@ -117,7 +135,9 @@ fn write_tried<W: Sink>(
     tried: &Tried,
     indent: &str,
     out: &mut W,
-) -> Result<(), Refusal> {
+) -> Result<(), Refusal>
+    ensures { IsOkUnless result Refusal.Output }
+{
     match calls.get(tried.number) {
         Some(logged) => {
             write_call_line(names, logged, tried.call.as_str(), out)?;
@@ -133,7 +153,9 @@ fn write_others<W: Sink>(
     calls: &[Logged],
     others: &[Tried],
     out: &mut W,
-) -> Result<(), Refusal> {
+) -> Result<(), Refusal>
+    ensures { IsOkUnless result Refusal.Output }
+{
     if !others.is_empty() {
         write_all(out, b"calls that might come before it:\n")?;
     }
@@ -150,7 +172,9 @@ fn write_changes<W: Sink>(
     calls: &[Logged],
     changes: &[(usize, String)],
     out: &mut W,
-) -> Result<(), Refusal> {
+) -> Result<(), Refusal>
+    ensures { IsOkUnless result Refusal.Output }
+{
     if !changes.is_empty() {
         write_all(out, b"the last changes of its rows, the latest first:\n")?;
     }
@@ -164,7 +188,9 @@ fn write_changes<W: Sink>(
 }
 
 /// How many calls were placed.
-fn write_counts<W: Sink>(calls: &[Logged], reached: &Reached, out: &mut W) -> Result<(), Refusal> {
+fn write_counts<W: Sink>(calls: &[Logged], reached: &Reached, out: &mut W) -> Result<(), Refusal>
+    ensures { IsOkUnless result Refusal.Output }
+{
     write_counted(": ", reached.placed as u64, out)?;
     write_counted(" of ", calls.len() as u64, out)?;
     write_all(out, b" calls were placed at best\n")
@@ -180,7 +206,9 @@ pub fn write_reached<W: Sink>(
     calls: &[Logged],
     reached: &Reached,
     out: &mut W,
-) -> Result<(), Refusal> {
+) -> Result<(), Refusal>
+    ensures { IsOkUnless result Refusal.Output }
+{
     write_all(out, beginning.as_bytes())?;
     write_counts(calls, reached, out)?;
     if let Some(due) = &reached.due {

@@ -24,7 +24,9 @@ use sw_lang::write_reply;
 use sw_rows::{Call, Conds, Counted, Kind, Query, Refusal, Reply, Schema, Want};
 
 /// A want of memory as a refusal.
-pub(crate) fn no_memory(_error: AllocError) -> Refusal {
+pub(crate) fn no_memory(_error: AllocError) -> Refusal
+    ensures { result ≡ NoMemory }
+{
     Refusal::NoMemory
 }
 

@@ -1,6 +1,6 @@
 //! What the columns of a table have, as a table on a terminal and as JSON.
 
-ghost use Rattle.std.specs.Prelude.{◌<◌, length};
+ghost use Rattle.std.specs.Prelude.{◌≡◌, ◌⊎◌, ◌<◌, length, IfErr, IsOkUnless};
 
 use crate::cells::{cell_text, json_cell, json_text, no_memory, quoted_text};
 use std::alloc::{AllocError, Global};
@@ -25,6 +25,7 @@ fn extreme(
     cell: Option<i64>,
 ) -> Result<String, Refusal>
     requires { attr < length schema.now }
+    ensures { IsOkUnless result Refusal.NoMemory }
 {
     match cell {
         Some(cell) if schema.kind(attr) != Kind::Text => {
@@ -36,7 +37,9 @@ fn extreme(
 }
 
 /// Writes a word and blanks behind it, up to a width.
-fn write_padded<W: Sink>(word: &str, width: usize, out: &mut W) -> Result<(), Refusal> {
+fn write_padded<W: Sink>(word: &str, width: usize, out: &mut W) -> Result<(), Refusal>
+    ensures { IsOkUnless result Refusal.Output }
+{
     write_all(out, word.as_bytes())?;
     for _ in word.len()..width {
         write_all(out, b" ")?;
@@ -114,6 +117,7 @@ impl Words {
         column: &Column,
     ) -> Result<(), Refusal>
         requires { attr < length schema.now }
+        ensures { IsOkUnless result Refusal.NoMemory }
     {
         let least = extreme(alloc, schema, attr, column.least)?;
         let greatest = extreme(alloc, schema, attr, column.greatest)?;
@@ -124,7 +128,9 @@ impl Words {
     }
 
     /// Writes the words of one place of each list, or what stands over them.
-    fn write_line<W: Sink>(&self, place: usize, out: &mut W) -> Result<(), Refusal> {
+    fn write_line<W: Sink>(&self, place: usize, out: &mut W) -> Result<(), Refusal>
+        ensures { IsOkUnless result Refusal.Output }
+    {
         write_word("name", &self.names, place, out)?;
         write_word("kind", &self.kinds, place, out)?;
         write_word("distinct", &self.distinct, place, out)?;
@@ -139,7 +145,9 @@ fn write_word<W: Sink>(
     words: &[String],
     place: usize,
     out: &mut W,
-) -> Result<(), Refusal> {
+) -> Result<(), Refusal>
+    ensures { IsOkUnless result Refusal.Output }
+{
     write_padded(word_at(over, words, place), width_of(over, words), out)
 }
 
@@ -149,7 +157,9 @@ fn write_last<W: Sink>(
     words: &[String],
     place: usize,
     out: &mut W,
-) -> Result<(), Refusal> {
+) -> Result<(), Refusal>
+    ensures { IsOkUnless result Refusal.Output }
+{
     write_all(out, word_at(over, words, place).as_bytes())?;
     write_all(out, b"\n")
 }
@@ -166,7 +176,9 @@ fn word_at<'w>(over: &'w str, words: &'w [String], place: usize) -> &'w str {
 }
 
 /// The words of all attributes.
-fn words_of(alloc: Global, schema: &Schema, columns: &[Described]) -> Result<Words, Refusal> {
+fn words_of(alloc: Global, schema: &Schema, columns: &[Described]) -> Result<Words, Refusal>
+    ensures { IsOkUnless result Refusal.NoMemory }
+{
     let mut words = Words::new(alloc);
     for attr in 0..columns.len() {
         if attr < schema.len() {
@@ -185,6 +197,7 @@ fn write_frequent<W: Sink>(
     out: &mut W,
 ) -> Result<(), Refusal>
     requires { attr < length schema.now }
+    ensures { IfErr result (λ e. (e ≡ Refusal.NoMemory) ⊎ (e ≡ Refusal.Output)) }
 {
     if described.frequent.is_empty() {
         return Ok(());
@@ -212,7 +225,9 @@ pub fn write_description<W: Sink>(
     rows: usize,
     columns: &[Described],
     out: &mut W,
-) -> Result<(), Refusal> {
+) -> Result<(), Refusal>
+    ensures { IfErr result (λ e. (e ≡ Refusal.NoMemory) ⊎ (e ≡ Refusal.Output)) }
+{
     let words = words_of(alloc, schema, columns)?;
     write_all(out, b"rows ")?;
     write_number(rows as u64, out)?;
@@ -235,7 +250,9 @@ fn write_extreme<W: Sink>(
     attr: usize,
     cell: Option<i64>,
     out: &mut W,
-) -> Result<(), Refusal> {
+) -> Result<(), Refusal>
+    ensures { IfErr result (λ e. (e ≡ Refusal.NoMemory) ⊎ (e ≡ Refusal.Output)) }
+{
     match cell {
         Some(cell) => {
             let text = json_cell(alloc, schema, attr, cell).map_err(no_memory)?;
@@ -252,7 +269,9 @@ fn write_extremes<W: Sink>(
     attr: usize,
     column: &Column,
     out: &mut W,
-) -> Result<(), Refusal> {
+) -> Result<(), Refusal>
+    ensures { IfErr result (λ e. (e ≡ Refusal.NoMemory) ⊎ (e ≡ Refusal.Output)) }
+{
     write_all(out, b",\"least\":")?;
     write_extreme(alloc, schema, attr, column.least, out)?;
     write_all(out, b",\"greatest\":")?;
@@ -266,7 +285,9 @@ fn write_texts<W: Sink>(
     attr: usize,
     frequent: &[(i64, usize)],
     out: &mut W,
-) -> Result<(), Refusal> {
+) -> Result<(), Refusal>
+    ensures { IfErr result (λ e. (e ≡ Refusal.NoMemory) ⊎ (e ≡ Refusal.Output)) }
+{
     write_all(out, b",\"frequent\":[")?;
     let mut is_first = true;
     for (code, count) in frequent {
@@ -297,6 +318,7 @@ fn write_attribute<W: Sink>(
     out: &mut W,
 ) -> Result<(), Refusal>
     requires { attr < length schema.now }
+    ensures { IfErr result (λ e. (e ≡ Refusal.NoMemory) ⊎ (e ≡ Refusal.Output)) }
 {
     let Ok(name) = json_text(alloc, schema.name(attr)) else {
         return Err(Refusal::NoMemory);
@@ -324,7 +346,9 @@ pub fn write_json_description<W: Sink>(
     rows: usize,
     columns: &[Described],
     out: &mut W,
-) -> Result<(), Refusal> {
+) -> Result<(), Refusal>
+    ensures { IfErr result (λ e. (e ≡ Refusal.NoMemory) ⊎ (e ≡ Refusal.Output)) }
+{
     write_all(out, b"{\"rows\":")?;
     write_number(rows as u64, out)?;
     write_all(out, b",\"attributes\":[")?;
