@@ -16,12 +16,7 @@ fn name_of<'a>(names: &[&'a str], log: u64) -> &'a str {
 }
 
 /// A text between two others.
-fn write_between<W: Sink>(
-    before: &str,
-    text: &str,
-    after: &str,
-    out: &mut W,
-) -> Result<(), Refusal>
+fn write_between<W: Sink>(before: &str, text: &str, after: &str, out: &mut W) -> Result<(), Refusal>
     ensures { IsOkUnless result Refusal.Output }
 {
     write_all(out, before.as_bytes())?;
