@@ -1,5 +1,5 @@
 -- Rows that were read in parts, each part with records of its own from 1.
-use Rattle.std.specs.Prelude.{◌≡◌, ◌+◌, ◌≤◌, ◌==◌, ◌<◌, ◌^◌, All, get_or, if◌then◌else◌, ℕ, ℤ, pos, Bool, not, List, [], ◌∷◌, ◌++◌, length, map, nat_lt, slice_get, Some, Result, Ok, Err, IfSome, Option}
+use Rattle.std.specs.Prelude.{◌≡◌, ◌+◌, ◌≤◌, ◌==◌, ◌<◌, ◌^◌, All, get_or, if◌then◌else◌, ℕ, ℤ, pos, Bool, true, not, List, [], ◌∷◌, ◌++◌, length, map, nat_lt, slice_get, Some, Result, Ok, Err, IfSome, Option}
 use Rattle.std.specs.List.{list_all}
 use Rattle.csv.specs.Reading.{default_config, records}
 use Rattle.sw_rows.specs.Domains.{Domain, is_of_texts, under}
@@ -18,9 +18,18 @@ use Rattle.sw_table.specs.declared.row.Row.{Row}
 abbrev pub has_no_quote : List ℕ → Bool
 has_no_quote bytes = list_all (λ c. not (c == 34)) bytes
 
+-- where it is known that no byte is a double quote, none is
+abbrev pub IsKnownQuoteless : Bool → List ℕ → Type 0
+IsKnownQuoteless is_known bytes = is_known ≡ true → has_no_quote bytes ≡ true
+
 -- no byte order mark begins here
 abbrev pub begins_plain : List ℕ → Bool
 begins_plain bytes = not (get_or bytes 0 0 == 239)
+
+-- a part that may be read under these attributes
+abbrev pub MayBeRead : Bool → List Column → List ℕ → Type 0
+MayBeRead is_quoteless columns part =
+    IsKnownQuoteless is_quoteless part × (begins_plain part ≡ true) × (0 < length columns)
 
 -- few rows of n cells, of which each key can be raised
 pub record IsPart (n : ℕ) (part : Packed) : Type 0 where

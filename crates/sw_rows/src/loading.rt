@@ -5,6 +5,7 @@ ghost use Rattle.std.specs.Io.KnownBytes.{IsAtEnd};
 ghost use Rattle.sw_rows.specs.Gives.{Gives, Raised, TellsSource};
 ghost use Rattle.sw_rows.specs.Tables.{IsAllRead, IsLoaded, shown_packed, table_of};
 
+pub(crate) mod cuts;
 pub(crate) mod fronts;
 pub(crate) mod parts;
 pub(crate) mod text_parts;
@@ -25,11 +26,24 @@ pub const MOST_BYTES: usize = 268_435_456;
 /// How many bytes are read at once.
 const BLOCK: usize = 65536;
 
+/// Room for all bytes that may come is made where there are so many.
+const MANY: usize = 1_048_576;
+
 /// So many bytes of 0. The one error is that there is no memory for them.
 fn zeros(alloc: Global, many: usize) -> Result<Vec<u8>, AllocError>
     ensures { IfOk result (λ bytes. vec_len bytes ≡ many) }
 {
     vec![in alloc; 0u8; many]
+}
+
+/// Makes room for so many bytes in all, where there is memory for it: a page is taken when it is filled, and a list that
+/// has the room need not be moved.
+fn make_room(bytes: &mut Vec<u8>, many: usize)
+    ensures items { bytes.new.items ≡ bytes.old.items }
+    ensures len { vec_len bytes.new ≡ vec_len bytes.old }
+{
+    // without it the list grows as bytes come
+    let _room = bytes.reserve_exact(many.saturating_sub(bytes.len()));
 }
 
 /// Reads a source to its end.
@@ -50,8 +64,14 @@ pub fn read_all<R: Source>(alloc: Global, source: &mut R, limit: usize) -> Resul
     };
     while bytes.len() <= limit {
         match source.read_some(block.as_mut_slice()) {
-            Ok(0) => return Ok(bytes),
+            Ok(0) => {
+                bytes.shrink_to_fit();
+                return Ok(bytes);
+            }
             Ok(n) => {
+                if MANY <= bytes.len() && bytes.capacity() < limit {
+                    make_room(&mut bytes, limit);
+                }
                 if bytes.extend_from_slice(&block[..n]).is_err() {
                     return Err(Refusal::NoMemory);
                 }

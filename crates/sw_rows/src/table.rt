@@ -17,6 +17,7 @@ pub(crate) mod cell;
 pub(crate) mod records;
 
 use crate::kind::Kind;
+use crate::loading::cuts::has_no_quote;
 use crate::loading::fronts::{long_at, refused_at};
 use crate::schema::text_key::TextKey;
 use crate::schema::texts::{Texts, cell_of, read_text};
@@ -116,22 +117,28 @@ fn read_cells(
 /// How many rows are ever inserted at most, those of the table included.
 pub const MOST_ROWS: u64 = 1_048_576;
 
-/// Reads the rows that are left, of as many cells as there are attributes, and adds their texts.
+/// No rows yet, of as many cells as there are attributes.
+pub(crate) fn no_rows(alloc: Global, columns: &Columns) -> PackedRows
+    requires { 0 < length columns.now }
+    ensures { result ≡ record { width = length columns.now; items = [] } }
+{
+    PackedRows::new(alloc, columns.len())
+}
+
+/// Adds the rows that are left to none, and their texts.
 pub(crate) fn read_rows(
-    alloc: Global,
+    mut rows: PackedRows,
     columns: &Columns,
     texts: &mut Texts,
     rdr: &mut Reader<&[u8]>,
     row: &mut ByteRecord,
 ) -> Result<PackedRows, Refusal>
+    requires none { rows ≡ record { width = length columns.now; items = [] } }
     requires plain { IsPlain rdr.old }
-    requires some { 0 < length columns.now }
     ensures gives { GivesRowsOf texts.old columns.now (records_left rdr.old) result }
     ensures learned { OnOk result (texts.new ≡ with_records texts.old columns.now (records_left rdr.old)) }
     ensures width { IfOk result (λ rows. rows.width ≡ length columns.now) }
 {
-    let count = columns.len();
-    let mut rows = PackedRows::new(alloc, count);
     for n in 0..MOST_ROWS {
         match records::next(rdr, row) {
             Ok(true) => {}
@@ -167,7 +174,8 @@ fn read_under(
     ensures width { IfOk result (λ t. t.1.width ≡ length t.0) }
 {
     let mut texts = columns.no_texts(alloc);
-    match read_rows(alloc, &columns, &mut texts, rdr, row) {
+    let none = no_rows(alloc, &columns);
+    match read_rows(none, &columns, &mut texts, rdr, row) {
         Ok(rows) => Ok((columns.into_schema(texts), rows)),
         Err(e) => Err(e),
     }
@@ -235,7 +243,7 @@ pub(crate) fn read_table(
     ensures gives { Gives ⊥ shown_packed result (table_in bytes.now) }
     ensures width { IfOk result (λ t. t.1.width ≡ length t.0) }
 {
-    match long_at(bytes) {
+    match long_at(bytes, !has_no_quote(bytes)) {
         Some(at) => read_long(alloc, key, bytes, at),
         None => read_whole(alloc, key, bytes),
     }

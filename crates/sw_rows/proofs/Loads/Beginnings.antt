@@ -1,10 +1,10 @@
 -- The beginning of a text: which of its records are those of the whole, and what a record of too many fields tells.
 use Rattle.std.specs.Prelude.{◌&&◌}
-use Rattle.std.proofs.Common.{◌≡◌, ◌∙◌, ap, sym, refl, subst, true≢false, append-nil, append_assoc, ℕ, ◌==◌, ◌+◌, ◌<◌, ◌≤◌, Bool, true, false, cond, zero, suc, min, List, [], ◌∷◌, ◌++◌, length, length-append, nat_eq, nat_lt, Option, Some, None, Result, Ok, Err, ℤ, arith}
+use Rattle.std.proofs.Common.{◌≡◌, ◌∙◌, ap, sym, refl, true≢false, append-nil, append_assoc, ℕ, ◌==◌, ◌+◌, ◌<◌, ◌≤◌, Bool, true, false, cond, suc, min, List, [], ◌∷◌, ◌++◌, length, length-append, nat_eq, nat_lt, Option, Some, None, Result, Ok, Err, ℤ, arith}
 use Rattle.std.proofs.Math.Nat.{min-eq_right, min-le_left, min-le_right}
 use Rattle.std.proofs.lemmas.Bool.Decides.{nat_tests}
 use Rattle.csv.specs.Machine.{after_end, ends_with, field_after, fields_after, in_field, is_end, next_record, start_field, start_record, step}
-use Rattle.csv.specs.Reading.{default_config, is_bom, records, records_from, records_next, strip_bom}
+use Rattle.csv.specs.Reading.{default_config, is_bom, records, records_from, strip_bom}
 use Rattle.csv.specs.declared.parser.Action.{Action}
 use Rattle.csv.specs.declared.parser.Action.TheVariants as act
 use Rattle.csv.specs.declared.parser.State.{State}
@@ -14,7 +14,6 @@ use Rattle.sw_rows.specs.Cells.{cell_value}
 use Rattle.sw_rows.specs.Domains.{Domain, is_of_texts, under}
 use Rattle.sw_rows.specs.Beginnings.{Begins, GoesOn}
 use Rattle.sw_rows.specs.Header.{Column, Fault, bad_table, kinds_of, too_many}
-use Rattle.sw_rows.specs.Records.{records_at}
 use Rattle.sw_rows.specs.Tables.{◌>>=◌, cells_after, cells_of, fault_at, or_bad, padded, row_of, rows_after, seeing, table_of_records, table_with, text_fields, texts_in, text_field, then_padded}
 use Rattle.sw_rows.specs.Texts.{is_text, with_texts}
 use Rattle.sw_rows.specs.declared.table.TheConstants.{MOST_ROWS}

@@ -10,7 +10,7 @@ use Rattle.csv.specs.Reading.{default_config, is_bom, records, records_from, rec
 use Rattle.csv.specs.declared.parser.Action.TheVariants as act
 use Rattle.csv.specs.declared.parser.State.{State}
 use Rattle.csv.specs.declared.parser.State.TheVariants as st
-use Rattle.sw_rows.specs.Parts.{begins_plain, has_no_quote}
+use Rattle.sw_rows.specs.Parts.{IsKnownQuoteless, begins_plain, has_no_quote}
 use Rattle.sw_rows.specs.Records.{records_at}
 use Rattle.sw_rows.proofs.Options.{by_bool}
 use Rattle.sw_rows.proofs.Tables.RecordLemmas.{records_step}
@@ -222,3 +222,13 @@ one_bom [] h n = refl
 one_bom (a ∷ []) h n = absurd (omega arith)
 one_bom (a ∷ b ∷ []) h n = absurd (omega arith)
 one_bom (a ∷ b ∷ c ∷ rest) h n = rw n refl
+
+both_true : (a b : Bool) → (a && b) ≡ true → b ≡ true
+both_true true b h = h
+both_true false b h = absurd (cc h)
+
+-- what has no quote has none behind a place
+pub plain_behind : (is_known : Bool) (bytes : List ℕ) (at : ℕ) → IsKnownQuoteless is_known bytes → IsKnownQuoteless is_known (drop at bytes)
+plain_behind is_known bytes at known is =
+    both_true (has_no_quote (take at bytes)) (has_no_quote (drop at bytes))
+    (sym (list_all-append (λ c. not (c == 34)) (take at bytes) (drop at bytes)) ∙ ap has_no_quote (take-append-drop at bytes) ∙ known is)

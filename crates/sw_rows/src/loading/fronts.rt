@@ -7,10 +7,10 @@ ghost use Rattle.sw_rows.specs.Gives.{Fails};
 ghost use Rattle.sw_rows.specs.Records.{IsPlain, records_left};
 ghost use Rattle.sw_rows.specs.Tables.{table_in};
 
-use crate::loading::parts::{feed_at, has_no_quote};
+use crate::loading::cuts::{feed_at, has_no_quote};
 use crate::schema::text_key::TextKey;
 use crate::schema::{Columns, read_header};
-use crate::table::{MOST_ROWS, read_rows, records};
+use crate::table::{MOST_ROWS, no_rows, read_rows, records};
 use csv::{ByteRecord, Reader};
 use std::alloc::Global;
 use sw_query::Refusal;
@@ -21,14 +21,8 @@ const LEAST: usize = 1_048_576;
 /// How many bytes with no line feed are no ordinary record.
 const SPAN: usize = 65_536;
 
-/// Whether a record may be long: there is a quote, or there are many bytes with no line feed.
-fn may_be_long(bytes: &[u8]) -> bool {
-    if bytes.len() < LEAST {
-        return false;
-    }
-    if !has_no_quote(bytes) {
-        return true;
-    }
+/// Whether there are many bytes with no line feed.
+fn has_long_line(bytes: &[u8]) -> bool {
     for part in bytes.chunks(SPAN) {
         if feed_at(part).is_none() {
             return true;
@@ -97,7 +91,7 @@ fn refused_row(
 {
     let mut texts = columns.no_texts(alloc);
     let most = columns.len() as u64;
-    match read_rows(alloc, columns, &mut texts, rdr, row) {
+    match read_rows(no_rows(alloc, columns), columns, &mut texts, rdr, row) {
         Err(Refusal::BadTable { rec, field }) if rec == count && field > most => {
             Some(Refusal::BadTable { rec, field })
         }
@@ -128,14 +122,15 @@ fn refused_front(alloc: Global, key: TextKey, front: &[u8], count: u64) -> Optio
     }
 }
 
-/// Where the ninth field of a record begins in a long table, if a record has one.
-pub(crate) fn long_at(bytes: &[u8]) -> Option<usize>
+/// Where the ninth field of a record begins in a long table, if a record has one. A record may be long where there is a
+/// quote, or where there are many bytes with no line feed.
+pub(crate) fn long_at(bytes: &[u8], has_quotes: bool) -> Option<usize>
     ensures { IfSome result (λ at. at ≤ length bytes.now) }
 {
-    if !may_be_long(bytes) {
-        return None;
+    if bytes.len() >= LEAST && (has_quotes || has_long_line(bytes)) {
+        return ninth_at(bytes);
     }
-    ninth_at(bytes)
+    None
 }
 
 /// The refusal of a table one of whose records has a ninth field there, where the bytes before it tell it.

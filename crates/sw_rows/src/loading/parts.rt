@@ -1,77 +1,55 @@
 //! A table that is read in parts, each by a thread of its own.
 
-ghost use Rattle.std.specs.Prelude.{◌≡◌, ◌<◌, ◌≤◌, ◌==◌, ◌++◌, [], ◌∷◌, ℕ, List, true, false, drop, get_or, length, not, take, Result, Ok, Err, IfOk, IfSome};
-ghost use Rattle.std.specs.List.{list_all};
+ghost use Rattle.std.specs.Prelude.{◌≡◌, ◌<◌, ◌≤◌, ◌==◌, [], ℕ, Bool, true, false, length, Result, Ok, Err, IfOk, IfSome};
 ghost use Rattle.std.specs.Thread.{IsSync};
 ghost use Rattle.csv.specs.Reading.{default_config, is_bom, records, strip_bom};
 ghost use Rattle.sw_rows.specs.Gives.{Fails, Gives};
 ghost use Rattle.sw_rows.specs.Header.{Fault, has_texts, header_of};
-ghost use Rattle.sw_rows.specs.Parts.{AreRecordsOfBoth, GivesRows, IsPart, begins_plain, has_no_quote, rows_behind, rows_of_part, FailsBehind, GivesBoth, IsHeader};
+ghost use Rattle.sw_rows.specs.Parts.{GivesRows, IsKnownQuoteless, IsPart, MayBeRead, begins_plain, rows_behind, rows_of_part, FailsBehind, GivesBoth, IsHeader};
 ghost use Rattle.sw_rows.specs.Tables.{shown_packed, table_in};
 ghost use Rattle.sw_rows.specs.declared.table.TheConstants.{MOST_ROWS};
 ghost use Rattle.sw_table.specs.declared.row.Row.{Row};
 
+use crate::loading::cuts::{
+    Cuts, HALVINGS, LEAST_HALVED, PARTS, begins_plain, cut, has_no_quote_in_halves,
+};
 use crate::loading::fronts::long_at;
 use crate::loading::text_parts::read_text_table;
 use crate::schema::text_key::TextKey;
 use crate::schema::{Columns, Schema, read_header};
-use crate::table::{MOST_ROWS, read_long, read_rows, read_whole, records};
+use crate::table::{MOST_ROWS, no_rows, read_long, read_rows, read_whole, records};
 use csv::ByteRecord;
 use std::alloc::Global;
 use std::thread::{Threads, join};
 use sw_query::Refusal;
 use sw_table::PackedRows;
 
-/// How often a table is halved at most.
-pub(crate) const HALVINGS: u32 = 2;
+/// How many bytes at the front of a part tell how long its lines are.
+const FRONT: usize = 65_536;
 
-/// How many bytes a part has at least that is halved.
-pub(crate) const LEAST_HALVED: usize = 1_048_576;
-
-/// Whether no byte is a double quote.
-pub(crate) fn has_no_quote(bytes: &[u8]) -> bool
-    ensures { result ≡ has_no_quote bytes.now }
-{
-    // Goes on behind a quote, so that many bytes are compared at once.
-    let mut found = false;
-    for c in bytes {
-        found |= *c == b'"';
+/// How many rows a part has, by the lines at its front.
+fn rows_about(part: &[u8]) -> usize {
+    let front = &part[..part.len().min(FRONT)];
+    let mut feeds = 0usize;
+    for c in front {
+        feeds = feeds.saturating_add((*c == b'\n') as usize);
     }
-    !found
+    feeds.saturating_mul(part.len() / FRONT + 1)
 }
 
-/// Where the first line feed is.
-pub(crate) fn feed_at(bytes: &[u8]) -> Option<usize>
-    ensures { IfSome result (λ at. (at < length bytes.now) × (get_or bytes.now at 0 ≡ 10)) }
+/// No rows yet, with room for those of a part and of the parts that are added behind it, where there is memory for it: a
+/// page is taken when it is filled.
+pub(crate) fn no_rows_of(alloc: Global, columns: &Columns, part: &[u8]) -> PackedRows
+    requires { 0 < length columns.now }
+    ensures { result ≡ record { width = length columns.now; items = [] } }
 {
-    bytes.iter().position(|c| *c == b'\n')
-}
-
-/// Whether the bytes begin with none that a byte order mark begins with.
-fn begins_plain(bytes: &[u8]) -> bool
-    ensures { result ≡ begins_plain bytes.now }
-{
-    match bytes.first() {
-        Some(c) => *c != 0xEF,
-        None => true,
-    }
-}
-
-/// Where the bytes may be cut in two, the first line feed from a place on: their records are those of both parts.
-pub(crate) fn cut(bytes: &[u8], from: usize) -> Option<usize>
-    requires { from ≤ length bytes.now }
-    ensures inside { IfSome result (λ at. at ≤ length bytes.now) }
-    ensures plain { IfSome result (λ at. begins_plain (drop at bytes.now) ≡ true) }
-    ensures records { IfSome result (λ at. AreRecordsOfBoth (take at bytes.now) (drop at bytes.now) bytes.now) }
-{
-    let (_, back) = bytes.split_at(from);
-    let at = from + feed_at(back)? + 1;
-    let (left, right) = bytes.split_at(at);
-    if has_no_quote(left) && begins_plain(right) {
-        Some(at)
-    } else {
-        None
-    }
+    let mut rows = no_rows(alloc, columns);
+    // without it the list grows as rows come
+    let many = rows_about(part)
+        .saturating_mul(PARTS)
+        .min(MOST_ROWS as usize);
+    let _room = rows.reserve(many);
+    rows
 }
 
 /// Reads the rows of a part.
@@ -85,7 +63,8 @@ fn read_part(alloc: Global, columns: &Columns, part: &[u8]) -> Result<PackedRows
     let mut texts = columns.no_texts(alloc);
     let mut rdr = records::open(alloc, part);
     let mut row = ByteRecord::new(alloc);
-    read_rows(alloc, columns, &mut texts, &mut rdr, &mut row)
+    let none = no_rows_of(alloc, columns, part);
+    read_rows(none, columns, &mut texts, &mut rdr, &mut row)
 }
 
 /// Adds the rows of a part, of which each takes the number behind its own.
@@ -152,33 +131,32 @@ fn read_halves<R: Threads + Sync>(
     alloc: Global,
     columns: &Columns,
     part: &[u8],
-    halvings: u32,
+    cuts: Cuts,
 ) -> Result<PackedRows, Refusal>
     requires plain { begins_plain part.now ≡ true }
+    requires known { IsKnownQuoteless cuts.is_quoteless part.now }
     requires numbers { has_texts columns.now ≡ false }
     requires some { 0 < length columns.now }
     ensures rows { GivesRows result (rows_of_part columns.now part.now) }
     ensures part { IfOk result (IsPart (length columns.now)) }
 {
-    if halvings == 0 || part.len() < LEAST_HALVED {
+    if cuts.halvings == 0 || part.len() < LEAST_HALVED {
         return read_part(alloc, columns, part);
     }
-    let Some(at) = cut(part, part.len() / 2) else {
+    let Some(at) = cut(part, part.len() / 2, cuts.is_quoteless) else {
         return read_part(alloc, columns, part);
     };
     let (left, right) = part.split_at(at);
-    let fewer = halvings - 1;
+    let fewer = cuts.fewer();
     let (first, rest) = join(
         rt,
         || -> Result<PackedRows, Refusal>
-            requires { IsSync R.row × (begins_plain left.now ≡ true) × (has_texts columns.now ≡ false)
-                × (0 < length columns.now) }
+            requires { IsSync R.row × MayBeRead fewer.is_quoteless columns.now left.now × (has_texts columns.now ≡ false) }
             ensures rows { GivesRows result (rows_of_part columns.entry.now left.entry.now) }
             ensures part { IfOk result (IsPart (length columns.entry.now)) }
         { read_halves(rt, alloc, columns, left, fewer) },
         || -> Result<PackedRows, Refusal>
-            requires { IsSync R.row × (begins_plain right.now ≡ true) × (has_texts columns.now ≡ false)
-                × (0 < length columns.now) }
+            requires { IsSync R.row × MayBeRead fewer.is_quoteless columns.now right.now × (has_texts columns.now ≡ false) }
             ensures rows { GivesRows result (rows_of_part columns.entry.now right.entry.now) }
             ensures part { IfOk result (IsPart (length columns.entry.now)) }
         { read_halves(rt, alloc, columns, right, fewer) },
@@ -196,7 +174,8 @@ fn is_mark(a: u8, b: u8, c: u8) -> bool
 /// The bytes without a byte order mark at their start.
 #[tactic(auto, using(crate::proofs::Loads::CutLaws::short_bom, crate::proofs::Loads::CutLaws::no_bom, crate::proofs::Loads::CutLaws::one_bom))]
 fn unmarked(bytes: &[u8]) -> &[u8]
-    ensures { result.now ≡ strip_bom bytes.now }
+    ensures rest { result.now ≡ strip_bom bytes.now }
+    ensures quoteless { (is_quoteless : Bool) → IsKnownQuoteless is_quoteless bytes.now → IsKnownQuoteless is_quoteless result.now }
 {
     if bytes.len() < 3 {
         return bytes;
@@ -235,7 +214,9 @@ fn read_parts<R: Threads + Sync>(
     alloc: Global,
     key: TextKey,
     bytes: &[u8],
+    is_quoteless: bool,
 ) -> Result<(Schema, PackedRows), Refusal>
+    requires known { IsKnownQuoteless is_quoteless bytes.now }
     ensures gives { Gives ⊥ shown_packed result (table_in bytes.now) }
     ensures width { IfOk result (λ t. t.1.width ≡ length t.0) }
 {
@@ -243,21 +224,25 @@ fn read_parts<R: Threads + Sync>(
     if !begins_plain(text) {
         return read_whole(alloc, key, bytes);
     }
-    let Some(at) = cut(text, 0) else {
+    let Some(at) = cut(text, 0, is_quoteless) else {
         return read_whole(alloc, key, bytes);
     };
     let (head, body) = text.split_at(at);
+    let cuts = Cuts {
+        halvings: HALVINGS,
+        is_quoteless,
+    };
     let Some(columns) = read_head(alloc, key, head) else {
         return read_whole(alloc, key, bytes);
     };
     if columns.has_texts() {
-        return match read_text_table(rt, alloc, columns, body) {
+        return match read_text_table(rt, alloc, columns, body, cuts) {
             Some(table) => Ok(table),
             // in sequence, which tells the first fault
             None => read_whole(alloc, key, bytes),
         };
     }
-    match read_halves(rt, alloc, &columns, body, HALVINGS) {
+    match read_halves(rt, alloc, &columns, body, cuts) {
         Ok(rows) => {
             let texts = columns.no_texts(alloc);
             Ok((columns.into_schema(texts), rows))
@@ -276,8 +261,9 @@ pub(crate) fn read_table_in_parts<R: Threads + Sync>(
     ensures gives { Gives ⊥ shown_packed result (table_in bytes.now) }
     ensures width { IfOk result (λ t. t.1.width ≡ length t.0) }
 {
-    match long_at(bytes) {
+    let is_quoteless = has_no_quote_in_halves(rt, bytes, HALVINGS);
+    match long_at(bytes, !is_quoteless) {
         Some(at) => read_long(alloc, key, bytes, at),
-        None => read_parts(rt, alloc, key, bytes),
+        None => read_parts(rt, alloc, key, bytes, is_quoteless),
     }
 }

@@ -4,12 +4,13 @@ ghost use Rattle.std.specs.Prelude.{◌≡◌, ◌<◌, ℕ, List, true, length,
 ghost use Rattle.std.specs.Thread.{IsSync};
 ghost use Rattle.csv.specs.Reading.{default_config, records};
 ghost use Rattle.sw_rows.specs.Header.{has_texts, kinds_of};
-ghost use Rattle.sw_rows.specs.Parts.{AreCodes, IsPart, IsRead, begins_plain, row_exchanged, JoinsParts};
+ghost use Rattle.sw_rows.specs.Parts.{AreCodes, IsKnownQuoteless, IsPart, MayBeRead, IsRead, begins_plain, row_exchanged, JoinsParts};
 ghost use Rattle.sw_rows.specs.Tables.{shown_packed, table_seeing};
 ghost use Rattle.sw_rows.specs.Texts.{with_texts};
 
 use crate::kind::Kind;
-use crate::loading::parts::{HALVINGS, LEAST_HALVED, append, cut};
+use crate::loading::cuts::{Cuts, LEAST_HALVED, cut};
+use crate::loading::parts::{append, no_rows_of};
 use crate::schema::texts::{MOST_TEXTS, Texts, cell_of};
 use crate::schema::{Columns, Schema};
 use crate::table::{read_rows, records};
@@ -34,7 +35,8 @@ fn read_part(alloc: Global, columns: &Columns, part: &[u8]) -> Option<Part>
     let mut texts = columns.no_texts(alloc);
     let mut rdr = records::open(alloc, part);
     let mut row = ByteRecord::new(alloc);
-    match read_rows(alloc, columns, &mut texts, &mut rdr, &mut row) {
+    let none = no_rows_of(alloc, columns, part);
+    match read_rows(none, columns, &mut texts, &mut rdr, &mut row) {
         Ok(rows) => Some(Part { rows, texts }),
         Err(_) => None,
     }
@@ -107,28 +109,29 @@ fn read_halves<R: Threads + Sync>(
     alloc: Global,
     columns: &Columns,
     part: &[u8],
-    halvings: u32,
+    cuts: Cuts,
 ) -> Option<Part>
     requires plain { begins_plain part.now ≡ true }
+    requires known { IsKnownQuoteless cuts.is_quoteless part.now }
     requires some { 0 < length columns.now }
     ensures { IfSome result (IsRead columns.now part.now) }
 {
-    if halvings == 0 || part.len() < LEAST_HALVED {
+    if cuts.halvings == 0 || part.len() < LEAST_HALVED {
         return read_part(alloc, columns, part);
     }
-    let Some(at) = cut(part, part.len() / 2) else {
+    let Some(at) = cut(part, part.len() / 2, cuts.is_quoteless) else {
         return read_part(alloc, columns, part);
     };
     let (left, right) = part.split_at(at);
-    let fewer = halvings - 1;
+    let fewer = cuts.fewer();
     let (first, rest) = join(
         rt,
         || -> Option<Part>
-            requires { IsSync R.row × (begins_plain left.now ≡ true) × (0 < length columns.now) }
+            requires { IsSync R.row × MayBeRead fewer.is_quoteless columns.now left.now }
             ensures { IfSome result (IsRead columns.entry.now left.entry.now) }
         { read_halves(rt, alloc, columns, left, fewer) },
         || -> Option<Part>
-            requires { IsSync R.row × (begins_plain right.now ≡ true) × (0 < length columns.now) }
+            requires { IsSync R.row × MayBeRead fewer.is_quoteless columns.now right.now }
             ensures { IfSome result (IsRead columns.entry.now right.entry.now) }
         { read_halves(rt, alloc, columns, right, fewer) },
     );
@@ -141,13 +144,15 @@ pub(crate) fn read_text_table<R: Threads + Sync>(
     alloc: Global,
     columns: Columns,
     body: &[u8],
+    cuts: Cuts,
 ) -> Option<(Schema, PackedRows)>
     requires plain { begins_plain body.now ≡ true }
+    requires known { IsKnownQuoteless cuts.is_quoteless body.now }
     requires some { 0 < length columns }
     requires texts { has_texts columns ≡ true }
     ensures gives { IfSome result (λ t. table_seeing columns (records default_config body.now) ≡ Ok (shown_packed t)) }
     ensures width { IfSome result (λ t. t.1.width ≡ length t.0) }
 {
-    let Part { rows, texts } = read_halves(rt, alloc, &columns, body, HALVINGS)?;
+    let Part { rows, texts } = read_halves(rt, alloc, &columns, body, cuts)?;
     Some((columns.into_schema(texts), rows))
 }

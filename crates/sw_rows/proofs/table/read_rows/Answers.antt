@@ -12,9 +12,6 @@ use Rattle.sw_rows.proofs.Tables.TableLemmas.{cells_over, left_none, left_one, o
 use Rattle.sw_rows.proofs.Schemas.TextLaws.{with_more}
 use Rattle.sw_rows.proofs.table.read_rows.Goals as goal
 
-pub new-rows-requires-clause-some : goal.new-rows-requires-clause-some
-new-rows-requires-clause-some c = omega (arith, c.requires.some, c.len-count.ensures.value)
-
 pub returns-in-Ok-false-clause-gives : goal.returns-in-Ok-false-clause-gives
 returns-in-Ok-false-clause-gives c = λ more.
     sym (c.loop-n.invariant.left more) ∙ ap (rows_after _ c.loop-n.rows.items) (left_none c.in-Ok-false.field-0 (records_left c.loop-n.rdr) (fields_of c.next.new.row) (records_left c.next.new.rdr) c.in-Ok-false.field-0-test c.in-Ok-false.ensures.row)

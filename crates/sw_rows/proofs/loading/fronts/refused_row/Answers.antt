@@ -1,4 +1,4 @@
-use Rattle.std.proofs.Common.{◌≡◌, ◌∙◌, ◌<◌, ◌++◌, [], List, ℕ, Err, arith, length, subst}
+use Rattle.std.proofs.Common.{◌≡◌, ◌++◌, [], List, ℕ, Err, arith, subst}
 use Rattle.std.proofs.lemmas.List.{length-map}
 use Rattle.sw_rows.specs.Domains.{under}
 use Rattle.sw_rows.specs.Gives.{Fails}

@@ -2,6 +2,7 @@ use Rattle.std.proofs.Common.{◌≡◌, ◌∙◌, ap, sym, List, ℕ, ◌∷�
 use Rattle.csv.specs.Reading.{default_config, records, strip_bom}
 use Rattle.sw_rows.specs.Header.{Column, header_of, holding}
 use Rattle.sw_rows.specs.Tables.{◌>>=◌, seeing, table_in, table_of_records, table_with}
+use Rattle.sw_rows.proofs.Loads.CutLaws.{plain_behind}
 use Rattle.sw_rows.proofs.Tables.TableLemmas.{numbers_fail, numbers_read}
 use Rattle.sw_rows.proofs.loading.parts.read_parts.Goals as goal
 
@@ -19,7 +20,7 @@ returns-in-Ok-clause-gives g c =
     let head = c.in-Some-read_head.ensures.head in
     let cs = c.in-Some-read_head.columns in
     let numbers = sym c.has_texts.ensures ∙ c.if-has_texts.false in
-    table_is c.args.bytes.now c.unmarked-text.result.now c.split_at.result.0.now body c.in-Some.at head.0 cs c.unmarked-text.ensures c.in-Some.ensures.records c.split_at.ensures.front c.split_at.ensures.back head.1 head.2
+    table_is c.args.bytes.now c.unmarked-text.result.now c.split_at.result.0.now body c.in-Some.at head.0 cs c.unmarked-text.ensures.rest c.in-Some.ensures.records c.split_at.ensures.front c.split_at.ensures.back head.1 head.2
     ∙ numbers_read cs (records default_config body) c.in-Ok.rows.items numbers c.in-Ok.ensures.rows
     ∙ ap (λ ds. Ok (record { columns = ds; rows = c.in-Ok.rows.items })) (sym (c.into_schema.ensures.schema ∙ ap (λ ts. holding ts cs) c.no_texts-texts.ensures))
 
@@ -29,5 +30,13 @@ returns-in-Err-clause-gives g c =
     let head = c.in-Some-read_head.ensures.head in
     let cs = c.in-Some-read_head.columns in
     let numbers = sym c.has_texts.ensures ∙ c.if-has_texts.false in
-    rw (table_is c.args.bytes.now c.unmarked-text.result.now c.split_at.result.0.now body c.in-Some.at head.0 cs c.unmarked-text.ensures c.in-Some.ensures.records c.split_at.ensures.front c.split_at.ensures.back head.1 head.2)
+    rw (table_is c.args.bytes.now c.unmarked-text.result.now c.split_at.result.0.now body c.in-Some.at head.0 cs c.unmarked-text.ensures.rest c.in-Some.ensures.records c.split_at.ensures.front c.split_at.ensures.back head.1 head.2)
     (numbers_fail cs (records default_config body) c.in-Err.refusal numbers c.in-Err.ensures.rows)
+
+pub read_text_table-requires-clause-known : goal.read_text_table-requires-clause-known
+read_text_table-requires-clause-known g c κs within = rw (sym c.split_at.ensures.back) at
+    (plain_behind c.args.is_quoteless c.unmarked-text.result.now c.in-Some.at (c.unmarked-text.ensures.quoteless c.args.is_quoteless c.requires.known))
+
+pub read_halves-requires-clause-known : goal.read_halves-requires-clause-known
+read_halves-requires-clause-known g c κs within = rw (sym c.split_at.ensures.back) at
+    (plain_behind c.args.is_quoteless c.unmarked-text.result.now c.in-Some.at (c.unmarked-text.ensures.quoteless c.args.is_quoteless c.requires.known))
