@@ -175,7 +175,7 @@ fn is_mark(a: u8, b: u8, c: u8) -> bool
 #[tactic(auto, using(crate::proofs::Loads::CutLaws::short_bom, crate::proofs::Loads::CutLaws::no_bom, crate::proofs::Loads::CutLaws::one_bom))]
 fn unmarked(bytes: &[u8]) -> &[u8]
     ensures rest { result.now ≡ strip_bom bytes.now }
-    ensures quoteless { (is_quoteless : Bool) → IsKnownQuoteless is_quoteless bytes.now → IsKnownQuoteless is_quoteless result.now }
+    ensures quoteless { (known : Bool) → IsKnownQuoteless known bytes.now → IsKnownQuoteless known result.now }
 {
     if bytes.len() < 3 {
         return bytes;
