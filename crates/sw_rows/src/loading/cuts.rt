@@ -1,6 +1,6 @@
 //! Where the bytes of a table may be cut.
 
-ghost use Rattle.std.specs.Prelude.{◌≡◌, ◌<◌, ◌≤◌, ◌-◌, ◌==◌, drop, get_or, length, take, true, IfSome};
+ghost use Rattle.std.specs.Prelude.{◌≡◌, ◌<◌, ◌≤◌, ◌-◌, ◌/◌, ◌==◌, drop, get_or, length, take, true, IfSome};
 ghost use Rattle.std.specs.Thread.{IsSync};
 ghost use Rattle.sw_rows.specs.Parts.{AreRecordsOfBoth, IsKnownQuoteless, begins_plain, has_no_quote};
 
@@ -68,22 +68,38 @@ pub(crate) fn begins_plain(bytes: &[u8]) -> bool
     }
 }
 
-/// How a part is cut further: so many times in halves. Where it is known that no byte of it is a double quote, none is
-/// looked for.
+/// How a part is cut further, and what becomes of it.
 #[derive(Clone, Copy)]
 pub(crate) struct Cuts {
+    /// How often it is halved yet.
     pub(crate) halvings: u32,
+    /// How many parts of its length its rows have room for at first: those that are added behind it, about, and its own.
+    pub(crate) parts: usize,
+    /// Whether it is known that no byte of it is a double quote, so that none is looked for.
     pub(crate) is_quoteless: bool,
 }
 
 impl Cuts {
-    /// Those of a half.
-    pub(crate) fn fewer(self) -> Cuts
+    /// Those of the first half, behind which the other is added.
+    pub(crate) fn of_first(self) -> Cuts
         requires { 0 < self.halvings }
         ensures { result ≡ record self { halvings = self.halvings - 1 } }
     {
         Cuts {
             halvings: self.halvings - 1,
+            parts: self.parts,
+            is_quoteless: self.is_quoteless,
+        }
+    }
+
+    /// Those of the second half.
+    pub(crate) fn of_second(self) -> Cuts
+        requires { 0 < self.halvings }
+        ensures { result ≡ record self { halvings = self.halvings - 1; parts = self.parts / 2 } }
+    {
+        Cuts {
+            halvings: self.halvings - 1,
+            parts: self.parts / 2,
             is_quoteless: self.is_quoteless,
         }
     }

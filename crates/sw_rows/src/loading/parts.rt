@@ -37,23 +37,28 @@ fn rows_about(part: &[u8]) -> usize {
     feeds.saturating_mul(part.len() / FRONT + 1)
 }
 
-/// No rows yet, with room for those of a part and of the parts that are added behind it, where there is memory for it: a
-/// page is taken when it is filled.
-pub(crate) fn no_rows_of(alloc: Global, columns: &Columns, part: &[u8]) -> PackedRows
+/// No rows yet, with room for those of about so many parts like this one, where there is memory for it: a page is taken
+/// when it is filled.
+pub(crate) fn no_rows_of(alloc: Global, columns: &Columns, part: &[u8], parts: usize) -> PackedRows
     requires { 0 < length columns.now }
     ensures { result ≡ record { width = length columns.now; items = [] } }
 {
     let mut rows = no_rows(alloc, columns);
     // without it the list grows as rows come
     let many = rows_about(part)
-        .saturating_mul(PARTS)
+        .saturating_mul(parts)
         .min(MOST_ROWS as usize);
     let _room = rows.reserve(many);
     rows
 }
 
 /// Reads the rows of a part.
-fn read_part(alloc: Global, columns: &Columns, part: &[u8]) -> Result<PackedRows, Refusal>
+fn read_part(
+    alloc: Global,
+    columns: &Columns,
+    part: &[u8],
+    parts: usize,
+) -> Result<PackedRows, Refusal>
     requires plain { begins_plain part.now ≡ true }
     requires numbers { has_texts columns.now ≡ false }
     requires some { 0 < length columns.now }
@@ -63,7 +68,7 @@ fn read_part(alloc: Global, columns: &Columns, part: &[u8]) -> Result<PackedRows
     let mut texts = columns.no_texts(alloc);
     let mut rdr = records::open(alloc, part);
     let mut row = ByteRecord::new(alloc);
-    let none = no_rows_of(alloc, columns, part);
+    let none = no_rows_of(alloc, columns, part, parts);
     read_rows(none, columns, &mut texts, &mut rdr, &mut row)
 }
 
@@ -141,25 +146,25 @@ fn read_halves<R: Threads + Sync>(
     ensures part { IfOk result (IsPart (length columns.now)) }
 {
     if cuts.halvings == 0 || part.len() < LEAST_HALVED {
-        return read_part(alloc, columns, part);
+        return read_part(alloc, columns, part, cuts.parts);
     }
     let Some(at) = cut(part, part.len() / 2, cuts.is_quoteless) else {
-        return read_part(alloc, columns, part);
+        return read_part(alloc, columns, part, cuts.parts);
     };
     let (left, right) = part.split_at(at);
-    let fewer = cuts.fewer();
+    let (left_cuts, right_cuts) = (cuts.of_first(), cuts.of_second());
     let (first, rest) = join(
         rt,
         || -> Result<PackedRows, Refusal>
-            requires { IsSync R.row × MayBeRead fewer.is_quoteless columns.now left.now × (has_texts columns.now ≡ false) }
+            requires { IsSync R.row × MayBeRead left_cuts.is_quoteless columns.now left.now × (has_texts columns.now ≡ false) }
             ensures rows { GivesRows result (rows_of_part columns.entry.now left.entry.now) }
             ensures part { IfOk result (IsPart (length columns.entry.now)) }
-        { read_halves(rt, alloc, columns, left, fewer) },
+        { read_halves(rt, alloc, columns, left, left_cuts) },
         || -> Result<PackedRows, Refusal>
-            requires { IsSync R.row × MayBeRead fewer.is_quoteless columns.now right.now × (has_texts columns.now ≡ false) }
+            requires { IsSync R.row × MayBeRead right_cuts.is_quoteless columns.now right.now × (has_texts columns.now ≡ false) }
             ensures rows { GivesRows result (rows_of_part columns.entry.now right.entry.now) }
             ensures part { IfOk result (IsPart (length columns.entry.now)) }
-        { read_halves(rt, alloc, columns, right, fewer) },
+        { read_halves(rt, alloc, columns, right, right_cuts) },
     );
     joined(first, rest)
 }
@@ -230,6 +235,7 @@ fn read_parts<R: Threads + Sync>(
     let (head, body) = text.split_at(at);
     let cuts = Cuts {
         halvings: HALVINGS,
+        parts: PARTS,
         is_quoteless,
     };
     let Some(columns) = read_head(alloc, key, head) else {

@@ -27,7 +27,7 @@ pub(crate) struct Part {
 }
 
 /// Reads a part, where it is not refused.
-fn read_part(alloc: Global, columns: &Columns, part: &[u8]) -> Option<Part>
+fn read_part(alloc: Global, columns: &Columns, part: &[u8], parts: usize) -> Option<Part>
     requires plain { begins_plain part.now ≡ true }
     requires some { 0 < length columns.now }
     ensures { IfSome result (IsRead columns.now part.now) }
@@ -35,7 +35,7 @@ fn read_part(alloc: Global, columns: &Columns, part: &[u8]) -> Option<Part>
     let mut texts = columns.no_texts(alloc);
     let mut rdr = records::open(alloc, part);
     let mut row = ByteRecord::new(alloc);
-    let none = no_rows_of(alloc, columns, part);
+    let none = no_rows_of(alloc, columns, part, parts);
     match read_rows(none, columns, &mut texts, &mut rdr, &mut row) {
         Ok(rows) => Some(Part { rows, texts }),
         Err(_) => None,
@@ -117,23 +117,23 @@ fn read_halves<R: Threads + Sync>(
     ensures { IfSome result (IsRead columns.now part.now) }
 {
     if cuts.halvings == 0 || part.len() < LEAST_HALVED {
-        return read_part(alloc, columns, part);
+        return read_part(alloc, columns, part, cuts.parts);
     }
     let Some(at) = cut(part, part.len() / 2, cuts.is_quoteless) else {
-        return read_part(alloc, columns, part);
+        return read_part(alloc, columns, part, cuts.parts);
     };
     let (left, right) = part.split_at(at);
-    let fewer = cuts.fewer();
+    let (left_cuts, right_cuts) = (cuts.of_first(), cuts.of_second());
     let (first, rest) = join(
         rt,
         || -> Option<Part>
-            requires { IsSync R.row × MayBeRead fewer.is_quoteless columns.now left.now }
+            requires { IsSync R.row × MayBeRead left_cuts.is_quoteless columns.now left.now }
             ensures { IfSome result (IsRead columns.entry.now left.entry.now) }
-        { read_halves(rt, alloc, columns, left, fewer) },
+        { read_halves(rt, alloc, columns, left, left_cuts) },
         || -> Option<Part>
-            requires { IsSync R.row × MayBeRead fewer.is_quoteless columns.now right.now }
+            requires { IsSync R.row × MayBeRead right_cuts.is_quoteless columns.now right.now }
             ensures { IfSome result (IsRead columns.entry.now right.entry.now) }
-        { read_halves(rt, alloc, columns, right, fewer) },
+        { read_halves(rt, alloc, columns, right, right_cuts) },
     );
     joined(alloc, columns, first?, rest?)
 }
