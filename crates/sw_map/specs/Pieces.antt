@@ -5,11 +5,11 @@ use Rattle.sw_query.specs.Outcomes.{IsRefused}
 use Rattle.sw_query.specs.declared.refusal.Refusal.{Refusal}
 use Rattle.sw_query.specs.declared.bound.Bound.{Bound}
 use Rattle.sw_table.specs.declared.row.Row.{Row}
-use Rattle.sw_query.specs.Bounds.{same_bound}
+use Rattle.sw_query.specs.Bounds.{bound_below, same_bound}
 use Rattle.sw_kernel.specs.declared.mark.Mark.{Mark}
 use Rattle.sw_kernel.specs.Partition.{partition, head_of}
-use Rattle.sw_kernel.specs.Arrangement.{Arrangement, last, piece, joined}
-use Rattle.sw_kernel.specs.Replay.{Step, loaded, inserted, removed, ranged, step}
+use Rattle.sw_kernel.specs.Arrangement.{Arrangement, last, piece, joined, crack}
+use Rattle.sw_kernel.specs.Replay.{Step, loaded, inserted, removed, ranged, crack_at, step}
 use Rattle.sw_kernel.specs.Flat.{InOrder, Pairs}
 use Rattle.sw_kernel.specs.Tapes.{IsRising}
 
@@ -29,6 +29,15 @@ mark_of b (m ∷ ms) = cond (same_bound b m.bound) (Some m.at) (mark_of b ms)
 -- there is a mark before the k-th piece, and it has the bound
 abbrev pub IsBefore : ℕ → Bound → List Mark → Type 0
 IsBefore k b marks = (0 < k) × HoldsAt (λ m. same_bound b m.bound ≡ true) marks (k - 1)
+
+-- whether a bound stands below the first of these marks, or there is none
+abbrev pub is_under : Bound → List Mark → Bool
+is_under b [] = true
+is_under b (m ∷ ms) = bound_below b m.bound
+
+-- a crack, and then another at a bound that may be missing
+abbrev pub crack_twice : {A : Type 0} → (A → ℤ) → Bound → Option Bound → Arrangement A → Arrangement A
+crack_twice value b c a = crack_at value c (crack value b a)
 
 -- zs with the places from s up to e partitioned
 abbrev pub parted : {A : Type 0} → (A → Bool) → ℕ → ℕ → List A → List A
