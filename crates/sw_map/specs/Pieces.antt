@@ -35,10 +35,6 @@ abbrev pub is_under : Bound → List Mark → Bool
 is_under b [] = true
 is_under b (m ∷ ms) = bound_below b m.bound
 
--- a crack, and then another at a bound that may be missing
-abbrev pub crack_twice : {A : Type 0} → (A → ℤ) → Bound → Option Bound → Arrangement A → Arrangement A
-crack_twice value b c a = crack_at value c (crack value b a)
-
 -- zs with the places from s up to e partitioned
 abbrev pub parted : {A : Type 0} → (A → Bool) → ℕ → ℕ → List A → List A
 parted p s e zs = take s zs ++ (partition p (take (e - s) (drop s zs)) ++ drop e zs)
@@ -56,6 +52,14 @@ count_between p s e zs = count_by p (take (e - s) (drop s zs))
 -- the pairs of two lists, in the pieces that the marks make
 abbrev pub pieces_of : Vec ℤ → Vec ℤ → List Mark → Pairs
 pieces_of head tail marks = pieces_between 0 (zip head.items tail.items) marks
+
+-- the pairs of two lists
+abbrev pub zipped : Vec ℤ → Vec ℤ → List (ℤ × ℤ)
+zipped head tail = zip head.items tail.items
+
+-- a crack of pairs, and then another at a bound that may be missing
+abbrev pub cut_twice : Bound → Option Bound → Pairs → Pairs
+cut_twice b c a = crack_at head_of c (crack head_of b a)
 
 -- two lists and their marks are now what f makes of their pieces
 abbrev pub AreCut : (Pairs → Pairs) → Vec ℤ → Vec ℤ → Vec Mark → Vec ℤ → Vec ℤ → Vec Mark → Type 0

@@ -7,7 +7,7 @@ ghost use Rattle.sw_kernel.specs.Arrangement.{crack};
 ghost use Rattle.sw_kernel.specs.Replay.{crack_at, ranged, step};
 ghost use Rattle.sw_kernel.specs.Flat.{InOrder, IsNew, KeepsRoom, end_before, marks_below, start_at};
 ghost use Rattle.sw_kernel.specs.Tapes.{IsRising};
-ghost use Rattle.sw_map.specs.Pieces.{AreCut, bounds_of, count_between, crack_twice, is_under, parted};
+ghost use Rattle.sw_map.specs.Pieces.{AreCut, bounds_of, count_between, cut_twice, is_under, parted, zipped};
 
 use crate::places::{is_marked, is_under, marks_below};
 use sw_kernel::{Mark, end_before, split};
@@ -42,8 +42,8 @@ fn part_lists(
 ) -> usize
     requires lengths { vec_len head.old ≡ vec_len tail.old }
     requires range { (start ≤ end) × (end ≤ vec_len head.old) }
-    ensures pairs { zip head.new.items tail.new.items ≡ parted (goes_left head_of bound) start end (zip head.old.items tail.old.items) }
-    ensures left { result ≡ start + count_between (goes_left head_of bound) start end (zip head.old.items tail.old.items) }
+    ensures pairs { zipped head.new tail.new ≡ parted (goes_left head_of bound) start end (zipped head.old tail.old) }
+    ensures left { result ≡ start + count_between (goes_left head_of bound) start end (zipped head.old tail.old) }
     ensures within { (start ≤ result) × (result ≤ end) }
     ensures lengths { (vec_len head.new ≡ vec_len head.old) × (vec_len tail.new ≡ vec_len tail.old) }
     ensures capacity { KeepsRoom head.old head.new × KeepsRoom tail.old tail.new }
@@ -100,15 +100,8 @@ fn crack_new(
 {
     let start = start_of(marks, k);
     let end = end_before(marks, k, head.len());
-    let left = part(head, tail, start, end, bound);
-    put_mark(
-        marks,
-        k,
-        Mark {
-            bound,
-            at: start + left,
-        },
-    );
+    let at = part_lists(head, tail, start, end, bound);
+    put_mark(marks, k, Mark { bound, at });
 }
 
 /// Partitions the piece that two new bounds fall into at the lower and then at the upper one, and marks both.
@@ -128,7 +121,7 @@ fn crack_both(
     requires within { k ≤ vec_len marks.old }
     requires above { bound_below bounds.0 bounds.1 ≡ true }
     requires under { is_under bounds.1 (drop k marks.old.items) ≡ true }
-    ensures cracked { AreCut (crack_twice head_of bounds.0 (Some bounds.1)) head.old tail.old marks.old head.new tail.new marks.new }
+    ensures cracked { AreCut (cut_twice bounds.0 (Some bounds.1)) head.old tail.old marks.old head.new tail.new marks.new }
     ensures order { InOrder 0 (vec_len head.new) marks.new.items }
     ensures lengths { (vec_len head.new ≡ vec_len head.old) × (vec_len tail.new ≡ vec_len tail.old) }
     ensures capacity { KeepsRoom head.old head.new × KeepsRoom tail.old tail.new }
@@ -197,7 +190,7 @@ fn crack_from(
     requires room { vec_len marks.old + 2 ≤ vec_capacity marks.old }
     requires order { InOrder 0 (vec_len head.old) marks.old.items }
     requires rising { IsRising (bounds_of marks.old.items) }
-    ensures cracked { AreCut (crack_twice head_of lower upper) head.old tail.old marks.old head.new tail.new marks.new }
+    ensures cracked { AreCut (cut_twice lower upper) head.old tail.old marks.old head.new tail.new marks.new }
     ensures order { InOrder 0 (vec_len head.new) marks.new.items }
     ensures lengths { (vec_len head.new ≡ vec_len head.old) × (vec_len tail.new ≡ vec_len tail.old) }
     ensures capacity { KeepsRoom head.old head.new × KeepsRoom tail.old tail.new }
