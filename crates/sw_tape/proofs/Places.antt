@@ -125,6 +125,7 @@ rising-both b c bs k r p h u =
     let kept = place-kept b c bs k p h in
     rising-insert b (insert bs k c) k (rising-insert c bs k r over.0 over.1) kept.0 kept.1
 
+-- and then those from before and the two are among them
 pub among-both : (b c : Bound) (bs : List Bound) (k : ℕ) → IsPlaceOf b k bs → bound_below b c ≡ true → (x : Bound) → is_among x (insert (insert bs k c) k b) ≡ (same_bound x b || same_bound x c) || is_among x bs
 among-both b c bs k p h x =
     let kept = place-kept b c bs k p h in
