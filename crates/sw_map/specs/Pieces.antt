@@ -5,11 +5,11 @@ use Rattle.sw_query.specs.Outcomes.{IsRefused}
 use Rattle.sw_query.specs.declared.refusal.Refusal.{Refusal}
 use Rattle.sw_query.specs.declared.bound.Bound.{Bound}
 use Rattle.sw_table.specs.declared.row.Row.{Row}
-use Rattle.sw_query.specs.Bounds.{same_bound}
+use Rattle.sw_query.specs.Bounds.{bound_below, same_bound}
 use Rattle.sw_kernel.specs.declared.mark.Mark.{Mark}
 use Rattle.sw_kernel.specs.Partition.{partition, head_of}
-use Rattle.sw_kernel.specs.Arrangement.{Arrangement, last, piece, joined}
-use Rattle.sw_kernel.specs.Replay.{Step, loaded, inserted, removed, ranged, step}
+use Rattle.sw_kernel.specs.Arrangement.{Arrangement, last, piece, joined, crack}
+use Rattle.sw_kernel.specs.Replay.{Step, loaded, inserted, removed, ranged, crack_at, step}
 use Rattle.sw_kernel.specs.Flat.{InOrder, Pairs}
 use Rattle.sw_kernel.specs.Tapes.{IsRising}
 
@@ -30,6 +30,11 @@ mark_of b (m ∷ ms) = cond (same_bound b m.bound) (Some m.at) (mark_of b ms)
 abbrev pub IsBefore : ℕ → Bound → List Mark → Type 0
 IsBefore k b marks = (0 < k) × HoldsAt (λ m. same_bound b m.bound ≡ true) marks (k - 1)
 
+-- whether a bound stands below the first of these marks, or there is none
+abbrev pub is_under : Bound → List Mark → Bool
+is_under b [] = true
+is_under b (m ∷ ms) = bound_below b m.bound
+
 -- zs with the places from s up to e partitioned
 abbrev pub parted : {A : Type 0} → (A → Bool) → ℕ → ℕ → List A → List A
 parted p s e zs = take s zs ++ (partition p (take (e - s) (drop s zs)) ++ drop e zs)
@@ -47,6 +52,14 @@ count_between p s e zs = count_by p (take (e - s) (drop s zs))
 -- the pairs of two lists, in the pieces that the marks make
 abbrev pub pieces_of : Vec ℤ → Vec ℤ → List Mark → Pairs
 pieces_of head tail marks = pieces_between 0 (zip head.items tail.items) marks
+
+-- the pairs of two lists
+abbrev pub zipped : Vec ℤ → Vec ℤ → List (ℤ × ℤ)
+zipped head tail = zip head.items tail.items
+
+-- a crack of pairs, and then another at a bound that may be missing
+abbrev pub cut_twice : Bound → Option Bound → Pairs → Pairs
+cut_twice b c a = crack_at head_of c (crack head_of b a)
 
 -- two lists and their marks are now what f makes of their pieces
 abbrev pub AreCut : (Pairs → Pairs) → Vec ℤ → Vec ℤ → Vec Mark → Vec ℤ → Vec ℤ → Vec Mark → Type 0

@@ -11,7 +11,7 @@ ghost use Rattle.sw_map.specs.declared.tail.Tail.TheVariants.{Key};
 ghost use Rattle.sw_map.specs.Held.{KeysFit, pair_in, place_of, tail_value};
 ghost use Rattle.sw_map.specs.Pieces.{HasPlace, HasRoomAfter, HasSteppedOr, TakesNoMemory, stepped};
 
-use crate::crack::crack_some;
+use crate::crack::crack_range;
 use crate::places::find_mark;
 use crate::tail::Tail;
 use std::alloc::Global;
@@ -313,8 +313,13 @@ impl Pairs {
         if self.marks.reserve(2).is_err() {
             return Err(Refusal::NoMemory);
         }
-        crack_some(&mut self.head, &mut self.tail, &mut self.marks, lower);
-        crack_some(&mut self.head, &mut self.tail, &mut self.marks, upper);
+        crack_range(
+            &mut self.head,
+            &mut self.tail,
+            &mut self.marks,
+            lower,
+            upper,
+        );
         Ok(())
     }
 

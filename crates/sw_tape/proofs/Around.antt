@@ -7,7 +7,7 @@ use Rattle.sw_query.specs.declared.bound.Bound.TheVariants.{Before, After}
 use Rattle.sw_query.specs.Bounds.{bound_below, is_left, same_bound}
 use Rattle.sw_kernel.specs.Tapes.{IsBelowAll, IsRising}
 use Rattle.sw_kernel.proofs.Orders.{left-below, right-below}
-use Rattle.sw_tape.proofs.Places.{all-at}
+use Rattle.sw_tape.proofs.Places.{all-at, not-below}
 use Rattle.sw_tape.specs.Bounds.{IsNearestAbove, IsNearestBelow, IsSplit, is_among}
 
 -- ---- the order of bounds
@@ -20,12 +20,6 @@ same-bound (After v) (After w) h = let e : v ≡ w = grind (arith, h) in ap Afte
 same-self : (b : Bound) → same_bound b b ≡ true
 same-self (Before v) = grind arith
 same-self (After v) = grind arith
-
-not-below : (b c : Bound) → bound_below b c ≡ true → bound_below c b ≡ false
-not-below (Before u) (Before v) p = grind (arith, p)
-not-below (Before u) (After v) p = grind (arith, p)
-not-below (After u) (Before v) p = grind (arith, p)
-not-below (After u) (After v) p = grind (arith, p)
 
 not-below_self : (b : Bound) → bound_below b b ≡ false
 not-below_self (Before v) = grind arith

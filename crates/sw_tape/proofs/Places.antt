@@ -3,10 +3,11 @@ use Rattle.std.proofs.Common.{◌≡◌, ℕ, suc, zero, ◌<◌, ◌≤◌, Boo
 use Rattle.std.specs.List.Sorted.{IsPartitionPoint, IsPartitionedBy}
 use Rattle.std.proofs.lemmas.Bool.{cases_Bool}
 use Rattle.sw_query.specs.declared.bound.Bound.{Bound}
+use Rattle.sw_query.specs.declared.bound.Bound.TheVariants.{Before, After}
 use Rattle.sw_query.specs.Bounds.{bound_below, same_bound}
 use Rattle.sw_kernel.specs.Tapes.{IsBelowAll, IsRising}
 use Rattle.sw_kernel.proofs.Orders.{below-trans, below-new, above, same-same, same-flips}
-use Rattle.sw_tape.specs.Bounds.{is_among, is_first, IsPlaceOf}
+use Rattle.sw_tape.specs.Bounds.{is_among, is_first, is_under, IsPlaceOf}
 
 -- a bound that is below all is below the one at each place
 pub all-at : (b : Bound) (bs : List Bound) → IsBelowAll b bs → (k : ℕ) (d : Bound) → k < length bs → bound_below b (get_or bs k d) ≡ true
@@ -65,6 +66,10 @@ or-turn true true u = refl
 or-turn true false u = refl
 or-turn false t u = refl
 
+or-groups : (s t u : Bool) → s || (t || u) ≡ (s || t) || u
+or-groups true t u = refl
+or-groups false t u = refl
+
 -- where a bound was put in, it and those from before are among them
 pub among-insert : (b c : Bound) (bs : List Bound) (k : ℕ) → k ≤ length bs → is_among b (insert bs k c) ≡ same_bound b c || is_among b bs
 among-insert b c [] zero le = refl
@@ -90,6 +95,43 @@ rising-insert b (c ∷ cs) zero r p e =
     let past : bound_below b c ≡ true = above c b p (same-flips c b ∙ e) in
     ((past, all-past b c cs past r.0), r)
 rising-insert b (c ∷ cs) (suc k) r p e = (all-insert c b cs k (place-within b cs k p.1) p.0 r.0, rising-insert b cs k r.1 p.1 e)
+
+-- ---- two more
+-- of two bounds one at most is below the other
+pub not-below : (b c : Bound) → bound_below b c ≡ true → bound_below c b ≡ false
+not-below (Before u) (Before v) p = grind (arith, p)
+not-below (Before u) (After v) p = grind (arith, p)
+not-below (After u) (Before v) p = grind (arith, p)
+not-below (After u) (After v) p = grind (arith, p)
+
+-- the place of a bound is that of a higher one, which falls between the same bounds, and which does not stand there
+pub place-under : (b c : Bound) (bs : List Bound) (k : ℕ) → IsPlaceOf b k bs → bound_below b c ≡ true → is_under c (drop k bs) ≡ true → IsPlaceOf c k bs × (is_first c (drop k bs) ≡ false)
+place-under b c [] zero p h u = (tt, refl)
+place-under b c [] (suc k) p h u = absurd p
+place-under b c (x ∷ xs) zero p h u = (not-below c x u, below-new c x u)
+place-under b c (x ∷ xs) (suc k) p h u = let r = place-under b c xs k p.1 h u in ((below-trans x b c p.0 h, r.0), r.1)
+
+-- a bound's place stays where a higher one is put there
+pub place-kept : (b c : Bound) (bs : List Bound) (k : ℕ) → IsPlaceOf b k bs → bound_below b c ≡ true → IsPlaceOf b k (insert bs k c) × (is_first b (drop k (insert bs k c)) ≡ false)
+place-kept b c [] zero p h = (not-below b c h, below-new b c h)
+place-kept b c [] (suc k) p h = absurd p
+place-kept b c (x ∷ xs) zero p h = (not-below b c h, below-new b c h)
+place-kept b c (x ∷ xs) (suc k) p h = let r = place-kept b c xs k p.1 h in ((p.0, r.0), r.1)
+
+-- two bounds that fall between the same ones, put there
+pub rising-both : (b c : Bound) (bs : List Bound) (k : ℕ) → IsRising bs → IsPlaceOf b k bs → bound_below b c ≡ true → is_under c (drop k bs) ≡ true → IsRising (insert (insert bs k c) k b)
+rising-both b c bs k r p h u =
+    let over = place-under b c bs k p h u in
+    let kept = place-kept b c bs k p h in
+    rising-insert b (insert bs k c) k (rising-insert c bs k r over.0 over.1) kept.0 kept.1
+
+-- and then those from before and the two are among them
+pub among-both : (b c : Bound) (bs : List Bound) (k : ℕ) → IsPlaceOf b k bs → bound_below b c ≡ true → (x : Bound) → is_among x (insert (insert bs k c) k b) ≡ (same_bound x b || same_bound x c) || is_among x bs
+among-both b c bs k p h x =
+    let kept = place-kept b c bs k p h in
+    among-insert x b (insert bs k c) k (place-within b (insert bs k c) k kept.0) ∙
+    ap (λ t. same_bound x b || t) (among-insert x c bs k (place-within b bs k p)) ∙
+    or-groups (same_bound x b) (same_bound x c) (is_among x bs)
 
 -- a bound that is there adds nothing
 pub same-again : (b c : Bound) (bs : List Bound) → is_among c bs ≡ true → same_bound b c || is_among b bs ≡ is_among b bs

@@ -3,7 +3,7 @@ use Rattle.std.specs.Prelude.{◌≡◌, ℕ, ℤ, Bool, true, false, ◌||◌, 
 use Rattle.sw_query.specs.declared.bound.Bound.{Bound}
 use Rattle.sw_table.specs.declared.row.Row.{Row}
 use Rattle.sw_kernel.specs.Replay.{Step}
-use Rattle.sw_kernel.specs.Tapes.{IsRising, is_marked, ranges_at}
+use Rattle.sw_kernel.specs.Tapes.{IsRising, is_bound, is_marked, ranges_at}
 use Rattle.sw_query.specs.Bounds.{bound_below, is_left, same_bound}
 
 -- whether a bound is among these
@@ -15,6 +15,11 @@ is_among b (c ∷ cs) = same_bound b c || is_among b cs
 abbrev pub is_first : Bound → List Bound → Bool
 is_first b [] = false
 is_first b (c ∷ cs) = same_bound b c
+
+-- whether a bound is below the first of these, or there is none
+abbrev pub is_under : Bound → List Bound → Bool
+is_under b [] = true
+is_under b (c ∷ cs) = bound_below b c
 
 -- just the bounds before this place are below b
 abbrev pub IsPlaceOf : Bound → ℕ → List Bound → Type 0
@@ -43,6 +48,10 @@ IsNearestAbove there v None = (b : Bound) → there b ≡ true → is_left b v �
 IsNearestAbove there v (Some c) =
     (there c ≡ true) × (is_left c v ≡ true)
     × ((b : Bound) → there b ≡ true → is_left b v ≡ true → bound_below b c ≡ false)
+
+-- two bounds, as far as there are any, came to others
+abbrev pub AddsBoth : Option Bound → Option Bound → List Bound → List Bound → Type 0
+AddsBoth lower upper old new = (b : Bound) → is_among b new ≡ (is_bound b lower || is_bound b upper) || is_among b old
 
 -- the bounds of a step came to others
 abbrev pub AreJoinedBy : Step Row → List Bound → List Bound → Type 0

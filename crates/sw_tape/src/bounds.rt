@@ -1,10 +1,10 @@
 //! A rising list of bounds.
 
-ghost use Rattle.std.specs.Prelude.{◌≡◌, ◌<◌, ◌≤◌, ◌+◌, ◌||◌, drop, insert, length, vec_capacity, vec_len};
+ghost use Rattle.std.specs.Prelude.{◌≡◌, ◌<◌, ◌≤◌, ◌+◌, ◌||◌, Some, drop, insert, length, vec_capacity, vec_len};
 ghost use Rattle.sw_query.specs.Bounds.{same_bound};
 ghost use Rattle.sw_query.specs.declared.bound.Bound.{Bound};
 ghost use Rattle.sw_kernel.specs.Tapes.{IsRising, is_bound};
-ghost use Rattle.sw_tape.specs.Bounds.{IsNearestAbove, IsNearestBelow, IsPlaceOf, IsSplit, is_among, is_first};
+ghost use Rattle.sw_tape.specs.Bounds.{AddsBoth, IsNearestAbove, IsNearestBelow, IsPlaceOf, IsSplit, is_among, is_first, is_under};
 
 use sw_query::Bound;
 
@@ -32,6 +32,13 @@ pub(crate) fn is_among(bounds: &[Bound], bound: Bound) -> bool
     stands_at(bounds, place, bound)
 }
 
+/// Whether the list ends at a place, or its bound there is above this one.
+fn stands_under(bounds: &[Bound], place: usize, bound: Bound) -> bool
+    ensures { result ≡ is_under bound (drop place bounds.now) }
+{
+    place >= bounds.len() || bound.is_below(bounds[place])
+}
+
 /// Puts a bound into the list at a place.
 fn put(bounds: &mut Vec<Bound>, place: usize, bound: Bound)
     requires within { place ≤ vec_len bounds.old }
@@ -45,23 +52,36 @@ fn put(bounds: &mut Vec<Bound>, place: usize, bound: Bound)
     }
 }
 
-/// Adds a bound, if it is not there.
-fn add(bounds: &mut Vec<Bound>, bound: Bound)
+/// Puts two bounds into the list at a place, the lower one first. What stands behind moves once.
+fn put_both(bounds: &mut Vec<Bound>, place: usize, lower: Bound, upper: Bound)
+    requires within { place ≤ vec_len bounds.old }
+    requires room { vec_len bounds.old + 2 ≤ vec_capacity bounds.old }
+    ensures items { bounds.new.items ≡ insert (insert bounds.old.items place upper) place lower }
+    ensures len { vec_len bounds.new ≡ vec_len bounds.old + 2 }
+    ensures capacity { vec_capacity bounds.new ≡ vec_capacity bounds.old }
+{
+    bounds.push_reserved(lower);
+    bounds.push_reserved(upper);
+    bounds[place..].rotate_right(2);
+}
+
+/// Adds a bound at its place, if it is not there.
+fn add_at(bounds: &mut Vec<Bound>, place: usize, bound: Bound)
     requires room { vec_len bounds.old < vec_capacity bounds.old }
     requires rising { IsRising bounds.old.items }
+    requires place { IsPlaceOf bound place bounds.old.items }
     ensures rising { IsRising bounds.new.items }
     ensures among { (b : Bound) → is_among b bounds.new.items ≡ same_bound b bound || is_among b bounds.old.items }
     ensures len { vec_len bounds.new ≤ vec_len bounds.old + 1 }
     ensures capacity { vec_capacity bounds.new ≡ vec_capacity bounds.old }
 {
-    let place = count_below(bounds, bound);
     if !stands_at(bounds, place, bound) {
         put(bounds, place, bound);
     }
 }
 
 /// Adds a bound, if there is one and it is not there.
-pub(crate) fn add_some(bounds: &mut Vec<Bound>, bound: Option<Bound>)
+fn add_some(bounds: &mut Vec<Bound>, bound: Option<Bound>)
     requires room { vec_len bounds.old < vec_capacity bounds.old }
     requires rising { IsRising bounds.old.items }
     ensures rising { IsRising bounds.new.items }
@@ -70,7 +90,40 @@ pub(crate) fn add_some(bounds: &mut Vec<Bound>, bound: Option<Bound>)
     ensures capacity { vec_capacity bounds.new ≡ vec_capacity bounds.old }
 {
     if let Some(bound) = bound {
-        add(bounds, bound);
+        let place = count_below(bounds, bound);
+        add_at(bounds, place, bound);
+    }
+}
+
+/// Adds a bound, and then another, if there is one. Two that fall between the same bounds are put there together.
+fn add_from(bounds: &mut Vec<Bound>, lower: Bound, upper: Option<Bound>)
+    requires room { vec_len bounds.old + 2 ≤ vec_capacity bounds.old }
+    requires rising { IsRising bounds.old.items }
+    ensures rising { IsRising bounds.new.items }
+    ensures among { AddsBoth (Some lower) upper bounds.old.items bounds.new.items }
+{
+    let place = count_below(bounds, lower);
+    if let Some(upper) = upper
+        && lower.is_below(upper)
+        && stands_under(bounds, place, upper)
+    {
+        put_both(bounds, place, lower, upper);
+        return;
+    }
+    add_at(bounds, place, lower);
+    add_some(bounds, upper);
+}
+
+/// Adds two bounds, each if there is one and it is not there.
+pub(crate) fn add_both(bounds: &mut Vec<Bound>, lower: Option<Bound>, upper: Option<Bound>)
+    requires room { vec_len bounds.old + 2 ≤ vec_capacity bounds.old }
+    requires rising { IsRising bounds.old.items }
+    ensures rising { IsRising bounds.new.items }
+    ensures among { AddsBoth lower upper bounds.old.items bounds.new.items }
+{
+    match lower {
+        Some(lower) => add_from(bounds, lower, upper),
+        None => add_some(bounds, upper),
     }
 }
 

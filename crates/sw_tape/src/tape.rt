@@ -12,7 +12,7 @@ ghost use Rattle.sw_tape.specs.declared.entry.Entry.TheVariants.{Remove};
 ghost use Rattle.sw_tape.specs.Entries.{IsKept, step_of};
 ghost use Rattle.sw_tape.specs.Restart.{AreOneLoad, IsCountOf, first_rows, live_load};
 
-use crate::bounds::{add_some, around, is_among};
+use crate::bounds::{add_both, around, is_among};
 use crate::entry::{Entry, pairs_after};
 use crate::live::keep_live;
 use std::alloc::Global;
@@ -91,8 +91,7 @@ fn add_bounds(bounds: &mut Vec<Bound>, entry: &Entry)
     ensures among { AreJoinedBy (step_of entry.now) bounds.old.items bounds.new.items }
 {
     if let Entry::Range(lower, upper) = entry {
-        add_some(bounds, *lower);
-        add_some(bounds, *upper);
+        add_both(bounds, *lower, *upper);
     }
 }
 

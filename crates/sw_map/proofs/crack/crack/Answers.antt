@@ -12,19 +12,19 @@ use Rattle.sw_map.proofs.crack.crack.Goals as goal
 pub crack_new-requires-clause-new : goal.crack_new-requires-clause-new
 crack_new-requires-clause-new c =
     let none : Mark = record { bound = Before (pos 0); at = 0 } in
-    let b = c.args.bound in let ms = c.args.marks.now.items in let k = c.marks_below-k.result in
+    let b = c.args.bound in let ms = c.args.marks.now.items in let k = c.args.k in
     let below : k ≡ marks_below ms b = search rules in
-    let vm : c.deref-2.result.now ≡ ms = search rules in
+    let vm : c.deref.result.now ≡ ms = search rules in
     let off : c.is_marked.result ≡ false = search rules in
-    new-at b ms k none (sym below) c.requires.rising (subst (λ (l : List Mark). 0 < k → same_bound b (get_or l (k - 1) none).bound ≡ false) vm (not-before k b c.deref-2.result.now none c.is_marked.result (omega arith) c.is_marked.ensures off))
+    new-at b ms k none (sym below) c.requires.rising (subst (λ (l : List Mark). 0 < k → same_bound b (get_or l (k - 1) none).bound ≡ false) vm (not-before k b c.deref.result.now none c.is_marked.result (omega arith) c.is_marked.ensures off))
 
 pub returns-else-not-is_marked-clause-cracked : goal.returns-else-not-is_marked-clause-cracked
 returns-else-not-is_marked-clause-cracked c =
     let none : Mark = record { bound = Before (pos 0); at = 0 } in
     let hs = c.args.head.now.items in let ts = c.args.tail.now.items in
-    let b = c.args.bound in let ms = c.args.marks.now.items in let k = c.marks_below-k.result in
+    let b = c.args.bound in let ms = c.args.marks.now.items in let k = c.args.k in
     let below : k ≡ marks_below ms b = search rules in
-    let vm : c.deref-2.result.now ≡ ms = search rules in
+    let vm : c.deref.result.now ≡ ms = search rules in
     let on : c.is_marked.result ≡ true = search rules in
     let ln : length hs ≡ c.args.head.now.len = search rules in
     let lt : length ts ≡ c.args.tail.now.len = search rules in
