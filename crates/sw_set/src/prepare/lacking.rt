@@ -4,9 +4,9 @@ use sw_map::CrackerMap;
 use sw_query::Bound;
 use sw_tape::{Entry, Tape};
 
-/// A thread is worth its start where more pairs than this are to be parted: that takes some 4 ms, and a processor that
-/// idles, or has other work, takes up to as long to come (measured by bench/area/wake.sh).
-const WORTH: usize = 2_000_000;
+/// A thread is worth its start where more pairs than this are to be parted: that takes some 2 ms. A processor that idles
+/// comes within 0.15 ms, one that has other work within 1 to 3 (measured by bench/area/wake.sh).
+const WORTH: usize = 1_000_000;
 
 /// How many of the tape's bounds in a row are looked for in a map that may lack them.
 const NEAR: usize = 2;
