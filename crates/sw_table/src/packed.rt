@@ -13,6 +13,7 @@ use crate::keys::Keys;
 use crate::row::Row;
 use std::alloc::{AllocError, Global};
 use std::marker::Model;
+use std::mem;
 
 /// The cells of one row of a flat list.
 #[inline]
@@ -101,6 +102,15 @@ fn make_room(out: &mut Vec<i64>, more: usize) -> Result<(), AllocError>
         out.reserve(more)?;
     }
     Ok(())
+}
+
+/// Takes the list out: what fills a list of its own holds its length in a register, and not in memory.
+#[inline]
+fn taken(out: &mut Vec<i64>) -> Vec<i64>
+    ensures { result ≡ out.old }
+{
+    let alloc = *out.allocator();
+    mem::replace(out, Vec::new(alloc))
 }
 
 /// A list of rows of as many attributes as its width: no more cells than those are kept of a row, one row after
@@ -238,9 +248,11 @@ impl PackedRows {
     {
         make_room(out, self.len())?;
         let cells = self.cells.as_slice();
+        let mut list = taken(out);
         for place in 0..self.len() {
-            out.push_reserved(cell_in(cells, self.width, place, attr));
+            list.push_reserved(cell_in(cells, self.width, place, attr));
         }
+        *out = list;
         Ok(())
     }
 
@@ -252,9 +264,11 @@ impl PackedRows {
         ensures room { HasRoomFor (length self.now.items) out.old → IsOk result × IsSameRoom out.old out.new }
     {
         make_room(out, self.len())?;
+        let mut list = taken(out);
         for place in 0..self.len() {
-            out.push_reserved(self.key(place) as i64);
+            list.push_reserved(self.key(place) as i64);
         }
+        *out = list;
         Ok(())
     }
 

@@ -18,7 +18,7 @@ cell_in-requires c =
 pub loop-place-preserved : goal.loop-place-preserved
 loop-place-preserved c =
     let none : Row = record { key = 0; cells = [] } in
-    let s = c.self.inside in let i = c.loop-place.place in let rs = c.args.self.now.items in let a = c.args.attr in let xs = c.make_room.new.out.items in
+    let s = c.self.inside in let i = c.loop-place.place in let rs = c.args.self.now.items in let a = c.args.attr in let xs = c.taken-list.result.items in
     let k = get_or s.keys i 0 in
     let lt : i < length rs = omega (arith, c.loop-place-test.true, c.len-place-end.ensures.many) in
     let inside = place-inside s.width s.keys s.cells _ i (ap (λ (v : Packed). v.items) c.self.view_is) lt in
@@ -30,7 +30,7 @@ loop-place-preserved c =
     record {
       items =
           c.push_reserved.ensures.items
-          ∙ ap (λ (z : ℤ). c.loop-place.out.items ++ z ∷ []) (to_z-of_z w64 c.cell_in.result (search rules))
+          ∙ ap (λ (z : ℤ). c.loop-place.list.items ++ z ∷ []) (to_z-of_z w64 c.cell_in.result (search rules))
           ∙ ap (λ (v : List ℤ). v ++ c.cell_in.result ∷ []) c.loop-place.invariant.items
           ∙ append_assoc xs (map (cell_of a) (take i rs)) (c.cell_in.result ∷ [])
           ∙ ap (λ (z : ℤ). xs ++ (map (cell_of a) (take i rs) ++ z ∷ [])) came

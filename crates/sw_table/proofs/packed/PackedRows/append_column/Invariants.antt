@@ -4,7 +4,7 @@ use Rattle.sw_table.proofs.packed.PackedRows.append_column.Given as goal
 
 abbrev pub invariant-loop-place : goal.invariant-loop-place
 invariant-loop-place l = record {
-  items : l.out.items ≡ l.initial.out.items ++ map (cell_of l.attr) (take l.place l.self.items);
-  room : vec_len l.out + (length l.self.items - l.place) ≤ vec_capacity l.out;
-  there : vec_len l.initial.out + length l.self.items ≤ vec_capacity l.initial.out → vec_capacity l.out ≡ vec_capacity l.initial.out;
+  items : l.list.items ≡ l.initial.list.items ++ map (cell_of l.attr) (take l.place l.self.items);
+  room : vec_len l.list + (length l.self.items - l.place) ≤ vec_capacity l.list;
+  there : vec_len l.initial.list + length l.self.items ≤ vec_capacity l.initial.list → vec_capacity l.list ≡ vec_capacity l.initial.list;
 }

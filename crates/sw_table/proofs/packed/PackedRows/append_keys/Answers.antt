@@ -15,13 +15,13 @@ overflow_cast-key c =
 pub loop-place-preserved : goal.loop-place-preserved
 loop-place-preserved c =
     let none : Row = record { key = 0; cells = [] } in
-    let i = c.loop-place.place in let rs = c.args.self.now.items in let xs = c.make_room.new.out.items in
+    let i = c.loop-place.place in let rs = c.args.self.now.items in let xs = c.taken-list.result.items in
     let lt : i < length rs = omega (arith, c.loop-place-test.true, c.len-place-end.ensures.many) in
     let small : c.key.result < 2 ^ 63 = omega (arith, c.key.ensures none, c.requires i none lt) in
     record {
       items =
           c.push_reserved.ensures.items
-          ∙ ap (λ (z : ℤ). c.loop-place.out.items ++ z ∷ []) (to_z_pos w64 c.key.result small)
+          ∙ ap (λ (z : ℤ). c.loop-place.list.items ++ z ∷ []) (to_z_pos w64 c.key.result small)
           ∙ ap (λ (v : List ℤ). v ++ pos c.key.result ∷ []) c.loop-place.invariant.items
           ∙ append_assoc xs (map (λ (r : Row). pos r.key) (take i rs)) (pos c.key.result ∷ [])
           ∙ ap (λ (z : ℤ). xs ++ (map (λ (r : Row). pos r.key) (take i rs) ++ z ∷ [])) (ap pos (c.key.ensures none))
