@@ -1,13 +1,14 @@
 -- The place of a bound among rising ones.
 use Rattle.std.proofs.Common.{◌≡◌, ℕ, suc, zero, ◌<◌, ◌≤◌, Bool, true, false, ◌||◌, List, [], ◌∷◌, length, get_or, drop, insert, refl, sym, ap, ap₂, ◌∙◌, arith, inl, inr}
 use Rattle.std.specs.List.Sorted.{IsPartitionPoint, IsPartitionedBy}
-use Rattle.std.proofs.lemmas.Bool.{cases_Bool}
+use Rattle.std.proofs.lemmas.Bool.{cases_Bool, true≢false}
+use Rattle.std.proofs.lemmas.List.Edits.{length-insert}
 use Rattle.sw_query.specs.declared.bound.Bound.{Bound}
 use Rattle.sw_query.specs.declared.bound.Bound.TheVariants.{Before, After}
 use Rattle.sw_query.specs.Bounds.{bound_below, same_bound}
 use Rattle.sw_kernel.specs.Tapes.{IsBelowAll, IsRising}
 use Rattle.sw_kernel.proofs.Orders.{below-trans, below-new, above, same-same, same-flips}
-use Rattle.sw_tape.specs.Bounds.{is_among, is_first, is_under, IsPlaceOf}
+use Rattle.sw_tape.specs.Bounds.{is_among, is_first, IsPlaceOf}
 
 -- a bound that is below all is below the one at each place
 pub all-at : (b : Bound) (bs : List Bound) → IsBelowAll b bs → (k : ℕ) (d : Bound) → k < length bs → bound_below b (get_or bs k d) ≡ true
@@ -96,43 +97,6 @@ rising-insert b (c ∷ cs) zero r p e =
     ((past, all-past b c cs past r.0), r)
 rising-insert b (c ∷ cs) (suc k) r p e = (all-insert c b cs k (place-within b cs k p.1) p.0 r.0, rising-insert b cs k r.1 p.1 e)
 
--- ---- two more
--- of two bounds one at most is below the other
-pub not-below : (b c : Bound) → bound_below b c ≡ true → bound_below c b ≡ false
-not-below (Before u) (Before v) p = grind (arith, p)
-not-below (Before u) (After v) p = grind (arith, p)
-not-below (After u) (Before v) p = grind (arith, p)
-not-below (After u) (After v) p = grind (arith, p)
-
--- the place of a bound is that of a higher one, which falls between the same bounds, and which does not stand there
-pub place-under : (b c : Bound) (bs : List Bound) (k : ℕ) → IsPlaceOf b k bs → bound_below b c ≡ true → is_under c (drop k bs) ≡ true → IsPlaceOf c k bs × (is_first c (drop k bs) ≡ false)
-place-under b c [] zero p h u = (tt, refl)
-place-under b c [] (suc k) p h u = absurd p
-place-under b c (x ∷ xs) zero p h u = (not-below c x u, below-new c x u)
-place-under b c (x ∷ xs) (suc k) p h u = let r = place-under b c xs k p.1 h u in ((below-trans x b c p.0 h, r.0), r.1)
-
--- a bound's place stays where a higher one is put there
-pub place-kept : (b c : Bound) (bs : List Bound) (k : ℕ) → IsPlaceOf b k bs → bound_below b c ≡ true → IsPlaceOf b k (insert bs k c) × (is_first b (drop k (insert bs k c)) ≡ false)
-place-kept b c [] zero p h = (not-below b c h, below-new b c h)
-place-kept b c [] (suc k) p h = absurd p
-place-kept b c (x ∷ xs) zero p h = (not-below b c h, below-new b c h)
-place-kept b c (x ∷ xs) (suc k) p h = let r = place-kept b c xs k p.1 h in ((p.0, r.0), r.1)
-
--- two bounds that fall between the same ones, put there
-pub rising-both : (b c : Bound) (bs : List Bound) (k : ℕ) → IsRising bs → IsPlaceOf b k bs → bound_below b c ≡ true → is_under c (drop k bs) ≡ true → IsRising (insert (insert bs k c) k b)
-rising-both b c bs k r p h u =
-    let over = place-under b c bs k p h u in
-    let kept = place-kept b c bs k p h in
-    rising-insert b (insert bs k c) k (rising-insert c bs k r over.0 over.1) kept.0 kept.1
-
--- and then those from before and the two are among them
-pub among-both : (b c : Bound) (bs : List Bound) (k : ℕ) → IsPlaceOf b k bs → bound_below b c ≡ true → (x : Bound) → is_among x (insert (insert bs k c) k b) ≡ (same_bound x b || same_bound x c) || is_among x bs
-among-both b c bs k p h x =
-    let kept = place-kept b c bs k p h in
-    among-insert x b (insert bs k c) k (place-within b (insert bs k c) k kept.0) ∙
-    ap (λ t. same_bound x b || t) (among-insert x c bs k (place-within b bs k p)) ∙
-    or-groups (same_bound x b) (same_bound x c) (is_among x bs)
-
 -- a bound that is there adds nothing
 pub same-again : (b c : Bound) (bs : List Bound) → is_among c bs ≡ true → same_bound b c || is_among b bs ≡ is_among b bs
 same-again b c bs e = elim (cases_Bool (same_bound b c)) [
@@ -143,3 +107,49 @@ same-again b c bs e = elim (cases_Bool (same_bound b c)) [
     among-same : (b c : Bound) (bs : List Bound) → same_bound b c ≡ true → is_among b bs ≡ is_among c bs
     among-same b c [] h = refl
     among-same b c (x ∷ xs) h = ap₂ (λ s t. s || t) (same-flips b x ∙ sym (same-same x b c h) ∙ same-flips x c) (among-same b c xs h)
+
+-- ---- two more
+-- of two bounds one at most is below the other
+pub not-below : (b c : Bound) → bound_below b c ≡ true → bound_below c b ≡ false
+not-below (Before u) (Before v) p = grind (arith, p)
+not-below (Before u) (After v) p = grind (arith, p)
+not-below (After u) (Before v) p = grind (arith, p)
+not-below (After u) (After v) p = grind (arith, p)
+
+-- the place of a higher bound is not before that of a lower one
+pub place-order : (b c : Bound) (bs : List Bound) (k m : ℕ) → IsPlaceOf b k bs → IsPlaceOf c m bs → bound_below b c ≡ true → k ≤ m
+place-order b c bs zero m p q h = omega arith
+place-order b c [] (suc k) m p q h = absurd p
+place-order b c (x ∷ xs) (suc k) zero p q h = absurd (true≢false (sym (below-trans x b c p.0 h) ∙ q))
+place-order b c (x ∷ xs) (suc k) (suc m) p q h = let le = place-order b c xs k m p.1 q.1 h in omega (arith, le)
+
+-- the place of a new bound stays where a higher one is put at its own
+pub place-kept : (b c : Bound) (bs : List Bound) (k m : ℕ) → IsPlaceOf b k bs → is_first b (drop k bs) ≡ false → IsPlaceOf c m bs → bound_below b c ≡ true → IsPlaceOf b k (insert bs m c) × (is_first b (drop k (insert bs m c)) ≡ false)
+place-kept b c [] zero zero p e q h = (not-below b c h, below-new b c h)
+place-kept b c [] zero (suc m) p e q h = absurd q
+place-kept b c [] (suc k) m p e q h = absurd p
+place-kept b c (x ∷ xs) zero zero p e q h = (not-below b c h, below-new b c h)
+place-kept b c (x ∷ xs) zero (suc m) p e q h = (p, e)
+place-kept b c (x ∷ xs) (suc k) zero p e q h = absurd (true≢false (sym (below-trans x b c p.0 h) ∙ q))
+place-kept b c (x ∷ xs) (suc k) (suc m) p e q h = let r = place-kept b c xs k m p.1 e q.1 h in ((p.0, r.0), r.1)
+
+-- two new bounds, each put at its place
+pub rising-two : (b c : Bound) (bs : List Bound) (k m : ℕ) → IsRising bs → IsPlaceOf b k bs → is_first b (drop k bs) ≡ false → IsPlaceOf c m bs → is_first c (drop m bs) ≡ false → bound_below b c ≡ true → IsRising (insert (insert bs m c) k b)
+rising-two b c bs k m r p e q f h =
+    let kept = place-kept b c bs k m p e q h in
+    rising-insert b (insert bs m c) k (rising-insert c bs m r q f) kept.0 kept.1
+
+-- and then those from before and the two are among them
+pub among-two : (b c : Bound) (bs : List Bound) (k m : ℕ) → k ≤ m → m ≤ length bs → (x : Bound) → is_among x (insert (insert bs m c) k b) ≡ (same_bound x b || same_bound x c) || is_among x bs
+among-two b c bs k m low high x =
+    let long = length-insert bs m c high in
+    among-insert x b (insert bs m c) k (omega (arith, low, high, long)) ∙
+    ap (λ t. same_bound x b || t) (among-insert x c bs m high) ∙
+    or-groups (same_bound x b) (same_bound x c) (is_among x bs)
+
+-- a new bound, put at its place, where a second one is there already
+pub among-one : (b c : Bound) (bs : List Bound) (k : ℕ) → k ≤ length bs → is_among c bs ≡ true → (x : Bound) → is_among x (insert bs k b) ≡ (same_bound x b || same_bound x c) || is_among x bs
+among-one b c bs k le there x =
+    among-insert x b bs k le ∙
+    ap (λ t. same_bound x b || t) (sym (same-again x c bs there)) ∙
+    or-groups (same_bound x b) (same_bound x c) (is_among x bs)

@@ -16,11 +16,6 @@ abbrev pub is_first : Bound → List Bound → Bool
 is_first b [] = false
 is_first b (c ∷ cs) = same_bound b c
 
--- whether a bound is below the first of these, or there is none
-abbrev pub is_under : Bound → List Bound → Bool
-is_under b [] = true
-is_under b (c ∷ cs) = bound_below b c
-
 -- just the bounds before this place are below b
 abbrev pub IsPlaceOf : Bound → ℕ → List Bound → Type 0
 IsPlaceOf b zero [] = Unit {0}

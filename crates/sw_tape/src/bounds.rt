@@ -1,10 +1,10 @@
 //! A rising list of bounds.
 
-ghost use Rattle.std.specs.Prelude.{◌≡◌, ◌<◌, ◌≤◌, ◌+◌, ◌||◌, Some, drop, insert, length, vec_capacity, vec_len};
-ghost use Rattle.sw_query.specs.Bounds.{same_bound};
+ghost use Rattle.std.specs.Prelude.{◌≡◌, ◌<◌, ◌≤◌, ◌+◌, ◌||◌, Some, true, false, drop, insert, length, vec_capacity, vec_len};
+ghost use Rattle.sw_query.specs.Bounds.{bound_below, same_bound};
 ghost use Rattle.sw_query.specs.declared.bound.Bound.{Bound};
 ghost use Rattle.sw_kernel.specs.Tapes.{IsRising, is_bound};
-ghost use Rattle.sw_tape.specs.Bounds.{AddsBoth, IsNearestAbove, IsNearestBelow, IsPlaceOf, IsSplit, is_among, is_first, is_under};
+ghost use Rattle.sw_tape.specs.Bounds.{AddsBoth, IsNearestAbove, IsNearestBelow, IsPlaceOf, IsSplit, is_among, is_first};
 
 use sw_query::Bound;
 
@@ -32,13 +32,6 @@ pub(crate) fn is_among(bounds: &[Bound], bound: Bound) -> bool
     stands_at(bounds, place, bound)
 }
 
-/// Whether the list ends at a place, or its bound there is above this one.
-fn stands_under(bounds: &[Bound], place: usize, bound: Bound) -> bool
-    ensures { result ≡ is_under bound (drop place bounds.now) }
-{
-    place >= bounds.len() || bound.is_below(bounds[place])
-}
-
 /// Puts a bound into the list at a place.
 fn put(bounds: &mut Vec<Bound>, place: usize, bound: Bound)
     requires within { place ≤ vec_len bounds.old }
@@ -63,6 +56,19 @@ fn put_both(bounds: &mut Vec<Bound>, place: usize, lower: Bound, upper: Bound)
     bounds.push_reserved(lower);
     bounds.push_reserved(upper);
     bounds[place..].rotate_right(2);
+}
+
+/// Puts two bounds into the list, the upper one at a place that is not below that of the lower one. What stands behind
+/// both moves once.
+fn put_two(bounds: &mut Vec<Bound>, low: usize, high: usize, lower: Bound, upper: Bound)
+    requires within { (low ≤ high) × (high ≤ vec_len bounds.old) }
+    requires room { vec_len bounds.old + 2 ≤ vec_capacity bounds.old }
+    ensures items { bounds.new.items ≡ insert (insert bounds.old.items high upper) low lower }
+    ensures len { vec_len bounds.new ≡ vec_len bounds.old + 2 }
+    ensures capacity { vec_capacity bounds.new ≡ vec_capacity bounds.old }
+{
+    put_both(bounds, high, lower, upper);
+    bounds[low..high + 1].rotate_right(1);
 }
 
 /// Adds a bound at its place, if it is not there.
@@ -95,22 +101,40 @@ fn add_some(bounds: &mut Vec<Bound>, bound: Option<Bound>)
     }
 }
 
-/// Adds a bound, and then another, if there is one. Two that fall between the same bounds are put there together.
+/// Adds a bound that is not there at its place, and a higher one, if that is not there.
+fn add_new(bounds: &mut Vec<Bound>, low: usize, lower: Bound, upper: Bound)
+    requires room { vec_len bounds.old + 2 ≤ vec_capacity bounds.old }
+    requires rising { IsRising bounds.old.items }
+    requires place { IsPlaceOf lower low bounds.old.items }
+    requires new { is_first lower (drop low bounds.old.items) ≡ false }
+    requires below { bound_below lower upper ≡ true }
+    ensures rising { IsRising bounds.new.items }
+    ensures among { AddsBoth (Some lower) (Some upper) bounds.old.items bounds.new.items }
+{
+    let high = count_below(bounds, upper);
+    if stands_at(bounds, high, upper) {
+        put(bounds, low, lower);
+    } else {
+        put_two(bounds, low, high, lower, upper);
+    }
+}
+
+/// Adds a bound, and then another, if there is one. Two new ones, the first below the second, are put there together.
 fn add_from(bounds: &mut Vec<Bound>, lower: Bound, upper: Option<Bound>)
     requires room { vec_len bounds.old + 2 ≤ vec_capacity bounds.old }
     requires rising { IsRising bounds.old.items }
     ensures rising { IsRising bounds.new.items }
     ensures among { AddsBoth (Some lower) upper bounds.old.items bounds.new.items }
 {
-    let place = count_below(bounds, lower);
+    let low = count_below(bounds, lower);
     if let Some(upper) = upper
         && lower.is_below(upper)
-        && stands_under(bounds, place, upper)
+        && !stands_at(bounds, low, lower)
     {
-        put_both(bounds, place, lower, upper);
+        add_new(bounds, low, lower, upper);
         return;
     }
-    add_at(bounds, place, lower);
+    add_at(bounds, low, lower);
     add_some(bounds, upper);
 }
 

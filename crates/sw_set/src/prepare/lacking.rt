@@ -4,9 +4,9 @@ use sw_map::CrackerMap;
 use sw_query::Bound;
 use sw_tape::{Entry, Tape};
 
-/// A thread is worth its start where more pairs than this are to be parted: that takes some 2 ms. A processor that idles
+/// A thread is worth its start where more pairs than this are to be parted: that takes some 0.5 ms. A processor that idles
 /// comes within 0.15 ms, one that has other work within 1 to 3 (measured by bench/area/wake.sh).
-const WORTH: usize = 1_000_000;
+const WORTH: usize = 250_000;
 
 /// How many of the tape's bounds in a row are looked for in a map that may lack them.
 const NEAR: usize = 2;
