@@ -1,7 +1,8 @@
 -- A crack on the flat lists.
-use Rattle.std.proofs.Common.{◌≡◌, ℕ, suc, zero, ◌+◌, ◌-◌, ◌<◌, ◌≤◌, ℤ, Bool, true, false, List, [], ◌∷◌, ◌++◌, length, take, drop, zip, count_by, get_or, refl, sym, ap, ap₂, ◌∙◌, arith, subst, inl, inr}
+use Rattle.std.proofs.Common.{◌≡◌, ℕ, suc, zero, ◌+◌, ◌-◌, ◌<◌, ◌≤◌, ℤ, Bool, true, false, List, [], ◌∷◌, ◌++◌, length, take, drop, zip, count_by, get_or, insert, refl, sym, ap, ap₂, ◌∙◌, arith, subst, inl, inr}
 use Rattle.std.proofs.lemmas.Bool.{cases_Bool, true≢false}
-use Rattle.std.proofs.lemmas.List.{length-take, length-drop}
+use Rattle.std.specs.List.{slice_rotate_right}
+use Rattle.std.proofs.lemmas.List.{append_assoc, length-append, take_at, drop_at, length-take, length-drop}
 use Rattle.std.proofs.lemmas.Slice.Zip.{firsts-zip}
 use Rattle.sw_query.specs.declared.bound.Bound.{Bound}
 use Rattle.sw_query.specs.Bounds.{bound_below, is_left, same_bound}
@@ -15,8 +16,8 @@ use Rattle.sw_tape.proofs.Places.{not-below}
 use Rattle.sw_kernel.proofs.Cracks.{crack-items, crack-marks}
 use Rattle.sw_kernel.proofs.Parts.{count-map}
 use Rattle.sw_kernel.proofs.Rising.{crack-rises}
-use Rattle.sw_map.specs.Pieces.{IsLaidOut, bounds_of, is_under, parted, pieces_between}
-use Rattle.sw_map.proofs.Finding.{new-at, start-at, step-on, step-no}
+use Rattle.sw_map.specs.Pieces.{IsLaidOut, bounds_of, parted, pieces_between}
+use Rattle.sw_map.proofs.Finding.{same-or-less, start-at, step-on, step-no}
 use Rattle.sw_map.proofs.Layouts.{bounds-of, laid-out, pieces-joined, pieces-marks, zip-append}
 
 -- where the mark before a bound's place has that bound, the bound is there
@@ -106,65 +107,103 @@ cracked b a zs zs' ms ms' k s e ej em r new ek es ee ez et =
     let r' : IsRising (bounds a) = subst IsRising (bounds-of 0 a) (subst (λ (l : List Mark). IsRising (bounds_of l)) (sym em) r) in
     laid-out b' zs' ms' (sym items, sym marks) (crack-rises head_of b a r')
 
--- ---- two bounds in one piece
-abbrev put : {A : Type 0} → ℕ → A → List A → List A
-put k x xs = take k xs ++ x ∷ drop k xs
+-- ---- two new bounds
+insert-at : (x d : Mark) (ms : List Mark) (k : ℕ) → k ≤ length ms → (get_or (insert ms k x) k d ≡ x) × (k < length (insert ms k x))
+insert-at x d [] zero le = (refl, omega arith)
+insert-at x d [] (suc k) le = absurd (omega (arith, le))
+insert-at x d (m ∷ ms) zero le = (refl, omega arith)
+insert-at x d (m ∷ ms) (suc k) le = let h = insert-at x d ms k (omega (arith, le)) in (h.0, omega (arith, h.1))
 
-put-at : (x d : Mark) (ms : List Mark) (k : ℕ) → k ≤ length ms → (get_or (put k x ms) k d ≡ x) × (k < length (put k x ms))
-put-at x d [] zero le = (refl, omega arith)
-put-at x d [] (suc k) le = absurd (omega (arith, le))
-put-at x d (m ∷ ms) zero le = (refl, omega arith)
-put-at x d (m ∷ ms) (suc k) le = let h = put-at x d ms k (omega (arith, le)) in (h.0, omega (arith, h.1))
+-- what comes from a place on comes one further behind what is put in before it
+insert-rest : {A : Type 0} (x : A) (xs : List A) (k j : ℕ) → k ≤ j → j ≤ length xs → drop (suc j) (insert xs k x) ≡ drop j xs
+insert-rest x [] zero j le within = refl
+insert-rest x [] (suc k) j le within = absurd (omega (arith, le, within))
+insert-rest x (y ∷ xs) zero j le within = refl
+insert-rest x (y ∷ xs) (suc k) zero le within = absurd (omega (arith, le))
+insert-rest x (y ∷ xs) (suc k) (suc j) le within = insert-rest x xs k j (omega (arith, le)) (omega (arith, within))
 
-put-rest : {A : Type 0} (x : A) (xs : List A) (k : ℕ) → k ≤ length xs → drop (suc k) (put k x xs) ≡ drop k xs
-put-rest x [] zero le = refl
-put-rest x [] (suc k) le = absurd (omega (arith, le))
-put-rest x (y ∷ xs) zero le = refl
-put-rest x (y ∷ xs) (suc k) le = put-rest x xs k (omega (arith, le))
+-- so does the piece that begins there
+insert-start : (i : ℕ) (x : Mark) (ms : List Mark) (k j : ℕ) → k < j → j ≤ length ms → start_at i (insert ms k x) (suc j) ≡ start_at i ms j
+insert-start i x [] k j lt within = absurd (omega (arith, lt, within))
+insert-start i x (m ∷ ms) k zero lt within = absurd (omega (arith, lt))
+insert-start i x (m ∷ ms) zero (suc j) lt within = refl
+insert-start i x (m ∷ ms) (suc k) (suc j) lt within = insert-start m.at x ms k j (omega (arith, lt)) (omega (arith, within))
 
-put-both : {A : Type 0} (x y : A) (xs : List A) (k : ℕ) → k ≤ length xs → take k xs ++ x ∷ y ∷ drop k xs ≡ put (suc k) y (put k x xs)
-put-both x y [] zero le = refl
-put-both x y [] (suc k) le = absurd (omega (arith, le))
-put-both x y (z ∷ xs) zero le = refl
-put-both x y (z ∷ xs) (suc k) le = ap (λ l. z ∷ l) (put-both x y xs k (omega (arith, le)))
+-- the later of two is put in first, or else one place further
+insert-both : {A : Type 0} (x y : A) (xs : List A) (k j : ℕ) → k ≤ j → j ≤ length xs → insert (insert xs j y) k x ≡ insert (insert xs k x) (suc j) y
+insert-both x y xs zero j le within = refl
+insert-both x y xs (suc k) zero le within = absurd (omega (arith, le))
+insert-both x y [] (suc k) (suc j) le within = absurd (omega (arith, within))
+insert-both x y (z ∷ xs) (suc k) (suc j) le within = ap (λ l. z ∷ l) (insert-both x y xs k j (omega (arith, le)) (omega (arith, within)))
 
--- a bound that falls behind a new mark, and before the next one, has one mark more before it
-put-below : (b c : Bound) (at : ℕ) (ms : List Mark) (k : ℕ) → k ≡ marks_below ms b → bound_below b c ≡ true → is_under c (drop k ms) ≡ true → marks_below (put k (record { bound = b; at = at }) ms) c ≡ suc k
-put-below b c at [] zero e h u = let no : bound_below c b ≡ false = not-below b c h in rw no refl
-put-below b c at [] (suc k) e h u = absurd (omega (arith, e))
-put-below b c at (m ∷ ms) zero e h u = let no : bound_below c b ≡ false = not-below b c h in rw (no, u) refl
-put-below b c at (m ∷ ms) (suc k) e h u = elim (cases_Bool (bound_below b m.bound)) [
+-- a bound above a new mark has one mark more before it
+insert-below : (b c : Bound) (at : ℕ) (ms : List Mark) (k : ℕ) → k ≡ marks_below ms b → bound_below b c ≡ true → marks_below (insert ms k (record { bound = b; at = at })) c ≡ suc (marks_below ms c)
+insert-below b c at [] zero e h = let no : bound_below c b ≡ false = not-below b c h in rw no refl
+insert-below b c at [] (suc k) e h = absurd (omega (arith, e))
+insert-below b c at (m ∷ ms) zero e h = let no : bound_below c b ≡ false = not-below b c h in rw no refl
+insert-below b c at (m ∷ ms) (suc k) e h = elim (cases_Bool (bound_below b m.bound)) [
   | inl first ↦ let z : suc k ≡ 0 = e ∙ step-no b m ms first in absurd (omega (arith, z))
   | inr past ↦ elim (cases_Bool (bound_below c m.bound)) [
     | inl under ↦ absurd (true≢false (sym (below-trans b c m.bound h under) ∙ past))
     | inr on ↦
         let z : suc k ≡ suc (marks_below ms b) = e ∙ step-on b m ms past in
-        rw on (ap suc (put-below b c at ms k (omega (arith, z)) h u))
+        rw on (ap suc (insert-below b c at ms k (omega (arith, z)) h))
   ]
 ]
 
--- where a piece is partitioned at two new bounds, and their marks are put in, the lists are laid out as the two cracks
-pub cracked-both : (b c : Bound) (zs zs' zs'' : List (ℤ × ℤ)) (ms ms'' : List Mark) (k s e f g : ℕ) →
-    InOrder 0 (length zs) ms → IsRising (bounds_of ms) → IsNew b ms → k ≡ marks_below ms b → k ≤ length ms → bound_below b c ≡ true → is_under c (drop k ms) ≡ true →
-    s ≡ start_at 0 ms k → e ≡ end_before (drop k ms) (length zs) → length zs' ≡ length zs →
+-- a new bound is new where a mark of another is put in
+insert-new : (c : Bound) (x : Mark) (ms : List Mark) (k : ℕ) → k ≤ length ms → same_bound c x.bound ≡ false → IsNew c ms → IsNew c (insert ms k x)
+insert-new c x ms zero le h new = (h, new)
+insert-new c x [] (suc k) le h new = absurd (omega (arith, le))
+insert-new c x (m ∷ ms) (suc k) le h new = (new.0, insert-new c x ms k (omega (arith, le)) h new.1)
+
+-- two items put in together at the later one's place, of which the first is turned back to its own
+pub turned : {A : Type 0} (x y : A) (xs : List A) (k j : ℕ) → k ≤ j → j ≤ length xs →
+    let both : List A = take j xs ++ x ∷ y ∷ drop j xs in
+    take k both ++ (slice_rotate_right (take (j + 1 - k) (drop k both)) 1 ++ drop (j + 1 - k) (drop k both)) ≡ insert (insert xs j y) k x
+turned {A} x y xs zero j le within =
+    let front : List A = take j xs in
+    let rest : List A = y ∷ drop j xs in
+    let long : length front ≡ j = omega (arith, length-take j xs, within) in
+    let whole : front ++ x ∷ rest ≡ (front ++ x ∷ []) ++ rest = sym (append_assoc front (x ∷ []) rest) in
+    let more : length (front ++ x ∷ []) ≡ j + 1 - 0 = omega (arith, length-append front (x ∷ []), long) in
+    let before : take (j + 1 - 0) (front ++ x ∷ rest) ≡ front ++ x ∷ [] = ap (take (j + 1 - 0)) whole ∙ take_at (front ++ x ∷ []) rest (j + 1 - 0) more in
+    let behind : drop (j + 1 - 0) (front ++ x ∷ rest) ≡ rest = ap (drop (j + 1 - 0)) whole ∙ drop_at (front ++ x ∷ []) rest (j + 1 - 0) more in
+    let one : length (front ++ x ∷ []) - 1 ≡ j = omega (arith, more) in
+    let turn : slice_rotate_right (front ++ x ∷ []) 1 ≡ x ∷ front = ap (λ (n : ℕ). drop n (front ++ x ∷ []) ++ take n (front ++ x ∷ [])) one ∙ ap₂ (λ u v. u ++ v) (drop_at front (x ∷ []) j long) (take_at front (x ∷ []) j long) in
+    ap₂ (λ u v. slice_rotate_right u 1 ++ v) before behind ∙ ap (λ l. l ++ rest) turn
+turned x y xs (suc k) zero le within = absurd (omega (arith, le))
+turned x y [] (suc k) (suc j) le within = absurd (omega (arith, within))
+turned {A} x y (z ∷ xs) (suc k) (suc j) le within =
+    let both : List A = take j xs ++ x ∷ y ∷ drop j xs in
+    let n : suc j + 1 - suc k ≡ j + 1 - k = omega arith in
+    ap (λ l. z ∷ l) (
+    ap (λ (i : ℕ). take k both ++ (slice_rotate_right (take i (drop k both)) 1 ++ drop i (drop k both))) n ∙
+    turned x y xs k j (omega (arith, le)) (omega (arith, within)))
+
+-- where two new bounds' pieces are partitioned, and their marks are put in, the lists are laid out as the two cracks
+pub cracked-two : (b c : Bound) (zs zs' zs'' : List (ℤ × ℤ)) (ms ms'' : List Mark) (k j s e f t u g : ℕ) →
+    InOrder 0 (length zs) ms → IsRising (bounds_of ms) → IsNew b ms × IsNew c ms → k ≡ marks_below ms b → j ≡ marks_below ms c → (k ≤ j) × (j ≤ length ms) → bound_below b c ≡ true →
+    s ≡ start_at 0 ms k → e ≡ end_before (drop k ms) (length zs) → (k ≡ j → t ≡ f) → (k < j → t ≡ start_at 0 ms j) → u ≡ end_before (drop j ms) (length zs) → length zs' ≡ length zs →
     zs' ≡ parted (goes_left head_of b) s e zs → f ≡ s + count_by (goes_left head_of b) (take (e - s) (drop s zs)) →
-    zs'' ≡ parted (goes_left head_of c) f e zs' → g ≡ f + count_by (goes_left head_of c) (take (e - f) (drop f zs')) →
-    ms'' ≡ take k ms ++ record { bound = b; at = f } ∷ record { bound = c; at = g } ∷ drop k ms →
+    zs'' ≡ parted (goes_left head_of c) t u zs' → g ≡ t + count_by (goes_left head_of c) (take (u - t) (drop t zs')) →
+    ms'' ≡ insert (insert ms j (record { bound = c; at = g })) k (record { bound = b; at = f }) →
     IsLaidOut (crack head_of c (crack head_of b (pieces_between 0 zs ms))) zs'' ms''
-cracked-both b c zs zs' zs'' ms ms'' k s e f g o r new ek le h u es ee long ez ef ez' eg et =
+cracked-two b c zs zs' zs'' ms ms'' k j s e f t u g o r new ek ej places h es ee same apart eu long ez ef ez' eg et =
     let low : Mark = record { bound = b; at = f } in
-    let ms' : List Mark = put k low ms in
-    let one = cracked b (pieces_between 0 zs ms) zs zs' ms ms' k s e (pieces-joined 0 zs ms) (pieces-marks 0 (length zs) zs ms (omega arith) o) r new ek es ee ez (ap (λ (j : ℕ). put k (record { bound = b; at = j }) ms) ef) in
-    let there = put-at low low ms k le in
-    let below : marks_below ms' c ≡ suc k = put-below b c f ms k ek h u in
-    let last : suc k - 1 ≡ k = omega arith in
-    let other : same_bound c b ≡ false = same-flips c b ∙ below-new b c h in
-    let other' : same_bound c (get_or ms' (suc k - 1) low).bound ≡ false = ap (λ (j : ℕ). same_bound c (get_or ms' j low).bound) last ∙ ap (λ (m : Mark). same_bound c m.bound) there.0 ∙ other in
-    let new' : IsNew c ms' = new-at c ms' (suc k) low below one.rising (λ _. other') in
-    let es' : f ≡ start_at 0 ms' (suc k) = sym (start-at 0 ms' k low there.1 ∙ ap (λ (m : Mark). m.at) there.0) in
-    let ee' : e ≡ end_before (drop (suc k) ms') (length zs') = ee ∙ ap₂ (λ (l : List Mark) (j : ℕ). end_before l j) (sym (put-rest low ms k le)) (sym long) in
-    let et' : ms'' ≡ put (suc k) (record { bound = c; at = f + count_by (goes_left head_of c) (take (e - f) (drop f zs')) }) ms' = et ∙ put-both low (record { bound = c; at = g }) ms k le ∙ ap (λ (j : ℕ). put (suc k) (record { bound = c; at = j }) ms') eg in
-    let two = cracked c (pieces_between 0 zs' ms') zs' zs'' ms' ms'' (suc k) f e (pieces-joined 0 zs' ms') (pieces-marks 0 (length zs') zs' ms' (omega arith) one.order) one.rising new' (sym below) es' ee' ez' et' in
+    let ms' : List Mark = insert ms k low in
+    let le : k ≤ length ms = omega (arith, places.0, places.1) in
+    let one = cracked b (pieces_between 0 zs ms) zs zs' ms ms' k s e (pieces-joined 0 zs ms) (pieces-marks 0 (length zs) zs ms (omega arith) o) r new.0 ek es ee ez (ap (λ (n : ℕ). insert ms k (record { bound = b; at = n })) ef) in
+    let there = insert-at low low ms k le in
+    let below : suc j ≡ marks_below ms' c = ap suc ej ∙ sym (insert-below b c f ms k ek h) in
+    let new' : IsNew c ms' = insert-new c low ms k le (same-flips c b ∙ below-new b c h) new.1 in
+    let begins : t ≡ start_at 0 ms' (suc j) = elim (same-or-less k j places.0) [
+      | inl is ↦ same is ∙ sym (start-at 0 ms' k low there.1 ∙ ap (λ (m : Mark). m.at) there.0) ∙ ap (λ (n : ℕ). start_at 0 ms' (suc n)) is
+      | inr lt ↦ apart lt ∙ sym (insert-start 0 low ms k j lt places.1)
+    ] in
+    let ends : u ≡ end_before (drop (suc j) ms') (length zs') = eu ∙ ap₂ (λ (l : List Mark) (n : ℕ). end_before l n) (sym (insert-rest low ms k j places.0 places.1)) (sym long) in
+    let et' : ms'' ≡ insert ms' (suc j) (record { bound = c; at = t + count_by (goes_left head_of c) (take (u - t) (drop t zs')) }) = et ∙ insert-both low (record { bound = c; at = g }) ms k j places.0 places.1 ∙ ap (λ (n : ℕ). insert ms' (suc j) (record { bound = c; at = n })) eg in
+    let two = cracked c (pieces_between 0 zs' ms') zs' zs'' ms' ms'' (suc j) t u (pieces-joined 0 zs' ms') (pieces-marks 0 (length zs') zs' ms' (omega arith) one.order) one.rising new' below begins ends ez' et' in
     subst (λ (a : Arrangement (ℤ × ℤ)). IsLaidOut (crack head_of c a) zs'' ms'') one.pieces two
 
 -- a bound that is there

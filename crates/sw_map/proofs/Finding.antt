@@ -53,7 +53,8 @@ search-is b (m ∷ ms) (suc n) le low high =
     let h : marks_below ms b ≡ n = search-is b ms n (omega (arith, le)) (λ k d lt. low (suc k) d (omega (arith, lt))) (λ k d ge lt. high (suc k) d (omega (arith, ge)) (omega (arith, lt))) in
     rw e (ap suc h)
 
-same-or-less : (j k : ℕ) → j ≤ k → (j ≡ k) ⊎ (j < k)
+-- a number that is not above another is the same or below it
+pub same-or-less : (j k : ℕ) → j ≤ k → (j ≡ k) ⊎ (j < k)
 same-or-less zero zero le = inl refl
 same-or-less zero (suc k) le = inr (omega arith)
 same-or-less (suc j) zero le = inr (nope j (omega (arith, le)))
@@ -74,6 +75,21 @@ step-on b m ms e = rw e refl
 -- where the first mark stands above the bound, none stands before it
 pub step-no : (b : Bound) (m : Mark) (ms : List Mark) → bound_below b m.bound ≡ true → marks_below (m ∷ ms) b ≡ 0
 step-no b m ms e = rw e refl
+
+-- no fewer marks stand before a higher bound
+pub below-rises : (b c : Bound) (ms : List Mark) → bound_below b c ≡ true → marks_below ms b ≤ marks_below ms c
+below-rises b c [] h = omega arith
+below-rises b c (m ∷ ms) h = elim (cases_Bool (bound_below b m.bound)) [
+  | inl first ↦ let z = step-no b m ms first in omega (arith, z)
+  | inr past ↦ elim (cases_Bool (bound_below c m.bound)) [
+    | inl under ↦ absurd (true≢false (sym (below-trans b c m.bound h under) ∙ past))
+    | inr on ↦
+        let ih = below-rises b c ms h in
+        let z = step-on b m ms past in
+        let w = step-on c m ms on in
+        omega (arith, ih, z, w)
+  ]
+]
 
 -- a bound is new where the mark before its place has another
 pub new-at : (b : Bound) (ms : List Mark) (n : ℕ) (d : Mark) → marks_below ms b ≡ n → IsRising (bounds_of ms) → (0 < n → same_bound b (get_or ms (n - 1) d).bound ≡ false) → IsNew b ms

@@ -5,7 +5,7 @@ use Rattle.sw_query.specs.Outcomes.{IsRefused}
 use Rattle.sw_query.specs.declared.refusal.Refusal.{Refusal}
 use Rattle.sw_query.specs.declared.bound.Bound.{Bound}
 use Rattle.sw_table.specs.declared.row.Row.{Row}
-use Rattle.sw_query.specs.Bounds.{bound_below, same_bound}
+use Rattle.sw_query.specs.Bounds.{same_bound}
 use Rattle.sw_kernel.specs.declared.mark.Mark.{Mark}
 use Rattle.sw_kernel.specs.Partition.{partition, head_of}
 use Rattle.sw_kernel.specs.Arrangement.{Arrangement, last, piece, joined, crack}
@@ -29,11 +29,6 @@ mark_of b (m ∷ ms) = cond (same_bound b m.bound) (Some m.at) (mark_of b ms)
 -- there is a mark before the k-th piece, and it has the bound
 abbrev pub IsBefore : ℕ → Bound → List Mark → Type 0
 IsBefore k b marks = (0 < k) × HoldsAt (λ m. same_bound b m.bound ≡ true) marks (k - 1)
-
--- whether a bound stands below the first of these marks, or there is none
-abbrev pub is_under : Bound → List Mark → Bool
-is_under b [] = true
-is_under b (m ∷ ms) = bound_below b m.bound
 
 -- zs with the places from s up to e partitioned
 abbrev pub parted : {A : Type 0} → (A → Bool) → ℕ → ℕ → List A → List A

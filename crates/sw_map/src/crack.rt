@@ -1,15 +1,15 @@
 //! Cracks of head and tail, in place.
 
-ghost use Rattle.std.specs.Prelude.{◌≡◌, ◌+◌, ◌-◌, ◌<◌, ◌≤◌, ◌++◌, ◌∷◌, Some, length, zip, take, drop, true, vec_len, vec_capacity};
+ghost use Rattle.std.specs.Prelude.{◌≡◌, ◌+◌, ◌-◌, ◌<◌, ◌≤◌, ◌++◌, ◌∷◌, Some, length, zip, take, drop, insert, true, vec_len, vec_capacity};
 ghost use Rattle.sw_query.specs.Bounds.{bound_below};
 ghost use Rattle.sw_kernel.specs.Partition.{goes_left, head_of};
 ghost use Rattle.sw_kernel.specs.Arrangement.{crack};
 ghost use Rattle.sw_kernel.specs.Replay.{crack_at, ranged, step};
 ghost use Rattle.sw_kernel.specs.Flat.{InOrder, IsNew, KeepsRoom, end_before, marks_below, start_at};
 ghost use Rattle.sw_kernel.specs.Tapes.{IsRising};
-ghost use Rattle.sw_map.specs.Pieces.{AreCut, bounds_of, count_between, cut_twice, is_under, parted, zipped};
+ghost use Rattle.sw_map.specs.Pieces.{AreCut, bounds_of, count_between, cut_twice, parted, zipped};
 
-use crate::places::{is_marked, is_under, marks_below};
+use crate::places::{is_marked, marks_below};
 use sw_kernel::{Mark, end_before, split};
 use sw_query::Bound;
 
@@ -77,6 +77,18 @@ fn put_both(marks: &mut Vec<Mark>, k: usize, lower: Mark, upper: Mark)
     marks[k..].rotate_right(2);
 }
 
+/// Puts two marks in, each at its place, for which there is room. What stands behind both moves once.
+fn put_two(marks: &mut Vec<Mark>, places: (usize, usize), lower: Mark, upper: Mark)
+    requires room { vec_len marks.old + 2 ≤ vec_capacity marks.old }
+    requires places { (places.0 ≤ places.1) × (places.1 ≤ vec_len marks.old) }
+    ensures items { marks.new.items ≡ insert (insert marks.old.items places.1 upper) places.0 lower }
+    ensures len { vec_len marks.new ≡ vec_len marks.old + 2 }
+    ensures capacity { vec_capacity marks.new ≡ vec_capacity marks.old }
+{
+    put_both(marks, places.1, lower, upper);
+    marks[places.0..places.1 + 1].rotate_right(1);
+}
+
 /// Partitions the piece that a new bound falls into, and marks the bound.
 fn crack_new(
     head: &mut Vec<i64>,
@@ -104,32 +116,47 @@ fn crack_new(
     put_mark(marks, k, Mark { bound, at });
 }
 
-/// Partitions the piece that two new bounds fall into at the lower and then at the upper one, and marks both.
-fn crack_both(
+/// Where the piece of the upper of two new bounds begins, if the lower one's mark is to stand at `first`.
+fn upper_start(marks: &[Mark], places: (usize, usize), first: usize) -> usize
+    requires { places.1 ≤ length marks.now }
+    ensures same { places.0 ≡ places.1 → result ≡ first }
+    ensures apart { places.0 < places.1 → result ≡ start_at 0 marks.now places.1 }
+{
+    if places.0 == places.1 {
+        first
+    } else {
+        start_of(marks, places.1)
+    }
+}
+
+/// Partitions the pieces that two new bounds fall into, at the lower and then at the upper one, and marks both.
+fn crack_two(
     head: &mut Vec<i64>,
     tail: &mut Vec<i64>,
     marks: &mut Vec<Mark>,
-    k: usize,
+    places: (usize, usize),
     bounds: (Bound, Bound),
 )
     requires lengths { vec_len head.old ≡ vec_len tail.old }
     requires room { vec_len marks.old + 2 ≤ vec_capacity marks.old }
     requires order { InOrder 0 (vec_len head.old) marks.old.items }
     requires rising { IsRising (bounds_of marks.old.items) }
-    requires new { IsNew bounds.0 marks.old.items }
-    requires place { k ≡ marks_below marks.old.items bounds.0 }
-    requires within { k ≤ vec_len marks.old }
+    requires new { IsNew bounds.0 marks.old.items × IsNew bounds.1 marks.old.items }
+    requires lower { places.0 ≡ marks_below marks.old.items bounds.0 }
+    requires upper { places.1 ≡ marks_below marks.old.items bounds.1 }
+    requires places { (places.0 ≤ places.1) × (places.1 ≤ vec_len marks.old) }
     requires above { bound_below bounds.0 bounds.1 ≡ true }
-    requires under { is_under bounds.1 (drop k marks.old.items) ≡ true }
     ensures cracked { AreCut (cut_twice bounds.0 (Some bounds.1)) head.old tail.old marks.old head.new tail.new marks.new }
     ensures order { InOrder 0 (vec_len head.new) marks.new.items }
     ensures lengths { (vec_len head.new ≡ vec_len head.old) × (vec_len tail.new ≡ vec_len tail.old) }
     ensures capacity { KeepsRoom head.old head.new × KeepsRoom tail.old tail.new }
 {
-    let start = start_of(marks, k);
-    let end = end_before(marks, k, head.len());
+    let start = start_of(marks, places.0);
+    let end = end_before(marks, places.0, head.len());
     let first = part_lists(head, tail, start, end, bounds.0);
-    let second = part_lists(head, tail, first, end, bounds.1);
+    let from = upper_start(marks, places, first);
+    let to = end_before(marks, places.1, head.len());
+    let second = part_lists(head, tail, from, to, bounds.1);
     let lower = Mark {
         bound: bounds.0,
         at: first,
@@ -138,7 +165,7 @@ fn crack_both(
         bound: bounds.1,
         at: second,
     };
-    put_both(marks, k, lower, upper);
+    put_two(marks, places, lower, upper);
 }
 
 /// Partitions the piece that a bound falls into, the k-th, unless the bound is marked.
@@ -178,7 +205,7 @@ fn crack_some(head: &mut Vec<i64>, tail: &mut Vec<i64>, marks: &mut Vec<Mark>, b
     }
 }
 
-/// Cracks at a bound, and then at another, if there is one. Two that are new to one piece are marked together.
+/// Cracks at a bound, and then at another, if there is one. Two that are new are marked together.
 fn crack_from(
     head: &mut Vec<i64>,
     tail: &mut Vec<i64>,
@@ -199,10 +226,12 @@ fn crack_from(
     if let Some(upper) = upper
         && lower.is_below(upper)
         && !is_marked(marks, k, lower)
-        && is_under(marks, k, upper)
     {
-        crack_both(head, tail, marks, k, (lower, upper));
-        return;
+        let j = marks_below(marks, upper);
+        if !is_marked(marks, j, upper) {
+            crack_two(head, tail, marks, (k, j), (lower, upper));
+            return;
+        }
     }
     crack(head, tail, marks, k, lower);
     crack_some(head, tail, marks, upper);

@@ -1,10 +1,10 @@
 //! Where a bound's mark stands among rising marks.
 
-ghost use Rattle.std.specs.Prelude.{◌≡◌, ◌≤◌, drop, length, Decides};
+ghost use Rattle.std.specs.Prelude.{◌≡◌, ◌≤◌, length, Decides};
 ghost use Rattle.sw_kernel.specs.declared.mark.Mark.{Mark};
 ghost use Rattle.sw_kernel.specs.Flat.{marks_below};
 ghost use Rattle.sw_kernel.specs.Tapes.{IsRising};
-ghost use Rattle.sw_map.specs.Pieces.{IsBefore, bounds_of, is_under, mark_of};
+ghost use Rattle.sw_map.specs.Pieces.{IsBefore, bounds_of, mark_of};
 
 use sw_kernel::Mark;
 use sw_query::Bound;
@@ -24,13 +24,6 @@ pub(crate) fn is_marked(marks: &[Mark], k: usize, bound: Bound) -> bool
     ensures { Decides result (IsBefore k bound marks.now) }
 {
     0 < k && bound.is_same(marks[k - 1].bound)
-}
-
-/// Whether the bound stands below the mark behind the k-th piece, if there is one.
-pub(crate) fn is_under(marks: &[Mark], k: usize, bound: Bound) -> bool
-    ensures { result ≡ is_under bound (drop k marks.now) }
-{
-    k >= marks.len() || bound.is_below(marks[k].bound)
 }
 
 /// The place of the bound's mark, if it has one.
