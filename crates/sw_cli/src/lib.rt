@@ -36,5 +36,5 @@ pub use script::{Block, MOST_BLOCKS, MOST_CALLS, call_of_line};
 pub use start::{Inputs, read_start};
 pub use stats::{write_stats_line, write_stats_title};
 pub use sw_engine::{HeadStats, head_of};
-pub use sw_histories::{check_file, explain_file, read_record, write_record};
+pub use sw_histories::{check_file, explain_file, read_record, write_out_record, write_record};
 pub use telling::write_told;

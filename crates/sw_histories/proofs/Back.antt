@@ -6,4 +6,5 @@ pub mod RecordTextLemmas
 pub mod RecordTexts
 pub mod RunRecords
 pub mod TableCells
+pub mod TextFromEnd
 pub mod WrittenAgain

@@ -117,9 +117,36 @@ front_text before h =
     ++ codes ",\"entries\":" ++ compact_text (entries_data h.columns h.entries)
     ++ codes ",\"format\":" ++ decimal (format_of h.columns h.entries) ++ codes ",\"limit\":" ++ decimal h.limit
 
+-- a text and then what stands before the entries
+abbrev pub opening_text : List ℕ → List Column → List ℕ
+opening_text before columns =
+    before ++ codes "{\"attributes\":" ++ compact_text (attributes_data columns) ++ codes ",\"entries\":"
+
+-- a text and then the format and the limit
+abbrev pub numbers_text : List ℕ → ℕ → ℕ → List ℕ
+numbers_text before format limit =
+    before ++ codes ",\"format\":" ++ decimal format ++ codes ",\"limit\":" ++ decimal limit
+
+-- a text and then the rows and the end
+abbrev pub closing_text : List ℕ → List Column → List Row → List ℕ
+closing_text before columns rows =
+    before ++ codes ",\"rows\":" ++ compact_text (rows_data (kinds_of columns) rows) ++ codes "}"
+
+-- what stands before the items of the entries, and, in a record of a format, what stands behind them
+abbrev pub before_text : List Column → List ℕ
+before_text columns = opening_text [] columns ++ codes "["
+
+abbrev pub behind_text : ℕ → History → List ℕ
+behind_text format h = closing_text (numbers_text (codes "]") format h.limit) h.columns h.rows
+
 -- an item of an array: a comma, where one stands before it, and its text
 abbrev pub item_text : Bool → Data → List ℕ
 item_text is_later d = comma_if is_later ++ compact_text d
+
+-- items of an array, one after another, and then a text
+abbrev pub items_then : Bool → List Data → List ℕ → List ℕ
+items_then is_later [] after = after
+items_then is_later (d ∷ ds) after = item_text is_later d ++ items_then true ds after
 
 -- these bytes were put behind those that stood there; or that is refused
 abbrev pub Puts : {A E : Type 0} → Result A E → List ℕ → List ℕ → List ℕ → Type 0

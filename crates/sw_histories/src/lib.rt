@@ -14,4 +14,4 @@ pub use law::{
     tables_have_cells, texts_are_read_as_values,
 };
 pub use reading::read_record;
-pub use writing::{write_record, write_record_ref};
+pub use writing::{write_out_record, write_record, write_record_ref};

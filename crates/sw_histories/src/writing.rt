@@ -1,19 +1,26 @@
 //! A record is written as a JSON text.
 
-ghost use Rattle.std.specs.Prelude.{◌≡◌, ◌≤◌, ◌<◌, ℕ, List, decimal, false, length, map, string_bytes, IfOk, OnOk};
+mod turned;
+
+ghost use Rattle.std.specs.Prelude.{◌≡◌, ◌≤◌, ◌<◌, ◌++◌, ℕ, List, [], decimal, false, length, map, string_bytes, IfOk, OnOk};
 ghost use Rattle.serde_json.specs.View.{view};
 ghost use Rattle.serde_json.specs.Written.{comma_if, compact_text, has_float};
 ghost use Rattle.sw_lang.specs.PrintedCalls.{call_text};
 ghost use Rattle.sw_rows.specs.Cells.{HasPlaces};
 ghost use Rattle.sw_rows.specs.Domains.{domain};
 ghost use Rattle.sw_rows.specs.Header.{kinds_of, texts_of};
-ghost use Rattle.sw_histories.specs.RecordText.{Puts, WritesRecord, attribute_text, attributes_data, cell_data, entries_data, entry_data, format_of, front_text, has_delete_where, is_delete_where, item_text, least_format, record_text, row_data, rows_data, state_data, texts_data};
+ghost use Rattle.sw_histories.specs.RecordText.{Puts, WritesRecord, attribute_text, attributes_data, before_text, behind_text, cell_data, closing_text, entries_data, entry_data, format_of, front_text, has_delete_where, is_delete_where, item_text, items_then, least_format, numbers_text, opening_text, record_text, row_data, rows_data, state_data, texts_data};
 
 use serde_json::{Value, json};
 use std::alloc::{AllocError, Global};
+use std::mem;
 use sw_lang::{kind_name, write_all, write_call};
 use sw_rows::{Call, Counted, Kind, PackedRows, Refusal, Row, Schema, Sink};
 use sw_spine::{Entry, Lines, Record, RecordRef, State};
+use turned::TurnedText;
+
+/// For how many entries room stands at most, once their text is made.
+const SPARE: usize = 8_192;
 
 /// The bytes of a call. They go to memory, so no memory is the one failure.
 fn call_bytes(alloc: Global, schema: &Schema, call: &Call) -> Result<Vec<u8>, AllocError>
@@ -268,20 +275,49 @@ fn put_number(alloc: Global, number: u64, text: &mut Vec<u8>) -> Result<(), Allo
     put_value(alloc, &value, text)
 }
 
+/// Puts what stands before the entries.
+fn put_opening(alloc: Global, schema: &Schema, text: &mut Vec<u8>) -> Result<(), AllocError>
+    ensures { OnOk result (text.new.items ≡ opening_text text.old.items schema.now) }
+{
+    text.extend_from_slice(b"{\"attributes\":")?;
+    put_attributes(alloc, schema, text)?;
+    text.extend_from_slice(b",\"entries\":")?;
+    Ok(())
+}
+
+/// Puts the format and the limit.
+fn put_numbers(alloc: Global, format: u64, limit: u64, text: &mut Vec<u8>) -> Result<(), AllocError>
+    ensures { OnOk result (text.new.items ≡ numbers_text text.old.items format limit) }
+{
+    text.extend_from_slice(b",\"format\":")?;
+    put_number(alloc, format, text)?;
+    text.extend_from_slice(b",\"limit\":")?;
+    put_number(alloc, limit, text)
+}
+
+/// Puts the rows and what stands behind them.
+fn put_closing(
+    alloc: Global,
+    schema: &Schema,
+    rows: &PackedRows,
+    text: &mut Vec<u8>,
+) -> Result<(), AllocError>
+    ensures { OnOk result (text.new.items ≡ closing_text text.old.items schema.now rows.now.items) }
+{
+    text.extend_from_slice(b",\"rows\":")?;
+    put_rows(alloc, schema, rows, text)?;
+    text.push(b'}')?;
+    Ok(())
+}
+
 /// Puts what stands before the rows.
 fn put_front(alloc: Global, history: &RecordRef<'_>, text: &mut Vec<u8>) -> Result<(), AllocError>
     ensures { OnOk result (text.new.items ≡ front_text text.old.items history.now) }
 {
-    text.extend_from_slice(b"{\"attributes\":")?;
-    put_attributes(alloc, history.schema, text)?;
-    text.extend_from_slice(b",\"entries\":")?;
+    put_opening(alloc, history.schema, text)?;
     put_entries(alloc, history.schema, history.entries, text)?;
-    text.extend_from_slice(b",\"format\":")?;
     let format = format_of(history.schema, history.entries);
-    put_number(alloc, format, text)?;
-    text.extend_from_slice(b",\"limit\":")?;
-    put_number(alloc, history.limit, text)?;
-    Ok(())
+    put_numbers(alloc, format, history.limit, text)
 }
 
 fn record_bytes(alloc: Global, history: &RecordRef<'_>) -> Result<Vec<u8>, AllocError>
@@ -289,10 +325,90 @@ fn record_bytes(alloc: Global, history: &RecordRef<'_>) -> Result<Vec<u8>, Alloc
 {
     let mut text = Vec::new(alloc);
     put_front(alloc, history, &mut text)?;
-    text.extend_from_slice(b",\"rows\":")?;
-    put_rows(alloc, history.schema, history.rows, &mut text)?;
-    text.push(b'}')?;
+    put_closing(alloc, history.schema, history.rows, &mut text)?;
     Ok(text)
+}
+
+/// What stands before the items of the entries.
+fn bytes_before(alloc: Global, schema: &Schema) -> Result<Vec<u8>, AllocError>
+    ensures { IfOk result (λ text. text.items ≡ before_text schema.now) }
+{
+    let mut text = Vec::new(alloc);
+    put_opening(alloc, schema, &mut text)?;
+    text.push(b'[')?;
+    Ok(text)
+}
+
+/// What stands behind the items of the entries, in a record of this format.
+fn text_behind(
+    alloc: Global,
+    history: &RecordRef<'_>,
+    format: u64,
+) -> Result<TurnedText, AllocError>
+    ensures { IfOk result (λ text. text ≡ behind_text format history.now) }
+{
+    let mut text = Vec::new(alloc);
+    text.push(b']')?;
+    put_numbers(alloc, format, history.limit, &mut text)?;
+    put_closing(alloc, history.schema, history.rows, &mut text)?;
+    Ok(TurnedText::ending(text))
+}
+
+/// Puts the item of an entry before a text. The entry goes.
+fn put_entry_before(
+    alloc: Global,
+    schema: &Schema,
+    entry: Entry,
+    is_later: bool,
+    text: &mut TurnedText,
+) -> Result<(), AllocError>
+    ensures { OnOk result (text.new ≡ item_text is_later (entry_data schema.now entry) ++ text.old) }
+{
+    let mut piece = Vec::new(alloc);
+    put_entry(alloc, schema, &entry, is_later, &mut piece)?;
+    text.put_before(piece)
+}
+
+/// Gives back the room of entries that were taken, where it is much.
+fn give_back(entries: &mut Vec<Entry>)
+    ensures { entries.new.items ≡ entries.old.items }
+{
+    if entries.capacity() - entries.len() >= SPARE {
+        entries.shrink_to_fit();
+    }
+}
+
+/// Puts the items of entries before a text, the last one first.
+fn put_entries_before(
+    alloc: Global,
+    schema: &Schema,
+    entries: Vec<Entry>,
+    text: &mut TurnedText,
+) -> Result<(), AllocError>
+    ensures { OnOk result (text.new ≡ items_then false (map (entry_data schema.now) entries.items) text.old) }
+{
+    let mut left = entries;
+    while let Some(entry) = left.pop() {
+        put_entry_before(alloc, schema, entry, !left.is_empty(), text)?;
+        give_back(&mut left);
+    }
+    Ok(())
+}
+
+/// The bytes of a record with these entries, which go as their items are put: the text is made from its end.
+fn record_bytes_out(
+    alloc: Global,
+    history: &RecordRef<'_>,
+    entries: Vec<Entry>,
+) -> Result<Vec<u8>, AllocError>
+    ensures { IfOk result (λ text. text.items ≡ record_text (record history.now { entries = entries.items })) }
+{
+    let format = format_of(history.schema, entries.as_slice());
+    let mut text = text_behind(alloc, history, format)?;
+    put_entries_before(alloc, history.schema, entries, &mut text)?;
+    let before = bytes_before(alloc, history.schema)?;
+    text.put_before(before)?;
+    Ok(text.into_bytes())
 }
 
 /// Writes the text of a record's file: one JSON object without blanks, in which keys ascend. An answered entry is
@@ -316,6 +432,23 @@ pub fn write_record_ref<W: Sink>(
     ensures { WritesRecord history.now (W.taken out.old) (W.taken out.new) (W.failed out.old) (W.failed out.new) result }
 {
     match record_bytes(alloc, history) {
+        Ok(text) => write_all(out, text.as_slice()),
+        Err(_) => Err(Refusal::NoMemory),
+    }
+}
+
+/// The same of a record that is not needed any more: its entries go as their text is made, so that not both stand
+/// whole. Behind it the record has none, whatever came of it.
+pub fn write_out_record<W: Sink>(
+    alloc: Global,
+    spent: &mut Record,
+    out: &mut W,
+) -> Result<(), Refusal>
+    ensures text { WritesRecord spent.old (W.taken out.old) (W.taken out.new) (W.failed out.old) (W.failed out.new) result }
+    ensures left { spent.new ≡ record spent.old { entries = [] } }
+{
+    let entries = mem::replace(&mut spent.entries, Vec::new(alloc));
+    match record_bytes_out(alloc, &spent.by_ref(), entries) {
         Ok(text) => write_all(out, text.as_slice()),
         Err(_) => Err(Refusal::NoMemory),
     }

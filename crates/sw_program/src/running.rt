@@ -10,8 +10,8 @@ use std::rt::{Clock, Files};
 use std::sync::Wait;
 use std::thread::Threads;
 use sw_cli::{
-    AfterRun, Means, Noting, Onlooker, Options, blank_boxes, run_shared, write_record,
-    write_stats_line, write_stats_title,
+    AfterRun, Means, Noting, Onlooker, Options, blank_boxes, run_shared, write_out_record,
+    write_record, write_stats_line, write_stats_title,
 };
 use sw_commands::{
     Asking, Clash, Form, Keeping, Keeps, Kept, LinesSeen, Outflow, Place, Script, Seen, Settings,
@@ -188,31 +188,57 @@ fn run_named<R: Files + RandomSource + Clock + Print + Eprint + Input + Threads 
     run_keeping(rt, alloc, run, sources, watch)
 }
 
-/// Writes a record to the file of a path.
-fn keep_at<R: Files>(rt: &R, alloc: Global, history: &Record, path: &str) -> Result<(), Refusal> {
+/// Writes a record to the file of a path; the record stays.
+fn keep_whole<R: Files>(
+    rt: &R,
+    alloc: Global,
+    history: &Record,
+    path: &str,
+) -> Result<(), Refusal> {
     let mut file = begin_file(rt, alloc, path)?;
     let written = write_record(alloc, history, &mut file);
     file.end(rt, written)
 }
 
-/// Writes a record to the file of a path, if there is one; `words` gets why that was refused.
+/// Writes a record to the file of a path; its entries go meanwhile, so that not both stand whole.
+fn give_out<R: Files>(
+    rt: &R,
+    alloc: Global,
+    history: &mut Record,
+    path: &str,
+) -> Result<(), Refusal> {
+    let mut file = begin_file(rt, alloc, path)?;
+    let written = write_out_record(alloc, history, &mut file);
+    file.end(rt, written)
+}
+
+/// What came of writing a file; `words` gets why it was refused.
+fn told_of<R: Files>(
+    rt: &R,
+    alloc: Global,
+    path: &str,
+    written: Result<(), Refusal>,
+    words: &mut Option<String>,
+) -> Result<(), Refusal> {
+    if let Err(refusal) = &written {
+        *words = of_unwritten(rt, alloc, path, refusal);
+    }
+    written
+}
+
+/// Writes a record to the file of a path, if there is one, and its entries go; `words` gets why that was refused.
 pub(crate) fn keep<R: Files>(
     rt: &R,
     alloc: Global,
-    history: &Record,
+    history: &mut Record,
     path: Option<&str>,
     words: &mut Option<String>,
 ) -> Result<(), Refusal> {
     let Some(path) = path else {
         return Ok(());
     };
-    match keep_at(rt, alloc, history, path) {
-        Ok(()) => Ok(()),
-        Err(refusal) => {
-            *words = of_unwritten(rt, alloc, path, &refusal);
-            Err(refusal)
-        }
-    }
+    let written = give_out(rt, alloc, history, path);
+    told_of(rt, alloc, path, written, words)
 }
 
 /// Writes what each head tells of itself, on standard error.
@@ -313,26 +339,25 @@ impl Run<'_> {
         }
     }
 
-    /// Writes what the run leaves in files: its history, then the log of its calls; `words` gets why one was refused.
+    /// Writes what the run leaves in files: its history, then the log of its calls; `words` gets why one was refused. The
+    /// record may have no entries behind it.
     fn leave<R: Files>(
         &self,
         rt: &R,
         alloc: Global,
-        history: &Record,
+        history: &mut Record,
         times: Option<Times>,
         words: &mut Option<String>,
     ) -> Result<(), Refusal> {
-        keep(rt, alloc, history, self.history, words)?;
-        let (Some(times), Some(path)) = (times, self.log) else {
-            return Ok(());
+        let (Some(times), Some(log)) = (times, self.log) else {
+            return keep(rt, alloc, history, self.history, words);
         };
-        match keep_log(rt, alloc, history, times, path) {
-            Ok(()) => Ok(()),
-            Err(refusal) => {
-                *words = of_unwritten(rt, alloc, path, &refusal);
-                Err(refusal)
-            }
+        if let Some(path) = self.history {
+            let written = keep_whole(rt, alloc, history, path);
+            told_of(rt, alloc, path, written, words)?;
         }
+        let written = keep_log(rt, alloc, history, times, log);
+        told_of(rt, alloc, log, written, words)
     }
 
     /// Makes the run: the replies go to standard output, then the history and the log to their files, then what the heads
@@ -358,7 +383,7 @@ impl Run<'_> {
         let is_last_alone = self.form == Form::Table;
         let watch = Watch::new(alloc, &seen, self.log.is_some(), is_last_alone);
         let Came { ended, kept } = run_named(rt, alloc, self, &watch);
-        let ended = match ended {
+        let mut ended = match ended {
             Ok(ended) => ended,
             Err(refusal) => {
                 *words = self.tell(rt, alloc, &seen, &refusal, kept);
@@ -367,9 +392,8 @@ impl Run<'_> {
         };
         watch.answers_last()?;
         let script = script_bytes(self.script, &kept.script);
-        let history = &ended.run.history;
-        self.shape(alloc, &seen, history, script, words)?;
-        self.leave(rt, alloc, history, watch.into_times(), words)?;
+        self.shape(alloc, &seen, &ended.run.history, script, words)?;
+        self.leave(rt, alloc, &mut ended.run.history, watch.into_times(), words)?;
         finish(self, &ended, &seen, errors)
     }
 }

@@ -237,7 +237,7 @@ struct Telling<'t> {
 fn finish<R: Files>(
     rt: &R,
     alloc: Global,
-    ended: Ended,
+    mut ended: Ended,
     path: Option<String>,
     telling: Telling<'_>,
 ) -> Result<(), Refusal> {
@@ -245,7 +245,7 @@ fn finish<R: Files>(
         Some(path) => Some(path.as_str()),
         None => None,
     };
-    keep(rt, alloc, &ended.history, path, telling.words)?;
+    keep(rt, alloc, &mut ended.history, path, telling.words)?;
     let Ended { failure, .. } = ended;
     let Some(refusal) = failure else {
         return Ok(());

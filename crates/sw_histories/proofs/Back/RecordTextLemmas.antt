@@ -292,7 +292,8 @@ list_begun t all = sym (append_assoc t (91 ∷ []) all)
 pub item_put : (t more comma d rest : List ℕ) → more ≡ t ++ (comma ++ d) → t ++ (comma ++ (d ++ rest)) ≡ more ++ rest
 item_put t more comma d rest is = ap (λ m. t ++ m) (sym (append_assoc comma d rest)) ∙ sym (append_assoc t (comma ++ d) rest) ∙ ap (λ m. m ++ rest) (sym is)
 
-whole_text : (a e r : Data) (format limit : ℕ) → compact_text (whole_data a e format limit r)
+-- the members of a file, one after another
+pub whole_text : (a e r : Data) (format limit : ℕ) → compact_text (whole_data a e format limit r)
     ≡ codes "{\"attributes\":" ++ (compact_text a ++ (codes ",\"entries\":" ++ (compact_text e ++ (codes ",\"format\":" ++ (decimal format ++ (codes ",\"limit\":" ++ (decimal limit ++ (codes ",\"rows\":" ++ (compact_text r ++ 125 ∷ [])))))))))
 unfolding escape_byte digits
 whole_text a e r format limit = refl
