@@ -1,5 +1,5 @@
-//! Texts that came lately, each with its code, so that one that comes again is found without its hash: a cache of which each text has one
-//! slot.
+//! Texts that came lately, each with its code, so that one that comes again is found without its hash: a cache of which each text has a
+//! few slots, side by side. It is kept small, so that the slots in use stay near the processor.
 
 ghost use Rattle.std.specs.Prelude.{◌≡◌, ◌+◌, ◌≤◌, ℕ, List, Some, length, IfSome};
 ghost use Rattle.sw_rows.specs.Recent.{AreOf, IsOf, IsSlotOf};
@@ -8,8 +8,17 @@ ghost use Rattle.sw_rows.specs.declared.schema.texts.TheConstants.{MOST_TEXTS};
 
 use std::alloc::Global;
 
-/// How many slots there are at most, of 32 bytes.
+/// How many slots there are at first, of 32 bytes.
+const FEWEST_SLOTS: usize = 1_024;
+
+/// How many slots there are at most.
 const MOST_SLOTS: usize = 65_536;
+
+/// How many slots there are for each one, where texts come to be more than two thirds of them.
+const GROWTH: usize = 16;
+
+/// In how many slots a text may stand.
+const NEIGHBOURS: usize = 6;
 
 /// How many bytes a text has at most that a slot has.
 const MOST_BYTES: usize = 27;
@@ -94,7 +103,7 @@ impl Slot {
     }
 }
 
-/// In each slot the text that came last, of those that share it, with its code.
+/// Each text in the first of its slots that was blank when it came, or else in its first one, with its code.
 #[derive(Drop)]
 pub(crate) struct Recent {
     slots: Vec<Slot>,
@@ -110,38 +119,66 @@ impl Recent {
         }
     }
 
-    /// The slot of a text.
+    /// The first of a text's slots.
     fn place(&self, text: &[u8]) -> usize {
         let many = self.slots.len() as u64;
         ((sum_of(text) >> 32).wrapping_mul(many) >> 32) as usize
     }
 
-    /// The code of a text, where it stands in its slot.
+    /// Where the slots of a text end whose first one is at a place.
+    fn end(&self, place: usize) -> usize
+        ensures { result ≤ length self.now.slots.items }
+    {
+        self.slots.len().min(place.saturating_add(NEIGHBOURS))
+    }
+
+    /// Where a text is put: the first of its slots that is blank, else its first one.
+    fn free(&self, text: &[u8]) -> usize {
+        let place = self.place(text);
+        for at in place..self.end(place) {
+            if self.slots[at].code == 0 {
+                return at;
+            }
+        }
+        place
+    }
+
+    /// The code of a text, where it stands in one of its slots.
     pub fn code(&self, text: &[u8]) -> Option<u64>
         ensures { (ts : List (List ℕ)) → AreOf ts self.now → IfSome result (λ code. code_of ts text.now ≡ Some code) }
     {
-        self.slots.get(self.place(text))?.code_of(text)
+        let place = self.place(text);
+        for at in place..self.end(place) {
+            let slot = &self.slots[at];
+            if slot.code == 0 {
+                return None;
+            }
+            if let Some(code) = slot.code_of(text) {
+                return Some(code);
+            }
+        }
+        None
     }
 
-    /// Makes many slots for each of so many texts, all blank, where there are few, and there may be more and there is memory.
+    /// Makes more slots, all blank, where there are few for so many texts, and there may be more and there is memory.
     fn widen(&mut self, texts: usize)
         ensures { (ts : List (List ℕ)) → AreOf ts self.old → AreOf ts self.new }
     {
         let many = self.slots.len();
-        if many < MOST_SLOTS && many / 4 < texts {
-            let wanted = texts.saturating_mul(64).min(MOST_SLOTS);
+        if many < MOST_SLOTS && many / 3 * 2 < texts {
+            let wanted = (many * GROWTH).clamp(FEWEST_SLOTS, MOST_SLOTS);
             self.slots.clear();
             let _ = self.slots.resize(wanted, BLANK);
         }
     }
 
-    /// Puts a text with its code, one of so many texts, into its slot.
+    /// Puts a text with its code, one of so many texts, into one of its slots.
     pub fn note(&mut self, text: &[u8], code: u64, texts: usize)
         requires { code ≤ MOST_TEXTS }
         ensures { (ts : List (List ℕ)) → code_of ts text.now ≡ Some code → AreOf ts self.old → AreOf ts self.new }
     {
         self.widen(texts);
-        let place = self.place(text);
+        let place = self.free(text);
         if let (Some(it), Some(slot)) = (self.slots.get_mut(place), Slot::of(text, code)) {
             *it = slot;
         }
