@@ -108,6 +108,9 @@ impl Texts {
         ensures found { is_some result ≡ has_text self.now text.now }
         ensures few { IfSome result (λ code. code ≤ MOST_TEXTS) }
     {
+        if let Some(code) = self.seen(text.as_bytes()) {
+            return Some(code);
+        }
         let place = self.texts.get_index_of(text)?;
         Some(place as u64 + 1)
     }

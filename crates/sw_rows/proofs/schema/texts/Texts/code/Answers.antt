@@ -1,6 +1,6 @@
 use Rattle.std.proofs.Common.{◌+◌, ◌∙◌, ap, sym, arith, is_some, None, Some, true, false}
-use Rattle.sw_rows.specs.Texts.{AreTexts}
-use Rattle.sw_rows.proofs.Schemas.TextLaws.{code_within}
+use Rattle.sw_rows.specs.Texts.{AreTexts, code_of}
+use Rattle.sw_rows.proofs.Schemas.TextLaws.{code_within, known}
 use Rattle.sw_rows.proofs.Schemas.TextLemmas.{text_code, text_known_among}
 use Rattle.sw_rows.proofs.schema.texts.Texts.code.Goals as goal
 
@@ -23,3 +23,6 @@ returns-clause-few c =
     let few = sound.few in
     let code = within.1 in
     omega arith
+
+pub returns-in-Some-clause-found : goal.returns-in-Some-clause-found
+returns-in-Some-clause-found c = sym (known c.args.self.now c.in-Some.code c.args.text.now (ap (code_of c.args.self.now) (sym c.as_bytes.ensures.value) ∙ c.in-Some.ensures.code))
