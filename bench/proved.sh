@@ -88,6 +88,6 @@ stands() {
 # Builds SOURCE as a program over the crates up to heads, and the C++ peer as $work/peer.
 area() {
   build program "$1" "$2" \
-    sw_table sw_query sw_rows sw_lang sw_kernel sw_tape sw_budget sw_bits sw_slots sw_map test_maps sw_set test_areas sw_tie sw_chunks test_words test_heads anyhow
+    sw_table sw_query sw_rows sw_lang sw_kernel sw_load sw_tape sw_budget sw_bits sw_slots sw_map test_maps sw_set test_areas sw_tie sw_chunks test_words test_heads anyhow
   g++ -O3 -march=native -o "$work/peer" "$top/bench/peers/peer.cpp"
 }

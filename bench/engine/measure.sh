@@ -22,7 +22,7 @@ here=$(cd "$(dirname "$0")" && pwd)
 sizes "$@"
 proofs engine "$here"
 build program engine "$here/engine.rt.txt" \
-  sw_table sw_query sw_rows sw_lang sw_kernel sw_tape sw_budget sw_map sw_bits sw_slots sw_set sw_spine sw_tie sw_chunks sw_versions sw_engine anyhow
+  sw_table sw_query sw_rows sw_lang sw_kernel sw_load sw_tape sw_budget sw_map sw_bits sw_slots sw_set sw_spine sw_tie sw_chunks sw_versions sw_engine anyhow
 g++ -O3 -march=native -o "$work/peer" "$top/bench/peers/peer.cpp"
 
 python3 - "$work" "$rows" "$rounds" "$calls" "${RUN:-}" <<'END'

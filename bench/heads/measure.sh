@@ -20,7 +20,7 @@ here=$(cd "$(dirname "$0")" && pwd)
 sizes "$@"
 proofs heads "$here"
 build program heads "$here/heads.rt.txt" \
-  sw_table sw_query sw_rows sw_lang sw_kernel sw_tape sw_budget sw_map sw_bits sw_slots sw_set sw_spine sw_tie sw_chunks anyhow
+  sw_table sw_query sw_rows sw_lang sw_kernel sw_load sw_tape sw_budget sw_map sw_bits sw_slots sw_set sw_spine sw_tie sw_chunks anyhow
 
 python3 - "$work/crates/heads/out/heads" "$rows" "$rounds" "$calls" "${RUN:-}" <<'END'
 import statistics, subprocess, sys

@@ -17,7 +17,7 @@ sizes "$@"
 if [ -z "${PROGRAM:-}" ]; then
   proofs holds "$here"
   build program holds "$here/holds.rt.txt" \
-    sw_table sw_query sw_rows sw_lang sw_kernel sw_tape sw_budget sw_map sw_bits sw_slots sw_set sw_spine sw_tie sw_chunks sw_versions sw_engine anyhow
+    sw_table sw_query sw_rows sw_lang sw_kernel sw_load sw_tape sw_budget sw_map sw_bits sw_slots sw_set sw_spine sw_tie sw_chunks sw_versions sw_engine anyhow
 fi
 
 python3 - "${PROGRAM:-$work/crates/holds/out/holds}" "$rows" "$rounds" "$calls" "${RUN:-}" <<'END'

@@ -10,7 +10,7 @@ set -euo pipefail
 rounds=${1:-9}
 here=$(cd "$(dirname "$0")" && pwd)
 . "$here/../proved.sh"
-build program steps "$here/steps.rt.txt" sw_table sw_query sw_kernel sw_tape sw_budget sw_map test_maps
+build program steps "$here/steps.rt.txt" sw_table sw_query sw_load sw_kernel sw_tape sw_budget sw_map test_maps
 g++ -O3 -march=native -o "$work/peer" "$here/peer.cpp"
 
 for _ in $(seq "$rounds"); do

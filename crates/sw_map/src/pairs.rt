@@ -3,6 +3,7 @@
 ghost use Rattle.std.specs.Prelude.{◌≡◌, ◌+◌, ◌++◌, ◌<◌, ◌≤◌, ◌^◌, All, IsOk, MatchResult, length, map, pos, slice_index_or, slice_range, vec_capacity, vec_len, []};
 ghost use Rattle.sw_query.specs.declared.refusal.Refusal.TheVariants.{NoMemory};
 ghost use Rattle.sw_table.specs.declared.row.Row.{Row};
+ghost use Rattle.sw_table.specs.Packed.{HasRoomFor, IsSameRoom};
 ghost use Rattle.sw_query.specs.Scan.{cell_of};
 ghost use Rattle.sw_kernel.specs.Arrangement.{joined, last};
 ghost use Rattle.sw_kernel.specs.Replay.{inserted, loaded, ranged, removed, shown_step};
@@ -18,8 +19,7 @@ use std::alloc::Global;
 use std::marker::Model;
 use sw_kernel::{Mark, ripple_in, ripple_out};
 use sw_query::{Bound, Refusal, Row};
-use sw_table::PackedRows;
-use sw_tape::Entry;
+use sw_tape::{Entry, LoadRows};
 
 /// A list of values that grows gets room for one value in so many more than asked for. An allocator may have to move it, and
 /// then a list that was to grow again and again would be copied each time.
@@ -84,33 +84,22 @@ fn copy_part(values: &[i64], place: usize, part: &mut [i64])
     part.copy_from_slice(&values[place..end]);
 }
 
-/// Puts a cell of each row at the end of values, for which there is room.
-fn append_cells(values: &mut Vec<i64>, attribute: u8, rows: &PackedRows)
-    requires room { vec_len values.old + length rows.now.items ≤ vec_capacity values.old }
-    ensures items { values.new.items ≡ values.old.items ++ map (cell_of attribute) rows.now.items }
-    ensures len { vec_len values.new ≡ vec_len values.old + length rows.now.items }
-    ensures capacity { vec_capacity values.new ≡ vec_capacity values.old }
-{
-    match rows.append_column(attribute as usize, values) {
-        Ok(()) => {}
-        Err(_) => unreachable!(),
-    }
-}
-
-/// Puts what a tail shows of each row at the end of values, for which there is room.
-fn append_tails(values: &mut Vec<i64>, tail: Tail, rows: &PackedRows)
-    requires room { vec_len values.old + length rows.now.items ≤ vec_capacity values.old }
+/// Puts the heads and the tails of rows at the end of these lists, in which there is room.
+fn append_pairs(heads: &mut Vec<i64>, tails: &mut Vec<i64>, head: u8, tail: Tail, rows: &LoadRows)
+    requires heads { HasRoomFor (length rows.now.items) heads.old }
+    requires tails { HasRoomFor (length rows.now.items) tails.old }
     requires keys { All (λ (r : Row). r.key < 2 ^ 63) rows.now.items }
-    ensures items { values.new.items ≡ values.old.items ++ map (tail_value tail) rows.now.items }
-    ensures len { vec_len values.new ≡ vec_len values.old + length rows.now.items }
-    ensures capacity { vec_capacity values.new ≡ vec_capacity values.old }
+    ensures heads { heads.new.items ≡ heads.old.items ++ map (cell_of head) rows.now.items }
+    ensures tails { tails.new.items ≡ tails.old.items ++ map (tail_value tail) rows.now.items }
+    ensures more_heads { vec_len heads.new ≡ vec_len heads.old + length rows.now.items }
+    ensures more_tails { vec_len tails.new ≡ vec_len tails.old + length rows.now.items }
+    ensures room { IsSameRoom heads.old heads.new × IsSameRoom tails.old tails.new }
 {
     match tail {
-        Tail::Key => match rows.append_keys(values) {
-            Ok(()) => {}
-            Err(_) => unreachable!(),
-        },
-        Tail::Cell(attribute) => append_cells(values, attribute, rows),
+        Tail::Key => rows.append_keys(usize::from(head), heads, tails),
+        Tail::Cell(attribute) => {
+            rows.append_cells(usize::from(head), usize::from(attribute), heads, tails);
+        }
     }
 }
 
@@ -277,13 +266,12 @@ impl Pairs {
     }
 
     /// Puts the pairs of rows at the end of the last piece. It takes no memory.
-    pub(crate) fn load(&mut self, head: u8, tail: Tail, rows: &PackedRows)
+    pub(crate) fn load(&mut self, head: u8, tail: Tail, rows: &LoadRows)
         requires room { length (joined self.old.pieces) + length rows.now.items ≤ self.old.room }
         requires keys { All (λ (r : Row). r.key < 2 ^ 63) rows.now.items }
         ensures { self.new ≡ stepped (loaded (map (pair_in head tail) rows.now.items)) self.old }
     {
-        append_cells(&mut self.head, head, rows);
-        append_tails(&mut self.tail, tail, rows);
+        append_pairs(&mut self.head, &mut self.tail, head, tail, rows);
     }
 
     /// Puts a pair at the end of its piece. It takes no memory.

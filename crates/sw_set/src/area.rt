@@ -43,7 +43,7 @@ use std::alloc::Global;
 use std::marker::Model;
 use sw_map::{CrackerMap, Tail};
 use sw_query::{Bound, PackedRows, Query, Refusal, Reply, Row, Update};
-use sw_tape::{Entry, Tape};
+use sw_tape::{Entry, LoadRows, Tape};
 
 /// The rows whose cells of one attribute lie in an interval, the tape that reorganised them, and the boxes whose maps
 /// replay it.
@@ -641,7 +641,7 @@ impl<M: CrackerMap> Area<M> {
 }
 
 /// The rows of a tape's load.
-fn load_of(tape: &Tape) -> &PackedRows
+fn load_of(tape: &Tape) -> &LoadRows
     ensures { result.now.items ≡ first_rows tape.now }
 {
     let _many = tape.len();

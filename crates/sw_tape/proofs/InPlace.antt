@@ -1,10 +1,7 @@
 -- A tape's load, taken out and put back, and a tape of one load.
-use Rattle.std.proofs.Common.{◌≡◌, ◌∙◌, sym, ap, refl, ℕ, ◌<◌, Bool, true, List, [], ◌∷◌, ◌++◌, All, length, slice_set, arith, map, ◌^◌}
-use Rattle.std.proofs.lemmas.List.{append-nil}
+use Rattle.std.proofs.Common.{◌≡◌, ap, refl, ℕ, ◌<◌, List, [], ◌∷◌, length, slice_set, arith, map, ◌^◌}
 use Rattle.sw_table.specs.declared.row.Row.{Row}
-use Rattle.sw_table.specs.Kept.{kept}
 use Rattle.sw_table.specs.Packed.{Packed}
-use Rattle.sw_table.proofs.LiveLaws.{kept-all}
 use Rattle.sw_kernel.specs.Replay.{Step, loaded}
 use Rattle.sw_kernel.specs.Tapes.{IsTape}
 use Rattle.sw_tape.specs.declared.entry.Entry.{Entry}
@@ -31,8 +28,3 @@ kept-loaded steps rows n is many few = rw is (record {
   highest = omega (arith, many);
   few = omega (arith, few);
 })
-
--- where all of some rows are live and none come later, what is kept is those rows
-pub kept-same : (fs : List Bool) (xs ys : List Row) → length ys ≡ 0 → length fs ≡ length (xs ++ ys) → All (λ (b : Bool). b ≡ true) fs → xs ≡ kept fs (xs ++ ys)
-kept-same fs xs [] none many all = sym (ap (kept fs) (append-nil xs) ∙ kept-all fs xs (many ∙ ap length (append-nil xs)) all)
-kept-same fs xs (y ∷ ys) none many all = absurd (omega (arith, none))

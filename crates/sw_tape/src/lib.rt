@@ -7,8 +7,8 @@
 
 mod bounds;
 mod entry;
-mod live;
 mod tape;
 
 pub use entry::Entry;
+pub use sw_load::LoadRows;
 pub use tape::{MAX_ENTRIES, Tape};

@@ -14,10 +14,10 @@ ghost use Rattle.sw_tape.specs.Restart.{AreOneLoad, IsCountOf, first_rows, live_
 
 use crate::bounds::{add_both, around, is_among};
 use crate::entry::{Entry, pairs_after};
-use crate::live::keep_live;
 use std::alloc::Global;
 use std::marker::Model;
 use std::mem;
+use sw_load::LoadRows;
 use sw_query::{Bound, Refusal, Row};
 use sw_table::PackedRows;
 
@@ -46,13 +46,13 @@ fn load_of(alloc: Global, rows: &[Row]) -> Result<Entry, Refusal>
     ensures { MatchResult result (λ e. step_of e ≡ loaded rows.now) (λ e. e ≡ NoMemory) }
 {
     match PackedRows::of(alloc, rows) {
-        Ok(copy) => Ok(Entry::Load(copy)),
+        Ok(copy) => Ok(Entry::Load(LoadRows::of(alloc, copy))),
         Err(_) => Err(Refusal::NoMemory),
     }
 }
 
 /// Takes the rows of the load out that entries begin with; another entry stands in its place.
-fn take_load(entries: &mut Vec<Entry>) -> PackedRows
+fn take_load(entries: &mut Vec<Entry>) -> LoadRows
     requires { IsTape (map step_of entries.old.items) }
     ensures rows { result.items ≡ first_rows (map step_of entries.old.items) }
     ensures rest { entries.new.items ≡ slice_set entries.old.items 0 (Remove 0) }
@@ -73,9 +73,9 @@ fn keep_in(entries: &mut Vec<Entry>, later: &PackedRows, live: &[bool]) -> Resul
     ensures err { IfErr result (IsRefused (map step_of entries.old.items) (map step_of entries.new.items)) }
 {
     let mut rows = take_load(entries);
-    if let Err(e) = keep_live(&mut rows, later, live) {
+    if let Err(_) = rows.keep(later, live) {
         entries[0] = Entry::Load(rows);
-        return Err(e);
+        return Err(Refusal::NoMemory);
     }
     let many = rows.len();
     entries.clear();
@@ -112,7 +112,8 @@ impl Tape {
     {
         let many = rows.len();
         let mut entries = Vec::new(alloc);
-        if entries.push(Entry::Load(rows)).is_err() {
+        let load = Entry::Load(LoadRows::of(alloc, rows));
+        if entries.push(load).is_err() {
             return Err(Refusal::NoMemory);
         }
         Ok(Tape {

@@ -6,7 +6,7 @@ use std::alloc::{AllocError, Global};
 use std::sync::atomic::{AtomicU64, Ordering};
 use sw_map::{CrackerMap, Tail};
 use sw_rows::{Bound, PackedRows, Refusal, Row};
-use sw_tape::Entry;
+use sw_tape::{Entry, LoadRows};
 use test_maps::{Counts, replay};
 
 /// What is done to a map, or looked at. What is refused shows the refusal.
@@ -68,7 +68,7 @@ fn load<M: CrackerMap>(
     rows: &[Row],
     text: &mut String,
 ) -> Result<(), AllocError> {
-    let entry = Entry::Load(PackedRows::of(alloc, rows)?);
+    let entry = Entry::Load(LoadRows::of(alloc, PackedRows::of(alloc, rows)?));
     push_answer(text, replay(map, &entry))
 }
 

@@ -18,7 +18,7 @@ use std::thread::Threads;
 use sw_budget::{Budget, Purse};
 use sw_map::{CrackerMap, PairMap, Tail};
 use sw_rows::{Bound, PackedRows, Refusal, Row};
-use sw_tape::Entry;
+use sw_tape::{Entry, LoadRows};
 use test_maps::{CountingMap, Counts, Gate, GatedMap, replay_all};
 
 /// How often a step looks at the other's flag before it gives up.
@@ -174,7 +174,7 @@ fn four_rows(alloc: Global) -> Result<Entry, AllocError> {
         let key = place as u64 + 1;
         rows.add(&Row { key, cells })?;
     }
-    Ok(Entry::Load(rows))
+    Ok(Entry::Load(LoadRows::of(alloc, rows)))
 }
 
 /// A boxed map of some rows, cracked once, and how many pairs stand before 10.

@@ -8,7 +8,7 @@ use std::io;
 use sw_budget::{Budget, Purse};
 use sw_map::{CrackerMap, PairMap, Tail};
 use sw_rows::{Bound, Refusal};
-use sw_tape::Entry;
+use sw_tape::{Entry, LoadRows};
 use test_maps::replay;
 
 /// What is done to a map.
@@ -57,7 +57,7 @@ fn act_on<M: CrackerMap>(alloc: Global, map: &mut M, act: Act) -> Result<(), Ref
         }
         Act::Load => {
             let rows = packed(alloc)?;
-            replay(map, &Entry::Load(rows))
+            replay(map, &Entry::Load(LoadRows::of(alloc, rows)))
         }
         Act::Insert(key) => replay(map, &Entry::Insert(row(key, 13, 9))),
         Act::Remove(place) => replay(map, &Entry::Remove(place)),

@@ -8,11 +8,10 @@ ghost use Rattle.test_maps.specs.Steps.{CanReplay};
 
 use sw_map::CrackerMap;
 use sw_query::Refusal;
-use sw_table::PackedRows;
-use sw_tape::{Entry, MAX_ENTRIES};
+use sw_tape::{Entry, LoadRows, MAX_ENTRIES};
 
 /// Whether the keys of all these rows fit a cell.
-fn keys_fit(rows: &PackedRows) -> bool
+fn keys_fit(rows: &LoadRows) -> bool
     ensures { result ≡ true → All (λ (r : Row). r.key < 2 ^ 63) rows.now.items }
 {
     for place in 0..rows.len() {

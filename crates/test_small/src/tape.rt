@@ -6,7 +6,7 @@ ghost use Rattle.sw_tape.specs.Entries.{step_of};
 
 use std::alloc::Global;
 use sw_rows::{Bound, PackedRows, Refusal, Row};
-use sw_tape::{Entry, MAX_ENTRIES, Tape};
+use sw_tape::{Entry, LoadRows, MAX_ENTRIES, Tape};
 
 /// A row of a key and one cell.
 fn row(key: u64, cell: i64) -> Row {
@@ -149,7 +149,7 @@ fn nearest_are_around(alloc: Global) -> Result<bool, Refusal> {
 }
 
 /// Whether rows have these keys, in their order.
-fn have_keys(rows: &PackedRows, keys: &[u64]) -> bool {
+fn have_keys(rows: &LoadRows, keys: &[u64]) -> bool {
     if rows.len() != keys.len() {
         return false;
     }

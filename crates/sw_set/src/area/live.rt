@@ -12,6 +12,7 @@ ghost use Rattle.sw_set.specs.Shelf.{Rises, came_then, key_of};
 use std::alloc::Global;
 use std::marker::Model;
 use sw_query::{PackedRows, Places, Query, Refusal, Reply, Row, Update, scan};
+use sw_tape::LoadRows;
 
 /// Which of the rows that a tape brought are live: of those in its load, and of those that came later. Each has a
 /// place: those of the load first, then the later ones, in the order in which they came.
@@ -79,7 +80,7 @@ impl LiveRows {
     }
 
     /// The key of the row at a place.
-    fn key(&self, load: &PackedRows, place: usize) -> u64
+    fn key(&self, load: &LoadRows, place: usize) -> u64
         requires { place < length (came_to load.now.items self.now) }
         ensures { (d : Row) → result ≡ (slice_index_or (came_to load.now.items self.now) place d).key }
     {
@@ -92,7 +93,7 @@ impl LiveRows {
 
     /// A cell of the row at a place.
     #[inline]
-    pub(crate) fn cell(&self, load: &PackedRows, place: usize, attr: usize) -> i64
+    pub(crate) fn cell(&self, load: &LoadRows, place: usize, attr: usize) -> i64
         requires { place < length (came_to load.now.items self.now) }
         ensures { (d : Row) → result ≡ cell_of attr (slice_index_or (came_to load.now.items self.now) place d) }
     {
@@ -104,7 +105,7 @@ impl LiveRows {
     }
 
     /// The place of a key, whether or not its row is live.
-    pub(crate) fn find(&self, load: &PackedRows, key: u64) -> Option<usize>
+    pub(crate) fn find(&self, load: &LoadRows, key: u64) -> Option<usize>
         requires { IsStandingOf load.now.items self.now }
         ensures { FindsKey key (came_to load.now.items self.now) result }
     {
@@ -118,7 +119,7 @@ impl LiveRows {
     }
 
     /// Whether a live row has the key.
-    pub(crate) fn holds(&self, load: &PackedRows, key: u64) -> bool
+    pub(crate) fn holds(&self, load: &LoadRows, key: u64) -> bool
         requires { IsStandingOf load.now.items self.now }
         ensures { result ≡ has_key key (live_among load.now.items self.now) }
     {
@@ -208,7 +209,7 @@ impl LiveRows {
     }
 
     /// A row comes, or that of a key goes, if it is there. Refused `NoMemory` alone, and then nothing is said of these rows.
-    fn follow(&mut self, load: &PackedRows, update: &Update) -> Result<(), Refusal>
+    fn follow(&mut self, load: &LoadRows, update: &Update) -> Result<(), Refusal>
         requires standing { IsStandingOf load.now.items self.old }
         requires rise { Rises key_of (came_then (came_to load.now.items self.old) update.now) }
         ensures { MemoryAside result (λ _. IsNextStanding load.now.items update.now self.old self.new) }
@@ -228,7 +229,7 @@ impl LiveRows {
     pub(crate) fn after(
         &self,
         alloc: Global,
-        load: &PackedRows,
+        load: &LoadRows,
         updates: &[Update],
     ) -> Result<LiveRows, Refusal>
         requires many { length self.now.flags ≡ length (came_to load.now.items self.now) }
@@ -247,7 +248,7 @@ impl LiveRows {
     pub(crate) fn scan(
         &self,
         alloc: Global,
-        load: &PackedRows,
+        load: &LoadRows,
         query: &Query,
     ) -> Result<Reply, Refusal>
         requires asks { AsksBelow 8 query.now }
@@ -266,7 +267,7 @@ impl LiveRows {
 /// The rows of a load and those that came later by place, with their flags.
 #[derive(Clone, Copy)]
 struct Spread<'a> {
-    load: &'a PackedRows,
+    load: &'a LoadRows,
     live: &'a LiveRows,
 }
 

@@ -8,8 +8,8 @@ use Rattle.sw_map.proofs.Layouts.{order-longer}
 use Rattle.sw_map.proofs.Tables.{table-length, table-loaded}
 use Rattle.sw_map.proofs.pairs.Pairs.load.Goals as goal
 
-pub append_cells-requires : goal.append_cells-requires
-append_cells-requires c =
+pub append_pairs-requires-clause-heads : goal.append_pairs-requires-clause-heads
+append_pairs-requires-clause-heads c =
     let s = c.self.inside in let i = c.self.invariant in
     let hs = s.head.items in let ts = s.tail.items in
     let ln : length hs ≡ s.head.len = search rules in
@@ -20,8 +20,8 @@ append_cells-requires c =
     let room' = ap (λ (t : Table). t.room) (sym c.self.view_is) in
     omega (arith, long, long', room', c.requires.room, i.heads)
 
-pub append_tails-requires-clause-room : goal.append_tails-requires-clause-room
-append_tails-requires-clause-room c =
+pub append_pairs-requires-clause-tails : goal.append_pairs-requires-clause-tails
+append_pairs-requires-clause-tails c =
     let s = c.self.inside in let i = c.self.invariant in
     let hs = s.head.items in let ts = s.tail.items in
     let ln : length hs ≡ s.head.len = search rules in
@@ -35,13 +35,13 @@ append_tails-requires-clause-room c =
 pub invariant_of-self : goal.invariant_of-self
 invariant_of-self c =
     let s = c.self.inside in let i = c.self.invariant in
-    let heads = c.append_cells.ensures in let tails = c.append_tails.ensures in
+    let made = c.append_pairs.ensures in
     record {
-      lengths = omega (arith, i.lengths, heads.len, tails.len);
-      order = order-longer 0 s.head.len c.append_cells.new.values.len s.marks.items (omega (arith, heads.len)) i.order;
+      lengths = omega (arith, i.lengths, made.more_heads, made.more_tails);
+      order = order-longer 0 s.head.len c.append_pairs.new.heads.len s.marks.items (omega (arith, made.more_heads)) i.order;
       rising = i.rising;
-      heads = omega (arith, i.heads, heads.capacity);
-      tails = omega (arith, i.tails, tails.capacity);
+      heads = omega (arith, i.heads, made.room.0);
+      tails = omega (arith, i.tails, made.room.1);
     }
 
 pub returns : goal.returns
@@ -53,6 +53,6 @@ returns c =
     let same : length hs ≡ length ts = omega (arith, i.lengths) in
     let o : InOrder 0 (length hs) ms = subst (λ (j : ℕ). InOrder 0 j ms) (sym ln) i.order in
     let rows = c.args.rows.now.items in
-    ap₂ (λ (x y : List ℤ). record { pieces = pieces_between 0 (zip x y) ms; room = s.room }) c.append_cells.ensures.items c.append_tails.ensures.items
+    ap₂ (λ (x y : List ℤ). record { pieces = pieces_between 0 (zip x y) ms; room = s.room }) c.append_pairs.ensures.heads c.append_pairs.ensures.tails
     ∙ ap (λ (b : Arrangement (ℤ × ℤ)). record { pieces = b; room = s.room }) (table-loaded hs ts ms c.args.head c.args.tail rows same o)
     ∙ ap (λ (t : Table). stepped (loaded (map (pair_in c.args.head c.args.tail) rows)) t) c.self.view_is

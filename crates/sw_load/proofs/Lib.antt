@@ -1,0 +1,6 @@
+pub mod Appended
+pub mod Flagged
+pub mod Halves
+pub mod Places
+pub mod Rising
+pub mod Without

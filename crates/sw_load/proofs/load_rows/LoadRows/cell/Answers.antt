@@ -1,0 +1,33 @@
+use Rattle.std.proofs.Common.{◌∙◌, List, ℕ, ap, get_or, length, refl, subst, sym, arith, rules, w64}
+use Rattle.std.proofs.lemmas.Int.{to_z-of_z}
+use Rattle.sw_table.specs.Rows.{cell_of}
+use Rattle.sw_table.specs.Packed.{Packed}
+use Rattle.sw_load.specs.Gone.{AreBefore}
+use Rattle.sw_load.proofs.Places.{before-few, without-at, without-long}
+use Rattle.sw_load.proofs.load_rows.LoadRows.cell.Goals as goal
+
+pub place_of-requires-clause-small : goal.place_of-requires-clause-small
+place_of-requires-clause-small c =
+    let s = c.self.inside in let r = c.args.place in
+    let left = without-long s.all.items 0 (length s.all.items) s.gone.items refl c.self.invariant in
+    let view = ap (λ (v : Packed). length v.items) c.self.view_is in
+    omega (arith, left, view, c.requires.place, c.len-many.ensures.many, c.len-many.ensures.few, ap length c.deref.ensures.value)
+
+pub cell-requires : goal.cell-requires
+cell-requires c =
+    let s = c.self.inside in let r = c.args.place in
+    let left = without-long s.all.items 0 (length s.all.items) s.gone.items refl c.self.invariant in
+    let view = ap (λ (v : Packed). length v.items) c.self.view_is in
+    let i = c.place_of.ensures.0 in
+    let few = before-few r c.deref.result.now i c.place_of.ensures.1 in
+    omega (arith, left, view, few, c.requires.place, c.place_of.ensures.2, ap length c.deref.ensures.value)
+
+pub returns : goal.returns
+returns c =
+    let s = c.self.inside in let r = c.args.place in let i = c.place_of.ensures.0 in
+    let before : AreBefore r s.gone.items i = subst (λ (v : List ℕ). AreBefore r v i) c.deref.ensures.value c.place_of.ensures.1 in
+    λ d.
+    to_z-of_z w64 c.cell.result (search rules) ∙ c.cell.ensures d
+    ∙ ap (λ (n : ℕ). cell_of c.args.attr (get_or s.all.items n d)) c.place_of.ensures.2
+    ∙ sym (ap (cell_of c.args.attr) (without-at s.all.items 0 (length s.all.items) s.gone.items r r i d refl c.self.invariant (omega arith) before))
+    ∙ ap (λ (v : Packed). cell_of c.args.attr (get_or v.items r d)) c.self.view_is

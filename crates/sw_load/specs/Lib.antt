@@ -1,0 +1,4 @@
+pub mod Appended
+pub mod Flags
+pub mod Gone
+pub mod Left

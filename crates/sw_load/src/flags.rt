@@ -1,0 +1,45 @@
+//! Flags of rows.
+
+ghost use Rattle.std.specs.Prelude.{◌≡◌, ◌≤◌, ◌<◌, ◌+◌, ℕ, true, false, All, Bool, length, slice_index_or, MatchOption, IfOk};
+ghost use Rattle.sw_load.specs.Flags.{AreLive, IsNextGone};
+ghost use Rattle.sw_load.specs.Gone.{ArePlaces, flags_without};
+
+use std::alloc::{AllocError, Global};
+
+/// Whether all flags are true.
+pub(crate) fn are_all_live(live: &[bool]) -> bool
+    ensures { result ≡ true → All (λ (b : Bool). b ≡ true) live.now }
+{
+    live.iter().all(|is_live| *is_live)
+}
+
+/// The place of the first flag that is false, from a place on.
+pub(crate) fn next_gone(live: &[bool], from: usize) -> Option<usize>
+    requires { from ≤ length live.now }
+    ensures { MatchOption result (AreLive live.now from (length live.now)) (IsNextGone live.now from) }
+{
+    for place in from..live.len() {
+        if !live[place] {
+            return Some(place);
+        }
+    }
+    None
+}
+
+/// So many flags, false at some places, and else true. The one error is that there is no memory for them.
+pub(crate) fn flags_without(
+    alloc: Global,
+    many: usize,
+    gone: &[usize],
+) -> Result<Vec<bool>, AllocError>
+    requires { ArePlaces 0 many gone.now }
+    ensures { IfOk result (λ flags. flags.items ≡ flags_without 0 many gone.now) }
+{
+    let mut flags = Vec::with_capacity(alloc, many)?;
+    for place in gone {
+        flags.resize(*place, true)?;
+        flags.push(false)?;
+    }
+    flags.resize(many, true)?;
+    Ok(flags)
+}
