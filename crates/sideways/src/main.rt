@@ -5,15 +5,11 @@
 //! read is refused, and 3 where a call, the output or memory is.
 #![tactic(auto)]
 
-mod args;
 mod import;
 mod order;
-mod shell;
-mod words;
 
 use crate::import::{NO_DELIMITER, import_of};
 use crate::order::ordering_of;
-use crate::words::{command, command_named};
 use clap::error::ErrorKind;
 use clap::{ArgMatches, Error};
 use std::alloc::{AllocError, Global};
@@ -30,6 +26,7 @@ use sw_program::{
     check_path, explain, status, write_fault, write_text,
 };
 use sw_rows::{Counted, Sink};
+use sw_usage::{command, command_named};
 
 /// Standard error: the sink to it, whether it is a terminal, and what a refusal means in words, once there is one. And whether lines are
 /// entered at a terminal and answered there.

@@ -13,7 +13,7 @@ pub trait Onlooker: Sync {
 }
 
 /// Nobody looks on.
-#[derive(Clone, Copy, Debug)]
+#[derive(Clone, Copy)]
 pub struct Nobody;
 
 impl Onlooker for Nobody {

@@ -35,7 +35,7 @@ use sw_rows::{Refusal, Sink, Source, TextKey};
 use sw_spine::Record;
 
 /// What a run is told besides its files.
-#[derive(Clone, Copy, Debug)]
+#[derive(Clone, Copy)]
 pub struct Options<'a> {
     /// How many rows are ever inserted at most, those of the table included: 1 to 1,048,576.
     pub limit: u64,

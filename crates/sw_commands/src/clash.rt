@@ -10,7 +10,7 @@ const OUTPUT: &str = "/proc/self/fd/1";
 const ERRORS: &str = "/proc/self/fd/2";
 
 /// What a history or a log would be written over: another file of its run.
-#[derive(Clone, Copy, Debug, PartialEq, Eq)]
+#[derive(Clone, Copy, PartialEq, Eq)]
 pub enum Clash {
     /// The history over the table of the run.
     Table,

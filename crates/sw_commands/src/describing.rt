@@ -18,7 +18,7 @@ use sw_outputs::{Described, write_description, write_json_description};
 use sw_rows::{Counted, Kind, PackedRows, Refusal, Schema, Sink, TextKey, load_in_parts};
 
 /// A description that is asked for.
-#[derive(Clone, Copy, Debug)]
+#[derive(Clone, Copy)]
 pub struct Description<'a> {
     /// Where the table is.
     pub table: Place<'a>,

@@ -26,7 +26,7 @@ const IS_COMMENT: &str =
     "; a line that begins with # is no comment here, and sed '/^#/d' takes such lines out";
 
 /// A table that is asked for.
-#[derive(Clone, Copy, Debug)]
+#[derive(Clone, Copy)]
 pub struct Import<'a> {
     /// Where the values are; `-` is standard input.
     pub file: &'a str,

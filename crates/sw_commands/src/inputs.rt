@@ -21,7 +21,7 @@ const STANDARD: &str = "-";
 const STANDARD_PATH: &str = "/proc/self/fd/0";
 
 /// A file, or standard input, where it goes by the name `-`.
-#[derive(Clone, Copy, Debug, PartialEq, Eq)]
+#[derive(Clone, Copy, PartialEq, Eq)]
 pub struct Place<'a> {
     name: &'a str,
 }
@@ -53,7 +53,7 @@ impl<'a> Place<'a> {
 }
 
 /// Where the calls of a run come from.
-#[derive(Clone, Copy, Debug)]
+#[derive(Clone, Copy)]
 pub enum Script<'a> {
     /// A script, in a file or on standard input.
     At(Place<'a>),

@@ -21,7 +21,7 @@ fn nanos_of(time: Duration) -> u64 {
 }
 
 /// What is asked to be seen of a run.
-#[derive(Clone, Copy, Debug)]
+#[derive(Clone, Copy)]
 pub struct Sights {
     /// The time in the selects of each head.
     pub heads: bool,

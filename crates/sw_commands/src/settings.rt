@@ -6,7 +6,7 @@ ghost use Rattle.sw_rows.specs.declared.table.TheConstants.{MOST_ROWS};
 use sw_rows::MOST_ROWS;
 
 /// How many rows are ever inserted at most: 1 to 1,048,576.
-#[derive(Clone, Copy, Debug)]
+#[derive(Clone, Copy)]
 pub struct Limit {
     /// The rows.
     pub rows: u64,
@@ -28,7 +28,7 @@ impl Limit {
 }
 
 /// What a run is told in numbers and flags.
-#[derive(Clone, Copy, Debug)]
+#[derive(Clone, Copy)]
 pub struct Settings<'a> {
     /// How many rows are ever inserted at most.
     pub limit: Limit,

@@ -9,7 +9,7 @@ use sw_rows::{Counted, Refusal, Reply, Schema, Sink, Why};
 use sw_spine::{Entry, Record, State};
 
 /// The form in which replies go out.
-#[derive(Clone, Copy, Debug, PartialEq, Eq)]
+#[derive(Clone, Copy, PartialEq, Eq)]
 pub enum Form {
     /// Lines, as a history has them.
     Lines,

@@ -14,7 +14,7 @@ use sw_headers::{Header, text_under};
 use sw_rows::{Refusal, TextKey, Why};
 
 /// What was asked, of which a refusal came.
-#[derive(Clone, Copy, Debug)]
+#[derive(Clone, Copy)]
 pub struct Asking<'a> {
     /// Where the table is.
     pub table: Place<'a>,

@@ -5,7 +5,7 @@ use sw_lang::parse_line;
 use sw_rows::{Refusal, Schema, Why};
 
 /// What comes of a line's beginning.
-#[derive(Clone, Copy, Debug, PartialEq, Eq)]
+#[derive(Clone, Copy, PartialEq, Eq)]
 pub(crate) enum Beginning {
     /// A call.
     Whole,

@@ -18,7 +18,7 @@ const MOST_BLOCKS: u64 = 1024;
 const FEWER: &str = "sideways import chooses columns, and --header passes by those that it calls -";
 
 /// A text that was read.
-#[derive(Clone, Copy, Debug)]
+#[derive(Clone, Copy)]
 pub struct Text<'a> {
     /// What it is called.
     pub name: &'a str,
@@ -27,7 +27,7 @@ pub struct Text<'a> {
 }
 
 /// Whether the lines of a script are those of a text or are arguments of the command line.
-#[derive(Clone, Copy, Debug, PartialEq, Eq)]
+#[derive(Clone, Copy, PartialEq, Eq)]
 pub enum Origin {
     /// The lines of a text.
     Lines,
@@ -36,7 +36,7 @@ pub enum Origin {
 }
 
 /// A header that stands in place of a table's own.
-#[derive(Clone, Copy, Debug)]
+#[derive(Clone, Copy)]
 pub struct Given<'a> {
     /// The header, `-` in it for each column that is passed by.
     pub header: &'a str,
@@ -58,7 +58,7 @@ impl Given<'_> {
 }
 
 /// What was asked when it was refused.
-#[derive(Clone, Copy, Debug)]
+#[derive(Clone, Copy)]
 pub struct Asked<'a> {
     /// The table, under the header that was given, if one was.
     pub table: Text<'a>,

@@ -6,7 +6,7 @@ use std::path::Path;
 use std::rt::Files;
 
 /// A regular file, by its device and its number there.
-#[derive(Clone, Copy, Debug, PartialEq, Eq)]
+#[derive(Clone, Copy, PartialEq, Eq)]
 pub struct FileId {
     device: u64,
     number: u64,

@@ -15,7 +15,7 @@ use std::alloc::{AllocError, Global};
 const MARK: [u8; 3] = [0xef, 0xbb, 0xbf];
 
 /// Where in a record the next byte stands.
-#[derive(Clone, Copy, Debug, PartialEq, Eq)]
+#[derive(Clone, Copy, PartialEq, Eq)]
 pub(crate) enum Spot {
     /// Before a record.
     Before,
@@ -74,7 +74,7 @@ fn next_spot(spot: Spot, byte: u8) -> Spot
 }
 
 /// Where the next byte of a text stands.
-#[derive(Clone, Copy, Debug)]
+#[derive(Clone, Copy)]
 pub(crate) struct Place {
     spot: Spot,
     /// How many bytes of a byte order mark went by; three where none can come.

@@ -14,7 +14,7 @@ use sw_rows::Name;
 pub const MOST_COLUMNS: usize = 8;
 
 /// What is asked of columns. A column is named by its heading or by its number, from 1.
-#[derive(Clone, Copy, Debug)]
+#[derive(Clone, Copy)]
 pub struct Asked<'a> {
     /// The columns that are written, in this order, divided by commas; where there is none, the first eight.
     pub columns: Option<&'a str>,
@@ -25,7 +25,6 @@ pub struct Asked<'a> {
 }
 
 /// A column that is written.
-#[derive(Debug)]
 pub struct Column {
     /// Its place in each row, from 0.
     pub place: usize,

@@ -8,7 +8,7 @@ use crate::making::is_text;
 use crate::rules::{Rules, Times};
 
 /// How many cells or rows there are of some sort, and the line of the first, from 1; 0 where there is none.
-#[derive(Clone, Copy, Debug, PartialEq, Eq)]
+#[derive(Clone, Copy, PartialEq, Eq)]
 pub struct Tally {
     /// How many there are.
     pub count: u64,
@@ -39,7 +39,7 @@ impl Tally {
 const MOST_KEPT: usize = MOST_SHOWN + 1;
 
 /// How a cell begins.
-#[derive(Clone, Copy, Debug)]
+#[derive(Clone, Copy)]
 pub(crate) struct Beginning {
     bytes: [u8; MOST_KEPT],
     length: usize,
@@ -112,7 +112,7 @@ fn looks_numeric(cell: &[u8]) -> bool {
 }
 
 /// What was seen of the cells of a column.
-#[derive(Clone, Copy, Debug)]
+#[derive(Clone, Copy)]
 pub struct Evidence {
     /// For each form that is tried, in order, whether every cell that has a value is of it, but those with a usual word for
     /// a missing one and the first of the others.

@@ -10,7 +10,7 @@ use crate::rules::Times;
 use sw_rows::{Kind, read_cell_bytes};
 
 /// What the cells of a column are.
-#[derive(Clone, Copy, Debug, PartialEq, Eq)]
+#[derive(Clone, Copy, PartialEq, Eq)]
 pub enum Form {
     /// Numbers with at most so many decimals, 0 to 6, which are written as they stand.
     Number(u8),

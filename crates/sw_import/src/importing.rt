@@ -21,7 +21,7 @@ use std::thread::Threads;
 use sw_rows::{Counted, TextKey, load, load_in_parts};
 
 /// How values are made into a table.
-#[derive(Clone, Copy, Debug)]
+#[derive(Clone, Copy)]
 pub struct How<'a> {
     /// Which columns are written, and what is asked of them.
     pub asked: Asked<'a>,

@@ -17,7 +17,7 @@ use crate::rules::{Blank, Long, Rules};
 use sw_rows::{MOST_BYTES_OF_TEXT, read_text};
 
 /// What is written of a cell.
-#[derive(Clone, Copy, Debug)]
+#[derive(Clone, Copy)]
 pub(crate) enum Made<'c> {
     /// These bytes.
     Bytes(&'c [u8]),

@@ -6,7 +6,7 @@ ghost use Rattle.sw_import.specs.Made.{is_blank};
 use crate::forms::Form;
 
 /// What becomes of a blank cell in a column of numbers, flags or times.
-#[derive(Clone, Copy, Debug)]
+#[derive(Clone, Copy)]
 pub enum Blank<'a> {
     /// The table is refused.
     Refuse,
@@ -19,7 +19,7 @@ pub enum Blank<'a> {
 }
 
 /// What becomes of a text that is longer than the text of a cell may be, or has control bytes.
-#[derive(Clone, Copy, Debug, PartialEq, Eq)]
+#[derive(Clone, Copy, PartialEq, Eq)]
 pub enum Long {
     /// The table is refused.
     Refuse,
@@ -32,7 +32,7 @@ pub enum Long {
 }
 
 /// What becomes of dates and times.
-#[derive(Clone, Copy, Debug, PartialEq, Eq)]
+#[derive(Clone, Copy, PartialEq, Eq)]
 pub enum Times {
     /// They are written as whole seconds since 1970 began, those before it being negative.
     Seconds,
@@ -43,7 +43,7 @@ pub enum Times {
 }
 
 /// What is to become of cells that stand for no value of their column.
-#[derive(Clone, Copy, Debug)]
+#[derive(Clone, Copy)]
 pub struct Rules<'a> {
     /// Of blank cells.
     pub blank: Blank<'a>,

@@ -20,7 +20,7 @@ use std::alloc::{AllocError, Global};
 use sw_rows::MOST_ROWS;
 
 /// What was done to the cells of a column.
-#[derive(Clone, Copy, Debug)]
+#[derive(Clone, Copy)]
 pub struct Done {
     /// The cells without a value in whose place another was written.
     pub filled: Tally,
@@ -193,7 +193,7 @@ fn header(alloc: Global, plan: &[Planned]) -> Result<ByteRecord, AllocError>
 }
 
 /// How many rows may be written: so many, or a table's most, of which a further one is a fault.
-#[derive(Clone, Copy, Debug)]
+#[derive(Clone, Copy)]
 pub(crate) struct Most {
     /// So many.
     pub(crate) rows: u64,

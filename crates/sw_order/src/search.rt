@@ -19,7 +19,7 @@ pub trait Onlooker {
 }
 
 /// Nobody looks on.
-#[derive(Clone, Copy, Debug)]
+#[derive(Clone, Copy)]
 pub struct Nobody;
 
 impl Onlooker for Nobody {

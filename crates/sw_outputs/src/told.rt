@@ -3,7 +3,7 @@
 use sw_rows::{Call, Reply};
 
 /// A call of a script, and what came of it.
-#[derive(Clone, Copy, Debug)]
+#[derive(Clone, Copy)]
 pub struct Told<'a> {
     /// The call's number among all, from 1.
     pub number: u64,

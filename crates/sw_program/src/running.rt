@@ -25,7 +25,7 @@ use sw_rows::{Counted, Refusal, Sink, Source, TextKey};
 use sw_spine::Record;
 
 /// A run that is asked for: its files, what it is told, and what is to be seen of it.
-#[derive(Clone, Copy, Debug)]
+#[derive(Clone, Copy)]
 pub struct Run<'a> {
     /// Where the table is.
     pub table: Place<'a>,

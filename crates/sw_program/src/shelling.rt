@@ -25,7 +25,7 @@ use sw_shell::{Console, Ended, Host, converse};
 type Table<F, I> = Keeping<Counted<Headed<Inflow<'static, F, I>>>>;
 
 /// A shell that is asked for.
-#[derive(Clone, Copy, Debug)]
+#[derive(Clone, Copy)]
 pub struct Shell<'a> {
     /// Where the table is.
     pub table: Place<'a>,

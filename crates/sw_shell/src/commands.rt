@@ -7,7 +7,7 @@ ghost use Rattle.sw_shell.specs.Lines.{is_command, is_quit};
 ghost use Rattle.sw_shell.specs.Commands.{quits};
 
 /// What a line asks of the shell itself.
-#[derive(Clone, Copy, Debug, PartialEq, Eq)]
+#[derive(Clone, Copy, PartialEq, Eq)]
 pub enum Command<'l> {
     /// `.help`
     Help,

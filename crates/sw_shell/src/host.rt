@@ -4,7 +4,7 @@ use sw_cli::HeadStats;
 use sw_rows::{Call, Refusal, Reply, Schema};
 
 /// A line that was entered: its bytes without its end, and its number, from 1.
-#[derive(Clone, Copy, Debug)]
+#[derive(Clone, Copy)]
 pub struct Line<'l> {
     pub bytes: &'l [u8],
     pub number: u32,

@@ -270,7 +270,7 @@ fn program<'a>(alloc: Global) -> Command<'a> {
 
 /// The command lines that are taken: `run` with its files and flags, `shell`, `check`, `describe`, `import` and `order` with their
 /// files, and `explain` with a number.
-pub(crate) fn command<'a>(alloc: Global) -> Result<Command<'a>, AllocError> {
+pub fn command<'a>(alloc: Global) -> Result<Command<'a>, AllocError> {
     let all = above(program(alloc), run_command(alloc))?;
     let all = above(all, command_of(alloc, &SHELL))?;
     let all = above(all, check_command(alloc))?;
@@ -281,7 +281,7 @@ pub(crate) fn command<'a>(alloc: Global) -> Result<Command<'a>, AllocError> {
 }
 
 /// The command of a name, for what is wrong with its words.
-pub(crate) fn command_named<'a>(alloc: Global, name: &str) -> Result<Command<'a>, AllocError> {
+pub fn command_named<'a>(alloc: Global, name: &str) -> Result<Command<'a>, AllocError> {
     let command = match name {
         "shell" => command_of(alloc, &SHELL)?,
         "describe" => command_of(alloc, &DESCRIBE)?,
