@@ -1,6 +1,6 @@
 #!/bin/sh
-# Packs a built program with its manual, its completions, the examples, the README and the pages that a user reads: a tarball, a
-# package of Debian and the SHA-256 sums of both. The same sources and program give the same bytes.
+# Packs a built program with the script that starts it, its manual, its completions, the examples, the README and the pages that a user
+# reads: a tarball, a package of Debian and the SHA-256 sums of both. The same sources and program give the same bytes.
 #
 #     bench/package.sh PROGRAM FOLDER         as `./sideways package FOLDER` calls it, with the proved program
 #
@@ -26,11 +26,22 @@ version=$(awk 'NR == 1 { print $2 }' "$work/version")
 SOURCE_DATE_EPOCH=$(git -C "$top" log -1 --format=%ct 2>/dev/null) || SOURCE_DATE_EPOCH=0
 export SOURCE_DATE_EPOCH
 
+# The script that starts the program, wherever it is installed or linked: as `./sideways` of the sources does, by the same lines.
+starting() {
+    cat <<'END' && sed -n '/^# Runs the proved program/,/^}/p' "$top/sideways" && echo 'run_proved "$@"'
+#!/bin/sh
+here=$0
+[ ! -L "$0" ] || here=$(readlink -f -- "$0") || exit 3
+program=${here%/*}/../lib/sideways/sideways
+END
+}
+
 # Puts the files below a folder, as they lie below a prefix; zsh looks for its functions where the second word says.
 stage() {
     to=$1 doc=$1/share/doc/sideways
-    mkdir -p "$to/bin" "$to/share/man/man1" "$to/share/bash-completion/completions" "$to/share/zsh/$2" "$doc/docs" || return 1
-    cp "$program" "$to/bin/sideways" && chmod 755 "$to/bin/sideways" || return 1
+    mkdir -p "$to/bin" "$to/lib/sideways" "$to/share/man/man1" "$to/share/bash-completion/completions" "$to/share/zsh/$2" "$doc/docs" || return 1
+    cp "$program" "$to/lib/sideways/sideways" && starting >"$to/bin/sideways" || return 1
+    chmod 755 "$to/lib/sideways/sideways" "$to/bin/sideways" || return 1
     gzip -9n <"$top/docs/sideways.1" >"$to/share/man/man1/sideways.1.gz" || return 1
     cp "$top/docs/sideways.bash" "$to/share/bash-completion/completions/sideways" || return 1
     cp "$top/docs/_sideways" "$to/share/zsh/$2/_sideways" || return 1

@@ -1,6 +1,7 @@
 #!/bin/sh
-# What `./sideways package` and examples/curve.sh make: both packages have the program byte for byte, the manual, the completions, the
-# examples and the README, the sums are theirs, a second time gives the same bytes; a picture is drawn of a run's times.
+# What `./sideways package` and examples/curve.sh make: both packages have the program byte for byte, what starts it as `./sideways` does,
+# the manual, the completions, the examples and the README, the sums are theirs, a second time gives the same bytes; a picture is drawn
+# of a run's times.
 #
 #     tests/packages.sh [PROGRAM]
 #
@@ -16,10 +17,26 @@ wrong() {
     exit 1
 }
 
+# How a package below a folder starts its program: by a link too and by PATH, with these words and that status, file sizes without a signal,
+# and what the C library is told, unless it was told.
+started() {
+    rm -rf "$work/moved" && mkdir "$work/moved" && cp -R "$1/bin" "$1/lib" "$work/moved" || wrong "no copy of $1"
+    printf '%s\n' '#!/bin/sh' 'printf "%s|" "$GLIBC_TUNABLES" "$@"' 'kill -XFSZ $$' 'exit 7' >"$work/moved/lib/sideways/sideways"
+    ln -sf "$work/moved/bin/sideways" "$work/linked"
+    usual=$(sed -n 's/.*GLIBC_TUNABLES-\(.*\)}"$/\1/p' "$top/sideways")
+    for way in "$work/moved/bin/sideways" "$work/linked" sideways; do
+        is=$(unset GLIBC_TUNABLES && PATH=$work/moved/bin:$PATH && "$way" 'a  b' '' c; echo $?)
+        [ "$is" = "$usual|a  b||c|7" ] || wrong "$way of $1 starts with $is"
+    done
+    is=$(GLIBC_TUNABLES=other "$work/linked")
+    [ "$is" = "other|" ] || wrong "what was told to the C library is $is"
+}
+
 # A folder below which the files lie as they are installed, and where zsh looks there.
 see() {
-    cmp "$program" "$1/bin/sideways" || wrong "another program in $1"
+    cmp "$program" "$1/lib/sideways/sideways" || wrong "another program in $1"
     "$1/bin/sideways" run --table "$1/share/doc/sideways/examples/t.csv" -e count | grep -qx 4 || wrong "the program in $1 does not answer"
+    started "$1"
     zcat "$1/share/man/man1/sideways.1.gz" | cmp - "$top/docs/sideways.1" || wrong "another manual in $1"
     cmp "$top/docs/sideways.bash" "$1/share/bash-completion/completions/sideways" || wrong "another completion in $1"
     cmp "$top/docs/_sideways" "$1/share/zsh/$2/_sideways" || wrong "another completion of zsh in $1"
