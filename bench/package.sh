@@ -28,7 +28,7 @@ export SOURCE_DATE_EPOCH
 
 # The script that starts the program, wherever it is installed or linked: as `./sideways` of the sources does, by the same lines.
 starting() {
-    cat <<'END' && sed -n '/^# Runs the proved program/,/^}/p' "$top/sideways" && echo 'run_proved "$@"'
+    cat <<'END' && sed -n '/^# Small stacks/,/^fi/p; /^# Runs the proved program/,/^}/p' "$top/sideways" && echo 'run_proved "$@"'
 #!/bin/sh
 here=$0
 [ ! -L "$0" ] || here=$(readlink -f -- "$0") || exit 3

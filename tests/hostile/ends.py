@@ -260,11 +260,13 @@ class Ends:
             words = words + ["--history", "history.short"]
             got = self.written(words, "out.part", "history.short", **self.failing(".part", MOST=most))
             self.held("writes of at most %d bytes" % most, words, (0, "", out.encode(), history), got)
-        for most in range(1, len(NO_INPUT[2])):
+        whole = running.told(self.program, ["check", "none"], self.folder)[2]
+        self.held("a line", ["check", "none"], NO_INPUT[2], without_words(whole))
+        for most in range(1, len(whole)):
             with open(self.folder / "told.short", "wb") as file:
                 status = self.streams(["check", "none"], stdout=subprocess.DEVNULL, stderr=file, **self.failing(".short", MOST=most))[0]
             line = (self.folder / "told.short").read_text()
-            self.held("a line by %d bytes at most" % most, ["check", "none"], (NO_INPUT[0], NO_INPUT[2]), (status, line))
+            self.held("a line by %d bytes at most" % most, ["check", "none"], (NO_INPUT[0], whole), (status, line))
 
     def closed_streams(self):
         """Standard streams that are closed when the program begins: that is told, and no file is written in their place."""

@@ -27,8 +27,11 @@ class Twice(Holder):
     """Holds a run of a table against that of the same table with a quote in its header."""
 
     def one(self, number, name, files, words, table):
-        folder = self.fresh(number, {**files, "t.csv": table, "q.csv": table.replace(HEADER, QUOTED, 1)})
-        got, expected = (told(self.program, [*words, "--table", file], folder) for file in ("t.csv", "q.csv"))
+        folder, runs = self.fresh(number, files), []
+        for text in (table, table.replace(HEADER, QUOTED, 1)):  # under one name, which a fault's line tells
+            (folder / "t.csv").write_bytes(text)
+            runs.append(told(self.program, [*words, "--table", "t.csv"], folder))
+        got, expected = runs
         self.clear(folder)
         if got != expected or not is_whole(got):
             shown = lambda run: (run[0], run[1][:200], run[2])

@@ -76,7 +76,8 @@ class Holder:
 
     def one(self, number, name, files, words, expected):
         folder = self.fresh(number, files)
-        got = told(self.program, words, folder)
+        status, out, fault = told(self.program, words, folder)
+        got = status, out, without_words(fault)
         if got != expected:
             wrong(name, files, words, expected, got)
         self.clear(folder)

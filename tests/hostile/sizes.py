@@ -6,7 +6,7 @@ that was refused apart, and a history against the output and, where that is quic
 up to 6 GiB of memory. Ends with 1 and the first case that is wrong."""
 import json, os, resource, subprocess, tempfile, time
 from pathlib import Path
-from running import ended, options, wrong
+from running import ended, options, without_words, wrong
 
 MOST, ROWS = 1 << 28, 1 << 20
 SMALL = b"a,b\n1,2\n3,4\n"
@@ -58,7 +58,7 @@ class Sizes:
                                  preexec_fn=lambda: resource.setrlimit(resource.RLIMIT_AS, (gib << 30, gib << 30)))
         with child.stdout as pipe:
             out = read(pipe)
-        fault = child.stderr.read().decode()
+        fault = without_words(child.stderr.read().decode())
         _, status, usage = os.wait4(child.pid, 0)
         seconds, status = time.time() - began, os.waitstatus_to_exitcode(status)
         print("%-58s status %2d, %6.1f s, %5d MiB %s" % (name + ":", status, seconds, usage.ru_maxrss >> 10, fault.strip()), flush=True)

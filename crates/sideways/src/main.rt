@@ -15,7 +15,7 @@ use clap::{ArgMatches, Error};
 use std::alloc::{AllocError, Global};
 use std::fs::File;
 use std::io;
-use std::io::IsTerminal;
+use std::io::{IsTerminal, Read};
 use std::process::ExitCode;
 use std::random::RandomSource;
 use std::rt::{Clock, Env, Files};
@@ -372,10 +372,24 @@ fn top<R: Files>(rt: &R) -> Option<R::File> {
     File::open(rt, "/").ok()
 }
 
+/// How many bytes of the stack a run takes, which was seen to take 180 KiB, and some more.
+const STACK: usize = 188_416;
+
+/// Takes as much of the stack while there is room for it: where address space is wanting the system ends a program whose stack
+/// is to grow, and refuses nothing. A folder cannot be read, so nothing comes; it is asked so that the bytes are there.
+#[inline(never)]
+fn take_stack<F: Read>(folder: &mut Option<F>) {
+    let mut bytes = [0u8; STACK];
+    if let Some(folder) = folder {
+        let _ = folder.read(&mut bytes);
+    }
+}
+
 fn main(rt: HostRuntime) -> ExitCode {
     // A file that is opened gets the least number that is free. So the folder takes those of standard streams that are closed, and
     // no other file is read or written in their place.
-    let _held = [top(&rt), top(&rt), top(&rt)];
+    let mut held = [top(&rt), top(&rt), top(&rt)];
+    take_stack(&mut held[0]);
     let mut errors = Errors {
         sink: Counted::new(rt.stderr()),
         is_terminal: rt.stderr().is_terminal(),
