@@ -1,6 +1,6 @@
 #!/usr/bin/env python3
 """What is left after each end of the program: a history file is the old one or the new one, a history is never written over
-another file of its run, a limit of file sizes is a refusal, small stacks end nothing, lines go out as calls are answered, and an answer that is
+another file of its run, a limit of file sizes is a refusal, little room and small stacks end nothing, lines go out as calls are answered, and an answer that is
 not proved says so.
 
     tests/ends.py [--program PATH]
@@ -18,7 +18,7 @@ OLD = b"what stood there"
 VALUES = b"name,n\n%s,2\nb,3\n" % (b"long" * 20)
 LOG = b"session,start,end,call,reply\n1,0,1,count,4\n"
 NO_OUTPUT = b"sideways: refused 13\n"
-KILLS, MEMORIES, EARLY_CALLS = 150, 40, 2000
+KILLS, MEMORIES, EARLY_CALLS, ROOM = 150, 40, 2000, 2048
 
 
 def unwritten(name, why="it cannot be written"):
@@ -336,6 +336,26 @@ class Ends:
         self.held("a history of at most a KiB", (3, OUT * 600, unwritten("h.json")), got)
         self.held("the history that was there", (OLD, []), (self.take("h.json"), self.begun()))
 
+    def little_room(self):
+        """Under limits of address space: where the system can load the program, and give it its stack at first, a run is refused or answered;
+        no signal ends it later."""
+        def within(kib):
+            return self.call(self.run, preexec_fn=lambda: resource.setrlimit(resource.RLIMIT_AS, (kib << 10, kib << 10)))
+        tried = {}
+        for kib in range(1024, 65536, 4):
+            tried[kib] = within(kib)[0]
+            if tried[kib] in (0, 3):
+                break
+        begins, loads = kib, max(kib for kib in tried if tried[kib] == 127)
+        self.held("the stack that is taken at first is small", True, begins - loads <= 256)
+        ended = {}
+        for kib in range(begins, begins + ROOM, 4):
+            status, out, told = within(kib)
+            self.held("a run within %d KiB" % kib, True, (status, out) == (0, OUT) or status == 3 and b"refused 1\n" in out + told)
+            ended[status] = kib
+        self.held("some are refused, and some answered", {0, 3}, set(ended))
+        print("  the program is not loaded within %d KiB, begins within %d, and a run is refused up to %d" % (loads, begins, ended[3]))
+
     def small_stacks(self):
         """Small stacks end nothing: ./sideways lets them grow where it may, and where it may not blocks have no threads."""
         script = self.built()
@@ -479,8 +499,8 @@ def main():
     with tempfile.TemporaryDirectory() as folder:
         ends = Ends(program, folder)
         for what in (ends.refused_inputs, ends.lost_replies, ends.killed_runs, ends.wanting_memory, ends.full_disks, ends.other_writers,
-                     ends.in_place_of, ends.may_not_write, ends.other_files, ends.other_lists, ends.size_limits, ends.small_stacks,
-                     ends.early_lines, ends.large_pages, ends.unproved):
+                     ends.in_place_of, ends.may_not_write, ends.other_files, ends.other_lists, ends.size_limits, ends.little_room,
+                     ends.small_stacks, ends.early_lines, ends.large_pages, ends.unproved):
             before = ends.cases
             try:
                 what()

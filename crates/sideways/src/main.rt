@@ -372,24 +372,29 @@ fn top<R: Files>(rt: &R) -> Option<R::File> {
     File::open(rt, "/").ok()
 }
 
-/// How many bytes of the stack a run takes, which was seen to take 180 KiB, and some more.
-const STACK: usize = 188_416;
+/// How many bytes of the stack are taken at a time.
+const PAGE: usize = 4096;
 
-/// Takes as much of the stack while there is room for it: where address space is wanting the system ends a program whose stack
-/// is to grow, and refuses nothing. A folder cannot be read, so nothing comes; it is asked so that the bytes are there.
-#[inline(never)]
-fn take_stack<F: Read>(folder: &mut Option<F>) {
-    let mut bytes = [0u8; STACK];
-    if let Some(folder) = folder {
-        let _ = folder.read(&mut bytes);
+/// How many times they are taken: a run was seen to take 180 KiB.
+const PAGES: usize = 44;
+
+/// Takes so many pages of the stack while there is room for them: where address space is wanting the system ends a program
+/// whose stack is to grow, and refuses nothing. A folder cannot be read, so nothing comes; it is asked so that a page is there.
+fn take_stack<F: Read>(folder: &mut F, pages: usize) {
+    let mut page = [0u8; PAGE];
+    if pages > 1 {
+        take_stack(folder, pages - 1);
     }
+    let _ = folder.read(&mut page);
 }
 
 fn main(rt: HostRuntime) -> ExitCode {
     // A file that is opened gets the least number that is free. So the folder takes those of standard streams that are closed, and
     // no other file is read or written in their place.
     let mut held = [top(&rt), top(&rt), top(&rt)];
-    take_stack(&mut held[0]);
+    if let Some(folder) = &mut held[0] {
+        take_stack(folder, PAGES);
+    }
     let mut errors = Errors {
         sink: Counted::new(rt.stderr()),
         is_terminal: rt.stderr().is_terminal(),
