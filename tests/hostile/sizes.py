@@ -161,12 +161,10 @@ class Sizes:
         self.run("2,000 selects of 100,000 rows within 4 GiB", many_refused(2000), [], 4, each_of([reply] * 2000))
         self.put("s.txt", [b"count\n"] + [b"select a, b, c, d\n"] * 300 + [b"count\n"])
         replies = [b"100000\n"] + [reply] * 300 + [b"100000\n"]
-        done, _, _ = self.run("300 selects of 100,000 rows within 1 GiB, and a history", many_refused(302), ["--history", "h.json"], 1, each_of(replies))
-        data = (self.folder / "h.json").read_bytes()
-        entry = '"call":"select a, b, c, d","reply":%s,"session":1}' % json.dumps(lines, separators=(",", ":"))
-        counts, voids = data.count(b'"reply":["100000"]'), data.count(b'"reply":"void"')
-        self.held("the answered calls of this history", done, data.count(entry.encode()) + counts)
-        self.measured("this history, checked", ["check", "h.json"], 6, answered(b"legal: %d entries\n" % (done + voids)))
+        told = "sideways: refused 1\n"  # nor is there room for the text of so many replies
+        self.put("h.json", [b"what stood there"])
+        self.run("300 selects of 100,000 rows within 1 GiB, and a history", many_refused(302, told), ["--history", "h.json"], 1, each_of(replies))
+        self.held("the history of that run", b"what stood there", (self.folder / "h.json").read_bytes())
 
     def million(self):
         self.put("t.csv", [b"a\n"] + [b"%d\n" % number for number in range(100)])
@@ -202,12 +200,12 @@ def refused_of(number, fields):
     return lambda status, out, fault: (status, out, fault) == (2, b"", "sideways: refused %d %s\n" % (number, fields))
 
 
-def many_refused(calls):
-    """Judges a run of which some calls are refused for want of memory, and all others answered."""
+def many_refused(calls, told=""):
+    """Judges a run of which some calls are refused for want of memory, and all others answered, and which tells this."""
     def expected(status, out, fault):
         done, refused, other = out
         print("    %d of %d calls answered, %d refused" % (done, calls, refused), flush=True)
-        return (status, fault, other, done + refused) == (3, "", None, calls) and done > 0 and refused > 0
+        return (status, fault, other, done + refused) == (3, told, None, calls) and done > 0 and refused > 0
     return expected
 
 
