@@ -30,6 +30,8 @@ started() {
     done
     is=$(GLIBC_TUNABLES=other "$work/linked")
     [ "$is" = "other|" ] || wrong "what was told to the C library is $is"
+    is=$(ulimit -s 200 && "$work/linked" 2>&1; echo $?)
+    [ "$is" = "$(printf 'sideways: refused 1\n3')" ] || wrong "$is with stacks of 200 KiB"
 }
 
 # A folder below which the files lie as they are installed, and where zsh looks there.
