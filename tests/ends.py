@@ -1,7 +1,7 @@
 #!/usr/bin/env python3
 """What is left after each end of the program: a history file is the old one or the new one, a history is never written over
-another file of its run, a limit of file sizes is a refusal, little room and small stacks end nothing, lines go out as calls are answered, and an answer that is
-not proved says so.
+another file of its run, a limit of file sizes is a refusal, little room and small stacks end nothing, lines go out as calls are answered,
+and an answer that is not proved says so.
 
     tests/ends.py [--program PATH]
 
@@ -346,7 +346,7 @@ class Ends:
             tried[kib] = within(kib)[0]
             if tried[kib] in (0, 3):
                 break
-        begins, loads = kib, max(kib for kib in tried if tried[kib] == 127)
+        begins, loads = kib, max((kib for kib in tried if tried[kib] == 127), default=kib)
         self.held("the stack that is taken at first is small", True, begins - loads <= 256)
         ended = {}
         for kib in range(begins + 32, begins + ROOM, 4):  # the system puts the stack now higher, now lower

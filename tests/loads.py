@@ -1,97 +1,86 @@
 #!/usr/bin/env python3
 """Rows that come and go while they are loaded again and again: so many go from one load, and so many come to one, that its rows are moved
-(1,024 and 65,536). Each reply is that of a dictionary of rows, and the history is legal. Ends with 1 at the first that is wrong.
+(1,024 and 65,536). Replies and history are those of the plain model (hostile/model.py). Ends with 1 where they are not.
 
     python3 tests/loads.py PROGRAM
 """
 import random, subprocess, sys, tempfile
 from pathlib import Path
 
+sys.path.insert(0, str(Path(__file__).resolve().parent / "hostile"))
+from model import run
+
 HIGH = 1 << 20
 
 
-class Rows:
-    """A plain dictionary of rows, and calls with their replies."""
+class Lines:
+    """Random calls over a table of so many rows. Values below the highest, keys of rows that ever came."""
 
-    def __init__(self, dice, many):
-        self.dice, self.rows, self.lines, self.told = dice, {}, [], []
-        self.table = [(dice.randrange(HIGH), dice.randrange(HIGH), dice.randrange(9)) for _ in range(many)]
-        self.rows = dict(enumerate(self.table, 1))
-        self.ever = many
+    def __init__(self, dice, rows):
+        self.dice, self.ever = dice, rows
+        self.table = "a,b,c\n" + "".join(self.row() + "\n" for _ in range(rows))
+        self.lines = []
+
+    def row(self):
+        return "%d,%d,%d" % (self.dice.randrange(HIGH), self.dice.randrange(HIGH), self.dice.randrange(9))
 
     def insert(self):
-        row = self.dice.randrange(HIGH), self.dice.randrange(HIGH), self.dice.randrange(9)
         self.ever += 1
-        self.rows[self.ever] = row
-        self.lines.append("insert %d, %d, %d" % row)
-        self.told.append("key %d" % self.ever)
+        self.lines.append("insert " + self.row())
 
     def delete(self):
-        key = self.dice.randint(1, self.ever)
-        self.lines.append("delete %d" % key)
-        self.told.append("no such key" if self.rows.pop(key, None) is None else "removed")
+        self.lines.append("delete %d" % self.dice.randint(1, self.ever))
 
     def ask(self):
         low = self.dice.randrange(HIGH)
-        high = low + self.dice.randrange(1, HIGH // 50)
-        found = [(key, row) for key, row in sorted(self.rows.items()) if low <= row[0] < high]
-        want = self.dice.choice(("count", "sum b", "select c, b"))
-        self.lines.append(f"{want} where a >= {low} and a < {high}")
-        if want == "count":
-            self.told.append(str(len(found)))
-        elif want == "sum b":
-            self.told.append(str(sum(row[1] for _, row in found)))
-        else:
-            self.told += ["%d: %d, %d" % (key, row[2], row[1]) for key, row in found] + ["(%d rows)" % len(found)]
+        self.lines.append("%s where a >= %d and a < %d" % (self.dice.choice(("count", "sum b", "select c, b")), low, low + self.dice.randrange(1, HIGH // 50)))
 
 
-def many_go(rows):
+def many_go(lines):
     """More removals before each few queries than are taken out one by one, and insertions among them."""
     for _ in range(50):
         for _ in range(150):
-            rows.dice.choices((rows.delete, rows.insert), (2, 1))[0]()
+            lines.dice.choices((lines.delete, lines.insert), (2, 1))[0]()
         for _ in range(5):
-            rows.ask()
+            lines.ask()
 
 
-def many_come(rows):
+def many_come(lines):
     """A query behind each 1,900 insertions, and a removal or two."""
     for turn in range(80_000):
-        rows.insert()
+        lines.insert()
         if turn % 950 == 0:
-            rows.delete()
+            lines.delete()
         if turn % 1900 == 0:
-            rows.ask()
+            lines.ask()
 
 
-def answer(program, folder, rows):
-    """Runs the calls, and compares replies and history."""
-    (folder / "t.csv").write_text("a,b,c\n" + "".join("%d,%d,%d\n" % row for row in rows.table))
-    (folder / "s.txt").write_text("".join(line + "\n" for line in rows.lines))
+def restarts(program, folder, table, script):
+    """Holds a run against the model: how often its tape began anew."""
+    (folder / "t.csv").write_bytes(table)
+    (folder / "s.txt").write_bytes(script)
     words = [program, "run", "--table", "t.csv", "--script", "s.txt", "--history", "h.json", "--stats"]
     done = subprocess.run(words, cwd=folder, capture_output=True, text=True)
-    told = done.stdout.splitlines()
-    if done.returncode != 0 or told != rows.told:
-        at = next((at for at, pair in enumerate(zip(told, rows.told)) if pair[0] != pair[1]), min(len(told), len(rows.told)))
-        sys.exit(f"status {done.returncode}, {done.stderr[:300]}; line {at + 1}: {told[at : at + 1]}, wanted {rows.told[at : at + 1]}")
-    checked = subprocess.run([program, "check", "h.json"], cwd=folder, capture_output=True, text=True)
-    if checked.returncode != 0:
-        sys.exit(f"the history is not legal: {checked.stdout}{checked.stderr}")
-    return next(line.split() for line in done.stderr.splitlines() if line.startswith("a "))
+    status, out, _, history = run(table, script)
+    if (done.returncode, done.stdout) != (status, out):
+        sys.exit("loads: WRONG: status %d, %s; other replies than the model's: %s" % (done.returncode, done.stderr[:300], done.stdout[-200:]))
+    if (folder / "h.json").read_bytes() != history:
+        sys.exit("loads: WRONG: another history than the model's")
+    return int(next(line.split()[5] for line in done.stderr.splitlines() if line.startswith("a ")))
 
 
 def main():
     program = str(Path(sys.argv[1]).resolve())
     with tempfile.TemporaryDirectory() as home:
-        for name, many, calls in (("many go", 6000, many_go), ("many come", 500, many_come)):
-            rows = Rows(random.Random(name), many)
-            rows.ask()
-            calls(rows)
-            rows.ask()
-            restarts = int(answer(program, Path(home), rows)[5])
-            if restarts < 20:
-                sys.exit(f"{name}: only {restarts} restarts")
-            print(f"loads: {name}: {len(rows.lines)} calls, {len(rows.rows)} rows at the end, {restarts} restarts")
+        for name, rows, calls in (("many go", 6000, many_go), ("many come", 500, many_come)):
+            lines = Lines(random.Random(name), rows)
+            lines.ask()
+            calls(lines)
+            lines.ask()
+            begun = restarts(program, Path(home), lines.table.encode(), "".join(line + "\n" for line in lines.lines).encode())
+            if begun < 20:
+                sys.exit("loads: WRONG: %s: only %d restarts" % (name, begun))
+            print("loads: %s: %d calls, %d restarts" % (name, len(lines.lines), begun))
 
 
 main()

@@ -1,48 +1,41 @@
 #!/usr/bin/env python3
-"""The greatest memory of runs, against what docs/PERFORMANCE.md ('Memory') allows them, over a million rows: a count, 5,000 insertions among sums,
-and 1,000 sums on four heads; and of a million counts over four, without and with a history. Ends with 1 at the first that takes more.
+"""The greatest memory of runs, against what docs/PERFORMANCE.md ('Memory') allows them, over a million rows: a count, a log of 10,000 calls, and
+1,000 sums on four heads; and of a million counts over four, without and with a history. Ends with 1 at the first that takes more.
 
     python3 tests/room.py PROGRAM
 """
-import os, random, sys, tempfile
+import os, subprocess, sys, tempfile
 from pathlib import Path
 
-sys.path.insert(0, str(Path(__file__).resolve().parents[1] / "bench"))
+TOP = Path(__file__).resolve().parents[1]
+sys.path.insert(0, str(TOP / "bench"))
 from timed import timed
 
 ROWS, HIGH = 1_000_000, 1 << 30
 
 
-def make_table(dice, names):
-    """A table of random rows, under the name of its attributes."""
-    with open(names, "w") as out:
-        out.write(",".join(names) + "\n")
-        out.writelines(",".join(str(dice.randrange(HIGH)) for _ in names) + "\n" for _ in range(ROWS))
-
-
-def runs_of(dice):
-    """Each run: its table, its calls, how many million bytes it may take, and its further words."""
-    low = [dice.randrange(HIGH) for _ in range(10_000)]
-    heads = [f"sum b where {'abcd'[k % 4]} >= {low[k]} and {'abcd'[k % 4]} < {low[k] + HIGH // 1000}" for k in range(1000)]
-    rising = [f"insert {HIGH + k}, {low[k]}, {low[-k]}" if k % 2 else f"sum b where a >= {HIGH + k - 50}" for k in range(10_000)]
-    yield "a count", "abc", ["count"], 95, []
-    yield "insertions among sums", "abc", rising, 110, []
-    yield "sums on four heads", "abcd", heads, 220, []
-    yield "a million counts", "four", ["count"] * ROWS, 200, []
-    yield "a million counts with a history", "four", ["count"] * ROWS, 200, ["--history", "h.json"]
+def runs():
+    """Each run: its table, its script, how many million bytes it may take, and its further words. Tables and the log are those of the benchmarks."""
+    for folder, attrs in (("three", 3), ("four", 4)):
+        subprocess.run([sys.executable, TOP / "bench/peers/gen.py", folder, "--attrs", str(attrs), "--calls", "10000", "--mix", "log"], check=True)
+    Path("count").write_text("count\n")
+    Path("counts").write_text("count\n" * ROWS)
+    bounds = [(k * 7919 % 1000 * (HIGH // 1001), "abcd"[k % 4]) for k in range(1000)]
+    Path("heads").write_text("".join(f"sum b where {head} >= {low} and {head} < {low + HIGH // 1000}\n" for low, head in bounds))
+    yield "a count", "three/t.csv", "count", 95, []
+    yield "a log", "three/t.csv", "three/s.txt", 110, []
+    yield "sums on four heads", "four/t.csv", "heads", 220, []
+    yield "a million counts", TOP / "examples/t.csv", "counts", 200, []
+    yield "a million counts with a history", TOP / "examples/t.csv", "counts", 200, ["--history", "h.json"]
 
 
 def main():
-    program, dice = str(Path(sys.argv[1]).resolve()), random.Random(7)
+    program = Path(sys.argv[1]).resolve()
     os.environ["GLIBC_TUNABLES"] = "glibc.malloc.mmap_threshold=1048576"  # as `./sideways` has it, without huge pages
     with tempfile.TemporaryDirectory() as home:
         os.chdir(home)
-        make_table(dice, "abc")
-        make_table(dice, "abcd")
-        Path("four").write_text("a,b\n12,7\n3,8\n12,5\n20,2\n")
-        for what, table, lines, most, more in runs_of(dice):
-            Path("s.txt").write_text("".join(line + "\n" for line in lines))
-            took = timed([program, "run", "--table", table, "--script", "s.txt", *more])[1] * 1024 / 1e6
+        for what, table, script, most, more in runs():
+            took = timed([program, "run", "--table", table, "--script", script, *more])[1] * 1024 / 1e6
             print(f"room: {what}: {took:.0f} MB of {most}")
             if took > most:
                 sys.exit(f"room: WRONG: {what} takes {took:.0f} MB")
