@@ -1,10 +1,12 @@
 -- Lists that grow by what a function gives for each item of another.
 use Rattle.std.specs.Global.{Vec}
-use Rattle.std.proofs.Common.{refl, ℤ, Option, None, Some, vec_len, length-append, ◌^◌, subst, length-take, drop, length-drop, ◌≡◌, ◌∙◌, ◌+◌, ◌++◌, ◌∷◌, ◌<◌, ◌≤◌, ℕ, Bool, true, List, [], All, ap, sym, get_or, length, map, take, arith}
+use Rattle.std.proofs.Common.{refl, ℤ, vec_len, length-append, ◌^◌, subst, length-take, drop, length-drop, ◌≡◌, ◌∙◌, ◌+◌, ◌++◌, ◌∷◌, ◌<◌, ◌≤◌, ℕ, Bool, true, List, [], All, ap, sym, get_or, length, map, take, arith}
 use Rattle.std.proofs.lemmas.List.{append-nil, append_assoc, get_or-append-add, get_or_append_left, map-append, get_or-drop, get_or-take, length-map, length-take-le, map_push, take_more}
 use Rattle.sw_table.specs.declared.row.Row.{Row}
 use Rattle.sw_table.specs.Packed.{HasRoomFor, IsSameRoom}
 use Rattle.sw_load.specs.Appended.{Fit, IsAppended}
+use Rattle.sw_load.specs.declared.columns.Tail.{Tail}
+use Rattle.sw_load.specs.declared.columns.Tail.TheVariants.{Key, Cell}
 use Rattle.sw_table.specs.Kept.{kept}
 use Rattle.sw_table.proofs.LiveLaws.{kept-all}
 
@@ -70,12 +72,12 @@ appending-all f old new next rest all so_far more = record {
   len = omega (arith, more.len, so_far.len, length-map rest f, length-map all f);
 }
 
--- what fits of all rows fits of those before and of those behind
-pub fit-before : (column : Option ℕ) (xs ys : List Row) → Fit column (xs ++ ys) → Fit column xs
-fit-before None xs ys all = λ k d lt. subst (λ (r : Row). r.key < 2 ^ 63) (get_or_append_left xs ys d k lt) (all k d (omega (arith, length-append xs ys, lt)))
-fit-before (Some attr) xs ys all = tt
+-- the keys of the rows before others fit, where those of all do
+pub fit-before : (tail : Tail) (xs ys : List Row) → Fit tail (xs ++ ys) → Fit tail xs
+fit-before Key xs ys all = λ k d lt. subst (λ (r : Row). r.key < 2 ^ 63) (get_or_append_left xs ys d k lt) (all k d (omega (arith, length-append xs ys, lt)))
+fit-before (Cell attr) xs ys all = tt
 
 -- the keys of the rows behind fit, where those of all do
-pub fit-behind : (column : Option ℕ) (xs ys : List Row) → Fit column (xs ++ ys) → Fit column ys
-fit-behind None xs ys all = λ k d lt. subst (λ (r : Row). r.key < 2 ^ 63) (get_or-append-add xs ys k d) (all (length xs + k) d (omega (arith, length-append xs ys, lt)))
-fit-behind (Some attr) xs ys all = tt
+pub fit-behind : (tail : Tail) (xs ys : List Row) → Fit tail (xs ++ ys) → Fit tail ys
+fit-behind Key xs ys all = λ k d lt. subst (λ (r : Row). r.key < 2 ^ 63) (get_or-append-add xs ys k d) (all (length xs + k) d (omega (arith, length-append xs ys, lt)))
+fit-behind (Cell attr) xs ys all = tt

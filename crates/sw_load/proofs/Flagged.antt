@@ -6,6 +6,7 @@ use Rattle.sw_table.proofs.LiveLaws.{kept-fresh}
 use Rattle.sw_load.specs.Gone.{ArePlaces, flags_without, without_places}
 use Rattle.sw_load.proofs.Places.{places-le}
 
+-- flags of some items, and then of others, keep of both what each keeps
 kept-appended : {X : Type 0} (fs gs : List Bool) (xs ys : List X) → length fs ≡ length xs → kept (fs ++ gs) (xs ++ ys) ≡ kept fs xs ++ kept gs ys
 kept-appended [] gs [] ys e = refl
 kept-appended [] gs (x ∷ xs) ys e = absurd (omega (arith, e))

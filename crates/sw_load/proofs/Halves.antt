@@ -2,29 +2,23 @@
 use Rattle.std.proofs.Common.{◌≡◌, ◌∙◌, ap, sym, refl, ℕ, ℤ, ◌-◌, min, List, ◌++◌, inl, inr, length, map, take, drop, arith, length-append, length-drop}
 use Rattle.std.specs.Global.{Vec}
 use Rattle.std.proofs.lemmas.Bool.{cases_lt}
-use Rattle.std.proofs.lemmas.List.{append-nil, append_assoc, drop-append-le, map-append, drop_all, take-append-le, take_all, take_min}
+use Rattle.std.proofs.lemmas.List.{append-nil, append_assoc, drop-append-le, map-append, drop_all, take-append-le, take_all}
 use Rattle.sw_table.specs.declared.row.Row.{Row}
 use Rattle.sw_load.specs.Appended.{IsAppended}
 use Rattle.sw_load.proofs.Places.{drop-past, take-past}
 
--- the first items of both
-pub take-both : {X : Type 0} (xs ys : List X) (m k : ℕ) → k ≡ min m (length xs) → take m (xs ++ ys) ≡ take k xs ++ take (m - k) ys
-take-both xs ys m k is = elim (cases_lt m (length xs)) [
+-- the first items of both: those of the first list, of which there may be fewer, and the rest of the second
+pub take-both : {X : Type 0} (xs ys : List X) (m k r : ℕ) → min k (length xs) ≡ min m (length xs) → r ≡ m - length xs → take m (xs ++ ys) ≡ take k xs ++ take r ys
+take-both xs ys m k r same rest = elim (cases_lt m (length xs)) [
   | inl low ↦
-      let e : m ≡ k = omega (arith, is, low) in
-      let none : 0 ≡ m - k = omega (arith, is, low) in
+      let e : m ≡ k = omega (arith, same, low) in
+      let none : 0 ≡ r = omega (arith, rest, low) in
       take-append-le m xs ys (omega (arith, low)) ∙ ap (λ n. take n xs) e ∙ sym (append-nil (take k xs)) ∙ ap (λ n. take k xs ++ take n ys) none
   | inr high ↦
-      let e : length xs ≡ k = omega (arith, is, high) in
-      take-past xs ys k m e (omega (arith, is)) ∙ ap (λ v. v ++ take (m - k) ys) (sym (take_all k xs (omega (arith, e))))
+      take-past xs ys (length xs) m refl (omega (arith, high))
+      ∙ ap (λ v. v ++ take (m - length xs) ys) (sym (take_all k xs (omega (arith, same, high))))
+      ∙ ap (λ n. take k xs ++ take n ys) (sym rest)
 ]
-
--- the same, where it is not said how many of the first there are
-pub take-two : {X : Type 0} (xs ys : List X) (m : ℕ) → take m (xs ++ ys) ≡ take m xs ++ take (m - length xs) ys
-take-two xs ys m =
-    take-both xs ys m (min m (length xs)) refl
-    ∙ ap (λ v. v ++ take (m - min m (length xs)) ys) (take_min m xs)
-    ∙ ap (λ n. take m xs ++ take n ys) (let e : m - min m (length xs) ≡ m - length xs = omega arith in e)
 
 -- what comes behind the first items of both
 pub drop-both : {X : Type 0} (xs ys : List X) (m k : ℕ) → k ≡ min m (length xs) → drop m (xs ++ ys) ≡ drop k xs ++ drop (m - k) ys
@@ -41,7 +35,7 @@ drop-both xs ys m k is = elim (cases_lt m (length xs)) [
 -- a part of both is a part of the first and a part of the second
 pub part-both : {X : Type 0} (xs ys : List X) (s m t k : ℕ) → t ≡ min s (length xs) → k ≡ min m (length xs - t) → take m (drop s (xs ++ ys)) ≡ take k (drop t xs) ++ take (m - k) (drop (s - t) ys)
 part-both xs ys s m t k first is =
-    ap (take m) (drop-both xs ys s t first) ∙ take-both (drop t xs) (drop (s - t) ys) m k (omega (arith, is, length-drop t xs))
+    ap (take m) (drop-both xs ys s t first) ∙ take-both (drop t xs) (drop (s - t) ys) m k (m - k) (omega (arith, is, length-drop t xs)) (omega (arith, is, length-drop t xs))
 
 -- cells of some rows, and then of others, are those of all
 pub appended-both : (f : Row → ℤ) (old mid new : Vec ℤ) (some rest all : List Row) → all ≡ some ++ rest → IsAppended (map f some) old mid → IsAppended (map f rest) mid new → IsAppended (map f all) old new

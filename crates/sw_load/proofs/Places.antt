@@ -11,11 +11,6 @@ pub places-le : (n m : ℕ) (gs : List ℕ) → ArePlaces n m gs → n ≤ m
 places-le n m [] a = a
 places-le n m (g ∷ gs) a = let h = places-le (g + 1) m gs a.1 in omega (arith, h, a.0)
 
--- no more places are there than numbers from n on and before m
-pub places-few : (n m : ℕ) (gs : List ℕ) → ArePlaces n m gs → n + length gs ≤ m
-places-few n m [] a = omega (arith, a)
-places-few n m (g ∷ gs) a = let h = places-few (g + 1) m gs a.1 in omega (arith, h, a.0)
-
 -- the same places are before what is above m
 pub places-more : (n m k : ℕ) (gs : List ℕ) → m ≤ k → ArePlaces n m gs → ArePlaces n k gs
 places-more n m k [] le a = omega (arith, le, a)
@@ -31,12 +26,6 @@ pub place-high : (n m : ℕ) (gs : List ℕ) (j : ℕ) → ArePlaces n m gs → 
 place-high n m [] j a lt = absurd (omega (arith, lt))
 place-high n m (g ∷ gs) zero a lt = omega (arith, a.0)
 place-high n m (g ∷ gs) (suc j) a lt = let h = place-high (g + 1) m gs j a.1 (omega (arith, lt)) in omega (arith, h, a.0)
-
--- and before m
-pub place-low : (n m : ℕ) (gs : List ℕ) (j : ℕ) → ArePlaces n m gs → j < length gs → get_or gs j 0 < m
-place-low n m [] j a lt = absurd (omega (arith, lt))
-place-low n m (g ∷ gs) zero a lt = let h = places-le (g + 1) m gs a.1 in omega (arith, h)
-place-low n m (g ∷ gs) (suc j) a lt = place-low (g + 1) m gs j a.1 (omega (arith, lt))
 
 -- between two places there are as many numbers as places
 pub places-apart : (n m : ℕ) (gs : List ℕ) (i j : ℕ) → ArePlaces n m gs → i ≤ j → j < length gs → get_or gs i 0 + (j - i) ≤ get_or gs j 0

@@ -9,6 +9,10 @@ abbrev pub without_places : {X : Type 0} → ℕ → List ℕ → List X → Lis
 without_places n [] xs = drop n xs
 without_places n (g ∷ gs) xs = stretch n (g - n) xs ++ without_places (g + 1) gs xs
 
+-- what is left of rows without those at some places
+abbrev pub left_of : List Row → List ℕ → List Row
+left_of rows gone = without_places 0 gone rows
+
 -- places that rise, from the n-th on and before the m-th
 abbrev pub ArePlaces : ℕ → ℕ → List ℕ → Type 0
 ArePlaces n m [] = n ≤ m
@@ -29,4 +33,4 @@ AreBefore p (g ∷ gs) (suc i) = (g ≤ p) × AreBefore (p + 1) gs i
 -- the places that are gone where some were, and then those of the items that were left whose flags are false
 pub record AreGoneAfter (live : List Bool) (old new : List ℕ) : Type 0 where
   pub places : ArePlaces 0 (length live + length old) new
-  pub items : (xs : List Row) → length xs ≡ length live + length old → without_places 0 new xs ≡ kept live (without_places 0 old xs)
+  pub items : (xs : List Row) → length xs ≡ length live + length old → left_of xs new ≡ kept live (left_of xs old)

@@ -7,11 +7,12 @@ ghost use Rattle.sw_table.specs.Rows.{HasNoRow, IsRowAt};
 ghost use Rattle.sw_table.specs.Kept.{kept};
 ghost use Rattle.sw_table.specs.Live.{Rises, key_of};
 ghost use Rattle.sw_table.specs.Packed.{HasRoomFor, IsSameRoom};
-ghost use Rattle.sw_load.specs.Left.{IsPlaceOf};
+ghost use Rattle.sw_load.specs.Keys.{IsPlaceOf};
 
+use crate::columns::{Columns, Tail};
 use crate::flags::are_all_live;
 use crate::gone::place_of;
-use crate::left::{append_left, gather, keep};
+use crate::left::{append_left, compact, keep};
 use crate::two_lists::TwoLists;
 use std::alloc::{AllocError, Global};
 use std::marker::Model;
@@ -143,7 +144,8 @@ impl LoadRows {
         ensures head_len { vec_len heads.new ≡ vec_len heads.old + length self.now.items }
         ensures tail_len { vec_len tails.new ≡ vec_len tails.old + length self.now.items }
     {
-        append_left(&self.all, &self.gone, (head, Some(tail)), heads, tails);
+        let tail = Tail::Cell(tail);
+        append_left(&self.all, &self.gone, Columns { head, tail }, heads, tails);
     }
 
     /// Adds each row's cell of an attribute at the end of a list, and its key, which fits a cell, at the end of another
@@ -159,7 +161,8 @@ impl LoadRows {
         ensures head_len { vec_len heads.new ≡ vec_len heads.old + length self.now.items }
         ensures key_len { vec_len keys.new ≡ vec_len keys.old + length self.now.items }
     {
-        append_left(&self.all, &self.gone, (head, None), heads, keys);
+        let tail = Tail::Key;
+        append_left(&self.all, &self.gone, Columns { head, tail }, heads, keys);
     }
 
     /// Appends later rows, and keeps of all of them those whose flags are true. After an error the rows are as they
@@ -175,7 +178,7 @@ impl LoadRows {
         keep(&mut self.all, &mut self.gone, later, live)?;
         if self.gone.len() > MOST_GONE || self.all.later() > MOST_LATER {
             // Where there is no memory for it, the load stays as it is.
-            let _gathered = gather(&mut self.all, &mut self.gone);
+            let _compacted = compact(&mut self.all, &mut self.gone);
         }
         Ok(())
     }

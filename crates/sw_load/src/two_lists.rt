@@ -4,10 +4,12 @@ ghost use Rattle.std.specs.Prelude.{◌≡◌, ◌≤◌, ◌<◌, ◌+◌, ◌^
 ghost use Rattle.sw_table.specs.declared.row.Row.{Row};
 ghost use Rattle.sw_table.specs.Rows.{cell_of};
 ghost use Rattle.sw_table.specs.Kept.{kept};
-ghost use Rattle.sw_table.specs.Packed.{HasRoomFor, stretch};
-ghost use Rattle.sw_load.specs.Appended.{Fit, IsAppended, cell_or_key};
+ghost use Rattle.sw_table.specs.Packed.{HasRoomFor};
+ghost use Rattle.sw_load.specs.Appended.{Fit, IsAppended, cell_or_key, part_of};
 
 use crate::appending::append_part;
+use crate::columns::Columns;
+use crate::part::Part;
 use std::alloc::{AllocError, Global};
 use std::marker::Model;
 use sw_table::{PackedRows, Row};
@@ -105,33 +107,30 @@ impl TwoLists {
         }
     }
 
-    /// Adds the cells of an attribute of so many rows, from a place on, at the end of a list, and their cells of another
-    /// attribute, or their keys for none, at the end of another list; both have room for them.
+    /// Adds the columns of a part of the rows at the ends of two lists, which have room for them.
     pub(crate) fn append_part(
         &self,
-        part: (usize, usize),
-        columns: (usize, Option<usize>),
+        part: Part,
+        columns: Columns,
         heads: &mut Vec<i64>,
         tails: &mut Vec<i64>,
     )
-        requires within { part.0 + part.1 ≤ length self.now.items }
-        requires fit { Fit columns.1 (stretch part.0 part.1 self.now.items) }
-        requires heads { HasRoomFor part.1 heads.old }
-        requires tails { HasRoomFor part.1 tails.old }
-        ensures heads { IsAppended (map (cell_of columns.0) (stretch part.0 part.1 self.now.items)) heads.old heads.new }
-        ensures tails { IsAppended (map (cell_or_key columns.1) (stretch part.0 part.1 self.now.items)) tails.old tails.new }
+        requires within { part.start + part.many ≤ length self.now.items }
+        requires fit { Fit columns.tail (part_of self.now.items part) }
+        requires heads { HasRoomFor part.many heads.old }
+        requires tails { HasRoomFor part.many tails.old }
+        ensures heads { IsAppended (map (cell_of columns.head) (part_of self.now.items part)) heads.old heads.new }
+        ensures tails { IsAppended (map (cell_or_key columns.tail) (part_of self.now.items part)) tails.old tails.new }
     {
         let all = self.rows.len();
-        let start = part.0.min(all);
-        let many = part.1.min(all - start);
-        append_part(&self.rows, (start, many), columns, heads, tails);
-        append_part(
-            &self.more,
-            (part.0 - start, part.1 - many),
-            columns,
-            heads,
-            tails,
-        );
+        let start = part.start.min(all);
+        let many = part.many.min(all - start);
+        let rest = Part {
+            start: part.start - start,
+            many: part.many - many,
+        };
+        append_part(&self.rows, Part { start, many }, columns, heads, tails);
+        append_part(&self.more, rest, columns, heads, tails);
     }
 
     /// Adds rows at the end; after an error the rows are as they were.
@@ -156,7 +155,7 @@ impl TwoLists {
 
     /// Takes the rows out whose flags are false, and moves all others into the first list. After an error the rows are
     /// as they were.
-    pub(crate) fn gather(&mut self, alloc: Global, live: &[bool]) -> Result<(), AllocError>
+    pub(crate) fn compact(&mut self, alloc: Global, live: &[bool]) -> Result<(), AllocError>
         requires { length live.now ≡ length self.old.items }
         ensures ok { OnOk result (self.new.items ≡ kept live.now self.old.items) }
         ensures err { OnErr result (self.new.items ≡ self.old.items) }

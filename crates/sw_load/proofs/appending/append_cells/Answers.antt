@@ -6,25 +6,25 @@ use Rattle.sw_load.proofs.Appended.{part-long, part-more}
 use Rattle.sw_load.proofs.appending.append_cells.Goals as goal
 
 pub overflow_add-start : goal.overflow_add-start
-overflow_add-start c = search (rules, (let h : c.args.part.0 + c.loop-done.done < 9223372036854775808 = omega arith in h))
+overflow_add-start c = search (rules, (let h : c.args.part.start + c.loop-done.done < 9223372036854775808 = omega arith in h))
 
 pub overflow_add-start-in-loop-done : goal.overflow_add-start-in-loop-done
-overflow_add-start-in-loop-done c = search (rules, (let h : c.args.part.0 + c.loop-done.done < 9223372036854775808 = omega arith in h))
+overflow_add-start-in-loop-done c = search (rules, (let h : c.args.part.start + c.loop-done.done < 9223372036854775808 = omega arith in h))
 
 pub loop-done-preserved : goal.loop-done-preserved
 loop-done-preserved c =
     let none : Row = record { key = 0; cells = [] } in
-    let i = c.loop-done.done in let rs = c.args.rows.now.items in let s = c.args.part.0 in
+    let i = c.loop-done.done in let rs = c.args.rows.now.items in let s = c.args.part.start in
     let lt : s + i < length rs = omega (arith, c.loop-done-test.true, c.requires.within) in
     record {
       ones =
           c.push_reserved.ensures.items
           ∙ ap (λ (z : ℤ). c.loop-done.ones.items ++ z ∷ []) (to_z-of_z w64 c.cell.result (search rules))
-          ∙ part-more (cell_of c.args.attrs.0) c.loop-done.ones.items c.taken-ones.result.items rs s i none c.cell.result lt c.loop-done.invariant.ones (c.cell.ensures none);
+          ∙ part-more (cell_of c.args.attributes.head) c.loop-done.ones.items c.taken-ones.result.items rs s i none c.cell.result lt c.loop-done.invariant.ones (c.cell.ensures none);
       others =
           c.push_reserved-in-loop-done.ensures.items
           ∙ ap (λ (z : ℤ). c.loop-done.others.items ++ z ∷ []) (to_z-of_z w64 c.cell-in-loop-done.result (search rules))
-          ∙ part-more (cell_of c.args.attrs.1) c.loop-done.others.items c.taken-others.result.items rs s i none c.cell-in-loop-done.result lt c.loop-done.invariant.others (c.cell-in-loop-done.ensures none);
+          ∙ part-more (cell_of c.args.attributes.tail) c.loop-done.others.items c.taken-others.result.items rs s i none c.cell-in-loop-done.result lt c.loop-done.invariant.others (c.cell-in-loop-done.ensures none);
       one_len = omega (arith, c.push_reserved.ensures.len, c.loop-done.invariant.one_len);
       other_len = omega (arith, c.push_reserved-in-loop-done.ensures.len, c.loop-done.invariant.other_len);
       one_room = c.push_reserved.ensures.capacity ∙ c.loop-done.invariant.one_room;
@@ -33,20 +33,20 @@ loop-done-preserved c =
 
 pub returns-clause-heads : goal.returns-clause-heads
 returns-clause-heads c =
-    let all : c.loop-done.done ≡ c.args.part.1 = omega (arith, c.loop-done-test.false) in
-    let long = part-long (cell_of c.args.attrs.0) c.args.rows.now.items c.args.part.0 c.args.part.1 c.requires.within in
+    let all : c.loop-done.done ≡ c.args.part.many = omega (arith, c.loop-done-test.false) in
+    let long = part-long (cell_of c.args.attributes.head) c.args.rows.now.items c.args.part.start c.args.part.many c.requires.within in
     record {
-      items = c.loop-done.invariant.ones ∙ ap (λ (n : ℕ). c.taken-ones.result.items ++ map (cell_of c.args.attrs.0) (take n (drop c.args.part.0 c.args.rows.now.items))) all ∙ search rules;
+      items = c.loop-done.invariant.ones ∙ ap (λ (n : ℕ). c.taken-ones.result.items ++ map (cell_of c.args.attributes.head) (take n (drop c.args.part.start c.args.rows.now.items))) all ∙ search rules;
       room = c.loop-done.invariant.one_room ∙ search rules;
       len = omega (arith, c.loop-done.invariant.one_len, all, long, ap vec_len c.taken-ones.ensures);
     }
 
 pub returns-clause-tails : goal.returns-clause-tails
 returns-clause-tails c =
-    let all : c.loop-done.done ≡ c.args.part.1 = omega (arith, c.loop-done-test.false) in
-    let long = part-long (cell_of c.args.attrs.1) c.args.rows.now.items c.args.part.0 c.args.part.1 c.requires.within in
+    let all : c.loop-done.done ≡ c.args.part.many = omega (arith, c.loop-done-test.false) in
+    let long = part-long (cell_of c.args.attributes.tail) c.args.rows.now.items c.args.part.start c.args.part.many c.requires.within in
     record {
-      items = c.loop-done.invariant.others ∙ ap (λ (n : ℕ). c.taken-others.result.items ++ map (cell_of c.args.attrs.1) (take n (drop c.args.part.0 c.args.rows.now.items))) all ∙ search rules;
+      items = c.loop-done.invariant.others ∙ ap (λ (n : ℕ). c.taken-others.result.items ++ map (cell_of c.args.attributes.tail) (take n (drop c.args.part.start c.args.rows.now.items))) all ∙ search rules;
       room = c.loop-done.invariant.other_room ∙ search rules;
       len = omega (arith, c.loop-done.invariant.other_len, all, long, ap vec_len c.taken-others.ensures);
     }

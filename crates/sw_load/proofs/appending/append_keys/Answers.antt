@@ -7,25 +7,25 @@ use Rattle.sw_load.proofs.Appended.{part-long, part-more, small-at}
 use Rattle.sw_load.proofs.appending.append_keys.Goals as goal
 
 pub overflow_add-start : goal.overflow_add-start
-overflow_add-start c = search (rules, (let h : c.args.part.0 + c.loop-done.done < 9223372036854775808 = omega arith in h))
+overflow_add-start c = search (rules, (let h : c.args.part.start + c.loop-done.done < 9223372036854775808 = omega arith in h))
 
 pub overflow_add-start-in-loop-done : goal.overflow_add-start-in-loop-done
-overflow_add-start-in-loop-done c = search (rules, (let h : c.args.part.0 + c.loop-done.done < 9223372036854775808 = omega arith in h))
+overflow_add-start-in-loop-done c = search (rules, (let h : c.args.part.start + c.loop-done.done < 9223372036854775808 = omega arith in h))
 
 pub overflow_cast-key : goal.overflow_cast-key
 overflow_cast-key c =
     let none : Row = record { key = 0; cells = [] } in
-    let lt : c.args.part.0 + c.loop-done.done < length c.args.rows.now.items = omega (arith, c.loop-done-test.true, c.requires.within) in
-    let small = small-at c.args.rows.now.items c.args.part.0 c.args.part.1 c.loop-done.done none lt c.loop-done-test.true c.requires.small in
+    let lt : c.args.part.start + c.loop-done.done < length c.args.rows.now.items = omega (arith, c.loop-done-test.true, c.requires.within) in
+    let small = small-at c.args.rows.now.items c.args.part.start c.args.part.many c.loop-done.done none lt c.loop-done-test.true c.requires.small in
     let fits : c.key.result < 2 ^ 63 = omega (arith, c.key.ensures none, small) in
     search (rules, fits)
 
 pub loop-done-preserved : goal.loop-done-preserved
 loop-done-preserved c =
     let none : Row = record { key = 0; cells = [] } in
-    let i = c.loop-done.done in let rs = c.args.rows.now.items in let s = c.args.part.0 in
+    let i = c.loop-done.done in let rs = c.args.rows.now.items in let s = c.args.part.start in
     let lt : s + i < length rs = omega (arith, c.loop-done-test.true, c.requires.within) in
-    let small = small-at rs s c.args.part.1 i none lt c.loop-done-test.true c.requires.small in
+    let small = small-at rs s c.args.part.many i none lt c.loop-done-test.true c.requires.small in
     let fits : c.key.result < 2 ^ 63 = omega (arith, c.key.ensures none, small) in
     record {
       ones =
@@ -44,20 +44,20 @@ loop-done-preserved c =
 
 pub returns-clause-heads : goal.returns-clause-heads
 returns-clause-heads c =
-    let all : c.loop-done.done ≡ c.args.part.1 = omega (arith, c.loop-done-test.false) in
-    let long = part-long (cell_of c.args.head) c.args.rows.now.items c.args.part.0 c.args.part.1 c.requires.within in
+    let all : c.loop-done.done ≡ c.args.part.many = omega (arith, c.loop-done-test.false) in
+    let long = part-long (cell_of c.args.head) c.args.rows.now.items c.args.part.start c.args.part.many c.requires.within in
     record {
-      items = c.loop-done.invariant.ones ∙ ap (λ (n : ℕ). c.taken-ones.result.items ++ map (cell_of c.args.head) (take n (drop c.args.part.0 c.args.rows.now.items))) all ∙ search rules;
+      items = c.loop-done.invariant.ones ∙ ap (λ (n : ℕ). c.taken-ones.result.items ++ map (cell_of c.args.head) (take n (drop c.args.part.start c.args.rows.now.items))) all ∙ search rules;
       room = c.loop-done.invariant.one_room ∙ search rules;
       len = omega (arith, c.loop-done.invariant.one_len, all, long, ap vec_len c.taken-ones.ensures);
     }
 
 pub returns-clause-keys : goal.returns-clause-keys
 returns-clause-keys c =
-    let all : c.loop-done.done ≡ c.args.part.1 = omega (arith, c.loop-done-test.false) in
-    let long = part-long key_cell c.args.rows.now.items c.args.part.0 c.args.part.1 c.requires.within in
+    let all : c.loop-done.done ≡ c.args.part.many = omega (arith, c.loop-done-test.false) in
+    let long = part-long key_cell c.args.rows.now.items c.args.part.start c.args.part.many c.requires.within in
     record {
-      items = c.loop-done.invariant.others ∙ ap (λ (n : ℕ). c.taken-others.result.items ++ map key_cell (take n (drop c.args.part.0 c.args.rows.now.items))) all ∙ search rules;
+      items = c.loop-done.invariant.others ∙ ap (λ (n : ℕ). c.taken-others.result.items ++ map key_cell (take n (drop c.args.part.start c.args.rows.now.items))) all ∙ search rules;
       room = c.loop-done.invariant.other_room ∙ search rules;
       len = omega (arith, c.loop-done.invariant.other_len, all, long, ap vec_len c.taken-others.ensures);
     }

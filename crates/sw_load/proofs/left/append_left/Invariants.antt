@@ -8,7 +8,7 @@ use Rattle.sw_load.proofs.left.append_left.Given as goal
 abbrev pub invariant-loop-place : goal.invariant-loop-place
 invariant-loop-place l = record {
   places : ArePlaces l.from (length l.all.items) (drop l.place-index l.gone);
-  fit : Fit l.columns.1 (without_places l.from (drop l.place-index l.gone) l.all.items);
-  heads : IsAppending (cell_of l.columns.0) l.initial.heads l.heads (without_places l.from (drop l.place-index l.gone) l.all.items) (without_places 0 l.gone l.all.items);
-  tails : IsAppending (cell_or_key l.columns.1) l.initial.tails l.tails (without_places l.from (drop l.place-index l.gone) l.all.items) (without_places 0 l.gone l.all.items);
+  fit : Fit l.columns.tail (without_places l.from (drop l.place-index l.gone) l.all.items);
+  heads : IsAppending (cell_of l.columns.head) l.initial.heads l.heads (without_places l.from (drop l.place-index l.gone) l.all.items) (without_places 0 l.gone l.all.items);
+  tails : IsAppending (cell_or_key l.columns.tail) l.initial.tails l.tails (without_places l.from (drop l.place-index l.gone) l.all.items) (without_places 0 l.gone l.all.items);
 }

@@ -1,6 +1,6 @@
-use Rattle.std.proofs.Common.{◌≡◌, ◌∙◌, ◌-◌, ◌++◌, ℕ, ap, length, sym, take, arith}
+use Rattle.std.proofs.Common.{◌≡◌, ◌∙◌, ◌-◌, ◌++◌, ℕ, ap, length, refl, sym, take, arith}
 use Rattle.sw_table.specs.Packed.{Packed}
-use Rattle.sw_load.proofs.Halves.{take-two}
+use Rattle.sw_load.proofs.Halves.{take-both}
 use Rattle.sw_load.proofs.two_lists.TwoLists.truncate.Goals as goal
 
 pub returns : goal.returns
@@ -10,5 +10,5 @@ returns c =
     ap (λ (v : Packed). v.items ++ c.truncate.new.self.items) c.truncate-2.ensures
     ∙ ap (λ (v : Packed). take m s.rows.items ++ v.items) c.truncate.ensures
     ∙ ap (λ (n : ℕ). take m s.rows.items ++ take n s.more.items) left
-    ∙ sym (take-two s.rows.items s.more.items m)
+    ∙ sym (take-both s.rows.items s.more.items m m (m - length s.rows.items) refl refl)
     ∙ ap (λ (v : Packed). take m v.items) c.self.view_is

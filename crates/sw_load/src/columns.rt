@@ -1,0 +1,19 @@
+//! What two lists hold of each row.
+
+/// What the list of the tails holds of each row.
+#[derive(Clone, Copy, Debug)]
+pub(crate) enum Tail {
+    /// The row's key.
+    Key,
+    /// The row's cell of the attribute with this number, from 0.
+    Cell(usize),
+}
+
+/// What two lists hold of each row: that of the heads its cell of an attribute, and that of the tails its key or
+/// another cell.
+#[derive(Clone, Copy, Debug)]
+pub(crate) struct Columns {
+    /// The attribute whose cells are the heads, from 0.
+    pub head: usize,
+    pub tail: Tail,
+}
