@@ -1,6 +1,6 @@
 -- Lists that grow by what a function gives for each item of another.
 use Rattle.std.specs.Global.{Vec}
-use Rattle.std.proofs.Common.{refl, ℤ, vec_len, length-append, ◌^◌, subst, length-take, drop, length-drop, ◌≡◌, ◌∙◌, ◌+◌, ◌++◌, ◌∷◌, ◌<◌, ◌≤◌, ℕ, Bool, true, List, [], All, ap, sym, get_or, length, map, take, arith}
+use Rattle.std.proofs.Common.{ℤ, vec_len, length-append, ◌^◌, subst, length-take, drop, length-drop, ◌≡◌, ◌∙◌, ◌+◌, ◌++◌, ◌∷◌, ◌<◌, ◌≤◌, ℕ, Bool, true, List, [], All, ap, sym, get_or, length, map, take, arith}
 use Rattle.std.proofs.lemmas.List.{append-nil, append_assoc, get_or-append-add, get_or_append_left, map-append, get_or-drop, get_or-take, length-map, length-take-le, map_push, take_more}
 use Rattle.sw_table.specs.declared.row.Row.{Row}
 use Rattle.sw_table.specs.Packed.{HasRoomFor, IsSameRoom}
@@ -44,10 +44,6 @@ pub record IsAppending (f : Row → ℤ) (old new : Vec ℤ) (rest all : List Ro
   pub room : IsSameRoom old new
   pub len : vec_len new + length rest ≡ vec_len old + length all
 
--- no item is done
-pub appending-none : (f : Row → ℤ) (old : Vec ℤ) (all : List Row) → IsAppending f old old all all
-appending-none f old all = record { items = refl; room = refl; len = refl }
-
 -- the room for what is still to come
 pub appending-room : (f : Row → ℤ) (old new : Vec ℤ) (some rest all : List Row) (n : ℕ) → IsAppending f old new (some ++ rest) all → length some ≡ n → HasRoomFor (length all) old → HasRoomFor n new
 appending-room f old new some rest all n so_far long room = omega (arith, length-append some rest, long, room, so_far.len, so_far.room)
@@ -62,14 +58,6 @@ appending-more f old new next some rest all so_far more = record {
       ∙ so_far.items;
   room = more.room ∙ so_far.room;
   len = omega (arith, more.len, so_far.len, length-append some rest, length-map some f);
-}
-
--- the last ones are done
-pub appending-all : (f : Row → ℤ) (old new next : Vec ℤ) (rest all : List Row) → IsAppending f old new rest all → IsAppended (map f rest) new next → IsAppended (map f all) old next
-appending-all f old new next rest all so_far more = record {
-  items = more.items ∙ so_far.items;
-  room = more.room ∙ so_far.room;
-  len = omega (arith, more.len, so_far.len, length-map rest f, length-map all f);
 }
 
 -- the keys of the rows before others fit, where those of all do

@@ -5,7 +5,7 @@ use Rattle.sw_table.specs.declared.row.Row.{Row}
 use Rattle.sw_table.specs.Kept.{kept}
 use Rattle.sw_table.proofs.LiveLaws.{kept-all}
 use Rattle.sw_load.specs.Flags.{AreLive, IsNextGone}
-use Rattle.sw_load.specs.Gone.{AreBefore, AreGoneAfter, ArePlaces, without_places}
+use Rattle.sw_load.specs.Gone.{AreBefore, AreGoneAfter, ArePlaces, left_of, without_places}
 use Rattle.sw_load.proofs.Places.{before-few, behind-push, behind_last, between-append, items_between, left-before, left-behind, places-behind, places-change, places-put, without-long, without-split}
 
 -- the places that are gone after the flags before the q-th, and after them those that were gone from the k-th on, are what is gone where the other flags are true
@@ -14,7 +14,7 @@ pub record IsPartGone (live : List Bool) (old : List ℕ) (q k : ℕ) (new : Lis
   pub within : q ≤ length live
   pub behind : behind_last 0 new ≡ q + k
   pub places : ArePlaces 0 (length live + length old) (new ++ drop k old)
-  pub items : (xs : List Row) → length xs ≡ length live + length old → items_between 0 new xs ++ kept (drop q live) (without_places (q + k) (drop k old) xs) ≡ kept live (without_places 0 old xs)
+  pub items : (xs : List Row) → length xs ≡ length live + length old → items_between 0 new xs ++ kept (drop q live) (without_places (q + k) (drop k old) xs) ≡ kept live (left_of xs old)
 
 -- some live items, and one that is not
 kept-run_suc : {X : Type 0} (fs : List Bool) (xs : List X) (r : ℕ) → length fs ≡ length xs → r < length fs → ((i : ℕ) → i < r → get_or fs i false ≡ true) → get_or fs r false ≡ false → kept fs xs ≡ take r xs ++ kept (drop (suc r) fs) (drop (suc r) xs)
@@ -72,7 +72,7 @@ module _ (live : List Bool) (old new : List ℕ) (q k p i : ℕ) (part : IsPartG
       (places-change 0 (length live + length old) new (drop k old) (take i (drop k old) ++ (p + k + i) ∷ drop i (drop k old)) part.places
       (λ a. places-put (behind_last 0 new) (length live + length old) (drop k old) (p + k) i a before (omega (arith, part.behind, next.after)) below))
 
-  more-items : (xs : List Row) → length xs ≡ length live + length old → items_between 0 (new ++ take i (drop k old) ++ (p + (k + i)) ∷ []) xs ++ kept (drop (p + 1) live) (without_places (p + 1 + (k + i)) (drop (k + i) old) xs) ≡ kept live (without_places 0 old xs)
+  more-items : (xs : List Row) → length xs ≡ length live + length old → items_between 0 (new ++ take i (drop k old) ++ (p + (k + i)) ∷ []) xs ++ kept (drop (p + 1) live) (without_places (p + 1 + (k + i)) (drop (k + i) old) xs) ≡ kept live (left_of xs old)
   more-items xs long =
       let m = length live + length old in
       let left = without_places (q + k) (drop k old) xs in

@@ -13,7 +13,8 @@ pub(crate) enum Tail {
 /// another cell.
 #[derive(Clone, Copy, Debug)]
 pub(crate) struct Columns {
-    /// The attribute whose cells are the heads, from 0.
+    /// The number, from 0, of the attribute whose cells are the heads.
     pub head: usize,
+    /// What the tails are.
     pub tail: Tail,
 }

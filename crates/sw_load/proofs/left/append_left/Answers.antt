@@ -2,7 +2,7 @@ use Rattle.std.proofs.Common.{◌≡◌, ◌+◌, ◌-◌, ◌<◌, ◌++◌, �
 use Rattle.std.proofs.lemmas.List.{drop_more, length-take-le}
 use Rattle.sw_table.specs.Rows.{cell_of}
 use Rattle.sw_load.specs.Appended.{Fit, cell_or_key}
-use Rattle.sw_load.specs.Gone.{ArePlaces, without_places}
+use Rattle.sw_load.specs.Gone.{ArePlaces, left_of, without_places}
 use Rattle.sw_load.proofs.Appended.{IsAppending, appending-more, appending-room, fit-before, fit-behind}
 use Rattle.sw_load.proofs.Places.{places-le}
 use Rattle.sw_load.proofs.left.append_left.Goals as goal
@@ -33,9 +33,9 @@ append_part-requires-clause-heads c =
     let places : ArePlaces n (length xs) (g ∷ drop (i + 1) gs) = subst (λ (v : List ℕ). ArePlaces n (length xs) v) next c.loop-place.invariant.places in
     let le = places-le (g + 1) (length xs) (drop (i + 1) gs) places.1 in
     let some = take (g - n) (drop n xs) in
-    let so_far : IsAppending (cell_of c.args.columns.head) c.args.heads.now c.loop-place.heads (some ++ without_places (g + 1) (drop (i + 1) gs) xs) (without_places 0 gs xs) =
-    subst (λ (v : List ℕ). IsAppending (cell_of c.args.columns.head) c.args.heads.now c.loop-place.heads (without_places n v xs) (without_places 0 gs xs)) next c.loop-place.invariant.heads in
-    appending-room (cell_of c.args.columns.head) c.args.heads.now c.loop-place.heads some (without_places (g + 1) (drop (i + 1) gs) xs) (without_places 0 gs xs) (g - n) so_far
+    let so_far : IsAppending (cell_of c.args.columns.head) c.args.heads.now c.loop-place.heads (some ++ without_places (g + 1) (drop (i + 1) gs) xs) (left_of xs gs) =
+    subst (λ (v : List ℕ). IsAppending (cell_of c.args.columns.head) c.args.heads.now c.loop-place.heads (without_places n v xs) (left_of xs gs)) next c.loop-place.invariant.heads in
+    appending-room (cell_of c.args.columns.head) c.args.heads.now c.loop-place.heads some (without_places (g + 1) (drop (i + 1) gs) xs) (left_of xs gs) (g - n) so_far
     (length-take-le (g - n) (drop n xs) (omega (arith, length-drop n xs, le))) c.requires.heads
 
 pub append_part-requires-clause-tails : goal.append_part-requires-clause-tails
@@ -46,9 +46,9 @@ append_part-requires-clause-tails c =
     let places : ArePlaces n (length xs) (g ∷ drop (i + 1) gs) = subst (λ (v : List ℕ). ArePlaces n (length xs) v) next c.loop-place.invariant.places in
     let le = places-le (g + 1) (length xs) (drop (i + 1) gs) places.1 in
     let some = take (g - n) (drop n xs) in
-    let so_far : IsAppending (cell_or_key c.args.columns.tail) c.args.tails.now c.loop-place.tails (some ++ without_places (g + 1) (drop (i + 1) gs) xs) (without_places 0 gs xs) =
-    subst (λ (v : List ℕ). IsAppending (cell_or_key c.args.columns.tail) c.args.tails.now c.loop-place.tails (without_places n v xs) (without_places 0 gs xs)) next c.loop-place.invariant.tails in
-    appending-room (cell_or_key c.args.columns.tail) c.args.tails.now c.loop-place.tails some (without_places (g + 1) (drop (i + 1) gs) xs) (without_places 0 gs xs) (g - n) so_far
+    let so_far : IsAppending (cell_or_key c.args.columns.tail) c.args.tails.now c.loop-place.tails (some ++ without_places (g + 1) (drop (i + 1) gs) xs) (left_of xs gs) =
+    subst (λ (v : List ℕ). IsAppending (cell_or_key c.args.columns.tail) c.args.tails.now c.loop-place.tails (without_places n v xs) (left_of xs gs)) next c.loop-place.invariant.tails in
+    appending-room (cell_or_key c.args.columns.tail) c.args.tails.now c.loop-place.tails some (without_places (g + 1) (drop (i + 1) gs) xs) (left_of xs gs) (g - n) so_far
     (length-take-le (g - n) (drop n xs) (omega (arith, length-drop n xs, le))) c.requires.tails
 
 pub overflow_add-from : goal.overflow_add-from
@@ -73,11 +73,11 @@ loop-place-preserved c =
       places = places.1;
       fit = fit-behind c.args.columns.tail some (without_places (g + 1) (drop (i + 1) gs) xs) (subst (λ (v : List ℕ). Fit c.args.columns.tail (without_places n v xs)) next c.loop-place.invariant.fit);
       heads =
-          appending-more (cell_of c.args.columns.head) c.args.heads.now c.loop-place.heads c.append_part.new.heads some (without_places (g + 1) (drop (i + 1) gs) xs) (without_places 0 gs xs)
-          (subst (λ (v : List ℕ). IsAppending (cell_of c.args.columns.head) c.args.heads.now c.loop-place.heads (without_places n v xs) (without_places 0 gs xs)) next c.loop-place.invariant.heads)
+          appending-more (cell_of c.args.columns.head) c.args.heads.now c.loop-place.heads c.append_part.new.heads some (without_places (g + 1) (drop (i + 1) gs) xs) (left_of xs gs)
+          (subst (λ (v : List ℕ). IsAppending (cell_of c.args.columns.head) c.args.heads.now c.loop-place.heads (without_places n v xs) (left_of xs gs)) next c.loop-place.invariant.heads)
           c.append_part.ensures.heads;
       tails =
-          appending-more (cell_or_key c.args.columns.tail) c.args.tails.now c.loop-place.tails c.append_part.new.tails some (without_places (g + 1) (drop (i + 1) gs) xs) (without_places 0 gs xs)
-          (subst (λ (v : List ℕ). IsAppending (cell_or_key c.args.columns.tail) c.args.tails.now c.loop-place.tails (without_places n v xs) (without_places 0 gs xs)) next c.loop-place.invariant.tails)
+          appending-more (cell_or_key c.args.columns.tail) c.args.tails.now c.loop-place.tails c.append_part.new.tails some (without_places (g + 1) (drop (i + 1) gs) xs) (left_of xs gs)
+          (subst (λ (v : List ℕ). IsAppending (cell_or_key c.args.columns.tail) c.args.tails.now c.loop-place.tails (without_places n v xs) (left_of xs gs)) next c.loop-place.invariant.tails)
           c.append_part.ensures.tails;
     }

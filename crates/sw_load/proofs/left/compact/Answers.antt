@@ -1,6 +1,6 @@
 use Rattle.std.proofs.Common.{◌≡◌, ◌∙◌, List, ℕ, Bool, ap, length, refl, arith}
 use Rattle.sw_table.specs.Kept.{kept}
-use Rattle.sw_load.specs.Gone.{flags_without, without_places}
+use Rattle.sw_load.specs.Gone.{flags_without, left_of}
 use Rattle.sw_load.proofs.Flagged.{flags-kept, flags-many}
 use Rattle.sw_load.proofs.left.compact.Goals as goal
 
@@ -17,7 +17,7 @@ returns-clause-items c =
     let xs = c.args.all.now.items in let gs = c.args.gone.now.items in
     let flags : c.deref-2.result.now ≡ flags_without 0 c.len.result c.deref.result.now = c.deref-2.ensures.value ∙ c.in_ok-live.ensures in
     let same : flags_without 0 c.len.result c.deref.result.now ≡ flags_without 0 (length xs) gs = ap (λ (n : ℕ). flags_without 0 n c.deref.result.now) c.len.ensures.many ∙ ap (flags_without 0 (length xs)) c.deref.ensures.value in
-    ap (λ (v : List ℕ). without_places 0 v c.compact.new.self.items) c.clear.ensures.items
+    ap (λ (v : List ℕ). left_of c.compact.new.self.items v) c.clear.ensures.items
     ∙ c.in_ok-compact.ensures.ok
     ∙ ap (λ (v : List Bool). kept v xs) (flags ∙ same)
     ∙ flags-kept xs 0 (length xs) gs refl c.requires

@@ -1,15 +1,15 @@
 use Rattle.std.proofs.Common.{◌≡◌, ◌∙◌, ◌+◌, ◌++◌, List, ℕ, ap, length, length-append, refl, subst, sym, arith}
 use Rattle.sw_table.specs.declared.row.Row.{Row}
 use Rattle.sw_table.specs.Kept.{kept}
-use Rattle.sw_load.specs.Gone.{AreGoneAfter, ArePlaces, without_places}
+use Rattle.sw_load.specs.Gone.{AreGoneAfter, ArePlaces, left_of}
 use Rattle.sw_load.proofs.Places.{places-more, without-append, without-long}
 use Rattle.sw_load.proofs.left.keep.Goals as goal
 
 -- there are as many rows as flags and places that are gone
-many : (xs ys : List Row) (gs : List ℕ) (n : ℕ) → ArePlaces 0 (length xs) gs → n ≡ length (without_places 0 gs xs ++ ys) → n + length gs ≡ length (xs ++ ys)
+many : (xs ys : List Row) (gs : List ℕ) (n : ℕ) → ArePlaces 0 (length xs) gs → n ≡ length (left_of xs gs ++ ys) → n + length gs ≡ length (xs ++ ys)
 many xs ys gs n a is =
     let left = without-long xs 0 (length xs) gs refl a in
-    omega (arith, left, is, length-append (without_places 0 gs xs) ys, length-append xs ys)
+    omega (arith, left, is, length-append (left_of xs gs) ys, length-append xs ys)
 
 pub gone_after-requires-clause-places : goal.gone_after-requires-clause-places
 gone_after-requires-clause-places c =
@@ -34,6 +34,6 @@ returns-in-Ok-clause-ok c =
     let xs = c.args.all.now.items in let ys = c.args.later.now.items in let gs = c.args.gone.now.items in let n = length c.args.live.now in
     let all : n + length gs ≡ length (xs ++ ys) = many xs ys gs n c.requires.places c.requires.flags in
     let after : AreGoneAfter c.args.live.now gs c.in-Ok.now.items = subst (λ (v : List ℕ). AreGoneAfter c.args.live.now v c.in-Ok.now.items) c.deref.ensures.value c.in-Ok.ensures in
-    ap (without_places 0 c.in-Ok.now.items) c.in_ok-extend.ensures.ok
+    ap (λ (v : List Row). left_of v c.in-Ok.now.items) c.in_ok-extend.ensures.ok
     ∙ after.items (xs ++ ys) (sym all)
     ∙ ap (kept c.args.live.now) (without-append xs ys 0 (length xs) gs refl c.requires.places)
