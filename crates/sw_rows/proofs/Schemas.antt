@@ -2,5 +2,6 @@ pub mod ColumnLemmas
 pub mod DomainLaws
 pub mod HeaderSpelling
 pub mod SchemaLaws
+pub mod SlotLemmas
 pub mod TextLaws
 pub mod TextLemmas

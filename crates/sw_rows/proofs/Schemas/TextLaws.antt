@@ -12,9 +12,10 @@ use Rattle.std.proofs.lemmas.Slice.Eq.{bytes_eq-Decides}
 use Rattle.std.specs.List.{position_or_len}
 use Rattle.std.specs.Option.{option_map_or}
 use Rattle.sw_rows.specs.Faults.{Fault, too_many}
-use Rattle.sw_rows.specs.Recent.{AreOf, IsOf}
+use Rattle.sw_rows.specs.Recent.{AreTrueOf}
+use Rattle.sw_rows.specs.Slots.{IsTrueOf, text_in}
 use Rattle.sw_rows.specs.declared.schema.recent.Recent.{Recent}
-use Rattle.sw_rows.specs.declared.schema.recent.Slot.{Slot}
+use Rattle.sw_rows.specs.declared.schema.slot.Slot.{Slot}
 use Rattle.sw_rows.specs.Texts.{AreTexts, is_text, are_full, code_given, code_of, has_text, next_code, text_of, texts_differ, with_text, with_texts}
 use Rattle.sw_rows.specs.declared.schema.texts.TheConstants.{MOST_TEXTS}
 use Rattle.sw_rows.proofs.Tables.CellSpelling.{one_further}
@@ -166,12 +167,12 @@ pub code_kept : (ts more : Texts) (t : List ℕ) (code : ℕ) → code_of ts t �
 code_kept ts more t code h = let all = grown ts more in ap (λ us. code_of us t) all.1 ∙ code-append ts all.0 t code h
 
 -- what came lately is still so as texts are added
-pub recent_kept : (ts more : Texts) (r : Recent) → AreOf ts r → AreOf (with_texts ts more) r
-recent_kept ts more r h = All-weaker (IsOf ts) (IsOf (with_texts ts more)) kept r.slots.items h
+pub recent_kept : (ts more : Texts) (r : Recent) → AreTrueOf ts r → AreTrueOf (with_texts ts more) r
+recent_kept ts more r h = All-weaker (IsTrueOf ts) (IsTrueOf (with_texts ts more)) kept r.slots.items h
   where
-    kept : (s : Slot) → IsOf ts s → IsOf (with_texts ts more) s
+    kept : (s : Slot) → IsTrueOf ts s → IsTrueOf (with_texts ts more) s
     kept s (inl blank) = inl blank
-    kept s (inr has) = inr (code_kept ts more (take s.many s.bytes) s.code has)
+    kept s (inr has) = inr (code_kept ts more (text_in s) s.code has)
 
 -- a code keeps its text as texts are added
 pub text_of_kept : (ts more : Texts) (t : List ℕ) (code : ℕ) → text_of ts code ≡ Some t → text_of (with_texts ts more) code ≡ Some t
@@ -217,11 +218,11 @@ code_of_new ts t h room =
     ap (λ us. code_of us t) (cond-false (has_text ts t || are_full ts) ts (ts ++ t ∷ []) (neither (has_text ts t) (are_full ts) h room)) ∙ coded (ts ++ t ∷ []) (length ts) (length ts + 1) t refl (position_is (bytes_eq t) (ts ++ t ∷ []) (length ts) (last_at ts t h) inside)
 
 -- a new text comes last, with the next code, and what came lately is still so
-pub recent_grown : (ts : Texts) (t : List ℕ) (r : Recent) → has_text ts t ≡ false → length ts < MOST_TEXTS → AreOf ts r → (code_of (ts ++ t ∷ []) t ≡ Some (length ts + 1)) × AreOf (ts ++ t ∷ []) r
+pub recent_grown : (ts : Texts) (t : List ℕ) (r : Recent) → has_text ts t ≡ false → length ts < MOST_TEXTS → AreTrueOf ts r → (code_of (ts ++ t ∷ []) t ≡ Some (length ts + 1)) × AreTrueOf (ts ++ t ∷ []) r
 recent_grown ts t r new few was =
     let room : are_full ts ≡ false = grind (arith, nat_tests) in
     let last : with_text ts t ≡ ts ++ t ∷ [] = cond-false (has_text ts t || are_full ts) ts (ts ++ t ∷ []) (neither (has_text ts t) (are_full ts) new room) in
-    (ap (λ us. code_of us t) (sym last) ∙ code_of_new ts t new room, subst (λ us. AreOf us r) last (recent_kept ts (t ∷ []) r was))
+    (ap (λ us. code_of us t) (sym last) ∙ code_of_new ts t new room, subst (λ us. AreTrueOf us r) last (recent_kept ts (t ∷ []) r was))
 
 -- the code that a text is given is its code from then on
 pub given_kept : (ts : Texts) (t : List ℕ) (code : ℕ) → code_given ts t ≡ Ok code → code_of (with_text ts t) t ≡ Some code

@@ -73,14 +73,14 @@ impl Drop for Texts {
 
 impl Model for Texts {
     ghost use Rattle.std.specs.Prelude.{List, ℕ};
-    ghost use Rattle.sw_rows.specs.Recent.{AreOf};
+    ghost use Rattle.sw_rows.specs.Recent.{AreTrueOf};
     ghost use Rattle.sw_rows.specs.Texts.{texts_of, AreTexts};
 
     ghost Value = { List (List ℕ) };
 
     ghost view = { λ s. texts_of s.texts };
 
-    ghost invariant = { λ s. AreTexts (texts_of s.texts) × AreOf (texts_of s.texts) s.recent };
+    ghost invariant = { λ s. AreTexts (texts_of s.texts) × AreTrueOf (texts_of s.texts) s.recent };
 }
 
 impl Texts {
@@ -102,17 +102,26 @@ impl Texts {
         self.texts.len()
     }
 
+    /// The code of a text, if it is one of these, by its hash.
+    fn code_by_hash(&self, text: &str) -> Option<u64>
+        ensures value { result ≡ code_of self.now text.now }
+        ensures found { is_some result ≡ has_text self.now text.now }
+        ensures few { IfSome result (λ code. code ≤ MOST_TEXTS) }
+    {
+        let place = self.texts.get_index_of(text)?;
+        Some(place as u64 + 1)
+    }
+
     /// The code of a text, if it is one of these. Texts are compared byte by byte.
     pub fn code(&self, text: &str) -> Option<u64>
         ensures value { result ≡ code_of self.now text.now }
         ensures found { is_some result ≡ has_text self.now text.now }
         ensures few { IfSome result (λ code. code ≤ MOST_TEXTS) }
     {
-        if let Some(code) = self.seen(text.as_bytes()) {
-            return Some(code);
+        match self.seen(text.as_bytes()) {
+            Some(code) => Some(code),
+            None => self.code_by_hash(text),
         }
-        let place = self.texts.get_index_of(text)?;
-        Some(place as u64 + 1)
     }
 
     /// The text of a code, if one has it.
@@ -150,7 +159,10 @@ impl Texts {
         ensures full { code_given self.old text.now ≡ Err (too_many MOST_TEXTS)
             → result ≡ Err (Refusal.TooMany MOST_TEXTS) }
     {
-        if let Some(code) = self.code(text) {
+        if let Some(code) = self.seen(text.as_bytes()) {
+            return Ok(code);
+        }
+        if let Some(code) = self.code_by_hash(text) {
             self.recent.note(text.as_bytes(), code, self.texts.len());
             return Ok(code);
         }

@@ -1,0 +1,151 @@
+//! A text of few bytes with its code, in four words: two texts are compared by numbers, without a loop over their bytes.
+
+ghost use Rattle.std.specs.Prelude.{◌≡◌, ◌+◌, ◌-◌, ◌<◌, ◌≤◌, ◌++◌, ℕ, List, Some, drop, length, slice_index_or, take, IfSome};
+ghost use Rattle.sw_rows.specs.Slots.{IsSlotOf, IsTrueOf, bytes_of, text_in};
+ghost use Rattle.sw_rows.specs.Texts.{code_of};
+ghost use Rattle.sw_rows.specs.declared.schema.texts.TheConstants.{MOST_TEXTS};
+
+/// How many bytes a text has at most that a slot has.
+const MOST_BYTES: usize = 24;
+
+/// The eight bytes from a place on, as a number.
+#[inline]
+fn word(bytes: &[u8], at: usize) -> u64
+    requires { at + 8 ≤ length bytes.now }
+    ensures { bytes_of result ≡ take 8 (drop at bytes.now) }
+{
+    u64::from_le_bytes([
+        bytes[at],
+        bytes[at + 1],
+        bytes[at + 2],
+        bytes[at + 3],
+        bytes[at + 4],
+        bytes[at + 5],
+        bytes[at + 6],
+        bytes[at + 7],
+    ])
+}
+
+/// The first four bytes and the last four, as a number.
+#[inline]
+fn both_ends(bytes: &[u8]) -> u64
+    requires { 4 ≤ length bytes.now }
+    ensures { bytes_of result ≡ take 4 bytes.now ++ drop (length bytes.now - 4) bytes.now }
+{
+    let last = bytes.len() - 4;
+    u64::from_le_bytes([
+        bytes[0],
+        bytes[1],
+        bytes[2],
+        bytes[3],
+        bytes[last],
+        bytes[last + 1],
+        bytes[last + 2],
+        bytes[last + 3],
+    ])
+}
+
+/// The byte at a place, 0 where there is none.
+#[inline]
+fn byte(bytes: &[u8], at: usize) -> u8
+    ensures { result ≡ slice_index_or bytes.now at 0 }
+{
+    bytes.get(at).copied().unwrap_or(0)
+}
+
+/// Fewer than four bytes, and zeros behind them, as a number.
+#[inline]
+fn short_word(bytes: &[u8]) -> u64
+    requires { length bytes.now < 4 }
+    ensures { take (length bytes.now) (bytes_of result) ≡ bytes.now }
+{
+    let (first, second, third) = (byte(bytes, 0), byte(bytes, 1), byte(bytes, 2));
+    u64::from_le_bytes([first, second, third, 0, 0, 0, 0, 0])
+}
+
+/// A text of few bytes and its code, which is 0 where none stands.
+#[derive(Clone, Copy)]
+pub(crate) struct Slot {
+    first: u64,
+    middle: u64,
+    last: u64,
+    many: u32,
+    code: u32,
+}
+
+/// A slot where no text stands.
+pub(crate) const BLANK: Slot = Slot {
+    first: 0,
+    middle: 0,
+    last: 0,
+    many: 0,
+    code: 0,
+};
+
+impl Slot {
+    /// A slot of a text with this code, if its bytes are few.
+    #[inline]
+    pub fn of(text: &[u8], code: u64) -> Option<Slot>
+        requires { code ≤ MOST_TEXTS }
+        ensures { IfSome result (IsSlotOf text.now code) }
+    {
+        let many = text.len();
+        if many > MOST_BYTES {
+            return None;
+        }
+        let slot = Slot {
+            many: many as u32,
+            code: code as u32,
+            ..BLANK
+        };
+        Some(match many {
+            0..=3 => Slot {
+                first: short_word(text),
+                ..slot
+            },
+            4..=7 => Slot {
+                first: both_ends(text),
+                ..slot
+            },
+            8..=16 => Slot {
+                first: word(text, 0),
+                last: word(text, many - 8),
+                ..slot
+            },
+            _ => Slot {
+                first: word(text, 0),
+                middle: word(text, 8),
+                last: word(text, many - 8),
+                ..slot
+            },
+        })
+    }
+
+    /// Whether no text stands here.
+    #[inline]
+    pub fn is_blank(&self) -> bool {
+        self.code == 0
+    }
+
+    /// A number that few texts share.
+    #[inline]
+    pub fn sum(&self) -> u64 {
+        let all = self.first ^ self.last.rotate_left(29) ^ self.middle.rotate_left(47);
+        (all ^ u64::from(self.many)).wrapping_mul(0x9e37_79b9_7f4a_7c15)
+    }
+
+    /// The code of the text of another slot, where it is the one that stands here.
+    #[inline]
+    pub fn code_of(&self, text: &Slot) -> Option<u64>
+        ensures { (ts : List (List ℕ)) → IsTrueOf ts self.now → IfSome result (λ n. code_of ts (text_in text.now) ≡ Some n) }
+    {
+        let is_here = self.first == text.first
+            && self.last == text.last
+            && self.middle == text.middle
+            && self.many == text.many;
+        if self.code == 0 || !is_here {
+            return None;
+        }
+        Some(u64::from(self.code))
+    }
+}
