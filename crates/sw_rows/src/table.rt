@@ -23,7 +23,8 @@ use crate::schema::text_key::TextKey;
 use crate::schema::texts::{Texts, cell_of, read_text};
 use crate::schema::{Columns, Fields, Schema, read_header};
 use crate::table::cell::read_cell_bytes;
-use csv::{ByteRecord, Reader};
+use crate::table::records::Records;
+use csv::ByteRecord;
 use std::alloc::Global;
 use sw_query::Refusal;
 use sw_table::{PackedRows, Row};
@@ -130,22 +131,21 @@ pub(crate) fn read_rows(
     mut rows: PackedRows,
     columns: &Columns,
     texts: &mut Texts,
-    rdr: &mut Reader<&[u8]>,
-    row: &mut ByteRecord,
+    records: &mut Records<'_>,
 ) -> Result<PackedRows, Refusal>
     requires none { rows ≡ record { width = length columns.now; items = [] } }
-    requires plain { IsPlain rdr.old }
-    ensures gives { GivesRowsOf texts.old columns.now (records_left rdr.old) result }
-    ensures learned { OnOk result (texts.new ≡ with_records texts.old columns.now (records_left rdr.old)) }
+    requires plain { IsPlain records.old.rdr }
+    ensures gives { GivesRowsOf texts.old columns.now (records_left records.old.rdr) result }
+    ensures learned { OnOk result (texts.new ≡ with_records texts.old columns.now (records_left records.old.rdr)) }
     ensures width { IfOk result (λ rows. rows.width ≡ length columns.now) }
 {
     for n in 0..MOST_ROWS {
-        match records::next(rdr, row) {
+        match records.next() {
             Ok(true) => {}
             Ok(false) => return Ok(rows),
             Err(_) => return Err(Refusal::NoMemory),
         }
-        match read_cells(columns, texts, n + 1, row) {
+        match read_cells(columns, texts, n + 1, &records.row) {
             Ok(cells) => {
                 if rows.push(&Row { key: n + 1, cells }).is_err() {
                     return Err(Refusal::NoMemory);
@@ -154,7 +154,7 @@ pub(crate) fn read_rows(
             Err(e) => return Err(e),
         }
     }
-    match records::next(rdr, row) {
+    match records.next() {
         Ok(true) => Err(Refusal::TooMany { limit: MOST_ROWS }),
         Ok(false) => Ok(rows),
         Err(_) => Err(Refusal::NoMemory),
@@ -165,17 +165,16 @@ pub(crate) fn read_rows(
 fn read_under(
     alloc: Global,
     columns: Columns,
-    rdr: &mut Reader<&[u8]>,
-    row: &mut ByteRecord,
+    records: &mut Records<'_>,
 ) -> Result<(Schema, PackedRows), Refusal>
-    requires plain { IsPlain rdr.old }
+    requires plain { IsPlain records.old.rdr }
     requires some { 0 < length columns }
-    ensures gives { Gives ⊥ shown_packed result (table_seeing columns (records_left rdr.old)) }
+    ensures gives { Gives ⊥ shown_packed result (table_seeing columns (records_left records.old.rdr)) }
     ensures width { IfOk result (λ t. t.1.width ≡ length t.0) }
 {
     let mut texts = columns.no_texts(alloc);
     let none = no_rows(alloc, &columns);
-    match read_rows(none, &columns, &mut texts, rdr, row) {
+    match read_rows(none, &columns, &mut texts, records) {
         Ok(rows) => Ok((columns.into_schema(texts), rows)),
         Err(e) => Err(e),
     }
@@ -185,20 +184,19 @@ fn read_under(
 fn read_records(
     alloc: Global,
     key: TextKey,
-    rdr: &mut Reader<&[u8]>,
-    row: &mut ByteRecord,
+    records: &mut Records<'_>,
 ) -> Result<(Schema, PackedRows), Refusal>
-    requires { IsPlain rdr.old }
-    ensures gives { Gives ⊥ shown_packed result (table_of_records (records_left rdr.old)) }
+    requires { IsPlain records.old.rdr }
+    ensures gives { Gives ⊥ shown_packed result (table_of_records (records_left records.old.rdr)) }
     ensures width { IfOk result (λ t. t.1.width ≡ length t.0) }
 {
-    match records::next(rdr, row) {
+    match records.next() {
         Ok(true) => {}
         Ok(false) => return Err(Refusal::BadTable { rec: 0, field: 0 }),
         Err(_) => return Err(Refusal::NoMemory),
     }
-    match read_header(alloc, key, row) {
-        Ok(columns) => read_under(alloc, columns, rdr, row),
+    match read_header(alloc, key, &records.row) {
+        Ok(columns) => read_under(alloc, columns, records),
         Err(e) => Err(e),
     }
 }
@@ -212,9 +210,8 @@ pub(crate) fn read_whole(
     ensures gives { Gives ⊥ shown_packed result (table_in bytes.now) }
     ensures width { IfOk result (λ t. t.1.width ≡ length t.0) }
 {
-    let mut rdr = records::open(alloc, bytes);
-    let mut row = ByteRecord::new(alloc);
-    read_records(alloc, key, &mut rdr, &mut row)
+    let mut records = Records::of(alloc, bytes);
+    read_records(alloc, key, &mut records)
 }
 
 /// Reads a table one of whose records has a ninth field there. It is refused before that record is read whole.

@@ -10,8 +10,8 @@ ghost use Rattle.sw_rows.specs.Tables.{table_in};
 use crate::loading::cuts::{feed_at, has_no_quote};
 use crate::schema::text_key::TextKey;
 use crate::schema::{Columns, read_header};
-use crate::table::{MOST_ROWS, no_rows, read_rows, records};
-use csv::{ByteRecord, Reader};
+use crate::table::records::Records;
+use crate::table::{MOST_ROWS, no_rows, read_rows};
 use std::alloc::Global;
 use sw_query::Refusal;
 
@@ -63,10 +63,9 @@ fn ninth_at(bytes: &[u8]) -> Option<usize>
 fn count_records(alloc: Global, bytes: &[u8]) -> Option<u64>
     ensures { IfSome result (λ n. n ≡ length (records default_config (strip_bom bytes.now))) }
 {
-    let mut rdr = records::open(alloc, bytes);
-    let mut row = ByteRecord::new(alloc);
+    let mut records = Records::of(alloc, bytes);
     for n in 0..MOST_ROWS {
-        match records::next(&mut rdr, &mut row) {
+        match records.next() {
             Ok(true) => {}
             Ok(false) => return Some(n),
             Err(_) => return None,
@@ -80,18 +79,17 @@ fn count_records(alloc: Global, bytes: &[u8]) -> Option<u64>
 fn refused_row(
     alloc: Global,
     columns: &Columns,
-    rdr: &mut Reader<&[u8]>,
-    row: &mut ByteRecord,
+    records: &mut Records<'_>,
     count: u64,
 ) -> Option<Refusal>
-    requires plain { IsPlain rdr.old }
+    requires plain { IsPlain records.old.rdr }
     requires some { 0 < length columns.now }
-    requires count { count ≡ length (records_left rdr.old) }
-    ensures { RefusesAll columns.now (records_left rdr.old) result }
+    requires count { count ≡ length (records_left records.old.rdr) }
+    ensures { RefusesAll columns.now (records_left records.old.rdr) result }
 {
     let mut texts = columns.no_texts(alloc);
     let most = columns.len() as u64;
-    match read_rows(no_rows(alloc, columns), columns, &mut texts, rdr, row) {
+    match read_rows(no_rows(alloc, columns), columns, &mut texts, records) {
         Err(Refusal::BadTable { rec, field }) if rec == count && field > most => {
             Some(Refusal::BadTable { rec, field })
         }
@@ -105,19 +103,18 @@ fn refused_front(alloc: Global, key: TextKey, front: &[u8], count: u64) -> Optio
     requires count { count ≡ length (records default_config (strip_bom front.now)) }
     ensures { (rest : List ℕ) → IfSome result (λ e. Fails ⊥ e (table_in (front.now ++ rest))) }
 {
-    let mut rdr = records::open(alloc, front);
-    let mut row = ByteRecord::new(alloc);
-    let Ok(true) = records::next(&mut rdr, &mut row) else {
+    let mut records = Records::of(alloc, front);
+    let Ok(true) = records.next() else {
         return None;
     };
-    if row.len() > 8 {
+    if records.row.len() > 8 {
         return Some(Refusal::TooMany { limit: 8 });
     }
     if count < 2 {
         return None;
     }
-    match read_header(alloc, key, &row) {
-        Ok(columns) => refused_row(alloc, &columns, &mut rdr, &mut row, count - 1),
+    match read_header(alloc, key, &records.row) {
+        Ok(columns) => refused_row(alloc, &columns, &mut records, count - 1),
         Err(_) => None,
     }
 }

@@ -17,8 +17,8 @@ use crate::loading::fronts::long_at;
 use crate::loading::text_parts::read_text_table;
 use crate::schema::text_key::TextKey;
 use crate::schema::{Columns, Schema, read_header};
-use crate::table::{MOST_ROWS, no_rows, read_long, read_rows, read_whole, records};
-use csv::ByteRecord;
+use crate::table::records::Records;
+use crate::table::{MOST_ROWS, no_rows, read_long, read_rows, read_whole};
 use std::alloc::Global;
 use std::thread::{Threads, join};
 use sw_query::Refusal;
@@ -66,10 +66,9 @@ fn read_part(
     ensures part { IfOk result (IsPart (length columns.now)) }
 {
     let mut texts = columns.no_texts(alloc);
-    let mut rdr = records::open(alloc, part);
-    let mut row = ByteRecord::new(alloc);
+    let mut records = Records::of(alloc, part);
     let none = no_rows_of(alloc, columns, part, parts);
-    read_rows(none, columns, &mut texts, &mut rdr, &mut row)
+    read_rows(none, columns, &mut texts, &mut records)
 }
 
 /// Adds the rows of a part, of which each takes the number behind its own.
@@ -198,18 +197,16 @@ fn read_head(alloc: Global, key: TextKey, head: &[u8]) -> Option<Columns>
     ensures head { IfSome result (IsHeader head.now) }
     ensures some { IfSome result (λ s. 0 < length s) }
 {
-    let mut rdr = records::open(alloc, head);
-    let mut row = ByteRecord::new(alloc);
-    let Ok(true) = records::next(&mut rdr, &mut row) else {
+    let mut records = Records::of(alloc, head);
+    let Ok(true) = records.next() else {
         return None;
     };
-    let mut more = ByteRecord::new(alloc);
-    let Ok(false) = records::next(&mut rdr, &mut more) else {
+    let Ok(columns) = read_header(alloc, key, &records.row) else {
         return None;
     };
-    match read_header(alloc, key, &row) {
-        Ok(columns) => Some(columns),
-        Err(_) => None,
+    match records.next() {
+        Ok(false) => Some(columns),
+        _ => None,
     }
 }
 

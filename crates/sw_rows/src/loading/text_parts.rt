@@ -13,8 +13,8 @@ use crate::loading::cuts::{Cuts, LEAST_HALVED, cut};
 use crate::loading::parts::{append, no_rows_of};
 use crate::schema::texts::{MOST_TEXTS, Texts, cell_of};
 use crate::schema::{Columns, Schema};
-use crate::table::{read_rows, records};
-use csv::ByteRecord;
+use crate::table::read_rows;
+use crate::table::records::Records;
 use std::alloc::Global;
 use std::thread::{Threads, join};
 use sw_table::PackedRows;
@@ -33,10 +33,9 @@ fn read_part(alloc: Global, columns: &Columns, part: &[u8], parts: usize) -> Opt
     ensures { IfSome result (IsRead columns.now part.now) }
 {
     let mut texts = columns.no_texts(alloc);
-    let mut rdr = records::open(alloc, part);
-    let mut row = ByteRecord::new(alloc);
+    let mut records = Records::of(alloc, part);
     let none = no_rows_of(alloc, columns, part, parts);
-    match read_rows(none, columns, &mut texts, &mut rdr, &mut row) {
+    match read_rows(none, columns, &mut texts, &mut records) {
         Ok(rows) => Some(Part { rows, texts }),
         Err(_) => None,
     }

@@ -10,11 +10,11 @@ use Rattle.sw_rows.proofs.Tables.TableLemmas.{no_texts_in, table_fails, table_re
 use Rattle.sw_rows.proofs.table.read_under.Goals as goal
 
 pub into_schema-requires-clause-none : goal.into_schema-requires-clause-none
-into_schema-requires-clause-none c = λ h. c.in-Ok.ensures.learned ∙ ap (with_texts c.no_texts-texts.result) (no_texts_in (kinds_of c.args.columns) (records_left c.args.rdr.now) (kinds_of_texts c.args.columns ∙ h)) ∙ c.no_texts-texts.ensures
+into_schema-requires-clause-none c = λ h. c.in-Ok.ensures.learned ∙ ap (with_texts c.no_texts-texts.result) (no_texts_in (kinds_of c.args.columns) (records_left c.args.records.now.rdr) (kinds_of_texts c.args.columns ∙ h)) ∙ c.no_texts-texts.ensures
 
 pub returns-in-Ok-clause-gives : goal.returns-in-Ok-clause-gives
 returns-in-Ok-clause-gives c =
-    let rs = records_left c.args.rdr.now in
+    let rs = records_left c.args.records.now.rdr in
     let ds = kinds_of c.args.columns in
     let read = subst (λ (us : List (List ℕ)). rows_after (under (with_texts us (texts_in ds rs ++ [])) ds) [] rs ≡ Ok c.in-Ok.rows.items) c.no_texts-texts.ensures (c.in-Ok.ensures.gives []) in
     let columns : c.into_schema.result ≡ seeing c.args.columns rs = c.into_schema.ensures.schema ∙ ap (λ us. holding us c.args.columns) (c.in-Ok.ensures.learned ∙ ap (λ (us : List (List ℕ)). with_texts us (texts_in ds rs)) c.no_texts-texts.ensures) in
@@ -22,6 +22,6 @@ returns-in-Ok-clause-gives c =
 
 pub returns-in-Err-clause-gives : goal.returns-in-Err-clause-gives
 returns-in-Err-clause-gives c =
-    let rs = records_left c.args.rdr.now in
+    let rs = records_left c.args.records.now.rdr in
     let ds = kinds_of c.args.columns in
     table_fails c.args.columns rs c.in-Err.e (subst (λ (us : List (List ℕ)). Fails ⊥ c.in-Err.e (rows_after (under (with_texts us (texts_in ds rs ++ [])) ds) [] rs)) c.no_texts-texts.ensures (c.in-Err.ensures.gives []))

@@ -14,7 +14,7 @@ pub returns-in-Err-BadTable : goal.returns-in-Err-BadTable
 returns-in-Err-BadTable c = λ all b.
     let cs = c.args.columns.now in
     let ds = kinds_of cs in
-    let rs = records_left c.args.rdr.now in
+    let rs = records_left c.args.records.now.rdr in
     let rec = c.in-Err-BadTable.rec in
     let field = c.in-Err-BadTable.field in
     let reads = λ (more : List (List ℕ)).
