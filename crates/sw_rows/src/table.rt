@@ -7,7 +7,7 @@ ghost use Rattle.sw_rows.specs.Domains.{domain};
 ghost use Rattle.sw_rows.specs.Domains as kind;
 ghost use Rattle.sw_rows.specs.Gives.{Gives};
 ghost use Rattle.sw_rows.specs.Header.{kinds_of};
-ghost use Rattle.sw_rows.specs.Records.{IsPlain, records_left};
+ghost use Rattle.sw_rows.specs.Records.{IsPlain, left_in};
 ghost use Rattle.sw_rows.specs.Tables.{padded, shown_packed, table_in, table_of_records, text_field, NoText, GivesCell, GivesCells, GivesRowsOf, table_seeing, with_fields, with_records};
 ghost use Rattle.sw_rows.specs.Texts.{is_text, with_texts};
 ghost use Rattle.sw_rows.specs.declared.table.TheConstants.{MOST_ROWS};
@@ -135,8 +135,8 @@ pub(crate) fn read_rows(
 ) -> Result<PackedRows, Refusal>
     requires none { rows ≡ record { width = length columns.now; items = [] } }
     requires plain { IsPlain records.old.rdr }
-    ensures gives { GivesRowsOf texts.old columns.now (records_left records.old.rdr) result }
-    ensures learned { OnOk result (texts.new ≡ with_records texts.old columns.now (records_left records.old.rdr)) }
+    ensures gives { GivesRowsOf texts.old columns.now (left_in records.old) result }
+    ensures learned { OnOk result (texts.new ≡ with_records texts.old columns.now (left_in records.old)) }
     ensures width { IfOk result (λ rows. rows.width ≡ length columns.now) }
 {
     for n in 0..MOST_ROWS {
@@ -169,7 +169,7 @@ fn read_under(
 ) -> Result<(Schema, PackedRows), Refusal>
     requires plain { IsPlain records.old.rdr }
     requires some { 0 < length columns }
-    ensures gives { Gives ⊥ shown_packed result (table_seeing columns (records_left records.old.rdr)) }
+    ensures gives { Gives ⊥ shown_packed result (table_seeing columns (left_in records.old)) }
     ensures width { IfOk result (λ t. t.1.width ≡ length t.0) }
 {
     let mut texts = columns.no_texts(alloc);
@@ -187,7 +187,7 @@ fn read_records(
     records: &mut Records<'_>,
 ) -> Result<(Schema, PackedRows), Refusal>
     requires { IsPlain records.old.rdr }
-    ensures gives { Gives ⊥ shown_packed result (table_of_records (records_left records.old.rdr)) }
+    ensures gives { Gives ⊥ shown_packed result (table_of_records (left_in records.old)) }
     ensures width { IfOk result (λ t. t.1.width ≡ length t.0) }
 {
     match records.next() {

@@ -4,7 +4,7 @@ ghost use Rattle.std.specs.Prelude.{◌≡◌, ◌<◌, ◌≤◌, ◌++◌, ℕ
 ghost use Rattle.csv.specs.Reading.{default_config, records, strip_bom};
 ghost use Rattle.sw_rows.specs.Beginnings.{RefusesAll};
 ghost use Rattle.sw_rows.specs.Gives.{Fails};
-ghost use Rattle.sw_rows.specs.Records.{IsPlain, records_left};
+ghost use Rattle.sw_rows.specs.Records.{IsPlain, left_in};
 ghost use Rattle.sw_rows.specs.Tables.{table_in};
 
 use crate::loading::cuts::{feed_at, has_no_quote};
@@ -84,8 +84,8 @@ fn refused_row(
 ) -> Option<Refusal>
     requires plain { IsPlain records.old.rdr }
     requires some { 0 < length columns.now }
-    requires count { count ≡ length (records_left records.old.rdr) }
-    ensures { RefusesAll columns.now (records_left records.old.rdr) result }
+    requires count { count ≡ length (left_in records.old) }
+    ensures { RefusesAll columns.now (left_in records.old) result }
 {
     let mut texts = columns.no_texts(alloc);
     let most = columns.len() as u64;
