@@ -9,8 +9,10 @@ top=$(cd "$(dirname "$0")/.." && pwd)
 program() { echo "$top/crates/$1/out/$1"; }
 
 step() {
+    local begun=$SECONDS
     echo "after: $*" >&2
     "$@" || { echo "after: FAILED: $*" >&2; exit 1; }
+    echo "after: that took $((SECONDS - begun)) s" >&2
 }
 
 # (its checks end when it is ended)
@@ -56,4 +58,4 @@ wait "$trying"
 status=$?
 trying=
 [ "$status" = 0 ] || { echo "after: FAILED: tests/wrong.py" >&2; exit 1; }
-echo "after: all passed" >&2
+echo "after: all passed, in $SECONDS s" >&2
