@@ -212,8 +212,7 @@ fn with_calls<'a>(alloc: Global, run: Command<'a>) -> Result<Command<'a>, AllocE
 }
 
 fn run_command<'a>(alloc: Global) -> Result<Command<'a>, AllocError> {
-    let run = command_of(alloc, &RUN)?;
-    let run = with_calls(alloc, run)?;
+    let run = with_calls(alloc, command_of(alloc, &RUN)?)?;
     with(alloc, run, MORE)
 }
 
@@ -247,14 +246,21 @@ fn explain_command<'a>(alloc: Global) -> Result<Command<'a>, AllocError> {
         )
 }
 
-/// A command with a further one below it.
-fn above<'a>(
-    all: Command<'a>,
-    one: Result<Command<'a>, AllocError>,
-) -> Result<Command<'a>, AllocError> {
-    match one {
-        Ok(one) => all.subcommand(one),
-        Err(error) => Err(error),
+/// The names of all commands, in the order of help.
+const COMMANDS: &[&str] = &[
+    "run", "shell", "check", "describe", "order", "import", "explain",
+];
+
+/// A command by itself: that of a name, and `run` for any other.
+fn command_alone<'a>(alloc: Global, name: &str) -> Result<Command<'a>, AllocError> {
+    match name {
+        "shell" => command_of(alloc, &SHELL),
+        "check" => check_command(alloc),
+        "describe" => command_of(alloc, &DESCRIBE),
+        "order" => order_command(alloc),
+        "import" => command_of(alloc, &IMPORT),
+        "explain" => explain_command(alloc),
+        _ => run_command(alloc),
     }
 }
 
@@ -271,24 +277,15 @@ fn program<'a>(alloc: Global) -> Command<'a> {
 /// The command lines that are taken: `run` with its files and flags, `shell`, `check`, `describe`, `import` and `order` with their
 /// files, and `explain` with a number.
 pub fn command<'a>(alloc: Global) -> Result<Command<'a>, AllocError> {
-    let all = above(program(alloc), run_command(alloc))?;
-    let all = above(all, command_of(alloc, &SHELL))?;
-    let all = above(all, check_command(alloc))?;
-    let all = above(all, command_of(alloc, &DESCRIBE))?;
-    let all = above(all, order_command(alloc))?;
-    let all = above(all, command_of(alloc, &IMPORT))?;
-    above(all, explain_command(alloc))
+    let mut all = program(alloc);
+    for name in COMMANDS {
+        all = all.subcommand(command_alone(alloc, *name)?)?;
+    }
+    Ok(all)
 }
 
 /// The command of a name, for what is wrong with its words.
 pub fn command_named<'a>(alloc: Global, name: &str) -> Result<Command<'a>, AllocError> {
-    let command = match name {
-        "shell" => command_of(alloc, &SHELL)?,
-        "describe" => command_of(alloc, &DESCRIBE)?,
-        "order" => order_command(alloc)?,
-        "import" => command_of(alloc, &IMPORT)?,
-        _ => run_command(alloc)?,
-    };
     let whole = format!(in alloc; "sideways {name}")?;
-    command.bin_name(whole.as_str())
+    command_alone(alloc, name)?.bin_name(whole.as_str())
 }
