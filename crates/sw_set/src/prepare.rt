@@ -200,24 +200,35 @@ impl<M: CrackerMap> Area<M> {
         if !self.touches(query) {
             return Ok(Ready { from: 0, upto: 0 });
         }
+        let done = self.prepare_touched(align, query);
+        self.trim();
+        done
+    }
+
+    /// The same for a query that touches the area; memory that stayed with blank boxes stays there.
+    fn prepare_touched<F: Fn(u8, &mut [M], &[Tail], &Tape) -> Result<(), Refusal>>(
+        &mut self,
+        align: &F,
+        query: &Query,
+    ) -> Result<Ready, Refusal>
+        requires aligns { AlignsBoxes F.Fn align.now M.held }
+        requires touched { is_touched self.old query.now ≡ true }
+        ensures few { HasTooFew self.old query.now → IsToldTooFew result query.now self.old self.new }
+        ensures hindered { IfErr result (IsHindered query.now self.old self.new) }
+        ensures told { IfErr result (ComesFromMap M.tells) }
+        ensures same { IsSameArea self.old self.new }
+        ensures ends { HasPreparedOr result query.now self.old self.new }
+    {
         let boxes = self.boxes() as u64;
         let needed = needed_maps(self.attribute(), query) as u64;
         if boxes < needed {
-            self.trim();
             return Err(Refusal::NoBlank { boxes, needed });
         }
-        let tails = match needed_tails(self.alloc(), self.attribute(), query) {
-            Ok(tails) => tails,
-            Err(e) => {
-                self.trim();
-                return Err(e);
-            }
-        };
+        let tails = needed_tails(self.alloc(), self.attribute(), query)?;
         let lower = lower_from(edge(self.from()), lower_of(&query.conds));
         let upper = upper_upto(edge(self.below()), upper_of(&query.conds));
         let done = prepare_range(align, self, lower, upper, tails.as_slice());
         self.stamp(tails.as_slice());
-        self.trim();
         done
     }
 
