@@ -5,8 +5,9 @@ ghost use Rattle.std.specs.Prelude.{◌≡◌, ℕ, ◌<◌, ◌≤◌, ◌^◌,
 ghost use Rattle.sw_query.specs.Scan.{AsksBelow, answer};
 ghost use Rattle.sw_query.specs.declared.refusal.Refusal.TheVariants.{NoMemory};
 ghost use Rattle.sw_map.specs.declared.tail.Tail.TheVariants.{Key};
-ghost use Rattle.sw_set.specs.Needs.{head_in};
-ghost use Rattle.sw_set.specs.Prepared.{ComesFromMap, HasTooFew, IsHindered, IsOfBudget, IsPartlyNoted, IsPrepared, IsShort, IsTold, IsToldTooFew, StandReady, cells_asked, cells_for, is_touched, stand_both};
+ghost use Rattle.sw_query.specs.Outcomes.{MemoryAside};
+ghost use Rattle.sw_set.specs.Needs.{head_in, needed};
+ghost use Rattle.sw_set.specs.Prepared.{ComesFromMap, HasTooFew, IsHindered, IsOfBudget, IsPartlyNoted, IsPrepared, IsShort, IsTold, IsToldTooFew, StandReady, area_lower, area_upper, cells_asked, cells_for, is_touched, stand_both};
 ghost use Rattle.sw_set.specs.Boxed.{HasAt, IsFoundAt, LacksOne};
 ghost use Rattle.sw_set.specs.Preparing.{HasNotedOr, HasPreparedOr, HasRangedOr};
 ghost use Rattle.sw_set.specs.Aligning.{AlignsBoxes, HasAlignedOr, MayAlign};
@@ -25,7 +26,7 @@ use crate::area::ready::Ready;
 use crate::prepare::at_once::align_at_once;
 use crate::prepare::making::make_all;
 use crate::prepare::needs::{
-    edge, lower_from, lower_of, needed_maps, needed_tails, touches, upper_of, upper_upto,
+    Tails, edge, lower_from, lower_of, needed_maps, needed_tails, touches, upper_of, upper_upto,
 };
 use std::thread::Threads;
 use sw_map::{CrackerMap, Tail};
@@ -154,6 +155,23 @@ impl<M: CrackerMap> Area<M> {
         touches(start, end, lower_of(&query.conds), upper_of(&query.conds))
     }
 
+    /// A query's bounds on its head, of which one at the interval's end or beyond it counts as absent.
+    pub(crate) fn bounds_of(&self, query: &Query) -> (Option<Bound>, Option<Bound>)
+        ensures lower { result.0 ≡ area_lower self.now query.now }
+        ensures upper { result.1 ≡ area_upper self.now query.now }
+    {
+        let lower = lower_from(edge(self.from()), lower_of(&query.conds));
+        let upper = upper_upto(edge(self.below()), upper_of(&query.conds));
+        (lower, upper)
+    }
+
+    /// The tails of the maps that a query needs. Refused `NoMemory` alone.
+    pub(crate) fn tails_for(&self, query: &Query) -> Result<Tails, Refusal>
+        ensures { MemoryAside result (λ tails. tails.items ≡ needed self.now.attribute query.now) }
+    {
+        needed_tails(self.alloc(), self.attribute(), query)
+    }
+
     /// Prepares the area for a query over its head. The range is logged where one of its bounds stands in no range of the
     /// tape, after a restart where the tape is full; the maps that the query needs are made and stepped to the tape's end;
     /// and the answer is the range of places that qualify. A query that does not touch the area gets an empty range, and
@@ -224,9 +242,8 @@ impl<M: CrackerMap> Area<M> {
         if boxes < needed {
             return Err(Refusal::NoBlank { boxes, needed });
         }
-        let tails = needed_tails(self.alloc(), self.attribute(), query)?;
-        let lower = lower_from(edge(self.from()), lower_of(&query.conds));
-        let upper = upper_upto(edge(self.below()), upper_of(&query.conds));
+        let tails = self.tails_for(query)?;
+        let (lower, upper) = self.bounds_of(query);
         let done = prepare_range(align, self, lower, upper, tails.as_slice());
         self.stamp(tails.as_slice());
         done

@@ -8,7 +8,6 @@ ghost use Rattle.sw_set.specs.Sought.{FindsHeld};
 
 use crate::area::Area;
 use crate::area::ready::Ready;
-use crate::prepare::needs::{edge, lower_from, lower_of, needed_tails, upper_of, upper_upto};
 use crate::prepare::{all_stand, range_of};
 use crate::reply::finding::is_ready;
 use sw_map::{CrackerMap, Tail};
@@ -49,12 +48,11 @@ impl<M: CrackerMap> Area<M> {
         ensures rests { MemoryAside result (IsToldWhere (IsAtRest query.now self.now)) }
         ensures ready { IfOk result (λ it. IfSome it (λ r. IsPreparedFor query.now self.now r.from r.upto)) }
     {
-        let lower = lower_from(edge(self.from()), lower_of(&query.conds));
-        let upper = upper_upto(edge(self.below()), upper_of(&query.conds));
+        let (lower, upper) = self.bounds_of(query);
         if self.waiting().len() > 0 || !all_stand(self, lower, upper) {
             return Ok(None);
         }
-        let tails = needed_tails(self.alloc(), self.attribute(), query)?;
+        let tails = self.tails_for(query)?;
         if !stand_ready(self, tails.as_slice()) {
             return Ok(None);
         }
@@ -64,7 +62,7 @@ impl<M: CrackerMap> Area<M> {
     /// Stamps the boxes whose maps a query needs with a number, as preparing it does, by who shares the area. Where there is
     /// no memory for it, none is stamped. No clause speaks of stamps.
     pub fn note_use(&self, query: &Query, now: u64) {
-        if let Ok(tails) = needed_tails(self.alloc(), self.attribute(), query) {
+        if let Ok(tails) = self.tails_for(query) {
             self.stamp_by(tails.as_slice(), now);
         }
     }
