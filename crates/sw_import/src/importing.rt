@@ -1,6 +1,6 @@
 //! A table is made of values.
 
-ghost use Rattle.std.specs.Prelude.{◌≡◌, ◌<◌, ◌^◌, true, length, vec_len, IfOk, OnOk};
+ghost use Rattle.std.specs.Prelude.{◌≡◌, ◌<◌, ◌^◌, true, length, vec_len, IfOk, IfSome, OnOk};
 ghost use Rattle.csv.specs.Records.{fields_of};
 ghost use Rattle.sw_import.specs.Imports.{IsImportOf, IsTable};
 ghost use Rattle.sw_import.specs.Records.{IsOpen, are_even, records_left, takes_fields, width_of};
@@ -11,11 +11,11 @@ use crate::evidence::Evidence;
 use crate::faults::{At, Fault, shown_heading};
 use crate::forms::Form;
 use crate::planning::{Planned, plan, see_plan};
-use crate::records::{line_of, next, open};
+use crate::records::{Records, line_of};
 use crate::rules::Rules;
 use crate::telling::{divider_in, first_field};
 use crate::writing::{Done, Maker, Most, Table};
-use csv::{ByteRecord, Reader};
+use csv::ByteRecord;
 use std::alloc::{AllocError, Global};
 use std::thread::Threads;
 use sw_rows::{Counted, TextKey, load, load_in_parts};
@@ -84,17 +84,17 @@ struct Values<'a> {
 }
 
 impl<'a> Values<'a> {
-    /// A reader of the rows.
+    /// The rows, of which none was read.
     #[tactic(auto, using(crate::proofs::RecordLemmas::no_records))]
-    fn rows(self, alloc: Global, row: &mut ByteRecord) -> Result<Reader<&'a [u8]>, AllocError>
-        ensures plain { IfOk result IsOpen }
-        ensures all { IfOk result (λ rdr. records_left rdr ≡ rows_of self.entry) }
+    fn rows(self, alloc: Global) -> Result<Records<'a>, AllocError>
+        ensures plain { IfOk result (λ records. IsOpen records.rdr) }
+        ensures all { IfOk result (λ records. records_left records.rdr ≡ rows_of self.entry) }
     {
-        let mut rdr = open(alloc, self.delimiter, self.text);
-        if self.has_header && !next(&mut rdr, row)? {
-            return Ok(open(alloc, self.delimiter, &[]));
+        let mut records = Records::of(alloc, self.delimiter, self.text);
+        if self.has_header && !records.next()? {
+            return Ok(Records::of(alloc, self.delimiter, &[]));
         }
-        Ok(rdr)
+        Ok(records)
     }
 
     /// Whether a record of so many fields is one of these.
@@ -144,17 +144,16 @@ fn headings(alloc: Global, count: usize) -> Result<ByteRecord, AllocError>
     Ok(header)
 }
 
-/// Reads the first record of a text, and whether there is one.
-fn read_first(
-    alloc: Global,
-    how: &How<'_>,
-    text: &[u8],
-    first: &mut ByteRecord,
-) -> Result<bool, AllocError>
-    ensures { IfOk result (λ found. found ≡ true → length (fields_of first.new) ≡ width_of how.now.delimiter text.now) }
+/// The first record of a text, if there is one.
+fn first_of(alloc: Global, delimiter: u8, text: &[u8]) -> Result<Option<ByteRecord>, AllocError>
+    ensures { IfOk result (λ found. IfSome found (λ first. length (fields_of first) ≡ width_of delimiter text.now)) }
 {
-    let mut rdr = open(alloc, how.delimiter, text);
-    next(&mut rdr, first)
+    let mut records = Records::of(alloc, delimiter, text);
+    if records.next()? {
+        Ok(Some(records.into_row()))
+    } else {
+        Ok(None)
+    }
 }
 
 /// The byte that may divide the values of a text, where its first record is one field with such a byte.
@@ -163,23 +162,21 @@ fn divider_of(
     how: &How<'_>,
     text: &[u8],
 ) -> Result<Option<&'static str>, AllocError> {
-    let mut first = ByteRecord::new(alloc);
-    if read_first(alloc, how, text, &mut first)? && first.len() == 1 {
-        return Ok(divider_in(field(&first, 0)));
+    match first_of(alloc, how.delimiter, text)? {
+        Some(first) if first.len() == 1 => Ok(divider_in(field(&first, 0))),
+        _ => Ok(None),
     }
-    Ok(None)
 }
 
 /// The record of the headings of a text.
 fn header_of(alloc: Global, how: &How<'_>, text: &[u8]) -> Result<ByteRecord, Fault>
     ensures { IfOk result (λ header. length (fields_of header) ≡ width_of how.now.delimiter text.now) }
 {
-    let mut first = ByteRecord::new(alloc);
-    match (read_first(alloc, how, text, &mut first)?, how.has_header) {
-        (true, true) => Ok(first),
-        (true, false) => Ok(headings(alloc, first.len())?),
-        (false, true) => Err(Fault::NoHeader),
-        (false, false) => Err(Fault::NoRecord),
+    match first_of(alloc, how.delimiter, text)? {
+        Some(first) if how.has_header => Ok(first),
+        Some(first) => Ok(headings(alloc, first.len())?),
+        None if how.has_header => Err(Fault::NoHeader),
+        None => Err(Fault::NoRecord),
     }
 }
 
@@ -211,17 +208,17 @@ fn survey(
     ensures few { OnOk result (length (rows_of values.entry) < 2 ^ 64) }
     ensures even { OnOk result (are_even values.entry.fills_short values.entry.width (rows_of values.entry) ≡ true) }
 {
-    let mut row = ByteRecord::new(alloc);
-    let mut rdr = values.rows(alloc, &mut row)?;
+    let mut records = values.rows(alloc)?;
     'rows: for count in 0..u64::MAX {
-        if !next(&mut rdr, &mut row)? {
+        if !records.next()? {
             return Ok(count);
         }
-        let line = line_of(values.text, &row);
+        let row = &records.row;
+        let line = line_of(values.text, row);
         if !values.takes(row.len()) {
             return Err(values.refused(line, row.len()));
         }
-        see_record(rules, columns, &row, line, seen);
+        see_record(rules, columns, row, line, seen);
     }
     // No memory holds so many records.
     Err(Fault::NoMemory)
@@ -248,37 +245,51 @@ fn learn_record(plan: &mut [Planned], row: &ByteRecord) -> Result<(), AllocError
 }
 
 /// Adds the texts of the records that are left for which numbers are written.
-fn learn_all(
-    rdr: &mut Reader<&[u8]>,
-    row: &mut ByteRecord,
-    plan: &mut [Planned],
-) -> Result<(), AllocError>
-    requires { IsOpen rdr.old }
+fn learn_all(records: &mut Records<'_>, plan: &mut [Planned]) -> Result<(), AllocError>
+    requires { IsOpen records.old.rdr }
 {
     'rows: for _ in 0..u64::MAX {
-        if !next(rdr, row)? {
+        if !records.next()? {
             break;
         }
-        learn_record(plan, row)?;
+        learn_record(plan, &records.row)?;
     }
     Ok(())
 }
 
+/// Whether numbers are written for the texts of a column.
+fn has_codes(plan: &[Planned]) -> bool {
+    for planned in plan {
+        if planned.form == Form::Code {
+            return true;
+        }
+    }
+    false
+}
+
 /// Gathers the texts for which numbers are written, where there are such.
 fn learn(alloc: Global, values: Values<'_>, plan: &mut [Planned]) -> Result<(), AllocError> {
-    if !plan.iter().any(|planned| planned.form == Form::Code) {
+    if !has_codes(plan) {
         return Ok(());
     }
-    let mut row = ByteRecord::new(alloc);
-    let mut rdr = values.rows(alloc, &mut row)?;
-    learn_all(&mut rdr, &mut row, plan)
+    learn_all(&mut values.rows(alloc)?, plan)
+}
+
+/// Whether the column at a place is written.
+fn is_written(plan: &[Planned], place: usize) -> bool {
+    for planned in plan {
+        if planned.column.place == place {
+            return true;
+        }
+    }
+    false
 }
 
 /// The columns of a header that are not written.
 fn others(alloc: Global, header: &ByteRecord, plan: &[Planned]) -> Result<Vec<At>, AllocError> {
     let mut others = Vec::new(alloc);
     for place in 0..header.len() {
-        if plan.iter().any(|planned| planned.column.place == place) {
+        if is_written(plan, place) {
             continue;
         }
         let heading = String::from_utf8_lossy(alloc, field(header, place))?;
@@ -286,9 +297,7 @@ fn others(alloc: Global, header: &ByteRecord, plan: &[Planned]) -> Result<Vec<At
             number: (place as u64).saturating_add(1),
             heading: shown_heading(alloc, heading.as_str())?,
         };
-        if others.push(at).is_err() {
-            return Err(AllocError);
-        }
+        others.push(at)?;
     }
     Ok(others)
 }
@@ -302,8 +311,7 @@ fn write_table(
 ) -> Result<Table, Fault>
     ensures { IfOk result (IsTableOfFew how.now plan.now (rows_of values.entry)) }
 {
-    let mut row = ByteRecord::new(alloc);
-    let mut rdr = values.rows(alloc, &mut row)?;
+    let mut records = values.rows(alloc)?;
     let mut table = Table::new(alloc, plan)?;
     let maker = Maker {
         alloc,
@@ -311,7 +319,7 @@ fn write_table(
         rules: &how.rules,
         plan,
     };
-    table.take_all(&maker, Most::of(how.sample), &mut rdr)?;
+    table.take_all(&maker, Most::of(how.sample), &mut records)?;
     Ok(table)
 }
 
@@ -340,6 +348,31 @@ fn see_table_in_parts<R: Threads + Sync>(
     }
 }
 
+/// What becomes of the columns of a header, by what is asked of them and by all rows; and how many rows there are.
+fn plan_by_rows(
+    alloc: Global,
+    key: TextKey,
+    how: &How<'_>,
+    values: Values<'_>,
+    header: &ByteRecord,
+) -> Result<(Vec<Planned>, u64), Fault>
+    ensures count { IfOk result (λ planned. planned.1 ≡ length (rows_of values.entry)) }
+    ensures few { OnOk result (length (rows_of values.entry) < 2 ^ 64) }
+    ensures even { OnOk result (are_even values.entry.fills_short values.entry.width (rows_of values.entry) ≡ true) }
+{
+    let rules = &how.rules;
+    let columns = columns_of(alloc, header, &how.asked)?;
+    let mut seen = nothing_seen(alloc, columns.len())?;
+    let read = survey(
+        alloc,
+        values,
+        rules,
+        columns.as_slice(),
+        seen.as_mut_slice(),
+    )?;
+    Ok((plan(alloc, key, rules, columns, seen.as_slice())?, read))
+}
+
 /// Makes the bytes of a table of the values of a text, of which this is the record of the headings, and says what was done for it.
 fn make_under(
     alloc: Global,
@@ -351,7 +384,6 @@ fn make_under(
     requires { length (fields_of header.now) ≡ width_of how.now.delimiter text.now }
     ensures { IfOk result (IsImportOf how.now text.now) }
 {
-    let columns = columns_of(alloc, header, &how.asked)?;
     let values = Values {
         text,
         delimiter: how.delimiter,
@@ -359,15 +391,7 @@ fn make_under(
         fills_short: how.fills_short,
         width: header.len(),
     };
-    let mut seen = nothing_seen(alloc, columns.len())?;
-    let read = survey(
-        alloc,
-        values,
-        &how.rules,
-        columns.as_slice(),
-        seen.as_mut_slice(),
-    )?;
-    let mut plan = plan(alloc, key, &how.rules, columns, seen.as_slice())?;
+    let (mut plan, read) = plan_by_rows(alloc, key, how, values, header)?;
     see_plan(alloc, &how.rules, plan.as_slice())?;
     learn(alloc, values, plan.as_mut_slice())?;
     let table = write_table(alloc, values, how, plan.as_slice())?;
@@ -398,15 +422,15 @@ fn undivided(alloc: Global, how: &How<'_>, fault: &Fault, divider: &'static str)
     }
 }
 
-/// What is wrong with values, told with the byte that may divide them, where there is one.
-fn with_divider(alloc: Global, how: &How<'_>, text: &[u8], fault: Fault) -> Fault {
+/// What is told in place of what is wrong with values, where a byte may divide them.
+fn with_divider(alloc: Global, how: &How<'_>, text: &[u8], fault: &Fault) -> Option<Fault> {
     if fault.is_memory() {
-        return fault;
+        return None;
     }
     match divider_of(alloc, how, text) {
-        Ok(Some(divider)) => undivided(alloc, how, &fault, divider),
-        Ok(None) => fault,
-        Err(_) => Fault::NoMemory,
+        Ok(Some(divider)) => Some(undivided(alloc, how, fault, divider)),
+        Ok(None) => None,
+        Err(_) => Some(Fault::NoMemory),
     }
 }
 
@@ -417,7 +441,10 @@ fn make(alloc: Global, key: TextKey, how: &How<'_>, text: &[u8]) -> Result<Impor
     let header = header_of(alloc, how, text)?;
     match make_under(alloc, key, how, text, &header) {
         Ok(made) => Ok(made),
-        Err(fault) => Err(with_divider(alloc, how, text, fault)),
+        Err(fault) => match with_divider(alloc, how, text, &fault) {
+            Some(told) => Err(told),
+            None => Err(fault),
+        },
     }
 }
 

@@ -9,10 +9,19 @@ use std::alloc::{AllocError, Global};
 use std::marker::Model;
 
 /// Comma-separated values that are being written.
-#[derive(Drop)]
 pub(crate) struct Pages {
     alloc: Global,
     writer: Writer<Vec<u8>>,
+}
+
+// By hand: the drop of a derived one is written out at each way out of a function.
+impl Drop for Pages {
+    fn drop(self) {
+        let Self {
+            alloc: _,
+            writer: _writer,
+        } = self;
+    }
 }
 
 impl Model for Pages {
@@ -44,7 +53,7 @@ impl Pages {
         match self.writer.write_byte_record(row) {
             Ok(()) => Ok(()),
             Err(_) => {
-                *self = Pages::new(self.alloc);
+                self.writer = Writer::from_writer(Vec::new(self.alloc));
                 Err(AllocError)
             }
         }
@@ -54,7 +63,7 @@ impl Pages {
     pub(crate) fn into_bytes(self) -> Result<Vec<u8>, AllocError>
         ensures { IfOk result (λ bytes. bytes.items ≡ self) }
     {
-        let Pages { writer, .. } = self;
+        let Pages { alloc: _, writer } = self;
         match writer.into_inner() {
             Ok(bytes) => Ok(bytes),
             Err(_) => Err(AllocError),

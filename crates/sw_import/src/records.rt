@@ -1,34 +1,61 @@
 //! The records of comma-separated values.
 
 ghost use Rattle.std.specs.Prelude.{◌≡◌, IfOk};
-ghost use Rattle.csv.specs.Reading.{strip_bom};
 ghost use Rattle.sw_import.specs.Records.{IsOpen, TakesRecord, records_left, records_of};
 
 use csv::{ByteRecord, Reader, ReaderBuilder};
 use std::alloc::{AllocError, Global};
 
-/// A reader of the records of a text whose fields this byte divides.
-pub(crate) fn open(alloc: Global, delimiter: u8, text: &[u8]) -> Reader<&[u8]>
-    ensures plain { IsOpen result }
-    ensures all { records_left result ≡ records_of delimiter text.now }
-{
-    ReaderBuilder::new()
-        .has_headers(false)
-        .flexible(true)
-        .delimiter(delimiter)
-        .from_reader(alloc, text)
+/// The records of a text: a reader of those that are left, and the one that was read last.
+pub(crate) struct Records<'t> {
+    rdr: Reader<&'t [u8]>,
+    pub(crate) row: ByteRecord,
 }
 
-/// Reads the next record, and whether there was one.
-pub(crate) fn next(rdr: &mut Reader<&[u8]>, row: &mut ByteRecord) -> Result<bool, AllocError>
-    requires { IsOpen rdr.old }
-    ensures plain { IfOk result (λ _. IsOpen rdr.new) }
-    ensures row { IfOk result (TakesRecord rdr.old rdr.new row.new) }
-{
-    // Over memory, and with records of any length, only memory can fail.
-    match rdr.read_byte_record(row) {
-        Ok(found) => Ok(found),
-        Err(_) => Err(AllocError),
+// By hand: the drop of a derived one is written out at each way out of a function.
+impl Drop for Records<'_> {
+    fn drop(self) {
+        let Self {
+            rdr: _rdr,
+            row: _row,
+        } = self;
+    }
+}
+
+impl<'t> Records<'t> {
+    /// The records of a text whose fields this byte divides, of which none was read.
+    pub(crate) fn of(alloc: Global, delimiter: u8, text: &'t [u8]) -> Records<'t>
+        ensures plain { IsOpen result.rdr }
+        ensures all { records_left result.rdr ≡ records_of delimiter text.now }
+    {
+        let rdr = ReaderBuilder::new()
+            .has_headers(false)
+            .flexible(true)
+            .delimiter(delimiter)
+            .from_reader(alloc, text);
+        let row = ByteRecord::new(alloc);
+        Records { rdr, row }
+    }
+
+    /// Reads the next record, and whether there was one.
+    pub(crate) fn next(&mut self) -> Result<bool, AllocError>
+        requires { IsOpen self.old.rdr }
+        ensures plain { IfOk result (λ _. IsOpen self.new.rdr) }
+        ensures row { IfOk result (TakesRecord self.old.rdr self.new.rdr self.new.row) }
+    {
+        // Over memory, and with records of any length, only memory can fail.
+        match self.rdr.read_byte_record(&mut self.row) {
+            Ok(found) => Ok(found),
+            Err(_) => Err(AllocError),
+        }
+    }
+
+    /// The record that was read last.
+    pub(crate) fn into_row(self) -> ByteRecord
+        ensures { result ≡ self.entry.row }
+    {
+        let Records { rdr: _rdr, row } = self;
+        row
     }
 }
 

@@ -12,9 +12,9 @@ use crate::faults::{Fault, shown};
 use crate::making::{Made, make};
 use crate::pages::Pages;
 use crate::planning::Planned;
-use crate::records::{line_of, next};
+use crate::records::{Records, line_of};
 use crate::rules::Rules;
-use csv::{ByteRecord, Reader};
+use csv::ByteRecord;
 use itoa::{Buffer, Integer};
 use std::alloc::{AllocError, Global};
 use sw_rows::MOST_ROWS;
@@ -265,22 +265,21 @@ impl Table {
         &mut self,
         maker: &Maker<'_>,
         most: Most,
-        rdr: &mut Reader<&[u8]>,
+        records: &mut Records<'_>,
     ) -> Result<(), Fault>
-        requires plain { IsOpen rdr.old }
+        requires plain { IsOpen records.old.rdr }
         requires few { self.old.rows ≤ most.rows }
-        ensures { OnOk result (TakesRest maker.now most (records_left rdr.old) self.old self.new) }
+        ensures { OnOk result (TakesRest maker.now most (records_left records.old.rdr) self.old self.new) }
     {
-        let mut row = ByteRecord::new(maker.alloc);
         let mut made = ByteRecord::new(maker.alloc);
         'rows: for _ in 0..u64::MAX {
             if most.is_sample && self.rows >= most.rows {
                 return Ok(());
             }
-            if !next(rdr, &mut row)? {
+            if !records.next()? {
                 return Ok(());
             }
-            self.take(maker, most.rows, &row, &mut made)?;
+            self.take(maker, most.rows, &records.row, &mut made)?;
         }
         // No memory holds so many records.
         Err(Fault::NoMemory)

@@ -5,6 +5,6 @@ use Rattle.sw_import.proofs.importing.survey.Given as goal
 
 abbrev pub invariant-rows : goal.invariant-rows
 invariant-rows l =
-    IsOpen l.rdr
-    × (length (records_left l.rdr) + l.count ≡ length (rows_of l.values))
-    × (are_even l.values.fills_short l.values.width (records_left l.rdr) ≡ are_even l.values.fills_short l.values.width (rows_of l.values))
+    IsOpen l.records.rdr
+    × (length (records_left l.records.rdr) + l.count ≡ length (rows_of l.values))
+    × (are_even l.values.fills_short l.values.width (records_left l.records.rdr) ≡ are_even l.values.fills_short l.values.width (rows_of l.values))

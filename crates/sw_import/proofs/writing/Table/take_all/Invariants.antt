@@ -5,9 +5,9 @@ use Rattle.sw_import.proofs.writing.Table.take_all.Given as goal
 
 abbrev pub invariant-rows : goal.invariant-rows
 invariant-rows l =
-    IsOpen l.rdr
+    IsOpen l.records.rdr
     × (l.self.rows ≤ l.most.rows)
     × (taken : List (List (List ℕ)))
-    × (records_left l.initial.rdr ≡ taken ++ records_left l.rdr)
+    × (records_left l.initial.records.rdr ≡ taken ++ records_left l.records.rdr)
     × AreWanted l.maker l.most l.initial.self taken
     × TakesIn l.maker taken l.initial.self l.self
