@@ -1,6 +1,6 @@
 //! The texts for which numbers were written, as comma-separated values.
 
-ghost use Rattle.std.specs.Prelude.{◌≡◌, ◌++◌, ◌<◌, length, IfOk, OnOk};
+ghost use Rattle.std.specs.Prelude.{[], ◌≡◌, ◌++◌, ◌<◌, length, IfOk, OnOk};
 ghost use Rattle.csv.specs.Records.{fields_of};
 ghost use Rattle.sw_import.specs.Numbered.{column_records, dictionary_heading, dictionary_records, numbered, numbered_at};
 ghost use Rattle.sw_import.specs.Pages.{record_text, text_of};
@@ -73,17 +73,26 @@ fn add_dictionary(
     Ok(())
 }
 
+/// Adds the headings, and then the texts of all columns for which numbers were written.
+#[tactic(auto, using(crate::proofs::NumberedLemmas::past_last, crate::proofs::NumberedLemmas::column_more))]
+fn add_all(alloc: Global, plan: &[Planned], pages: &mut Pages) -> Result<(), AllocError>
+    requires { pages.old ≡ [] }
+    ensures { OnOk result (pages.new ≡ text_of (dictionary_records plan.now)) }
+{
+    let mut row = heading(alloc)?;
+    pages.add(&row)?;
+    for planned in plan {
+        add_dictionary(planned, &mut row, pages)?;
+    }
+    Ok(())
+}
+
 /// The texts for which numbers were written, as comma-separated values: a record for each, with the attribute, the number
 /// and the text. The one error is that there is no memory.
-#[tactic(auto, using(crate::proofs::NumberedLemmas::past_last, crate::proofs::NumberedLemmas::column_more))]
 pub fn dictionary_of(alloc: Global, made: &Imported) -> Result<Vec<u8>, AllocError>
     ensures { IfOk result (λ bytes. bytes.items ≡ text_of (dictionary_records made.now.plan.items)) }
 {
     let mut pages = Pages::new(alloc);
-    let mut row = heading(alloc)?;
-    pages.add(&row)?;
-    for planned in made.plan.as_slice() {
-        add_dictionary(planned, &mut row, &mut pages)?;
-    }
+    add_all(alloc, made.plan.as_slice(), &mut pages)?;
     pages.into_bytes()
 }
