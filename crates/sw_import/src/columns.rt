@@ -182,14 +182,13 @@ fn see_written(
 
 /// The form of the cells of a kind.
 fn form_named(word: &str) -> Option<Form> {
+    for places in 0..=6 {
+        let form = Form::Number(places);
+        if form.word() == word {
+            return Some(form);
+        }
+    }
     match word {
-        "int" => Some(Form::Number(0)),
-        "fix1" => Some(Form::Number(1)),
-        "fix2" => Some(Form::Number(2)),
-        "fix3" => Some(Form::Number(3)),
-        "fix4" => Some(Form::Number(4)),
-        "fix5" => Some(Form::Number(5)),
-        "fix6" => Some(Form::Number(6)),
         "flag" => Some(Form::Flag),
         "text" => Some(Form::Text),
         "seconds" => Some(Form::Seconds),

@@ -127,7 +127,7 @@ fn offset_of(text: &[u8]) -> Option<i64>
 }
 
 /// What comes after digits at the beginning of a text.
-fn after_digits(text: &[u8]) -> &[u8]
+pub(crate) fn after_digits(text: &[u8]) -> &[u8]
     ensures { result.now ≡ after_digits text.now }
 {
     let mut rest = text;

@@ -83,10 +83,15 @@ const MOST_MISSING: usize = 7;
 
 /// Whether a cell is one of the usual words for a value that is missing, in whatever case.
 fn is_missing(cell: &[u8]) -> bool {
-    cell.len() <= MOST_MISSING
-        && MISSING
-            .iter()
-            .any(|word| cell.eq_ignore_ascii_case(word.as_bytes()))
+    if cell.len() > MOST_MISSING {
+        return false;
+    }
+    for word in &MISSING {
+        if cell.eq_ignore_ascii_case(word.as_bytes()) {
+            return true;
+        }
+    }
+    false
 }
 
 /// Whether a cell looks like a number of whatever form: digits, and perhaps signs, commas, a dot and an exponent.
@@ -188,7 +193,7 @@ impl Evidence {
     /// Takes in whether a form other than texts is left after a cell of a line. Behind none but usual words for a missing value
     /// the cell is a lone one, and all forms are left.
     fn see_special(&mut self, cell: &[u8], line: u64) {
-        self.is_special = self.fits.iter().any(|fits| *fits);
+        self.is_special = self.fits.contains(&true);
         if self.is_special || self.lone.count > 0 {
             return;
         }

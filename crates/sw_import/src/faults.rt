@@ -3,6 +3,7 @@
 ghost use Rattle.std.specs.Prelude.{◌≡◌};
 ghost use Rattle.sw_import.specs.Faults.{is_memory};
 
+use crate::dates::after_digits;
 use crate::forms::MOST_DECIMALS;
 use std::alloc::{AllocError, Global};
 use std::fmt;
@@ -120,15 +121,11 @@ pub(crate) fn more_decimals(cell: &[u8]) -> &'static str {
         [b'-' | b'+', rest @ ..] => rest,
         _ => cell,
     };
-    let whole = digits
-        .iter()
-        .take_while(|byte| byte.is_ascii_digit())
-        .count();
-    match digits.get(whole..) {
-        Some([b'.', rest @ ..])
-            if whole > 0
-                && rest.len() > MOST_DECIMALS
-                && rest.iter().all(|byte| byte.is_ascii_digit()) => { " (more than 6 decimals)" }
+    match (digits, after_digits(digits)) {
+        ([b'0'..=b'9', ..], [b'.', decimals @ ..])
+            if decimals.len() > MOST_DECIMALS && after_digits(decimals).is_empty() => {
+            " (more than 6 decimals)"
+        }
         _ => "",
     }
 }

@@ -151,16 +151,11 @@ pub(crate) fn short_decimals(cell: &[u8]) -> Option<usize> {
         [b'-', rest @ ..] => rest,
         _ => cell,
     };
-    match dot_and_after(digits)?.len() {
-        0 => Some(0),
-        2 => Some(1),
-        3 => Some(2),
-        4 => Some(3),
-        5 => Some(4),
-        6 => Some(5),
-        7 => Some(6),
-        _ => None,
+    let after = dot_and_after(digits)?.len();
+    if after == 1 || after > MOST_DECIMALS + 1 {
+        return None;
     }
+    Some(after.saturating_sub(1))
 }
 
 /// The flag that a cell is, in whatever case.

@@ -97,9 +97,7 @@ pub(crate) fn plan(
             evidence: *evidence,
             dictionary: Dictionary::new(alloc, key),
         };
-        if plan.push(planned).is_err() {
-            return Err(AllocError);
-        }
+        plan.push(planned)?;
     }
     Ok(plan)
 }
@@ -113,70 +111,62 @@ fn lack(alloc: Global, column: &Column, tally: Tally) -> Result<Lack, AllocError
     })
 }
 
-/// What there is of some sort in columns, as a fault tells it.
-fn lacks<F: Fn(&Planned) -> Tally>(
-    alloc: Global,
-    plan: &[Planned],
-    of: F,
-) -> Result<Lacks, AllocError>
-    requires { F.IsAlwaysCallable of }
-{
+/// The sorts of cells for which a table may be refused.
+#[derive(Clone, Copy)]
+enum Sort {
+    /// They have no value.
+    Blank,
+    /// They are too long for texts.
+    Long,
+    /// They are not UTF-8.
+    Broken,
+}
+
+/// The cells of a sort in a column, where they are refused.
+fn refused(planned: &Planned, sort: Sort) -> Tally {
+    match (sort, planned.form) {
+        (Sort::Blank, Form::Text | Form::Code) => Tally::new(),
+        (Sort::Blank, _) => planned.evidence.blank,
+        (Sort::Long, Form::Text) => planned.evidence.long,
+        (Sort::Broken, Form::Text | Form::Code) => planned.evidence.broken,
+        _ => Tally::new(),
+    }
+}
+
+/// What there is of a sort in columns, as a fault tells it.
+fn lacks(alloc: Global, plan: &[Planned], sort: Sort) -> Result<Lacks, AllocError> {
     let mut lacks = Vec::new(alloc);
     for planned in plan {
-        let tally = of(planned);
+        let tally = refused(planned, sort);
         if tally.count > 0 {
             let lack = lack(alloc, &planned.column, tally)?;
-            if lacks.push(lack).is_err() {
-                return Err(AllocError);
-            }
+            lacks.push(lack)?;
         }
     }
     Ok(Lacks { lacks })
 }
 
-/// The cells of a column that have no value, where they are refused.
-fn refused_blanks(planned: &Planned) -> Tally {
-    if planned.form.takes_blanks() {
-        Tally::new()
-    } else {
-        planned.evidence.blank
+/// Refuses columns with cells of a sort.
+fn see_sort(alloc: Global, plan: &[Planned], sort: Sort) -> Result<(), Fault> {
+    let lacks = lacks(alloc, plan, sort)?;
+    if lacks.lacks.is_empty() {
+        return Ok(());
     }
-}
-
-/// The cells of a column that are too long for texts, where they are refused.
-fn refused_longs(planned: &Planned) -> Tally {
-    match planned.form {
-        Form::Text => planned.evidence.long,
-        _ => Tally::new(),
-    }
-}
-
-/// The cells of a column that are not UTF-8.
-fn refused_encodings(planned: &Planned) -> Tally {
-    if planned.form.takes_blanks() {
-        planned.evidence.broken
-    } else {
-        Tally::new()
-    }
+    Err(match sort {
+        Sort::Blank => Fault::Blanks(lacks),
+        Sort::Long => Fault::Longs(lacks),
+        Sort::Broken => Fault::Encodings(lacks),
+    })
 }
 
 /// Refuses the cells for which nothing was chosen.
 pub(crate) fn see_plan(alloc: Global, rules: &Rules<'_>, plan: &[Planned]) -> Result<(), Fault> {
-    let encodings = lacks(alloc, plan, |planned| refused_encodings(planned))?;
-    if !encodings.lacks.is_empty() {
-        return Err(Fault::Encodings(encodings));
-    }
+    see_sort(alloc, plan, Sort::Broken)?;
     if let Blank::Refuse = rules.blank {
-        let blanks = lacks(alloc, plan, |planned| refused_blanks(planned))?;
-        if !blanks.lacks.is_empty() {
-            return Err(Fault::Blanks(blanks));
-        }
+        see_sort(alloc, plan, Sort::Blank)?;
     }
     if let Long::Refuse = rules.long {
-        let longs = lacks(alloc, plan, |planned| refused_longs(planned))?;
-        if !longs.lacks.is_empty() {
-            return Err(Fault::Longs(longs));
-        }
+        see_sort(alloc, plan, Sort::Long)?;
     }
     Ok(())
 }
