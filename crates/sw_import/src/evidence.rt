@@ -83,15 +83,10 @@ const MOST_MISSING: usize = 7;
 
 /// Whether a cell is one of the usual words for a value that is missing, in whatever case.
 fn is_missing(cell: &[u8]) -> bool {
-    if cell.len() > MOST_MISSING {
-        return false;
-    }
-    for word in &MISSING {
-        if cell.eq_ignore_ascii_case(word.as_bytes()) {
-            return true;
-        }
-    }
-    false
+    cell.len() <= MOST_MISSING
+        && MISSING
+            .iter()
+            .any(|word| cell.eq_ignore_ascii_case(word.as_bytes()))
 }
 
 /// Whether a cell looks like a number of whatever form: digits, and perhaps signs, commas, a dot and an exponent.

@@ -257,39 +257,19 @@ fn learn_all(records: &mut Records<'_>, plan: &mut [Planned]) -> Result<(), Allo
     Ok(())
 }
 
-/// Whether numbers are written for the texts of a column.
-fn has_codes(plan: &[Planned]) -> bool {
-    for planned in plan {
-        if planned.form == Form::Code {
-            return true;
-        }
-    }
-    false
-}
-
 /// Gathers the texts for which numbers are written, where there are such.
 fn learn(alloc: Global, values: Values<'_>, plan: &mut [Planned]) -> Result<(), AllocError> {
-    if !has_codes(plan) {
+    if !plan.iter().any(|planned| planned.form == Form::Code) {
         return Ok(());
     }
     learn_all(&mut values.rows(alloc)?, plan)
-}
-
-/// Whether the column at a place is written.
-fn is_written(plan: &[Planned], place: usize) -> bool {
-    for planned in plan {
-        if planned.column.place == place {
-            return true;
-        }
-    }
-    false
 }
 
 /// The columns of a header that are not written.
 fn others(alloc: Global, header: &ByteRecord, plan: &[Planned]) -> Result<Vec<At>, AllocError> {
     let mut others = Vec::new(alloc);
     for place in 0..header.len() {
-        if is_written(plan, place) {
+        if plan.iter().any(|planned| planned.column.place == place) {
             continue;
         }
         let heading = String::from_utf8_lossy(alloc, field(header, place))?;

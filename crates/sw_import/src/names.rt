@@ -54,12 +54,7 @@ fn numbered(alloc: Global, plain: &[u8], number: u32) -> Result<Vec<u8>, AllocEr
 
 /// Whether one of some names has these bytes.
 fn is_taken(names: &[Name], name: &[u8]) -> bool {
-    for taken in names {
-        if taken.as_str().as_bytes() == name {
-            return true;
-        }
-    }
-    false
+    names.iter().any(|taken| taken.as_str().as_bytes() == name)
 }
 
 /// A name of these bytes, where they are one that no column has.
