@@ -8,7 +8,6 @@ use Rattle.sw_query.specs.Outcomes.{IsRefused}
 use Rattle.sw_kernel.specs.Replay.{loaded}
 use Rattle.sw_map.specs.Held.{blank}
 use Rattle.sw_set.specs.Shelf.{AreaState, lies_within}
-use Rattle.test_areas.specs.declared.opening.Shape.{Shape}
 
 -- the row of a number and cells
 abbrev pub row_of : ℕ × List ℤ → Row
@@ -18,30 +17,30 @@ row_of p = record { key = p.0; cells = p.1 }
 abbrev pub numbered : List (List ℤ) → List Row
 numbered cells = map row_of (enumerate_from 1 cells)
 
--- whether an area of a shape may have these rows
-abbrev pub may_open : Shape → List Row → Bool
-may_open s rows = nat_lt s.attribute 8 && list_all (lies_within s.attribute s.from s.below) rows
+-- whether an area of an attribute and an interval may have these rows
+abbrev pub may_open : ℕ → Option ℤ → Option ℤ → List Row → Bool
+may_open attribute from below rows = nat_lt attribute 8 && list_all (lies_within attribute from below) rows
 
--- The area of a shape over rows: its tape is one load of them, no update waits, and of so many blank boxes it has as
--- many as it takes.
-abbrev pub opened : Shape → List Row → ℕ → AreaState
-opened s rows many = record {
-  attribute = s.attribute;
-  from = s.from;
-  below = s.below;
+-- The area of an attribute and an interval over rows: its tape is one load of them, no update waits, and of so many blank
+-- boxes it has as many as it takes.
+abbrev pub opened : ℕ → Option ℤ → Option ℤ → ℕ → List Row → ℕ → AreaState
+opened attribute from below most rows many = record {
+  attribute = attribute;
+  from = from;
+  below = below;
   inbox = [];
   spare = 0;
   tape = loaded rows ∷ [];
-  boxes = replicate (min s.boxes many) blank;
+  boxes = replicate (min most many) blank;
 }
 
 -- an area was opened as its shape and rows have it, with so many boxes at hand
-abbrev pub IsOpened : Shape → List Row → ℕ → AreaState → Type 0
-IsOpened s rows many area = (may_open s rows ≡ true) × (area ≡ opened s rows many)
+abbrev pub IsOpened : ℕ → Option ℤ → Option ℤ → ℕ → List Row → ℕ → AreaState → Type 0
+IsOpened attribute from below most rows many area = (may_open attribute from below rows ≡ true) × (area ≡ opened attribute from below most rows many)
 
 -- rows that may not stand in an area of the shape are refused `Input`, and others for want of memory
-abbrev pub IsRefusedFor : Shape → List Row → Refusal → Type 0
-IsRefusedFor s rows e = e ≡ cond (may_open s rows) NoMemory Input
+abbrev pub IsRefusedFor : ℕ → Option ℤ → Option ℤ → List Row → Refusal → Type 0
+IsRefusedFor attribute from below rows e = e ≡ cond (may_open attribute from below rows) NoMemory Input
 
 -- one item came behind the others; or there was no memory, and they are as they were
 abbrev pub IsPushedOr : {A X : Type 0} → Result A Refusal → X → List X → List X → Type 0

@@ -5,10 +5,10 @@ ghost use Rattle.sw_map.specs.Held.{blank};
 
 use crate::acts::push_pairs;
 use crate::moves::{Move, push_place};
-use crate::opening::add;
 use crate::scenes::{
     FOUR_ROWS, Play, Script, THREE_BOXES, Watch, counting, play_script, tell_used,
 };
+use crate::shapes::add;
 use std::alloc::{AllocError, Global};
 use std::sync::Arc;
 use std::sync::atomic::{AtomicBool, Ordering};

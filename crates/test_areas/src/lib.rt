@@ -4,6 +4,7 @@
 #[cfg(test)]
 mod acts;
 mod asking;
+#[cfg(test)]
 mod examples;
 #[cfg(test)]
 mod gates;
@@ -14,6 +15,8 @@ mod moves;
 mod opening;
 #[cfg(test)]
 mod scenes;
+#[cfg(test)]
+mod shapes;
 #[cfg(test)]
 mod tests;
 

@@ -58,6 +58,14 @@ fn query(alloc: Global, line: &str) -> Result<Query, Refusal> {
     }
 }
 
+/// The query of a move that has one.
+fn line_of<'t>(step: Move<'t>) -> &'t str {
+    match step {
+        Move::Answer(line) | Move::Prepare(line) | Move::Scan(line) => line,
+        _ => "",
+    }
+}
+
 /// Tells a row of a reply.
 fn push_row(text: &mut String, key: u64, cells: &[i64]) -> Result<(), AllocError> {
     write!(text, "{key}:")?;
@@ -148,19 +156,53 @@ fn answer_to<R: Threads + Sync, M: CrackerMap>(
     Ok(push_told(text, &told)?)
 }
 
-/// The same of a query as a line.
-fn answered<R: Threads + Sync, M: CrackerMap>(
+/// Tells the range of places of a query, or the refusal.
+fn prepare_for<R: Threads + Sync, M: CrackerMap>(
+    rt: &R,
+    area: &mut Area<M>,
+    query: &Query,
+    text: &mut String,
+) -> Result<(), AllocError>
+    requires { area.old.inbox ≡ [] }
+    ensures { area.new.inbox ≡ [] }
+{
+    if !may_ask(area.attribute(), query) {
+        return text.push_str("not of this area");
+    }
+    match area.prepare(rt, query) {
+        Ok(range) => write!(text, "{}..{}", range.from, range.upto),
+        Err(e) => write!(text, "{e}"),
+    }
+}
+
+/// Tells the plain answer over an area's rows.
+fn scan_for<M: CrackerMap>(area: &Area<M>, query: &Query, text: &mut String) -> Result<(), Fail>
+    requires { area.now.inbox ≡ [] }
+{
+    if !may_ask(area.attribute(), query) {
+        return Ok(text.push_str("not of this area")?);
+    }
+    let reply = area.scan(query)?;
+    Ok(push_reply(text, &reply)?)
+}
+
+/// Answers a query as a line, or prepares or scans for it, and tells what is seen.
+fn asked<R: Threads + Sync, M: CrackerMap>(
     rt: &R,
     alloc: Global,
     area: &mut Area<M>,
-    line: &str,
+    step: Move<'_>,
     text: &mut String,
 ) -> Result<(), Fail>
     requires { area.old.inbox ≡ [] }
     ensures { area.new.inbox ≡ [] }
 {
-    let query = query(alloc, line)?;
-    answer_to(rt, area, &query, text)
+    let query = query(alloc, line_of(step))?;
+    match step {
+        Move::Prepare(_) => Ok(prepare_for(rt, area, &query, text)?),
+        Move::Scan(_) => scan_for(area, &query, text),
+        _ => answer_to(rt, area, &query, text),
+    }
 }
 
 /// Answers counts of a below 1, 2, 3 and so on, up to a number.
@@ -176,48 +218,10 @@ fn ranged<R: Threads + Sync, M: CrackerMap>(
 {
     for value in 1..upto {
         let line = format!(in alloc; "count where a < {value}")?;
-        answered(rt, alloc, area, line.as_str(), text)?;
+        asked(rt, alloc, area, Move::Answer(line.as_str()), text)?;
     }
     text.clear();
     Ok(())
-}
-
-/// Tells the range of places of a query, or the refusal.
-fn prepared<R: Threads + Sync, M: CrackerMap>(
-    rt: &R,
-    alloc: Global,
-    area: &mut Area<M>,
-    line: &str,
-    text: &mut String,
-) -> Result<(), Fail>
-    requires { area.old.inbox ≡ [] }
-    ensures { area.new.inbox ≡ [] }
-{
-    let query = query(alloc, line)?;
-    if !may_ask(area.attribute(), &query) {
-        return Ok(text.push_str("not of this area")?);
-    }
-    match area.prepare(rt, &query) {
-        Ok(range) => Ok(write!(text, "{}..{}", range.from, range.upto)?),
-        Err(e) => Ok(write!(text, "{e}")?),
-    }
-}
-
-/// Tells the plain answer over an area's rows.
-fn scanned<M: CrackerMap>(
-    alloc: Global,
-    area: &Area<M>,
-    line: &str,
-    text: &mut String,
-) -> Result<(), Fail>
-    requires { area.now.inbox ≡ [] }
-{
-    let query = query(alloc, line)?;
-    if !may_ask(area.attribute(), &query) {
-        return Ok(text.push_str("not of this area")?);
-    }
-    let reply = area.scan(&query)?;
-    Ok(push_reply(text, &reply)?)
 }
 
 /// Tells counts, which are 0 again.
@@ -288,10 +292,8 @@ fn make<R: Threads + Sync, M: CrackerMap>(
     ensures { area.new.inbox ≡ [] }
 {
     match step {
-        Move::Answer(line) => answered(rt, alloc, area, line, text),
+        Move::Answer(_) | Move::Prepare(_) | Move::Scan(_) => asked(rt, alloc, area, step, text),
         Move::Ranges(upto) => ranged(rt, alloc, area, upto, text),
-        Move::Prepare(line) => prepared(rt, alloc, area, line, text),
-        Move::Scan(line) => scanned(alloc, area, line, text),
         _ => Ok(tend(area, watch, step, text)?),
     }
 }

@@ -5,7 +5,8 @@ ghost use Rattle.sw_map.specs.Held.{blank};
 
 use crate::acts::{Act, act_out};
 use crate::moves::{Move, play};
-use crate::opening::{Shape, add, numbered, open};
+use crate::numbered;
+use crate::shapes::{Shape, add, open};
 use std::alloc::{AllocError, Global};
 use std::sync::Arc;
 use std::test::Fail;

@@ -1,11 +1,11 @@
 //! What an area does with a query, over boxes of maps that count.
 
 use crate::moves::Move;
-use crate::opening::Shape;
 use crate::scenes::{
     Case, FOUR_BOXES, FOUR_ROWS, NO_BOX, NO_TROUBLE, ONE_BOX, Script, THREE_BOXES, Trouble,
     play_cases,
 };
+use crate::shapes::Shape;
 use std::test::Fail;
 use sw_map::Tail;
 use sw_rows::Bound;
