@@ -316,6 +316,23 @@ fn tend<M: CrackerMap>(
     Ok(())
 }
 
+/// Makes the call of a line, and rarely does something besides. Tells what is wrong.
+fn call<R: Threads + Sync, M: CrackerMap>(
+    rt: &R,
+    alloc: Global,
+    trial: &mut Trial<M>,
+    mix: &mut Mix,
+    head: usize,
+    line: &str,
+    text: &mut String,
+) -> Result<(), Fail> {
+    if !tell(rt, alloc, trial, line, text)? {
+        return Ok(write!(text, " to {line}")?);
+    }
+    text.clear();
+    tend(alloc, trial, mix, head)
+}
+
 /// Makes the calls of a mix, up to the first with which something is wrong.
 fn call_all<R: Threads + Sync, M: CrackerMap>(
     rt: &R,
@@ -329,11 +346,10 @@ fn call_all<R: Threads + Sync, M: CrackerMap>(
     for number in 0..mix.recipe.calls {
         line.clear();
         push_call(trial, mix, head, &mut line)?;
-        if !tell(rt, alloc, trial, line.as_str(), text)? {
-            return Ok(write!(text, " to {} at call {number}", line.as_str())?);
+        call(rt, alloc, trial, mix, head, line.as_str(), text)?;
+        if !text.is_empty() {
+            return Ok(write!(text, " at call {number}")?);
         }
-        text.clear();
-        tend(alloc, trial, mix, head)?;
     }
     Ok(())
 }
@@ -347,6 +363,23 @@ fn cells_for(alloc: Global, mix: &mut Mix) -> Result<Vec<[i64; 8]>, AllocError> 
     Ok(cells)
 }
 
+/// Makes the calls of a mix on a head of this shape over these boxes, and tells what is wrong.
+fn mixed_on<R: Threads + Sync, M: CrackerMap>(
+    rt: &R,
+    alloc: Global,
+    shape: Shape<'_>,
+    maps: Vec<M>,
+    first: usize,
+    mix: &mut Mix,
+    text: &mut String,
+) -> Result<(), Fail> {
+    let mut trial = open(alloc, shape, maps, first)?;
+    let head = usize::from(shape.attribute);
+    let made = call_all(rt, alloc, &mut trial, mix, head, text);
+    mix.scans = trial.scans;
+    made
+}
+
 /// Makes a mix over these boxes, and tells what is wrong.
 pub(crate) fn mixed<R: Threads + Sync, M: CrackerMap>(
     rt: &R,
@@ -358,17 +391,13 @@ pub(crate) fn mixed<R: Threads + Sync, M: CrackerMap>(
 ) -> Result<(), Fail> {
     let cells = cells_for(alloc, mix)?;
     let cuts = mix.lines.cuts(alloc, mix.cuts)?;
-    let head = mix.lines.roll(5);
     let shape = Shape {
         header: &NAMES,
-        attribute: u8::try_from(head).unwrap_or(0),
+        attribute: u8::try_from(mix.lines.roll(5)).unwrap_or(0),
         cuts: cuts.as_slice(),
         cells: cells.as_slice(),
     };
-    let mut trial = open(alloc, shape, maps, first)?;
-    call_all(rt, alloc, &mut trial, mix, head as usize, text)?;
-    mix.scans = trial.scans;
-    Ok(())
+    mixed_on(rt, alloc, shape, maps, first, mix, text)
 }
 
 /// Whether so many areas may have been scanned in a mix.

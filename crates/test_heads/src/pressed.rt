@@ -3,7 +3,7 @@
 use crate::cases::rising;
 use crate::noted::{NotedMap, Notes};
 use crate::steps::called;
-use crate::trials::{Shape, open};
+use crate::trials::{Shape, Trial, open};
 use std::alloc::Global;
 use std::sync::Arc;
 use std::sync::atomic::{AtomicBool, AtomicU64, Ordering};
@@ -84,21 +84,6 @@ fn grown_until(alloc: Global, purse: &mut Purse) -> Growth {
     Growth::Grew
 }
 
-#[test]
-fn a_growing_map_meets_another_thread(rt: HostRuntime) -> Result<(), Fail> {
-    let (budget, mut purse) = Budget::open(rt.alloc(), CAPACITY)?;
-    let is_over = Arc::new(rt.alloc(), AtomicBool::new(false))?;
-    let told = Arc::try_clone(&is_over)?;
-    let other = purse.split()?;
-    let thread = thread::spawn(&rt, move || press(other, told))?;
-    let growth = grown_until(rt.alloc(), &mut purse);
-    is_over.store(true, Ordering::SeqCst);
-    thread.join(&rt);
-    assert_eq!(rt; growth, Growth::Contended);
-    assert!(rt; budget.used() == 0);
-    Ok(())
-}
-
 /// What notes have, which are 0 again: begins, growths, and growths that found the budget contended.
 fn taken(notes: &Notes) -> (u64, u64, u64) {
     let take = |count: &AtomicU64| count.swap(0, Ordering::SeqCst);
@@ -111,6 +96,30 @@ fn taken(notes: &Notes) -> (u64, u64, u64) {
 
 /// Lets a head of 60 rows make a map, and five rows come, for which it has to grow. Where that finds the budget contended
 /// the area is scanned, and its map is not begun again. Tells whether it did, if all was so.
+fn trial_grown<R: Threads + Sync>(
+    rt: &R,
+    alloc: Global,
+    trial: &mut Trial<NotedMap<PairMap>>,
+    notes: &Notes,
+    text: &mut String,
+) -> Result<Option<bool>, Fail> {
+    called(rt, alloc, trial, "count", text)?;
+    let is_begun = text.as_str() == "60\n";
+    for _turn in 0..5 {
+        called(rt, alloc, trial, "insert 1", text)?;
+    }
+    let _before = taken(notes);
+    called(rt, alloc, trial, "count", text)?;
+    let told = taken(notes);
+    Ok(match told {
+        _ if !is_begun => Some(false),
+        (0, 1, 0) if text.as_str() == "65\n" => Some(false),
+        (0, 1, 1) if text.as_str() == "65\n1 scanned" => Some(true),
+        _ => None,
+    })
+}
+
+/// The same of a head over these cells with this map.
 fn head_grown<R: Threads + Sync>(
     rt: &R,
     alloc: Global,
@@ -128,20 +137,7 @@ fn head_grown<R: Threads + Sync>(
     let mut stock = Vec::new(alloc);
     stock.push(map)?;
     let mut trial = open(alloc, shape, stock, 1)?;
-    called(rt, alloc, &mut trial, "count", text)?;
-    let is_begun = text.as_str() == "60\n";
-    for _turn in 0..5 {
-        called(rt, alloc, &mut trial, "insert 1", text)?;
-    }
-    let _before = taken(notes);
-    called(rt, alloc, &mut trial, "count", text)?;
-    let told = taken(notes);
-    Ok(match told {
-        _ if !is_begun => Some(false),
-        (0, 1, 0) if text.as_str() == "65\n" => Some(false),
-        (0, 1, 1) if text.as_str() == "65\n1 scanned" => Some(true),
-        _ => None,
-    })
+    trial_grown(rt, alloc, &mut trial, notes, text)
 }
 
 /// Lets heads grow until the budget was contended often enough, and tells whether all was as it should be.
@@ -171,16 +167,18 @@ fn heads_grown<R: Threads + Sync>(
 }
 
 #[test]
-fn a_growing_head_meets_another_thread(rt: HostRuntime) -> Result<(), Fail> {
+fn a_growing_map_and_growing_heads_meet_another_thread(rt: HostRuntime) -> Result<(), Fail> {
     let mut text = String::new(rt.alloc());
     let (budget, mut purse) = Budget::open(rt.alloc(), CAPACITY)?;
     let is_over = Arc::new(rt.alloc(), AtomicBool::new(false))?;
     let told = Arc::try_clone(&is_over)?;
     let other = purse.split()?;
     let thread = thread::spawn(&rt, move || press(other, told))?;
+    let growth = grown_until(rt.alloc(), &mut purse);
     let right = heads_grown(&rt, rt.alloc(), &mut purse, &mut text);
     is_over.store(true, Ordering::SeqCst);
     thread.join(&rt);
+    assert_eq!(rt; growth, Growth::Contended);
     assert!(rt; right?, "{}", text);
     assert!(rt; budget.used() == 0);
     Ok(())

@@ -156,6 +156,35 @@ fn contended(
     Ok(maps)
 }
 
+/// Makes boxes of a budget, and plays a scene over them.
+fn play_boxed<R: Threads + Sync>(
+    rt: &R,
+    alloc: Global,
+    purse: &mut Purse,
+    counts: &Arc<Counts>,
+    boxes: Boxes,
+    watch: Watch<'_>,
+    scene: &mut Scene<'_>,
+    text: &mut String,
+) -> Result<(), Fail> {
+    let many = boxes.first.wrapping_add(boxes.later);
+    match boxes.trouble {
+        Trouble::Contends | Trouble::GrowthContends => {
+            let begins_contend = matches!(boxes.trouble, Trouble::Contends);
+            let maps = contended(alloc, purse, many, begins_contend)?;
+            play_over(rt, alloc, maps, boxes.first, watch, scene, text)
+        }
+        Trouble::Grows(every) => {
+            let maps = growing(alloc, purse, many, every)?;
+            play_over(rt, alloc, maps, boxes.first, watch, scene, text)
+        }
+        Trouble::Every(every) => {
+            let maps = counting(alloc, purse, many, every, counts)?;
+            play_over(rt, alloc, maps, boxes.first, watch, scene, text)
+        }
+    }
+}
+
 /// Plays a scene over boxes of a budget of its own, all of whose cells have to be there again in the end, and tells
 /// what is wrong.
 pub(crate) fn play<R: Threads + Sync>(
@@ -171,25 +200,7 @@ pub(crate) fn play<R: Threads + Sync>(
         budget: &budget,
         counts: &counts,
     };
-    let many = boxes.first.wrapping_add(boxes.later);
-    match boxes.trouble {
-        Trouble::Contends => {
-            let maps = contended(alloc, &mut purse, many, true)?;
-            play_over(rt, alloc, maps, boxes.first, watch, scene, text)?;
-        }
-        Trouble::GrowthContends => {
-            let maps = contended(alloc, &mut purse, many, false)?;
-            play_over(rt, alloc, maps, boxes.first, watch, scene, text)?;
-        }
-        Trouble::Grows(every) => {
-            let maps = growing(alloc, &mut purse, many, every)?;
-            play_over(rt, alloc, maps, boxes.first, watch, scene, text)?;
-        }
-        Trouble::Every(every) => {
-            let maps = counting(alloc, &mut purse, many, every, &counts)?;
-            play_over(rt, alloc, maps, boxes.first, watch, scene, text)?;
-        }
-    }
+    play_boxed(rt, alloc, &mut purse, &counts, boxes, watch, scene, text)?;
     if budget.used() > 0 {
         text.push_str("; cells are in use after the drop")?;
     }

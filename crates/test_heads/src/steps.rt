@@ -8,7 +8,7 @@ use std::test::Fail;
 use std::thread::Threads;
 use sw_lang::parse_known;
 use sw_map::{CrackerMap, Tail};
-use sw_rows::{Bound, Call};
+use sw_rows::{Bound, Call, Refusal};
 use sw_set::Area;
 
 /// What is done to a head, or looked at.
@@ -168,13 +168,22 @@ fn deleted_up_to<R: Threads + Sync, M: CrackerMap>(
     last: u64,
     text: &mut String,
 ) -> Result<(), Fail> {
-    let mut line = String::new(alloc);
     for before in 0..last {
-        line.clear();
-        write!(line, "delete {}", before.wrapping_add(1))?;
+        let line = format!(in alloc; "delete {}", before.wrapping_add(1))?;
         called(rt, alloc, trial, line.as_str(), text)?;
     }
     Ok(())
+}
+
+/// Merges what waits in the areas that a call touches, where it is a query.
+fn merge_for<M: CrackerMap>(trial: &mut Trial<M>, call: &Call) -> Result<(), Refusal> {
+    match call {
+        Call::Select(query) => match trial.head.scan(query) {
+            Ok(_) => Ok(()),
+            Err(e) => Err(e),
+        },
+        _ => Ok(()),
+    }
 }
 
 /// Merges what waits in the areas that a query touches: no map is made for it.
@@ -183,10 +192,10 @@ pub(crate) fn merge<M: CrackerMap>(
     trial: &mut Trial<M>,
     line: &str,
 ) -> Result<(), Fail> {
-    if let Some(Call::Select(query)) = parse_known(alloc, &trial.schema, 1, line)? {
-        let _reply = trial.head.scan(&query)?;
+    match parse_known(alloc, &trial.schema, 1, line)? {
+        Some(call) => Ok(merge_for(trial, &call)?),
+        None => Ok(()),
     }
-    Ok(())
 }
 
 /// Takes a step, and tells what is seen.

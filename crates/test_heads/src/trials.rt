@@ -7,7 +7,7 @@ use std::thread::Threads;
 use sw_lang::{parse_known, write_reply};
 use sw_map::CrackerMap;
 use sw_rows::{
-    Call, Cond, Counted, Refusal, Reply, Row, Schema, TextKey, answer, has_key, is_within,
+    Call, Cond, Counted, Query, Refusal, Reply, Row, Schema, TextKey, answer, has_key, is_within,
 };
 use test_areas::numbered;
 
@@ -22,7 +22,6 @@ pub(crate) struct Shape<'t> {
 
 /// A head, the plain list of its rows, the key that comes next, boxes that may come to the head, and how many areas
 /// were scanned.
-#[derive(Drop)]
 pub(crate) struct Trial<M: CrackerMap> {
     pub schema: Schema,
     pub head: GrowingHead<M>,
@@ -30,6 +29,19 @@ pub(crate) struct Trial<M: CrackerMap> {
     pub next: u64,
     pub stock: Vec<M>,
     pub scans: usize,
+}
+
+impl<M: CrackerMap> Drop for Trial<M> {
+    fn drop(self) {
+        let Self {
+            schema: _schema,
+            head: _head,
+            rows: _rows,
+            next: _,
+            stock: _stock,
+            scans: _,
+        } = self;
+    }
 }
 
 /// A head of a shape, with so many of these boxes.
@@ -62,8 +74,8 @@ pub(crate) fn supply<M: CrackerMap>(trial: &mut Trial<M>) -> Result<(), Refusal>
     }
 }
 
-/// Inserts a row, and tells the keys that the head and the plain list give it.
-fn insert<M: CrackerMap>(trial: &mut Trial<M>, cells: [i64; 8]) -> Result<(u64, u64), Refusal> {
+/// Inserts a row: the replies of the head and of the plain list.
+fn insert<M: CrackerMap>(trial: &mut Trial<M>, cells: [i64; 8]) -> Result<(Reply, Reply), Refusal> {
     let plain = trial.next;
     if trial.rows.reserve(1).is_err() {
         return Err(Refusal::NoMemory);
@@ -71,7 +83,7 @@ fn insert<M: CrackerMap>(trial: &mut Trial<M>, cells: [i64; 8]) -> Result<(u64, 
     let key = trial.head.insert(cells)?;
     trial.rows.push_reserved(Row { key: plain, cells });
     trial.next = plain.wrapping_add(1);
-    Ok((key, plain))
+    Ok((Reply::Inserted(key), Reply::Inserted(plain)))
 }
 
 /// Removes the row of a key, and tells whether the head and the plain list had it.
@@ -118,15 +130,18 @@ fn remove_each<M: CrackerMap>(trial: &mut Trial<M>, keys: &[u64]) -> Result<u64,
     Ok(had)
 }
 
-/// Removes all rows that meet conditions, and tells how many the head had, and how many the plain list.
+/// Removes all rows that meet conditions: the replies of the head and of the plain list.
 fn remove_where<M: CrackerMap>(
     alloc: Global,
     trial: &mut Trial<M>,
     conds: &[Cond],
-) -> Result<(u64, u64), Refusal> {
+) -> Result<(Reply, Reply), Refusal> {
     let keys = met(alloc, trial, conds)?;
     let had = remove_each(trial, keys.as_slice())?;
-    Ok((had, keys.len() as u64))
+    Ok((
+        Reply::RemovedMany(had),
+        Reply::RemovedMany(keys.len() as u64),
+    ))
 }
 
 /// The reply to a removal.
@@ -138,6 +153,27 @@ fn gone(is_gone: bool) -> Reply {
     }
 }
 
+/// Removes the row of a key: the replies of the head and of the plain list.
+fn delete<M: CrackerMap>(trial: &mut Trial<M>, key: u64) -> Result<(Reply, Reply), Refusal> {
+    let (has, had) = remove(trial, key)?;
+    Ok((gone(has), gone(had)))
+}
+
+/// Asks a query: the replies of the head and of the plain list.
+fn select<R: Threads + Sync, M: CrackerMap>(
+    rt: &R,
+    alloc: Global,
+    trial: &mut Trial<M>,
+    query: &Query,
+) -> Result<(Reply, Reply), Refusal> {
+    let (reply, scans) = trial.head.ask(rt, query)?;
+    trial.scans = trial.scans.wrapping_add(scans);
+    match answer(alloc, trial.rows.as_slice(), query) {
+        Ok(plain) => Ok((reply, plain)),
+        Err(e) => Err(e),
+    }
+}
+
 /// What the head replies to a call, and what the plain list does.
 pub(crate) fn replies<R: Threads + Sync, M: CrackerMap>(
     rt: &R,
@@ -146,38 +182,51 @@ pub(crate) fn replies<R: Threads + Sync, M: CrackerMap>(
     call: &Call,
 ) -> Result<(Reply, Reply), Refusal> {
     match call {
-        Call::Select(query) => {
-            let (reply, scans) = trial.head.ask(rt, query)?;
-            trial.scans = trial.scans.wrapping_add(scans);
-            Ok((reply, answer(alloc, trial.rows.as_slice(), query)?))
-        }
-        Call::Insert(cells) => {
-            let (key, plain) = insert(trial, *cells)?;
-            Ok((Reply::Inserted(key), Reply::Inserted(plain)))
-        }
-        Call::Delete(key) => {
-            let (has, had) = remove(trial, *key)?;
-            Ok((gone(has), gone(had)))
-        }
-        Call::DeleteWhere(conds) => {
-            let (has, had) = remove_where(alloc, trial, conds.as_slice())?;
-            Ok((Reply::RemovedMany(has), Reply::RemovedMany(had)))
-        }
+        Call::Select(query) => select(rt, alloc, trial, query),
+        Call::Insert(cells) => insert(trial, *cells),
+        Call::Delete(key) => delete(trial, *key),
+        Call::DeleteWhere(conds) => remove_where(alloc, trial, conds.as_slice()),
     }
 }
 
-/// The same, as they are written.
-fn written<R: Threads + Sync, M: CrackerMap>(
+/// Tells the reply of the head as it is written, and after it that of the plain list where it is another one. Answers whether it is
+/// the same.
+fn push_unlike(text: &mut String, reply: &[u8], plain: &[u8]) -> Result<bool, Fail> {
+    push_bytes(text, reply)?;
+    if reply == plain {
+        return Ok(true);
+    }
+    text.push_str("for ")?;
+    push_bytes(text, plain)?;
+    Ok(false)
+}
+
+/// Writes the replies of the head and of the plain list, and tells them so.
+fn push_both(
+    alloc: Global,
+    schema: &Schema,
+    call: &Call,
+    both: &(Reply, Reply),
+    text: &mut String,
+) -> Result<bool, Fail> {
+    let (reply, other) = both;
+    let mut out = Counted::new(Vec::new(alloc));
+    let mut plain = Counted::new(Vec::new(alloc));
+    write_reply(schema, call, reply, &mut out)?;
+    write_reply(schema, call, other, &mut plain)?;
+    push_unlike(text, out.inner.as_slice(), plain.inner.as_slice())
+}
+
+/// Makes a call, and tells the replies so.
+fn told<R: Threads + Sync, M: CrackerMap>(
     rt: &R,
     alloc: Global,
     trial: &mut Trial<M>,
     call: &Call,
-    out: &mut Counted<Vec<u8>>,
-    plain: &mut Counted<Vec<u8>>,
-) -> Result<(), Refusal> {
-    let (reply, other) = replies(rt, alloc, trial, call)?;
-    write_reply(&trial.schema, call, &reply, out)?;
-    write_reply(&trial.schema, call, &other, plain)
+    text: &mut String,
+) -> Result<bool, Fail> {
+    let both = replies(rt, alloc, trial, call)?;
+    push_both(alloc, &trial.schema, call, &both, text)
 }
 
 /// Makes the call of a line, and answers whether the head replies as the plain list does. Tells what the head replies,
@@ -189,19 +238,39 @@ pub(crate) fn tell<R: Threads + Sync, M: CrackerMap>(
     line: &str,
     text: &mut String,
 ) -> Result<bool, Fail> {
-    let Some(call) = parse_known(alloc, &trial.schema, 1, line)? else {
-        return Ok(false);
-    };
-    let mut out = Counted::new(Vec::new(alloc));
-    let mut plain = Counted::new(Vec::new(alloc));
-    written(rt, alloc, trial, &call, &mut out, &mut plain)?;
-    push_bytes(text, out.inner.as_slice())?;
-    if out.inner.as_slice() == plain.inner.as_slice() {
-        return Ok(true);
+    match parse_known(alloc, &trial.schema, 1, line)? {
+        Some(call) => told(rt, alloc, trial, &call, text),
+        None => Ok(false),
     }
-    text.push_str("for ")?;
-    push_bytes(text, plain.inner.as_slice())?;
-    Ok(false)
+}
+
+/// Writes a reply, and tells it.
+fn push_reply(
+    alloc: Global,
+    schema: &Schema,
+    call: &Call,
+    reply: &Reply,
+    text: &mut String,
+) -> Result<(), Fail> {
+    let mut out = Counted::new(Vec::new(alloc));
+    write_reply(schema, call, reply, &mut out)?;
+    push_bytes(text, out.inner.as_slice())
+}
+
+/// Asks a query where the head is at rest for it, and tells the reply, or that it is not.
+fn told_at_rest<M: CrackerMap>(
+    alloc: Global,
+    trial: &Trial<M>,
+    call: &Call,
+    text: &mut String,
+) -> Result<(), Fail> {
+    let Call::Select(query) = call else {
+        return Ok(());
+    };
+    match trial.head.ask_at_rest(query)? {
+        Some(reply) => push_reply(alloc, &trial.schema, call, &reply, text),
+        None => Ok(text.push_str("not at rest")?),
+    }
 }
 
 /// Asks the query of a line where the head is at rest for it, and tells the reply, or that it is not.
@@ -211,18 +280,10 @@ pub(crate) fn tell_at_rest<M: CrackerMap>(
     line: &str,
     text: &mut String,
 ) -> Result<(), Fail> {
-    let Some(call) = parse_known(alloc, &trial.schema, 1, line)? else {
-        return Ok(());
-    };
-    let Call::Select(query) = &call else {
-        return Ok(());
-    };
-    let Some(reply) = trial.head.ask_at_rest(query)? else {
-        return Ok(text.push_str("not at rest")?);
-    };
-    let mut out = Counted::new(Vec::new(alloc));
-    write_reply(&trial.schema, &call, &reply, &mut out)?;
-    push_bytes(text, out.inner.as_slice())
+    match parse_known(alloc, &trial.schema, 1, line)? {
+        Some(call) => told_at_rest(alloc, trial, &call, text),
+        None => Ok(()),
+    }
 }
 
 /// Adds bytes to a text.

@@ -1,7 +1,7 @@
 //! Worked examples: calls whose replies are known, over heads with a cut and with none, with maps and without.
 
 use crate::scenes::{Boxes, FOUR_ROWS, Scene, Trouble, play};
-use crate::trials::{Shape, open, tell};
+use crate::trials::{Shape, Trial, open, tell};
 use std::alloc::Global;
 use std::test::Fail;
 use std::thread::Threads;
@@ -15,24 +15,22 @@ pub(crate) struct Worked<'t> {
     pub is_scanned: Option<bool>,
 }
 
-/// Makes the calls over these boxes, and tells the first reply that is not as it is known. At an empty line the map that was used
-/// longest ago is cleared.
-pub(crate) fn make_calls<R: Threads + Sync, M: CrackerMap>(
+/// Makes the calls, and tells the first reply that is not as it is known. At an empty line the map that was used longest ago is
+/// cleared.
+fn lines_made<R: Threads + Sync, M: CrackerMap>(
     rt: &R,
     alloc: Global,
-    maps: Vec<M>,
-    first: usize,
+    trial: &mut Trial<M>,
     calls: Worked<'_>,
     text: &mut String,
 ) -> Result<(), Fail> {
-    let mut trial = open(alloc, calls.shape, maps, first)?;
     for place in 0..calls.lines.len() {
         let (line, expected) = calls.lines[place];
         text.clear();
         if line.is_empty() {
             let _cells = trial.head.evict(1);
         }
-        let _same = tell(rt, alloc, &mut trial, line, text)?;
+        let _same = tell(rt, alloc, trial, line, text)?;
         if text.as_str() != expected {
             return Ok(write!(text, " to {line}")?);
         }
@@ -44,6 +42,19 @@ pub(crate) fn make_calls<R: Threads + Sync, M: CrackerMap>(
         }
         _ => Ok(()),
     }
+}
+
+/// Makes the calls over these boxes, and tells what is wrong.
+pub(crate) fn make_calls<R: Threads + Sync, M: CrackerMap>(
+    rt: &R,
+    alloc: Global,
+    maps: Vec<M>,
+    first: usize,
+    calls: Worked<'_>,
+    text: &mut String,
+) -> Result<(), Fail> {
+    let mut trial = open(alloc, calls.shape, maps, first)?;
+    lines_made(rt, alloc, &mut trial, calls, text)
 }
 
 /// A header, the cells of rows, the attribute of a head, and calls of a table of them with their replies.
