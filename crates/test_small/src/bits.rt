@@ -37,9 +37,12 @@ fn is_whole(alloc: Global, len: usize, last: usize) -> Result<bool, Refusal> {
 
 /// Whether each of these places is as it is said.
 fn are(bits: &Bits, places: &[(usize, bool)]) -> bool {
-    places
-        .iter()
-        .all(|(i, wanted)| *i < bits.len() && bits.get(*i) == *wanted)
+    for (i, wanted) in places {
+        if *i >= bits.len() || bits.get(*i) != *wanted {
+            return false;
+        }
+    }
+    true
 }
 
 /// Whether places that are made false stay so, and the others as they are.

@@ -32,17 +32,20 @@ fn dense_keys_go_into_slots(rt: HostRuntime) -> Result<(), AllocError> {
     Ok(())
 }
 
+/// Keys with their places, and whether they are put in order: far apart, one twice, a place past all, none, and one alone.
+const OTHERS: &[(&[(u64, usize)], bool)] = &[
+    (&[(900, 1), (5, 0)], false),
+    (&[(6, 1), (5, 0), (6, 2)], false),
+    (&[(6, 4_294_967_295), (5, 0)], false),
+    (&[], false),
+    (&[(18_446_744_073_709_551_615, 8)], true),
+];
+
 #[test]
 fn other_keys_stay(rt: HostRuntime) -> Result<(), AllocError> {
-    let mut sparse = vec![in rt.alloc(); (900, 1), (5, 0)]?;
-    assert!(rt; !sort_dense(rt.alloc(), &mut sparse));
-    let mut twice = vec![in rt.alloc(); (6, 1), (5, 0), (6, 2)]?;
-    assert!(rt; !sort_dense(rt.alloc(), &mut twice));
-    let mut far = vec![in rt.alloc(); (6, 4_294_967_295), (5, 0)]?;
-    assert!(rt; !sort_dense(rt.alloc(), &mut far));
-    let mut none = vec![in rt.alloc()]?;
-    assert!(rt; !sort_dense(rt.alloc(), &mut none));
-    let mut one = vec![in rt.alloc(); (18_446_744_073_709_551_615, 8)]?;
-    assert!(rt; sort_dense(rt.alloc(), &mut one));
+    for (keys, are_sorted) in OTHERS {
+        let mut found = Vec::from_slice(rt.alloc(), *keys)?;
+        assert!(rt; sort_dense(rt.alloc(), &mut found) == *are_sorted);
+    }
     Ok(())
 }

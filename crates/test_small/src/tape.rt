@@ -44,9 +44,12 @@ fn insert_all(tape: &mut Tape, rows: &[Row]) -> Result<(), Refusal> {
 
 /// Whether bounds stand in ranges of the tape, as it is said of each.
 fn are_marked(tape: &Tape, bounds: &[(Bound, bool)]) -> bool {
-    bounds
-        .iter()
-        .all(|(bound, wanted)| tape.marked(*bound) == *wanted)
+    for (bound, wanted) in bounds {
+        if tape.marked(*bound) != *wanted {
+            return false;
+        }
+    }
+    true
 }
 
 const RANGES: &[Range] = &[
@@ -137,15 +140,22 @@ const AROUND: &[(i64, Range)] = &[
     (20, (Some(Bound::Before(20)), None)),
 ];
 
+/// Whether the nearest bounds around values are those that are said.
+fn are_around(tape: &Tape, around: &[(i64, Range)]) -> bool {
+    for (value, bounds) in around {
+        if tape.around(*value) != *bounds {
+            return false;
+        }
+    }
+    true
+}
+
 /// Whether the nearest bounds are around each value.
 fn nearest_are_around(alloc: Global) -> Result<bool, Refusal> {
     let mut tape = worked_tape(alloc)?;
     let none = tape.around(12) == (None, None);
     add_ranges(&mut tape, CROSSED)?;
-    let near = AROUND
-        .iter()
-        .all(|(value, bounds)| tape.around(*value) == *bounds);
-    Ok(none && near)
+    Ok(none && are_around(&tape, AROUND))
 }
 
 /// Whether rows have these keys, in their order.
@@ -212,6 +222,24 @@ fn kept_again(alloc: Global, tape: &mut Tape) -> Result<bool, Refusal> {
     Ok(grown && five && loads(tape, &[]) && tape.peak() == 0)
 }
 
+/// Whether entries of a tape come back.
+fn all_come_back(alloc: Global) -> Result<bool, Refusal> {
+    let mut tape = worked_tape(alloc)?;
+    entries_come_back(&mut tape)
+}
+
+/// Whether a tape keeps its peak.
+fn keeps_peak(alloc: Global) -> Result<bool, Refusal> {
+    let mut tape = worked_tape(alloc)?;
+    peak_is_kept(&mut tape)
+}
+
+/// Whether a tape keeps live rows, and again beside one more.
+fn keeps_rows(alloc: Global) -> Result<bool, Refusal> {
+    let mut tape = worked_tape(alloc)?;
+    Ok(live_are_kept(alloc, &mut tape)? && kept_again(alloc, &mut tape)?)
+}
+
 #[test]
 fn ranges_are_marked_and_limited(rt: HostRuntime) -> Result<(), Refusal> {
     assert!(rt; ranges_are_marked(rt.alloc())?);
@@ -222,10 +250,8 @@ fn ranges_are_marked_and_limited(rt: HostRuntime) -> Result<(), Refusal> {
 
 #[test]
 fn entries_come_back_and_rows_are_kept(rt: HostRuntime) -> Result<(), Refusal> {
-    assert!(rt; entries_come_back(&mut worked_tape(rt.alloc())?)?);
-    assert!(rt; peak_is_kept(&mut worked_tape(rt.alloc())?)?);
-    let mut tape = worked_tape(rt.alloc())?;
-    assert!(rt; live_are_kept(rt.alloc(), &mut tape)?);
-    assert!(rt; kept_again(rt.alloc(), &mut tape)?);
+    assert!(rt; all_come_back(rt.alloc())?);
+    assert!(rt; keeps_peak(rt.alloc())?);
+    assert!(rt; keeps_rows(rt.alloc())?);
     Ok(())
 }
