@@ -375,8 +375,8 @@ fn top<R: Files>(rt: &R) -> Option<R::File> {
 /// How many bytes of the stack are taken at a time.
 const PAGE: usize = 4096;
 
-/// How many times they are taken: a run was seen to take 180 KiB.
-const PAGES: usize = 44;
+/// How many times they are taken: a run was seen to take 196 KiB, 16 of them before.
+const PAGES: usize = 52;
 
 /// Takes so many pages of the stack while there is room for them: where address space is wanting the system ends a program
 /// whose stack is to grow, and refuses nothing. A folder cannot be read, so nothing comes; it is asked so that a page is there.
