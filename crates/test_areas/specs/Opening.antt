@@ -42,6 +42,11 @@ IsOpened attribute from below most rows many area = (may_open attribute from bel
 abbrev pub IsRefusedFor : ℕ → Option ℤ → Option ℤ → List Row → Refusal → Type 0
 IsRefusedFor attribute from below rows e = e ≡ cond (may_open attribute from below rows) NoMemory Input
 
+-- an area was opened as its shape and rows have it, or refused for them or for want of memory
+abbrev pub IsOpenedOr : Result AreaState Refusal → ℕ → Option ℤ → Option ℤ → ℕ → List Row → ℕ → Type 0
+IsOpenedOr r attribute from below most rows many =
+    MatchResult r (IsOpened attribute from below most rows many) (IsRefusedFor attribute from below rows)
+
 -- one item came behind the others; or there was no memory, and they are as they were
 abbrev pub IsPushedOr : {A X : Type 0} → Result A Refusal → X → List X → List X → Type 0
 IsPushedOr r it old new = MatchResult r (λ _. new ≡ old ++ it ∷ []) (IsRefused old new)

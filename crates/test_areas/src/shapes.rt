@@ -1,12 +1,12 @@
 //! Areas of rows, by their shapes.
 
-ghost use Rattle.std.specs.Prelude.{◌≡◌, ◌<◌, ◌^◌, [], All, MatchResult, IfOk, IfSome, vec_len};
+ghost use Rattle.std.specs.Prelude.{◌≡◌, ◌<◌, ◌^◌, [], All, IfOk, IfSome, vec_len};
 ghost use Rattle.std.specs.List.{list_all};
 ghost use Rattle.sw_table.specs.declared.row.Row.{Row};
 ghost use Rattle.sw_map.specs.Held.{blank};
 ghost use Rattle.sw_set.specs.Needs.{edge};
 ghost use Rattle.sw_set.specs.Shelf.{Rises, key_of, lies_within};
-ghost use Rattle.test_areas.specs.Opening.{may_open, IsOpened, IsPushedOr, IsRefusedFor, TakesOneOf};
+ghost use Rattle.test_areas.specs.Opening.{may_open, IsOpenedOr, IsPushedOr, TakesOneOf};
 
 use std::alloc::Global;
 use sw_map::CrackerMap;
@@ -95,7 +95,7 @@ pub(crate) fn open<M: CrackerMap>(
     requires rise { Rises key_of rows.now }
     requires fit { All (λ (r : Row). r.key < 2 ^ 63) rows.now }
     requires blank { All (λ m. M.held m ≡ blank) maps.items }
-    ensures opened { MatchResult result (IsOpened shape.attribute shape.from shape.below shape.boxes rows.now (vec_len maps)) (IsRefusedFor shape.attribute shape.from shape.below rows.now) }
+    ensures opened { IsOpenedOr result shape.attribute shape.from shape.below shape.boxes rows.now (vec_len maps) }
     ensures received { IfOk result (λ area. area.inbox ≡ []) }
 {
     if !may_open(shape, rows) {
