@@ -26,7 +26,7 @@ use crate::clearing::clear_but;
 use crate::dealing::{areas_of, owners_kept};
 use crate::figures::{Figures, figures_of};
 use crate::places::add_owners;
-use crate::resting::answer_resting;
+use crate::resting::{UNKNOWN, answer_resting, maps_used};
 use crate::routing::route_all;
 use crate::scanning::scan_areas;
 use crate::shelving::{fewest, shed_all};
@@ -54,8 +54,10 @@ pub struct Head<M: CrackerMap> {
     /// is empty.
     owners: Vec<(u64, u8)>,
     told: Book<Update>,
-    /// The number of the last query, by which its maps are stamped. Those who share the head count too.
+    /// The number of the last query that stamped maps. Those who share the head count too.
     clock: AtomicU64,
+    /// Which maps bear that number, where they are known: no query that uses just these need stamp them again.
+    used: AtomicU64,
 }
 
 // By hand: the drop of a derived one is written out at each way out of a function.
@@ -69,6 +71,7 @@ impl<M: CrackerMap> Drop for Head<M> {
             owners: _owners,
             told: _told,
             clock: _,
+            used: _,
         } = self;
     }
 }
@@ -132,6 +135,7 @@ impl<M: CrackerMap> Head<M> {
             owners,
             told,
             clock: AtomicU64::new(0),
+            used: AtomicU64::new(UNKNOWN),
         })
     }
 
@@ -287,7 +291,19 @@ impl<M: CrackerMap> Head<M> {
 
     /// The next query's number.
     fn tick(&self) -> u64 {
+        self.used.store(UNKNOWN, Ordering::SeqCst);
         self.clock.fetch_add(1, Ordering::SeqCst).wrapping_add(1)
+    }
+
+    /// The next query's number, where it uses others than just those maps that bear the last one.
+    fn tick_for(&self, query: &Query) -> Option<u64> {
+        let used = maps_used(self.areas.as_slice(), query);
+        if self.used.load(Ordering::SeqCst) == used {
+            return None;
+        }
+        let now = self.tick();
+        self.used.store(used, Ordering::SeqCst);
+        Some(now)
     }
 
     /// The answer of a query where each area that it touches is ready for it as it stands, so that many may be answered
@@ -300,7 +316,8 @@ impl<M: CrackerMap> Head<M> {
         ensures answered { IfOk result (λ it. IfSome it (λ reply. reply ≡ answer (rows_of self.now.updates) query.now)) }
         ensures refused { IsOkUnless result NoMemory }
     {
-        answer_resting(self.alloc, self.areas.as_slice(), self.tick(), query)
+        let now = self.tick_for(query);
+        answer_resting(self.alloc, self.areas.as_slice(), now, query)
     }
 
     /// The plain answer over all rows: the areas that the query touches are merged and scanned. No map is made for it,

@@ -13,13 +13,46 @@ ghost use Rattle.sw_chunks.specs.Asked.{AreaFits, AreasFit, AreAtRest, RestsIfTo
 use crate::joining::join;
 use std::alloc::Global;
 use sw_map::CrackerMap;
-use sw_query::{Query, Refusal, Reply};
+use sw_query::{Query, Refusal, Reply, Want};
 use sw_set::{Area, nothing};
 
-/// The reply of an area that the query touches, if it is ready for it as it stands; the maps used are stamped with a number.
+/// What no set of maps is.
+pub(crate) const UNKNOWN: u64 = 0;
+
+/// The attributes that a query tests, shows or aggregates, a bit for each.
+fn attributes_used(query: &Query) -> u64 {
+    let mut used = 0u64;
+    for cond in query.conds.as_slice() {
+        used |= 1 << (cond.attr % 8);
+    }
+    match &query.want {
+        Want::Rows(names) => {
+            for name in names.as_slice() {
+                used |= 1 << (*name % 8);
+            }
+        }
+        Want::Count => {}
+        Want::Sum(attr) | Want::Min(attr) | Want::Max(attr) => used |= 1 << (*attr % 8),
+    }
+    used
+}
+
+/// Which maps a query uses: a bit for each attribute, and above them one for each area that it touches.
+pub(crate) fn maps_used<M: CrackerMap>(areas: &[Area<M>], query: &Query) -> u64 {
+    let mut used = attributes_used(query);
+    for k in 0..areas.len() {
+        if areas[k].touches(query) {
+            used |= 256 << (k % 16);
+        }
+    }
+    used
+}
+
+/// The reply of an area that the query touches, if it is ready for it as it stands; the maps used are stamped with a number,
+/// if there is one.
 fn reply_at_rest<M: CrackerMap>(
     area: &Area<M>,
-    now: u64,
+    now: Option<u64>,
     query: &Query,
 ) -> Result<Option<Reply>, Refusal>
     requires touched { is_touched area.now query.now ≡ true }
@@ -32,7 +65,9 @@ fn reply_at_rest<M: CrackerMap>(
     let Some(ready) = area.ready_at_rest(query)? else {
         return Ok(None);
     };
-    area.note_use(query, now);
+    if let Some(now) = now {
+        area.note_use(query, now);
+    }
     let reply = area.collect(&ready, query)?;
     Ok(Some(reply))
 }
@@ -41,7 +76,7 @@ fn reply_at_rest<M: CrackerMap>(
 fn add_at_rest<M: CrackerMap>(
     alloc: Global,
     area: &Area<M>,
-    now: u64,
+    now: Option<u64>,
     query: &Query,
     first: Reply,
 ) -> Result<Option<Reply>, Refusal>
@@ -66,7 +101,7 @@ fn add_at_rest<M: CrackerMap>(
 pub(crate) fn answer_resting<M: CrackerMap>(
     alloc: Global,
     areas: &[Area<M>],
-    now: u64,
+    now: Option<u64>,
     query: &Query,
 ) -> Result<Option<Reply>, Refusal>
     requires asks { AsksBelow 8 query.now }

@@ -31,7 +31,7 @@ use crate::history::locked::{LockedDesk, Miss};
 use crate::history::ticket::Ticket;
 use crate::pausing::{PAUSE, PAUSES, pause};
 use crate::viewing::{Receipt, Viewer};
-use crossbeam_utils::Backoff;
+use crossbeam_utils::{Backoff, CachePadded};
 use std::alloc::{AllocError, Global};
 use std::marker::{Model, PhantomData};
 use std::sync::atomic::{AtomicU64, Ordering};
@@ -86,7 +86,8 @@ pub struct Engine<J: Naming, M: CrackerMap, L: Latch<LatchedHead<J, M>> = AloneL
     /// How many updates are published after the opening rows, as far as commits told, for who asks a head as it stands. It is a
     /// hint, on which no clause rests: a wrong one costs time alone.
     came: AtomicU64,
-    desk: Mutex<LockedDesk<J>>,
+    /// Apart from all else: what a thread reads without the lock is not on the line of its word, which each visit changes.
+    desk: CachePadded<Mutex<LockedDesk<J>>>,
     /// For the compiler: the maps lie under the latches. A `Mutex`, so that an engine goes to other threads where its latches do, and
     /// asks no more of the maps.
     of: PhantomData<Mutex<M>>,
@@ -186,7 +187,7 @@ impl<J: Naming, M: CrackerMap, L: Latch<LatchedHead<J, M>>> Engine<J, M, L> {
             opening,
             latches,
             came: AtomicU64::new(0),
-            desk: Mutex::new(desk),
+            desk: CachePadded::new(Mutex::new(desk)),
             of: PhantomData,
         };
         Ok((engine, tickets))
@@ -256,7 +257,7 @@ impl<J: Naming, M: CrackerMap, L: Latch<LatchedHead<J, M>>> Engine<J, M, L> {
             desk,
             of,
         } = self;
-        let mut desk = desk.into_inner();
+        let mut desk = desk.into_inner().into_inner();
         let mut back = tickets;
         if let Err(refusal) = desk.all_back(&mut back) {
             let engine = Engine {
@@ -264,7 +265,7 @@ impl<J: Naming, M: CrackerMap, L: Latch<LatchedHead<J, M>>> Engine<J, M, L> {
                 opening,
                 latches,
                 came,
-                desk: Mutex::new(desk),
+                desk: CachePadded::new(Mutex::new(desk)),
                 of,
             };
             return Err((engine, back, refusal));

@@ -99,6 +99,10 @@ pub struct AtRest<J: Naming> {
 /// Contracts see all that was taken for it, the opening rows first, whether the head is made, and how many boxes wait
 /// for it and how many it has.
 pub struct LatchedHead<J: Naming, M: CrackerMap> {
+    /// First, on the line of the latch's word, which those who share the head change too.
+    pub(crate) counters: Counters,
+    /// Unused, so that what they look at is on other lines.
+    pub(crate) apart: [u64; 8],
     pub(crate) number: usize,
     pub(crate) head: Option<Head<M>>,
     pub(crate) inbox: Vec<Update>,
@@ -106,7 +110,6 @@ pub struct LatchedHead<J: Naming, M: CrackerMap> {
     pub(crate) share: Share<Spine>,
     /// A receipt of all that was taken for it, where there is one.
     pub(crate) receipt: Option<Front<J>>,
-    pub(crate) counters: Counters,
     pub(crate) of: PhantomData<J>,
 }
 
@@ -114,13 +117,14 @@ pub struct LatchedHead<J: Naming, M: CrackerMap> {
 impl<J: Naming, M: CrackerMap> Drop for LatchedHead<J, M> {
     fn drop(self) {
         let Self {
+            counters: _,
+            apart: _,
             number: _,
             head: _head,
             inbox: _inbox,
             boxes: _boxes,
             share: _share,
             receipt: _receipt,
-            counters: _,
             of: _,
         } = self;
     }

@@ -439,10 +439,10 @@ fn grow_box<M: CrackerMap>(it: &mut M, cells: u64) -> Result<bool, Refusal>
     it.grow(cells)
 }
 
-/// Sets the stamps of the boxes whose maps are needed.
+/// Sets the stamps of the boxes that have maps which are needed.
 fn stamp_needed<M: CrackerMap>(boxes: &[M], stamps: &[AtomicU64], tails: &[Tail], now: u64) {
     for at in 0..stamps.len() {
-        if at < boxes.len() && is_needed(tails, boxes[at].tail()) {
+        if at < boxes.len() && !boxes[at].is_blank() && is_needed(tails, boxes[at].tail()) {
             stamps[at].store(now, Ordering::SeqCst);
         }
     }
