@@ -29,7 +29,7 @@ use crate::heads::opening::{Ground, Opening};
 use crate::history::desk::{Blank, Desk};
 use crate::history::locked::{LockedDesk, Miss};
 use crate::history::ticket::Ticket;
-use crate::pausing::{PAUSE, PAUSES, pause};
+use crate::pausing::{DOUBLINGS, LOOKS, PAUSE, pause};
 use crate::viewing::{Receipt, Viewer};
 use crossbeam_utils::{Backoff, CachePadded};
 use std::alloc::{AllocError, Global};
@@ -46,14 +46,14 @@ use sw_versions::{Draft, Naming};
 /// How many updates a head, or what is made for viewers, takes in a visit at most.
 const PART: usize = 1024;
 
-/// What lies under the lock. Others mostly hold it for less time than a sleep takes, so the thread looks at it between pauses
-/// before it sleeps.
+/// What lies under the lock. Others mostly hold it for less time than a sleep takes, so the thread looks at it many times between
+/// pauses before it sleeps.
 fn take<'l, T, R: Wait>(rt: &R, lock: &'l Mutex<T>) -> MutexGuard<'l, T> {
-    for look in 0..PAUSES {
+    for look in 0..LOOKS {
         if let Some(guard) = lock.try_lock() {
             return guard;
         }
-        pause(PAUSE << look);
+        pause(PAUSE << look.min(DOUBLINGS));
     }
     lock.lock(rt)
 }
@@ -85,8 +85,8 @@ pub struct Engine<J: Naming, M: CrackerMap, L: Latch<LatchedHead<J, M>> = AloneL
     latches: Vec<L>,
     /// How many updates are published after the opening rows, as far as commits told, for who asks a head as it stands. It is a
     /// hint, on which no clause rests: a wrong one costs time alone.
-    came: AtomicU64,
-    /// Apart from all else: what a thread reads without the lock is not on the line of its word, which each visit changes.
+    came: CachePadded<AtomicU64>,
+    /// Apart from what is read without the lock, whose word each visit changes.
     desk: CachePadded<Mutex<LockedDesk<J>>>,
     /// For the compiler: the maps lie under the latches. A `Mutex`, so that an engine goes to other threads where its latches do, and
     /// asks no more of the maps.
@@ -186,7 +186,7 @@ impl<J: Naming, M: CrackerMap, L: Latch<LatchedHead<J, M>>> Engine<J, M, L> {
             alloc,
             opening,
             latches,
-            came: AtomicU64::new(0),
+            came: CachePadded::new(AtomicU64::new(0)),
             desk: CachePadded::new(Mutex::new(desk)),
             of: PhantomData,
         };

@@ -5,12 +5,18 @@ use std::sync::Wait;
 use std::sync::atomic::AtomicU64;
 use std::time::Duration;
 
-/// How often a thread pauses between looks at a lock or a latch, before it sleeps.
+/// How often a thread pauses between looks at a latch, before it sleeps.
 pub(crate) const PAUSES: u32 = 7;
 
-/// How long the first pause is; each one is twice as long as the one before. All of them take as long as a visit or a select
-/// may, and no longer than waking up from a sleep.
+/// How long the first pause is; each one is twice as long as the one before. All of them take as long as a select may, and no
+/// longer than waking up from a sleep.
 pub(crate) const PAUSE: usize = 8;
+
+/// How often a thread looks at the lock before it sleeps: who sleeps, and is woken up, waits for many visits of others.
+pub(crate) const LOOKS: u32 = 64;
+
+/// How often the pause between looks at the lock is doubled: then it takes as long as a few visits.
+pub(crate) const DOUBLINGS: u32 = 3;
 
 /// How often a thread sleeps between looks at a latch, before it waits for its turn.
 pub(crate) const NAPS: u32 = 5;

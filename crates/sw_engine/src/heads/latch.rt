@@ -101,8 +101,8 @@ pub struct AtRest<J: Naming> {
 pub struct LatchedHead<J: Naming, M: CrackerMap> {
     /// First, on the line of the latch's word, which those who share the head change too.
     pub(crate) counters: Counters,
-    /// Unused, so that what they look at is on other lines.
-    pub(crate) apart: [u64; 8],
+    /// Unused, so that what they look at is on other lines, and is not fetched with that one.
+    pub(crate) apart: [u64; 16],
     pub(crate) number: usize,
     pub(crate) head: Option<Head<M>>,
     pub(crate) inbox: Vec<Update>,

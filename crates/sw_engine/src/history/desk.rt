@@ -166,7 +166,7 @@ impl<J: Naming> Desk<J> {
         let share = heads.open(Snapshot::of(spine));
         LatchedHead {
             counters: Counters::new(),
-            apart: [0; 8],
+            apart: [0; 16],
             number,
             head: None,
             inbox: Vec::new(alloc),
