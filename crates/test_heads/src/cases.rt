@@ -13,6 +13,8 @@ const KEY: View = View::Cursor(Tail::Key);
 
 const B: View = View::Cursor(Tail::Cell(1));
 
+const C: View = View::Cursor(Tail::Cell(2));
+
 const KEYS: View = View::Shown(Tail::Key);
 
 const FROM_TEN: View = View::Place(Bound::Before(10));
@@ -195,6 +197,34 @@ const A_QUERY_AT_REST_CHANGES_NOTHING: &[(Step<'static>, &str)] = &[
     (Step::AtRest("count where a >= 10"), "not at rest"),
     (Step::Call("count where a < 10"), "2\n"),
     (Step::AtRest("count where a >= 10"), "3\n"),
+];
+
+/// A query at rest uses its maps, so that others are cleared first, whether or not the query before used just the same.
+const A_QUERY_AT_REST_USES_ITS_MAPS: &[(Step<'static>, &str)] = &[
+    (Step::Call("sum b where a >= 10"), "14\n"),
+    (Step::Call("sum c where a >= 10"), "2\n"),
+    (Step::AtRest("sum b where a >= 10"), "14\n"),
+    (Step::AtRest("sum b where a >= 10"), "14\n"),
+    (Step::Evict(1), "64"),
+    (Step::At(0, C), "none"),
+    (Step::At(0, B), "2"),
+    (Step::AtRest("sum b where a >= 10"), "14\n"),
+    // of two maps that were used at once the key map alone is used again
+    (Step::AtRest("count where a >= 10"), "3\n"),
+    (Step::Evict(1), "64"),
+    (Step::At(0, B), "none"),
+    (Step::At(0, KEY), "2"),
+];
+
+/// The same of areas: of two that were used at once the lower alone is used again.
+const A_QUERY_AT_REST_USES_ITS_AREAS: &[(Step<'static>, &str)] = &[
+    (Step::Call("count"), "4\n"),
+    (Step::AtRest("count"), "4\n"),
+    (Step::AtRest("count"), "4\n"),
+    (Step::AtRest("count where a < 12"), "1\n"),
+    (Step::Evict(1), "64"),
+    (Step::At(0, KEY), "1"),
+    (Step::At(1, KEY), "none"),
 ];
 
 /// A row that comes is rippled in.
@@ -612,6 +642,12 @@ const AREAS: &[Case<'static>] = &[
         steps: THE_LEAST_RECENTLY_USED_OF_ALL_AREAS,
     },
     Case {
+        name: "a_query_at_rest_uses_its_areas",
+        shape: TWO_AREAS,
+        boxes: Boxes { first: 2, ..AMPLE },
+        steps: A_QUERY_AT_REST_USES_ITS_AREAS,
+    },
+    Case {
         name: "boxes_come_and_go",
         shape: TWO_AREAS,
         boxes: Boxes { later: 2, ..AMPLE },
@@ -626,6 +662,12 @@ const MERGES: &[Case<'static>] = &[
         shape: ONE_AREA,
         boxes: AMPLE,
         steps: A_QUERY_AT_REST_CHANGES_NOTHING,
+    },
+    Case {
+        name: "a_query_at_rest_uses_its_maps",
+        shape: ONE_AREA,
+        boxes: AMPLE,
+        steps: A_QUERY_AT_REST_USES_ITS_MAPS,
     },
     Case {
         name: "a_row_that_comes_is_rippled_in",
