@@ -218,10 +218,10 @@ const A_QUERY_AT_REST_USES_ITS_MAPS: &[(Step<'static>, &str)] = &[
 
 /// The same of areas: of two that were used at once the lower alone is used again.
 const A_QUERY_AT_REST_USES_ITS_AREAS: &[(Step<'static>, &str)] = &[
-    (Step::Call("count"), "4\n"),
-    (Step::AtRest("count"), "4\n"),
-    (Step::AtRest("count"), "4\n"),
-    (Step::AtRest("count where a < 12"), "1\n"),
+    (Step::Call("sum a"), "47\n"),
+    (Step::AtRest("sum a"), "47\n"),
+    (Step::AtRest("sum a"), "47\n"),
+    (Step::AtRest("sum a where a < 12"), "3\n"),
     (Step::Evict(1), "64"),
     (Step::At(0, KEY), "1"),
     (Step::At(1, KEY), "none"),
