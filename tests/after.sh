@@ -30,6 +30,7 @@ step python3 "$top/tests/examples.py"
 step python3 "$top/tests/rules.py"
 step python3 "$top/tests/links.py"
 step python3 "$top/tests/lemmas.py"
+step python3 "$top/tests/clauses.py"
 step python3 "$top/tests/drivers.py"
 step bash "$top/bench/build.sh"
 step python3 "$top/bench/claims.py" --check

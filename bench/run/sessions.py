@@ -1,5 +1,5 @@
 """sessions.py PROGRAM FOLDER ROUNDS CALLS RANGES: what sessions.sh measures, over the table FOLDER/t.csv."""
-import os, random, statistics, subprocess, sys, time
+import os, random, statistics, subprocess, sys
 
 PROGRAM, FOLDER = sys.argv[1], sys.argv[2]
 ROUNDS, CALLS, RANGES = (int(word) for word in sys.argv[3:6])
@@ -12,63 +12,52 @@ def asked(what, width):
     return f"{what} where a >= {low} and a < {low + int(MOST * width)}"
 
 
-def timed(name, threads, wanted=0):
-    """The seconds of a run of a script that ends with a status, those of processors, and what it wrote."""
-    words = [PROGRAM, "run", "--table", FOLDER + "/t.csv", "--script", f"{FOLDER}/{name}.txt", *["--threads"][: threads]]
+def run(name):
+    """The seconds from the beginning of the sessions' threads to the end of the last one, those of processors, and what the run wrote."""
+    words = [PROGRAM, "run", "--table", FOLDER + "/t.csv", "--script", f"{FOLDER}/{name}.txt", "--threads"]
+    noted = dict(os.environ, LD_PRELOAD=FOLDER + "/threads.so", THREADS_TO=FOLDER + "/threads")
     with open(FOLDER + "/out", "wb") as out:
-        start = time.perf_counter()
-        child = subprocess.Popen(words, stdout=out, stderr=subprocess.DEVNULL)
+        child = subprocess.Popen(words, stdout=out, stderr=subprocess.DEVNULL, env=noted)
         _, status, usage = os.wait4(child.pid, 0)
-        took = time.perf_counter() - start
-    assert os.waitstatus_to_exitcode(status) == wanted, (words, status)
+    assert os.waitstatus_to_exitcode(status) == 0, (words, status)
+    with open(FOLDER + "/threads") as file:
+        notes = [(what, float(when)) for what, when in (line.split() for line in file)]
+    # nothing takes longer between two notes than the reading of the script, behind which the sessions begin
+    _, begun = max((now - before, now) for (_, before), (what, now) in zip(notes, notes[1:]) if what == "+")
     with open(FOLDER + "/out", "rb") as out:
-        return took, usage.ru_utime + usage.ru_stime, out.read()
+        return notes[-1][1] - begun, usage.ru_utime + usage.ru_stime, out.read()
 
 
 def write(name, blocks):
     with open(f"{FOLDER}/{name}.txt", "w") as script:
-        script.write("---\n".join("".join(line + "\n" for line in lines) for lines in blocks))
-    # (a script is read as a whole before its first call, so of this one nothing else is done)
-    with open(f"{FOLDER}/{name}.txt") as script, open(f"{FOLDER}/{name}_read.txt", "w") as read:
-        read.write(script.read() + "count where\n")
-
-
-def made(all_of, reading_of):
-    """What the calls of each run took, without those of the load, and without the reading of scripts and tables."""
-    calls = {run: statistics.median(found) - statistics.median(reading_of[run[0]]) for run, found in all_of.items()}
-    return {run: found - calls["load", 0] for run, found in calls.items()}
+        # (comments make each script take long to read)
+        script.write("---\n".join("".join(line + "\n" for line in lines) for lines in blocks) + "# nothing\n" * 1_000_000)
 
 
 def measure(kind, lines, load):
-    """`lines` are those of four sessions, one after the other, and `load` those of the run that is taken off."""
+    """`lines` are those of four sessions, one after the other, and `load` those of a session beside them; what that takes alone is taken off."""
     many = len(lines) // 4
-    write("load", [load])
-    write("one", [load + lines[:many]])
-    write("four", [load] + [lines[k * many:(k + 1) * many] for k in range(4)])
-    write("eight", [load] + [lines[k * many // 2:(k + 1) * many // 2] for k in range(8)])
-    runs = [("load", 0), ("one", 0), ("four", 0), ("four", 1), ("eight", 1)]
-    times, works, texts = {run: [] for run in runs}, {run: [] for run in runs}, {}
-    reads, read_works = {name: [] for name, _ in runs}, {name: [] for name, _ in runs}
+    blocks = {"load": [load], "one": [lines[:many]], "turn": [lines], "four": [lines[k * many:(k + 1) * many] for k in range(4)],
+              "eight": [lines[k * many // 2:(k + 1) * many // 2] for k in range(8)]}
+    for name, these in blocks.items():
+        write(name, [load, *these])
+    found = {name: [] for name in blocks}
+    texts = {}
     for _ in range(ROUNDS):
-        for name in reads:
-            took, work, _ = timed(name + "_read", 0, 2)
-            reads[name].append(took)
-            read_works[name].append(work)
-        for run in runs:
-            took, work, text = timed(*run)
-            times[run].append(took)
-            works[run].append(work)
+        for name in blocks:
+            took, work, text = run(name)
+            found[name].append((took, work))
             plain = text.replace(b"---\n", b"")
-            assert texts.setdefault("four" if run[0] in ("four", "eight") else run[0], plain) == plain, (kind, run)
-    took, work = made(times, reads), made(works, read_works)
-    one, turn, four, eight = (("one", 0), ("four", 0), ("four", 1), ("eight", 1))
-    print(f"{kind}: {many} calls of one session {took[one]:.3f} s, of each of four {took[four]:.3f} s, in turn {took[turn]:.3f} s, of eight the half "
-          f"{took[eight]:.3f} s; calls a second {4 * took[one] / took[four]:.2f} times one session's, processor time {work[four] / (4 * work[one]):.2f}; "
-          f"beside in turn {took[four] / took[turn]:.2f}, {work[four] / work[turn]:.2f}; eight beside four {took[eight] / took[four]:.2f}", flush=True)
+            assert texts.setdefault(name if name in ("load", "one") else "all", plain) == plain, (kind, name)
+    took, work = ({name: statistics.median(it[k] for it in found[name]) for name in blocks} for k in (0, 1))
+    of = {name: took[name] - took["load"] for name in blocks}
+    print(f"{kind}: {many} calls of one session {of['one']:.3f} s, of each of four {of['four']:.3f} s, by one thread {of['turn']:.3f} s, of eight the half "
+          f"{of['eight']:.3f} s; calls a second {4 * of['one'] / of['four']:.2f} times one session's; beside one thread {of['four'] / of['turn']:.2f}, "
+          f"of processors {(work['four'] - work['load']) / (work['turn'] - work['load']):.2f}; eight beside four {of['eight'] / of['four']:.2f}", flush=True)
 
 
 counts = [asked("count", 0.001) for _ in range(RANGES)]
 sums = [asked("sum b", 0.1) for _ in range(RANGES)]
-measure("counts of ranges that recur", [R.choice(counts) for _ in range(4 * CALLS)], counts)
+measure("counts of ranges that recur", [R.choice(counts) for _ in range(20 * CALLS)], counts)
 measure("sums of ranges that recur", [R.choice(sums) for _ in range(CALLS)], sums)
 measure("counts of ranges that crack", [asked("count", 0.001) for _ in range(4 * CALLS)], counts)
