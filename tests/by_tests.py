@@ -69,6 +69,10 @@ BODIES = {
                            "sw_chunks/src/answering.rt", "        told = ready_again(align, &mut areas[k], query);\n",
                            "        told = ready_again(align, &mut areas[k], query);\n        if told.is_err() {\n"
                            "            told = ready_again(align, &mut areas[k], query);\n        }\n", "test_heads"),
+    "use_at_rest_not_noted": ("A query that a head answers as it stands does not count as a use of its maps", "sw_chunks/src/head.rt",
+                              "        Some(now)\n", "        None\n", "test_heads"),
+    "areas_used_alike": ("A query at rest counts as one that used the same maps, whichever areas it touches", "sw_chunks/src/resting.rt",
+                         "used |= 256 << (k % 16);", "used |= 256;", "test_heads"),
     "begun_after_contention": ("A map whose growth found the budget contended is begun again",
                                "sw_set/src/prepare/making.rt", "        Err(Refusal::Contended { seen, found }) => {\n"
                                "            return Err(Refusal::Contended { seen, found });\n        }\n", "", "test_heads"),
