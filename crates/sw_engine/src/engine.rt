@@ -86,7 +86,7 @@ pub struct Engine<J: Naming, M: CrackerMap, L: Latch<LatchedHead<J, M>> = AloneL
     /// How many updates are published after the opening rows, as far as commits told, for who asks a head as it stands. It is a
     /// hint, on which no clause rests: a wrong one costs time alone.
     came: CachePadded<AtomicU64>,
-    /// Apart from what is read without the lock, whose word each visit changes.
+    /// Apart from what is read without the lock, since each visit changes its word.
     desk: CachePadded<Mutex<LockedDesk<J>>>,
     /// For the compiler: the maps lie under the latches. A `Mutex`, so that an engine goes to other threads where its latches do, and
     /// asks no more of the maps.
