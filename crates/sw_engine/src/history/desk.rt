@@ -165,14 +165,14 @@ impl<J: Naming> Desk<J> {
         let Desk { spine, heads, .. } = self;
         let share = heads.open(Snapshot::of(spine));
         LatchedHead {
-            counters: Counters::new(),
-            apart: [0; 16],
             number,
             head: None,
             inbox: Vec::new(alloc),
             boxes: Waiting::new(alloc),
             share,
             receipt: None,
+            counters: Counters::new(),
+            apart: [0; 16],
             of: PhantomData,
         }
     }

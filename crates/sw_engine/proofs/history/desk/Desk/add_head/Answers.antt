@@ -12,7 +12,7 @@ pub invariant_of-result : goal.invariant_of-result
 invariant_of-result g c =
     let j = g.J.Naming in
     let number = c.args.number in
-    let none : opened j.opening ++ c.new-2.result.items ≡ opened j.opening = ap (λ (us : List Update). opened j.opening ++ us) (search rules) ∙ append-nil (opened j.opening) in
+    let none : opened j.opening ++ c.new.result.items ≡ opened j.opening = ap (λ (us : List Update). opened j.opening ++ us) (search rules) ∙ append-nil (opened j.opening) in
     let is : c.open-share.result.value ≡ new_books j.columns j.opening j.limit = c.open-share.ensures.share.1 ∙ (c.of.ensures ∙ (ap (λ (d : DeskState). d.books) c.self.view_is ∙ c.requires.begun)) in
     let less : number < 8 = omega (arith, c.requires.place, c.heads-heads.ensures.many, c.heads-heads.ensures.few) in record {
       named = c.open-share.ensures.name.1 ∙ c.self.invariant.heads_named;
