@@ -7,10 +7,9 @@
 
 mod insertion;
 mod laws;
-mod listing;
 mod mark;
+mod movers;
 mod partition;
-mod passing;
 mod removal;
 
 pub use insertion::{end_before, ripple_in};
