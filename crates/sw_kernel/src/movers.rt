@@ -64,25 +64,54 @@ pub(crate) fn down_of(head: &[i64], end: usize, many: usize, value: i64) -> u64
     movers
 }
 
-/// The same as `up_of` of a block. Eight items a turn are few enough that the loop is unrolled, and items are compared by vector code.
+/// The eight places from the `k`-th on are looked at, too.
+#[inline(always)]
+fn note_eight_up(head: &[i64], from: usize, value: i64, movers: u64, k: usize) -> u64
+    requires within { (k + 8 ≤ 64) × (from + k + 8 ≤ length head.now) }
+    requires told { Tells (goes_up (Before value) head.now from) k movers }
+    ensures { Tells (goes_up (Before value) head.now from) (k + 8) result }
+{
+    let movers = note_up(head, from, value, movers, k);
+    let movers = note_up(head, from, value, movers, k + 1);
+    let movers = note_up(head, from, value, movers, k + 2);
+    let movers = note_up(head, from, value, movers, k + 3);
+    let movers = note_up(head, from, value, movers, k + 4);
+    let movers = note_up(head, from, value, movers, k + 5);
+    let movers = note_up(head, from, value, movers, k + 6);
+    note_up(head, from, value, movers, k + 7)
+}
+
+/// The same as `up_of` of a block. It is written out, so that items are compared by vector code.
 #[inline(always)]
 fn up_of_block(head: &[i64], from: usize, value: i64) -> u64
     requires { from + 64 ≤ length head.now }
     ensures { Tells (goes_up (Before value) head.now from) 64 result }
 {
-    let mut movers = 0u64;
-    for t in 0..BLOCK / 8 {
-        let k = 8 * t;
-        movers = note_up(head, from, value, movers, k);
-        movers = note_up(head, from, value, movers, k + 1);
-        movers = note_up(head, from, value, movers, k + 2);
-        movers = note_up(head, from, value, movers, k + 3);
-        movers = note_up(head, from, value, movers, k + 4);
-        movers = note_up(head, from, value, movers, k + 5);
-        movers = note_up(head, from, value, movers, k + 6);
-        movers = note_up(head, from, value, movers, k + 7);
-    }
-    movers
+    let movers = note_eight_up(head, from, value, 0, 0);
+    let movers = note_eight_up(head, from, value, movers, 8);
+    let movers = note_eight_up(head, from, value, movers, 16);
+    let movers = note_eight_up(head, from, value, movers, 24);
+    let movers = note_eight_up(head, from, value, movers, 32);
+    let movers = note_eight_up(head, from, value, movers, 40);
+    let movers = note_eight_up(head, from, value, movers, 48);
+    note_eight_up(head, from, value, movers, 56)
+}
+
+/// The eight places from the `k`-th on are looked at, too.
+#[inline(always)]
+fn note_eight_down(head: &[i64], end: usize, value: i64, movers: u64, k: usize) -> u64
+    requires within { (k + 8 ≤ 64) × (k + 8 ≤ end) × (end ≤ length head.now) }
+    requires told { Tells (goes_down (Before value) head.now end) k movers }
+    ensures { Tells (goes_down (Before value) head.now end) (k + 8) result }
+{
+    let movers = note_down(head, end, value, movers, k);
+    let movers = note_down(head, end, value, movers, k + 1);
+    let movers = note_down(head, end, value, movers, k + 2);
+    let movers = note_down(head, end, value, movers, k + 3);
+    let movers = note_down(head, end, value, movers, k + 4);
+    let movers = note_down(head, end, value, movers, k + 5);
+    let movers = note_down(head, end, value, movers, k + 6);
+    note_down(head, end, value, movers, k + 7)
 }
 
 /// The same as `down_of` of a block.
@@ -91,19 +120,14 @@ fn down_of_block(head: &[i64], end: usize, value: i64) -> u64
     requires { (64 ≤ end) × (end ≤ length head.now) }
     ensures { Tells (goes_down (Before value) head.now end) 64 result }
 {
-    let mut movers = 0u64;
-    for t in 0..BLOCK / 8 {
-        let k = 8 * t;
-        movers = note_down(head, end, value, movers, k);
-        movers = note_down(head, end, value, movers, k + 1);
-        movers = note_down(head, end, value, movers, k + 2);
-        movers = note_down(head, end, value, movers, k + 3);
-        movers = note_down(head, end, value, movers, k + 4);
-        movers = note_down(head, end, value, movers, k + 5);
-        movers = note_down(head, end, value, movers, k + 6);
-        movers = note_down(head, end, value, movers, k + 7);
-    }
-    movers
+    let movers = note_eight_down(head, end, value, 0, 0);
+    let movers = note_eight_down(head, end, value, movers, 8);
+    let movers = note_eight_down(head, end, value, movers, 16);
+    let movers = note_eight_down(head, end, value, movers, 24);
+    let movers = note_eight_down(head, end, value, movers, 32);
+    let movers = note_eight_down(head, end, value, movers, 40);
+    let movers = note_eight_down(head, end, value, movers, 48);
+    note_eight_down(head, end, value, movers, 56)
 }
 
 /// Where no item of a block is left, those of the one from `i` on.

@@ -1,7 +1,0 @@
-use Rattle.std.proofs.Common.{◌*◌}
-use Rattle.sw_query.specs.declared.bound.Bound.TheVariants.{Before}
-use Rattle.sw_kernel.specs.Blocks.{Tells, goes_up}
-use Rattle.sw_kernel.proofs.movers.up_of_block.Given as goal
-
-abbrev pub invariant-loop-t : goal.invariant-loop-t
-invariant-loop-t l = Tells (goes_up (Before l.value) l.head l.from) (8 * l.t) l.movers
