@@ -1,10 +1,8 @@
-//! Which items of a block stand in the other part and have to go there: a bit for each, by its place, made without a branch.
+//! Which items of a block stand in the other part, and have to go there: a bit for each, by its place, without a branch.
 
 ghost use Rattle.std.specs.Prelude.{◌≡◌, ◌+◌, ◌-◌, ◌<◌, ◌≤◌, count_ones, length, true};
 ghost use Rattle.sw_query.specs.declared.bound.Bound.TheVariants.{Before};
 ghost use Rattle.sw_kernel.specs.Blocks.{IsFirst, IsWithout, Tells, TellsOneMore, goes_down, goes_up, is_set};
-
-use std::simd::prelude::*;
 
 /// How many items a block has: one for each bit.
 pub(crate) const BLOCK: usize = 64;
@@ -38,7 +36,7 @@ fn note_down(head: &[i64], end: usize, value: i64, movers: u64, k: usize) -> u64
     note(movers, k, head[end - 1 - k] < value)
 }
 
-/// Those of the `many` items from `from` on that go up.
+/// Those of the `many` items from `from` on that go up, places counted from there.
 #[inline(always)]
 pub(crate) fn up_of(head: &[i64], from: usize, many: usize, value: i64) -> u64
     requires { (many ≤ 64) × (from + many ≤ length head.now) }
@@ -51,7 +49,7 @@ pub(crate) fn up_of(head: &[i64], from: usize, many: usize, value: i64) -> u64
     movers
 }
 
-/// Those of the `many` items below `end` that go down.
+/// Those of the `many` items below `end` that go down, places counted down from there.
 #[inline(always)]
 pub(crate) fn down_of(head: &[i64], end: usize, many: usize, value: i64) -> u64
     requires { (many ≤ 64) × (many ≤ end) × (end ≤ length head.now) }
@@ -81,7 +79,7 @@ fn note_eight_up(head: &[i64], from: usize, value: i64, movers: u64, k: usize) -
     note_up(head, from, value, movers, k + 7)
 }
 
-/// The same as `up_of` of a block. It is written out, so that items are compared by vector code.
+/// The same as `up_of` of a whole block. It is written out, so that items are compared by vector code.
 #[inline(always)]
 fn up_of_block(head: &[i64], from: usize, value: i64) -> u64
     requires { from + 64 ≤ length head.now }
@@ -114,7 +112,7 @@ fn note_eight_down(head: &[i64], end: usize, value: i64, movers: u64, k: usize) 
     note_down(head, end, value, movers, k + 7)
 }
 
-/// The same as `down_of` of a block.
+/// The same as `down_of` of a whole block.
 #[inline(always)]
 fn down_of_block(head: &[i64], end: usize, value: i64) -> u64
     requires { (64 ≤ end) × (end ≤ length head.now) }
