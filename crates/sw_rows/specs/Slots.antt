@@ -1,5 +1,5 @@
 -- A text of few bytes and its code, in four words.
-use Rattle.std.specs.Prelude.{◌≡◌, ◌⊎◌, ◌-◌, ◌++◌, if◌then◌else◌, List, Some, drop, nat_le, take, ℕ}
+use Rattle.std.specs.Prelude.{◌≡◌, ◌-◌, ◌++◌, if◌then◌else◌, List, Some, drop, nat_le, take, ℕ}
 use Rattle.std.specs.Int.{to_le_bytes, w64}
 use Rattle.sw_rows.specs.Texts.{code_of}
 use Rattle.sw_rows.specs.declared.schema.slot.Slot.{Slot}
@@ -19,6 +19,6 @@ text_in s =
 abbrev pub IsSlotOf : List ℕ → ℕ → Slot → Type 0
 IsSlotOf text code s = (text_in s ≡ text) × (s.code ≡ code)
 
--- a slot is blank, or has one of these texts with its code
+-- a slot has one of these texts with its code
 abbrev pub IsTrueOf : List (List ℕ) → Slot → Type 0
-IsTrueOf texts s = (s.code ≡ 0) ⊎ (code_of texts (text_in s) ≡ Some s.code)
+IsTrueOf texts s = code_of texts (text_in s) ≡ Some s.code

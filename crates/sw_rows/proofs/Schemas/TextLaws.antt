@@ -1,5 +1,5 @@
 -- Codes and texts stand for one another, and both stay as texts are added.
-use Rattle.std.proofs.Common.{◌≡◌, ◌∙◌, inl, inr, ap, sym, refl, ℕ, zero, suc, ◌+◌, ◌-◌, ◌<◌, ◌≤◌, ◌==◌, ◌||◌, Bool, true, false, not, cond, List, [], ◌∷◌, ◌++◌, length, take, get_or, Option, Some, None, Result, Ok, Err, option_map, position, bytes_eq, is_some, slice_get, nat_lt, arith, subst, true≢false, append-nil, append_assoc, length-append}
+use Rattle.std.proofs.Common.{◌≡◌, ◌∙◌, ap, sym, refl, ℕ, zero, suc, ◌+◌, ◌-◌, ◌<◌, ◌≤◌, ◌==◌, ◌||◌, Bool, true, false, not, cond, List, [], ◌∷◌, ◌++◌, length, take, get_or, Option, Some, None, Result, Ok, Err, option_map, position, bytes_eq, is_some, slice_get, nat_lt, arith, subst, true≢false, append-nil, append_assoc, length-append}
 use Rattle.std.proofs.Math.ListN.{get_or-append}
 use Rattle.std.proofs.Math.Seq.{take-append_seam}
 use Rattle.std.proofs.lemmas.Bool.{and_parts, cond-false, cond-true, lt-ltb, not-true, not_from_false, not_from_true, or_parts, or_right, true_from_ne_false}
@@ -171,8 +171,7 @@ pub recent_kept : (ts more : Texts) (r : Recent) → AreTrueOf ts r → AreTrueO
 recent_kept ts more r h = All-weaker (IsTrueOf ts) (IsTrueOf (with_texts ts more)) kept r.slots.items h
   where
     kept : (s : Slot) → IsTrueOf ts s → IsTrueOf (with_texts ts more) s
-    kept s (inl blank) = inl blank
-    kept s (inr has) = inr (code_kept ts more (text_in s) s.code has)
+    kept s has = code_kept ts more (text_in s) s.code has
 
 -- a code keeps its text as texts are added
 pub text_of_kept : (ts more : Texts) (t : List ℕ) (code : ℕ) → text_of ts code ≡ Some t → text_of (with_texts ts more) code ≡ Some t

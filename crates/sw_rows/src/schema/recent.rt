@@ -1,29 +1,35 @@
-//! Texts that came lately, each with its code, so that one that comes again is found without its hash: a cache of which each text has a
-//! few slots, side by side. It is kept small, so that the slots in use stay near the processor.
+//! Texts that came lately, each with its code, so that one that comes again is found without its hash: a cache, kept small, so that what is
+//! in use of it stays near the processor.
 
 ghost use Rattle.std.specs.Prelude.{◌≡◌, ◌≤◌, ℕ, List, Some, length, IfSome};
 ghost use Rattle.sw_rows.specs.Recent.{AreTrueOf};
+ghost use Rattle.sw_rows.specs.Slots.{IsTrueOf};
 ghost use Rattle.sw_rows.specs.Texts.{code_of};
 ghost use Rattle.sw_rows.specs.declared.schema.texts.TheConstants.{MOST_TEXTS};
 
-use crate::schema::slot::{BLANK, Slot};
+use crate::schema::slot::Slot;
 use std::alloc::Global;
 
-/// How many slots there are at first, of 32 bytes.
-const FEWEST_SLOTS: usize = 2_048;
+/// How many hints there are at first.
+const FEWEST_HINTS: usize = 2_048;
 
-/// How many slots there are at most.
-const MOST_SLOTS: usize = 65_536;
+/// How many hints there are at most.
+const MOST_HINTS: usize = 65_536;
 
-/// How many slots there are for each one, where texts come to be more than two thirds of them.
+/// How many slots there are at most: their numbers fit a hint.
+const MOST_SLOTS: usize = 65_535;
+
+/// How many hints there are for each one, where texts come to be more than two thirds of them.
 const GROWTH: usize = 16;
 
-/// In how many slots a text may stand.
+/// In how many hints a text may be found.
 const NEIGHBOURS: usize = 6;
 
-/// Each text in the first of its slots that was blank when it came, or else in its first one, with its code.
+/// Slots in the order in which their texts came, and hints that tell their numbers, from 1: a text's is told by the first of its hints
+/// that told none when it came, or else by its first one.
 #[derive(Drop)]
 pub(crate) struct Recent {
+    hints: Vec<u16>,
     slots: Vec<Slot>,
 }
 
@@ -33,45 +39,47 @@ impl Recent {
         ensures { (ts : List (List ℕ)) → AreTrueOf ts result }
     {
         Recent {
+            hints: Vec::new(alloc),
             slots: Vec::new(alloc),
         }
     }
 
-    /// The first of a text's slots.
+    /// The first of a text's hints.
     fn place(&self, text: &Slot) -> usize {
-        let many = self.slots.len() as u64;
+        let many = self.hints.len() as u64;
         ((text.sum() >> 32).wrapping_mul(many) >> 32) as usize
     }
 
-    /// Where the slots of a text end whose first one is at a place.
+    /// Where the hints of a text end whose first one is at a place.
     fn end(&self, place: usize) -> usize
-        ensures { result ≤ length self.now.slots.items }
+        ensures { result ≤ length self.now.hints.items }
     {
-        self.slots.len().min(place.saturating_add(NEIGHBOURS))
+        self.hints.len().min(place.saturating_add(NEIGHBOURS))
     }
 
-    /// Where a text is put: the first of its slots that is blank, else its first one.
+    /// Where a text is told: by the first of its hints that tells none, else its first one.
     fn free(&self, text: &Slot) -> usize {
         let place = self.place(text);
         for at in place..self.end(place) {
-            if self.slots[at].is_blank() {
+            if self.hints[at] == 0 {
                 return at;
             }
         }
         place
     }
 
-    /// The code of a text, where it stands in one of its slots.
+    /// The code of a text, where one of its hints tells a slot that has it.
     pub fn code(&self, text: &[u8]) -> Option<u64>
         ensures { (ts : List (List ℕ)) → AreTrueOf ts self.now → IfSome result (λ code. code_of ts text.now ≡ Some code) }
     {
         let wanted = Slot::of(text, 0)?;
         let place = self.place(&wanted);
         for at in place..self.end(place) {
-            let slot = &self.slots[at];
-            if slot.is_blank() {
+            let number = usize::from(self.hints[at]);
+            if number == 0 || number > self.slots.len() {
                 return None;
             }
+            let slot = &self.slots[number - 1];
             if let Some(code) = slot.code_of(&wanted) {
                 return Some(code);
             }
@@ -79,19 +87,37 @@ impl Recent {
         None
     }
 
-    /// Makes more slots, all blank, where there are few for so many texts, and there may be more and there is memory.
+    /// Makes more hints, all blank, where there are few for so many texts, and there may be more and there is memory.
     fn widen(&mut self, texts: usize)
         ensures { (ts : List (List ℕ)) → AreTrueOf ts self.old → AreTrueOf ts self.new }
     {
-        let many = self.slots.len();
-        if many < MOST_SLOTS && many / 3 * 2 < texts {
-            let wanted = (many * GROWTH).clamp(FEWEST_SLOTS, MOST_SLOTS);
-            self.slots.clear();
-            let _ = self.slots.resize(wanted, BLANK);
+        let many = self.hints.len();
+        if many < MOST_HINTS && many / 3 * 2 < texts {
+            let wanted = (many * GROWTH).clamp(FEWEST_HINTS, MOST_HINTS);
+            self.clear();
+            let _ = self.hints.resize(wanted, 0u16);
         }
     }
 
-    /// Puts a text with its code, one of so many texts, into one of its slots.
+    /// Puts a slot behind the others, or in the place of one of them where there are as many as there may be, and tells its number;
+    /// None where there is no memory.
+    fn put(&mut self, slot: Slot, code: u64) -> Option<u16>
+        ensures { (ts : List (List ℕ)) → IsTrueOf ts slot → AreTrueOf ts self.old → AreTrueOf ts self.new }
+    {
+        let many = self.slots.len();
+        if many >= MOST_SLOTS {
+            // codes rise as texts come, so it is the one that came first
+            let at = code as usize % MOST_SLOTS;
+            self.slots[at] = slot;
+            return Some((at + 1) as u16);
+        }
+        match self.slots.push(slot) {
+            Ok(()) => Some((many + 1) as u16),
+            Err(_) => None,
+        }
+    }
+
+    /// Puts a text with its code, one of so many texts, into a slot.
     pub fn note(&mut self, text: &[u8], code: u64, texts: usize)
         requires { code ≤ MOST_TEXTS }
         ensures { (ts : List (List ℕ)) → code_of ts text.now ≡ Some code → AreTrueOf ts self.old → AreTrueOf ts self.new }
@@ -101,8 +127,11 @@ impl Recent {
         };
         self.widen(texts);
         let place = self.free(&slot);
-        if let Some(it) = self.slots.get_mut(place) {
-            *it = slot;
+        let Some(number) = self.put(slot, code) else {
+            return;
+        };
+        if let Some(hint) = self.hints.get_mut(place) {
+            *hint = number;
         }
     }
 
@@ -110,6 +139,7 @@ impl Recent {
     pub fn clear(&mut self)
         ensures { (ts : List (List ℕ)) → AreTrueOf ts self.new }
     {
+        self.hints.clear();
         self.slots.clear();
     }
 }

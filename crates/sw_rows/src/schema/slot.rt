@@ -63,7 +63,7 @@ fn short_word(bytes: &[u8]) -> u64
     u64::from_le_bytes([first, second, third, 0, 0, 0, 0, 0])
 }
 
-/// A text of few bytes and its code, which is 0 where none stands.
+/// A text of few bytes and its code.
 #[derive(Clone, Copy)]
 pub(crate) struct Slot {
     first: u64,
@@ -73,8 +73,8 @@ pub(crate) struct Slot {
     code: u32,
 }
 
-/// A slot where no text stands.
-pub(crate) const BLANK: Slot = Slot {
+/// No text.
+const NONE: Slot = Slot {
     first: 0,
     middle: 0,
     last: 0,
@@ -96,7 +96,7 @@ impl Slot {
         let slot = Slot {
             many: many as u32,
             code: code as u32,
-            ..BLANK
+            ..NONE
         };
         Some(match many {
             0..=3 => Slot {
@@ -121,12 +121,6 @@ impl Slot {
         })
     }
 
-    /// Whether no text stands here.
-    #[inline]
-    pub fn is_blank(&self) -> bool {
-        self.code == 0
-    }
-
     /// A number that few texts share.
     #[inline]
     pub fn sum(&self) -> u64 {
@@ -143,7 +137,7 @@ impl Slot {
             && self.last == text.last
             && self.middle == text.middle
             && self.many == text.many;
-        if self.code == 0 || !is_here {
+        if !is_here {
             return None;
         }
         Some(u64::from(self.code))
