@@ -1,12 +1,12 @@
 -- Lists that grow by what a function gives for each item of another.
 use Rattle.std.specs.Global.{Vec}
-use Rattle.std.proofs.Common.{ℤ, vec_len, length-append, ◌^◌, subst, length-take, drop, length-drop, ◌≡◌, ◌∙◌, ◌+◌, ◌++◌, ◌∷◌, ◌<◌, ◌≤◌, ℕ, Bool, true, List, [], All, ap, sym, get_or, length, map, take, arith}
-use Rattle.std.proofs.lemmas.List.{append-nil, append_assoc, get_or-append-add, get_or_append_left, map-append, get_or-drop, get_or-take, length-map, length-take-le, map_push, take_more}
+use Rattle.std.proofs.Common.{ℤ, vec_len, length-append, ◌^◌, subst, length-take, drop, length-drop, ◌≡◌, ◌∙◌, ◌+◌, ◌++◌, ◌∷◌, ◌<◌, ℕ, Bool, true, List, [], All, ap, sym, get_or, length, map, take, arith}
+use Rattle.std.proofs.lemmas.List.{append-nil, append_assoc, get_or-append-add, get_or_append_left, map-append, get_or-drop, get_or-take, length-map, map_push, take_more}
 use Rattle.sw_table.specs.declared.row.Row.{Row}
 use Rattle.sw_table.specs.Packed.{HasRoomFor, IsSameRoom}
 use Rattle.sw_load.specs.Appended.{Fit, IsAppended}
-use Rattle.sw_load.specs.declared.columns.Tail.{Tail}
-use Rattle.sw_load.specs.declared.columns.Tail.TheVariants.{Key, Cell}
+use Rattle.sw_load.specs.declared.columns.Column.{Column}
+use Rattle.sw_load.specs.declared.columns.Column.TheVariants.{Key, Cell}
 use Rattle.sw_table.specs.Kept.{kept}
 use Rattle.sw_table.proofs.LiveLaws.{kept-all}
 
@@ -22,10 +22,6 @@ appended-more f ys old xs i d y lt is one =
 pub part-more : {X Y : Type 0} (f : X → Y) (ys old : List Y) (xs : List X) (s i : ℕ) (d : X) (y : Y) → s + i < length xs → ys ≡ old ++ map f (take i (drop s xs)) → y ≡ f (get_or xs (s + i) d) → ys ++ y ∷ [] ≡ old ++ map f (take (i + 1) (drop s xs))
 part-more f ys old xs s i d y lt is one =
     appended-more f ys old (drop s xs) i d y (omega (arith, length-drop s xs, lt)) is (one ∙ ap f (sym (get_or-drop s xs i d)))
-
--- as many items as the part has
-pub part-long : {X Y : Type 0} (f : X → Y) (xs : List X) (s i : ℕ) → s + i ≤ length xs → length (map f (take i (drop s xs))) ≡ i
-part-long f xs s i le = length-map (take i (drop s xs)) f ∙ length-take-le i (drop s xs) (omega (arith, length-drop s xs, le))
 
 -- what holds of the items of a part holds of each
 pub small-at : (rs : List Row) (s m i : ℕ) (d : Row) → s + i < length rs → i < m → All (λ (r : Row). r.key < 2 ^ 63) (take m (drop s rs)) → (get_or rs (s + i) d).key < 2 ^ 63
@@ -61,11 +57,11 @@ appending-more f old new next some rest all so_far more = record {
 }
 
 -- the keys of the rows before others fit, where those of all do
-pub fit-before : (tail : Tail) (xs ys : List Row) → Fit tail (xs ++ ys) → Fit tail xs
+pub fit-before : (column : Column) (xs ys : List Row) → Fit column (xs ++ ys) → Fit column xs
 fit-before Key xs ys all = λ k d lt. subst (λ (r : Row). r.key < 2 ^ 63) (get_or_append_left xs ys d k lt) (all k d (omega (arith, length-append xs ys, lt)))
 fit-before (Cell attr) xs ys all = tt
 
 -- the keys of the rows behind fit, where those of all do
-pub fit-behind : (tail : Tail) (xs ys : List Row) → Fit tail (xs ++ ys) → Fit tail ys
+pub fit-behind : (column : Column) (xs ys : List Row) → Fit column (xs ++ ys) → Fit column ys
 fit-behind Key xs ys all = λ k d lt. subst (λ (r : Row). r.key < 2 ^ 63) (get_or-append-add xs ys k d) (all (length xs + k) d (omega (arith, length-append xs ys, lt)))
 fit-behind (Cell attr) xs ys all = tt

@@ -1,8 +1,8 @@
 -- A part of two lists, one after the other.
-use Rattle.std.proofs.Common.{◌≡◌, ◌∙◌, ap, sym, refl, ℕ, ℤ, ◌-◌, min, List, ◌++◌, inl, inr, length, map, take, drop, arith, length-append, length-drop}
+use Rattle.std.proofs.Common.{◌≡◌, ◌∙◌, ap, sym, refl, ℕ, ℤ, ◌+◌, ◌-◌, ◌≤◌, min, List, ◌++◌, inl, inr, length, map, take, drop, arith, length-append, length-drop, take-add}
 use Rattle.std.specs.Global.{Vec}
 use Rattle.std.proofs.lemmas.Bool.{cases_lt}
-use Rattle.std.proofs.lemmas.List.{append-nil, append_assoc, drop-append-le, map-append, drop_all, take-append-le, take_all}
+use Rattle.std.proofs.lemmas.List.{append-nil, append_assoc, drop-append-le, drop-drop, map-append, drop_all, take-append-le, take_all}
 use Rattle.sw_table.specs.declared.row.Row.{Row}
 use Rattle.sw_load.specs.Appended.{IsAppended}
 use Rattle.sw_load.proofs.Places.{drop-past, take-past}
@@ -36,6 +36,14 @@ drop-both xs ys m k is = elim (cases_lt m (length xs)) [
 pub part-both : {X : Type 0} (xs ys : List X) (s m t k : ℕ) → t ≡ min s (length xs) → k ≡ min m (length xs - t) → take m (drop s (xs ++ ys)) ≡ take k (drop t xs) ++ take (m - k) (drop (s - t) ys)
 part-both xs ys s m t k first is =
     ap (take m) (drop-both xs ys s t first) ∙ take-both (drop t xs) (drop (s - t) ys) m k (m - k) (omega (arith, is, length-drop t xs)) (omega (arith, is, length-drop t xs))
+
+-- a part of a list is its beginning and its rest
+pub part-cut : {X : Type 0} (xs : List X) (s e k : ℕ) → s + k ≤ e → take (e - s) (drop s xs) ≡ take k (drop s xs) ++ take (e - (s + k)) (drop (s + k) xs)
+part-cut xs s e k le =
+    let both : e - s ≡ k + (e - (s + k)) = omega (arith, le) in
+    ap (λ n. take n (drop s xs)) both
+    ∙ take-add k (e - (s + k)) (drop s xs)
+    ∙ ap (λ v. take k (drop s xs) ++ take (e - (s + k)) v) (drop-drop k s xs)
 
 -- cells of some rows, and then of others, are those of all
 pub appended-both : (f : Row → ℤ) (old mid new : Vec ℤ) (some rest all : List Row) → all ≡ some ++ rest → IsAppended (map f some) old mid → IsAppended (map f rest) mid new → IsAppended (map f all) old new

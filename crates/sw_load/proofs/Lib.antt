@@ -3,4 +3,5 @@ pub mod Flagged
 pub mod Halves
 pub mod Places
 pub mod Rising
+pub mod Skipping
 pub mod Without

@@ -4,8 +4,8 @@ use Rattle.std.specs.Global.{Vec}
 use Rattle.sw_table.specs.declared.row.Row.{Row}
 use Rattle.sw_table.specs.Packed.{IsSameRoom, stretch}
 use Rattle.sw_table.specs.Rows.{cell_of}
-use Rattle.sw_load.specs.declared.columns.Tail.{Tail}
-use Rattle.sw_load.specs.declared.columns.Tail.TheVariants.{Key, Cell}
+use Rattle.sw_load.specs.declared.columns.Column.{Column}
+use Rattle.sw_load.specs.declared.columns.Column.TheVariants.{Key, Cell}
 use Rattle.sw_load.specs.declared.part.Part.{Part}
 
 -- the rows of a part
@@ -16,13 +16,13 @@ part_of rows part = stretch part.start part.many rows
 abbrev pub key_cell : Row → ℤ
 key_cell r = pos r.key
 
--- what a tail holds of a row
-abbrev pub cell_or_key : Tail → Row → ℤ
+-- what a list holds of a row
+abbrev pub cell_or_key : Column → Row → ℤ
 cell_or_key Key = key_cell
 cell_or_key (Cell attr) = cell_of attr
 
 -- where the keys of some rows are asked for, they fit a cell
-abbrev pub Fit : Tail → List Row → Type 0
+abbrev pub Fit : Column → List Row → Type 0
 Fit Key rows = All (λ (r : Row). r.key < 2 ^ 63) rows
 Fit (Cell attr) rows = Unit {0}
 

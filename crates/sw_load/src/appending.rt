@@ -3,19 +3,40 @@
 ghost use Rattle.std.specs.Prelude.{◌≡◌, ◌≤◌, ◌<◌, ◌+◌, ◌^◌, All, length, map};
 ghost use Rattle.sw_table.specs.declared.row.Row.{Row};
 ghost use Rattle.sw_table.specs.Rows.{cell_of};
-ghost use Rattle.sw_table.specs.Packed.{HasRoomFor};
+ghost use Rattle.sw_table.specs.Packed.{HasRoomFor, stretch};
 ghost use Rattle.sw_load.specs.Appended.{Fit, IsAppended, cell_or_key, key_cell, part_of};
+ghost use Rattle.sw_load.specs.declared.appending.TheConstants.{BLOCK};
 
-use crate::columns::{Columns, Tail};
+use crate::columns::{Column, Columns};
 use crate::part::Part;
 use std::mem;
 use sw_table::{PackedRows, Row};
 
-/// Two attributes: the heads are the cells of the one, the tails those of the other.
-#[derive(Clone, Copy, Debug)]
-struct Attributes {
-    head: usize,
-    tail: usize,
+/// How many rows are gone through together. What a list holds of them is read into a block first, and goes into the list
+/// from there: where memory that may lie anywhere is written row by row, the compiler asks for each row anew how rows are kept.
+const BLOCK: usize = 256;
+
+/// Reads the cells of an attribute of the rows from a place on into a block, as many as it has.
+fn read_cells(rows: &PackedRows, start: usize, attr: usize, block: &mut [i64])
+    requires { start + length block.old ≤ length rows.now.items }
+    ensures { block.new ≡ map (cell_of attr) (stretch start (length block.old) rows.now.items) }
+{
+    let _all = rows.len();
+    for k in 0..block.len() {
+        block[k] = rows.cell(start + k, attr);
+    }
+}
+
+/// Reads the keys of the rows from a place on, which fit a cell, into a block, as many as it has.
+fn read_keys(rows: &PackedRows, start: usize, block: &mut [i64])
+    requires within { start + length block.old ≤ length rows.now.items }
+    requires small { All (λ (r : Row). r.key < 2 ^ 63) (stretch start (length block.old) rows.now.items) }
+    ensures { block.new ≡ map key_cell (stretch start (length block.old) rows.now.items) }
+{
+    let _all = rows.len();
+    for k in 0..block.len() {
+        block[k] = rows.key(start + k) as i64;
+    }
 }
 
 /// Takes the list out: what fills a list of its own holds its length in a register, and not in memory.
@@ -27,61 +48,36 @@ fn taken(out: &mut Vec<i64>) -> Vec<i64>
     mem::replace(out, Vec::new(alloc))
 }
 
-/// Adds the cells of two attributes of a part of the rows at the ends of two lists, which have room for them.
-fn append_cells(
-    rows: &PackedRows,
-    part: Part,
-    attributes: Attributes,
-    heads: &mut Vec<i64>,
-    tails: &mut Vec<i64>,
-)
-    requires within { part.start + part.many ≤ length rows.now.items }
-    requires heads { HasRoomFor part.many heads.old }
-    requires tails { HasRoomFor part.many tails.old }
-    ensures heads { IsAppended (map (cell_of attributes.head) (part_of rows.now.items part)) heads.old heads.new }
-    ensures tails { IsAppended (map (cell_of attributes.tail) (part_of rows.now.items part)) tails.old tails.new }
+/// Adds cells at the end of a list, which has room for them.
+fn append(cells: &[i64], out: &mut Vec<i64>)
+    requires { HasRoomFor (length cells.now) out.old }
+    ensures { IsAppended cells.now out.old out.new }
 {
-    let _all = rows.len();
-    let Part { start, many } = part;
-    let mut ones = taken(heads);
-    let mut others = taken(tails);
-    for done in 0..many {
-        ones.push_reserved(rows.cell(start + done, attributes.head));
-        others.push_reserved(rows.cell(start + done, attributes.tail));
+    let mut list = taken(out);
+    for cell in cells {
+        list.push_reserved(*cell);
     }
-    *heads = ones;
-    *tails = others;
+    *out = list;
 }
 
-/// Adds the cells of an attribute of a part of the rows at the end of a list, and the keys of those rows, which fit a
-/// cell, at the end of another; both have room for them.
-fn append_keys(
-    rows: &PackedRows,
-    part: Part,
-    head: usize,
-    heads: &mut Vec<i64>,
-    keys: &mut Vec<i64>,
-)
+/// Adds what a list holds of the rows of a part, a block at most, at the list's end, where there is room for it.
+fn append_block(rows: &PackedRows, part: Part, column: Column, out: &mut Vec<i64>)
+    requires few { part.many ≤ BLOCK }
     requires within { part.start + part.many ≤ length rows.now.items }
-    requires small { All (λ (r : Row). r.key < 2 ^ 63) (part_of rows.now.items part) }
-    requires heads { HasRoomFor part.many heads.old }
-    requires keys { HasRoomFor part.many keys.old }
-    ensures heads { IsAppended (map (cell_of head) (part_of rows.now.items part)) heads.old heads.new }
-    ensures keys { IsAppended (map key_cell (part_of rows.now.items part)) keys.old keys.new }
+    requires fit { Fit column (part_of rows.now.items part) }
+    requires room { HasRoomFor part.many out.old }
+    ensures { IsAppended (map (cell_or_key column) (part_of rows.now.items part)) out.old out.new }
 {
-    let _all = rows.len();
-    let Part { start, many } = part;
-    let mut ones = taken(heads);
-    let mut others = taken(keys);
-    for done in 0..many {
-        ones.push_reserved(rows.cell(start + done, head));
-        others.push_reserved(rows.key(start + done) as i64);
+    let mut block = [0; BLOCK];
+    let cells = &mut block[..part.many];
+    match column {
+        Column::Key => read_keys(rows, part.start, cells),
+        Column::Cell(attr) => read_cells(rows, part.start, attr, cells),
     }
-    *heads = ones;
-    *keys = others;
+    append(cells, out);
 }
 
-/// Adds the columns of a part of the rows at the ends of two lists, which have room for them.
+/// Adds the columns of a part of the rows at the ends of two lists, which have room for them, block by block.
 pub(crate) fn append_part(
     rows: &PackedRows,
     part: Part,
@@ -96,9 +92,16 @@ pub(crate) fn append_part(
     ensures heads { IsAppended (map (cell_of columns.head) (part_of rows.now.items part)) heads.old heads.new }
     ensures tails { IsAppended (map (cell_or_key columns.tail) (part_of rows.now.items part)) tails.old tails.new }
 {
-    let Columns { head, tail } = columns;
-    match tail {
-        Tail::Key => append_keys(rows, part, head, heads, tails),
-        Tail::Cell(tail) => append_cells(rows, part, Attributes { head, tail }, heads, tails),
+    let _all = rows.len();
+    let mut from = part.start;
+    let end = part.start + part.many;
+    while from < end {
+        let next = Part {
+            start: from,
+            many: BLOCK.min(end - from),
+        };
+        append_block(rows, next, Column::Cell(columns.head), heads);
+        append_block(rows, next, columns.tail, tails);
+        from += next.many;
     }
 }

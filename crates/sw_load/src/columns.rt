@@ -1,8 +1,8 @@
 //! What two lists hold of each row.
 
-/// What the list of the tails holds of each row.
+/// What a list holds of each row.
 #[derive(Clone, Copy, Debug)]
-pub(crate) enum Tail {
+pub(crate) enum Column {
     /// The row's key.
     Key,
     /// The row's cell of the attribute with this number, from 0.
@@ -16,5 +16,5 @@ pub(crate) struct Columns {
     /// The number, from 0, of the attribute whose cells are the heads.
     pub head: usize,
     /// What the tails are.
-    pub tail: Tail,
+    pub tail: Column,
 }

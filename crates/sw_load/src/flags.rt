@@ -13,12 +13,40 @@ pub(crate) fn are_all_live(live: &[bool]) -> bool
     live.iter().all(|is_live| *is_live)
 }
 
+/// How many flags are looked at together.
+const BLOCK: usize = 64;
+
+/// Whether all flags of a block are true.
+fn is_live_block(block: &[bool]) -> bool
+    ensures { result ≡ true → AreLive block.now 0 (length block.now) }
+{
+    // goes on behind one that is false, so that many are looked at at once
+    let mut all = true;
+    for is_live in block {
+        all &= *is_live;
+    }
+    all
+}
+
+/// A place up to which all flags are true, from a place on, block by block.
+fn skip_live(live: &[bool], from: usize) -> usize
+    requires { from ≤ length live.now }
+    ensures within { (from ≤ result) × (result ≤ length live.now) }
+    ensures live { AreLive live.now from result }
+{
+    let mut place = from;
+    while live.len() - place >= BLOCK && is_live_block(&live[place..place + BLOCK]) {
+        place += BLOCK;
+    }
+    place
+}
+
 /// The place of the first flag that is false, from a place on.
 pub(crate) fn next_gone(live: &[bool], from: usize) -> Option<usize>
     requires { from ≤ length live.now }
     ensures { MatchOption result (AreLive live.now from (length live.now)) (IsNextGone live.now from) }
 {
-    for place in from..live.len() {
+    for place in skip_live(live, from)..live.len() {
         if !live[place] {
             return Some(place);
         }

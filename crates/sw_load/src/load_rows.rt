@@ -9,7 +9,7 @@ ghost use Rattle.sw_table.specs.Live.{Rises, key_of};
 ghost use Rattle.sw_table.specs.Packed.{HasRoomFor, IsSameRoom};
 ghost use Rattle.sw_load.specs.Keys.{IsPlaceOf};
 
-use crate::columns::{Columns, Tail};
+use crate::columns::{Column, Columns};
 use crate::flags::are_all_live;
 use crate::gone::place_of;
 use crate::left::{append_left, compact, keep};
@@ -144,7 +144,7 @@ impl LoadRows {
         ensures head_len { vec_len heads.new ≡ vec_len heads.old + length self.now.items }
         ensures tail_len { vec_len tails.new ≡ vec_len tails.old + length self.now.items }
     {
-        let tail = Tail::Cell(tail);
+        let tail = Column::Cell(tail);
         append_left(&self.all, &self.gone, Columns { head, tail }, heads, tails);
     }
 
@@ -161,7 +161,7 @@ impl LoadRows {
         ensures head_len { vec_len heads.new ≡ vec_len heads.old + length self.now.items }
         ensures key_len { vec_len keys.new ≡ vec_len keys.old + length self.now.items }
     {
-        let tail = Tail::Key;
+        let tail = Column::Key;
         append_left(&self.all, &self.gone, Columns { head, tail }, heads, keys);
     }
 
