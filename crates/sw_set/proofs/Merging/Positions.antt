@@ -1,5 +1,5 @@
 -- The pair of a live row stands between the places of the nearest bounds around its head value.
-use Rattle.std.proofs.Common.{◌≡◌, ◌≢◌, ◌&&◌, ℕ, ◌+◌, ◌-◌, ◌<◌, ◌≤◌, ℤ, pos, not, Bool, true, false, List, length, get_or, map, take, drop, min, Option, None, Some, refl, ap, sym, ◌∙◌, arith, subst, Any, Contains, unsigned_abs, eqb, eqb-true, eq-eqb, true≢false}
+use Rattle.std.proofs.Common.{◌≡◌, ◌≢◌, ◌&&◌, ℕ, zero, suc, ◌+◌, ◌-◌, ◌<◌, ◌≤◌, ℤ, pos, not, Bool, true, false, List, length, get_or, map, take, drop, min, Option, None, Some, refl, ap, sym, ◌∙◌, arith, subst, Any, Contains, unsigned_abs, eqb, eqb-true, eq-eqb, true≢false}
 use Rattle.std.specs.List.{slice_range}
 use Rattle.std.proofs.lemmas.List.{get_or-map, length-take}
 use Rattle.sw_query.specs.declared.bound.Bound.{Bound}
@@ -16,7 +16,7 @@ use Rattle.sw_map.specs.Held.{Held, pairs_in, tail_value}
 use Rattle.sw_map.proofs.Replays.{ready-joined}
 use Rattle.sw_set.specs.declared.reply.window.Side.TheVariants.{Tail}
 use Rattle.sw_set.specs.Choice.{IsRun, shown_rows, side_in}
-use Rattle.sw_set.specs.Position.{HasCrackedAt}
+use Rattle.sw_set.specs.Position.{HasCrackedAt, LacksKey}
 use Rattle.sw_set.specs.Prepared.{stands_if}
 use Rattle.sw_set.specs.Boxed.{IsFoundAt}
 use Rattle.sw_set.specs.Shelf.{Rises, key_of, logged_rows}
@@ -26,7 +26,7 @@ use Rattle.sw_set.proofs.Preparing.Ends.{IsMapAtEnd, found-stands, place-found, 
 use Rattle.sw_set.proofs.Preparing.Needing.{mem-map}
 use Rattle.sw_set.proofs.Preparing.Ranges.{between, rising-distinct, run-of}
 use Rattle.sw_set.proofs.Replying.Stock.{map-range, tails-shown}
-use Rattle.sw_set.proofs.Replying.Told.{range-at}
+use Rattle.sw_set.proofs.Replying.Told.{range-at, range-long}
 
 -- ---- the nearest bounds have places
 below-stands : (tape : List (Step Row)) (v : ℤ) (o : Option Bound) → IsNearestBelow (λ b. is_marked b tape) v o → stands_if o tape ≡ true
@@ -113,7 +113,7 @@ key-at a tape m key place w tail lt is =
     (inside, λ d. sym (ap unsigned_abs (ap (λ (v : List ℤ). get_or v place (pos 0)) (keys-shown a tape m w tail) ∙ get_or-map (tail_value Key) (shown_rows a tape) place d (pos 0) inside)) ∙ is)
 
 -- ---- a search that finds nothing
-pub none-found : {Y : Type 0} (xs : List ℤ) (from upto key : ℕ) → ((k : ℕ) → from ≤ k → k < upto → unsigned_abs (get_or xs k (pos 0)) ≢ key) → upto ≤ length xs → Contains (slice_range xs from upto) (pos key) → Y
+pub none-found : {Y : Type 0} (xs : List ℤ) (from upto key : ℕ) → LacksKey key xs from upto → upto ≤ length xs → Contains (slice_range xs from upto) (pos key) → Y
 none-found xs from upto key none within (i, lt, is) =
     let long : length (take (upto - from) (drop from xs)) ≡ min (upto - from) (length (drop from xs)) = length-take (upto - from) (drop from xs) in
     let below : i < upto - from = omega (arith, lt, long) in
@@ -122,7 +122,7 @@ none-found xs from upto key none within (i, lt, is) =
     absurd (none (from + i) (omega arith) (omega (arith, below)) (ap unsigned_abs (get_or_any xs (from + i) (pos 0) (pos key) inside ∙ at)))
 
 -- a search that has passed one place more
-pub none-more : (xs : List ℤ) (from place key : ℕ) → ((k : ℕ) → from ≤ k → k < place → unsigned_abs (get_or xs k (pos 0)) ≢ key) → unsigned_abs (get_or xs place (pos 0)) ≢ key → (k : ℕ) → from ≤ k → k < place + 1 → unsigned_abs (get_or xs k (pos 0)) ≢ key
+pub none-more : (xs : List ℤ) (from place key : ℕ) → LacksKey key xs from place → unsigned_abs (get_or xs place (pos 0)) ≢ key → LacksKey key xs from (place + 1)
 none-more xs from place key none other k le lt = by (eqb k place) refl
   where
     by : (t : Bool) → eqb k place ≡ t → unsigned_abs (get_or xs k (pos 0)) ≢ key
@@ -131,3 +131,16 @@ none-more xs from place key none other k le lt = by (eqb k place) refl
       where
         below : k ≢ place → k < place
         below ne = omega (arith, lt, ne)
+
+-- a search that has passed a block more
+pub lacks-on : (xs block : List ℤ) (key from place end : ℕ) → end ≤ length xs → block ≡ slice_range xs place end → LacksKey key xs from place → LacksKey key block 0 (length block) → LacksKey key xs from end
+lacks-on xs block key from place end within read before others k le lt = by (place - k) refl
+  where
+    by : (n : ℕ) → place - k ≡ n → unsigned_abs (get_or xs k (pos 0)) ≢ key
+    by (suc n) e = before k le (omega (arith, e))
+    by zero e =
+        let at : place + (k - place) ≡ k = omega (arith, e) in
+        let inside : k - place < end - place = omega (arith, e, lt) in
+        let long : length block ≡ end - place = ap length read ∙ range-long xs place end (omega (arith, inside)) within in
+        let same : get_or block (k - place) (pos 0) ≡ get_or xs k (pos 0) = ap (λ (v : List ℤ). get_or v (k - place) (pos 0)) read ∙ range-at xs place end (k - place) (pos 0) inside ∙ ap (λ (n : ℕ). get_or xs n (pos 0)) at in
+        λ is. others (k - place) (omega arith) (omega (arith, inside, long)) (ap unsigned_abs same ∙ is)

@@ -1,6 +1,6 @@
 //! Where a row's pair stands in the key map.
 
-ghost use Rattle.std.specs.Prelude.{◌≡◌, ℕ, ◌<◌, ◌≤◌, pos, length, slice_range, slice_index_or, unsigned_abs, Contains};
+ghost use Rattle.std.specs.Prelude.{◌≡◌, true, ℕ, ◌<◌, ◌≤◌, pos, length, slice_range, slice_index_or, unsigned_abs, Contains};
 ghost use Rattle.sw_table.specs.declared.row.Row.{Row};
 ghost use Rattle.sw_kernel.specs.Arrangement.{joined};
 ghost use Rattle.sw_kernel.specs.Tapes.{IsTape, brought};
@@ -8,7 +8,7 @@ ghost use Rattle.sw_map.specs.Held.{Held, pairs_in};
 ghost use Rattle.sw_map.specs.Lawful.{IsAligned, rows_by};
 ghost use Rattle.sw_map.specs.declared.tail.Tail.TheVariants.{Key};
 ghost use Rattle.sw_set.specs.Choice.{side_in};
-ghost use Rattle.sw_set.specs.Position.{HasCrackedAt, HasRowWith};
+ghost use Rattle.sw_set.specs.Position.{HasCrackedAt, HasRowWith, LacksKey};
 ghost use Rattle.sw_set.specs.Boxed.{IsFoundAt};
 ghost use Rattle.sw_set.specs.Shelf.{Rises, key_of};
 ghost use Rattle.sw_set.specs.declared.reply.window.Side.TheVariants.{Tail};
@@ -32,6 +32,39 @@ fn place_of_bound<M: CrackerMap>(it: &M, bound: Option<Bound>, absent: usize) ->
     place
 }
 
+/// How many tails are read at a time.
+const BLOCK: usize = 256;
+
+/// Whether no cell is the key.
+fn lack_key(cells: &[i64], key: u64) -> bool
+    ensures { result ≡ true → LacksKey key cells.now 0 (length cells.now) }
+{
+    // goes on behind the key, so that many are compared at once
+    let mut found = false;
+    for cell in cells {
+        found |= cell.unsigned_abs() == key;
+    }
+    !found
+}
+
+/// A place up to which no tail is the key, from a place on and up to another, block by block.
+fn skip_others<M: CrackerMap>(it: &M, key: u64, from: usize, upto: usize) -> usize
+    requires within { upto ≤ pairs_in (M.held it.now) }
+    ensures behind { from ≤ result }
+    ensures others { LacksKey key (side_in Tail (M.held it.now)) from result }
+{
+    let mut block = [0; BLOCK];
+    let mut place = from;
+    while upto.saturating_sub(place) >= BLOCK {
+        it.read_tails(place, &mut block);
+        if !lack_key(&block, key) {
+            return place;
+        }
+        place += BLOCK;
+    }
+    place
+}
+
 /// A place, from one up to below another, whose tail is the key; one of them is.
 fn find_key<M: CrackerMap>(it: &M, key: u64, from: usize, upto: usize) -> usize
     requires within { upto ≤ pairs_in (M.held it.now) }
@@ -39,7 +72,7 @@ fn find_key<M: CrackerMap>(it: &M, key: u64, from: usize, upto: usize) -> usize
     ensures within { result < pairs_in (M.held it.now) }
     ensures found { unsigned_abs (slice_index_or (side_in Tail (M.held it.now)) result (pos 0)) ≡ key }
 {
-    for place in from..upto {
+    for place in skip_others(it, key, from, upto)..upto {
         if value_at(it, Side::Tail, place).unsigned_abs() == key {
             return place;
         }
