@@ -1,10 +1,10 @@
 #!/usr/bin/env bash
 # Times what the rules leave as the least work (floors.cpp) beside the program and the C++ peer, by turns over the same files; the replies of all are
 # compared. For each mix of calls it prints the medians of the heads' seconds, of the peer's calls and of the floor: by blocks without branches, by
-# AVX-512, by the peer's two cursors; by blocks where a key map grows in a merge, where maps ask for blocks of 1,024 cells, where a tape has no end, where
-# the threads of maps sleep in place of spinning, and where two threads make the calls by turns. Then the load of an attribute of texts beside that of
-# numbers, and the floor of one thread for both; the memory of a million entries; and, on four processors, visits of one lock by one thread and by four.
-# What follows the mixes is left out where mixes are named.
+# AVX-512, by the peer's two cursors; by blocks where a key map grows in a merge, where maps ask for blocks of 1,024 cells, where a tape has no end,
+# where the threads of maps sleep in place of spinning, where besides two maps are cracked together if a thread is not worth its start, and where two
+# threads make the calls by turns. Then the load of an attribute of texts beside that of numbers, and the floor of one thread for both; the memory of a
+# million entries; and, on four processors, visits of one lock by one thread and by four. What follows the mixes is left out where mixes are named.
 # Usage: bench/floors/measure.sh [ROWS [ROUNDS [MIX:CALLS..]]]
 set -euo pipefail
 . "$(dirname "$0")/../program.sh"
@@ -23,10 +23,10 @@ program, work, rounds, mix = sys.argv[1], sys.argv[2], int(sys.argv[3]), sys.arg
 files = [work + "/t.csv", work + "/s.txt"]
 ours, peer = [program, "run", "--table", files[0], "--script", files[1]], [work + "/peer", "crack", *files]
 ways = {"blocks": [], "wide": ["wide"], "cursors": ["cursors"], "grows": ["blocks", "grows"], "1,024": ["blocks", "1024"], "endless": ["blocks", "rules", "1000000000"],
-        "sleeps": ["blocks", "rules", "4096", "1", "1", "100000"], "turns of 1": ["blocks", "rules", "4096", "2", "1"],
+        "sleeps": ["blocks", "rules", "4096", "1", "1", "100000"], "sleeps, together": ["blocks", "together", "4096", "1", "1", "100000"], "turns of 1": ["blocks", "rules", "4096", "2", "1"],
         "turns of 8": ["blocks", "rules", "4096", "2", "8"]}
 if not mix.startswith("update"):
-    del ways["grows"], ways["1,024"], ways["sleeps"]
+    del ways["grows"], ways["1,024"], ways["sleeps"], ways["sleeps, together"]
 if not mix.startswith("count"):
     del ways["turns of 1"], ways["turns of 8"]
 def both(words):
