@@ -18,5 +18,5 @@ pub use laws::{
     steps_seen,
 };
 pub use mark::Mark;
-pub use partition::split;
+pub use partition::{split, split_twins};
 pub use removal::ripple_out;
