@@ -3,6 +3,7 @@ pub mod Layouts
 pub mod Finding
 pub mod Cracking
 pub mod Tables
+pub mod Together
 pub mod Parts
 pub mod Looks
 pub mod Shared

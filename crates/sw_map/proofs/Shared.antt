@@ -6,7 +6,7 @@ use Rattle.std.proofs.alloc.Global.TheSendSync.{the_sync as global_sync}
 use Rattle.std.proofs.vec.Vec.TheSendSync.{the_sync as vec_sync}
 use Rattle.sw_budget.proofs.Shared.{purse_sync, lease_sync}
 use Rattle.sw_kernel.specs.contracts.mark.Mark as Mark
-use Rattle.sw_map.specs.contracts.pairs.Lists as Lists
+use Rattle.sw_map.specs.contracts.lists.Lists as Lists
 use Rattle.sw_map.specs.contracts.pairs.Pairs as Pairs
 use Rattle.sw_map.specs.contracts.pairs.Pairs.TheInside as PairsInside
 use Rattle.sw_map.specs.contracts.active.Active as Active

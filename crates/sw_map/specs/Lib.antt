@@ -6,3 +6,4 @@ pub mod Pieces
 pub mod PairsCode
 pub mod States
 pub mod Laws
+pub mod Twins

@@ -3,15 +3,15 @@ use Rattle.std.specs.Prelude.{◌≡◌, ◌+◌, ◌≤◌, ℕ, Bool, true, fa
 use Rattle.sw_query.specs.declared.refusal.Refusal.{Refusal}
 use Rattle.sw_query.specs.declared.refusal.Refusal.TheVariants.{Contended, NoMemory, Short}
 use Rattle.sw_budget.specs.Account.{Account, Refused, asked, returned}
+use Rattle.sw_map.specs.declared.active.Active as active
 use Rattle.sw_map.specs.declared.home.Home.{Home}
 use Rattle.sw_map.specs.declared.home.Home.TheVariants.{Blank, Active}
 use Rattle.sw_map.specs.declared.home.Kept.{Kept}
 use Rattle.sw_map.specs.Held.{Held, blank}
 
--- what it holds; its cells are those that its lease holds
-abbrev pub held_by : Home → Held
-held_by (Blank idle) = blank
-held_by (Active a) = record {
+-- what a map in use holds; its cells are those that its lease holds
+abbrev pub held_in : active.Active → Held
+held_in a = record {
   is_blank = false;
   head = a.head;
   tail = a.tail;
@@ -19,6 +19,11 @@ held_by (Active a) = record {
   cursor = a.cursor;
   pairs = a.pairs.pieces;
 }
+
+-- what it holds
+abbrev pub held_by : Home → Held
+held_by (Blank idle) = blank
+held_by (Active a) = held_in a
 
 -- what it holds with what it kept and a lease of so many cells
 abbrev pub held_with : Kept → ℕ → Held

@@ -14,7 +14,7 @@ use sw_kernel::{Mark, end_before, split};
 use sw_query::Bound;
 
 /// Where the k-th piece begins.
-fn start_of(marks: &[Mark], k: usize) -> usize
+pub(crate) fn start_of(marks: &[Mark], k: usize) -> usize
     requires { k ≤ length marks.now }
     ensures { result ≡ start_at 0 marks.now k }
 {
@@ -52,7 +52,7 @@ fn part_lists(
 }
 
 /// Puts a mark in, for which there is room.
-fn put_mark(marks: &mut Vec<Mark>, k: usize, mark: Mark)
+pub(crate) fn put_mark(marks: &mut Vec<Mark>, k: usize, mark: Mark)
     requires room { vec_len marks.old < vec_capacity marks.old }
     requires place { k ≤ vec_len marks.old }
     ensures items { marks.new.items ≡ take k marks.old.items ++ mark ∷ drop k marks.old.items }

@@ -9,6 +9,7 @@ ghost use Rattle.sw_tape.specs.Entries.{step_of};
 ghost use Rattle.sw_tape.specs.declared.tape.TheConstants.{MAX_ENTRIES};
 ghost use Rattle.sw_map.specs.Held.{Held, blank, begun, after, pairs_in, place_of, tails_in, MayReplay, KeysFit};
 ghost use Rattle.sw_map.specs.Refusals.{HasBegunOr, HasGrownOr, HasReplayedOr};
+ghost use Rattle.sw_map.specs.Twins.{HaveSameHeads, MayStep};
 
 use crate::tail::Tail;
 use sw_query::{Bound, Refusal};
@@ -108,6 +109,27 @@ pub trait CrackerMap: Send + Drop {
         requires room { pairs_in (after (step_of entry.now) (held self.old)) ≤ (held self.old).cells }
         ensures replayed { HasReplayedOr result (step_of entry.now) (held self.old) (held self.new) }
         ensures stalled { OnErr result (stalls self.new (step_of entry.now)) };
+
+    /// Replays the next entry of the tape in this map and in another one, whose pairs have the same heads in the same pieces, in each as
+    /// `step` does; the first answer is of this map, the second of the other. A kind of map may compare the heads of one for both; by
+    /// default one steps after the other.
+    fn step_both(
+        &mut self,
+        twin: &mut Self,
+        entry: &Entry,
+    ) -> (Result<(), Refusal>, Result<(), Refusal>)
+    where
+        Self: Sized,
+        requires may { MayStep (step_of entry.now) (held self.old) × MayStep (step_of entry.now) (held twin.old) }
+        requires keys { KeysFit (step_of entry.now) }
+        requires same { HaveSameHeads (held self.old).pairs (held twin.old).pairs }
+        ensures replayed { HasReplayedOr result.0 (step_of entry.now) (held self.old) (held self.new) }
+        ensures stalled { OnErr result.0 (stalls self.new (step_of entry.now)) }
+        ensures twin_replayed { HasReplayedOr result.1 (step_of entry.now) (held twin.old) (held twin.new) }
+        ensures twin_stalled { OnErr result.1 (stalls twin.new (step_of entry.now)) }
+    {
+        (self.step(entry), twin.step(entry))
+    }
 
     /// Makes the map blank; its lease is given back, and all memory. It takes no memory.
     fn clear(&mut self)

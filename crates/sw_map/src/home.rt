@@ -6,7 +6,8 @@ ghost use Rattle.sw_map.specs.Refusals.{HasBegunOr, HasGrownOr};
 ghost use Rattle.sw_map.specs.States.{HasLeasedAnew, HasLeasedOr, IsBare, IsGivenBack, IsHome, cleared, held_by, held_with, seat_of};
 
 use crate::active::Active;
-use crate::pairs::{Lists, Pairs};
+use crate::lists::Lists;
+use crate::pairs::Pairs;
 use crate::tail::Tail;
 use std::alloc::Global;
 use sw_budget::{Lease, Purse};

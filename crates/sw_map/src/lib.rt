@@ -11,10 +11,12 @@ mod crack;
 mod cracker;
 mod home;
 mod laws;
+mod lists;
 mod pair_map;
 mod pairs;
 mod places;
 mod tail;
+mod twins;
 
 pub use boxes::push_blank;
 pub use cracker::CrackerMap;

@@ -1,9 +1,14 @@
 //! The map of the program.
 
-ghost use Rattle.std.specs.Prelude.{◌≡◌};
+ghost use Rattle.std.specs.Prelude.{◌≡◌, ◌<◌};
+ghost use Rattle.sw_kernel.specs.Replay.{ranged};
+ghost use Rattle.sw_tape.specs.declared.tape.TheConstants.{MAX_ENTRIES};
 ghost use Rattle.sw_map.specs.Held.{blank};
-ghost use Rattle.sw_map.specs.States.{seat_of};
+ghost use Rattle.sw_map.specs.Refusals.{HasReplayedOr};
+ghost use Rattle.sw_map.specs.States.{held_in, seat_of};
+ghost use Rattle.sw_map.specs.Twins.{HaveSameHeads};
 
+use crate::active::Active;
 use crate::cracker::CrackerMap;
 use crate::home::{Home, Idle, Plan};
 use crate::tail::Tail;
@@ -28,6 +33,26 @@ impl Drop for PairMap {
             home: _home,
         } = self;
     }
+}
+
+/// Replays a range in two maps whose pairs have the same heads in the same pieces. It is refused `NoMemory` alone, and then
+/// nothing has changed.
+fn range_both(
+    active: &mut Active,
+    twin: &mut Active,
+    lower: Option<Bound>,
+    upper: Option<Bound>,
+) -> Result<(), Refusal>
+    requires same { HaveSameHeads active.old.pairs.pieces twin.old.pairs.pieces }
+    requires early { (active.old.cursor < MAX_ENTRIES) × (twin.old.cursor < MAX_ENTRIES) }
+    ensures replayed { HasReplayedOr result (ranged lower upper) (held_in active.old) (held_in active.new) }
+    ensures twin_replayed { HasReplayedOr result (ranged lower upper) (held_in twin.old) (held_in twin.new) }
+    ensures seats { (active.new.lease ≡ active.old.lease) × (twin.new.lease ≡ twin.old.lease) }
+{
+    active.pairs.range_both(&mut twin.pairs, lower, upper)?;
+    active.cursor += 1;
+    twin.cursor += 1;
+    Ok(())
 }
 
 impl PairMap {
@@ -183,6 +208,24 @@ impl CrackerMap for PairMap {
                 Ok(())
             }
         }
+    }
+
+    /// At a range both are cracked by comparisons of this map's heads; then both are refused, or none.
+    fn step_both(
+        &mut self,
+        twin: &mut PairMap,
+        entry: &Entry,
+    ) -> (Result<(), Refusal>, Result<(), Refusal>) {
+        if let Entry::Range(lower, upper) = entry
+            && let Home::Active(active) = &mut self.home
+            && let Home::Active(other) = &mut twin.home
+        {
+            return match range_both(active, other, *lower, *upper) {
+                Ok(()) => (Ok(()), Ok(())),
+                Err(_) => (Err(Refusal::NoMemory), Err(Refusal::NoMemory)),
+            };
+        }
+        (self.step(entry), twin.step(entry))
     }
 
     /// Its lease, if it has one, is given back, once, and its lists.

@@ -1,6 +1,6 @@
 //! Pairs of head and tail as two flat lists and marks.
 
-ghost use Rattle.std.specs.Prelude.{◌≡◌, ◌+◌, ◌++◌, ◌<◌, ◌≤◌, ◌^◌, All, IsOk, MatchResult, length, map, pos, slice_index_or, slice_range, vec_capacity, vec_len, []};
+ghost use Rattle.std.specs.Prelude.{◌≡◌, ◌+◌, ◌++◌, ◌<◌, ◌≤◌, ◌^◌, All, IsOk, MatchResult, length, map, pos, slice_index_or, slice_range, vec_len, []};
 ghost use Rattle.sw_query.specs.declared.refusal.Refusal.TheVariants.{NoMemory};
 ghost use Rattle.sw_table.specs.declared.row.Row.{Row};
 ghost use Rattle.sw_table.specs.Packed.{HasRoomFor, IsSameRoom};
@@ -10,27 +10,25 @@ ghost use Rattle.sw_kernel.specs.Replay.{inserted, loaded, ranged, removed, show
 ghost use Rattle.sw_tape.specs.Entries.{step_of};
 ghost use Rattle.sw_map.specs.declared.tail.Tail.TheVariants.{Key};
 ghost use Rattle.sw_map.specs.Held.{KeysFit, pair_in, place_of, tail_value};
+ghost use Rattle.sw_map.specs.Twins.{HaveSameHeads};
 ghost use Rattle.sw_map.specs.Pieces.{HasPlace, HasRoomAfter, HasSteppedOr, TakesNoMemory, stepped};
 
 use crate::crack::crack_range;
+use crate::lists::{Lists, make_room};
 use crate::places::find_mark;
 use crate::tail::Tail;
+use crate::twins::crack_twins;
 use std::alloc::Global;
 use std::marker::Model;
 use sw_kernel::{Mark, ripple_in, ripple_out};
 use sw_query::{Bound, Refusal, Row};
 use sw_tape::{Entry, LoadRows};
 
-/// A list of values that grows gets room for one value in so many more than asked for. An allocator may have to move it, and
-/// then a list that was to grow again and again would be copied each time.
-const PART_TO_SPARE: usize = 64;
-
 /// Pairs of head and tail in pieces between bounds. Contracts see the pieces, and for how many pairs there is room; the lists
 /// have memory for as many or some more.
 #[derive(Drop)]
 pub struct Pairs {
-    head: Vec<i64>,
-    tail: Vec<i64>,
+    lists: Lists,
     marks: Vec<Mark>,
     room: usize,
 }
@@ -43,9 +41,9 @@ impl Model for Pairs {
 
     ghost coded = { table_code };
 
-    ghost view = { λ s. table_of s.head s.tail s.marks.items s.room };
+    ghost view = { λ s. table_of s.lists.head s.lists.tail s.marks.items s.room };
 
-    ghost invariant = { λ s. IsTable s.head s.tail s.marks.items s.room };
+    ghost invariant = { λ s. IsTable s.lists.head s.lists.tail s.marks.items s.room };
 }
 
 /// A row's cell of an attribute; 0 past the last.
@@ -103,43 +101,6 @@ fn append_pairs(heads: &mut Vec<i64>, tails: &mut Vec<i64>, head: u8, tail: Tail
     }
 }
 
-/// Makes room for so many values in all, and where there was less for some more, by the allocator's own reallocation. It is
-/// refused `NoMemory` alone, and then nothing has changed.
-fn make_room(values: &mut Vec<i64>, room: usize) -> Result<(), Refusal>
-    ensures items { values.new.items ≡ values.old.items }
-    ensures len { vec_len values.new ≡ vec_len values.old }
-    ensures ends { MatchResult result (λ _. room ≤ vec_capacity values.new) (λ e. e ≡ NoMemory) }
-{
-    if room <= values.capacity() {
-        return Ok(());
-    }
-    match values.reserve_exact(ample(room) - values.len()) {
-        Ok(()) => Ok(()),
-        Err(_) => Err(Refusal::NoMemory),
-    }
-}
-
-/// The lists of a map that was reset, for the next one. Contracts see nothing of them.
-#[derive(Drop)]
-pub struct Lists {
-    head: Vec<i64>,
-    tail: Vec<i64>,
-}
-
-/// How many values a list that grows to so many gets memory for: one in `PART_TO_SPARE` more.
-fn ample(room: usize) -> usize
-    ensures { room ≤ result }
-{
-    room.saturating_add(room / PART_TO_SPARE)
-}
-
-impl Lists {
-    /// Whether neither list has memory for more values than one that grows to so many gets.
-    fn suit(&self, room: usize) -> bool {
-        self.head.capacity() <= ample(room) && self.tail.capacity() <= ample(room)
-    }
-}
-
 impl Pairs {
     /// No pairs, and room for so many in head and tail, in the lists of an earlier map where these are not much longer. It
     /// is refused `NoMemory` alone, and then keeps no memory.
@@ -163,12 +124,11 @@ impl Pairs {
     fn in_lists(alloc: Global, room: usize, lists: Lists) -> Result<Pairs, Refusal>
         ensures { MatchResult result (λ p. p ≡ record { pieces = last []; room = room }) (λ e. e ≡ NoMemory) }
     {
-        let Lists { mut head, mut tail } = lists;
-        head.clear();
-        tail.clear();
+        let mut lists = lists;
+        lists.head.clear();
+        lists.tail.clear();
         let none = Pairs {
-            head,
-            tail,
+            lists,
             marks: Vec::new(alloc),
             room: 0,
         };
@@ -177,8 +137,8 @@ impl Pairs {
 
     /// Its lists, for the next map.
     pub(crate) fn into_lists(self) -> Lists {
-        let Pairs { head, tail, .. } = self;
-        Lists { head, tail }
+        let Pairs { lists, .. } = self;
+        lists
     }
 
     /// No pairs, and room for so many in head and tail. It is refused `NoMemory` alone, and then keeps no memory.
@@ -192,8 +152,7 @@ impl Pairs {
             return Err(Refusal::NoMemory);
         };
         Ok(Pairs {
-            head,
-            tail,
+            lists: Lists { head, tail },
             marks: Vec::new(alloc),
             room,
         })
@@ -205,26 +164,20 @@ impl Pairs {
         ensures { MatchResult result (λ p. p ≡ record self { room = room }) (λ e. e ≡ NoMemory) }
     {
         let Pairs {
-            mut head,
-            mut tail,
+            mut lists,
             marks,
             ..
         } = self;
-        make_room(&mut head, room)?;
-        make_room(&mut tail, room)?;
-        Ok(Pairs {
-            head,
-            tail,
-            marks,
-            room,
-        })
+        make_room(&mut lists.head, room)?;
+        make_room(&mut lists.tail, room)?;
+        Ok(Pairs { lists, marks, room })
     }
 
     /// The number of pairs.
     pub(crate) fn len(&self) -> usize
         ensures { result ≡ length (joined self.now.pieces) }
     {
-        self.head.len()
+        self.lists.head.len()
     }
 
     /// For how many pairs there is room.
@@ -239,7 +192,7 @@ impl Pairs {
         requires { place < length (joined self.now.pieces) }
         ensures { result ≡ (slice_index_or (joined self.now.pieces) place (pos 0, pos 0)).0 }
     {
-        value_at(&self.head, place)
+        value_at(&self.lists.head, place)
     }
 
     /// The tail of the pair at a place.
@@ -247,7 +200,7 @@ impl Pairs {
         requires { place < length (joined self.now.pieces) }
         ensures { result ≡ (slice_index_or (joined self.now.pieces) place (pos 0, pos 0)).1 }
     {
-        value_at(&self.tail, place)
+        value_at(&self.lists.tail, place)
     }
 
     /// Copies the tails from a place on into a slice, as many as it has.
@@ -255,7 +208,7 @@ impl Pairs {
         requires { place + length tails.old ≤ length (joined self.now.pieces) }
         ensures { tails.new ≡ slice_range (map (λ p. p.1) (joined self.now.pieces)) place (place + length tails.old) }
     {
-        copy_part(&self.tail, place, tails);
+        copy_part(&self.lists.tail, place, tails);
     }
 
     /// How many pairs stand before the bound, if it is one of those between the pieces.
@@ -271,7 +224,7 @@ impl Pairs {
         requires keys { All (λ (r : Row). r.key < 2 ^ 63) rows.now.items }
         ensures { self.new ≡ stepped (loaded (map (pair_in head tail) rows.now.items)) self.old }
     {
-        append_pairs(&mut self.head, &mut self.tail, head, tail, rows);
+        append_pairs(&mut self.lists.head, &mut self.lists.tail, head, tail, rows);
     }
 
     /// Puts a pair at the end of its piece. It takes no memory.
@@ -279,7 +232,13 @@ impl Pairs {
         requires { length (joined self.old.pieces) < self.old.room }
         ensures { self.new ≡ stepped (inserted (head, tail)) self.old }
     {
-        ripple_in(&mut self.head, &mut self.tail, &mut self.marks, head, tail);
+        ripple_in(
+            &mut self.lists.head,
+            &mut self.lists.tail,
+            &mut self.marks,
+            head,
+            tail,
+        );
     }
 
     /// Takes the pair at a place out. It takes no memory.
@@ -287,7 +246,12 @@ impl Pairs {
         requires { place < length (joined self.old.pieces) }
         ensures { self.new ≡ stepped (removed place) self.old }
     {
-        ripple_out(&mut self.head, &mut self.tail, &mut self.marks, place);
+        ripple_out(
+            &mut self.lists.head,
+            &mut self.lists.tail,
+            &mut self.marks,
+            place,
+        );
     }
 
     /// Cracks at two bounds, where they are there. It is refused `NoMemory` alone, before anything is changed.
@@ -302,10 +266,42 @@ impl Pairs {
             return Err(Refusal::NoMemory);
         }
         crack_range(
-            &mut self.head,
-            &mut self.tail,
+            &mut self.lists.head,
+            &mut self.lists.tail,
             &mut self.marks,
             lower,
+            upper,
+        );
+        Ok(())
+    }
+
+    /// Cracks these pairs and others, whose heads are the same in the same pieces, at two bounds, where they are there, by comparisons
+    /// of these heads alone. It is refused `NoMemory` alone, before anything is changed.
+    pub(crate) fn range_both(
+        &mut self,
+        twin: &mut Pairs,
+        lower: Option<Bound>,
+        upper: Option<Bound>,
+    ) -> Result<(), Refusal>
+        requires { HaveSameHeads self.old.pieces twin.old.pieces }
+        ensures steps { HasSteppedOr result (ranged lower upper) self.old self.new }
+        ensures twin_steps { HasSteppedOr result (ranged lower upper) twin.old twin.new }
+    {
+        if self.marks.reserve(2).is_err() || twin.marks.reserve(2).is_err() {
+            return Err(Refusal::NoMemory);
+        }
+        crack_twins(
+            &mut self.lists,
+            &mut twin.lists,
+            &mut self.marks,
+            &mut twin.marks,
+            lower,
+        );
+        crack_twins(
+            &mut self.lists,
+            &mut twin.lists,
+            &mut self.marks,
+            &mut twin.marks,
             upper,
         );
         Ok(())

@@ -9,9 +9,9 @@ use Rattle.sw_map.proofs.pairs.Pairs.find.Goals as goal
 pub returns : goal.returns
 returns c =
     let s = c.self.inside in let i = c.self.invariant in
-    let hs = s.head.items in let ts = s.tail.items in let ms = s.marks.items in
-    let ln : length hs ≡ s.head.len = search rules in
-    let lt : length ts ≡ s.tail.len = search rules in
+    let hs = s.lists.head.items in let ts = s.lists.tail.items in let ms = s.marks.items in
+    let ln : length hs ≡ s.lists.head.len = search rules in
+    let lt : length ts ≡ s.lists.tail.len = search rules in
     let same : length hs ≡ length ts = omega (arith, i.lengths) in
     let o : InOrder 0 (length (zip hs ts)) ms = subst (λ (j : ℕ). InOrder 0 j ms) (sym (zip-long hs ts same ∙ ln)) i.order in
     let r : c.find_mark.result ≡ mark_of c.args.bound ms = search rules in

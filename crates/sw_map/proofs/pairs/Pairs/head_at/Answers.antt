@@ -10,9 +10,9 @@ use Rattle.sw_map.proofs.pairs.Pairs.head_at.Goals as goal
 pub value_at-requires : goal.value_at-requires
 value_at-requires c =
     let s = c.self.inside in let i = c.self.invariant in
-    let hs = s.head.items in let ts = s.tail.items in
-    let ln : length hs ≡ s.head.len = search rules in
-    let lt : length ts ≡ s.tail.len = search rules in
+    let hs = s.lists.head.items in let ts = s.lists.tail.items in
+    let ln : length hs ≡ s.lists.head.len = search rules in
+    let lt : length ts ≡ s.lists.tail.len = search rules in
     let same : length hs ≡ length ts = omega (arith, i.lengths) in
     let long = ap (λ (t : Table). length (joined t.pieces)) (sym c.self.view_is) ∙ table-length hs ts s.marks.items same in
     let within = c.requires in
@@ -21,9 +21,9 @@ value_at-requires c =
 pub returns : goal.returns
 returns c =
     let s = c.self.inside in let i = c.self.invariant in
-    let hs = s.head.items in let ts = s.tail.items in
-    let ln : length hs ≡ s.head.len = search rules in
-    let lt : length ts ≡ s.tail.len = search rules in
+    let hs = s.lists.head.items in let ts = s.lists.tail.items in
+    let ln : length hs ≡ s.lists.head.len = search rules in
+    let lt : length ts ≡ s.lists.tail.len = search rules in
     let same : length hs ≡ length ts = omega (arith, i.lengths) in
     let long = ap (λ (t : Table). length (joined t.pieces)) (sym c.self.view_is) ∙ table-length hs ts s.marks.items same in
     let within = c.requires in

@@ -18,9 +18,9 @@ use Rattle.sw_map.proofs.pairs.Pairs.insert.Goals as goal
 pub ripple_in-requires-clause-room : goal.ripple_in-requires-clause-room
 ripple_in-requires-clause-room c =
     let s = c.self.inside in let i = c.self.invariant in
-    let hs = s.head.items in let ts = s.tail.items in
-    let ln : length hs ≡ s.head.len = search rules in
-    let lt : length ts ≡ s.tail.len = search rules in
+    let hs = s.lists.head.items in let ts = s.lists.tail.items in
+    let ln : length hs ≡ s.lists.head.len = search rules in
+    let lt : length ts ≡ s.lists.tail.len = search rules in
     let same : length hs ≡ length ts = omega (arith, i.lengths) in
     let long = table-length hs ts s.marks.items same in
     let long' = ap (λ (t : Table). length (joined t.pieces)) (sym c.self.view_is) in
@@ -31,18 +31,18 @@ ripple_in-requires-clause-room c =
 pub invariant_of-self : goal.invariant_of-self
 invariant_of-self c =
     let s = c.self.inside in let i = c.self.invariant in
-    let hs = s.head.items in let ts = s.tail.items in let ms = s.marks.items in
+    let hs = s.lists.head.items in let ts = s.lists.tail.items in let ms = s.marks.items in
     let zs : List (ℤ × ℤ) = zip hs ts in
     let r = c.ripple_in.new in
     let zs' : List (ℤ × ℤ) = zip r.head.items r.tail.items in
-    let ln : length hs ≡ s.head.len = search rules in
-    let lt : length ts ≡ s.tail.len = search rules in
+    let ln : length hs ≡ s.lists.head.len = search rules in
+    let lt : length ts ≡ s.lists.tail.len = search rules in
     let ln' : length r.head.items ≡ r.head.len = search rules in
     let lt' : length r.tail.items ≡ r.tail.len = search rules in
     let same : length hs ≡ length ts = omega (arith, i.lengths) in
     let e0 : r.head.len ≡ r.tail.len = omega (arith, i.lengths, c.ripple_in.ensures.lengths.0, c.ripple_in.ensures.lengths.1) in
     let same' : length r.head.items ≡ length r.tail.items = omega (arith, e0) in
-    let lz : length zs ≡ s.head.len = zip-long hs ts same ∙ ln in
+    let lz : length zs ≡ s.lists.head.len = zip-long hs ts same ∙ ln in
     let lz' : length zs' ≡ r.head.len = zip-long r.head.items r.tail.items same' ∙ ln' in
     let o : InOrder 0 (length zs) ms = subst (λ (j : ℕ). InOrder 0 j ms) (sym lz) i.order in
     let vm : c.deref_mut.result.now ≡ ms = search rules in
@@ -66,18 +66,18 @@ invariant_of-self c =
 pub returns : goal.returns
 returns c =
     let s = c.self.inside in let i = c.self.invariant in
-    let hs = s.head.items in let ts = s.tail.items in let ms = s.marks.items in
+    let hs = s.lists.head.items in let ts = s.lists.tail.items in let ms = s.marks.items in
     let zs : List (ℤ × ℤ) = zip hs ts in
     let r = c.ripple_in.new in
     let zs' : List (ℤ × ℤ) = zip r.head.items r.tail.items in
-    let ln : length hs ≡ s.head.len = search rules in
-    let lt : length ts ≡ s.tail.len = search rules in
+    let ln : length hs ≡ s.lists.head.len = search rules in
+    let lt : length ts ≡ s.lists.tail.len = search rules in
     let ln' : length r.head.items ≡ r.head.len = search rules in
     let lt' : length r.tail.items ≡ r.tail.len = search rules in
     let same : length hs ≡ length ts = omega (arith, i.lengths) in
     let e0 : r.head.len ≡ r.tail.len = omega (arith, i.lengths, c.ripple_in.ensures.lengths.0, c.ripple_in.ensures.lengths.1) in
     let same' : length r.head.items ≡ length r.tail.items = omega (arith, e0) in
-    let lz : length zs ≡ s.head.len = zip-long hs ts same ∙ ln in
+    let lz : length zs ≡ s.lists.head.len = zip-long hs ts same ∙ ln in
     let lz' : length zs' ≡ r.head.len = zip-long r.head.items r.tail.items same' ∙ ln' in
     let o : InOrder 0 (length zs) ms = subst (λ (j : ℕ). InOrder 0 j ms) (sym lz) i.order in
     let vm : c.deref_mut.result.now ≡ ms = search rules in

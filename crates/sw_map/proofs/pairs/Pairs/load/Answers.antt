@@ -11,9 +11,9 @@ use Rattle.sw_map.proofs.pairs.Pairs.load.Goals as goal
 pub append_pairs-requires-clause-heads : goal.append_pairs-requires-clause-heads
 append_pairs-requires-clause-heads c =
     let s = c.self.inside in let i = c.self.invariant in
-    let hs = s.head.items in let ts = s.tail.items in
-    let ln : length hs ≡ s.head.len = search rules in
-    let lt : length ts ≡ s.tail.len = search rules in
+    let hs = s.lists.head.items in let ts = s.lists.tail.items in
+    let ln : length hs ≡ s.lists.head.len = search rules in
+    let lt : length ts ≡ s.lists.tail.len = search rules in
     let same : length hs ≡ length ts = omega (arith, i.lengths) in
     let long = table-length hs ts s.marks.items same in
     let long' = ap (λ (t : Table). length (joined t.pieces)) (sym c.self.view_is) in
@@ -23,9 +23,9 @@ append_pairs-requires-clause-heads c =
 pub append_pairs-requires-clause-tails : goal.append_pairs-requires-clause-tails
 append_pairs-requires-clause-tails c =
     let s = c.self.inside in let i = c.self.invariant in
-    let hs = s.head.items in let ts = s.tail.items in
-    let ln : length hs ≡ s.head.len = search rules in
-    let lt : length ts ≡ s.tail.len = search rules in
+    let hs = s.lists.head.items in let ts = s.lists.tail.items in
+    let ln : length hs ≡ s.lists.head.len = search rules in
+    let lt : length ts ≡ s.lists.tail.len = search rules in
     let same : length hs ≡ length ts = omega (arith, i.lengths) in
     let long = table-length hs ts s.marks.items same in
     let long' = ap (λ (t : Table). length (joined t.pieces)) (sym c.self.view_is) in
@@ -38,7 +38,7 @@ invariant_of-self c =
     let made = c.append_pairs.ensures in
     record {
       lengths = omega (arith, i.lengths, made.more_heads, made.more_tails);
-      order = order-longer 0 s.head.len c.append_pairs.new.heads.len s.marks.items (omega (arith, made.more_heads)) i.order;
+      order = order-longer 0 s.lists.head.len c.append_pairs.new.heads.len s.marks.items (omega (arith, made.more_heads)) i.order;
       rising = i.rising;
       heads = omega (arith, i.heads, made.room.0);
       tails = omega (arith, i.tails, made.room.1);
@@ -47,9 +47,9 @@ invariant_of-self c =
 pub returns : goal.returns
 returns c =
     let s = c.self.inside in let i = c.self.invariant in
-    let hs = s.head.items in let ts = s.tail.items in let ms = s.marks.items in
-    let ln : length hs ≡ s.head.len = search rules in
-    let lt : length ts ≡ s.tail.len = search rules in
+    let hs = s.lists.head.items in let ts = s.lists.tail.items in let ms = s.marks.items in
+    let ln : length hs ≡ s.lists.head.len = search rules in
+    let lt : length ts ≡ s.lists.tail.len = search rules in
     let same : length hs ≡ length ts = omega (arith, i.lengths) in
     let o : InOrder 0 (length hs) ms = subst (λ (j : ℕ). InOrder 0 j ms) (sym ln) i.order in
     let rows = c.args.rows.now.items in
