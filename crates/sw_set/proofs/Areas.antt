@@ -16,4 +16,5 @@ pub mod Shelves
 pub mod Sums
 pub mod Swaps
 pub mod Ties
+pub mod Twins
 pub mod Views

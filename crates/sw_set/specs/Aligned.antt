@@ -1,10 +1,10 @@
 -- How far maps stand along a tape, and what stepping makes of them.
-use Rattle.std.specs.Prelude.{◌≡◌, ◌<◌, ◌≤◌, ℕ, false, List, length, slice_index_or, All, Contains}
+use Rattle.std.specs.Prelude.{◌≡◌, ◌<◌, ◌≤◌, ℕ, Bool, true, false, List, length, slice_index_or, All, Contains}
 use Rattle.sw_table.specs.declared.row.Row.{Row}
 use Rattle.sw_kernel.specs.Replay.{Step}
 use Rattle.sw_kernel.specs.Tapes.{peak_from}
 use Rattle.sw_map.specs.declared.tail.Tail.{Tail}
-use Rattle.sw_map.specs.Held.{Held, KeysFit}
+use Rattle.sw_map.specs.Held.{Held, KeysFit, after}
 use Rattle.sw_map.specs.Lawful.{IsLawful}
 
 -- the same map, at perhaps another cursor
@@ -34,6 +34,11 @@ MayBeAligned a tape tails m =
 -- the same map, which is lawful, at perhaps another cursor
 abbrev pub IsSteppedFrom : ℕ → List (Step Row) → Held → Held → Type 0
 IsSteppedFrom a tape m n = IsLawful a tape n × IsSameMap m n
+
+-- a map m replayed an entry, where it is said so; otherwise it is as it was
+abbrev pub HasSteppedIf : Bool → Step Row → Held → Held → Type 0
+HasSteppedIf true e m n = n ≡ after e m
+HasSteppedIf false e m n = n ≡ m
 
 -- a map was refused a step over an entry of the tape; what is known of that each kind of map says
 abbrev pub IsStalled : {M : Type 0} → (M → Step Row → Type 0) → List (Step Row) → Type 0

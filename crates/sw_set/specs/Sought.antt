@@ -99,6 +99,16 @@ abbrev pub AllAtCursor : {X : Type 0} → (X → Held) → ℕ → List Tail →
 AllAtCursor {X} held from tails end xs =
     (k : ℕ) (d : X) → from ≤ k → k < length xs → IsAtCursor tails end (held (slice_index_or xs k d))
 
+-- the box has a needed map, which lacks entries of a tape of this length
+abbrev pub LacksEntries : List Tail → ℕ → Held → Type 0
+LacksEntries tails end m = IsNeeded tails m × (m.cursor ≢ end)
+
+-- the place of a box that lacks entries so is found, not before another place; or those from that place on lack none
+abbrev pub FindsLacking : {X : Type 0} → Option ℕ → (X → Held) → ℕ → List Tail → ℕ → List X → Type 0
+FindsLacking {X} found held from tails end xs =
+    MatchOption found (AllAtCursor held from tails end xs)
+    (λ k. (from ≤ k) × IsAt (λ (x : X). LacksEntries tails end (held x)) xs k)
+
 -- the map in the box at a place reached the end; or it had entries to replay
 abbrev pub HasReachedOr : {A : Type 0} → Result A Refusal → ℕ → ℕ → List Held → List Held → Type 0
 HasReachedOr r at end ms ns =

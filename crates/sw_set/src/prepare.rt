@@ -20,6 +20,7 @@ pub(crate) mod in_turn;
 pub(crate) mod lacking;
 pub(crate) mod making;
 pub(crate) mod needs;
+pub(crate) mod twins;
 
 use crate::area::Area;
 use crate::area::ready::Ready;

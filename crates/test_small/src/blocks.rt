@@ -3,7 +3,7 @@
 ghost use Rattle.std.specs.Prelude.{◌≡◌, IfOk, length, vec_len};
 
 use std::alloc::{AllocError, Global};
-use sw_kernel::split;
+use sw_kernel::{split, split_twins};
 use sw_rows::Bound;
 
 /// The partition by two cursors that meet, one exchange at a time.
@@ -107,6 +107,26 @@ fn agrees(columns: &(Vec<i64>, Vec<i64>), bound: Bound) -> Result<bool, AllocErr
     Ok(left == plain_left && head == plain_head && tail == plain_tail)
 }
 
+/// Parts two copies of the columns together and one alone, by blocks, and says whether every byte agrees.
+fn twins_agree(columns: &(Vec<i64>, Vec<i64>), bound: Bound) -> Result<bool, AllocError>
+    requires { vec_len columns.now.0 ≡ vec_len columns.now.1 }
+{
+    let (head, tail) = columns;
+    let (mut head, mut tail) = (head.clone()?, tail.clone()?);
+    let (mut one_head, mut one_tail) = (head.clone()?, tail.clone()?);
+    let (mut twin_head, mut twin_tail) = (head.clone()?, tail.clone()?);
+    let left = split(&mut head, &mut tail, bound);
+    let both = split_twins(
+        &mut one_head,
+        &mut one_tail,
+        &mut twin_head,
+        &mut twin_tail,
+        bound,
+    );
+    let one = one_head == head && one_tail == tail;
+    Ok(left == both && one && twin_head == head && twin_tail == tail)
+}
+
 /// Bounds that part such heads in different places.
 fn bounds(heads: Heads, size: u32) -> [i64; 3] {
     match heads {
@@ -124,7 +144,9 @@ fn all_agree(alloc: Global, heads: Heads, size: u32) -> Result<bool, AllocError>
     for value in bounds(heads, size) {
         let before = agrees(&columns, Bound::Before(value))?;
         let after = agrees(&columns, Bound::After(value))?;
-        if !(before && after) {
+        // (two together at every fifth size, which leaves each rest of a block)
+        let twins = size % 5 != 0 || twins_agree(&columns, Bound::Before(value))?;
+        if !(before && after && twins) {
             return Ok(false);
         }
     }

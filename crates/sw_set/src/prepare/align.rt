@@ -1,6 +1,6 @@
 //! Alignment: maps replay the tape up to its end.
 
-ghost use Rattle.std.specs.Prelude.{◌≡◌, ◌<◌, ◌≤◌, ◌↔◌, false, length, All, Contains, IsTrue, OnErr};
+ghost use Rattle.std.specs.Prelude.{◌≡◌, ◌<◌, ◌≤◌, ◌↔◌, false, length, min, All, Contains, IsTrue, OnErr};
 ghost use Rattle.sw_table.specs.declared.row.Row.{Row};
 ghost use Rattle.sw_kernel.specs.Replay.{Step};
 ghost use Rattle.sw_kernel.specs.Tapes.{IsTape, peak_from};
@@ -14,9 +14,29 @@ use sw_map::{CrackerMap, Tail};
 use sw_query::Refusal;
 use sw_tape::Tape;
 
+/// Steps a map that lags behind a cursor up to it, or to the end of the tape, if that comes first. Refused `NoMemory`, it had
+/// entries to replay, and stands at the cursor that it reached.
+#[tactic(auto, using(crate::proofs::Areas::Boxes::stalled_at))]
+pub(crate) fn step_upto<M: CrackerMap>(it: &mut M, tape: &Tape, upto: usize) -> Result<(), Refusal>
+    requires aligned { IsAligned (M.held it.old).head tape.now (M.held it.old) }
+    requires keys { All (λ (e : Step Row). KeysFit e) tape.now }
+    requires room { peak_from 0 tape.now ≤ (M.held it.old).cells }
+    ensures aligned { IsAligned (M.held it.old).head tape.now (M.held it.new) }
+    ensures same { IsSameMap (M.held it.old) (M.held it.new) }
+    ensures ends { MemoryAside result (λ _. min upto (length tape.now) ≤ (M.held it.new).cursor) }
+    ensures behind { OnErr result ((M.held it.old).cursor < length tape.now) }
+    ensures stalled { OnErr result (IsStalled M.stalls tape.now) }
+{
+    for i in it.cursor()..upto.min(tape.len()) {
+        if let Some(entry) = tape.get(i) {
+            it.step(entry)?;
+        }
+    }
+    Ok(())
+}
+
 /// Steps a map to the end of the tape. Refused `NoMemory`, it had entries to replay, and stands at the cursor that it
 /// reached.
-#[tactic(auto, using(crate::proofs::Areas::Boxes::stalled_at))]
 pub(crate) fn align_map<M: CrackerMap>(it: &mut M, tape: &Tape) -> Result<(), Refusal>
     requires aligned { IsAligned (M.held it.old).head tape.now (M.held it.old) }
     requires keys { All (λ (e : Step Row). KeysFit e) tape.now }
@@ -27,12 +47,7 @@ pub(crate) fn align_map<M: CrackerMap>(it: &mut M, tape: &Tape) -> Result<(), Re
     ensures behind { OnErr result ((M.held it.old).cursor < length tape.now) }
     ensures stalled { OnErr result (IsStalled M.stalls tape.now) }
 {
-    for i in it.cursor()..tape.len() {
-        if let Some(entry) = tape.get(i) {
-            it.step(entry)?;
-        }
-    }
-    Ok(())
+    step_upto(it, tape, tape.len())
 }
 
 /// Whether a tail is among those that are needed.

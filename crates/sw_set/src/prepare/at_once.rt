@@ -1,24 +1,25 @@
 //! Alignment of several maps at once.
 
-ghost use Rattle.std.specs.Prelude.{◌≡◌, ◌≤◌, false, length, map, All, MatchOption, IfSome};
+ghost use Rattle.std.specs.Prelude.{◌≡◌, ◌≤◌, length, map, All, IfSome};
 ghost use Rattle.sw_table.specs.declared.row.Row.{Row};
 ghost use Rattle.sw_kernel.specs.Replay.{Step};
 ghost use Rattle.sw_map.specs.Held.{KeysFit};
 ghost use Rattle.sw_map.specs.Lawful.{IsLawful};
 ghost use Rattle.sw_set.specs.Aligned.{AreSameMaps, HasRoomWhereNeeded, IsAtEnd, IsSteppedFrom, KeepMaps, MayBeAligned};
 ghost use Rattle.sw_query.specs.Outcomes.{MemoryAside};
-ghost use Rattle.sw_set.specs.Sought.{AllAtCursor, IsAtCursor, IsBetween};
+ghost use Rattle.sw_set.specs.Sought.{IsBetween};
 
-use crate::prepare::align::{align_box, is_needed};
-use crate::prepare::lacking::lacks_much;
+use crate::prepare::align::align_box;
+use crate::prepare::in_turn::step_in_turn;
+use crate::prepare::lacking::{find_lacking, lacks, lacks_much};
 use std::thread;
 use std::thread::Threads;
 use sw_map::{CrackerMap, Tail};
 use sw_query::Refusal;
 use sw_tape::Tape;
 
-/// Steps the first boxes at once, each towards the tape's end, after the others one by one; a single one is stepped by
-/// the caller. A box whose step is refused stops at the cursor that it reached, and the others go on.
+/// Steps the first boxes at once, each towards the tape's end, after the others in turn; a single one is stepped by the
+/// caller. A box whose step is refused stops at the cursor that it reached, and the others go on.
 fn step_first<R: Threads + Sync, M: CrackerMap>(
     rt: &R,
     attribute: u8,
@@ -36,38 +37,14 @@ fn step_first<R: Threads + Sync, M: CrackerMap>(
     ensures same { KeepMaps M.held boxes.old boxes.new }
 {
     let (front, rest) = boxes.split_at_mut(many);
+    step_in_turn(attribute, rest, tails, tape);
     let step = |_: usize, it: &mut M|
         requires { MayBeAligned attribute tape.now tails.now (M.held it.now) }
         ensures { IsSteppedFrom attribute tape.entry.now (M.held it.entry.now) (M.held it.exit.now) }
     {
         let _ = align_box(attribute, it, tails, tape);
     };
-    thread::for_each_mut(rt, rest, 1, &step);
     thread::for_each_mut(rt, front, many.max(1), &step);
-}
-
-/// Whether a box has a needed map that lacks entries of a tape of this length.
-fn lacks<M: CrackerMap>(it: &M, tails: &[Tail], end: usize) -> bool
-    ensures { result ≡ false → IsAtCursor tails.now end (M.held it.now) }
-{
-    !it.is_blank() && is_needed(tails, it.tail()) && it.cursor() != end
-}
-
-/// The first box, from a place on, whose needed map lacks entries.
-pub(crate) fn find_lacking<M: CrackerMap>(
-    boxes: &[M],
-    from: usize,
-    tails: &[Tail],
-    end: usize,
-) -> Option<usize>
-    ensures { MatchOption result (AllAtCursor M.held from tails.now end boxes.now) (IsBetween from (length boxes.now)) }
-{
-    for at in from..boxes.len() {
-        if lacks(&boxes[at], tails, end) {
-            return Some(at);
-        }
-    }
-    None
 }
 
 /// The first box, from a place on, whose needed map lacks so much that a thread is worth its start.

@@ -1,22 +1,55 @@
 //! Alignment of several maps in turn: no thread is started, and none is linked.
 
-ghost use Rattle.std.specs.Prelude.{◌≡◌, length, map, All};
+ghost use Rattle.std.specs.Prelude.{◌≡◌, ◌<◌, ◌≤◌, length, map, All};
 ghost use Rattle.sw_table.specs.declared.row.Row.{Row};
 ghost use Rattle.sw_kernel.specs.Replay.{Step};
 ghost use Rattle.sw_map.specs.Held.{KeysFit};
 ghost use Rattle.sw_map.specs.Lawful.{IsLawful};
 ghost use Rattle.sw_set.specs.Aligned.{AreSameMaps, HasRoomWhereNeeded, IsAtEnd, KeepMaps};
 ghost use Rattle.sw_query.specs.Outcomes.{MemoryAside};
+ghost use Rattle.sw_set.specs.Sought.{IsAt, IsNeeded};
 
 use crate::prepare::align::align_box;
-use crate::prepare::at_once::find_lacking;
+use crate::prepare::lacking::find_lacking;
+use crate::prepare::twins::step_twins;
 use sw_map::{CrackerMap, Tail};
 use sw_query::Refusal;
 use sw_tape::Tape;
 
-/// Steps the boxes one by one, each towards the tape's end. A box whose step is refused stops at the cursor that it
-/// reached, and the others go on.
-fn step_in_turn<M: CrackerMap>(attribute: u8, boxes: &mut [M], tails: &[Tail], tape: &Tape)
+/// Steps the box at a place towards the tape's end, together with the next one that lacks entries, and answers the place behind
+/// both. A box whose step is refused stops at the cursor that it reached.
+fn step_next<M: CrackerMap>(
+    attribute: u8,
+    boxes: &mut [M],
+    at: usize,
+    tails: &[Tail],
+    tape: &Tape,
+) -> usize
+    requires lawful { All (λ m. IsLawful attribute tape.now (M.held m)) boxes.old }
+    requires keys { All (λ (e : Step Row). KeysFit e) tape.now }
+    requires room { All (λ m. HasRoomWhereNeeded tails.now tape.now (M.held m)) boxes.old }
+    requires needed { IsAt (λ m. IsNeeded tails.now (M.held m)) boxes.old at }
+    ensures lawful { All (λ m. IsLawful attribute tape.now (M.held m)) boxes.new }
+    ensures many { length boxes.new ≡ length boxes.old }
+    ensures same { KeepMaps M.held boxes.old boxes.new }
+    ensures behind { (at < result) × (result ≤ length boxes.old) }
+{
+    let Some(twin) = find_lacking(boxes, at + 1, tails, tape.len()) else {
+        let _ = align_box(attribute, &mut boxes[at], tails, tape);
+        return at + 1;
+    };
+    step_twins(attribute, boxes, at, twin, tails, tape);
+    twin + 1
+}
+
+/// Steps the boxes that lack entries towards the tape's end, two together, and a last one alone. A box whose step is refused
+/// stops at the cursor that it reached, and the others go on.
+pub(crate) fn step_in_turn<M: CrackerMap>(
+    attribute: u8,
+    boxes: &mut [M],
+    tails: &[Tail],
+    tape: &Tape,
+)
     requires lawful { All (λ m. IsLawful attribute tape.now (M.held m)) boxes.old }
     requires keys { All (λ (e : Step Row). KeysFit e) tape.now }
     requires room { All (λ m. HasRoomWhereNeeded tails.now tape.now (M.held m)) boxes.old }
@@ -24,8 +57,9 @@ fn step_in_turn<M: CrackerMap>(attribute: u8, boxes: &mut [M], tails: &[Tail], t
     ensures many { length boxes.new ≡ length boxes.old }
     ensures same { KeepMaps M.held boxes.old boxes.new }
 {
-    for at in 0..boxes.len() {
-        let _ = align_box(attribute, &mut boxes[at], tails, tape);
+    let mut from = 0;
+    'boxes: while let Some(at) = find_lacking(boxes, from, tails, tape.len()) {
+        from = step_next(attribute, boxes, at, tails, tape);
     }
 }
 

@@ -1,6 +1,11 @@
-//! How much work a map lacks. No contract speaks of it: it decides alone whether a thread is started.
+//! Which boxes lack entries of the tape, and how much work a map lacks. Of how much no contract speaks: it decides alone
+//! whether a thread is started.
 
-use sw_map::CrackerMap;
+ghost use Rattle.std.specs.Prelude.{◌≡◌, false, true};
+ghost use Rattle.sw_set.specs.Sought.{FindsLacking, IsAtCursor, LacksEntries};
+
+use crate::prepare::align::is_needed;
+use sw_map::{CrackerMap, Tail};
 use sw_query::Bound;
 use sw_tape::{Entry, Tape};
 
@@ -10,6 +15,31 @@ const WORTH: usize = 250_000;
 
 /// How many of the tape's bounds in a row are looked for in a map that may lack them.
 const NEAR: usize = 2;
+
+/// Whether a box has a needed map that lacks entries of a tape of this length.
+pub(crate) fn lacks<M: CrackerMap>(it: &M, tails: &[Tail], end: usize) -> bool
+    ensures lacking { result ≡ true → LacksEntries tails.now end (M.held it.now) }
+    ensures reached { result ≡ false → IsAtCursor tails.now end (M.held it.now) }
+{
+    !it.is_blank() && is_needed(tails, it.tail()) && it.cursor() != end
+}
+
+/// The first box, from a place on, whose needed map lacks entries.
+pub(crate) fn find_lacking<M: CrackerMap>(
+    boxes: &[M],
+    from: usize,
+    tails: &[Tail],
+    end: usize,
+) -> Option<usize>
+    ensures { FindsLacking result M.held from tails.now end boxes.now }
+{
+    for at in from..boxes.len() {
+        if lacks(&boxes[at], tails, end) {
+            return Some(at);
+        }
+    }
+    None
+}
 
 /// The nearest bound of the tape below a bound.
 fn below(tape: &Tape, bound: Bound) -> Option<Bound> {

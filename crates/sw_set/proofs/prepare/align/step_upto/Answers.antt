@@ -1,16 +1,16 @@
 use Rattle.std.proofs.Common.{arith}
-use Rattle.sw_set.proofs.prepare.align.align_map.Goals as goal
-use Rattle.sw_set.proofs.prepare.align.align_map.Goals.{in-Some+in_ok-step, in_default}
+use Rattle.sw_set.proofs.prepare.align.step_upto.Goals as goal
+use Rattle.sw_set.proofs.prepare.align.step_upto.Goals.{in-Some+in_ok-step, in_default}
 use Rattle.sw_set.proofs.Areas.Boxes.{way-more, step-next, step-room, step-keys}
 
 pub step-requires-clause-next : goal.step-requires-clause-next
-step-requires-clause-next g c = step-next c.args.tape.now c.loop-i.i _ _ _ c.len-i-end.ensures.tape c.in-Some.ensures c.loop-i.invariant
+step-requires-clause-next g c = step-next c.args.tape.now c.loop-i.i _ _ _ c.len.ensures.tape c.in-Some.ensures c.loop-i.invariant
 
 pub step-requires-clause-keys : goal.step-requires-clause-keys
 step-requires-clause-keys g c = step-keys c.args.tape.now c.loop-i.i _ c.requires.keys c.in-Some.ensures
 
 pub step-requires-clause-room : goal.step-requires-clause-room
-step-requires-clause-room g c = step-room c.args.tape.now c.loop-i.i _ _ _ c.len-i-end.ensures.tape c.in-Some.ensures c.requires.room c.loop-i.invariant
+step-requires-clause-room g c = step-room c.args.tape.now c.loop-i.i _ _ _ c.len.ensures.tape c.in-Some.ensures c.requires.room c.loop-i.invariant
 
 pub loop-i-preserved : goal.loop-i-preserved
 loop-i-preserved g c =
