@@ -9,11 +9,13 @@
 
 typedef size_t partition(int64_t *head, size_t n, int64_t *tail, size_t m, int64_t pivot);
 partition two_cursors, blocks, blocks_listed, proved_split;
+size_t proved_split_twins(int64_t *head, size_t n, int64_t *tail, size_t m, int64_t *twin_head, size_t o, int64_t *twin_tail, size_t p, int64_t pivot);
 
 static const struct { const char *name; partition *part; } all[] = {
   {"two_cursors", two_cursors}, {"blocks", blocks}, {"blocks_listed", blocks_listed}, {"proved", proved_split},
 };
-enum { COUNT = sizeof all / sizeof *all };
+enum { COUNT = sizeof all / sizeof *all, ALONE = COUNT, TOGETHER, ROWS };
+static const char *const twins[] = {"one_after_another", "together"};
 
 static double nanoseconds(void) {
   struct timespec t;
@@ -34,6 +36,14 @@ static uint64_t next(void) {
   return state;
 }
 
+static size_t alone(int64_t *h, int64_t *t, int64_t *g, int64_t *u, size_t piece, int64_t pivot) {
+  size_t left = proved_split(h, piece, t, piece, pivot);
+  return proved_split(g, piece, u, piece, pivot) == left ? left : (size_t)-1;
+}
+static size_t together(int64_t *h, int64_t *t, int64_t *g, int64_t *u, size_t piece, int64_t pivot) {
+  return proved_split_twins(h, piece, t, piece, g, piece, u, piece, pivot);
+}
+
 int main(int count, char **words) {
   if (count != 5) return 2;
   size_t n = strtoull(words[1], 0, 0), piece = strtoull(words[4], 0, 0);
@@ -48,7 +58,7 @@ int main(int count, char **words) {
     tail[i] = (int64_t)i;
   }
   int64_t pivot = (int64_t)(percent / 100.0 * 9.223372036854775807e18 - 4.611686018427387904e18);
-  double *times = calloc((size_t)(COUNT * repeats), sizeof *times);
+  double *times = calloc((size_t)(ROWS * repeats), sizeof *times);
   memcpy(want_h, head, bytes);
   memcpy(want_t, tail, bytes);
   size_t want = 0;
@@ -67,9 +77,24 @@ int main(int count, char **words) {
       }
     }
   }
-  for (int q = 0; q < COUNT; q++) {
+  // two pairs of lists with the same heads
+  int64_t *g = malloc(bytes), *u = malloc(bytes);
+  for (int r = 0; r < repeats; r++) {
+    for (int q = ALONE; q <= TOGETHER; q++) {
+      memcpy(h, head, bytes), memcpy(t, tail, bytes), memcpy(g, head, bytes), memcpy(u, tail, bytes);
+      size_t left = 0;
+      double before = nanoseconds();
+      for (size_t at = 0; at < n; at += piece) left += (q == ALONE ? alone : together)(h + at, t + at, g + at, u + at, piece, pivot);
+      times[q * repeats + r] = (nanoseconds() - before) / n;
+      if (left != want || memcmp(h, want_h, bytes) || memcmp(t, want_t, bytes) || memcmp(g, want_h, bytes) || memcmp(u, want_t, bytes)) {
+        printf("%s differs\n", twins[q - ALONE]);
+        wrong = 1;
+      }
+    }
+  }
+  for (int q = 0; q < ROWS; q++) {
     qsort(times + q * repeats, repeats, sizeof *times, by_value);
-    printf("%zu %zu %g %s %.4f %.4f\n", n, piece, percent, all[q].name, times[q * repeats], times[q * repeats + repeats / 2]);
+    printf("%zu %zu %g %s %.4f %.4f\n", n, piece, percent, q < COUNT ? all[q].name : twins[q - ALONE], times[q * repeats], times[q * repeats + repeats / 2]);
   }
   return wrong;
 }

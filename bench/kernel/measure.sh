@@ -5,7 +5,8 @@
 #
 # Copies sw_table, sw_query and sw_kernel with a static library of its own into a folder under TMPDIR, proves and builds them there,
 # builds the C with the kit's clang at the flags that the kit compiles with, runs all by turns on the same pairs REPEATS
-# times (by default 9), compares every byte, and prints the least nanoseconds a pair, with the two ratios that matter.
+# times (by default 9), compares every byte, and prints the least nanoseconds a pair, with the ratios that matter, and of two pairs of lists with the
+# same heads that of parting both together to one after the other.
 # Nothing of the repository is written.
 set -euo pipefail
 repeats=${1:-9}
@@ -35,9 +36,9 @@ least = {}
 for line in open(sys.argv[1]):
     pairs, piece, share, name, low, _ = line.split()
     least.setdefault((int(pairs), int(piece), float(share)), {})[name] = float(low)
-print(f"{'pairs':>10} {'piece':>10} {'% left':>6} {'two cursors':>12} {'blocks':>8} {'listed':>8} {'proved':>8}   proved/blocks proved/listed proved/two cursors")
+print(f"{'pairs':>10} {'piece':>10} {'% left':>6} {'two cursors':>12} {'blocks':>8} {'listed':>8} {'proved':>8}   proved/blocks proved/listed proved/two cursors twins together")
 for (pairs, piece, share), t in least.items():
     p = t["proved"]
     print(f"{pairs:>10} {piece:>10} {share:>6g} {t['two_cursors']:>12.2f} {t['blocks']:>8.2f} {t['blocks_listed']:>8.2f} {p:>8.2f}   "
-          f"{p / t['blocks']:>13.2f} {p / t['blocks_listed']:>13.2f} {p / t['two_cursors']:>18.2f}")
+          f"{p / t['blocks']:>13.2f} {p / t['blocks_listed']:>13.2f} {p / t['two_cursors']:>18.2f} {t['together'] / t['one_after_another']:>14.2f}")
 END
