@@ -1,28 +1,21 @@
 //! Flags of rows.
 
-ghost use Rattle.std.specs.Prelude.{◌≡◌, ◌≤◌, ◌<◌, ◌+◌, ℕ, true, false, All, Bool, length, slice_index_or, MatchOption, IfOk};
+ghost use Rattle.std.specs.Prelude.{◌≡◌, ◌≤◌, ◌<◌, ◌+◌, ℕ, true, false, All, Bool, Decides, length, slice_index_or, MatchOption, IfOk};
 ghost use Rattle.sw_load.specs.Flags.{AreLive, IsNextGone};
 ghost use Rattle.sw_load.specs.Gone.{ArePlaces, flags_without};
 
 use std::alloc::{AllocError, Global};
 
-/// Whether all flags are true.
-pub(crate) fn are_all_live(live: &[bool]) -> bool
-    ensures { result ≡ true → All (λ (b : Bool). b ≡ true) live.now }
-{
-    live.iter().all(|is_live| *is_live)
-}
-
 /// How many flags are looked at together.
 const BLOCK: usize = 64;
 
-/// Whether all flags of a block are true.
-fn is_live_block(block: &[bool]) -> bool
-    ensures { result ≡ true → AreLive block.now 0 (length block.now) }
+/// Whether all flags are true.
+pub(crate) fn are_all_live(live: &[bool]) -> bool
+    ensures { Decides result (All (λ (b : Bool). b ≡ true) live.now) }
 {
     // goes on behind one that is false, so that many are looked at at once
     let mut all = true;
-    for is_live in block {
+    for is_live in live {
         all &= *is_live;
     }
     all
@@ -35,7 +28,7 @@ fn skip_live(live: &[bool], from: usize) -> usize
     ensures live { AreLive live.now from result }
 {
     let mut place = from;
-    while live.len() - place >= BLOCK && is_live_block(&live[place..place + BLOCK]) {
+    while live.len() - place >= BLOCK && are_all_live(&live[place..place + BLOCK]) {
         place += BLOCK;
     }
     place

@@ -1,6 +1,6 @@
 //! Rows as one flat list of cells.
 
-ghost use Rattle.std.specs.Prelude.{◌≡◌, ◌≤◌, ◌<◌, ◌*◌, ◌+◌, ◌^◌, ◌-◌, ◌++◌, ◌∷◌, [], ℕ, ℤ, pos, List, length, map, take, drop, slice_index_or, vec_len, All, Decides, IfOk, IsOk, MatchOption, OnOk, OnErr};
+ghost use Rattle.std.specs.Prelude.{◌≡◌, ◌≤◌, ◌<◌, ◌*◌, ◌+◌, ◌^◌, ◌-◌, ◌++◌, ◌∷◌, [], ℕ, ℤ, List, length, map, take, drop, slice_index_or, vec_len, All, Decides, IfOk, IsOk, MatchOption, OnOk, OnErr};
 ghost use Rattle.sw_table.specs.declared.row.Row.{Row};
 ghost use Rattle.sw_table.specs.Rows.{HasNoRow, IsRowAt, cell_of};
 ghost use Rattle.sw_table.specs.Exchanged.{with_exchanged};
@@ -251,22 +251,6 @@ impl PackedRows {
         let mut list = taken(out);
         for place in 0..self.len() {
             list.push_reserved(cell_in(cells, self.width, place, attr));
-        }
-        *out = list;
-        Ok(())
-    }
-
-    /// Adds each row's key, which fits a cell, at the end of a list; after an error the list is as it was.
-    pub fn append_keys(&self, out: &mut Vec<i64>) -> Result<(), AllocError>
-        requires { All (λ (r : Row). r.key < 2 ^ 63) self.now.items }
-        ensures ok { OnOk result (out.new.items ≡ out.old.items ++ map (λ (r : Row). pos r.key) self.now.items) }
-        ensures err { OnErr result (out.new.items ≡ out.old.items) }
-        ensures room { HasRoomFor (length self.now.items) out.old → IsOk result × IsSameRoom out.old out.new }
-    {
-        make_room(out, self.len())?;
-        let mut list = taken(out);
-        for place in 0..self.len() {
-            list.push_reserved(self.key(place) as i64);
         }
         *out = list;
         Ok(())

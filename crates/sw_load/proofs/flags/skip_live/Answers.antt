@@ -9,5 +9,5 @@ loop-place-preserved c =
     let end = c.loop-place.place + 64 in (
       omega (arith, before),
       omega (arith, within, room),
-      live-on c.args.live.now c.args.from c.loop-place.place end (omega (arith, within, room)) live (c.is_live_block.ensures c.if-is_live_block.true),
+      live-on c.args.live.now c.args.from c.loop-place.place end (omega (arith, within, room)) live (c.are_all_live.ensures.0 c.if-are_all_live.true),
     )
