@@ -13,7 +13,7 @@ use Rattle.sw_kernel.specs.Tapes.{IsRising}
 use Rattle.sw_kernel.proofs.Shown.{joined-shown, marks-shown}
 use Rattle.sw_map.specs.declared.lists.Lists.{Lists}
 use Rattle.sw_map.specs.Pieces.{AreCut, IsLaidOut, bounds_of, count_between, parted, pieces_between}
-use Rattle.sw_map.specs.Twins.{HaveSameHeads, IsCut}
+use Rattle.sw_map.specs.Twins.{HaveSameHeads, HasCut}
 use Rattle.sw_map.proofs.Cracking.{cracked, drop-rest, zip-written}
 use Rattle.sw_map.proofs.Layouts.{pieces-joined, pieces-marks, zip-long}
 
@@ -60,5 +60,5 @@ twins-are hs ts gs us ms ns e f o p same =
     )
 
 -- lists and marks that are what f makes of them stay as they are
-pub uncut : (f : Pairs → Pairs) (lists : Lists) (marks : Vec Mark) → AreCut f lists.head lists.tail marks lists.head lists.tail marks → IsCut f lists marks lists marks
+pub uncut : (f : Pairs → Pairs) (lists : Lists) (marks : Vec Mark) → AreCut f lists.head lists.tail marks lists.head lists.tail marks → HasCut f lists marks lists marks
 uncut f lists marks cut = record { cut = cut; size = record { heads = refl; tails = refl; head_room = refl; tail_room = refl }; more = omega arith; room = refl }

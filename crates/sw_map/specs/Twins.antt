@@ -1,4 +1,4 @@
--- Two maps that replay an entry together: their heads are the same, in the same pieces.
+-- Two maps whose heads are the same, in the same pieces: when they may replay an entry together, and what a cut makes of both.
 use Rattle.std.specs.Prelude.{◌≡◌, ◌<◌, ◌≤◌, ◌+◌, ℕ, false, vec_len, vec_capacity}
 use Rattle.std.specs.Global.{Vec}
 use Rattle.sw_query.specs.declared.bound.Bound.{Bound}
@@ -35,9 +35,9 @@ pub record AreTwins (lists : Lists) (marks : Vec Mark) (twin : Lists) (twin_mark
   pub same_heads : twin.head.items ≡ lists.head.items
   pub same_marks : twin_marks.items ≡ marks.items
 
--- so many marks may still come
-abbrev pub HasRoomForMarks : ℕ → Vec Mark → Type 0
-HasRoomForMarks many marks = vec_len marks + many ≤ vec_capacity marks
+-- one more mark may come
+abbrev pub HasRoomForMark : Vec Mark → Type 0
+HasRoomForMark marks = vec_len marks < vec_capacity marks
 
 -- the lists are as long as they were, and so is their memory
 pub record IsSameSize (old new : Lists) : Type 0 where
@@ -47,12 +47,12 @@ pub record IsSameSize (old new : Lists) : Type 0 where
   pub tail_room : KeepsRoom old.tail new.tail
 
 -- the pairs from s up to e are parted, and those that do not go left begin at `at`
-pub record IsParted (b : Bound) (s e : ℕ) (old new : Lists) (at : ℕ) : Type 0 where
+pub record HasParted (b : Bound) (s e : ℕ) (old new : Lists) (at : ℕ) : Type 0 where
   pub pairs : zipped new.head new.tail ≡ parted (goes_left head_of b) s e (zipped old.head old.tail)
   pub begins : at ≡ s + count_between (goes_left head_of b) s e (zipped old.head old.tail)
 
 -- lists and marks are what f makes of their pieces, with one mark more at most, and may be cut again
-pub record IsCut (f : Pairs → Pairs) (old : Lists) (old_marks : Vec Mark) (new : Lists) (new_marks : Vec Mark) : Type 0 where
+pub record HasCut (f : Pairs → Pairs) (old : Lists) (old_marks : Vec Mark) (new : Lists) (new_marks : Vec Mark) : Type 0 where
   pub cut : AreCut f old.head old.tail old_marks new.head new.tail new_marks
   pub size : IsSameSize old new
   pub more : vec_len new_marks ≤ vec_len old_marks + 1

@@ -210,7 +210,7 @@ impl CrackerMap for PairMap {
         }
     }
 
-    /// At a range both are cracked by comparisons of this map's heads; then both are refused, or none.
+    /// At a range both are cracked together, where there is memory for both.
     fn step_both(
         &mut self,
         twin: &mut PairMap,
@@ -220,11 +220,11 @@ impl CrackerMap for PairMap {
             && let Home::Active(active) = &mut self.home
             && let Home::Active(other) = &mut twin.home
         {
-            return match range_both(active, other, *lower, *upper) {
-                Ok(()) => (Ok(()), Ok(())),
-                Err(_) => (Err(Refusal::NoMemory), Err(Refusal::NoMemory)),
-            };
+            if range_both(active, other, *lower, *upper).is_ok() {
+                return (Ok(()), Ok(()));
+            }
         }
+        // also where memory was wanting: one of them may find it
         (self.step(entry), twin.step(entry))
     }
 

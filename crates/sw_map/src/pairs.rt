@@ -275,8 +275,8 @@ impl Pairs {
         Ok(())
     }
 
-    /// Cracks these pairs and others, whose heads are the same in the same pieces, at two bounds, where they are there, by comparisons
-    /// of these heads alone. It is refused `NoMemory` alone, before anything is changed.
+    /// Cracks these pairs and others, whose heads are the same in the same pieces, at two bounds, where they are there. It is
+    /// refused `NoMemory` alone, if there is none for one of them, before anything is changed.
     pub(crate) fn range_both(
         &mut self,
         twin: &mut Pairs,

@@ -1,11 +1,11 @@
-//! Cracks of two maps that have the same heads and the same marks, by comparisons of the heads of one.
+//! Cracks of two maps that have the same heads and the same marks: what goes left is looked for once.
 
 ghost use Rattle.std.specs.Prelude.{◌≡◌, ◌<◌, ◌≤◌, ◌+◌, vec_capacity, vec_len};
 ghost use Rattle.sw_kernel.specs.Partition.{head_of};
 ghost use Rattle.sw_kernel.specs.Arrangement.{crack};
 ghost use Rattle.sw_kernel.specs.Replay.{crack_at};
 ghost use Rattle.sw_kernel.specs.Flat.{IsNew};
-ghost use Rattle.sw_map.specs.Twins.{AreCuttable, AreTwins, HasRoomForMarks, IsCut, IsParted, IsSameSize};
+ghost use Rattle.sw_map.specs.Twins.{AreCuttable, AreTwins, HasCut, HasParted, HasRoomForMark, IsSameSize};
 
 use crate::crack::{put_mark, start_of};
 use crate::lists::Lists;
@@ -19,8 +19,8 @@ fn part_twins(lists: &mut Lists, twin: &mut Lists, start: usize, end: usize, bou
     requires twin_lengths { vec_len twin.old.head ≡ vec_len twin.old.tail }
     requires same { twin.old.head.items ≡ lists.old.head.items }
     requires range { (start ≤ end) × (end ≤ vec_len lists.old.head) }
-    ensures parted { IsParted bound start end lists.old lists.new result }
-    ensures twin_parted { IsParted bound start end twin.old twin.new result }
+    ensures parted { HasParted bound start end lists.old lists.new result }
+    ensures twin_parted { HasParted bound start end twin.old twin.new result }
     ensures same { twin.new.head.items ≡ lists.new.head.items }
     ensures within { (start ≤ result) × (result ≤ end) }
     ensures sizes { IsSameSize lists.old lists.new × IsSameSize twin.old twin.new }
@@ -45,10 +45,10 @@ fn crack_new_twins(
 )
     requires both { AreCuttable lists.old marks.old × AreCuttable twin.old twin_marks.old }
     requires same { AreTwins lists.old marks.old twin.old twin_marks.old }
-    requires room { HasRoomForMarks 1 marks.old × HasRoomForMarks 1 twin_marks.old }
+    requires room { HasRoomForMark marks.old × HasRoomForMark twin_marks.old }
     requires new { IsNew bound marks.old.items }
-    ensures cut { IsCut (crack head_of bound) lists.old marks.old lists.new marks.new }
-    ensures twin_cut { IsCut (crack head_of bound) twin.old twin_marks.old twin.new twin_marks.new }
+    ensures cut { HasCut (crack head_of bound) lists.old marks.old lists.new marks.new }
+    ensures twin_cut { HasCut (crack head_of bound) twin.old twin_marks.old twin.new twin_marks.new }
     ensures same { AreTwins lists.new marks.new twin.new twin_marks.new }
 {
     let k = marks_below(marks, bound);
@@ -69,9 +69,9 @@ pub(crate) fn crack_twins(
 )
     requires both { AreCuttable lists.old marks.old × AreCuttable twin.old twin_marks.old }
     requires same { AreTwins lists.old marks.old twin.old twin_marks.old }
-    requires room { HasRoomForMarks 1 marks.old × HasRoomForMarks 1 twin_marks.old }
-    ensures cut { IsCut (crack_at head_of bound) lists.old marks.old lists.new marks.new }
-    ensures twin_cut { IsCut (crack_at head_of bound) twin.old twin_marks.old twin.new twin_marks.new }
+    requires room { HasRoomForMark marks.old × HasRoomForMark twin_marks.old }
+    ensures cut { HasCut (crack_at head_of bound) lists.old marks.old lists.new marks.new }
+    ensures twin_cut { HasCut (crack_at head_of bound) twin.old twin_marks.old twin.new twin_marks.new }
     ensures same { AreTwins lists.new marks.new twin.new twin_marks.new }
 {
     let Some(bound) = bound else {

@@ -104,8 +104,8 @@ abbrev pub LacksEntries : List Tail → ℕ → Held → Type 0
 LacksEntries tails end m = IsNeeded tails m × (m.cursor ≢ end)
 
 -- the place of a box that lacks entries so is found, not before another place; or those from that place on lack none
-abbrev pub FindsLacking : {X : Type 0} → Option ℕ → (X → Held) → ℕ → List Tail → ℕ → List X → Type 0
-FindsLacking {X} found held from tails end xs =
+abbrev pub FindsLacking : {X : Type 0} → (X → Held) → ℕ → List Tail → ℕ → List X → Option ℕ → Type 0
+FindsLacking {X} held from tails end xs found =
     MatchOption found (AllAtCursor held from tails end xs)
     (λ k. (from ≤ k) × IsAt (λ (x : X). LacksEntries tails end (held x)) xs k)
 

@@ -107,14 +107,14 @@ fn agrees(columns: &(Vec<i64>, Vec<i64>), bound: Bound) -> Result<bool, AllocErr
     Ok(left == plain_left && head == plain_head && tail == plain_tail)
 }
 
-/// Parts two copies of the columns together and one alone, by blocks, and says whether every byte agrees.
+/// Parts the columns, together with a copy whose tail has the heads, and alone, and says whether every byte agrees.
 fn twins_agree(columns: &(Vec<i64>, Vec<i64>), bound: Bound) -> Result<bool, AllocError>
     requires { vec_len columns.now.0 ≡ vec_len columns.now.1 }
 {
     let (head, tail) = columns;
     let (mut head, mut tail) = (head.clone()?, tail.clone()?);
     let (mut one_head, mut one_tail) = (head.clone()?, tail.clone()?);
-    let (mut twin_head, mut twin_tail) = (head.clone()?, tail.clone()?);
+    let (mut twin_head, mut twin_tail) = (head.clone()?, head.clone()?);
     let left = split(&mut head, &mut tail, bound);
     let both = split_twins(
         &mut one_head,
@@ -124,7 +124,7 @@ fn twins_agree(columns: &(Vec<i64>, Vec<i64>), bound: Bound) -> Result<bool, All
         bound,
     );
     let one = one_head == head && one_tail == tail;
-    Ok(left == both && one && twin_head == head && twin_tail == tail)
+    Ok(left == both && one && twin_head == head && twin_tail == head)
 }
 
 /// Bounds that part such heads in different places.
@@ -145,7 +145,7 @@ fn all_agree(alloc: Global, heads: Heads, size: u32) -> Result<bool, AllocError>
         let before = agrees(&columns, Bound::Before(value))?;
         let after = agrees(&columns, Bound::After(value))?;
         // (two together at every fifth size, which leaves each rest of a block)
-        let twins = size % 5 != 0 || twins_agree(&columns, Bound::Before(value))?;
+        let twins = size % 5 != 0 || twins_agree(&columns, Bound::After(value))?;
         if !(before && after && twins) {
             return Ok(false);
         }

@@ -60,7 +60,7 @@ fn find_much<M: CrackerMap>(boxes: &[M], from: usize, tails: &[Tail], tape: &Tap
 }
 
 /// Brings the boxes that lack much to the front, from the place `done` on, steps all that are there at once and the
-/// others one after the other, and puts each back at its place.
+/// others in turn, and puts each back at its place.
 fn step_lacking<R: Threads + Sync, M: CrackerMap>(
     rt: &R,
     attribute: u8,

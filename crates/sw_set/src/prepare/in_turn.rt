@@ -16,8 +16,8 @@ use sw_map::{CrackerMap, Tail};
 use sw_query::Refusal;
 use sw_tape::Tape;
 
-/// Steps the box at a place towards the tape's end, together with the next one that lacks entries, and answers the place behind
-/// both. A box whose step is refused stops at the cursor that it reached.
+/// Steps the box at a place towards the tape's end, together with the next one that lacks entries, if there is one, and answers
+/// the place behind what it stepped. A box whose step is refused stops at the cursor that it reached.
 fn step_next<M: CrackerMap>(
     attribute: u8,
     boxes: &mut [M],
@@ -63,7 +63,7 @@ pub(crate) fn step_in_turn<M: CrackerMap>(
     }
 }
 
-/// Steps every box that has a needed map to the tape's end, one after the other. Refused `NoMemory`, a box whose step was
+/// Steps every box that has a needed map to the tape's end, two together. Refused `NoMemory`, a box whose step was
 /// refused stands at the cursor that it reached, and all others at the end.
 pub fn align_in_turn<M: CrackerMap>(
     attribute: u8,

@@ -31,7 +31,7 @@ pub(crate) fn find_lacking<M: CrackerMap>(
     tails: &[Tail],
     end: usize,
 ) -> Option<usize>
-    ensures { FindsLacking result M.held from tails.now end boxes.now }
+    ensures { FindsLacking M.held from tails.now end boxes.now result }
 {
     for at in from..boxes.len() {
         if lacks(&boxes[at], tails, end) {

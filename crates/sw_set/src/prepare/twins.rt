@@ -86,6 +86,7 @@ fn align_twins<M: CrackerMap>(attribute: u8, it: &mut M, twin: &mut M, tape: &Ta
 {
     let mut took = step_upto(it, tape, twin.cursor()).is_ok();
     let mut twin_took = step_upto(twin, tape, it.cursor()).is_ok();
+    // (the cursors differ where one was refused)
     if it.cursor() == twin.cursor() {
         (took, twin_took) = step_together(attribute, it, twin, tape);
     }
