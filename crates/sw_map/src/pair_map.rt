@@ -75,6 +75,7 @@ impl CrackerMap for PairMap {
     ghost use Rattle.sw_map.specs.Held.{KeysFit, MayReplay, after, begun, blank, pairs_in};
     ghost use Rattle.sw_map.specs.Pieces.{TakesNoMemory};
     ghost use Rattle.sw_map.specs.Refusals.{HasBegunOr, HasGrownOr, HasReplayedOr};
+    ghost use Rattle.sw_map.specs.Twins.{HaveSameHeads, MayStep};
     ghost use Rattle.sw_map.specs.States.{HasLeasedAnew, HasLeasedOr, IsBare, IsLookOf, cleared, held_by, seat_of};
 
     ghost held = { λ m. held_by m.home };
@@ -215,7 +216,16 @@ impl CrackerMap for PairMap {
         &mut self,
         twin: &mut PairMap,
         entry: &Entry,
-    ) -> (Result<(), Refusal>, Result<(), Refusal>) {
+    ) -> (Result<(), Refusal>, Result<(), Refusal>)
+        requires may { MayStep (step_of entry.now) (held_by self.old.home) }
+        requires twin_may { MayStep (step_of entry.now) (held_by twin.old.home) }
+        requires keys { KeysFit (step_of entry.now) }
+        requires same { HaveSameHeads (held_by self.old.home).pairs (held_by twin.old.home).pairs }
+        ensures held { HasReplayedOr result.0 (step_of entry.now) (held_by self.old.home) (held_by self.new.home) }
+        ensures memory { TakesNoMemory (step_of entry.now) → IsOk result.0 × IsOk result.1 }
+        ensures twin_held { HasReplayedOr result.1 (step_of entry.now) (held_by twin.old.home) (held_by twin.new.home) }
+        ensures seats { (seat_of self.new.home ≡ seat_of self.old.home) × (seat_of twin.new.home ≡ seat_of twin.old.home) }
+    {
         if let Entry::Range(lower, upper) = entry
             && let Home::Active(active) = &mut self.home
             && let Home::Active(other) = &mut twin.home
