@@ -5,4 +5,4 @@ use Rattle.sw_rows.specs.declared.schema.recent.Recent.{Recent}
 
 -- all slots have one of these texts with its code
 abbrev pub AreTrueOf : List (List ℕ) → Recent → Type 0
-AreTrueOf texts r = All (IsTrueOf texts) r.slots.items
+AreTrueOf texts r = All (IsTrueOf texts) r.slots

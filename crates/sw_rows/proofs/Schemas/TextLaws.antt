@@ -168,7 +168,7 @@ code_kept ts more t code h = let all = grown ts more in ap (λ us. code_of us t)
 
 -- what came lately is still so as texts are added
 pub recent_kept : (ts more : Texts) (r : Recent) → AreTrueOf ts r → AreTrueOf (with_texts ts more) r
-recent_kept ts more r h = All-weaker (IsTrueOf ts) (IsTrueOf (with_texts ts more)) kept r.slots.items h
+recent_kept ts more r h = All-weaker (IsTrueOf ts) (IsTrueOf (with_texts ts more)) kept r.slots h
   where
     kept : (s : Slot) → IsTrueOf ts s → IsTrueOf (with_texts ts more) s
     kept s has = code_kept ts more (text_in s) s.code has

@@ -8,6 +8,7 @@ ghost use Rattle.sw_rows.specs.Texts.{code_of};
 ghost use Rattle.sw_rows.specs.declared.schema.texts.TheConstants.{MOST_TEXTS};
 
 use crate::schema::slot::Slot;
+use crate::schema::slots::Slots;
 use std::alloc::Global;
 
 /// How many hints there are at first.
@@ -30,7 +31,7 @@ const NEIGHBOURS: usize = 6;
 #[derive(Drop)]
 pub(crate) struct Recent {
     hints: Vec<u16>,
-    slots: Vec<Slot>,
+    slots: Slots,
 }
 
 impl Recent {
@@ -40,17 +41,19 @@ impl Recent {
     {
         Recent {
             hints: Vec::new(alloc),
-            slots: Vec::new(alloc),
+            slots: Slots::none(alloc),
         }
     }
 
     /// The first of a text's hints.
+    #[inline]
     fn place(&self, text: &Slot) -> usize {
         let many = self.hints.len() as u64;
         ((text.sum() >> 32).wrapping_mul(many) >> 32) as usize
     }
 
     /// Where the hints of a text end whose first one is at a place.
+    #[inline]
     fn end(&self, place: usize) -> usize
         ensures { result ≤ length self.now.hints.items }
     {
@@ -79,8 +82,7 @@ impl Recent {
             if number == 0 || number > self.slots.len() {
                 return None;
             }
-            let slot = &self.slots[number - 1];
-            if let Some(code) = slot.code_of(&wanted) {
+            if let Some(code) = self.slots.code_at(number - 1, &wanted) {
                 return Some(code);
             }
         }
@@ -108,13 +110,13 @@ impl Recent {
         if many >= MOST_SLOTS {
             // codes rise as texts come, so it is the one that came first
             let at = code as usize % MOST_SLOTS;
-            self.slots[at] = slot;
+            self.slots.set(at, &slot);
             return Some((at + 1) as u16);
         }
-        match self.slots.push(slot) {
-            Ok(()) => Some((many + 1) as u16),
-            Err(_) => None,
+        if !self.slots.push(&slot) {
+            return None;
         }
+        Some((many + 1) as u16)
     }
 
     /// Puts a text with its code, one of so many texts, into a slot.

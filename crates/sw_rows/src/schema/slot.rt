@@ -1,8 +1,7 @@
 //! A text of few bytes with its code, in four words: two texts are compared by numbers, without a loop over their bytes.
 
-ghost use Rattle.std.specs.Prelude.{◌≡◌, ◌+◌, ◌-◌, ◌<◌, ◌≤◌, ◌++◌, ℕ, List, Some, drop, length, slice_index_or, take, IfSome};
-ghost use Rattle.sw_rows.specs.Slots.{IsSlotOf, IsTrueOf, bytes_of, text_in};
-ghost use Rattle.sw_rows.specs.Texts.{code_of};
+ghost use Rattle.std.specs.Prelude.{◌≡◌, ◌+◌, ◌-◌, ◌<◌, ◌≤◌, ◌++◌, drop, length, slice_index_or, take, IfSome};
+ghost use Rattle.sw_rows.specs.Slots.{IsSlotOf, bytes_of};
 ghost use Rattle.sw_rows.specs.declared.schema.texts.TheConstants.{MOST_TEXTS};
 
 /// How many bytes a text has at most that a slot has.
@@ -66,11 +65,11 @@ fn short_word(bytes: &[u8]) -> u64
 /// A text of few bytes and its code.
 #[derive(Clone, Copy)]
 pub(crate) struct Slot {
-    first: u64,
-    middle: u64,
-    last: u64,
-    many: u32,
-    code: u32,
+    pub first: u64,
+    pub middle: u64,
+    pub last: u64,
+    pub many: u8,
+    pub code: u32,
 }
 
 /// No text.
@@ -94,7 +93,7 @@ impl Slot {
             return None;
         }
         let slot = Slot {
-            many: many as u32,
+            many: many as u8,
             code: code as u32,
             ..NONE
         };
@@ -126,20 +125,5 @@ impl Slot {
     pub fn sum(&self) -> u64 {
         let all = self.first ^ self.last.rotate_left(29) ^ self.middle.rotate_left(47);
         (all ^ u64::from(self.many)).wrapping_mul(0x9e37_79b9_7f4a_7c15)
-    }
-
-    /// The code of the text of another slot, where it is the one that stands here.
-    #[inline]
-    pub fn code_of(&self, text: &Slot) -> Option<u64>
-        ensures { (ts : List (List ℕ)) → IsTrueOf ts self.now → IfSome result (λ n. code_of ts (text_in text.now) ≡ Some n) }
-    {
-        let is_here = self.first == text.first
-            && self.last == text.last
-            && self.middle == text.middle
-            && self.many == text.many;
-        if !is_here {
-            return None;
-        }
-        Some(u64::from(self.code))
     }
 }
