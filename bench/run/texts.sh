@@ -1,7 +1,8 @@
 #!/usr/bin/env bash
 # Times whole runs over a table with an attribute of TEXTS different texts and one of whole numbers, beside the same table with the texts' codes as
 # whole numbers in their place, by turns; medians of ROUNDS. The first script is one count, so that it times the load; the second has 20,000 counts of
-# one text each, of which the time of the first is taken off. Texts are of 4 to 8 bytes, and then of 16.
+# one text each, of which the time of the first is taken off. Texts are of 4 to 8 bytes, and then of 16. The load is also timed of codes with so many
+# zeros before them that they have a text's bytes: what is left above that is what texts cost but for their length.
 # Usage: bench/run/texts.sh [ROWS [ROUNDS [TEXTS]]]
 set -euo pipefail
 . "$(dirname "$0")/../program.sh"
@@ -20,27 +21,28 @@ while len(names) < many:
     names.add("".join(R.choice("abcdefghijklmnopqrstuvwxyz") for _ in range(R.randint(least, most))))
 names = sorted(names)
 codes = {}
-with open(work + "/text.csv", "w") as texts, open(work + "/code.csv", "w") as numbers:
-    texts.write("city:text,n:int\n"); numbers.write("city:int,n:int\n")
+with open(work + "/text.csv", "w") as texts, open(work + "/code.csv", "w") as numbers, open(work + "/wide.csv", "w") as wide:
+    texts.write("city:text,n:int\n"); numbers.write("city:int,n:int\n"); wide.write("city:int,n:int\n")
     for _ in range(rows):
         name, n = R.choice(names), R.randrange(1 << 30)
-        texts.write(f"{name},{n}\n"); numbers.write(f"{codes.setdefault(name, len(codes) + 1)},{n}\n")
+        code = str(codes.setdefault(name, len(codes) + 1))
+        texts.write(f"{name},{n}\n"); numbers.write(f"{code},{n}\n"); wide.write(f"{code.zfill(len(name))},{n}\n")
 asked = [R.choice(list(codes)) for _ in range(20000)]
 for script, text, code in [("one", "count\n", "count\n"),
                            ("equal", "".join(f"count where city = '{a}'\n" for a in asked), "".join(f"count where city = {codes[a]}\n" for a in asked))]:
     open(f"{work}/{script}.text", "w").write(text); open(f"{work}/{script}.code", "w").write(code)
-times = {(script, side): [] for script in ("one", "equal") for side in ("text", "code")}
+runs = [("one", "text", "text"), ("one", "code", "code"), ("one", "wide", "code"), ("equal", "text", "text"), ("equal", "code", "code")]
+times = {(script, table): [] for script, table, _ in runs}
 for _ in range(rounds):
-    for script in ("one", "equal"):
-        told = {}
-        for side in ("text", "code"):
-            seconds, _, told[side] = timed([program, "run", "--table", f"{work}/{side}.csv", "--script", f"{work}/{script}.{side}"])
-            times[script, side].append(seconds)
-        assert told["text"] == told["code"], script
+    told = {}
+    for script, table, asked in runs:
+        seconds, _, replies = timed([program, "run", "--table", f"{work}/{table}.csv", "--script", f"{work}/{script}.{asked}"])
+        times[script, table].append(seconds)
+        assert told.setdefault(script, replies) == replies, (script, table)
 of = {key: statistics.median(values) for key, values in times.items()}
 load, plain = of["one", "text"], of["one", "code"]
 counts, numbers = of["equal", "text"] - load, of["equal", "code"] - plain
 print(f"texts of {lengths} bytes: load {load:.3f} s, codes {plain:.3f} s, ratio {load / plain:.2f} (least "
-      f"{min(times['one', 'text']) / min(times['one', 'code']):.2f}); 20,000 counts {counts:.3f} s, over numbers {numbers:.3f} s, ratio {counts / numbers:.2f}", flush=True)
+      f"{min(times['one', 'text']) / min(times['one', 'code']):.2f}), to codes of as many bytes {load / of['one', 'wide']:.2f}; 20,000 counts {counts:.3f} s, over numbers {numbers:.3f} s, ratio {counts / numbers:.2f}", flush=True)
 PY
 done
